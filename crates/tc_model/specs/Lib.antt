@@ -1,0 +1,5 @@
+pub mod Tree
+pub mod TreeCode
+pub mod Document
+pub mod Json
+pub mod Lines
