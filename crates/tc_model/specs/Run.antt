@@ -1,5 +1,5 @@
 -- What a run answers. Lines are collected into windows, and the replies of a window are written together.
-use Rattle.std.specs.Prelude.{ℕ, List, [], ◌∷◌, ◌++◌, length, map, fold, sum_by, Bool, true, false, ◌||◌, nat_le, if◌then◌else◌}
+use Rattle.std.specs.Prelude.{◌≡◌, ℕ, List, [], ◌∷◌, ◌++◌, length, map, fold, sum_by, Bool, true, false, ◌||◌, nat_le, if◌then◌else◌}
 use Rattle.tc_model.specs.Lines.{lines_of, whole_lines}
 use Rattle.tc_model.specs.Request.{Request, upsert, delete, get, query, flush, schema, scan, collect, refused, max_line, request_of}
 use Rattle.tc_model.specs.Store.{Pairs, after}
@@ -25,6 +25,11 @@ abbrev pub output_of : List ℕ → List ℕ
 output_of input = output_of_lines (lines_of input)
 
 -- ---- windows
+
+-- the first list goes on where the second ends
+pub record BeginsWith {X : Type 0} (whole front : List X) : Type 0 where
+  pub more : List X
+  pub goes_on : whole ≡ front ++ more
 
 -- lines that are answered together
 abbrev pub Window : Type 0
