@@ -1,0 +1,9 @@
+//! The server: reads lines, answers them from the store, and writes the replies.
+#![tactic(auto)]
+
+mod answer;
+mod outcome;
+mod store;
+mod window;
+
+pub use outcome::{Outcome, RunFault};

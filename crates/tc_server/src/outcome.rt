@@ -1,0 +1,62 @@
+//! How a run ends.
+
+ghost use Rattle.std.specs.Prelude.{◌≡◌};
+ghost use Rattle.tc_edge.specs.declared.streams.WriteFault.{WriteFault};
+ghost use Rattle.tc_server.specs.declared.outcome.RunFault.TheVariants.{Memory, Write};
+
+use std::alloc::{AllocError, AllocFailed};
+use tc_edge::WriteFault;
+use thiserror::Error;
+
+/// The fault that ended a run.
+#[derive(Clone, Copy, Debug, PartialEq, Eq, Error)]
+pub enum RunFault {
+    /// The words are no command line.
+    #[error("usage: tuple_store FOLDER run [OPTIONS] or tuple_store FOLDER demo N")]
+    Usage,
+    /// A read of the input failed.
+    #[error("read fault")]
+    Read,
+    /// A write of a window's replies failed, after this many bytes of them.
+    #[error("write fault after {taken} bytes")]
+    Write { taken: u64 },
+    /// The input has more bytes than can be counted.
+    #[error("no number left")]
+    Spent,
+    /// Memory was wanting.
+    #[error("no memory")]
+    Memory,
+}
+
+impl From<AllocError> for RunFault {
+    ghost from_gives = { λ _ e. e ≡ Memory };
+
+    fn from(_error: AllocError) -> RunFault {
+        RunFault::Memory
+    }
+}
+
+impl<T: Drop> From<AllocFailed<T>> for RunFault {
+    ghost from_gives = { λ _ e. e ≡ Memory };
+
+    fn from(_failed: AllocFailed<T>) -> RunFault {
+        RunFault::Memory
+    }
+}
+
+impl From<WriteFault> for RunFault {
+    ghost from_gives = { λ f e. e ≡ Write f.taken };
+
+    fn from(fault: WriteFault) -> RunFault {
+        RunFault::Write {
+            taken: fault.taken,
+        }
+    }
+}
+
+/// How a run ended: its exit status, and the fault where the status is not 0.
+#[derive(Clone, Copy, Debug, PartialEq, Eq)]
+pub struct Outcome {
+    pub status: u8,
+    pub fault: Option<RunFault>,
+}
