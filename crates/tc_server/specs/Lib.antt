@@ -1,3 +1,4 @@
 pub mod Pairs
 pub mod Asked
 pub mod Window
+pub mod Stage

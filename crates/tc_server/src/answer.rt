@@ -1,16 +1,17 @@
 //! What a line asks for, and the reply to it.
 
-ghost use Rattle.std.specs.Prelude.{◌≡◌, IfOk, OnErr};
+ghost use Rattle.std.specs.Prelude.{◌≡◌, IfOk, OnOk, OnErr, map};
+ghost use Rattle.tc_command.specs.Commands.{request_of_command};
 ghost use Rattle.tc_command.specs.Replies.{reply_of};
-ghost use Rattle.tc_model.specs.Reply.{reply_to};
+ghost use Rattle.tc_model.specs.Reply.{got, reply_to};
 ghost use Rattle.tc_model.specs.Request.{request_of};
-ghost use Rattle.tc_model.specs.Run.{is_control};
-ghost use Rattle.tc_model.specs.Store.{after};
+ghost use Rattle.tc_model.specs.Run.{answers, after_all, is_control};
+ghost use Rattle.tc_model.specs.Store.{after, stored};
 ghost use Rattle.tc_server.specs.Asked.{request_asked};
 
 use crate::store::Store;
 use std::alloc::{AllocError, Global};
-use tc_command::{Command, ParseFault, Refusal, Reply, parse};
+use tc_command::{Command, ParseFault, Refusal, Reply, parse, reply_text};
 
 /// What a line asks for, or why it is refused.
 #[derive(Drop)]
@@ -54,8 +55,6 @@ impl Asked {
     }
 }
 
-ghost use Rattle.tc_command.specs.Commands.{request_of_command};
-
 fn run(alloc: Global, store: &mut Store, command: Command) -> Result<Reply, AllocError>
     ensures reply { IfOk result (λ reply. reply_of reply ≡ reply_to (request_of_command command) store.old) }
     ensures after { IfOk result (λ _. store.new ≡ after (request_of_command command) store.old) }
@@ -92,5 +91,16 @@ fn got(alloc: Global, store: &Store, key: u64) -> Result<Reply, AllocError>
     }
 }
 
-ghost use Rattle.tc_model.specs.Reply.{got};
-ghost use Rattle.tc_model.specs.Store.{stored};
+/// The reply lines, in order, and what they leave in the store. Errs only for want of memory.
+pub fn answer_all(alloc: Global, store: &mut Store, asked: Vec<Asked>) -> Result<Vec<u8>, AllocError>
+    ensures replies { IfOk result (λ replies. replies.items ≡ answers (map request_asked asked.items) store.old) }
+    ensures after { OnOk result (store.new ≡ after_all (map request_asked asked.items) store.old) }
+{
+    let mut replies = Vec::new(alloc);
+    for one in asked {
+        let reply = one.answer(alloc, store)?;
+        let line = reply_text(alloc, &reply)?;
+        replies.extend_from_slice(line.as_slice())?;
+    }
+    Ok(replies)
+}

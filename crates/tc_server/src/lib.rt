@@ -3,6 +3,7 @@
 
 mod answer;
 mod outcome;
+mod session;
 mod store;
 mod window;
 
