@@ -1,8 +1,9 @@
 -- What a session holds and what it has written, by the windows of the lines that came.
-use Rattle.std.specs.Prelude.{◌≡◌, ℕ, ◌<◌, ◌≤◌, List, [], ◌∷◌, ◌++◌, length, map, take, sum_by, Option}
-use Rattle.std.specs.Io.KnownBytes.{Appends}
+use Rattle.std.specs.Prelude.{◌≡◌, ℕ, ◌<◌, ◌≤◌, List, [], ◌∷◌, ◌++◌, length, map, take, sum_by, Option, Result, IfErr, ⊤}
+use Rattle.std.specs.Io.KnownBytes.{Appends, Keeps}
+use Rattle.tc_edge.specs.Faults.{Rose}
 use Rattle.tc_model.specs.Request.{request_of}
-use Rattle.tc_model.specs.Run.{BeginsWith, answers, after_all, Window, Windows, line_size, lines_in, max_window, output_of_windows}
+use Rattle.tc_model.specs.Run.{BeginsWith, answers, after_all, Window, Windows, line_size, lines_in, unless_empty, output_of_windows}
 use Rattle.tc_server.specs.Asked.{request_asked}
 use Rattle.tc_server.specs.Window.{requests_of}
 use Rattle.tc_server.specs.declared.answer.Asked.{Asked}
@@ -17,12 +18,15 @@ pub record AsksFor (line : List ℕ) (asked : Asked) (size : ℕ) : Type 0 where
 
 -- The session stands behind the windows: what has closed was answered and written, in order, to a sink that had taken
 -- `base`; what is open is held.
-pub record IsAt (limit : ℕ) (base : Option (List ℕ)) (ws : Windows) (session : Session) (taken : Option (List ℕ)) : Type 0 where
+pub record IsAt (base : Option (List ℕ)) (ws : Windows) (session : Session) (taken : Option (List ℕ)) : Type 0 where
   pub pairs : session.store ≡ after_all (map request_of (lines_in ws.closed)) []
   pub requests : requests_of session.window ≡ map request_of ws.open_lines
   pub bytes : session.window.bytes ≡ sum_by line_size ws.open_lines
-  pub has_limit : session.window.limit ≡ limit
   pub written : Appends base taken (output_of_windows ws.closed)
+
+-- the windows when the open one has closed, where it has a line
+abbrev pub with_end : Windows → Windows
+with_end ws = record { closed = ws.closed ++ unless_empty ws.open_lines; open_lines = [] }
 
 -- the replies to a window behind other windows
 abbrev pub replies_behind : List Window → Window → List ℕ
@@ -33,7 +37,7 @@ pub record FailsAfter (n : ℕ) (base : Option (List ℕ)) (closed : List Window
   pub before : List Window
   pub failed : Window
   pub among : BeginsWith closed (before ++ failed ∷ [])
-  pub within : n ≤ length (replies_behind before failed)
+  pub within : n < length (replies_behind before failed)
   pub written : Appends base taken (output_of_windows before ++ take n (replies_behind before failed))
 
 -- Of windows that closed, these were answered and written, and of no other window anything.
@@ -49,3 +53,24 @@ StopsIn Memory base closed taken = WroteSome base closed taken
 StopsIn Usage base closed taken = ⊥
 StopsIn Read base closed taken = ⊥
 StopsIn Spent base closed taken = ⊥
+
+-- what was written of the bytes by a fault
+abbrev pub WritesPart : RunFault → List ℕ → Option (List ℕ) → Option (List ℕ) → Type 0
+WritesPart (Write n) bytes old new = (n < length bytes) × Appends old new (take n bytes)
+WritesPart Memory bytes old new = Keeps old new
+WritesPart Usage bytes old new = ⊥
+WritesPart Read bytes old new = ⊥
+WritesPart Spent bytes old new = ⊥
+
+-- the fault is one of the sink
+abbrev pub IsWrite : RunFault → Type 0
+IsWrite (Write n) = Unit {0}
+IsWrite Memory = ⊥
+IsWrite Usage = ⊥
+IsWrite Read = ⊥
+IsWrite Spent = ⊥
+
+-- the count of the sink's faults did not fall, and it rose where a write failed
+pub record HasWriteCause (before now : ℕ) (result : Result ⊤ RunFault) : Type 0 where
+  pub kept : before ≤ now
+  pub failed : IfErr result (λ fault. IsWrite fault → Rose before now)

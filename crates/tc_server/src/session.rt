@@ -1,10 +1,10 @@
 //! A run between two lines: the store, and the window that is open.
 
-ghost use Rattle.std.specs.Prelude.{◌≡◌, ℕ, ◌<◌, ◌≤◌, List, [], ◌∷◌, Option, OnOk, IfOk, IfErr};
+ghost use Rattle.std.specs.Prelude.{◌≡◌, ℕ, ◌<◌, ◌≤◌, false, List, [], Option, OnOk, IfOk, IfErr};
 ghost use Rattle.std.specs.Io.KnownBytes.{Appends};
-ghost use Rattle.tc_edge.specs.Faults.{Rose};
-ghost use Rattle.tc_model.specs.Request.{max_line};
-ghost use Rattle.tc_model.specs.Run.{Windows, answers, after_all, max_window, with_line};
+ghost use Rattle.tc_model.specs.Request.{max_line, request_of};
+ghost use Rattle.tc_model.specs.Run.{Windows, answers, after_all, is_control, max_window, with_line};
+ghost use Rattle.tc_server.specs.Stage.{AsksFor, HasWriteCause, IsAt, StopsIn, WritesPart};
 ghost use Rattle.tc_server.specs.Asked.{request_asked};
 ghost use Rattle.tc_server.specs.Window.{requests_of};
 
@@ -48,5 +48,44 @@ impl Session {
         let empty = Window::new(alloc, self.window.limit);
         let window = mem::replace(&mut self.window, empty);
         answer_all(alloc, &mut self.store, window.asked)
+    }
+
+    /// Answers the window that is open, and writes the replies. Errs where the sink fails, and for want of memory.
+    pub fn close<O: Sink>(&mut self, alloc: Global, sink: &mut O) -> Result<(), RunFault>
+        ensures written { OnOk result
+            (Appends (O.taken sink.old) (O.taken sink.new) (answers (requests_of self.old.window) self.old.store)) }
+        ensures pairs { OnOk result (self.new.store ≡ after_all (requests_of self.old.window) self.old.store) }
+        ensures requests { OnOk result (requests_of self.new.window ≡ []) }
+        ensures bytes { OnOk result (self.new.window.bytes ≡ 0) }
+        ensures limit { OnOk result (self.new.window.limit ≡ self.old.window.limit) }
+        ensures fault { IfErr result (λ fault. WritesPart fault (answers (requests_of self.old.window) self.old.store) (O.taken sink.old) (O.taken sink.new)) }
+        ensures cause { HasWriteCause (O.faults sink.old) (O.faults sink.new) result }
+    {
+        let replies = self.answers(alloc)?;
+        write_all(sink, replies.as_slice())?;
+        Ok(())
+    }
+
+    /// Takes a line that is answered in its window, and closes the window where it is full.
+    pub fn take_line<O: Sink>(&mut self, alloc: Global, asked: Asked, size: usize, sink: &mut O) -> Result<(), RunFault>
+        requires size { size ≤ max_line }
+        requires room { self.old.window.bytes < max_window }
+        ensures ok { OnOk result ((base : Option (List ℕ)) (ws : Windows) (line : List ℕ)
+            → AsksFor line asked size → is_control (request_of line) ≡ false
+            → IsAt base ws self.old (O.taken sink.old)
+            → IsAt base (with_line self.old.window.limit ws line) self.new (O.taken sink.new)) }
+        ensures room { OnOk result (self.new.window.bytes < max_window) }
+        ensures limit { OnOk result (self.new.window.limit ≡ self.old.window.limit) }
+        ensures fault { IfErr result (λ fault. (base : Option (List ℕ)) (ws : Windows) (line : List ℕ)
+            → AsksFor line asked size → is_control (request_of line) ≡ false
+            → IsAt base ws self.old (O.taken sink.old)
+            → StopsIn fault base (with_line self.old.window.limit ws line).closed (O.taken sink.new)) }
+        ensures cause { HasWriteCause (O.faults sink.old) (O.faults sink.new) result }
+    {
+        self.window.push(asked, size)?;
+        if self.window.is_full() {
+            self.close(alloc, sink)?;
+        }
+        Ok(())
     }
 }
