@@ -3,3 +3,7 @@ pub mod TreeCode
 pub mod Document
 pub mod Json
 pub mod Lines
+pub mod Request
+pub mod Store
+pub mod Reply
+pub mod Run
