@@ -1,6 +1,7 @@
 -- What clap's contracts give for the command line.
 use Rattle.std.proofs.Common.{◌≡◌, ◌≢◌, ◌∙◌, ◌||◌, ap, ap₂, sym, Bool, true, false, List, [], ◌∷◌, Option, Some, None, Result, Ok, Err, IfOk, IfErr, refl, inl, inr, codes, option_map}
-use Rattle.clap.specs.Words.{AddsArg, App, FailsBy, HasMatchesOf, IsAmong, Kinds, Row, Rule, Text, app_of, fault_of, is_simple, is_simple_and_free, kind_of, rule_of, subcommand_name_of, subcommand_of, subcommand_rows, subcommand_rows_of, with_rule}
+use Rattle.clap.specs.Words.{AddsArg, App, FailsBy, HasMatchesOf, IsAmong, Kinds, Row, Rule, Shape, Text, app_of, fault_of, is_simple, is_simple_and_free, kind_of, rule_of, subcommand_name_of, subcommand_of, subcommand_rows, subcommand_rows_of, with_rule}
+use Rattle.clap.specs.Simple.{app_of_fields, on_top}
 use Rattle.clap.specs.declared.builder.arg.Arg.{Arg}
 use Rattle.clap.specs.declared.builder.command.Command.{Command}
 use Rattle.clap.specs.declared.builder.command.Command.TheViews.{out-Command as fields_of}
@@ -15,7 +16,7 @@ use Rattle.std.specs.Prelude.{Box}
 use Rattle.std.specs.Str.{bytes_eq}
 use Rattle.std.proofs.lemmas.Slice.Eq.{bytes_eq-Decides}
 use Rattle.clap.proofs.OnLiterals.{clap_on_literals}
-use Rattle.tc_words.specs.Grammar.{grammar, if_run, run_matches, unless_refused}
+use Rattle.tc_words.specs.Grammar.{grammar, if_run, run_matches}
 
 -- the command is this one, and has no global argument
 abbrev pub IsLocal : App → Command → Type 0
@@ -28,6 +29,24 @@ with_option old new a rule app added local is old_is = (
   added.shape local ∙ ap₂ with_rule old_is.0 is,
   added.globals ∙ ap₂ (λ x y. x || y) old_is.1 local,
 )
+
+-- ---- the two settings of the whole command line
+
+abbrev pub without_name : Shape → Shape
+without_name s = record s { no_binary_name = true }
+
+abbrev pub needing_subcommand : Shape → Shape
+needing_subcommand s = record s { subcommand_required = true }
+
+pub name_left_out : (old new : Command) → fields_of new ≡ record (fields_of old) { no_binary_name = true }
+    → app_of new ≡ on_top without_name (app_of old)
+name_left_out old new is = ap app_of_fields is
+
+pub subcommand_needed : (old new : Command) → fields_of new ≡ record (fields_of old) { subcommand_required = true }
+    → app_of new ≡ on_top needing_subcommand (app_of old)
+subcommand_needed old new is = ap app_of_fields is
+
+-- ---- what a parse gives
 
 grammar_is_simple : is_simple grammar ≡ true
 unfolding clap_on_literals grammar

@@ -10,3 +10,6 @@ mod words;
 pub use fault::WordsFault;
 pub use run::Options;
 pub use words::options;
+
+#[cfg(test)]
+mod tests;

@@ -11,17 +11,17 @@ use clap::ArgMatches;
 pub struct Options {
     /// How many partitions the store has.
     pub partitions: u32,
-    /// Bytes that the active log may hold.
+    /// Bytes that a partition's active log may hold.
     pub memory: u64,
     /// Distinct names that a partition may hold.
     pub names: u32,
     /// Live documents that a partition may hold.
     pub docs: u32,
-    /// Lines of a window.
+    /// Lines of the input that are worked on together.
     pub window: u32,
-    /// Components that a merge leaves.
+    /// How many components a partition lists before some are merged.
     pub merge: u32,
-    /// Bytes of a sized run; 0 stands for the constant policy.
+    /// Bytes that the components of one merge may have together; 0 stands for a merge of all.
     pub limit: u64,
 }
 

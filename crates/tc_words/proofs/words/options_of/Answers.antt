@@ -12,12 +12,11 @@ returns-in_default-clause-usage c = λ _. no_run _ (c.in_ok-matches.ensures.take
     let bad : false ≡ true = c.in_default.ensures.found.1 name in
     cc))
 
-pub returns-clause-ok : goal.returns-clause-ok
-returns-clause-ok c =
-    let is = a_run _ _ (c.in_ok-matches.ensures.taken ∙ run_met _ _ (c.in-Some.ensures.found.0 refl) c.in-Some.ensures.rows) in
-    options_answered _ _ _ _ c.ok_or.ensures.value (is ∙ sym c.options_in.ensures)
-
-pub returns-clause-usage : goal.returns-clause-usage
-returns-clause-usage c =
-    let is = a_run _ _ (c.in_ok-matches.ensures.taken ∙ run_met _ _ (c.in-Some.ensures.found.0 refl) c.in-Some.ensures.rows) in
-    usage_answered _ _ _ _ c.ok_or.ensures.value (is ∙ sym c.options_in.ensures)
+pub returns : goal.returns
+returns c =
+    let run = c.in_ok-matches.ensures.taken ∙ run_met _ _ (c.in-Some.ensures.found.0 refl) c.in-Some.ensures.rows in
+    let same = a_run _ _ run ∙ sym c.options_in.ensures in
+    record {
+      ok = options_answered _ _ _ _ c.ok_or.ensures.value same;
+      usage = usage_answered _ _ _ _ c.ok_or.ensures.value same;
+    }
