@@ -112,3 +112,6 @@ with_line-open limit ws line plain full = with_line-plain limit ws line plain �
 -- the windows begin with themselves
 pub BeginsWith-refl : (ws : List Window) → BeginsWith ws ws
 BeginsWith-refl ws = record { more = []; goes_on = sym (append-nil ws) }
+
+pub with_line-control : (limit : ℕ) (ws : Windows) (line : List ℕ) → is_control (request_of line) ≡ true → with_line limit ws line ≡ with_end (with_pushed (with_end ws) line)
+with_line-control limit ws line control = rw control refl

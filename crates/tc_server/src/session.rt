@@ -1,6 +1,6 @@
 //! A run between two lines: the store, and the window that is open.
 
-ghost use Rattle.std.specs.Prelude.{◌≡◌, ℕ, ◌<◌, ◌≤◌, false, List, [], Option, OnOk, IfOk, IfErr};
+ghost use Rattle.std.specs.Prelude.{◌≡◌, ℕ, ◌<◌, ◌≤◌, true, false, List, [], Option, OnOk, IfOk, IfErr};
 ghost use Rattle.std.specs.Io.KnownBytes.{Appends};
 ghost use Rattle.tc_model.specs.Request.{max_line, request_of};
 ghost use Rattle.tc_model.specs.Run.{Windows, answers, after_all, is_control, max_window, with_line};
@@ -87,5 +87,49 @@ impl Session {
             self.close(alloc, sink)?;
         }
         Ok(())
+    }
+
+    /// Takes a line that is a window of its own: answers the window before it, and then the line.
+    pub fn take_control<O: Sink>(&mut self, alloc: Global, asked: Asked, size: usize, sink: &mut O) -> Result<(), RunFault>
+        requires size { size ≤ max_line }
+        ensures ok { OnOk result ((base : Option (List ℕ)) (ws : Windows) (line : List ℕ)
+            → AsksFor line asked size → is_control (request_of line) ≡ true
+            → IsAt base ws self.old (O.taken sink.old)
+            → IsAt base (with_line self.old.window.limit ws line) self.new (O.taken sink.new)) }
+        ensures room { OnOk result (self.new.window.bytes ≡ 0) }
+        ensures limit { OnOk result (self.new.window.limit ≡ self.old.window.limit) }
+        ensures fault { IfErr result (λ fault. (base : Option (List ℕ)) (ws : Windows) (line : List ℕ)
+            → AsksFor line asked size → is_control (request_of line) ≡ true
+            → IsAt base ws self.old (O.taken sink.old)
+            → StopsIn fault base (with_line self.old.window.limit ws line).closed (O.taken sink.new)) }
+        ensures cause { HasWriteCause (O.faults sink.old) (O.faults sink.new) result }
+    {
+        self.close(alloc, sink)?;
+        self.window.push(asked, size)?;
+        self.close(alloc, sink)?;
+        Ok(())
+    }
+
+    /// Takes a line: answers it in its window, or by itself where it is a command of the whole store.
+    pub fn take<O: Sink>(&mut self, alloc: Global, asked: Asked, size: usize, sink: &mut O) -> Result<(), RunFault>
+        requires size { size ≤ max_line }
+        requires room { self.old.window.bytes < max_window }
+        ensures ok { OnOk result ((base : Option (List ℕ)) (ws : Windows) (line : List ℕ)
+            → AsksFor line asked size
+            → IsAt base ws self.old (O.taken sink.old)
+            → IsAt base (with_line self.old.window.limit ws line) self.new (O.taken sink.new)) }
+        ensures room { OnOk result (self.new.window.bytes < max_window) }
+        ensures limit { OnOk result (self.new.window.limit ≡ self.old.window.limit) }
+        ensures fault { IfErr result (λ fault. (base : Option (List ℕ)) (ws : Windows) (line : List ℕ)
+            → AsksFor line asked size
+            → IsAt base ws self.old (O.taken sink.old)
+            → StopsIn fault base (with_line self.old.window.limit ws line).closed (O.taken sink.new)) }
+        ensures cause { HasWriteCause (O.faults sink.old) (O.faults sink.new) result }
+    {
+        if asked.is_control() {
+            self.take_control(alloc, asked, size, sink)
+        } else {
+            self.take_line(alloc, asked, size, sink)
+        }
     }
 }
