@@ -1,0 +1,4 @@
+pub mod Kinds
+pub mod Meaning
+pub mod TreeSize
+pub mod DocFalls
