@@ -1,4 +1,7 @@
 pub mod Kinds
 pub mod Meaning
+pub mod Occurrences
 pub mod TreeSize
 pub mod DocFalls
+pub mod ShapeMeaning
+pub mod ShapeFalls
