@@ -1,18 +1,21 @@
 -- What a session does with a line, said of the windows that it stands behind.
-use Rattle.std.proofs.Common.{◌≡◌, ℕ, ◌+◌, ◌<◌, Bool, true, false, List, [], ◌∷◌, ◌++◌, length, take, map, refl, ap, sym, subst, ◌∙◌, append_assoc, append-nil, arith}
+use Rattle.std.proofs.Common.{◌≡◌, ℕ, ◌+◌, ◌<◌, ◌≤◌, Bool, true, false, List, [], ◌∷◌, ◌++◌, length, take, map, refl, ap, sym, subst, ◌∙◌, append_assoc, append-nil, arith}
 use Rattle.std.specs.Prelude.{Option, fold, sum_by, nat_le, ◌||◌}
 use Rattle.std.specs.Io.KnownBytes.{Appends, Keeps}
 use Rattle.std.proofs.KnownBytes.{Appends-trans, Appends-kept}
 use Rattle.std.proofs.lemmas.List.Sums.{fold-append, sum_by-append}
 use Rattle.std.proofs.lemmas.List.{map-append, length-map}
-use Rattle.tc_model.specs.Request.{Request, request_of}
+use Rattle.tc_model.specs.Request.{Request, max_line, request_of}
 use Rattle.tc_model.specs.Store.{Pairs, after}
 use Rattle.tc_model.specs.Run.{BeginsWith, answers, after_all, Window, Windows, is_control, is_full, line_size, unless_empty, with_open, with_line, lines_in, output_of_windows}
-use Rattle.tc_model.proofs.WindowLaws.{answers-append, lines_in-append, lines_in-unless_empty}
+use Rattle.tc_model.proofs.WindowLaws.{answers-append, lines_in-append, lines_in-unless_empty, closed-with_line}
 use Rattle.tc_server.specs.Asked.{request_asked}
 use Rattle.tc_server.specs.Window.{requests_of}
 use Rattle.tc_server.specs.Stage.{AsksFor, IsAt, with_end, replies_behind, FailsAfter, WroteSome, StopsIn, WritesPart}
+use Rattle.std.proofs.lemmas.Bool.Decides.{nat_tests}
+use Rattle.tc_command.specs.declared.refusals.Refusal.TheVariants.{Oversized}
 use Rattle.tc_server.specs.declared.answer.Asked.{Asked}
+use Rattle.tc_server.specs.declared.answer.Asked.TheVariants.{Refuse}
 use Rattle.tc_server.specs.declared.outcome.RunFault.{RunFault}
 use Rattle.tc_server.specs.declared.outcome.RunFault.TheVariants.{Usage, Read, Write, Spent, Memory}
 use Rattle.tc_server.specs.declared.session.Session.{Session}
@@ -115,3 +118,23 @@ BeginsWith-refl ws = record { more = []; goes_on = sym (append-nil ws) }
 
 pub with_line-control : (limit : ℕ) (ws : Windows) (line : List ℕ) → is_control (request_of line) ≡ true → with_line limit ws line ≡ with_end (with_pushed (with_end ws) line)
 with_line-control limit ws line control = rw control refl
+
+-- ---- what lines ask for
+
+le_true : (a b : ℕ) → a ≤ b → nat_le a b ≡ true
+le_true a b h = grind (arith, nat_tests)
+
+le_false : (a b : ℕ) → b < a → nat_le a b ≡ false
+le_false a b h = grind (arith, nat_tests)
+
+-- a line that is not oversized
+pub asks_whole : (line : List ℕ) (asked : Asked) → request_asked asked ≡ request_of line → length line ≤ max_line → AsksFor line asked (length line)
+asks_whole line asked same fits = record { request = same; has_size = rw (le_true (length line) max_line fits) refl }
+
+-- a line that is oversized
+pub asks_oversized : (line : List ℕ) → max_line < length line → AsksFor line (Refuse Oversized) 0
+asks_oversized line long = record { request = rw (le_false (length line) max_line long) refl; has_size = rw (le_false (length line) max_line long) refl }
+
+-- where nothing was taken nor written, the windows that had closed were answered
+pub fails_before : (limit : ℕ) (base taken : Option (List ℕ)) (ws : Windows) (line : List ℕ) (session : Session) → IsAt base ws session taken → StopsIn Memory base (with_line limit ws line).closed taken
+fails_before limit base taken ws line session at = record { before = ws.closed; among = closed-with_line limit ws line; written = at.written }

@@ -3,7 +3,7 @@ use Rattle.std.specs.Prelude.{◌≡◌, ℕ, ◌<◌, ◌≤◌, List, [], ◌�
 use Rattle.std.specs.Io.KnownBytes.{Appends, Keeps}
 use Rattle.tc_edge.specs.Faults.{Rose}
 use Rattle.tc_model.specs.Request.{request_of}
-use Rattle.tc_model.specs.Run.{BeginsWith, answers, after_all, Window, Windows, line_size, lines_in, unless_empty, output_of_windows}
+use Rattle.tc_model.specs.Run.{BeginsWith, answers, after_all, Window, Windows, line_size, lines_in, unless_empty, with_line, output_of_windows}
 use Rattle.tc_server.specs.Asked.{request_asked}
 use Rattle.tc_server.specs.Window.{requests_of}
 use Rattle.tc_server.specs.declared.answer.Asked.{Asked}
@@ -53,6 +53,16 @@ StopsIn Memory base closed taken = WroteSome base closed taken
 StopsIn Usage base closed taken = ⊥
 StopsIn Read base closed taken = ⊥
 StopsIn Spent base closed taken = ⊥
+
+-- from behind any windows the session goes to behind these windows with the line
+abbrev pub TakesLine : List ℕ → Session → Option (List ℕ) → Session → Option (List ℕ) → Type 0
+TakesLine line old taken new taken' =
+    (base : Option (List ℕ)) (ws : Windows) → IsAt base ws old taken → IsAt base (with_line old.window.limit ws line) new taken'
+
+-- behind any windows the session stops in those that the line closes
+abbrev pub FailsAtLine : RunFault → List ℕ → Session → Option (List ℕ) → Option (List ℕ) → Type 0
+FailsAtLine fault line old taken taken' =
+    (base : Option (List ℕ)) (ws : Windows) → IsAt base ws old taken → StopsIn fault base (with_line old.window.limit ws line).closed taken'
 
 -- what was written of the bytes by a fault
 abbrev pub WritesPart : RunFault → List ℕ → Option (List ℕ) → Option (List ℕ) → Type 0

@@ -1,10 +1,10 @@
 //! A run between two lines: the store, and the window that is open.
 
-ghost use Rattle.std.specs.Prelude.{◌≡◌, ℕ, ◌<◌, ◌≤◌, true, false, List, [], Option, OnOk, IfOk, IfErr};
+ghost use Rattle.std.specs.Prelude.{◌≡◌, ℕ, ◌<◌, ◌≤◌, true, false, List, [], length, OnOk, IfOk, IfErr};
 ghost use Rattle.std.specs.Io.KnownBytes.{Appends};
 ghost use Rattle.tc_model.specs.Request.{max_line, request_of};
-ghost use Rattle.tc_model.specs.Run.{Windows, answers, after_all, is_control, max_window, with_line};
-ghost use Rattle.tc_server.specs.Stage.{AsksFor, HasWriteCause, IsAt, StopsIn, WritesPart};
+ghost use Rattle.tc_model.specs.Run.{answers, after_all, is_control, max_window};
+ghost use Rattle.tc_server.specs.Stage.{AsksFor, FailsAtLine, HasWriteCause, TakesLine, WritesPart};
 ghost use Rattle.tc_server.specs.Asked.{request_asked};
 ghost use Rattle.tc_server.specs.Window.{requests_of};
 
@@ -14,6 +14,7 @@ use crate::store::Store;
 use crate::window::Window;
 use std::alloc::{AllocError, Global};
 use std::mem;
+use tc_command::Refusal;
 use tc_edge::{Sink, write_all};
 
 /// The store, and the window that is open.
@@ -70,16 +71,12 @@ impl Session {
     pub fn take_line<O: Sink>(&mut self, alloc: Global, asked: Asked, size: usize, sink: &mut O) -> Result<(), RunFault>
         requires size { size ≤ max_line }
         requires room { self.old.window.bytes < max_window }
-        ensures ok { OnOk result ((base : Option (List ℕ)) (ws : Windows) (line : List ℕ)
-            → AsksFor line asked size → is_control (request_of line) ≡ false
-            → IsAt base ws self.old (O.taken sink.old)
-            → IsAt base (with_line self.old.window.limit ws line) self.new (O.taken sink.new)) }
+        ensures ok { OnOk result ((line : List ℕ) → AsksFor line asked size → is_control (request_of line) ≡ false
+            → TakesLine line self.old (O.taken sink.old) self.new (O.taken sink.new)) }
         ensures room { OnOk result (self.new.window.bytes < max_window) }
         ensures limit { OnOk result (self.new.window.limit ≡ self.old.window.limit) }
-        ensures fault { IfErr result (λ fault. (base : Option (List ℕ)) (ws : Windows) (line : List ℕ)
-            → AsksFor line asked size → is_control (request_of line) ≡ false
-            → IsAt base ws self.old (O.taken sink.old)
-            → StopsIn fault base (with_line self.old.window.limit ws line).closed (O.taken sink.new)) }
+        ensures fault { IfErr result (λ fault. (line : List ℕ) → AsksFor line asked size → is_control (request_of line) ≡ false
+            → FailsAtLine fault line self.old (O.taken sink.old) (O.taken sink.new)) }
         ensures cause { HasWriteCause (O.faults sink.old) (O.faults sink.new) result }
     {
         self.window.push(asked, size)?;
@@ -92,16 +89,12 @@ impl Session {
     /// Takes a line that is a window of its own: answers the window before it, and then the line.
     pub fn take_control<O: Sink>(&mut self, alloc: Global, asked: Asked, size: usize, sink: &mut O) -> Result<(), RunFault>
         requires size { size ≤ max_line }
-        ensures ok { OnOk result ((base : Option (List ℕ)) (ws : Windows) (line : List ℕ)
-            → AsksFor line asked size → is_control (request_of line) ≡ true
-            → IsAt base ws self.old (O.taken sink.old)
-            → IsAt base (with_line self.old.window.limit ws line) self.new (O.taken sink.new)) }
+        ensures ok { OnOk result ((line : List ℕ) → AsksFor line asked size → is_control (request_of line) ≡ true
+            → TakesLine line self.old (O.taken sink.old) self.new (O.taken sink.new)) }
         ensures room { OnOk result (self.new.window.bytes ≡ 0) }
         ensures limit { OnOk result (self.new.window.limit ≡ self.old.window.limit) }
-        ensures fault { IfErr result (λ fault. (base : Option (List ℕ)) (ws : Windows) (line : List ℕ)
-            → AsksFor line asked size → is_control (request_of line) ≡ true
-            → IsAt base ws self.old (O.taken sink.old)
-            → StopsIn fault base (with_line self.old.window.limit ws line).closed (O.taken sink.new)) }
+        ensures fault { IfErr result (λ fault. (line : List ℕ) → AsksFor line asked size → is_control (request_of line) ≡ true
+            → FailsAtLine fault line self.old (O.taken sink.old) (O.taken sink.new)) }
         ensures cause { HasWriteCause (O.faults sink.old) (O.faults sink.new) result }
     {
         self.close(alloc, sink)?;
@@ -114,16 +107,12 @@ impl Session {
     pub fn take<O: Sink>(&mut self, alloc: Global, asked: Asked, size: usize, sink: &mut O) -> Result<(), RunFault>
         requires size { size ≤ max_line }
         requires room { self.old.window.bytes < max_window }
-        ensures ok { OnOk result ((base : Option (List ℕ)) (ws : Windows) (line : List ℕ)
-            → AsksFor line asked size
-            → IsAt base ws self.old (O.taken sink.old)
-            → IsAt base (with_line self.old.window.limit ws line) self.new (O.taken sink.new)) }
+        ensures ok { OnOk result ((line : List ℕ) → AsksFor line asked size
+            → TakesLine line self.old (O.taken sink.old) self.new (O.taken sink.new)) }
         ensures room { OnOk result (self.new.window.bytes < max_window) }
         ensures limit { OnOk result (self.new.window.limit ≡ self.old.window.limit) }
-        ensures fault { IfErr result (λ fault. (base : Option (List ℕ)) (ws : Windows) (line : List ℕ)
-            → AsksFor line asked size
-            → IsAt base ws self.old (O.taken sink.old)
-            → StopsIn fault base (with_line self.old.window.limit ws line).closed (O.taken sink.new)) }
+        ensures fault { IfErr result (λ fault. (line : List ℕ) → AsksFor line asked size
+            → FailsAtLine fault line self.old (O.taken sink.old) (O.taken sink.new)) }
         ensures cause { HasWriteCause (O.faults sink.old) (O.faults sink.new) result }
     {
         if asked.is_control() {
@@ -131,5 +120,33 @@ impl Session {
         } else {
             self.take_line(alloc, asked, size, sink)
         }
+    }
+
+    /// Takes a line that is not oversized.
+    pub fn take_whole<O: Sink>(&mut self, alloc: Global, line: &[u8], sink: &mut O) -> Result<(), RunFault>
+        requires size { length line.now ≤ max_line }
+        requires room { self.old.window.bytes < max_window }
+        ensures ok { OnOk result (TakesLine line.now self.old (O.taken sink.old) self.new (O.taken sink.new)) }
+        ensures room { OnOk result (self.new.window.bytes < max_window) }
+        ensures limit { OnOk result (self.new.window.limit ≡ self.old.window.limit) }
+        ensures fault { IfErr result (λ fault. FailsAtLine fault line.now self.old (O.taken sink.old) (O.taken sink.new)) }
+        ensures cause { HasWriteCause (O.faults sink.old) (O.faults sink.new) result }
+    {
+        let asked = Asked::of(alloc, line)?;
+        self.take(alloc, asked, line.len(), sink)
+    }
+
+    /// Takes a line that is oversized.
+    pub fn take_oversized<O: Sink>(&mut self, alloc: Global, sink: &mut O) -> Result<(), RunFault>
+        requires room { self.old.window.bytes < max_window }
+        ensures ok { OnOk result ((line : List ℕ) → max_line < length line
+            → TakesLine line self.old (O.taken sink.old) self.new (O.taken sink.new)) }
+        ensures room { OnOk result (self.new.window.bytes < max_window) }
+        ensures limit { OnOk result (self.new.window.limit ≡ self.old.window.limit) }
+        ensures fault { IfErr result (λ fault. (line : List ℕ) → max_line < length line
+            → FailsAtLine fault line self.old (O.taken sink.old) (O.taken sink.new)) }
+        ensures cause { HasWriteCause (O.faults sink.old) (O.faults sink.new) result }
+    {
+        self.take(alloc, Asked::Refuse(Refusal::Oversized), 0, sink)
     }
 }

@@ -10,7 +10,7 @@ use Rattle.tc_server.proofs.session.Session.take_control.Goals as goal
 pub returns-in_err-close-clause-fault : goal.returns-in_err-close-clause-fault
 returns-in_err-close-clause-fault g c =
     let p = err_from_is_err_and c.from_residual.result c.from_residual.ensures.1 in
-    rw (p.1, p.2) (λ base ws line asks control at.
+    rw (p.1, p.2) (λ line asks control base ws at.
       rw (with_line-control c.args.self.now.window.limit ws line control)
       (fails_closing base (g.O.Sink.taken c.args.sink.now) (g.O.Sink.taken c.close.new.sink) ws c.args.self.now c.in_err-close.field-0.0 (with_end (with_pushed (with_end ws) line)).closed at
       c.in_err-close.ensures.fault (record { more = (line ∷ []) ∷ []; goes_on = refl })))
@@ -18,7 +18,7 @@ returns-in_err-close-clause-fault g c =
 pub returns-in_err-push-clause-fault : goal.returns-in_err-push-clause-fault
 returns-in_err-push-clause-fault g c =
     let p = err_from_is_err_and c.from_residual-in_err-push.result c.from_residual-in_err-push.ensures.1 in
-    rw (p.1, p.2) (λ base ws line asks control at.
+    rw (p.1, p.2) (λ line asks control base ws at.
       let before : IsAt base (with_end ws) c.close.new.self (g.O.Sink.taken c.close.new.sink) =
           closes base (g.O.Sink.taken c.args.sink.now) (g.O.Sink.taken c.close.new.sink) ws c.args.self.now c.close.new.self at
           c.in_ok-close.ensures.written c.in_ok-close.ensures.pairs c.in_ok-close.ensures.requests c.in_ok-close.ensures.bytes in
@@ -28,7 +28,7 @@ returns-in_err-push-clause-fault g c =
 pub returns-in_err-close-2-clause-fault : goal.returns-in_err-close-2-clause-fault
 returns-in_err-close-2-clause-fault g c =
     let p = err_from_is_err_and c.from_residual-in_err-close-2.result c.from_residual-in_err-close-2.ensures.1 in
-    rw (p.1, p.2) (λ base ws line asks control at.
+    rw (p.1, p.2) (λ line asks control base ws at.
       let before : IsAt base (with_end ws) c.close.new.self (g.O.Sink.taken c.close.new.sink) =
           closes base (g.O.Sink.taken c.args.sink.now) (g.O.Sink.taken c.close.new.sink) ws c.args.self.now c.close.new.self at
           c.in_ok-close.ensures.written c.in_ok-close.ensures.pairs c.in_ok-close.ensures.requests c.in_ok-close.ensures.bytes in
@@ -40,7 +40,7 @@ returns-in_err-close-2-clause-fault g c =
       c.in_err-close-2.ensures.fault (BeginsWith-refl _)))
 
 pub returns-clause-ok : goal.returns-clause-ok
-returns-clause-ok g c = λ base ws line asks control at.
+returns-clause-ok g c = λ line asks control base ws at.
     let before : IsAt base (with_end ws) c.close.new.self (g.O.Sink.taken c.close.new.sink) =
         closes base (g.O.Sink.taken c.args.sink.now) (g.O.Sink.taken c.close.new.sink) ws c.args.self.now c.close.new.self at
         c.in_ok-close.ensures.written c.in_ok-close.ensures.pairs c.in_ok-close.ensures.requests c.in_ok-close.ensures.bytes in

@@ -10,12 +10,12 @@ use Rattle.tc_server.proofs.session.Session.take_line.Goals as goal
 pub returns-in_err-push-clause-fault : goal.returns-in_err-push-clause-fault
 returns-in_err-push-clause-fault g c =
     let p = err_from_is_err_and c.from_residual.result c.from_residual.ensures.1 in
-    rw (p.1, p.2) (λ base ws line asks plain at. record { before = ws.closed; among = closed-with_line c.args.self.now.window.limit ws line; written = at.written })
+    rw (p.1, p.2) (λ line asks plain base ws at. record { before = ws.closed; among = closed-with_line c.args.self.now.window.limit ws line; written = at.written })
 
 pub returns-in_err-close-clause-fault : goal.returns-in_err-close-clause-fault
 returns-in_err-close-clause-fault g c =
     let p = err_from_is_err_and c.from_residual-in_err-close.result c.from_residual-in_err-close.ensures.1 in
-    rw (p.1, p.2) (λ base ws line asks plain at.
+    rw (p.1, p.2) (λ line asks plain base ws at.
       let pushed : Session = record c.args.self.now { window = c.push.new.self } in
       let held : IsAt base (with_pushed ws line) pushed (g.O.Sink.taken c.args.sink.now) =
           holds_line base (g.O.Sink.taken c.args.sink.now) ws line c.args.asked c.args.size c.args.self.now pushed asks at refl c.in_ok-push.ensures.requests c.in_ok-push.ensures.bytes in
@@ -26,7 +26,7 @@ returns-in_err-close-clause-fault g c =
       c.in_err-close.ensures.fault (BeginsWith-refl _)))
 
 pub returns-in_ok-close-clause-ok : goal.returns-in_ok-close-clause-ok
-returns-in_ok-close-clause-ok g c = λ base ws line asks plain at.
+returns-in_ok-close-clause-ok g c = λ line asks plain base ws at.
     let pushed : Session = record c.args.self.now { window = c.push.new.self } in
     let held : IsAt base (with_pushed ws line) pushed (g.O.Sink.taken c.args.sink.now) =
         holds_line base (g.O.Sink.taken c.args.sink.now) ws line c.args.asked c.args.size c.args.self.now pushed asks at refl c.in_ok-push.ensures.requests c.in_ok-push.ensures.bytes in
