@@ -24,7 +24,7 @@ option_map-lookup n (e ∷ es) =
     lookup_step (is_eq (nat_cmp n e.0)) (n == e.0) e.1 (lookup (is_at (nat_cmp n)) es) (stored n (map pair_of es)) (unsigned_ties n e.0) (option_map-lookup n es)
 
 insert_step : (less same : Bool) (e : ℕ × Doc) (n : ℕ) (d : Doc) (es more : List (ℕ × Doc)) (meant : Pairs) → map pair_of more ≡ meant
-  → map pair_of (match_ordering (cond less Less (cond same Equal Greater)) ((n, d) ∷ e ∷ es) ((e.0, d) ∷ es) (e ∷ more)) ≡ (if less then (n, tree_of d) ∷ pair_of e ∷ map pair_of es else (if same then (e.0, tree_of d) ∷ map pair_of es else pair_of e ∷ meant))
+    → map pair_of (match_ordering (cond less Less (cond same Equal Greater)) ((n, d) ∷ e ∷ es) ((e.0, d) ∷ es) (e ∷ more)) ≡ (if less then (n, tree_of d) ∷ pair_of e ∷ map pair_of es else (if same then (e.0, tree_of d) ∷ map pair_of es else pair_of e ∷ meant))
 insert_step true same e n d es more meant h = refl
 insert_step false true e n d es more meant h = refl
 insert_step false false e n d es more meant h = ap (λ ps. pair_of e ∷ ps) h

@@ -27,9 +27,9 @@ requests-unless_empty closed window =
 
 -- a line that was pushed is held in the open window
 pub holds_line : (base taken : Option (List ℕ)) (ws : Windows) (line : List ℕ) (asked : Asked) (size : ℕ) (old new : Session)
-  → AsksFor line asked size → IsAt base ws old taken
-  → new.store ≡ old.store → requests_of new.window ≡ requests_of old.window ++ request_asked asked ∷ [] → new.window.bytes ≡ old.window.bytes + size
-  → IsAt base (record { closed = ws.closed; open_lines = ws.open_lines ++ line ∷ [] }) new taken
+    → AsksFor line asked size → IsAt base ws old taken
+    → new.store ≡ old.store → requests_of new.window ≡ requests_of old.window ++ request_asked asked ∷ [] → new.window.bytes ≡ old.window.bytes + size
+    → IsAt base (record { closed = ws.closed; open_lines = ws.open_lines ++ line ∷ [] }) new taken
 holds_line base taken ws line asked size old new asks at same requests bytes = record {
   pairs = same ∙ at.pairs;
   requests = requests ∙ ap (λ rs. rs ++ request_asked asked ∷ []) at.requests ∙ ap (λ r. map request_of ws.open_lines ++ r ∷ []) asks.request ∙ sym (map-append request_of ws.open_lines (line ∷ []));
@@ -39,16 +39,16 @@ holds_line base taken ws line asked size old new asks at same requests bytes = r
 
 -- the open window is full where the code finds it so
 pub is_full-found : (limit : ℕ) (base taken : Option (List ℕ)) (ws : Windows) (session : Session) → IsAt base ws session taken
-  → (nat_le limit (length (requests_of session.window)) || nat_le 4194304 session.window.bytes) ≡ is_full limit ws.open_lines
+    → (nat_le limit (length (requests_of session.window)) || nat_le 4194304 session.window.bytes) ≡ is_full limit ws.open_lines
 is_full-found limit base taken ws session at =
     rw (at.requests, at.bytes, length-map ws.open_lines request_of) refl
 
 -- a window that was answered and written has closed
 pub closes : (base taken taken' : Option (List ℕ)) (ws : Windows) (old new : Session)
-  → IsAt base ws old taken
-  → Appends taken taken' (answers (requests_of old.window) old.store) → new.store ≡ after_all (requests_of old.window) old.store
-  → requests_of new.window ≡ [] → new.window.bytes ≡ 0
-  → IsAt base (with_end ws) new taken'
+    → IsAt base ws old taken
+    → Appends taken taken' (answers (requests_of old.window) old.store) → new.store ≡ after_all (requests_of old.window) old.store
+    → requests_of new.window ≡ [] → new.window.bytes ≡ 0
+    → IsAt base (with_end ws) new taken'
 closes base taken taken' ws old new at written pairs requests bytes =
     let all = requests-unless_empty ws.closed ws.open_lines in
     let before = map request_of (lines_in ws.closed) in
@@ -68,9 +68,9 @@ unless_empty-answered (line ∷ lines) pairs n h = refl
 
 -- where the open window fails to close, it is the failed one, or nothing of it was written
 pub fails_closing : (base taken taken' : Option (List ℕ)) (ws : Windows) (session : Session) (fault : RunFault) (whole : List Window)
-  → IsAt base ws session taken → WritesPart fault (answers (requests_of session.window) session.store) taken taken'
-  → BeginsWith whole (with_end ws).closed
-  → StopsIn fault base whole taken'
+    → IsAt base ws session taken → WritesPart fault (answers (requests_of session.window) session.store) taken taken'
+    → BeginsWith whole (with_end ws).closed
+    → StopsIn fault base whole taken'
 fails_closing base taken taken' ws session (Write n) whole at part among =
     let same : answers (requests_of session.window) session.store ≡ replies_behind ws.closed ws.open_lines = rw (at.requests, at.pairs) refl in
     let within : n < length (replies_behind ws.closed ws.open_lines) = rw same at part.0 in

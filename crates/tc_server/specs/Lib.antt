@@ -2,3 +2,5 @@ pub mod Pairs
 pub mod Asked
 pub mod Window
 pub mod Stage
+pub mod Ending
+pub mod Progress

@@ -1,5 +1,5 @@
 -- What a session holds and what it has written, by the windows of the lines that came.
-use Rattle.std.specs.Prelude.{◌≡◌, ℕ, ◌<◌, ◌≤◌, List, [], ◌∷◌, ◌++◌, length, map, take, sum_by, Option, Result, IfErr, ⊤}
+use Rattle.std.specs.Prelude.{◌≡◌, ◌≢◌, ℕ, ◌<◌, ◌≤◌, List, [], ◌∷◌, ◌++◌, length, map, take, sum_by, Option, Result, IfErr, ⊤}
 use Rattle.std.specs.Io.KnownBytes.{Appends, Keeps}
 use Rattle.tc_edge.specs.Faults.{Rose}
 use Rattle.tc_model.specs.Request.{request_of}
@@ -80,7 +80,8 @@ IsWrite Usage = ⊥
 IsWrite Read = ⊥
 IsWrite Spent = ⊥
 
--- the count of the sink's faults did not fall, and it rose where a write failed
+-- The count of the sink's faults did not fall, and it rose where a write failed; no read failed.
 pub record HasWriteCause (before now : ℕ) (result : Result ⊤ RunFault) : Type 0 where
   pub kept : before ≤ now
   pub failed : IfErr result (λ fault. IsWrite fault → Rose before now)
+  pub unread : IfErr result (λ fault. fault ≢ Read)

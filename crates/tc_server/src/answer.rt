@@ -37,7 +37,8 @@ impl Asked {
         ensures { result ≡ is_control (request_asked self.now) }
     {
         match self {
-            Asked::Run(Command::Flush | Command::Schema | Command::Scan(_) | Command::Collect) => true,
+            Asked::Run(Command::Flush | Command::Schema | Command::Scan(_) | Command::Collect) =>
+                true,
             _other => false,
         }
     }
@@ -70,9 +71,11 @@ fn run(alloc: Global, store: &mut Store, command: Command) -> Result<Reply, Allo
             Ok(Reply::Deleted { id: key, found })
         }
         Command::Get { key } => got(alloc, store, key),
-        Command::Query(_) | Command::Flush | Command::Schema | Command::Scan(_) | Command::Collect => {
-            Ok(Reply::Refused(Refusal::NotBuilt))
-        }
+        Command::Query(_)
+        | Command::Flush
+        | Command::Schema
+        | Command::Scan(_)
+        | Command::Collect => { Ok(Reply::Refused(Refusal::NotBuilt)) }
     }
 }
 
@@ -84,15 +87,16 @@ fn got(alloc: Global, store: &Store, key: u64) -> Result<Reply, AllocError>
             id: key,
             doc: Some(doc.copy(alloc)?),
         }),
-        None => Ok(Reply::Got {
-            id: key,
-            doc: None,
-        }),
+        None => Ok(Reply::Got { id: key, doc: None }),
     }
 }
 
 /// The reply lines, in order, and what they leave in the store. Errs only for want of memory.
-pub fn answer_all(alloc: Global, store: &mut Store, asked: Vec<Asked>) -> Result<Vec<u8>, AllocError>
+pub fn answer_all(
+    alloc: Global,
+    store: &mut Store,
+    asked: Vec<Asked>,
+) -> Result<Vec<u8>, AllocError>
     ensures replies { IfOk result (λ replies. replies.items ≡ answers (map request_asked asked.items) store.old) }
     ensures after { OnOk result (store.new ≡ after_all (map request_asked asked.items) store.old) }
 {

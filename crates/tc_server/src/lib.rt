@@ -3,8 +3,10 @@
 
 mod answer;
 mod outcome;
+mod server;
 mod session;
 mod store;
 mod window;
 
 pub use outcome::{Outcome, RunFault};
+pub use server::serve;

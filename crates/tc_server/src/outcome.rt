@@ -28,6 +28,24 @@ pub enum RunFault {
     Memory,
 }
 
+impl RunFault {
+    ghost use Rattle.std.specs.Prelude.{◌≡◌, Some};
+    ghost use Rattle.tc_server.specs.Ending.{status_of};
+
+    /// The exit status of a run that ended by this fault.
+    pub fn status(self) -> u8
+        ensures { result ≡ status_of (Some self) }
+    {
+        match self {
+            RunFault::Usage => 2,
+            RunFault::Read => 3,
+            RunFault::Write { .. } => 4,
+            RunFault::Memory => 7,
+            RunFault::Spent => 9,
+        }
+    }
+}
+
 impl From<AllocError> for RunFault {
     ghost from_gives = { λ _ e. e ≡ Memory };
 
@@ -48,9 +66,7 @@ impl From<WriteFault> for RunFault {
     ghost from_gives = { λ f e. e ≡ Write f.taken };
 
     fn from(fault: WriteFault) -> RunFault {
-        RunFault::Write {
-            taken: fault.taken,
-        }
+        RunFault::Write { taken: fault.taken }
     }
 }
 

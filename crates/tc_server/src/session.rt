@@ -14,6 +14,7 @@ use crate::store::Store;
 use crate::window::Window;
 use std::alloc::{AllocError, Global};
 use std::mem;
+use tc_bytes::Bytes;
 use tc_command::Refusal;
 use tc_edge::{Sink, write_all};
 
@@ -68,7 +69,13 @@ impl Session {
     }
 
     /// Takes a line that is answered in its window, and closes the window where it is full.
-    pub fn take_line<O: Sink>(&mut self, alloc: Global, asked: Asked, size: usize, sink: &mut O) -> Result<(), RunFault>
+    pub fn take_line<O: Sink>(
+        &mut self,
+        alloc: Global,
+        asked: Asked,
+        size: usize,
+        sink: &mut O,
+    ) -> Result<(), RunFault>
         requires size { size ≤ max_line }
         requires room { self.old.window.bytes < max_window }
         ensures ok { OnOk result ((line : List ℕ) → AsksFor line asked size → is_control (request_of line) ≡ false
@@ -87,7 +94,13 @@ impl Session {
     }
 
     /// Takes a line that is a window of its own: answers the window before it, and then the line.
-    pub fn take_control<O: Sink>(&mut self, alloc: Global, asked: Asked, size: usize, sink: &mut O) -> Result<(), RunFault>
+    pub fn take_control<O: Sink>(
+        &mut self,
+        alloc: Global,
+        asked: Asked,
+        size: usize,
+        sink: &mut O,
+    ) -> Result<(), RunFault>
         requires size { size ≤ max_line }
         ensures ok { OnOk result ((line : List ℕ) → AsksFor line asked size → is_control (request_of line) ≡ true
             → TakesLine line self.old (O.taken sink.old) self.new (O.taken sink.new)) }
@@ -104,7 +117,13 @@ impl Session {
     }
 
     /// Takes a line: answers it in its window, or by itself where it is a command of the whole store.
-    pub fn take<O: Sink>(&mut self, alloc: Global, asked: Asked, size: usize, sink: &mut O) -> Result<(), RunFault>
+    pub fn take<O: Sink>(
+        &mut self,
+        alloc: Global,
+        asked: Asked,
+        size: usize,
+        sink: &mut O,
+    ) -> Result<(), RunFault>
         requires size { size ≤ max_line }
         requires room { self.old.window.bytes < max_window }
         ensures ok { OnOk result ((line : List ℕ) → AsksFor line asked size
@@ -123,7 +142,30 @@ impl Session {
     }
 
     /// Takes a line that is not oversized.
-    pub fn take_whole<O: Sink>(&mut self, alloc: Global, line: &[u8], sink: &mut O) -> Result<(), RunFault>
+    pub fn take_whole<O: Sink>(
+        &mut self,
+        alloc: Global,
+        line: Bytes,
+        sink: &mut O,
+    ) -> Result<(), RunFault>
+        requires size { length line ≤ max_line }
+        requires room { self.old.window.bytes < max_window }
+        ensures ok { OnOk result (TakesLine line self.old (O.taken sink.old) self.new (O.taken sink.new)) }
+        ensures room { OnOk result (self.new.window.bytes < max_window) }
+        ensures limit { OnOk result (self.new.window.limit ≡ self.old.window.limit) }
+        ensures fault { IfErr result (λ fault. FailsAtLine fault line self.old (O.taken sink.old) (O.taken sink.new)) }
+        ensures cause { HasWriteCause (O.faults sink.old) (O.faults sink.new) result }
+    {
+        self.take_slice(alloc, line.as_slice(), sink)
+    }
+
+    // Takes a line that is not oversized, borrowed.
+    fn take_slice<O: Sink>(
+        &mut self,
+        alloc: Global,
+        line: &[u8],
+        sink: &mut O,
+    ) -> Result<(), RunFault>
         requires size { length line.now ≤ max_line }
         requires room { self.old.window.bytes < max_window }
         ensures ok { OnOk result (TakesLine line.now self.old (O.taken sink.old) self.new (O.taken sink.new)) }

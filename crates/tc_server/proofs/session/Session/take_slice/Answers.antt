@@ -1,6 +1,6 @@
 use Rattle.std.proofs.lemmas.Result.{err_from_is_err_and, on_ok_weaker}
 use Rattle.tc_server.proofs.SessionLemmas.{asks_whole, fails_before}
-use Rattle.tc_server.proofs.session.Session.take_whole.Goals as goal
+use Rattle.tc_server.proofs.session.Session.take_slice.Goals as goal
 
 pub returns-in_err-asked-clause-fault : goal.returns-in_err-asked-clause-fault
 returns-in_err-asked-clause-fault g c =
