@@ -42,9 +42,9 @@ impl Model for Intake {
     ghost Value = { Holding };
 
     ghost view = { λ a. record {
-        front = a.front.items;
-        rest = take (a.end - a.start) (drop a.start a.piece.items);
-        taken = a.taken
+      front = a.front.items;
+      rest = take (a.end - a.start) (drop a.start a.piece.items);
+      taken = a.taken;
     } };
 
     ghost invariant = { λ a. (a.start ≤ a.end) × (a.end ≤ length a.piece.items)
@@ -61,6 +61,20 @@ impl Intake {
             start: 0,
             end: 0,
             taken: 0,
+        }
+    }
+
+    #[cfg(test)]
+    pub fn after(alloc: Global, taken: u64) -> Intake
+        requires { taken ≤ MAX_TAKEN }
+        ensures { result ≡ record { front = []; rest = []; taken = taken } }
+    {
+        Intake {
+            front: Vec::new(alloc),
+            piece: Vec::new(alloc),
+            start: 0,
+            end: 0,
+            taken,
         }
     }
 
@@ -92,12 +106,13 @@ impl Intake {
     // Makes the last read an earlier one. After an `Err` nothing has changed.
     pub fn carry_over(&mut self) -> Result<(), Memory>
         ensures ok { OnOk result (self.new ≡ record self.old {
-            front = self.old.front ++ self.old.rest;
-            rest = []
+          front = self.old.front ++ self.old.rest;
+          rest = [];
         }) }
         ensures err { OnErr result (self.new ≡ self.old) }
     {
-        self.front.extend_from_slice(&self.piece[self.start..self.end])?;
+        self.front
+            .extend_from_slice(&self.piece[self.start..self.end])?;
         self.start = self.end;
         Ok(())
     }
@@ -123,8 +138,8 @@ impl Intake {
         requires { len < length self.old.rest }
         ensures line { IfOk result (λ line. line ≡ self.old.front ++ take len self.old.rest) }
         ensures left { OnOk result (self.new ≡ record self.old {
-            front = [];
-            rest = drop (len + 1) self.old.rest
+          front = [];
+          rest = drop (len + 1) self.old.rest;
         }) }
         ensures err { OnErr result (self.new ≡ self.old) }
     {
@@ -138,8 +153,8 @@ impl Intake {
     pub fn drop_line(&mut self, len: usize)
         requires { len < length self.old.rest }
         ensures { self.new ≡ record self.old {
-            front = [];
-            rest = drop (len + 1) self.old.rest
+          front = [];
+          rest = drop (len + 1) self.old.rest;
         } }
     {
         self.front.clear();
