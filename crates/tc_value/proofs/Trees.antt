@@ -1,6 +1,7 @@
 -- Lists of items and members, and the trees that they make.
 use Rattle.std.proofs.Common.{◌≡◌, ◌∙◌, ap, refl, sym, List, [], ◌∷◌, map}
-use Rattle.tc_model.specs.Tree.{Tree, leaf, array, object, Items, no_items, item, Members, no_members, member, items_of, members_of, items_relabel, members_relabel}
+use Rattle.std.specs.List.Sorted.{IsStrictlySortedBy}
+use Rattle.tc_model.specs.Tree.{Tree, array, object, Items, no_items, item, member, items_of, members_of, items_relabel, members_relabel}
 use Rattle.tc_model.specs.Document.{Name, Document, scalar_kind, listed_members, IsAscending, IsScalar, IsDocument, AreMembersOf}
 use Rattle.tc_value.specs.ShapeMeaning.{shape_of, member_shape}
 
@@ -62,3 +63,8 @@ names-shapes (m ∷ ms) = ap (λ names. m.0 ∷ names) (names-shapes ms)
 -- shapes keep the order of names
 pub ascending_shapes : (ms : List (Name × Document)) → IsAscending ms → IsAscending (map member_shape ms)
 ascending_shapes ms ascending = rw (names-shapes ms) ascending
+
+-- one member is in order
+pub ascending_single : (m : Name × Document) → IsAscending (m ∷ [])
+unfolding IsStrictlySortedBy
+ascending_single m = (tt, tt)

@@ -1,6 +1,5 @@
 pub mod Kinds
 pub mod Meaning
-pub mod Occurrences
 pub mod TreeSize
 pub mod DocFalls
 pub mod ShapeMeaning

@@ -14,11 +14,13 @@ fn sample(alloc: Global, value: i64) -> Result<Doc, AllocError> {
         name: text(alloc, "b")?,
         value: Doc::Bool(true),
     };
+    let mut members = Vec::new(alloc);
+    members.push(member)?;
     let mut items = Vec::new(alloc);
     items.push(Doc::Int(value))?;
     items.push(Doc::Text(text(alloc, "x")?))?;
     items.push(Doc::Array(Items::of(Vec::new(alloc))))?;
-    items.push(Doc::Object(Members::of(vec![in alloc; member]?)))?;
+    items.push(Doc::Object(Members::of(members)))?;
     Ok(Doc::Array(Items::of(items)))
 }
 

@@ -1,4 +1,4 @@
-use Rattle.std.proofs.Common.{rules, ◌∙◌}
+use Rattle.std.proofs.Common.{rules}
 use Rattle.tc_value.proofs.Trees.{array_shape, object_shape, ascending_shapes}
 use Rattle.tc_value.proofs.document.+shaping.Goals as goal
 
