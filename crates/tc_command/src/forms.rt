@@ -54,13 +54,25 @@ fn form_named<'v>(op: &str, members: &'v Map<String, Value>) -> Option<Form<'v>>
     } else if op == "query" {
         Some(Form::Query(ask_in(members)?))
     } else if op == "flush" {
-        if names_are(&["op"], members) { Some(Form::Flush) } else { None }
+        if names_are(&["op"], members) {
+            Some(Form::Flush)
+        } else {
+            None
+        }
     } else if op == "schema" {
-        if names_are(&["op"], members) { Some(Form::Schema) } else { None }
+        if names_are(&["op"], members) {
+            Some(Form::Schema)
+        } else {
+            None
+        }
     } else if op == "scan" {
         Some(Form::Scan(ask_in(members)?))
     } else if op == "collect" {
-        if names_are(&["op"], members) { Some(Form::Collect) } else { None }
+        if names_are(&["op"], members) {
+            Some(Form::Collect)
+        } else {
+            None
+        }
     } else {
         None
     }
@@ -104,11 +116,7 @@ fn path_in(members: &Map<String, Value>) -> Option<&Vec<Value>>
         ≡ option_and_then if_path (get_member (codes "path") (members_view members.now.entries)) }
 {
     match member(members, "path")? {
-        Value::Array(items) => if are_hops(items) {
-            Some(items)
-        } else {
-            None
-        },
+        Value::Array(items) => if are_hops(items) { Some(items) } else { None },
         _ => None,
     }
 }

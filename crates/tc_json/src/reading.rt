@@ -15,10 +15,12 @@ use serde_json::{Map, Value};
 use std::alloc::{AllocError, Global};
 use tc_value::{Doc, Items, Member, Members, Text};
 
+// How deep a document may nest.
 const MAX_DEPTH: usize = 32;
 
-/// The document that a JSON value means, in memory of its own. Errs with `NotWhole` exactly where a number in the
-/// value is not held as an `i64`, and with `TooDeep` exactly where all are and the value nests deeper than 32.
+/// The document that a JSON value means, in memory of its own. Errs with `NotWhole` exactly where a
+/// number in the value is not held as an `i64`, and with `TooDeep` exactly where all numbers are and
+/// arrays and objects nest deeper than 32. Recurses over a deeper value only to judge its numbers.
 #[tactic(auto, using(crate::proofs::Depths::depth_is_nesting))]
 pub fn doc_of(alloc: Global, value: &Value) -> Result<Doc, JsonFault>
     ensures ok { IfOk result (λ d. document_of (view value.now) ≡ Some (tree_of d)) }
@@ -33,7 +35,8 @@ pub fn doc_of(alloc: Global, value: &Value) -> Result<Doc, JsonFault>
     }
 }
 
-// The document of a value that nests no deeper than `room`. Of two faults the first in the value is answered.
+// The document of a value that nests no deeper than `room`. The first fault in the value is answered,
+// so that one pass serves where there is none.
 #[cycle(convert)]
 fn convert(alloc: Global, value: &Value, room: usize) -> Result<Doc, JsonFault>
     ensures ok { IfOk result (λ d. document_of (view value.now) ≡ Some (tree_of d)) }

@@ -18,7 +18,7 @@ pub fn value_of(alloc: Global, doc: &Doc) -> Result<Value, AllocError>
 {
     match doc {
         Doc::Null => Ok(Value::Null),
-        Doc::Bool(b) => Ok(Value::from(*b)),
+        Doc::Bool(b) => Ok(Value::Bool(*b)),
         Doc::Int(n) => Ok(Value::from(*n)),
         Doc::Text(text) => Ok(Value::String(String::from_str(alloc, text.as_str())?)),
         Doc::Array(items) => Ok(Value::Array(array_of(alloc, items)?)),

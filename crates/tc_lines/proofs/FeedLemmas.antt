@@ -1,5 +1,5 @@
 -- The first line feed of bytes, and what stands behind it.
-use Rattle.std.proofs.Common.{◌≡◌, ℕ, suc, ◌+◌, ◌-◌, ◌≤◌, ◌<◌, ◌==◌, Bool, true, false, List, [], ◌∷◌, ◌++◌, Option, Some, None, MatchOption, length, take, drop, get_or, slice_index, sym, ap, ◌∙◌, subst, refl, arith, length-take, get_or-take}
+use Rattle.std.proofs.Common.{◌≡◌, ℕ, suc, ◌+◌, ◌-◌, ◌<◌, ◌==◌, true, List, [], ◌∷◌, Option, Some, None, MatchOption, length, take, drop, get_or, slice_index, sym, ap, ◌∙◌, subst, refl, arith, length-take, get_or-take}
 use Rattle.std.proofs.lemmas.Bool.{false_from_ne_true, eqb-true}
 use Rattle.std.proofs.lemmas.List.{drop_more, drop-take, drop-drop}
 use Rattle.memchr.specs.Find.{IsFirstByte, is_byte}
@@ -16,9 +16,9 @@ first_feed bs None h = one_line bs (λ k below. h k (omega arith) below)
 first_feed bs (Some n) h =
     let len = length-take n bs in record {
       before = one_line (take n bs) (λ k below.
-      let inside : k < n = omega (arith, below, len) in
-      λ is. h.0.before k (omega arith) inside (ap (is_byte feed) (sym (get_or-take n bs k 0 inside)) ∙ is));
-      at = drop_more bs n 0 h.0.high ∙ ap (λ b. b ∷ drop (n + 1) bs) (eqb-true (get_or bs n 0) feed h.1)
+          let inside : k < n = omega (arith, below, len) in
+          λ is. h.0.before k (omega arith) inside (ap (is_byte feed) (sym (get_or-take n bs k 0 inside)) ∙ is));
+      at = drop_more bs n 0 h.0.high ∙ ap (λ b. b ∷ drop (n + 1) bs) (eqb-true (get_or bs n 0) feed h.1);
     }
 
 -- what is left of a part when n more bytes are gone from its front

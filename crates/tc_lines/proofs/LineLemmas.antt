@@ -1,5 +1,5 @@
 -- What bytes without a line feed are as lines, alone or before others.
-use Rattle.std.proofs.Common.{◌≡◌, ℕ, ◌<◌, Bool, true, false, List, [], ◌∷◌, ◌++◌, length, refl, sym, arith, ap, ◌∙◌, append_assoc, append-nil}
+use Rattle.std.proofs.Common.{◌≡◌, ℕ, ◌<◌, List, [], ◌∷◌, ◌++◌, length, refl, arith, ap, ◌∙◌, append_assoc}
 use Rattle.tc_model.specs.Lines.{feed, lines_of, whole_lines}
 use Rattle.tc_lines.specs.Holding.{IsOneLine}
 use Rattle.tc_lines.specs.Answer.{BeginsWithLine, IsLastLine}
@@ -29,7 +29,7 @@ begins_with_line bytes line behind e p =
     let moved : (rest : List ℕ) → bytes ++ rest ≡ line ++ feed ∷ (behind ++ rest) =
     λ rest. ap (λ bs. bs ++ rest) e ∙ append_assoc line (feed ∷ behind) rest in record {
       lines = λ rest. ap lines_of (moved rest) ∙ lines_of-line line (behind ++ rest) p;
-      whole = λ rest. ap whole_lines (moved rest) ∙ whole_lines-line line (behind ++ rest) p
+      whole = λ rest. ap whole_lines (moved rest) ∙ whole_lines-line line (behind ++ rest) p;
     }
 
 pub is_last_line : (line : List ℕ) → 0 < length line → IsOneLine line → IsLastLine line line

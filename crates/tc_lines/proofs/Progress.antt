@@ -5,7 +5,7 @@ use Rattle.std.specs.Io.KnownBytes.{Consumes, IsAtEnd, Keeps}
 use Rattle.std.proofs.KnownBytes.{Consumes-nil, Consumes-trans, Consumes-kept}
 use Rattle.tc_model.specs.Lines.{feed, whole_lines}
 use Rattle.tc_lines.specs.Holding.{Holding, IsOneLine, HasFeedAt}
-use Rattle.tc_lines.specs.Answer.{Reading, BeginsWithLine, IsLastLine, HasEnded, IsAnswered, is_failure}
+use Rattle.tc_lines.specs.Answer.{IsLastLine, IsAnswered, is_failure}
 use Rattle.tc_lines.specs.Giving.{reading_of, GivesLine, GivesLast, MakesRoom}
 use Rattle.tc_lines.specs.declared.intake.TheConstants.{MAX_TAKEN}
 use Rattle.tc_lines.specs.declared.reader.Line.{Line}
@@ -33,7 +33,7 @@ starts limit first left none = record {
   split = append-nil (first.front ++ first.rest);
   skipped_line = tt;
   front_line = subst IsOneLine (sym none) tt;
-  long = refl
+  long = refl;
 }
 
 long_more : (limit : ℕ) (oversized : Bool) (skipped held : List ℕ) → MatchBool oversized (limit < length skipped) (skipped ≡ [])
@@ -53,7 +53,7 @@ makes_room limit true oversized first now new left left' way line room =
       split = way.split ∙ sym (append-nil (way.skipped ++ held));
       skipped_line = IsOneLine-append way.skipped held way.skipped_line (IsOneLine-append now.front now.rest way.front_line line);
       front_line = tt;
-      long = long_more limit oversized way.skipped held way.long room.1
+      long = long_more limit oversized way.skipped held way.long room.1;
     })
 makes_room limit false oversized first now new left left' way line room =
     let held = now.front ++ now.rest in subst (λ h. IsUnderWay limit false first h left left') (sym room.0) (record {
@@ -64,7 +64,7 @@ makes_room limit false oversized first now new left left' way line room =
       split = way.split ∙ ap (λ bs. way.skipped ++ bs) (sym (append-nil held));
       skipped_line = way.skipped_line;
       front_line = IsOneLine-append now.front now.rest way.front_line line;
-      long = MatchBool-at_false _ _ room.2 way.long
+      long = MatchBool-at_false _ _ room.2 way.long;
     })
 
 -- the last read left nothing then, and the earlier ones no more than a line may have
@@ -87,10 +87,10 @@ reads_more limit oversized first now new n left left' left'' way none len is con
       consumed = Consumes-trans left left' left'' way.input new.rest way.consumed consumed;
       counted = omega (arith, taken, way.counted, more, len);
       split = sym (append_assoc (first.front ++ first.rest) way.input new.rest) ∙ ap (λ bs. bs ++ new.rest) way.split
-      ∙ append_assoc way.skipped (now.front ++ now.rest) new.rest ∙ ap (λ bs. way.skipped ++ bs) all;
+          ∙ append_assoc way.skipped (now.front ++ now.rest) new.rest ∙ ap (λ bs. way.skipped ++ bs) all;
       skipped_line = way.skipped_line;
       front_line = subst IsOneLine (sym front) way.front_line;
-      long = way.long
+      long = way.long;
     }
 
 -- what is held is the line, and a line feed, and what is behind it
@@ -104,31 +104,31 @@ pub answers_at_feed : (line : Line) (limit n : ℕ) (oversized : Bool) (first no
     → IsAnswered line (reading_of limit false first) (reading_of limit (is_failure line) new) left left'
 answers_at_feed (Whole given) limit n oversized first now new left left' way found gives moves fails =
     subst (λ h. IsAnswered (Whole given) (reading_of limit false first) (reading_of limit false h) left left') (sym (moves refl)) (
-      let none : way.skipped ≡ [] = MatchBool-at_false _ _ gives.2 way.long in
-      let line_is : now.front ++ take n now.rest ≡ given = sym gives.0 in
-      let bytes_are = way.split ∙ ap (λ bs. bs ++ (now.front ++ now.rest)) none ∙ split_at_feed now.front now.rest n found ∙ ap (λ bs. bs ++ feed ∷ drop (n + 1) now.rest) line_is in
-      let one = IsOneLine-append now.front (take n now.rest) way.front_line found.before in record {
-        input = way.input;
-        consumed = way.consumed;
-        counted = way.counted;
-        says = (inl (begins_with_line _ given _ bytes_are (subst IsOneLine line_is one)), subst (λ bs. length bs ≤ limit) line_is gives.1)
-      })
+    let none : way.skipped ≡ [] = MatchBool-at_false _ _ gives.2 way.long in
+    let line_is : now.front ++ take n now.rest ≡ given = sym gives.0 in
+    let bytes_are = way.split ∙ ap (λ bs. bs ++ (now.front ++ now.rest)) none ∙ split_at_feed now.front now.rest n found ∙ ap (λ bs. bs ++ feed ∷ drop (n + 1) now.rest) line_is in
+    let one = IsOneLine-append now.front (take n now.rest) way.front_line found.before in record {
+      input = way.input;
+      consumed = way.consumed;
+      counted = way.counted;
+      says = (inl (begins_with_line _ given _ bytes_are (subst IsOneLine line_is one)), subst (λ bs. length bs ≤ limit) line_is gives.1);
+    })
 answers_at_feed Oversized limit n oversized first now new left left' way found gives moves fails =
     subst (λ h. IsAnswered Oversized (reading_of limit false first) (reading_of limit false h) left left') (sym (moves refl)) (
-      let part = now.front ++ take n now.rest in
-      let bytes_are = way.split ∙ ap (λ bs. way.skipped ++ bs) (split_at_feed now.front now.rest n found) ∙ sym (append_assoc way.skipped part (feed ∷ drop (n + 1) now.rest)) in
-      let one = IsOneLine-append way.skipped part way.skipped_line (IsOneLine-append now.front (take n now.rest) way.front_line found.before) in record {
-        input = way.input;
-        consumed = way.consumed;
-        counted = way.counted;
-        says = (way.skipped ++ part, inl (begins_with_line _ (way.skipped ++ part) _ bytes_are one), long_more limit oversized way.skipped part way.long gives)
-      })
+    let part = now.front ++ take n now.rest in
+    let bytes_are = way.split ∙ ap (λ bs. way.skipped ++ bs) (split_at_feed now.front now.rest n found) ∙ sym (append_assoc way.skipped part (feed ∷ drop (n + 1) now.rest)) in
+    let one = IsOneLine-append way.skipped part way.skipped_line (IsOneLine-append now.front (take n now.rest) way.front_line found.before) in record {
+      input = way.input;
+      consumed = way.consumed;
+      counted = way.counted;
+      says = (way.skipped ++ part, inl (begins_with_line _ (way.skipped ++ part) _ bytes_are one), long_more limit oversized way.skipped part way.long gives);
+    })
 answers_at_feed Memory limit n oversized first now new left left' way found gives moves fails =
     subst (λ h. IsAnswered Memory (reading_of limit false first) (reading_of limit true h) left left') (sym (fails refl)) (record {
       input = way.input;
       consumed = way.consumed;
       counted = way.counted;
-      says = tt
+      says = tt;
     })
 answers_at_feed End limit n oversized first now new left left' way found gives moves fails = absurd gives
 answers_at_feed ReadFault limit n oversized first now new left left' way found gives moves fails = absurd gives
@@ -145,34 +145,34 @@ pub answers_at_end : (line : Line) (limit : ℕ) (oversized : Bool) (first now n
     → IsAnswered line (reading_of limit false first) (reading_of limit (is_failure line) new) left left'
 answers_at_end (Whole given) limit oversized first now new left left' way none fits at_end below gives moves =
     subst (λ h. IsAnswered (Whole given) (reading_of limit false first) (reading_of limit false h) left left') (sym moves) (
-      let skipped_none : way.skipped ≡ [] = MatchBool-at_false _ _ gives.2 way.long in
-      let line_is : now.front ≡ given = sym gives.0 in
-      let bytes_are = all_bytes limit oversized first now left left' way none ∙ ap (λ bs. bs ++ now.front) skipped_none ∙ line_is in
-      let last = is_last_line given (subst (λ bs. 0 < length bs) line_is gives.1) (subst IsOneLine line_is way.front_line) in record {
-        input = way.input;
-        consumed = way.consumed;
-        counted = way.counted;
-        says = (inr (subst (λ bs. IsLastLine bs given) (sym bytes_are) last, record { at_end = at_end; held = none; taken = below }), subst (λ bs. length bs ≤ limit) line_is fits)
-      })
+    let skipped_none : way.skipped ≡ [] = MatchBool-at_false _ _ gives.2 way.long in
+    let line_is : now.front ≡ given = sym gives.0 in
+    let bytes_are = all_bytes limit oversized first now left left' way none ∙ ap (λ bs. bs ++ now.front) skipped_none ∙ line_is in
+    let last = is_last_line given (subst (λ bs. 0 < length bs) line_is gives.1) (subst IsOneLine line_is way.front_line) in record {
+      input = way.input;
+      consumed = way.consumed;
+      counted = way.counted;
+      says = (inr (subst (λ bs. IsLastLine bs given) (sym bytes_are) last, record { at_end = at_end; held = none; taken = below }), subst (λ bs. length bs ≤ limit) line_is fits);
+    })
 answers_at_end Oversized limit oversized first now new left left' way none fits at_end below gives moves =
     subst (λ h. IsAnswered Oversized (reading_of limit false first) (reading_of limit false h) left left') (sym moves) (
-      let line = way.skipped ++ now.front in
-      let bytes_are = all_bytes limit oversized first now left left' way none in
-      let long = long_more limit oversized way.skipped now.front way.long (inl gives) in
-      let last = is_last_line line (omega (arith, long)) (IsOneLine-append way.skipped now.front way.skipped_line way.front_line) in record {
-        input = way.input;
-        consumed = way.consumed;
-        counted = way.counted;
-        says = (line, inr (subst (λ bs. IsLastLine bs line) (sym bytes_are) last, record { at_end = at_end; held = none; taken = below }), long)
-      })
+    let line = way.skipped ++ now.front in
+    let bytes_are = all_bytes limit oversized first now left left' way none in
+    let long = long_more limit oversized way.skipped now.front way.long (inl gives) in
+    let last = is_last_line line (omega (arith, long)) (IsOneLine-append way.skipped now.front way.skipped_line way.front_line) in record {
+      input = way.input;
+      consumed = way.consumed;
+      counted = way.counted;
+      says = (line, inr (subst (λ bs. IsLastLine bs line) (sym bytes_are) last, record { at_end = at_end; held = none; taken = below }), long);
+    })
 answers_at_end End limit oversized first now new left left' way none fits at_end below gives moves =
     subst (λ h. IsAnswered End (reading_of limit false first) (reading_of limit false h) left left') (sym moves) (
-      let skipped_none : way.skipped ≡ [] = MatchBool-at_false _ _ gives.1 way.long in record {
-        input = way.input;
-        consumed = way.consumed;
-        counted = way.counted;
-        says = (all_bytes limit oversized first now left left' way none ∙ ap (λ bs. bs ++ now.front) skipped_none ∙ gives.0, record { at_end = at_end; held = none; taken = below })
-      })
+    let skipped_none : way.skipped ≡ [] = MatchBool-at_false _ _ gives.1 way.long in record {
+      input = way.input;
+      consumed = way.consumed;
+      counted = way.counted;
+      says = (all_bytes limit oversized first now left left' way none ∙ ap (λ bs. bs ++ now.front) skipped_none ∙ gives.0, record { at_end = at_end; held = none; taken = below });
+    })
 answers_at_end Memory limit oversized first now new left left' way none fits at_end below gives moves = absurd gives
 answers_at_end ReadFault limit oversized first now new left left' way none fits at_end below gives moves = absurd gives
 answers_at_end Spent limit oversized first now new left left' way none fits at_end below gives moves = absurd gives
@@ -195,7 +195,7 @@ answers_fault limit oversized first now new left left' left'' way none same kept
       input = way.input;
       consumed = Consumes-kept left left' left'' way.input way.consumed kept;
       counted = way.counted;
-      says = (no_whole_line limit oversized first now left left' way none, below)
+      says = (no_whole_line limit oversized first now left left' way none, below);
     })
 
 pub answers_spent : (limit : ℕ) (oversized : Bool) (first now new : Holding) (left left' left'' : Option (List ℕ)) → IsUnderWay limit oversized first now left left'
@@ -205,7 +205,7 @@ answers_spent limit oversized first now new left left' left'' way none same kept
       input = way.input;
       consumed = Consumes-kept left left' left'' way.input way.consumed kept;
       counted = way.counted;
-      says = (no_whole_line limit oversized first now left left' way none, all)
+      says = (no_whole_line limit oversized first now left left' way none, all);
     })
 
 -- a line feed ends a whole line

@@ -3,7 +3,7 @@ use Rattle.std.specs.Prelude.{◌≡◌, ℕ, ◌≤◌, ◌<◌, ◌⊎◌, Boo
 use Rattle.tc_lines.specs.Holding.{Holding}
 use Rattle.tc_lines.specs.Answer.{Reading}
 use Rattle.tc_lines.specs.declared.reader.Line.{Line}
-use Rattle.tc_lines.specs.declared.reader.Line.TheVariants.{Whole, Oversized, End, ReadFault, Spent, Memory}
+use Rattle.tc_lines.specs.declared.reader.Line.TheVariants.{Whole, Oversized, End, Memory}
 
 -- the reader that holds this
 abbrev pub reading_of : ℕ → Bool → Holding → Reading

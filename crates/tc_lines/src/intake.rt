@@ -19,7 +19,7 @@ pub const PIECE: usize = 65_536;
 /// At most so many bytes are taken from a source in all.
 pub const MAX_TAKEN: u64 = 9_223_372_036_854_775_807;
 
-// Why no byte was taken.
+/// Why no byte was taken.
 #[derive(Clone, Copy)]
 pub enum Stop {
     ReadFault,
@@ -27,8 +27,8 @@ pub enum Stop {
     Memory,
 }
 
-// The bytes at `start..end` of the last read stand behind those of earlier reads in `front`. So a
-// byte is copied into `front` at most once, and is never moved within it.
+/// The bytes at `start..end` of the last read stand behind those of earlier reads in `front`. So a
+/// byte is copied into `front` at most once, and is never moved within it.
 #[derive(Drop)]
 pub struct Intake {
     front: Vec<u8>,
@@ -42,9 +42,9 @@ impl Model for Intake {
     ghost Value = { Holding };
 
     ghost view = { λ a. record {
-        front = a.front.items;
-        rest = take (a.end - a.start) (drop a.start a.piece.items);
-        taken = a.taken
+      front = a.front.items;
+      rest = take (a.end - a.start) (drop a.start a.piece.items);
+      taken = a.taken;
     } };
 
     ghost invariant = { λ a. (a.start ≤ a.end) × (a.end ≤ length a.piece.items)
@@ -52,6 +52,7 @@ impl Model for Intake {
 }
 
 impl Intake {
+    /// Nothing was taken yet.
     pub fn new(alloc: Global) -> Intake
         ensures { result ≡ record { front = []; rest = []; taken = 0 } }
     {
@@ -64,7 +65,22 @@ impl Intake {
         }
     }
 
-    // How many bytes of the last read stand before its first line feed.
+    /// So many bytes were taken before, for tests of the greatest count.
+    #[cfg(test)]
+    pub fn after(alloc: Global, taken: u64) -> Intake
+        requires { taken ≤ MAX_TAKEN }
+        ensures { result ≡ record { front = []; rest = []; taken = taken } }
+    {
+        Intake {
+            front: Vec::new(alloc),
+            piece: Vec::new(alloc),
+            start: 0,
+            end: 0,
+            taken,
+        }
+    }
+
+    /// How many bytes of the last read stand before its first line feed.
     pub fn find_feed(&self) -> Option<usize>
         ensures feed { MatchOption result (IsOneLine self.now.rest) (HasFeedAt self.now.rest) }
         ensures within { IfSome result (λ n. n < length self.now.rest) }
@@ -74,7 +90,7 @@ impl Intake {
         memchr(b'\n', &self.piece[self.start..self.end])
     }
 
-    // Whether the line of all that is held has more bytes than this.
+    /// Whether the line of all that is held has more bytes than this.
     pub fn exceeds(&self, limit: usize) -> bool
         ensures { IsTrue result ↔ (limit < length (self.now.front ++ self.now.rest)) }
     {
@@ -82,27 +98,29 @@ impl Intake {
         self.front.len() > limit || rest > limit - self.front.len()
     }
 
-    // Whether the line of what earlier reads left, and of so many bytes more, has more bytes than this.
+    /// Whether the line of what earlier reads left, and of so many bytes more, has more bytes than
+    /// this.
     pub fn exceeds_at(&self, limit: usize, len: usize) -> bool
         ensures { IsTrue result ↔ (limit < length self.now.front + len) }
     {
         self.front.len() > limit || len > limit - self.front.len()
     }
 
-    // Makes the last read an earlier one. After an `Err` nothing has changed.
+    /// Makes the last read an earlier one. After an `Err` nothing has changed.
     pub fn carry_over(&mut self) -> Result<(), Memory>
         ensures ok { OnOk result (self.new ≡ record self.old {
-            front = self.old.front ++ self.old.rest;
-            rest = []
+          front = self.old.front ++ self.old.rest;
+          rest = [];
         }) }
         ensures err { OnErr result (self.new ≡ self.old) }
     {
-        self.front.extend_from_slice(&self.piece[self.start..self.end])?;
+        self.front
+            .extend_from_slice(&self.piece[self.start..self.end])?;
         self.start = self.end;
         Ok(())
     }
 
-    // Drops all that is held.
+    /// Drops all that is held.
     pub fn clear(&mut self)
         ensures { self.new ≡ record self.old { front = []; rest = [] } }
     {
@@ -110,7 +128,7 @@ impl Intake {
         self.start = self.end;
     }
 
-    // The bytes that earlier reads left, which are held no more.
+    /// The bytes that earlier reads left, which are held no more.
     pub fn take_front(&mut self, alloc: Global) -> Bytes
         ensures line { result ≡ self.old.front }
         ensures left { self.new ≡ record self.old { front = [] } }
@@ -118,13 +136,14 @@ impl Intake {
         Bytes::of(mem::replace(&mut self.front, Vec::new(alloc)))
     }
 
-    // The line before a line feed, which are held no more. After an `Err` nothing has changed.
+    /// The line before a line feed that stands behind `len` bytes of the last read. After an `Err`
+    /// nothing has changed.
     pub fn take_line(&mut self, alloc: Global, len: usize) -> Result<Bytes, Memory>
         requires { len < length self.old.rest }
         ensures line { IfOk result (λ line. line ≡ self.old.front ++ take len self.old.rest) }
         ensures left { OnOk result (self.new ≡ record self.old {
-            front = [];
-            rest = drop (len + 1) self.old.rest
+          front = [];
+          rest = drop (len + 1) self.old.rest;
         }) }
         ensures err { OnErr result (self.new ≡ self.old) }
     {
@@ -134,19 +153,19 @@ impl Intake {
         Ok(Bytes::of(line))
     }
 
-    // Drops the line before a line feed.
+    /// Drops the line before a line feed.
     pub fn drop_line(&mut self, len: usize)
         requires { len < length self.old.rest }
         ensures { self.new ≡ record self.old {
-            front = [];
-            rest = drop (len + 1) self.old.rest
+          front = [];
+          rest = drop (len + 1) self.old.rest;
         } }
     {
         self.front.clear();
         self.start += len + 1;
     }
 
-    // Takes the next bytes of the source. `Ok(0)` is its end. After an `Err` nothing has changed.
+    /// Takes the next bytes of the source. `Ok(0)` is its end. After an `Err` nothing has changed.
     pub fn read<I: Source>(&mut self, source: &mut I) -> Result<usize, Stop>
         requires { self.old.rest ≡ [] }
         ensures ok { IfOk result (λ n. (length self.new.rest ≡ n)

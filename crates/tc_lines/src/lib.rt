@@ -6,3 +6,6 @@ mod reader;
 
 pub use intake::{MAX_TAKEN, PIECE};
 pub use reader::{Line, Lines};
+
+#[cfg(test)]
+mod tests;

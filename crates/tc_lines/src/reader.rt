@@ -72,6 +72,21 @@ impl Lines {
         }
     }
 
+    /// A reader that has taken so many bytes before, for tests of the greatest count.
+    #[cfg(test)]
+    pub fn after(alloc: Global, limit: usize, taken: u64) -> Lines
+        requires room { 0 < limit }
+        requires count { taken ≤ MAX_TAKEN }
+        ensures { result ≡ record { limit = limit; held = []; taken = taken; failed = false } }
+    {
+        Lines {
+            alloc,
+            intake: Intake::after(alloc, taken),
+            limit,
+            failed: false,
+        }
+    }
+
     /// Whether an answer was a failure. The reader must not be asked again then.
     pub fn failed(&self) -> bool
         ensures { result ≡ self.now.failed }
@@ -79,7 +94,8 @@ impl Lines {
         self.failed
     }
 
-    /// The next line of the source.
+    /// The next line of the source. A carriage return before the line feed belongs to the line, and
+    /// the last line may lack its line feed.
     pub fn next<I: Source>(&mut self, source: &mut I) -> Line
         requires { self.old.failed ≡ false }
 
@@ -89,6 +105,7 @@ impl Lines {
 
         // No more is held than a line may have and one read takes.
         ensures bounded { length self.new.held ≤ self.old.limit + PIECE }
+        ensures capped { self.new.taken ≤ MAX_TAKEN }
 
         // No read is made where a whole line is held, or as many bytes were taken as can be.
         ensures unread { whole_lines self.old.held ≢ [] → source.new ≡ source.old }
@@ -106,17 +123,13 @@ impl Lines {
 }
 
 // The line before the first line feed that is held, or else of what is read next.
-fn next_line<I: Source>(
-    intake: &mut Intake,
-    alloc: Global,
-    limit: usize,
-    source: &mut I,
-) -> Line
+fn next_line<I: Source>(intake: &mut Intake, alloc: Global, limit: usize, source: &mut I) -> Line
     requires { intake.old.front ≡ [] }
     ensures answer { IsAnswered result (reading_of limit false intake.old)
         (reading_of limit (is_failure result) intake.new) (I.left source.old) (I.left source.new) }
     ensures front { is_failure result ≡ false → intake.new.front ≡ [] }
     ensures bounded { length (intake.new.front ++ intake.new.rest) ≤ limit + PIECE }
+    ensures capped { intake.new.taken ≤ MAX_TAKEN }
     ensures unread { whole_lines (intake.old.front ++ intake.old.rest) ≢ [] → source.new ≡ source.old }
     ensures unread_spent { intake.old.taken ≡ MAX_TAKEN → source.new ≡ source.old }
     ensures fault { result ≡ Line.ReadFault → Rose (I.faults source.old) (I.faults source.new) }
@@ -133,12 +146,7 @@ fn next_line<I: Source>(
 
 // The line of what is read next, where no line feed is held. The bytes of a line that is too long
 // are dropped piece by piece.
-fn read_line<I: Source>(
-    intake: &mut Intake,
-    alloc: Global,
-    limit: usize,
-    source: &mut I,
-) -> Line
+fn read_line<I: Source>(intake: &mut Intake, alloc: Global, limit: usize, source: &mut I) -> Line
     requires front { intake.old.front ≡ [] }
     requires rest { IsOneLine intake.old.rest }
     requires piece { length intake.old.rest ≤ PIECE }
@@ -147,6 +155,7 @@ fn read_line<I: Source>(
         (reading_of limit (is_failure result) intake.new) (I.left source.old) (I.left source.new) }
     ensures front { is_failure result ≡ false → intake.new.front ≡ [] }
     ensures bounded { length (intake.new.front ++ intake.new.rest) ≤ limit + PIECE }
+    ensures capped { intake.new.taken ≤ MAX_TAKEN }
     ensures unread_spent { intake.old.taken ≡ MAX_TAKEN → source.new ≡ source.old }
     ensures fault { result ≡ Line.ReadFault → Rose (I.faults source.old) (I.faults source.new) }
     ensures kept { I.faults source.old ≤ I.faults source.new }
@@ -186,13 +195,7 @@ fn make_room(intake: &mut Intake, limit: usize, oversized: bool) -> Result<bool,
 }
 
 // The line before a line feed that stands behind so many bytes of the last read.
-fn line_at(
-    intake: &mut Intake,
-    alloc: Global,
-    limit: usize,
-    len: usize,
-    oversized: bool,
-) -> Line
+fn line_at(intake: &mut Intake, alloc: Global, limit: usize, len: usize, oversized: bool) -> Line
     requires { len < length intake.old.rest }
     ensures line { GivesLine result (intake.old.front ++ take len intake.old.rest) limit oversized }
     ensures left { is_failure result ≡ false

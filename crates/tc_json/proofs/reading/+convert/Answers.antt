@@ -22,8 +22,9 @@ items_left vs i v h is = ap items_view (drop_more vs i v h) ∙ ap (λ w. json.i
 rest_decides : (all left first rest room : ℕ) → (all ≤ room) ↔ (left ≤ room) → left ≡ max first rest → first ≤ room → (all ≤ room) ↔ (rest ≤ room)
 rest_decides all left first rest room h e k = (λ a. let l = h.0 a in omega (arith, l, e, k), λ r. h.1 (omega (arith, e, k, r)))
 
-next_named : (names : List Name) (n : Name) (rest : List Name) → (names ++ n ∷ []) ++ rest ≡ names ++ n ∷ rest
-next_named names n rest = append_assoc names (n ∷ []) rest
+-- the next name joins those that stand before the names that are left
+name_joins : (names : List Name) (n : Name) (rest left all : List Name) → left ≡ n ∷ rest → names ++ left ≡ all → (names ++ n ∷ []) ++ rest ≡ all
+name_joins names n rest left all e h = append_assoc names (n ∷ []) rest ∙ ap (λ ns. names ++ ns) (sym e) ∙ h
 
 pub convert_items-loop-item-preserved : goal.convert_items-loop-item-preserved
 convert_items-loop-item-preserved t c =
@@ -57,7 +58,7 @@ convert_members-loop-name-preserved t c =
     let first : members_meant (members_view l.name-iterator) ≡ option_map (with_member (member_of m)) (members_meant (members_view rest)) = ap (λ es. members_meant (members_view es)) left ∙ rw (c.in_ok-value.ensures.ok, name) in
     record {
       meant = rw c.in_ok-push.ensures.items (l.invariant.meant ∙ rw first (next_before with_member member_of l.listed.items m (members_meant (members_view rest))));
-      named = rw (c.in_ok-push.ensures.items, map_push, map_push) (next_named (map (λ n. n.0) (map member_of l.listed.items)) m.name (map string_bytes (keys_of rest)) ∙ rw (← name) (ap (λ es. map (λ n. n.0) (map member_of l.listed.items) ++ map string_bytes (keys_of es)) (sym left) ∙ l.invariant.named));
+      named = rw (c.in_ok-push.ensures.items, map_push, map_push) (name_joins (map (λ n. n.0) (map member_of l.listed.items)) m.name (map string_bytes (keys_of rest)) (map string_bytes (keys_of l.name-iterator)) _ (ap (λ es. map string_bytes (keys_of es)) left ∙ rw name) l.invariant.named);
       deep = rest_decides _ _ _ _ _ l.invariant.deep (ap (λ es. json.members_depth (members_view es)) left) c.in_ok-value.ensures.shallow;
     }
 

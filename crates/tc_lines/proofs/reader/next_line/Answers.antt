@@ -1,6 +1,5 @@
 -- A line feed that is held ends a line, and where none is, no whole line is held.
-use Rattle.std.proofs.Common.{[], ◌++◌, sym, subst}
-use Rattle.tc_model.specs.Lines.{whole_lines}
+use Rattle.std.proofs.Common.{sym, subst}
 use Rattle.tc_lines.specs.Holding.{IsOneLine}
 use Rattle.tc_lines.proofs.LineLemmas.{IsOneLine-append, whole_lines-one_line}
 use Rattle.tc_lines.proofs.Progress.{starts, answers_at_feed, feed_ends_line}

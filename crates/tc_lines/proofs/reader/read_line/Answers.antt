@@ -1,7 +1,7 @@
 -- Each exit answers for what was read until then.
-use Rattle.std.proofs.Common.{◌≡◌, ◌≤◌, ◌<◌, ◌+◌, ℕ, List, [], Err, length, ap, sym, ◌∙◌, subst, arith}
+use Rattle.std.proofs.Common.{◌≡◌, ◌<◌, ◌+◌, Err, length, ap, ◌∙◌, arith}
 use Rattle.tc_lines.specs.declared.intake.TheConstants.{MAX_TAKEN}
-use Rattle.tc_lines.proofs.Progress.{IsUnderWay, makes_room, room_made, reads_more, answers_at_feed, answers_at_end, answers_fault, answers_spent, none_of_length}
+use Rattle.tc_lines.proofs.Progress.{makes_room, room_made, reads_more, answers_at_feed, answers_at_end, answers_fault, answers_spent, none_of_length}
 use Rattle.tc_lines.proofs.reader.read_line.Goals as goal
 
 pub returns-in-Ok-eq0-clause-answer : goal.returns-in-Ok-eq0-clause-answer
