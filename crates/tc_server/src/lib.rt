@@ -8,5 +8,5 @@ mod session;
 mod store;
 mod window;
 
-pub use outcome::{Outcome, RunFault};
+pub use outcome::{Outcome, RunFault, fault_text};
 pub use server::serve;

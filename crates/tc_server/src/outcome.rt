@@ -4,8 +4,9 @@ ghost use Rattle.std.specs.Prelude.{◌≡◌};
 ghost use Rattle.tc_edge.specs.declared.streams.WriteFault.{WriteFault};
 ghost use Rattle.tc_server.specs.declared.outcome.RunFault.TheVariants.{Memory, Write};
 
-use std::alloc::{AllocError, AllocFailed};
+use std::alloc::{AllocError, AllocFailed, Global};
 use tc_edge::WriteFault;
+use tc_value::Text;
 use thiserror::Error;
 
 /// The fault that ended a run.
@@ -70,9 +71,39 @@ impl From<WriteFault> for RunFault {
     }
 }
 
+/// What to say of a fault, without a line feed. Errs only for want of memory.
+pub fn fault_text(alloc: Global, fault: &RunFault) -> Result<Text, AllocError> {
+    Ok(Text::of(format!(in alloc; "{fault}")?))
+}
+
 /// How a run ended: its exit status, and the fault where the status is not 0.
 #[derive(Clone, Copy, Debug, PartialEq, Eq)]
 pub struct Outcome {
     pub status: u8,
     pub fault: Option<RunFault>,
+}
+
+impl Outcome {
+    ghost use Rattle.std.specs.Prelude.{◌≡◌, Some, None};
+    ghost use Rattle.tc_server.specs.Ending.{status_of};
+
+    /// A run to the end of its input.
+    pub fn done() -> Outcome
+        ensures { result ≡ record { status = 0; fault = None } }
+    {
+        Outcome {
+            status: 0,
+            fault: None,
+        }
+    }
+
+    /// A run that this fault ended.
+    pub fn of(fault: RunFault) -> Outcome
+        ensures { result ≡ record { status = status_of (Some fault); fault = Some fault } }
+    {
+        Outcome {
+            status: fault.status(),
+            fault: Some(fault),
+        }
+    }
 }

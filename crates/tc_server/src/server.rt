@@ -36,14 +36,8 @@ pub fn serve<I: Source, O: Sink>(
     ensures write { IfSome result.fault (λ fault. IsWrite fault → Rose (O.faults sink.old) (O.faults sink.new)) }
 {
     match run(alloc, words, source, sink) {
-        Ok(()) => Outcome {
-            status: 0,
-            fault: None,
-        },
-        Err(fault) => Outcome {
-            status: fault.status(),
-            fault: Some(fault),
-        },
+        Ok(()) => Outcome::done(),
+        Err(fault) => Outcome::of(fault),
     }
 }
 

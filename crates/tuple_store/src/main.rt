@@ -1,0 +1,44 @@
+//! The program: a document store that answers lines of JSON on standard input.
+#![tactic(auto)]
+
+use std::env::Env;
+use std::process::ExitCode;
+use std::env;
+use std::io::Eprint;
+use tc_edge::{StdSink, StdSource};
+use tc_server::{Outcome, RunFault, fault_text, serve};
+use tc_value::Text;
+
+fn main(rt: HostRuntime) -> ExitCode {
+    let outcome = match words(&rt) {
+        Ok(words) => {
+            let mut source = StdSource::new(rt.stdin());
+            let mut sink = StdSink::new(rt.stdout());
+            serve(rt.alloc(), words.as_slice(), &mut source, &mut sink)
+        }
+        Err(fault) => Outcome::of(fault),
+    };
+    if let Some(fault) = outcome.fault {
+        report(&rt, &fault);
+    }
+    ExitCode::from(outcome.status)
+}
+
+// The words behind the program's name. Words that cannot be read as text are no command line.
+fn words(rt: &(impl Env + AllocGlobal)) -> Result<Vec<Text>, RunFault> {
+    let Ok(args) = env::args(rt) else {
+        return Err(RunFault::Usage);
+    };
+    let mut words = Vec::new(rt.alloc());
+    for word in args.skip(1) {
+        words.push(Text::of(word))?;
+    }
+    Ok(words)
+}
+
+// Says on standard error how the run ended. Where memory is refused for the text, nothing is said.
+fn report(rt: &(impl Eprint + AllocGlobal), fault: &RunFault) {
+    if let Ok(text) = fault_text(rt.alloc(), fault) {
+        let _ = eprintln!(rt; "{}", text.as_str());
+    }
+}
