@@ -59,9 +59,9 @@ hears_line seen line old new first left left' goes heard now consumed counted ne
       consumed = Consumes-trans first left left' heard.input now heard.consumed consumed;
       counted = omega (arith, counted, heard.counted, length-append heard.input now);
       place = ⊎_elim
-        (λ begins. inl (begins.1, stands_behind_line heard.input now old.held new.held seen line behind begins.0))
-        (λ last. inr (last.1.ended, record { at_end = last.1.at_end; lines = all_lines lines_of heard.input now old.held seen (line ∷ []) behind.lines last.0.lines }))
-        next;
+          (λ begins. inl (begins.1, stands_behind_line heard.input now old.held new.held seen line behind begins.0))
+          (λ last. inr (last.1.ended, record { at_end = last.1.at_end; lines = all_lines lines_of heard.input now old.held seen (line ∷ []) behind.lines last.0.lines }))
+          next;
     }
 
 -- ---- what has closed
@@ -84,7 +84,7 @@ closed_at_end limit seen input left all = record {
   closed = windows limit input;
   have = inr (all.at_end, refl);
   begin = subst (λ lines. let ws = windows_of limit lines in BeginsWith (ws.closed ++ unless_empty ws.open_lines) (windows_of limit seen).closed) (sym all.lines)
-    (record { more = unless_empty (windows_of limit seen).open_lines; goes_on = refl });
+      (record { more = unless_empty (windows_of limit seen).open_lines; goes_on = refl });
 }
 
 has_closed : (limit : ℕ) (seen : List (List ℕ)) (reading : Reading) (first left : Option (List ℕ)) (heard : HasSeen seen reading first left) → HasClosed limit seen heard.input left
@@ -100,22 +100,30 @@ ends_in : (limit : ℕ) (seen : List (List ℕ)) (input : List ℕ) (first left 
 ends_in limit seen input first left base taken (Write n) consumed has stops = record {
   input = input;
   consumed = consumed;
-  did = (has.closed, has.have, record {
-    before = stops.before;
-    failed = stops.failed;
-    among = BeginsWith-trans has.begin stops.among;
-    within = stops.within;
-    written = stops.written;
-  });
+  did = (
+    has.closed,
+    has.have,
+    record {
+      before = stops.before;
+      failed = stops.failed;
+      among = BeginsWith-trans has.begin stops.among;
+      within = stops.within;
+      written = stops.written;
+    },
+  );
 }
 ends_in limit seen input first left base taken Memory consumed has stops = record {
   input = input;
   consumed = consumed;
-  did = (has.closed, has.have, record {
-    before = stops.before;
-    among = BeginsWith-trans has.begin stops.among;
-    written = stops.written;
-  });
+  did = (
+    has.closed,
+    has.have,
+    record {
+      before = stops.before;
+      among = BeginsWith-trans has.begin stops.among;
+      written = stops.written;
+    },
+  );
 }
 ends_in limit seen input first left base taken Usage consumed has stops = absurd stops
 ends_in limit seen input first left base taken Read consumed has stops = absurd stops
@@ -264,10 +272,13 @@ begins limit reading session left taken fresh pairs requests bytes =
         input = [];
         consumed = Consumes-nil left;
         counted = ap (λ (r : Reading). r.taken) fresh;
-        place = inl (ap (λ (r : Reading). r.ended) fresh, record {
-          lines = λ rest. ap (λ bytes. lines_of (bytes ++ rest)) (sym held);
-          whole = λ rest. ap (λ bytes. whole_lines (bytes ++ rest)) (sym held);
-        });
+        place = inl (
+          ap (λ (r : Reading). r.ended) fresh,
+          record {
+            lines = λ rest. ap (λ bytes. lines_of (bytes ++ rest)) (sym held);
+            whole = λ rest. ap (λ bytes. whole_lines (bytes ++ rest)) (sym held);
+          },
+        );
       };
       at = record { pairs = pairs; requests = requests; bytes = bytes; written = Appends-nil taken };
     }

@@ -10,3 +10,6 @@ mod window;
 
 pub use outcome::{Outcome, RunFault, fault_text};
 pub use server::serve;
+
+#[cfg(test)]
+mod tests;

@@ -49,11 +49,11 @@ pub returns-in_err-close-in-End-clause-fault : goal.returns-in_err-close-in-End-
 returns-in_err-close-in-End-clause-fault g c =
     let p = err_from_is_err_and c.from_residual-in_err-close-in-End.result c.from_residual-in_err-close-in-End.ensures.1 in
     rw (p.1, p.2) (λ first base come.
-      let limit = c.args.session.now.window.limit in
-      let heard = hears_all come.seen c.args.lines.now c.next.new.self first _ (g.I.Source.left c.next.new.source) come.heard c.in-End.ensures.answer (λ ended. ap g.I.Source.left (c.in-End.ensures.ended ended).2) in
-      fails_at_end limit come.seen _ first _ base _ heard
-      (fails_closing base (g.O.Sink.taken c.args.sink.now) (g.O.Sink.taken c.close.new.sink) (windows_of limit come.seen) c.args.session.now _ (with_end (windows_of limit come.seen)).closed come.at
-      c.in_err-close-in-End.ensures.fault (BeginsWith-refl _)))
+    let limit = c.args.session.now.window.limit in
+    let heard = hears_all come.seen c.args.lines.now c.next.new.self first _ (g.I.Source.left c.next.new.source) come.heard c.in-End.ensures.answer (λ ended. ap g.I.Source.left (c.in-End.ensures.ended ended).2) in
+    fails_at_end limit come.seen _ first _ base _ heard
+    (fails_closing base (g.O.Sink.taken c.args.sink.now) (g.O.Sink.taken c.close.new.sink) (windows_of limit come.seen) c.args.session.now _ (with_end (windows_of limit come.seen)).closed come.at
+    c.in_err-close-in-End.ensures.fault (BeginsWith-refl _)))
 
 pub returns-in_ok-close-in-End-clause-more : goal.returns-in_ok-close-in-End-clause-more
 returns-in_ok-close-in-End-clause-more g c = λ first base come.
