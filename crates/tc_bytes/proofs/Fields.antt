@@ -18,6 +18,9 @@ IsBytes-take (suc n) [] each i = omega arith
 IsBytes-take (suc n) (b ∷ bytes) each zero = each 0
 IsBytes-take (suc n) (b ∷ bytes) each (suc i) = IsBytes-take n bytes (λ j. each (suc j)) i
 
+pub IsBytes-front : (front rest : List ℕ) → IsBytes (front ++ rest) → IsBytes front
+IsBytes-front front rest each = subst IsBytes (take_at front rest (length front) refl) (IsBytes-take (length front) (front ++ rest) each)
+
 -- ---- numbers
 
 number_below_32 : (bytes : List ℕ) → IsBytes bytes → from_be_bytes w32 bytes < 2 ^ 32
@@ -83,13 +86,13 @@ byte_codec = record { found = byte_found; again = λ b rest fits. refl }
         (rw (same.0, same.1) refl, subst IsBytes same.1 (λ i. each (suc i)), rw (← same.0) (each 0))
 
 -- so many bytes
-pub bytes_codec : (n : ℕ) → IsCodec (bytes_at n) (λ bytes. bytes) (λ bytes. (length bytes ≡ n) × IsBytes bytes)
+pub bytes_codec : (n : ℕ) → IsCodec (bytes_at n) (λ bytes. bytes) (λ bytes. length bytes ≡ n)
 bytes_codec n = record {
   found = λ bytes front rest each read.
       let parts = bytes_parts n bytes front rest read in (
         rw (parts.1, parts.2) (sym (take-append-drop n bytes)),
         subst IsBytes (sym parts.2) (IsBytes-drop n bytes each),
-        (ap length parts.1 ∙ length-take-le n bytes parts.0, subst IsBytes (sym parts.1) (IsBytes-take n bytes each)),
+        ap length parts.1 ∙ length-take-le n bytes parts.0,
       );
-  again = λ front rest fits. bytes_again n front rest fits.0;
+  again = λ front rest fits. bytes_again n front rest fits;
 }
