@@ -1,12 +1,10 @@
 -- Bytes that are the spelling of one value and nothing more: what they give, and where they give nothing.
-use Rattle.std.proofs.Common.{◌≡◌, ◌≢◌, ℕ, List, [], ◌∷◌, ◌++◌, None, Some, refl, sym, ap, ◌∙◌, subst, append-nil}
+use Rattle.std.proofs.Common.{◌≡◌, ◌≢◌, ℕ, List, [], ◌∷◌, ◌++◌, None, Some, length, refl, sym, ap, ◌∙◌, subst, append-nil}
 use Rattle.std.proofs.lemmas.Option.{same_Some}
-use Rattle.tc_bytes.specs.Reading.{Reader, ◌>>=◌, ended, whole}
+use Rattle.tc_bytes.specs.Reading.{Reader, ◌>>=◌, bytes_at, ended, whole, within_at}
 use Rattle.tc_bytes.specs.Codec.{IsBytes, IsCodec}
 use Rattle.tc_bytes.proofs.Codecs.{then_parts}
 use Rattle.tc_bytes.proofs.Fields.{IsBytes-front, bytes_codec}
-use Rattle.std.proofs.Common.{ℕ, length, ◌++◌, subst}
-use Rattle.tc_bytes.specs.Reading.{bytes_at, within_at}
 
 ended_parts : {A : Type 0} (x : A) (rest : List ℕ) (y : A) → ended (x, rest) ≡ Some y → (x ≡ y) × (rest ≡ [])
 ended_parts x [] y gives = (same_Some x y gives, refl)
