@@ -7,7 +7,6 @@ use tc_bytes::Memory;
 
 /// Names with their numbers, which run from 0 on without gaps. Names are only ever added. Contracts see the list of
 /// the names, each as its bytes; a name is any text of fewer than 2^32 bytes, and there are fewer than 2^32.
-#[derive(Drop)]
 pub struct Names {
     names: IndexSet<String>,
     alloc: Global,
@@ -23,6 +22,14 @@ impl Model for Names {
     ghost view = { λ n. map string_bytes n.names.keys };
 
     ghost invariant = { λ n. IsDictionary (map string_bytes n.names.keys) };
+}
+
+impl Drop for Names {
+    /// One call, so that whoever drops a dictionary sees none of its fields.
+    fn drop(self) {
+        let Names { names, alloc: _ } = self;
+        drop(names);
+    }
 }
 
 impl Names {

@@ -7,3 +7,6 @@ mod section;
 
 pub use dictionary::Names;
 pub use fault::NamesFault;
+
+#[cfg(test)]
+mod tests;
