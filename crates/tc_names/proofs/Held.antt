@@ -1,5 +1,5 @@
 -- The set of texts that a dictionary holds, against the list of their bytes.
-use Rattle.std.proofs.Common.{drop, IsTrue, ◌↔◌, ◌≡◌, ℕ, suc, Bool, true, false, not, cond, if◌then◌else◌, ◌&&◌, ◌||◌, List, [], ◌∷◌, ◌++◌, Option, None, Some, option_map, is_some, map, take, length, string_bytes, String, refl, sym, ap, ◌∙◌, arith}
+use Rattle.std.proofs.Common.{drop, IsTrue, ◌↔◌, ◌≡◌, ℕ, suc, Bool, false, if◌then◌else◌, ◌&&◌, ◌||◌, List, [], ◌∷◌, ◌++◌, None, Some, option_map, is_some, map, take, length, string_bytes, String, refl, sym, ap, ◌∙◌, arith}
 use Rattle.std.specs.Global.{Global}
 use Rattle.std.specs.List.{AllZip, list_any, position}
 use Rattle.std.specs.Str.{bytes_eq}

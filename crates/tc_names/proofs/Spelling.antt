@@ -1,12 +1,12 @@
 -- A dictionary is read from its spelling alone.
-use Rattle.std.proofs.Common.{◌≡◌, ◌<◌, ◌^◌, ℕ, Bool, true, false, not, List, [], ◌∷◌, ◌++◌, Option, None, Some, is_some, IsTrue, length, refl, sym, ap, ◌∙◌, subst, arith, rules, append_assoc, append-nil}
+use Rattle.std.proofs.Common.{◌≡◌, ◌<◌, ◌^◌, ℕ, Bool, true, false, not, List, [], ◌∷◌, ◌++◌, None, is_some, IsTrue, length, refl, sym, ◌∙◌, subst, rules, append_assoc, append-nil}
 use Rattle.std.specs.List.{AllByRecursion, IsDistinct}
-use Rattle.std.specs.Str.{IsUtf8, is_utf8, bytes_eq}
+use Rattle.std.specs.Str.{is_utf8, bytes_eq}
 use Rattle.std.specs.Cmp.Lexicographic.{nat_list_eq_equiv}
 use Rattle.std.proofs.lemmas.Map.Keys.{IsDistinct-push}
 use Rattle.std.proofs.lemmas.Str.{IsUtf8-from_is_utf8, is_utf8-from_IsUtf8}
 use Rattle.std.proofs.Common.{Result, Ok, Err, IfOk, IsErrOf, ◌≢◌}
-use Rattle.tc_bytes.specs.Codec.{IsBytes, IsCodec, MayFollow, Gives, counted_bytes}
+use Rattle.tc_bytes.specs.Codec.{IsBytes, IsCodec, MayFollow, Gives}
 use Rattle.tc_bytes.specs.Reading.{counted_list_at}
 use Rattle.tc_bytes.proofs.Codecs.{restated_codec, passing_codec, counted_bytes_codec}
 use Rattle.tc_bytes.proofs.Lists.{counted_list_codec}

@@ -1,7 +1,6 @@
-use Rattle.std.proofs.Common.{◌≡◌, ◌<◌, ◌+◌, ◌-◌, ◌∙◌, ◌∷◌, ◌++◌, [], Some, None, true, false, not, is_some, length, ap, sym, arith, ⊎_elim}
+use Rattle.std.proofs.Common.{◌≡◌, ◌<◌, ◌+◌, ◌-◌, ◌∙◌, ◌∷◌, ◌++◌, [], Some, None, not, is_some, length, ap, sym, arith, ⊎_elim}
 use Rattle.std.proofs.lemmas.List.{length_push}
 use Rattle.std.proofs.lemmas.Result.{err_from_is_err_and}
-use Rattle.tc_bytes.specs.Reading.{elements_at}
 use Rattle.tc_bytes.proofs.Lists.{elements_none, elements_refused, elements_more}
 use Rattle.tc_names.specs.Dictionary.{number_of}
 use Rattle.tc_names.specs.Section.{name_at, is_new}

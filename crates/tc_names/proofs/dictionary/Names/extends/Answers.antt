@@ -1,4 +1,4 @@
-use Rattle.std.proofs.Common.{refl, ◌≡◌, take, length}
+use Rattle.std.proofs.Common.{◌≡◌, take, length}
 use Rattle.std.specs.Cmp.Lexicographic.{pointwise}
 use Rattle.std.specs.String.{string_eq}
 use Rattle.tc_names.proofs.Held.{starts-Extends}

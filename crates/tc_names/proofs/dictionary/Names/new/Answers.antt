@@ -1,5 +1,3 @@
-use Rattle.std.proofs.Common.{ap, map, string_bytes, sym, subst}
-use Rattle.tc_names.specs.Dictionary.{IsDictionary}
 use Rattle.tc_names.proofs.Growth.{IsDictionary-nil}
 use Rattle.tc_names.proofs.dictionary.Names.new.Goals as goal
 
