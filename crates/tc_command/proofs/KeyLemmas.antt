@@ -1,8 +1,8 @@
 -- Lemmas on the members of a document but its key.
-use Rattle.std.proofs.Common.{◌≡◌, ℕ, suc, max, ◌≤◌, Bool, true, false, cond, not, bytes_eq, codes, List, [], ◌∷◌, map, filter, None, refl, ap, ◌∙◌, subst, sym, arith}
+use Rattle.std.proofs.Common.{◌≡◌, ◌≤◌, Bool, true, false, cond, not, bytes_eq, codes, List, [], ◌∷◌, map, filter, None, refl, ap, subst, sym, arith}
 use Rattle.std.proofs.lemmas.List.Kept.{IsStrictlySortedBy-filter}
 use Rattle.std.specs.List.Sorted.{IsStrictlySortedBy}
-use Rattle.tc_model.specs.Tree.{Members, no_members, member, depth, members_depth, members_of}
+use Rattle.tc_model.specs.Tree.{Members, no_members, member, members_depth, members_of}
 use Rattle.tc_model.specs.Document.{Name, Document, Scalar, name_cmp, IsAscending}
 use Rattle.tc_model.specs.Request.{member_at, without}
 

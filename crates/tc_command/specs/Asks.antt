@@ -1,10 +1,9 @@
 -- What a path and an ask mean.
-use Rattle.std.specs.Prelude.{◌≡◌, ◌⊎◌, ℤ, List, Option, Some, None, option_map, refl}
+use Rattle.std.specs.Prelude.{◌≡◌, ◌⊎◌, ℤ, Option, Some, None, refl}
 use Rattle.std.specs.Coded.{Coded, code_by, coded_ℕ, coded_ℤ, coded_list, coded⊎, coded_option}
 use Rattle.std.proofs.Common.{inl, inr}
 use Rattle.tc_model.specs.Document.{Name}
 use Rattle.tc_model.specs.Request as request
-use Rattle.tc_value.specs.Meaning.{tree_of}
 use Rattle.tc_command.specs.declared.asks.Hop.{Hop}
 use Rattle.tc_command.specs.declared.asks.Hop.TheVariants.{Name as ToName, At, Any}
 

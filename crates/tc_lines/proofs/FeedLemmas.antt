@@ -1,5 +1,5 @@
 -- The first line feed of bytes, and what stands behind it.
-use Rattle.std.proofs.Common.{◌≡◌, ℕ, suc, ◌+◌, ◌-◌, ◌<◌, ◌==◌, true, List, [], ◌∷◌, Option, Some, None, MatchOption, length, take, drop, get_or, slice_index, sym, ap, ◌∙◌, subst, refl, arith, length-take, get_or-take}
+use Rattle.std.proofs.Common.{◌≡◌, ℕ, suc, ◌+◌, ◌-◌, ◌<◌, ◌==◌, Bool, true, List, [], ◌∷◌, Option, Some, None, MatchOption, length, take, drop, get_or, slice_index, sym, ap, ◌∙◌, subst, refl, arith, length-take, get_or-take}
 use Rattle.std.proofs.lemmas.Bool.{false_from_ne_true, eqb-true}
 use Rattle.std.proofs.lemmas.List.{drop_more, drop-take, drop-drop}
 use Rattle.memchr.specs.Find.{IsFirstByte, is_byte}
@@ -31,11 +31,12 @@ part_behind bs start end n within =
     ∙ ap (take (end - (start + (n + 1)))) (drop-drop (n + 1) start bs))
 
 -- what is held when the line before a line feed is gone
-pub line_gone : (emptied front bytes : List ℕ) (start end n taken : ℕ) (old : Holding) → emptied ≡ [] → n < length old.rest
-    → (let inside : Holding = record { front = front; rest = take (end - start) (drop start bytes); taken = taken } in inside ≡ old)
-    → (let inside : Holding = record { front = emptied; rest = take (end - (start + (n + 1))) (drop (start + (n + 1)) bytes); taken = taken } in inside ≡ record old { front = []; rest = drop (n + 1) old.rest })
-line_gone emptied front bytes start end n taken old none within is =
+pub line_gone : (emptied front bytes : List ℕ) (start end n taken : ℕ) (ended : Bool) (old : Holding) → emptied ≡ [] → n < length old.rest
+    → (let inside : Holding = record { front = front; rest = take (end - start) (drop start bytes); taken = taken; ended = ended } in inside ≡ old)
+    → (let inside : Holding = record { front = emptied; rest = take (end - (start + (n + 1))) (drop (start + (n + 1)) bytes); taken = taken; ended = ended } in inside ≡ record old { front = []; rest = drop (n + 1) old.rest })
+line_gone emptied front bytes start end n taken ended old none within is =
     let rest_is : take (end - start) (drop start bytes) ≡ old.rest = ap (λ h. h.rest) is in
     let behind = part_behind bytes start end n (subst (λ r. n < length r) (sym rest_is) within) ∙ ap (drop (n + 1)) rest_is in
     let count : taken ≡ old.taken = ap (λ h. h.taken) is in
-    rw (none, behind, count) refl
+    let end_is : ended ≡ old.ended = ap (λ h. h.ended) is in
+    rw (none, behind, count, end_is) refl

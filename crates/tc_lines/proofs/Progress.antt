@@ -1,5 +1,5 @@
 -- How far the search for a line has come, and what it answers where it ends.
-use Rattle.std.proofs.Common.{◌≡◌, ℕ, ◌+◌, ◌≤◌, ◌<◌, ◌⊎◌, Bool, true, false, List, [], ◌∷◌, ◌++◌, Option, length, take, drop, MatchBool, refl, sym, ap, ◌∙◌, subst, inl, inr, ⊎_elim, arith, append_assoc, append-nil, length-append, take-append-drop}
+use Rattle.std.proofs.Common.{◌≡◌, ℕ, ◌+◌, ◌≤◌, ◌<◌, ◌==◌, ◌⊎◌, Bool, true, false, List, [], ◌∷◌, ◌++◌, Option, length, take, drop, MatchBool, refl, sym, ap, ◌∙◌, subst, inl, inr, ⊎_elim, arith, append_assoc, append-nil, length-append, take-append-drop}
 use Rattle.std.proofs.lemmas.Bool.{MatchBool-at_true, MatchBool-at_false}
 use Rattle.std.specs.Io.KnownBytes.{Consumes, IsAtEnd, Keeps}
 use Rattle.std.proofs.KnownBytes.{Consumes-nil, Consumes-trans, Consumes-kept}
@@ -74,7 +74,7 @@ room_made limit false oversized now new room =
     (ap (λ h. h.rest) room.0, let front : length new.front ≡ length (now.front ++ now.rest) = ap (λ h. length h.front) room.0 in omega (arith, front, room.1))
 
 pub reads_more : (limit : ℕ) (oversized : Bool) (first now new : Holding) (n : ℕ) (left left' left'' : Option (List ℕ)) → IsUnderWay limit oversized first now left left'
-    → now.rest ≡ [] → length new.rest ≡ n → new ≡ record now { rest = new.rest; taken = now.taken + n } → Consumes left' left'' new.rest
+    → now.rest ≡ [] → length new.rest ≡ n → new ≡ record now { rest = new.rest; taken = now.taken + n; ended = n == 0 } → Consumes left' left'' new.rest
     → IsUnderWay limit oversized first new left left''
 reads_more limit oversized first now new n left left' left'' way none len is consumed =
     let front : new.front ≡ now.front = ap (λ h. h.front) is in
@@ -99,10 +99,10 @@ split_at_feed front rest n found =
     ap (λ bs. front ++ bs) (sym (take-append-drop n rest) ∙ ap (λ bs. take n rest ++ bs) found.at) ∙ sym (append_assoc front (take n rest) (feed ∷ drop (n + 1) rest))
 
 pub answers_at_feed : (line : Line) (limit n : ℕ) (oversized : Bool) (first now new : Holding) (left left' : Option (List ℕ)) → IsUnderWay limit oversized first now left left'
-    → HasFeedAt now.rest n → GivesLine line (now.front ++ take n now.rest) limit oversized
+    → now.ended ≡ false → HasFeedAt now.rest n → GivesLine line (now.front ++ take n now.rest) limit oversized
     → (is_failure line ≡ false → new ≡ record now { front = []; rest = drop (n + 1) now.rest }) → (is_failure line ≡ true → new ≡ now)
     → IsAnswered line (reading_of limit false first) (reading_of limit (is_failure line) new) left left'
-answers_at_feed (Whole given) limit n oversized first now new left left' way found gives moves fails =
+answers_at_feed (Whole given) limit n oversized first now new left left' way goes_on found gives moves fails =
     subst (λ h. IsAnswered (Whole given) (reading_of limit false first) (reading_of limit false h) left left') (sym (moves refl)) (
     let none : way.skipped ≡ [] = MatchBool-at_false _ _ gives.2 way.long in
     let line_is : now.front ++ take n now.rest ≡ given = sym gives.0 in
@@ -111,9 +111,9 @@ answers_at_feed (Whole given) limit n oversized first now new left left' way fou
       input = way.input;
       consumed = way.consumed;
       counted = way.counted;
-      says = (inl (begins_with_line _ given _ bytes_are (subst IsOneLine line_is one)), subst (λ bs. length bs ≤ limit) line_is gives.1);
+      says = (inl (begins_with_line _ given _ bytes_are (subst IsOneLine line_is one), goes_on), subst (λ bs. length bs ≤ limit) line_is gives.1);
     })
-answers_at_feed Oversized limit n oversized first now new left left' way found gives moves fails =
+answers_at_feed Oversized limit n oversized first now new left left' way goes_on found gives moves fails =
     subst (λ h. IsAnswered Oversized (reading_of limit false first) (reading_of limit false h) left left') (sym (moves refl)) (
     let part = now.front ++ take n now.rest in
     let bytes_are = way.split ∙ ap (λ bs. way.skipped ++ bs) (split_at_feed now.front now.rest n found) ∙ sym (append_assoc way.skipped part (feed ∷ drop (n + 1) now.rest)) in
@@ -121,18 +121,18 @@ answers_at_feed Oversized limit n oversized first now new left left' way found g
       input = way.input;
       consumed = way.consumed;
       counted = way.counted;
-      says = (way.skipped ++ part, inl (begins_with_line _ (way.skipped ++ part) _ bytes_are one), long_more limit oversized way.skipped part way.long gives);
+      says = (way.skipped ++ part, inl (begins_with_line _ (way.skipped ++ part) _ bytes_are one, goes_on), long_more limit oversized way.skipped part way.long gives);
     })
-answers_at_feed Memory limit n oversized first now new left left' way found gives moves fails =
+answers_at_feed Memory limit n oversized first now new left left' way goes_on found gives moves fails =
     subst (λ h. IsAnswered Memory (reading_of limit false first) (reading_of limit true h) left left') (sym (fails refl)) (record {
       input = way.input;
       consumed = way.consumed;
       counted = way.counted;
       says = tt;
     })
-answers_at_feed End limit n oversized first now new left left' way found gives moves fails = absurd gives
-answers_at_feed ReadFault limit n oversized first now new left left' way found gives moves fails = absurd gives
-answers_at_feed Spent limit n oversized first now new left left' way found gives moves fails = absurd gives
+answers_at_feed End limit n oversized first now new left left' way goes_on found gives moves fails = absurd gives
+answers_at_feed ReadFault limit n oversized first now new left left' way goes_on found gives moves fails = absurd gives
+answers_at_feed Spent limit n oversized first now new left left' way goes_on found gives moves fails = absurd gives
 
 -- all bytes so far, where the last read left none
 all_bytes : (limit : ℕ) (oversized : Bool) (first now : Holding) (left left' : Option (List ℕ)) → (way : IsUnderWay limit oversized first now left left') → now.rest ≡ []
@@ -141,9 +141,9 @@ all_bytes limit oversized first now left left' way none =
     way.split ∙ ap (λ bs. way.skipped ++ (now.front ++ bs)) none ∙ ap (λ bs. way.skipped ++ bs) (append-nil now.front)
 
 pub answers_at_end : (line : Line) (limit : ℕ) (oversized : Bool) (first now new : Holding) (left left' : Option (List ℕ)) → IsUnderWay limit oversized first now left left'
-    → now.rest ≡ [] → length now.front ≤ limit → IsAtEnd left' → now.taken < MAX_TAKEN → GivesLast line now.front oversized → new ≡ record now { front = [] }
+    → now.rest ≡ [] → length now.front ≤ limit → IsAtEnd left' → now.ended ≡ true → now.taken < MAX_TAKEN → GivesLast line now.front oversized → new ≡ record now { front = [] }
     → IsAnswered line (reading_of limit false first) (reading_of limit (is_failure line) new) left left'
-answers_at_end (Whole given) limit oversized first now new left left' way none fits at_end below gives moves =
+answers_at_end (Whole given) limit oversized first now new left left' way none fits at_end ended below gives moves =
     subst (λ h. IsAnswered (Whole given) (reading_of limit false first) (reading_of limit false h) left left') (sym moves) (
     let skipped_none : way.skipped ≡ [] = MatchBool-at_false _ _ gives.2 way.long in
     let line_is : now.front ≡ given = sym gives.0 in
@@ -152,9 +152,9 @@ answers_at_end (Whole given) limit oversized first now new left left' way none f
       input = way.input;
       consumed = way.consumed;
       counted = way.counted;
-      says = (inr (subst (λ bs. IsLastLine bs given) (sym bytes_are) last, record { at_end = at_end; held = none; taken = below }), subst (λ bs. length bs ≤ limit) line_is fits);
+      says = (inr (subst (λ bs. IsLastLine bs given) (sym bytes_are) last, record { at_end = at_end; held = none; taken = below; ended = ended }), subst (λ bs. length bs ≤ limit) line_is fits);
     })
-answers_at_end Oversized limit oversized first now new left left' way none fits at_end below gives moves =
+answers_at_end Oversized limit oversized first now new left left' way none fits at_end ended below gives moves =
     subst (λ h. IsAnswered Oversized (reading_of limit false first) (reading_of limit false h) left left') (sym moves) (
     let line = way.skipped ++ now.front in
     let bytes_are = all_bytes limit oversized first now left left' way none in
@@ -163,19 +163,19 @@ answers_at_end Oversized limit oversized first now new left left' way none fits 
       input = way.input;
       consumed = way.consumed;
       counted = way.counted;
-      says = (line, inr (subst (λ bs. IsLastLine bs line) (sym bytes_are) last, record { at_end = at_end; held = none; taken = below }), long);
+      says = (line, inr (subst (λ bs. IsLastLine bs line) (sym bytes_are) last, record { at_end = at_end; held = none; taken = below; ended = ended }), long);
     })
-answers_at_end End limit oversized first now new left left' way none fits at_end below gives moves =
+answers_at_end End limit oversized first now new left left' way none fits at_end ended below gives moves =
     subst (λ h. IsAnswered End (reading_of limit false first) (reading_of limit false h) left left') (sym moves) (
     let skipped_none : way.skipped ≡ [] = MatchBool-at_false _ _ gives.1 way.long in record {
       input = way.input;
       consumed = way.consumed;
       counted = way.counted;
-      says = (all_bytes limit oversized first now left left' way none ∙ ap (λ bs. bs ++ now.front) skipped_none ∙ gives.0, record { at_end = at_end; held = none; taken = below });
+      says = (all_bytes limit oversized first now left left' way none ∙ ap (λ bs. bs ++ now.front) skipped_none ∙ gives.0, record { at_end = at_end; held = none; taken = below; ended = ended });
     })
-answers_at_end Memory limit oversized first now new left left' way none fits at_end below gives moves = absurd gives
-answers_at_end ReadFault limit oversized first now new left left' way none fits at_end below gives moves = absurd gives
-answers_at_end Spent limit oversized first now new left left' way none fits at_end below gives moves = absurd gives
+answers_at_end Memory limit oversized first now new left left' way none fits at_end ended below gives moves = absurd gives
+answers_at_end ReadFault limit oversized first now new left left' way none fits at_end ended below gives moves = absurd gives
+answers_at_end Spent limit oversized first now new left left' way none fits at_end ended below gives moves = absurd gives
 
 -- no line feed was read, where the last read left nothing
 no_whole_line : (limit : ℕ) (oversized : Bool) (first now : Holding) (left left' : Option (List ℕ)) → (way : IsUnderWay limit oversized first now left left') → now.rest ≡ []

@@ -7,12 +7,13 @@ use Rattle.tc_lines.specs.declared.reader.Line.{Line}
 use Rattle.tc_lines.specs.declared.reader.Line.TheVariants.{Whole, Oversized, End, ReadFault, Spent, Memory}
 
 -- A reader: how long a line may be, the bytes that were read and belong to no line given out yet,
--- how many were read in all, and whether it has failed.
+-- how many were read in all, whether it has failed, and whether the source told it of its end.
 pub record Reading : Type 0 where
   pub limit : ℕ
   pub held : List ℕ
   pub taken : ℕ
   pub failed : Bool
+  pub ended : Bool
 
 -- The bytes are this line with its line feed, and then others, whatever comes after them.
 pub record BeginsWithLine (bytes line behind : List ℕ) : Type 0 where
@@ -29,10 +30,11 @@ pub record HasEnded (new : Reading) (left : Option (List ℕ)) : Type 0 where
   pub at_end : IsAtEnd left
   pub held : new.held ≡ []
   pub taken : new.taken < MAX_TAKEN
+  pub ended : new.ended ≡ true
 
 -- the next line of the bytes, which are those held before and those read now
 abbrev pub IsNextLine : List ℕ → List ℕ → Reading → Option (List ℕ) → Type 0
-IsNextLine bytes line new left = BeginsWithLine bytes line new.held ⊎ (IsLastLine bytes line × HasEnded new left)
+IsNextLine bytes line new left = (BeginsWithLine bytes line new.held × (new.ended ≡ false)) ⊎ (IsLastLine bytes line × HasEnded new left)
 
 -- what an answer says of the bytes
 abbrev pub Answers : Line → List ℕ → Reading → Option (List ℕ) → Type 0

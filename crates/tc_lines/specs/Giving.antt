@@ -7,7 +7,7 @@ use Rattle.tc_lines.specs.declared.reader.Line.TheVariants.{Whole, Oversized, En
 
 -- the reader that holds this
 abbrev pub reading_of : ℕ → Bool → Holding → Reading
-reading_of limit failed h = record { limit = limit; held = h.front ++ h.rest; taken = h.taken; failed = failed }
+reading_of limit failed h = record { limit = limit; held = h.front ++ h.rest; taken = h.taken; failed = failed; ended = h.ended }
 
 -- a line that has its line feed, of which some bytes may have been skipped as too many
 abbrev pub GivesLine : Line → List ℕ → ℕ → Bool → Type 0

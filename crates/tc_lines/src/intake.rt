@@ -1,6 +1,6 @@
 //! The bytes that were taken from a source and not given out yet, and the reads that take more.
 
-ghost use Rattle.std.specs.Prelude.{◌≡◌, ℕ, ◌+◌, ◌-◌, ◌≤◌, ◌<◌, ◌↔◌, List, [], ◌∷◌, ◌++◌, length, take, drop, IfOk, IfSome, OnOk, OnErr, IsErrOf, IsTrue, MatchOption, Err, vec_len};
+ghost use Rattle.std.specs.Prelude.{◌≡◌, ℕ, ◌+◌, ◌-◌, ◌≤◌, ◌<◌, ◌↔◌, false, List, [], ◌∷◌, ◌++◌, ◌==◌, length, take, drop, IfOk, IfSome, OnOk, OnErr, IsErrOf, IsTrue, MatchOption, Err, vec_len};
 ghost use Rattle.std.specs.Io.KnownBytes.{Consumes, IsAtEnd, Keeps, ReadConsumes};
 ghost use Rattle.tc_edge.specs.Faults.{Rose, HasCause};
 ghost use Rattle.tc_lines.specs.declared.intake.TheConstants.{PIECE, MAX_TAKEN};
@@ -36,6 +36,7 @@ pub struct Intake {
     start: usize,
     end: usize,
     taken: u64,
+    ended: bool,
 }
 
 impl Model for Intake {
@@ -45,6 +46,7 @@ impl Model for Intake {
       front = a.front.items;
       rest = take (a.end - a.start) (drop a.start a.piece.items);
       taken = a.taken;
+      ended = a.ended;
     } };
 
     ghost invariant = { λ a. (a.start ≤ a.end) × (a.end ≤ length a.piece.items)
@@ -54,7 +56,7 @@ impl Model for Intake {
 impl Intake {
     /// Nothing was taken yet.
     pub fn new(alloc: Global) -> Intake
-        ensures { result ≡ record { front = []; rest = []; taken = 0 } }
+        ensures { result ≡ record { front = []; rest = []; taken = 0; ended = false } }
     {
         Intake {
             front: Vec::new(alloc),
@@ -62,6 +64,7 @@ impl Intake {
             start: 0,
             end: 0,
             taken: 0,
+            ended: false,
         }
     }
 
@@ -69,7 +72,7 @@ impl Intake {
     #[cfg(test)]
     pub fn after(alloc: Global, taken: u64) -> Intake
         requires { taken ≤ MAX_TAKEN }
-        ensures { result ≡ record { front = []; rest = []; taken = taken } }
+        ensures { result ≡ record { front = []; rest = []; taken = taken; ended = false } }
     {
         Intake {
             front: Vec::new(alloc),
@@ -77,7 +80,16 @@ impl Intake {
             start: 0,
             end: 0,
             taken,
+            ended: false,
         }
+    }
+
+    /// Whether the source told of its end.
+    pub fn ended(&self) -> bool
+        ensures ended { result ≡ self.now.ended }
+        ensures count { self.now.taken ≤ MAX_TAKEN }
+    {
+        self.ended
     }
 
     /// How many bytes of the last read stand before its first line feed.
@@ -169,7 +181,11 @@ impl Intake {
     pub fn read<I: Source>(&mut self, source: &mut I) -> Result<usize, Stop>
         requires { self.old.rest ≡ [] }
         ensures ok { IfOk result (λ n. (length self.new.rest ≡ n)
-            × (self.new ≡ record self.old { rest = self.new.rest; taken = self.old.taken + n })) }
+            × (self.new ≡ record self.old {
+              rest = self.new.rest;
+              taken = self.old.taken + n;
+              ended = n == 0;
+            })) }
         ensures bytes { IfOk result (λ n. Consumes (I.left source.old) (I.left source.new) self.new.rest
             × (n ≡ 0 → IsAtEnd (I.left source.new))) }
         ensures err { OnErr result ((self.new ≡ self.old) × Keeps (I.left source.old) (I.left source.new)) }
@@ -195,6 +211,7 @@ impl Intake {
         };
         self.end = count;
         self.taken += count as u64;
+        self.ended = count == 0;
         Ok(count)
     }
 }

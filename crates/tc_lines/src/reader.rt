@@ -41,7 +41,7 @@ impl Line {
 }
 
 /// A reader of lines. It holds no more bytes than a line may have and one read takes, and it reads
-/// only where no line feed is among the bytes that it holds.
+/// only where no line feed is among the bytes that it holds and its source has not told of its end.
 #[derive(Drop)]
 pub struct Lines {
     alloc: Global,
@@ -55,14 +55,15 @@ impl Model for Lines {
 
     ghost view = { λ a. reading_of a.limit a.failed a.intake };
 
-    ghost invariant = { λ a. a.failed ≡ false → a.intake.front ≡ [] };
+    ghost invariant = { λ a. (a.failed ≡ false → a.intake.front ≡ [])
+        × (a.intake.ended ≡ true → a.intake.front ++ a.intake.rest ≡ []) };
 }
 
 impl Lines {
     /// A reader of lines of at most `limit` bytes, the line feed not counted.
     pub fn new(alloc: Global, limit: usize) -> Lines
         requires { 0 < limit }
-        ensures { result ≡ record { limit = limit; held = []; taken = 0; failed = false } }
+        ensures { result ≡ record { limit = limit; held = []; taken = 0; failed = false; ended = false } }
     {
         Lines {
             alloc,
@@ -77,7 +78,7 @@ impl Lines {
     pub fn after(alloc: Global, limit: usize, taken: u64) -> Lines
         requires room { 0 < limit }
         requires count { taken ≤ MAX_TAKEN }
-        ensures { result ≡ record { limit = limit; held = []; taken = taken; failed = false } }
+        ensures { result ≡ record { limit = limit; held = []; taken = taken; failed = false; ended = false } }
     {
         Lines {
             alloc,
@@ -99,7 +100,13 @@ impl Lines {
     pub fn next<I: Source>(&mut self, source: &mut I) -> Line
         requires { self.old.failed ≡ false }
 
-        ensures answer { IsAnswered result self.old self.new (I.left source.old) (I.left source.new) }
+        ensures answer { self.old.ended ≡ false
+            → IsAnswered result self.old self.new (I.left source.old) (I.left source.new) }
+
+        // No read is made once the source has told of its end.
+        ensures ended { self.old.ended ≡ true
+            → (result ≡ Line.End) × (self.new ≡ self.old) × (source.new ≡ source.old) }
+
         ensures limit { self.new.limit ≡ self.old.limit }
         ensures failed { self.new.failed ≡ is_failure result }
 
@@ -113,9 +120,14 @@ impl Lines {
 
         ensures fault { result ≡ Line.ReadFault → Rose (I.faults source.old) (I.faults source.new) }
         ensures kept { I.faults source.old ≤ I.faults source.new }
-        ensures spent { self.old.taken ≡ MAX_TAKEN → whole_lines self.old.held ≡ []
-            → result ≢ Line.Memory → result ≡ Line.Spent }
+
+        // A reader that was told of the end answers `End` even then.
+        ensures spent { self.old.ended ≡ false → self.old.taken ≡ MAX_TAKEN
+            → whole_lines self.old.held ≡ [] → result ≢ Line.Memory → result ≡ Line.Spent }
     {
+        if self.intake.ended() {
+            return Line::End;
+        }
         let line = next_line(&mut self.intake, self.alloc, self.limit, source);
         self.failed = line.is_failure();
         line
@@ -124,10 +136,12 @@ impl Lines {
 
 // The line before the first line feed that is held, or else of what is read next.
 fn next_line<I: Source>(intake: &mut Intake, alloc: Global, limit: usize, source: &mut I) -> Line
-    requires { intake.old.front ≡ [] }
+    requires front { intake.old.front ≡ [] }
+    requires ended { intake.old.ended ≡ false }
     ensures answer { IsAnswered result (reading_of limit false intake.old)
         (reading_of limit (is_failure result) intake.new) (I.left source.old) (I.left source.new) }
     ensures front { is_failure result ≡ false → intake.new.front ≡ [] }
+    ensures ended { intake.new.ended ≡ true → intake.new.front ++ intake.new.rest ≡ [] }
     ensures bounded { length (intake.new.front ++ intake.new.rest) ≤ limit + PIECE }
     ensures capped { intake.new.taken ≤ MAX_TAKEN }
     ensures unread { whole_lines (intake.old.front ++ intake.old.rest) ≢ [] → source.new ≡ source.old }
@@ -148,12 +162,14 @@ fn next_line<I: Source>(intake: &mut Intake, alloc: Global, limit: usize, source
 // are dropped piece by piece.
 fn read_line<I: Source>(intake: &mut Intake, alloc: Global, limit: usize, source: &mut I) -> Line
     requires front { intake.old.front ≡ [] }
+    requires ended { intake.old.ended ≡ false }
     requires rest { IsOneLine intake.old.rest }
     requires piece { length intake.old.rest ≤ PIECE }
     requires count { intake.old.taken ≤ MAX_TAKEN }
     ensures answer { IsAnswered result (reading_of limit false intake.old)
         (reading_of limit (is_failure result) intake.new) (I.left source.old) (I.left source.new) }
     ensures front { is_failure result ≡ false → intake.new.front ≡ [] }
+    ensures ended { intake.new.ended ≡ true → intake.new.front ++ intake.new.rest ≡ [] }
     ensures bounded { length (intake.new.front ++ intake.new.rest) ≤ limit + PIECE }
     ensures capped { intake.new.taken ≤ MAX_TAKEN }
     ensures unread_spent { intake.old.taken ≡ MAX_TAKEN → source.new ≡ source.old }
@@ -201,6 +217,7 @@ fn line_at(intake: &mut Intake, alloc: Global, limit: usize, len: usize, oversiz
     ensures left { is_failure result ≡ false
         → intake.new ≡ record intake.old { front = []; rest = drop (len + 1) intake.old.rest } }
     ensures failed { is_failure result ≡ true → intake.new ≡ intake.old }
+    ensures ended { intake.new.ended ≡ intake.old.ended }
 {
     if oversized || intake.exceeds_at(limit, len) {
         intake.drop_line(len);

@@ -1,4 +1,4 @@
-use Rattle.std.proofs.Common.{◌≡◌, ℕ, ◌<◌, ◌^◌, codes, Option, None, IfSome, map, ap, subst, ◌∙◌, arith}
+use Rattle.std.proofs.Common.{ℕ, ◌<◌, ◌^◌, codes, Option, IfSome, map, ap, subst, ◌∙◌, arith}
 use Rattle.tc_model.specs.Tree.{members_of, members_depth}
 use Rattle.tc_model.specs.Request.{member_at}
 use Rattle.tc_value.specs.Meaning.{member_of}

@@ -1,4 +1,4 @@
-use Rattle.std.proofs.Common.{◌≡◌, Some, sym, ap, ◌∙◌}
+use Rattle.std.proofs.Common.{sym, ap, ◌∙◌}
 use Rattle.serde_json.specs.Read.{read}
 use Rattle.tc_command.proofs.Utf8Lemmas.{json_of-utf8, json_of-not_utf8}
 use Rattle.tc_command.proofs.line.value_of.Goals as goal

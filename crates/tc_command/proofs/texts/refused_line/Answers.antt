@@ -1,4 +1,4 @@
-use Rattle.std.proofs.Common.{◌≡◌, ◌++◌, codes, ap, ◌∙◌}
+use Rattle.std.proofs.Common.{◌++◌, codes, ap, ◌∙◌}
 use Rattle.std.proofs.lemmas.Result.{IfOk-weaker}
 use Rattle.tc_command.specs.Refusals.{refusal_of}
 use Rattle.tc_command.proofs.ReplyLemmas.{refused_line}
