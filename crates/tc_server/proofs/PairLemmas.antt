@@ -1,7 +1,6 @@
 -- What std's ordered map does to its entries, said of the pairs that they are.
 use Rattle.std.proofs.Common.{◌≡◌, ℕ, Bool, true, false, List, [], ◌∷◌, Bor, refl, ap, ◌∙◌}
 use Rattle.std.specs.Prelude.{Option, Some, None, map, option_map, option_copied, is_some, nat_lt, ◌==◌, cond, if◌then◌else◌}
-use Rattle.std.specs.declared.cmp.Ordering.{Ordering}
 use Rattle.std.specs.declared.cmp.Ordering.TheVariants.{Less, Equal, Greater}
 use Rattle.std.specs.Ordering.{nat_cmp, match_ordering, is_eq}
 use Rattle.std.specs.Cmp.{unsigned_ties}

@@ -1,16 +1,16 @@
 -- How a run comes from line to line, and what it did where it ends.
-use Rattle.std.proofs.Common.{◌≡◌, ℕ, ◌+◌, ◌⊎◌, Bool, true, false, List, [], ◌∷◌, ◌++◌, length, refl, ap, sym, subst, ◌∙◌, inl, inr, ⊎_elim, append_assoc, append-nil, length-append, arith}
+use Rattle.std.proofs.Common.{◌≡◌, ℕ, ◌+◌, Bool, true, false, List, [], ◌∷◌, ◌++◌, length, refl, ap, sym, subst, ◌∙◌, inl, inr, ⊎_elim, append_assoc, append-nil, length-append, arith}
 use Rattle.std.specs.Prelude.{Option, Some, None}
 use Rattle.std.specs.Io.KnownBytes.{Appends, Consumes, IsAtEnd}
 use Rattle.std.proofs.KnownBytes.{Consumes-nil, Consumes-trans, Appends-nil}
-use Rattle.tc_lines.specs.Answer.{Reading, BeginsWithLine, IsLastLine, HasEnded, IsNextLine, IsAnswered, Answers}
+use Rattle.tc_lines.specs.Answer.{Reading, BeginsWithLine, IsNextLine, IsAnswered}
 use Rattle.tc_lines.specs.declared.intake.TheConstants.{MAX_TAKEN}
 use Rattle.tc_lines.specs.declared.reader.Line.{Line}
-use Rattle.tc_lines.specs.declared.reader.Line.TheVariants.{Whole, Oversized, End, ReadFault, Memory as NoMemory, Spent as AllTaken}
+use Rattle.tc_lines.specs.declared.reader.Line.TheVariants.{End}
 use Rattle.tc_model.specs.Lines.{lines_of, whole_lines}
-use Rattle.tc_model.specs.Run.{BeginsWith, Window, Windows, with_line, windows_of, unless_empty, closed_windows, windows, output_of, output_of_windows, output_of_lines, lines_in}
+use Rattle.tc_model.specs.Run.{BeginsWith, Window, Windows, windows_of, unless_empty, closed_windows, windows, output_of_windows, output_of_lines, lines_in}
 use Rattle.tc_model.proofs.WindowLaws.{BeginsWith-trans, closed-windows_of-append, lines_held-windows_of, windows_of-push, lines_in-append, lines_in-unless_empty}
-use Rattle.tc_server.specs.Ending.{HaveClosed, RanOver, Ran}
+use Rattle.tc_server.specs.Ending.{HaveClosed, Ran}
 use Rattle.tc_server.specs.Progress.{StandsBehind, HasSeenAll, HasSeen, HasCome}
 use Rattle.tc_server.specs.Window.{requests_of}
 use Rattle.tc_server.specs.Stage.{IsAt, with_end, FailsAfter, WroteSome, StopsIn, TakesLine, FailsAtLine}

@@ -1,17 +1,17 @@
 -- What a session does with a line, said of the windows that it stands behind.
-use Rattle.std.proofs.Common.{◌≡◌, ℕ, ◌+◌, ◌<◌, ◌≤◌, Bool, true, false, List, [], ◌∷◌, ◌++◌, length, take, map, refl, ap, sym, subst, ◌∙◌, append_assoc, append-nil, arith}
-use Rattle.std.specs.Prelude.{Option, fold, sum_by, nat_le, ◌||◌}
-use Rattle.std.specs.Io.KnownBytes.{Appends, Keeps}
+use Rattle.std.proofs.Common.{◌≡◌, ℕ, ◌+◌, ◌<◌, ◌≤◌, true, false, List, [], ◌∷◌, ◌++◌, length, take, map, refl, ap, sym, subst, ◌∙◌, append_assoc, append-nil, arith}
+use Rattle.std.specs.Prelude.{Option, nat_le, ◌||◌}
+use Rattle.std.specs.Io.KnownBytes.{Appends}
 use Rattle.std.proofs.KnownBytes.{Appends-trans, Appends-kept}
 use Rattle.std.proofs.lemmas.List.Sums.{fold-append, sum_by-append}
 use Rattle.std.proofs.lemmas.List.{map-append, length-map}
-use Rattle.tc_model.specs.Request.{Request, max_line, request_of}
+use Rattle.tc_model.specs.Request.{max_line, request_of}
 use Rattle.tc_model.specs.Store.{Pairs, after}
 use Rattle.tc_model.specs.Run.{BeginsWith, answers, after_all, Window, Windows, is_control, is_full, line_size, unless_empty, with_open, with_line, lines_in, output_of_windows}
 use Rattle.tc_model.proofs.WindowLaws.{answers-append, lines_in-append, lines_in-unless_empty, closed-with_line}
 use Rattle.tc_server.specs.Asked.{request_asked}
 use Rattle.tc_server.specs.Window.{requests_of}
-use Rattle.tc_server.specs.Stage.{AsksFor, IsAt, with_end, replies_behind, FailsAfter, WroteSome, StopsIn, WritesPart}
+use Rattle.tc_server.specs.Stage.{AsksFor, IsAt, with_end, replies_behind, StopsIn, WritesPart}
 use Rattle.std.proofs.lemmas.Bool.Decides.{nat_tests}
 use Rattle.tc_command.specs.declared.refusals.Refusal.TheVariants.{Oversized}
 use Rattle.tc_server.specs.declared.answer.Asked.{Asked}

@@ -1,4 +1,4 @@
-use Rattle.std.proofs.Common.{◌≡◌, false, refl, subst, ap, arith}
+use Rattle.std.proofs.Common.{ap, arith}
 use Rattle.tc_server.proofs.RunLemmas.{begins, gives_up}
 use Rattle.tc_server.proofs.server.answer_lines.Goals as goal
 

@@ -1,7 +1,5 @@
-use Rattle.std.proofs.Common.{◌≡◌, List, [], ◌∷◌, ◌∙◌, sym, refl}
-use Rattle.std.specs.Prelude.{Option}
+use Rattle.std.proofs.Common.{[], ◌∷◌, refl}
 use Rattle.std.proofs.lemmas.Result.{err_from_is_err_and}
-use Rattle.tc_model.specs.Run.{BeginsWith, Windows}
 use Rattle.tc_server.specs.Stage.{IsAt, with_end}
 use Rattle.tc_server.specs.declared.session.Session.{Session}
 use Rattle.tc_server.proofs.SessionLemmas.{holds_line, closes, fails_closing, with_line-control, with_pushed, BeginsWith-refl}

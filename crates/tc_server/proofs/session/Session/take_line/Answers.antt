@@ -1,6 +1,6 @@
-use Rattle.std.proofs.Common.{◌≡◌, true, List, [], ◌∷◌, ◌++◌, ◌∙◌, sym, refl}
+use Rattle.std.proofs.Common.{◌≡◌, true, [], ◌∷◌, ◌++◌, ◌∙◌, sym, refl}
 use Rattle.std.proofs.lemmas.Result.{err_from_is_err_and}
-use Rattle.tc_model.specs.Run.{BeginsWith, Window, Windows, is_full, with_line}
+use Rattle.tc_model.specs.Run.{is_full}
 use Rattle.tc_model.proofs.WindowLaws.{closed-with_line}
 use Rattle.tc_server.specs.Stage.{IsAt, with_end}
 use Rattle.tc_server.specs.declared.session.Session.{Session}
