@@ -8,17 +8,11 @@ use Rattle.tc_store.specs.DeviceCalls.{after_device_call, file_after, files_afte
 use Rattle.tc_store.specs.DiskFile.{DiskFile, FailsWrite, written}
 use Rattle.tc_store.specs.Moments.{goes_on, FailsWriting}
 
-goes_on-files_after : (before : Option (List ℕ)) (change : DiskFile → DiskFile) (calls : List DeviceCall)
-    → change (file_after before calls) ∷ files_after before calls ≡ goes_on change (files_after before calls)
-goes_on-files_after before change [] = refl
-goes_on-files_after before change (call ∷ earlier) = refl
-
 pub files_after-push : (before : Option (List ℕ)) (calls roomy longer : List DeviceCall) (call : DeviceCall) → roomy ≡ calls → longer ≡ roomy ++ call ∷ []
     → files_after before (reverse longer) ≡ goes_on (after_device_call call) (files_after before (reverse calls))
 files_after-push before calls roomy longer call same pushed =
     ap (λ all. files_after before (reverse all)) (pushed ∙ ap (λ (first : List DeviceCall). first ++ call ∷ []) same)
     ∙ ap (files_after before) (reverse-append calls (call ∷ []))
-    ∙ goes_on-files_after before (after_device_call call) (reverse calls)
 
 -- a write that failed and left the content as it was
 tried_fails : (at count : ℕ) (f : DiskFile) → FailsWrite at count f (record f { tried = (at, count) ∷ f.tried })
@@ -31,8 +25,7 @@ tried_fails at count f = record {
 
 fails-files_after : (before : Option (List ℕ)) (at count : ℕ) (calls : List DeviceCall)
     → FailsWriting at count (files_after before calls) (files_after before (Tried at count ∷ calls))
-fails-files_after before at count [] = (_, refl, tried_fails at count (file_after before []))
-fails-files_after before at count (call ∷ earlier) = (_, refl, tried_fails at count (file_after before (call ∷ earlier)))
+fails-files_after before at count calls = (_, refl, tried_fails at count (file_after before calls))
 
 -- the copy of the bytes is what the record keeps
 pub written-push : (before : Option (List ℕ)) (at : ℕ) (bytes : List ℕ) (copy : Vec ℕ Global) (calls roomy longer : List DeviceCall) → copy.items ≡ bytes

@@ -15,7 +15,11 @@ abbrev pub file_after : Option (List ℕ) → List DeviceCall → DiskFile
 file_after before [] = empty_file before
 file_after before (call ∷ earlier) = after_device_call call (file_after before earlier)
 
+-- the file after each of the calls before the newest
+abbrev pub earlier_files : Option (List ℕ) → List DeviceCall → List DiskFile
+earlier_files before [] = []
+earlier_files before (call ∷ earlier) = file_after before earlier ∷ earlier_files before earlier
+
 -- the file after these calls, and after each of the earlier ones
 abbrev pub files_after : Option (List ℕ) → List DeviceCall → List DiskFile
-files_after before [] = empty_file before ∷ []
-files_after before (call ∷ earlier) = after_device_call call (file_after before earlier) ∷ files_after before earlier
+files_after before calls = file_after before calls ∷ earlier_files before calls

@@ -6,10 +6,9 @@ use Rattle.std.proofs.lemmas.List.Elements.{All-head, All-tail}
 use Rattle.std.proofs.lemmas.Bool.{cases_lt}
 use Rattle.tc_store.specs.declared.mem_device.DeviceCall.{DeviceCall}
 use Rattle.tc_store.specs.declared.mem_device.DeviceCall.TheVariants.{Written, Tried, Synced}
-use Rattle.tc_store.specs.DeviceCalls.{file_after, files_after}
+use Rattle.tc_store.specs.DeviceCalls.{file_after}
 use Rattle.tc_store.specs.DiskFile.{DiskFile, Range, empty_file, settled_file, overlaid, written}
 use Rattle.tc_store.specs.Images.{IsImageOf, IsUntouched, IsWithin, furthest_end}
-use Rattle.tc_store.specs.Moments.{IfTold}
 
 pub furthest_end-le : (size : ℕ) (ranges : List Range) → size ≤ furthest_end size ranges
 furthest_end-le size [] = omega arith
@@ -68,9 +67,3 @@ may_stay_after before [] = empty_may_stay before
 may_stay_after before (Written at bytes ∷ earlier) = written_may_stay at bytes.items (file_after before earlier) (may_stay_after before earlier)
 may_stay_after before (Tried at count ∷ earlier) = tried_may_stay at count (file_after before earlier) (may_stay_after before earlier)
 may_stay_after before (Synced ∷ earlier) = settled_may_stay (file_after before earlier).content
-
--- what holds of the file after the calls is told
-pub told-files_after : (P : DiskFile → Type 0) (before : Option (List ℕ)) (calls : List DeviceCall)
-    → P (file_after before calls) → IfTold (files_after before calls) P
-told-files_after P before [] holds = holds
-told-files_after P before (call ∷ earlier) holds = holds

@@ -10,3 +10,7 @@ pub mod MemWatch
 pub mod DeviceCalls
 pub mod MemDevice
 pub mod DeviceLaws
+pub mod MemDisk
+pub mod MemStore
+pub mod MemNames
+pub mod StoreLaws

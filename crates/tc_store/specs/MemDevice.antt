@@ -11,4 +11,4 @@ device_name device = device.name
 
 -- its member `history`
 abbrev pub device_files : MemDevice → List DiskFile
-device_files device = files_after (option_map (λ bytes. bytes.value) device.before) (reverse device.calls.items)
+device_files device = files_after (option_map (λ bytes. bytes.value.items) device.before) (reverse device.calls.items)

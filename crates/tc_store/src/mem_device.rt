@@ -4,6 +4,7 @@ ghost use Rattle.std.specs.Prelude.{◌≡◌, ◌<◌, ◌≤◌, ◌+◌, ◌^
 ghost use Rattle.tc_store.specs.Counts.{Rose};
 ghost use Rattle.tc_store.specs.DeviceCalls.{file_after, files_after};
 ghost use Rattle.tc_store.specs.DiskFile.{empty_file, overlaid};
+ghost use Rattle.tc_store.specs.Moments.{IfTold};
 
 use crate::device::Device;
 use crate::fault::DeviceFault;
@@ -12,7 +13,6 @@ use crate::mem_watch::MemWatch;
 use crate::watch::Watch;
 use std::alloc::{AllocError, Global};
 use std::sync::Arc;
-use tc_bytes::Bytes;
 
 const MAX_LEN: usize = 0x7fff_ffff_ffff_ffff;
 
@@ -27,11 +27,11 @@ pub(crate) enum DeviceCall {
 #[derive(Drop)]
 pub struct MemDevice {
     name: FileName,
-    before: Option<Arc<Bytes>>,
+    before: Option<Arc<Vec<u8>>>,
     content: Vec<u8>,
     /// The calls so far, the oldest first.
     calls: Vec<DeviceCall>,
-    ghost replayed: { content.items ≡ (file_after (option_map (λ bytes. bytes.value) before) (reverse calls.items)).content },
+    ghost replayed: { content.items ≡ (file_after (option_map (λ bytes. bytes.value.items) before) (reverse calls.items)).content },
     ghost limit: { length content.items < 2 ^ 63 },
 }
 
@@ -39,9 +39,9 @@ impl MemDevice {
     ghost use Rattle.tc_store.specs.MemDevice.{device_name, device_files};
 
     /// An empty file of this name, where a removed one had these bytes. Takes no memory.
-    pub(crate) fn new(alloc: Global, name: FileName, before: Option<Arc<Bytes>>) -> MemDevice
+    pub(crate) fn new(alloc: Global, name: FileName, before: Option<Arc<Vec<u8>>>) -> MemDevice
         ensures name { device_name result ≡ name }
-        ensures files { device_files result ≡ empty_file (option_map (λ bytes. bytes.value) before) ∷ [] }
+        ensures files { device_files result ≡ empty_file (option_map (λ bytes. bytes.value.items) before) ∷ [] }
     {
         MemDevice {
             name,
@@ -49,6 +49,19 @@ impl MemDevice {
             content: Vec::new(alloc),
             calls: Vec::new(alloc),
         }
+    }
+
+    pub(crate) fn file_name(&self) -> FileName
+        ensures { result ≡ device_name self.now }
+    {
+        self.name
+    }
+
+    /// What a read would give.
+    pub(crate) fn bytes(&self) -> &[u8]
+        ensures { IfTold (device_files self.now) (λ f. result.now ≡ f.content) }
+    {
+        &self.content
     }
 }
 
@@ -99,15 +112,14 @@ impl Device for MemDevice {
 
     ghost size = { λ d. length d.content.items };
 
-    ghost history = { λ d. files_after (option_map (λ bytes. bytes.value) d.before) (reverse d.calls.items) };
+    ghost history = { λ d. files_after (option_map (λ bytes. bytes.value.items) d.before) (reverse d.calls.items) };
 
     ghost use Rattle.std.proofs.Common.{ap};
-    ghost use Rattle.tc_store.specs.Images.{IsImageOf};
-    ghost use Rattle.tc_store.specs.DeviceLaws.{told-files_after, may_stay_after};
+    ghost use Rattle.tc_store.specs.DeviceLaws.{may_stay_after};
 
-    ghost told_size = { λ d. told-files_after (λ f. length d.content.items ≡ length f.content) (option_map (λ bytes. bytes.value) d.before) (reverse d.calls.items) (ap length d.replayed) };
+    ghost told_size = { λ d. ap length d.replayed };
 
-    ghost content_may_stay = { λ d. told-files_after (λ f. IsImageOf f f.content) (option_map (λ bytes. bytes.value) d.before) (reverse d.calls.items) (may_stay_after (option_map (λ bytes. bytes.value) d.before) (reverse d.calls.items)) };
+    ghost content_may_stay = { λ d. may_stay_after (option_map (λ bytes. bytes.value.items) d.before) (reverse d.calls.items) };
 
     fn len(&self) -> u64 {
         self.content.len() as u64
