@@ -31,3 +31,6 @@ pub use mem_store::MemStore;
 pub use mem_watch::MemWatch;
 pub use store::Store;
 pub use watch::Watch;
+
+#[cfg(test)]
+mod tests;

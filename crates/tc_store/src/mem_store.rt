@@ -1,10 +1,8 @@
 //! A store in memory.
 
-ghost use Rattle.std.specs.Prelude.{◌≡◌, ◌<◌, ◌≤◌, ◌+◌, ◌++◌, [], ◌∷◌, ℕ, length, reverse, slice_index_or, slice_set, true, false, All, List, IfNone, IfSome, vec_len, vec_capacity, OnOk, IfOk};
-ghost use Rattle.tc_store.specs.Disk.{Disk, same_name, put, none, is_out, is_still, content_of};
-ghost use Rattle.tc_store.specs.declared.mem_entry.MemFile.{MemFile};
-ghost use Rattle.tc_store.specs.declared.mem_entry.Slot.{Slot};
-ghost use Rattle.tc_store.specs.MemDisk.{disk_of, disks_of, owed_by, owed_of, entry_of, with_held, IsFirstSlot, IsFirstFile, PutsEntry};
+ghost use Rattle.std.specs.Prelude.{◌≡◌, ◌≤◌, ◌+◌, [], ◌∷◌, None, reverse, vec_len, vec_capacity, OnOk};
+ghost use Rattle.tc_store.specs.Disk.{none};
+ghost use Rattle.tc_store.specs.MemDisk.{disk_of, disks_of, file_entry, owed_by, owed_of, entry_of};
 
 use crate::fault::StoreFault;
 use crate::file_name::FileName;
@@ -36,14 +34,14 @@ impl MemStore {
 
     /// A store with no file. Takes no memory.
     pub fn new(alloc: Global) -> MemStore
-        ensures empty { store_disks result ≡ disk_of [] [] ∷ [] }
+        ensures empty { store_disks result ≡ (λ name. none None) ∷ [] }
     {
         MemStore::with(Vec::new(alloc))
     }
 
-    /// A store with these files, which have distinct names. Takes no memory.
+    /// A store with these files, at home and durable as they are. Of several of one name the first counts. Takes no memory.
     pub fn with(files: Vec<MemFile>) -> MemStore
-        ensures files { store_disks result ≡ disk_of files.items [] ∷ [] }
+        ensures files { store_disks result ≡ file_entry files.items ∷ [] }
     {
         let alloc = *files.allocator();
         MemStore {
