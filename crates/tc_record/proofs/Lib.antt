@@ -1,0 +1,3 @@
+mod Rows
+pub mod Measuring
+pub mod Lengths
