@@ -95,6 +95,16 @@ column_total (x ∷ xs) =
 total_within : (t f p x q y : ℕ) → sum_within (sum_within (sum_within 23 (min t (2 ^ 64 - 1))) (min f (2 ^ 64 - 1))) (sum_within (min (p + x) (2 ^ 64 - 1)) (min (q + y) (2 ^ 64 - 1))) ≡ min (23 + (t + (f + (p + (x + (q + y)))))) (2 ^ 64 - 1)
 total_within t f p x q y = omega arith
 
+length-record_of : (ts : List (Token Name Scalar)) → length (record_bytes 0 ts (map length (labels ts)) (joined (labels ts)))
+    ≡ 23 + (length (tags ts) + (length (fixed ts) + (length (numbers (width (map length (texts ts))) (map length (texts ts))) + (length (joined (texts ts)) + (length (numbers (width (map length (labels ts))) (map length (labels ts))) + length (joined (labels ts)))))))
+length-record_of ts =
+    let lengths = map length (texts ts) in
+    let slots = map length (labels ts) in
+    let last = numbers (width slots) slots ++ joined (labels ts) in
+    let text_part = joined (texts ts) ++ last in
+    let text_columns = numbers (width lengths) lengths ++ text_part in
+    omega (arith, length-append (tags ts) (fixed ts ++ text_columns), length-append (fixed ts) text_columns, length-append (numbers (width lengths) lengths) text_part, length-append (joined (texts ts)) last, length-append (numbers (width slots) slots) (joined (labels ts)))
+
 pub measured_len : (d : Document) → record_len (measured nothing_measured (tokens_of d)) ≡ min (length (record_of d)) (2 ^ 64 - 1)
 measured_len d =
     let ts = tokens_of d in
@@ -107,16 +117,6 @@ measured_len d =
     let names_len : column_len m.names ≡ min (length (numbers (width slots) slots) + length (joined (labels ts))) (2 ^ 64 - 1) = rw (measured_names ts nothing_measured) (column_total (labels ts)) in
     let whole : length (record_of d) ≡ 23 + (length (tags ts) + (length (fixed ts) + (length (numbers (width lengths) lengths) + (length (joined (texts ts)) + (length (numbers (width slots) slots) + length (joined (labels ts))))))) = length-record_of ts in
     rw (tag_count, fixed_count, texts_len, names_len, whole) (total_within (length (tags ts)) (length (fixed ts)) (length (numbers (width lengths) lengths)) (length (joined (texts ts))) (length (numbers (width slots) slots)) (length (joined (labels ts))))
-  where
-    length-record_of : (ts : List (Token Name Scalar)) → length (record_bytes 0 ts (map length (labels ts)) (joined (labels ts)))
-        ≡ 23 + (length (tags ts) + (length (fixed ts) + (length (numbers (width (map length (texts ts))) (map length (texts ts))) + (length (joined (texts ts)) + (length (numbers (width (map length (labels ts))) (map length (labels ts))) + length (joined (labels ts)))))))
-    length-record_of ts =
-        let lengths = map length (texts ts) in
-        let slots = map length (labels ts) in
-        let last = numbers (width slots) slots ++ joined (labels ts) in
-        let text_part = joined (texts ts) ++ last in
-        let text_columns = numbers (width lengths) lengths ++ text_part in
-        omega (arith, length-append (tags ts) (fixed ts ++ text_columns), length-append (fixed ts) text_columns, length-append (numbers (width lengths) lengths) text_part, length-append (joined (texts ts)) last, length-append (numbers (width slots) slots) (joined (labels ts)))
 
 -- what is answered of a length
 pub sized : {P : Type 0} (n len : ℕ) (answer : Option ℕ) → P → n ≡ min len (2 ^ 64 - 1) → answer ≡ (if nat_lt n (2 ^ 32) then Some n else None)
@@ -129,3 +129,70 @@ sized n len None p is answered = (tt, λ _. too_long n len is answered)
   where
     too_long : (n len : ℕ) → n ≡ min len (2 ^ 64 - 1) → None ≡ (if nat_lt n (2 ^ 32) then Some n else None) → 2 ^ 32 ≤ len
     too_long n len is answered = grind (arith, nat_tests)
+
+-- ---- a measure of a record that is short enough
+
+-- a column that is short is measured exactly
+pub record IsExact (xs : List (List ℕ)) (c : Column) : Type 0 where
+  pub count : c.count ≡ length (map length xs)
+  pub width : column_width c ≡ width (map length xs)
+
+covered : (v w : ℕ) → 1 ≤ w → w ≤ 4 → v ≤ v * w
+covered v zero some small = absurd (omega arith)
+covered v (suc zero) some small = omega arith
+covered v (suc (suc zero)) some small = omega arith
+covered v (suc (suc (suc zero))) some small = omega arith
+covered v (suc (suc (suc (suc zero)))) some small = omega arith
+covered v (suc (suc (suc (suc (suc w))))) some small = absurd (omega arith)
+
+width_of-some : (n : ℕ) → 1 ≤ width_of n
+width_of-some n = grind (arith, nat_tests)
+
+exact_column : (xs : List (List ℕ)) → length (numbers (width (map length xs)) (map length xs)) < 2 ^ 32 → IsExact xs (with_elements no_elements (map length xs))
+exact_column [] short = record { count = refl; width = refl }
+exact_column (x ∷ xs) short =
+    let ns = map length (x ∷ xs) in
+    let c = with_elements no_elements ns in
+    let greatest_is : c.greatest ≡ greatest ns = elements_greatest ns no_elements ∙ omega arith in
+    let cover : length ns ≤ length ns * width ns = covered (length ns) (width ns) (width_of-some (greatest ns)) (width_of-le (greatest ns)) in
+    let few : length ns * width ns < 2 ^ 32 = rw (← length-numbers (width ns) ns) short in
+    let count : c.count ≡ length ns = elements_count ns no_elements (omega arith) ∙ omega arith in
+    record { count = count; width = width_some c.count c.greatest (omega arith) ∙ ap width_of greatest_is }
+
+-- what the measure of a document says of a record below 2 ^ 32 bytes
+pub record IsExactMeasure (d : Document) (m : Measure) : Type 0 where
+  pub len : record_len m ≡ length (record_of d)
+  pub tags : m.tags ≡ length (tags (tokens_of d))
+  pub fixed : m.fixed ≡ length (fixed (tokens_of d))
+  pub texts : IsExact (texts (tokens_of d)) m.texts
+  pub names : IsExact (labels (tokens_of d)) m.names
+
+pub exact_measure : (d : Document) → length (record_of d) < 2 ^ 32 → IsExactMeasure d (measured nothing_measured (tokens_of d))
+exact_measure d short =
+    let ts = tokens_of d in
+    let whole = length-record_of ts in
+    record {
+      len = measured_len d ∙ omega arith;
+      tags = measured_tags ts nothing_measured (omega arith) ∙ omega arith;
+      fixed = measured_fixed ts nothing_measured (omega arith) ∙ omega arith;
+      texts = rw (measured_texts ts nothing_measured) (exact_column (texts ts) (omega arith));
+      names = rw (measured_names ts nothing_measured) (exact_column (labels ts) (omega arith));
+    }
+
+-- ---- no column of such a record has 2 ^ 32 elements
+
+pub few_tags : (d : Document) → length (record_of d) < 2 ^ 32 → (measured nothing_measured (tokens_of d)).tags < 2 ^ 32
+few_tags d short = omega (arith, (exact_measure d short).tags, length-record_of (tokens_of d))
+
+pub few_fixed : (d : Document) → length (record_of d) < 2 ^ 32 → (measured nothing_measured (tokens_of d)).fixed < 2 ^ 32
+few_fixed d short = omega (arith, (exact_measure d short).fixed, length-record_of (tokens_of d))
+
+few_numbers : (ns : List ℕ) → length (numbers (width ns) ns) < 2 ^ 32 → length ns < 2 ^ 32
+few_numbers [] short = omega arith
+few_numbers (n ∷ ns) short = omega (arith, length-numbers (width (n ∷ ns)) (n ∷ ns), covered (length (n ∷ ns)) (width (n ∷ ns)) (width_of-some (greatest (n ∷ ns))) (width_of-le (greatest (n ∷ ns))))
+
+pub few_texts : (d : Document) → length (record_of d) < 2 ^ 32 → (measured nothing_measured (tokens_of d)).texts.count < 2 ^ 32
+few_texts d short = omega (arith, (exact_measure d short).texts.count, few_numbers (map length (texts (tokens_of d))) (omega (arith, length-record_of (tokens_of d))))
+
+pub few_names : (d : Document) → length (record_of d) < 2 ^ 32 → (measured nothing_measured (tokens_of d)).names.count < 2 ^ 32
+few_names d short = omega (arith, (exact_measure d short).names.count, few_numbers (map length (labels (tokens_of d))) (omega (arith, length-record_of (tokens_of d))))

@@ -1,3 +1,3 @@
-mod Rows
 pub mod Measuring
 pub mod Lengths
+pub mod Encoded

@@ -2,10 +2,12 @@
 
 ghost use Rattle.std.specs.Prelude.{◌≡◌, ◌≤◌, ◌<◌, ◌^◌, IfSome, IfNone, nat_lt, if◌then◌else◌, length};
 ghost use Rattle.tc_value.specs.Meaning.{tree_of};
-ghost use Rattle.tc_record.specs.Record.{record_of, IsObject, width_of};
+ghost use Rattle.tc_record.specs.Record.{record_of, IsObject};
+ghost use Rattle.tc_record.specs.Widths.{width_bytes};
 ghost use Rattle.tc_record.specs.Measured.{column_width, column_len, record_len};
 
 use crate::measure::{measure_document, Column, Measure};
+use crate::widths::Width;
 use tc_value::Doc;
 
 /// The length of the record of form 0, or `None` where the document is no object or its record would have 4,294,967,296
@@ -30,40 +32,27 @@ fn within_u32(len: u64) -> Option<u32>
     }
 }
 
-/// The least of 1, 2 and 4 bytes that holds a number of 32 bits.
-pub(crate) fn least_width(number: u64) -> u8
-    ensures { result ≡ width_of number }
-{
-    if number < 256 {
-        1
-    } else if number < 65536 {
-        2
-    } else {
-        4
-    }
-}
-
-pub(crate) fn width_of_column(column: Column) -> u8
-    ensures { result ≡ column_width column }
+pub(crate) fn width_of_column(column: Column) -> Width
+    ensures { width_bytes result ≡ column_width column }
 {
     if column.count == 0 {
-        0
+        Width::Zero
     } else {
-        least_width(column.greatest)
+        Width::holding(column.greatest)
     }
 }
 
 fn len_of_column(column: Column) -> u64
     ensures { result ≡ column_len column }
 {
-    let width = width_of_column(column);
+    let width = width_of_column(column).bytes();
     column
         .count
         .saturating_mul(u64::from(width))
         .saturating_add(column.bytes)
 }
 
-fn len_of_record(measure: Measure) -> u64
+pub(crate) fn len_of_record(measure: Measure) -> u64
     ensures { result ≡ record_len measure }
 {
     let values = 23u64
