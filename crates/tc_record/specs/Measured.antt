@@ -26,7 +26,7 @@ with_piece m p =
       tags = sum_within m.tags 1;
       fixed = sum_within m.fixed (length (piece_fixed p));
       texts = with_elements m.texts (map length (piece_text p));
-      names = m.names
+      names = m.names;
     }
 
 -- with each of the tokens

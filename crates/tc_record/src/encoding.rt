@@ -10,11 +10,11 @@ ghost use Rattle.tc_record.specs.Record.{record_of, IsObject};
 ghost use Rattle.tc_record.specs.Parts.{part_label, part_piece, part_bytes, value_bytes};
 ghost use Rattle.tc_record.specs.Measured.{column_width};
 
-use crate::measure::{measure_document, Measure};
+use crate::measure::{Measure, measure_document};
 use crate::sizing::{len_of_record, width_of_column};
-use crate::widths::{put_number, Width};
+use crate::widths::{Width, put_number};
 use std::alloc::{AllocError, Global};
-use tc_bytes::{put_u32, Bytes};
+use tc_bytes::{Bytes, put_u32};
 use tc_value::{Doc, Member};
 
 /// A column of a record.

@@ -114,7 +114,10 @@ fn with_members(members: &[Member], so_far: Measure) -> Measure
 {
     let mut measure = so_far;
     for member in members {
-        measure = with_value(&member.value, with_name(measure, member.name.as_str().len()));
+        measure = with_value(
+            &member.value,
+            with_name(measure, member.name.as_str().len()),
+        );
     }
     measure
 }

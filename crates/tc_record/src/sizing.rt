@@ -6,7 +6,7 @@ ghost use Rattle.tc_record.specs.Record.{record_of, IsObject};
 ghost use Rattle.tc_record.specs.Widths.{width_bytes};
 ghost use Rattle.tc_record.specs.Measured.{column_width, column_len, record_len};
 
-use crate::measure::{measure_document, Column, Measure};
+use crate::measure::{Column, Measure, measure_document};
 use crate::widths::Width;
 use tc_value::Doc;
 

@@ -16,8 +16,7 @@ fn computed_records()
     ensures nothing { record_of nothing ≡ nothing_record }
     ensures mixed { record_of mixed ≡ mixed_record }
     ensures numbered_mixed { numbered_record_of numbered_mixed ≡ numbered_mixed_record }
-{
-}
+{}
 
 fn text(alloc: Global, text: &str) -> Result<Text, AllocError> {
     Ok(Text::of(String::from_str(alloc, text)?))
@@ -60,10 +59,12 @@ fn encodes(rt: HostRuntime) -> Result<(), Fail> {
     computed_records();
     let alloc = rt.alloc();
     let flag = record_text(alloc, &object(alloc, "a", Doc::Bool(true))?)?;
-    assert_eq!(rt; flag.as_str(), "0000001d00000000030000000100000000000000000101060207010161");
+    assert_eq!(rt;
+        flag.as_str(),
+        "0000001d00000000030000000100000000000000000101060207010161"
+    );
     let record = record_text(alloc, &mixed(alloc)?)?;
-    assert_eq!(
-        rt;
+    assert_eq!(rt;
         record.as_str(),
         "00000030000000000b000000080000000101000000020106050304050706010707070000000000000001017801017662"
     );
