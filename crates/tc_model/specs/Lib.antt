@@ -1,4 +1,5 @@
 pub mod Tree
+pub mod Preorder
 pub mod TreeCode
 pub mod Document
 pub mod Json

@@ -1,0 +1,46 @@
+use Rattle.std.proofs.Common.{◌≡◌, ◌∙◌, ◌<◌, ◌^◌, ap, arith, length}
+use Rattle.tc_value.specs.Meaning.{tree_of}
+use Rattle.tc_record.specs.Record.{record_of}
+use Rattle.tc_record.specs.Measured.{record_len}
+use Rattle.tc_record.proofs.Lengths.{IsExactMeasure, exact_measure, few_tags, few_fixed, few_texts, few_names}
+use Rattle.tc_record.proofs.Encoded.{begun, encoded}
+use Rattle.tc_record.proofs.encoding.encode.Goals as goal
+
+pub put_header-requires-clause-len : goal.put_header-requires-clause-len
+put_header-requires-clause-len c =
+    let d = tree_of c.args.doc.now in
+    let exact = exact_measure d c.requires.short in
+    let len : c.len_of_record-len.result ≡ length (record_of d) = c.len_of_record-len.ensures ∙ ap record_len c.measure_document-measure.ensures ∙ exact.len in
+    rw len c.requires.short
+
+pub put_header-requires-clause-tags : goal.put_header-requires-clause-tags
+put_header-requires-clause-tags c =
+    let d = tree_of c.args.doc.now in
+    let few = few_tags d c.requires.short in
+    rw c.measure_document-measure.ensures few
+
+pub put_header-requires-clause-fixed : goal.put_header-requires-clause-fixed
+put_header-requires-clause-fixed c =
+    let d = tree_of c.args.doc.now in
+    let few = few_fixed d c.requires.short in
+    rw c.measure_document-measure.ensures few
+
+pub put_header-requires-clause-texts : goal.put_header-requires-clause-texts
+put_header-requires-clause-texts c =
+    let d = tree_of c.args.doc.now in
+    let few = few_texts d c.requires.short in
+    rw c.measure_document-measure.ensures few
+
+pub put_header-requires-clause-names : goal.put_header-requires-clause-names
+put_header-requires-clause-names c =
+    let d = tree_of c.args.doc.now in
+    let few = few_names d c.requires.short in
+    rw c.measure_document-measure.ensures few
+
+pub returns : goal.returns
+returns c =
+    let d = tree_of c.args.doc.now in
+    let exact = exact_measure d c.requires.short in
+    let exact_here : IsExactMeasure d c.measure_document-measure.result = rw c.measure_document-measure.ensures exact in
+    c.of.ensures.same ∙ encoded d c.measure_document-measure.result c.width_of_column-text_width.result c.width_of_column-name_width.result _ _ _ _ _ _ _ exact_here c.width_of_column-text_width.ensures c.width_of_column-name_width.ensures
+    (begun c.put_header.new.out.items c.in_ok-out.out.items _ _ _ _ _ _ _ _ c.in_ok-put_header.ensures c.in_ok-out.ensures.items c.len_of_record-len.ensures) c.in_ok-put_value.ensures c.in_ok-put_value-2.ensures c.in_ok-put_value-3.ensures c.in_ok-put_value-4.ensures c.in_ok-put_value-5.ensures c.in_ok-put_value-6.ensures

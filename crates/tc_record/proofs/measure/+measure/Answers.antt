@@ -1,0 +1,40 @@
+use Rattle.std.proofs.Common.{rules, arith, ◌∙◌, ◌≤◌, ◌<◌, ◌+◌, ◌*◌, map}
+use Rattle.tc_value.specs.Meaning.{tree_of, member_of}
+use Rattle.tc_value.specs.TreeSize.{tree_size, trees_size, labelled_size}
+use Rattle.tc_value.proofs.Sizes.{item_size, member_size}
+use Rattle.tc_record.proofs.Measuring.{measured-append, measured-item, measured-member}
+use Rattle.tc_record.proofs.measure.+measure.Goals as goal
+
+pub with_value-with_items-requires : goal.with_value-with_items-requires
+with_value-with_items-requires t c =
+    let within : 2 * trees_size (map tree_of c.as_slice.result.now) + 1 < 2 * tree_size (tree_of c.args.doc.now) = rw (c.as_slice.ensures, c.in-Array.is) (omega arith) in
+    (omega (arith, c.decreases), tt)
+
+pub with_value-with_members-requires : goal.with_value-with_members-requires
+with_value-with_members-requires t c =
+    let within : 2 * labelled_size (map member_of c.as_slice-in-Object.result.now) + 1 < 2 * tree_size (tree_of c.args.doc.now) = rw (c.as_slice-in-Object.ensures.members, c.in-Object.is) (omega arith) in
+    (omega (arith, c.decreases), tt)
+
+pub with_items-with_value-measure-requires : goal.with_items-with_value-measure-requires
+with_items-with_value-measure-requires t c =
+    let within : tree_size (tree_of c.item-item.result) ≤ trees_size (map tree_of c.args.items.now) = item_size c.args.items.now c.loop-item.item-index c.item-item.result (search rules) (search rules) in
+    (omega (arith, c.decreases), tt)
+
+pub with_members-with_value-measure-requires : goal.with_members-with_value-measure-requires
+with_members-with_value-measure-requires t c =
+    let within : tree_size (tree_of c.member-item.result.value) ≤ labelled_size (map member_of c.args.members.now) = member_size c.args.members.now c.loop-member.member-index c.member-item.result (search rules) (search rules) in
+    (omega (arith, c.decreases), tt)
+
+pub with_value-returns-in-Array : goal.with_value-returns-in-Array
+with_value-returns-in-Array t c = search (rules, measured-append)
+
+pub with_value-returns-in-Object : goal.with_value-returns-in-Object
+with_value-returns-in-Object t c = search (rules, measured-append)
+
+pub with_items-loop-item-preserved : goal.with_items-loop-item-preserved
+with_items-loop-item-preserved t c =
+    measured-item c.args.items.now c.loop-item.item-index c.item-item.result c.loop-item.measure _ (search rules) (search rules) (search rules) ∙ c.loop-item.invariant
+
+pub with_members-loop-member-preserved : goal.with_members-loop-member-preserved
+with_members-loop-member-preserved t c =
+    measured-member c.args.members.now c.loop-member.member-index c.member-item.result c.loop-member.measure _ (search rules) (search rules) (search rules) ∙ c.loop-member.invariant

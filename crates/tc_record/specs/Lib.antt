@@ -1,0 +1,5 @@
+pub mod Record
+pub mod Rows
+pub mod Measured
+pub mod Widths
+pub mod Parts

@@ -1,0 +1,138 @@
+-- The bytes of a record: the columns of a document's tokens, one behind the other. In form 0 a member is labelled by
+-- its name, in form 1 by the number of its name.
+use Rattle.std.specs.Prelude.{◌≡◌, ℕ, ◌+◌, ◌<◌, ◌≤◌, ◌^◌, max, nat_lt, Bool, if◌then◌else◌, List, [], ◌∷◌, ◌++◌, length, map, flat_map, Option, None, Some, option_to_list}
+use Rattle.std.specs.Int.{w32, w64, to_be_bytes, bytes_high_first, cast_unsigned}
+use Rattle.tc_model.specs.Tree.{Tree, leaf, array, object, Items, no_items, item, Members, no_members, member, depth}
+use Rattle.tc_model.specs.Document.{Name, Document, Scalar, null, boolean, integer, text, IsScalar, IsDocument}
+use Rattle.tc_model.specs.Preorder.{Piece, scalar, array_opened, object_opened, closed, Token, tokens_of}
+
+-- ---- what a token adds to each column
+
+abbrev pub scalar_tag : Scalar → ℕ
+scalar_tag null = 1
+scalar_tag (boolean b) = 2
+scalar_tag (integer z) = 3
+scalar_tag (text s) = 4
+
+abbrev pub piece_tag : Piece Scalar → ℕ
+piece_tag (scalar s) = scalar_tag s
+piece_tag array_opened = 5
+piece_tag object_opened = 6
+piece_tag closed = 7
+
+abbrev pub scalar_fixed : Scalar → List ℕ
+scalar_fixed null = []
+scalar_fixed (boolean b) = (if b then 1 else 0) ∷ []
+scalar_fixed (integer z) = to_be_bytes w64 (cast_unsigned w64 z)
+scalar_fixed (text s) = []
+
+abbrev pub piece_fixed : Piece Scalar → List ℕ
+piece_fixed (scalar s) = scalar_fixed s
+piece_fixed array_opened = []
+piece_fixed object_opened = []
+piece_fixed closed = []
+
+abbrev pub scalar_text : Scalar → List (List ℕ)
+scalar_text null = []
+scalar_text (boolean b) = []
+scalar_text (integer z) = []
+scalar_text (text s) = s ∷ []
+
+abbrev pub piece_text : Piece Scalar → List (List ℕ)
+piece_text (scalar s) = scalar_text s
+piece_text array_opened = []
+piece_text object_opened = []
+piece_text closed = []
+
+-- ---- the columns
+
+abbrev pub tags : {L : Type 0} → List (Token L Scalar) → List ℕ
+tags ts = map (λ t. piece_tag t.piece) ts
+
+abbrev pub fixed : {L : Type 0} → List (Token L Scalar) → List ℕ
+fixed ts = flat_map (λ t. piece_fixed t.piece) ts
+
+abbrev pub texts : {L : Type 0} → List (Token L Scalar) → List (List ℕ)
+texts ts = flat_map (λ t. piece_text t.piece) ts
+
+abbrev pub labels : {L : Type 0} → List (Token L Scalar) → List L
+labels ts = flat_map (λ t. option_to_list t.label) ts
+
+abbrev pub greatest : List ℕ → ℕ
+greatest [] = 0
+greatest (n ∷ ns) = max n (greatest ns)
+
+-- the least of 1, 2 and 4 bytes that holds a number
+abbrev pub width_of : ℕ → ℕ
+width_of n = if nat_lt n 256 then 1 else (if nat_lt n 65536 then 2 else 4)
+
+-- the least width that holds each element of a column, and 0 where there is none
+abbrev pub width : List ℕ → ℕ
+width [] = 0
+width (n ∷ ns) = width_of (greatest (n ∷ ns))
+
+abbrev pub numbers : ℕ → List ℕ → List ℕ
+numbers w ns = flat_map (bytes_high_first w) ns
+
+abbrev pub joined : List (List ℕ) → List ℕ
+joined ts = flat_map (λ t. t) ts
+
+-- what stands behind the header
+abbrev pub body : {L : Type 0} → List (Token L Scalar) → List ℕ → List ℕ → List ℕ
+body ts slots names =
+    let lengths = map length (texts ts) in
+    tags ts ++ (fixed ts ++ (numbers (width lengths) lengths ++ (joined (texts ts) ++ (numbers (width slots) slots ++ names))))
+
+-- header and columns
+abbrev pub record_bytes : {L : Type 0} → ℕ → List (Token L Scalar) → List ℕ → List ℕ → List ℕ
+record_bytes form ts slots names =
+    let lengths = map length (texts ts) in
+    to_be_bytes w32 (23 + length (body ts slots names)) ++ (form ∷ (to_be_bytes w32 (length (tags ts)) ++ (to_be_bytes w32 (length (fixed ts)) ++ (to_be_bytes w32 (length lengths) ++ (width lengths ∷ (to_be_bytes w32 (length slots) ++ (width slots ∷ body ts slots names)))))))
+
+-- form 0: a slot is the length of a name, and the names follow
+abbrev pub record_of : Document → List ℕ
+record_of d = let ts = tokens_of d in record_bytes 0 ts (map length (labels ts)) (joined (labels ts))
+
+-- a document whose members carry numbers in place of names
+abbrev pub NumberedTree : Type 0
+NumberedTree = Tree ℕ Scalar
+
+-- form 1: a slot is the number of a name
+abbrev pub numbered_record_of : NumberedTree → List ℕ
+numbered_record_of n = let ts = tokens_of n in record_bytes 1 ts (labels ts) []
+
+-- ---- which bytes are a record
+
+abbrev pub IsObject : {L S : Type 0} → Tree L S → Type 0
+IsObject (object ms) = Unit {0}
+IsObject _ = ⊥
+
+-- each scalar is one of a document, and each number has 32 bits
+abbrev mutual
+  pub IsNumberedTree : NumberedTree → Type 0
+  IsNumberedTree (leaf s) = IsScalar s
+  IsNumberedTree (array xs) = AreNumberedItems xs
+  IsNumberedTree (object ms) = AreNumberedMembers ms
+
+  pub AreNumberedItems : Items ℕ Scalar → Type 0
+  AreNumberedItems no_items = Unit {0}
+  AreNumberedItems (item t ts) = IsNumberedTree t × AreNumberedItems ts
+
+  pub AreNumberedMembers : Members ℕ Scalar → Type 0
+  AreNumberedMembers no_members = Unit {0}
+  AreNumberedMembers (member n t ms) = (n < 2 ^ 32) × IsNumberedTree t × AreNumberedMembers ms
+
+-- an object of depth at most 32 whose record has these bytes
+pub record IsRecordOf (d : Document) (bytes : List ℕ) : Type 0 where
+  pub document : IsDocument d
+  pub is_object : IsObject d
+  pub shallow : depth d ≤ 32
+  pub spelled : bytes ≡ record_of d
+  pub short : length bytes < 2 ^ 32
+
+pub record IsNumberedRecordOf (n : NumberedTree) (bytes : List ℕ) : Type 0 where
+  pub tree : IsNumberedTree n
+  pub is_object : IsObject n
+  pub shallow : depth n ≤ 32
+  pub spelled : bytes ≡ numbered_record_of n
+  pub short : length bytes < 2 ^ 32
