@@ -4,7 +4,7 @@ use Rattle.std.specs.Int.{w32, to_be_bytes, bytes_high_first}
 use Rattle.std.proofs.lemmas.List.{map-append}
 use Rattle.std.proofs.lemmas.List.Concat.{flat_map-append}
 use Rattle.tc_model.specs.Document.{Name, Document, Scalar}
-use Rattle.tc_model.specs.Preorder.{Token, tokens_of}
+use Rattle.tc_record.specs.Preorder.{Token, tokens_of}
 use Rattle.tc_record.specs.declared.widths.Width.{Width}
 use Rattle.tc_record.specs.declared.measure.Measure.{Measure}
 use Rattle.tc_record.specs.declared.encoding.Part.{Part}

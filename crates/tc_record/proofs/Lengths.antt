@@ -5,7 +5,7 @@ use Rattle.std.proofs.lemmas.Bool.Decides.{nat_tests}
 use Rattle.std.proofs.lemmas.List.{map-append}
 use Rattle.tc_model.specs.Tree.{object}
 use Rattle.tc_model.specs.Document.{Name, Document, Scalar}
-use Rattle.tc_model.specs.Preorder.{Token, preorder, tokens_of}
+use Rattle.tc_record.specs.Preorder.{Token, preorder, tokens_of}
 use Rattle.tc_record.specs.declared.measure.Column.{Column}
 use Rattle.tc_record.specs.declared.measure.Measure.{Measure}
 use Rattle.tc_record.specs.Record.{piece_text, piece_fixed, tags, fixed, texts, labels, greatest, width, width_of, numbers, joined, body, record_bytes, record_of}

@@ -4,7 +4,7 @@ use Rattle.std.specs.Prelude.{◌≡◌, ℕ, ◌+◌, ◌<◌, ◌≤◌, ◌^�
 use Rattle.std.specs.Int.{w32, w64, to_be_bytes, bytes_high_first, cast_unsigned}
 use Rattle.tc_model.specs.Tree.{Tree, leaf, array, object, Items, no_items, item, Members, no_members, member, depth}
 use Rattle.tc_model.specs.Document.{Name, Document, Scalar, null, boolean, integer, text, IsScalar, IsDocument}
-use Rattle.tc_model.specs.Preorder.{Piece, scalar, array_opened, object_opened, closed, Token, tokens_of}
+use Rattle.tc_record.specs.Preorder.{Piece, scalar, array_opened, object_opened, closed, Token, tokens_of}
 
 -- ---- what a token adds to each column
 
