@@ -2,9 +2,9 @@
 #![tactic(auto)]
 
 use std::env::Env;
+use std::io::{Eprint, ErrorKind};
 use std::process::ExitCode;
-use std::env;
-use std::io::Eprint;
+use std::{env, io};
 use tc_edge::{StdSink, StdSource};
 use tc_server::{Outcome, RunFault, fault_text, serve};
 use tc_value::Text;
@@ -24,16 +24,25 @@ fn main(rt: HostRuntime) -> ExitCode {
     ExitCode::from(outcome.status)
 }
 
-// The words behind the program's name. Words that cannot be read as text are no command line.
+// The words behind the program's name. Words that are no text are no command line.
 fn words(rt: &(impl Env + AllocGlobal)) -> Result<Vec<Text>, RunFault> {
-    let Ok(args) = env::args(rt) else {
-        return Err(RunFault::Usage);
+    let args = match env::args(rt) {
+        Ok(args) => args,
+        Err(error) => return Err(fault_of_words(&error)),
     };
     let mut words = Vec::new(rt.alloc());
     for word in args.skip(1) {
         words.push(Text::of(word))?;
     }
     Ok(words)
+}
+
+fn fault_of_words(error: &io::Error) -> RunFault {
+    if error.kind() == ErrorKind::OutOfMemory {
+        RunFault::Memory
+    } else {
+        RunFault::Usage
+    }
 }
 
 // Says on standard error how the run ended. Where memory is refused for the text, nothing is said.
