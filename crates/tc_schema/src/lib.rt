@@ -1,0 +1,10 @@
+//! The schema that is inferred from documents: how many values of each kind stand at each place.
+#![tactic(auto)]
+
+mod counters;
+mod place;
+mod whole;
+
+pub use counters::Counts;
+pub use place::{Field, Node};
+pub use whole::Schema;

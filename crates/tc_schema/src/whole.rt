@@ -1,0 +1,81 @@
+//! A whole schema.
+
+ghost use Rattle.std.specs.Prelude.{◌≡◌, IfOk};
+ghost use Rattle.tc_model.specs.Counted.{nothing, IsCanonical, documents_of};
+ghost use Rattle.tc_schema.specs.Places.{place_counted, most_names};
+
+use crate::place::Node;
+use std::alloc::{AllocError, Global};
+use std::marker::Model;
+
+/// What documents have together: at each place how many values of each kind stand there. Nothing is kept that counts
+/// nothing, and the fields of a place ascend by the numbers of their names. Contracts see what is counted.
+#[derive(Drop, Debug)]
+pub struct Schema {
+    root: Node,
+}
+
+impl Model for Schema {
+    ghost use Rattle.tc_model.specs.Counted.{Counted, IsCanonical};
+    ghost use Rattle.tc_model.specs.CountedCode.{coded_counted};
+    ghost use Rattle.tc_schema.specs.Places.{place_counted, most_names};
+
+    ghost Value = { Counted };
+
+    ghost coded = { coded_counted };
+
+    ghost view = { λ a. place_counted a.root };
+
+    ghost invariant = { λ a. IsCanonical most_names (place_counted a.root) };
+}
+
+impl Schema {
+    /// The schema of no document. Takes no memory.
+    pub fn empty(alloc: Global) -> Schema
+        ensures { result ≡ nothing }
+    {
+        Schema {
+            root: Node::new(alloc),
+        }
+    }
+
+    /// The schema of a root place. Takes no memory.
+    pub fn of(root: Node) -> Schema
+        requires { IsCanonical most_names (place_counted root) }
+        ensures { result ≡ place_counted root }
+    {
+        Schema { root }
+    }
+
+    /// The root place, borrowed.
+    pub fn root(&self) -> &Node
+        ensures counted { place_counted result.now ≡ self.now }
+        ensures canonical { IsCanonical most_names self.now }
+    {
+        &self.root
+    }
+
+    /// The root place. Takes no memory.
+    pub fn into_root(self) -> Node
+        ensures counted { place_counted result ≡ self }
+        ensures canonical { IsCanonical most_names self }
+    {
+        self.root
+    }
+
+    /// How many documents are counted.
+    pub fn documents(&self) -> u64
+        ensures { result ≡ documents_of self.now }
+    {
+        self.root.counts.total()
+    }
+
+    /// The same schema in memory of its own. Errs only for want of memory.
+    pub fn copy(&self, alloc: Global) -> Result<Schema, AllocError>
+        ensures { IfOk result (λ copied. copied ≡ self.now) }
+    {
+        Ok(Schema {
+            root: self.root.copy(alloc)?,
+        })
+    }
+}
