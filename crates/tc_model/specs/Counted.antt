@@ -108,3 +108,17 @@ abbrev mutual
 -- what is counted are objects alone
 abbrev pub CountsObjects : Counted → Type 0
 CountsObjects d = documents_of d ≡ (counters_of d).objects
+
+-- fields ascend by number, at every place
+abbrev mutual
+  pub IsOrdered : Counted → Type 0
+  IsOrdered (counted c b fs) = IsBelowOrdered b × AreFieldsOrdered 0 fs
+
+  pub IsBelowOrdered : Below → Type 0
+  IsBelowOrdered no_item = Unit {0}
+  IsBelowOrdered (an_item d) = IsOrdered d
+
+  -- the first number is at least this low
+  pub AreFieldsOrdered : ℕ → Fields → Type 0
+  AreFieldsOrdered low no_fields = Unit {0}
+  AreFieldsOrdered low (a_field n d fs) = (low ≤ n) × IsOrdered d × AreFieldsOrdered (n + 1) fs

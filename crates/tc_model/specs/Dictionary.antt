@@ -5,4 +5,4 @@ use Rattle.tc_model.specs.Document.{Name}
 -- the number of a name
 abbrev pub number_of : List Name → Name → Option ℕ
 number_of [] name = None
-number_of (first ∷ names) name = if bytes_eq first name then Some 0 else option_map suc (number_of names name)
+number_of (first ∷ names) name = if bytes_eq name first then Some 0 else option_map suc (number_of names name)
