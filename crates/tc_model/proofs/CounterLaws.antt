@@ -30,3 +30,14 @@ counter-raised k n c t =
     (each_kind (λ t. counter (raised arrays n c) t ≡ counter c t + (if is_kind arrays t then n else 0)) (omega arith) (omega arith) (omega arith) (omega arith) (omega arith) (omega arith) t)
     (each_kind (λ t. counter (raised objects n c) t ≡ counter c t + (if is_kind objects t then n else 0)) (omega arith) (omega arith) (omega arith) (omega arith) (omega arith) (omega arith) t)
     k
+
+pub counter-lowered : (k : Kind) (n : ℕ) (c : Counters) → n ≤ counter c k → (t : Kind) → counter (lowered k n c) t + (if is_kind k t then n else 0) ≡ counter c t
+counter-lowered k n c enough t =
+    each_kind (λ k. n ≤ counter c k → counter (lowered k n c) t + (if is_kind k t then n else 0) ≡ counter c t)
+    (λ h. each_kind (λ t. counter (lowered (scalar null_kind) n c) t + (if is_kind (scalar null_kind) t then n else 0) ≡ counter c t) (omega arith) (omega arith) (omega arith) (omega arith) (omega arith) (omega arith) t)
+    (λ h. each_kind (λ t. counter (lowered (scalar boolean_kind) n c) t + (if is_kind (scalar boolean_kind) t then n else 0) ≡ counter c t) (omega arith) (omega arith) (omega arith) (omega arith) (omega arith) (omega arith) t)
+    (λ h. each_kind (λ t. counter (lowered (scalar integer_kind) n c) t + (if is_kind (scalar integer_kind) t then n else 0) ≡ counter c t) (omega arith) (omega arith) (omega arith) (omega arith) (omega arith) (omega arith) t)
+    (λ h. each_kind (λ t. counter (lowered (scalar text_kind) n c) t + (if is_kind (scalar text_kind) t then n else 0) ≡ counter c t) (omega arith) (omega arith) (omega arith) (omega arith) (omega arith) (omega arith) t)
+    (λ h. each_kind (λ t. counter (lowered arrays n c) t + (if is_kind arrays t then n else 0) ≡ counter c t) (omega arith) (omega arith) (omega arith) (omega arith) (omega arith) (omega arith) t)
+    (λ h. each_kind (λ t. counter (lowered objects n c) t + (if is_kind objects t then n else 0) ≡ counter c t) (omega arith) (omega arith) (omega arith) (omega arith) (omega arith) (omega arith) t)
+    k enough

@@ -16,3 +16,4 @@ pub mod SchemaText
 pub mod Stands
 pub mod Added
 pub mod CountedCode
+pub mod Fits

@@ -1,1 +1,2 @@
 pub mod PlaceViews
+pub mod PlacesOfFields

@@ -3,8 +3,10 @@
 
 mod counters;
 mod place;
+mod search;
 mod whole;
 
 pub use counters::Counts;
 pub use place::{Field, Node};
+pub use search::search_fields;
 pub use whole::Schema;
