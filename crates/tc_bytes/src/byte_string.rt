@@ -2,7 +2,8 @@
 
 ghost use Rattle.std.specs.Prelude.{◌≡◌, IfOk};
 
-use std::alloc::{AllocError, Global};
+use crate::Memory;
+use std::alloc::Global;
 use std::marker::Model;
 
 /// A byte string of any length. Contracts see it as the list of its bytes.
@@ -42,7 +43,7 @@ impl Bytes {
     }
 
     /// The same bytes in memory of their own. Errs only for want of memory.
-    pub fn copy(&self, alloc: Global) -> Result<Bytes, AllocError>
+    pub fn copy(&self, alloc: Global) -> Result<Bytes, Memory>
         ensures same { IfOk result (λ copied. copied ≡ self.now) }
     {
         Ok(Bytes {

@@ -1,5 +1,5 @@
 -- What a run answers. Lines are collected into windows, and the replies of a window are written together.
-use Rattle.std.specs.Prelude.{ℕ, List, [], ◌∷◌, ◌++◌, length, sum_by, Bool, true, false, ◌||◌, nat_le, if◌then◌else◌}
+use Rattle.std.specs.Prelude.{◌≡◌, ℕ, List, [], ◌∷◌, ◌++◌, length, map, fold, sum_by, Bool, true, false, ◌||◌, nat_le, if◌then◌else◌}
 use Rattle.tc_model.specs.Lines.{lines_of, whole_lines}
 use Rattle.tc_model.specs.Request.{Request, upsert, delete, get, query, flush, schema, scan, collect, refused, max_line, request_of}
 use Rattle.tc_model.specs.Store.{Pairs, after}
@@ -7,25 +7,38 @@ use Rattle.tc_model.specs.Reply.{reply_to, reply_line}
 
 -- ---- replies
 
--- the reply lines to lines, over a store
-abbrev pub replies : List (List ℕ) → Pairs → List ℕ
-replies [] ps = []
-replies (line ∷ lines) ps = reply_line (reply_to (request_of line) ps) ++ replies lines (after (request_of line) ps)
+-- the reply lines to requests, over a store
+abbrev pub answers : List Request → Pairs → List ℕ
+answers [] ps = []
+answers (r ∷ rs) ps = reply_line (reply_to r ps) ++ answers rs (after r ps)
 
--- what lines leave
-abbrev pub after_lines : List (List ℕ) → Pairs → Pairs
-after_lines [] ps = ps
-after_lines (line ∷ lines) ps = after_lines lines (after (request_of line) ps)
+-- what requests leave
+abbrev pub after_all : List Request → Pairs → Pairs
+after_all rs ps = fold (λ qs r. after r qs) ps rs
+
+-- what is written for lines, from an empty store
+abbrev pub output_of_lines : List (List ℕ) → List ℕ
+output_of_lines lines = answers (map request_of lines) []
 
 -- what is written for an input, from an empty store
 abbrev pub output_of : List ℕ → List ℕ
-output_of input = replies (lines_of input) []
+output_of input = output_of_lines (lines_of input)
 
 -- ---- windows
+
+-- the first list goes on where the second ends
+pub record BeginsWith {X : Type 0} (whole front : List X) : Type 0 where
+  pub more : List X
+  pub goes_on : whole ≡ front ++ more
 
 -- lines that are answered together
 abbrev pub Window : Type 0
 Window = List (List ℕ)
+
+-- windows that have closed, and the one that is open, which may have no line yet
+pub record Windows : Type 0 where
+  pub closed : List Window
+  pub open_lines : Window
 
 -- bytes of lines that close a window, at least
 abbrev pub max_window : ℕ
@@ -48,31 +61,39 @@ is_control (query ask) = false
 is_control (refused r) = false
 
 -- a window closes at this many lines, or at this many bytes
-abbrev pub is_closed : ℕ → Window → Bool
-is_closed limit window = nat_le limit (length window) || nat_le max_window (sum_by line_size window)
+abbrev pub is_full : ℕ → Window → Bool
+is_full limit window = nat_le limit (length window) || nat_le max_window (sum_by line_size window)
 
 -- a window, where it has a line
 abbrev pub unless_empty : Window → List Window
 unless_empty [] = []
 unless_empty (line ∷ lines) = (line ∷ lines) ∷ []
 
--- The windows that lines close, behind an open one, and the window that they leave open.
-abbrev pub cut : ℕ → Window → List (List ℕ) → List Window × Window
-cut limit window [] = ([], window)
-cut limit window (line ∷ lines) =
-    if is_control (request_of line)
-    then (let more = cut limit [] lines in (unless_empty window ++ (line ∷ []) ∷ more.0, more.1))
-    else (if is_closed limit (window ++ line ∷ [])
-    then (let more = cut limit [] lines in ((window ++ line ∷ []) ∷ more.0, more.1))
-    else cut limit (window ++ line ∷ []) lines)
+-- the windows when the open one has got a line
+abbrev pub with_open : ℕ → List Window → Window → Windows
+with_open limit closed window =
+    if is_full limit window
+    then record { closed = closed ++ window ∷ []; open_lines = [] }
+    else record { closed = closed; open_lines = window }
 
--- the windows of which the last line, with its line feed, is in the bytes
+-- the windows when a further line has come
+abbrev pub with_line : ℕ → Windows → List ℕ → Windows
+with_line limit ws line =
+    if is_control (request_of line)
+    then record { closed = ws.closed ++ unless_empty ws.open_lines ++ (line ∷ []) ∷ []; open_lines = [] }
+    else with_open limit ws.closed (ws.open_lines ++ line ∷ [])
+
+-- the windows of lines, each of at most this many lines
+abbrev pub windows_of : ℕ → List (List ℕ) → Windows
+windows_of limit lines = fold (with_line limit) (record { closed = []; open_lines = [] }) lines
+
+-- the windows that closed among the lines whose line feed is in the bytes
 abbrev pub closed_windows : ℕ → List ℕ → List Window
-closed_windows limit bytes = (cut limit [] (whole_lines bytes)).0
+closed_windows limit bytes = (windows_of limit (whole_lines bytes)).closed
 
 -- the windows of a whole input
 abbrev pub windows : ℕ → List ℕ → List Window
-windows limit input = let parts = cut limit [] (lines_of input) in parts.0 ++ unless_empty parts.1
+windows limit input = let ws = windows_of limit (lines_of input) in ws.closed ++ unless_empty ws.open_lines
 
 -- the lines of windows
 abbrev pub lines_in : List Window → List (List ℕ)
@@ -81,4 +102,4 @@ lines_in (window ∷ more) = window ++ lines_in more
 
 -- what is written for windows, from an empty store
 abbrev pub output_of_windows : List Window → List ℕ
-output_of_windows ws = replies (lines_in ws) []
+output_of_windows ws = output_of_lines (lines_in ws)

@@ -10,19 +10,19 @@ Pairs = List (ℕ × Document)
 -- the document of a key
 abbrev pub stored : ℕ → Pairs → Option Document
 stored n [] = None
-stored n (p ∷ ps) = if p.0 == n then Some p.1 else stored n ps
+stored n (p ∷ ps) = if n == p.0 then Some p.1 else stored n ps
 
 -- the pairs with this document at a key
 abbrev pub with_pair : ℕ → Document → Pairs → Pairs
 with_pair n d [] = (n, d) ∷ []
 with_pair n d (p ∷ ps) =
     if nat_lt n p.0 then (n, d) ∷ p ∷ ps
-    else (if p.0 == n then (n, d) ∷ ps else p ∷ with_pair n d ps)
+    else (if n == p.0 then (p.0, d) ∷ ps else p ∷ with_pair n d ps)
 
 -- the pairs without a key
 abbrev pub without_key : ℕ → Pairs → Pairs
 without_key n [] = []
-without_key n (p ∷ ps) = if p.0 == n then ps else p ∷ without_key n ps
+without_key n (p ∷ ps) = if n == p.0 then ps else p ∷ without_key n ps
 
 -- what a request leaves
 abbrev pub after : Request → Pairs → Pairs

@@ -1,5 +1,5 @@
 -- What a list of documents holds has fewer values than the list.
-use Rattle.std.specs.Prelude.{ℕ, ◌+◌, ◌≤◌, List, [], ◌∷◌, map}
+use Rattle.std.specs.Prelude.{◌≤◌, List, [], ◌∷◌, map}
 use Rattle.std.proofs.Common.{arith}
 use denote.Param.Weighed.{most}
 use Rattle.tc_value.specs.TreeSize.{tree_size, trees_size, labelled_size}

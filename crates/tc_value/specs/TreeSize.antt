@@ -1,5 +1,5 @@
 -- How many values a tree has: the measure by which recursions over documents end.
-use Rattle.std.specs.Prelude.{ℕ, ◌+◌, List, [], ◌∷◌}
+use Rattle.std.specs.Prelude.{ℕ, ◌+◌, List}
 use Rattle.tc_model.specs.Tree.{Tree, leaf, array, object, Items, no_items, item, Members, no_members, member, items_of, members_of}
 
 abbrev mutual

@@ -4,6 +4,11 @@ ghost use Rattle.std.specs.Prelude.{◌≡◌, map};
 ghost use Rattle.tc_model.specs.Document.{IsAscending};
 ghost use Rattle.tc_value.specs.Meaning.{tree_of, member_of};
 
+mod copying;
+mod depths;
+mod equality;
+mod shaping;
+
 use crate::names::Text;
 use std::marker::Model;
 

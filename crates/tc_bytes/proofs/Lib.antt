@@ -1,0 +1,4 @@
+pub mod Codecs
+pub mod Fields
+pub mod Lists
+pub mod Whole

@@ -1,0 +1,3 @@
+pub mod FormLemmas
+pub mod KeyLemmas
+pub mod Utf8Lemmas

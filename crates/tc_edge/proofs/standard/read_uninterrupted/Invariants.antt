@@ -1,0 +1,6 @@
+-- Interrupted reads took no byte.
+use Rattle.std.specs.Io.KnownBytes.{Keeps}
+use Rattle.tc_edge.proofs.standard.read_uninterrupted.Given as goal
+
+abbrev pub invariant-loop : goal.invariant-loop
+invariant-loop g l = Keeps (g.R.Read.remaining l.initial.reader) (g.R.Read.remaining l.reader)

@@ -1,0 +1,13 @@
+//! Bytes that come in and go out: the traits of sources and sinks, and those in memory and of std.
+#![tactic(auto)]
+
+mod memory;
+mod standard;
+mod streams;
+
+pub use memory::{MemSink, MemSource};
+pub use standard::{StdSink, StdSource};
+pub use streams::{EdgeFault, Sink, Source, WriteFault, write_all};
+
+#[cfg(test)]
+mod tests;

@@ -1,0 +1,26 @@
+-- The tree that a shape is, and the shape of a document.
+use Rattle.tc_model.specs.Tree.{leaf, array, object, items_of, members_of, relabel}
+use Rattle.tc_model.specs.Document.{Name, Document, ShapeTree, scalar_kind, null_kind, boolean_kind, integer_kind, text_kind}
+use Rattle.tc_value.specs.declared.shape_tree.Shape.{Shape}
+use Rattle.tc_value.specs.declared.shape_tree.Shape.TheVariants.{Null, Bool, Int, Text, Array, Object}
+use Rattle.tc_value.specs.declared.shape_tree.ShapeMember.{ShapeMember}
+
+abbrev pub shape_tree : Shape → ShapeTree
+shape_tree Null = leaf null_kind
+shape_tree Bool = leaf boolean_kind
+shape_tree Int = leaf integer_kind
+shape_tree Text = leaf text_kind
+shape_tree (Array xs) = array (items_of xs)
+shape_tree (Object ms) = object (members_of ms)
+
+-- a member's shape, by its name and its tree
+abbrev pub shape_member : ShapeMember → Name × ShapeTree
+shape_member m = (m.name, shape_tree m.value)
+
+-- the shape of a document: the kinds of its scalars in their places
+abbrev pub shape_of : Document → ShapeTree
+shape_of d = relabel (λ name. name) scalar_kind d
+
+-- a member, with its value's shape
+abbrev pub member_shape : Name × Document → Name × ShapeTree
+member_shape m = (m.0, shape_of m.1)
