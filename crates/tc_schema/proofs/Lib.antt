@@ -1,2 +1,3 @@
 pub mod PlaceViews
 pub mod PlacesOfFields
+pub mod WritingLaws

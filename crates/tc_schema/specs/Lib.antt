@@ -1,3 +1,4 @@
 pub mod Paths
 pub mod Places
 pub mod Search
+pub mod Writing

@@ -4,6 +4,7 @@ ghost use Rattle.std.specs.Prelude.{◌≡◌, ◌+◌, ◌<◌, ◌≤◌, ◌^
 ghost use Rattle.tc_model.specs.Counted.{no_counters, counter, total};
 ghost use Rattle.tc_model.specs.Added.{raised, lowered};
 ghost use Rattle.tc_schema.specs.Paths.{kind_meant};
+ghost use Rattle.tc_schema.specs.Writing.{one_if_some, kinds_in};
 
 use std::marker::Model;
 use tc_value::Kind;
@@ -71,6 +72,18 @@ impl Counts {
         }
     }
 
+    /// How many kinds have values.
+    pub fn kinds(&self) -> u8
+        ensures { result ≡ kinds_in self.now }
+    {
+        one_if_some(self.nulls)
+            + one_if_some(self.booleans)
+            + one_if_some(self.integers)
+            + one_if_some(self.texts)
+            + one_if_some(self.arrays)
+            + one_if_some(self.objects)
+    }
+
     /// So many more values of a kind.
     pub fn raise(&mut self, kind: Kind, by: u64)
         requires { total self.old + by < 2 ^ 64 }
@@ -114,4 +127,11 @@ impl Counts {
             objects: self.objects,
         }
     }
+}
+
+fn one_if_some(count: u64) -> u8
+    ensures counted { result ≡ one_if_some count }
+    ensures small { result ≤ 1 }
+{
+    if count == 0 { 0 } else { 1 }
 }

@@ -5,6 +5,7 @@ mod counters;
 mod place;
 mod search;
 mod whole;
+mod writing;
 
 pub use counters::Counts;
 pub use place::{Field, Node};

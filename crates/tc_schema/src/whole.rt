@@ -2,11 +2,15 @@
 
 ghost use Rattle.std.specs.Prelude.{◌≡◌, IfOk};
 ghost use Rattle.tc_model.specs.Counted.{nothing, IsCanonical, documents_of};
+ghost use Rattle.tc_model.specs.SchemaTree.{schema_tree};
+ghost use Rattle.tc_model.specs.SchemaBytes.{schema_bytes};
 ghost use Rattle.tc_schema.specs.Places.{place_counted, most_names};
 
 use crate::place::Node;
+use crate::writing::put_place;
 use std::alloc::{AllocError, Global};
 use std::marker::Model;
+use tc_bytes::{Bytes, Memory};
 
 /// What documents have together: at each place how many values of each kind stand there. Nothing is kept that counts
 /// nothing, and the fields of a place ascend by the numbers of their names. Contracts see what is counted.
@@ -77,5 +81,18 @@ impl Schema {
         Ok(Schema {
             root: self.root.copy(alloc)?,
         })
+    }
+
+    /// The schema's bytes. Errs only for want of memory.
+    pub fn to_bytes(&self, alloc: Global) -> Result<Bytes, Memory>
+        ensures { IfOk result (λ bytes. bytes ≡ schema_bytes (schema_tree self.now)) }
+    {
+        let mut out = Vec::new(alloc);
+        if self.root.counts.total() == 0 {
+            out.push(0)?;
+        } else {
+            put_place(&self.root, &mut out)?;
+        }
+        Ok(Bytes::of(out))
     }
 }
