@@ -1,3 +1,5 @@
 pub mod PlaceViews
 pub mod PlacesOfFields
 pub mod WritingLaws
+pub mod ValueLaws
+pub mod FieldViews

@@ -2,3 +2,4 @@ pub mod Paths
 pub mod Places
 pub mod Search
 pub mod Writing
+pub mod Values

@@ -2,8 +2,10 @@
 #![tactic(auto)]
 
 mod counters;
+mod paths;
 mod place;
 mod search;
+mod values;
 mod whole;
 mod writing;
 

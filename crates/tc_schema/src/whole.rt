@@ -1,16 +1,24 @@
 //! A whole schema.
 
 ghost use Rattle.std.specs.Prelude.{◌≡◌, IfOk};
-ghost use Rattle.tc_model.specs.Counted.{nothing, IsCanonical, documents_of};
+ghost use Rattle.tc_model.specs.Counted.{nothing, shows, IsCanonical, documents_of};
+ghost use Rattle.tc_model.specs.SchemaText.{tree_text};
+ghost use Rattle.serde_json.specs.View.{view};
+ghost use Rattle.tc_schema.specs.Paths.{path_meant, kind_meant};
 ghost use Rattle.tc_model.specs.SchemaTree.{schema_tree};
 ghost use Rattle.tc_model.specs.SchemaBytes.{schema_bytes};
 ghost use Rattle.tc_schema.specs.Places.{place_counted, most_names};
 
+use crate::paths::count_from;
 use crate::place::Node;
+use crate::values::value_of_place;
 use crate::writing::put_place;
+use serde_json::Value;
 use std::alloc::{AllocError, Global};
 use std::marker::Model;
 use tc_bytes::{Bytes, Memory};
+use tc_names::Names;
+use tc_value::{Kind, Step};
 
 /// What documents have together: at each place how many values of each kind stand there. Nothing is kept that counts
 /// nothing, and the fields of a place ascend by the numbers of their names. Contracts see what is counted.
@@ -74,6 +82,13 @@ impl Schema {
         self.root.counts.total()
     }
 
+    /// The counter for a kind at a path, or 0 where nothing is counted there. Takes no memory.
+    pub fn count_at(&self, names: &Names, path: &[Step], kind: Kind) -> u64
+        ensures { result ≡ shows names.now self.now (path_meant path.now) (kind_meant kind) }
+    {
+        count_from(&self.root, names, path, kind)
+    }
+
     /// The same schema in memory of its own. Errs only for want of memory.
     pub fn copy(&self, alloc: Global) -> Result<Schema, AllocError>
         ensures { IfOk result (λ copied. copied ≡ self.now) }
@@ -94,5 +109,15 @@ impl Schema {
             put_place(&self.root, &mut out)?;
         }
         Ok(Bytes::of(out))
+    }
+
+    /// The schema's text as a JSON value. A number without a name has the empty name. Errs only for want of memory.
+    pub fn value(&self, alloc: Global, names: &Names) -> Result<Value, Memory>
+        ensures { IfOk result (λ v. view v ≡ tree_text names.now (schema_tree self.now)) }
+    {
+        if self.root.counts.total() == 0 {
+            return Ok(Value::Null);
+        }
+        value_of_place(&self.root, names, alloc)
     }
 }
