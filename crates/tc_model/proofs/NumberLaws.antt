@@ -1,7 +1,10 @@
 -- The numbers of names.
-use Rattle.std.proofs.Common.{◌≡◌, ℕ, suc, ◌<◌, Bool, true, false, List, [], ◌∷◌, Option, Some, None, option_map, length, bytes_eq, slice_get, if◌then◌else◌, refl, sym, ap, subst, arith, IsTrue, is_some, unwrap_or}
+use Rattle.std.proofs.Common.{◌≡◌, ℕ, zero, suc, ◌<◌, Bool, true, false, List, [], ◌∷◌, Option, Some, None, option_map, length, bytes_eq, slice_get, if◌then◌else◌, refl, sym, ap, ◌∙◌, subst, arith, IsTrue, is_some, unwrap_or}
 use Rattle.std.proofs.lemmas.Bool.{false≢true}
 use Rattle.std.proofs.lemmas.Slice.Eq.{bytes_eq-Decides}
+use Rattle.std.proofs.lemmas.Cmp.{nat_list_eq_equiv}
+use Rattle.std.specs.List.{IsDistinct, AllByRecursion}
+use Rattle.tc_model.specs.SchemaText.{name_at}
 use Rattle.tc_model.specs.Document.{Name}
 use Rattle.tc_model.specs.Dictionary.{number_of}
 use Rattle.tc_model.specs.Added.{number}
@@ -43,3 +46,17 @@ numbered names name named = at (number_of names name) named
     at : (o : Option ℕ) → IsTrue (is_some o) → o ≡ Some (unwrap_or o 0)
     at None named = absurd (false≢true named)
     at (Some n) named = refl
+
+-- a name has the number of its place, where the names are distinct
+pub number_of_name_at : (names : List Name) (n : ℕ) → IsDistinct bytes_eq names → n < length names → number_of names (name_at names n) ≡ Some n
+unfolding IsDistinct
+number_of_name_at [] n distinct inside = absurd (omega arith)
+number_of_name_at (first ∷ names) zero distinct inside = rw ((bytes_eq-Decides first first).1 refl) refl
+number_of_name_at (first ∷ names) (suc n) distinct inside =
+    let later = number_of_name_at names n distinct.1 (omega arith) in
+    rw (apart names n (omega arith) distinct.0, later) refl
+  where
+    apart : (names : List Name) (n : ℕ) → n < length names → AllByRecursion (λ y. bytes_eq first y ≡ false) names → bytes_eq (name_at names n) first ≡ false
+    apart [] n inside all = absurd (omega arith)
+    apart (y ∷ names) zero inside all = nat_list_eq_equiv.symm y first ∙ all.0
+    apart (y ∷ names) (suc n) inside all = apart names n (omega arith) all.1
