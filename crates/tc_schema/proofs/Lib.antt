@@ -3,3 +3,4 @@ pub mod PlacesOfFields
 pub mod WritingLaws
 pub mod ValueLaws
 pub mod FieldViews
+pub mod ReadingLaws

@@ -3,3 +3,4 @@ pub mod Places
 pub mod Search
 pub mod Writing
 pub mod Values
+pub mod Reading

@@ -12,4 +12,4 @@ mod writing;
 pub use counters::Counts;
 pub use place::{Field, Node};
 pub use search::search_fields;
-pub use whole::Schema;
+pub use whole::{Schema, schemas_agree};

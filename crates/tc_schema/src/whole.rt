@@ -1,8 +1,10 @@
 //! A whole schema.
 
-ghost use Rattle.std.specs.Prelude.{◌≡◌, IfOk};
+ghost use Rattle.std.specs.Prelude.{◌≡◌, List, IfOk};
 ghost use Rattle.tc_model.specs.Counted.{nothing, shows, IsCanonical, documents_of};
-ghost use Rattle.tc_model.specs.SchemaText.{tree_text};
+ghost use Rattle.tc_model.specs.SchemaText.{tree_text, schema_text};
+ghost use Rattle.tc_model.specs.Document.{Document};
+ghost use Rattle.tc_model.specs.Stands.{StandsFor};
 ghost use Rattle.serde_json.specs.View.{view};
 ghost use Rattle.tc_schema.specs.Paths.{path_meant, kind_meant};
 ghost use Rattle.tc_model.specs.SchemaTree.{schema_tree};
@@ -113,6 +115,13 @@ impl Schema {
 
     /// The schema's text as a JSON value. A number without a name has the empty name. Errs only for want of memory.
     pub fn value(&self, alloc: Global, names: &Names) -> Result<Value, Memory>
+        ensures tree { IfOk result (λ v. view v ≡ tree_text names.now (schema_tree self.now)) }
+        ensures documents { IfOk result (λ v. (docs : List Document) → StandsFor names.now self.now docs → view v ≡ schema_text docs) }
+    {
+        self.tree_value(alloc, names)
+    }
+
+    fn tree_value(&self, alloc: Global, names: &Names) -> Result<Value, Memory>
         ensures { IfOk result (λ v. view v ≡ tree_text names.now (schema_tree self.now)) }
     {
         if self.root.counts.total() == 0 {
@@ -120,4 +129,12 @@ impl Schema {
         }
         value_of_place(&self.root, names, alloc)
     }
+}
+
+/// Two schemas of the same documents are one schema where they have one dictionary, and have one text in any case. The
+/// text is the tree with the name in place of each number and with fields in the order of their names.
+pub fn schemas_agree(one: &Schema, names: &Names, other: &Schema, other_names: &Names)
+    ensures same { (docs : List Document) → names.now ≡ other_names.now → StandsFor names.now one.now docs → StandsFor other_names.now other.now docs → one.now ≡ other.now }
+    ensures named { (docs : List Document) → StandsFor names.now one.now docs → StandsFor other_names.now other.now docs → tree_text names.now (schema_tree one.now) ≡ tree_text other_names.now (schema_tree other.now) }
+{
 }
