@@ -4,3 +4,4 @@ pub mod WritingLaws
 pub mod ValueLaws
 pub mod FieldViews
 pub mod ReadingLaws
+pub mod PlaceCodec

@@ -2,7 +2,7 @@
 use Rattle.std.specs.Prelude.{◌≡◌, ◌<◌, ◌≤◌, ℕ, zero, suc, ◌+◌, ◌-◌, ◌^◌, ◌==◌, ◌&&◌, nat_lt, Bool, true, false, List, [], ◌∷◌, drop, length, Option, Some, None, if◌then◌else◌}
 use Rattle.std.specs.Int.{w32, w64}
 use Rattle.tc_bytes.specs.Reading.{Reader, ◌>>=◌, byte_at, number_at, whole}
-use Rattle.tc_model.specs.Counted.{Counters, total, Counted, counted, Below, no_item, an_item, Fields, no_fields, a_field, nothing, documents_of}
+use Rattle.tc_model.specs.Counted.{Counters, no_counters, total, Counted, counted, Below, no_item, an_item, Fields, no_fields, a_field, nothing, documents_of}
 use Rattle.tc_schema.specs.Writing.{one_if_some}
 
 -- whether a kind of this tag stands here, where so many kinds are to come
@@ -39,17 +39,25 @@ abbrev pub object_at : Reader Counted → ℕ → ℕ → Reader (ℕ × Fields)
 object_at read limit left bytes =
     if starts 6 left bytes then (counter_at (drop 1 bytes) >>= λ n. number_at w32 n.1 >>= λ many. fields_at read limit many.0 0 many.1 >>= λ fs. Some ((n.0, fs.0), fs.1)) else Some ((0, no_fields), bytes)
 
--- so many kinds by ascending tag, which together are fewer than 2^64
+-- So many kinds by ascending tag, which together are fewer than 2^64: each kind after those before it.
+abbrev pub objects_at : Reader Counted → ℕ → ℕ → Counters → Below → Reader Counted
+objects_at read limit left c b bytes =
+    object_at read limit left bytes >>= λ f. if left - one_if_some f.0.0 == 0 && nat_lt (total (record c { objects = f.0.0 })) (2 ^ 64) then Some (counted (record c { objects = f.0.0 }) b f.0.1, f.1) else None
+
+abbrev pub arrays_at : Reader Counted → ℕ → ℕ → Counters → Reader Counted
+arrays_at read limit left c bytes = array_at read left bytes >>= λ e. objects_at read limit (left - one_if_some e.0.0) (record c { arrays = e.0.0 }) e.0.1 e.1
+
+abbrev pub texts_at : Reader Counted → ℕ → ℕ → Counters → Reader Counted
+texts_at read limit left c bytes = scalar_at 4 left bytes >>= λ d. arrays_at read limit (left - one_if_some d.0) (record c { texts = d.0 }) d.1
+
+abbrev pub integers_at : Reader Counted → ℕ → ℕ → Counters → Reader Counted
+integers_at read limit left c bytes = scalar_at 3 left bytes >>= λ d. texts_at read limit (left - one_if_some d.0) (record c { integers = d.0 }) d.1
+
+abbrev pub booleans_at : Reader Counted → ℕ → ℕ → Counters → Reader Counted
+booleans_at read limit left c bytes = scalar_at 2 left bytes >>= λ d. integers_at read limit (left - one_if_some d.0) (record c { booleans = d.0 }) d.1
+
 abbrev pub kinds_at : Reader Counted → ℕ → ℕ → Reader Counted
-kinds_at read limit left bytes =
-    scalar_at 1 left bytes >>= λ a. let after_a = left - one_if_some a.0 in
-    scalar_at 2 after_a a.1 >>= λ b. let after_b = after_a - one_if_some b.0 in
-    scalar_at 3 after_b b.1 >>= λ c. let after_c = after_b - one_if_some c.0 in
-    scalar_at 4 after_c c.1 >>= λ d. let after_d = after_c - one_if_some d.0 in
-    array_at read after_d d.1 >>= λ e. let after_e = after_d - one_if_some e.0.0 in
-    object_at read limit after_e e.1 >>= λ f. let after_f = after_e - one_if_some f.0.0 in
-    let c : Counters = record { nulls = a.0; booleans = b.0; integers = c.0; texts = d.0; arrays = e.0.0; objects = f.0.0 } in
-    if after_f == 0 && nat_lt (total c) (2 ^ 64) then Some (counted c e.0.1 f.0.1, f.1) else None
+kinds_at read limit left bytes = scalar_at 1 left bytes >>= λ d. booleans_at read limit (left - one_if_some d.0) (record no_counters { nulls = d.0 }) d.1
 
 -- a union has at least two kinds and their sum as its counter
 abbrev pub union_at : Reader Counted → ℕ → Reader Counted
