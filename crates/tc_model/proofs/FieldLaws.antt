@@ -76,3 +76,18 @@ field_ordered low n (a_field k e fs) order = choose n k e fs order.1 (field_orde
 pub held_canonical : (limit : ℕ) (b : Below) → IsBelowCanonical limit b → IsCanonical limit (held b)
 held_canonical limit no_item canonical = (λ _. refl, λ _. refl, tt, tt)
 held_canonical limit (an_item d) canonical = canonical.1
+
+-- ---- a higher limit
+
+mutual
+  pub canonical_below : (limit more : ℕ) (d : Counted) → limit ≤ more → IsCanonical limit d → IsCanonical more d
+  canonical_below limit more (counted c b fs) le canonical = (canonical.0, canonical.1, below_below limit more b le canonical.2, fields_below limit more 0 fs le canonical.3)
+
+  below_below : (limit more : ℕ) (b : Below) → limit ≤ more → IsBelowCanonical limit b → IsBelowCanonical more b
+  below_below limit more no_item le canonical = tt
+  below_below limit more (an_item d) le canonical = (canonical.0, canonical_below limit more d le canonical.1)
+
+  fields_below : (limit more low : ℕ) (fs : Fields) → limit ≤ more → AreFieldsCanonical limit low fs → AreFieldsCanonical more low fs
+  fields_below limit more low no_fields le canonical = tt
+  fields_below limit more low (a_field n d fs) le canonical =
+      (canonical.0, omega (arith, canonical.1), canonical.2, canonical_below limit more d le canonical.3, fields_below limit more (n + 1) fs le canonical.4)

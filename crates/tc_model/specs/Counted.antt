@@ -1,6 +1,6 @@
 -- What a schema counts: at each place how many values of each kind stand there, what the items of its arrays are, and
 -- what the members of its objects are, by the numbers of their names. A place with several kinds is a union.
-use Rattle.std.specs.Prelude.{◌≡◌, ℕ, ◌+◌, ◌<◌, ◌≤◌, ◌==◌, nat_lt, List, [], ◌∷◌, Option, Some, None, if◌then◌else◌}
+use Rattle.std.specs.Prelude.{◌≡◌, ℕ, ◌+◌, ◌^◌, ◌<◌, ◌≤◌, ◌==◌, nat_lt, List, [], ◌∷◌, Option, Some, None, if◌then◌else◌}
 use Rattle.tc_model.specs.Document.{Name, null_kind, boolean_kind, integer_kind, text_kind}
 use Rattle.tc_model.specs.Dictionary.{number_of}
 use Rattle.tc_model.specs.Occurrences.{Kind, scalar, arrays, objects, field, each_item, Path}
@@ -108,6 +108,19 @@ abbrev mutual
 -- what is counted are objects alone
 abbrev pub CountsObjects : Counted → Type 0
 CountsObjects d = documents_of d ≡ (counters_of d).objects
+
+-- each place counts fewer than 2^64 values
+abbrev mutual
+  pub HasSmallCounters : Counted → Type 0
+  HasSmallCounters (counted c b fs) = (total c < 2 ^ 64) × BelowHasSmallCounters b × FieldsHaveSmallCounters fs
+
+  pub BelowHasSmallCounters : Below → Type 0
+  BelowHasSmallCounters no_item = Unit {0}
+  BelowHasSmallCounters (an_item d) = HasSmallCounters d
+
+  pub FieldsHaveSmallCounters : Fields → Type 0
+  FieldsHaveSmallCounters no_fields = Unit {0}
+  FieldsHaveSmallCounters (a_field n d fs) = HasSmallCounters d × FieldsHaveSmallCounters fs
 
 -- fields ascend by number, at every place
 abbrev mutual

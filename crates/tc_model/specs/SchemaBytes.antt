@@ -1,8 +1,9 @@
 -- The bytes of a schema, and which schemas have bytes.
-use Rattle.std.specs.Prelude.{◌≡◌, ℕ, ◌+◌, ◌<◌, ◌^◌, List, [], ◌∷◌, ◌++◌, Some, None}
+use Rattle.std.specs.Prelude.{ℕ, ◌+◌, List, [], ◌∷◌, ◌++◌, Some, None}
 use Rattle.std.specs.Int.{w32, w64, to_be_bytes}
 use Rattle.tc_model.specs.Occurrences.{scalar_tag}
-use Rattle.tc_model.specs.SchemaTree.{SchemaNode, scalar_node, array_node, object_node, union_node, ItemNode, no_item_node, an_item_node, FieldNodes, no_field_nodes, a_field_node, KindNodes, no_kind_nodes, a_kind_node, SchemaTree, node_tag, kinds_count, IsCanonicalTree}
+use Rattle.tc_model.specs.Counted.{Counted, IsCanonical, CountsObjects, HasSmallCounters}
+use Rattle.tc_model.specs.SchemaTree.{SchemaNode, scalar_node, array_node, object_node, union_node, ItemNode, no_item_node, an_item_node, FieldNodes, no_field_nodes, a_field_node, KindNodes, no_kind_nodes, a_kind_node, SchemaTree, kinds_count}
 
 abbrev pub fields_count : FieldNodes → ℕ
 fields_count no_field_nodes = 0
@@ -34,37 +35,9 @@ abbrev pub schema_bytes : SchemaTree → List ℕ
 schema_bytes None = 0 ∷ []
 schema_bytes (Some t) = node_bytes t
 
--- each counter has 64 bits
-abbrev mutual
-  pub HasSmallCounters : SchemaNode → Type 0
-  HasSmallCounters (scalar_node k n) = n < 2 ^ 64
-  HasSmallCounters (array_node n i) = (n < 2 ^ 64) × ItemHasSmallCounters i
-  HasSmallCounters (object_node n fs) = (n < 2 ^ 64) × FieldsHaveSmallCounters fs
-  HasSmallCounters (union_node n ks) = (n < 2 ^ 64) × KindsHaveSmallCounters ks
-
-  pub ItemHasSmallCounters : ItemNode → Type 0
-  ItemHasSmallCounters no_item_node = Unit {0}
-  ItemHasSmallCounters (an_item_node t) = HasSmallCounters t
-
-  pub FieldsHaveSmallCounters : FieldNodes → Type 0
-  FieldsHaveSmallCounters no_field_nodes = Unit {0}
-  FieldsHaveSmallCounters (a_field_node n t fs) = HasSmallCounters t × FieldsHaveSmallCounters fs
-
-  pub KindsHaveSmallCounters : KindNodes → Type 0
-  KindsHaveSmallCounters no_kind_nodes = Unit {0}
-  KindsHaveSmallCounters (a_kind_node t ks) = HasSmallCounters t × KindsHaveSmallCounters ks
-
-abbrev pub IsSmall : SchemaTree → Type 0
-IsSmall None = Unit {0}
-IsSmall (Some t) = HasSmallCounters t
-
--- documents are objects, so a root is one
-abbrev pub IsOfObjects : SchemaTree → Type 0
-IsOfObjects None = Unit {0}
-IsOfObjects (Some t) = node_tag t ≡ 6
-
--- the schemas that have bytes: canonical with numbers below the limit, of documents, and with counters of 64 bits
-pub record IsSchema (limit : ℕ) (tree : SchemaTree) : Type 0 where
-  pub canonical : IsCanonicalTree limit tree
-  pub of_objects : IsOfObjects tree
-  pub small : IsSmall tree
+-- the schemas that have bytes: in the one form with numbers below the limit, of documents, which are objects, and with
+-- counters of 64 bits
+pub record IsSchema (limit : ℕ) (d : Counted) : Type 0 where
+  pub canonical : IsCanonical limit d
+  pub of_objects : CountsObjects d
+  pub small : HasSmallCounters d

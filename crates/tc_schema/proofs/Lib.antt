@@ -5,3 +5,5 @@ pub mod ValueLaws
 pub mod FieldViews
 pub mod ReadingLaws
 pub mod PlaceCodec
+pub mod SchemaCodec
+pub mod ReadingSteps

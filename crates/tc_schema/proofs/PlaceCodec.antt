@@ -1,5 +1,5 @@
 -- A place is read from its bytes alone.
-use Rattle.std.proofs.Common.{◌≡◌, ◌≢◌, ℕ, zero, suc, ◌+◌, ◌<◌, ◌≤◌, ◌^◌, ◌==◌, nat_lt, Bool, true, false, List, [], ◌∷◌, ◌++◌, drop, length, Some, None, if◌then◌else◌, refl, sym, ap, ◌∙◌, subst, arith, append_assoc}
+use Rattle.std.proofs.Common.{◌≡◌, ℕ, zero, suc, ◌<◌, ◌≤◌, ◌^◌, ◌==◌, nat_lt, Bool, true, false, List, [], ◌∷◌, ◌++◌, drop, Some, None, if◌then◌else◌, refl, sym, ap, ◌∙◌, subst, arith, append_assoc}
 use Rattle.std.specs.Int.{w64, to_be_bytes}
 use Rattle.std.proofs.lemmas.Bool.{false≢true}
 use Rattle.std.proofs.lemmas.Bool.Decides.{Decides-eqb, Decides-ltb, nat_tests}
@@ -8,16 +8,15 @@ use Rattle.tc_bytes.specs.Reading.{Reader, ◌>>=◌, byte_at, number_at}
 use Rattle.tc_bytes.specs.Codec.{IsBytes, IsCodec}
 use Rattle.tc_bytes.proofs.Codecs.{then_parts}
 use Rattle.tc_bytes.proofs.Fields.{number_codec_64, byte_codec}
-use Rattle.tc_model.specs.Counted.{Counters, no_counters, total, Counted, counted, Below, Fields, documents_of, counters_of}
+use Rattle.tc_model.specs.Counted.{Counters, no_counters, total, Counted, counted, Below, Fields, documents_of}
 use Rattle.tc_model.specs.SchemaTree.{node_of}
 use Rattle.tc_model.specs.SchemaBytes.{node_bytes}
-use Rattle.tc_schema.specs.Writing.{kinds_in, tagged, scalar_part, array_part, object_part, union_part, scalar_parts}
-use Rattle.tc_schema.specs.Reading.{starts, kinds_at, union_at, place_at, BelowFits, FieldsFit, PlaceParts, PlaceFits}
+use Rattle.tc_schema.specs.Writing.{kinds_in, tagged, scalar_part, array_part, object_part, scalar_parts}
+use Rattle.tc_schema.specs.Reading.{starts, kinds_at, union_at, place_at, PlaceParts, PlaceFits}
 use Rattle.tc_schema.proofs.WritingLaws.{place_bytes}
-use Rattle.tc_schema.proofs.ReadingLaws.{started, starts_here, kinds_among, some_kind, From, kinds_found, kinds_again, skips_nulls, from_nulls, nulls_count}
+use Rattle.tc_schema.proofs.ReadingLaws.{started, kinds_among, some_kind, From, kinds_found, kinds_again, skips_nulls, from_nulls, nulls_count}
 
 module _ {P : Counted → Type 0} {read : Reader Counted} (codec : IsCodec read (λ d. node_bytes (node_of d)) P) (limit : ℕ) (few : limit < 2 ^ 32) where
-
   -- all kinds, one after the other
   kinds_bytes : (c : Counters) (b : Below) (fs : Fields) (rest : List ℕ) → from_nulls codec (counted c b fs) rest ≡ (scalar_parts c ++ (array_part c.arrays b ++ object_part c.objects fs)) ++ rest
   kinds_bytes c b fs rest = six (scalar_part 1 c.nulls) (scalar_part 2 c.booleans) (scalar_part 3 c.integers) (scalar_part 4 c.texts) (array_part c.arrays b) (object_part c.objects fs) rest
@@ -139,11 +138,29 @@ module _ {P : Counted → Type 0} {read : Reader Counted} (codec : IsCodec read 
           let one = is.0 refl in
           let count : nulls_count codec c ≡ 1 = omega (arith, one) in
           let no_union : starts 8 1 bytes ≡ false = ap (λ n. starts 8 n bytes) (sym count)
-                  ∙ skips_nulls codec 8 (counted c b fs) rest (λ h. absurd (omega (arith, h))) (λ h. absurd (omega (arith, h))) (λ h. absurd (omega (arith, h))) (λ h. absurd (omega (arith, h))) (λ h. absurd (omega (arith, h))) (λ h. absurd (omega (arith, h))) in
+          ∙ skips_nulls codec 8 (counted c b fs) rest (λ h. absurd (omega (arith, h))) (λ h. absurd (omega (arith, h))) (λ h. absurd (omega (arith, h))) (λ h. absurd (omega (arith, h))) (λ h. absurd (omega (arith, h))) (λ h. absurd (omega (arith, h))) in
           subst (λ x. ReadsAs x (counted c b fs, rest)) (one_place c b fs rest one) (rw no_union (kinds_read c b fs rest parts 1 (sym one)))
       by_kinds false is =
           let several : 2 ≤ kinds_in c = at_least (kinds_in c) (some_kind c parts.some) (λ one. false≢true (is.1 one)) in
           subst (λ x. ReadsAs x (counted c b fs, rest)) (union_place c b fs rest several) (union_again c b fs rest parts several)
+        where
+          at_least : (k : ℕ) → 0 < k → (k ≡ 1 → ⊥) → 2 ≤ k
+          at_least k some other = omega arith
+
+  -- its bytes are not those of the empty schema
+  not_empty : (d : Counted) (rest : List ℕ) → PartsOf d → starts 0 1 (node_bytes (node_of d) ++ rest) ≡ false
+  not_empty (counted c b fs) rest parts = by_kinds (kinds_in c == 1) (Decides-eqb (kinds_in c) 1)
+    where
+      by_kinds : (one : Bool) → (one ≡ true → kinds_in c ≡ 1) × (kinds_in c ≡ 1 → one ≡ true) → starts 0 1 (node_bytes (node_of (counted c b fs)) ++ rest) ≡ false
+      by_kinds true is =
+          let bytes = from_nulls codec (counted c b fs) rest in
+          let one = is.0 refl in
+          let count : nulls_count codec c ≡ 1 = omega (arith, one) in
+          subst (λ x. starts 0 1 x ≡ false) (one_place c b fs rest one) (ap (λ n. starts 0 n bytes) (sym count)
+          ∙ skips_nulls codec 0 (counted c b fs) rest (λ h. absurd (omega (arith, h))) (λ h. absurd (omega (arith, h))) (λ h. absurd (omega (arith, h))) (λ h. absurd (omega (arith, h))) (λ h. absurd (omega (arith, h))) (λ h. absurd (omega (arith, h))))
+      by_kinds false is =
+          let several : 2 ≤ kinds_in c = at_least (kinds_in c) (some_kind c parts.some) (λ one. false≢true (is.1 one)) in
+          subst (λ x. starts 0 1 x ≡ false) (union_place c b fs rest several) refl
         where
           at_least : (k : ℕ) → 0 < k → (k ≡ 1 → ⊥) → 2 ≤ k
           at_least k some other = omega arith
@@ -167,3 +184,7 @@ place_codec limit (suc levels) few =
       found = λ bytes d rest each gives. let here = place_found codec limit few bytes (d, rest) each gives in (here.0, here.1, parts_fit limit levels few codec d here.2);
       again = λ d rest fits. place_again codec limit few d rest (fits_parts limit levels few codec d fits);
     }
+
+pub no_place_is_empty : (limit levels : ℕ) (d : Counted) (rest : List ℕ) → limit < 2 ^ 32 → PlaceFits limit levels d → starts 0 1 (node_bytes (node_of d) ++ rest) ≡ false
+no_place_is_empty limit zero d rest few fits = absurd fits
+no_place_is_empty limit (suc levels) d rest few fits = let codec = place_codec limit levels few in not_empty codec limit few d rest (fits_parts limit levels few codec d fits)

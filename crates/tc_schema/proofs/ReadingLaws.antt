@@ -1,5 +1,5 @@
 -- What is read of a place is spelled so, and what is spelled so is read.
-use Rattle.std.proofs.Common.{◌≡◌, ◌≢◌, ℕ, zero, suc, ◌+◌, ◌-◌, ◌<◌, ◌≤◌, ◌^◌, ◌==◌, ◌&&◌, nat_lt, Bool, true, false, List, [], ◌∷◌, ◌++◌, drop, length, Option, Some, None, if◌then◌else◌, refl, sym, ap, ◌∙◌, subst, arith, append_assoc, append-nil}
+use Rattle.std.proofs.Common.{◌≡◌, ◌≢◌, ℕ, zero, suc, ◌+◌, ◌-◌, ◌<◌, ◌≤◌, ◌^◌, ◌==◌, ◌&&◌, nat_lt, Bool, true, false, List, [], ◌∷◌, ◌++◌, drop, Some, None, if◌then◌else◌, refl, sym, ap, ◌∙◌, subst, arith, append_assoc}
 use Rattle.std.specs.Int.{w32, w64, to_be_bytes}
 use Rattle.std.proofs.lemmas.Bool.{false≢true}
 use Rattle.std.proofs.lemmas.Bool.Decides.{Decides-eqb, Decides-ltb, nat_tests}
@@ -8,12 +8,11 @@ use Rattle.tc_bytes.specs.Reading.{Reader, ◌>>=◌, byte_at, number_at}
 use Rattle.tc_bytes.specs.Codec.{IsBytes, IsCodec}
 use Rattle.tc_bytes.proofs.Codecs.{then_parts}
 use Rattle.tc_bytes.proofs.Fields.{number_codec_32, number_codec_64, byte_codec}
-use Rattle.tc_model.specs.Counted.{Counters, no_counters, counters_of, below_of, total, Counted, counted, Below, no_item, an_item, Fields, no_fields, a_field, documents_of}
+use Rattle.tc_model.specs.Counted.{Counters, no_counters, counters_of, below_of, total, Counted, counted, Below, no_item, an_item, Fields, no_fields, a_field}
 use Rattle.tc_model.specs.SchemaTree.{node_of, item_node_of, field_nodes_of}
 use Rattle.tc_model.specs.SchemaBytes.{node_bytes, item_bytes, fields_bytes, fields_count}
-use Rattle.tc_schema.specs.Writing.{one_if_some, kinds_in, tagged, scalar_part, array_part, object_part, union_part, scalar_parts}
-use Rattle.tc_schema.specs.Reading.{starts, counter_at, scalar_at, item_at, array_at, fields_at, object_at, objects_at, arrays_at, texts_at, integers_at, booleans_at, kinds_at, union_at, place_at, BelowFits, FieldsFit, PlaceParts, PlaceFits}
-use Rattle.tc_schema.proofs.WritingLaws.{place_bytes}
+use Rattle.tc_schema.specs.Writing.{one_if_some, kinds_in, tagged, scalar_part, array_part, object_part}
+use Rattle.tc_schema.specs.Reading.{starts, counter_at, scalar_at, item_at, array_at, fields_at, object_at, objects_at, arrays_at, texts_at, integers_at, booleans_at, kinds_at, BelowFits, FieldsFit}
 
 -- ---- the tag in front
 
@@ -180,7 +179,7 @@ module _ {P : Counted → Type 0} {read : Reader Counted} (codec : IsCodec read 
       ap (fields_at read limit (1 + count) low) (regroup (to_be_bytes w32 n) (node_bytes (node_of d)) (fields_bytes (field_nodes_of fs)) rest)
       ∙ ap (λ m. fields_at read limit m low (to_be_bytes w32 n ++ inside)) one_more
       ∙ fields_step limit count low n (to_be_bytes w32 n ++ inside) inside later d fs rest (number_codec_32.again n inside (omega (arith, few, fits.1))) (not_under n low fits.0) (is_inside n limit fits.1)
-        (codec.again d later fits.2) (fields_again limit (n + 1) fs rest few fits.3)
+      (codec.again d later fits.2) (fields_again limit (n + 1) fs rest few fits.3)
     where
       regroup : (a b c d : List ℕ) → (a ++ (b ++ c)) ++ d ≡ a ++ (b ++ (c ++ d))
       regroup a b c d = simp append_assoc
@@ -298,7 +297,7 @@ module _ {P : Counted → Type 0} {read : Reader Counted} (codec : IsCodec read 
           let r = to_be_bytes w32 (fields_count (field_nodes_of fs)) ++ r2 in
           rw (starts_here 6 left (to_be_bytes w64 n ++ r))
           (inside n (to_be_bytes w64 n ++ r) r r2 (fields_count (field_nodes_of fs)) (counter_again n r small (λ zero. false≢true (is.1 zero)))
-            (number_codec_32.again (fields_count (field_nodes_of fs)) r2 (let all = few_fit limit 0 fs (omega arith) fits in omega arith)) (fields_again limit 0 fs rest (omega arith) fits))
+          (number_codec_32.again (fields_count (field_nodes_of fs)) r2 (let all = few_fit limit 0 fs (omega arith) fits in omega arith)) (fields_again limit 0 fs rest (omega arith) fits))
 
   -- ---- all kinds
 
@@ -504,11 +503,11 @@ module _ {P : Counted → Type 0} {read : Reader Counted} (codec : IsCodec read 
       let c4 : Counters = record c3 { texts = c.texts } in
       let arrays_read = arrays_again limit c4 c.arrays c.objects b fs rest few (omega arith) (omega arith) no_items no_members below fields small in
       let texts_read = scalar_stage_again 4 c.texts (arrays_count c) (λ left n bytes. arrays_at read limit left (record c3 { texts = n }) bytes) (from_arrays d rest) (d, rest) (omega arith)
-              (skips_arrays 4 d rest (λ h. absurd (omega (arith, h))) (λ h. absurd (omega (arith, h)))) arrays_read in
+      (skips_arrays 4 d rest (λ h. absurd (omega (arith, h))) (λ h. absurd (omega (arith, h)))) arrays_read in
       let integers_read = scalar_stage_again 3 c.integers (texts_count c) (λ left n bytes. texts_at read limit left (record c2 { integers = n }) bytes) (from_texts d rest) (d, rest) (omega arith)
-              (skips_texts 3 d rest (λ h. absurd (omega (arith, h))) (λ h. absurd (omega (arith, h))) (λ h. absurd (omega (arith, h)))) texts_read in
+      (skips_texts 3 d rest (λ h. absurd (omega (arith, h))) (λ h. absurd (omega (arith, h))) (λ h. absurd (omega (arith, h)))) texts_read in
       let booleans_read = scalar_stage_again 2 c.booleans (integers_count c) (λ left n bytes. integers_at read limit left (record c1 { booleans = n }) bytes) (from_integers d rest) (d, rest) (omega arith)
-              (skips_integers 2 d rest (λ h. absurd (omega (arith, h))) (λ h. absurd (omega (arith, h))) (λ h. absurd (omega (arith, h))) (λ h. absurd (omega (arith, h)))) integers_read in
+      (skips_integers 2 d rest (λ h. absurd (omega (arith, h))) (λ h. absurd (omega (arith, h))) (λ h. absurd (omega (arith, h))) (λ h. absurd (omega (arith, h)))) integers_read in
       scalar_stage_again 1 c.nulls (booleans_count c) (λ left n bytes. booleans_at read limit left (record no_counters { nulls = n }) bytes) (from_booleans d rest) (d, rest) (omega arith)
       (skips_booleans 1 d rest (λ h. absurd (omega (arith, h))) (λ h. absurd (omega (arith, h))) (λ h. absurd (omega (arith, h))) (λ h. absurd (omega (arith, h))) (λ h. absurd (omega (arith, h)))) booleans_read
 

@@ -1,8 +1,8 @@
 -- Reading a place from the front of bytes, part by part, where no more than so many levels nest.
-use Rattle.std.specs.Prelude.{◌≡◌, ◌<◌, ◌≤◌, ℕ, zero, suc, ◌+◌, ◌-◌, ◌^◌, ◌==◌, ◌&&◌, nat_lt, Bool, true, false, List, [], ◌∷◌, drop, length, Option, Some, None, if◌then◌else◌}
+use Rattle.std.specs.Prelude.{◌≡◌, ◌<◌, ◌≤◌, ℕ, zero, suc, ◌+◌, ◌-◌, ◌^◌, ◌==◌, ◌&&◌, nat_lt, Bool, false, List, [], ◌∷◌, drop, length, Option, Some, None, if◌then◌else◌}
 use Rattle.std.specs.Int.{w32, w64}
 use Rattle.tc_bytes.specs.Reading.{Reader, ◌>>=◌, byte_at, number_at, whole}
-use Rattle.tc_model.specs.Counted.{Counters, no_counters, total, Counted, counted, Below, no_item, an_item, Fields, no_fields, a_field, nothing, documents_of}
+use Rattle.tc_model.specs.Counted.{Counters, no_counters, total, Counted, counted, Below, no_item, an_item, Fields, no_fields, a_field, nothing, documents_of, counters_of}
 use Rattle.tc_schema.specs.Writing.{one_if_some}
 
 -- whether a kind of this tag stands here, where so many kinds are to come
@@ -71,7 +71,8 @@ place_at limit (suc levels) bytes = if starts 8 1 bytes then union_at (place_at 
 
 -- a schema, which is empty or of objects
 abbrev pub root_at : ℕ → ℕ → Reader Counted
-root_at limit levels bytes = if starts 0 1 bytes then Some (nothing, drop 1 bytes) else (if starts 6 1 bytes then place_at limit levels bytes else None)
+root_at limit levels bytes =
+    if starts 0 1 bytes then Some (nothing, drop 1 bytes) else (place_at limit levels bytes >>= λ d. if documents_of d.0 == (counters_of d.0).objects then Some d else None)
 
 -- the schema that all of the bytes spell; each level takes at least a byte
 abbrev pub read_schema : ℕ → List ℕ → Option Counted

@@ -1,6 +1,6 @@
 //! How many values of each kind stand at one place.
 
-ghost use Rattle.std.specs.Prelude.{◌≡◌, ◌+◌, ◌<◌, ◌≤◌, ◌^◌};
+ghost use Rattle.std.specs.Prelude.{◌≡◌, ◌+◌, ◌<◌, ◌≤◌, ◌^◌, IfSome, IfNone};
 ghost use Rattle.tc_model.specs.Counted.{no_counters, counter, total};
 ghost use Rattle.tc_model.specs.Added.{raised, lowered};
 ghost use Rattle.tc_schema.specs.Paths.{kind_meant};
@@ -47,6 +47,34 @@ impl Counts {
             arrays: 0,
             objects: 0,
         }
+    }
+
+    /// So many values of each kind, by ascending tag. `None` comes exactly where they are together 2^64 or more.
+    pub fn of(
+        nulls: u64,
+        booleans: u64,
+        integers: u64,
+        texts: u64,
+        arrays: u64,
+        objects: u64,
+    ) -> Option<Counts>
+        ensures counters { IfSome result (λ c. c ≡ record { nulls = nulls; booleans = booleans; integers = integers; texts = texts; arrays = arrays; objects = objects }) }
+        ensures bounded { IfSome result (λ c. total c < 2 ^ 64) }
+        ensures none { IfNone result (2 ^ 64 ≤ nulls + booleans + integers + texts + arrays + objects) }
+    {
+        let sum = nulls.checked_add(booleans)?;
+        let sum = sum.checked_add(integers)?;
+        let sum = sum.checked_add(texts)?;
+        let sum = sum.checked_add(arrays)?;
+        let _total = sum.checked_add(objects)?;
+        Some(Counts {
+            nulls,
+            booleans,
+            integers,
+            texts,
+            arrays,
+            objects,
+        })
     }
 
     /// How many values there are together.
@@ -129,7 +157,7 @@ impl Counts {
     }
 }
 
-fn one_if_some(count: u64) -> u8
+pub fn one_if_some(count: u64) -> u8
     ensures counted { result ≡ one_if_some count }
     ensures small { result ≤ 1 }
 {

@@ -2,14 +2,17 @@
 #![tactic(auto)]
 
 mod counters;
+mod fault;
 mod paths;
 mod place;
+mod reading;
 mod search;
 mod values;
 mod whole;
 mod writing;
 
 pub use counters::Counts;
+pub use fault::SchemaFault;
 pub use place::{Field, Node};
 pub use search::search_fields;
 pub use whole::{Schema, schemas_agree};

@@ -1,18 +1,20 @@
 //! A whole schema.
 
-ghost use Rattle.std.specs.Prelude.{◌≡◌, List, IfOk};
-ghost use Rattle.tc_model.specs.Counted.{nothing, shows, IsCanonical, documents_of};
+ghost use Rattle.std.specs.Prelude.{◌≡◌, ◌≢◌, List, IfOk, IsErrOf};
+ghost use Rattle.tc_model.specs.Counted.{Counted, nothing, shows, IsCanonical, documents_of};
 ghost use Rattle.tc_model.specs.SchemaText.{tree_text, schema_text};
 ghost use Rattle.tc_model.specs.Document.{Document};
 ghost use Rattle.tc_model.specs.Stands.{StandsFor};
 ghost use Rattle.serde_json.specs.View.{view};
 ghost use Rattle.tc_schema.specs.Paths.{path_meant, kind_meant};
 ghost use Rattle.tc_model.specs.SchemaTree.{schema_tree};
-ghost use Rattle.tc_model.specs.SchemaBytes.{schema_bytes};
+ghost use Rattle.tc_model.specs.SchemaBytes.{schema_bytes, IsSchema};
 ghost use Rattle.tc_schema.specs.Places.{place_counted, most_names};
 
+use crate::fault::SchemaFault;
 use crate::paths::count_from;
 use crate::place::Node;
+use crate::reading::read_root;
 use crate::values::value_of_place;
 use crate::writing::put_place;
 use serde_json::Value;
@@ -113,6 +115,17 @@ impl Schema {
         Ok(Bytes::of(out))
     }
 
+    /// The schema that the bytes spell, with numbers below `names`. `NotASchema` comes exactly where no schema of
+    /// documents spells them.
+    pub fn from_bytes(alloc: Global, bytes: &[u8], names: u32) -> Result<Schema, SchemaFault>
+        ensures found { IfOk result (λ schema. bytes.now ≡ schema_bytes (schema_tree schema)) }
+        ensures schema { IfOk result (IsSchema names) }
+        ensures refused { IsErrOf result SchemaFault.NotASchema → (schema : Counted) → IsSchema names schema → bytes.now ≢ schema_bytes (schema_tree schema) }
+    {
+        let root = read_root(bytes, names, alloc)?;
+        Ok(Schema { root })
+    }
+
     /// The schema's text as a JSON value. A number without a name has the empty name. Errs only for want of memory.
     pub fn value(&self, alloc: Global, names: &Names) -> Result<Value, Memory>
         ensures tree { IfOk result (λ v. view v ≡ tree_text names.now (schema_tree self.now)) }
@@ -136,5 +149,4 @@ impl Schema {
 pub fn schemas_agree(one: &Schema, names: &Names, other: &Schema, other_names: &Names)
     ensures same { (docs : List Document) → names.now ≡ other_names.now → StandsFor names.now one.now docs → StandsFor other_names.now other.now docs → one.now ≡ other.now }
     ensures named { (docs : List Document) → StandsFor names.now one.now docs → StandsFor other_names.now other.now docs → tree_text names.now (schema_tree one.now) ≡ tree_text other_names.now (schema_tree other.now) }
-{
-}
+{}
