@@ -16,3 +16,6 @@ pub use fault::SchemaFault;
 pub use place::{Field, Node};
 pub use search::search_fields;
 pub use whole::{Schema, schemas_agree};
+
+#[cfg(test)]
+mod tests;

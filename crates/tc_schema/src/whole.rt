@@ -107,7 +107,7 @@ impl Schema {
         ensures { IfOk result (λ bytes. bytes ≡ schema_bytes (schema_tree self.now)) }
     {
         let mut out = Vec::new(alloc);
-        if self.root.counts.total() == 0 {
+        if self.documents() == 0 {
             out.push(0)?;
         } else {
             put_place(&self.root, &mut out)?;
@@ -137,7 +137,7 @@ impl Schema {
     fn tree_value(&self, alloc: Global, names: &Names) -> Result<Value, Memory>
         ensures { IfOk result (λ v. view v ≡ tree_text names.now (schema_tree self.now)) }
     {
-        if self.root.counts.total() == 0 {
+        if self.documents() == 0 {
             return Ok(Value::Null);
         }
         value_of_place(&self.root, names, alloc)
