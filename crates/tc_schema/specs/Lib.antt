@@ -1,0 +1,6 @@
+pub mod Paths
+pub mod Places
+pub mod Search
+pub mod Writing
+pub mod Values
+pub mod Reading

@@ -1,0 +1,21 @@
+//! The schema that is inferred from documents: how many values of each kind stand at each place.
+#![tactic(auto)]
+
+mod counters;
+mod fault;
+mod paths;
+mod place;
+mod reading;
+mod search;
+mod values;
+mod whole;
+mod writing;
+
+pub use counters::Counts;
+pub use fault::SchemaFault;
+pub use place::{Field, Node};
+pub use search::search_fields;
+pub use whole::{Schema, schemas_agree};
+
+#[cfg(test)]
+mod tests;
