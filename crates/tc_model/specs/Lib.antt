@@ -7,13 +7,3 @@ pub mod Request
 pub mod Store
 pub mod Reply
 pub mod Run
-pub mod Dictionary
-pub mod Occurrences
-pub mod Counted
-pub mod SchemaTree
-pub mod SchemaBytes
-pub mod SchemaText
-pub mod Stands
-pub mod Added
-pub mod CountedCode
-pub mod Fits

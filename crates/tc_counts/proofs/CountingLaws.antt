@@ -4,13 +4,13 @@ use Rattle.std.proofs.lemmas.Bool.{cases_lt}
 use Rattle.std.proofs.lemmas.Bool.Decides.{nat_tests}
 use Rattle.std.specs.List.{IsDistinct}
 use Rattle.tc_model.specs.Document.{Name, Document, null_kind, boolean_kind, integer_kind, text_kind}
-use Rattle.tc_model.specs.Dictionary.{number_of}
-use Rattle.tc_model.specs.Occurrences.{Kind, scalar, arrays, objects, field, each_item, Path}
-use Rattle.tc_model.specs.Counted.{Counters, no_counters, counter, total, Counted, counted, Below, no_item, an_item, Fields, no_fields, a_field, nothing, held, field_at, numbered_field, counters_of, documents_of, shows, IsCanonical, IsBelowCanonical, AreFieldsCanonical}
-use Rattle.tc_model.specs.SchemaText.{name_at}
-use Rattle.tc_model.specs.Stands.{StandsFor}
-use Rattle.tc_model.proofs.CounterLaws.{each_kind}
-use Rattle.tc_model.proofs.NumberLaws.{number_of_name_at}
+use Rattle.tc_names.specs.Dictionary.{number_of}
+use Rattle.tc_counts.specs.Occurrences.{Kind, scalar, arrays, objects, field, each_item, Path}
+use Rattle.tc_counts.specs.Counted.{Counters, no_counters, counter, total, Counted, counted, Below, no_item, an_item, Fields, no_fields, a_field, nothing, held, field_at, numbered_field, counters_of, documents_of, shows, IsCanonical, IsBelowCanonical, AreFieldsCanonical}
+use Rattle.tc_counts.specs.SchemaText.{name_at}
+use Rattle.tc_counts.specs.Stands.{StandsFor}
+use Rattle.tc_counts.proofs.CounterLaws.{each_kind}
+use Rattle.tc_counts.proofs.NumberLaws.{number_of_name_at}
 
 pub shows_nothing : (names : List Name) (path : Path) (t : Kind) → shows names nothing path t ≡ 0
 shows_nothing names [] t = each_kind (λ t. counter no_counters t ≡ 0) refl refl refl refl refl refl t

@@ -1,9 +1,9 @@
 -- Counters with some values of a kind more or less.
 use Rattle.std.proofs.Common.{◌≡◌, ℕ, ◌+◌, ◌≤◌, if◌then◌else◌, arith}
 use Rattle.tc_model.specs.Document.{null_kind, boolean_kind, integer_kind, text_kind}
-use Rattle.tc_model.specs.Occurrences.{Kind, scalar, arrays, objects, is_kind}
-use Rattle.tc_model.specs.Counted.{Counters, counter, total}
-use Rattle.tc_model.specs.Added.{raised, lowered}
+use Rattle.tc_counts.specs.Occurrences.{Kind, scalar, arrays, objects, is_kind}
+use Rattle.tc_counts.specs.Counted.{Counters, counter, total}
+use Rattle.tc_counts.specs.Added.{raised, lowered}
 
 -- what holds of each of the six kinds
 pub each_kind : (P : Kind → Type 0) → P (scalar null_kind) → P (scalar boolean_kind) → P (scalar integer_kind) → P (scalar text_kind) → P arrays → P objects → (t : Kind) → P t

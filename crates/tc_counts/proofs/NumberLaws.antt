@@ -4,10 +4,10 @@ use Rattle.std.proofs.lemmas.Bool.{false≢true}
 use Rattle.std.proofs.lemmas.Slice.Eq.{bytes_eq-Decides}
 use Rattle.std.proofs.lemmas.Cmp.{nat_list_eq_equiv}
 use Rattle.std.specs.List.{IsDistinct, AllByRecursion}
-use Rattle.tc_model.specs.SchemaText.{name_at}
+use Rattle.tc_counts.specs.SchemaText.{name_at}
 use Rattle.tc_model.specs.Document.{Name}
-use Rattle.tc_model.specs.Dictionary.{number_of}
-use Rattle.tc_model.specs.Added.{number}
+use Rattle.tc_names.specs.Dictionary.{number_of}
+use Rattle.tc_counts.specs.Added.{number}
 
 -- at a number of a name stands the name
 pub name_stands : (names : List Name) (name : Name) (n : ℕ) → number_of names name ≡ Some n → (n < length names) × (slice_get names n ≡ Some name)

@@ -1,8 +1,8 @@
 -- The fields of a place by their numbers: what is found after one is put in or taken out, and that they stay in order.
 use Rattle.std.proofs.Common.{◌≡◌, ◌≢◌, ℕ, ◌+◌, ◌<◌, ◌≤◌, ◌==◌, if◌then◌else◌, refl, ◌∙◌, arith}
 use Rattle.std.proofs.lemmas.Bool.Decides.{nat_tests}
-use Rattle.tc_model.specs.Counted.{Counted, counted, Below, no_item, an_item, Fields, no_fields, a_field, nothing, held, field_at, IsCanonical, IsBelowCanonical, AreFieldsCanonical, IsOrdered, IsBelowOrdered, AreFieldsOrdered}
-use Rattle.tc_model.specs.Added.{put_field, without_field}
+use Rattle.tc_counts.specs.Counted.{Counted, counted, Below, no_item, an_item, Fields, no_fields, a_field, nothing, held, field_at, IsCanonical, IsBelowCanonical, AreFieldsCanonical, IsOrdered, IsBelowOrdered, AreFieldsOrdered}
+use Rattle.tc_counts.specs.Added.{put_field, without_field}
 
 pub field_at-put_field : (n : ℕ) (d : Counted) (fs : Fields) (m : ℕ) → field_at m (put_field n d fs) ≡ (if n == m then d else field_at m fs)
 field_at-put_field n d no_fields m = none n d m

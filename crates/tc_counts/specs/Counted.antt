@@ -2,8 +2,8 @@
 -- what the members of its objects are, by the numbers of their names. A place with several kinds is a union.
 use Rattle.std.specs.Prelude.{◌≡◌, ℕ, ◌+◌, ◌^◌, ◌<◌, ◌≤◌, ◌==◌, nat_lt, List, [], ◌∷◌, Option, Some, None, if◌then◌else◌}
 use Rattle.tc_model.specs.Document.{Name, null_kind, boolean_kind, integer_kind, text_kind}
-use Rattle.tc_model.specs.Dictionary.{number_of}
-use Rattle.tc_model.specs.Occurrences.{Kind, scalar, arrays, objects, field, each_item, Path}
+use Rattle.tc_names.specs.Dictionary.{number_of}
+use Rattle.tc_counts.specs.Occurrences.{Kind, scalar, arrays, objects, field, each_item, Path}
 
 -- how many values of each kind
 pub record Counters : Type 0 where

@@ -7,16 +7,16 @@ use Rattle.std.specs.List.{IsDistinct}
 use Rattle.serde_json.specs.Data as json
 use Rattle.tc_model.specs.Tree.{leaf, array, object, Items, no_items, item, Members, no_members, member, depth, items_depth, members_depth, items_relabel, members_relabel}
 use Rattle.tc_model.specs.Document.{Name, Document, Scalar, ShapeTree, ScalarKind, null_kind, boolean_kind, integer_kind, text_kind, scalar_kind, listed_members}
-use Rattle.tc_model.specs.Dictionary.{number_of}
-use Rattle.tc_model.specs.Occurrences.{Kind, scalar, arrays, objects, field, each_item, Path, kind_of, is_kind, occurrences, items_occurrences, members_occurrences, document_shape, count}
-use Rattle.tc_model.specs.Counted.{counter, Counted, counted, Below, no_item, an_item, Fields, no_fields, a_field, nothing, held, field_at, numbered_field, documents_of, shows, IsCanonical, IsBelowCanonical, AreFieldsCanonical}
-use Rattle.tc_model.specs.SchemaTree.{SchemaNode, scalar_node, array_node, object_node, KindNodes, no_kind_nodes, a_kind_node, kinds_total, with_kind, united, kind_nodes, node_of, item_node_of, field_nodes_of, schema_tree}
-use Rattle.tc_model.specs.SchemaText.{scalar_text, array_text, object_text, name_at, node_text, item_text, fields_text, kinds_text, tree_text, of_kind, listed_items, items_in, members_in, values_of, united_text, with_text, by_name, values_text, deepest, schema_text}
-use Rattle.tc_model.specs.Stands.{StandsFor}
-use Rattle.tc_model.proofs.NumberLaws.{name_stands, number_of_name_at}
-use Rattle.tc_model.proofs.CountingLaws.{at_first, after_first}
-use Rattle.tc_model.proofs.KindLaws.{total-kind_nodes}
-use Rattle.tc_model.proofs.PutLaws.{by_names, IsAmong, same_names}
+use Rattle.tc_names.specs.Dictionary.{number_of}
+use Rattle.tc_counts.specs.Occurrences.{Kind, scalar, arrays, objects, field, each_item, Path, kind_of, is_kind, occurrences, items_occurrences, members_occurrences, document_shape, count}
+use Rattle.tc_counts.specs.Counted.{counter, Counted, counted, Below, no_item, an_item, Fields, no_fields, a_field, nothing, held, field_at, numbered_field, documents_of, shows, IsCanonical, IsBelowCanonical, AreFieldsCanonical}
+use Rattle.tc_counts.specs.SchemaTree.{SchemaNode, scalar_node, array_node, object_node, KindNodes, no_kind_nodes, a_kind_node, kinds_total, with_kind, united, kind_nodes, node_of, item_node_of, field_nodes_of, schema_tree}
+use Rattle.tc_counts.specs.SchemaText.{scalar_text, array_text, object_text, name_at, node_text, item_text, fields_text, kinds_text, tree_text, of_kind, listed_items, items_in, members_in, values_of, united_text, with_text, by_name, values_text, deepest, schema_text}
+use Rattle.tc_counts.specs.Stands.{StandsFor}
+use Rattle.tc_counts.proofs.NumberLaws.{name_stands, number_of_name_at}
+use Rattle.tc_counts.proofs.CountingLaws.{at_first, after_first}
+use Rattle.tc_counts.proofs.KindLaws.{total-kind_nodes}
+use Rattle.tc_counts.proofs.PutLaws.{by_names, IsAmong, same_names}
 
 -- ---- occurrences in a list of values
 

@@ -3,8 +3,8 @@ use Rattle.std.specs.Prelude.{ℕ, zero, suc, ◌+◌, max, List, [], ◌∷◌,
 use Rattle.serde_json.specs.Data as json
 use Rattle.tc_model.specs.Tree.{leaf, array, object, Items, no_items, item, depth}
 use Rattle.tc_model.specs.Document.{Name, Document, ShapeTree, ScalarKind, null_kind, boolean_kind, integer_kind, text_kind, listed_members}
-use Rattle.tc_model.specs.Occurrences.{Kind, scalar, arrays, objects, kind_of, is_kind, document_shape}
-use Rattle.tc_model.specs.SchemaTree.{SchemaNode, scalar_node, array_node, object_node, union_node, ItemNode, no_item_node, an_item_node, FieldNodes, no_field_nodes, a_field_node, KindNodes, no_kind_nodes, a_kind_node, SchemaTree}
+use Rattle.tc_counts.specs.Occurrences.{Kind, scalar, arrays, objects, kind_of, is_kind, document_shape}
+use Rattle.tc_counts.specs.SchemaTree.{SchemaNode, scalar_node, array_node, object_node, union_node, ItemNode, no_item_node, an_item_node, FieldNodes, no_field_nodes, a_field_node, KindNodes, no_kind_nodes, a_kind_node, SchemaTree}
 
 abbrev pub kind_text : ScalarKind → List ℕ
 kind_text null_kind = codes "null"

@@ -4,7 +4,7 @@ use Rattle.std.specs.Coded.{Coded, code_by, coded_ℕ, coded×}
 use Rattle.std.proofs.Common.{ap, ◌∙◌}
 use Rattle.tc_model.specs.Tree.{Tree, leaf, array, object, no_items, item, Members, no_members, member}
 use Rattle.tc_model.specs.TreeCode.{coded_tree}
-use Rattle.tc_model.specs.Counted.{Counters, Counted, counted, Below, no_item, an_item, Fields, no_fields, a_field, nothing}
+use Rattle.tc_counts.specs.Counted.{Counters, Counted, counted, Below, no_item, an_item, Fields, no_fields, a_field, nothing}
 
 abbrev pub coded_counters : Coded Counters
 coded_counters =

@@ -2,8 +2,8 @@
 use Rattle.std.proofs.Common.{◌≡◌, ℕ, ◌+◌, ◌==◌, Bool, true, false, if◌then◌else◌, refl, arith}
 use Rattle.std.proofs.lemmas.Bool.Decides.{Decides-eqb}
 use Rattle.tc_model.specs.Document.{null_kind, boolean_kind, integer_kind, text_kind}
-use Rattle.tc_model.specs.Counted.{Counters, total}
-use Rattle.tc_model.specs.SchemaTree.{SchemaNode, scalar_node, array_node, object_node, ItemNode, FieldNodes, KindNodes, no_kind_nodes, a_kind_node, node_counter, kinds_total, with_kind, kind_nodes}
+use Rattle.tc_counts.specs.Counted.{Counters, total}
+use Rattle.tc_counts.specs.SchemaTree.{SchemaNode, scalar_node, array_node, object_node, ItemNode, FieldNodes, KindNodes, no_kind_nodes, a_kind_node, node_counter, kinds_total, with_kind, kind_nodes}
 
 pub total-with_kind : (n : ℕ) (node : ℕ → SchemaNode) (rest : KindNodes) → node_counter (node n) ≡ n → kinds_total (with_kind n node rest) ≡ n + kinds_total rest
 total-with_kind n node rest same = by_test (n == 0) (Decides-eqb n 0)

@@ -2,8 +2,8 @@
 use Rattle.std.specs.Prelude.{◌≡◌, List, length, bytes_eq}
 use Rattle.std.specs.List.{IsDistinct}
 use Rattle.tc_model.specs.Document.{Name, Document}
-use Rattle.tc_model.specs.Occurrences.{Kind, Path, count}
-use Rattle.tc_model.specs.Counted.{Counted, shows, IsCanonical}
+use Rattle.tc_counts.specs.Occurrences.{Kind, Path, count}
+use Rattle.tc_counts.specs.Counted.{Counted, shows, IsCanonical}
 
 -- It is in the one form, and its counters are the numbers of the documents' values, at every path and for every kind.
 pub record StandsFor (names : List Name) (d : Counted) (docs : List Document) : Type 0 where

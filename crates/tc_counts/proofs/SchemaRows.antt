@@ -6,12 +6,12 @@ use Rattle.serde_json.proofs.OnLiterals.{serde_json_on_literals}
 use Rattle.tc_model.specs.Tree.{leaf, array, object, no_items, item, no_members, member}
 use Rattle.tc_model.specs.Document as doc
 use Rattle.tc_model.specs.Document.{Name, Document}
-use Rattle.tc_model.specs.Occurrences.{document_shape}
-use Rattle.tc_model.specs.Counted.{Counted, nothing}
-use Rattle.tc_model.specs.SchemaTree.{schema_tree}
-use Rattle.tc_model.specs.SchemaBytes.{schema_bytes}
-use Rattle.tc_model.specs.SchemaText.{tree_text, schema_text}
-use Rattle.tc_model.specs.Added.{added, removed}
+use Rattle.tc_counts.specs.Occurrences.{document_shape}
+use Rattle.tc_counts.specs.Counted.{Counted, nothing}
+use Rattle.tc_counts.specs.SchemaTree.{schema_tree}
+use Rattle.tc_counts.specs.SchemaBytes.{schema_bytes}
+use Rattle.tc_counts.specs.SchemaText.{tree_text, schema_text}
+use Rattle.tc_counts.specs.Added.{added, removed}
 
 -- what a list of documents leaves, the last counted first
 abbrev counted_all : List Name → List Document → Counted

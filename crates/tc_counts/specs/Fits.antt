@@ -3,10 +3,10 @@
 use Rattle.std.specs.Prelude.{◌≡◌, ℕ, ◌≤◌, ◌-◌, ◌++◌, ◌∷◌, List, length, is_some, IsTrue}
 use Rattle.tc_model.specs.Tree.{leaf, array, object, Items, no_items, item, Members, no_members, member}
 use Rattle.tc_model.specs.Document.{Name, ShapeTree, ScalarKind}
-use Rattle.tc_model.specs.Dictionary.{number_of}
-use Rattle.tc_model.specs.Occurrences.{Kind, scalar, arrays, objects, field, each_item, Path, occurrences}
-use Rattle.tc_model.specs.Counted.{Counted, counted, counter, Below, no_item, Fields, no_fields, held, field_at, shows, IsCanonical}
-use Rattle.tc_model.specs.Added.{number, removed, items_removed, members_removed, kept_item, kept_field}
+use Rattle.tc_names.specs.Dictionary.{number_of}
+use Rattle.tc_counts.specs.Occurrences.{Kind, scalar, arrays, objects, field, each_item, Path, occurrences}
+use Rattle.tc_counts.specs.Counted.{Counted, counted, counter, Below, no_item, Fields, no_fields, held, field_at, shows, IsCanonical}
+use Rattle.tc_counts.specs.Added.{number, removed, items_removed, members_removed, kept_item, kept_field}
 
 -- place by place, each value after those before it were taken off
 abbrev mutual

@@ -2,9 +2,9 @@
 use Rattle.std.specs.Prelude.{ℕ, ◌+◌, ◌-◌, ◌==◌, nat_lt, List, is_some, unwrap_or, IsTrue, if◌then◌else◌}
 use Rattle.tc_model.specs.Tree.{leaf, array, object, Items, no_items, item, Members, no_members, member}
 use Rattle.tc_model.specs.Document.{Name, ShapeTree, ScalarKind, null_kind, boolean_kind, integer_kind, text_kind}
-use Rattle.tc_model.specs.Dictionary.{number_of}
-use Rattle.tc_model.specs.Occurrences.{Kind, scalar, arrays, objects}
-use Rattle.tc_model.specs.Counted.{Counters, Counted, counted, Below, no_item, an_item, Fields, no_fields, a_field, held, field_at, documents_of}
+use Rattle.tc_names.specs.Dictionary.{number_of}
+use Rattle.tc_counts.specs.Occurrences.{Kind, scalar, arrays, objects}
+use Rattle.tc_counts.specs.Counted.{Counters, Counted, counted, Below, no_item, an_item, Fields, no_fields, a_field, held, field_at, documents_of}
 
 -- so many more of a kind, and so many less
 abbrev pub raised : Kind → ℕ → Counters → Counters

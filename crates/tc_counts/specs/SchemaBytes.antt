@@ -1,9 +1,9 @@
 -- The bytes of a schema, and which schemas have bytes.
 use Rattle.std.specs.Prelude.{ℕ, ◌+◌, List, [], ◌∷◌, ◌++◌, Some, None}
 use Rattle.std.specs.Int.{w32, w64, to_be_bytes}
-use Rattle.tc_model.specs.Occurrences.{scalar_tag}
-use Rattle.tc_model.specs.Counted.{Counted, IsCanonical, CountsObjects, HasSmallCounters}
-use Rattle.tc_model.specs.SchemaTree.{SchemaNode, scalar_node, array_node, object_node, union_node, ItemNode, no_item_node, an_item_node, FieldNodes, no_field_nodes, a_field_node, KindNodes, no_kind_nodes, a_kind_node, SchemaTree, kinds_count}
+use Rattle.tc_counts.specs.Occurrences.{scalar_tag}
+use Rattle.tc_counts.specs.Counted.{Counted, IsCanonical, CountsObjects, HasSmallCounters}
+use Rattle.tc_counts.specs.SchemaTree.{SchemaNode, scalar_node, array_node, object_node, union_node, ItemNode, no_item_node, an_item_node, FieldNodes, no_field_nodes, a_field_node, KindNodes, no_kind_nodes, a_kind_node, SchemaTree, kinds_count}
 
 abbrev pub fields_count : FieldNodes → ℕ
 fields_count no_field_nodes = 0

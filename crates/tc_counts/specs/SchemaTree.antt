@@ -1,8 +1,8 @@
 -- The schema as a tree with unions, the tree that counters make, and when such a tree is in the one form.
 use Rattle.std.specs.Prelude.{◌≡◌, ℕ, ◌+◌, ◌<◌, ◌≤◌, ◌==◌, Option, Some, None, if◌then◌else◌}
 use Rattle.tc_model.specs.Document.{ScalarKind, null_kind, boolean_kind, integer_kind, text_kind}
-use Rattle.tc_model.specs.Occurrences.{scalar_tag}
-use Rattle.tc_model.specs.Counted.{Counters, Counted, counted, Below, no_item, an_item, Fields, no_fields, a_field, documents_of}
+use Rattle.tc_counts.specs.Occurrences.{scalar_tag}
+use Rattle.tc_counts.specs.Counted.{Counters, Counted, counted, Below, no_item, an_item, Fields, no_fields, a_field, documents_of}
 
 -- each node has its counter
 mutual

@@ -5,14 +5,14 @@ use Rattle.std.proofs.lemmas.Bool.{false≢true}
 use Rattle.std.proofs.lemmas.Slice.Eq.{bytes_eq-Decides}
 use Rattle.tc_model.specs.Tree.{leaf, array, object, Items, no_items, item, Members, no_members, member}
 use Rattle.tc_model.specs.Document.{Name, Document, ShapeTree, ScalarKind, null_kind, boolean_kind, integer_kind, text_kind}
-use Rattle.tc_model.specs.Dictionary.{number_of}
-use Rattle.tc_model.specs.Occurrences.{Kind, scalar, arrays, objects, field, each_item, Path, occurrences, items_occurrences, members_occurrences, document_shape}
-use Rattle.tc_model.specs.Counted.{Counters, Counted, counted, Below, an_item, Fields, no_fields, a_field, nothing, held, field_at, numbered_field, documents_of, shows, IsCanonical, IsBelowCanonical, AreFieldsCanonical}
-use Rattle.tc_model.specs.Added.{raised, put_field, number, added, items_added, members_added, IsNamed, AreItemsNamed, AreMembersNamed}
-use Rattle.tc_model.specs.Stands.{StandsFor}
-use Rattle.tc_model.proofs.CounterLaws.{counter-raised, total-raised}
-use Rattle.tc_model.proofs.FieldLaws.{field_at-put_field_here, field_at-put_field_elsewhere, held_canonical}
-use Rattle.tc_model.proofs.NumberLaws.{numbered, one_name, name_stands}
+use Rattle.tc_names.specs.Dictionary.{number_of}
+use Rattle.tc_counts.specs.Occurrences.{Kind, scalar, arrays, objects, field, each_item, Path, occurrences, items_occurrences, members_occurrences, document_shape}
+use Rattle.tc_counts.specs.Counted.{Counters, Counted, counted, Below, an_item, Fields, no_fields, a_field, nothing, held, field_at, numbered_field, documents_of, shows, IsCanonical, IsBelowCanonical, AreFieldsCanonical}
+use Rattle.tc_counts.specs.Added.{raised, put_field, number, added, items_added, members_added, IsNamed, AreItemsNamed, AreMembersNamed}
+use Rattle.tc_counts.specs.Stands.{StandsFor}
+use Rattle.tc_counts.proofs.CounterLaws.{counter-raised, total-raised}
+use Rattle.tc_counts.proofs.FieldLaws.{field_at-put_field_here, field_at-put_field_elsewhere, held_canonical}
+use Rattle.tc_counts.proofs.NumberLaws.{numbered, one_name, name_stands}
 
 -- ---- what is shown
 
