@@ -118,11 +118,8 @@ fn replies(rt: HostRuntime) -> Result<(), Fail> {
 
 // A line of a `get`, filled with spaces to this many bytes, and one more line.
 fn padded(alloc: Global, len: usize) -> Result<Vec<u8>, AllocError> {
-    let mut input = Vec::new(alloc);
-    input.extend_from_slice(b"{\"op\":\"get\",\"id\":1}")?;
-    while input.len() < len {
-        input.push(b' ')?;
-    }
+    let mut input = b"{\"op\":\"get\",\"id\":1}".to_vec(alloc)?;
+    input.resize(len, b' ')?;
     input.extend_from_slice(b"\n{\"op\":\"get\",\"id\":2}\n")?;
     Ok(input)
 }
