@@ -1,3 +1,4 @@
 pub mod Measuring
 pub mod Lengths
 pub mod Encoded
+pub mod Utf8

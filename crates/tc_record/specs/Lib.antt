@@ -3,3 +3,5 @@ pub mod Rows
 pub mod Measured
 pub mod Widths
 pub mod Parts
+pub mod Walk
+pub mod WalkView

@@ -3,10 +3,13 @@
 
 mod encoding;
 mod measure;
+mod reader;
 mod sizing;
 #[cfg(test)]
 mod tests;
+mod token;
 mod widths;
 
 pub use encoding::encode;
 pub use sizing::size;
+pub use token::{Label, Piece, Token};
