@@ -5,3 +5,4 @@ pub mod Widths
 pub mod Parts
 pub mod Walk
 pub mod WalkView
+pub mod Stack

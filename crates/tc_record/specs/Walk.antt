@@ -90,12 +90,16 @@ opened array_opened levels = if nat_lt (length levels) 32 then Some (in_array �
 opened object_opened levels = if nat_lt (length levels) 32 then Some (in_object None ∷ levels) else None
 opened closed levels = None
 
+-- a value that stands in a level, as a token, with the level and the columns behind it
+abbrev pub value_at : Format → Level → ℕ → Columns → Option (Token Key Scalar × Level × Columns)
+value_at f level tag c = label_at f level c >>= λ l. piece_at f.text_width tag l.2 >>= λ p. Some (token l.0 p.0, l.1, p.1)
+
 -- the next token, with the levels and the columns behind it
 abbrev pub step : Format → ℕ → List Level → Columns → Option (Token Key Scalar × List Level × Columns)
 step f tag [] c = None
 step f tag (level ∷ levels) c =
     if tag == 7 then Some (token None closed, levels, c)
-    else (label_at f level c >>= λ l. piece_at f.text_width tag l.2 >>= λ p. opened p.0 (l.1 ∷ levels) >>= λ inner. Some (token l.0 p.0, inner, p.1))
+    else (value_at f level tag c >>= λ v. opened v.0.piece (v.1 ∷ levels) >>= λ inner. Some (v.0, inner, v.2))
 
 abbrev pub is_used_up : Columns → Bool
 is_used_up c = (length c.fixed == 0) && ((length c.lengths == 0) && ((length c.texts == 0) && ((length c.slots == 0) && (length c.names == 0))))

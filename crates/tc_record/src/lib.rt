@@ -8,6 +8,7 @@ mod sizing;
 #[cfg(test)]
 mod tests;
 mod token;
+mod walking;
 mod widths;
 
 pub use encoding::encode;

@@ -3,10 +3,10 @@
 ghost use Rattle.std.specs.Prelude.{◌≡◌, option_map};
 ghost use Rattle.std.specs.Int.{w16};
 ghost use Rattle.tc_bytes.specs.Reading.{number_at};
-ghost use Rattle.tc_record.specs.Walk.{sized_number_at, utf8_at, text_at, name_at, bool_at, integer_at, piece_at, in_object, is_above as stands_above, label_at};
-ghost use Rattle.tc_record.specs.WalkView.{key_of, piece_of, columns_of, level_of, format_of};
+ghost use Rattle.tc_record.specs.Walk.{sized_number_at, utf8_at, text_at, name_at, bool_at, integer_at, piece_at, in_object, is_above as stands_above, label_at, value_at};
+ghost use Rattle.tc_record.specs.WalkView.{key_of, piece_of, token_of, columns_of, level_of, format_of};
 
-use crate::token::{Label, Piece};
+use crate::token::{Label, Piece, Token};
 use crate::widths::Width;
 use std::str;
 use tc_bytes::{slice_at, u32_at, u64_at, u8_at};
@@ -48,7 +48,7 @@ fn u16_at(bytes: &[u8]) -> Option<(u16, &[u8])>
 }
 
 /// One number of a column.
-pub(crate) fn column_number_at(width: Width, column: &[u8]) -> Option<(u32, &[u8])>
+fn column_number_at(width: Width, column: &[u8]) -> Option<(u32, &[u8])>
     ensures { option_map (λ x. (x.0, x.1.now)) result ≡ sized_number_at width column.now }
 {
     match width {
@@ -111,7 +111,7 @@ fn integer_in(columns: Columns<'_>) -> Option<(Piece<'_>, Columns<'_>)>
 }
 
 /// A value, or the opening of one, by its tag.
-pub(crate) fn piece_in(
+fn piece_in(
     width: Width,
     tag: u8,
     columns: Columns<'_>,
@@ -167,7 +167,7 @@ fn is_above(last: Option<&str>, name: &str) -> bool
 }
 
 /// The label of a value that stands in a level, and the level behind it.
-pub(crate) fn label_in<'a>(
+fn label_in<'a>(
     format: Format,
     level: Level<'a>,
     columns: Columns<'a>,
@@ -195,4 +195,18 @@ fn member_label_in<'a>(
     let mut behind = columns;
     behind.slots = slots;
     Some((Label::Number(number), Level::Object(None), behind))
+}
+
+/// A value that stands in a level, as a token, with the level and the columns behind it.
+pub(crate) fn value_in<'a>(
+    format: Format,
+    level: Level<'a>,
+    tag: u8,
+    columns: Columns<'a>,
+) -> Option<(Token<'a>, Level<'a>, Columns<'a>)>
+    ensures { option_map (λ x. (token_of x.0, level_of x.1, columns_of x.2)) result ≡ value_at (format_of format) (level_of level.entry) tag (columns_of columns.entry) }
+{
+    let (label, behind, labelled) = label_in(format, level, columns)?;
+    let (value, rest) = piece_in(format.text_width, tag, labelled)?;
+    Some((Token { label, value }, behind, rest))
 }
