@@ -6,3 +6,5 @@ pub mod Parts
 pub mod Walk
 pub mod WalkView
 pub mod Stack
+pub mod Sections
+pub mod SectionsView

@@ -2,8 +2,10 @@
 #![tactic(auto)]
 
 mod encoding;
+mod header;
 mod measure;
 mod reader;
+mod sections;
 mod sizing;
 #[cfg(test)]
 mod tests;

@@ -48,7 +48,7 @@ fn u16_at(bytes: &[u8]) -> Option<(u16, &[u8])>
 }
 
 /// One number of a column.
-fn column_number_at(width: Width, column: &[u8]) -> Option<(u32, &[u8])>
+pub(crate) fn column_number_at(width: Width, column: &[u8]) -> Option<(u32, &[u8])>
     ensures { option_map (λ x. (x.0, x.1.now)) result ≡ sized_number_at width column.now }
 {
     match width {
