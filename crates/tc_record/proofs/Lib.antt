@@ -3,3 +3,4 @@ pub mod Lengths
 pub mod Encoded
 pub mod Utf8
 pub mod Stacks
+pub mod Scans

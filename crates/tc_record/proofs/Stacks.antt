@@ -78,3 +78,7 @@ stepped_some f tag ls n c t behind rest some inside goes read = rw (stack_of-beh
   where
     unequal : (tag : ℕ) → tag ≢ 7 → (tag == 7) ≡ false
     unequal tag goes = grind (arith, nat_tests)
+
+-- a walk does not end while a level is open
+pub walk_open : (f : walk.Format) (ls : List Level) (n : ℕ) (c : walk.Columns) → 0 < n → walk.walk f [] (stack_of ls n) c ≡ None
+walk_open f ls n c some = rw (stack_of-read ls n some) refl

@@ -5,6 +5,7 @@ mod encoding;
 mod header;
 mod measure;
 mod reader;
+mod record_ref;
 mod sections;
 mod sizing;
 #[cfg(test)]

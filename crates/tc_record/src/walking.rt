@@ -1,7 +1,7 @@
 //! A walk over the tokens of a record.
 
-ghost use Rattle.std.specs.Prelude.{◌≡◌, ◌≤◌, ◌∷◌, option_map, length, nat_lt, if◌then◌else◌};
-ghost use Rattle.tc_record.specs.Walk.{step, opened};
+ghost use Rattle.std.specs.Prelude.{◌≡◌, ◌≤◌, ◌∷◌, [], option_map, length, nat_lt, if◌then◌else◌};
+ghost use Rattle.tc_record.specs.Walk.{step, opened, in_object};
 ghost use Rattle.tc_record.specs.WalkView.{token_of, piece_of, columns_of, level_of, format_of};
 ghost use Rattle.tc_record.specs.Stack.{stack_of};
 
@@ -23,6 +23,20 @@ pub(crate) struct Walk<'a> {
 }
 
 impl<'a> Walk<'a> {
+    /// The walk behind the first token of a record, which opens an object.
+    pub(crate) fn in_object(format: Format, columns: Columns<'a>) -> Walk<'a>
+        ensures format { result.format ≡ format }
+        ensures columns { columns_of result.columns ≡ columns_of columns.entry }
+        ensures levels { stack_of result.levels result.depth ≡ in_object None ∷ [] }
+    {
+        Walk {
+            format,
+            columns,
+            levels: [Level::Object(None); 32],
+            depth: 1,
+        }
+    }
+
     /// The token of a tag, or `None` where no token can stand there.
     pub(crate) fn step(&mut self, tag: u8) -> Option<Token<'a>>
         ensures step { option_map (λ t. (token_of t, stack_of self.new.levels self.new.depth, columns_of self.new.columns)) result ≡ step (format_of self.old.format) tag (stack_of self.old.levels self.old.depth) (columns_of self.old.columns) }
