@@ -1,6 +1,6 @@
 //! The bytes of a record, cut into its columns.
 
-ghost use Rattle.std.specs.Prelude.{◌≡◌, option_map, length};
+ghost use Rattle.std.specs.Prelude.{◌≡◌, max, option_map, length};
 ghost use Rattle.tc_record.specs.Sections.{scan_at, least_width, numbers_at, columns_behind, sections_in};
 ghost use Rattle.tc_record.specs.SectionsView.{header_of, numbers_of, sections_of};
 
@@ -105,9 +105,15 @@ fn scanned(width: Width, count: u32, numbers: &[u8]) -> Option<(u32, u32)>
             return None;
         }
         total += number;
-        greatest = greatest.max(number);
+        greatest = larger(greatest, number);
         rest = behind;
         left -= 1;
     }
     Some((greatest, total))
+}
+
+fn larger(number: u32, other: u32) -> u32
+    ensures { result ≡ max number other }
+{
+    number.max(other)
 }

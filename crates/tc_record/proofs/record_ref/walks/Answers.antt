@@ -1,5 +1,6 @@
 use Rattle.std.proofs.Common.{◌≡◌, ◌≢◌, ◌∙◌, ◌==◌, ℕ, Bool, false, refl, sym, ap, drop, is_some, rules, arith, List, []}
 use Rattle.std.proofs.lemmas.Bool.Decides.{nat_tests}
+use Rattle.std.proofs.lemmas.List.{drop_all}
 use Rattle.tc_record.specs.Walk as walk
 use Rattle.tc_record.specs.WalkView.{columns_of, format_of}
 use Rattle.tc_record.specs.Stack.{stack_of}

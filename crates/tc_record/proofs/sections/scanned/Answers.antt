@@ -19,4 +19,4 @@ pub loop-left-preserved : goal.loop-left-preserved
 loop-left-preserved c =
     let l = c.loop-left in
     let read : sized_number_at c.args.width l.rest.now ≡ Some (c.in_ok-number.number, c.in_ok-number.behind.now) = sym c.column_number_at.ensures ∙ rw c.in_ok-number.was refl in
-    rw c.max-greatest.ensures (sym (scan_more c.args.width l.left l.greatest l.total l.rest.now _ _ (omega arith) read (omega arith)) ∙ l.invariant)
+    rw c.larger-greatest.ensures (sym (scan_more c.args.width l.left l.greatest l.total l.rest.now _ _ (omega arith) read (omega arith)) ∙ l.invariant)
