@@ -4,3 +4,7 @@ pub mod Encoded
 pub mod Utf8
 pub mod Stacks
 pub mod Scans
+pub mod Sized
+pub mod Texts
+pub mod Scalars
+pub mod Labels
