@@ -8,3 +8,4 @@ pub mod Sized
 pub mod Texts
 pub mod Scalars
 pub mod Labels
+pub mod Walks
