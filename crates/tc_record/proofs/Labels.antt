@@ -50,7 +50,7 @@ pub record NameFound (w : Width) (last : Option Name) (c : Columns) (q : Name ×
   pub above : is_above last q.0 ≡ true
   pub fits : FitsWidth w (length q.0)
 
-if_parts : {A : Type 0} (b : Bool) (x q : A) → (if b then Some x else None) ≡ Some q → (x ≡ q) × (b ≡ true)
+pub if_parts : {A : Type 0} (b : Bool) (x q : A) → (if b then Some x else None) ≡ Some q → (x ≡ q) × (b ≡ true)
 if_parts true x q gives = (same_Some x q gives, refl)
 if_parts false x q gives = cc
 

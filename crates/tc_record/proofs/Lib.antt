@@ -9,3 +9,5 @@ pub mod Texts
 pub mod Scalars
 pub mod Labels
 pub mod Walks
+pub mod Found
+pub mod Spelled

@@ -37,7 +37,7 @@ abbrev pub with_tokens : Format → List (Token Key Scalar) → Columns → Colu
 with_tokens f [] c = c
 with_tokens f (t ∷ ts) c = with_token f t (with_tokens f ts c)
 
-with_tokens-append : (f : Format) (ts us : List (Token Key Scalar)) (c : Columns) → with_tokens f (ts ++ us) c ≡ with_tokens f ts (with_tokens f us c)
+pub with_tokens-append : (f : Format) (ts us : List (Token Key Scalar)) (c : Columns) → with_tokens f (ts ++ us) c ≡ with_tokens f ts (with_tokens f us c)
 with_tokens-append f [] us c = refl
 with_tokens-append f (t ∷ ts) us c = ap (with_token f t) (with_tokens-append f ts us c)
 
@@ -141,7 +141,7 @@ Completes f (in_object last ∷ levels) ts =
     (ms : Members Key Scalar) × ((rest : List (Token Key Scalar)) × (AreKeyedMembers f last ms × (members_depth ms + length (in_object last ∷ levels) ≤ 32) × (ts ≡ members_preorder ms ++ close ∷ rest) × Completes f levels rest))
 
 -- a value before what completes the levels
-one_more : (t : Tree Key Scalar) (f : Format) (level : Level) (label : Option Key) (behind : Level) (levels : List Level) (rest : List (Token Key Scalar)) → IsLabelled f level label behind → IsKeyed f t
+pub one_more : (t : Tree Key Scalar) (f : Format) (level : Level) (label : Option Key) (behind : Level) (levels : List Level) (rest : List (Token Key Scalar)) → IsLabelled f level label behind → IsKeyed f t
     → depth t + length (level ∷ levels) ≤ 32 → Completes f (behind ∷ levels) rest → Completes f (level ∷ levels) (preorder label t ++ rest)
 one_more t f in_array None behind levels rest labelled keyed shallow complete =
     let further : Completes f (in_array ∷ levels) rest = subst (λ b. Completes f (b ∷ levels) rest) labelled complete in
