@@ -11,3 +11,5 @@ pub mod Labels
 pub mod Walks
 pub mod Found
 pub mod Spelled
+pub mod Keyed
+pub mod Fitting
