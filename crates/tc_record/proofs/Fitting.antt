@@ -63,7 +63,7 @@ scalar_fits f (integer z) fits = tt
 scalar_fits f (text s) fits = fits.texts.0
 
 -- the name before the members, if there is one, is below theirs
-abbrev Follows : Option Name → List Name → Type 0
+abbrev pub Follows : Option Name → List Name → Type 0
 Follows None ns = IsStrictlySortedBy name_cmp ns
 Follows (Some m) ns = IsStrictlySortedBy name_cmp (m ∷ ns)
 

@@ -15,7 +15,7 @@ length-bytes_high_first : (w n : ℕ) → length (bytes_high_first w n) ≡ w
 length-bytes_high_first zero n = refl
 length-bytes_high_first (suc w) n = ap suc (length-bytes_high_first w n)
 
-length-numbers : (w : ℕ) (ns : List ℕ) → length (numbers w ns) ≡ length ns * w
+pub length-numbers : (w : ℕ) (ns : List ℕ) → length (numbers w ns) ≡ length ns * w
 length-numbers w [] = omega arith
 length-numbers w (n ∷ ns) = grind (arith, length-append (bytes_high_first w n) (numbers w ns), length-bytes_high_first w n, length-numbers w ns)
 

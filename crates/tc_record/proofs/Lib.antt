@@ -13,3 +13,6 @@ pub mod Found
 pub mod Spelled
 pub mod Keyed
 pub mod Fitting
+pub mod Documents
+pub mod Counted
+pub mod Cutting

@@ -1,5 +1,5 @@
 -- How the bytes of a record are cut into its columns.
-use Rattle.std.specs.Prelude.{ℕ, zero, suc, ◌+◌, ◌*◌, ◌^◌, max, ◌==◌, nat_lt, Bool, true, false, if◌then◌else◌, List, [], ◌∷◌, length, Option, None, Some}
+use Rattle.std.specs.Prelude.{ℕ, zero, suc, ◌+◌, ◌-◌, ◌*◌, ◌^◌, max, min, ◌==◌, Bool, true, false, if◌then◌else◌, List, [], ◌∷◌, length, Option, None, Some}
 use Rattle.std.specs.Int.{w32}
 use Rattle.tc_bytes.specs.Reading.{Reader, ◌>>=◌, byte_at, number_at, bytes_at}
 use Rattle.tc_model.specs.Document.{Scalar}
@@ -31,11 +31,11 @@ width_from n = if n == 0 then Some Zero else (if n == 1 then Some One else (if n
 abbrev pub form_from : ℕ → Option Bool
 form_from n = if n == 0 then Some true else (if n == 1 then Some false else None)
 
--- the greatest of so many numbers, and their sum, which stays below 2 ^ 32
+-- the greatest of so many numbers, and their sum, which stands still at the end of 32 bits
 abbrev pub scan_at : Width → ℕ → ℕ → ℕ → List ℕ → Option (ℕ × ℕ)
 scan_at w zero greatest total bytes = Some (greatest, total)
 scan_at w (suc n) greatest total bytes =
-    sized_number_at w bytes >>= λ x. if nat_lt (total + x.0) (2 ^ 32) then scan_at w n (max greatest x.0) (total + x.0) x.1 else None
+    sized_number_at w bytes >>= λ x. scan_at w n (max greatest x.0) (min (total + x.0) (2 ^ 32 - 1)) x.1
 
 -- numbers of the width that is told, where it is the least
 pub record Numbers : Type 0 where

@@ -91,7 +91,7 @@ fn least(count: u32, greatest: u32) -> u8
     }
 }
 
-/// The greatest of so many numbers, and their sum, or `None` where it has more than 32 bits.
+/// The greatest of so many numbers, and their sum, which stands still at the end of its type.
 fn scanned(width: Width, count: u32, numbers: &[u8]) -> Option<(u32, u32)>
     ensures { result ≡ scan_at width count 0 0 numbers.now }
 {
@@ -101,10 +101,7 @@ fn scanned(width: Width, count: u32, numbers: &[u8]) -> Option<(u32, u32)>
     let mut total = 0u32;
     while left > 0 {
         let (number, behind) = column_number_at(width, rest)?;
-        if number > u32::MAX - total {
-            return None;
-        }
-        total += number;
+        total = total.saturating_add(number);
         greatest = larger(greatest, number);
         rest = behind;
         left -= 1;

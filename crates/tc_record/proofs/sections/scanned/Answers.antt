@@ -1,6 +1,6 @@
-use Rattle.std.proofs.Common.{◌≡◌, ◌∙◌, ap, sym, refl, None, Some, arith, rules, option_map}
+use Rattle.std.proofs.Common.{◌≡◌, ◌∙◌, sym, refl, None, Some, arith}
 use Rattle.tc_record.specs.Walk.{sized_number_at}
-use Rattle.tc_record.proofs.Scans.{scan_none, scan_over, scan_more}
+use Rattle.tc_record.proofs.Scans.{scan_none, scan_more}
 use Rattle.tc_record.proofs.sections.scanned.Goals as goal
 
 pub returns-in_err-number : goal.returns-in_err-number
@@ -9,14 +9,8 @@ returns-in_err-number c =
     let none : sized_number_at c.args.width l.rest.now ≡ None = sym c.column_number_at.ensures ∙ rw c.in_err-number.was refl in
     c.from_residual.ensures ∙ sym (scan_none c.args.width l.left l.greatest l.total l.rest.now (omega arith) none) ∙ l.invariant
 
-pub returns-then-number-total : goal.returns-then-number-total
-returns-then-number-total c =
-    let l = c.loop-left in
-    let read : sized_number_at c.args.width l.rest.now ≡ Some (c.in_ok-number.number, c.in_ok-number.behind.now) = sym c.column_number_at.ensures ∙ rw c.in_ok-number.was refl in
-    sym (scan_over c.args.width l.left l.greatest l.total l.rest.now _ _ (omega arith) read (omega arith)) ∙ l.invariant
-
 pub loop-left-preserved : goal.loop-left-preserved
 loop-left-preserved c =
     let l = c.loop-left in
     let read : sized_number_at c.args.width l.rest.now ≡ Some (c.in_ok-number.number, c.in_ok-number.behind.now) = sym c.column_number_at.ensures ∙ rw c.in_ok-number.was refl in
-    rw c.larger-greatest.ensures (sym (scan_more c.args.width l.left l.greatest l.total l.rest.now _ _ (omega arith) read (omega arith)) ∙ l.invariant)
+    rw (c.larger-greatest.ensures, c.saturating_add-total.ensures) (sym (scan_more c.args.width l.left l.greatest l.total l.rest.now _ _ (omega arith) read) ∙ l.invariant)

@@ -1,0 +1,167 @@
+-- The laws of the header and of the columns behind it.
+use Rattle.std.proofs.Common.{◌≡◌, ◌∙◌, ◌<◌, ◌≤◌, ◌+◌, ◌-◌, ◌*◌, ◌^◌, ◌==◌, ℕ, suc, min, Bool, true, false, if◌then◌else◌, List, [], ◌∷◌, ◌++◌, Option, None, Some, length, map, refl, sym, ap, subst, arith, length-append}
+use Rattle.std.specs.Int.{w32, to_be_bytes}
+use Rattle.std.proofs.lemmas.Bool.Decides.{nat_tests}
+use Rattle.std.proofs.lemmas.Option.{same_Some}
+use Rattle.tc_bytes.specs.Reading.{◌>>=◌, byte_at, number_at, bytes_at}
+use Rattle.tc_bytes.specs.Codec.{IsBytes}
+use Rattle.tc_bytes.proofs.Fields.{number_codec_32, byte_codec, bytes_codec, bytes_again}
+use Rattle.tc_bytes.proofs.Codecs.{then_parts}
+use Rattle.tc_model.specs.Document.{Scalar}
+use Rattle.tc_model.specs.Preorder.{Token}
+use Rattle.tc_record.specs.Widths.{width_bytes}
+use Rattle.tc_record.specs.Record.{tags, fixed, texts, width, numbers, joined, body, record_bytes}
+use Rattle.tc_record.specs.Walk.{Key, Format, Columns}
+use Rattle.tc_record.specs.Sections.{Header, header_at, form_from, Numbers, numbers_at, Sections, columns_behind, sections_in}
+use Rattle.tc_record.proofs.Texts.{AreBytes}
+use Rattle.tc_record.proofs.Walks.{no_columns, with_tokens}
+use Rattle.tc_record.proofs.Spelled.{slots, names, spelled_fixed, spelled_lengths, spelled_texts, spelled_slots, spelled_names}
+use Rattle.tc_record.proofs.Fitting.{AreFit, TokensFit}
+use Rattle.tc_record.proofs.Labels.{if_parts}
+use Rattle.tc_record.proofs.Counted.{sum_from, sum_from-joined, numbers_again, NumbersFound, numbers_found, same_test}
+
+-- ---- the header
+
+abbrev pub spelled_header : Header → List ℕ → List ℕ
+spelled_header h rest =
+    to_be_bytes w32 h.total ++ (h.form ∷ (to_be_bytes w32 h.tags ++ (to_be_bytes w32 h.fixed ++ (to_be_bytes w32 h.texts ++ (h.text_width ∷ (to_be_bytes w32 h.names ++ (h.slot_width ∷ rest)))))))
+
+pub record HeaderFits (h : Header) : Type 0 where
+  pub total : h.total < 2 ^ 32
+  pub tags : h.tags < 2 ^ 32
+  pub fixed : h.fixed < 2 ^ 32
+  pub texts : h.texts < 2 ^ 32
+  pub names : h.names < 2 ^ 32
+
+header_again : (h : Header) (rest : List ℕ) → HeaderFits h → header_at (spelled_header h rest) ≡ Some (h, rest)
+header_again h rest fits =
+    let r6 = h.slot_width ∷ rest in
+    let r5 = h.text_width ∷ (to_be_bytes w32 h.names ++ r6) in
+    let r4 = to_be_bytes w32 h.texts ++ r5 in
+    let r3 = to_be_bytes w32 h.fixed ++ r4 in
+    let r2 = h.form ∷ (to_be_bytes w32 h.tags ++ r3) in
+    rw (number_codec_32.again h.total r2 fits.total, number_codec_32.again h.tags r3 fits.tags, number_codec_32.again h.fixed r4 fits.fixed, number_codec_32.again h.texts r5 fits.texts, number_codec_32.again h.names r6 fits.names) refl
+
+record HeaderFound (bytes : List ℕ) (q : Header × List ℕ) : Type 0 where
+  pub spelled : bytes ≡ spelled_header q.0 q.1
+  pub rest : IsBytes q.1
+  pub fits : HeaderFits q.0
+
+header_found : (bytes : List ℕ) (q : Header × List ℕ) → IsBytes bytes → header_at bytes ≡ Some q → HeaderFound bytes q
+header_found bytes q each gives =
+    let total = then_parts (number_at w32 bytes) _ q gives in
+    let form = then_parts (byte_at total.0.1) _ q total.2 in
+    let tag = then_parts (number_at w32 form.0.1) _ q form.2 in
+    let fix = then_parts (number_at w32 tag.0.1) _ q tag.2 in
+    let txt = then_parts (number_at w32 fix.0.1) _ q fix.2 in
+    let tw = then_parts (byte_at txt.0.1) _ q txt.2 in
+    let nam = then_parts (number_at w32 tw.0.1) _ q tw.2 in
+    let sw = then_parts (byte_at nam.0.1) _ q nam.2 in
+    let a = number_codec_32.found bytes total.0.0 total.0.1 each total.1 in
+    let b = byte_codec.found total.0.1 form.0.0 form.0.1 a.1 form.1 in
+    let c = number_codec_32.found form.0.1 tag.0.0 tag.0.1 b.1 tag.1 in
+    let d = number_codec_32.found tag.0.1 fix.0.0 fix.0.1 c.1 fix.1 in
+    let e = number_codec_32.found fix.0.1 txt.0.0 txt.0.1 d.1 txt.1 in
+    let f = byte_codec.found txt.0.1 tw.0.0 tw.0.1 e.1 tw.1 in
+    let g = number_codec_32.found tw.0.1 nam.0.0 nam.0.1 f.1 nam.1 in
+    let h = byte_codec.found nam.0.1 sw.0.0 sw.0.1 g.1 sw.1 in
+    let at_names : tw.0.1 ≡ to_be_bytes w32 nam.0.0 ++ (sw.0.0 ∷ sw.0.1) = g.0 ∙ ap (λ r. to_be_bytes w32 nam.0.0 ++ r) h.0 in
+    let at_texts : fix.0.1 ≡ to_be_bytes w32 txt.0.0 ++ (tw.0.0 ∷ (to_be_bytes w32 nam.0.0 ++ (sw.0.0 ∷ sw.0.1))) = e.0 ∙ ap (λ r. to_be_bytes w32 txt.0.0 ++ r) (f.0 ∙ ap (λ r. tw.0.0 ∷ r) at_names) in
+    let at_tags : form.0.1 ≡ to_be_bytes w32 tag.0.0 ++ (to_be_bytes w32 fix.0.0 ++ (to_be_bytes w32 txt.0.0 ++ (tw.0.0 ∷ (to_be_bytes w32 nam.0.0 ++ (sw.0.0 ∷ sw.0.1))))) = c.0 ∙ ap (λ r. to_be_bytes w32 tag.0.0 ++ r) (d.0 ∙ ap (λ r. to_be_bytes w32 fix.0.0 ++ r) at_texts) in
+    subst (HeaderFound bytes) (same_Some _ q sw.2)
+    (record {
+      spelled = a.0 ∙ ap (λ r. to_be_bytes w32 total.0.0 ++ r) (b.0 ∙ ap (λ r. form.0.0 ∷ r) at_tags);
+      rest = h.1;
+      fits = record { total = a.2; tags = c.2; fixed = d.2; texts = e.2; names = g.2 };
+    })
+
+-- ---- the columns
+
+pub record ColumnsFound (h : Header) (named : Bool) (bytes : List ℕ) (s : Sections) : Type 0 where
+  pub lengths : List ℕ
+  pub slot_list : List ℕ
+  pub named_is : s.format.named ≡ named
+  pub tag_count : h.tags ≡ length s.tags
+  pub fixed_count : h.fixed ≡ length s.columns.fixed
+  pub text_count : h.texts ≡ length lengths
+  pub slot_count : h.names ≡ length slot_list
+  pub text_width : h.text_width ≡ width lengths
+  pub slot_width : h.slot_width ≡ width slot_list
+  pub lengths_are : s.columns.lengths ≡ numbers (width_bytes s.format.text_width) lengths
+  pub slots_are : s.columns.slots ≡ numbers (width_bytes s.format.slot_width) slot_list
+  pub lengths_fit : AreFit s.format.text_width lengths
+  pub slots_fit : AreFit s.format.slot_width slot_list
+  pub spelled : bytes ≡ s.tags ++ (s.columns.fixed ++ (s.columns.lengths ++ (s.columns.texts ++ (s.columns.slots ++ s.columns.names))))
+  pub each : AreBytes s.columns
+
+columns_found : (h : Header) (named : Bool) (bytes : List ℕ) (s : Sections) → IsBytes bytes → columns_behind h named bytes ≡ Some s → ColumnsFound h named bytes s
+columns_found h named bytes s each gives =
+    let tag = then_parts (bytes_at h.tags bytes) _ s gives in
+    let fix = then_parts (bytes_at h.fixed tag.0.1) _ s tag.2 in
+    let len = then_parts (numbers_at h.text_width h.texts fix.0.1) _ s fix.2 in
+    let txt = then_parts (bytes_at len.0.0.total len.0.1) _ s len.2 in
+    let slot = then_parts (numbers_at h.slot_width h.names txt.0.1) _ s txt.2 in
+    let a = (bytes_codec h.tags).found bytes tag.0.0 tag.0.1 each tag.1 in
+    let b = (bytes_codec h.fixed).found tag.0.1 fix.0.0 fix.0.1 a.1 fix.1 in
+    let c = numbers_found h.text_width h.texts fix.0.1 len.0 b.1 len.1 in
+    let d = (bytes_codec len.0.0.total).found len.0.1 txt.0.0 txt.0.1 c.rest txt.1 in
+    let e = numbers_found h.slot_width h.names txt.0.1 slot.0 d.1 slot.1 in
+    subst (ColumnsFound h named bytes) (same_Some _ s slot.2)
+    (record {
+      lengths = c.elements;
+      slot_list = e.elements;
+      named_is = refl;
+      tag_count = sym a.2.0;
+      fixed_count = sym b.2.0;
+      text_count = c.many;
+      slot_count = e.many;
+      text_width = c.width_least;
+      slot_width = e.width_least;
+      lengths_are = c.column;
+      slots_are = e.column;
+      lengths_fit = c.fits;
+      slots_fit = e.fits;
+      spelled = a.0 ∙ ap (λ r. tag.0.0 ++ r) (b.0 ∙ ap (λ r. fix.0.0 ++ r) (c.spelled ∙ ap (λ r. len.0.0.bytes ++ r) (d.0 ∙ ap (λ r. txt.0.0 ++ r) e.spelled)));
+      each = record { fixed = b.2.1; lengths = c.each; texts = d.2.1; slots = e.each; names = e.rest };
+    })
+
+-- ---- the whole
+
+pub record SectionsFound (bytes : List ℕ) (s : Sections) : Type 0 where
+  pub header : Header
+  pub rest : List ℕ
+  pub spelled : bytes ≡ spelled_header header rest
+  pub total : header.total ≡ length bytes
+  pub form : form_from header.form ≡ Some s.format.named
+  pub fits : HeaderFits header
+  pub columns : ColumnsFound header s.format.named rest s
+
+pub sections_found : (bytes : List ℕ) (s : Sections) → IsBytes bytes → sections_in bytes ≡ Some s → SectionsFound bytes s
+sections_found bytes s each gives =
+    let one = then_parts (header_at bytes) _ s gives in
+    let header = header_found bytes one.0 each one.1 in
+    let h = one.0.0 in
+    let passes = unless_none (h.total == length bytes) _ s one.2 in
+    let two = then_parts (form_from h.form) _ s passes.0 in
+    let columns = columns_found h two.0 one.0.1 s header.rest two.2 in
+    record {
+      header = h;
+      rest = one.0.1;
+      spelled = header.spelled;
+      total = test_same h.total (length bytes) passes.1;
+      form = two.1 ∙ ap Some (sym columns.named_is);
+      fits = header.fits;
+      columns = subst (λ b. ColumnsFound h b one.0.1 s) (sym columns.named_is) columns;
+    }
+  where
+    unless_none : {A : Type 0} (b : Bool) (x : Option A) (q : A) → (if b then x else None) ≡ Some q → (x ≡ Some q) × (b ≡ true)
+    unless_none true x q gives = (gives, refl)
+    unless_none false x q gives = cc
+
+    test_same : (a b : ℕ) → (a == b) ≡ true → a ≡ b
+    test_same a b e = grind (arith, nat_tests)
+
+-- the columns that tokens have are cut out of their record
+pub sections_again : (f : Format) (form : ℕ) (ts : List (Token Key Scalar)) → form_from form ≡ Some f.named → TokensFit f ts → width_bytes f.text_width ≡ width (map length (texts ts)) → width_bytes f.slot_width ≡ width (slots ts)
+    → length (record_bytes form ts (slots ts) (names ts)) < 2 ^ 32 → sections_in (record_bytes form ts (slots ts) (names ts)) ≡ Some (record { format = f; tags = tags ts; columns = with_tokens f ts no_columns })
+sections_again f form ts is fits text_width slot_width short = ?
