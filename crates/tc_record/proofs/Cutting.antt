@@ -13,6 +13,7 @@ use Rattle.tc_record.specs.Widths.{width_bytes}
 use Rattle.tc_record.specs.Record.{tags, fixed, texts, width, numbers, joined, body, record_bytes}
 use Rattle.tc_record.specs.Walk.{Key, Format, Columns}
 use Rattle.tc_record.specs.Sections.{Header, header_at, form_from, Numbers, numbers_at, Sections, columns_behind, sections_in}
+use Rattle.tc_record.proofs.Lengths.{few_numbers}
 use Rattle.tc_record.proofs.Texts.{AreBytes}
 use Rattle.tc_record.proofs.Walks.{no_columns, with_tokens}
 use Rattle.tc_record.proofs.Spelled.{slots, names, spelled_fixed, spelled_lengths, spelled_texts, spelled_slots, spelled_names}
@@ -161,7 +162,74 @@ sections_found bytes s each gives =
     test_same : (a b : ℕ) → (a == b) ≡ true → a ≡ b
     test_same a b e = grind (arith, nat_tests)
 
+-- ---- what is spelled is cut
+
+abbrev five : List ℕ → List ℕ → List ℕ → List ℕ → List ℕ → Columns
+five fixed_bytes length_bytes text_bytes slot_bytes name_bytes = record { fixed = fixed_bytes; lengths = length_bytes; texts = text_bytes; slots = slot_bytes; names = name_bytes }
+
+same_five : (c : Columns) (a b d e g : List ℕ) → c.fixed ≡ a → c.lengths ≡ b → c.texts ≡ d → c.slots ≡ e → c.names ≡ g → c ≡ five a b d e g
+same_five c a b d e g p q r s t =
+    ap (λ x. five x c.lengths c.texts c.slots c.names) p ∙ ap (λ x. five a x c.texts c.slots c.names) q ∙ ap (λ x. five a b x c.slots c.names) r ∙ ap (λ x. five a b d x c.names) s ∙ ap (λ x. five a b d e x) t
+
+-- the header of tokens
+abbrev header_of_tokens : ℕ → List (Token Key Scalar) → Header
+header_of_tokens form ts = record {
+  total = 23 + length (body ts (slots ts) (names ts));
+  form = form;
+  tags = length (tags ts);
+  fixed = length (fixed ts);
+  texts = length (map length (texts ts));
+  text_width = width (map length (texts ts));
+  names = length (slots ts);
+  slot_width = width (slots ts);
+}
+
+-- the lengths of the columns, added up
+body_length : (ts : List (Token Key Scalar)) → length (body ts (slots ts) (names ts))
+    ≡ length (tags ts) + (length (fixed ts) + (length (numbers (width (map length (texts ts))) (map length (texts ts))) + (length (joined (texts ts)) + (length (numbers (width (slots ts)) (slots ts)) + length (names ts)))))
+body_length ts =
+    let lengths = map length (texts ts) in
+    let last = numbers (width (slots ts)) (slots ts) ++ names ts in
+    let text_part = joined (texts ts) ++ last in
+    let text_columns = numbers (width lengths) lengths ++ text_part in
+    omega (arith, length-append (tags ts) (fixed ts ++ text_columns), length-append (fixed ts) text_columns, length-append (numbers (width lengths) lengths) text_part, length-append (joined (texts ts)) last, length-append (numbers (width (slots ts)) (slots ts)) (names ts))
+
+header_fits : (form : ℕ) (ts : List (Token Key Scalar)) → 23 + length (body ts (slots ts) (names ts)) < 2 ^ 32 → HeaderFits (header_of_tokens form ts)
+header_fits form ts short =
+    let sum = body_length ts in
+    record {
+      total = short;
+      tags = omega arith;
+      fixed = omega arith;
+      texts = few_numbers (map length (texts ts)) (omega arith);
+      names = few_numbers (slots ts) (omega arith);
+    }
+
+columns_again : (f : Format) (form : ℕ) (ts : List (Token Key Scalar)) → TokensFit f ts → width_bytes f.text_width ≡ width (map length (texts ts)) → width_bytes f.slot_width ≡ width (slots ts)
+    → 23 + length (body ts (slots ts) (names ts)) < 2 ^ 32
+    → columns_behind (header_of_tokens form ts) f.named (body ts (slots ts) (names ts)) ≡ Some (record { format = f; tags = tags ts; columns = with_tokens f ts no_columns })
+columns_again f form ts fits text_width slot_width short =
+    let lengths = map length (texts ts) in
+    let r4 = numbers (width (slots ts)) (slots ts) ++ names ts in
+    let r3 = joined (texts ts) ++ r4 in
+    let r2 = numbers (width lengths) lengths ++ r3 in
+    let r1 = fixed ts ++ r2 in
+    let sum = body_length ts in
+    let total : length (joined (texts ts)) ≡ sum_from 0 lengths = sym (sum_from-joined (texts ts) 0 (omega arith) ∙ omega arith) in
+    let read_lengths : numbers_at (width lengths) (length lengths) r2 ≡ Some (record { width = f.text_width; bytes = numbers (width lengths) lengths; total = sum_from 0 lengths }, r3) =
+        subst (λ n. numbers_at n (length lengths) (numbers n lengths ++ r3) ≡ Some (record { width = f.text_width; bytes = numbers n lengths; total = sum_from 0 lengths }, r3)) text_width (numbers_again f.text_width lengths r3 fits.texts text_width) in
+    let read_slots : numbers_at (width (slots ts)) (length (slots ts)) r4 ≡ Some (record { width = f.slot_width; bytes = numbers (width (slots ts)) (slots ts); total = sum_from 0 (slots ts) }, names ts) =
+        subst (λ n. numbers_at n (length (slots ts)) (numbers n (slots ts) ++ names ts) ≡ Some (record { width = f.slot_width; bytes = numbers n (slots ts); total = sum_from 0 (slots ts) }, names ts)) slot_width (numbers_again f.slot_width (slots ts) (names ts) fits.slots slot_width) in
+    let columns : with_tokens f ts no_columns ≡ five (fixed ts) (numbers (width lengths) lengths) (joined (texts ts)) (numbers (width (slots ts)) (slots ts)) (names ts) =
+        same_five (with_tokens f ts no_columns) _ _ _ _ _ (spelled_fixed f ts) (spelled_lengths f ts ∙ ap (λ n. numbers n lengths) text_width) (spelled_texts f ts) (spelled_slots f ts ∙ ap (λ n. numbers n (slots ts)) slot_width) (spelled_names f ts) in
+    rw (columns, bytes_again (length (tags ts)) (tags ts) r1 refl, bytes_again (length (fixed ts)) (fixed ts) r2 refl, read_lengths, bytes_again (sum_from 0 lengths) (joined (texts ts)) r4 total, read_slots) refl
+
 -- the columns that tokens have are cut out of their record
 pub sections_again : (f : Format) (form : ℕ) (ts : List (Token Key Scalar)) → form_from form ≡ Some f.named → TokensFit f ts → width_bytes f.text_width ≡ width (map length (texts ts)) → width_bytes f.slot_width ≡ width (slots ts)
     → length (record_bytes form ts (slots ts) (names ts)) < 2 ^ 32 → sections_in (record_bytes form ts (slots ts) (names ts)) ≡ Some (record { format = f; tags = tags ts; columns = with_tokens f ts no_columns })
-sections_again f form ts is fits text_width slot_width short = ?
+sections_again f form ts is fits text_width slot_width short =
+    let content = body ts (slots ts) (names ts) in
+    let small : 23 + length content < 2 ^ 32 = omega arith in
+    let whole : 23 + length content ≡ length (record_bytes form ts (slots ts) (names ts)) = omega arith in
+    rw (header_again (header_of_tokens form ts) content (header_fits form ts small), is, columns_again f form ts fits text_width slot_width small)
+    (same_test (23 + length content) (length (record_bytes form ts (slots ts) (names ts))) _ None whole)
