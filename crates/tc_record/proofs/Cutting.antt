@@ -87,6 +87,8 @@ pub record ColumnsFound (h : Header) (named : Bool) (bytes : List ℕ) (s : Sect
   pub text_count : h.texts ≡ length lengths
   pub slot_count : h.names ≡ length slot_list
   pub text_width : h.text_width ≡ width lengths
+  pub text_told : h.text_width ≡ width_bytes s.format.text_width
+  pub slot_told : h.slot_width ≡ width_bytes s.format.slot_width
   pub slot_width : h.slot_width ≡ width slot_list
   pub lengths_are : s.columns.lengths ≡ numbers (width_bytes s.format.text_width) lengths
   pub slots_are : s.columns.slots ≡ numbers (width_bytes s.format.slot_width) slot_list
@@ -117,6 +119,8 @@ columns_found h named bytes s each gives =
       text_count = c.many;
       slot_count = e.many;
       text_width = c.width_least;
+      text_told = c.width_told;
+      slot_told = e.width_told;
       slot_width = e.width_least;
       lengths_are = c.column;
       slots_are = e.column;
@@ -172,7 +176,7 @@ same_five c a b d e g p q r s t =
     ap (λ x. five x c.lengths c.texts c.slots c.names) p ∙ ap (λ x. five a x c.texts c.slots c.names) q ∙ ap (λ x. five a b x c.slots c.names) r ∙ ap (λ x. five a b d x c.names) s ∙ ap (λ x. five a b d e x) t
 
 -- the header of tokens
-abbrev header_of_tokens : ℕ → List (Token Key Scalar) → Header
+abbrev pub header_of_tokens : ℕ → List (Token Key Scalar) → Header
 header_of_tokens form ts = record {
   total = 23 + length (body ts (slots ts) (names ts));
   form = form;
@@ -185,7 +189,7 @@ header_of_tokens form ts = record {
 }
 
 -- the lengths of the columns, added up
-body_length : (ts : List (Token Key Scalar)) → length (body ts (slots ts) (names ts))
+pub body_length : (ts : List (Token Key Scalar)) → length (body ts (slots ts) (names ts))
     ≡ length (tags ts) + (length (fixed ts) + (length (numbers (width (map length (texts ts))) (map length (texts ts))) + (length (joined (texts ts)) + (length (numbers (width (slots ts)) (slots ts)) + length (names ts)))))
 body_length ts =
     let lengths = map length (texts ts) in

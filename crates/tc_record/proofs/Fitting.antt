@@ -29,7 +29,7 @@ fit_split : (w : Width) (ns ms : List ℕ) → AreFit w (ns ++ ms) → AreFit w 
 fit_split w [] ms fits = (tt, fits)
 fit_split w (n ∷ ns) ms fits = let rest = fit_split w ns ms fits.1 in ((fits.0, rest.0), rest.1)
 
-fit_append : (w : Width) (ns ms : List ℕ) → AreFit w ns → AreFit w ms → AreFit w (ns ++ ms)
+pub fit_append : (w : Width) (ns ms : List ℕ) → AreFit w ns → AreFit w ms → AreFit w (ns ++ ms)
 fit_append w [] ms fits more = more
 fit_append w (n ∷ ns) ms fits more = (fits.0, fit_append w ns ms fits.1 more)
 
@@ -41,7 +41,7 @@ pub record TokensFit (f : Format) (ts : List (Token Key Scalar)) : Type 0 where
 texts-append : (ts us : List (Token Key Scalar)) → map length (texts (ts ++ us)) ≡ map length (texts ts) ++ map length (texts us)
 texts-append ts us = ap (map length) (flat_map-append (λ (t : Token Key Scalar). piece_text t.piece) ts us) ∙ map-append length (texts ts) (texts us)
 
-slots-append : (ts us : List (Token Key Scalar)) → slots (ts ++ us) ≡ slots ts ++ slots us
+pub slots-append : (ts us : List (Token Key Scalar)) → slots (ts ++ us) ≡ slots ts ++ slots us
 slots-append ts us = ap (map slot_of) (flat_map-append (λ (t : Token Key Scalar). option_to_list t.label) ts us) ∙ map-append slot_of (labels ts) (labels us)
 
 tokens_split : (f : Format) (ts us : List (Token Key Scalar)) → TokensFit f (ts ++ us) → TokensFit f ts × TokensFit f us

@@ -111,3 +111,9 @@ pub record_of-numbered : (n : NumberedTree) → numbered_record_of n ≡ record_
 record_of-numbered n =
     let ts = tokens_of n in
     rw (preorder-relabel number n None, labels-retoken number ts, slots-numbered (labels ts), names-numbered (labels ts)) (sym (record-retoken number 1 ts (labels ts) []))
+
+pub slots_of-keyed : (d : Document) → slots (tokens_of (keyed d)) ≡ map length (labels (tokens_of d))
+slots_of-keyed d = rw (preorder-relabel name d None, labels-retoken name (tokens_of d)) (slots-named (labels (tokens_of d)))
+
+pub names_of-keyed : (d : Document) → names (tokens_of (keyed d)) ≡ flat_map (λ l. l) (labels (tokens_of d))
+names_of-keyed d = rw (preorder-relabel name d None, labels-retoken name (tokens_of d)) (names-named (labels (tokens_of d)))

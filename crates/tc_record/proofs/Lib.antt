@@ -16,3 +16,4 @@ pub mod Fitting
 pub mod Documents
 pub mod Counted
 pub mod Cutting
+pub mod Reading

@@ -8,3 +8,4 @@ pub mod WalkView
 pub mod Stack
 pub mod Sections
 pub mod SectionsView
+pub mod Borrowed
