@@ -9,3 +9,4 @@ pub mod Stack
 pub mod Sections
 pub mod SectionsView
 pub mod Borrowed
+pub mod Held

@@ -1,6 +1,7 @@
 //! The vector-based record of a document.
 #![tactic(auto)]
 
+mod cursor;
 mod encoding;
 mod header;
 mod measure;
@@ -14,6 +15,8 @@ mod token;
 mod walking;
 mod widths;
 
+pub use cursor::Cursor;
 pub use encoding::encode;
+pub use record_ref::RecordRef;
 pub use sizing::size;
 pub use token::{Label, Piece, Token};

@@ -1,33 +1,76 @@
-//! A record that is borrowed, and a cursor over its tokens.
+//! A record of either form, borrowed.
 
-ghost use Rattle.std.specs.Prelude.{◌≡◌, ◌++◌, [], IfSome, IfNone, is_some, option_map, option_to_list};
+ghost use Rattle.std.specs.Prelude.{◌≡◌, IfSome, IfNone, is_some, true, false};
+ghost use Rattle.tc_model.specs.Document.{Document};
+ghost use Rattle.tc_record.specs.Record.{NumberedTree, IsRecordOf, IsNumberedRecordOf};
 ghost use Rattle.tc_record.specs.Walk.{walk, tokens_read, is_used_up as used_up};
-ghost use Rattle.tc_record.specs.WalkView.{token_of, columns_of, format_of};
+ghost use Rattle.tc_record.specs.WalkView.{columns_of, format_of};
 ghost use Rattle.tc_record.specs.Stack.{stack_of};
-ghost use Rattle.tc_record.specs.Sections.{record_read};
-ghost use Rattle.tc_record.specs.SectionsView.{sections_of};
+ghost use Rattle.tc_record.specs.Borrowed.{Spells, IsRecord, named_tokens, numbered_tokens};
 
+use crate::cursor::Cursor;
 use crate::reader::Columns;
 use crate::sections::{sections_of_record, Sections};
-
 use crate::walking::Walk;
+use std::marker::Model;
 
-
-/// A record of either form, borrowed.
-#[derive(Clone, Copy)]
-struct Checked<'a> {
+/// A record that is borrowed. Contracts see its bytes, whether members carry names, and its tokens.
+#[derive(Drop)]
+pub struct RecordRef<'a> {
     bytes: &'a [u8],
     sections: Sections<'a>,
 }
 
-fn check_record(bytes: &[u8]) -> Option<Checked<'_>>
-    ensures { is_some result ≡ is_some (record_read bytes.now) }
-{
-    let sections = sections_of_record(bytes)?;
-    if has_tokens(sections) {
-        Some(Checked { bytes, sections })
-    } else {
-        None
+impl<'a> Model for RecordRef<'a> {
+    ghost use Rattle.std.specs.Prelude.{IsTrue, is_some, unwrap_or, []};
+    ghost use Rattle.tc_record.specs.Borrowed.{Record};
+
+    ghost Value = { Record };
+
+    ghost use Rattle.tc_record.specs.Held.{tokens_held};
+
+    ghost view = { λ r. record { bytes = r.bytes.now; named = r.sections.format.named; tokens = unwrap_or (tokens_held r.sections) [] } };
+
+    ghost invariant = { λ r. IsTrue (is_some (tokens_held r.sections)) };
+}
+
+impl<'a> RecordRef<'a> {
+    /// The record that the bytes are, or `None` where they are a record of neither form. Takes no memory.
+    pub fn of(bytes: &'a [u8]) -> Option<RecordRef<'a>>
+        ensures bytes { IfSome result (λ r. r.bytes ≡ bytes.now) }
+        ensures spells { IfSome result Spells }
+        ensures document { IfSome result (λ r. (d : Document) → IsRecordOf d bytes.now → (r.named ≡ true) × (r.tokens ≡ named_tokens d)) }
+        ensures numbered { IfSome result (λ r. (n : NumberedTree) → IsNumberedRecordOf n bytes.now → (r.named ≡ false) × (r.tokens ≡ numbered_tokens n)) }
+        ensures none { IfNone result (IsRecord bytes.now → ⊥) }
+    {
+        let sections = sections_of_record(bytes)?;
+        if has_tokens(sections) {
+            Some(RecordRef { bytes, sections })
+        } else {
+            None
+        }
+    }
+
+    /// Whether members carry names, as in form 0.
+    pub fn named(&self) -> bool
+        ensures { result ≡ self.now.named }
+    {
+        self.sections.format.named
+    }
+
+    /// The bytes of the whole record.
+    pub fn bytes(&self) -> &'a [u8]
+        ensures { result.now ≡ self.now.bytes }
+    {
+        self.bytes
+    }
+
+    /// A cursor that stands before the first token. Takes no memory.
+    pub fn cursor(&self) -> Cursor<'a>
+        ensures { result ≡ self.now.tokens }
+    {
+        let sections = self.sections;
+        Cursor::start(sections.tags, Walk::in_object(sections.format, sections.columns))
     }
 }
 
@@ -36,7 +79,9 @@ fn has_tokens(sections: Sections<'_>) -> bool
 {
     match sections.tags {
         [] => false,
-        [first, rest @ ..] => *first == 6 && walks(rest, Walk::in_object(sections.format, sections.columns)),
+        [first, rest @ ..] => {
+            *first == 6 && walks(rest, Walk::in_object(sections.format, sections.columns))
+        }
     }
 }
 
