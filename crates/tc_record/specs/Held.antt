@@ -1,7 +1,8 @@
 -- What a borrowed record and a cursor are seen as.
-use Rattle.std.specs.Prelude.{ℕ, Bool, true, false, List, [], Option, unwrap_or}
+use Rattle.std.specs.Prelude.{ℕ, ◌==◌, Bool, true, false, if◌then◌else◌, List, [], ◌∷◌, Option, None, Some}
+use Rattle.tc_bytes.specs.Reading.{◌>>=◌}
 use Rattle.tc_model.specs.Document.{Scalar}
-use Rattle.tc_model.specs.Preorder.{Token}
+use Rattle.tc_model.specs.Preorder.{Token, token, object_opened}
 use Rattle.tc_record.specs.Walk as walk
 use Rattle.tc_record.specs.WalkView.{columns_of, format_of}
 use Rattle.tc_record.specs.Stack.{stack_of}
@@ -12,7 +13,9 @@ use Rattle.tc_record.specs.declared.walking.Walk.{Walk}
 abbrev pub tokens_held : Sections → Option (List (Token walk.Key Scalar))
 tokens_held s = walk.tokens_read (format_of s.format) s.tags.now (columns_of s.columns)
 
--- the tokens that are left, where the first one was taken or was not
+-- the tokens that are left, where the first one was taken, and where it was not
 abbrev pub tokens_left : Bool → List ℕ → Walk → Option (List (Token walk.Key Scalar))
 tokens_left true tags w = walk.walk (format_of w.format) tags (stack_of w.levels w.depth) (columns_of w.columns)
-tokens_left false tags w = walk.tokens_read (format_of w.format) tags (columns_of w.columns)
+tokens_left false [] w = None
+tokens_left false (tag ∷ tags) w =
+    if tag == 6 then (walk.walk (format_of w.format) tags (stack_of w.levels w.depth) (columns_of w.columns) >>= λ ts. Some (token None object_opened ∷ ts)) else None
