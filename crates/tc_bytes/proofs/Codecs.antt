@@ -75,18 +75,18 @@ pair_codec {A} {B} {first} {spell} {Fits} {second} {spell_second} {FitsSecond} c
         (front.0 ∙ ap (λ r. spell one.0.0 ++ r) back.0 ∙ sym (append_assoc (spell one.0.0) (spell_second one.0.0 two.0.0) two.0.1), back.1, (front.2, back.2))
 
 -- bytes behind their number
-pub counted_bytes_codec : IsCodec counted_bytes_at counted_bytes (λ bytes. (length bytes < 2 ^ 32) × IsBytes bytes)
+pub counted_bytes_codec : IsCodec counted_bytes_at counted_bytes (λ bytes. length bytes < 2 ^ 32)
 counted_bytes_codec = record {
   found = counted_found;
   again = λ bytes rest fits.
-      ap (λ n. n >>= λ n. bytes_at n.0 n.1) (number_codec_32.again (length bytes) (bytes ++ rest) fits.0) ∙ (bytes_codec (length bytes)).again bytes rest (refl, fits.1);
+      ap (λ n. n >>= λ n. bytes_at n.0 n.1) (number_codec_32.again (length bytes) (bytes ++ rest) fits) ∙ (bytes_codec (length bytes)).again bytes rest refl;
 }
   where
     counted_found : (bytes front rest : List ℕ) → IsBytes bytes → counted_bytes_at bytes ≡ Some (front, rest)
-        → (bytes ≡ counted_bytes front ++ rest) × IsBytes rest × ((length front < 2 ^ 32) × IsBytes front)
+        → (bytes ≡ counted_bytes front ++ rest) × IsBytes rest × (length front < 2 ^ 32)
     counted_found bytes front rest each gives =
         let parts = then_parts (number_at w32 bytes) _ (front, rest) gives in
         let count = number_codec_32.found bytes parts.0.0 parts.0.1 each parts.1 in
         let content = (bytes_codec parts.0.0).found parts.0.1 front rest count.1 parts.2 in
-        let spelled : bytes ≡ counted_bytes front ++ rest = rw content.2.0 (count.0 ∙ ap (λ r. to_be_bytes w32 parts.0.0 ++ r) content.0 ∙ sym (append_assoc (to_be_bytes w32 parts.0.0) front rest)) in
-        (spelled, content.1, (subst (λ n. n < 2 ^ 32) (sym content.2.0) count.2, content.2.1))
+        let spelled : bytes ≡ counted_bytes front ++ rest = rw content.2 (count.0 ∙ ap (λ r. to_be_bytes w32 parts.0.0 ++ r) content.0 ∙ sym (append_assoc (to_be_bytes w32 parts.0.0) front rest)) in
+        (spelled, content.1, subst (λ n. n < 2 ^ 32) (sym content.2) count.2)

@@ -1,5 +1,5 @@
 -- The laws of single fields: numbers and bytes are read from their spelling alone.
-use Rattle.std.proofs.Common.{◌≡◌, ◌<◌, ◌≤◌, ◌^◌, ◌+◌, ℕ, zero, suc, List, [], ◌∷◌, ◌++◌, Some, length, take, drop, refl, sym, ap, ◌∙◌, subst, arith, length-append}
+use Rattle.std.proofs.Common.{Fits, w8, get_or, ◌≡◌, ◌<◌, ◌≤◌, ◌^◌, ◌+◌, ℕ, zero, suc, List, [], ◌∷◌, ◌++◌, Some, length, take, drop, refl, sym, ap, ◌∙◌, subst, arith, length-append}
 use Rattle.std.specs.Int.{Width, w32, w64, byte_len, from_be_bytes, to_be_bytes}
 use Rattle.std.proofs.lemmas.Bool.{le-ltb}
 use Rattle.std.proofs.lemmas.Bool.Decides.{nat_tests}
@@ -12,11 +12,18 @@ use Rattle.tc_bytes.specs.Codec.{IsBytes, IsCodec}
 pub IsBytes-drop : (n : ℕ) (bytes : List ℕ) → IsBytes bytes → IsBytes (drop n bytes)
 IsBytes-drop n bytes each i = rw (get_or-drop n bytes i 0) (each (n + i))
 
+-- what the type of a slice of bytes says of it
+pub IsBytes-from_type : (bytes : List ℕ) → ((i : ℕ) → Fits w8 (get_or bytes i 0)) → IsBytes bytes
+IsBytes-from_type bytes each i = omega (arith, each i)
+
 pub IsBytes-take : (n : ℕ) (bytes : List ℕ) → IsBytes bytes → IsBytes (take n bytes)
 IsBytes-take zero bytes each i = omega arith
 IsBytes-take (suc n) [] each i = omega arith
 IsBytes-take (suc n) (b ∷ bytes) each zero = each 0
 IsBytes-take (suc n) (b ∷ bytes) each (suc i) = IsBytes-take n bytes (λ j. each (suc j)) i
+
+pub IsBytes-front : (front rest : List ℕ) → IsBytes (front ++ rest) → IsBytes front
+IsBytes-front front rest each = subst IsBytes (take_at front rest (length front) refl) (IsBytes-take (length front) (front ++ rest) each)
 
 -- ---- numbers
 
@@ -83,13 +90,13 @@ byte_codec = record { found = byte_found; again = λ b rest fits. refl }
         (rw (same.0, same.1) refl, subst IsBytes same.1 (λ i. each (suc i)), rw (← same.0) (each 0))
 
 -- so many bytes
-pub bytes_codec : (n : ℕ) → IsCodec (bytes_at n) (λ bytes. bytes) (λ bytes. (length bytes ≡ n) × IsBytes bytes)
+pub bytes_codec : (n : ℕ) → IsCodec (bytes_at n) (λ bytes. bytes) (λ bytes. length bytes ≡ n)
 bytes_codec n = record {
   found = λ bytes front rest each read.
       let parts = bytes_parts n bytes front rest read in (
         rw (parts.1, parts.2) (sym (take-append-drop n bytes)),
         subst IsBytes (sym parts.2) (IsBytes-drop n bytes each),
-        (ap length parts.1 ∙ length-take-le n bytes parts.0, subst IsBytes (sym parts.1) (IsBytes-take n bytes each)),
+        ap length parts.1 ∙ length-take-le n bytes parts.0,
       );
-  again = λ front rest fits. bytes_again n front rest fits.0;
+  again = λ front rest fits. bytes_again n front rest fits;
 }

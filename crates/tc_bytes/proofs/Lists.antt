@@ -1,18 +1,43 @@
 -- The laws of lists: elements one after the other, each of which may follow those before it.
-use Rattle.std.proofs.Common.{◌≡◌, ◌<◌, ◌^◌, ◌-◌, ℕ, zero, suc, Bool, true, false, List, [], ◌∷◌, ◌++◌, Option, None, Some, if◌then◌else◌, length, flat_map, refl, sym, ap, ◌∙◌, subst, arith, rules, append_assoc, append-nil}
+use Rattle.std.proofs.Common.{slice_get, get_or, take, ◌+◌, ◌≡◌, ◌<◌, ◌^◌, ◌-◌, ℕ, zero, suc, Bool, true, false, List, [], ◌∷◌, ◌++◌, Option, None, Some, if◌then◌else◌, length, flat_map, refl, sym, ap, ◌∙◌, subst, arith, rules, append_assoc, append-nil}
 use Rattle.std.specs.Int.{w32, to_be_bytes}
 use Rattle.std.specs.List.{AllByRecursion}
 use Rattle.std.proofs.lemmas.Option.{same_Some}
+use Rattle.std.proofs.lemmas.List.{take_more}
+use Rattle.std.proofs.lemmas.List.Concat.{flat_map-append}
+use Rattle.std.proofs.lemmas.Option.{get_or_from_slice_get, slice_get_within}
 use Rattle.tc_bytes.specs.Reading.{Reader, ◌>>=◌, number_at, elements_at, counted_list_at}
 use Rattle.tc_bytes.specs.Codec.{IsBytes, IsCodec, counted_list, MayFollow, any_order}
 use Rattle.tc_bytes.proofs.Fields.{number_codec_32}
 use Rattle.tc_bytes.proofs.Codecs.{then_parts}
 
--- one element more of those that are asked for, as a loop reads it
-pub elements_next : {A : Type 0} (may_follow : List A → A → Bool) (read : Reader A) (n : ℕ) (before : List A) (bytes : List ℕ) → 0 < n
+-- one element more, as a loop writes it
+pub spelled-next : {A : Type 0} (spell : A → List ℕ) (xs : List A) (i : ℕ) (x : A) → slice_get xs i ≡ Some x → flat_map spell (take (i + 1) xs) ≡ flat_map spell (take i xs) ++ spell x
+spelled-next spell xs i x at =
+    let here : get_or xs i x ≡ x = get_or_from_slice_get xs i x x at in
+    take-next (take_more xs i x (slice_get_within xs i x at) ∙ ap (λ y. take i xs ++ y ∷ []) here)
+  where
+    take-next : take (i + 1) xs ≡ take i xs ++ x ∷ [] → flat_map spell (take (i + 1) xs) ≡ flat_map spell (take i xs) ++ spell x
+    take-next e = ap (flat_map spell) e ∙ flat_map-append spell (take i xs) (x ∷ []) ∙ ap (λ bytes. flat_map spell (take i xs) ++ bytes) (append-nil (spell x))
+
+-- one element more of those that are asked for
+elements_next : {A : Type 0} (may_follow : List A → A → Bool) (read : Reader A) (n : ℕ) (before : List A) (bytes : List ℕ) → 0 < n
     → elements_at may_follow read n before bytes ≡ (read bytes >>= λ x. if may_follow before x.0 then elements_at may_follow read (n - 1) (before ++ x.0 ∷ []) x.1 else None)
 elements_next may_follow read zero before bytes some = absurd (omega arith)
 elements_next may_follow read (suc n) before bytes some = let same : suc n - 1 ≡ n = omega arith in rw same refl
+
+-- a turn of the loop that reads n elements: none stands there, one that may not follow, or one that may
+pub elements_none : {A : Type 0} (may_follow : List A → A → Bool) (read : Reader A) (n : ℕ) (before : List A) (bytes : List ℕ) → 0 < n
+    → read bytes ≡ None → elements_at may_follow read n before bytes ≡ None
+elements_none may_follow read n before bytes some none = elements_next may_follow read n before bytes some ∙ rw none refl
+
+pub elements_refused : {A : Type 0} (may_follow : List A → A → Bool) (read : Reader A) (n : ℕ) (before : List A) (bytes : List ℕ) (x : A) (rest : List ℕ) → 0 < n
+    → read bytes ≡ Some (x, rest) → may_follow before x ≡ false → elements_at may_follow read n before bytes ≡ None
+elements_refused may_follow read n before bytes x rest some one refused = elements_next may_follow read n before bytes some ∙ rw (one, refused) refl
+
+pub elements_more : {A : Type 0} (may_follow : List A → A → Bool) (read : Reader A) (n : ℕ) (before : List A) (bytes : List ℕ) (x : A) (rest : List ℕ) → 0 < n
+    → read bytes ≡ Some (x, rest) → may_follow before x ≡ true → elements_at may_follow read n before bytes ≡ elements_at may_follow read (n - 1) (before ++ x ∷ []) rest
+elements_more may_follow read n before bytes x rest some one follows = elements_next may_follow read n before bytes some ∙ rw (one, follows) refl
 
 -- what reading n elements behind those before gave
 record ElementsFound {A : Type 0} (may_follow : List A → A → Bool) (spell : A → List ℕ) (Fits : A → Type 0) (n : ℕ) (before : List A) (bytes : List ℕ) (q : List A × List ℕ) : Type 0 where

@@ -1,6 +1,6 @@
 //! Fields read from the front of a slice: the value and what stands behind it, or `None` where the slice is too short.
 
-ghost use Rattle.std.specs.Prelude.{◌≡◌, option_map};
+ghost use Rattle.std.specs.Prelude.{◌≡◌, ◌<◌, ◌^◌, length, option_map, IfSome};
 ghost use Rattle.std.specs.Int.{w32, w64};
 ghost use Rattle.tc_bytes.specs.Reading.{byte_at, number_at, bytes_at, counted_bytes_at};
 
@@ -52,7 +52,8 @@ pub fn slice_at(bytes: &[u8], count: usize) -> Option<(&[u8], &[u8])>
 
 /// Bytes behind their number, which stands in four bytes.
 pub fn counted_at(bytes: &[u8]) -> Option<(&[u8], &[u8])>
-    ensures { option_map (λ x. (x.0.now, x.1.now)) result ≡ counted_bytes_at bytes.now }
+    ensures value { option_map (λ x. (x.0.now, x.1.now)) result ≡ counted_bytes_at bytes.now }
+    ensures short { IfSome result (λ x. length x.0.now < 2 ^ 32) }
 {
     let (count, rest) = u32_at(bytes)?;
     slice_at(rest, count as usize)

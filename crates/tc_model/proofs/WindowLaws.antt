@@ -75,7 +75,7 @@ closed-with_open limit closed window =
       | false ↦ record { more = []; goes_on = sym (append-nil closed) }
     ]
 
-closed-with_line : (limit : ℕ) (ws : Windows) (line : List ℕ) → BeginsWith (with_line limit ws line).closed ws.closed
+pub closed-with_line : (limit : ℕ) (ws : Windows) (line : List ℕ) → BeginsWith (with_line limit ws line).closed ws.closed
 closed-with_line limit ws line =
     elim (is_control (request_of line)) as (λ b. let next : Windows = if b then record { closed = ws.closed ++ unless_empty ws.open_lines ++ (line ∷ []) ∷ []; open_lines = [] } else with_open limit ws.closed (ws.open_lines ++ line ∷ []) in BeginsWith next.closed ws.closed) [
       | true ↦ record { more = unless_empty ws.open_lines ++ (line ∷ []) ∷ []; goes_on = append_assoc ws.closed (unless_empty ws.open_lines) ((line ∷ []) ∷ []) }

@@ -1,5 +1,4 @@
 pub mod Tree
-pub mod Preorder
 pub mod TreeCode
 pub mod Document
 pub mod Json

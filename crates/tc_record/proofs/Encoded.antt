@@ -1,16 +1,15 @@
 -- What the passes of the encoder write is the record.
-use Rattle.std.proofs.Common.{◌≡◌, ◌∙◌, ◌<◌, ◌+◌, ℕ, refl, sym, ap, List, [], ◌∷◌, ◌++◌, length, map, Option, option_to_list, append_assoc, append-nil, arith}
+use Rattle.std.proofs.Common.{◌≡◌, ◌∙◌, ◌+◌, ℕ, refl, sym, ap, List, [], ◌∷◌, ◌++◌, length, map, option_to_list, append_assoc, append-nil, arith}
 use Rattle.std.specs.Int.{w32, to_be_bytes, bytes_high_first}
 use Rattle.std.proofs.lemmas.List.{map-append}
 use Rattle.std.proofs.lemmas.List.Concat.{flat_map-append}
 use Rattle.tc_model.specs.Document.{Name, Document, Scalar}
-use Rattle.tc_model.specs.Preorder.{Token, tokens_of}
+use Rattle.tc_record.specs.Preorder.{Token, tokens_of}
 use Rattle.tc_record.specs.declared.widths.Width.{Width}
 use Rattle.tc_record.specs.declared.measure.Measure.{Measure}
-use Rattle.tc_record.specs.declared.encoding.Part.{Part}
 use Rattle.tc_record.specs.declared.encoding.Part.TheVariants.{Tags, Fixed, TextLengths, Texts, NameLengths, Names}
 use Rattle.tc_record.specs.Widths.{width_bytes}
-use Rattle.tc_record.specs.Measured.{measured, nothing_measured, record_len, column_width}
+use Rattle.tc_record.specs.Measured.{record_len, column_width}
 use Rattle.tc_record.specs.Record.{piece_tag, piece_fixed, piece_text, tags, fixed, texts, labels, width, numbers, joined, body, record_of}
 use Rattle.tc_record.specs.Parts.{part_bytes}
 use Rattle.tc_record.proofs.Lengths.{IsExactMeasure}

@@ -1,14 +1,13 @@
 -- How long a record is, and that its measure says so.
-use Rattle.std.proofs.Common.{◌≡◌, ◌∙◌, ◌<◌, ◌≤◌, ◌+◌, ◌-◌, ◌*◌, ◌^◌, ℕ, zero, suc, min, max, if◌then◌else◌, ◌==◌, nat_lt, refl, sym, ap, List, [], ◌∷◌, ◌++◌, length, map, flat_map, None, Some, Option, option_to_list, IfSome, IfNone, arith, length-append, append_assoc}
+use Rattle.std.proofs.Common.{◌≡◌, ◌∙◌, ◌<◌, ◌≤◌, ◌+◌, ◌-◌, ◌*◌, ◌^◌, ℕ, zero, suc, min, max, if◌then◌else◌, ◌==◌, nat_lt, refl, sym, ap, List, [], ◌∷◌, ◌++◌, length, map, None, Some, Option, option_to_list, IfSome, IfNone, arith, length-append}
 use Rattle.std.specs.Int.{bytes_high_first}
 use Rattle.std.proofs.lemmas.Bool.Decides.{nat_tests}
 use Rattle.std.proofs.lemmas.List.{map-append}
-use Rattle.tc_model.specs.Tree.{object}
 use Rattle.tc_model.specs.Document.{Name, Document, Scalar}
-use Rattle.tc_model.specs.Preorder.{Token, preorder, tokens_of}
+use Rattle.tc_record.specs.Preorder.{Token, tokens_of}
 use Rattle.tc_record.specs.declared.measure.Column.{Column}
 use Rattle.tc_record.specs.declared.measure.Measure.{Measure}
-use Rattle.tc_record.specs.Record.{piece_text, piece_fixed, tags, fixed, texts, labels, greatest, width, width_of, numbers, joined, body, record_bytes, record_of}
+use Rattle.tc_record.specs.Record.{piece_text, piece_fixed, tags, fixed, texts, labels, greatest, width, width_of, numbers, joined, record_bytes, record_of}
 use Rattle.tc_record.specs.Measured.{sum_within, with_element, with_elements, with_label, with_piece, measured, no_elements, nothing_measured, column_width, column_len, record_len}
 
 length-bytes_high_first : (w n : ℕ) → length (bytes_high_first w n) ≡ w

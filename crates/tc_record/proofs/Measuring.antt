@@ -2,7 +2,7 @@
 use Rattle.std.proofs.Common.{◌≡◌, ◌∙◌, ◌<◌, ◌+◌, ℕ, refl, sym, ap, List, [], ◌∷◌, ◌++◌, length, map, drop, get_or, None, Some}
 use Rattle.tc_model.specs.Tree.{leaf, array, object, items_of, members_of}
 use Rattle.tc_model.specs.Document.{Name, Document, Scalar}
-use Rattle.tc_model.specs.Preorder.{Token, preorder, items_preorder, members_preorder}
+use Rattle.tc_record.specs.Preorder.{Token, preorder, items_preorder, members_preorder}
 use Rattle.tc_value.proofs.Sizes.{from_place}
 use Rattle.tc_value.specs.Meaning.{tree_of, member_of}
 use Rattle.tc_value.specs.declared.document.Doc.{Doc}

@@ -1,3 +1,4 @@
+pub mod Preorder
 pub mod Record
 pub mod Rows
 pub mod Measured

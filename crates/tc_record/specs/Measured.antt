@@ -1,7 +1,7 @@
 -- What the columns of tokens add up to, where each count stands still at the end of 64 bits.
 use Rattle.std.specs.Prelude.{ℕ, ◌+◌, ◌-◌, ◌*◌, ◌^◌, ◌==◌, if◌then◌else◌, min, max, List, [], ◌∷◌, length, map, Option, option_to_list}
 use Rattle.tc_model.specs.Document.{Name, Scalar}
-use Rattle.tc_model.specs.Preorder.{Piece, Token}
+use Rattle.tc_record.specs.Preorder.{Piece, Token}
 use Rattle.tc_record.specs.Record.{piece_fixed, piece_text, width_of}
 use Rattle.tc_record.specs.declared.measure.Column.{Column}
 use Rattle.tc_record.specs.declared.measure.Measure.{Measure}

@@ -1,7 +1,7 @@
 -- What each pass of the encoder appends for a token.
 use Rattle.std.specs.Prelude.{ℕ, List, [], ◌∷◌, ◌++◌, length, map, flat_map, Option, option_to_list}
 use Rattle.tc_model.specs.Document.{Name, Scalar}
-use Rattle.tc_model.specs.Preorder.{Piece, Token}
+use Rattle.tc_record.specs.Preorder.{Piece, Token}
 use Rattle.tc_record.specs.Record.{piece_tag, piece_fixed, piece_text, numbers, joined}
 use Rattle.tc_record.specs.Widths.{width_bytes}
 use Rattle.tc_record.specs.declared.encoding.Part.{Part}

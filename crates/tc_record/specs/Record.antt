@@ -1,10 +1,10 @@
 -- The bytes of a record: the columns of a document's tokens, one behind the other. In form 0 a member is labelled by
 -- its name, in form 1 by the number of its name.
-use Rattle.std.specs.Prelude.{◌≡◌, ℕ, ◌+◌, ◌<◌, ◌≤◌, ◌^◌, max, nat_lt, Bool, if◌then◌else◌, List, [], ◌∷◌, ◌++◌, length, map, flat_map, Option, None, Some, option_to_list}
+use Rattle.std.specs.Prelude.{◌≡◌, ℕ, ◌+◌, ◌<◌, ◌≤◌, ◌^◌, max, nat_lt, if◌then◌else◌, List, [], ◌∷◌, ◌++◌, length, map, flat_map, option_to_list}
 use Rattle.std.specs.Int.{w32, w64, to_be_bytes, bytes_high_first, cast_unsigned}
 use Rattle.tc_model.specs.Tree.{Tree, leaf, array, object, Items, no_items, item, Members, no_members, member, depth}
-use Rattle.tc_model.specs.Document.{Name, Document, Scalar, null, boolean, integer, text, IsScalar, IsDocument}
-use Rattle.tc_model.specs.Preorder.{Piece, scalar, array_opened, object_opened, closed, Token, tokens_of}
+use Rattle.tc_model.specs.Document.{Document, Scalar, null, boolean, integer, text, IsScalar, IsDocument}
+use Rattle.tc_record.specs.Preorder.{Piece, scalar, array_opened, object_opened, closed, Token, tokens_of}
 
 -- ---- what a token adds to each column
 

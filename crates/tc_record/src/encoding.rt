@@ -4,7 +4,7 @@ ghost use Rattle.std.specs.Prelude.{◌≡◌, ◌<◌, ◌^◌, ◌+◌, ◌++�
 ghost use Rattle.std.specs.Int.{w32, to_be_bytes};
 ghost use Rattle.tc_model.specs.Tree.{items_of, members_of};
 ghost use Rattle.tc_model.specs.Document.{null, boolean, integer, text};
-ghost use Rattle.tc_model.specs.Preorder.{scalar, array_opened, object_opened, closed, preorder, items_preorder, members_preorder};
+ghost use Rattle.tc_record.specs.Preorder.{scalar, array_opened, object_opened, closed, preorder, items_preorder, members_preorder};
 ghost use Rattle.tc_value.specs.Meaning.{tree_of, member_of};
 ghost use Rattle.tc_record.specs.Record.{record_of, IsObject};
 ghost use Rattle.tc_record.specs.Parts.{part_label, part_piece, part_bytes, value_bytes};

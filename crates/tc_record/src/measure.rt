@@ -3,7 +3,7 @@
 ghost use Rattle.std.specs.Prelude.{◌≡◌, map, Some, None};
 ghost use Rattle.tc_model.specs.Tree.{items_of, members_of};
 ghost use Rattle.tc_model.specs.Document.{null, boolean, integer, text};
-ghost use Rattle.tc_model.specs.Preorder.{scalar, array_opened, object_opened, closed, preorder, items_preorder, members_preorder};
+ghost use Rattle.tc_record.specs.Preorder.{scalar, array_opened, object_opened, closed, preorder, items_preorder, members_preorder};
 ghost use Rattle.tc_value.specs.Meaning.{tree_of, member_of};
 ghost use Rattle.tc_record.specs.Measured.{sum_within, with_element, with_label, with_piece, measured, nothing_measured};
 

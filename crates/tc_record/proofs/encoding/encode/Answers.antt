@@ -1,4 +1,4 @@
-use Rattle.std.proofs.Common.{◌≡◌, ◌∙◌, ◌<◌, ◌^◌, ap, arith, length}
+use Rattle.std.proofs.Common.{◌≡◌, ◌∙◌, ap, length}
 use Rattle.tc_value.specs.Meaning.{tree_of}
 use Rattle.tc_record.specs.Record.{record_of}
 use Rattle.tc_record.specs.Measured.{record_len}

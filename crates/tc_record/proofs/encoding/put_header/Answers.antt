@@ -1,4 +1,4 @@
-use Rattle.std.proofs.Common.{◌≡◌, ◌∙◌, ap, List, ◌∷◌, [], ◌++◌}
+use Rattle.std.proofs.Common.{◌∙◌, ap, ◌∷◌, [], ◌++◌}
 use Rattle.tc_record.proofs.Encoded.{eight_parts}
 use Rattle.tc_record.proofs.encoding.put_header.Goals as goal
 

@@ -1,0 +1,5 @@
+pub mod FormLemmas
+pub mod KeyLemmas
+pub mod Utf8Lemmas
+pub mod ReplyLemmas
+pub mod ReplyFloats

@@ -1,0 +1,20 @@
+//! Commands and replies: what a line asks for, and the line that answers it.
+#![tactic(auto)]
+
+mod asks;
+mod commands;
+mod conversions;
+mod forms;
+mod line;
+mod refusals;
+mod replies;
+#[cfg(test)]
+mod tests;
+mod texts;
+
+pub use asks::{Ask, Hop, PathExpr};
+pub use commands::Command;
+pub use line::{MAX_LINE, parse};
+pub use refusals::{ParseFault, Refusal};
+pub use replies::{Counts, Reply, Row, Rows, Schemas};
+pub use texts::reply_text;

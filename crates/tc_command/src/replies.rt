@@ -1,0 +1,162 @@
+//! The replies.
+
+ghost use Rattle.std.specs.Prelude.{◌≡◌, All, false};
+ghost use Rattle.serde_json.specs.View.{view};
+ghost use Rattle.serde_json.specs.Written.{has_float};
+
+use crate::refusals::Refusal;
+use serde_json::Value;
+use std::marker::Model;
+use tc_value::{Doc, Items};
+
+/// The values that a query reached in the document of a key.
+#[derive(Drop, Debug)]
+pub struct Row {
+    pub id: u64,
+    pub values: Items,
+}
+
+/// Rows of a reply. Contracts see the list.
+#[derive(Drop, Debug)]
+pub struct Rows {
+    rows: Vec<Row>,
+}
+
+impl Model for Rows {
+    ghost use Rattle.std.specs.Prelude.{List, map};
+    ghost use Rattle.std.specs.Coded.{coded_list};
+    ghost use Rattle.tc_model.specs.Reply.{Row};
+    ghost use Rattle.tc_command.specs.Rows.{row_of, coded_row};
+
+    ghost Value = { List Row };
+
+    ghost coded = { coded_list coded_row };
+
+    ghost view = { λ r. map row_of r.rows.items };
+}
+
+/// A count of writes for each partition. Contracts see the list.
+#[derive(Drop, Debug)]
+pub struct Counts {
+    counts: Vec<u64>,
+}
+
+impl Model for Counts {
+    ghost use Rattle.std.specs.Prelude.{List, ℕ};
+
+    ghost Value = { List ℕ };
+
+    ghost view = { λ c. c.counts.items };
+}
+
+/// The JSON text of a schema for each partition, as a value without floats. Contracts see the list.
+#[derive(Drop)]
+pub struct Schemas {
+    schemas: Vec<Value>,
+}
+
+impl Model for Schemas {
+    ghost use Rattle.std.specs.Prelude.{◌≡◌, List, All, false};
+    ghost use Rattle.serde_json.specs.View.{view as json_of};
+    ghost use Rattle.serde_json.specs.Written.{has_float};
+    ghost use Rattle.serde_json.specs.declared.value.Value as json;
+    ghost use Rattle.serde_json.specs.contracts.value.Value as contract;
+    ghost use Rattle.std.specs.Coded.{coded_list};
+
+    ghost Value = { List json.Value };
+
+    ghost coded = { coded_list contract.the_row.coded };
+
+    ghost view = { λ s. s.schemas.items };
+
+    ghost invariant = { λ s. All (λ v. has_float (json_of v) ≡ false) s.schemas.items };
+}
+
+impl Rows {
+    ghost use Rattle.std.specs.Prelude.{map};
+    ghost use Rattle.tc_command.specs.Rows.{row_of};
+
+    /// The rows of a reply. Takes no memory.
+    pub fn of(rows: Vec<Row>) -> Rows
+        ensures { result ≡ map row_of rows.items }
+    {
+        Rows { rows }
+    }
+
+    /// The rows, borrowed.
+    pub fn as_slice(&self) -> &[Row]
+        ensures { map row_of result.now ≡ self.now }
+    {
+        self.rows.as_slice()
+    }
+
+    /// The rows as a vector. Takes no memory.
+    pub fn into_inner(self) -> Vec<Row>
+        ensures { map row_of result.items ≡ self }
+    {
+        self.rows
+    }
+}
+
+impl Counts {
+    /// The counts of a reply. Takes no memory.
+    pub fn of(counts: Vec<u64>) -> Counts
+        ensures { result ≡ counts.items }
+    {
+        Counts { counts }
+    }
+
+    /// The counts, borrowed.
+    pub fn as_slice(&self) -> &[u64]
+        ensures { result.now ≡ self.now }
+    {
+        self.counts.as_slice()
+    }
+
+    /// The counts as a vector. Takes no memory.
+    pub fn into_inner(self) -> Vec<u64>
+        ensures { result.items ≡ self }
+    {
+        self.counts
+    }
+}
+
+impl Schemas {
+    /// The schemas of a reply, in which no number is a float, since a float has no exact text. Takes no memory.
+    pub fn of(schemas: Vec<Value>) -> Schemas
+        requires { All (λ v. has_float (view v) ≡ false) schemas.items }
+        ensures { result ≡ schemas.items }
+    {
+        Schemas { schemas }
+    }
+
+    /// The schemas, borrowed.
+    pub fn as_slice(&self) -> &[Value]
+        ensures same { result.now ≡ self.now }
+        ensures exact { All (λ v. has_float (view v) ≡ false) self.now }
+    {
+        self.schemas.as_slice()
+    }
+
+    /// The schemas as a vector. Takes no memory.
+    pub fn into_inner(self) -> Vec<Value>
+        ensures same { result.items ≡ self }
+        ensures exact { All (λ v. has_float (view v) ≡ false) self }
+    {
+        self.schemas
+    }
+}
+
+/// What the store answers. The document of `Got` lacks the member `id`.
+#[derive(Drop)]
+pub enum Reply {
+    Upserted { id: u64, replaced: bool },
+    Deleted { id: u64, found: bool },
+    Got { id: u64, doc: Option<Doc> },
+    Rows(Rows),
+    Flushed,
+    Schemas(Schemas),
+    Started,
+    Collected { rows: Rows, upto: Counts },
+    Refused(Refusal),
+}

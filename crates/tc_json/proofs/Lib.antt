@@ -1,0 +1,5 @@
+pub mod Before
+pub mod Depths
+pub mod Floats
+pub mod Names
+pub mod Values

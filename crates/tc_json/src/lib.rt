@@ -1,0 +1,15 @@
+//! Documents and JSON values: which document a value means, and which value and which text a document is.
+#![tactic(auto)]
+
+mod fault;
+mod reading;
+mod wholeness;
+mod writing;
+
+pub use fault::JsonFault;
+pub use reading::doc_of;
+pub use wholeness::is_whole;
+pub use writing::{text_of, value_of};
+
+#[cfg(test)]
+mod tests;

@@ -1,0 +1,3 @@
+pub mod Answer
+pub mod Giving
+pub mod Holding

@@ -1,0 +1,4 @@
+pub mod Growth
+pub mod Held
+pub mod Numbers
+pub mod Spelling

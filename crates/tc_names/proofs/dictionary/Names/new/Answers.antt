@@ -1,0 +1,5 @@
+use Rattle.tc_names.proofs.Growth.{IsDictionary-nil}
+use Rattle.tc_names.proofs.dictionary.Names.new.Goals as goal
+
+pub invariant_of-result : goal.invariant_of-result
+invariant_of-result c = rw c.new.ensures.empty IsDictionary-nil

@@ -1,0 +1,27 @@
+-- A dictionary is a list of distinct names. The number of a name is its place in the list, from 0 on.
+use Rattle.std.specs.Prelude.{◌≡◌, ◌<◌, ◌^◌, ℕ, suc, List, [], ◌∷◌, ◌++◌, Option, None, Some, option_map, is_some, bytes_eq, IsUtf8, length, if◌then◌else◌}
+use Rattle.std.specs.List.{AllByRecursion, IsDistinct}
+
+-- the number of a name, if it has one
+abbrev pub number_of : List (List ℕ) → List ℕ → Option ℕ
+number_of [] name = None
+number_of (first ∷ names) name = if bytes_eq name first then Some 0 else option_map suc (number_of names name)
+
+-- the names after this one is learned: a new one stands at the end, and a known one changes nothing
+abbrev pub learned : List (List ℕ) → List ℕ → List (List ℕ)
+learned names name = if is_some (number_of names name) then names else names ++ name ∷ []
+
+-- the newer dictionary goes on where the older one ends
+abbrev pub Extends : List (List ℕ) → List (List ℕ) → Type 0
+Extends newer older = (more : List (List ℕ)) × (newer ≡ older ++ more)
+
+-- what may be a name: any text of fewer than 2^32 bytes, the empty text too
+pub record IsName (name : List ℕ) : Type 0 where
+  pub text : IsUtf8 name
+  pub short : length name < 2 ^ 32
+
+-- what may be a dictionary: distinct names, fewer than 2^32 of them
+pub record IsDictionary (names : List (List ℕ)) : Type 0 where
+  pub distinct : IsDistinct bytes_eq names
+  pub each : AllByRecursion IsName names
+  pub few : length names < 2 ^ 32

@@ -1,0 +1,114 @@
+//! The dictionary: the number of a name, and the name of a number.
+
+use indexmap::IndexSet;
+use std::alloc::Global;
+use std::marker::Model;
+use tc_bytes::Memory;
+
+/// Names with their numbers, which run from 0 on without gaps. Names are only ever added. Contracts see the list of
+/// the names, each as its bytes; a name is any text of fewer than 2^32 bytes, and there are fewer than 2^32.
+pub struct Names {
+    names: IndexSet<String>,
+    alloc: Global,
+}
+
+impl Model for Names {
+    ghost use Rattle.std.specs.Prelude.{List, ℕ, map, string_bytes};
+
+    ghost Value = { List (List ℕ) };
+
+    ghost use Rattle.tc_names.specs.Dictionary.{IsDictionary};
+
+    ghost view = { λ n. map string_bytes n.names.keys };
+
+    ghost invariant = { λ n. IsDictionary (map string_bytes n.names.keys) };
+}
+
+impl Drop for Names {
+    /// One call, so that whoever drops a dictionary sees none of its fields.
+    fn drop(self) {
+        let Names { names, alloc: _ } = self;
+        drop(names);
+    }
+}
+
+impl Names {
+    ghost use Rattle.std.specs.Prelude.{◌≡◌, ◌<◌, ◌^◌, ◌↔◌, ℕ, List, [], length, option_map, slice_get, IfOk, OnOk, OnErr, IsTrue, Some};
+    ghost use Rattle.tc_names.specs.Dictionary.{number_of, learned, Extends, IsDictionary};
+
+    /// No names.
+    pub fn new(alloc: Global) -> Names
+        ensures empty { result ≡ [] }
+    {
+        Names {
+            names: IndexSet::new(alloc),
+            alloc,
+        }
+    }
+
+    /// How many names there are.
+    pub fn len(&self) -> u32
+        ensures count { result ≡ length self.now }
+        ensures dictionary { IsDictionary self.now }
+    {
+        self.names.len() as u32
+    }
+
+    /// The number of a name. `None` comes exactly where the name is not there.
+    pub fn id_of(&self, name: &str) -> Option<u32>
+        ensures number { result ≡ number_of self.now name.now }
+    {
+        match self.names.get_index_of(name) {
+            Some(place) => Some(place as u32),
+            None => None,
+        }
+    }
+
+    /// The name of a number. `None` comes exactly where no name has the number.
+    pub fn name_of(&self, id: u32) -> Option<&str>
+        ensures name { option_map (λ name. name.now) result ≡ slice_get self.now id }
+    {
+        match self.names.get_index(id as usize) {
+            Some(name) => Some(name.as_str()),
+            None => None,
+        }
+    }
+
+    /// Whether these names begin with the older ones, so that each of those has the same number here.
+    pub fn extends(&self, older: &Names) -> bool
+        ensures prefix { IsTrue result ↔ Extends self.now older.now }
+    {
+        self.names.as_slice().starts_with(older.names.as_slice())
+    }
+
+    /// The number of a name, which is added at the end if it is new. Errs only for want of memory.
+    pub fn learn(&mut self, name: &str) -> Result<u32, Memory>
+        requires room { length (learned self.old name.now) < 2 ^ 32 }
+        requires short { length name.now < 2 ^ 32 }
+        ensures number { IfOk result (λ id. number_of self.new name.now ≡ Some id) }
+        ensures ok { OnOk result (self.new ≡ learned self.old name.now) }
+        ensures err { OnErr result (self.new ≡ self.old) }
+        ensures stays { (known : List ℕ) (id : ℕ) → number_of self.old known ≡ Some id → number_of self.new known ≡ Some id }
+        ensures dictionary { IsDictionary self.new }
+    {
+        match self.id_of(name) {
+            Some(id) => Ok(id),
+            None => {
+                let id = self.len();
+                let held = String::from_str(self.alloc, name)?;
+                self.names.insert(held)?;
+                Ok(id)
+            }
+        }
+    }
+
+    /// The same names in memory of their own. Errs only for want of memory.
+    pub fn copy(&self) -> Result<Names, Memory>
+        ensures same { IfOk result (λ copied. copied ≡ self.now) }
+    {
+        Ok(Names {
+            names: self.names.clone()?,
+            alloc: self.alloc,
+        })
+    }
+}

@@ -1,0 +1,12 @@
+//! The dictionary of a store's member names, which only grows.
+#![tactic(auto)]
+
+mod dictionary;
+mod fault;
+mod section;
+
+pub use dictionary::Names;
+pub use fault::NamesFault;
+
+#[cfg(test)]
+mod tests;

@@ -1,0 +1,3 @@
+pub mod PairLemmas
+pub mod SessionLemmas
+pub mod RunLemmas

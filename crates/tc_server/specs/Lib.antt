@@ -1,0 +1,6 @@
+pub mod Pairs
+pub mod Asked
+pub mod Window
+pub mod Stage
+pub mod Ending
+pub mod Progress

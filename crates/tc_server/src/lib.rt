@@ -1,0 +1,15 @@
+//! The server: reads lines, answers them from the store, and writes the replies.
+#![tactic(auto)]
+
+mod answer;
+mod outcome;
+mod server;
+mod session;
+mod store;
+mod window;
+
+pub use outcome::{Outcome, RunFault, fault_text};
+pub use server::serve;
+
+#[cfg(test)]
+mod tests;

@@ -1,0 +1,141 @@
+//! A run: the words, the lines, and how it ends.
+
+ghost use Rattle.std.specs.Prelude.{◌≡◌, ℕ, ◌≤◌, ◌<◌, ◌⊎◌, false, Some, None, IfOk, IfErr, IfSome, IsErrOf, OnOk, option_map};
+ghost use Rattle.tc_edge.specs.Faults.{Rose};
+ghost use Rattle.tc_model.specs.Run.{max_window};
+ghost use Rattle.tc_server.specs.Ending.{Ran, Served, fault_in, status_of};
+ghost use Rattle.tc_server.specs.Progress.{Ends, Goes};
+ghost use Rattle.tc_server.specs.Stage.{IsWrite};
+ghost use Rattle.tc_words.specs.Options.{options_of};
+
+use crate::outcome::{Outcome, RunFault};
+use crate::session::Session;
+use std::alloc::Global;
+use tc_command::MAX_LINE;
+use tc_edge::{Sink, Source};
+use tc_lines::{Line, Lines};
+use tc_value::Text;
+use tc_words::{WordsFault, options};
+
+/// Answers the lines of the source for the words of the command line, which stand behind the folder.
+pub fn serve<I: Source, O: Sink>(
+    alloc: Global,
+    words: &[Text],
+    source: &mut I,
+    sink: &mut O,
+) -> Outcome
+    ensures status { result.status ≡ status_of result.fault }
+
+    // What was read and written.
+    ensures served { Served (options_of words.now) result.fault
+        (I.left source.old) (I.left source.new) (O.taken sink.old) (O.taken sink.new) }
+
+    // When a fault may be answered.
+    ensures usage { result.fault ≡ Some RunFault.Usage → options_of words.now ≡ None }
+    ensures read { result.fault ≡ Some RunFault.Read → Rose (I.faults source.old) (I.faults source.new) }
+    ensures write { IfSome result.fault (λ fault. IsWrite fault → Rose (O.faults sink.old) (O.faults sink.new)) }
+{
+    match run(alloc, words, source, sink) {
+        Ok(()) => Outcome::done(),
+        Err(fault) => Outcome::of(fault),
+    }
+}
+
+fn run<I: Source, O: Sink>(
+    alloc: Global,
+    words: &[Text],
+    source: &mut I,
+    sink: &mut O,
+) -> Result<(), RunFault>
+    ensures served { Served (options_of words.now) (fault_in result)
+        (I.left source.old) (I.left source.new) (O.taken sink.old) (O.taken sink.new) }
+    ensures usage { IfErr result (λ fault. fault ≡ RunFault.Usage → options_of words.now ≡ None) }
+    ensures read { IfErr result (λ fault. fault ≡ RunFault.Read → Rose (I.faults source.old) (I.faults source.new)) }
+    ensures write { IfErr result (λ fault. IsWrite fault → Rose (O.faults sink.old) (O.faults sink.new)) }
+{
+    let window = window_of(alloc, words)?;
+    answer_lines(alloc, window, source, sink)
+}
+
+// Lines that close a window.
+fn window_of(alloc: Global, words: &[Text]) -> Result<usize, RunFault>
+    ensures ok { IfOk result (λ window. option_map (λ options. options.window) (options_of words.now) ≡ Some window) }
+    ensures usage { IsErrOf result RunFault.Usage → options_of words.now ≡ None }
+    ensures kinds { IfErr result (λ fault. (fault ≡ RunFault.Usage) ⊎ (fault ≡ RunFault.Memory)) }
+{
+    match options(alloc, words) {
+        Ok(options) => Ok(options.window as usize),
+        Err(WordsFault::Usage) => Err(RunFault::Usage),
+        Err(WordsFault::Memory) => Err(RunFault::Memory),
+    }
+}
+
+// Answers the lines of the source, in windows of at most so many lines.
+fn answer_lines<I: Source, O: Sink>(
+    alloc: Global,
+    limit: usize,
+    source: &mut I,
+    sink: &mut O,
+) -> Result<(), RunFault>
+    ensures ran { Ran limit (fault_in result)
+        (I.left source.old) (I.left source.new) (O.taken sink.old) (O.taken sink.new) }
+    ensures read { IfErr result (λ fault. fault ≡ RunFault.Read → Rose (I.faults source.old) (I.faults source.new)) }
+    ensures write { IfErr result (λ fault. IsWrite fault → Rose (O.faults sink.old) (O.faults sink.new)) }
+{
+    let mut lines = Lines::new(alloc, MAX_LINE);
+    let mut session = Session::new(alloc, limit);
+    // A line takes a byte of the input at least, and no input has so many bytes.
+    for _ in 0..u64::MAX {
+        if !answer_line(alloc, &mut lines, &mut session, source, sink)? {
+            return Ok(());
+        }
+    }
+    Err(RunFault::Memory)
+}
+
+// Takes the next line, and answers whether more may come. At the end of the input the last window is answered.
+fn answer_line<I: Source, O: Sink>(
+    alloc: Global,
+    lines: &mut Lines,
+    session: &mut Session,
+    source: &mut I,
+    sink: &mut O,
+) -> Result<bool, RunFault>
+    requires works { lines.old.failed ≡ false }
+    requires limit { lines.old.limit ≡ MAX_LINE }
+    requires room { session.old.window.bytes < max_window }
+    ensures works { OnOk result (lines.new.failed ≡ false) }
+    ensures limit { lines.new.limit ≡ MAX_LINE }
+    ensures room { OnOk result (session.new.window.bytes < max_window) }
+    ensures window { OnOk result (session.new.window.limit ≡ session.old.window.limit) }
+
+    // Behind the lines that came before, one more came, or the input is answered, or the run has failed.
+    ensures more { IfOk result (λ more. Goes more
+        lines.old session.old (I.left source.old) (O.taken sink.old)
+        lines.new session.new (I.left source.new) (O.taken sink.new)) }
+    ensures fault { IfErr result (λ fault. Ends fault lines.old session.old
+        (I.left source.old) (I.left source.new) (O.taken sink.old) (O.taken sink.new)) }
+
+    ensures read_kept { I.faults source.old ≤ I.faults source.new }
+    ensures read { IfErr result (λ fault. fault ≡ RunFault.Read → Rose (I.faults source.old) (I.faults source.new)) }
+    ensures write_kept { O.faults sink.old ≤ O.faults sink.new }
+    ensures write { IfErr result (λ fault. IsWrite fault → Rose (O.faults sink.old) (O.faults sink.new)) }
+{
+    match lines.next(source) {
+        Line::Whole(line) => {
+            session.take_whole(alloc, line, sink)?;
+            Ok(true)
+        }
+        Line::Oversized => {
+            session.take_oversized(alloc, sink)?;
+            Ok(true)
+        }
+        Line::End => {
+            session.close(alloc, sink)?;
+            Ok(false)
+        }
+        Line::ReadFault => Err(RunFault::Read),
+        Line::Spent => Err(RunFault::Spent),
+        Line::Memory => Err(RunFault::Memory),
+    }
+}

@@ -1,0 +1,194 @@
+//! A run between two lines: the store, and the window that is open.
+
+ghost use Rattle.std.specs.Prelude.{◌≡◌, ℕ, ◌<◌, ◌≤◌, true, false, List, [], length, OnOk, IfOk, IfErr};
+ghost use Rattle.std.specs.Io.KnownBytes.{Appends};
+ghost use Rattle.tc_model.specs.Request.{max_line, request_of};
+ghost use Rattle.tc_model.specs.Run.{answers, after_all, is_control, max_window};
+ghost use Rattle.tc_server.specs.Stage.{AsksFor, FailsAtLine, HasWriteCause, TakesLine, WritesPart};
+ghost use Rattle.tc_server.specs.Asked.{request_asked};
+ghost use Rattle.tc_server.specs.Window.{requests_of};
+
+use crate::answer::{Asked, answer_all};
+use crate::outcome::RunFault;
+use crate::store::Store;
+use crate::window::Window;
+use std::alloc::{AllocError, Global};
+use std::mem;
+use tc_bytes::Bytes;
+use tc_command::Refusal;
+use tc_edge::{Sink, write_all};
+
+/// The store, and the window that is open.
+#[derive(Drop)]
+pub struct Session {
+    pub store: Store,
+    pub window: Window,
+}
+
+impl Session {
+    /// A session over an empty store, whose windows close at this many lines.
+    pub fn new(alloc: Global, limit: usize) -> Session
+        ensures pairs { result.store ≡ [] }
+        ensures requests { requests_of result.window ≡ [] }
+        ensures bytes { result.window.bytes ≡ 0 }
+        ensures limit { result.window.limit ≡ limit }
+    {
+        Session {
+            store: Store::new(alloc),
+            window: Window::new(alloc, limit),
+        }
+    }
+
+    // The replies to the window that is open, which is empty afterwards.
+    fn answers(&mut self, alloc: Global) -> Result<Vec<u8>, AllocError>
+        ensures replies { IfOk result (λ replies. replies.items ≡ answers (requests_of self.old.window) self.old.store) }
+        ensures pairs { OnOk result (self.new.store ≡ after_all (requests_of self.old.window) self.old.store) }
+        ensures requests { OnOk result (requests_of self.new.window ≡ []) }
+        ensures bytes { OnOk result (self.new.window.bytes ≡ 0) }
+        ensures limit { OnOk result (self.new.window.limit ≡ self.old.window.limit) }
+    {
+        let empty = Window::new(alloc, self.window.limit);
+        let window = mem::replace(&mut self.window, empty);
+        answer_all(alloc, &mut self.store, window.asked)
+    }
+
+    /// Answers the window that is open, and writes the replies. Errs where the sink fails, and for want of memory.
+    pub fn close<O: Sink>(&mut self, alloc: Global, sink: &mut O) -> Result<(), RunFault>
+        ensures written { OnOk result
+            (Appends (O.taken sink.old) (O.taken sink.new) (answers (requests_of self.old.window) self.old.store)) }
+        ensures pairs { OnOk result (self.new.store ≡ after_all (requests_of self.old.window) self.old.store) }
+        ensures requests { OnOk result (requests_of self.new.window ≡ []) }
+        ensures bytes { OnOk result (self.new.window.bytes ≡ 0) }
+        ensures limit { OnOk result (self.new.window.limit ≡ self.old.window.limit) }
+        ensures fault { IfErr result (λ fault. WritesPart fault (answers (requests_of self.old.window) self.old.store) (O.taken sink.old) (O.taken sink.new)) }
+        ensures cause { HasWriteCause (O.faults sink.old) (O.faults sink.new) result }
+    {
+        let replies = self.answers(alloc)?;
+        write_all(sink, replies.as_slice())?;
+        Ok(())
+    }
+
+    /// Takes a line that is answered in its window, and closes the window where it is full.
+    pub fn take_line<O: Sink>(
+        &mut self,
+        alloc: Global,
+        asked: Asked,
+        size: usize,
+        sink: &mut O,
+    ) -> Result<(), RunFault>
+        requires size { size ≤ max_line }
+        requires room { self.old.window.bytes < max_window }
+        ensures ok { OnOk result ((line : List ℕ) → AsksFor line asked size → is_control (request_of line) ≡ false
+            → TakesLine line self.old (O.taken sink.old) self.new (O.taken sink.new)) }
+        ensures room { OnOk result (self.new.window.bytes < max_window) }
+        ensures limit { OnOk result (self.new.window.limit ≡ self.old.window.limit) }
+        ensures fault { IfErr result (λ fault. (line : List ℕ) → AsksFor line asked size → is_control (request_of line) ≡ false
+            → FailsAtLine fault line self.old (O.taken sink.old) (O.taken sink.new)) }
+        ensures cause { HasWriteCause (O.faults sink.old) (O.faults sink.new) result }
+    {
+        self.window.push(asked, size)?;
+        if self.window.is_full() {
+            self.close(alloc, sink)?;
+        }
+        Ok(())
+    }
+
+    /// Takes a line that is a window of its own: answers the window before it, and then the line.
+    pub fn take_control<O: Sink>(
+        &mut self,
+        alloc: Global,
+        asked: Asked,
+        size: usize,
+        sink: &mut O,
+    ) -> Result<(), RunFault>
+        requires size { size ≤ max_line }
+        ensures ok { OnOk result ((line : List ℕ) → AsksFor line asked size → is_control (request_of line) ≡ true
+            → TakesLine line self.old (O.taken sink.old) self.new (O.taken sink.new)) }
+        ensures room { OnOk result (self.new.window.bytes ≡ 0) }
+        ensures limit { OnOk result (self.new.window.limit ≡ self.old.window.limit) }
+        ensures fault { IfErr result (λ fault. (line : List ℕ) → AsksFor line asked size → is_control (request_of line) ≡ true
+            → FailsAtLine fault line self.old (O.taken sink.old) (O.taken sink.new)) }
+        ensures cause { HasWriteCause (O.faults sink.old) (O.faults sink.new) result }
+    {
+        self.close(alloc, sink)?;
+        self.window.push(asked, size)?;
+        self.close(alloc, sink)?;
+        Ok(())
+    }
+
+    /// Takes a line: answers it in its window, or by itself where it is a command of the whole store.
+    pub fn take<O: Sink>(
+        &mut self,
+        alloc: Global,
+        asked: Asked,
+        size: usize,
+        sink: &mut O,
+    ) -> Result<(), RunFault>
+        requires size { size ≤ max_line }
+        requires room { self.old.window.bytes < max_window }
+        ensures ok { OnOk result ((line : List ℕ) → AsksFor line asked size
+            → TakesLine line self.old (O.taken sink.old) self.new (O.taken sink.new)) }
+        ensures room { OnOk result (self.new.window.bytes < max_window) }
+        ensures limit { OnOk result (self.new.window.limit ≡ self.old.window.limit) }
+        ensures fault { IfErr result (λ fault. (line : List ℕ) → AsksFor line asked size
+            → FailsAtLine fault line self.old (O.taken sink.old) (O.taken sink.new)) }
+        ensures cause { HasWriteCause (O.faults sink.old) (O.faults sink.new) result }
+    {
+        if asked.is_control() {
+            self.take_control(alloc, asked, size, sink)
+        } else {
+            self.take_line(alloc, asked, size, sink)
+        }
+    }
+
+    /// Takes a line that is not oversized.
+    pub fn take_whole<O: Sink>(
+        &mut self,
+        alloc: Global,
+        line: Bytes,
+        sink: &mut O,
+    ) -> Result<(), RunFault>
+        requires size { length line ≤ max_line }
+        requires room { self.old.window.bytes < max_window }
+        ensures ok { OnOk result (TakesLine line self.old (O.taken sink.old) self.new (O.taken sink.new)) }
+        ensures room { OnOk result (self.new.window.bytes < max_window) }
+        ensures limit { OnOk result (self.new.window.limit ≡ self.old.window.limit) }
+        ensures fault { IfErr result (λ fault. FailsAtLine fault line self.old (O.taken sink.old) (O.taken sink.new)) }
+        ensures cause { HasWriteCause (O.faults sink.old) (O.faults sink.new) result }
+    {
+        self.take_slice(alloc, line.as_slice(), sink)
+    }
+
+    // Takes a line that is not oversized, borrowed.
+    fn take_slice<O: Sink>(
+        &mut self,
+        alloc: Global,
+        line: &[u8],
+        sink: &mut O,
+    ) -> Result<(), RunFault>
+        requires size { length line.now ≤ max_line }
+        requires room { self.old.window.bytes < max_window }
+        ensures ok { OnOk result (TakesLine line.now self.old (O.taken sink.old) self.new (O.taken sink.new)) }
+        ensures room { OnOk result (self.new.window.bytes < max_window) }
+        ensures limit { OnOk result (self.new.window.limit ≡ self.old.window.limit) }
+        ensures fault { IfErr result (λ fault. FailsAtLine fault line.now self.old (O.taken sink.old) (O.taken sink.new)) }
+        ensures cause { HasWriteCause (O.faults sink.old) (O.faults sink.new) result }
+    {
+        let asked = Asked::of(alloc, line)?;
+        self.take(alloc, asked, line.len(), sink)
+    }
+
+    /// Takes a line that is oversized.
+    pub fn take_oversized<O: Sink>(&mut self, alloc: Global, sink: &mut O) -> Result<(), RunFault>
+        requires room { self.old.window.bytes < max_window }
+        ensures ok { OnOk result ((line : List ℕ) → max_line < length line
+            → TakesLine line self.old (O.taken sink.old) self.new (O.taken sink.new)) }
+        ensures room { OnOk result (self.new.window.bytes < max_window) }
+        ensures limit { OnOk result (self.new.window.limit ≡ self.old.window.limit) }
+        ensures fault { IfErr result (λ fault. (line : List ℕ) → max_line < length line
+            → FailsAtLine fault line self.old (O.taken sink.old) (O.taken sink.new)) }
+        ensures cause { HasWriteCause (O.faults sink.old) (O.faults sink.new) result }
+    {
+        self.take(alloc, Asked::Refuse(Refusal::Oversized), 0, sink)
+    }
+}

@@ -1,0 +1,9 @@
+pub mod MomentLemmas
+pub mod GateLemmas
+pub mod DeviceRecord
+pub mod NameLemmas
+pub mod DiskLemmas
+pub mod SlotLemmas
+pub mod StepLemmas
+pub mod FileLemmas
+pub mod NamesLemmas

@@ -1,0 +1,16 @@
+pub mod Counts
+pub mod DiskFile
+pub mod Images
+pub mod Moments
+pub mod Disk
+pub mod Gate
+pub mod StoreCalls
+pub mod KitFaults
+pub mod MemWatch
+pub mod DeviceCalls
+pub mod MemDevice
+pub mod DeviceLaws
+pub mod MemDisk
+pub mod MemStore
+pub mod MemNames
+pub mod StoreLaws

@@ -1,0 +1,3 @@
+mod GrammarLemmas
+mod NumberLemmas
+mod OptionsLemmas

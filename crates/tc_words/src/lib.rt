@@ -1,0 +1,15 @@
+//! The words of the command line: which run they ask for.
+#![tactic(auto)]
+
+mod fault;
+mod grammar;
+mod number;
+mod run;
+mod words;
+
+pub use fault::WordsFault;
+pub use run::Options;
+pub use words::options;
+
+#[cfg(test)]
+mod tests;

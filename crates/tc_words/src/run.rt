@@ -1,0 +1,58 @@
+//! The options of a run.
+ghost use Rattle.std.specs.Prelude.{◌≡◌};
+ghost use Rattle.clap.specs.Words.{found_of, rows_of};
+ghost use Rattle.tc_words.specs.Options.{number_in, options_in};
+
+use crate::number::number_between;
+use clap::ArgMatches;
+
+/// The numbers of a run.
+#[derive(Clone, Copy, Debug, PartialEq, Eq)]
+pub struct Options {
+    /// How many partitions the store has.
+    pub partitions: u32,
+    /// Bytes that a partition's active log may hold.
+    pub memory: u64,
+    /// Distinct names that a partition may hold.
+    pub names: u32,
+    /// Live documents that a partition may hold.
+    pub docs: u32,
+    /// Lines of the input that are worked on together.
+    pub window: u32,
+    /// How many components a partition lists before some are merged.
+    pub merge: u32,
+    /// Bytes that the components of one merge may have together; 0 stands for a merge of all.
+    pub limit: u64,
+}
+
+// The options that the matches of `run` give.
+pub fn options_in(run: &ArgMatches<'_>) -> Option<Options>
+    ensures { result ≡ options_in (rows_of (found_of run.now)) }
+{
+    Some(Options {
+        partitions: number_in(run, "partitions", 1, 1, None)? as u32,
+        memory: number_in(run, "memory", 4_096, 16_777_216, Some(262_144))?,
+        names: number_in(run, "names", 1, 16_777_216, Some(1_000_000))? as u32,
+        docs: number_in(run, "docs", 1, 4_000_000_000, Some(4_000_000_000))? as u32,
+        window: number_in(run, "window", 1, 4_096, Some(64))? as u32,
+        merge: number_in(run, "merge", 2, 8, Some(4))? as u32,
+        limit: number_in(run, "limit", 0, 1_099_511_627_776, Some(0))?,
+    })
+}
+
+// The number of an option, from `least` to `most`, or the default where the option is left out.
+fn number_in(
+    run: &ArgMatches<'_>,
+    name: &str,
+    least: u64,
+    most: u64,
+    default: Option<u64>,
+) -> Option<u64>
+    ensures { result ≡ number_in (rows_of (found_of run.now))
+        (record { name = name.now; least = least; most = most; default = default }) }
+{
+    match run.get_str(name) {
+        Some(text) => number_between(text, least, most),
+        None => default,
+    }
+}

@@ -1,0 +1,42 @@
+//! The options that words ask for.
+ghost use Rattle.std.specs.Prelude.{◌≡◌, Some, None, IfOk, IsErrOf, map};
+ghost use Rattle.tc_words.specs.Options.{options_of};
+
+use crate::fault::WordsFault;
+use crate::grammar::matches_of;
+use crate::run::{Options, options_in};
+use std::alloc::{AllocError, Global};
+use tc_value::Text;
+
+/// The options of the run that the words ask for, of which the first names the subcommand. Errs where the words are no
+/// run, and for want of memory.
+pub fn options(alloc: Global, words: &[Text]) -> Result<Options, WordsFault>
+    ensures ok { IfOk result (λ options. options_of words.now ≡ Some options) }
+    ensures usage { IsErrOf result WordsFault.Usage → options_of words.now ≡ None }
+{
+    let texts = texts_of(alloc, words)?;
+    options_of(alloc, texts.as_slice())
+}
+
+// The same of words that are borrowed.
+fn options_of<'a>(alloc: Global, words: &'a [&'a str]) -> Result<Options, WordsFault>
+    ensures ok { IfOk result (λ options. options_of (map (λ word. word.now) words.entry.now) ≡ Some options) }
+    ensures usage { IsErrOf result WordsFault.Usage → options_of (map (λ word. word.now) words.entry.now) ≡ None }
+{
+    let matches = matches_of(alloc, words)?;
+    let Some(run) = matches.subcommand_matches("run") else {
+        return Err(WordsFault::Usage);
+    };
+    options_in(run).ok_or(WordsFault::Usage)
+}
+
+// The words as `clap` takes them.
+fn texts_of<'a>(alloc: Global, words: &'a [Text]) -> Result<Vec<&'a str>, AllocError>
+    ensures { IfOk result (λ texts. map (λ text. text.now) texts.items ≡ words.now) }
+{
+    let mut texts = Vec::new(alloc);
+    for word in words {
+        texts.push(word.as_str())?;
+    }
+    Ok(texts)
+}
