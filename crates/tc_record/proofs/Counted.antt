@@ -6,7 +6,7 @@ use Rattle.std.proofs.lemmas.List.{nil_from_length}
 use Rattle.std.proofs.lemmas.Option.{same_Some}
 use Rattle.tc_bytes.specs.Reading.{◌>>=◌, bytes_at}
 use Rattle.tc_bytes.specs.Codec.{IsBytes}
-use Rattle.tc_bytes.proofs.Fields.{bytes_codec, bytes_again}
+use Rattle.tc_bytes.proofs.Fields.{bytes_codec, bytes_again, IsBytes-front}
 use Rattle.tc_bytes.proofs.Codecs.{then_parts}
 use Rattle.tc_record.specs.declared.widths.Width.{Width}
 use Rattle.tc_record.specs.declared.widths.Width.TheVariants.{Zero, One, Two, Four}
@@ -122,11 +122,11 @@ numbers_found told count bytes q each gives =
     let two = then_parts (bytes_at (count * width_bytes w) bytes) _ q one.2 in
     let column = (bytes_codec (count * width_bytes w)).found bytes two.0.0 two.0.1 each two.1 in
     let three = then_parts (scan_at w count 0 0 two.0.0) _ q two.2 in
-    let front : IsBytes two.0.0 = column.2.1 in
+    let front : IsBytes two.0.0 = IsBytes-front two.0.0 two.0.1 (subst IsBytes column.0 each) in
     let scanned = scan_found count w two.0.0 0 0 three.0 front three.1 in
     let passes = if_parts (told == least_width count three.0.0) _ q three.2 in
     let ns = scanned.numbers_read in
-    let nothing_left : scanned.rest ≡ [] = nil_from_length scanned.rest (no_rest (count * width_bytes w) _ _ column.2.0 (ap length scanned.spelled ∙ length-append (numbers (width_bytes w) ns) scanned.rest) (length-numbers (width_bytes w) ns ∙ ap (λ n. n * width_bytes w) (sym scanned.many))) in
+    let nothing_left : scanned.rest ≡ [] = nil_from_length scanned.rest (no_rest (count * width_bytes w) _ _ column.2 (ap length scanned.spelled ∙ length-append (numbers (width_bytes w) ns) scanned.rest) (length-numbers (width_bytes w) ns ∙ ap (λ n. n * width_bytes w) (sym scanned.many))) in
     let whole : two.0.0 ≡ numbers (width_bytes w) ns = scanned.spelled ∙ ap (λ r. numbers (width_bytes w) ns ++ r) nothing_left ∙ append-nil (numbers (width_bytes w) ns) in
     let told_least : told ≡ width ns = test_same told (least_width count three.0.0) passes.1 ∙ least_read count three.0.0 ns scanned.many (ap (λ (p : ℕ × ℕ). p.0) scanned.result) in
     subst (NumbersFound told count bytes) passes.0

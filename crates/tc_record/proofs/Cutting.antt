@@ -5,10 +5,10 @@ use Rattle.std.proofs.lemmas.Bool.Decides.{nat_tests}
 use Rattle.std.proofs.lemmas.Option.{same_Some}
 use Rattle.tc_bytes.specs.Reading.{◌>>=◌, byte_at, number_at, bytes_at}
 use Rattle.tc_bytes.specs.Codec.{IsBytes}
-use Rattle.tc_bytes.proofs.Fields.{number_codec_32, byte_codec, bytes_codec, bytes_again}
+use Rattle.tc_bytes.proofs.Fields.{number_codec_32, byte_codec, bytes_codec, bytes_again, IsBytes-front}
 use Rattle.tc_bytes.proofs.Codecs.{then_parts}
 use Rattle.tc_model.specs.Document.{Scalar}
-use Rattle.tc_model.specs.Preorder.{Token}
+use Rattle.tc_record.specs.Preorder.{Token}
 use Rattle.tc_record.specs.Widths.{width_bytes}
 use Rattle.tc_record.specs.Record.{tags, fixed, texts, width, numbers, joined, body, record_bytes}
 use Rattle.tc_record.specs.Walk.{Key, Format, Columns}
@@ -114,8 +114,8 @@ columns_found h named bytes s each gives =
       lengths = c.elements;
       slot_list = e.elements;
       named_is = refl;
-      tag_count = sym a.2.0;
-      fixed_count = sym b.2.0;
+      tag_count = sym a.2;
+      fixed_count = sym b.2;
       text_count = c.many;
       slot_count = e.many;
       text_width = c.width_least;
@@ -127,7 +127,7 @@ columns_found h named bytes s each gives =
       lengths_fit = c.fits;
       slots_fit = e.fits;
       spelled = a.0 ∙ ap (λ r. tag.0.0 ++ r) (b.0 ∙ ap (λ r. fix.0.0 ++ r) (c.spelled ∙ ap (λ r. len.0.0.bytes ++ r) (d.0 ∙ ap (λ r. txt.0.0 ++ r) e.spelled)));
-      each = record { fixed = b.2.1; lengths = c.each; texts = d.2.1; slots = e.each; names = e.rest };
+      each = record { fixed = IsBytes-front fix.0.0 fix.0.1 (subst IsBytes b.0 a.1); lengths = c.each; texts = IsBytes-front txt.0.0 txt.0.1 (subst IsBytes d.0 c.rest); slots = e.each; names = e.rest };
     })
 
 -- ---- the whole

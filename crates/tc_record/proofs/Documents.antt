@@ -9,7 +9,7 @@ use Rattle.std.specs.declared.cmp.Ordering.TheVariants.{Less, Equal, Greater}
 use Rattle.std.proofs.lemmas.Cmp.{nat_list_cmp_total}
 use Rattle.tc_model.specs.Tree.{Tree, leaf, array, object, Items, no_items, item, Members, no_members, member, items_relabel, members_relabel}
 use Rattle.tc_model.specs.Document.{Name, Document, Scalar, null, boolean, integer, text, name_cmp, listed_members, IsScalar, IsTreeOf, AreItemsOf, AreMembersOf}
-use Rattle.tc_model.specs.Preorder.{Token, token, closed, preorder, items_preorder, members_preorder}
+use Rattle.tc_record.specs.Preorder.{Token, token, closed, preorder, items_preorder, members_preorder}
 use Rattle.tc_record.specs.declared.widths.Width.{Width}
 use Rattle.tc_record.specs.declared.widths.Width.TheVariants.{Zero, One, Two, Four}
 use Rattle.tc_record.specs.Record.{NumberedTree, IsNumberedTree, AreNumberedItems, AreNumberedMembers}

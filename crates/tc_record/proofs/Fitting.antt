@@ -10,7 +10,7 @@ use Rattle.std.proofs.lemmas.List.{map-append}
 use Rattle.std.proofs.lemmas.List.Concat.{flat_map-append}
 use Rattle.tc_model.specs.Tree.{Tree, leaf, array, object, Items, no_items, item, Members, no_members, member, relabel, items_relabel, members_relabel}
 use Rattle.tc_model.specs.Document.{Name, Document, Scalar, null, boolean, integer, text, name_cmp, listed_members, IsAscending, IsScalar, IsTreeOf, AreItemsOf, AreMembersOf}
-use Rattle.tc_model.specs.Preorder.{Token, token, closed, preorder, items_preorder, members_preorder}
+use Rattle.tc_record.specs.Preorder.{Token, token, closed, preorder, items_preorder, members_preorder}
 use Rattle.tc_record.specs.declared.widths.Width.{Width}
 use Rattle.tc_record.specs.Record.{NumberedTree, piece_text, texts, labels, IsNumberedTree, AreNumberedItems, AreNumberedMembers}
 use Rattle.tc_record.specs.Walk.{Key, name, number, in_object, Format, is_above}

@@ -12,7 +12,7 @@ use Rattle.std.proofs.lemmas.List.Concat.{flat_map-append}
 use Rattle.std.proofs.lemmas.Cmp.{nat_list_cmp_total}
 use Rattle.tc_model.specs.Tree.{Tree, leaf, array, object, Items, no_items, item, Members, no_members, member, depth, items_depth, members_depth, relabel, items_relabel, members_relabel}
 use Rattle.tc_model.specs.Document.{Name, Document, Scalar, null, boolean, integer, text, name_cmp, listed_members, IsAscending, IsScalar, IsDocument, AreItemsOf, AreMembersOf}
-use Rattle.tc_model.specs.Preorder.{Piece, Token, token, array_opened, object_opened, closed, preorder, items_preorder, members_preorder, tokens_of}
+use Rattle.tc_record.specs.Preorder.{Piece, Token, token, array_opened, object_opened, closed, preorder, items_preorder, members_preorder, tokens_of}
 use Rattle.tc_record.specs.declared.widths.Width.{Width}
 use Rattle.tc_record.specs.Record.{NumberedTree, piece_tag, piece_fixed, piece_text, tags, fixed, texts, labels, record_bytes, record_of, numbered_record_of, IsNumberedTree, AreNumberedItems, AreNumberedMembers}
 use Rattle.tc_record.specs.Walk.{Key, name, number, in_object, Format, is_above}

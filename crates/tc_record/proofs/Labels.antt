@@ -7,7 +7,7 @@ use Rattle.tc_bytes.specs.Reading.{◌>>=◌}
 use Rattle.tc_bytes.specs.Codec.{IsBytes}
 use Rattle.tc_bytes.proofs.Codecs.{then_parts}
 use Rattle.tc_model.specs.Document.{Name, Scalar}
-use Rattle.tc_model.specs.Preorder.{Piece, Token, token}
+use Rattle.tc_record.specs.Preorder.{Piece, Token, token}
 use Rattle.tc_record.specs.declared.widths.Width.{Width}
 use Rattle.tc_record.specs.Widths.{width_bytes}
 use Rattle.tc_record.specs.Record.{piece_tag}

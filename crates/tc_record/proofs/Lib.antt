@@ -17,4 +17,4 @@ pub mod Documents
 pub mod Counted
 pub mod Cutting
 pub mod Reading
-pub mod Cursors
+pub mod Holding

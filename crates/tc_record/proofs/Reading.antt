@@ -8,7 +8,7 @@ use Rattle.tc_bytes.specs.Codec.{IsBytes}
 use Rattle.tc_bytes.proofs.Codecs.{then_parts}
 use Rattle.tc_model.specs.Tree.{leaf, array, object, Items, no_items, item, Members, no_members, member, depth, items_relabel, members_relabel}
 use Rattle.tc_model.specs.Document.{Name, Document, Scalar, null, boolean, integer, text}
-use Rattle.tc_model.specs.Preorder.{Token, token, closed, preorder, items_preorder, members_preorder, tokens_of}
+use Rattle.tc_record.specs.Preorder.{Token, token, closed, preorder, items_preorder, members_preorder, tokens_of}
 use Rattle.tc_record.specs.declared.widths.Width.{Width}
 use Rattle.tc_record.specs.declared.widths.Width.TheVariants.{Zero, One, Two, Four}
 use Rattle.tc_record.specs.Widths.{width_bytes}

@@ -11,7 +11,7 @@ use Rattle.tc_bytes.specs.Codec.{IsBytes}
 use Rattle.tc_bytes.proofs.Fields.{number_codec_64, byte_codec}
 use Rattle.tc_bytes.proofs.Codecs.{then_parts}
 use Rattle.tc_model.specs.Document.{Scalar, null, boolean, integer, text, IsScalar}
-use Rattle.tc_model.specs.Preorder.{Piece, scalar, array_opened, object_opened, closed}
+use Rattle.tc_record.specs.Preorder.{Piece, scalar, array_opened, object_opened, closed}
 use Rattle.tc_record.specs.declared.widths.Width.{Width}
 use Rattle.tc_record.specs.Record.{piece_tag}
 use Rattle.tc_record.specs.Walk.{Columns, bool_of, bool_at, integer_at, text_at, piece_at}

@@ -4,7 +4,7 @@ use Rattle.std.specs.Int.{bytes_high_first}
 use Rattle.std.proofs.lemmas.List.{map-append}
 use Rattle.std.proofs.lemmas.List.Concat.{flat_map-append}
 use Rattle.tc_model.specs.Document.{Scalar, null, boolean, integer, text}
-use Rattle.tc_model.specs.Preorder.{Piece, scalar, array_opened, object_opened, closed, Token}
+use Rattle.tc_record.specs.Preorder.{Piece, scalar, array_opened, object_opened, closed, Token}
 use Rattle.tc_record.specs.declared.widths.Width.{Width}
 use Rattle.tc_record.specs.Widths.{width_bytes}
 use Rattle.tc_record.specs.Record.{piece_fixed, piece_text, fixed, texts, labels, numbers, joined}

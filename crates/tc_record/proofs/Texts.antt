@@ -37,7 +37,7 @@ utf8_found n bytes q each gives =
     let one = then_parts (bytes_at n bytes) _ q gives in
     let passes = passing one.0 q one.2 in
     let here = (bytes_codec n).found bytes one.0.0 one.0.1 each one.1 in
-    subst (Utf8Found n bytes) passes.0 (record { spelled = here.0; rest = here.1; utf8 = IsUtf8-from_is_utf8 one.0.0 passes.1; len = here.2.0 })
+    subst (Utf8Found n bytes) passes.0 (record { spelled = here.0; rest = here.1; utf8 = IsUtf8-from_is_utf8 one.0.0 passes.1; len = here.2 })
 
 pub utf8_again : (n : ℕ) (t rest : List ℕ) → length t ≡ n → IsUtf8 t → utf8_at n (t ++ rest) ≡ Some (t, rest)
 utf8_again n t rest len utf8 = rw (bytes_again n t rest len, is_utf8-from_IsUtf8 t utf8) refl

@@ -7,7 +7,7 @@ use Rattle.tc_bytes.specs.Reading.{◌>>=◌}
 use Rattle.tc_bytes.proofs.Codecs.{then_parts}
 use Rattle.tc_model.specs.Tree.{Tree, leaf, array, object, Items, no_items, item, Members, no_members, member, depth, items_depth, members_depth}
 use Rattle.tc_model.specs.Document.{Name, Scalar, null, boolean, integer, text, IsScalar}
-use Rattle.tc_model.specs.Preorder.{Piece, scalar, array_opened, object_opened, closed, Token, token, preorder, items_preorder, members_preorder}
+use Rattle.tc_record.specs.Preorder.{Piece, scalar, array_opened, object_opened, closed, Token, token, preorder, items_preorder, members_preorder}
 use Rattle.tc_record.specs.Record.{piece_tag}
 use Rattle.tc_record.specs.Walk.{Key, name, number, Level, in_array, in_object, Format, Columns, value_at, opened, step, is_used_up, walk}
 use Rattle.tc_record.proofs.Texts.{AreBytes}

@@ -2,7 +2,7 @@
 use Rattle.std.specs.Prelude.{◌≡◌, ◌⊎◌, ℕ, Bool, true, false, List}
 use Rattle.tc_model.specs.Tree.{relabel}
 use Rattle.tc_model.specs.Document.{Document, Scalar}
-use Rattle.tc_model.specs.Preorder.{Token, tokens_of}
+use Rattle.tc_record.specs.Preorder.{Token, tokens_of}
 use Rattle.tc_record.specs.Record.{NumberedTree, IsRecordOf, IsNumberedRecordOf}
 use Rattle.tc_record.specs.Walk.{Key, name, number}
 

@@ -1,7 +1,7 @@
 -- What the reader of a record shows.
 use Rattle.std.specs.Prelude.{ℕ, zero, suc, List, [], ◌∷◌, Option, None, Some, option_map, get_or}
 use Rattle.tc_model.specs.Document.{Scalar, null, boolean, integer, text}
-use Rattle.tc_model.specs.Preorder as model
+use Rattle.tc_record.specs.Preorder as model
 use Rattle.tc_record.specs.Walk as walk
 use Rattle.tc_record.specs.declared.token.Label.{Label}
 use Rattle.tc_record.specs.declared.token.Label.TheVariants.{Bare, Name, Number}

@@ -1,7 +1,7 @@
 //! A cursor over the tokens of a record.
 
 ghost use Rattle.std.specs.Prelude.{◌≡◌, ◌++◌, [], false, Some, None, IfNone, IsTrue, if◌then◌else◌, is_some, unwrap_or, option_map, option_to_list};
-ghost use Rattle.tc_model.specs.Preorder.{token, object_opened};
+ghost use Rattle.tc_record.specs.Preorder.{token, object_opened};
 ghost use Rattle.tc_record.specs.Walk.{step};
 ghost use Rattle.tc_record.specs.WalkView.{token_of, columns_of, format_of};
 ghost use Rattle.tc_record.specs.Stack.{stack_of};
@@ -22,7 +22,7 @@ pub struct Cursor<'a> {
 impl<'a> Model for Cursor<'a> {
     ghost use Rattle.std.specs.Prelude.{List, IsTrue, is_some, unwrap_or, []};
     ghost use Rattle.tc_model.specs.Document.{Scalar};
-    ghost use Rattle.tc_model.specs.Preorder.{Token};
+    ghost use Rattle.tc_record.specs.Preorder.{Token};
     ghost use Rattle.tc_record.specs.Walk.{Key};
 
     ghost Value = { List (Token Key Scalar) };

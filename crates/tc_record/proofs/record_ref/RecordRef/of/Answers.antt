@@ -2,7 +2,7 @@ use Rattle.std.proofs.Common.{◌≡◌, ◌∙◌, ℕ, sym, ap, refl, None, So
 use Rattle.tc_bytes.specs.Codec.{IsBytes}
 use Rattle.tc_record.specs.Sections.{sections_in}
 use Rattle.tc_record.specs.SectionsView.{sections_of}
-use Rattle.tc_record.proofs.Cursors.{held_spells, held_document, held_numbered, unread, uncut, no_tokens}
+use Rattle.tc_record.proofs.Holding.{held_spells, held_document, held_numbered, unread, uncut, no_tokens}
 use Rattle.tc_record.proofs.record_ref.RecordRef.of.Goals as goal
 
 pub returns-in_err-sections-clause-none : goal.returns-in_err-sections-clause-none
