@@ -1,10 +1,10 @@
 -- The laws of columns of numbers, whose width is the least that holds each.
-use Rattle.std.proofs.Common.{◌≡◌, ◌∙◌, ◌<◌, ◌≤◌, ◌+◌, ◌-◌, ◌*◌, ◌^◌, ◌==◌, ℕ, zero, suc, max, min, Bool, true, false, if◌then◌else◌, List, [], ◌∷◌, ◌++◌, Option, None, Some, length, map, refl, sym, ap, subst, arith, append_assoc, append-nil, length-append}
+use Rattle.std.proofs.Common.{◌≡◌, ◌∙◌, ◌<◌, ◌+◌, ◌-◌, ◌*◌, ◌^◌, ◌==◌, ℕ, zero, suc, max, min, true, if◌then◌else◌, List, [], ◌∷◌, ◌++◌, None, Some, length, map, refl, sym, ap, subst, arith, append_assoc, append-nil, length-append}
 use Rattle.std.specs.Int.{bytes_high_first}
 use Rattle.std.proofs.lemmas.Bool.Decides.{nat_tests}
 use Rattle.std.proofs.lemmas.List.{nil_from_length}
 use Rattle.std.proofs.lemmas.Option.{same_Some}
-use Rattle.tc_bytes.specs.Reading.{◌>>=◌, bytes_at}
+use Rattle.tc_bytes.specs.Reading.{bytes_at}
 use Rattle.tc_bytes.specs.Codec.{IsBytes}
 use Rattle.tc_bytes.proofs.Fields.{bytes_codec, bytes_again, IsBytes-front}
 use Rattle.tc_bytes.proofs.Codecs.{then_parts}
@@ -15,7 +15,7 @@ use Rattle.tc_record.specs.Record.{greatest, width, width_of, numbers, joined}
 use Rattle.tc_record.specs.Walk.{sized_number_at}
 use Rattle.tc_record.specs.Sections.{width_from, scan_at, Numbers, least_width, numbers_at}
 use Rattle.tc_record.proofs.Lengths.{length-numbers}
-use Rattle.tc_record.proofs.Sized.{FitsWidth, sized_codec}
+use Rattle.tc_record.proofs.Sized.{sized_codec}
 use Rattle.tc_record.proofs.Labels.{if_parts}
 use Rattle.tc_record.proofs.Fitting.{AreFit}
 

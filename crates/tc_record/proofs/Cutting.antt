@@ -1,9 +1,9 @@
 -- The laws of the header and of the columns behind it.
-use Rattle.std.proofs.Common.{◌≡◌, ◌∙◌, ◌<◌, ◌≤◌, ◌+◌, ◌-◌, ◌*◌, ◌^◌, ◌==◌, ℕ, suc, min, Bool, true, false, if◌then◌else◌, List, [], ◌∷◌, ◌++◌, Option, None, Some, length, map, refl, sym, ap, subst, arith, length-append}
+use Rattle.std.proofs.Common.{◌≡◌, ◌∙◌, ◌<◌, ◌+◌, ◌^◌, ◌==◌, ℕ, Bool, true, false, if◌then◌else◌, List, ◌∷◌, ◌++◌, Option, None, Some, length, map, refl, sym, ap, subst, arith, length-append}
 use Rattle.std.specs.Int.{w32, to_be_bytes}
 use Rattle.std.proofs.lemmas.Bool.Decides.{nat_tests}
 use Rattle.std.proofs.lemmas.Option.{same_Some}
-use Rattle.tc_bytes.specs.Reading.{◌>>=◌, byte_at, number_at, bytes_at}
+use Rattle.tc_bytes.specs.Reading.{byte_at, number_at, bytes_at}
 use Rattle.tc_bytes.specs.Codec.{IsBytes}
 use Rattle.tc_bytes.proofs.Fields.{number_codec_32, byte_codec, bytes_codec, bytes_again, IsBytes-front}
 use Rattle.tc_bytes.proofs.Codecs.{then_parts}
@@ -12,14 +12,13 @@ use Rattle.tc_record.specs.Preorder.{Token}
 use Rattle.tc_record.specs.Widths.{width_bytes}
 use Rattle.tc_record.specs.Record.{tags, fixed, texts, width, numbers, joined, body, record_bytes}
 use Rattle.tc_record.specs.Walk.{Key, Format, Columns}
-use Rattle.tc_record.specs.Sections.{Header, header_at, form_from, Numbers, numbers_at, Sections, columns_behind, sections_in}
+use Rattle.tc_record.specs.Sections.{Header, header_at, form_from, numbers_at, Sections, columns_behind, sections_in}
 use Rattle.tc_record.proofs.Lengths.{few_numbers}
 use Rattle.tc_record.proofs.Texts.{AreBytes}
 use Rattle.tc_record.proofs.Walks.{no_columns, with_tokens}
 use Rattle.tc_record.proofs.Spelled.{slots, names, spelled_fixed, spelled_lengths, spelled_texts, spelled_slots, spelled_names}
 use Rattle.tc_record.proofs.Fitting.{AreFit, TokensFit}
-use Rattle.tc_record.proofs.Labels.{if_parts}
-use Rattle.tc_record.proofs.Counted.{sum_from, sum_from-joined, numbers_again, NumbersFound, numbers_found, same_test}
+use Rattle.tc_record.proofs.Counted.{sum_from, sum_from-joined, numbers_again, numbers_found, same_test}
 
 -- ---- the header
 
@@ -221,11 +220,11 @@ columns_again f form ts fits text_width slot_width short =
     let sum = body_length ts in
     let total : length (joined (texts ts)) ≡ sum_from 0 lengths = sym (sum_from-joined (texts ts) 0 (omega arith) ∙ omega arith) in
     let read_lengths : numbers_at (width lengths) (length lengths) r2 ≡ Some (record { width = f.text_width; bytes = numbers (width lengths) lengths; total = sum_from 0 lengths }, r3) =
-        subst (λ n. numbers_at n (length lengths) (numbers n lengths ++ r3) ≡ Some (record { width = f.text_width; bytes = numbers n lengths; total = sum_from 0 lengths }, r3)) text_width (numbers_again f.text_width lengths r3 fits.texts text_width) in
+    subst (λ n. numbers_at n (length lengths) (numbers n lengths ++ r3) ≡ Some (record { width = f.text_width; bytes = numbers n lengths; total = sum_from 0 lengths }, r3)) text_width (numbers_again f.text_width lengths r3 fits.texts text_width) in
     let read_slots : numbers_at (width (slots ts)) (length (slots ts)) r4 ≡ Some (record { width = f.slot_width; bytes = numbers (width (slots ts)) (slots ts); total = sum_from 0 (slots ts) }, names ts) =
-        subst (λ n. numbers_at n (length (slots ts)) (numbers n (slots ts) ++ names ts) ≡ Some (record { width = f.slot_width; bytes = numbers n (slots ts); total = sum_from 0 (slots ts) }, names ts)) slot_width (numbers_again f.slot_width (slots ts) (names ts) fits.slots slot_width) in
+    subst (λ n. numbers_at n (length (slots ts)) (numbers n (slots ts) ++ names ts) ≡ Some (record { width = f.slot_width; bytes = numbers n (slots ts); total = sum_from 0 (slots ts) }, names ts)) slot_width (numbers_again f.slot_width (slots ts) (names ts) fits.slots slot_width) in
     let columns : with_tokens f ts no_columns ≡ five (fixed ts) (numbers (width lengths) lengths) (joined (texts ts)) (numbers (width (slots ts)) (slots ts)) (names ts) =
-        same_five (with_tokens f ts no_columns) _ _ _ _ _ (spelled_fixed f ts) (spelled_lengths f ts ∙ ap (λ n. numbers n lengths) text_width) (spelled_texts f ts) (spelled_slots f ts ∙ ap (λ n. numbers n (slots ts)) slot_width) (spelled_names f ts) in
+    same_five (with_tokens f ts no_columns) _ _ _ _ _ (spelled_fixed f ts) (spelled_lengths f ts ∙ ap (λ n. numbers n lengths) text_width) (spelled_texts f ts) (spelled_slots f ts ∙ ap (λ n. numbers n (slots ts)) slot_width) (spelled_names f ts) in
     rw (columns, bytes_again (length (tags ts)) (tags ts) r1 refl, bytes_again (length (fixed ts)) (fixed ts) r2 refl, read_lengths, bytes_again (sum_from 0 lengths) (joined (texts ts)) r4 total, read_slots) refl
 
 -- the columns that tokens have are cut out of their record

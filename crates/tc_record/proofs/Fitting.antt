@@ -1,19 +1,15 @@
 -- Documents fit the columns where their texts and names do, and what fits the columns is a document.
-use Rattle.std.proofs.Common.{◌≡◌, ◌∙◌, ◌<◌, ◌≤◌, ◌+◌, ◌^◌, ℕ, Bool, true, false, List, [], ◌∷◌, ◌++◌, Option, None, Some, length, map, option_to_list, refl, sym, ap, subst, arith}
-use Rattle.std.specs.Str.{IsUtf8}
-use Rattle.std.specs.List.{AllByRecursion}
+use Rattle.std.proofs.Common.{◌≡◌, ◌∙◌, ℕ, true, false, List, [], ◌∷◌, ◌++◌, Option, None, Some, length, map, option_to_list, refl, sym, ap, subst}
 use Rattle.std.specs.List.Sorted.{IsStrictlySortedBy}
-use Rattle.std.specs.Ordering.{is_lt, nat_cmp}
-use Rattle.std.specs.declared.cmp.Ordering.{Ordering}
-use Rattle.std.specs.declared.cmp.Ordering.TheVariants.{Less, Equal, Greater}
+use Rattle.std.specs.Ordering.{is_lt}
 use Rattle.std.proofs.lemmas.List.{map-append}
 use Rattle.std.proofs.lemmas.List.Concat.{flat_map-append}
-use Rattle.tc_model.specs.Tree.{Tree, leaf, array, object, Items, no_items, item, Members, no_members, member, relabel, items_relabel, members_relabel}
-use Rattle.tc_model.specs.Document.{Name, Document, Scalar, null, boolean, integer, text, name_cmp, listed_members, IsAscending, IsScalar, IsTreeOf, AreItemsOf, AreMembersOf}
+use Rattle.tc_model.specs.Tree.{Tree, leaf, array, object, Items, no_items, item, Members, no_members, member, items_relabel, members_relabel}
+use Rattle.tc_model.specs.Document.{Name, Document, Scalar, null, boolean, integer, text, name_cmp, listed_members, IsScalar, IsTreeOf, AreItemsOf, AreMembersOf}
 use Rattle.tc_record.specs.Preorder.{Token, token, closed, preorder, items_preorder, members_preorder}
 use Rattle.tc_record.specs.declared.widths.Width.{Width}
 use Rattle.tc_record.specs.Record.{NumberedTree, piece_text, texts, labels, IsNumberedTree, AreNumberedItems, AreNumberedMembers}
-use Rattle.tc_record.specs.Walk.{Key, name, number, in_object, Format, is_above}
+use Rattle.tc_record.specs.Walk.{Key, name, number, Format, is_above}
 use Rattle.tc_record.proofs.Sized.{FitsWidth}
 use Rattle.tc_record.proofs.Scalars.{FitsScalar}
 use Rattle.tc_record.proofs.Walks.{IsKeyed, AreKeyedItems, AreKeyedMembers}

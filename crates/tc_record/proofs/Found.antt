@@ -1,19 +1,19 @@
 -- What is read of a record's columns is a tree that they spell.
-use Rattle.std.proofs.Common.{◌≡◌, ◌∙◌, ◌<◌, ◌≤◌, ◌+◌, ◌==◌, ◌&&◌, ℕ, zero, suc, nat_lt, Bool, true, false, if◌then◌else◌, List, [], ◌∷◌, ◌++◌, Option, None, Some, length, refl, sym, ap, subst, arith, append_assoc}
+use Rattle.std.proofs.Common.{◌≡◌, ◌∙◌, ◌≤◌, ◌==◌, ◌&&◌, ℕ, suc, nat_lt, Bool, true, false, if◌then◌else◌, List, [], ◌∷◌, ◌++◌, Option, None, Some, length, refl, sym, ap, subst, arith, append_assoc}
 use Rattle.std.proofs.lemmas.Bool.Decides.{nat_tests}
 use Rattle.std.proofs.lemmas.List.{map-append}
 use Rattle.std.proofs.lemmas.Option.{same_Some}
 use Rattle.tc_bytes.specs.Reading.{◌>>=◌}
 use Rattle.tc_bytes.proofs.Codecs.{then_parts}
-use Rattle.tc_model.specs.Tree.{Tree, leaf, array, object, Items, no_items, Members, no_members, depth, members_depth}
+use Rattle.tc_model.specs.Tree.{leaf, array, object, no_items, Members, no_members, depth}
 use Rattle.tc_model.specs.Document.{Scalar}
 use Rattle.tc_record.specs.Preorder.{Piece, scalar, array_opened, object_opened, closed, Token, token, preorder, items_preorder, members_preorder}
 use Rattle.tc_record.specs.Record.{piece_tag}
 use Rattle.tc_record.specs.Walk.{Key, Level, in_array, in_object, Format, Columns, value_at, opened, step, is_used_up, walk, tokens_read}
 use Rattle.tc_record.proofs.Texts.{AreBytes}
 use Rattle.tc_record.proofs.Scalars.{FitsPiece}
-use Rattle.tc_record.proofs.Labels.{IsLabelled, with_token, if_parts, ValueFound, value_found}
-use Rattle.tc_record.proofs.Walks.{IsKeyed, AreKeyedItems, AreKeyedMembers, no_columns, with_tokens, tags_of, close, Completes, one_more, members_again, with_tokens-append}
+use Rattle.tc_record.proofs.Labels.{IsLabelled, with_token, if_parts, value_found}
+use Rattle.tc_record.proofs.Walks.{AreKeyedMembers, no_columns, with_tokens, tags_of, close, Completes, one_more, members_again, with_tokens-append}
 
 both : (a b : Bool) → (a && b) ≡ true → (a ≡ true) × (b ≡ true)
 both true b yes_both = (refl, yes_both)

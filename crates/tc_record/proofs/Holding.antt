@@ -1,21 +1,17 @@
 -- What a borrowed record holds, by what was read of its bytes.
-use Rattle.std.proofs.Common.{◌≡◌, ◌∙◌, ◌==◌, ℕ, Bool, true, false, if◌then◌else◌, List, [], ◌∷◌, ◌++◌, Option, None, Some, option_map, option_to_list, unwrap_or, is_some, inl, inr, refl, sym, ap, subst}
-use Rattle.std.specs.Prelude.{IsTrue}
+use Rattle.std.proofs.Common.{◌≡◌, ◌∙◌, ℕ, Bool, true, false, List, [], Option, None, Some, unwrap_or, is_some, inl, inr, refl, sym, ap}
 use Rattle.std.proofs.lemmas.Option.{same_Some}
-use Rattle.tc_bytes.specs.Reading.{◌>>=◌, byte_at}
+use Rattle.tc_bytes.specs.Reading.{◌>>=◌}
 use Rattle.tc_bytes.specs.Codec.{IsBytes}
 use Rattle.tc_model.specs.Document.{Document, Scalar}
-use Rattle.tc_record.specs.Preorder.{Token, token, object_opened}
+use Rattle.tc_record.specs.Preorder.{Token}
 use Rattle.tc_record.specs.Record.{NumberedTree, IsRecordOf, IsNumberedRecordOf}
 use Rattle.tc_record.specs.Walk as walk
-use Rattle.tc_record.specs.WalkView.{columns_of, format_of}
-use Rattle.tc_record.specs.Stack.{stack_of}
-use Rattle.tc_record.specs.Held.{tokens_held, tokens_left}
+use Rattle.tc_record.specs.Held.{tokens_held}
 use Rattle.tc_record.specs.Sections as cut
 use Rattle.tc_record.specs.SectionsView.{sections_of}
-use Rattle.tc_record.specs.Borrowed.{Record, Spells, IsRecord, named_tokens, numbered_tokens}
+use Rattle.tc_record.specs.Borrowed.{Spells, IsRecord, named_tokens, numbered_tokens}
 use Rattle.tc_record.specs.declared.sections.Sections.{Sections}
-use Rattle.tc_record.specs.declared.walking.Walk.{Walk}
 use Rattle.tc_record.proofs.Reading.{document_again, numbered_again, read_found}
 
 abbrev Tokens : Type 0

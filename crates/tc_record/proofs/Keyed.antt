@@ -1,24 +1,11 @@
 -- Documents and numbered trees, with the labels that the reader shows.
-use Rattle.std.proofs.Common.{◌≡◌, ◌∙◌, ◌<◌, ◌≤◌, ◌+◌, ◌^◌, ℕ, Bool, true, false, List, [], ◌∷◌, ◌++◌, Option, None, Some, length, map, flat_map, option_map, option_to_list, refl, sym, ap, subst, arith}
-use Rattle.std.specs.Str.{IsUtf8}
-use Rattle.std.specs.List.{AllByRecursion}
-use Rattle.std.specs.List.Sorted.{IsStrictlySortedBy}
-use Rattle.std.specs.Ordering.{is_lt, nat_cmp}
-use Rattle.std.specs.Cmp.Lexicographic.{slice_cmp}
-use Rattle.std.specs.declared.cmp.Ordering.{Ordering}
-use Rattle.std.specs.declared.cmp.Ordering.TheVariants.{Less, Equal, Greater}
+use Rattle.std.proofs.Common.{◌≡◌, ◌∙◌, ◌+◌, ℕ, List, [], ◌∷◌, ◌++◌, Option, None, Some, length, map, flat_map, option_map, option_to_list, refl, sym, ap}
 use Rattle.std.proofs.lemmas.List.{map-append}
-use Rattle.std.proofs.lemmas.List.Concat.{flat_map-append}
-use Rattle.std.proofs.lemmas.Cmp.{nat_list_cmp_total}
 use Rattle.tc_model.specs.Tree.{Tree, leaf, array, object, Items, no_items, item, Members, no_members, member, depth, items_depth, members_depth, relabel, items_relabel, members_relabel}
-use Rattle.tc_model.specs.Document.{Name, Document, Scalar, null, boolean, integer, text, name_cmp, listed_members, IsAscending, IsScalar, IsDocument, AreItemsOf, AreMembersOf}
-use Rattle.tc_record.specs.Preorder.{Piece, Token, token, array_opened, object_opened, closed, preorder, items_preorder, members_preorder, tokens_of}
-use Rattle.tc_record.specs.declared.widths.Width.{Width}
-use Rattle.tc_record.specs.Record.{NumberedTree, piece_tag, piece_fixed, piece_text, tags, fixed, texts, labels, record_bytes, record_of, numbered_record_of, IsNumberedTree, AreNumberedItems, AreNumberedMembers}
-use Rattle.tc_record.specs.Walk.{Key, name, number, in_object, Format, is_above}
-use Rattle.tc_record.proofs.Sized.{FitsWidth}
-use Rattle.tc_record.proofs.Scalars.{FitsScalar}
-use Rattle.tc_record.proofs.Walks.{IsKeyed, AreKeyedItems, AreKeyedMembers}
+use Rattle.tc_model.specs.Document.{Name, Document, Scalar}
+use Rattle.tc_record.specs.Preorder.{Token, token, array_opened, object_opened, closed, preorder, items_preorder, members_preorder, tokens_of}
+use Rattle.tc_record.specs.Record.{NumberedTree, piece_tag, piece_fixed, piece_text, tags, fixed, texts, labels, record_bytes, record_of, numbered_record_of}
+use Rattle.tc_record.specs.Walk.{Key, name, number}
 use Rattle.tc_record.proofs.Spelled.{slot_of, name_of, slots, names}
 
 abbrev pub keyed : Document → Tree Key Scalar

@@ -4,7 +4,6 @@ use Rattle.std.specs.Int.{bytes_high_first}
 use Rattle.std.specs.Str.{IsUtf8}
 use Rattle.std.proofs.lemmas.Option.{same_Some}
 use Rattle.tc_bytes.specs.Reading.{◌>>=◌}
-use Rattle.tc_bytes.specs.Codec.{IsBytes}
 use Rattle.tc_bytes.proofs.Codecs.{then_parts}
 use Rattle.tc_model.specs.Document.{Name, Scalar}
 use Rattle.tc_record.specs.Preorder.{Piece, Token, token}
@@ -14,7 +13,7 @@ use Rattle.tc_record.specs.Record.{piece_tag}
 use Rattle.tc_record.specs.Walk.{Key, name, number, Level, in_array, in_object, Format, Columns, sized_number_at, utf8_at, is_above, name_at, label_at, piece_at, value_at}
 use Rattle.tc_record.proofs.Sized.{FitsWidth, sized_codec}
 use Rattle.tc_record.proofs.Texts.{AreBytes, utf8_again, utf8_found}
-use Rattle.tc_record.proofs.Scalars.{with_piece, FitsPiece, piece_again, PieceFound, piece_found}
+use Rattle.tc_record.proofs.Scalars.{with_piece, FitsPiece, piece_again, piece_found}
 
 -- the columns before a label was read
 abbrev pub with_key : Width → Key → Columns → Columns

@@ -1,23 +1,21 @@
 -- The laws of whole records: each is read as the tokens that it spells, and nothing else is read.
-use Rattle.std.proofs.Common.{◌≡◌, ◌∙◌, ◌<◌, ◌≤◌, ◌+◌, ◌^◌, ◌==◌, ℕ, suc, max, nat_lt, Bool, true, false, if◌then◌else◌, List, [], ◌∷◌, ◌++◌, Option, None, Some, length, map, inl, inr, refl, sym, ap, subst, arith, length-append}
-use Rattle.std.specs.Int.{w32, to_be_bytes}
+use Rattle.std.proofs.Common.{◌≡◌, ◌∙◌, ◌<◌, ◌≤◌, ◌+◌, ◌^◌, ℕ, nat_lt, Bool, true, false, if◌then◌else◌, List, [], ◌∷◌, ◌++◌, None, Some, length, map, inl, inr, refl, sym, ap, subst, arith, length-append}
 use Rattle.std.proofs.lemmas.Bool.Decides.{nat_tests}
 use Rattle.std.proofs.lemmas.Option.{same_Some}
-use Rattle.tc_bytes.specs.Reading.{◌>>=◌}
 use Rattle.tc_bytes.specs.Codec.{IsBytes}
 use Rattle.tc_bytes.proofs.Codecs.{then_parts}
 use Rattle.tc_model.specs.Tree.{leaf, array, object, Items, no_items, item, Members, no_members, member, depth, items_relabel, members_relabel}
-use Rattle.tc_model.specs.Document.{Name, Document, Scalar, null, boolean, integer, text}
+use Rattle.tc_model.specs.Document.{Document, Scalar}
 use Rattle.tc_record.specs.Preorder.{Token, token, closed, preorder, items_preorder, members_preorder, tokens_of}
 use Rattle.tc_record.specs.declared.widths.Width.{Width}
 use Rattle.tc_record.specs.declared.widths.Width.TheVariants.{Zero, One, Two, Four}
 use Rattle.tc_record.specs.Widths.{width_bytes}
-use Rattle.tc_record.specs.Record.{NumberedTree, tags, fixed, texts, labels, greatest, width, width_of, numbers, joined, body, record_bytes, record_of, numbered_record_of, IsRecordOf, IsNumberedRecordOf, IsNumberedTree, AreNumberedItems, AreNumberedMembers}
+use Rattle.tc_record.specs.Record.{NumberedTree, fixed, texts, labels, greatest, width, numbers, joined, body, record_bytes, record_of, numbered_record_of, IsRecordOf, IsNumberedRecordOf, IsNumberedTree, AreNumberedItems, AreNumberedMembers}
 use Rattle.tc_record.specs.Walk.{Key, name, number, Format, Columns, tokens_read}
 use Rattle.tc_record.specs.Sections.{Header, form_from, Sections, sections_in, record_read}
 use Rattle.tc_record.specs.Borrowed.{named_tokens, numbered_tokens, Spells}
 use Rattle.tc_record.proofs.Sized.{FitsWidth}
-use Rattle.tc_record.proofs.Walks.{AreKeyedMembers, no_columns, with_tokens, tags_of}
+use Rattle.tc_record.proofs.Walks.{AreKeyedMembers}
 use Rattle.tc_record.proofs.Found.{TokensFound, tokens_found, tokens_again}
 use Rattle.tc_record.proofs.Spelled.{slots, names, spelled_fixed, spelled_lengths, spelled_texts, spelled_slots, spelled_names}
 use Rattle.tc_record.proofs.Keyed.{keyed, numbered, depth-relabel, slots_of-keyed, names_of-keyed, record_of-keyed, record_of-numbered}
@@ -161,14 +159,14 @@ whole_found bytes s ts cut read =
     let slot_width : width_bytes f.slot_width ≡ width (slots ts) = sym c.slot_told ∙ c.slot_width ∙ ap width slot_list in
     let content = body ts (slots ts) (names ts) in
     let rest_is : cut.rest ≡ content =
-        c.spelled ∙ six_parts s.tags s.columns.fixed s.columns.lengths s.columns.texts s.columns.slots s.columns.names _ _ _ _ _ _ read.tagged fixed_is (lengths_is ∙ ap (λ n. numbers n (map length (texts ts))) text_width) texts_is (slots_is ∙ ap (λ n. numbers n (slots ts)) slot_width) names_is in
+    c.spelled ∙ six_parts s.tags s.columns.fixed s.columns.lengths s.columns.texts s.columns.slots s.columns.names _ _ _ _ _ _ read.tagged fixed_is (lengths_is ∙ ap (λ n. numbers n (map length (texts ts))) text_width) texts_is (slots_is ∙ ap (λ n. numbers n (slots ts)) slot_width) names_is in
     let len : length bytes ≡ length (spelled_header cut.header cut.rest) = ap length cut.spelled in
     let rest_len : length cut.rest ≡ length content = ap length rest_is in
     let told = cut.total in
     let total : cut.header.total ≡ 23 + length content = omega arith in
     let form = form_found f.named cut.header.form cut.form in
     let header_is : cut.header ≡ header_of_tokens (if f.named then 0 else 1) ts =
-        same_header cut.header _ _ _ _ _ _ _ _ total form (c.tag_count ∙ ap length read.tagged) (c.fixed_count ∙ ap length fixed_is) (c.text_count ∙ ap length lengths) (c.text_width ∙ ap width lengths) (c.slot_count ∙ ap length slot_list) (c.slot_width ∙ ap width slot_list) in
+    same_header cut.header _ _ _ _ _ _ _ _ total form (c.tag_count ∙ ap length read.tagged) (c.fixed_count ∙ ap length fixed_is) (c.text_count ∙ ap length lengths) (c.text_width ∙ ap width lengths) (c.slot_count ∙ ap length slot_list) (c.slot_width ∙ ap width slot_list) in
     cut.spelled ∙ ap (λ h. spelled_header h cut.rest) header_is ∙ ap (spelled_header (header_of_tokens (if f.named then 0 else 1) ts)) rest_is
   where
     six_parts : (a b c d e f n o p q r s : List ℕ) → a ≡ n → b ≡ o → c ≡ p → d ≡ q → e ≡ r → f ≡ s → a ++ (b ++ (c ++ (d ++ (e ++ f)))) ≡ n ++ (o ++ (p ++ (q ++ (r ++ s))))

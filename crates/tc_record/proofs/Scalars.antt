@@ -1,7 +1,6 @@
 -- The laws of pieces: a value is read from its tag and from its columns alone.
-use Rattle.std.proofs.Common.{◌≡◌, ◌≢◌, ◌∙◌, ◌<◌, ◌^◌, ◌+◌, ◌==◌, ℕ, zero, suc, ℤ, Bool, true, false, if◌then◌else◌, List, [], ◌∷◌, ◌++◌, Option, None, Some, length, refl, sym, ap, subst, arith}
+use Rattle.std.proofs.Common.{◌≡◌, ◌∙◌, ◌<◌, ℕ, zero, suc, Bool, true, false, if◌then◌else◌, List, ◌∷◌, ◌++◌, Some, length, refl, ap, subst, arith}
 use Rattle.std.specs.Int.{w64, to_be_bytes, cast_unsigned, cast_signed}
-use Rattle.std.specs.Str.{IsUtf8}
 use Rattle.std.proofs.Math.Facts.{sfits_to_z, Fits-of_z}
 use Rattle.std.proofs.lemmas.Int.{of_z-to_z, to_z-of_z}
 use Rattle.std.proofs.lemmas.Bool.Decides.{nat_tests}
@@ -16,7 +15,7 @@ use Rattle.tc_record.specs.declared.widths.Width.{Width}
 use Rattle.tc_record.specs.Record.{piece_tag}
 use Rattle.tc_record.specs.Walk.{Columns, bool_of, bool_at, integer_at, text_at, piece_at}
 use Rattle.tc_record.proofs.Sized.{FitsWidth}
-use Rattle.tc_record.proofs.Texts.{AreBytes, with_text, text_again, TextFound, text_found}
+use Rattle.tc_record.proofs.Texts.{AreBytes, with_text, text_again, text_found}
 
 -- the columns before a piece was read
 abbrev pub with_scalar : Width → Scalar → Columns → Columns

@@ -1,5 +1,5 @@
 -- The columns before tokens were read are the columns that the tokens have.
-use Rattle.std.proofs.Common.{◌≡◌, ◌∙◌, ℕ, List, [], ◌∷◌, ◌++◌, Option, None, Some, length, map, flat_map, option_to_list, refl, sym, ap, append_assoc, append-nil}
+use Rattle.std.proofs.Common.{◌≡◌, ◌∙◌, ℕ, List, [], ◌∷◌, ◌++◌, Option, None, Some, length, map, flat_map, option_to_list, refl, sym, ap, append-nil}
 use Rattle.std.specs.Int.{bytes_high_first}
 use Rattle.std.proofs.lemmas.List.{map-append}
 use Rattle.std.proofs.lemmas.List.Concat.{flat_map-append}
@@ -10,7 +10,7 @@ use Rattle.tc_record.specs.Widths.{width_bytes}
 use Rattle.tc_record.specs.Record.{piece_fixed, piece_text, fixed, texts, labels, numbers, joined}
 use Rattle.tc_record.specs.Walk.{Key, name, number, Format, Columns}
 use Rattle.tc_record.proofs.Scalars.{with_piece}
-use Rattle.tc_record.proofs.Labels.{with_label, with_token}
+use Rattle.tc_record.proofs.Labels.{with_label}
 use Rattle.tc_record.proofs.Walks.{with_tokens, no_columns}
 
 -- what a label adds to the slots, and to the names

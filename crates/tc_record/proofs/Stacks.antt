@@ -1,5 +1,5 @@
 -- The levels that are open, in the array that holds them.
-use Rattle.std.proofs.Common.{◌≡◌, ◌≢◌, ◌∙◌, ◌<◌, ◌≤◌, ◌+◌, ◌-◌, ◌==◌, ℕ, zero, suc, Bool, true, false, nat_lt, if◌then◌else◌, refl, sym, ap, subst, List, [], ◌∷◌, length, get_or, set, Option, None, Some, arith, add-one, sub-one}
+use Rattle.std.proofs.Common.{◌≡◌, ◌≢◌, ◌<◌, ◌≤◌, ◌+◌, ◌-◌, ◌==◌, ℕ, zero, suc, Bool, true, false, nat_lt, if◌then◌else◌, refl, ap, subst, List, [], ◌∷◌, length, get_or, set, Option, None, Some, arith, add-one}
 use Rattle.std.proofs.lemmas.Bool.Decides.{nat_tests}
 use Rattle.std.proofs.lemmas.List.{get_or-set_same, get_or-set_other}
 use Rattle.tc_bytes.specs.Reading.{◌>>=◌}
@@ -41,7 +41,7 @@ stack_of-read ls (suc n) some = let same : suc n - 1 ≡ n = omega arith in rw s
 -- the level that a value stands in, set anew
 stack_of-behind : (ls : List Level) (n : ℕ) (x : Level) → 0 < n → n ≤ length ls → stack_of (set ls (n - 1) x) n ≡ level_of x ∷ stack_of ls (n - 1)
 stack_of-behind ls zero x some inside = absurd (omega arith)
-stack_of-behind ls (suc n) x some inside = 
+stack_of-behind ls (suc n) x some inside =
     let same : n ≡ suc n - 1 = omega arith in
     let P : ℕ → Type 0 = λ k. stack_of (set ls k x) (suc n) ≡ level_of x ∷ stack_of ls k in
     subst P same (stack_of-top ls n x (omega arith))

@@ -1,11 +1,11 @@
 -- The laws of texts and names: bytes that are UTF-8, behind their length in another column.
-use Rattle.std.proofs.Common.{◌≡◌, ◌∙◌, ℕ, Bool, true, List, ◌++◌, Option, None, Some, if◌then◌else◌, length, refl, sym, ap, subst, arith}
+use Rattle.std.proofs.Common.{◌≡◌, ℕ, true, List, ◌++◌, None, Some, if◌then◌else◌, length, refl, sym, subst, arith}
 use Rattle.std.specs.Str.{IsUtf8, is_utf8}
 use Rattle.std.specs.Int.{bytes_high_first}
 use Rattle.std.proofs.lemmas.Bool.Decides.{nat_tests}
 use Rattle.std.proofs.lemmas.Str.{IsUtf8-from_is_utf8, is_utf8-from_IsUtf8}
 use Rattle.std.proofs.lemmas.Option.{same_Some}
-use Rattle.tc_bytes.specs.Reading.{◌>>=◌, bytes_at}
+use Rattle.tc_bytes.specs.Reading.{bytes_at}
 use Rattle.tc_bytes.specs.Codec.{IsBytes}
 use Rattle.tc_bytes.proofs.Fields.{bytes_codec, bytes_again}
 use Rattle.tc_bytes.proofs.Codecs.{then_parts}

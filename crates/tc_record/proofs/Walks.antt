@@ -1,18 +1,15 @@
 -- The laws of walks: the tokens of a tree are read from its columns alone.
-use Rattle.std.proofs.Common.{◌≡◌, ◌≢◌, ◌∙◌, ◌<◌, ◌≤◌, ◌+◌, ◌==◌, ◌&&◌, ℕ, zero, suc, max, nat_lt, Bool, true, false, if◌then◌else◌, List, [], ◌∷◌, ◌++◌, Option, None, Some, length, map, refl, sym, ap, subst, arith, append_assoc, append-nil}
+use Rattle.std.proofs.Common.{◌≡◌, ◌∙◌, ◌<◌, ◌≤◌, ◌+◌, ◌==◌, ℕ, nat_lt, false, if◌then◌else◌, List, [], ◌∷◌, ◌++◌, Option, None, Some, length, map, refl, sym, ap, subst, arith, append_assoc}
 use Rattle.std.proofs.lemmas.Bool.Decides.{nat_tests}
 use Rattle.std.proofs.lemmas.List.{map-append}
-use Rattle.std.proofs.lemmas.Option.{same_Some}
 use Rattle.tc_bytes.specs.Reading.{◌>>=◌}
-use Rattle.tc_bytes.proofs.Codecs.{then_parts}
 use Rattle.tc_model.specs.Tree.{Tree, leaf, array, object, Items, no_items, item, Members, no_members, member, depth, items_depth, members_depth}
 use Rattle.tc_model.specs.Document.{Name, Scalar, null, boolean, integer, text, IsScalar}
 use Rattle.tc_record.specs.Preorder.{Piece, scalar, array_opened, object_opened, closed, Token, token, preorder, items_preorder, members_preorder}
 use Rattle.tc_record.specs.Record.{piece_tag}
-use Rattle.tc_record.specs.Walk.{Key, name, number, Level, in_array, in_object, Format, Columns, value_at, opened, step, is_used_up, walk}
-use Rattle.tc_record.proofs.Texts.{AreBytes}
+use Rattle.tc_record.specs.Walk.{Key, name, number, Level, in_array, in_object, Format, Columns, value_at, opened, walk}
 use Rattle.tc_record.proofs.Scalars.{FitsScalar}
-use Rattle.tc_record.proofs.Labels.{IsLabelled, with_token, value_again, ValueFound, value_found}
+use Rattle.tc_record.proofs.Labels.{IsLabelled, with_token, value_again}
 
 -- a tree whose scalars and labels fit the columns, and whose names ascend where there are names
 abbrev mutual
@@ -88,8 +85,8 @@ around_again f label level behind inner end levels p held tags c goes read opens
     let columns : with_tokens f (held ++ close ∷ []) c ≡ with_tokens f held c = with_tokens-append f held (close ∷ []) c in
     rw (tag_list, columns)
     (walk_value f (tags_of held ++ 7 ∷ tags) level levels label behind p (inner ∷ behind ∷ levels) (with_tokens f held c) goes read opens
-        ∙ ap (before (token label p ∷ [])) (within ∙ before-before held (close ∷ []) (walk f tags (behind ∷ levels) c))
-        ∙ before-before (token label p ∷ []) (held ++ close ∷ []) (walk f tags (behind ∷ levels) c))
+    ∙ ap (before (token label p ∷ [])) (within ∙ before-before held (close ∷ []) (walk f tags (behind ∷ levels) c))
+    ∙ before-before (token label p ∷ []) (held ++ close ∷ []) (walk f tags (behind ∷ levels) c))
 
 -- one tree, and then others
 more_again : (f : Format) (ts us : List (Token Key Scalar)) (levels middle behind : List Level) (tags : List ℕ) (c : Columns)

@@ -1,5 +1,5 @@
 -- How the bytes of a record are cut into its columns.
-use Rattle.std.specs.Prelude.{ℕ, zero, suc, ◌+◌, ◌-◌, ◌*◌, ◌^◌, max, min, ◌==◌, Bool, true, false, if◌then◌else◌, List, [], ◌∷◌, length, Option, None, Some}
+use Rattle.std.specs.Prelude.{ℕ, zero, suc, ◌+◌, ◌-◌, ◌*◌, ◌^◌, max, min, ◌==◌, Bool, true, false, if◌then◌else◌, List, length, Option, None, Some}
 use Rattle.std.specs.Int.{w32}
 use Rattle.tc_bytes.specs.Reading.{Reader, ◌>>=◌, byte_at, number_at, bytes_at}
 use Rattle.tc_model.specs.Document.{Scalar}

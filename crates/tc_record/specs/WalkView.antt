@@ -1,5 +1,5 @@
 -- What the reader of a record shows.
-use Rattle.std.specs.Prelude.{ℕ, zero, suc, List, [], ◌∷◌, Option, None, Some, option_map, get_or}
+use Rattle.std.specs.Prelude.{Option, None, Some, option_map}
 use Rattle.tc_model.specs.Document.{Scalar, null, boolean, integer, text}
 use Rattle.tc_record.specs.Preorder as model
 use Rattle.tc_record.specs.Walk as walk

@@ -5,7 +5,7 @@ ghost use Rattle.tc_record.specs.Sections.{header_at, width_from, form_from};
 ghost use Rattle.tc_record.specs.SectionsView.{header_of};
 
 use crate::widths::Width;
-use tc_bytes::{u32_at, u8_at};
+use tc_bytes::{u8_at, u32_at};
 
 /// The fields of a header, in their order.
 #[derive(Clone, Copy)]

@@ -9,7 +9,7 @@ ghost use Rattle.tc_record.specs.WalkView.{key_of, piece_of, token_of, columns_o
 use crate::token::{Label, Piece, Token};
 use crate::widths::Width;
 use std::str;
-use tc_bytes::{slice_at, u32_at, u64_at, u8_at};
+use tc_bytes::{slice_at, u8_at, u32_at, u64_at};
 
 /// What is left of the columns beside the tags.
 #[derive(Clone, Copy)]
@@ -111,11 +111,7 @@ fn integer_in(columns: Columns<'_>) -> Option<(Piece<'_>, Columns<'_>)>
 }
 
 /// A value, or the opening of one, by its tag.
-fn piece_in(
-    width: Width,
-    tag: u8,
-    columns: Columns<'_>,
-) -> Option<(Piece<'_>, Columns<'_>)>
+fn piece_in(width: Width, tag: u8, columns: Columns<'_>) -> Option<(Piece<'_>, Columns<'_>)>
     ensures { option_map (λ x. (piece_of x.0, columns_of x.1)) result ≡ piece_at width tag (columns_of columns.entry) }
 {
     if tag == 1 {

@@ -10,7 +10,7 @@ ghost use Rattle.tc_record.specs.Borrowed.{Spells, IsRecord, named_tokens, numbe
 
 use crate::cursor::Cursor;
 use crate::reader::Columns;
-use crate::sections::{sections_of_record, Sections};
+use crate::sections::{Sections, sections_of_record};
 use crate::walking::Walk;
 use std::marker::Model;
 
@@ -70,7 +70,10 @@ impl<'a> RecordRef<'a> {
         ensures { result ≡ self.now.tokens }
     {
         let sections = self.sections;
-        Cursor::start(sections.tags, Walk::in_object(sections.format, sections.columns))
+        Cursor::start(
+            sections.tags,
+            Walk::in_object(sections.format, sections.columns),
+        )
     }
 }
 

@@ -4,8 +4,8 @@ ghost use Rattle.std.specs.Prelude.{◌≡◌, max, option_map, length};
 ghost use Rattle.tc_record.specs.Sections.{scan_at, least_width, numbers_at, columns_behind, sections_in};
 ghost use Rattle.tc_record.specs.SectionsView.{header_of, numbers_of, sections_of};
 
-use crate::header::{form_told, header_in, width_told, Header};
-use crate::reader::{column_number_at, Columns, Format};
+use crate::header::{Header, form_told, header_in, width_told};
+use crate::reader::{Columns, Format, column_number_at};
 use crate::widths::Width;
 use tc_bytes::slice_at;
 

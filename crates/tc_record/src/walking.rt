@@ -5,7 +5,7 @@ ghost use Rattle.tc_record.specs.Walk.{step, opened, in_object};
 ghost use Rattle.tc_record.specs.WalkView.{token_of, piece_of, columns_of, level_of, format_of};
 ghost use Rattle.tc_record.specs.Stack.{stack_of};
 
-use crate::reader::{value_in, Columns, Format, Level};
+use crate::reader::{Columns, Format, Level, value_in};
 use crate::token::{Label, Piece, Token};
 
 /// How deep arrays and objects may nest in a record.
@@ -57,7 +57,11 @@ impl<'a> Walk<'a> {
         let (token, behind, columns) = value_in(self.format, level, tag, self.columns)?;
         self.levels[place] = behind;
         self.columns = columns;
-        if self.open(token.value) { Some(token) } else { None }
+        if self.open(token.value) {
+            Some(token)
+        } else {
+            None
+        }
     }
 
     /// Opens what a value opens, or answers `false` where that would nest too deep.

@@ -1,4 +1,4 @@
-use Rattle.std.proofs.Common.{◌≡◌, ◌<◌, ◌^◌}
+use Rattle.std.proofs.Common.{◌≡◌}
 use Rattle.tc_record.specs.Sections.{scan_at}
 use Rattle.tc_record.proofs.sections.scanned.Given as goal
 

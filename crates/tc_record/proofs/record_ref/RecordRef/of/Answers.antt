@@ -1,4 +1,4 @@
-use Rattle.std.proofs.Common.{◌≡◌, ◌∙◌, ℕ, sym, ap, refl, None, Some, option_map, IfNone}
+use Rattle.std.proofs.Common.{◌≡◌, ◌∙◌, sym, refl, None, Some}
 use Rattle.tc_bytes.specs.Codec.{IsBytes}
 use Rattle.tc_record.specs.Sections.{sections_in}
 use Rattle.tc_record.specs.SectionsView.{sections_of}

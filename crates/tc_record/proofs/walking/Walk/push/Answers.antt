@@ -1,4 +1,4 @@
-use Rattle.std.proofs.Common.{rules, arith, ◌<◌, length}
+use Rattle.std.proofs.Common.{arith}
 use Rattle.tc_record.proofs.Stacks.{pushed}
 use Rattle.tc_record.proofs.walking.Walk.push.Goals as goal
 

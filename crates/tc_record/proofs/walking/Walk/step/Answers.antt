@@ -1,4 +1,4 @@
-use Rattle.std.proofs.Common.{◌≡◌, ◌≢◌, ◌<◌, ◌≤◌, ◌-◌, refl, sym, ap, ◌∙◌, None, Some, get_or, length, rules, arith}
+use Rattle.std.proofs.Common.{◌≡◌, ◌-◌, refl, sym, ◌∙◌, None, Some, get_or, arith}
 use Rattle.tc_record.specs.Walk.{value_at}
 use Rattle.tc_record.specs.WalkView.{token_of, columns_of, level_of, format_of}
 use Rattle.tc_record.specs.declared.reader.Level.TheVariants as level
