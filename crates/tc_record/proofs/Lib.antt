@@ -1,3 +1,4 @@
+pub mod Fields
 pub mod Measuring
 pub mod Lengths
 pub mod Encoded
