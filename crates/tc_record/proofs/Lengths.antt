@@ -14,7 +14,7 @@ length-bytes_high_first : (w n : ℕ) → length (bytes_high_first w n) ≡ w
 length-bytes_high_first zero n = refl
 length-bytes_high_first (suc w) n = ap suc (length-bytes_high_first w n)
 
-length-numbers : (w : ℕ) (ns : List ℕ) → length (numbers w ns) ≡ length ns * w
+pub length-numbers : (w : ℕ) (ns : List ℕ) → length (numbers w ns) ≡ length ns * w
 length-numbers w [] = omega arith
 length-numbers w (n ∷ ns) = grind (arith, length-append (bytes_high_first w n) (numbers w ns), length-bytes_high_first w n, length-numbers w ns)
 
@@ -186,7 +186,7 @@ few_tags d short = omega (arith, (exact_measure d short).tags, length-record_of 
 pub few_fixed : (d : Document) → length (record_of d) < 2 ^ 32 → (measured nothing_measured (tokens_of d)).fixed < 2 ^ 32
 few_fixed d short = omega (arith, (exact_measure d short).fixed, length-record_of (tokens_of d))
 
-few_numbers : (ns : List ℕ) → length (numbers (width ns) ns) < 2 ^ 32 → length ns < 2 ^ 32
+pub few_numbers : (ns : List ℕ) → length (numbers (width ns) ns) < 2 ^ 32 → length ns < 2 ^ 32
 few_numbers [] short = omega arith
 few_numbers (n ∷ ns) short = omega (arith, length-numbers (width (n ∷ ns)) (n ∷ ns), covered (length (n ∷ ns)) (width (n ∷ ns)) (width_of-some (greatest (n ∷ ns))) (width_of-le (greatest (n ∷ ns))))
 

@@ -4,3 +4,10 @@ pub mod Rows
 pub mod Measured
 pub mod Widths
 pub mod Parts
+pub mod Walk
+pub mod WalkView
+pub mod Stack
+pub mod Sections
+pub mod SectionsView
+pub mod Borrowed
+pub mod Held

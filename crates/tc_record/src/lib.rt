@@ -1,12 +1,22 @@
 //! The vector-based record of a document.
 #![tactic(auto)]
 
+mod cursor;
 mod encoding;
+mod header;
 mod measure;
+mod reader;
+mod record_ref;
+mod sections;
 mod sizing;
 #[cfg(test)]
 mod tests;
+mod token;
+mod walking;
 mod widths;
 
+pub use cursor::Cursor;
 pub use encoding::encode;
+pub use record_ref::RecordRef;
 pub use sizing::size;
+pub use token::{Label, Piece, Token};

@@ -4,7 +4,7 @@ ghost use Rattle.std.specs.Prelude.{◌≡◌};
 ghost use Rattle.tc_record.specs.Record.{record_of, numbered_record_of};
 ghost use Rattle.tc_record.specs.Rows.{flag, numbered_flag, flag_record, numbered_flag_record, nothing, nothing_record, mixed, numbered_mixed, mixed_record, numbered_mixed_record};
 
-use crate::{encode, size};
+use crate::{RecordRef, encode, size};
 use std::alloc::{AllocError, Global};
 use std::test::Fail;
 use tc_value::{Doc, Items, Member, Members, Text};
@@ -69,5 +69,70 @@ fn encodes(rt: HostRuntime) -> Result<(), Fail> {
         "00000030000000000b000000080000000101000000020106050304050706010707070000000000000001017801017662"
     );
     assert_eq!(rt; record_text(alloc, &Doc::Null)?.as_str(), "");
+    Ok(())
+}
+
+const FLAG: [u8; 29] =
+    *b"\0\0\0\x1d\0\0\0\0\x03\0\0\0\x01\0\0\0\0\0\0\0\0\x01\x01\x06\x02\x07\x01\x01a";
+
+/// The tokens of a record, or nothing where the bytes are none.
+fn token_text(alloc: Global, bytes: &[u8]) -> Result<String, AllocError> {
+    let mut text = String::new(alloc);
+    let Some(record) = RecordRef::of(bytes) else {
+        return Ok(text);
+    };
+    let mut cursor = record.cursor();
+    for _ in 0..40 {
+        match cursor.next() {
+            None => break,
+            Some(token) => {
+                let shown = format!(in alloc; "{:?} {:?}, ", token.label, token.value)?;
+                text.push_str(shown.as_str())?;
+            }
+        }
+    }
+    Ok(text)
+}
+
+#[test]
+fn reads_tokens(rt: HostRuntime) -> Result<(), Fail> {
+    let flag = token_text(rt.alloc(), &FLAG)?;
+    assert_eq!(rt;
+        flag.as_str(),
+        "Bare Object, Name(\"a\") Bool(true), Bare Close, "
+    );
+    let numbered =
+        b"\0\0\0\x2e\x01\0\0\0\x0b\0\0\0\x08\0\0\0\x01\x01\0\0\0\x02\x01\x06\x05\x03\x04\x05\x07\x06\x01\x07\x07\x07\0\0\0\0\0\0\0\x01\x01x\0\x01";
+    let mixed = token_text(rt.alloc(), numbered)?;
+    assert_eq!(rt;
+        mixed.as_str(),
+        "Bare Object, Number(0) Array, Bare Int(1), Bare Text(\"x\"), Bare Array, Bare Close, Bare Object, Number(1) Null, Bare Close, Bare Close, Bare Close, "
+    );
+    Ok(())
+}
+
+/// A record with one byte changed: its total, form, a count, a width, a tag, the boolean, the name.
+#[test]
+fn refuses_changed_bytes(rt: HostRuntime) -> Result<(), Fail> {
+    for (place, byte) in [
+        (3, 0x1c),
+        (4, 2),
+        (8, 2),
+        (17, 1),
+        (22, 2),
+        (24, 1),
+        (25, 6),
+        (26, 2),
+        (28, 0xff),
+    ] {
+        let mut bytes = FLAG;
+        if let Some(slot) = bytes.get_mut(place) {
+            *slot = byte;
+        }
+        let text = token_text(rt.alloc(), &bytes)?;
+        assert_eq!(rt; text.as_str(), "", "at {place}");
+    }
+    let wide = b"\0\0\0\x1e\0\0\0\0\x03\0\0\0\x01\0\0\0\0\0\0\0\0\x01\x02\x06\x02\x07\x01\0\x01a";
+    assert_eq!(rt; token_text(rt.alloc(), wide)?.as_str(), "");
     Ok(())
 }

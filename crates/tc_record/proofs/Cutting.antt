@@ -1,0 +1,239 @@
+-- The laws of the header and of the columns behind it.
+use Rattle.std.proofs.Common.{◌≡◌, ◌∙◌, ◌<◌, ◌+◌, ◌^◌, ◌==◌, ℕ, Bool, true, false, if◌then◌else◌, List, ◌∷◌, ◌++◌, Option, None, Some, length, map, refl, sym, ap, subst, arith, length-append}
+use Rattle.std.specs.Int.{w32, to_be_bytes}
+use Rattle.std.proofs.lemmas.Bool.Decides.{nat_tests}
+use Rattle.std.proofs.lemmas.Option.{same_Some}
+use Rattle.tc_bytes.specs.Reading.{byte_at, number_at, bytes_at}
+use Rattle.tc_bytes.specs.Codec.{IsBytes}
+use Rattle.tc_bytes.proofs.Fields.{number_codec_32, byte_codec, bytes_codec, IsBytes-front}
+use Rattle.tc_record.proofs.Fields.{bytes_again}
+use Rattle.tc_bytes.proofs.Codecs.{then_parts}
+use Rattle.tc_model.specs.Document.{Scalar}
+use Rattle.tc_record.specs.Preorder.{Token}
+use Rattle.tc_record.specs.Widths.{width_bytes}
+use Rattle.tc_record.specs.Record.{tags, fixed, texts, width, numbers, joined, body, record_bytes}
+use Rattle.tc_record.specs.Walk.{Key, Format, Columns}
+use Rattle.tc_record.specs.Sections.{Header, header_at, form_from, numbers_at, Sections, columns_behind, sections_in}
+use Rattle.tc_record.proofs.Lengths.{few_numbers}
+use Rattle.tc_record.proofs.Texts.{AreBytes}
+use Rattle.tc_record.proofs.Walks.{no_columns, with_tokens}
+use Rattle.tc_record.proofs.Spelled.{slots, names, spelled_fixed, spelled_lengths, spelled_texts, spelled_slots, spelled_names}
+use Rattle.tc_record.proofs.Fitting.{AreFit, TokensFit}
+use Rattle.tc_record.proofs.Counted.{sum_from, sum_from-joined, numbers_again, numbers_found, same_test}
+
+-- ---- the header
+
+abbrev pub spelled_header : Header → List ℕ → List ℕ
+spelled_header h rest =
+    to_be_bytes w32 h.total ++ (h.form ∷ (to_be_bytes w32 h.tags ++ (to_be_bytes w32 h.fixed ++ (to_be_bytes w32 h.texts ++ (h.text_width ∷ (to_be_bytes w32 h.names ++ (h.slot_width ∷ rest)))))))
+
+pub record HeaderFits (h : Header) : Type 0 where
+  pub total : h.total < 2 ^ 32
+  pub tags : h.tags < 2 ^ 32
+  pub fixed : h.fixed < 2 ^ 32
+  pub texts : h.texts < 2 ^ 32
+  pub names : h.names < 2 ^ 32
+
+header_again : (h : Header) (rest : List ℕ) → HeaderFits h → header_at (spelled_header h rest) ≡ Some (h, rest)
+header_again h rest fits =
+    let r6 = h.slot_width ∷ rest in
+    let r5 = h.text_width ∷ (to_be_bytes w32 h.names ++ r6) in
+    let r4 = to_be_bytes w32 h.texts ++ r5 in
+    let r3 = to_be_bytes w32 h.fixed ++ r4 in
+    let r2 = h.form ∷ (to_be_bytes w32 h.tags ++ r3) in
+    rw (number_codec_32.again h.total r2 fits.total, number_codec_32.again h.tags r3 fits.tags, number_codec_32.again h.fixed r4 fits.fixed, number_codec_32.again h.texts r5 fits.texts, number_codec_32.again h.names r6 fits.names) refl
+
+record HeaderFound (bytes : List ℕ) (q : Header × List ℕ) : Type 0 where
+  pub spelled : bytes ≡ spelled_header q.0 q.1
+  pub rest : IsBytes q.1
+  pub fits : HeaderFits q.0
+
+header_found : (bytes : List ℕ) (q : Header × List ℕ) → IsBytes bytes → header_at bytes ≡ Some q → HeaderFound bytes q
+header_found bytes q each gives =
+    let total = then_parts (number_at w32 bytes) _ q gives in
+    let form = then_parts (byte_at total.0.1) _ q total.2 in
+    let tag = then_parts (number_at w32 form.0.1) _ q form.2 in
+    let fix = then_parts (number_at w32 tag.0.1) _ q tag.2 in
+    let txt = then_parts (number_at w32 fix.0.1) _ q fix.2 in
+    let tw = then_parts (byte_at txt.0.1) _ q txt.2 in
+    let nam = then_parts (number_at w32 tw.0.1) _ q tw.2 in
+    let sw = then_parts (byte_at nam.0.1) _ q nam.2 in
+    let a = number_codec_32.found bytes total.0.0 total.0.1 each total.1 in
+    let b = byte_codec.found total.0.1 form.0.0 form.0.1 a.1 form.1 in
+    let c = number_codec_32.found form.0.1 tag.0.0 tag.0.1 b.1 tag.1 in
+    let d = number_codec_32.found tag.0.1 fix.0.0 fix.0.1 c.1 fix.1 in
+    let e = number_codec_32.found fix.0.1 txt.0.0 txt.0.1 d.1 txt.1 in
+    let f = byte_codec.found txt.0.1 tw.0.0 tw.0.1 e.1 tw.1 in
+    let g = number_codec_32.found tw.0.1 nam.0.0 nam.0.1 f.1 nam.1 in
+    let h = byte_codec.found nam.0.1 sw.0.0 sw.0.1 g.1 sw.1 in
+    let at_names : tw.0.1 ≡ to_be_bytes w32 nam.0.0 ++ (sw.0.0 ∷ sw.0.1) = g.0 ∙ ap (λ r. to_be_bytes w32 nam.0.0 ++ r) h.0 in
+    let at_texts : fix.0.1 ≡ to_be_bytes w32 txt.0.0 ++ (tw.0.0 ∷ (to_be_bytes w32 nam.0.0 ++ (sw.0.0 ∷ sw.0.1))) = e.0 ∙ ap (λ r. to_be_bytes w32 txt.0.0 ++ r) (f.0 ∙ ap (λ r. tw.0.0 ∷ r) at_names) in
+    let at_tags : form.0.1 ≡ to_be_bytes w32 tag.0.0 ++ (to_be_bytes w32 fix.0.0 ++ (to_be_bytes w32 txt.0.0 ++ (tw.0.0 ∷ (to_be_bytes w32 nam.0.0 ++ (sw.0.0 ∷ sw.0.1))))) = c.0 ∙ ap (λ r. to_be_bytes w32 tag.0.0 ++ r) (d.0 ∙ ap (λ r. to_be_bytes w32 fix.0.0 ++ r) at_texts) in
+    subst (HeaderFound bytes) (same_Some _ q sw.2)
+    (record {
+      spelled = a.0 ∙ ap (λ r. to_be_bytes w32 total.0.0 ++ r) (b.0 ∙ ap (λ r. form.0.0 ∷ r) at_tags);
+      rest = h.1;
+      fits = record { total = a.2; tags = c.2; fixed = d.2; texts = e.2; names = g.2 };
+    })
+
+-- ---- the columns
+
+pub record ColumnsFound (h : Header) (named : Bool) (bytes : List ℕ) (s : Sections) : Type 0 where
+  pub lengths : List ℕ
+  pub slot_list : List ℕ
+  pub named_is : s.format.named ≡ named
+  pub tag_count : h.tags ≡ length s.tags
+  pub fixed_count : h.fixed ≡ length s.columns.fixed
+  pub text_count : h.texts ≡ length lengths
+  pub slot_count : h.names ≡ length slot_list
+  pub text_width : h.text_width ≡ width lengths
+  pub text_told : h.text_width ≡ width_bytes s.format.text_width
+  pub slot_told : h.slot_width ≡ width_bytes s.format.slot_width
+  pub slot_width : h.slot_width ≡ width slot_list
+  pub lengths_are : s.columns.lengths ≡ numbers (width_bytes s.format.text_width) lengths
+  pub slots_are : s.columns.slots ≡ numbers (width_bytes s.format.slot_width) slot_list
+  pub lengths_fit : AreFit s.format.text_width lengths
+  pub slots_fit : AreFit s.format.slot_width slot_list
+  pub spelled : bytes ≡ s.tags ++ (s.columns.fixed ++ (s.columns.lengths ++ (s.columns.texts ++ (s.columns.slots ++ s.columns.names))))
+  pub each : AreBytes s.columns
+
+columns_found : (h : Header) (named : Bool) (bytes : List ℕ) (s : Sections) → IsBytes bytes → columns_behind h named bytes ≡ Some s → ColumnsFound h named bytes s
+columns_found h named bytes s each gives =
+    let tag = then_parts (bytes_at h.tags bytes) _ s gives in
+    let fix = then_parts (bytes_at h.fixed tag.0.1) _ s tag.2 in
+    let len = then_parts (numbers_at h.text_width h.texts fix.0.1) _ s fix.2 in
+    let txt = then_parts (bytes_at len.0.0.total len.0.1) _ s len.2 in
+    let slot = then_parts (numbers_at h.slot_width h.names txt.0.1) _ s txt.2 in
+    let a = (bytes_codec h.tags).found bytes tag.0.0 tag.0.1 each tag.1 in
+    let b = (bytes_codec h.fixed).found tag.0.1 fix.0.0 fix.0.1 a.1 fix.1 in
+    let c = numbers_found h.text_width h.texts fix.0.1 len.0 b.1 len.1 in
+    let d = (bytes_codec len.0.0.total).found len.0.1 txt.0.0 txt.0.1 c.rest txt.1 in
+    let e = numbers_found h.slot_width h.names txt.0.1 slot.0 d.1 slot.1 in
+    subst (ColumnsFound h named bytes) (same_Some _ s slot.2)
+    (record {
+      lengths = c.elements;
+      slot_list = e.elements;
+      named_is = refl;
+      tag_count = sym a.2;
+      fixed_count = sym b.2;
+      text_count = c.many;
+      slot_count = e.many;
+      text_width = c.width_least;
+      text_told = c.width_told;
+      slot_told = e.width_told;
+      slot_width = e.width_least;
+      lengths_are = c.column;
+      slots_are = e.column;
+      lengths_fit = c.fits;
+      slots_fit = e.fits;
+      spelled = a.0 ∙ ap (λ r. tag.0.0 ++ r) (b.0 ∙ ap (λ r. fix.0.0 ++ r) (c.spelled ∙ ap (λ r. len.0.0.bytes ++ r) (d.0 ∙ ap (λ r. txt.0.0 ++ r) e.spelled)));
+      each = record { fixed = IsBytes-front fix.0.0 fix.0.1 (subst IsBytes b.0 a.1); lengths = c.each; texts = IsBytes-front txt.0.0 txt.0.1 (subst IsBytes d.0 c.rest); slots = e.each; names = e.rest };
+    })
+
+-- ---- the whole
+
+pub record SectionsFound (bytes : List ℕ) (s : Sections) : Type 0 where
+  pub header : Header
+  pub rest : List ℕ
+  pub spelled : bytes ≡ spelled_header header rest
+  pub total : header.total ≡ length bytes
+  pub form : form_from header.form ≡ Some s.format.named
+  pub fits : HeaderFits header
+  pub columns : ColumnsFound header s.format.named rest s
+
+pub sections_found : (bytes : List ℕ) (s : Sections) → IsBytes bytes → sections_in bytes ≡ Some s → SectionsFound bytes s
+sections_found bytes s each gives =
+    let one = then_parts (header_at bytes) _ s gives in
+    let header = header_found bytes one.0 each one.1 in
+    let h = one.0.0 in
+    let passes = unless_none (h.total == length bytes) _ s one.2 in
+    let two = then_parts (form_from h.form) _ s passes.0 in
+    let columns = columns_found h two.0 one.0.1 s header.rest two.2 in
+    record {
+      header = h;
+      rest = one.0.1;
+      spelled = header.spelled;
+      total = test_same h.total (length bytes) passes.1;
+      form = two.1 ∙ ap Some (sym columns.named_is);
+      fits = header.fits;
+      columns = subst (λ b. ColumnsFound h b one.0.1 s) (sym columns.named_is) columns;
+    }
+  where
+    unless_none : {A : Type 0} (b : Bool) (x : Option A) (q : A) → (if b then x else None) ≡ Some q → (x ≡ Some q) × (b ≡ true)
+    unless_none true x q gives = (gives, refl)
+    unless_none false x q gives = cc
+
+    test_same : (a b : ℕ) → (a == b) ≡ true → a ≡ b
+    test_same a b e = grind (arith, nat_tests)
+
+-- ---- what is spelled is cut
+
+abbrev five : List ℕ → List ℕ → List ℕ → List ℕ → List ℕ → Columns
+five fixed_bytes length_bytes text_bytes slot_bytes name_bytes = record { fixed = fixed_bytes; lengths = length_bytes; texts = text_bytes; slots = slot_bytes; names = name_bytes }
+
+same_five : (c : Columns) (a b d e g : List ℕ) → c.fixed ≡ a → c.lengths ≡ b → c.texts ≡ d → c.slots ≡ e → c.names ≡ g → c ≡ five a b d e g
+same_five c a b d e g p q r s t =
+    ap (λ x. five x c.lengths c.texts c.slots c.names) p ∙ ap (λ x. five a x c.texts c.slots c.names) q ∙ ap (λ x. five a b x c.slots c.names) r ∙ ap (λ x. five a b d x c.names) s ∙ ap (λ x. five a b d e x) t
+
+-- the header of tokens
+abbrev pub header_of_tokens : ℕ → List (Token Key Scalar) → Header
+header_of_tokens form ts = record {
+  total = 23 + length (body ts (slots ts) (names ts));
+  form = form;
+  tags = length (tags ts);
+  fixed = length (fixed ts);
+  texts = length (map length (texts ts));
+  text_width = width (map length (texts ts));
+  names = length (slots ts);
+  slot_width = width (slots ts);
+}
+
+-- the lengths of the columns, added up
+pub body_length : (ts : List (Token Key Scalar)) → length (body ts (slots ts) (names ts))
+    ≡ length (tags ts) + (length (fixed ts) + (length (numbers (width (map length (texts ts))) (map length (texts ts))) + (length (joined (texts ts)) + (length (numbers (width (slots ts)) (slots ts)) + length (names ts)))))
+body_length ts =
+    let lengths = map length (texts ts) in
+    let last = numbers (width (slots ts)) (slots ts) ++ names ts in
+    let text_part = joined (texts ts) ++ last in
+    let text_columns = numbers (width lengths) lengths ++ text_part in
+    omega (arith, length-append (tags ts) (fixed ts ++ text_columns), length-append (fixed ts) text_columns, length-append (numbers (width lengths) lengths) text_part, length-append (joined (texts ts)) last, length-append (numbers (width (slots ts)) (slots ts)) (names ts))
+
+header_fits : (form : ℕ) (ts : List (Token Key Scalar)) → 23 + length (body ts (slots ts) (names ts)) < 2 ^ 32 → HeaderFits (header_of_tokens form ts)
+header_fits form ts short =
+    let sum = body_length ts in
+    record {
+      total = short;
+      tags = omega arith;
+      fixed = omega arith;
+      texts = few_numbers (map length (texts ts)) (omega arith);
+      names = few_numbers (slots ts) (omega arith);
+    }
+
+columns_again : (f : Format) (form : ℕ) (ts : List (Token Key Scalar)) → TokensFit f ts → width_bytes f.text_width ≡ width (map length (texts ts)) → width_bytes f.slot_width ≡ width (slots ts)
+    → 23 + length (body ts (slots ts) (names ts)) < 2 ^ 32
+    → columns_behind (header_of_tokens form ts) f.named (body ts (slots ts) (names ts)) ≡ Some (record { format = f; tags = tags ts; columns = with_tokens f ts no_columns })
+columns_again f form ts fits text_width slot_width short =
+    let lengths = map length (texts ts) in
+    let r4 = numbers (width (slots ts)) (slots ts) ++ names ts in
+    let r3 = joined (texts ts) ++ r4 in
+    let r2 = numbers (width lengths) lengths ++ r3 in
+    let r1 = fixed ts ++ r2 in
+    let sum = body_length ts in
+    let total : length (joined (texts ts)) ≡ sum_from 0 lengths = sym (sum_from-joined (texts ts) 0 (omega arith) ∙ omega arith) in
+    let read_lengths : numbers_at (width lengths) (length lengths) r2 ≡ Some (record { width = f.text_width; bytes = numbers (width lengths) lengths; total = sum_from 0 lengths }, r3) =
+    subst (λ n. numbers_at n (length lengths) (numbers n lengths ++ r3) ≡ Some (record { width = f.text_width; bytes = numbers n lengths; total = sum_from 0 lengths }, r3)) text_width (numbers_again f.text_width lengths r3 fits.texts text_width) in
+    let read_slots : numbers_at (width (slots ts)) (length (slots ts)) r4 ≡ Some (record { width = f.slot_width; bytes = numbers (width (slots ts)) (slots ts); total = sum_from 0 (slots ts) }, names ts) =
+    subst (λ n. numbers_at n (length (slots ts)) (numbers n (slots ts) ++ names ts) ≡ Some (record { width = f.slot_width; bytes = numbers n (slots ts); total = sum_from 0 (slots ts) }, names ts)) slot_width (numbers_again f.slot_width (slots ts) (names ts) fits.slots slot_width) in
+    let columns : with_tokens f ts no_columns ≡ five (fixed ts) (numbers (width lengths) lengths) (joined (texts ts)) (numbers (width (slots ts)) (slots ts)) (names ts) =
+    same_five (with_tokens f ts no_columns) _ _ _ _ _ (spelled_fixed f ts) (spelled_lengths f ts ∙ ap (λ n. numbers n lengths) text_width) (spelled_texts f ts) (spelled_slots f ts ∙ ap (λ n. numbers n (slots ts)) slot_width) (spelled_names f ts) in
+    rw (columns, bytes_again (length (tags ts)) (tags ts) r1 refl, bytes_again (length (fixed ts)) (fixed ts) r2 refl, read_lengths, bytes_again (sum_from 0 lengths) (joined (texts ts)) r4 total, read_slots) refl
+
+-- the columns that tokens have are cut out of their record
+pub sections_again : (f : Format) (form : ℕ) (ts : List (Token Key Scalar)) → form_from form ≡ Some f.named → TokensFit f ts → width_bytes f.text_width ≡ width (map length (texts ts)) → width_bytes f.slot_width ≡ width (slots ts)
+    → length (record_bytes form ts (slots ts) (names ts)) < 2 ^ 32 → sections_in (record_bytes form ts (slots ts) (names ts)) ≡ Some (record { format = f; tags = tags ts; columns = with_tokens f ts no_columns })
+sections_again f form ts is fits text_width slot_width short =
+    let content = body ts (slots ts) (names ts) in
+    let small : 23 + length content < 2 ^ 32 = omega arith in
+    let whole : 23 + length content ≡ length (record_bytes form ts (slots ts) (names ts)) = omega arith in
+    rw (header_again (header_of_tokens form ts) content (header_fits form ts small), is, columns_again f form ts fits text_width slot_width small)
+    (same_test (23 + length content) (length (record_bytes form ts (slots ts) (names ts))) _ None whole)

@@ -1,0 +1,69 @@
+-- What a borrowed record holds, by what was read of its bytes.
+use Rattle.std.proofs.Common.{◌≡◌, ◌∙◌, ℕ, Bool, true, false, List, [], Option, None, Some, unwrap_or, is_some, inl, inr, refl, sym, ap}
+use Rattle.std.proofs.lemmas.Option.{same_Some}
+use Rattle.tc_bytes.specs.Reading.{◌>>=◌}
+use Rattle.tc_bytes.specs.Codec.{IsBytes}
+use Rattle.tc_model.specs.Document.{Document, Scalar}
+use Rattle.tc_record.specs.Preorder.{Token}
+use Rattle.tc_record.specs.Record.{NumberedTree, IsRecordOf, IsNumberedRecordOf}
+use Rattle.tc_record.specs.Walk as walk
+use Rattle.tc_record.specs.Held.{tokens_held}
+use Rattle.tc_record.specs.Sections as cut
+use Rattle.tc_record.specs.SectionsView.{sections_of}
+use Rattle.tc_record.specs.Borrowed.{Spells, IsRecord, named_tokens, numbered_tokens}
+use Rattle.tc_record.specs.declared.sections.Sections.{Sections}
+use Rattle.tc_record.proofs.Reading.{document_again, numbered_again, read_found}
+
+abbrev Tokens : Type 0
+Tokens = List (Token walk.Key Scalar)
+
+-- a record that was cut and has tokens was read
+read_held : (bytes : List ℕ) (s : Sections) (held : Option Tokens) → cut.sections_in bytes ≡ Some (sections_of s) → tokens_held s ≡ held → cut.record_read bytes ≡ (held >>= λ ts. Some (s.format.named, ts))
+read_held bytes s held cut_is is = rw (cut_is, is) refl
+
+spells_held : (bytes : List ℕ) (s : Sections) (held : Option Tokens) → IsBytes bytes → cut.sections_in bytes ≡ Some (sections_of s) → tokens_held s ≡ held → true ≡ is_some held
+    → Spells (record { bytes = bytes; named = s.format.named; tokens = unwrap_or held [] })
+spells_held bytes s None each cut_is is some = cc
+spells_held bytes s (Some ts) each cut_is is some = read_found bytes (s.format.named, ts) each (read_held bytes s (Some ts) cut_is is)
+
+pub held_spells : (bytes : List ℕ) (s : Sections) → IsBytes bytes → cut.sections_in bytes ≡ Some (sections_of s) → true ≡ is_some (tokens_held s)
+    → Spells (record { bytes = bytes; named = s.format.named; tokens = unwrap_or (tokens_held s) [] })
+held_spells bytes s each cut_is some = spells_held bytes s (tokens_held s) each cut_is refl some
+
+-- what was read is what the reader answers
+same_read : (bytes : List ℕ) (s : Sections) (held : Option Tokens) (b : Bool) (ts : Tokens) → cut.sections_in bytes ≡ Some (sections_of s) → tokens_held s ≡ held → cut.record_read bytes ≡ Some (b, ts) → (s.format.named ≡ b) × (unwrap_or held [] ≡ ts)
+same_read bytes s None b ts cut_is is read = none_some (sym (read_held bytes s None cut_is is) ∙ read)
+  where
+    none_some : {A : Type 0} → ◌≡◌ {A = Option (Bool × Tokens)} None (Some (b, ts)) → A
+    none_some e = cc
+same_read bytes s (Some us) b ts cut_is is read =
+    let same = same_Some (s.format.named, us) (b, ts) (sym (read_held bytes s (Some us) cut_is is) ∙ read) in
+    (ap (λ (p : Bool × Tokens). p.0) same, ap (λ (p : Bool × Tokens). p.1) same)
+
+pub held_document : (bytes : List ℕ) (s : Sections) (d : Document) → cut.sections_in bytes ≡ Some (sections_of s) → IsRecordOf d bytes → (s.format.named ≡ true) × (unwrap_or (tokens_held s) [] ≡ named_tokens d)
+held_document bytes s d cut_is is = same_read bytes s (tokens_held s) true (named_tokens d) cut_is refl (document_again d bytes is)
+
+pub held_numbered : (bytes : List ℕ) (s : Sections) (n : NumberedTree) → cut.sections_in bytes ≡ Some (sections_of s) → IsNumberedRecordOf n bytes → (s.format.named ≡ false) × (unwrap_or (tokens_held s) [] ≡ numbered_tokens n)
+held_numbered bytes s n cut_is is = same_read bytes s (tokens_held s) false (numbered_tokens n) cut_is refl (numbered_again n bytes is)
+
+-- bytes of which nothing is read are no record
+pub unread : (bytes : List ℕ) → cut.record_read bytes ≡ None → IsRecord bytes → ⊥
+unread bytes none (inl d) = none_some (sym none ∙ document_again d.0 bytes d.1)
+  where
+    none_some : ◌≡◌ {A = Option (Bool × Tokens)} None (Some (true, named_tokens d.0)) → ⊥
+    none_some e = cc
+unread bytes none (inr n) = none_some (sym none ∙ numbered_again n.0 bytes n.1)
+  where
+    none_some : ◌≡◌ {A = Option (Bool × Tokens)} None (Some (false, numbered_tokens n.0)) → ⊥
+    none_some e = cc
+
+-- nothing was cut, or no tokens were read
+pub uncut : (bytes : List ℕ) → cut.sections_in bytes ≡ None → cut.record_read bytes ≡ None
+uncut bytes none = rw none refl
+
+pub no_tokens : (bytes : List ℕ) (s : Sections) → cut.sections_in bytes ≡ Some (sections_of s) → false ≡ is_some (tokens_held s) → cut.record_read bytes ≡ None
+no_tokens bytes s cut_is none = read_held bytes s None cut_is (is_none (tokens_held s) none)
+  where
+    is_none : (held : Option Tokens) → false ≡ is_some held → held ≡ None
+    is_none None e = refl
+    is_none (Some ts) e = cc

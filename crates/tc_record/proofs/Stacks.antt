@@ -1,0 +1,84 @@
+-- The levels that are open, in the array that holds them.
+use Rattle.std.proofs.Common.{◌≡◌, ◌≢◌, ◌<◌, ◌≤◌, ◌+◌, ◌-◌, ◌==◌, ℕ, zero, suc, Bool, true, false, nat_lt, if◌then◌else◌, refl, ap, subst, List, [], ◌∷◌, length, get_or, set, Option, None, Some, arith, add-one}
+use Rattle.std.proofs.lemmas.Bool.Decides.{nat_tests}
+use Rattle.std.proofs.lemmas.List.{get_or-set_same, get_or-set_other}
+use Rattle.tc_bytes.specs.Reading.{◌>>=◌}
+use Rattle.tc_model.specs.Document.{Scalar}
+use Rattle.tc_record.specs.Preorder.{Token}
+use Rattle.tc_record.specs.Walk as walk
+use Rattle.tc_record.specs.WalkView.{level_of}
+use Rattle.tc_record.specs.Stack.{stack_of}
+use Rattle.tc_record.specs.declared.reader.Level.{Level}
+use Rattle.tc_record.specs.declared.reader.Level.TheVariants as level
+
+pub length-stack_of : (ls : List Level) (n : ℕ) → length (stack_of ls n) ≡ n
+length-stack_of ls zero = refl
+length-stack_of ls (suc n) = ap suc (length-stack_of ls n)
+
+-- levels beyond do not matter
+stack_of-set : (ls : List Level) (k n : ℕ) (x : Level) → n ≤ k → stack_of (set ls k x) n ≡ stack_of ls n
+stack_of-set ls k zero x beyond = refl
+stack_of-set ls k (suc n) x beyond =
+    rw (get_or-set_other ls k n x level.Array (λ same. omega arith), stack_of-set ls k n x (omega arith)) refl
+
+-- the innermost level, set anew
+pub stack_of-top : (ls : List Level) (k : ℕ) (x : Level) → k < length ls → stack_of (set ls k x) (suc k) ≡ level_of x ∷ stack_of ls k
+stack_of-top ls k x inside = rw (get_or-set_same ls k x level.Array inside, stack_of-set ls k k x (omega arith)) refl
+
+-- one level more
+pub pushed : (ls : List Level) (n : ℕ) (x : Level) → n < length ls → n < 32
+    → Some (stack_of (set ls n x) (n + 1)) ≡ (if nat_lt (length (stack_of ls n)) 32 then Some (level_of x ∷ stack_of ls n) else None)
+pushed ls n x inside few = rw (add-one n, stack_of-top ls n x inside, length-stack_of ls n) (fits n (level_of x ∷ stack_of ls n) few)
+  where
+    fits : (n : ℕ) (levels : List walk.Level) → n < 32 → Some levels ≡ (if nat_lt n 32 then Some levels else None)
+    fits n levels few = grind (arith, nat_tests)
+
+-- a level that is read
+pub stack_of-read : (ls : List Level) (n : ℕ) → 0 < n → stack_of ls n ≡ level_of (get_or ls (n - 1) level.Array) ∷ stack_of ls (n - 1)
+stack_of-read ls zero some = absurd (omega arith)
+stack_of-read ls (suc n) some = let same : suc n - 1 ≡ n = omega arith in rw same refl
+
+-- the level that a value stands in, set anew
+stack_of-behind : (ls : List Level) (n : ℕ) (x : Level) → 0 < n → n ≤ length ls → stack_of (set ls (n - 1) x) n ≡ level_of x ∷ stack_of ls (n - 1)
+stack_of-behind ls zero x some inside = absurd (omega arith)
+stack_of-behind ls (suc n) x some inside =
+    let same : n ≡ suc n - 1 = omega arith in
+    let P : ℕ → Type 0 = λ k. stack_of (set ls k x) (suc n) ≡ level_of x ∷ stack_of ls k in
+    subst P same (stack_of-top ls n x (omega arith))
+
+-- a token with the levels and the columns behind it
+abbrev Stepped : Type 0
+Stepped = Token walk.Key Scalar × List walk.Level × walk.Columns
+
+abbrev behind_token : Token walk.Key Scalar → walk.Columns → List walk.Level → Option Stepped
+behind_token t rest inner = Some (t, inner, rest)
+
+-- the levels behind a piece, where they are not too many
+pub opened_some : (t : Token walk.Key Scalar) (rest : walk.Columns) (o : Option (List walk.Level)) (r : Bool) (inner : List walk.Level) → (if r then Some inner else None) ≡ o → r ≡ true
+    → (o >>= behind_token t rest) ≡ Some (t, inner, rest)
+opened_some t rest o r inner gives room = rw (← gives, room) refl
+
+pub opened_none : (t : Token walk.Key Scalar) (rest : walk.Columns) (o : Option (List walk.Level)) (r : Bool) (inner : List walk.Level) → (if r then Some inner else None) ≡ o → r ≡ false
+    → (o >>= behind_token t rest) ≡ None
+opened_none t rest o r inner gives no_room = rw (← gives, no_room) refl
+
+-- no value stands there
+pub stepped_none : (f : walk.Format) (tag : ℕ) (ls : List Level) (n : ℕ) (c : walk.Columns) → 0 < n → tag ≢ 7
+    → walk.value_at f (level_of (get_or ls (n - 1) level.Array)) tag c ≡ None → walk.step f tag (stack_of ls n) c ≡ None
+stepped_none f tag ls n c some goes none = rw (stack_of-read ls n some, unequal tag goes, none) refl
+  where
+    unequal : (tag : ℕ) → tag ≢ 7 → (tag == 7) ≡ false
+    unequal tag goes = grind (arith, nat_tests)
+
+-- a value stands there
+pub stepped_some : (f : walk.Format) (tag : ℕ) (ls : List Level) (n : ℕ) (c : walk.Columns) (t : Token walk.Key Scalar) (behind : Level) (rest : walk.Columns) → 0 < n → n ≤ length ls → tag ≢ 7
+    → walk.value_at f (level_of (get_or ls (n - 1) level.Array)) tag c ≡ Some (t, level_of behind, rest)
+    → walk.step f tag (stack_of ls n) c ≡ (walk.opened t.piece (stack_of (set ls (n - 1) behind) n) >>= λ inner. Some (t, inner, rest))
+stepped_some f tag ls n c t behind rest some inside goes read = rw (stack_of-behind ls n behind some inside, stack_of-read ls n some, unequal tag goes, read) refl
+  where
+    unequal : (tag : ℕ) → tag ≢ 7 → (tag == 7) ≡ false
+    unequal tag goes = grind (arith, nat_tests)
+
+-- a walk does not end while a level is open
+pub walk_open : (f : walk.Format) (ls : List Level) (n : ℕ) (c : walk.Columns) → 0 < n → walk.walk f [] (stack_of ls n) c ≡ None
+walk_open f ls n c some = rw (stack_of-read ls n some) refl

@@ -1,0 +1,29 @@
+-- A record of either form, borrowed, and the tokens that it spells.
+use Rattle.std.specs.Prelude.{◌≡◌, ◌⊎◌, ℕ, Bool, true, false, List}
+use Rattle.tc_model.specs.Tree.{relabel}
+use Rattle.tc_model.specs.Document.{Document, Scalar}
+use Rattle.tc_record.specs.Preorder.{Token, tokens_of}
+use Rattle.tc_record.specs.Record.{NumberedTree, IsRecordOf, IsNumberedRecordOf}
+use Rattle.tc_record.specs.Walk.{Key, name, number}
+
+pub record Record : Type 0 where
+  pub bytes : List ℕ
+  pub named : Bool
+  pub tokens : List (Token Key Scalar)
+
+-- the tokens of a document, with its names
+abbrev pub named_tokens : Document → List (Token Key Scalar)
+named_tokens d = tokens_of (relabel name (λ s. s) d)
+
+-- the tokens of a numbered tree, with its numbers
+abbrev pub numbered_tokens : NumberedTree → List (Token Key Scalar)
+numbered_tokens n = tokens_of (relabel number (λ s. s) n)
+
+-- bytes that are a record of form 0 or of form 1
+abbrev pub IsRecord : List ℕ → Type 0
+IsRecord bytes = ((d : Document) × IsRecordOf d bytes) ⊎ ((n : NumberedTree) × IsNumberedRecordOf n bytes)
+
+-- a record spells a document, by its names or by the numbers of its names
+abbrev pub Spells : Record → Type 0
+Spells r =
+    ((d : Document) × ((r.named ≡ true) × IsRecordOf d r.bytes × (r.tokens ≡ named_tokens d))) ⊎ ((n : NumberedTree) × ((r.named ≡ false) × IsNumberedRecordOf n r.bytes × (r.tokens ≡ numbered_tokens n)))

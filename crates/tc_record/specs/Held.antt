@@ -1,0 +1,21 @@
+-- What a borrowed record and a cursor are seen as.
+use Rattle.std.specs.Prelude.{ℕ, ◌==◌, Bool, true, false, if◌then◌else◌, List, [], ◌∷◌, Option, None, Some}
+use Rattle.tc_bytes.specs.Reading.{◌>>=◌}
+use Rattle.tc_model.specs.Document.{Scalar}
+use Rattle.tc_record.specs.Preorder.{Token, token, object_opened}
+use Rattle.tc_record.specs.Walk as walk
+use Rattle.tc_record.specs.WalkView.{columns_of, format_of}
+use Rattle.tc_record.specs.Stack.{stack_of}
+use Rattle.tc_record.specs.declared.sections.Sections.{Sections}
+use Rattle.tc_record.specs.declared.walking.Walk.{Walk}
+
+-- the tokens that the columns spell
+abbrev pub tokens_held : Sections → Option (List (Token walk.Key Scalar))
+tokens_held s = walk.tokens_read (format_of s.format) s.tags.now (columns_of s.columns)
+
+-- the tokens that are left, where the first one was taken, and where it was not
+abbrev pub tokens_left : Bool → List ℕ → Walk → Option (List (Token walk.Key Scalar))
+tokens_left true tags w = walk.walk (format_of w.format) tags (stack_of w.levels w.depth) (columns_of w.columns)
+tokens_left false [] w = None
+tokens_left false (tag ∷ tags) w =
+    if tag == 6 then (walk.walk (format_of w.format) tags (stack_of w.levels w.depth) (columns_of w.columns) >>= λ ts. Some (token None object_opened ∷ ts)) else None

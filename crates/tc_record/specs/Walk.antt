@@ -1,0 +1,116 @@
+-- How the columns of a record are read: token by token, from the front.
+use Rattle.std.specs.Prelude.{ℕ, ◌==◌, ◌&&◌, nat_lt, Bool, true, false, if◌then◌else◌, List, [], ◌∷◌, length, Option, None, Some}
+use Rattle.std.specs.Int.{w16, w32, w64, cast_signed}
+use Rattle.std.specs.Str.{is_utf8}
+use Rattle.std.specs.Ordering.{is_lt}
+use Rattle.tc_bytes.specs.Reading.{Reader, ◌>>=◌, byte_at, number_at, bytes_at}
+use Rattle.tc_model.specs.Document.{Name, Scalar, null, boolean, integer, text, name_cmp}
+use Rattle.tc_record.specs.Preorder.{Piece, scalar, array_opened, object_opened, closed, Token, token}
+use Rattle.tc_record.specs.declared.widths.Width.{Width}
+use Rattle.tc_record.specs.declared.widths.Width.TheVariants.{Zero, One, Two, Four}
+
+-- what a member is labelled by: its name in form 0, the number of its name in form 1
+pub data Key : Type 0 where
+  name : Name → Key
+  number : ℕ → Key
+
+-- an array or an object that is open, with the name of the object's member before, if names are to ascend
+pub data Level : Type 0 where
+  in_array : Level
+  in_object : Option Name → Level
+
+-- the form, and the bytes of a text length and of a slot
+pub record Format : Type 0 where
+  pub named : Bool
+  pub text_width : Width
+  pub slot_width : Width
+
+-- what is left of the columns beside the tags
+pub record Columns : Type 0 where
+  pub fixed : List ℕ
+  pub lengths : List ℕ
+  pub texts : List ℕ
+  pub slots : List ℕ
+  pub names : List ℕ
+
+-- one number of a column
+abbrev pub sized_number_at : Width → Reader ℕ
+sized_number_at Zero bytes = None
+sized_number_at One bytes = byte_at bytes
+sized_number_at Two bytes = number_at w16 bytes
+sized_number_at Four bytes = number_at w32 bytes
+
+-- so many bytes that are UTF-8
+abbrev pub utf8_at : ℕ → Reader (List ℕ)
+utf8_at n bytes = bytes_at n bytes >>= λ t. if is_utf8 t.0 then Some t else None
+
+-- a text by its length, from the columns of lengths and of texts
+abbrev pub text_at : Width → Columns → Option (List ℕ × Columns)
+text_at w c = sized_number_at w c.lengths >>= λ n. utf8_at n.0 c.texts >>= λ t. Some (t.0, record c { lengths = n.1; texts = t.1 })
+
+abbrev pub bool_of : ℕ → Option Bool
+bool_of b = if b == 0 then Some false else (if b == 1 then Some true else None)
+
+abbrev pub bool_at : Columns → Option (Bool × Columns)
+bool_at c = byte_at c.fixed >>= λ b. bool_of b.0 >>= λ v. Some (v, record c { fixed = b.1 })
+
+abbrev pub integer_at : Columns → Option (Piece Scalar × Columns)
+integer_at c = number_at w64 c.fixed >>= λ n. Some (scalar (integer (cast_signed w64 n.0)), record c { fixed = n.1 })
+
+-- a value, or the opening of one, by its tag
+abbrev pub piece_at : Width → ℕ → Columns → Option (Piece Scalar × Columns)
+piece_at w tag c =
+    if tag == 1 then Some (scalar null, c)
+    else (if tag == 2 then (bool_at c >>= λ b. Some (scalar (boolean b.0), b.1))
+    else (if tag == 3 then integer_at c
+    else (if tag == 4 then (text_at w c >>= λ t. Some (scalar (text t.0), t.1))
+    else (if tag == 5 then Some (array_opened, c)
+    else (if tag == 6 then Some (object_opened, c) else None)))))
+
+-- the name stands above the one before, if there is one
+abbrev pub is_above : Option Name → Name → Bool
+is_above None n = true
+is_above (Some m) n = is_lt (name_cmp m n)
+
+abbrev pub name_at : Width → Option Name → Columns → Option (Name × Columns)
+name_at w last c =
+    sized_number_at w c.slots >>= λ n. utf8_at n.0 c.names >>= λ t. if is_above last t.0 then Some (t.0, record c { slots = n.1; names = t.1 }) else None
+
+-- the label of a value that stands in a level, and the level behind it
+abbrev pub label_at : Format → Level → Columns → Option (Option Key × Level × Columns)
+label_at f in_array c = Some (None, in_array, c)
+label_at f (in_object last) c =
+    if f.named then (name_at f.slot_width last c >>= λ n. Some (Some (name n.0), in_object (Some n.0), n.1))
+    else (sized_number_at f.slot_width c.slots >>= λ n. Some (Some (number n.0), in_object None, record c { slots = n.1 }))
+
+-- the levels behind a piece, of which there are at most 32
+abbrev pub opened : Piece Scalar → List Level → Option (List Level)
+opened (scalar s) levels = Some levels
+opened array_opened levels = if nat_lt (length levels) 32 then Some (in_array ∷ levels) else None
+opened object_opened levels = if nat_lt (length levels) 32 then Some (in_object None ∷ levels) else None
+opened closed levels = None
+
+-- a value that stands in a level, as a token, with the level and the columns behind it
+abbrev pub value_at : Format → Level → ℕ → Columns → Option (Token Key Scalar × Level × Columns)
+value_at f level tag c = label_at f level c >>= λ l. piece_at f.text_width tag l.2 >>= λ p. Some (token l.0 p.0, l.1, p.1)
+
+-- the next token, with the levels and the columns behind it
+abbrev pub step : Format → ℕ → List Level → Columns → Option (Token Key Scalar × List Level × Columns)
+step f tag [] c = None
+step f tag (level ∷ levels) c =
+    if tag == 7 then Some (token None closed, levels, c)
+    else (value_at f level tag c >>= λ v. opened v.0.piece (v.1 ∷ levels) >>= λ inner. Some (v.0, inner, v.2))
+
+abbrev pub is_used_up : Columns → Bool
+is_used_up c = (length c.fixed == 0) && ((length c.lengths == 0) && ((length c.texts == 0) && ((length c.slots == 0) && (length c.names == 0))))
+
+-- all further tokens, where the levels end with the tags and the columns
+abbrev pub walk : Format → List ℕ → List Level → Columns → Option (List (Token Key Scalar))
+walk f [] [] c = if is_used_up c then Some [] else None
+walk f [] (level ∷ levels) c = None
+walk f (tag ∷ tags) levels c = step f tag levels c >>= λ s. walk f tags s.1 s.2 >>= λ ts. Some (s.0 ∷ ts)
+
+-- all tokens of a record, whose first one opens an object
+abbrev pub tokens_read : Format → List ℕ → Columns → Option (List (Token Key Scalar))
+tokens_read f [] c = None
+tokens_read f (tag ∷ tags) c = if tag == 6 then (walk f tags (in_object None ∷ []) c >>= λ ts. Some (token None object_opened ∷ ts)) else None

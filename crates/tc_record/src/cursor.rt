@@ -1,0 +1,78 @@
+//! A cursor over the tokens of a record.
+
+ghost use Rattle.std.specs.Prelude.{◌≡◌, ◌++◌, [], false, Some, None, IfNone, IsTrue, if◌then◌else◌, is_some, unwrap_or, option_map, option_to_list};
+ghost use Rattle.tc_record.specs.Preorder.{token, object_opened};
+ghost use Rattle.tc_record.specs.Walk.{step};
+ghost use Rattle.tc_record.specs.WalkView.{token_of, columns_of, format_of};
+ghost use Rattle.tc_record.specs.Stack.{stack_of};
+
+use crate::token::{Label, Piece, Token};
+use crate::walking::Walk;
+use std::marker::Model;
+use tc_bytes::u8_at;
+
+/// A cursor over the tokens of a record. Contracts see the tokens that are left.
+#[derive(Drop)]
+pub struct Cursor<'a> {
+    tags: &'a [u8],
+    started: bool,
+    walk: Walk<'a>,
+}
+
+impl<'a> Model for Cursor<'a> {
+    ghost use Rattle.std.specs.Prelude.{List, IsTrue, is_some, unwrap_or, []};
+    ghost use Rattle.tc_model.specs.Document.{Scalar};
+    ghost use Rattle.tc_record.specs.Preorder.{Token};
+    ghost use Rattle.tc_record.specs.Walk.{Key};
+
+    ghost Value = { List (Token Key Scalar) };
+
+    ghost use Rattle.tc_record.specs.Held.{tokens_left};
+
+    ghost view = { λ c. unwrap_or (tokens_left c.started c.tags.now c.walk) [] };
+
+    ghost invariant = { λ c. IsTrue (is_some (tokens_left c.started c.tags.now c.walk)) };
+}
+
+impl<'a> Cursor<'a> {
+    ghost use Rattle.tc_record.specs.Held.{tokens_left};
+
+    /// A cursor before the first tag of a record.
+    pub(crate) fn start(tags: &'a [u8], walk: Walk<'a>) -> Cursor<'a>
+        requires { IsTrue (is_some (tokens_left false tags.now walk)) }
+        ensures { result ≡ unwrap_or (tokens_left false tags.now walk.entry) [] }
+    {
+        Cursor {
+            tags,
+            started: false,
+            walk,
+        }
+    }
+
+    /// The next token in preorder, or `None` at the end. Takes no memory.
+    pub fn next(&mut self) -> Option<Token<'a>>
+        ensures taken { self.old ≡ option_to_list (option_map token_of result) ++ self.new }
+        ensures end { IfNone result (self.old ≡ []) }
+    {
+        let (tag, rest) = u8_at(self.tags)?;
+        let token = advance(&mut self.walk, self.started, tag);
+        self.tags = rest;
+        self.started = true;
+        token
+    }
+}
+
+/// The token of a tag, where the first tag of a record opens an object.
+fn advance<'a>(walk: &mut Walk<'a>, started: bool, tag: u8) -> Option<Token<'a>>
+    ensures step { option_map (λ t. (token_of t, stack_of walk.new.levels walk.new.depth, columns_of walk.new.columns)) result ≡ (if started then step (format_of walk.old.format) tag (stack_of walk.old.levels walk.old.depth) (columns_of walk.old.columns) else Some (token None object_opened, stack_of walk.old.levels walk.old.depth, columns_of walk.old.columns)) }
+    ensures format { format_of walk.new.format ≡ format_of walk.old.format }
+{
+    if started {
+        walk.step(tag)
+    } else {
+        Some(Token {
+            label: Label::Bare,
+            value: Piece::Object,
+        })
+    }
+}

@@ -1,0 +1,68 @@
+//! The header of a record, read.
+
+ghost use Rattle.std.specs.Prelude.{◌≡◌, option_map};
+ghost use Rattle.tc_record.specs.Sections.{header_at, width_from, form_from};
+ghost use Rattle.tc_record.specs.SectionsView.{header_of};
+
+use crate::widths::Width;
+use tc_bytes::{u8_at, u32_at};
+
+/// The fields of a header, in their order.
+#[derive(Clone, Copy)]
+pub(crate) struct Header {
+    pub(crate) total: u32,
+    pub(crate) form: u8,
+    pub(crate) tags: u32,
+    pub(crate) fixed: u32,
+    pub(crate) texts: u32,
+    pub(crate) text_width: u8,
+    pub(crate) names: u32,
+    pub(crate) slot_width: u8,
+}
+
+pub(crate) fn header_in(bytes: &[u8]) -> Option<(Header, &[u8])>
+    ensures { option_map (λ x. (header_of x.0, x.1.now)) result ≡ header_at bytes.now }
+{
+    let (total, bytes) = u32_at(bytes)?;
+    let (form, bytes) = u8_at(bytes)?;
+    let (tags, bytes) = u32_at(bytes)?;
+    let (fixed, bytes) = u32_at(bytes)?;
+    let (texts, bytes) = u32_at(bytes)?;
+    let (text_width, bytes) = u8_at(bytes)?;
+    let (names, bytes) = u32_at(bytes)?;
+    let (slot_width, bytes) = u8_at(bytes)?;
+    let header = Header {
+        total,
+        form,
+        tags,
+        fixed,
+        texts,
+        text_width,
+        names,
+        slot_width,
+    };
+    Some((header, bytes))
+}
+
+pub(crate) fn width_told(byte: u8) -> Option<Width>
+    ensures { result ≡ width_from byte }
+{
+    match byte {
+        0 => Some(Width::Zero),
+        1 => Some(Width::One),
+        2 => Some(Width::Two),
+        4 => Some(Width::Four),
+        _ => None,
+    }
+}
+
+/// Whether members carry names.
+pub(crate) fn form_told(byte: u8) -> Option<bool>
+    ensures { result ≡ form_from byte }
+{
+    match byte {
+        0 => Some(true),
+        1 => Some(false),
+        _ => None,
+    }
+}

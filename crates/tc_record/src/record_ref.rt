@@ -1,0 +1,111 @@
+//! A record of either form, borrowed.
+
+ghost use Rattle.std.specs.Prelude.{◌≡◌, IfSome, IfNone, is_some, true, false};
+ghost use Rattle.tc_model.specs.Document.{Document};
+ghost use Rattle.tc_record.specs.Record.{NumberedTree, IsRecordOf, IsNumberedRecordOf};
+ghost use Rattle.tc_record.specs.Walk.{walk, tokens_read, is_used_up as used_up};
+ghost use Rattle.tc_record.specs.WalkView.{columns_of, format_of};
+ghost use Rattle.tc_record.specs.Stack.{stack_of};
+ghost use Rattle.tc_record.specs.Borrowed.{Spells, IsRecord, named_tokens, numbered_tokens};
+
+use crate::cursor::Cursor;
+use crate::reader::Columns;
+use crate::sections::{Sections, sections_of_record};
+use crate::walking::Walk;
+use std::marker::Model;
+
+/// A record that is borrowed. Contracts see its bytes, whether members carry names, and its tokens.
+#[derive(Drop)]
+pub struct RecordRef<'a> {
+    bytes: &'a [u8],
+    sections: Sections<'a>,
+}
+
+impl<'a> Model for RecordRef<'a> {
+    ghost use Rattle.std.specs.Prelude.{IsTrue, is_some, unwrap_or, []};
+    ghost use Rattle.tc_record.specs.Borrowed.{Record};
+
+    ghost Value = { Record };
+
+    ghost use Rattle.tc_record.specs.Held.{tokens_held};
+
+    ghost view = { λ r. record { bytes = r.bytes.now; named = r.sections.format.named; tokens = unwrap_or (tokens_held r.sections) [] } };
+
+    ghost invariant = { λ r. IsTrue (is_some (tokens_held r.sections)) };
+}
+
+impl<'a> RecordRef<'a> {
+    /// The record that the bytes are, or `None` where they are a record of neither form. Takes no memory.
+    pub fn of(bytes: &'a [u8]) -> Option<RecordRef<'a>>
+        ensures bytes { IfSome result (λ r. r.bytes ≡ bytes.now) }
+        ensures spells { IfSome result Spells }
+        ensures document { IfSome result (λ r. (d : Document) → IsRecordOf d bytes.now → (r.named ≡ true) × (r.tokens ≡ named_tokens d)) }
+        ensures numbered { IfSome result (λ r. (n : NumberedTree) → IsNumberedRecordOf n bytes.now → (r.named ≡ false) × (r.tokens ≡ numbered_tokens n)) }
+        ensures none { IfNone result (IsRecord bytes.now → ⊥) }
+    {
+        let sections = sections_of_record(bytes)?;
+        if has_tokens(sections) {
+            Some(RecordRef { bytes, sections })
+        } else {
+            None
+        }
+    }
+
+    /// Whether members carry names, as in form 0.
+    pub fn named(&self) -> bool
+        ensures { result ≡ self.now.named }
+    {
+        self.sections.format.named
+    }
+
+    /// The bytes of the whole record.
+    pub fn bytes(&self) -> &'a [u8]
+        ensures { result.now ≡ self.now.bytes }
+    {
+        self.bytes
+    }
+
+    /// A cursor that stands before the first token. Takes no memory.
+    pub fn cursor(&self) -> Cursor<'a>
+        ensures { result ≡ self.now.tokens }
+    {
+        let sections = self.sections;
+        Cursor::start(
+            sections.tags,
+            Walk::in_object(sections.format, sections.columns),
+        )
+    }
+}
+
+fn has_tokens(sections: Sections<'_>) -> bool
+    ensures { result ≡ is_some (tokens_read (format_of sections.entry.format) sections.entry.tags.now (columns_of sections.entry.columns)) }
+{
+    match sections.tags {
+        [] => false,
+        [first, rest @ ..] => {
+            *first == 6 && walks(rest, Walk::in_object(sections.format, sections.columns))
+        }
+    }
+}
+
+fn walks(tags: &[u8], start: Walk<'_>) -> bool
+    ensures { result ≡ is_some (walk (format_of start.entry.format) tags.now (stack_of start.entry.levels start.entry.depth) (columns_of start.entry.columns)) }
+{
+    let mut walk = start;
+    for tag in tags {
+        if walk.step(*tag).is_none() {
+            return false;
+        }
+    }
+    walk.depth == 0 && is_used_up(walk.columns)
+}
+
+fn is_used_up(columns: Columns<'_>) -> bool
+    ensures { result ≡ used_up (columns_of columns.entry) }
+{
+    columns.fixed.is_empty()
+        && columns.lengths.is_empty()
+        && columns.texts.is_empty()
+        && columns.slots.is_empty()
+        && columns.names.is_empty()
+}

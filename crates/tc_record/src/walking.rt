@@ -1,0 +1,96 @@
+//! A walk over the tokens of a record.
+
+ghost use Rattle.std.specs.Prelude.{◌≡◌, ◌≤◌, ◌∷◌, [], option_map, length, nat_lt, if◌then◌else◌};
+ghost use Rattle.tc_record.specs.Walk.{step, opened, in_object};
+ghost use Rattle.tc_record.specs.WalkView.{token_of, piece_of, columns_of, level_of, format_of};
+ghost use Rattle.tc_record.specs.Stack.{stack_of};
+
+use crate::reader::{Columns, Format, Level, value_in};
+use crate::token::{Label, Piece, Token};
+
+/// How deep arrays and objects may nest in a record.
+pub(crate) const MAX_DEPTH: usize = 32;
+
+/// What is open, innermost last, and what is left of the columns beside the tags.
+#[derive(Clone, Copy)]
+pub(crate) struct Walk<'a> {
+    pub(crate) format: Format,
+    pub(crate) columns: Columns<'a>,
+    pub(crate) levels: [Level<'a>; 32],
+    pub(crate) depth: usize,
+    ghost room: { length levels ≡ 32 },
+    ghost shallow: { depth ≤ 32 },
+}
+
+impl<'a> Walk<'a> {
+    /// The walk behind the first token of a record, which opens an object.
+    pub(crate) fn in_object(format: Format, columns: Columns<'a>) -> Walk<'a>
+        ensures format { result.format ≡ format }
+        ensures columns { columns_of result.columns ≡ columns_of columns.entry }
+        ensures levels { stack_of result.levels result.depth ≡ in_object None ∷ [] }
+    {
+        Walk {
+            format,
+            columns,
+            levels: [Level::Object(None); 32],
+            depth: 1,
+        }
+    }
+
+    /// The token of a tag, or `None` where no token can stand there.
+    pub(crate) fn step(&mut self, tag: u8) -> Option<Token<'a>>
+        ensures step { option_map (λ t. (token_of t, stack_of self.new.levels self.new.depth, columns_of self.new.columns)) result ≡ step (format_of self.old.format) tag (stack_of self.old.levels self.old.depth) (columns_of self.old.columns) }
+        ensures format { self.new.format ≡ self.old.format }
+    {
+        if self.depth == 0 {
+            return None;
+        }
+        if tag == 7 {
+            self.depth -= 1;
+            return Some(Token {
+                label: Label::Bare,
+                value: Piece::Close,
+            });
+        }
+        let place = self.depth - 1;
+        let level = self.levels[place];
+        let (token, behind, columns) = value_in(self.format, level, tag, self.columns)?;
+        self.levels[place] = behind;
+        self.columns = columns;
+        if self.open(token.value) {
+            Some(token)
+        } else {
+            None
+        }
+    }
+
+    /// Opens what a value opens, or answers `false` where that would nest too deep.
+    fn open(&mut self, value: Piece<'a>) -> bool
+        ensures opened { (if result then Some (stack_of self.new.levels self.new.depth) else None) ≡ opened (piece_of value.entry) (stack_of self.old.levels self.old.depth) }
+        ensures format { self.new.format ≡ self.old.format }
+        ensures columns { columns_of self.new.columns ≡ columns_of self.old.columns }
+    {
+        match value {
+            Piece::Null => true,
+            Piece::Bool(_) => true,
+            Piece::Int(_) => true,
+            Piece::Text(_) => true,
+            Piece::Array => self.push(Level::Array),
+            Piece::Object => self.push(Level::Object(None)),
+            Piece::Close => false,
+        }
+    }
+
+    fn push(&mut self, level: Level<'a>) -> bool
+        ensures pushed { (if result then Some (stack_of self.new.levels self.new.depth) else None) ≡ (if nat_lt (length (stack_of self.old.levels self.old.depth)) 32 then Some (level_of level.entry ∷ stack_of self.old.levels self.old.depth) else None) }
+        ensures format { self.new.format ≡ self.old.format }
+        ensures columns { columns_of self.new.columns ≡ columns_of self.old.columns }
+    {
+        if self.depth >= MAX_DEPTH {
+            return false;
+        }
+        self.levels[self.depth] = level;
+        self.depth += 1;
+        true
+    }
+}
