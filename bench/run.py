@@ -55,7 +55,7 @@ def main():
         for order in ("ascending", "random"):
             show(f"messages, {order}", run(feeds.upserts(count, order, feeds.message)))
             show(f"messages and gets, {order}", run(both(feeds.upserts(count, order, feeds.message), feeds.gets(count, order))))
-        show("readings, ascending", run(feeds.upserts(count // 10, "ascending", feeds.readings)))
+        show("readings, ascending", run(feeds.upserts(min(count // 10, 10_000), "ascending", feeds.readings)))
         for window in (1, 64, 4096):
             show(f"gets of absent keys, windows of {window}", run(feeds.gets(count, "random"), window))
 
