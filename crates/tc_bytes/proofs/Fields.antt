@@ -40,20 +40,20 @@ number_below_64 bytes each =
 bytes_parts : (n : ℕ) (bytes front rest : List ℕ) → bytes_at n bytes ≡ Some (front, rest) → (n ≤ length bytes) × (front ≡ take n bytes) × (rest ≡ drop n bytes)
 bytes_parts n bytes front rest read = grind (arith, nat_tests)
 
-bytes_again : (n : ℕ) (front rest : List ℕ) → length front ≡ n → bytes_at n (front ++ rest) ≡ Some (front, rest)
+pub bytes_again : (n : ℕ) (front rest : List ℕ) → length front ≡ n → bytes_at n (front ++ rest) ≡ Some (front, rest)
 bytes_again n front rest same =
     let long : n ≤ length (front ++ rest) = omega (arith, length-append front rest) in
     rw (le-ltb (length (front ++ rest)) n long, take_at front rest n same, drop_at front rest n same) refl
 
-number_parts : (w : Width) (bytes : List ℕ) (x : ℕ) (rest : List ℕ) → number_at w bytes ≡ Some (x, rest) → (byte_len w ≤ length bytes) × (x ≡ from_be_bytes w (take (byte_len w) bytes)) × (rest ≡ drop (byte_len w) bytes)
+pub number_parts : (w : Width) (bytes : List ℕ) (x : ℕ) (rest : List ℕ) → number_at w bytes ≡ Some (x, rest) → (byte_len w ≤ length bytes) × (x ≡ from_be_bytes w (take (byte_len w) bytes)) × (rest ≡ drop (byte_len w) bytes)
 number_parts w bytes x rest read = grind (arith, nat_tests)
 
-number_again : (w : Width) (front rest : List ℕ) → length front ≡ byte_len w → number_at w (front ++ rest) ≡ Some (from_be_bytes w front, rest)
+pub number_again : (w : Width) (front rest : List ℕ) → length front ≡ byte_len w → number_at w (front ++ rest) ≡ Some (from_be_bytes w front, rest)
 number_again w front rest same =
     let long : byte_len w ≤ length (front ++ rest) = omega (arith, length-append front rest) in
     rw (le-ltb (length (front ++ rest)) (byte_len w) long, take_at front rest (byte_len w) same, drop_at front rest (byte_len w) same) refl
 
-number_found : (w : Width) (bytes : List ℕ) (x : ℕ) (rest : List ℕ) (limit : ℕ)
+pub number_found : (w : Width) (bytes : List ℕ) (x : ℕ) (rest : List ℕ) (limit : ℕ)
     → (spelled : (front : List ℕ) → length front ≡ byte_len w → IsBytes front → to_be_bytes w (from_be_bytes w front) ≡ front)
     → (below : (front : List ℕ) → IsBytes front → from_be_bytes w front < limit)
     → IsBytes bytes → number_at w bytes ≡ Some (x, rest) → (bytes ≡ to_be_bytes w x ++ rest) × IsBytes rest × (x < limit)

@@ -1,4 +1,5 @@
 pub mod Occurrences
+pub mod ShapeNames
 pub mod Counted
 pub mod SchemaTree
 pub mod SchemaBytes

@@ -2,8 +2,7 @@ pub mod Tree
 pub mod TreeCode
 pub mod Document
 pub mod Json
+pub mod Keyed
 pub mod Lines
 pub mod Request
-pub mod Store
 pub mod Reply
-pub mod Run

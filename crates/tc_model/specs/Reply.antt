@@ -1,13 +1,12 @@
 -- What the store answers: one line of compact JSON a request.
-use Rattle.std.specs.Prelude.{ℕ, Bool, List, [], ◌∷◌, ◌++◌, codes, is_some, Option, Some, None}
+use Rattle.std.specs.Prelude.{ℕ, Bool, List, [], ◌∷◌, ◌++◌, codes, Option, Some, None}
 use Rattle.serde_json.specs.Data as json
 use Rattle.serde_json.specs.Written.{compact_text}
 use Rattle.tc_model.specs.Tree.{leaf, array, object}
 use Rattle.tc_model.specs.Document.{Document}
 use Rattle.tc_model.specs.Json.{data_of, members_data}
 use Rattle.tc_model.specs.Lines.{feed}
-use Rattle.tc_model.specs.Request.{Refusal, oversized, malformed, unknown, not_whole, too_deep, no_key, names_full, full, busy, no_scan, not_built, Request, upsert, delete, get, query, flush, schema, scan, collect, refused}
-use Rattle.tc_model.specs.Store.{Pairs, stored}
+use Rattle.tc_model.specs.Request.{Refusal, oversized, malformed, unknown, not_whole, too_deep, no_key, names_full, full, busy, no_scan, not_built}
 
 -- the values that a path reached in the document of a key
 pub record Row : Type 0 where
@@ -94,16 +93,3 @@ reply_data (turned_down r) = one_member (codes "refused") (json.string (refusal_
 -- the bytes of a reply: its compact text and a line feed
 abbrev pub reply_line : Reply → List ℕ
 reply_line r = compact_text (reply_data r) ++ feed ∷ []
-
--- ---- the reply to a request. A command that is not built yet is refused as such.
-
-abbrev pub reply_to : Request → Pairs → Reply
-reply_to (upsert n d) ps = upserted n (is_some (stored n ps))
-reply_to (delete n) ps = deleted n (is_some (stored n ps))
-reply_to (get n) ps = got n (stored n ps)
-reply_to (query ask) ps = turned_down not_built
-reply_to flush ps = turned_down not_built
-reply_to schema ps = turned_down not_built
-reply_to (scan ask) ps = turned_down not_built
-reply_to collect ps = turned_down not_built
-reply_to (refused r) ps = turned_down r

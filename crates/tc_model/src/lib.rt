@@ -1,3 +1,3 @@
-//! The definitions that the store's contracts are stated in: documents, their JSON, the lines of an input, the plain
-//! store, requests and replies. There is no code here; the crates above map their types to these definitions.
+//! The definitions that the store's contracts are stated in: documents, their JSON, values by key, the lines of an input,
+//! requests and replies. There is no code here; the crates above map their types to these definitions.
 #![tactic(auto)]

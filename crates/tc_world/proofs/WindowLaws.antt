@@ -3,16 +3,17 @@ use Rattle.std.proofs.Common.{◌≡◌, ℕ, true, false, List, [], ◌∷◌, 
 use Rattle.std.specs.Prelude.{fold, if◌then◌else◌}
 use Rattle.std.proofs.lemmas.List.Sums.{fold-append}
 use Rattle.tc_model.specs.Request.{Request, request_of}
-use Rattle.tc_model.specs.Store.{Pairs, after}
-use Rattle.tc_model.specs.Reply.{reply_to, reply_line}
-use Rattle.tc_model.specs.Run.{BeginsWith, answers, after_all, Window, Windows, is_control, is_full, unless_empty, with_open, with_line, windows_of, lines_in}
+use Rattle.tc_model.specs.Reply.{reply_line}
+use Rattle.tc_world.specs.Store.{Store}
+use Rattle.tc_world.specs.Answer.{Limits, reply_to, after}
+use Rattle.tc_world.specs.Run.{BeginsWith, answers, after_all, Window, Windows, is_control, is_full, unless_empty, with_open, with_line, windows_of, lines_in}
 
 -- ---- replies
 
-pub answers-append : (rs ss : List Request) (ps : Pairs) → answers (rs ++ ss) ps ≡ answers rs ps ++ answers ss (after_all rs ps)
-answers-append [] ss ps = refl
-answers-append (r ∷ rs) ss ps =
-    ap (λ bytes. reply_line (reply_to r ps) ++ bytes) (answers-append rs ss (after r ps)) ∙ sym (append_assoc (reply_line (reply_to r ps)) (answers rs (after r ps)) (answers ss (after_all rs (after r ps))))
+pub answers-append : (limits : Limits) (rs ss : List Request) (s : Store) → answers limits (rs ++ ss) s ≡ answers limits rs s ++ answers limits ss (after_all limits rs s)
+answers-append limits [] ss s = refl
+answers-append limits (r ∷ rs) ss s =
+    ap (λ bytes. reply_line (reply_to limits r s) ++ bytes) (answers-append limits rs ss (after limits r s)) ∙ sym (append_assoc (reply_line (reply_to limits r s)) (answers limits rs (after limits r s)) (answers limits ss (after_all limits rs (after limits r s))))
 
 -- ---- the lines of windows
 

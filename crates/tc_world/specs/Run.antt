@@ -2,27 +2,28 @@
 use Rattle.std.specs.Prelude.{◌≡◌, ℕ, List, [], ◌∷◌, ◌++◌, length, map, fold, sum_by, Bool, true, false, ◌||◌, nat_le, if◌then◌else◌}
 use Rattle.tc_model.specs.Lines.{lines_of, whole_lines}
 use Rattle.tc_model.specs.Request.{Request, upsert, delete, get, query, flush, schema, scan, collect, refused, max_line, request_of}
-use Rattle.tc_model.specs.Store.{Pairs, after}
-use Rattle.tc_model.specs.Reply.{reply_to, reply_line}
+use Rattle.tc_model.specs.Reply.{reply_line}
+use Rattle.tc_world.specs.Store.{Store, empty}
+use Rattle.tc_world.specs.Answer.{Limits, reply_to, after}
 
 -- ---- replies
 
 -- the reply lines to requests, over a store
-abbrev pub answers : List Request → Pairs → List ℕ
-answers [] ps = []
-answers (r ∷ rs) ps = reply_line (reply_to r ps) ++ answers rs (after r ps)
+abbrev pub answers : Limits → List Request → Store → List ℕ
+answers limits [] s = []
+answers limits (r ∷ rs) s = reply_line (reply_to limits r s) ++ answers limits rs (after limits r s)
 
 -- what requests leave
-abbrev pub after_all : List Request → Pairs → Pairs
-after_all rs ps = fold (λ qs r. after r qs) ps rs
+abbrev pub after_all : Limits → List Request → Store → Store
+after_all limits rs s = fold (λ t r. after limits r t) s rs
 
 -- what is written for lines, from an empty store
-abbrev pub output_of_lines : List (List ℕ) → List ℕ
-output_of_lines lines = answers (map request_of lines) []
+abbrev pub output_of_lines : Limits → List (List ℕ) → List ℕ
+output_of_lines limits lines = answers limits (map request_of lines) empty
 
 -- what is written for an input, from an empty store
-abbrev pub output_of : List ℕ → List ℕ
-output_of input = output_of_lines (lines_of input)
+abbrev pub output_of : Limits → List ℕ → List ℕ
+output_of limits input = output_of_lines limits (lines_of input)
 
 -- ---- windows
 
@@ -101,5 +102,5 @@ lines_in [] = []
 lines_in (window ∷ more) = window ++ lines_in more
 
 -- what is written for windows, from an empty store
-abbrev pub output_of_windows : List Window → List ℕ
-output_of_windows ws = output_of_lines (lines_in ws)
+abbrev pub output_of_windows : Limits → List Window → List ℕ
+output_of_windows limits ws = output_of_lines limits (lines_in ws)

@@ -1,0 +1,22 @@
+-- Values by key, in strictly ascending key.
+use Rattle.std.specs.Prelude.{ℕ, List, [], ◌∷◌, ◌==◌, nat_lt, if◌then◌else◌, Option, Some, None}
+
+abbrev pub Keyed : Type 0 → Type 0
+Keyed V = List (ℕ × V)
+
+-- the value of a key
+abbrev pub value_of : {V : Type 0} → ℕ → Keyed V → Option V
+value_of n [] = None
+value_of n (p ∷ ps) = if n == p.0 then Some p.1 else value_of n ps
+
+-- the values with this one at a key
+abbrev pub with_value : {V : Type 0} → ℕ → V → Keyed V → Keyed V
+with_value n v [] = (n, v) ∷ []
+with_value n v (p ∷ ps) =
+    if nat_lt n p.0 then (n, v) ∷ p ∷ ps
+    else (if n == p.0 then (p.0, v) ∷ ps else p ∷ with_value n v ps)
+
+-- the values without a key
+abbrev pub without_key : {V : Type 0} → ℕ → Keyed V → Keyed V
+without_key n [] = []
+without_key n (p ∷ ps) = if n == p.0 then ps else p ∷ without_key n ps
