@@ -1,0 +1,3 @@
+pub mod ShapeNames
+pub mod Values
+pub mod Room
