@@ -7,7 +7,7 @@ use Rattle.tc_counts.specs.Added.{added}
 use Rattle.tc_counts.specs.Stands.{StandsFor}
 use Rattle.tc_counts.proofs.AddedLaws.{shows-added, canonical-added}
 use Rattle.tc_names.specs.Dictionary.{Extends}
-use Rattle.tc_infer.specs.ShapeNames.{names_within, all_learned}
+use Rattle.tc_counts.specs.ShapeNames.{names_within, all_learned}
 use Rattle.tc_infer.specs.Room.{DoesFit}
 use Rattle.tc_infer.specs.Values.{values_at}
 use Rattle.tc_infer.proofs.NameLaws.{Extends-all_learned, named-all_learned, distinct-all_learned}

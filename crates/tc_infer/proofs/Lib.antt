@@ -4,3 +4,4 @@ pub mod RoomLaws
 pub mod FieldWrites
 pub mod MoreNames
 pub mod Grown
+pub mod ValueBounds

@@ -9,7 +9,7 @@ use Rattle.tc_counts.specs.Added.{IsNamed, AreItemsNamed, AreMembersNamed}
 use Rattle.tc_names.specs.Dictionary.{number_of, learned, Extends}
 use Rattle.tc_names.proofs.Growth.{Extends-same, Extends-trans, Extends-learned, number_of-Extends}
 use Rattle.tc_names.proofs.Numbers.{list_any-number_of, number_of-push}
-use Rattle.tc_infer.specs.ShapeNames.{names_within, names_of_items, names_of_members, all_learned}
+use Rattle.tc_counts.specs.ShapeNames.{names_within, names_of_items, names_of_members, all_learned}
 
 pub all_learned-append : (known xs ys : List Name) → all_learned known (xs ++ ys) ≡ all_learned (all_learned known xs) ys
 all_learned-append known [] ys = refl

@@ -1,3 +1,2 @@
-pub mod ShapeNames
 pub mod Values
 pub mod Room

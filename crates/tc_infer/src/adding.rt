@@ -7,7 +7,7 @@ ghost use Rattle.tc_counts.specs.Counted.{nothing, shows, total_at, IsCanonical}
 ghost use Rattle.tc_counts.specs.Stands.{StandsFor};
 ghost use Rattle.tc_names.specs.Dictionary.{Extends};
 ghost use Rattle.tc_value.specs.ShapeMeaning.{shape_tree};
-ghost use Rattle.tc_infer.specs.ShapeNames.{names_within, all_learned};
+ghost use Rattle.tc_counts.specs.ShapeNames.{names_within, all_learned};
 ghost use Rattle.tc_infer.specs.Values.{values_at};
 
 use crate::counting::count_shape;

@@ -6,7 +6,7 @@ use Rattle.tc_names.specs.Dictionary.{learned, Extends}
 use Rattle.tc_names.proofs.Growth.{Extends-trans, Extends-learned}
 use Rattle.tc_value.specs.ShapeMeaning.{shape_tree, shape_member}
 use Rattle.tc_value.specs.TreeSize.{tree_size}
-use Rattle.tc_infer.specs.ShapeNames.{names_within, names_of_items, names_of_members, all_learned}
+use Rattle.tc_counts.specs.ShapeNames.{names_within, names_of_items, names_of_members, all_learned}
 use Rattle.tc_infer.proofs.NameLaws.{all_learned-append, Extends-all_learned, length-all_learned, room_for_first, all_of_first, all_of_rest}
 use Rattle.tc_infer.proofs.ShapeWalks.{items_from, members_from, item_size, member_size}
 use Rattle.tc_infer.proofs.learning.+learning.Goals as goal
