@@ -1,0 +1,46 @@
+-- A schema with one shape more, under the dictionary that has learned the shape's names.
+use Rattle.std.proofs.Common.{◌≡◌, ◌+◌, ◌<◌, ◌^◌, List, ◌∷◌, length, ap, ◌∙◌, arith}
+use Rattle.tc_model.specs.Document.{Name, Document, ShapeTree}
+use Rattle.tc_counts.specs.Occurrences.{Kind, Path, occurrences, document_shape}
+use Rattle.tc_counts.specs.Counted.{Counted, shows, total_at, IsCanonical}
+use Rattle.tc_counts.specs.Added.{added}
+use Rattle.tc_counts.specs.Stands.{StandsFor}
+use Rattle.tc_counts.proofs.AddedLaws.{shows-added, canonical-added}
+use Rattle.tc_names.specs.Dictionary.{Extends}
+use Rattle.tc_counts.specs.ShapeNames.{names_within, all_learned}
+use Rattle.tc_infer.specs.Room.{DoesFit}
+use Rattle.tc_infer.specs.Values.{values_at}
+use Rattle.tc_infer.proofs.NameLaws.{Extends-all_learned, named-all_learned, distinct-all_learned}
+use Rattle.tc_infer.proofs.MoreNames.{canonical_newer, same_shown, added_fits}
+
+module _ (known : List Name) (s : ShapeTree) where
+  abbrev grown : List Name
+  grown = all_learned known (names_within s)
+
+  abbrev extends : Extends (all_learned known (names_within s)) known
+  extends = Extends-all_learned known (names_within s)
+
+  pub grown_canonical : (d : Counted) → IsCanonical (length known) d → IsCanonical (length grown) d
+  grown_canonical d canonical = canonical_newer grown known d extends canonical
+
+  pub grown_fits : (d : Counted) → IsCanonical (length known) d → ((path : Path) → total_at known d path + values_at s path < 2 ^ 64) → DoesFit grown (added grown s d)
+  grown_fits d canonical fits = added_fits grown known s d extends canonical (named-all_learned known s) fits
+
+  pub added_canonical : (d : Counted) → IsCanonical (length known) d → IsCanonical (length grown) (added grown s d)
+  added_canonical d canonical = canonical-added grown s d (named-all_learned known s) (grown_canonical d canonical)
+
+  pub added_shows : (d : Counted) → IsCanonical (length known) d → (path : Path) (t : Kind) → shows grown (added grown s d) path t ≡ shows known d path t + occurrences s path t
+  added_shows d canonical path t = shows-added grown s d (named-all_learned known s) path t ∙ ap (λ n. n + occurrences s path t) (same_shown grown known d path t extends canonical)
+
+  pub added_stands : (d : Counted) (docs : List Document) (doc : Document) → document_shape doc ≡ s → StandsFor known d docs → StandsFor grown (added grown s d) (doc ∷ docs)
+  added_stands d docs doc is stands =
+      let before : StandsFor grown d docs = record {
+        canonical = grown_canonical d stands.canonical;
+        distinct = distinct-all_learned known (names_within s) stands.distinct;
+        counts = λ path t. same_shown grown known d path t extends stands.canonical ∙ stands.counts path t;
+      } in
+      record {
+        canonical = added_canonical d stands.canonical;
+        distinct = before.distinct;
+        counts = λ path t. omega (arith, shows-added grown s d (named-all_learned known s) path t, before.counts path t, ap (λ shape. occurrences shape path t) is);
+      }

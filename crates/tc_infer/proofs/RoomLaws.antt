@@ -1,0 +1,59 @@
+-- What is counted of a part of a shape fits where what is counted of the whole shape does.
+use Rattle.std.proofs.Common.{◌≡◌, ◌+◌, ◌<◌, ◌≤◌, ◌^◌, List, [], ◌∷◌, ap, ◌∙◌, subst, arith}
+use Rattle.tc_model.specs.Tree.{array, object, Items, item, Members, member}
+use Rattle.tc_model.specs.Document.{Name, ShapeTree, ScalarKind, null_kind, boolean_kind, integer_kind, text_kind}
+use Rattle.tc_names.specs.Dictionary.{number_of}
+use Rattle.tc_counts.specs.Occurrences.{Kind, scalar, arrays, objects, field, each_item, Path}
+use Rattle.tc_counts.specs.Counted.{Counted, Below, an_item, Fields, held, field_at, numbered_field, total, documents_of, shows, total_at}
+use Rattle.tc_counts.specs.Added.{put_field, number, added, items_added, members_added, IsNamed, AreItemsNamed, AreMembersNamed}
+use Rattle.tc_counts.proofs.AddedLaws.{shows-added, shows-items_added, shows-members_added, documents-added}
+use Rattle.tc_counts.proofs.FieldLaws.{field_at-put_field_here}
+use Rattle.tc_counts.proofs.NumberLaws.{numbered}
+use Rattle.tc_schema.specs.Places.{place_counted, below_counted, fields_counted}
+use Rattle.tc_schema.specs.declared.place.Node.{Node}
+use Rattle.tc_schema.specs.declared.place.Field.TheViews.{out-Node}
+use Rattle.tc_schema.proofs.PlaceViews.{place_parts}
+use Rattle.tc_infer.specs.Room.{DoesFit, DoFieldsFit}
+use Rattle.tc_infer.specs.Values.{values_at}
+
+-- the sum over the six kinds of what is shown
+pub total-added : (names : List Name) (s : ShapeTree) (d : Counted) → IsNamed names s → (path : Path) → total_at names (added names s d) path ≡ total_at names d path + values_at s path
+total-added names s d named path =
+    let shown : (t : Kind) → _ = λ t. shows-added names s d named path t in
+    omega (arith, shown (scalar null_kind), shown (scalar boolean_kind), shown (scalar integer_kind), shown (scalar text_kind), shown arrays, shown objects)
+
+-- a place that shows no less of each kind has no fewer values
+total-grows : (names : List Name) (d e : Counted) (path : Path) → ((t : Kind) → shows names d path t ≤ shows names e path t) → total_at names d path ≤ total_at names e path
+total-grows names d e path grows = omega (arith, grows (scalar null_kind), grows (scalar boolean_kind), grows (scalar integer_kind), grows (scalar text_kind), grows arrays, grows objects)
+
+fits_below : (names : List Name) (d e : Counted) → ((path : Path) (t : Kind) → shows names d path t ≤ shows names e path t) → DoesFit names e → DoesFit names d
+fits_below names d e grows fits = λ path. omega (arith, fits path, total-grows names d e path (grows path))
+
+-- the counter of the place itself
+pub room_here : (names : List Name) (s : ShapeTree) (p : Node) → DoesFit names (added names s (place_counted p)) → total (out-Node p).counts + 1 < 2 ^ 64
+room_here names s p fits =
+    let parts : documents_of (place_counted p) ≡ total (out-Node p).counts = ap documents_of (place_parts p) in
+    omega (arith, parts, documents-added names s (place_counted p), fits [])
+
+-- the items, and the fields
+pub items_fit : (names : List Name) (xs : Items Name ScalarKind) (p : Node) → DoesFit names (added names (array xs) (place_counted p)) → DoesFit names (held (items_added names xs (below_counted (out-Node p).item)))
+items_fit names xs p fits = λ path. subst (λ d. total_at names (added names (array xs) d) (each_item ∷ path) < 2 ^ 64) (place_parts p) (fits (each_item ∷ path))
+
+pub members_fit : (names : List Name) (ms : Members Name ScalarKind) (p : Node) → DoesFit names (added names (object ms) (place_counted p)) → DoFieldsFit names (members_added names ms (fields_counted (out-Node p).fields.items))
+members_fit names ms p fits = λ name path. subst (λ d. total_at names (added names (object ms) d) (field name ∷ path) < 2 ^ 64) (place_parts p) (fits (field name ∷ path))
+
+-- one item before the others
+pub item_fits : (names : List Name) (s : ShapeTree) (xs : Items Name ScalarKind) (b : Below) → AreItemsNamed names xs → DoesFit names (held (items_added names (item s xs) b)) → DoesFit names (added names s (held b))
+item_fits names s xs b named fits =
+    fits_below names (added names s (held b)) (held (items_added names (item s xs) b)) (λ path t. omega (arith, shows-items_added names xs (an_item (added names s (held b))) named path t)) fits
+
+-- one member before the others
+pub member_fits : (names : List Name) (label : Name) (s : ShapeTree) (ms : Members Name ScalarKind) (fs : Fields) → AreMembersNamed names (member label s ms) → DoFieldsFit names (members_added names (member label s ms) fs)
+    → DoesFit names (added names s (field_at (number names label) fs))
+member_fits names label s ms fs named fits =
+    let n = number names label in
+    let d = added names s (field_at n fs) in
+    let all = members_added names ms (put_field n d fs) in
+    let here : (path : Path) (t : Kind) → shows names (numbered_field (number_of names label) (put_field n d fs)) path t ≡ shows names d path t =
+    λ path t. ap (λ o. shows names (numbered_field o (put_field n d fs)) path t) (numbered names label named.0) ∙ ap (λ e. shows names e path t) (field_at-put_field_here n d fs) in
+    fits_below names d (numbered_field (number_of names label) all) (λ path t. omega (arith, here path t, shows-members_added names ms (put_field n d fs) named.2 label path t)) (fits label)

@@ -1,0 +1,41 @@
+//! One document more.
+
+ghost use Rattle.std.specs.Prelude.{◌≡◌, ◌+◌, ◌<◌, ◌^◌, ◌∷◌, All, List, OnOk, OnErr, length};
+ghost use Rattle.tc_model.specs.Document.{Document};
+ghost use Rattle.tc_counts.specs.Occurrences.{Kind, Path, occurrences, document_shape};
+ghost use Rattle.tc_counts.specs.Counted.{nothing, shows, total_at, IsCanonical};
+ghost use Rattle.tc_counts.specs.Stands.{StandsFor};
+ghost use Rattle.tc_names.specs.Dictionary.{Extends};
+ghost use Rattle.tc_value.specs.ShapeMeaning.{shape_tree};
+ghost use Rattle.tc_counts.specs.ShapeNames.{names_within, all_learned};
+ghost use Rattle.tc_infer.specs.Values.{values_at};
+
+use crate::counting::count_shape;
+use crate::learning::learn_names;
+use std::mem;
+use tc_bytes::Memory;
+use tc_names::Names;
+use tc_schema::Schema;
+use tc_value::Shape;
+
+/// Counts one document of a shape more. Its new names are learned in preorder. Errs only for want of memory: the
+/// schema is then that of no document, and some of the new names may have been learned.
+pub fn add(schema: &mut Schema, names: &mut Names, shape: &Shape) -> Result<(), Memory>
+    requires canonical { IsCanonical (length names.old) schema.old }
+    requires counters { (path : Path) → total_at names.old schema.old path + values_at (shape_tree shape.now) path < 2 ^ 64 }
+    requires room { length (all_learned names.old (names_within (shape_tree shape.now))) < 2 ^ 32 }
+    requires short { All (λ name. length name < 2 ^ 32) (names_within (shape_tree shape.now)) }
+    ensures counted { OnOk result ((path : Path) (t : Kind) → shows names.new schema.new path t ≡ shows names.old schema.old path t + occurrences (shape_tree shape.now) path t) }
+    ensures canonical { OnOk result (IsCanonical (length names.new) schema.new) }
+    ensures stands { OnOk result ((docs : List Document) (doc : Document) → document_shape doc ≡ shape_tree shape.now → StandsFor names.old schema.old docs → StandsFor names.new schema.new (doc ∷ docs)) }
+    ensures names { OnOk result (names.new ≡ all_learned names.old (names_within (shape_tree shape.now))) }
+    ensures extends { Extends names.new names.old }
+    ensures spent { OnErr result (schema.new ≡ nothing) }
+{
+    let alloc = *schema.root().fields.allocator();
+    let mut root = mem::replace(schema, Schema::empty(alloc)).into_root();
+    learn_names(shape, names)?;
+    count_shape(shape, names, &mut root, alloc)?;
+    *schema = Schema::of(root);
+    Ok(())
+}

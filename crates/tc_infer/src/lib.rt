@@ -1,0 +1,11 @@
+//! One document more in a schema that was inferred.
+#![tactic(auto)]
+
+mod adding;
+mod counting;
+mod learning;
+
+pub use adding::add;
+
+#[cfg(test)]
+mod tests;
