@@ -1,0 +1,10 @@
+//! One document less in a schema that was inferred.
+#![tactic(auto)]
+
+mod subtracting;
+mod taking;
+
+pub use subtracting::{shapes_fit, subtract};
+
+#[cfg(test)]
+mod tests;
