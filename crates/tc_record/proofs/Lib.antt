@@ -19,3 +19,4 @@ pub mod Counted
 pub mod Cutting
 pub mod Reading
 pub mod Holding
+pub mod Built

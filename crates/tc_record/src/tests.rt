@@ -22,7 +22,7 @@ fn text(alloc: Global, text: &str) -> Result<Text, AllocError> {
     Ok(Text::of(String::from_str(alloc, text)?))
 }
 
-fn object(alloc: Global, name: &str, value: Doc) -> Result<Doc, AllocError> {
+pub(crate) fn object(alloc: Global, name: &str, value: Doc) -> Result<Doc, AllocError> {
     let mut members = Vec::new(alloc);
     members.push(Member {
         name: text(alloc, name)?,
@@ -32,7 +32,7 @@ fn object(alloc: Global, name: &str, value: Doc) -> Result<Doc, AllocError> {
 }
 
 /// `{"v":[1,"x",[],{"b":null}]}`
-fn mixed(alloc: Global) -> Result<Doc, AllocError> {
+pub(crate) fn mixed(alloc: Global) -> Result<Doc, AllocError> {
     let mut items = Vec::new(alloc);
     items.push(Doc::Int(1))?;
     items.push(Doc::Text(text(alloc, "x")?))?;
