@@ -6,11 +6,11 @@ use Rattle.tc_model.specs.Document.{Name, Document, Scalar, IsAscending, IsScala
 use Rattle.tc_value.specs.Meaning.{tree_of}
 use Rattle.tc_value.specs.declared.document.Doc.{Doc}
 use Rattle.tc_value.proofs.Trees.{listed_members-members_of}
-use Rattle.tc_record.specs.Preorder.{Token, token, array_opened, object_opened, closed, preorder, items_preorder, members_preorder}
+use Rattle.tc_record.specs.Preorder.{Token, token, array_opened, object_opened, preorder, items_preorder, members_preorder}
 use Rattle.tc_record.specs.Record.{IsRecordOf}
 use Rattle.tc_record.specs.Borrowed.{Record, Spells, named_tokens}
 use Rattle.tc_record.specs.Walk.{Key, name}
-use Rattle.tc_record.specs.Building.{Entry, Levels, innermost, outer, value_in, member_in, value_read, levels_before, levels_of, document_read, AreDocuments, HoldDocuments}
+use Rattle.tc_record.specs.Building.{Entry, Levels, innermost, outer, value_in, member_in, levels_before, levels_of, document_read, AreDocuments, HoldDocuments}
 use Rattle.tc_record.proofs.Walks.{close}
 use Rattle.tc_record.proofs.Keyed.{keyed}
 

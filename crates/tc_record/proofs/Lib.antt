@@ -1,4 +1,3 @@
-pub mod Fields
 pub mod Measuring
 pub mod Lengths
 pub mod Encoded

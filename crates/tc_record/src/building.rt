@@ -40,9 +40,7 @@ fn value_behind(
         Piece::Int(value) => Ok(Some(Doc::Int(value))),
         Piece::Text(value) => Ok(Some(Doc::Text(Text::of(String::from_str(alloc, value)?)))),
         Piece::Array => Ok(Some(Doc::Array(Items::of(items_behind(cursor, alloc)?)))),
-        Piece::Object => Ok(Some(Doc::Object(Members::of(members_behind(
-            cursor, alloc,
-        )?)))),
+        Piece::Object => Ok(Some(Doc::Object(Members::of(members_behind(cursor, alloc)?)))),
         Piece::Close => Ok(None),
     }
 }

@@ -17,7 +17,7 @@ invariant-items_behind-loop-token l = record {
   items : map tree_of l.items.items ++ map value_in (innermost (levels_of l.cursor)) ≡ map value_in (innermost (levels_of l.fn.cursor));
   outer : outer (levels_of l.cursor) ≡ outer (levels_of l.fn.cursor);
   lawful : HoldDocuments (levels_of l.cursor);
-  shorter : length l.cursor ≤ length l.fn.cursor
+  shorter : length l.cursor ≤ length l.fn.cursor;
 }
 
 abbrev pub decreases-items_behind-loop-token : goal.decreases-items_behind-loop-token
@@ -28,7 +28,7 @@ invariant-members_behind-loop-token l = record {
   members : map member_of l.members.items ++ map member_in (innermost (levels_of l.cursor)) ≡ map member_in (innermost (levels_of l.fn.cursor));
   outer : outer (levels_of l.cursor) ≡ outer (levels_of l.fn.cursor);
   lawful : HoldDocuments (levels_of l.cursor);
-  shorter : length l.cursor ≤ length l.fn.cursor
+  shorter : length l.cursor ≤ length l.fn.cursor;
 }
 
 abbrev pub decreases-members_behind-loop-token : goal.decreases-members_behind-loop-token

@@ -1,5 +1,4 @@
 use Rattle.std.proofs.Common.{◌∙◌, sym, subst}
-use Rattle.tc_value.specs.Meaning.{tree_of}
 use Rattle.tc_record.specs.Record.{IsRecordOf}
 use Rattle.tc_record.proofs.Built.{SpellsDocument, spells_document, spelled_holds, built_is}
 use Rattle.tc_record.proofs.decoding.decode.Goals as goal
