@@ -5,19 +5,17 @@
 
 mod rounds;
 
-use anyhow::{Context, Result, ensure};
-use rounds::sum_of;
+use anyhow::{Context, Result};
+use rounds::{record_of_document, sum_of};
 use serde_json::Value;
 use std::{env, io};
 use tc_json::doc_of;
-use tc_record::{encode, size};
 
 fn main(rt: HostRuntime) -> Result<()> {
     let alloc = rt.alloc();
     let text = io::read_to_string(alloc, rt.reader())?;
     let doc = doc_of(alloc, &Value::from_str(alloc, text.as_str())?)?;
-    ensure!(size(&doc).is_some(), "no record spells the document");
-    let record = encode(alloc, &doc)?;
+    let record = record_of_document(alloc, &doc)?.context("no record spells the document")?;
     let mut words = env::args(&rt)?.skip(1);
     let rounds = words.next().context("no rounds")?.parse::<u32>()?;
     for call in words {

@@ -1,13 +1,18 @@
 //! Calls of the codec, each done so many times. A sum of what they answer keeps them from being left out.
 
-ghost use Rattle.std.specs.Prelude.{◌<◌, ◌^◌, length};
-ghost use Rattle.tc_value.specs.Meaning.{tree_of};
-ghost use Rattle.tc_record.specs.Record.{IsObject, record_of};
-
 use anyhow::{Result, bail};
 use std::alloc::{AllocError, Global};
+use tc_bytes::Bytes;
 use tc_record::{Piece, RecordFault, RecordRef, decode, encode, size};
 use tc_value::Doc;
+
+/// The record of a document, or `None` where it has none.
+pub(crate) fn record_of_document(alloc: Global, doc: &Doc) -> Result<Option<Bytes>, AllocError> {
+    if size(doc).is_none() {
+        return Ok(None);
+    }
+    Ok(Some(encode(alloc, doc)?))
+}
 
 /// Does a call by its name, on a document or on a record.
 pub(crate) fn sum_of(
@@ -16,10 +21,7 @@ pub(crate) fn sum_of(
     doc: &Doc,
     bytes: &[u8],
     rounds: u32,
-) -> Result<u64>
-    requires object { IsObject (tree_of doc.now) }
-    requires short { length (record_of (tree_of doc.now)) < 2 ^ 32 }
-{
+) -> Result<u64> {
     match call {
         "size" => Ok(sizes(doc, rounds)),
         "encode" => Ok(encoded(alloc, doc, rounds)?),
@@ -40,10 +42,10 @@ fn sizes(doc: &Doc, rounds: u32) -> u64 {
     sum
 }
 
-fn encoded(alloc: Global, doc: &Doc, rounds: u32) -> Result<u64, AllocError>
-    requires object { IsObject (tree_of doc.now) }
-    requires short { length (record_of (tree_of doc.now)) < 2 ^ 32 }
-{
+fn encoded(alloc: Global, doc: &Doc, rounds: u32) -> Result<u64, AllocError> {
+    if size(doc).is_none() {
+        return Ok(0);
+    }
     let mut sum = 0u64;
     for _ in 0..rounds {
         let record = encode(alloc, doc)?;
