@@ -68,8 +68,8 @@ fn refuses_a_record_cut_anywhere(rt: HostRuntime) {
     }
 }
 
-/// Of all records with one byte changed these are records: seven other bytes of the integer and its last one in 255
-/// ways each, three letters in 127 ways each, and the empty array as an empty object.
+/// With one byte changed these are records still: each of the integer's eight bytes in 255 ways, the text and the two
+/// names in 127 ways each, and the empty array as an empty object.
 #[test]
 fn decodes_changed_bytes_as_they_are(rt: HostRuntime) -> Result<(), Fail> {
     let alloc = rt.alloc();
