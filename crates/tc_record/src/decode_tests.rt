@@ -1,13 +1,10 @@
 //! Records decoded: the worked ones, cut anywhere, and with each byte changed.
 
-use crate::tests::{mixed, object};
+use crate::tests::{FLAG, NUMBERED_MIXED, mixed, object};
 use crate::{RecordFault, decode, encode, size};
 use std::alloc::{AllocError, Global};
 use std::test::Fail;
 use tc_value::Doc;
-
-const FLAG: &[u8] =
-    b"\0\0\0\x1d\0\0\0\0\x03\0\0\0\x01\0\0\0\0\0\0\0\0\x01\x01\x06\x02\x07\x01\x01a";
 
 const NUMBERED_FLAG: &[u8] =
     b"\0\0\0\x1c\x01\0\0\0\x03\0\0\0\x01\0\0\0\0\0\0\0\0\x01\x01\x06\x02\x07\x01\0";
@@ -16,9 +13,6 @@ const NOTHING: &[u8] = b"\0\0\0\x19\0\0\0\0\x02\0\0\0\0\0\0\0\0\0\0\0\0\0\0\x06\
 
 const MIXED: [u8; 48] =
     *b"\0\0\0\x30\0\0\0\0\x0b\0\0\0\x08\0\0\0\x01\x01\0\0\0\x02\x01\x06\x05\x03\x04\x05\x07\x06\x01\x07\x07\x07\0\0\0\0\0\0\0\x01\x01x\x01\x01vb";
-
-const NUMBERED_MIXED: &[u8] =
-    b"\0\0\0\x2e\x01\0\0\0\x0b\0\0\0\x08\0\0\0\x01\x01\0\0\0\x02\x01\x06\x05\x03\x04\x05\x07\x06\x01\x07\x07\x07\0\0\0\0\0\0\0\x01\x01x\0\x01";
 
 /// Whether the bytes are the record of the document.
 fn is_record_of(alloc: Global, doc: &Doc, bytes: &[u8]) -> Result<bool, AllocError> {
@@ -43,13 +37,13 @@ fn is_refused(alloc: Global, bytes: &[u8]) -> bool {
 #[test]
 fn decodes_worked_records(rt: HostRuntime) -> Result<(), Fail> {
     let alloc = rt.alloc();
-    let flag = decode(alloc, FLAG)?;
+    let flag = decode(alloc, &FLAG)?;
     assert!(rt; flag.same(&object(alloc, "a", Doc::Bool(true))?));
     let nothing = decode(alloc, NOTHING)?;
     assert!(rt; is_empty_object(&nothing));
     let values = decode(alloc, &MIXED)?;
     assert!(rt; values.same(&mixed(alloc)?));
-    assert!(rt; is_record_of(alloc, &flag, FLAG)?);
+    assert!(rt; is_record_of(alloc, &flag, &FLAG)?);
     assert!(rt; is_record_of(alloc, &nothing, NOTHING)?);
     assert!(rt; is_record_of(alloc, &values, &MIXED)?);
     Ok(())
@@ -58,7 +52,7 @@ fn decodes_worked_records(rt: HostRuntime) -> Result<(), Fail> {
 #[test]
 fn refuses_numbers_for_names(rt: HostRuntime) {
     assert!(rt; is_refused(rt.alloc(), NUMBERED_FLAG));
-    assert!(rt; is_refused(rt.alloc(), NUMBERED_MIXED));
+    assert!(rt; is_refused(rt.alloc(), &NUMBERED_MIXED));
 }
 
 #[test]
