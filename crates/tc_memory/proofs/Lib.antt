@@ -1,0 +1,5 @@
+pub mod KeyedLemmas
+pub mod Ascending
+pub mod Lookups
+pub mod TableLemmas
+pub mod CallLemmas

@@ -1,0 +1,4 @@
+pub mod KeyedList
+pub mod Table
+pub mod Calls
+pub mod Meaning
