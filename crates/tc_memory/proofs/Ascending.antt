@@ -60,8 +60,8 @@ pub sorted-with_value : {V : Type 0} (n : ℕ) (v : V) (es : Keyed V) → IsStri
 sorted-with_value n v [] sorted = sorted_cons n [] tt sorted_nil
 sorted-with_value n v (e ∷ es) sorted =
     sorted_step (nat_lt n e.0) (n == e.0) n v e es (with_value n v es) (less_by n e.0) sorted
-        (λ not_less apart. above-with_value e.0 n v es (greater_by n e.0 not_less apart) (sorted_head nat_cmp e.0 (keys_of es) sorted))
-        (sorted-with_value n v es (sorted_tail nat_cmp e.0 (keys_of es) sorted))
+    (λ not_less apart. above-with_value e.0 n v es (greater_by n e.0 not_less apart) (sorted_head nat_cmp e.0 (keys_of es) sorted))
+    (sorted-with_value n v es (sorted_tail nat_cmp e.0 (keys_of es) sorted))
 
 all_step : {V : Type 0} (P : ℕ × V → Type 0) (less same : Bool) (n : ℕ) (v : V) (e : ℕ × V) (es more : Keyed V) → (same ≡ true → n ≡ e.0) → P (n, v) → All P (e ∷ es) → All P more
     → All P (if less then (n, v) ∷ e ∷ es else (if same then (e.0, v) ∷ es else e ∷ more))

@@ -59,8 +59,8 @@ choose_keeps false now left was is there keeps = ap (option_map (λ k. k.below))
 one_call : (c : TableCall) (t : Table) (n : ℕ) → Ascends t → IsSome (value_at n t) → IsSome (value_at n (after_call c t)) → shape_at n (after_call c t) ≡ shape_at n t
 one_call c t n ascends was_there there =
     choose_keeps (n == key_of c) (value_at n (after_call c t)) (entry_left c t) (value_at n t) (left_after c t n ascends) there
-        (λ same left_there. let here : n ≡ key_of c = eqb-true n (key_of c) same in
-           subst (λ m. option_map (λ k. k.below) (entry_left c t) ≡ shape_at m t) (sym here) (entry_keeps c t (subst (λ m. IsSome (value_at m t)) here was_there) left_there))
+    (λ same left_there. let here : n ≡ key_of c = eqb-true n (key_of c) same in
+    subst (λ m. option_map (λ k. k.below) (entry_left c t) ≡ shape_at m t) (sym here) (entry_keeps c t (subst (λ m. IsSome (value_at m t)) here was_there) left_there))
 
 pub keep_first_shapes : CallsKeepFirstShapes
 keep_first_shapes [] t n ascends was_there through = refl
@@ -88,6 +88,6 @@ choose_is shape false now left was is at_key other = rw is other
 pub keep_shapes_below : CallsKeepShapesBelow
 keep_shapes_below below c t ascends hands keeps =
     λ n. choose_is (below n) (n == key_of c) (value_at n (after_call c t)) (entry_left c t) (value_at n t) (left_after c t n ascends)
-        (λ same. let here : n ≡ key_of c = eqb-true n (key_of c) same in
-           subst (λ m. IfSome (entry_left c t) (λ k. k.below ≡ below m)) (sym here) (entry_is below c t hands keeps))
-        (keeps n)
+    (λ same. let here : n ≡ key_of c = eqb-true n (key_of c) same in
+    subst (λ m. IfSome (entry_left c t) (λ k. k.below ≡ below m)) (sym here) (entry_is below c t hands keeps))
+    (keeps n)

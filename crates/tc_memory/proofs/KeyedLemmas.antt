@@ -73,8 +73,8 @@ pub set_value-insert_entry : {X : Type 0} (n : ℕ) (old new : X) (es : List (�
 set_value-insert_entry n old new [] ascending found = absurd (some_is_not_none old None found refl)
 set_value-insert_entry n old new (e ∷ es) ascending found =
     write_step (nat_lt n e.0) (n == e.0) e n new es (set_value (is_at (nat_cmp n)) es new) (insert_entry nat_cmp es n new)
-        (λ less. some_is_not_none old (lookup (is_at (nat_cmp n)) (e ∷ es)) found (lookup-none (is_at (nat_cmp n)) (e ∷ es) (none_below_head nat_cmp_total n e es ascending (less_by n e.0 less))))
-        (λ apart. set_value-insert_entry n old new es (sorted_tail nat_cmp e.0 (keys_of es) ascending) (sym (lookup_tail (is_at (nat_cmp n)) e es (sym (unsigned_ties n e.0) ∙ apart)) ∙ found))
+    (λ less. some_is_not_none old (lookup (is_at (nat_cmp n)) (e ∷ es)) found (lookup-none (is_at (nat_cmp n)) (e ∷ es) (none_below_head nat_cmp_total n e es ascending (less_by n e.0 less))))
+    (λ apart. set_value-insert_entry n old new es (sorted_tail nat_cmp e.0 (keys_of es) ascending) (sym (lookup_tail (is_at (nat_cmp n)) e es (sym (unsigned_ties n e.0) ∙ apart)) ∙ found))
 
 -- ---- keys
 

@@ -3,3 +3,4 @@ pub mod Ascending
 pub mod Lookups
 pub mod TableLemmas
 pub mod CallLemmas
+pub mod Storing

@@ -64,5 +64,5 @@ pub value_at-without_key : {V : Type 0} (m n : ℕ) (es : Keyed V) → IsStrictl
 value_at-without_key {V} m n [] sorted = nothing V (m == n)
 value_at-without_key m n (e ∷ es) sorted =
     take_step (n == e.0) m n e es (without_key n es) (eqb-true n e.0) (value_at-without_key m n es (sorted_tail nat_cmp e.0 (keys_of es) sorted))
-        (λ apart same. rw (eqb-true m n same) apart)
-        (λ same. rw (eqb-true m e.0 same) (value_at-above e.0 es (sorted_head nat_cmp e.0 (keys_of es) sorted)))
+    (λ apart same. rw (eqb-true m n same) apart)
+    (λ same. rw (eqb-true m e.0 same) (value_at-above e.0 es (sorted_head nat_cmp e.0 (keys_of es) sorted)))

@@ -25,6 +25,11 @@ abbrev pub held_of : Held → table.Held
 held_of held.Gone = table.gone
 held_of (held.Live bytes) = table.live bytes.now
 
+-- what is lent is a lawful record
+abbrev pub IsLawfulHeld : Held → Type 0
+IsLawfulHeld held.Gone = Unit {0}
+IsLawfulHeld (held.Live bytes) = table.IsStoredRecord bytes.now
+
 -- a lent entry, as an entry of a table
 abbrev pub entry_of : Entry → ℕ × table.Kept
 entry_of e = (e.key, record { held = held_of e.held; below = option_map (λ s. shape_tree s.now) e.below })

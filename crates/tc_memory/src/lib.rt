@@ -15,4 +15,3 @@ pub use held::{Entry, Held};
 pub use laws::{calls_change_one_key, calls_keep_first_shapes, calls_keep_shapes_below};
 pub use memtable::Memtable;
 pub use sealed::Sealed;
-pub use tc_bytes::Memory;

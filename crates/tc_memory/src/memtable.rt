@@ -39,11 +39,11 @@ impl Drop for Memtable {
 }
 
 impl Memtable {
-    ghost use Rattle.std.specs.Prelude.{◌≡◌, ◌<◌, ◌^◌, [], length, option_map, is_some, OnOk, OnErr};
+    ghost use Rattle.std.specs.Prelude.{◌≡◌, ◌<◌, ◌^◌, [], length, option_map, is_some, IfSome, OnOk, OnErr};
     ghost use Rattle.tc_value.specs.ShapeMeaning.{shape_tree};
     ghost use Rattle.tc_memory.specs.KeyedList.{value_at};
     ghost use Rattle.tc_memory.specs.Table.{IsTable, IsStoredRecord, IsLawfulKept, below_at, holding, upserted, deleted};
-    ghost use Rattle.tc_memory.specs.Meaning.{held_of, version_of};
+    ghost use Rattle.tc_memory.specs.Meaning.{held_of, version_of, IsLawfulHeld};
 
     /// A table with no entry.
     pub fn new(alloc: Global) -> Memtable
@@ -72,6 +72,7 @@ impl Memtable {
     /// What is held of a key. `None` comes exactly where the key has no entry.
     pub fn get(&self, key: u64) -> Option<Held<'_>>
         ensures held { option_map held_of result ≡ option_map (λ k. k.held) (value_at key self.now) }
+        ensures lawful { IfSome result IsLawfulHeld }
     {
         match self.slots.get(&key) {
             Some(slot) => Some(slot.version.lend()),
