@@ -10,7 +10,7 @@ use Rattle.std.specs.Map.{keys_of}
 use Rattle.std.proofs.lemmas.Bool.{eqb-true}
 use Rattle.std.proofs.lemmas.List.Elements.{All-nil, All-cons, All-head, All-tail}
 use Rattle.std.proofs.lemmas.Map.Keys.{sorted_head, sorted_tail}
-use Rattle.tc_memory.specs.KeyedList.{Keyed, with_value, without_key}
+use Rattle.tc_model.specs.Keyed.{Keyed, with_value, without_key}
 
 -- each of these keys is greater
 abbrev AreAbove : ℕ → List ℕ → Type 0
@@ -28,7 +28,7 @@ above_less : (n m : ℕ) (ks : List ℕ) → nat_cmp n m ≡ Less → AreAbove m
 above_less n m [] less above = tt
 above_less n m (k ∷ ks) less above = (nat_cmp_total.trans n m k less above.0, above_less n m ks less above.1)
 
-less_by : (n m : ℕ) → nat_lt n m ≡ true → nat_cmp n m ≡ Less
+pub less_by : (n m : ℕ) → nat_lt n m ≡ true → nat_cmp n m ≡ Less
 less_by n m l = ap (λ b. cond b Less (cond (n == m) Equal Greater)) l
 
 greater_by : (n m : ℕ) → nat_lt n m ≡ false → (n == m) ≡ false → nat_cmp m n ≡ Less

@@ -10,7 +10,9 @@ use Rattle.std.specs.BTreeMap.{insert_entry, is_at}
 use Rattle.std.proofs.lemmas.Map.{lookup-none}
 use Rattle.std.proofs.lemmas.Map.Entries.{lookup_tail, none_below_head}
 use Rattle.std.proofs.lemmas.Map.Keys.{sorted_tail}
-use Rattle.tc_memory.specs.KeyedList.{Keyed, on_value, value_at, with_value, without_key}
+use Rattle.tc_model.specs.Keyed.{Keyed, value_of, with_value, without_key}
+use Rattle.tc_memory.specs.Meaning.{on_value}
+use Rattle.tc_memory.proofs.Ascending.{less_by}
 
 -- ---- look-ups
 
@@ -19,16 +21,16 @@ lookup_step : {X V : Type 0} (f : X → V) (b c : Bool) (x : X) (rest : Option X
 lookup_step f true c x rest meant e h = rw e refl
 lookup_step f false c x rest meant e h = rw e h
 
-pub option_map-lookup : {X V : Type 0} (f : X → V) (n : ℕ) (es : List (ℕ × X)) → option_map f (lookup (is_at (nat_cmp n)) es) ≡ value_at n (map (on_value f) es)
+pub option_map-lookup : {X V : Type 0} (f : X → V) (n : ℕ) (es : List (ℕ × X)) → option_map f (lookup (is_at (nat_cmp n)) es) ≡ value_of n (map (on_value f) es)
 option_map-lookup f n [] = refl
 option_map-lookup f n (e ∷ es) =
-    lookup_step f (is_eq (nat_cmp n e.0)) (n == e.0) e.1 (lookup (is_at (nat_cmp n)) es) (value_at n (map (on_value f) es)) (unsigned_ties n e.0) (option_map-lookup f n es)
+    lookup_step f (is_eq (nat_cmp n e.0)) (n == e.0) e.1 (lookup (is_at (nat_cmp n)) es) (value_of n (map (on_value f) es)) (unsigned_ties n e.0) (option_map-lookup f n es)
 
 pub is_some-option_map : {X V : Type 0} (f : X → V) (o : Option X) → is_some o ≡ is_some (option_map f o)
 is_some-option_map f None = refl
 is_some-option_map f (Some x) = refl
 
-pub is_some-lookup : {X V : Type 0} (f : X → V) (n : ℕ) (es : List (ℕ × X)) → is_some (lookup (is_at (nat_cmp n)) es) ≡ is_some (value_at n (map (on_value f) es))
+pub is_some-lookup : {X V : Type 0} (f : X → V) (n : ℕ) (es : List (ℕ × X)) → is_some (lookup (is_at (nat_cmp n)) es) ≡ is_some (value_of n (map (on_value f) es))
 is_some-lookup f n es = is_some-option_map f (lookup (is_at (nat_cmp n)) es) ∙ ap is_some (option_map-lookup f n es)
 
 -- ---- changes
@@ -64,9 +66,6 @@ write_step true same e n x es written inserted not_less h = absurd (not_less ref
 write_step false true e n x es written inserted not_less h = refl
 write_step false false e n x es written inserted not_less h = ap (λ rest. e ∷ rest) (h refl)
 
-less_by : (n m : ℕ) → nat_lt n m ≡ true → nat_cmp n m ≡ Less
-less_by n m l = ap (λ b. cond b Less (cond (n == m) Equal Greater)) l
-
 -- where the key is there, a value written in place is the value put in
 pub set_value-insert_entry : {X : Type 0} (n : ℕ) (old new : X) (es : List (ℕ × X)) → IsStrictlySortedBy nat_cmp (keys_of es) → lookup (is_at (nat_cmp n)) es ≡ Some old
     → set_value (is_at (nat_cmp n)) es new ≡ insert_entry nat_cmp es n new
@@ -75,9 +74,3 @@ set_value-insert_entry n old new (e ∷ es) ascending found =
     write_step (nat_lt n e.0) (n == e.0) e n new es (set_value (is_at (nat_cmp n)) es new) (insert_entry nat_cmp es n new)
     (λ less. some_is_not_none old (lookup (is_at (nat_cmp n)) (e ∷ es)) found (lookup-none (is_at (nat_cmp n)) (e ∷ es) (none_below_head nat_cmp_total n e es ascending (less_by n e.0 less))))
     (λ apart. set_value-insert_entry n old new es (sorted_tail nat_cmp e.0 (keys_of es) ascending) (sym (lookup_tail (is_at (nat_cmp n)) e es (sym (unsigned_ties n e.0) ∙ apart)) ∙ found))
-
--- ---- keys
-
-pub keys_of-map : {X V : Type 0} (f : X → V) (es : List (ℕ × X)) → keys_of (map (on_value f) es) ≡ keys_of es
-keys_of-map f [] = refl
-keys_of-map f (e ∷ es) = ap (λ rest. e.0 ∷ rest) (keys_of-map f es)

@@ -10,7 +10,7 @@ use Rattle.std.proofs.lemmas.List.Elements.{All-head, All-tail}
 use Rattle.tc_model.specs.Document.{ShapeTree}
 use Rattle.tc_value.specs.ShapeMeaning.{shape_tree}
 use Rattle.tc_value.specs.declared.shape_tree.Shape.{Shape}
-use Rattle.tc_memory.specs.KeyedList.{value_at, with_value, without_key}
+use Rattle.tc_model.specs.Keyed.{value_of, with_value, without_key}
 use Rattle.tc_memory.specs.Table.{Held, Kept, Table, IsTable, IsLawfulKept, IsLawfulEntry, below_at, holding}
 use Rattle.tc_memory.specs.Meaning.{version_of, kept_of, table_of, held_of, IsLawfulHeld}
 use Rattle.tc_memory.specs.declared.held.Held as held
@@ -31,7 +31,7 @@ pub IsTable-without_key : (n : ℕ) (t : Table) → IsTable t → IsTable (witho
 IsTable-without_key n t table = record { ascending = sorted-without_key n t table.ascending; entries = All-without_key IsLawfulEntry n t table.entries }
 
 -- what is found in the map is what the table has
-pub kept_of-lookup : (n : ℕ) (found : Option Slot) (es : List (ℕ × Slot)) → found ≡ lookup (is_at (nat_cmp n)) es → value_at n (table_of es) ≡ option_map kept_of found
+pub kept_of-lookup : (n : ℕ) (found : Option Slot) (es : List (ℕ × Slot)) → found ≡ lookup (is_at (nat_cmp n)) es → value_of n (table_of es) ≡ option_map kept_of found
 kept_of-lookup n found es is = sym (option_map-lookup kept_of n es) ∙ ap (option_map kept_of) (sym is)
 
 -- a version written in place
@@ -52,12 +52,12 @@ found_step : (P : ℕ × Kept → Type 0) (b : Bool) (n : ℕ) (e : ℕ × Kept)
 found_step P true n e rest at first others = subst (λ m. P (m, e.1)) (sym (at refl)) first
 found_step P false n e rest at first others = others
 
-found-All : (P : ℕ × Kept → Type 0) (n : ℕ) (t : Table) → All P t → IfSome (value_at n t) (λ k. P (n, k))
+found-All : (P : ℕ × Kept → Type 0) (n : ℕ) (t : Table) → All P t → IfSome (value_of n t) (λ k. P (n, k))
 found-All P n [] all = tt
-found-All P n (e ∷ t) all = found_step P (n == e.0) n e (value_at n t) (eqb-true n e.0) (All-head P e t all) (found-All P n t (All-tail P e t all))
+found-All P n (e ∷ t) all = found_step P (n == e.0) n e (value_of n t) (eqb-true n e.0) (All-head P e t all) (found-All P n t (All-tail P e t all))
 
 -- what is found is lawful
-pub lawful_found : (n : ℕ) (t : Table) (k : Kept) → IsTable t → value_at n t ≡ Some k → IsLawfulKept k.held k.below
+pub lawful_found : (n : ℕ) (t : Table) (k : Kept) → IsTable t → value_of n t ≡ Some k → IsLawfulKept k.held k.below
 lawful_found n t k table found = (subst (λ o. IfSome o (λ k. IsLawfulEntry (n, k))) found (found-All IsLawfulEntry n t table.entries)).lawful
 
 -- and so is what is lent of it

@@ -1,4 +1,3 @@
-pub mod KeyedList
 pub mod Table
 pub mod Calls
 pub mod Meaning

@@ -1,7 +1,6 @@
 -- What the parts of a memory table are seen as.
 use Rattle.std.specs.Prelude.{ℕ, List, map, Option, option_map}
 use Rattle.tc_value.specs.ShapeMeaning.{shape_tree}
-use Rattle.tc_memory.specs.KeyedList.{on_value}
 use Rattle.tc_memory.specs.Table as table
 use Rattle.tc_memory.specs.declared.held.Held.{Held}
 use Rattle.tc_memory.specs.declared.held.Held.TheVariants as held
@@ -16,6 +15,10 @@ version_of (version.Live bytes) = table.live bytes
 
 abbrev pub kept_of : Slot → table.Kept
 kept_of s = record { held = version_of s.version; below = option_map shape_tree s.below }
+
+-- an entry whose value is read by f
+abbrev pub on_value : {X V : Type 0} → (X → V) → ℕ × X → ℕ × V
+on_value f e = (e.0, f e.1)
 
 -- the entries of a map from keys to slots, as those of a table
 abbrev pub table_of : List (ℕ × Slot) → table.Table

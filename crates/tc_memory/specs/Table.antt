@@ -8,7 +8,7 @@ use Rattle.tc_model.specs.Tree.{leaf, array, object}
 use Rattle.tc_model.specs.Document.{Document, ShapeTree, coded_shape}
 use Rattle.tc_model.specs.Request.{member_at}
 use Rattle.tc_record.specs.Record.{IsRecordOf}
-use Rattle.tc_memory.specs.KeyedList.{Keyed, value_at, with_value, without_key}
+use Rattle.tc_model.specs.Keyed.{Keyed, value_of, with_value, without_key}
 
 -- what is held of a key: that its document is gone, or the document's record
 pub data Held : Type 0 where
@@ -60,7 +60,7 @@ shape_kept handed None = handed
 shape_kept handed (Some k) = k.below
 
 abbrev pub below_at : ℕ → Option ShapeTree → Table → Option ShapeTree
-below_at n handed t = shape_kept handed (value_at n t)
+below_at n handed t = shape_kept handed (value_of n t)
 
 -- the table that holds this of a key
 abbrev pub holding : ℕ → Held → Option ShapeTree → Table → Table

@@ -41,7 +41,7 @@ impl Drop for Memtable {
 impl Memtable {
     ghost use Rattle.std.specs.Prelude.{◌≡◌, ◌<◌, ◌^◌, [], length, option_map, is_some, IfSome, OnOk, OnErr};
     ghost use Rattle.tc_value.specs.ShapeMeaning.{shape_tree};
-    ghost use Rattle.tc_memory.specs.KeyedList.{value_at};
+    ghost use Rattle.tc_model.specs.Keyed.{value_of};
     ghost use Rattle.tc_memory.specs.Table.{IsTable, IsStoredRecord, IsLawfulKept, below_at, holding, upserted, deleted};
     ghost use Rattle.tc_memory.specs.Meaning.{held_of, version_of, IsLawfulHeld};
 
@@ -64,14 +64,14 @@ impl Memtable {
 
     /// Whether the key has an entry.
     pub fn has(&self, key: u64) -> bool
-        ensures found { result ≡ is_some (value_at key self.now) }
+        ensures found { result ≡ is_some (value_of key self.now) }
     {
         self.slots.contains_key(&key)
     }
 
     /// What is held of a key. `None` comes exactly where the key has no entry.
     pub fn get(&self, key: u64) -> Option<Held<'_>>
-        ensures held { option_map held_of result ≡ option_map (λ k. k.held) (value_at key self.now) }
+        ensures held { option_map held_of result ≡ option_map (λ k. k.held) (value_of key self.now) }
         ensures lawful { IfSome result IsLawfulHeld }
     {
         match self.slots.get(&key) {

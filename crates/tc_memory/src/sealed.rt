@@ -30,7 +30,7 @@ impl Drop for Sealed {
 
 impl Sealed {
     ghost use Rattle.std.specs.Prelude.{◌≡◌, length, option_map, IfSome};
-    ghost use Rattle.tc_memory.specs.KeyedList.{value_at};
+    ghost use Rattle.tc_model.specs.Keyed.{value_of};
     ghost use Rattle.tc_memory.specs.Table.{IsTable};
     ghost use Rattle.tc_memory.specs.Meaning.{held_of, IsLawfulHeld};
 
@@ -51,7 +51,7 @@ impl Sealed {
 
     /// What is held of a key. `None` comes exactly where the key has no entry.
     pub fn get(&self, key: u64) -> Option<Held<'_>>
-        ensures held { option_map held_of result ≡ option_map (λ k. k.held) (value_at key self.now) }
+        ensures held { option_map held_of result ≡ option_map (λ k. k.held) (value_of key self.now) }
         ensures lawful { IfSome result IsLawfulHeld }
     {
         self.table.get(key)
