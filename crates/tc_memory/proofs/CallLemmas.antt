@@ -1,11 +1,11 @@
 -- The laws of calls on a table.
-use Rattle.std.proofs.Common.{◌≡◌, ℕ, Bool, true, false, List, [], ◌∷◌, refl, sym, ap, ◌∙◌, subst}
+use Rattle.std.proofs.Common.{◌≡◌, ℕ, Bool, true, false, [], ◌∷◌, refl, sym, ap, ◌∙◌, subst}
 use Rattle.std.specs.Prelude.{◌==◌, if◌then◌else◌, Option, Some, None, option_map, is_some, IsSome, IfSome}
 use Rattle.std.proofs.lemmas.Bool.{eqb-true, false≢true}
 use Rattle.tc_model.specs.Document.{ShapeTree}
 use Rattle.tc_model.specs.Keyed.{value_of, with_value, without_key}
 use Rattle.tc_memory.specs.Table.{Table, Kept, gone, live, gone_over, shape_kept, below_at}
-use Rattle.tc_memory.specs.Calls.{TableCall, upsert, delete, key_of, shape_handed, after_call, after_calls, Ascends, entry_left, shape_at, HasEntryThroughout, KeepsShapesOf, HandsShapeOf, CallsChangeOneKey, CallsKeepFirstShapes, CallsKeepShapesBelow}
+use Rattle.tc_memory.specs.Calls.{TableCall, upsert, delete, key_of, after_call, Ascends, entry_left, shape_at, KeepsShapesOf, HandsShapeOf, CallsChangeOneKey, CallsKeepFirstShapes, CallsKeepShapesBelow}
 use Rattle.tc_memory.proofs.Ascending.{sorted-with_value, sorted-without_key}
 use Rattle.tc_memory.proofs.Lookups.{value_of-with_value, value_of-without_key}
 

@@ -1,16 +1,16 @@
 -- That a table stays lawful, and what its map of slots is after a change.
 use Rattle.std.proofs.Common.{◌≡◌, ◌<◌, ◌^◌, ℕ, Bool, true, false, List, [], ◌∷◌, refl, sym, ap, subst, ◌∙◌}
-use Rattle.std.specs.Prelude.{◌==◌, if◌then◌else◌, Option, Some, None, option_map, is_some, IfSome, All}
+use Rattle.std.specs.Prelude.{◌==◌, if◌then◌else◌, Option, Some, None, option_map, IfSome, All}
 use Rattle.std.specs.Ordering.{nat_cmp}
 use Rattle.std.specs.List.Sorted.{IsStrictlySortedBy}
-use Rattle.std.specs.Map.{keys_of, lookup, remove_entry, set_value}
+use Rattle.std.specs.Map.{keys_of, lookup, set_value}
 use Rattle.std.specs.BTreeMap.{insert_entry, is_at}
 use Rattle.std.proofs.lemmas.Bool.{eqb-true}
 use Rattle.std.proofs.lemmas.List.Elements.{All-head, All-tail}
 use Rattle.tc_model.specs.Document.{ShapeTree}
 use Rattle.tc_value.specs.ShapeMeaning.{shape_tree}
 use Rattle.tc_value.specs.declared.shape_tree.Shape.{Shape}
-use Rattle.tc_model.specs.Keyed.{value_of, with_value, without_key}
+use Rattle.tc_model.specs.Keyed.{value_of, without_key}
 use Rattle.tc_memory.specs.Table.{Held, Kept, Table, IsTable, IsLawfulKept, IsLawfulEntry, below_at, holding}
 use Rattle.tc_memory.specs.Meaning.{version_of, kept_of, table_of, held_of, IsLawfulHeld}
 use Rattle.tc_memory.specs.declared.held.Held as held

@@ -1,5 +1,5 @@
 -- What the parts of a memory table are seen as.
-use Rattle.std.specs.Prelude.{ℕ, List, map, Option, option_map}
+use Rattle.std.specs.Prelude.{ℕ, List, map, option_map}
 use Rattle.tc_value.specs.ShapeMeaning.{shape_tree}
 use Rattle.tc_memory.specs.Table as table
 use Rattle.tc_memory.specs.declared.held.Held.{Held}

@@ -1,4 +1,3 @@
-use Rattle.std.proofs.Common.{◌≡◌, ◌∙◌, sym}
 use Rattle.tc_memory.specs.Meaning.{kept_of}
 use Rattle.tc_memory.proofs.KeyedLemmas.{map-remove_entry}
 use Rattle.tc_memory.proofs.TableLemmas.{IsTable-without_key}
