@@ -1,5 +1,5 @@
 -- What a shelf in memory has for each number.
-use Rattle.std.specs.Prelude.{ℕ, ◌==◌, if◌then◌else◌, List, [], Option, None, Some, slice_get, option_map, unwrap_or}
+use Rattle.std.specs.Prelude.{ℕ, ◌==◌, if◌then◌else◌, List, [], Option, None, Some, slice_get}
 use Rattle.std.specs.List.{list_any}
 use Rattle.tc_store.specs.declared.kit.Kit.{Kit}
 use Rattle.tc_store.specs.declared.mem_device.MemDevice.{MemDevice}

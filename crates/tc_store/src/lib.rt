@@ -38,4 +38,8 @@ pub use store::Store;
 pub use watch::Watch;
 
 #[cfg(test)]
+mod samples;
+#[cfg(test)]
+mod stop_tests;
+#[cfg(test)]
 mod tests;

@@ -1,4 +1,3 @@
-use Rattle.std.specs.Prelude.{All}
 use Rattle.std.proofs.lemmas.List.Elements.{All-set}
 use Rattle.tc_store.specs.Disk.{IsAtRest}
 use Rattle.tc_store.specs.MemShelf.{MemKit}
