@@ -27,3 +27,4 @@ pub use fault::RecordFault;
 pub use record_ref::RecordRef;
 pub use sizing::size;
 pub use token::{Label, Piece, Token};
+pub use widths::{Width, put_number};
