@@ -4,7 +4,8 @@ use Rattle.tc_model.specs.Document.{Name}
 use Rattle.tc_names.specs.Dictionary.{number_of, learned, Extends}
 use Rattle.tc_names.proofs.Growth.{Extends-same, Extends-trans, Extends-learned, number_of-Extends}
 use Rattle.tc_names.proofs.Numbers.{number_of-push}
-use Rattle.tc_compact.specs.Compacted.{all_learned, HasEach, number_in}
+use Rattle.tc_compact.specs.Compacted.{HasEach, number_in}
+use Rattle.tc_counts.specs.ShapeNames.{all_learned}
 
 pub Extends-all_learned : (known xs : List Name) → Extends (all_learned known xs) known
 Extends-all_learned known [] = Extends-same known

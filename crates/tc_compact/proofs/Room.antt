@@ -4,7 +4,7 @@ use Rattle.tc_model.specs.Document.{Name}
 use Rattle.tc_names.specs.Dictionary.{learned}
 use Rattle.tc_names.proofs.Growth.{length-learned}
 use Rattle.tc_record.specs.Borrowed.{Record, Spells}
-use Rattle.tc_compact.specs.Compacted.{all_learned}
+use Rattle.tc_counts.specs.ShapeNames.{all_learned}
 use Rattle.tc_compact.specs.Slots.{names_in}
 use Rattle.tc_compact.proofs.Compacts.{names_lie}
 

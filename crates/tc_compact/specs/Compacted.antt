@@ -1,16 +1,11 @@
 -- What a document is under a dictionary: its members carry the numbers of their names.
-use Rattle.std.specs.Prelude.{ℕ, List, [], ◌∷◌, IsTrue, is_some, unwrap_or}
+use Rattle.std.specs.Prelude.{ℕ, List, IsTrue, is_some, unwrap_or}
 use Rattle.std.specs.List.{AllByRecursion}
 use Rattle.tc_model.specs.Tree.{relabel}
 use Rattle.tc_model.specs.Document.{Name, Document}
-use Rattle.tc_names.specs.Dictionary.{number_of, learned}
+use Rattle.tc_names.specs.Dictionary.{number_of}
 use Rattle.tc_record.specs.Preorder.{tokens_of}
 use Rattle.tc_record.specs.Record.{labels, NumberedTree, IsNumberedRecordOf}
-
--- the dictionary after names were learned one after the other
-abbrev pub all_learned : List Name → List Name → List Name
-all_learned known [] = known
-all_learned known (name ∷ more) = all_learned (learned known name) more
 
 -- the dictionary has each of the names
 abbrev pub HasEach : List Name → List Name → Type 0

@@ -3,7 +3,8 @@
 ghost use Rattle.std.specs.Prelude.{◌≡◌, ◌<◌, ◌^◌, IfOk, OnOk, length, map};
 ghost use Rattle.tc_names.specs.Dictionary.{Extends, IsDictionary};
 ghost use Rattle.tc_record.specs.Record.{joined};
-ghost use Rattle.tc_compact.specs.Compacted.{all_learned, number_in};
+ghost use Rattle.tc_compact.specs.Compacted.{number_in};
+ghost use Rattle.tc_counts.specs.ShapeNames.{all_learned};
 ghost use Rattle.tc_compact.specs.Slots.{names_in};
 
 use crate::dictionary::is_dictionary;

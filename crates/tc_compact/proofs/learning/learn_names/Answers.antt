@@ -2,7 +2,8 @@ use Rattle.std.proofs.Common.{rules, ◌≡◌, ◌∙◌, ◌∷◌, [], ◌++�
 use Rattle.tc_names.specs.Dictionary.{learned, Extends}
 use Rattle.tc_names.proofs.Growth.{Extends-trans, Extends-learned}
 use Rattle.tc_record.specs.Record.{joined}
-use Rattle.tc_compact.specs.Compacted.{all_learned, number_in}
+use Rattle.tc_compact.specs.Compacted.{number_in}
+use Rattle.tc_counts.specs.ShapeNames.{all_learned}
 use Rattle.tc_compact.specs.Slots.{names_in}
 use Rattle.tc_compact.proofs.Learned.{length-all_learned, number-last}
 use Rattle.tc_compact.proofs.learning.learn_names.Goals as goal

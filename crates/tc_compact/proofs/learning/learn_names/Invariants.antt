@@ -1,7 +1,8 @@
 use Rattle.std.proofs.Common.{◌≡◌, ◌+◌, ◌++◌, length, map}
 use Rattle.tc_names.specs.Dictionary.{Extends, IsDictionary}
 use Rattle.tc_record.specs.Record.{joined}
-use Rattle.tc_compact.specs.Compacted.{all_learned, number_in}
+use Rattle.tc_compact.specs.Compacted.{number_in}
+use Rattle.tc_counts.specs.ShapeNames.{all_learned}
 use Rattle.tc_compact.specs.Slots.{names_in}
 use Rattle.tc_compact.proofs.learning.learn_names.Given as goal
 
