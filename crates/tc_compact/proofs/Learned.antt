@@ -4,7 +4,8 @@ use Rattle.tc_model.specs.Document.{Name}
 use Rattle.tc_names.specs.Dictionary.{number_of, learned, Extends}
 use Rattle.tc_names.proofs.Growth.{Extends-same, Extends-trans, Extends-learned, number_of-Extends}
 use Rattle.tc_names.proofs.Numbers.{number_of-push}
-use Rattle.tc_compact.specs.Compacted.{HasEach, number_in}
+use Rattle.tc_counts.specs.Added as counts
+use Rattle.tc_compact.specs.Compacted.{HasEach}
 use Rattle.tc_counts.specs.ShapeNames.{all_learned}
 
 pub Extends-all_learned : (known xs : List Name) → Extends (all_learned known xs) known
@@ -28,10 +29,10 @@ number-learned known name = cases (number_of known name) refl
     cases (Some n) some = ap is_some some
 
 -- a name keeps its number in each dictionary that goes on
-pub number-stays : (newer known : List Name) (name : Name) → Extends newer known → HasNumber known name → HasNumber newer name × (number_in newer name ≡ number_in known name)
+pub number-stays : (newer known : List Name) (name : Name) → Extends newer known → HasNumber known name → HasNumber newer name × (counts.number newer name ≡ counts.number known name)
 number-stays newer known name extends has = cases (number_of known name) refl has
   where
-    cases : (o : Option ℕ) → number_of known name ≡ o → IsTrue (is_some o) → HasNumber newer name × (number_in newer name ≡ number_in known name)
+    cases : (o : Option ℕ) → number_of known name ≡ o → IsTrue (is_some o) → HasNumber newer name × (counts.number newer name ≡ counts.number known name)
     cases None none has = absurd (cc)
     cases (Some n) some has =
         let there = number_of-Extends newer known name n extends some in
@@ -44,13 +45,13 @@ all_numbered known (x ∷ xs) =
     ((number-stays (all_learned (learned known x) xs) (learned known x) x (Extends-all_learned (learned known x) xs) (number-learned known x)).0, all_numbered (learned known x) xs)
 
 -- and keeps it
-pub numbers_stay : (newer known xs : List Name) → Extends newer known → HasEach known xs → HasEach newer xs × (map (number_in newer) xs ≡ map (number_in known) xs)
+pub numbers_stay : (newer known xs : List Name) → Extends newer known → HasEach known xs → HasEach newer xs × (map (counts.number newer) xs ≡ map (counts.number known) xs)
 numbers_stay newer known [] extends has = (tt, refl)
 numbers_stay newer known (x ∷ xs) extends has =
     let here = number-stays newer known x extends has.0 in
     let rest = numbers_stay newer known xs extends has.1 in
-    ((here.0, rest.0), ap (λ n. n ∷ map (number_in newer) xs) here.1 ∙ ap (λ ns. number_in known x ∷ ns) rest.1)
+    ((here.0, rest.0), ap (λ n. n ∷ map (counts.number newer) xs) here.1 ∙ ap (λ ns. counts.number known x ∷ ns) rest.1)
 
 -- the number that a name got is its number at the end
-pub number-last : (new : List Name) (name : Name) (more : List Name) (id : ℕ) → number_of new name ≡ Some id → number_in (all_learned new more) name ≡ id
+pub number-last : (new : List Name) (name : Name) (more : List Name) (id : ℕ) → number_of new name ≡ Some id → counts.number (all_learned new more) name ≡ id
 number-last new name more id some = ap (λ o. unwrap_or o 0) (number_of-Extends (all_learned new more) new name id (Extends-all_learned new more) some)

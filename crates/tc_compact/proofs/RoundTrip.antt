@@ -8,7 +8,8 @@ use Rattle.tc_record.specs.Record.{labels, record_bytes, IsRecordOf}
 use Rattle.tc_record.specs.Walk.{Key}
 use Rattle.tc_record.specs.Borrowed.{Record, numbered_tokens}
 use Rattle.tc_record.proofs.Reading.{numbered_again}
-use Rattle.tc_compact.specs.Compacted.{number_in, compacted, IsCompactedRecordOf}
+use Rattle.tc_counts.specs.Added as counts
+use Rattle.tc_compact.specs.Compacted.{compacted, IsCompactedRecordOf}
 use Rattle.tc_compact.proofs.Learned.{numbers_stay}
 use Rattle.tc_compact.proofs.Relabelled.{record-numbered}
 use Rattle.tc_compact.proofs.Compacts.{compacted_record}
@@ -18,7 +19,7 @@ pub compacted_stays : (d : Document) (whole bytes : List ℕ) (names newer : Lis
 compacted_stays d whole bytes names newer is form1 dictionary extends =
     let ts = tokens_of d in
     let stay = numbers_stay newer names (labels ts) extends form1.known in
-    compacted_record newer d whole bytes dictionary is stay.0 (form1.numbered.spelled ∙ record-numbered (number_in names) d ∙ ap (λ ks. record_bytes 1 ts ks []) (sym stay.1)) form1.numbered.short
+    compacted_record newer d whole bytes dictionary is stay.0 (form1.numbered.spelled ∙ record-numbered (counts.number names) d ∙ ap (λ ks. record_bytes 1 ts ks []) (sym stay.1)) form1.numbered.short
 
 pub one_record : (d e : Document) (whole other bytes : List ℕ) (names : List Name) → IsRecordOf d whole → IsCompactedRecordOf names d bytes → IsRecordOf e other → IsCompactedRecordOf names e bytes → whole ≡ other
 one_record d e whole other bytes names is form1 is_e form1_e =

@@ -3,7 +3,7 @@
 ghost use Rattle.std.specs.Prelude.{◌≡◌, ◌<◌, ◌^◌, IfOk, OnOk, length, map};
 ghost use Rattle.tc_names.specs.Dictionary.{Extends, IsDictionary};
 ghost use Rattle.tc_record.specs.Record.{joined};
-ghost use Rattle.tc_compact.specs.Compacted.{number_in};
+ghost use Rattle.tc_counts.specs.Added as counts;
 ghost use Rattle.tc_counts.specs.ShapeNames.{all_learned};
 ghost use Rattle.tc_compact.specs.Slots.{names_in};
 
@@ -28,7 +28,7 @@ pub(crate) fn learn_names(
 ) -> Result<Learned, Memory>
     requires room { length (all_learned names.old (names_in from.now.tokens)) < 2 ^ 32 }
     requires short { length (joined (names_in from.now.tokens)) < 2 ^ 32 }
-    ensures numbers { IfOk result (λ l. l.numbers.items ≡ map (number_in names.new) (names_in from.now.tokens)) }
+    ensures numbers { IfOk result (λ l. l.numbers.items ≡ map (counts.number names.new) (names_in from.now.tokens)) }
     ensures bytes { IfOk result (λ l. l.name_bytes ≡ length (joined (names_in from.now.tokens))) }
     ensures learned { OnOk result (names.new ≡ all_learned names.old (names_in from.now.tokens)) }
     ensures extends { Extends names.new names.old }

@@ -2,7 +2,7 @@ use Rattle.std.proofs.Common.{rules, ◌≡◌, ◌∙◌, ◌∷◌, [], ◌++�
 use Rattle.tc_names.specs.Dictionary.{learned, Extends}
 use Rattle.tc_names.proofs.Growth.{Extends-trans, Extends-learned}
 use Rattle.tc_record.specs.Record.{joined}
-use Rattle.tc_compact.specs.Compacted.{number_in}
+use Rattle.tc_counts.specs.Added as counts
 use Rattle.tc_counts.specs.ShapeNames.{all_learned}
 use Rattle.tc_compact.specs.Slots.{names_in}
 use Rattle.tc_compact.proofs.Learned.{length-all_learned, number-last}
@@ -25,14 +25,14 @@ loop-token-preserved-in-Name c =
     let here : names_in l.cursor ≡ n ∷ rest = search rules in
     let known : c.learn.new.self ≡ learned l.names n = c.in_ok-number.ensures.ok in
     let left : all_learned c.learn.new.self rest ≡ after = ap (λ names. all_learned names rest) known ∙ ap (all_learned l.names) (sym here) ∙ l.invariant.left in
-    let number : number_in after n ≡ c.in_ok-number.number = ap (λ names. number_in names n) (sym left) ∙ number-last c.learn.new.self n rest c.in_ok-number.number c.in_ok-number.ensures.number in
+    let number : counts.number after n ≡ c.in_ok-number.number = ap (λ names. counts.number names n) (sym left) ∙ number-last c.learn.new.self n rest c.in_ok-number.number c.in_ok-number.ensures.number in
     record {
       left = left;
       numbers =
-          ap (λ ns. ns ++ map (number_in after) rest) c.in_ok-push.ensures.items
-          ∙ append_assoc l.numbers.items (c.in_ok-number.number ∷ []) (map (number_in after) rest)
-          ∙ ap (λ k. l.numbers.items ++ k ∷ map (number_in after) rest) (sym number)
-          ∙ ap (λ ns. l.numbers.items ++ map (number_in after) ns) (sym here)
+          ap (λ ns. ns ++ map (counts.number after) rest) c.in_ok-push.ensures.items
+          ∙ append_assoc l.numbers.items (c.in_ok-number.number ∷ []) (map (counts.number after) rest)
+          ∙ ap (λ k. l.numbers.items ++ k ∷ map (counts.number after) rest) (sym number)
+          ∙ ap (λ ns. l.numbers.items ++ map (counts.number after) ns) (sym here)
           ∙ l.invariant.numbers;
       bytes = omega (arith, l.invariant.bytes, ap (λ ns. length (joined ns)) here, length-append n (joined rest));
       extends = Extends-trans c.learn.new.self l.names c.args.names.now (subst (λ names. Extends names l.names) (sym known) (Extends-learned l.names n)) l.invariant.extends;
