@@ -1,5 +1,5 @@
 -- What the store answers to a request, and what a request leaves. A refused request changes nothing.
-use Rattle.std.specs.Prelude.{ℕ, Bool, true, false, not, ◌&&◌, nat_lt, nat_le, length, List, [], ◌∷◌, is_some, Option, Some, None, if◌then◌else◌}
+use Rattle.std.specs.Prelude.{ℕ, Bool, not, ◌&&◌, nat_lt, nat_le, length, List, [], ◌∷◌, is_some, Option, Some, None, if◌then◌else◌}
 use Rattle.tc_model.specs.Document.{Name, Document}
 use Rattle.tc_model.specs.Request.{Request, upsert, delete, get, query, flush, schema, scan, collect, refused, Refusal, names_full, full, not_built}
 use Rattle.tc_model.specs.Reply.{Reply, upserted, deleted, got, schemas, turned_down}
