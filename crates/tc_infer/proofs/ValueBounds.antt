@@ -1,13 +1,14 @@
 -- How many values stand at a path: in a shape no more than it has in all, and in few documents of bounded size no more
 -- than a counter holds.
 use Rattle.std.proofs.Common.{◌≡◌, ◌+◌, ◌*◌, ◌<◌, ◌≤◌, ◌^◌, Bool, true, false, All, List, [], ◌∷◌, length, bytes_eq, if◌then◌else◌, refl, arith}
-use Rattle.std.specs.List.{AllByRecursion}
+use Rattle.std.specs.List.{AllByRecursion, IsDistinct}
 use Rattle.std.proofs.lemmas.List.Elements.{recursion_from_All, All-weaker}
 use Rattle.tc_model.specs.Tree.{Tree, leaf, array, object, Items, no_items, item, Members, no_members, member, relabel, items_relabel, members_relabel}
 use Rattle.tc_model.specs.Document.{Name, Document, ShapeTree, ScalarKind, null_kind, boolean_kind, integer_kind, text_kind, scalar_kind}
 use Rattle.tc_counts.specs.Occurrences.{Kind, scalar, arrays, objects, field, each_item, Path, occurrences, items_occurrences, members_occurrences, document_shape}
-use Rattle.tc_counts.specs.Counted.{Counted, total_at}
+use Rattle.tc_counts.specs.Counted.{Counted, nothing, total_at}
 use Rattle.tc_counts.specs.Stands.{StandsFor}
+use Rattle.tc_counts.proofs.CountingLaws.{shows_nothing}
 use Rattle.tc_value.specs.TreeSize.{tree_size, items_size, members_size}
 use Rattle.tc_infer.specs.Values.{of_all_kinds, values_at, values_in}
 
@@ -78,15 +79,28 @@ values_in-few : (docs : List Document) (path : Path) → AllByRecursion (λ doc.
 values_in-few [] path all = omega arith
 values_in-few (doc ∷ docs) path all = omega (arith, all.0, values_in-few docs path all.1)
 
+-- no document is counted at first
+pub nothing_stands : StandsFor [] nothing []
+unfolding IsDistinct
+nothing_stands = record { canonical = (λ _. refl, λ _. refl, tt, tt); distinct = tt; counts = λ path t. shows_nothing [] path t }
+
 -- fewer than 2^32 documents, each with fewer than 2^32 values at a path, leave room there for one more
 pub counters_fit : (names : List Name) (d : Counted) (docs : List Document) (s : ShapeTree) → StandsFor names d docs → length docs < 2 ^ 32 → (path : Path)
     → All (λ doc. values_at (document_shape doc) path < 2 ^ 32) docs → values_at s path < 2 ^ 32 → total_at names d path + values_at s path < 2 ^ 64
 counters_fit names d docs s stands few path each here =
     omega (arith, total-stands names d docs stands path, values_in-few docs path (recursion_from_All _ docs each), few, here)
 
+small_at : (docs : List Document) → All (λ doc. tree_size doc < 2 ^ 32) docs → (path : Path) → All (λ doc. values_at (document_shape doc) path < 2 ^ 32) docs
+small_at docs each path = All-weaker _ _ small docs each
+  where
+    small : (doc : Document) → tree_size doc < 2 ^ 32 → values_at (document_shape doc) path < 2 ^ 32
+    small doc few = omega (arith, few, document_values_at-size doc path)
+
 -- the same at every path, where each has fewer than 2^32 values in all
 pub counters_fit-sizes : (names : List Name) (d : Counted) (docs : List Document) (s : ShapeTree) → StandsFor names d docs → length docs < 2 ^ 32
     → All (λ doc. tree_size doc < 2 ^ 32) docs → tree_size s < 2 ^ 32 → (path : Path) → total_at names d path + values_at s path < 2 ^ 64
-counters_fit-sizes names d docs s stands few each here path =
-    let at_path : (doc : Document) → tree_size doc < 2 ^ 32 → values_at (document_shape doc) path < 2 ^ 32 = λ doc small. omega (arith, small, document_values_at-size doc path) in
-    counters_fit names d docs s stands few path (All-weaker _ _ at_path docs each) (omega (arith, here, values_at-size s path))
+counters_fit-sizes names d docs s stands few each here path = counters_fit names d docs s stands few path (small_at docs each path) (omega (arith, here, values_at-size s path))
+
+-- the values of so few documents can be counted
+pub values_fit-sizes : (docs : List Document) → length docs < 2 ^ 32 → All (λ doc. tree_size doc < 2 ^ 32) docs → (path : Path) → values_in docs path < 2 ^ 64
+values_fit-sizes docs few each path = omega (arith, values_in-few docs path (recursion_from_All _ docs (small_at docs each path)), few)

@@ -6,3 +6,6 @@ mod counting;
 mod learning;
 
 pub use adding::add;
+
+#[cfg(test)]
+mod tests;
