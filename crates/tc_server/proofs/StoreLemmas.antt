@@ -1,6 +1,6 @@
 -- The running schema as documents come and go: what counting asks for, and that the parts stay sound.
-use Rattle.std.proofs.Common.{◌≡◌, ℕ, ◌+◌, ◌<◌, ◌^◌, Bool, true, false, All, List, [], ◌∷◌, ◌++◌, length, map, refl, ap, sym, subst, ◌∙◌, arith}
-use Rattle.std.specs.Prelude.{Option, Some, None, option_map, is_some, ◌&&◌, nat_lt, nat_le, if◌then◌else◌}
+use Rattle.std.proofs.Common.{◌≡◌, ℕ, ◌+◌, ◌<◌, ◌^◌, false, All, List, [], ◌∷◌, ◌++◌, length, map, refl, ap, sym, subst, ◌∙◌, arith}
+use Rattle.std.specs.Prelude.{Option, Some, None, option_map, is_some, ◌&&◌, nat_lt, if◌then◌else◌}
 use Rattle.std.specs.List.{AllByRecursion}
 use Rattle.std.specs.List.Sorted.{IsStrictlySortedBy}
 use Rattle.std.specs.Map.{keys_of, lookup}
@@ -13,7 +13,7 @@ use Rattle.std.proofs.lemmas.List.Elements.{All-from_recursion, All-weaker}
 use Rattle.tc_model.specs.Document.{Name, Document, ShapeTree}
 use Rattle.tc_model.specs.Keyed.{value_of, with_value, without_key}
 use Rattle.tc_counts.specs.Counted.{Counted, nothing, total_at}
-use Rattle.tc_counts.specs.Occurrences.{Kind, Path, count, document_shape}
+use Rattle.tc_counts.specs.Occurrences.{Path, count, document_shape}
 use Rattle.tc_counts.specs.Stands.{StandsFor}
 use Rattle.tc_infer.specs.Values.{values_at}
 use Rattle.tc_infer.proofs.ValueBounds.{counters_fit-sizes, nothing_stands}

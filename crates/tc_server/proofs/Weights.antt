@@ -1,7 +1,7 @@
 -- What is bounded by the weight of a document: its values, its names, and the bytes of each name.
-use Rattle.std.proofs.Common.{◌≡◌, ℕ, ◌+◌, ◌<◌, ◌≤◌, ◌^◌, List, [], ◌∷◌, ◌++◌, length, length-append, arith}
+use Rattle.std.proofs.Common.{◌<◌, ◌≤◌, ◌^◌, List, [], ◌∷◌, ◌++◌, length, length-append, arith}
 use Rattle.std.specs.List.{AllByRecursion}
-use Rattle.tc_model.specs.Tree.{leaf, array, object, Items, no_items, item, Members, no_members, member, relabel, items_relabel, members_relabel}
+use Rattle.tc_model.specs.Tree.{leaf, array, object, Items, no_items, item, Members, no_members, member, items_relabel, members_relabel}
 use Rattle.tc_model.specs.Document.{Name, Document, Scalar, null, boolean, integer, text, scalar_kind}
 use Rattle.tc_counts.specs.Occurrences.{document_shape}
 use Rattle.tc_counts.specs.ShapeNames.{names_within, names_of_items, names_of_members}

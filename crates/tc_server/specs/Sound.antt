@@ -1,6 +1,6 @@
 -- What the parts of a store have to be together: the running schema stands for the documents, and there is room in its
 -- counters, since there are not too many documents and none is too heavy.
-use Rattle.std.specs.Prelude.{ℕ, ◌≡◌, ◌<◌, ◌≤◌, ◌^◌, ◌⊎◌, length, map, is_some, Option, option_map}
+use Rattle.std.specs.Prelude.{◌≡◌, ◌<◌, ◌≤◌, ◌^◌, ◌⊎◌, length}
 use Rattle.std.specs.List.{AllByRecursion}
 use Rattle.tc_model.specs.Document.{Document}
 use Rattle.tc_model.specs.Request.{max_line}

@@ -78,9 +78,8 @@ impl Asked {
         ensures { result ≡ is_control (request_asked self.now) }
     {
         match &self.action {
-            Action::Run(
-                Command::Flush | Command::Schema | Command::Scan(_) | Command::Collect,
-            ) => true,
+            Action::Run(Command::Flush | Command::Schema | Command::Scan(_) | Command::Collect) =>
+                true,
             _other => false,
         }
     }

@@ -53,8 +53,8 @@ impl Model for Store {
     ghost use Rattle.tc_server.specs.Sound.{IsSound};
 
     ghost view = { λ s. record {
-        limits = record { names = s.most_names; docs = s.most_docs };
-        plain = record { pairs = map pair_of s.docs.entries; taken = s.names }
+      limits = record { names = s.most_names; docs = s.most_docs };
+      plain = record { pairs = map pair_of s.docs.entries; taken = s.names };
     } };
 
     ghost invariant = { λ s. IsSound (record { pairs = map pair_of s.docs.entries; taken = s.names }) s.schema };

@@ -25,7 +25,9 @@ const VALUES: [&str; 10] = [
 
 // The next number of a sequence that looks random.
 fn following(number: u64) -> u64 {
-    number.wrapping_mul(6_364_136_223_846_793_005).wrapping_add(1_442_695_040_888_963_407)
+    number
+        .wrapping_mul(6_364_136_223_846_793_005)
+        .wrapping_add(1_442_695_040_888_963_407)
 }
 
 fn value(number: u64) -> &'static str {
@@ -38,7 +40,9 @@ fn upsert(alloc: Global, key: u64, number: u64) -> Result<String, AllocError> {
     let second = value(number >> 16);
     let third = value(number >> 24);
     let name = number % 4;
-    format!(in alloc; "{{\"op\":\"upsert\",\"doc\":{{\"id\":{key},\"a\":{first},\"b\":[{second}],\"n{name}\":{third}}}}}")
+    format!(in alloc;
+        "{{\"op\":\"upsert\",\"doc\":{{\"id\":{key},\"a\":{first},\"b\":[{second}],\"n{name}\":{third}}}}}"
+    )
 }
 
 fn reply(alloc: Global, store: &mut Store, line: &str) -> Result<Bytes, AllocError> {

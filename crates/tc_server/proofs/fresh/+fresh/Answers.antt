@@ -108,11 +108,12 @@ learn_fresh_of_members-loop-member-preserved t c =
       left = ap (λ names. all_learned names rest) (more ∙ ap (λ names. all_learned names first) one) ∙ sym (all_learned-append (learned (known ++ l.fresh) m.name) first rest) ∙ ap (all_learned (known ++ l.fresh)) (sym here) ∙ l.invariant.left;
       room =
           omega (
-          arith,
-          l.invariant.room,
-          ap length here,
-          length-append first rest,
-          one_grown known l.fresh c.learn_unless_known.new.fresh m.name one,
-          grown known c.learn_unless_known.new.fresh c.learn_fresh.new.fresh first more);
+            arith,
+            l.invariant.room,
+            ap length here,
+            length-append first rest,
+            one_grown known l.fresh c.learn_unless_known.new.fresh m.name one,
+            grown known c.learn_unless_known.new.fresh c.learn_fresh.new.fresh first more,
+          );
       short = all_of_rest IsShort first rest (subst (AllByRecursion IsShort) here l.invariant.short).1;
     }

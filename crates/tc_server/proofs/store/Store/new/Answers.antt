@@ -1,5 +1,3 @@
-use Rattle.std.proofs.Common.{map}
-use Rattle.tc_server.specs.Pairs.{pair_of}
 use Rattle.tc_server.proofs.StoreLemmas.{empty_is_sound}
 use Rattle.tc_server.proofs.store.Store.new.Goals as goal
 

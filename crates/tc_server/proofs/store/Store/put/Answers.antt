@@ -1,11 +1,11 @@
-use Rattle.std.proofs.Common.{◌≡◌, ◌<◌, ◌^◌, ◌∙◌, ◌∷◌, length, map, sym, ap, subst}
-use Rattle.std.specs.Prelude.{option_map, Some, None}
+use Rattle.std.proofs.Common.{◌<◌, ◌^◌, ◌∙◌, length, map, sym, ap, subst}
+use Rattle.std.specs.Prelude.{option_map}
 use Rattle.std.specs.List.{AllByRecursion}
 use Rattle.std.proofs.lemmas.List.Elements.{All-from_recursion}
 use Rattle.tc_counts.specs.Fits.{FitsByPath}
 use Rattle.tc_counts.specs.Occurrences.{document_shape}
 use Rattle.tc_counts.specs.ShapeNames.{names_within, all_learned}
-use Rattle.tc_model.specs.Keyed.{value_of, with_value}
+use Rattle.tc_model.specs.Keyed.{value_of}
 use Rattle.tc_value.specs.Meaning.{tree_of}
 use Rattle.tc_value.specs.ShapeMeaning.{shape_tree}
 use Rattle.tc_server.specs.Limited.{Limited}
@@ -33,7 +33,7 @@ subtract-requires c =
     record {
       fits =
           around_old (FitsByPath c.add.new.names c.add.new.schema (shape_tree c.in-Some.old)) c.args.key (tree_of c.args.doc) old.value pairs c.add.new.names c.add.new.schema old.there added
-          (λ front behind stands. c.shapes_fit.ensures front behind old.value old.mapped stands)
+          (λ front behind stands. c.shapes_fit.ensures front behind old.value old.mapped stands);
     }
 
 pub invariant_of-self-in-Some : goal.invariant_of-self-in-Some

@@ -1,12 +1,11 @@
-use Rattle.std.proofs.Common.{◌≡◌, ◌<◌, ◌∙◌, length, map, sym, ap, subst, arith}
+use Rattle.std.proofs.Common.{◌∙◌, map, ap, arith}
 use Rattle.tc_counts.specs.Fits.{FitsByPath}
 use Rattle.tc_counts.specs.Occurrences.{document_shape}
 use Rattle.tc_model.specs.Keyed.{value_of}
 use Rattle.tc_value.specs.ShapeMeaning.{shape_tree}
-use Rattle.tc_world.specs.Store.{stored}
 use Rattle.tc_server.specs.Pairs.{pair_of}
 use Rattle.tc_server.proofs.PairLemmas.{map-remove_entry}
-use Rattle.tc_server.proofs.StoreLemmas.{IsMappedTo, is_mapped, fits_one, removed_is_sound}
+use Rattle.tc_server.proofs.StoreLemmas.{is_mapped, fits_one, removed_is_sound}
 use Rattle.tc_server.proofs.store.Store.remove.Goals as goal
 
 pub subtract-requires : goal.subtract-requires
@@ -15,7 +14,7 @@ subtract-requires c =
     record {
       fits =
           fits_one (FitsByPath c.self.inside.names c.self.inside.schema (shape_tree c.args.shape.now)) c.args.key old.value (map pair_of c.self.inside.docs.entries) c.self.inside.names c.self.inside.schema old.there c.self.invariant.stands
-          (λ front behind stands. c.shapes_fit.ensures front behind old.value old.mapped stands)
+          (λ front behind stands. c.shapes_fit.ensures front behind old.value old.mapped stands);
     }
 
 pub invariant_of-self : goal.invariant_of-self

@@ -1,10 +1,5 @@
-use Rattle.std.proofs.Common.{◌≡◌, ◌∙◌, false, ap}
-use Rattle.std.specs.Prelude.{IfOk}
-use Rattle.serde_json.specs.View.{view}
-use Rattle.serde_json.specs.Written.{has_float}
 use Rattle.tc_counts.specs.SchemaTree.{schema_tree}
-use Rattle.tc_counts.specs.SchemaText.{tree_text}
-use Rattle.tc_server.proofs.SchemaFloats.{schemas_have_no_floats, shown_without_floats}
+use Rattle.tc_server.proofs.SchemaFloats.{shown_without_floats}
 use Rattle.tc_server.proofs.store.Store.schema.Goals as goal
 
 pub returns-clause-exact : goal.returns-clause-exact
