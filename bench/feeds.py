@@ -1,5 +1,6 @@
 """The inputs of the benchmark, one command a line. Integers only, and the same bytes in every run."""
 
+import json
 import random
 
 
@@ -23,6 +24,26 @@ def readings(k, key):
     """A sensor's document: a hundred nested readings, about 6 KB."""
     rows = ",".join(f'{{"at":{k * 100 + i},"value":{(k * 31 + i * 17) % 1000},"unit":"kelvin","ok":true}}' for i in range(100))
     return f'{{"id":{key},"sensor":"s{k % 50}","readings":[{rows}]}}'
+
+
+def profile(k, key):
+    """A user's profile: thirty fields, about 1 KB."""
+    words = {
+        "name": f"user {k}", "login": f"user{k}", "mail": f"user{k}@mail.example", "phone": "+44 20 7946 0018",
+        "street": "12 Long Acre", "city": "London", "country": "United Kingdom", "language": "en", "zone": "Europe/London",
+        "company": "Example and Sons", "role": "engineer", "site": f"https://www.example/user{k}",
+        "about": "Writes programs, reads proofs, and walks in the hills when the weather allows it. Has kept the same garden for "
+        "twelve years and knows each of its trees by name. Answers letters on Sundays, mostly in the order in which they came, "
+        "and is glad of a postcard from anywhere with a lighthouse.",
+        "picture": f"https://pictures.example/users/{k}/portraits/large.png", "theme": "dark and quiet", "plan": "yearly",
+    }
+    numbers = {
+        "born": 1975 + k % 30, "joined": 1_700_000_000 + k, "seen": 1_760_000_000 + k, "followers": k * 31 % 10_000,
+        "following": k * 17 % 1_000, "posts": k % 5_000, "likes": k * 7 % 100_000, "level": k % 60,
+    }
+    switches = {"active": True, "verified": k % 2 == 0, "newsletter": False, "private": k % 3 == 0}
+    languages = {"speaks": ["en", "fr", "de"]}
+    return json.dumps({"id": key, **words, **numbers, **switches, **languages}, separators=(",", ":"))
 
 
 # values of a field that is of another kind from write to write, some of them nested

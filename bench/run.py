@@ -69,6 +69,7 @@ def main():
         show("overwrites and deletes of 1,000 keys", run(feeds.churn(count)))
         show_schema("schema after messages", feeds.upserts(count, "ascending", feeds.message))
         show_schema("schema after readings", feeds.upserts(min(count // 10, 10_000), "ascending", feeds.readings))
+        show_schema("schema after profiles", feeds.upserts(count, "ascending", feeds.profile))
         show_schema("schema after changing documents", feeds.upserts(count, "ascending", feeds.changing))
 
 

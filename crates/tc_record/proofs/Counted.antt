@@ -6,8 +6,7 @@ use Rattle.std.proofs.lemmas.List.{nil_from_length}
 use Rattle.std.proofs.lemmas.Option.{same_Some}
 use Rattle.tc_bytes.specs.Reading.{bytes_at}
 use Rattle.tc_bytes.specs.Codec.{IsBytes}
-use Rattle.tc_bytes.proofs.Fields.{bytes_codec, IsBytes-front}
-use Rattle.tc_record.proofs.Fields.{bytes_again}
+use Rattle.tc_bytes.proofs.Fields.{bytes_codec, IsBytes-front, bytes_again}
 use Rattle.tc_bytes.proofs.Codecs.{then_parts}
 use Rattle.tc_record.specs.declared.widths.Width.{Width}
 use Rattle.tc_record.specs.declared.widths.Width.TheVariants.{Zero, One, Two, Four}

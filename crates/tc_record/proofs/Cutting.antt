@@ -5,8 +5,7 @@ use Rattle.std.proofs.lemmas.Bool.Decides.{nat_tests}
 use Rattle.std.proofs.lemmas.Option.{same_Some}
 use Rattle.tc_bytes.specs.Reading.{byte_at, number_at, bytes_at}
 use Rattle.tc_bytes.specs.Codec.{IsBytes}
-use Rattle.tc_bytes.proofs.Fields.{number_codec_32, byte_codec, bytes_codec, IsBytes-front}
-use Rattle.tc_record.proofs.Fields.{bytes_again}
+use Rattle.tc_bytes.proofs.Fields.{number_codec_32, byte_codec, bytes_codec, IsBytes-front, bytes_again}
 use Rattle.tc_bytes.proofs.Codecs.{then_parts}
 use Rattle.tc_model.specs.Document.{Scalar}
 use Rattle.tc_record.specs.Preorder.{Token}

@@ -64,7 +64,7 @@ module _ {L : Type 0} (g : L → Key) where
   option_list None = refl
   option_list (Some l) = refl
 
-  labels-retoken : (ts : List (Token L Scalar)) → labels (map (retoken g) ts) ≡ map g (labels ts)
+  pub labels-retoken : (ts : List (Token L Scalar)) → labels (map (retoken g) ts) ≡ map g (labels ts)
   labels-retoken [] = refl
   labels-retoken (t ∷ ts) = ap (λ ls. ls ++ labels (map (retoken g) ts)) (option_list t.label) ∙ ap (λ ls. map g (option_to_list t.label) ++ ls) (labels-retoken ts) ∙ sym (map-append g (option_to_list t.label) (labels ts))
 

@@ -1,4 +1,3 @@
-pub mod Fields
 pub mod Measuring
 pub mod Lengths
 pub mod Encoded
@@ -19,3 +18,4 @@ pub mod Counted
 pub mod Cutting
 pub mod Reading
 pub mod Holding
+pub mod Built

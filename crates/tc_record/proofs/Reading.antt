@@ -26,12 +26,12 @@ use Rattle.tc_record.proofs.Cutting.{header_of_tokens, body_length, spelled_head
 
 -- ---- the least width of a column
 
-abbrev pick : Bool → Bool → Width
+abbrev pub pick : Bool → Bool → Width
 pick true b = One
 pick false true = Two
 pick false false = Four
 
-abbrev holding : List ℕ → Width
+abbrev pub holding : List ℕ → Width
 holding [] = Zero
 holding (n ∷ ns) = pick (nat_lt (greatest (n ∷ ns)) 256) (nat_lt (greatest (n ∷ ns)) 65536)
 
@@ -40,7 +40,7 @@ pick_bytes true b = refl
 pick_bytes false true = refl
 pick_bytes false false = refl
 
-holding_bytes : (ns : List ℕ) → width_bytes (holding ns) ≡ width ns
+pub holding_bytes : (ns : List ℕ) → width_bytes (holding ns) ≡ width ns
 holding_bytes [] = refl
 holding_bytes (n ∷ ns) = pick_bytes (nat_lt (greatest (n ∷ ns)) 256) (nat_lt (greatest (n ∷ ns)) 65536)
 
@@ -53,11 +53,11 @@ all_fit : (ms : List ℕ) (g : ℕ) → greatest ms ≤ g → AreFit Four ms →
 all_fit [] g below small = tt
 all_fit (m ∷ ms) g below small = (pick_fits (nat_lt g 256) (nat_lt g 65536) g m refl refl (omega arith) small.0, all_fit ms g (omega arith) small.1)
 
-holding_fits : (ns : List ℕ) → AreFit Four ns → AreFit (holding ns) ns
+pub holding_fits : (ns : List ℕ) → AreFit Four ns → AreFit (holding ns) ns
 holding_fits [] small = tt
 holding_fits (n ∷ ns) small = all_fit (n ∷ ns) (greatest (n ∷ ns)) (omega arith) small
 
-lengths_small : (xs : List (List ℕ)) → length (joined xs) < 2 ^ 32 → AreFit Four (map length xs)
+pub lengths_small : (xs : List (List ℕ)) → length (joined xs) < 2 ^ 32 → AreFit Four (map length xs)
 lengths_small [] short = tt
 lengths_small (x ∷ xs) short = let sum = length-append x (joined xs) in (omega arith, lengths_small xs (omega arith))
 
@@ -85,7 +85,7 @@ mutual
 -- ---- each record is read
 
 -- the tokens of an object, with the least widths
-abbrev format_for : Bool → List (Token Key Scalar) → Format
+abbrev pub format_for : Bool → List (Token Key Scalar) → Format
 format_for b ts = record { named = b; text_width = holding (map length (texts ts)); slot_width = holding (slots ts) }
 
 read_again : (b : Bool) (form : ℕ) (ms : Members Key Scalar) (bytes : List ℕ) → form_from form ≡ Some b
@@ -99,7 +99,7 @@ read_again b form ms bytes is spelled short fits keyed shallow =
     rw (spelled, cut, tokens_again ms f keyed shallow) refl
 
 -- what a record that is short enough holds
-small_texts : (form : ℕ) (ts : List (Token Key Scalar)) → length (record_bytes form ts (slots ts) (names ts)) < 2 ^ 32 → AreFit Four (map length (texts ts))
+pub small_texts : (form : ℕ) (ts : List (Token Key Scalar)) → length (record_bytes form ts (slots ts) (names ts)) < 2 ^ 32 → AreFit Four (map length (texts ts))
 small_texts form ts short = lengths_small (texts ts) (omega (arith, body_length ts))
 
 small_names : (d : Document) → length (record_bytes 0 (tokens_of (keyed d)) (slots (tokens_of (keyed d))) (names (tokens_of (keyed d)))) < 2 ^ 32 → AreFit Four (slots (tokens_of (keyed d)))

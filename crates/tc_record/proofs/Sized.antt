@@ -4,8 +4,7 @@ use Rattle.std.specs.Int.{w16, to_be_bytes, bytes_high_first, from_be_bytes}
 use Rattle.std.proofs.lemmas.Nat.{be_bytes_2, from_be_bytes-to_be_bytes_2}
 use Rattle.tc_bytes.specs.Reading.{byte_at, number_at}
 use Rattle.tc_bytes.specs.Codec.{IsBytes, IsCodec}
-use Rattle.tc_bytes.proofs.Fields.{number_codec_32, byte_codec}
-use Rattle.tc_record.proofs.Fields.{number_found, number_again}
+use Rattle.tc_bytes.proofs.Fields.{number_codec_32, byte_codec, number_again, number_found}
 use Rattle.tc_record.specs.declared.widths.Width.{Width}
 use Rattle.tc_record.specs.declared.widths.Width.TheVariants.{Zero, One, Two, Four}
 use Rattle.tc_record.specs.Widths.{width_bytes}

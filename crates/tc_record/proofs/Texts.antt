@@ -7,8 +7,7 @@ use Rattle.std.proofs.lemmas.Str.{IsUtf8-from_is_utf8, is_utf8-from_IsUtf8}
 use Rattle.std.proofs.lemmas.Option.{same_Some}
 use Rattle.tc_bytes.specs.Reading.{bytes_at}
 use Rattle.tc_bytes.specs.Codec.{IsBytes}
-use Rattle.tc_bytes.proofs.Fields.{bytes_codec}
-use Rattle.tc_record.proofs.Fields.{bytes_again}
+use Rattle.tc_bytes.proofs.Fields.{bytes_codec, bytes_again}
 use Rattle.tc_bytes.proofs.Codecs.{then_parts}
 use Rattle.tc_record.specs.declared.widths.Width.{Width}
 use Rattle.tc_record.specs.Widths.{width_bytes}

@@ -11,3 +11,4 @@ pub mod Sections
 pub mod SectionsView
 pub mod Borrowed
 pub mod Held
+pub mod Building

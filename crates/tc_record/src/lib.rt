@@ -1,8 +1,13 @@
 //! The vector-based record of a document.
 #![tactic(auto)]
 
+mod building;
 mod cursor;
+#[cfg(test)]
+mod decode_tests;
+mod decoding;
 mod encoding;
+mod fault;
 mod header;
 mod measure;
 mod reader;
@@ -16,7 +21,10 @@ mod walking;
 mod widths;
 
 pub use cursor::Cursor;
+pub use decoding::decode;
 pub use encoding::encode;
+pub use fault::RecordFault;
 pub use record_ref::RecordRef;
 pub use sizing::size;
 pub use token::{Label, Piece, Token};
+pub use widths::{Width, put_number};

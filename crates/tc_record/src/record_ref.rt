@@ -22,7 +22,8 @@ pub struct RecordRef<'a> {
 }
 
 impl<'a> Model for RecordRef<'a> {
-    ghost use Rattle.std.specs.Prelude.{IsTrue, is_some, unwrap_or, []};
+    ghost use Rattle.std.specs.Prelude.{◌≡◌, Some, IsTrue, is_some, unwrap_or, []};
+    ghost use Rattle.tc_bytes.specs.Codec.{IsBytes};
     ghost use Rattle.tc_record.specs.Borrowed.{Record};
 
     ghost Value = { Record };
@@ -31,7 +32,10 @@ impl<'a> Model for RecordRef<'a> {
 
     ghost view = { λ r. record { bytes = r.bytes.now; named = r.sections.format.named; tokens = unwrap_or (tokens_held r.sections) [] } };
 
-    ghost invariant = { λ r. IsTrue (is_some (tokens_held r.sections)) };
+    ghost use Rattle.tc_record.specs.Sections.{sections_in};
+    ghost use Rattle.tc_record.specs.SectionsView.{sections_of};
+
+    ghost invariant = { λ r. IsBytes r.bytes.now × (sections_in r.bytes.now ≡ Some (sections_of r.sections)) × IsTrue (is_some (tokens_held r.sections)) };
 }
 
 impl<'a> RecordRef<'a> {
@@ -58,9 +62,10 @@ impl<'a> RecordRef<'a> {
         self.sections.format.named
     }
 
-    /// The bytes of the whole record.
+    /// The bytes of the whole record, which spell a document or a numbered tree.
     pub fn bytes(&self) -> &'a [u8]
-        ensures { result.now ≡ self.now.bytes }
+        ensures same { result.now ≡ self.now.bytes }
+        ensures spells { Spells self.now }
     {
         self.bytes
     }

@@ -22,7 +22,7 @@ fn text(alloc: Global, text: &str) -> Result<Text, AllocError> {
     Ok(Text::of(String::from_str(alloc, text)?))
 }
 
-fn object(alloc: Global, name: &str, value: Doc) -> Result<Doc, AllocError> {
+pub(crate) fn object(alloc: Global, name: &str, value: Doc) -> Result<Doc, AllocError> {
     let mut members = Vec::new(alloc);
     members.push(Member {
         name: text(alloc, name)?,
@@ -32,7 +32,7 @@ fn object(alloc: Global, name: &str, value: Doc) -> Result<Doc, AllocError> {
 }
 
 /// `{"v":[1,"x",[],{"b":null}]}`
-fn mixed(alloc: Global) -> Result<Doc, AllocError> {
+pub(crate) fn mixed(alloc: Global) -> Result<Doc, AllocError> {
     let mut items = Vec::new(alloc);
     items.push(Doc::Int(1))?;
     items.push(Doc::Text(text(alloc, "x")?))?;
@@ -72,8 +72,11 @@ fn encodes(rt: HostRuntime) -> Result<(), Fail> {
     Ok(())
 }
 
-const FLAG: [u8; 29] =
+pub(crate) const FLAG: [u8; 29] =
     *b"\0\0\0\x1d\0\0\0\0\x03\0\0\0\x01\0\0\0\0\0\0\0\0\x01\x01\x06\x02\x07\x01\x01a";
+
+pub(crate) const NUMBERED_MIXED: [u8; 46] =
+    *b"\0\0\0\x2e\x01\0\0\0\x0b\0\0\0\x08\0\0\0\x01\x01\0\0\0\x02\x01\x06\x05\x03\x04\x05\x07\x06\x01\x07\x07\x07\0\0\0\0\0\0\0\x01\x01x\0\x01";
 
 /// The tokens of a record, or nothing where the bytes are none.
 fn token_text(alloc: Global, bytes: &[u8]) -> Result<String, AllocError> {
@@ -101,9 +104,7 @@ fn reads_tokens(rt: HostRuntime) -> Result<(), Fail> {
         flag.as_str(),
         "Bare Object, Name(\"a\") Bool(true), Bare Close, "
     );
-    let numbered =
-        b"\0\0\0\x2e\x01\0\0\0\x0b\0\0\0\x08\0\0\0\x01\x01\0\0\0\x02\x01\x06\x05\x03\x04\x05\x07\x06\x01\x07\x07\x07\0\0\0\0\0\0\0\x01\x01x\0\x01";
-    let mixed = token_text(rt.alloc(), numbered)?;
+    let mixed = token_text(rt.alloc(), &NUMBERED_MIXED)?;
     assert_eq!(rt;
         mixed.as_str(),
         "Bare Object, Number(0) Array, Bare Int(1), Bare Text(\"x\"), Bare Array, Bare Close, Bare Object, Number(1) Null, Bare Close, Bare Close, Bare Close, "

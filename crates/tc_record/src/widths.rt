@@ -9,7 +9,7 @@ use std::alloc::AllocError;
 
 /// The bytes of each number of a column: none where the column is empty.
 #[derive(Clone, Copy)]
-pub(crate) enum Width {
+pub enum Width {
     Zero,
     One,
     Two,
@@ -18,7 +18,7 @@ pub(crate) enum Width {
 
 impl Width {
     /// The least of 1, 2 and 4 bytes that holds a number of 32 bits.
-    pub(crate) fn holding(number: u64) -> Width
+    pub fn holding(number: u64) -> Width
         ensures { width_bytes result ≡ width_of number }
     {
         if number < 256 {
@@ -30,7 +30,7 @@ impl Width {
         }
     }
 
-    pub(crate) fn bytes(self) -> u8
+    pub fn bytes(self) -> u8
         ensures { result ≡ width_bytes self }
     {
         match self {
@@ -43,7 +43,7 @@ impl Width {
 }
 
 /// Appends the lowest bytes of a number, the highest of them first.
-pub(crate) fn put_number(width: Width, number: usize, out: &mut Vec<u8>) -> Result<(), AllocError>
+pub fn put_number(width: Width, number: usize, out: &mut Vec<u8>) -> Result<(), AllocError>
     ensures { OnOk result (out.new.items ≡ out.old.items ++ bytes_high_first (width_bytes width) number) }
 {
     let bytes = number.to_be_bytes();

@@ -14,7 +14,7 @@ use Rattle.tc_store.specs.MemDisk.{entry_of, file_entry, slot_entry, disk_of, en
 use Rattle.tc_store.proofs.NameLemmas.{same_name-is, put_there, put_back}
 
 -- a test of two names, by the second one's own name
-other_than : (a b n : FileName) → same_name a b ≡ false → same_name a n ≡ true → same_name b n ≡ false
+pub other_than : (a b n : FileName) → same_name a b ≡ false → same_name a n ≡ true → same_name b n ≡ false
 other_than a b n apart same = elim (cases_Bool (same_name b n)) [
   | inl too ↦ absurd (let is : same_name a b ≡ true = ap (same_name a) (same_name-is b n too) ∙ same in let clash : true ≡ false = sym is ∙ apart in cc)
   | inr other ↦ other

@@ -7,3 +7,6 @@ pub mod SlotLemmas
 pub mod StepLemmas
 pub mod FileLemmas
 pub mod NamesLemmas
+pub mod RemainsLemmas
+pub mod PictureLemmas
+pub mod ShelfLemmas

@@ -1,37 +1,54 @@
 -- The names that a store in memory lists.
-use Rattle.std.proofs.Common.{◌≡◌, ◌<◌, ℕ, zero, suc, List, [], ◌∷◌, length, sym, subst, arith, inl, inr}
-use Rattle.std.specs.Prelude.{◌⊎◌, Contains, slice_index_or}
+use Rattle.std.proofs.Common.{◌≡◌, ◌<◌, ℕ, zero, suc, List, [], ◌∷◌, length, refl, sym, subst, arith, inl, inr}
+use Rattle.std.specs.Prelude.{◌⊎◌, Contains, None, slice_index_or}
 use Rattle.std.proofs.lemmas.Bool.{cases_Bool}
 use Rattle.tc_store.specs.declared.file_name.FileName.{FileName}
 use Rattle.tc_store.specs.declared.mem_entry.Held.TheVariants.{Out}
 use Rattle.tc_store.specs.declared.mem_entry.MemFile.{MemFile}
 use Rattle.tc_store.specs.declared.mem_entry.Slot.{Slot}
-use Rattle.tc_store.specs.Disk.{Disk, Entry, IsThere, ListsNames, same_name}
+use Rattle.tc_store.specs.Disk.{Disk, Entry, none, IsThere, ListsNames, same_name}
 use Rattle.tc_store.specs.MemDisk.{file_entry, slot_entry, disk_of}
 use Rattle.tc_store.specs.MemNames.{ListsSome}
 use Rattle.tc_store.proofs.NameLemmas.{same_name-is}
 
+-- a name has a slot, or else the other entry
+pub slot_named : (slots : List Slot) (other : Entry) (name : FileName)
+    → ((k : ℕ) × (k < length slots) × ((d : Slot) → (slice_index_or slots k d).name ≡ name)) ⊎ (slot_entry slots other name ≡ other)
+slot_named [] other name = inr refl
+slot_named (slot ∷ slots) other name = elim (cases_Bool (same_name slot.name name)) [
+  | inl this ↦ inl (zero, omega arith, λ d. same_name-is slot.name name this)
+  | inr off ↦ elim (slot_named slots other name) [
+    | inl (k, within, named) ↦ inl (suc k, omega arith, named)
+    | inr it ↦ inr (rw off it)
+  ]
+]
+
+-- a name has a file, or else none
+pub file_named : (files : List MemFile) (name : FileName)
+    → ((k : ℕ) × (k < length files) × ((d : MemFile) → (slice_index_or files k d).name ≡ name)) ⊎ (file_entry files name ≡ none None)
+file_named [] name = inr refl
+file_named (file ∷ files) name = elim (cases_Bool (same_name file.name name)) [
+  | inl this ↦ inl (zero, omega arith, λ d. same_name-is file.name name this)
+  | inr off ↦ elim (file_named files name) [
+    | inl (k, within, named) ↦ inl (suc k, omega arith, named)
+    | inr it ↦ inr (rw off it)
+  ]
+]
+
 -- a name that is there has a slot, or else another entry that is there
 slot_or : (slots : List Slot) (other : Entry) (name : FileName) → IsThere (slot_entry slots other name)
     → ((k : ℕ) × (k < length slots) × ((d : Slot) → (slice_index_or slots k d).name ≡ name)) ⊎ IsThere other
-slot_or [] other name there = inr there
-slot_or (slot ∷ slots) other name there = elim (cases_Bool (same_name slot.name name)) [
-  | inl this ↦ inl (zero, omega arith, λ d. same_name-is slot.name name this)
-  | inr off ↦ elim (slot_or slots other name (rw off at there)) [
-    | inl (k, within, named) ↦ inl (suc k, omega arith, named)
-    | inr it ↦ inr it
-  ]
+slot_or slots other name there = elim (slot_named slots other name) [
+  | inl found ↦ inl found
+  | inr is ↦ inr (subst IsThere is there)
 ]
 
 -- a name that is there has a file
 file_in : (files : List MemFile) (name : FileName) → IsThere (file_entry files name)
     → (k : ℕ) × (k < length files) × ((d : MemFile) → (slice_index_or files k d).name ≡ name)
-file_in [] name there = absurd there
-file_in (file ∷ files) name there = elim (cases_Bool (same_name file.name name)) [
-  | inl this ↦ (zero, omega arith, λ d. same_name-is file.name name this)
-  | inr off ↦
-      let (k, within, named) = file_in files name (rw off at there) in
-      (suc k, omega arith, named)
+file_in files name there = elim (file_named files name) [
+  | inl found ↦ found
+  | inr is ↦ absurd (subst IsThere is there)
 ]
 
 -- each name of a slot or a file that is there is listed, so each name that is there is

@@ -9,8 +9,11 @@ pub mod KitFaults
 pub mod MemWatch
 pub mod DeviceCalls
 pub mod MemDevice
+pub mod MemFrozen
 pub mod DeviceLaws
 pub mod MemDisk
 pub mod MemStore
 pub mod MemNames
+pub mod MemRemains
+pub mod MemShelf
 pub mod StoreLaws

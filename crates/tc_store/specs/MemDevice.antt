@@ -1,5 +1,5 @@
 -- What a device in memory shows.
-use Rattle.std.specs.Prelude.{List, reverse, option_map}
+use Rattle.std.specs.Prelude.{ℕ, List, length, reverse, option_map}
 use Rattle.tc_store.specs.declared.file_name.FileName.{FileName}
 use Rattle.tc_store.specs.declared.mem_device.MemDevice.{MemDevice}
 use Rattle.tc_store.specs.DeviceCalls.{files_after}
@@ -8,6 +8,10 @@ use Rattle.tc_store.specs.DiskFile.{DiskFile}
 -- its member `name`
 abbrev pub device_name : MemDevice → FileName
 device_name device = device.name
+
+-- its member `size`
+abbrev pub device_size : MemDevice → ℕ
+device_size device = length device.content.items
 
 -- its member `history`
 abbrev pub device_files : MemDevice → List DiskFile

@@ -1,5 +1,5 @@
 -- A watch in memory: which calls are to fail, and what was counted.
-use Rattle.std.specs.Prelude.{ℕ, Bool, ◌==◌, if◌then◌else◌, List}
+use Rattle.std.specs.Prelude.{◌≡◌, ℕ, Bool, ◌==◌, if◌then◌else◌, List}
 use Rattle.std.specs.List.{list_any}
 use Rattle.tc_store.specs.Counts.{one_more}
 
@@ -27,3 +27,8 @@ after_fault counts = record counts { faults = one_more counts.faults }
 -- the counts after a read
 abbrev pub after_read : MemCounts → MemCounts
 after_read counts = let called = after_call counts in record called { reads = one_more counts.reads }
+
+-- a call got the next number
+pub record IsNumbered (old new : MemCounts) : Type 0 where
+  pub failing : new.failing ≡ old.failing
+  pub calls : new.calls ≡ one_more old.calls

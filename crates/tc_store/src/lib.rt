@@ -1,6 +1,7 @@
 //! Files and what a stop may leave of them: stores, devices, gates, and their forms in memory.
 #![tactic(auto)]
 
+mod choices;
 mod damage;
 mod device;
 mod fault;
@@ -11,7 +12,10 @@ mod kit;
 mod mem_device;
 mod mem_entry;
 mod mem_frozen;
+mod mem_remains;
+mod mem_shelf;
 mod mem_slots;
+mod mem_stop;
 mod mem_store;
 mod mem_watch;
 mod store;
@@ -27,10 +31,15 @@ pub use kit::{Kit, Shelf};
 pub use mem_device::MemDevice;
 pub use mem_entry::MemFile;
 pub use mem_frozen::MemFrozen;
+pub use mem_shelf::MemShelf;
 pub use mem_store::MemStore;
 pub use mem_watch::MemWatch;
 pub use store::Store;
 pub use watch::Watch;
 
+#[cfg(test)]
+mod samples;
+#[cfg(test)]
+mod stop_tests;
 #[cfg(test)]
 mod tests;

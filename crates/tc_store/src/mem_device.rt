@@ -1,10 +1,11 @@
 //! A device in memory, which keeps a record of its calls.
 
-ghost use Rattle.std.specs.Prelude.{◌≡◌, ◌<◌, ◌≤◌, ◌+◌, ◌^◌, ◌++◌, [], ◌∷◌, ℕ, length, reverse, true, false, OnOk, OnErr, vec_len, vec_capacity, option_map};
+ghost use Rattle.std.specs.Prelude.{◌≡◌, ◌⊎◌, ◌↔◌, ◌<◌, ◌≤◌, ◌+◌, ◌^◌, ◌++◌, ◌||◌, [], ◌∷◌, ℕ, length, reverse, true, false, max, OnOk, OnErr, IsErr, IsErrOf, vec_len, vec_capacity, option_map};
 ghost use Rattle.tc_store.specs.Counts.{Rose};
-ghost use Rattle.tc_store.specs.DeviceCalls.{file_after, files_after};
-ghost use Rattle.tc_store.specs.DiskFile.{empty_file, overlaid};
-ghost use Rattle.tc_store.specs.Moments.{IfTold};
+ghost use Rattle.tc_store.specs.DeviceCalls.{file_after};
+ghost use Rattle.tc_store.specs.DiskFile.{empty_file, overlaid, written, synced_file};
+ghost use Rattle.tc_store.specs.MemWatch.{is_failing, after_call, IsNumbered};
+ghost use Rattle.tc_store.specs.Moments.{goes_on, IfTold, FailsWriting};
 
 use crate::device::Device;
 use crate::fault::DeviceFault;
@@ -27,10 +28,10 @@ pub(crate) enum DeviceCall {
 #[derive(Drop)]
 pub struct MemDevice {
     name: FileName,
-    before: Option<Arc<Vec<u8>>>,
+    pub(crate) before: Option<Arc<Vec<u8>>>,
     content: Vec<u8>,
     /// The calls so far, the oldest first.
-    calls: Vec<DeviceCall>,
+    pub(crate) calls: Vec<DeviceCall>,
     ghost replayed: { content.items ≡ (file_after (option_map (λ bytes. bytes.value.items) before) (reverse calls.items)).content },
     ghost limit: { length content.items < 2 ^ 63 },
 }
@@ -65,9 +66,10 @@ impl MemDevice {
     }
 }
 
-/// Counts a call of a device that is to write too far or not, and tells whether it fails.
+/// Numbers a call of a device that is to write too far or not, and tells whether it fails.
 fn is_refused(watch: &mut MemWatch, is_too_far: bool) -> bool
-    ensures far { is_too_far ≡ true → result ≡ true }
+    ensures exact { result ≡ (is_failing watch.old || is_too_far) }
+    ensures numbered { IsNumbered watch.old watch.new }
     ensures faults { watch.old.faults ≤ watch.new.faults }
     ensures cause { result ≡ true → Rose watch.old.faults watch.new.faults }
     ensures reads { watch.new.reads ≡ watch.old.reads }
@@ -93,7 +95,7 @@ pub(crate) fn push_in_room<T: Drop>(items: &mut Vec<T>, item: T)
 }
 
 /// Lays bytes over those from a place on, and past the end.
-fn overlay(content: &mut Vec<u8>, at: usize, bytes: &[u8]) -> Result<(), AllocError>
+pub(crate) fn overlay(content: &mut Vec<u8>, at: usize, bytes: &[u8]) -> Result<(), AllocError>
     requires { at ≤ length content.old.items }
     ensures ok { OnOk result (content.new.items ≡ overlaid at bytes.now content.old.items) }
     ensures err { OnErr result (content.new.items ≡ content.old.items) }
@@ -108,11 +110,13 @@ fn overlay(content: &mut Vec<u8>, at: usize, bytes: &[u8]) -> Result<(), AllocEr
 impl Device for MemDevice {
     type Watch = MemWatch;
 
-    ghost name = { λ d. d.name };
+    ghost use Rattle.tc_store.specs.MemDevice.{device_name, device_size, device_files};
 
-    ghost size = { λ d. length d.content.items };
+    ghost name = { device_name };
 
-    ghost history = { λ d. files_after (option_map (λ bytes. bytes.value.items) d.before) (reverse d.calls.items) };
+    ghost size = { device_size };
+
+    ghost history = { device_files };
 
     ghost use Rattle.std.proofs.Common.{ap};
     ghost use Rattle.tc_store.specs.DeviceLaws.{may_stay_after};
@@ -125,11 +129,28 @@ impl Device for MemDevice {
         self.content.len() as u64
     }
 
-    fn write_at(&mut self, at: u64, bytes: &[u8], watch: &mut MemWatch) -> Result<(), DeviceFault> {
+    fn write_at(&mut self, at: u64, bytes: &[u8], watch: &mut MemWatch) -> Result<(), DeviceFault>
+        requires { at ≤ device_size self.old }
+
+        ensures written { OnOk result (device_files self.new ≡ goes_on (written at bytes.now) (device_files self.old)) }
+        ensures longer { OnOk result (device_size self.new ≡ max (device_size self.old) (at + length bytes.now)) }
+        ensures failed { IsErrOf result DeviceFault.Fault → FailsWriting at (length bytes.now) (device_files self.old) (device_files self.new) }
+        ensures no_memory { IsErrOf result DeviceFault.Memory → device_files self.new ≡ device_files self.old }
+        ensures same_size { IsErrOf result DeviceFault.Memory → device_size self.new ≡ device_size self.old }
+        ensures too_far { 2 ^ 63 ≤ at + length bytes.now → IsErr result }
+        ensures name { device_name self.new ≡ device_name self.old }
+        ensures faults { watch.old.faults ≤ watch.new.faults }
+        ensures cause { IsErrOf result DeviceFault.Fault → Rose watch.old.faults watch.new.faults }
+        ensures reads { watch.new.reads ≡ watch.old.reads }
+
+        ensures numbered { IsNumbered watch.old watch.new }
+        ensures fails { is_failing watch.old ≡ true → IsErr result }
+        ensures no_other { IsErrOf result DeviceFault.Fault → (is_failing watch.old ≡ true) ⊎ (2 ^ 63 ≤ at + length bytes.now) }
+    {
         let place = at as usize;
-        let copy = Vec::from_slice(*self.content.allocator(), bytes)?;
+        let fails = is_refused(watch, bytes.len() > MAX_LEN - place);
         self.calls.reserve(1)?;
-        if is_refused(watch, bytes.len() > MAX_LEN - place) {
+        if fails {
             push_in_room(
                 &mut self.calls,
                 DeviceCall::Tried {
@@ -139,16 +160,28 @@ impl Device for MemDevice {
             );
             return Err(DeviceFault::Fault);
         }
+        let copy = Vec::from_slice(*self.content.allocator(), bytes)?;
         overlay(&mut self.content, place, bytes)?;
         push_in_room(&mut self.calls, DeviceCall::Written { at, bytes: copy });
         Ok(())
     }
 
-    fn sync(&mut self, watch: &mut MemWatch) -> Result<(), DeviceFault> {
-        self.calls.reserve(1)?;
+    fn sync(&mut self, watch: &mut MemWatch) -> Result<(), DeviceFault>
+        ensures synced { OnOk result (device_files self.new ≡ goes_on synced_file (device_files self.old)) }
+        ensures failed { OnErr result (device_files self.new ≡ device_files self.old) }
+        ensures size { device_size self.new ≡ device_size self.old }
+        ensures name { device_name self.new ≡ device_name self.old }
+        ensures faults { watch.old.faults ≤ watch.new.faults }
+        ensures cause { IsErrOf result DeviceFault.Fault → Rose watch.old.faults watch.new.faults }
+        ensures reads { watch.new.reads ≡ watch.old.reads }
+
+        ensures numbered { watch.new ≡ after_call watch.old }
+        ensures fails { IsErrOf result DeviceFault.Fault ↔ (is_failing watch.old ≡ true) }
+    {
         if watch.call_fails() {
             return Err(DeviceFault::Fault);
         }
+        self.calls.reserve(1)?;
         push_in_room(&mut self.calls, DeviceCall::Synced);
         Ok(())
     }

@@ -1,6 +1,8 @@
 //! A still file in memory.
 
-ghost use Rattle.std.specs.Prelude.{◌≡◌, ◌≤◌, Some, refl, length};
+ghost use Rattle.std.specs.Prelude.{◌≡◌, ◌≤◌, ◌↔◌, ◌+◌, true, Some, refl, length, take, drop, OnOk, IfSome, IsErr};
+ghost use Rattle.tc_store.specs.Counts.{Rose, one_more};
+ghost use Rattle.tc_store.specs.MemWatch.{is_failing, after_read};
 
 use crate::fault::FrozenFault;
 use crate::file_name::FileName;
@@ -18,11 +20,13 @@ pub struct MemFrozen {
 impl Frozen for MemFrozen {
     type Watch = MemWatch;
 
-    ghost name = { λ f. f.name };
+    ghost use Rattle.tc_store.specs.MemFrozen.{frozen_name, frozen_size, frozen_content};
 
-    ghost size = { λ f. length f.bytes.value.items };
+    ghost name = { frozen_name };
 
-    ghost content = { λ f. Some f.bytes.value.items };
+    ghost size = { frozen_size };
+
+    ghost content = { frozen_content };
 
     ghost told_size = { λ f. refl };
 
@@ -31,7 +35,16 @@ impl Frozen for MemFrozen {
         bytes.len() as u64
     }
 
-    fn read(&self, at: u64, into: &mut [u8], watch: &mut MemWatch) -> Result<(), FrozenFault> {
+    fn read(&self, at: u64, into: &mut [u8], watch: &mut MemWatch) -> Result<(), FrozenFault>
+        requires { at + length into.old ≤ frozen_size self.now }
+
+        ensures read { OnOk result (IfSome (frozen_content self.now) (λ bytes. into.new ≡ take (length into.old) (drop at bytes))) }
+        ensures faults { watch.old.faults ≤ watch.new.faults }
+        ensures cause { IsErr result → Rose watch.old.faults watch.new.faults }
+        ensures reads { watch.new.reads ≡ one_more watch.old.reads }
+        ensures numbered { watch.new ≡ after_read watch.old }
+        ensures fails { IsErr result ↔ (is_failing watch.old ≡ true) }
+    {
         if watch.read_fails() {
             return Err(FrozenFault);
         }

@@ -23,7 +23,7 @@ pub(crate) fn slot_of(slots: &[Slot], name: &FileName) -> Option<usize>
 }
 
 /// Where a name stands among the files.
-fn file_of(files: &[MemFile], name: &FileName) -> Option<usize>
+pub(crate) fn file_of(files: &[MemFile], name: &FileName) -> Option<usize>
     ensures none { IfNone result (All (λ file. same_name file.name name.now ≡ false) files.now) }
     ensures first { IfSome result (IsFirstFile files.now name.now) }
 {

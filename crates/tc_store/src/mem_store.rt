@@ -1,8 +1,13 @@
 //! A store in memory.
 
-ghost use Rattle.std.specs.Prelude.{◌≡◌, ◌≤◌, ◌+◌, [], ◌∷◌, None, reverse, vec_len, vec_capacity, OnOk};
-ghost use Rattle.tc_store.specs.Disk.{none};
+ghost use Rattle.std.specs.Prelude.{◌≡◌, ◌≤◌, ◌↔◌, ◌+◌, [], ◌∷◌, Some, None, true, reverse, vec_len, vec_capacity, OnOk, OnErr, IfOk, IsErrOf};
+ghost use Rattle.tc_store.specs.Counts.{Rose};
+ghost use Rattle.tc_store.specs.Disk.{none, home, still, IsThere, IsSettledHome, ListsNames};
+ghost use Rattle.tc_store.specs.DiskFile.{IsSettled};
 ghost use Rattle.tc_store.specs.MemDisk.{disk_of, disks_of, file_entry, owed_by, owed_of, entry_of};
+ghost use Rattle.tc_store.specs.MemWatch.{is_failing, after_call};
+ghost use Rattle.tc_store.specs.Moments.{IfTold};
+ghost use Rattle.tc_store.specs.StoreCalls.{takes, content_at, makes, fresh_file_at, FailsMaking, returns_as, removes};
 
 use crate::fault::StoreFault;
 use crate::file_name::FileName;
@@ -10,6 +15,7 @@ use crate::mem_device::{MemDevice, push_in_room};
 use crate::mem_entry::{Act, Change, Held, MemFile, Slot};
 use crate::mem_frozen::MemFrozen;
 use crate::mem_slots::{make_slot, names_of, owed, remove_slot, return_slot, shares_of, take_from};
+use crate::mem_stop::files_left;
 use crate::mem_watch::MemWatch;
 use crate::store::Store;
 use std::alloc::{AllocError, Global};
@@ -18,7 +24,7 @@ use std::alloc::{AllocError, Global};
 #[derive(Drop)]
 pub struct MemStore {
     /// The files that were never taken.
-    files: Vec<MemFile>,
+    pub(crate) files: Vec<MemFile>,
     /// The others, each name once.
     slots: Vec<Slot>,
     /// The changes so far, the oldest first. It has room for the changes of files that are still or out.
@@ -29,12 +35,14 @@ pub struct MemStore {
 }
 
 impl MemStore {
+    ghost use Rattle.tc_store.specs.Disk.{IsAtRest};
+    ghost use Rattle.tc_store.specs.MemRemains.{IsLeftBy};
     ghost use Rattle.tc_store.specs.MemStore.{store_disks, SameParts};
-    ghost use Rattle.tc_store.specs.StoreCalls.{returns_as, removes};
 
     /// A store with no file. Takes no memory.
     pub fn new(alloc: Global) -> MemStore
         ensures empty { store_disks result ≡ (λ name. none None) ∷ [] }
+        ensures at_rest { IfTold (store_disks result) IsAtRest }
     {
         MemStore::with(Vec::new(alloc))
     }
@@ -42,6 +50,7 @@ impl MemStore {
     /// A store with these files, at home and durable as they are. Of several of one name the first counts. Takes no memory.
     pub fn with(files: Vec<MemFile>) -> MemStore
         ensures files { store_disks result ≡ file_entry files.items ∷ [] }
+        ensures at_rest { IfTold (store_disks result) IsAtRest }
     {
         let alloc = *files.allocator();
         MemStore {
@@ -50,6 +59,19 @@ impl MemStore {
             past: Vec::new(alloc),
             owed: 0,
         }
+    }
+
+    /// What a stop now may leave, as a store of its own. Each write since a file's last sync is there, lost, torn, or other
+    /// bytes in its range; a file that was never synced may be absent, or the removed one that had its name; a removed file
+    /// may be back. The digits of the number choose: 0 loses nothing but removed files, and each outcome of these kinds has
+    /// its number. A file that is out is lost: bring its device home first.
+    pub fn stop(self, choice: u64) -> Result<MemStore, AllocError>
+        ensures left { IfOk result (λ store. IfTold (store_disks self) (λ disk. IsLeftBy disk (store_disks store))) }
+        ensures at_rest { IfOk result (λ store. IfTold (store_disks store) IsAtRest) }
+    {
+        let alloc = *self.files.allocator();
+        let left = files_left(alloc, &self.files, &self.slots, choice)?;
+        Ok(MemStore::with(left))
     }
 
     /// Makes room for so many changes more.
@@ -94,13 +116,24 @@ impl Store for MemStore {
 
     type Frozen = MemFrozen;
 
+    ghost use Rattle.tc_store.specs.MemDevice.{device_name, device_files, device_size};
+    ghost use Rattle.tc_store.specs.MemFrozen.{frozen_name, frozen_content};
+    ghost use Rattle.tc_store.specs.MemStore.{store_disks};
     ghost use Rattle.tc_store.specs.StoreLaws.{disk_may_stay};
 
     ghost history = { λ s. disks_of (disk_of s.files.items s.slots.items) (reverse s.past.items) };
 
     ghost content_may_stay = { λ s name. disk_may_stay s.files.items s.slots.items name };
 
-    fn names(&mut self, alloc: Global, watch: &mut MemWatch) -> Result<Vec<FileName>, StoreFault> {
+    fn names(&mut self, alloc: Global, watch: &mut MemWatch) -> Result<Vec<FileName>, StoreFault>
+        ensures names { IfOk result (λ names. IfTold (store_disks self.old) (ListsNames names.items)) }
+        ensures same { store_disks self.new ≡ store_disks self.old }
+        ensures faults { watch.old.faults ≤ watch.new.faults }
+        ensures cause { IsErrOf result StoreFault.Fault → Rose watch.old.faults watch.new.faults }
+        ensures reads { watch.new.reads ≡ watch.old.reads }
+        ensures numbered { watch.new ≡ after_call watch.old }
+        ensures fails { IsErrOf result StoreFault.Fault ↔ (is_failing watch.old ≡ true) }
+    {
         if watch.call_fails() {
             return Err(StoreFault::Fault);
         }
@@ -112,7 +145,19 @@ impl Store for MemStore {
         alloc: Global,
         name: FileName,
         watch: &mut MemWatch,
-    ) -> Result<MemFrozen, StoreFault> {
+    ) -> Result<MemFrozen, StoreFault>
+        requires { IfTold (store_disks self.old) (λ disk. IsSettledHome (disk name)) }
+
+        ensures taken { OnOk result (store_disks self.new ≡ takes name (store_disks self.old)) }
+        ensures content { IfOk result (λ file. frozen_content file ≡ content_at name (store_disks self.old)) }
+        ensures name { IfOk result (λ file. frozen_name file ≡ name) }
+        ensures same { OnErr result (store_disks self.new ≡ store_disks self.old) }
+        ensures faults { watch.old.faults ≤ watch.new.faults }
+        ensures cause { IsErrOf result StoreFault.Fault → Rose watch.old.faults watch.new.faults }
+        ensures reads { watch.new.reads ≡ watch.old.reads }
+        ensures numbered { watch.new ≡ after_call watch.old }
+        ensures fails { IsErrOf result StoreFault.Fault ↔ (is_failing watch.old ≡ true) }
+    {
         if watch.call_fails() {
             return Err(StoreFault::Fault);
         }
@@ -129,7 +174,20 @@ impl Store for MemStore {
         alloc: Global,
         name: FileName,
         watch: &mut MemWatch,
-    ) -> Result<MemDevice, StoreFault> {
+    ) -> Result<MemDevice, StoreFault>
+        requires { IfTold (store_disks self.old) (λ disk. IsThere (disk name) → ⊥) }
+
+        ensures made { OnOk result (store_disks self.new ≡ makes name (store_disks self.old)) }
+        ensures file { IfOk result (λ device. device_files device ≡ fresh_file_at name (store_disks self.old)) }
+        ensures empty { IfOk result (λ device. device_size device ≡ 0) }
+        ensures name { IfOk result (λ device. device_name device ≡ name) }
+        ensures failed { OnErr result (FailsMaking name (store_disks self.old) (store_disks self.new)) }
+        ensures faults { watch.old.faults ≤ watch.new.faults }
+        ensures cause { IsErrOf result StoreFault.Fault → Rose watch.old.faults watch.new.faults }
+        ensures reads { watch.new.reads ≡ watch.old.reads }
+        ensures numbered { watch.new ≡ after_call watch.old }
+        ensures fails { IsErrOf result StoreFault.Fault ↔ (is_failing watch.old ≡ true) }
+    {
         if watch.call_fails() {
             return Err(StoreFault::Fault);
         }
@@ -146,7 +204,21 @@ impl Store for MemStore {
         alloc: Global,
         device: MemDevice,
         watch: &mut MemWatch,
-    ) -> Result<MemFrozen, StoreFault> {
+    ) -> Result<MemFrozen, StoreFault>
+        requires { IfTold (device_files device) IsSettled }
+
+        ensures frozen { OnOk result (IfTold (device_files device)
+            (λ f. store_disks self.new ≡ returns_as (device_name device) (still f.content) (store_disks self.old))) }
+        ensures content { IfOk result (λ file. IfTold (device_files device) (λ f. frozen_content file ≡ Some f.content)) }
+        ensures name { IfOk result (λ file. frozen_name file ≡ device_name device) }
+        ensures abandoned { OnErr result (IfTold (device_files device)
+            (λ f. store_disks self.new ≡ returns_as (device_name device) (home f) (store_disks self.old))) }
+        ensures faults { watch.old.faults ≤ watch.new.faults }
+        ensures cause { IsErrOf result StoreFault.Fault → Rose watch.old.faults watch.new.faults }
+        ensures reads { watch.new.reads ≡ watch.old.reads }
+        ensures numbered { watch.new ≡ after_call watch.old }
+        ensures fails { IsErrOf result StoreFault.Fault ↔ (is_failing watch.old ≡ true) }
+    {
         let name = device.file_name();
         if watch.call_fails() {
             self.return_as(name, Held::Home(device));
@@ -164,7 +236,14 @@ impl Store for MemStore {
         }
     }
 
-    fn remove(&mut self, file: MemFrozen, watch: &mut MemWatch) -> Result<(), StoreFault> {
+    fn remove(&mut self, file: MemFrozen, watch: &mut MemWatch) -> Result<(), StoreFault>
+        ensures removed { store_disks self.new ≡ removes (frozen_name file) (store_disks self.old) }
+        ensures faults { watch.old.faults ≤ watch.new.faults }
+        ensures cause { IsErrOf result StoreFault.Fault → Rose watch.old.faults watch.new.faults }
+        ensures reads { watch.new.reads ≡ watch.old.reads }
+        ensures numbered { watch.new ≡ after_call watch.old }
+        ensures fails { IsErrOf result StoreFault.Fault ↔ (is_failing watch.old ≡ true) }
+    {
         self.remove_still(file.name);
         if watch.call_fails() {
             return Err(StoreFault::Fault);

@@ -2,8 +2,8 @@ use Rattle.std.proofs.Common.{length}
 use Rattle.tc_store.proofs.DeviceRecord.{written-push, fails-push}
 use Rattle.tc_store.proofs.mem_device.MemDeviceDevice.write_at.Goals as goal
 
-pub returns-then-is_refused-clause-failed : goal.returns-then-is_refused-clause-failed
-returns-then-is_refused-clause-failed c is =
+pub returns-then-fails-clause-failed : goal.returns-then-fails-clause-failed
+returns-then-fails-clause-failed c is =
     fails-push _ c.args.at (length c.args.bytes.now) c.args.self.now.calls.items _ _ c.in_ok-reserve.ensures.items c.push_in_room.ensures.items
 
 pub returns-clause-written : goal.returns-clause-written

@@ -1,0 +1,26 @@
+//! Does calls of the record codec again and again on one document, so that their time can be taken from outside.
+//! `codec_bench ROUNDS CALL ..` reads a document as JSON from standard input, and prints for each call the length of the
+//! record and a checksum.
+#![tactic(auto)]
+
+mod rounds;
+
+use anyhow::{Context, Result};
+use rounds::{record_of_document, sum_of};
+use serde_json::Value;
+use std::{env, io};
+use tc_json::doc_of;
+
+fn main(rt: HostRuntime) -> Result<()> {
+    let alloc = rt.alloc();
+    let text = io::read_to_string(alloc, rt.reader())?;
+    let doc = doc_of(alloc, &Value::from_str(alloc, text.as_str())?)?;
+    let record = record_of_document(alloc, &doc)?.context("no record spells the document")?;
+    let mut words = env::args(&rt)?.skip(1);
+    let rounds = words.next().context("no rounds")?.parse::<u32>()?;
+    for call in words {
+        let sum = sum_of(alloc, call.as_str(), &doc, record.as_slice(), rounds)?;
+        println!(rt; "{call} {} {sum}", record.as_slice().len())?;
+    }
+    Ok(())
+}

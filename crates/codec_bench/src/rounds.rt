@@ -1,0 +1,111 @@
+//! Calls of the codec, each done so many times. A sum of what they answer keeps them from being left out.
+
+use anyhow::{Result, bail};
+use std::alloc::{AllocError, Global};
+use tc_bytes::Bytes;
+use tc_record::{Piece, RecordFault, RecordRef, decode, encode, size};
+use tc_value::Doc;
+
+/// The record of a document, or `None` where it has none.
+pub(crate) fn record_of_document(alloc: Global, doc: &Doc) -> Result<Option<Bytes>, AllocError> {
+    if size(doc).is_none() {
+        return Ok(None);
+    }
+    Ok(Some(encode(alloc, doc)?))
+}
+
+/// Does a call by its name, on a document or on a record.
+pub(crate) fn sum_of(
+    alloc: Global,
+    call: &str,
+    doc: &Doc,
+    bytes: &[u8],
+    rounds: u32,
+) -> Result<u64> {
+    match call {
+        "size" => Ok(sizes(doc, rounds)),
+        "encode" => Ok(encoded(alloc, doc, rounds)?),
+        "decode" => Ok(decoded(alloc, bytes, rounds)?),
+        "check" => Ok(checked(bytes, rounds)),
+        "cursor" => Ok(walked(bytes, rounds)),
+        other => bail!("no call {other}"),
+    }
+}
+
+fn sizes(doc: &Doc, rounds: u32) -> u64 {
+    let mut sum = 0u64;
+    for _ in 0..rounds {
+        if let Some(len) = size(doc) {
+            sum = sum.wrapping_add(u64::from(len));
+        }
+    }
+    sum
+}
+
+fn encoded(alloc: Global, doc: &Doc, rounds: u32) -> Result<u64, AllocError> {
+    if size(doc).is_none() {
+        return Ok(0);
+    }
+    let mut sum = 0u64;
+    for _ in 0..rounds {
+        let record = encode(alloc, doc)?;
+        if let Some(last) = record.as_slice().last() {
+            sum = sum.wrapping_add(u64::from(*last));
+        }
+    }
+    Ok(sum)
+}
+
+fn decoded(alloc: Global, bytes: &[u8], rounds: u32) -> Result<u64, RecordFault> {
+    let mut sum = 0u64;
+    for _ in 0..rounds {
+        if let Doc::Object(members) = decode(alloc, bytes)? {
+            sum = sum.wrapping_add(members.as_slice().len() as u64);
+        }
+    }
+    Ok(sum)
+}
+
+/// Asks whether the bytes are a record.
+fn checked(bytes: &[u8], rounds: u32) -> u64 {
+    let mut sum = 0u64;
+    for _ in 0..rounds {
+        if RecordRef::of(bytes).is_some() {
+            sum = sum.wrapping_add(1);
+        }
+    }
+    sum
+}
+
+/// Walks over the tokens of a record, which is looked at as a whole but once.
+fn walked(bytes: &[u8], rounds: u32) -> u64 {
+    let Some(record) = RecordRef::of(bytes) else {
+        return 0;
+    };
+    let mut sum = 0u64;
+    for _ in 0..rounds {
+        sum = sum.wrapping_add(walked_once(&record));
+    }
+    sum
+}
+
+fn walked_once(record: &RecordRef<'_>) -> u64 {
+    let mut cursor = record.cursor();
+    let mut sum = 0u64;
+    for _ in 0..record.bytes().len() {
+        match cursor.next() {
+            None => break,
+            Some(token) => sum = sum.wrapping_add(weight(token.value)),
+        }
+    }
+    sum
+}
+
+fn weight(piece: Piece<'_>) -> u64 {
+    match piece {
+        Piece::Int(value) => value.cast_unsigned(),
+        Piece::Text(text) => text.len() as u64,
+        Piece::Bool(value) => u64::from(value),
+        _ => 1,
+    }
+}

@@ -1,0 +1,207 @@
+-- The record of form 0 of a record of form 1, part by part.
+use Rattle.std.proofs.Common.{◌≡◌, ◌∙◌, ℕ, ◌+◌, ◌*◌, ◌<◌, ◌≤◌, ◌^◌, Bool, true, false, List, [], ◌∷◌, ◌++◌, Option, None, Some, length, map, inl, inr, refl, sym, ap, subst, arith, length-append, append-nil, slice_index}
+use Rattle.std.proofs.lemmas.List.{length-map}
+use Rattle.std.proofs.lemmas.Option.{same_Some}
+use Rattle.tc_model.specs.Document.{Name, Document, Scalar}
+use Rattle.tc_names.specs.Dictionary.{IsDictionary}
+use Rattle.tc_record.specs.declared.widths.Width.TheVariants.{Four}
+use Rattle.tc_record.specs.Widths.{width_bytes}
+use Rattle.tc_record.specs.Preorder.{Token, tokens_of}
+use Rattle.tc_record.specs.Record.{NumberedTree, tags, fixed, texts, labels, width, numbers, joined, record_bytes, IsRecordOf, IsNumberedRecordOf}
+use Rattle.tc_record.specs.Sections.{Sections, sections_in}
+use Rattle.tc_record.specs.Walk.{Key, name, number, Columns}
+use Rattle.tc_record.specs.Borrowed.{Record, Spells, numbered_tokens}
+use Rattle.tc_record.proofs.Walks.{with_tokens, no_columns}
+use Rattle.tc_record.proofs.Spelled.{slots, names as record_names, spelled_fixed, spelled_lengths, spelled_texts, spelled_slots, spelled_names}
+use Rattle.tc_record.proofs.Keyed.{keyed, retoken, preorder-relabel, record-retoken, record_of-keyed, slots_of-keyed, names_of-keyed}
+use Rattle.tc_record.proofs.Fitting.{AreFit, TokensFit}
+use Rattle.tc_record.proofs.Counted.{same_numbers}
+use Rattle.tc_record.proofs.Cutting.{sections_again}
+use Rattle.tc_record.proofs.Reading.{holding_bytes, holding_fits, lengths_small, small_texts, format_for}
+use Rattle.tc_record.proofs.Lengths.{length-numbers}
+use Rattle.tc_counts.specs.Added as counts
+use Rattle.tc_compact.specs.Compacted.{HasEach, compacted, IsCompactedRecordOf}
+use Rattle.tc_compact.specs.Slots.{numbers_in, names_of}
+use Rattle.tc_compact.specs.Layout.{slot_bytes, counts_in, values_in, whole, named_slots, named_record}
+use Rattle.tc_compact.proofs.Relabelled.{slots-to_names, names-to_names, numbers_in-to_numbers, tokens-numbered, record-numbered}
+use Rattle.tc_compact.proofs.Laid.{counts, values, record_laid, Cut, whole_cut}
+use Rattle.tc_compact.proofs.Named.{name_at, names_of-known, names_found, same_names}
+use Rattle.tc_compact.proofs.Compacts.{document_cut, compacted_record}
+
+-- ---- the parts of a record of form 1
+
+-- what is built of a record of form 1 and the names of its numbers
+abbrev pub built_record : List ℕ → List Name → List ℕ
+built_record bytes ns = named_record (counts_in bytes) (values_in bytes (slot_bytes bytes (length ns) + 0)) ns
+
+pub built_of : (bytes out counts values : List ℕ) (ns : List Name) (members : ℕ) → members ≡ length ns → counts ≡ counts_in bytes → values ≡ values_in bytes (slot_bytes bytes members + 0) → out ≡ named_record counts values ns → out ≡ built_record bytes ns
+built_of bytes out counts values ns members is counts_are values_are built =
+    built ∙ ap (λ k. named_record k values ns) counts_are ∙ ap (λ v. named_record (counts_in bytes) v ns) (values_are ∙ ap (λ m. values_in bytes (slot_bytes bytes m + 0)) is)
+
+module _ {L : Type 0} where
+  pub numbered_cut : (ts : List (Token L Scalar)) (ks : List ℕ) (bytes : List ℕ) → bytes ≡ record_bytes 1 ts ks [] → Cut bytes (counts ts (length ks)) (values ts) (width ks) (slot_bytes bytes (length ks) + 0)
+  numbered_cut ts ks bytes spelled =
+      let w = width ks in
+      let laid = spelled ∙ record_laid 1 ts ks [] in
+      let cut = subst (λ bs. Cut bs (counts ts (length ks)) (values ts) w (length (numbers w ks ++ []))) (sym laid) (whole_cut 1 ts (length ks) w (values ts) (numbers w ks ++ [])) in
+      let behind : length (numbers w ks ++ []) ≡ slot_bytes bytes (length ks) + 0 = omega (arith, ap length (append-nil (numbers w ks)), length-numbers w ks, ap (λ k. length ks * k) cut.slot_width_is) in
+      subst (Cut bytes (counts ts (length ks)) (values ts) w) behind cut
+
+  -- and with names behind it
+  pub named_laid : (ts : List (Token L Scalar)) (ks : List ℕ) (bytes : List ℕ) (ns : List Name) (out : List ℕ) → bytes ≡ record_bytes 1 ts ks [] → length ns ≡ length ks
+      → out ≡ built_record bytes ns → out ≡ record_bytes 0 ts (map length ns) (joined ns)
+  named_laid ts ks bytes ns out spelled members built =
+      let cut = numbered_cut ts ks bytes spelled in
+      let values_are : values_in bytes (slot_bytes bytes (length ns) + 0) ≡ values ts = ap (λ k. values_in bytes (slot_bytes bytes k + 0)) members ∙ cut.values_are in
+      let all : length ks ≡ length (map length ns) = sym members ∙ sym (length-map ns length) in
+      built ∙ ap (λ k. named_record k (values_in bytes (slot_bytes bytes (length ns) + 0)) ns) (cut.counts_are ∙ ap (counts ts) all) ∙ ap (λ v. named_record (counts ts (length (map length ns))) v ns) values_are
+      ∙ sym (record_laid 0 ts (map length ns) (joined ns))
+
+  -- the names are a part of the record
+  names_within : (form : ℕ) (ts : List (Token L Scalar)) (ks names : List ℕ) → length names ≤ length (record_bytes form ts ks names)
+  names_within form ts ks names =
+      let behind = numbers (width ks) ks ++ names in
+      omega (arith, ap length (record_laid form ts ks names), (whole_cut form ts (length ks) (width ks) (values ts) behind).len, length-append (numbers (width ks) ks) names)
+
+-- a record of form 1 has a numbered tree
+pub numbered_tree : (r : Record) → Spells r → r.named ≡ false → (n : NumberedTree) × IsNumberedRecordOf n r.bytes × (numbers_in r.tokens ≡ labels (tokens_of n))
+numbered_tree r (inl one) unnamed = absurd (both r.named one.1.0 unnamed)
+  where
+    both : (b : Bool) → b ≡ true → b ≡ false → ⊥
+    both b yes_is no_is = cc
+numbered_tree r (inr one) unnamed =
+    (one.0, one.1.1, ap numbers_in (one.1.2 ∙ preorder-relabel number one.0 None) ∙ numbers_in-to_numbers (λ k. k) (tokens_of one.0) ∙ same (labels (tokens_of one.0)))
+  where
+    same : (ks : List ℕ) → map (λ k. k) ks ≡ ks
+    same [] = refl
+    same (k ∷ ks) = ap (λ ns. k ∷ ns) (same ks)
+
+pub names_count : (names : List Name) (ks : List ℕ) (ns : List Name) → IsDictionary names → names_of names ks ≡ Some ns → length ns ≡ length ks
+names_count names ks ns dictionary gives = let found = names_found names ks ns dictionary.distinct gives in ap length found.at ∙ length-map ks (name_at names)
+
+-- ---- what a document's form 1 gives
+
+-- its numbers have its names
+pub compacted_names : (names : List Name) (d : Document) (r : Record) → HasEach names (labels (tokens_of d)) → r.tokens ≡ numbered_tokens (compacted names d) → names_of names (numbers_in r.tokens) ≡ Some (labels (tokens_of d))
+compacted_names names d r known tokens =
+    ap (λ ts. names_of names (numbers_in ts)) (tokens ∙ tokens-numbered (counts.number names) d) ∙ ap (names_of names) (numbers_in-to_numbers (counts.number names) (tokens_of d)) ∙ names_of-known names (labels (tokens_of d)) known
+
+-- and what is built is its record
+pub expands : (names : List Name) (d : Document) (bytes named_bytes out : List ℕ) (ns : List Name) → IsRecordOf d named_bytes → IsCompactedRecordOf names d bytes → ns ≡ labels (tokens_of d)
+    → out ≡ built_record bytes ns → out ≡ named_bytes
+expands names d bytes named_bytes out ns is form1 are built =
+    let ts = tokens_of d in
+    let ks = map (counts.number names) (labels ts) in
+    let members : length ns ≡ length ks = ap length are ∙ sym (length-map (labels ts) (counts.number names)) in
+    named_laid ts ks bytes ns out (form1.numbered.spelled ∙ record-numbered (counts.number names) d) members built ∙ ap (λ ls. record_bytes 0 ts (map length ls) (joined ls)) are ∙ sym is.spelled
+
+-- ---- what is read of what was built
+
+-- tokens whose records of form 0 are the same
+record SameColumns (ts us : List (Token Key Scalar)) : Type 0 where
+  pub slots_are : slots ts ≡ slots us
+  pub names_are : record_names ts ≡ record_names us
+  pub numbered : (ks : List ℕ) → record_bytes 1 ts ks [] ≡ record_bytes 1 us ks []
+
+abbrev sections : List (Token Key Scalar) → Sections
+sections ts = record { format = format_for true ts; tags = tags ts; columns = with_tokens (format_for true ts) ts no_columns }
+
+tokens_fit : (ts : List (Token Key Scalar)) → length (record_bytes 0 ts (slots ts) (record_names ts)) < 2 ^ 32 → AreFit Four (slots ts) → TokensFit (format_for true ts) ts
+tokens_fit ts short fits = record { texts = holding_fits (map length (texts ts)) (small_texts 0 ts short); slots = holding_fits (slots ts) fits }
+
+same_columns : (ts us : List (Token Key Scalar)) (bytes : List ℕ) → bytes ≡ record_bytes 0 ts (slots ts) (record_names ts) → bytes ≡ record_bytes 0 us (slots us) (record_names us) → length bytes < 2 ^ 32 → AreFit Four (slots ts) → AreFit Four (slots us) → SameColumns ts us
+same_columns ts us bytes first second short fits more =
+    let fit_t = tokens_fit ts (subst (λ bs. length bs < 2 ^ 32) first short) fits in
+    let fit_u = tokens_fit us (subst (λ bs. length bs < 2 ^ 32) second short) more in
+    let read_t = sections_again (format_for true ts) 0 ts refl fit_t (holding_bytes (map length (texts ts))) (holding_bytes (slots ts)) (subst (λ bs. length bs < 2 ^ 32) first short) in
+    let read_u = sections_again (format_for true us) 0 us refl fit_u (holding_bytes (map length (texts us))) (holding_bytes (slots us)) (subst (λ bs. length bs < 2 ^ 32) second short) in
+    let same : sections ts ≡ sections us = same_Some (sections ts) (sections us) (sym read_t ∙ ap sections_in (sym first ∙ second) ∙ read_u) in
+    let f = format_for true ts in
+    let g = format_for true us in
+    let text_width = ap (λ (s : Sections). s.format.text_width) same in
+    let slot_width = ap (λ (s : Sections). s.format.slot_width) same in
+    let column : (c : Columns → List ℕ) → c (with_tokens f ts no_columns) ≡ c (with_tokens g us no_columns) = λ c. ap (λ (s : Sections). c s.columns) same in
+    let tags_are : tags ts ≡ tags us = ap (λ (s : Sections). s.tags) same in
+    let fixed_are : fixed ts ≡ fixed us = sym (spelled_fixed f ts) ∙ column (λ c. c.fixed) ∙ spelled_fixed g us in
+    let texts_are : joined (texts ts) ≡ joined (texts us) = sym (spelled_texts f ts) ∙ column (λ c. c.texts) ∙ spelled_texts g us in
+    let names_are : record_names ts ≡ record_names us = sym (spelled_names f ts) ∙ column (λ c. c.names) ∙ spelled_names g us in
+    let lengths_column : numbers (width_bytes f.text_width) (map length (texts ts)) ≡ numbers (width_bytes g.text_width) (map length (texts us)) = sym (spelled_lengths f ts) ∙ column (λ c. c.lengths) ∙ spelled_lengths g us in
+    let slots_column : numbers (width_bytes f.slot_width) (slots ts) ≡ numbers (width_bytes g.slot_width) (slots us) = sym (spelled_slots f ts) ∙ column (λ c. c.slots) ∙ spelled_slots g us in
+    let lengths_are : map length (texts ts) ≡ map length (texts us) =
+    same_numbers (map length (texts ts)) (map length (texts us)) f.text_width fit_t.texts (subst (λ w. AreFit w (map length (texts us))) (sym text_width) fit_u.texts) (lengths_column ∙ ap (λ w. numbers (width_bytes w) (map length (texts us))) (sym text_width)) in
+    let slots_are : slots ts ≡ slots us =
+    same_numbers (slots ts) (slots us) f.slot_width fit_t.slots (subst (λ w. AreFit w (slots us)) (sym slot_width) fit_u.slots) (slots_column ∙ ap (λ w. numbers (width_bytes w) (slots us)) (sym slot_width)) in
+    record {
+      slots_are = slots_are;
+      names_are = names_are;
+      numbered = λ ks. rw (tags_are, fixed_are, lengths_are, texts_are) refl;
+    }
+
+form_at : (form : ℕ) (counts values behind : List ℕ) (w : ℕ) → slice_index (whole form counts w values behind) 4 ≡ form
+form_at form counts values behind w = refl
+
+-- what a record says that was built of the names of a record's numbers
+pub expanded_found : (names : List Name) (from built : Record) (ns : List Name) → IsDictionary names → Spells from → from.named ≡ false → names_of names (numbers_in from.tokens) ≡ Some ns
+    → built.bytes ≡ built_record from.bytes ns → Spells built → (d : Document) × IsRecordOf d built.bytes × IsCompactedRecordOf names d from.bytes
+expanded_found names from built ns dictionary spells unnamed gives laid (inr one) =
+    let n = one.0 in
+    let form1 : slice_index built.bytes 4 ≡ 1 = ap (λ bs. slice_index bs 4) (one.1.1.spelled ∙ record_laid 1 (tokens_of n) (labels (tokens_of n)) []) in
+    let form0 : slice_index built.bytes 4 ≡ 0 = ap (λ bs. slice_index bs 4) laid in
+    absurd (omega (arith, form0, form1))
+expanded_found names from built ns dictionary spells unnamed gives laid (inl one) =
+    let d = one.0 in
+    let is = one.1.1 in
+    let tree = numbered_tree from spells unnamed in
+    let tn = tokens_of tree.0 in
+    let ks = labels tn in
+    let found = names_found names ks ns dictionary.distinct (ap (names_of names) (sym tree.2) ∙ gives) in
+    let members : length ns ≡ length ks = ap length found.at ∙ length-map ks (name_at names) in
+    let named = named_laid tn ks from.bytes ns built.bytes tree.1.spelled members laid in
+    let g : ℕ → Key = λ k. name (name_at names k) in
+    let ts = map (retoken g) tn in
+    let slots_ns : slots ts ≡ map length ns = slots-to_names (name_at names) tn ∙ ap (map length) (sym found.at) in
+    let names_ns : record_names ts ≡ joined ns = names-to_names (name_at names) tn ∙ ap joined (sym found.at) in
+    let us = tokens_of (keyed d) in
+    let first : built.bytes ≡ record_bytes 0 ts (slots ts) (record_names ts) = named ∙ sym (record-retoken g 0 tn (map length ns) (joined ns)) ∙ rw (slots_ns, names_ns) refl in
+    let second : built.bytes ≡ record_bytes 0 us (slots us) (record_names us) = is.spelled ∙ record_of-keyed d in
+    let ls = labels (tokens_of d) in
+    let short_names : length (joined ns) < 2 ^ 32 = omega (arith, is.short, names_within 0 tn (map length ns) (joined ns), ap length named) in
+    let short_labels : length (joined ls) < 2 ^ 32 = omega (arith, is.short, names_within 0 (tokens_of d) (map length ls) (joined ls), ap length is.spelled) in
+    let same = same_columns ts us built.bytes first second is.short (subst (AreFit Four) (sym slots_ns) (lengths_small ns short_names)) (subst (AreFit Four) (sym (slots_of-keyed d)) (lengths_small ls short_labels)) in
+    let names_are : ls ≡ ns = same_names ls ns (sym (slots_of-keyed d) ∙ sym same.slots_are ∙ slots_ns) (sym (names_of-keyed d) ∙ sym same.names_are ∙ names_ns) in
+    let form1 : from.bytes ≡ record_bytes 1 (tokens_of d) (map (counts.number names) ls) [] =
+    tree.1.spelled ∙ sym (record-retoken g 1 tn ks []) ∙ same.numbered ks ∙ ap (λ vs. record_bytes 1 vs ks []) (preorder-relabel name d None) ∙ record-retoken name 1 (tokens_of d) ks [] ∙ ap (λ ns. record_bytes 1 (tokens_of d) ns []) (sym (ap (map (counts.number names)) names_are ∙ found.numbers)) in
+    (d, is, compacted_record names d built.bytes from.bytes dictionary is (subst (HasEach names) (sym names_are) found.known) form1 tree.1.short)
+
+-- ---- what the parts have
+
+-- as many numbers as there are names
+pub members_lie : (names : List Name) (r : Record) (bytes : List ℕ) (ns : List Name) (members : ℕ) → IsDictionary names → Spells r → r.named ≡ false → r.bytes ≡ bytes → names_of names (numbers_in r.tokens) ≡ Some ns
+    → members ≡ length ns → 23 + (slot_bytes bytes members + 0) ≤ length bytes
+members_lie names r bytes ns members dictionary spells unnamed same gives is =
+    let tree = numbered_tree r spells unnamed in
+    let ks = labels (tokens_of tree.0) in
+    let count : members ≡ length ks = is ∙ names_count names (numbers_in r.tokens) ns dictionary gives ∙ ap length tree.2 in
+    let cut = numbered_cut (tokens_of tree.0) ks bytes (sym same ∙ tree.1.spelled) in
+    omega (arith, ap (λ m. slot_bytes bytes m) count, cut.len)
+
+-- the record of a document is not too long
+pub not_too_long : (names : List Name) (d : Document) (bytes named_bytes : List ℕ) (ns : List Name) (v : ℕ) → IsRecordOf d named_bytes → IsCompactedRecordOf names d bytes → ns ≡ labels (tokens_of d)
+    → v ≡ length (values_in bytes (slot_bytes bytes (length ns) + 0)) → 2 ^ 32 ≤ 23 + (v + length (named_slots ns)) → ⊥
+not_too_long names d bytes named_bytes ns v is form1 are len long =
+    let ts = tokens_of d in
+    let ks = map (counts.number names) (labels ts) in
+    let members : length ns ≡ length ks = ap length are ∙ sym (length-map (labels ts) (counts.number names)) in
+    let cut = numbered_cut ts ks bytes (form1.numbered.spelled ∙ record-numbered (counts.number names) d) in
+    let values_len : v ≡ length (values ts) = len ∙ ap length (ap (λ m. values_in bytes (slot_bytes bytes m + 0)) members ∙ cut.values_are) in
+    absurd (omega (arith, values_len, long, ap (λ ls. length (named_slots ls)) are, (document_cut d named_bytes is.spelled).len, is.short))
+
+-- a dictionary that has a document's names gives them
+pub names_missing : (names : List Name) (d : Document) (r : Record) → HasEach names (labels (tokens_of d)) → r.tokens ≡ numbered_tokens (compacted names d) → names_of names (numbers_in r.tokens) ≡ None → ⊥
+names_missing names d r known tokens none = none_some (labels (tokens_of d)) (sym none ∙ compacted_names names d r known tokens)
+  where
+    none_some : (ls : List Name) → ◌≡◌ {A = Option (List Name)} None (Some ls) → ⊥
+    none_some ls e = cc
+
+pub names_are : (names : List Name) (d : Document) (r : Record) (ns : List Name) → HasEach names (labels (tokens_of d)) → r.tokens ≡ numbered_tokens (compacted names d) → names_of names (numbers_in r.tokens) ≡ Some ns → ns ≡ labels (tokens_of d)
+names_are names d r ns known tokens gives = same_Some ns (labels (tokens_of d)) (sym gives ∙ compacted_names names d r known tokens)

@@ -1,0 +1,9 @@
+pub mod Learned
+pub mod Relabelled
+pub mod Laid
+pub mod Built
+pub mod Compacts
+pub mod Named
+pub mod Expands
+pub mod Room
+pub mod RoundTrip

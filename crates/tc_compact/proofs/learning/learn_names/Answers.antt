@@ -1,0 +1,40 @@
+use Rattle.std.proofs.Common.{rules, ◌≡◌, ◌∙◌, ◌∷◌, [], ◌++◌, length, map, sym, ap, arith, subst, append_assoc, length-append}
+use Rattle.tc_names.specs.Dictionary.{learned, Extends}
+use Rattle.tc_names.proofs.Growth.{Extends-trans, Extends-learned}
+use Rattle.tc_record.specs.Record.{joined}
+use Rattle.tc_counts.specs.Added as counts
+use Rattle.tc_counts.specs.ShapeNames.{all_learned}
+use Rattle.tc_compact.specs.Slots.{names_in}
+use Rattle.tc_compact.proofs.Learned.{length-all_learned, number-last}
+use Rattle.tc_compact.proofs.learning.learn_names.Goals as goal
+
+pub learn-requires-clause-room : goal.learn-requires-clause-room
+learn-requires-clause-room c =
+    let l = c.loop-token in
+    let n = c.in-Name.name.now in
+    let here : names_in l.cursor ≡ n ∷ names_in c.next.new.self = search rules in
+    let left : all_learned (learned l.names n) (names_in c.next.new.self) ≡ all_learned c.args.names.now (names_in c.args.from.now.tokens) = ap (all_learned l.names) (sym here) ∙ l.invariant.left in
+    omega (arith, length-all_learned (learned l.names n) (names_in c.next.new.self), ap length left, c.requires.room)
+
+pub loop-token-preserved-in-Name : goal.loop-token-preserved-in-Name
+loop-token-preserved-in-Name c =
+    let l = c.loop-token in
+    let n = c.in-Name.name.now in
+    let rest = names_in c.next.new.self in
+    let after = all_learned c.args.names.now (names_in c.args.from.now.tokens) in
+    let here : names_in l.cursor ≡ n ∷ rest = search rules in
+    let known : c.learn.new.self ≡ learned l.names n = c.in_ok-number.ensures.ok in
+    let left : all_learned c.learn.new.self rest ≡ after = ap (λ names. all_learned names rest) known ∙ ap (all_learned l.names) (sym here) ∙ l.invariant.left in
+    let number : counts.number after n ≡ c.in_ok-number.number = ap (λ names. counts.number names n) (sym left) ∙ number-last c.learn.new.self n rest c.in_ok-number.number c.in_ok-number.ensures.number in
+    record {
+      left = left;
+      numbers =
+          ap (λ ns. ns ++ map (counts.number after) rest) c.in_ok-push.ensures.items
+          ∙ append_assoc l.numbers.items (c.in_ok-number.number ∷ []) (map (counts.number after) rest)
+          ∙ ap (λ k. l.numbers.items ++ k ∷ map (counts.number after) rest) (sym number)
+          ∙ ap (λ ns. l.numbers.items ++ map (counts.number after) ns) (sym here)
+          ∙ l.invariant.numbers;
+      bytes = omega (arith, l.invariant.bytes, ap (λ ns. length (joined ns)) here, length-append n (joined rest));
+      extends = Extends-trans c.learn.new.self l.names c.args.names.now (subst (λ names. Extends names l.names) (sym known) (Extends-learned l.names n)) l.invariant.extends;
+      dictionary = c.in_ok-number.ensures.dictionary;
+    }

@@ -1,0 +1,48 @@
+//! Names become numbers.
+
+ghost use Rattle.std.specs.Prelude.{◌≡◌, ◌<◌, ◌+◌, ◌*◌, ◌^◌, List, true, IfOk, OnOk, length};
+ghost use Rattle.tc_model.specs.Document.{Name, Document};
+ghost use Rattle.tc_names.specs.Dictionary.{Extends, IsDictionary};
+ghost use Rattle.tc_record.specs.Record.{IsRecordOf};
+ghost use Rattle.tc_compact.specs.Compacted.{IsCompactedRecordOf};
+ghost use Rattle.tc_counts.specs.ShapeNames.{all_learned};
+ghost use Rattle.tc_compact.specs.Slots.{names_in};
+ghost use Rattle.tc_compact.specs.Layout.{numbered_record};
+
+use crate::layout::{Shared, begin, put_slots, shared_in, width_of_slots};
+use crate::learning::learn_names;
+use std::alloc::Global;
+use tc_bytes::{Bytes, Memory};
+use tc_names::Names;
+use tc_record::RecordRef;
+
+/// The record of form 1 of a record of form 0 that has fewer than 1,073,741,824 bytes. New names are learned from the
+/// front of the record: the name of a member, and then those within its value. Errs only for want of memory, with some
+/// of the new names learned.
+pub fn compact(alloc: Global, from: RecordRef<'_>, names: &mut Names) -> Result<Bytes, Memory>
+    requires named { from.named ≡ true }
+    requires short { length from.bytes < 2 ^ 30 }
+    requires room { length (all_learned names.old (names_in from.tokens)) < 2 ^ 32 }
+    ensures compacted { IfOk result (λ bytes. (d : Document) → IsRecordOf d from.entry.bytes → (newer : List Name) → IsDictionary newer → Extends newer names.new → IsCompactedRecordOf newer d bytes) }
+    ensures learned { OnOk result (names.new ≡ all_learned names.old (names_in from.entry.tokens)) }
+    ensures extends { Extends names.new names.old }
+    ensures dictionary { IsDictionary names.new }
+{
+    let bytes = from.bytes();
+    let learned = learn_names(alloc, &from, names)?;
+    let numbers = learned.numbers.as_slice();
+    let shared = shared_in(bytes, numbers.len(), learned.name_bytes);
+    with_numbers(alloc, shared, numbers)
+}
+
+/// A record of form 1 with these slots. Errs only for want of memory.
+fn with_numbers(alloc: Global, shared: Shared<'_>, numbers: &[usize]) -> Result<Bytes, Memory>
+    requires short { 23 + length shared.values.now + length numbers.now * 4 < 2 ^ 32 }
+    ensures { IfOk result (λ bytes. bytes ≡ numbered_record shared.entry.counts.now shared.entry.values.now numbers.now) }
+{
+    let width = width_of_slots(numbers);
+    let len = 23 + shared.values.len() + numbers.len() * usize::from(width.bytes());
+    let mut out = begin(alloc, len as u32, 1, shared, width)?;
+    put_slots(width, numbers, &mut out)?;
+    Ok(Bytes::of(out))
+}

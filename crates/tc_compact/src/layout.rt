@@ -1,0 +1,90 @@
+//! The parts of a record that both of its forms share, and the parts that differ.
+
+ghost use Rattle.std.specs.Prelude.{◌≡◌, ◌≤◌, ◌+◌, ◌++◌, IfOk, OnOk, length, map};
+ghost use Rattle.tc_record.specs.Record.{greatest as greatest_of, width as least_width, numbers, joined};
+ghost use Rattle.tc_record.specs.Widths.{width_bytes};
+ghost use Rattle.tc_compact.specs.Layout.{front, slot_bytes, counts_in, values_in};
+
+use std::alloc::Global;
+use tc_bytes::{Memory, put_u32};
+use tc_record::{Width, put_number};
+
+/// The counts of a header, and the columns before the slots.
+#[derive(Clone, Copy)]
+pub(crate) struct Shared<'a> {
+    pub(crate) counts: &'a [u8],
+    pub(crate) values: &'a [u8],
+}
+
+/// The shared parts of a record that has so many members and so many bytes of names.
+pub(crate) fn shared_in(bytes: &[u8], members: usize, name_bytes: usize) -> Shared<'_>
+    requires { 23 + (slot_bytes bytes.now members + name_bytes) ≤ length bytes.now }
+    ensures counts { result.counts.now ≡ counts_in bytes.now }
+    ensures values { result.values.now ≡ values_in bytes.now (slot_bytes bytes.now members + name_bytes) }
+{
+    let behind = members * usize::from(bytes[22]) + name_bytes;
+    Shared {
+        counts: &bytes[5..22],
+        values: &bytes[23..bytes.len() - behind],
+    }
+}
+
+/// All of a record that stands before its slots. Errs only for want of memory.
+pub(crate) fn begin(
+    alloc: Global,
+    len: u32,
+    form: u8,
+    shared: Shared<'_>,
+    width: Width,
+) -> Result<Vec<u8>, Memory>
+    ensures { IfOk result (λ out. out.items ≡ front len form shared.entry.counts.now (width_bytes width) shared.entry.values.now) }
+{
+    let mut out = Vec::with_capacity(alloc, len as usize)?;
+    put_u32(&mut out, len)?;
+    out.push(form)?;
+    out.extend_from_slice(shared.counts)?;
+    out.push(width.bytes())?;
+    out.extend_from_slice(shared.values)?;
+    Ok(out)
+}
+
+/// The least width that holds each slot.
+pub(crate) fn width_of_slots(slots: &[usize]) -> Width
+    ensures { width_bytes result ≡ least_width slots.now }
+{
+    if slots.is_empty() {
+        Width::Zero
+    } else {
+        Width::holding(greatest(slots) as u64)
+    }
+}
+
+fn greatest(slots: &[usize]) -> usize
+    ensures { result ≡ greatest_of slots.now }
+{
+    let mut greatest = 0;
+    for slot in slots {
+        greatest = (*slot).max(greatest);
+    }
+    greatest
+}
+
+/// Appends slots. Errs only for want of memory.
+pub(crate) fn put_slots(width: Width, slots: &[usize], out: &mut Vec<u8>) -> Result<(), Memory>
+    ensures { OnOk result (out.new.items ≡ out.old.items ++ numbers (width_bytes width) slots.now) }
+{
+    for slot in slots {
+        put_number(width, *slot, out)?;
+    }
+    Ok(())
+}
+
+/// Appends names. Errs only for want of memory.
+pub(crate) fn put_names(names: &[&str], out: &mut Vec<u8>) -> Result<(), Memory>
+    ensures { OnOk result (out.new.items ≡ out.old.items ++ joined (map (λ n. n.now) names.now)) }
+{
+    for name in names {
+        out.extend_from_slice(name.as_bytes())?;
+    }
+    Ok(())
+}

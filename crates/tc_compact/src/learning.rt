@@ -1,0 +1,52 @@
+//! The names of a record, learned.
+
+ghost use Rattle.std.specs.Prelude.{◌≡◌, ◌<◌, ◌^◌, IfOk, OnOk, length, map};
+ghost use Rattle.tc_names.specs.Dictionary.{Extends, IsDictionary};
+ghost use Rattle.tc_record.specs.Record.{joined};
+ghost use Rattle.tc_counts.specs.Added as counts;
+ghost use Rattle.tc_counts.specs.ShapeNames.{all_learned};
+ghost use Rattle.tc_compact.specs.Slots.{names_in};
+
+use crate::dictionary::is_dictionary;
+use std::alloc::Global;
+use tc_bytes::Memory;
+use tc_names::Names;
+use tc_record::{Label, RecordRef};
+
+/// The numbers of a record's names, one for each member, and how many bytes the names have together.
+#[derive(Drop)]
+pub(crate) struct Learned {
+    pub(crate) numbers: Vec<usize>,
+    pub(crate) name_bytes: usize,
+}
+
+/// Learns the names of a record from its front. Errs only for want of memory, with some of the names learned.
+pub(crate) fn learn_names(
+    alloc: Global,
+    from: &RecordRef<'_>,
+    names: &mut Names,
+) -> Result<Learned, Memory>
+    requires room { length (all_learned names.old (names_in from.now.tokens)) < 2 ^ 32 }
+    requires short { length (joined (names_in from.now.tokens)) < 2 ^ 32 }
+    ensures numbers { IfOk result (λ l. l.numbers.items ≡ map (counts.number names.new) (names_in from.now.tokens)) }
+    ensures bytes { IfOk result (λ l. l.name_bytes ≡ length (joined (names_in from.now.tokens))) }
+    ensures learned { OnOk result (names.new ≡ all_learned names.old (names_in from.now.tokens)) }
+    ensures extends { Extends names.new names.old }
+    ensures dictionary { IsDictionary names.new }
+{
+    is_dictionary(names);
+    let mut cursor = from.cursor();
+    let mut numbers = Vec::new(alloc);
+    let mut name_bytes = 0;
+    while let Some(token) = cursor.next() {
+        if let Label::Name(name) = token.label {
+            let number = names.learn(name)?;
+            numbers.push(number as usize)?;
+            name_bytes += name.len();
+        }
+    }
+    Ok(Learned {
+        numbers,
+        name_bytes,
+    })
+}

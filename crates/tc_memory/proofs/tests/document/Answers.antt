@@ -1,0 +1,6 @@
+use Rattle.std.proofs.Common.{rules}
+use Rattle.tc_value.proofs.Trees.{ascending_single}
+use Rattle.tc_memory.proofs.tests.document.Goals as goal
+
+pub of-requires-2 : goal.of-requires-2
+of-requires-2 c = search (rules, ascending_single)

@@ -1,0 +1,38 @@
+-- What the parts of a memory table are seen as.
+use Rattle.std.specs.Prelude.{ℕ, List, map, option_map}
+use Rattle.tc_value.specs.ShapeMeaning.{shape_tree}
+use Rattle.tc_memory.specs.Table as table
+use Rattle.tc_memory.specs.declared.held.Held.{Held}
+use Rattle.tc_memory.specs.declared.held.Held.TheVariants as held
+use Rattle.tc_memory.specs.declared.held.Entry.{Entry}
+use Rattle.tc_memory.specs.declared.slot.Version.{Version}
+use Rattle.tc_memory.specs.declared.slot.Version.TheVariants as version
+use Rattle.tc_memory.specs.declared.slot.Slot.{Slot}
+
+abbrev pub version_of : Version → table.Held
+version_of version.Gone = table.gone
+version_of (version.Live bytes) = table.live bytes
+
+abbrev pub kept_of : Slot → table.Kept
+kept_of s = record { held = version_of s.version; below = option_map shape_tree s.below }
+
+-- an entry whose value is read by f
+abbrev pub on_value : {X V : Type 0} → (X → V) → ℕ × X → ℕ × V
+on_value f e = (e.0, f e.1)
+
+-- the entries of a map from keys to slots, as those of a table
+abbrev pub table_of : List (ℕ × Slot) → table.Table
+table_of es = map (on_value kept_of) es
+
+abbrev pub held_of : Held → table.Held
+held_of held.Gone = table.gone
+held_of (held.Live bytes) = table.live bytes.now
+
+-- what is lent is a lawful record
+abbrev pub IsLawfulHeld : Held → Type 0
+IsLawfulHeld held.Gone = Unit {0}
+IsLawfulHeld (held.Live bytes) = table.IsStoredRecord bytes.now
+
+-- a lent entry, as an entry of a table
+abbrev pub entry_of : Entry → ℕ × table.Kept
+entry_of e = (e.key, record { held = held_of e.held; below = option_map (λ s. shape_tree s.now) e.below })

@@ -1,0 +1,17 @@
+//! The memory table of a partition: the newest writes by key, and the shape of what each key has below them.
+#![tactic(auto)]
+
+mod entries;
+mod held;
+mod laws;
+mod memtable;
+mod sealed;
+mod slot;
+#[cfg(test)]
+mod tests;
+
+pub use entries::Entries;
+pub use held::{Entry, Held};
+pub use laws::{calls_change_one_key, calls_keep_first_shapes, calls_keep_shapes_below};
+pub use memtable::Memtable;
+pub use sealed::Sealed;
