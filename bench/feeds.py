@@ -46,6 +46,27 @@ def profile(k, key):
     return json.dumps({"id": key, **words, **numbers, **switches, **languages}, separators=(",", ":"))
 
 
+# values of a field that is of another kind from write to write, some of them nested
+VALUES = ["null", "true", "7", '"x"', "[]", "{}", '[1,"y",{"c":null}]', '{"d":{"e":[2]}}', "[[],[[3]]]", '[{"c":1,"d":{}},{"d":[]}]']
+
+
+def changing(number, key):
+    """A document with fields whose kinds, and one whose name, follow the number."""
+    first, second, third = (VALUES[number // divisor % 10] for divisor in (1, 10, 100))
+    return f'{{"id":{key},"a":{first},"b":[{second}],"n{number % 8}":{third}}}'
+
+
+def churn(count, live=1000):
+    """Writes over few keys: three upserts for each delete, so that most of them replace or take out a document."""
+    numbers = random.Random(75)
+    for _ in range(count):
+        key = numbers.randrange(live)
+        if numbers.randrange(4) == 0:
+            yield f'{{"op":"delete","id":{key}}}\n'
+        else:
+            yield f'{{"op":"upsert","doc":{changing(numbers.randrange(1_000_000), key)}}}\n'
+
+
 def keys(count, order):
     """Keys from 1 to count, ascending or in a random order that is always the same."""
     numbers = list(range(1, count + 1))
@@ -57,6 +78,11 @@ def keys(count, order):
 def upserts(count, order, document):
     for k, key in enumerate(keys(count, order), 1):
         yield f'{{"op":"upsert","doc":{document(k, key)}}}\n'
+
+
+def schemas(count):
+    for _ in range(count):
+        yield '{"op":"schema"}\n'
 
 
 def gets(count, order):

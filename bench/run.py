@@ -5,7 +5,7 @@
 
 The program is crates/tuple_store/out/tuple_store, which `rt run` in crates/tuple_store builds. Each figure is the CPU
 time of the whole program, its start included, over the lines of the run; times of reading the feed from a file and of
-writing the replies to one are in it.
+writing the replies to one are in it. A `schema` is measured by the difference of two runs.
 """
 
 import os
@@ -50,6 +50,14 @@ def both(first, second):
     yield from second
 
 
+def show_schema(name, lines, schemas=200):
+    """Shows what a `schema` costs behind these lines: the difference of a run with so many of them and one without."""
+    lines = list(lines)
+    _, _, without = run(lines)
+    _, _, whole = run(both(lines, feeds.schemas(schemas)))
+    print(f"{name:44} {schemas:9} schemas {(whole - without) * 1e6 / schemas:14.2f} us", flush=True)
+
+
 def main():
     for count in [int(word) for word in sys.argv[1:]] or [10_000, 100_000]:
         for order in ("ascending", "random"):
@@ -58,6 +66,11 @@ def main():
         show("readings, ascending", run(feeds.upserts(min(count // 10, 10_000), "ascending", feeds.readings)))
         for window in (1, 64, 4096):
             show(f"gets of absent keys, windows of {window}", run(feeds.gets(count, "random"), window))
+        show("overwrites and deletes of 1,000 keys", run(feeds.churn(count)))
+        show_schema("schema after messages", feeds.upserts(count, "ascending", feeds.message))
+        show_schema("schema after readings", feeds.upserts(min(count // 10, 10_000), "ascending", feeds.readings))
+        show_schema("schema after profiles", feeds.upserts(count, "ascending", feeds.profile))
+        show_schema("schema after changing documents", feeds.upserts(count, "ascending", feeds.changing))
 
 
 main()

@@ -1,3 +1,8 @@
 pub mod PairLemmas
+pub mod Replacing
+pub mod Weights
+pub mod SchemaFloats
+pub mod FreshNames
+pub mod StoreLemmas
 pub mod SessionLemmas
 pub mod RunLemmas

@@ -8,10 +8,12 @@ use Rattle.tc_lines.specs.declared.intake.TheConstants.{MAX_TAKEN}
 use Rattle.tc_lines.specs.declared.reader.Line.{Line}
 use Rattle.tc_lines.specs.declared.reader.Line.TheVariants.{End}
 use Rattle.tc_model.specs.Lines.{lines_of, whole_lines}
-use Rattle.tc_model.specs.Run.{BeginsWith, Window, Windows, windows_of, unless_empty, closed_windows, windows, output_of_windows, output_of_lines, lines_in}
-use Rattle.tc_model.proofs.WindowLaws.{BeginsWith-trans, closed-windows_of-append, lines_held-windows_of, windows_of-push, lines_in-append, lines_in-unless_empty}
+use Rattle.tc_world.specs.Answer.{Limits}
+use Rattle.tc_world.specs.Run.{BeginsWith, Window, Windows, windows_of, unless_empty, closed_windows, windows, output_of_windows, output_of_lines, lines_in}
+use Rattle.tc_world.proofs.WindowLaws.{BeginsWith-trans, closed-windows_of-append, lines_held-windows_of, windows_of-push, lines_in-append, lines_in-unless_empty}
 use Rattle.tc_server.specs.Ending.{HaveClosed, Ran}
 use Rattle.tc_server.specs.Progress.{StandsBehind, HasSeenAll, HasSeen, HasCome}
+use Rattle.tc_server.specs.Limited.{empty_under}
 use Rattle.tc_server.specs.Window.{requests_of}
 use Rattle.tc_server.specs.Stage.{IsAt, with_end, FailsAfter, WroteSome, StopsIn, TakesLine, FailsAtLine}
 use Rattle.tc_server.specs.declared.outcome.RunFault.{RunFault}
@@ -95,9 +97,9 @@ has_closed limit seen reading first left heard =
     heard.place
 
 -- a fault in windows that have closed ends the run
-ends_in : (limit : ℕ) (seen : List (List ℕ)) (input : List ℕ) (first left base taken : Option (List ℕ)) (fault : RunFault) → Consumes first left input → HasClosed limit seen input left
-    → StopsIn fault base (windows_of limit seen).closed taken → Ran limit (Some fault) first left base taken
-ends_in limit seen input first left base taken (Write n) consumed has stops = record {
+ends_in : (limits : Limits) (limit : ℕ) (seen : List (List ℕ)) (input : List ℕ) (first left base taken : Option (List ℕ)) (fault : RunFault) → Consumes first left input → HasClosed limit seen input left
+    → StopsIn limits fault base (windows_of limit seen).closed taken → Ran limits limit (Some fault) first left base taken
+ends_in limits limit seen input first left base taken (Write n) consumed has stops = record {
   input = input;
   consumed = consumed;
   did = (
@@ -112,7 +114,7 @@ ends_in limit seen input first left base taken (Write n) consumed has stops = re
     },
   );
 }
-ends_in limit seen input first left base taken Memory consumed has stops = record {
+ends_in limits limit seen input first left base taken Memory consumed has stops = record {
   input = input;
   consumed = consumed;
   did = (
@@ -125,32 +127,32 @@ ends_in limit seen input first left base taken Memory consumed has stops = recor
     },
   );
 }
-ends_in limit seen input first left base taken Usage consumed has stops = absurd stops
-ends_in limit seen input first left base taken Read consumed has stops = absurd stops
-ends_in limit seen input first left base taken Spent consumed has stops = absurd stops
+ends_in limits limit seen input first left base taken Usage consumed has stops = absurd stops
+ends_in limits limit seen input first left base taken Read consumed has stops = absurd stops
+ends_in limits limit seen input first left base taken Spent consumed has stops = absurd stops
 
 -- ---- a line is taken
 
-pub goes_on : (line : List ℕ) (old new : Reading) (before after : Session) (first left left' base taken taken' : Option (List ℕ)) → old.ended ≡ false → (come : HasCome old before first left base taken)
+pub goes_on : (limits : Limits) (line : List ℕ) (old new : Reading) (before after : Session) (first left left' base taken taken' : Option (List ℕ)) → old.ended ≡ false → (come : HasCome limits old before first left base taken)
     → (now : List ℕ) → Consumes left left' now → new.taken ≡ old.taken + length now → IsNextLine (old.held ++ now) line new left'
     → TakesLine line before taken after taken' → after.window.limit ≡ before.window.limit
-    → HasCome new after first left' base taken'
-goes_on line old new before after first left left' base taken taken' goes come now consumed counted next takes same = record {
+    → HasCome limits new after first left' base taken'
+goes_on limits line old new before after first left left' base taken taken' goes come now consumed counted next takes same = record {
   seen = come.seen ++ line ∷ [];
   heard = hears_line come.seen line old new first left left' goes come.heard now consumed counted next;
-  at = subst (λ (ws : Windows). IsAt base ws after taken') (sym (ap (λ limit. windows_of limit (come.seen ++ line ∷ [])) same ∙ windows_of-push before.window.limit come.seen line)) (takes base (windows_of before.window.limit come.seen) come.at);
+  at = subst (λ (ws : Windows). IsAt limits base ws after taken') (sym (ap (λ limit. windows_of limit (come.seen ++ line ∷ [])) same ∙ windows_of-push before.window.limit come.seen line)) (takes limits base (windows_of before.window.limit come.seen) come.at);
 }
 
-pub fails_at_line : (fault : RunFault) (line : List ℕ) (old new : Reading) (before : Session) (first left left' base taken taken' : Option (List ℕ)) → old.ended ≡ false → (come : HasCome old before first left base taken)
+pub fails_at_line : (limits : Limits) (fault : RunFault) (line : List ℕ) (old new : Reading) (before : Session) (first left left' base taken taken' : Option (List ℕ)) → old.ended ≡ false → (come : HasCome limits old before first left base taken)
     → (now : List ℕ) → Consumes left left' now → new.taken ≡ old.taken + length now → IsNextLine (old.held ++ now) line new left'
     → FailsAtLine fault line before taken taken'
-    → Ran before.window.limit (Some fault) first left' base taken'
-fails_at_line fault line old new before first left left' base taken taken' goes come now consumed counted next fails =
+    → Ran limits before.window.limit (Some fault) first left' base taken'
+fails_at_line limits fault line old new before first left left' base taken taken' goes come now consumed counted next fails =
     let limit = before.window.limit in
     let seen = come.seen ++ line ∷ [] in
     let heard = hears_line come.seen line old new first left left' goes come.heard now consumed counted next in
-    ends_in limit seen heard.input first left' base taken' fault heard.consumed (has_closed limit seen new first left' heard)
-    (subst (λ (ws : Windows). StopsIn fault base ws.closed taken') (sym (windows_of-push limit come.seen line)) (fails base (windows_of limit come.seen) come.at))
+    ends_in limits limit seen heard.input first left' base taken' fault heard.consumed (has_closed limit seen new first left' heard)
+    (subst (λ (ws : Windows). StopsIn limits fault base ws.closed taken') (sym (windows_of-push limit come.seen line)) (fails limits base (windows_of limit come.seen) come.at))
 
 -- ---- the end of the input
 
@@ -182,29 +184,29 @@ lines_in-with_end limit lines =
     let ws = windows_of limit lines in
     lines_in-append ws.closed (unless_empty ws.open_lines) ∙ ap (λ more. lines_in ws.closed ++ more) (lines_in-unless_empty ws.open_lines) ∙ lines_held-windows_of limit lines
 
-pub ran_to_end : (limit : ℕ) (seen : List (List ℕ)) (session : Session) (first left base taken : Option (List ℕ)) → HasHeardAll seen first left → IsAt base (with_end (windows_of limit seen)) session taken
-    → Ran limit None first left base taken
-ran_to_end limit seen session first left base taken heard at = record {
+pub ran_to_end : (limits : Limits) (limit : ℕ) (seen : List (List ℕ)) (session : Session) (first left base taken : Option (List ℕ)) → HasHeardAll seen first left → IsAt limits base (with_end (windows_of limit seen)) session taken
+    → Ran limits limit None first left base taken
+ran_to_end limits limit seen session first left base taken heard at = record {
   input = heard.input;
   consumed = heard.consumed;
-  did = (heard.all.at_end, subst (λ lines. Appends base taken (output_of_lines lines)) (lines_in-with_end limit seen ∙ sym heard.all.lines) at.written);
+  did = (heard.all.at_end, subst (λ lines. Appends base taken (output_of_lines limits lines)) (lines_in-with_end limit seen ∙ sym heard.all.lines) at.written);
 }
 
-pub fails_at_end : (limit : ℕ) (seen : List (List ℕ)) (fault : RunFault) (first left base taken : Option (List ℕ)) → HasHeardAll seen first left → StopsIn fault base (with_end (windows_of limit seen)).closed taken
-    → Ran limit (Some fault) first left base taken
-fails_at_end limit seen (Write n) first left base taken heard stops = record {
+pub fails_at_end : (limits : Limits) (limit : ℕ) (seen : List (List ℕ)) (fault : RunFault) (first left base taken : Option (List ℕ)) → HasHeardAll seen first left → StopsIn limits fault base (with_end (windows_of limit seen)).closed taken
+    → Ran limits limit (Some fault) first left base taken
+fails_at_end limits limit seen (Write n) first left base taken heard stops = record {
   input = heard.input;
   consumed = heard.consumed;
-  did = (windows limit heard.input, inr (heard.all.at_end, refl), subst (λ lines. FailsAfter n base (with_end (windows_of limit lines)).closed taken) (sym heard.all.lines) stops);
+  did = (windows limit heard.input, inr (heard.all.at_end, refl), subst (λ lines. FailsAfter limits n base (with_end (windows_of limit lines)).closed taken) (sym heard.all.lines) stops);
 }
-fails_at_end limit seen Memory first left base taken heard stops = record {
+fails_at_end limits limit seen Memory first left base taken heard stops = record {
   input = heard.input;
   consumed = heard.consumed;
-  did = (windows limit heard.input, inr (heard.all.at_end, refl), subst (λ lines. WroteSome base (with_end (windows_of limit lines)).closed taken) (sym heard.all.lines) stops);
+  did = (windows limit heard.input, inr (heard.all.at_end, refl), subst (λ lines. WroteSome limits base (with_end (windows_of limit lines)).closed taken) (sym heard.all.lines) stops);
 }
-fails_at_end limit seen Usage first left base taken heard stops = absurd stops
-fails_at_end limit seen Read first left base taken heard stops = absurd stops
-fails_at_end limit seen Spent first left base taken heard stops = absurd stops
+fails_at_end limits limit seen Usage first left base taken heard stops = absurd stops
+fails_at_end limits limit seen Read first left base taken heard stops = absurd stops
+fails_at_end limits limit seen Spent first left base taken heard stops = absurd stops
 
 -- ---- a failure of the reader
 
@@ -214,29 +216,29 @@ closed-no_more : (limit : ℕ) (seen : List (List ℕ)) (old : Reading) (first l
 closed-no_more limit seen old first left goes heard now none =
     ap (λ lines. (windows_of limit lines).closed) (sym (all_lines whole_lines heard.input now old.held seen [] (stands seen old first left goes heard).whole none ∙ append-nil seen))
 
-pub read_failed : (old : Reading) (session : Session) (first left left' base taken : Option (List ℕ)) → old.ended ≡ false → HasCome old session first left base taken
-    → (now : List ℕ) → Consumes left left' now → whole_lines (old.held ++ now) ≡ [] → Ran session.window.limit (Some Read) first left' base taken
-read_failed old session first left left' base taken goes come now consumed none = record {
+pub read_failed : (limits : Limits) (old : Reading) (session : Session) (first left left' base taken : Option (List ℕ)) → old.ended ≡ false → HasCome limits old session first left base taken
+    → (now : List ℕ) → Consumes left left' now → whole_lines (old.held ++ now) ≡ [] → Ran limits session.window.limit (Some Read) first left' base taken
+read_failed limits old session first left left' base taken goes come now consumed none = record {
   input = come.heard.input ++ now;
   consumed = Consumes-trans first left left' come.heard.input now come.heard.consumed consumed;
-  did = subst (λ closed. Appends base taken (output_of_windows closed)) (closed-no_more session.window.limit come.seen old first left goes come.heard now none) come.at.written;
+  did = subst (λ closed. Appends base taken (output_of_windows limits closed)) (closed-no_more session.window.limit come.seen old first left goes come.heard now none) come.at.written;
 }
 
-pub all_taken : (old new : Reading) (session : Session) (first left left' base taken : Option (List ℕ)) → old.ended ≡ false → HasCome old session first left base taken
+pub all_taken : (limits : Limits) (old new : Reading) (session : Session) (first left left' base taken : Option (List ℕ)) → old.ended ≡ false → HasCome limits old session first left base taken
     → (now : List ℕ) → Consumes left left' now → new.taken ≡ old.taken + length now → whole_lines (old.held ++ now) ≡ [] → new.taken ≡ MAX_TAKEN
-    → Ran session.window.limit (Some Spent) first left' base taken
-all_taken old new session first left left' base taken goes come now consumed counted none all = record {
+    → Ran limits session.window.limit (Some Spent) first left' base taken
+all_taken limits old new session first left left' base taken goes come now consumed counted none all = record {
   input = come.heard.input ++ now;
   consumed = Consumes-trans first left left' come.heard.input now come.heard.consumed consumed;
-  did = (omega (arith, all, counted, come.heard.counted, length-append come.heard.input now), subst (λ closed. Appends base taken (output_of_windows closed)) (closed-no_more session.window.limit come.seen old first left goes come.heard now none) come.at.written);
+  did = (omega (arith, all, counted, come.heard.counted, length-append come.heard.input now), subst (λ closed. Appends base taken (output_of_windows limits closed)) (closed-no_more session.window.limit come.seen old first left goes come.heard now none) come.at.written);
 }
 
-pub reads_without_memory : (old : Reading) (session : Session) (first left left' base taken : Option (List ℕ)) → old.ended ≡ false → HasCome old session first left base taken
-    → (now : List ℕ) → Consumes left left' now → Ran session.window.limit (Some Memory) first left' base taken
-reads_without_memory old session first left left' base taken goes come now consumed =
+pub reads_without_memory : (limits : Limits) (old : Reading) (session : Session) (first left left' base taken : Option (List ℕ)) → old.ended ≡ false → HasCome limits old session first left base taken
+    → (now : List ℕ) → Consumes left left' now → Ran limits session.window.limit (Some Memory) first left' base taken
+reads_without_memory limits old session first left left' base taken goes come now consumed =
     let limit = session.window.limit in
     let input = come.heard.input ++ now in
-    ends_in limit come.seen input first left' base taken Memory (Consumes-trans first left left' come.heard.input now come.heard.consumed consumed)
+    ends_in limits limit come.seen input first left' base taken Memory (Consumes-trans first left left' come.heard.input now come.heard.consumed consumed)
     (closed_so_far limit come.seen (whole_lines (old.held ++ now)) input left' ((stands come.seen old first left goes come.heard).whole now))
     (record { before = (windows_of limit come.seen).closed; among = BeginsWith-refl _; written = come.at.written })
 
@@ -262,10 +264,10 @@ hears_all seen old new first left left' heard answers same =
 -- ---- the first line, and after as many as can be
 
 -- before the first line nothing was read nor written
-pub begins : (limit : ℕ) (reading : Reading) (session : Session) (left taken : Option (List ℕ)) → reading ≡ record { limit = limit; held = []; taken = 0; failed = false; ended = false }
-    → session.store ≡ [] → requests_of session.window ≡ [] → session.window.bytes ≡ 0
-    → HasCome reading session left left taken taken
-begins limit reading session left taken fresh pairs requests bytes =
+pub begins : (limits : Limits) (limit : ℕ) (reading : Reading) (session : Session) (left taken : Option (List ℕ)) → reading ≡ record { limit = limit; held = []; taken = 0; failed = false; ended = false }
+    → session.store ≡ empty_under limits → requests_of session.window ≡ [] → session.window.bytes ≡ 0
+    → HasCome limits reading session left left taken taken
+begins limits limit reading session left taken fresh store requests bytes =
     let held : reading.held ≡ [] = ap (λ (r : Reading). r.held) fresh in record {
       seen = [];
       heard = record {
@@ -280,11 +282,11 @@ begins limit reading session left taken fresh pairs requests bytes =
           },
         );
       };
-      at = record { pairs = pairs; requests = requests; bytes = bytes; written = Appends-nil taken };
+      at = record { store = store; requests = requests; bytes = bytes; written = Appends-nil taken };
     }
 
 -- a run that gives up between two lines has answered the windows that have closed
-pub gives_up : (reading : Reading) (session : Session) (first left base taken : Option (List ℕ)) → HasCome reading session first left base taken → Ran session.window.limit (Some Memory) first left base taken
-gives_up reading session first left base taken come =
-    ends_in session.window.limit come.seen come.heard.input first left base taken Memory come.heard.consumed (has_closed session.window.limit come.seen reading first left come.heard)
+pub gives_up : (limits : Limits) (reading : Reading) (session : Session) (first left base taken : Option (List ℕ)) → HasCome limits reading session first left base taken → Ran limits session.window.limit (Some Memory) first left base taken
+gives_up limits reading session first left base taken come =
+    ends_in limits session.window.limit come.seen come.heard.input first left base taken Memory come.heard.consumed (has_closed session.window.limit come.seen reading first left come.heard)
     (record { before = (windows_of session.window.limit come.seen).closed; among = BeginsWith-refl _; written = come.at.written })

@@ -1,4 +1,6 @@
 pub mod Pairs
+pub mod Limited
+pub mod Sound
 pub mod Asked
 pub mod Window
 pub mod Stage

@@ -3,7 +3,8 @@ use Rattle.std.specs.Prelude.{◌≡◌, ℕ, ◌⊎◌, Bool, true, false, List
 use Rattle.std.specs.Io.KnownBytes.{Consumes, IsAtEnd}
 use Rattle.tc_lines.specs.Answer.{Reading}
 use Rattle.tc_model.specs.Lines.{lines_of, whole_lines}
-use Rattle.tc_model.specs.Run.{windows_of}
+use Rattle.tc_world.specs.Answer.{Limits}
+use Rattle.tc_world.specs.Run.{windows_of}
 use Rattle.tc_server.specs.Ending.{Ran}
 use Rattle.tc_server.specs.Stage.{IsAt}
 use Rattle.tc_server.specs.declared.outcome.RunFault.{RunFault}
@@ -27,22 +28,22 @@ pub record HasSeen (seen : List (List ℕ)) (reading : Reading) (first left : Op
   pub place : ((reading.ended ≡ false) × StandsBehind input seen reading.held) ⊎ ((reading.ended ≡ true) × HasSeenAll input seen left)
 
 -- Lines were seen, and the session stands behind their windows.
-pub record HasCome (reading : Reading) (session : Session) (first left base taken : Option (List ℕ)) : Type 0 where
+pub record HasCome (limits : Limits) (reading : Reading) (session : Session) (first left base taken : Option (List ℕ)) : Type 0 where
   pub seen : List (List ℕ)
   pub heard : HasSeen seen reading first left
-  pub at : IsAt base (windows_of session.window.limit seen) session taken
+  pub at : IsAt limits base (windows_of session.window.limit seen) session taken
 
 -- a run goes on where more lines may come, or has ended
-abbrev pub ComesTo : Bool → ℕ → Reading → Session → Option (List ℕ) → Option (List ℕ) → Option (List ℕ) → Option (List ℕ) → Type 0
-ComesTo true limit reading session first left base taken = HasCome reading session first left base taken
-ComesTo false limit reading session first left base taken = Ran limit None first left base taken
+abbrev pub ComesTo : Limits → Bool → ℕ → Reading → Session → Option (List ℕ) → Option (List ℕ) → Option (List ℕ) → Option (List ℕ) → Type 0
+ComesTo limits true most reading session first left base taken = HasCome limits reading session first left base taken
+ComesTo limits false most reading session first left base taken = Ran limits most None first left base taken
 
 -- one more line was taken, or the input has ended
 abbrev pub Goes : Bool → Reading → Session → Option (List ℕ) → Option (List ℕ) → Reading → Session → Option (List ℕ) → Option (List ℕ) → Type 0
 Goes more reading session left taken reading' session' left' taken' =
-    (first base : Option (List ℕ)) → HasCome reading session first left base taken → ComesTo more session.window.limit reading' session' first left' base taken'
+    (limits : Limits) (first base : Option (List ℕ)) → HasCome limits reading session first left base taken → ComesTo limits more session.window.limit reading' session' first left' base taken'
 
 -- the run has ended by a fault
 abbrev pub Ends : RunFault → Reading → Session → Option (List ℕ) → Option (List ℕ) → Option (List ℕ) → Option (List ℕ) → Type 0
 Ends fault reading session left left' taken taken' =
-    (first base : Option (List ℕ)) → HasCome reading session first left base taken → Ran session.window.limit (Some fault) first left' base taken'
+    (limits : Limits) (first base : Option (List ℕ)) → HasCome limits reading session first left base taken → Ran limits session.window.limit (Some fault) first left' base taken'

@@ -3,7 +3,9 @@ use Rattle.std.specs.Prelude.{◌≡◌, ◌≢◌, ℕ, ◌<◌, ◌≤◌, Lis
 use Rattle.std.specs.Io.KnownBytes.{Appends, Keeps}
 use Rattle.tc_edge.specs.Faults.{Rose}
 use Rattle.tc_model.specs.Request.{request_of}
-use Rattle.tc_model.specs.Run.{BeginsWith, answers, after_all, Window, Windows, line_size, lines_in, unless_empty, with_line, output_of_windows}
+use Rattle.tc_world.specs.Answer.{Limits}
+use Rattle.tc_world.specs.Store.{empty}
+use Rattle.tc_world.specs.Run.{BeginsWith, answers, after_all, Window, Windows, line_size, lines_in, unless_empty, with_line, output_of_windows}
 use Rattle.tc_server.specs.Asked.{request_asked}
 use Rattle.tc_server.specs.Window.{requests_of}
 use Rattle.tc_server.specs.declared.answer.Asked.{Asked}
@@ -18,51 +20,51 @@ pub record AsksFor (line : List ℕ) (asked : Asked) (size : ℕ) : Type 0 where
 
 -- The session stands behind the windows: what has closed was answered and written, in order, to a sink that had taken
 -- `base`; what is open is held.
-pub record IsAt (base : Option (List ℕ)) (ws : Windows) (session : Session) (taken : Option (List ℕ)) : Type 0 where
-  pub pairs : session.store ≡ after_all (map request_of (lines_in ws.closed)) []
+pub record IsAt (limits : Limits) (base : Option (List ℕ)) (ws : Windows) (session : Session) (taken : Option (List ℕ)) : Type 0 where
+  pub store : session.store ≡ record { limits = limits; plain = after_all limits (map request_of (lines_in ws.closed)) empty }
   pub requests : requests_of session.window ≡ map request_of ws.open_lines
   pub bytes : session.window.bytes ≡ sum_by line_size ws.open_lines
-  pub written : Appends base taken (output_of_windows ws.closed)
+  pub written : Appends base taken (output_of_windows limits ws.closed)
 
 -- the windows when the open one has closed, where it has a line
 abbrev pub with_end : Windows → Windows
 with_end ws = record { closed = ws.closed ++ unless_empty ws.open_lines; open_lines = [] }
 
 -- the replies to a window behind other windows
-abbrev pub replies_behind : List Window → Window → List ℕ
-replies_behind before window = answers (map request_of window) (after_all (map request_of (lines_in before)) [])
+abbrev pub replies_behind : Limits → List Window → Window → List ℕ
+replies_behind limits before window = answers limits (map request_of window) (after_all limits (map request_of (lines_in before)) empty)
 
 -- Of windows that closed, these were answered and written, then one was answered and its first n bytes were taken.
-pub record FailsAfter (n : ℕ) (base : Option (List ℕ)) (closed : List Window) (taken : Option (List ℕ)) : Type 0 where
+pub record FailsAfter (limits : Limits) (n : ℕ) (base : Option (List ℕ)) (closed : List Window) (taken : Option (List ℕ)) : Type 0 where
   pub before : List Window
   pub failed : Window
   pub among : BeginsWith closed (before ++ failed ∷ [])
-  pub within : n < length (replies_behind before failed)
-  pub written : Appends base taken (output_of_windows before ++ take n (replies_behind before failed))
+  pub within : n < length (replies_behind limits before failed)
+  pub written : Appends base taken (output_of_windows limits before ++ take n (replies_behind limits before failed))
 
 -- Of windows that closed, these were answered and written, and of no other window anything.
-pub record WroteSome (base : Option (List ℕ)) (closed : List Window) (taken : Option (List ℕ)) : Type 0 where
+pub record WroteSome (limits : Limits) (base : Option (List ℕ)) (closed : List Window) (taken : Option (List ℕ)) : Type 0 where
   pub before : List Window
   pub among : BeginsWith closed before
-  pub written : Appends base taken (output_of_windows before)
+  pub written : Appends base taken (output_of_windows limits before)
 
 -- what was written by a fault in the windows that closed
-abbrev pub StopsIn : RunFault → Option (List ℕ) → List Window → Option (List ℕ) → Type 0
-StopsIn (Write n) base closed taken = FailsAfter n base closed taken
-StopsIn Memory base closed taken = WroteSome base closed taken
-StopsIn Usage base closed taken = ⊥
-StopsIn Read base closed taken = ⊥
-StopsIn Spent base closed taken = ⊥
+abbrev pub StopsIn : Limits → RunFault → Option (List ℕ) → List Window → Option (List ℕ) → Type 0
+StopsIn limits (Write n) base closed taken = FailsAfter limits n base closed taken
+StopsIn limits Memory base closed taken = WroteSome limits base closed taken
+StopsIn limits Usage base closed taken = ⊥
+StopsIn limits Read base closed taken = ⊥
+StopsIn limits Spent base closed taken = ⊥
 
 -- from behind any windows the session goes to behind these windows with the line
 abbrev pub TakesLine : List ℕ → Session → Option (List ℕ) → Session → Option (List ℕ) → Type 0
 TakesLine line old taken new taken' =
-    (base : Option (List ℕ)) (ws : Windows) → IsAt base ws old taken → IsAt base (with_line old.window.limit ws line) new taken'
+    (limits : Limits) (base : Option (List ℕ)) (ws : Windows) → IsAt limits base ws old taken → IsAt limits base (with_line old.window.limit ws line) new taken'
 
 -- behind any windows the session stops in those that the line closes
 abbrev pub FailsAtLine : RunFault → List ℕ → Session → Option (List ℕ) → Option (List ℕ) → Type 0
 FailsAtLine fault line old taken taken' =
-    (base : Option (List ℕ)) (ws : Windows) → IsAt base ws old taken → StopsIn fault base (with_line old.window.limit ws line).closed taken'
+    (limits : Limits) (base : Option (List ℕ)) (ws : Windows) → IsAt limits base ws old taken → StopsIn limits fault base (with_line old.window.limit ws line).closed taken'
 
 -- what was written of the bytes by a fault
 abbrev pub WritesPart : RunFault → List ℕ → Option (List ℕ) → Option (List ℕ) → Type 0

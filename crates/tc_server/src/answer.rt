@@ -1,23 +1,53 @@
 //! What a line asks for, and the reply to it.
 
-ghost use Rattle.std.specs.Prelude.{◌≡◌, IfOk, OnOk, OnErr, map};
+ghost use Rattle.std.specs.Prelude.{◌≡◌, ◌∷◌, [], IfOk, OnOk, OnErr, map};
 ghost use Rattle.tc_command.specs.Commands.{request_of_command};
 ghost use Rattle.tc_command.specs.Replies.{reply_of};
-ghost use Rattle.tc_model.specs.Reply.{got, reply_to};
-ghost use Rattle.tc_model.specs.Request.{request_of};
-ghost use Rattle.tc_model.specs.Run.{answers, after_all, is_control};
-ghost use Rattle.tc_model.specs.Store.{after, stored};
+ghost use Rattle.tc_model.specs.Reply.{got, schemas};
+ghost use Rattle.tc_model.specs.Request.{max_line, request_of};
+ghost use Rattle.tc_counts.specs.SchemaText.{schema_text};
+ghost use Rattle.tc_world.proofs.LineWeight.{IsLight};
+ghost use Rattle.tc_world.specs.Answer.{reply_to};
+ghost use Rattle.tc_world.specs.Run.{answers, is_control};
+ghost use Rattle.tc_world.specs.Store.{documents, stored};
 ghost use Rattle.tc_server.specs.Asked.{request_asked};
+ghost use Rattle.tc_server.specs.Limited.{left_by, left_by_all};
+ghost use Rattle.tc_server.specs.Sound.{IsKeptOrEmpty};
+ghost use Rattle.tc_server.specs.declared.answer.Action.TheVariants.{Refuse};
 
 use crate::store::Store;
 use std::alloc::{AllocError, Global};
-use tc_command::{Command, ParseFault, Refusal, Reply, parse, reply_text};
+use std::marker::Model;
+use tc_command::{Command, ParseFault, Refusal, Reply, Schemas, parse, reply_text};
 
-/// What a line asks for, or why it is refused.
+/// A command, or why there is none.
 #[derive(Drop)]
-pub enum Asked {
+enum Action {
     Run(Command),
     Refuse(Refusal),
+}
+
+/// What a line asks for, or why it is refused. A document in it is no heavier than a line.
+#[derive(Drop)]
+pub struct Asked {
+    action: Action,
+}
+
+impl Model for Asked {
+    ghost use Rattle.tc_server.specs.declared.answer.Action.{Action};
+    ghost use Rattle.tc_server.specs.contracts.answer.Action as contract;
+
+    ghost Value = { Action };
+
+    ghost coded = { contract.the_row.coded };
+
+    ghost use Rattle.tc_server.specs.Asked.{request_asked};
+    ghost use Rattle.tc_model.specs.Request.{max_line};
+    ghost use Rattle.tc_world.proofs.LineWeight.{IsLight};
+
+    ghost view = { λ a. a.action };
+
+    ghost invariant = { λ a. IsLight max_line (request_asked a.action) };
 }
 
 impl Asked {
@@ -26,9 +56,20 @@ impl Asked {
         ensures { IfOk result (λ asked. request_asked asked ≡ request_of line.now) }
     {
         match parse(alloc, line) {
-            Ok(command) => Ok(Asked::Run(command)),
-            Err(ParseFault::Refused(refusal)) => Ok(Asked::Refuse(refusal)),
+            Ok(command) => Ok(Asked {
+                action: Action::Run(command),
+            }),
+            Err(ParseFault::Refused(refusal)) => Ok(Asked::refused(refusal)),
             Err(ParseFault::Memory) => Err(AllocError),
+        }
+    }
+
+    /// A line that is refused.
+    pub fn refused(refusal: Refusal) -> Asked
+        ensures { result ≡ Refuse refusal }
+    {
+        Asked {
+            action: Action::Refuse(refusal),
         }
     }
 
@@ -36,51 +77,48 @@ impl Asked {
     pub fn is_control(&self) -> bool
         ensures { result ≡ is_control (request_asked self.now) }
     {
-        match self {
-            Asked::Run(Command::Flush | Command::Schema | Command::Scan(_) | Command::Collect) =>
+        match &self.action {
+            Action::Run(Command::Flush | Command::Schema | Command::Scan(_) | Command::Collect) =>
                 true,
             _other => false,
         }
     }
 
-    /// The reply, and what it leaves in the store. Errs only for want of memory.
+    /// The reply, and what it leaves in the store. Errs only for want of memory: the store is then unchanged or empty.
     pub fn answer(self, alloc: Global, store: &mut Store) -> Result<Reply, AllocError>
-        ensures reply { IfOk result (λ reply. reply_of reply ≡ reply_to (request_asked self) store.old) }
-        ensures after { IfOk result (λ _. store.new ≡ after (request_asked self) store.old) }
-        ensures err { OnErr result (store.new ≡ store.old) }
+        ensures reply { IfOk result (λ reply. reply_of reply ≡ reply_to store.old.limits (request_asked self) store.old.plain) }
+        ensures after { OnOk result (store.new ≡ left_by (request_asked self) store.old) }
+        ensures err { OnErr result (IsKeptOrEmpty store.old store.new) }
     {
-        match self {
-            Asked::Refuse(refusal) => Ok(Reply::Refused(refusal)),
-            Asked::Run(command) => run(alloc, store, command),
+        match self.action {
+            Action::Refuse(refusal) => Ok(Reply::Refused(refusal)),
+            Action::Run(command) => run(alloc, store, command),
         }
     }
 }
 
 fn run(alloc: Global, store: &mut Store, command: Command) -> Result<Reply, AllocError>
-    ensures reply { IfOk result (λ reply. reply_of reply ≡ reply_to (request_of_command command) store.old) }
-    ensures after { IfOk result (λ _. store.new ≡ after (request_of_command command) store.old) }
-    ensures err { OnErr result (store.new ≡ store.old) }
+    requires light { IsLight max_line (request_of_command command) }
+    ensures reply { IfOk result (λ reply. reply_of reply ≡ reply_to store.old.limits (request_of_command command) store.old.plain) }
+    ensures after { OnOk result (store.new ≡ left_by (request_of_command command) store.old) }
+    ensures err { OnErr result (IsKeptOrEmpty store.old store.new) }
 {
     match command {
-        Command::Upsert { key, doc } => {
-            let replaced = store.set(key, doc)?;
-            Ok(Reply::Upserted { id: key, replaced })
-        }
+        Command::Upsert { key, doc } => store.upsert(alloc, key, doc),
         Command::Delete { key } => {
-            let found = store.delete(key);
+            let found = store.delete(alloc, key)?;
             Ok(Reply::Deleted { id: key, found })
         }
         Command::Get { key } => got(alloc, store, key),
-        Command::Query(_)
-        | Command::Flush
-        | Command::Schema
-        | Command::Scan(_)
-        | Command::Collect => { Ok(Reply::Refused(Refusal::NotBuilt)) }
+        Command::Schema => schemas(alloc, store),
+        Command::Query(_) | Command::Flush | Command::Scan(_) | Command::Collect => {
+            Ok(Reply::Refused(Refusal::NotBuilt))
+        }
     }
 }
 
 fn got(alloc: Global, store: &Store, key: u64) -> Result<Reply, AllocError>
-    ensures { IfOk result (λ reply. reply_of reply ≡ got key (stored key store.now)) }
+    ensures { IfOk result (λ reply. reply_of reply ≡ got key (stored key store.now.plain)) }
 {
     match store.get(key) {
         Some(doc) => Ok(Reply::Got {
@@ -91,14 +129,22 @@ fn got(alloc: Global, store: &Store, key: u64) -> Result<Reply, AllocError>
     }
 }
 
+fn schemas(alloc: Global, store: &Store) -> Result<Reply, AllocError>
+    ensures { IfOk result (λ reply. reply_of reply ≡ schemas (schema_text (documents store.now.plain) ∷ [])) }
+{
+    let mut values = Vec::new(alloc);
+    values.push(store.schema(alloc)?)?;
+    Ok(Reply::Schemas(Schemas::of(values)))
+}
+
 /// The reply lines, in order, and what they leave in the store. Errs only for want of memory.
 pub fn answer_all(
     alloc: Global,
     store: &mut Store,
     asked: Vec<Asked>,
 ) -> Result<Vec<u8>, AllocError>
-    ensures replies { IfOk result (λ replies. replies.items ≡ answers (map request_asked asked.items) store.old) }
-    ensures after { OnOk result (store.new ≡ after_all (map request_asked asked.items) store.old) }
+    ensures replies { IfOk result (λ replies. replies.items ≡ answers store.old.limits (map request_asked asked.items) store.old.plain) }
+    ensures after { OnOk result (store.new ≡ left_by_all (map request_asked asked.items) store.old) }
 {
     let mut replies = Vec::new(alloc);
     for one in asked {

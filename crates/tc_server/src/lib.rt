@@ -2,6 +2,7 @@
 #![tactic(auto)]
 
 mod answer;
+mod fresh;
 mod outcome;
 mod server;
 mod session;

@@ -2,8 +2,8 @@
 
 ghost use Rattle.std.specs.Prelude.{◌≡◌, ℕ, ◌≤◌, ◌<◌, ◌⊎◌, false, Some, None, IfOk, IfErr, IfSome, IsErrOf, OnOk, option_map};
 ghost use Rattle.tc_edge.specs.Faults.{Rose};
-ghost use Rattle.tc_model.specs.Run.{max_window};
-ghost use Rattle.tc_server.specs.Ending.{Ran, Served, fault_in, status_of};
+ghost use Rattle.tc_world.specs.Run.{max_window};
+ghost use Rattle.tc_server.specs.Ending.{Ran, Served, fault_in, limits_of, status_of};
 ghost use Rattle.tc_server.specs.Progress.{Ends, Goes};
 ghost use Rattle.tc_server.specs.Stage.{IsWrite};
 ghost use Rattle.tc_words.specs.Options.{options_of};
@@ -15,7 +15,7 @@ use tc_command::MAX_LINE;
 use tc_edge::{Sink, Source};
 use tc_lines::{Line, Lines};
 use tc_value::Text;
-use tc_words::{WordsFault, options};
+use tc_words::{Options, WordsFault, options};
 
 /// Answers the lines of the source for the words of the command line, which stand behind the folder.
 pub fn serve<I: Source, O: Sink>(
@@ -53,37 +53,37 @@ fn run<I: Source, O: Sink>(
     ensures read { IfErr result (λ fault. fault ≡ RunFault.Read → Rose (I.faults source.old) (I.faults source.new)) }
     ensures write { IfErr result (λ fault. IsWrite fault → Rose (O.faults sink.old) (O.faults sink.new)) }
 {
-    let window = window_of(alloc, words)?;
-    answer_lines(alloc, window, source, sink)
+    let options = options_of(alloc, words)?;
+    answer_lines(alloc, &options, source, sink)
 }
 
-// Lines that close a window.
-fn window_of(alloc: Global, words: &[Text]) -> Result<usize, RunFault>
-    ensures ok { IfOk result (λ window. option_map (λ options. options.window) (options_of words.now) ≡ Some window) }
+// What the words ask for.
+fn options_of(alloc: Global, words: &[Text]) -> Result<Options, RunFault>
+    ensures ok { IfOk result (λ options. options_of words.now ≡ Some options) }
     ensures usage { IsErrOf result RunFault.Usage → options_of words.now ≡ None }
     ensures kinds { IfErr result (λ fault. (fault ≡ RunFault.Usage) ⊎ (fault ≡ RunFault.Memory)) }
 {
     match options(alloc, words) {
-        Ok(options) => Ok(options.window as usize),
+        Ok(options) => Ok(options),
         Err(WordsFault::Usage) => Err(RunFault::Usage),
         Err(WordsFault::Memory) => Err(RunFault::Memory),
     }
 }
 
-// Answers the lines of the source, in windows of at most so many lines.
+// Answers the lines of the source, under the limits and in the windows of the options.
 fn answer_lines<I: Source, O: Sink>(
     alloc: Global,
-    limit: usize,
+    options: &Options,
     source: &mut I,
     sink: &mut O,
 ) -> Result<(), RunFault>
-    ensures ran { Ran limit (fault_in result)
+    ensures ran { Ran (limits_of options.now) options.now.window (fault_in result)
         (I.left source.old) (I.left source.new) (O.taken sink.old) (O.taken sink.new) }
     ensures read { IfErr result (λ fault. fault ≡ RunFault.Read → Rose (I.faults source.old) (I.faults source.new)) }
     ensures write { IfErr result (λ fault. IsWrite fault → Rose (O.faults sink.old) (O.faults sink.new)) }
 {
     let mut lines = Lines::new(alloc, MAX_LINE);
-    let mut session = Session::new(alloc, limit);
+    let mut session = Session::new(alloc, options);
     // A line takes a byte of the input at least, and no input has so many bytes.
     for _ in 0..u64::MAX {
         if !answer_line(alloc, &mut lines, &mut session, source, sink)? {

@@ -3,9 +3,11 @@
 ghost use Rattle.std.specs.Prelude.{◌≡◌, ℕ, ◌<◌, ◌≤◌, true, false, List, [], length, OnOk, IfOk, IfErr};
 ghost use Rattle.std.specs.Io.KnownBytes.{Appends};
 ghost use Rattle.tc_model.specs.Request.{max_line, request_of};
-ghost use Rattle.tc_model.specs.Run.{answers, after_all, is_control, max_window};
+ghost use Rattle.tc_world.specs.Run.{answers, is_control, max_window};
 ghost use Rattle.tc_server.specs.Stage.{AsksFor, FailsAtLine, HasWriteCause, TakesLine, WritesPart};
 ghost use Rattle.tc_server.specs.Asked.{request_asked};
+ghost use Rattle.tc_server.specs.Ending.{limits_of};
+ghost use Rattle.tc_server.specs.Limited.{empty_under, left_by_all};
 ghost use Rattle.tc_server.specs.Window.{requests_of};
 
 use crate::answer::{Asked, answer_all};
@@ -17,6 +19,7 @@ use std::mem;
 use tc_bytes::Bytes;
 use tc_command::Refusal;
 use tc_edge::{Sink, write_all};
+use tc_words::Options;
 
 /// The store, and the window that is open.
 #[derive(Drop)]
@@ -26,23 +29,23 @@ pub struct Session {
 }
 
 impl Session {
-    /// A session over an empty store, whose windows close at this many lines.
-    pub fn new(alloc: Global, limit: usize) -> Session
-        ensures pairs { result.store ≡ [] }
+    /// A session over an empty store with the limits and the windows of these options.
+    pub fn new(alloc: Global, options: &Options) -> Session
+        ensures store { result.store ≡ empty_under (limits_of options.now) }
         ensures requests { requests_of result.window ≡ [] }
         ensures bytes { result.window.bytes ≡ 0 }
-        ensures limit { result.window.limit ≡ limit }
+        ensures limit { result.window.limit ≡ options.now.window }
     {
         Session {
-            store: Store::new(alloc),
-            window: Window::new(alloc, limit),
+            store: Store::new(alloc, options.names, options.docs),
+            window: Window::new(alloc, options.window as usize),
         }
     }
 
     // The replies to the window that is open, which is empty afterwards.
     fn answers(&mut self, alloc: Global) -> Result<Vec<u8>, AllocError>
-        ensures replies { IfOk result (λ replies. replies.items ≡ answers (requests_of self.old.window) self.old.store) }
-        ensures pairs { OnOk result (self.new.store ≡ after_all (requests_of self.old.window) self.old.store) }
+        ensures replies { IfOk result (λ replies. replies.items ≡ answers self.old.store.limits (requests_of self.old.window) self.old.store.plain) }
+        ensures store { OnOk result (self.new.store ≡ left_by_all (requests_of self.old.window) self.old.store) }
         ensures requests { OnOk result (requests_of self.new.window ≡ []) }
         ensures bytes { OnOk result (self.new.window.bytes ≡ 0) }
         ensures limit { OnOk result (self.new.window.limit ≡ self.old.window.limit) }
@@ -55,12 +58,12 @@ impl Session {
     /// Answers the window that is open, and writes the replies. Errs where the sink fails, and for want of memory.
     pub fn close<O: Sink>(&mut self, alloc: Global, sink: &mut O) -> Result<(), RunFault>
         ensures written { OnOk result
-            (Appends (O.taken sink.old) (O.taken sink.new) (answers (requests_of self.old.window) self.old.store)) }
-        ensures pairs { OnOk result (self.new.store ≡ after_all (requests_of self.old.window) self.old.store) }
+            (Appends (O.taken sink.old) (O.taken sink.new) (answers self.old.store.limits (requests_of self.old.window) self.old.store.plain)) }
+        ensures store { OnOk result (self.new.store ≡ left_by_all (requests_of self.old.window) self.old.store) }
         ensures requests { OnOk result (requests_of self.new.window ≡ []) }
         ensures bytes { OnOk result (self.new.window.bytes ≡ 0) }
         ensures limit { OnOk result (self.new.window.limit ≡ self.old.window.limit) }
-        ensures fault { IfErr result (λ fault. WritesPart fault (answers (requests_of self.old.window) self.old.store) (O.taken sink.old) (O.taken sink.new)) }
+        ensures fault { IfErr result (λ fault. WritesPart fault (answers self.old.store.limits (requests_of self.old.window) self.old.store.plain) (O.taken sink.old) (O.taken sink.new)) }
         ensures cause { HasWriteCause (O.faults sink.old) (O.faults sink.new) result }
     {
         let replies = self.answers(alloc)?;
@@ -189,6 +192,6 @@ impl Session {
             → FailsAtLine fault line self.old (O.taken sink.old) (O.taken sink.new)) }
         ensures cause { HasWriteCause (O.faults sink.old) (O.faults sink.new) result }
     {
-        self.take(alloc, Asked::Refuse(Refusal::Oversized), 0, sink)
+        self.take(alloc, Asked::refused(Refusal::Oversized), 0, sink)
     }
 }

@@ -1,5 +1,7 @@
 //! Runs over sources and sinks in memory: what is written, and how each run ends.
 
+mod churn;
+
 use crate::{Outcome, RunFault, fault_text, serve};
 use std::alloc::{AllocError, Global};
 use std::test::Fail;
@@ -96,7 +98,7 @@ fn replies(rt: HostRuntime) -> Result<(), Fail> {
         ),
         (
             "{\"op\":\"flush\"}\n{\"op\":\"schema\"}\n{\"op\":\"query\",\"path\":[]}\n{\"op\":\"scan\",\"path\":[\"a\",0,null],\"eq\":1}\n{\"op\":\"collect\"}\n",
-            "{\"refused\":\"not_built\"}\n{\"refused\":\"not_built\"}\n{\"refused\":\"not_built\"}\n{\"refused\":\"not_built\"}\n{\"refused\":\"not_built\"}\n",
+            "{\"refused\":\"not_built\"}\n{\"schemas\":[null]}\n{\"refused\":\"not_built\"}\n{\"refused\":\"not_built\"}\n{\"refused\":\"not_built\"}\n",
         ),
     ];
     for (input, want) in table {
@@ -112,6 +114,72 @@ fn replies(rt: HostRuntime) -> Result<(), Fail> {
                 assert_eq!(rt; taken.as_slice(), want.as_bytes(), "{input}");
             }
         }
+    }
+    Ok(())
+}
+
+#[test]
+fn schemas_and_limits(rt: HostRuntime) -> Result<(), Fail> {
+    let table: [(&str, &str, &str); 9] = [
+        // A union of kinds is made, and collapses when a document goes.
+        (
+            PLAIN,
+            "{\"op\":\"upsert\",\"doc\":{\"id\":1,\"a\":1}}\n{\"op\":\"upsert\",\"doc\":{\"id\":2,\"a\":\"x\"}}\n{\"op\":\"schema\"}\n{\"op\":\"delete\",\"id\":2}\n{\"op\":\"schema\"}\n{\"op\":\"delete\",\"id\":1}\n{\"op\":\"schema\"}\n",
+            "{\"id\":1,\"replaced\":false}\n{\"id\":2,\"replaced\":false}\n{\"schemas\":[{\"count\":2,\"fields\":{\"a\":{\"count\":2,\"kind\":\"union\",\"kinds\":[{\"count\":1,\"kind\":\"integer\"},{\"count\":1,\"kind\":\"text\"}]}},\"kind\":\"object\"}]}\n{\"found\":true,\"id\":2}\n{\"schemas\":[{\"count\":1,\"fields\":{\"a\":{\"count\":1,\"kind\":\"integer\"}},\"kind\":\"object\"}]}\n{\"found\":true,\"id\":1}\n{\"schemas\":[null]}\n",
+        ),
+        // Items of several kinds.
+        (
+            PLAIN,
+            "{\"op\":\"upsert\",\"doc\":{\"id\":1,\"v\":[1,\"x\",[],{\"b\":null}]}}\n{\"op\":\"schema\"}\n",
+            "{\"id\":1,\"replaced\":false}\n{\"schemas\":[{\"count\":1,\"fields\":{\"v\":{\"count\":1,\"items\":{\"count\":4,\"kind\":\"union\",\"kinds\":[{\"count\":1,\"kind\":\"integer\"},{\"count\":1,\"kind\":\"text\"},{\"count\":1,\"items\":null,\"kind\":\"array\"},{\"count\":1,\"fields\":{\"b\":{\"count\":1,\"kind\":\"null\"}},\"kind\":\"object\"}]},\"kind\":\"array\"}},\"kind\":\"object\"}]}\n",
+        ),
+        // A document that is replaced, taken out and stored anew in one window.
+        (
+            PLAIN,
+            "{\"op\":\"upsert\",\"doc\":{\"id\":1,\"a\":1}}\n{\"op\":\"upsert\",\"doc\":{\"id\":1,\"a\":\"x\"}}\n{\"op\":\"delete\",\"id\":1}\n{\"op\":\"upsert\",\"doc\":{\"id\":1,\"b\":true}}\n{\"op\":\"schema\"}\n",
+            "{\"id\":1,\"replaced\":false}\n{\"id\":1,\"replaced\":true}\n{\"found\":true,\"id\":1}\n{\"id\":1,\"replaced\":false}\n{\"schemas\":[{\"count\":1,\"fields\":{\"b\":{\"count\":1,\"kind\":\"boolean\"}},\"kind\":\"object\"}]}\n",
+        ),
+        // Kinds that change deep inside.
+        (
+            PLAIN,
+            "{\"op\":\"upsert\",\"doc\":{\"id\":1,\"a\":{\"b\":[1,{\"c\":null}]}}}\n{\"op\":\"upsert\",\"doc\":{\"id\":1,\"a\":[true]}}\n{\"op\":\"schema\"}\n{\"op\":\"upsert\",\"doc\":{\"id\":2,\"a\":{\"b\":[]}}}\n{\"op\":\"upsert\",\"doc\":{\"id\":1}}\n{\"op\":\"schema\"}\n",
+            "{\"id\":1,\"replaced\":false}\n{\"id\":1,\"replaced\":true}\n{\"schemas\":[{\"count\":1,\"fields\":{\"a\":{\"count\":1,\"items\":{\"count\":1,\"kind\":\"boolean\"},\"kind\":\"array\"}},\"kind\":\"object\"}]}\n{\"id\":2,\"replaced\":false}\n{\"id\":1,\"replaced\":true}\n{\"schemas\":[{\"count\":2,\"fields\":{\"a\":{\"count\":1,\"fields\":{\"b\":{\"count\":1,\"items\":null,\"kind\":\"array\"}},\"kind\":\"object\"}},\"kind\":\"object\"}]}\n",
+        ),
+        // A delete without a document leaves the schema.
+        (
+            PLAIN,
+            "{\"op\":\"delete\",\"id\":9}\n{\"op\":\"schema\"}\n{\"op\":\"upsert\",\"doc\":{\"id\":5}}\n{\"op\":\"delete\",\"id\":9}\n{\"op\":\"schema\"}\n",
+            "{\"found\":false,\"id\":9}\n{\"schemas\":[null]}\n{\"id\":5,\"replaced\":false}\n{\"found\":false,\"id\":9}\n{\"schemas\":[{\"count\":1,\"fields\":{},\"kind\":\"object\"}]}\n",
+        ),
+        // Names are taken by accepted documents, at all depths, for good.
+        (
+            "run --partitions 1 --names 2",
+            "{\"op\":\"upsert\",\"doc\":{\"id\":1,\"a\":1,\"b\":2}}\n{\"op\":\"upsert\",\"doc\":{\"id\":2,\"c\":1}}\n{\"op\":\"upsert\",\"doc\":{\"id\":2,\"b\":{\"a\":0}}}\n{\"op\":\"delete\",\"id\":1}\n{\"op\":\"upsert\",\"doc\":{\"id\":3,\"c\":1}}\n",
+            "{\"id\":1,\"replaced\":false}\n{\"refused\":\"names_full\"}\n{\"id\":2,\"replaced\":false}\n{\"found\":true,\"id\":1}\n{\"refused\":\"names_full\"}\n",
+        ),
+        // A live key is never without room.
+        (
+            "run --partitions 1 --docs 1",
+            "{\"op\":\"upsert\",\"doc\":{\"id\":1}}\n{\"op\":\"upsert\",\"doc\":{\"id\":2}}\n{\"op\":\"upsert\",\"doc\":{\"id\":1,\"z\":1}}\n{\"op\":\"delete\",\"id\":1}\n{\"op\":\"upsert\",\"doc\":{\"id\":2}}\n",
+            "{\"id\":1,\"replaced\":false}\n{\"refused\":\"full\"}\n{\"id\":1,\"replaced\":true}\n{\"found\":true,\"id\":1}\n{\"id\":2,\"replaced\":false}\n",
+        ),
+        // The name of the second document is not taken, so there is room for another.
+        (
+            "run --partitions 1 --names 2 --docs 1",
+            "{\"op\":\"upsert\",\"doc\":{\"id\":1,\"a\":1}}\n{\"op\":\"upsert\",\"doc\":{\"id\":2,\"b\":1}}\n{\"op\":\"upsert\",\"doc\":{\"id\":1,\"c\":1}}\n{\"op\":\"schema\"}\n{\"op\":\"upsert\",\"doc\":{\"id\":1,\"b\":1}}\n{\"op\":\"schema\"}\n",
+            "{\"id\":1,\"replaced\":false}\n{\"refused\":\"full\"}\n{\"id\":1,\"replaced\":true}\n{\"schemas\":[{\"count\":1,\"fields\":{\"c\":{\"count\":1,\"kind\":\"integer\"}},\"kind\":\"object\"}]}\n{\"refused\":\"names_full\"}\n{\"schemas\":[{\"count\":1,\"fields\":{\"c\":{\"count\":1,\"kind\":\"integer\"}},\"kind\":\"object\"}]}\n",
+        ),
+        // Where both are full, the names are named.
+        (
+            "run --partitions 1 --names 1 --docs 1",
+            "{\"op\":\"upsert\",\"doc\":{\"id\":1,\"a\":1}}\n{\"op\":\"upsert\",\"doc\":{\"id\":2,\"b\":1}}\n{\"op\":\"upsert\",\"doc\":{\"id\":2,\"a\":1}}\n",
+            "{\"id\":1,\"replaced\":false}\n{\"refused\":\"names_full\"}\n{\"refused\":\"full\"}\n",
+        ),
+    ];
+    for (words, input, want) in table {
+        let (outcome, taken) = run(rt.alloc(), words, input.as_bytes(), SOUND)?;
+        assert_eq!(rt; outcome.status, 0);
+        assert_eq!(rt; taken.as_slice(), want.as_bytes(), "{input}");
     }
     Ok(())
 }

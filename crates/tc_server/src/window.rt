@@ -1,7 +1,7 @@
 //! A window: lines that are answered together.
 
 ghost use Rattle.std.specs.Prelude.{◌≡◌, ℕ, ◌+◌, ◌≤◌, ◌<◌, ◌^◌, ◌↔◌, ◌||◌, [], ◌∷◌, ◌++◌, length, nat_le, IsTrue, OnOk, OnErr};
-ghost use Rattle.tc_model.specs.Run.{max_window};
+ghost use Rattle.tc_world.specs.Run.{max_window};
 ghost use Rattle.tc_server.specs.Asked.{request_asked};
 ghost use Rattle.tc_server.specs.Window.{requests_of};
 

@@ -1,17 +1,18 @@
 use Rattle.std.proofs.Common.{ap, arith}
+use Rattle.tc_server.specs.Ending.{limits_of}
 use Rattle.tc_server.proofs.RunLemmas.{begins, gives_up}
 use Rattle.tc_server.proofs.server.answer_lines.Goals as goal
 
 pub loop-init : goal.loop-init
 loop-init g c =
-    let come = begins 1048576 c.new-lines.result c.new-session.result (g.I.Source.left c.args.source.now) (g.O.Sink.taken c.args.sink.now) c.new-lines.ensures c.new-session.ensures.pairs c.new-session.ensures.requests c.new-session.ensures.bytes in
+    let come = begins (limits_of c.args.options.now) 1048576 c.new-lines.result c.new-session.result (g.I.Source.left c.args.source.now) (g.O.Sink.taken c.args.sink.now) c.new-lines.ensures c.new-session.ensures.store c.new-session.ensures.requests c.new-session.ensures.bytes in
     (ap (λ r. r.failed) c.new-lines.ensures, ap (λ r. r.limit) c.new-lines.ensures, omega (arith, c.new-session.ensures.bytes), c.new-session.ensures.limit, come, omega arith, omega arith)
 
 pub returns-then-not-branch-clause-ran : goal.returns-then-not-branch-clause-ran
 returns-then-not-branch-clause-ran g c =
     let ended = rw c.if-not-branch.true at c.in_ok-answer_line.ensures.more in
-    rw (← c.loop.invariant.3) (ended (g.I.Source.left c.args.source.now) (g.O.Sink.taken c.args.sink.now) c.loop.invariant.4)
+    rw (← c.loop.invariant.3) (ended (limits_of c.args.options.now) (g.I.Source.left c.args.source.now) (g.O.Sink.taken c.args.sink.now) c.loop.invariant.4)
 
 pub returns-clause-ran : goal.returns-clause-ran
 returns-clause-ran g c =
-    rw (← c.loop.invariant.3) (gives_up c.loop.lines c.loop.session (g.I.Source.left c.args.source.now) (g.I.Source.left c.loop.source) (g.O.Sink.taken c.args.sink.now) (g.O.Sink.taken c.loop.sink) c.loop.invariant.4)
+    rw (← c.loop.invariant.3) (gives_up (limits_of c.args.options.now) c.loop.lines c.loop.session (g.I.Source.left c.args.source.now) (g.I.Source.left c.loop.source) (g.O.Sink.taken c.args.sink.now) (g.O.Sink.taken c.loop.sink) c.loop.invariant.4)

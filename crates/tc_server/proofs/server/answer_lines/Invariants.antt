@@ -1,11 +1,12 @@
 use Rattle.std.proofs.Common.{◌≡◌, ◌<◌, ◌≤◌, false}
-use Rattle.tc_model.specs.Run.{max_window}
+use Rattle.tc_world.specs.Run.{max_window}
+use Rattle.tc_server.specs.Ending.{limits_of}
 use Rattle.tc_server.specs.Progress.{HasCome}
 use Rattle.tc_server.proofs.server.answer_lines.Given as goal
 
 -- lines were taken, and the session stands behind them
 abbrev pub invariant-loop : goal.invariant-loop
 invariant-loop g l =
-    (l.lines.failed ≡ false) × (l.lines.limit ≡ 1048576) × (l.session.window.bytes < max_window) × (l.session.window.limit ≡ l.fn.limit)
-    × HasCome l.lines l.session (g.I.Source.left l.initial.source) (g.I.Source.left l.source) (g.O.Sink.taken l.initial.sink) (g.O.Sink.taken l.sink)
+    (l.lines.failed ≡ false) × (l.lines.limit ≡ 1048576) × (l.session.window.bytes < max_window) × (l.session.window.limit ≡ l.options.window)
+    × HasCome (limits_of l.options) l.lines l.session (g.I.Source.left l.initial.source) (g.I.Source.left l.source) (g.O.Sink.taken l.initial.sink) (g.O.Sink.taken l.sink)
     × (g.I.Source.faults l.initial.source ≤ g.I.Source.faults l.source) × (g.O.Sink.faults l.initial.sink ≤ g.O.Sink.faults l.sink)

@@ -1,9 +1,14 @@
-use Rattle.std.proofs.Common.{◌∙◌, ap, is_some}
-use Rattle.tc_server.proofs.PairLemmas.{is_some-lookup, map-remove_entry}
+use Rattle.std.proofs.Common.{◌∙◌, sym, ap, refl}
+use Rattle.std.specs.Prelude.{option_map}
+use Rattle.tc_counts.specs.Occurrences.{document_shape}
+use Rattle.tc_value.specs.ShapeMeaning.{shape_tree}
+use Rattle.tc_world.specs.Store.{stored}
+use Rattle.tc_server.proofs.Replacing.{none_taken_out}
+use Rattle.tc_server.proofs.StoreLemmas.{none_mapped, same_parts}
 use Rattle.tc_server.proofs.store.Store.delete.Goals as goal
 
-pub returns-clause-found : goal.returns-clause-found
-returns-clause-found c = rw (← c.self.view_is) (c.is_some.ensures ∙ ap is_some c.remove.ensures.value ∙ is_some-lookup c.args.key c.self.inside.docs.entries)
-
-pub returns-clause-gone : goal.returns-clause-gone
-returns-clause-gone c = rw (c.remove.ensures.entries, ← c.self.view_is) (map-remove_entry c.args.key c.self.inside.docs.entries)
+pub returns-in-None-clause-gone : goal.returns-in-None-clause-gone
+returns-in-None-clause-gone c =
+    let s = c.args.self.now in
+    let absent = none_mapped document_shape (stored c.args.key s.plain) (sym c.in_ok-shape.ensures ∙ ap (option_map shape_tree) c.in-None.is) in
+    sym (same_parts s.limits _ _ _ _ (none_taken_out c.args.key s.plain.pairs absent) refl)

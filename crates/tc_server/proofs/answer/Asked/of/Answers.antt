@@ -1,0 +1,7 @@
+use Rattle.std.proofs.Common.{subst}
+use Rattle.tc_model.specs.Request.{max_line}
+use Rattle.tc_world.proofs.LineWeight.{IsLight, request_weight}
+use Rattle.tc_server.proofs.answer.Asked.of.Goals as goal
+
+pub invariant_of-result : goal.invariant_of-result
+invariant_of-result c = subst (IsLight max_line) c.in-Ok.ensures.asked (request_weight c.args.line.now)
