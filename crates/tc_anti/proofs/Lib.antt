@@ -1,0 +1,4 @@
+pub mod Vanishing
+pub mod FitLaws
+pub mod RoomToTake
+pub mod TakenFields

@@ -1,0 +1,7 @@
+//! One document less in a schema that was inferred.
+#![tactic(auto)]
+
+mod subtracting;
+mod taking;
+
+pub use subtracting::{shapes_fit, subtract};

@@ -1,0 +1,35 @@
+//! One document less.
+
+ghost use Rattle.std.specs.Prelude.{◌≡◌, ◌+◌, ◌++◌, ◌∷◌, List, length};
+ghost use Rattle.tc_model.specs.Document.{Document};
+ghost use Rattle.tc_counts.specs.Occurrences.{Kind, Path, occurrences, document_shape};
+ghost use Rattle.tc_counts.specs.Counted.{shows, IsCanonical};
+ghost use Rattle.tc_counts.specs.Fits.{FitsByPath};
+ghost use Rattle.tc_counts.specs.Stands.{StandsFor};
+ghost use Rattle.tc_value.specs.ShapeMeaning.{shape_tree};
+
+use crate::taking::take_shape;
+use std::mem;
+use tc_names::Names;
+use tc_schema::Schema;
+use tc_value::Shape;
+
+/// Takes one document of a shape off. Always succeeds, and takes no memory.
+pub fn subtract(schema: &mut Schema, names: &Names, shape: &Shape)
+    requires fits { FitsByPath names.now schema.old (shape_tree shape.now) }
+    ensures counted { (path : Path) (t : Kind) → shows names.now schema.new path t + occurrences (shape_tree shape.now) path t ≡ shows names.now schema.old path t }
+    ensures canonical { IsCanonical (length names.now) schema.new }
+    ensures stands { (before after : List Document) (doc : Document) → document_shape doc ≡ shape_tree shape.now → StandsFor names.now schema.old (before ++ doc ∷ after) → StandsFor names.now schema.new (before ++ after) }
+{
+    // that the names are distinct, and fewer than 2^32
+    let _known = names.len();
+    let alloc = *schema.root().fields.allocator();
+    let mut root = mem::replace(schema, Schema::empty(alloc)).into_root();
+    take_shape(shape, names, &mut root);
+    *schema = Schema::of(root);
+}
+
+/// A schema of documents fits the shape of each of them.
+pub fn shapes_fit(schema: &Schema, names: &Names, shape: &Shape)
+    ensures { (before after : List Document) (doc : Document) → document_shape doc ≡ shape_tree shape.now → StandsFor names.now schema.now (before ++ doc ∷ after) → FitsByPath names.now schema.now (shape_tree shape.now) }
+{}
