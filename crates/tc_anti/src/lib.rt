@@ -5,3 +5,6 @@ mod subtracting;
 mod taking;
 
 pub use subtracting::{shapes_fit, subtract};
+
+#[cfg(test)]
+mod tests;

@@ -1,0 +1,11 @@
+use Rattle.std.proofs.Common.{arith}
+use Rattle.tc_value.specs.ShapeMeaning.{shape_tree}
+use Rattle.tc_infer.proofs.ValueBounds.{values_at-size}
+use Rattle.tc_anti.proofs.SizeBounds.{room_within}
+use Rattle.tc_anti.proofs.tests.kept.bound_with.Goals as goal
+
+pub returns-clause-counters : goal.returns-clause-counters
+returns-clause-counters c = λ path. omega (arith, values_at-size (shape_tree c.args.shape.now) path, c.in_ok-size.ensures.size, c.from.ensures, c.in_ok-bound.ensures)
+
+pub returns-clause-room : goal.returns-clause-room
+returns-clause-room c = omega (arith, room_within c.args.names.now (shape_tree c.args.shape.now), c.in_ok-size.ensures.size, c.len.ensures.count, c.in_ok-_numbers.ensures)

@@ -1,0 +1,182 @@
+//! A schema beside the documents that it stands for.
+
+ghost use Rattle.std.specs.Prelude.{◌≡◌, ◌+◌, ◌<◌, ◌≤◌, ◌^◌, All, IfSome, length, map};
+ghost use Rattle.std.specs.List.{AllByRecursion};
+ghost use Rattle.tc_model.specs.Tree.{items_of, members_of};
+ghost use Rattle.tc_counts.specs.Occurrences.{Path};
+ghost use Rattle.tc_counts.specs.ShapeNames.{names_within, names_of_items, names_of_members, all_learned};
+ghost use Rattle.tc_infer.specs.Values.{values_at};
+ghost use Rattle.tc_value.specs.ShapeMeaning.{shape_tree, shape_member};
+ghost use Rattle.tc_value.specs.TreeSize.{tree_size, trees_size, labelled_size};
+
+use crate::{shapes_fit, subtract};
+use std::alloc::Global;
+use std::marker::Model;
+use std::test::Fail;
+use tc_bytes::Bytes;
+use tc_infer::add;
+use tc_names::Names;
+use tc_schema::Schema;
+use tc_value::{Doc, Shape, ShapeMember};
+
+/// A schema, and the documents that it stands for, the newest first. No place counts more than so many values. Contracts
+/// see how many documents there are.
+#[derive(Drop)]
+pub struct Kept {
+    names: Names,
+    schema: Schema,
+    docs: Vec<Doc>,
+    values: u64,
+}
+
+impl Model for Kept {
+    ghost use Rattle.std.specs.Prelude.{◌≤◌, ℕ, length, map};
+    ghost use Rattle.tc_counts.specs.Occurrences.{Path};
+    ghost use Rattle.tc_counts.specs.Counted.{total_at};
+    ghost use Rattle.tc_counts.specs.Stands.{StandsFor};
+    ghost use Rattle.tc_value.specs.Meaning.{tree_of};
+
+    ghost Value = { ℕ };
+
+    ghost view = { λ a. length a.docs.items };
+
+    ghost invariant = { λ a. StandsFor a.names a.schema (map tree_of a.docs.items) × ((path : Path) → total_at a.names a.schema path ≤ a.values) };
+}
+
+impl Kept {
+    /// No document, under these names.
+    pub fn none(alloc: Global, names: Names) -> Kept {
+        // that the names are distinct
+        let _known = names.len();
+        Kept {
+            names,
+            schema: Schema::empty(alloc),
+            docs: Vec::new(alloc),
+            values: 0,
+        }
+    }
+
+    /// One document more.
+    pub fn with(self, alloc: Global, doc: Doc) -> Result<Kept, Fail> {
+        let Kept {
+            mut names,
+            mut schema,
+            mut docs,
+            values,
+        } = self;
+        let shape = doc.shape(alloc)?;
+        let Some(values) = bound_with(&shape, &names, values) else {
+            return Err(Fail::new("too large a document"));
+        };
+        add(&mut schema, &mut names, &shape)?;
+        docs.insert(0, doc)?;
+        Ok(Kept {
+            names,
+            schema,
+            docs,
+            values,
+        })
+    }
+
+    /// The document at a place less.
+    pub fn without(self, alloc: Global, at: usize) -> Result<Kept, Fail> {
+        let Kept {
+            names,
+            mut schema,
+            mut docs,
+            values,
+        } = self;
+        if at >= docs.len() {
+            return Err(Fail::new("no such document"));
+        }
+        let shape = docs[at].shape(alloc)?;
+        shapes_fit(&schema, &names, &shape);
+        subtract(&mut schema, &names, &shape);
+        docs.remove(at);
+        Ok(Kept {
+            names,
+            schema,
+            docs,
+            values,
+        })
+    }
+
+    /// The same documents, inferred from nothing under the same names.
+    pub fn anew(&self, alloc: Global) -> Result<Kept, Fail> {
+        let mut fresh = Kept::none(alloc, self.names.copy()?);
+        for doc in &self.docs {
+            fresh = fresh.with(alloc, doc.copy(alloc)?)?;
+        }
+        Ok(fresh)
+    }
+
+    pub fn bytes(&self, alloc: Global) -> Result<Bytes, Fail> {
+        Ok(self.schema.to_bytes(alloc)?)
+    }
+
+    pub fn text(&self, alloc: Global) -> Result<String, Fail> {
+        let value = self.schema.value(alloc, &self.names)?;
+        Ok(value.to_string(alloc)?)
+    }
+
+    pub fn len(&self) -> usize {
+        self.docs.len()
+    }
+
+    /// How many names were ever learned.
+    pub fn names(&self) -> u32 {
+        self.names.len()
+    }
+}
+
+/// A bound on the values of a place once the shape is counted, if there is room for it.
+fn bound_with(shape: &Shape, names: &Names, values: u64) -> Option<u64>
+    ensures counters { IfSome result (λ bound. (path : Path) → values + values_at (shape_tree shape.now) path ≤ bound) }
+    ensures room { IfSome result (λ _. length (all_learned names.now (names_within (shape_tree shape.now))) < 2 ^ 32) }
+    ensures short { IfSome result (λ _. All (λ name. length name < 2 ^ 32) (names_within (shape_tree shape.now))) }
+{
+    let size = size_of(shape)?;
+    let _numbers = names.len().checked_add(size)?;
+    let bound = values.checked_add(u64::from(size))?;
+    Some(bound)
+}
+
+/// How many values a shape has, if they and its names' bytes are fewer than 2^32.
+#[cycle(sizing)]
+fn size_of(shape: &Shape) -> Option<u32>
+    ensures size { IfSome result (λ n. n ≡ tree_size (shape_tree shape.now)) }
+    ensures short { IfSome result (λ _. AllByRecursion (λ name. length name < 2 ^ 32) (names_within (shape_tree shape.now))) }
+{
+    match shape {
+        Shape::Array(items) => size_of_items(items.as_slice())?.checked_add(1),
+        Shape::Object(members) => size_of_members(members.as_slice())?.checked_add(1),
+        _ => Some(1),
+    }
+}
+
+#[cycle(sizing)]
+fn size_of_items(items: &[Shape]) -> Option<u32>
+    ensures size { IfSome result (λ n. n ≡ trees_size (map shape_tree items.now)) }
+    ensures short { IfSome result (λ _. AllByRecursion (λ name. length name < 2 ^ 32) (names_of_items (items_of (map shape_tree items.now)))) }
+{
+    let mut sum: u32 = 0;
+    for item in items {
+        sum = sum.checked_add(size_of(item)?)?;
+    }
+    Some(sum)
+}
+
+#[cycle(sizing)]
+fn size_of_members(members: &[ShapeMember]) -> Option<u32>
+    ensures size { IfSome result (λ n. n ≡ labelled_size (map shape_member members.now)) }
+    ensures short { IfSome result (λ _. AllByRecursion (λ name. length name < 2 ^ 32) (names_of_members (members_of (map shape_member members.now)))) }
+{
+    let mut sum: u32 = 0;
+    for member in members {
+        if member.name.as_str().len() > 255 {
+            return None;
+        }
+        sum = sum.checked_add(size_of(&member.value)?)?;
+    }
+    Some(sum)
+}
