@@ -1,37 +1,60 @@
--- A field that is written and then taken out, and whether it is kept.
-use Rattle.std.proofs.Common.{◌≡◌, ◌≢◌, ℕ, zero, suc, ◌<◌, ◌==◌, Bool, true, false, List, [], ◌∷◌, length, map, set, get_or, get_or-set_same, refl, sym, ap, ◌∙◌, arith}
+-- The field of a member: where it stands, what is counted there once a shape is taken off, and whether it is kept.
+use Rattle.std.proofs.Common.{◌≡◌, ◌≢◌, ℕ, zero, suc, ◌<◌, ◌==◌, Bool, true, false, List, [], ◌∷◌, Option, Some, IsTrue, is_some, length, map, set, get_or, get_or-set_same, refl, sym, ap, ◌∙◌, subst, arith}
 use Rattle.std.specs.List.{remove}
 use Rattle.std.proofs.lemmas.Bool.Decides.{Decides-eqb}
-use Rattle.tc_counts.specs.Counted.{Counted, Fields, documents_of, total}
-use Rattle.tc_counts.specs.Added.{put_field, without_field, kept_field}
+use Rattle.std.proofs.lemmas.List.{length-map}
+use Rattle.std.proofs.lemmas.Option.{same_Some}
+use Rattle.tc_model.specs.Document.{Name}
+use Rattle.tc_names.specs.Dictionary.{number_of}
+use Rattle.tc_counts.specs.Counted.{Counted, Fields, field_at, documents_of, total}
+use Rattle.tc_counts.specs.Added.{put_field, without_field, kept_field, number}
+use Rattle.tc_counts.proofs.NumberLaws.{numbered}
 use Rattle.tc_schema.specs.Places.{place_counted, field_counted, fields_counted, listed}
 use Rattle.tc_schema.specs.Search.{IsPlaceOf}
 use Rattle.tc_schema.specs.declared.place.Node.{Node}
 use Rattle.tc_schema.specs.declared.place.Field.{Field}
 use Rattle.tc_schema.specs.declared.place.Field.TheViews.{out-Node, out-Field, roll-Field, out-roll-Field}
+use Rattle.tc_schema.proofs.FieldViews.{counted_at}
 use Rattle.tc_schema.proofs.PlaceViews.{place_parts}
-use Rattle.tc_infer.proofs.FieldWrites.{written_field}
+use Rattle.tc_infer.proofs.FieldWrites.{number_at, written_field}
 
-pub taken_after_set : {X Y : Type 0} (f : X → Y) (xs : List X) (i : ℕ) (x : X) → i < length xs → map f (remove (set xs i x) i) ≡ remove (map f xs) i
+-- ---- the field that a search found
+
+pub record Found (n i : ℕ) (all : List Field) (here : Field) : Type 0 where
+  pub place : IsPlaceOf n (map field_counted all) i
+  pub inside : i < length all
+  pub own : (out-Field here).number ≡ n
+  pub counted : place_counted (out-Field here).node ≡ field_at n (fields_counted all)
+
+-- by the number that the dictionary told
+pub found : (names : List Name) (name asked : Name) (told : Option ℕ) (n i : ℕ) (all searched : List Field) (here : Field)
+    → IsTrue (is_some (number_of names name)) → asked ≡ name → told ≡ number_of names asked → told ≡ Some n → searched ≡ all → IsPlaceOf n (map field_counted searched) i → here ≡ get_or all i here → Found (number names name) i all here
+found names name asked told n i all searched here known same answer some over stands is =
+    let number_is : n ≡ number names name = same_Some _ _ (sym some ∙ answer ∙ ap (number_of names) same ∙ numbered names name known) in
+    let place = subst (λ k. IsPlaceOf k (map field_counted all) i) number_is (subst (λ fs. IsPlaceOf n (map field_counted fs) i) over stands) in
+    let there = field_at (number names name) (fields_counted all) in
+    record {
+      place = place;
+      inside = subst (λ l. i < l) (length-map all field_counted) place.inside;
+      own = ap (λ f. (out-Field f).number) is ∙ number_at all i here (number names name) there place.here;
+      counted = ap (λ f. place_counted (out-Field f).node) is ∙ counted_at all i here (number names name) there place.here;
+    }
+
+-- ---- what is written there, and taken out
+
+taken_after_set : {X Y : Type 0} (f : X → Y) (xs : List X) (i : ℕ) (x : X) → i < length xs → map f (remove (set xs i x) i) ≡ remove (map f xs) i
 taken_after_set f [] i x inside = absurd (omega arith)
 taken_after_set f (y ∷ xs) zero x inside = refl
 taken_after_set f (y ∷ xs) (suc i) x inside = ap (λ ys. f y ∷ ys) (taken_after_set f xs i x (omega arith))
 
--- where the field of a number stands, its place is written, or it is taken out
-pub put_at : (fs : List Field) (i n k : ℕ) (node : Node) (d : Counted) → IsPlaceOf n (map field_counted fs) i → k ≡ n → place_counted node ≡ d
-    → fields_counted (set fs i (roll-Field record { number = k; node = node })) ≡ put_field n d (fields_counted fs)
-put_at fs i n k node d place number is = written_field fs i n k node d number is ∙ place.written d
-
-pub taken_at : (fs : List Field) (i n : ℕ) (f : Field) → IsPlaceOf n (map field_counted fs) i → i < length fs → fields_counted (remove (set fs i f) i) ≡ without_field n (fields_counted fs)
-taken_at fs i n f place inside = ap listed (taken_after_set field_counted fs i f inside) ∙ place.taken
-
 -- what is counted there once it is written
-pub counted_there : (fs : List Field) (i k : ℕ) (node : Node) (here : Field) → i < length fs → here ≡ get_or (set fs i (roll-Field record { number = k; node = node })) i here
+counted_there : (fs : List Field) (i k : ℕ) (node : Node) (here : Field) → i < length fs → here ≡ get_or (set fs i (roll-Field record { number = k; node = node })) i here
     → total (out-Node (out-Field here).node).counts ≡ documents_of (place_counted node)
 counted_there fs i k node here inside is =
     ap (λ f. total (out-Node (out-Field f).node).counts) (is ∙ get_or-set_same fs i (roll-Field record { number = k; node = node }) here inside) ∙ rw (out-roll-Field) (sym (ap documents_of (place_parts node)))
 
--- a place that counts nothing leaves, and any other is kept
+-- ---- whether it is kept
+
 is_none : (d : Counted) → documents_of d ≡ 0 → (documents_of d == 0) ≡ true
 is_none d none = (Decides-eqb (documents_of d) 0).1 none
 
@@ -42,8 +65,26 @@ is_some_there d some = cases (documents_of d == 0) (Decides-eqb (documents_of d)
     cases true decides = absurd (some (decides refl))
     cases false decides = refl
 
-pub field_leaves : (n : ℕ) (d : Counted) (fs : Fields) → documents_of d ≡ 0 → without_field n fs ≡ kept_field n d fs
+field_leaves : (n : ℕ) (d : Counted) (fs : Fields) → documents_of d ≡ 0 → without_field n fs ≡ kept_field n d fs
 field_leaves n d fs none = rw (is_none d none) refl
 
-pub field_stays : (n : ℕ) (d : Counted) (fs : Fields) → documents_of d ≢ 0 → put_field n d fs ≡ kept_field n d fs
+field_stays : (n : ℕ) (d : Counted) (fs : Fields) → documents_of d ≢ 0 → put_field n d fs ≡ kept_field n d fs
 field_stays n d fs some = rw (is_some_there d some) refl
+
+-- the node is written, and stays where it counts something
+pub stays : (n i : ℕ) (all : List Field) (here there : Field) (node : Node) (d : Counted) → Found n i all here → place_counted node ≡ d
+    → there ≡ get_or (set all i (roll-Field record { number = (out-Field here).number; node = node })) i there → total (out-Node (out-Field there).node).counts ≢ 0
+    → fields_counted (set all i (roll-Field record { number = (out-Field here).number; node = node })) ≡ kept_field n d (fields_counted all)
+stays n i all here there node d f is again some =
+    written_field all i n (out-Field here).number node d f.own is
+    ∙ f.place.written d
+    ∙ field_stays n d (fields_counted all) (λ none. some (counted_there all i (out-Field here).number node there f.inside again ∙ ap documents_of is ∙ none))
+
+-- and leaves where it counts nothing
+pub leaves : (n i : ℕ) (all : List Field) (here there : Field) (node : Node) (d : Counted) → Found n i all here → place_counted node ≡ d
+    → there ≡ get_or (set all i (roll-Field record { number = (out-Field here).number; node = node })) i there → total (out-Node (out-Field there).node).counts ≡ 0
+    → fields_counted (remove (set all i (roll-Field record { number = (out-Field here).number; node = node })) i) ≡ kept_field n d (fields_counted all)
+leaves n i all here there node d f is again none =
+    ap listed (taken_after_set field_counted all i (roll-Field record { number = (out-Field here).number; node = node }) f.inside)
+    ∙ f.place.taken
+    ∙ field_leaves n d (fields_counted all) (ap documents_of (sym is) ∙ sym (counted_there all i (out-Field here).number node there f.inside again) ∙ none)

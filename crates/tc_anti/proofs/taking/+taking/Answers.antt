@@ -1,10 +1,8 @@
-use Rattle.std.proofs.Common.{◌≡◌, ◌+◌, ◌<◌, Some, length, map, drop, refl, sym, ap, ◌∙◌, subst, arith, rules}
-use Rattle.std.proofs.lemmas.List.{length-map}
-use Rattle.std.proofs.lemmas.Option.{same_Some}
+use Rattle.std.proofs.Common.{◌≡◌, ◌+◌, Some, length, map, drop, refl, sym, ap, ◌∙◌, subst, arith, rules}
 use Rattle.tc_model.specs.Tree.{array, object, item, no_items, member, no_members, items_of, members_of}
 use Rattle.tc_names.specs.Dictionary.{number_of}
-use Rattle.tc_counts.specs.Counted.{field_at, documents_of, IsCanonical, IsBelowCanonical, AreFieldsCanonical, AreFieldsOrdered}
-use Rattle.tc_counts.specs.Added.{removed, items_removed, members_removed, put_field, without_field, number}
+use Rattle.tc_counts.specs.Counted.{field_at, IsCanonical, IsBelowCanonical, AreFieldsCanonical, AreFieldsOrdered}
+use Rattle.tc_counts.specs.Added.{removed, items_removed, members_removed, number}
 use Rattle.tc_counts.specs.Fits.{Fits, ItemsFit, MembersFit}
 use Rattle.tc_counts.proofs.AddedLaws.{field_canonical}
 use Rattle.tc_counts.proofs.FieldLaws.{fields_ordered}
@@ -12,15 +10,12 @@ use Rattle.tc_counts.proofs.NumberLaws.{numbered}
 use Rattle.tc_counts.proofs.RemovedLaws.{canonical-items_removed, canonical-members_removed}
 use Rattle.tc_value.specs.ShapeMeaning.{shape_tree, shape_member}
 use Rattle.tc_value.specs.TreeSize.{tree_size}
-use Rattle.tc_schema.specs.Places.{place_counted, field_counted, below_counted, fields_counted}
-use Rattle.tc_schema.specs.Search.{IsPlaceOf}
-use Rattle.tc_schema.specs.declared.place.Field.TheViews.{out-Node, roll-Node, out-roll-Node, out-Field, roll-Field}
+use Rattle.tc_schema.specs.Places.{place_counted, below_counted, fields_counted}
+use Rattle.tc_schema.specs.declared.place.Field.TheViews.{out-Node, roll-Node, out-roll-Node}
 use Rattle.tc_schema.proofs.PlaceViews.{place_parts}
-use Rattle.tc_schema.proofs.FieldViews.{counted_at}
-use Rattle.tc_infer.proofs.FieldWrites.{number_at}
 use Rattle.tc_infer.proofs.ShapeWalks.{items_from, members_from, item_size, member_size}
 use Rattle.tc_anti.proofs.RoomToTake.{some_here}
-use Rattle.tc_anti.proofs.TakenFields.{put_at, taken_at, counted_there, field_leaves, field_stays}
+use Rattle.tc_anti.proofs.TakenFields.{found, stays, leaves}
 use Rattle.tc_anti.proofs.taking.+taking.Goals as goal
 
 -- ---- the place itself
@@ -120,68 +115,37 @@ take_member-search_fields-requires t c =
 pub take_member-take_shape-requires : goal.take_member-take_shape-requires
 take_member-take_shape-requires t c =
     let names = c.args.names.now in
-    let name = c.args.member.now.name in
-    let s = shape_tree c.args.member.now.value in
+    let m = c.args.member.now in
     let all = c.args.fields.now.items in
-    let fields = fields_counted all in
     let here = c.index_mut.result.now in
-    let number_is : c.unwrap-number.result ≡ number names name = same_Some _ _ (sym c.unwrap-number.ensures ∙ c.id_of.ensures.number ∙ ap (number_of names) c.as_str.ensures.bytes ∙ numbered names name c.requires.known) in
-    let place = subst (λ fs. IsPlaceOf c.unwrap-number.result (map field_counted fs) c.in-Ok.at) c.deref.ensures.value c.in-Ok.ensures.found in
-    let stands = counted_at all c.in-Ok.at here c.unwrap-number.result (field_at c.unwrap-number.result fields) place.here in
-    let counted : place_counted (out-Field here).node ≡ field_at (number names name) fields =
-    ap (λ f. place_counted (out-Field f).node) c.index_mut.ensures.value ∙ stands ∙ ap (λ n. field_at n fields) number_is in (
-      omega (arith, c.decreases),
-      (
-        subst (IsCanonical (length names)) (sym counted) (field_canonical (length names) 0 (number names name) fields c.requires.canonical),
-        subst (Fits names s) (sym counted) c.requires.fits,
-      ),
-    )
+    let f = found names m.name c.as_str.result.now c.id_of.result c.unwrap-number.result c.in-Ok.at all c.deref.result.now here c.requires.known c.as_str.ensures.bytes c.id_of.ensures.number c.unwrap-number.ensures c.deref.ensures.value c.in-Ok.ensures.found c.index_mut.ensures.value in
+    let canonical = field_canonical (length names) 0 (number names m.name) (fields_counted all) c.requires.canonical in
+    (omega (arith, c.decreases), (subst (IsCanonical (length names)) (sym f.counted) canonical, subst (Fits names (shape_tree m.value)) (sym f.counted) c.requires.fits))
 
 pub take_member-returns-else-total-eq0 : goal.take_member-returns-else-total-eq0
 take_member-returns-else-total-eq0 t c =
     let names = c.args.names.now in
-    let name = c.args.member.now.name in
-    let s = shape_tree c.args.member.now.value in
-    let n = c.unwrap-number.result in
+    let m = c.args.member.now in
     let all = c.args.fields.now.items in
-    let fields = fields_counted all in
     let here = c.index_mut.result.now in
-    let d = removed names s (field_at (number names name) fields) in
-    let number_is : n ≡ number names name = same_Some _ _ (sym c.unwrap-number.ensures ∙ c.id_of.ensures.number ∙ ap (number_of names) c.as_str.ensures.bytes ∙ numbered names name c.requires.known) in
-    let place = subst (λ fs. IsPlaceOf n (map field_counted fs) c.in-Ok.at) c.deref.ensures.value c.in-Ok.ensures.found in
-    let inside : c.in-Ok.at < length all = subst (λ k. c.in-Ok.at < k) (length-map all field_counted) place.inside in
-    let stands = counted_at all c.in-Ok.at here n (field_at n fields) place.here in
-    let counted : place_counted (out-Field here).node ≡ field_at (number names name) fields =
-    ap (λ f. place_counted (out-Field f).node) c.index_mut.ensures.value ∙ stands ∙ ap (λ n. field_at n fields) number_is in
-    let own : (out-Field here).number ≡ n = ap (λ f. (out-Field f).number) c.index_mut.ensures.value ∙ number_at all c.in-Ok.at here n (field_at n fields) place.here in
-    let is : place_counted c.take_shape.new.place ≡ d = c.take_shape.ensures ∙ ap (removed names s) counted in
-    let there = counted_there all c.in-Ok.at (out-Field here).number c.take_shape.new.place c.index.result.now inside c.index.ensures in
-    put_at all c.in-Ok.at n (out-Field here).number c.take_shape.new.place d place own is
-    ∙ ap (λ k. put_field k d fields) number_is
-    ∙ field_stays (number names name) d fields (λ none. c.if-total-eq0.false (c.total.ensures.total ∙ there ∙ ap documents_of is ∙ none))
+    let f = found names m.name c.as_str.result.now c.id_of.result c.unwrap-number.result c.in-Ok.at all c.deref.result.now here c.requires.known c.as_str.ensures.bytes c.id_of.ensures.number c.unwrap-number.ensures c.deref.ensures.value c.in-Ok.ensures.found c.index_mut.ensures.value in
+    let n = number names m.name in
+    let s = shape_tree m.value in
+    stays n c.in-Ok.at all here c.index.result.now c.take_shape.new.place (removed names s (field_at n (fields_counted all))) f
+    (c.take_shape.ensures ∙ ap (removed names s) f.counted) c.index.ensures (λ none. c.if-total-eq0.false (c.total.ensures.total ∙ none))
 
 pub take_member-returns-then-total-eq0 : goal.take_member-returns-then-total-eq0
 take_member-returns-then-total-eq0 t c =
     let names = c.args.names.now in
-    let name = c.args.member.now.name in
-    let s = shape_tree c.args.member.now.value in
-    let n = c.unwrap-number.result in
+    let m = c.args.member.now in
     let all = c.args.fields.now.items in
-    let fields = fields_counted all in
     let here = c.index_mut.result.now in
-    let d = removed names s (field_at (number names name) fields) in
-    let number_is : n ≡ number names name = same_Some _ _ (sym c.unwrap-number.ensures ∙ c.id_of.ensures.number ∙ ap (number_of names) c.as_str.ensures.bytes ∙ numbered names name c.requires.known) in
-    let place = subst (λ fs. IsPlaceOf n (map field_counted fs) c.in-Ok.at) c.deref.ensures.value c.in-Ok.ensures.found in
-    let inside : c.in-Ok.at < length all = subst (λ k. c.in-Ok.at < k) (length-map all field_counted) place.inside in
-    let stands = counted_at all c.in-Ok.at here n (field_at n fields) place.here in
-    let counted : place_counted (out-Field here).node ≡ field_at (number names name) fields =
-    ap (λ f. place_counted (out-Field f).node) c.index_mut.ensures.value ∙ stands ∙ ap (λ n. field_at n fields) number_is in
-    let is : place_counted c.take_shape.new.place ≡ d = c.take_shape.ensures ∙ ap (removed names s) counted in
-    let there = counted_there all c.in-Ok.at (out-Field here).number c.take_shape.new.place c.index.result.now inside c.index.ensures in
+    let f = found names m.name c.as_str.result.now c.id_of.result c.unwrap-number.result c.in-Ok.at all c.deref.result.now here c.requires.known c.as_str.ensures.bytes c.id_of.ensures.number c.unwrap-number.ensures c.deref.ensures.value c.in-Ok.ensures.found c.index_mut.ensures.value in
+    let n = number names m.name in
+    let s = shape_tree m.value in
     ap fields_counted c.remove.ensures.items
-    ∙ taken_at all c.in-Ok.at n (roll-Field record { number = (out-Field here).number; node = c.take_shape.new.place }) place inside
-    ∙ ap (λ k. without_field k fields) number_is
-    ∙ field_leaves (number names name) d fields (ap documents_of (sym is) ∙ sym there ∙ sym c.total.ensures.total ∙ c.if-total-eq0.true)
+    ∙ leaves n c.in-Ok.at all here c.index.result.now c.take_shape.new.place (removed names s (field_at n (fields_counted all))) f
+    (c.take_shape.ensures ∙ ap (removed names s) f.counted) c.index.ensures (sym c.total.ensures.total ∙ c.if-total-eq0.true)
 
 pub take_members-take_member-requires : goal.take_members-take_member-requires
 take_members-take_member-requires t c =
