@@ -1,7 +1,7 @@
 -- What the tests know of a schema beside its documents: how many names a shape can add, how many values stand at a path,
 -- that nothing stands for no document, and how the documents fall apart at one of them.
 use Rattle.std.proofs.Common.{◌≡◌, ℕ, zero, suc, ◌+◌, ◌<◌, ◌≤◌, Bool, true, false, List, [], ◌∷◌, ◌++◌, length, map, take, drop, get_or, bytes_eq, is_some, if◌then◌else◌, refl, sym, ap, arith, length-append}
-use Rattle.std.specs.List.{AllByRecursion, IsDistinct, remove}
+use Rattle.std.specs.List.{IsDistinct, remove}
 use Rattle.tc_model.specs.Tree.{leaf, array, object, Items, no_items, item, Members, no_members, member}
 use Rattle.tc_model.specs.Document.{Name, ShapeTree, ScalarKind, null_kind, boolean_kind, integer_kind, text_kind}
 use Rattle.tc_names.specs.Dictionary.{number_of, learned}
@@ -42,10 +42,6 @@ mutual
 
 pub room_within : (known : List Name) (s : ShapeTree) → length (all_learned known (names_within s)) ≤ length known + tree_size s
 room_within known s = omega (arith, length-all_learned-most known (names_within s), names_within-size s)
-
-pub all_of_both : {X : Type 0} (P : X → Type 0) (xs ys : List X) → AllByRecursion P xs → AllByRecursion P ys → AllByRecursion P (xs ++ ys)
-all_of_both P [] ys first rest = rest
-all_of_both P (x ∷ xs) ys first rest = (first.0, all_of_both P xs ys first.1 rest)
 
 -- ---- values
 

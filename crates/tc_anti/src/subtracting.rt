@@ -14,7 +14,8 @@ use tc_names::Names;
 use tc_schema::Schema;
 use tc_value::Shape;
 
-/// Takes one document of a shape off. Always succeeds, and takes no memory.
+/// Takes one document of a shape off. Always succeeds, and takes no memory. The field of each member is found by a
+/// binary search, and a field that leaves moves those behind it up by one.
 pub fn subtract(schema: &mut Schema, names: &Names, shape: &Shape)
     requires fits { FitsByPath names.now schema.old (shape_tree shape.now) }
     ensures counted { (path : Path) (t : Kind) → shows names.now schema.new path t + occurrences (shape_tree shape.now) path t ≡ shows names.now schema.old path t }
