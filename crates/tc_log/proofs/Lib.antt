@@ -1,0 +1,4 @@
+pub mod KeylessRecords
+pub mod Entries
+pub mod Frames
+pub mod Logs
