@@ -7,7 +7,12 @@ use Rattle.std.proofs.lemmas.Bool.Decides.{nat_tests}
 use Rattle.tc_bytes.specs.Codec.{IsBytes, IsCodec, counted_bytes}
 use Rattle.tc_bytes.proofs.Codecs.{passing_codec, pair_codec, counted_bytes_codec}
 use Rattle.tc_bytes.proofs.Fields.{number_codec_32, IsBytes-front}
+use Rattle.std.proofs.Common.{Vec}
+use Rattle.std.specs.declared.alloc.Global.{Global}
+use Rattle.tc_store.specs.declared.damage.ReadFault.{ReadFault}
+use Rattle.tc_store.specs.declared.damage.ReadFault.TheVariants.{Disk, Damaged, Memory}
 use Rattle.tc_log.specs.declared.write.Write.{Write}
+use Rattle.tc_log.specs.Judging.{Judges}
 use Rattle.tc_log.specs.Reading.{is_some_number, frame_at, body_read, Damage, damage, or_damage, judged_then, frame_judged, is_gate_open, frames_judged}
 use Rattle.tc_log.specs.Spelling.{body_bytes, frame_fields, frame_bytes, IsFrame, IsShut, writes_of}
 use Rattle.tc_log.proofs.Entries.{body_again, body_found}
@@ -139,3 +144,31 @@ frames_found (suc n) end before (gate ∷ behind) all few each judged = by_gate 
         let one = frame_found end gate before behind parts.0 (λ i. each (suc i)) parts.1 in
         let shorter = ap length one.spelled ∙ length-append (frame_fields one.writes) parts.0.1 in
         subst (λ g. FramesFound before (g ∷ behind) all) (sym (number_is gate 1 is)) (one_found before behind parts.0 all one (others parts.0 (omega arith) one.rest parts.2))
+
+-- ---- a turn of the loop that reads the frames
+
+frames_next : (n end : ℕ) (before : List Write) (bytes : List ℕ) → 0 < n
+    → frames_judged n end before bytes ≡ (if is_gate_open bytes then judged_then (frame_judged end before bytes) (λ f. frames_judged (n - 1) end f.0 f.1) else Ok before)
+frames_next zero end before bytes some = absurd (omega arith)
+frames_next (suc n) end before bytes some = let same : suc n - 1 ≡ n = omega arith in rw same refl
+
+pub frames_closed : (n end : ℕ) (before : List Write) (bytes : List ℕ) → is_gate_open bytes ≡ false → frames_judged n end before bytes ≡ Ok before
+frames_closed zero end before bytes closed = refl
+frames_closed (suc n) end before bytes closed = rw closed refl
+
+frames_damaged : (n end : ℕ) (before : List Write) (bytes : List ℕ) (d : Damage) → 0 < n → is_gate_open bytes ≡ true → frame_judged end before bytes ≡ Err d → frames_judged n end before bytes ≡ Err d
+frames_damaged n end before bytes d some opened judged = frames_next n end before bytes some ∙ rw (opened, judged) refl
+
+pub frames_more : (n end : ℕ) (before : List Write) (bytes : List ℕ) (q : List Write × List ℕ) → 0 < n → is_gate_open bytes ≡ true → frame_judged end before bytes ≡ Ok q
+    → frames_judged n end before bytes ≡ frames_judged (n - 1) end q.0 q.1
+frames_more n end before bytes q some opened judged = frames_next n end before bytes some ∙ rw (opened, judged) refl
+
+-- the fault of a frame is handed on
+pub frames_refused : {X : Type 0} (n end : ℕ) (before : List Write) (bytes : List ℕ) (view : X → List Write × List ℕ) (r : Result X ReadFault) (fault out : ReadFault) → 0 < n → is_gate_open bytes ≡ true
+    → r ≡ Err fault → out ≡ fault → Judges view r (frame_judged end before bytes) → Judges {X = Vec Write Global} (λ writes. writes.items) (Err out) (frames_judged n end before bytes)
+frames_refused n end before bytes view r fault out some opened is same judges = rw same (refused fault (rw is at judges))
+  where
+    refused : (fault : ReadFault) → Judges view (Err fault) (frame_judged end before bytes) → Judges {X = Vec Write Global} (λ writes. writes.items) (Err fault) (frames_judged n end before bytes)
+    refused Disk judges = tt
+    refused Memory judges = tt
+    refused (Damaged place kept) judges = frames_damaged n end before bytes (damage place kept) some opened judges

@@ -12,7 +12,7 @@ abbrev pub magic : ℕ
 magic = 0x54434c31
 
 abbrev pub head_bytes : LogHead → List ℕ
-head_bytes head = to_be_bytes w32 magic ++ to_be_bytes w32 head.number ++ to_be_bytes w32 head.count ++ to_be_bytes w64 head.generation
+head_bytes head = to_be_bytes w32 magic ++ (to_be_bytes w32 head.number ++ (to_be_bytes w32 head.count ++ to_be_bytes w64 head.generation))
 
 -- a header that a log may have
 pub record IsHead (head : LogHead) : Type 0 where
@@ -49,7 +49,7 @@ pub record IsFrame (writes : List Write) : Type 0 where
 
 -- the gate of the log, the header, and the frames
 abbrev pub log_bytes : LogHead → List (List Write) → List ℕ
-log_bytes head frames = 1 ∷ head_bytes head ++ flat_map frame_bytes frames
+log_bytes head frames = 1 ∷ (head_bytes head ++ flat_map frame_bytes frames)
 
 -- with the closed gate of the frame to come
 abbrev pub log_at_rest : LogHead → List (List Write) → List ℕ
