@@ -8,11 +8,16 @@ use Rattle.tc_bytes.specs.Codec.{IsBytes, IsCodec}
 use Rattle.tc_bytes.specs.Reading.{◌>>=◌, number_at, passing_at}
 use Rattle.tc_bytes.proofs.Codecs.{then_parts, passing_codec}
 use Rattle.tc_bytes.proofs.Fields.{number_codec_32, number_codec_64}
+use Rattle.std.specs.Prelude.{IfSome, IfOk}
 use Rattle.tc_store.specs.Gate.{is_open_file}
+use Rattle.tc_store.specs.declared.damage.ReadFault.{ReadFault}
+use Rattle.tc_store.specs.declared.damage.ReadFault.TheVariants.{Disk, Damaged, Memory}
+use Rattle.tc_log.specs.Judging.{Judges, read_of}
 use Rattle.tc_log.specs.declared.head.LogHead.{LogHead}
+use Rattle.tc_log.specs.declared.reading.LogRead.{LogRead}
 use Rattle.tc_log.specs.declared.write.Write.{Write}
 use Rattle.tc_log.specs.Reading.{is_magic, is_generation, head_at, Damage, damage, or_damage, judged_then, frames_judged, head_judged, log_judged}
-use Rattle.tc_log.specs.Spelling.{magic, head_bytes, IsHead, frame_bytes, IsFrame, IsShut, log_bytes, writes_of, Spells}
+use Rattle.tc_log.specs.Spelling.{magic, head_bytes, IsHead, frame_bytes, IsFrame, IsShut, log_bytes, writes_of, Spells, Means}
 use Rattle.tc_log.proofs.Frames.{judged_parts, or_damage_parts, same_Ok, frames_again, frames_found}
 
 -- ---- headers
@@ -92,20 +97,14 @@ judged_spelled bytes head frames spells =
     enough [] = omega arith
     enough (writes ∷ frames) = omega (arith, enough frames, length-append (frame_bytes writes) (flat_map frame_bytes frames))
 
--- a log, with the writes that were read of it
-pub record LogFound (bytes : List ℕ) (head : LogHead) (writes : List Write) : Type 0 where
-  pub frames : List (List Write)
-  pub spells : Spells bytes head frames
-  pub all_are : writes ≡ writes_of frames
-
 -- what is read is spelled so
-pub judged_found : (gate : ℕ) (behind : List ℕ) (head : LogHead) (writes : List Write) → IsBytes behind → gate ≡ 1 → log_judged (gate ∷ behind) ≡ Ok (head, writes) → LogFound (gate ∷ behind) head writes
+pub judged_found : (gate : ℕ) (behind : List ℕ) (head : LogHead) (writes : List Write) → IsBytes behind → gate ≡ 1 → log_judged (gate ∷ behind) ≡ Ok (head, writes) → Means (gate ∷ behind) head writes
 judged_found gate behind head writes each opened judged =
     let one = judged_parts (head_judged (gate ∷ behind)) _ (head, writes) judged in
     let two = judged_parts (frames_judged (length one.0.1) (length (gate ∷ behind)) [] one.0.1) _ (head, writes) one.2 in
     let first = head_codec.found behind one.0.0 one.0.1 each (or_damage_parts (head_at behind) _ one.0 one.1) in
     let others = frames_found (length one.0.1) (length (gate ∷ behind)) [] one.0.1 two.0 (omega arith) first.1 two.1 in
-    subst (λ (q : LogHead × List Write). LogFound (gate ∷ behind) q.0 q.1) (same_Ok _ (head, writes) two.2) (record {
+    subst (λ (q : LogHead × List Write). Means (gate ∷ behind) q.0 q.1) (same_Ok _ (head, writes) two.2) (record {
       frames = others.frames;
       spells = record {
         head_is = first.2;
@@ -116,3 +115,46 @@ judged_found gate behind head writes each opened judged =
       };
       all_are = others.all_are;
     })
+
+pub opened_file : (bytes : List ℕ) (head : LogHead) (writes : List Write) → IsBytes bytes → is_open_file bytes ≡ true → log_judged bytes ≡ Ok (head, writes) → Means bytes head writes
+opened_file [] head writes each opened judged = cc
+opened_file (gate ∷ []) head writes each opened judged = cc
+opened_file (gate ∷ next ∷ rest) head writes each opened judged = judged_found gate (next ∷ rest) head writes (λ i. each (suc i)) (number_is gate 1 opened) judged
+  where
+    number_is : (a b : ℕ) → (a == b) ≡ true → a ≡ b
+    number_is a b same = grind (arith, nat_tests)
+
+-- ---- what is answered
+
+-- a fault is handed on
+pub judges_handed : {X Y Z W : Type 0} (view : X → Y) (other : Z → W) (j : Result Y Damage) (f : Y → Result W Damage) (fault : ReadFault) → Judges view (Err fault) j → Judges other (Err fault) (judged_then j f)
+judges_handed view other j f Disk judges = tt
+judges_handed view other j f Memory judges = tt
+judges_handed view other j f (Damaged place kept) judges = rw judges refl
+
+-- and so is one through another view
+judges_same : {X Y Z : Type 0} (view : X → Y) (other : Z → Y) (j : Result Y Damage) (fault : ReadFault) → Judges view (Err fault) j → Judges other (Err fault) j
+judges_same view other j Disk judges = tt
+judges_same view other j Memory judges = tt
+judges_same view other j (Damaged place kept) judges = judges
+
+-- what a `?` hands on
+pub judges_out : {X Y Z : Type 0} (view : X → Y) (other : Z → Y) (j : Result Y Damage) (r : Result X ReadFault) (fault : ReadFault) (s : Result Z ReadFault) → r ≡ Err fault → (y : ReadFault) × (s ≡ Err y) × (y ≡ fault) → Judges view r j → Judges other s j
+judges_out view other j r fault s was p judges = rw (p.1, p.2) (judges_same view other j fault (rw was at judges))
+
+-- what holds of the bytes that were read holds of the content, if it is told
+pub of_content : (content : Option (List ℕ)) (items : List ℕ) (P : List ℕ → Type 0) → IfSome content (λ bytes. items ≡ bytes) → P items → IfSome content P
+of_content None items P same holds = tt
+of_content (Some bytes) items P same holds = subst P same holds
+
+-- what is known of the content, too
+pub of_open_content : (content : Option (List ℕ)) (items : List ℕ) (Q P : List ℕ → Type 0) → IfSome content (λ bytes. items ≡ bytes) → IfSome content Q → (Q items → P items) → IfSome content P
+of_open_content None items Q P same known gives = tt
+of_open_content (Some bytes) items Q P same known gives = subst P same (gives (subst Q (sym same) known))
+
+-- what a log means is what is answered
+pub answers_whole : (r : Result LogRead ReadFault) (content : Option (List ℕ)) → IfSome content (λ bytes. Judges read_of r (log_judged bytes))
+    → IfSome content (λ bytes. (head : LogHead) (writes : List Write) → Means bytes head writes → Judges read_of r (Ok (head, writes)))
+answers_whole r None judges = tt
+answers_whole r (Some bytes) judges = λ head writes means.
+    subst (λ (j : Result (LogHead × List Write) Damage). Judges read_of r j) (judged_spelled bytes head means.frames means.spells ∙ ap (λ (all : List Write). Ok (head, all)) (sym means.all_are)) judges

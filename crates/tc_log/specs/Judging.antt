@@ -3,6 +3,9 @@
 use Rattle.std.specs.Prelude.{◌≡◌, ℕ, List, Result, Ok, Err}
 use Rattle.tc_store.specs.declared.damage.ReadFault.{ReadFault}
 use Rattle.tc_store.specs.declared.damage.ReadFault.TheVariants.{Disk, Damaged, Memory}
+use Rattle.tc_log.specs.declared.head.LogHead.{LogHead}
+use Rattle.tc_log.specs.declared.reading.LogRead.{LogRead}
+use Rattle.tc_log.specs.declared.write.Write.{Write}
 use Rattle.tc_log.specs.Reading.{Damage, damage}
 
 -- what is answered, seen by view, is what is judged
@@ -24,3 +27,14 @@ abbrev pub IsDamageOr : ℕ → List ℕ → ReadFault → Type 0
 IsDamageOr place bytes (Damaged at kept) = (at ≡ place) × (kept ≡ bytes)
 IsDamageOr place bytes Disk = ⊥
 IsDamageOr place bytes Memory = Unit {0}
+
+-- the bytes are not at fault
+abbrev pub IsNoDamage : {X : Type 0} → Result X ReadFault → Type 0
+IsNoDamage (Ok x) = Unit {0}
+IsNoDamage (Err (Damaged place bytes)) = ⊥
+IsNoDamage (Err Disk) = Unit {0}
+IsNoDamage (Err Memory) = Unit {0}
+
+-- the header and the writes that were read
+abbrev pub read_of : LogRead → LogHead × List Write
+read_of read = (read.head, read.writes)

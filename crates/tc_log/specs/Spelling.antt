@@ -71,3 +71,9 @@ pub record Spells (bytes : List ℕ) (head : LogHead) (frames : List (List Write
   pub rest : List ℕ
   pub shut : IsShut rest
   pub spelled : bytes ≡ log_bytes head frames ++ rest
+
+-- Bytes mean a log's header and its writes: those of the frames before the first gate that is not open.
+pub record Means (bytes : List ℕ) (head : LogHead) (writes : List Write) : Type 0 where
+  pub frames : List (List Write)
+  pub spells : Spells bytes head frames
+  pub all_are : writes ≡ writes_of frames
