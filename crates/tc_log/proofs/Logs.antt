@@ -1,9 +1,12 @@
 -- The laws of whole logs: what is spelled is read, and what is read is spelled so.
-use Rattle.std.proofs.Common.{◌≡◌, ◌∙◌, ◌<◌, ◌≤◌, ◌+◌, ◌^◌, ◌==◌, ℕ, zero, suc, nat_lt, ◌&&◌, Bool, true, false, if◌then◌else◌, List, [], ◌∷◌, ◌++◌, Option, None, Some, Result, Ok, Err, length, drop, take, flat_map, refl, sym, ap, subst, arith, append_assoc, length-append}
+use Rattle.std.proofs.Common.{◌≡◌, ◌∙◌, ◌<◌, ◌≤◌, ◌+◌, ◌^◌, ◌==◌, ℕ, zero, suc, nat_lt, ◌&&◌, Bool, true, false, if◌then◌else◌, List, [], ◌∷◌, ◌++◌, Option, None, Some, Result, Ok, Err, length, drop, take, flat_map, refl, sym, ap, subst, arith, append_assoc, append-nil, length-append, min, ◌-◌}
 use Rattle.std.specs.Int.{w32, w64, to_be_bytes}
 use Rattle.std.specs.List.{AllByRecursion}
 use Rattle.std.proofs.lemmas.Bool.Decides.{nat_tests}
+use Rattle.std.proofs.lemmas.List.{nil_from_length, places}
 use Rattle.std.proofs.lemmas.Option.{same_Some}
+use Rattle.std.proofs.Common.{Vec}
+use Rattle.std.specs.declared.alloc.Global.{Global}
 use Rattle.tc_bytes.specs.Codec.{IsBytes, IsCodec}
 use Rattle.tc_bytes.specs.Reading.{◌>>=◌, number_at, passing_at}
 use Rattle.tc_bytes.proofs.Codecs.{then_parts, passing_codec}
@@ -12,12 +15,12 @@ use Rattle.std.specs.Prelude.{IfSome, IfOk}
 use Rattle.tc_store.specs.Gate.{is_open_file}
 use Rattle.tc_store.specs.declared.damage.ReadFault.{ReadFault}
 use Rattle.tc_store.specs.declared.damage.ReadFault.TheVariants.{Disk, Damaged, Memory}
-use Rattle.tc_log.specs.Judging.{Judges, read_of}
+use Rattle.tc_log.specs.Judging.{Judges, read_of, same_head}
 use Rattle.tc_log.specs.declared.head.LogHead.{LogHead}
 use Rattle.tc_log.specs.declared.reading.LogRead.{LogRead}
 use Rattle.tc_log.specs.declared.write.Write.{Write}
-use Rattle.tc_log.specs.Reading.{is_magic, is_generation, head_at, Damage, damage, or_damage, judged_then, frames_judged, head_judged, log_judged}
-use Rattle.tc_log.specs.Spelling.{magic, head_bytes, IsHead, frame_bytes, IsFrame, IsShut, log_bytes, writes_of, Spells, Means}
+use Rattle.tc_log.specs.Reading.{is_magic, is_generation, head_at, front_of, is_of, front_judged, Damage, damage, or_damage, judged_then, frames_judged, head_judged, log_judged}
+use Rattle.tc_log.specs.Spelling.{magic, head_bytes, IsHead, IsNamedHead, frame_bytes, IsFrame, IsShut, log_bytes, writes_of, Spells, Means}
 use Rattle.tc_log.proofs.Frames.{judged_parts, or_damage_parts, same_Ok, frames_again, frames_found}
 
 -- ---- headers
@@ -158,3 +161,59 @@ pub answers_whole : (r : Result LogRead ReadFault) (content : Option (List ℕ))
 answers_whole r None judges = tt
 answers_whole r (Some bytes) judges = λ head writes means.
     subst (λ (j : Result (LogHead × List Write) Damage). Judges read_of r j) (judged_spelled bytes head means.frames means.spells ∙ ap (λ (all : List Write). Ok (head, all)) (sym means.all_are)) judges
+
+-- ---- headers that are named by a generation
+
+head_length : (head : LogHead) → length (head_bytes head) ≡ 20
+head_length head = refl
+
+same_number : (a b : ℕ) → (a == b) ≡ true → a ≡ b
+same_number a b same = grind (arith, nat_tests)
+
+number_same : (a b : ℕ) → a ≡ b → (a == b) ≡ true
+number_same a b same = grind (arith, nat_tests)
+
+named_codec : (generation : ℕ) → IsCodec (passing_at (is_of generation) head_at) head_bytes (λ head. IsHead head × (is_of generation head ≡ true))
+named_codec generation = passing_codec (is_of generation) head_codec
+
+pub named_found : (generation : ℕ) (front : List ℕ) (head : LogHead) → IsBytes front → length front ≤ 20 → front_judged generation front ≡ Ok head → IsNamedHead generation front head
+named_found generation front head each short judged =
+    let parts = judged_parts (or_damage (passing_at (is_of generation) head_at front) (damage 1 front)) _ head judged in
+    let here = (named_codec generation).found front parts.0.0 parts.0.1 each (or_damage_parts (passing_at (is_of generation) head_at front) (damage 1 front) parts.0 parts.1) in
+    let none : parts.0.1 ≡ [] = nil_from_length parts.0.1 (omega (arith, ap length here.0, length-append (head_bytes parts.0.0) parts.0.1, head_length parts.0.0, short)) in
+    subst (IsNamedHead generation front) (same_Ok _ head parts.2)
+    (record { is_head = here.2.0; named = same_number parts.0.0.generation generation here.2.1; spelled = here.0 ∙ ap (λ (rest : List ℕ). head_bytes parts.0.0 ++ rest) none ∙ append-nil (head_bytes parts.0.0) })
+
+pub named_judged : (generation : ℕ) (front : List ℕ) (head : LogHead) → IsNamedHead generation front head → front_judged generation front ≡ Ok head
+named_judged generation front head is =
+    let read = (named_codec generation).again head [] (is.is_head, number_same head.generation generation is.named) in
+    let bytes : front ≡ head_bytes head ++ [] = is.spelled ∙ sym (append-nil (head_bytes head)) in
+    ap (λ (bytes : List ℕ). judged_then (or_damage (passing_at (is_of generation) head_at bytes) (damage 1 front)) λ h. Ok h.0) bytes ∙ rw read refl
+
+pub named_whole : (generation : ℕ) (r : Result LogHead ReadFault) (content : Option (List ℕ)) → IfSome content (λ bytes. Judges same_head r (front_judged generation (front_of bytes)))
+    → IfSome content (λ bytes. (head : LogHead) → IsNamedHead generation (front_of bytes) head → Judges same_head r (Ok head))
+named_whole generation r None judges = tt
+named_whole generation r (Some bytes) judges = λ head is. subst (λ (j : Result LogHead Damage). Judges same_head r j) (named_judged generation (front_of bytes) head is) judges
+
+-- the front of a file of this length
+pub front_read : (content : Option (List ℕ)) (items : List ℕ) (size : ℕ) → IfSome content (λ bytes. size ≡ length bytes)
+    → IfSome content (λ bytes. items ≡ take (min (size - min size 1) 20) (drop (min size 1) bytes)) → IfSome content (λ bytes. items ≡ front_of bytes)
+front_read None items size sized read = tt
+front_read (Some bytes) items size sized read = read ∙ ap (λ (n : ℕ). take (min (n - min n 1) 20) (drop (min n 1) bytes)) sized ∙ front_is bytes
+  where
+    front_is : (bytes : List ℕ) → take (min (length bytes - min (length bytes) 1) 20) (drop (min (length bytes) 1) bytes) ≡ front_of bytes
+    front_is bytes = grind (arith, places)
+
+pub front_answers : (r : Result (Vec ℕ Global) ReadFault) (content : Option (List ℕ)) (size at count : ℕ) → IfSome content (λ bytes. size ≡ length bytes) → at ≡ min size 1 → count ≡ min (size - at) 20
+    → IfOk r (λ read. IfSome content (λ bytes. read.items ≡ take count (drop at bytes))) → IfOk r (λ read. IfSome content (λ bytes. read.items ≡ front_of bytes))
+front_answers (Ok read) content size at count sized at_is count_is reads = front_read content read.items size sized (rw (count_is, at_is) at reads)
+front_answers (Err fault) content size at count sized at_is count_is reads = tt
+
+-- the front that was read is a header of the generation
+pub named_answers : (generation : ℕ) (r : Result LogHead ReadFault) (content : Option (List ℕ)) (items : List ℕ) → IfSome content (λ bytes. items ≡ front_of bytes)
+    → (length items ≤ 20 → IfOk r (IsNamedHead generation items)) → IfOk r (λ head. IfSome content (λ bytes. IsNamedHead generation (front_of bytes) head))
+named_answers generation (Err fault) content items same found = tt
+named_answers generation (Ok head) None items same found = tt
+named_answers generation (Ok head) (Some bytes) items same found =
+    let short : length (front_of bytes) ≤ 20 = grind (arith, places) in
+    subst (λ (front : List ℕ). IsNamedHead generation front head) same (found (subst (λ (front : List ℕ). length front ≤ 20) (sym same) short))

@@ -38,3 +38,6 @@ IsNoDamage (Err Memory) = Unit {0}
 -- the header and the writes that were read
 abbrev pub read_of : LogRead → LogHead × List Write
 read_of read = (read.head, read.writes)
+
+abbrev pub same_head : LogHead → LogHead
+same_head head = head

@@ -3,3 +3,5 @@ pub mod Tokens
 pub mod Spelling
 pub mod Reading
 pub mod Judging
+pub mod Frame
+pub mod Appending

@@ -97,8 +97,13 @@ head_judged bytes = or_damage (head_at (drop 1 bytes)) (damage 1 (take 20 (drop 
 abbrev pub log_judged : List ℕ → Result (LogHead × List Write) Damage
 log_judged bytes = judged_then (head_judged bytes) λ h. judged_then (frames_judged (length h.1) (length bytes) [] h.1) λ writes. Ok (h.0, writes)
 
--- the header of a log of this generation, by the 20 bytes behind the gate, or as many as there are
-abbrev pub named_head_judged : ℕ → List ℕ → Result LogHead Damage
-named_head_judged generation bytes =
-    let front = take 20 (drop 1 bytes) in
-    judged_then (or_damage (passing_at (λ head. head.generation == generation) head_at front) (damage 1 front)) λ h. Ok h.0
+-- what stands where the header of a file has its place: 20 bytes, or as many as there are
+abbrev pub front_of : List ℕ → List ℕ
+front_of bytes = take 20 (drop 1 bytes)
+
+abbrev pub is_of : ℕ → LogHead → Bool
+is_of generation head = head.generation == generation
+
+-- these bytes as the header of a log of this generation
+abbrev pub front_judged : ℕ → List ℕ → Result LogHead Damage
+front_judged generation front = judged_then (or_damage (passing_at (is_of generation) head_at front) (damage 1 front)) λ h. Ok h.0

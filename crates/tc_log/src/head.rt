@@ -1,9 +1,10 @@
 //! The header of a log.
 
-ghost use Rattle.std.specs.Prelude.{◌≡◌, option_map};
+ghost use Rattle.std.specs.Prelude.{◌≡◌, [], ◌∷◌, ◌++◌, option_map};
 ghost use Rattle.std.specs.Int.{w32, w64};
 ghost use Rattle.tc_bytes.specs.Reading.{number_at, passing_at};
 ghost use Rattle.tc_log.specs.Reading.{head_at, is_magic, is_generation};
+ghost use Rattle.tc_log.specs.Spelling.{head_bytes};
 
 use tc_bytes::{u32_at, u64_at};
 
@@ -55,4 +56,37 @@ fn generation_in(bytes: &[u8]) -> Option<(u64, &[u8])>
     } else {
         None
     }
+}
+
+/// The bytes of a header, and the closed gate behind it.
+pub(crate) fn head_and_gate(head: LogHead) -> [u8; 21]
+    ensures { result ≡ head_bytes head ++ 0 ∷ [] }
+{
+    let magic = MAGIC.to_be_bytes();
+    let number = head.number.to_be_bytes();
+    let count = head.count.to_be_bytes();
+    let generation = head.generation.to_be_bytes();
+    [
+        magic[0],
+        magic[1],
+        magic[2],
+        magic[3],
+        number[0],
+        number[1],
+        number[2],
+        number[3],
+        count[0],
+        count[1],
+        count[2],
+        count[3],
+        generation[0],
+        generation[1],
+        generation[2],
+        generation[3],
+        generation[4],
+        generation[5],
+        generation[6],
+        generation[7],
+        0,
+    ]
 }

@@ -5,9 +5,13 @@ mod entry;
 mod frame;
 mod head;
 mod keyless;
+mod log;
 mod reading;
+mod reserving;
 mod write;
 
 pub use head::LogHead;
-pub use reading::{LogRead, read_frames};
+pub use log::{Log, LogBroken};
+pub use reading::{LogRead, read_frames, read_log_head};
+pub use reserving::Frame;
 pub use write::{Write, Writes};

@@ -5,9 +5,9 @@ ghost use Rattle.tc_store.specs.Counts.{Rose, one_more};
 ghost use Rattle.tc_store.specs.Gate.{is_open_file};
 ghost use Rattle.tc_log.specs.declared.head.LogHead.{LogHead as Head};
 ghost use Rattle.tc_log.specs.declared.write.Write.{Write as OneWrite};
-ghost use Rattle.tc_log.specs.Judging.{Judges, read_of, IsNoDisk, IsNoDamage};
-ghost use Rattle.tc_log.specs.Reading.{head_at, log_judged, or_damage, damage as a_damage};
-ghost use Rattle.tc_log.specs.Spelling.{head_bytes, IsHead, Means};
+ghost use Rattle.tc_log.specs.Judging.{Judges, read_of, same_head, IsNoDisk, IsNoDamage};
+ghost use Rattle.tc_log.specs.Reading.{head_at, front_of, front_judged, log_judged, or_damage, damage as a_damage};
+ghost use Rattle.tc_log.specs.Spelling.{IsNamedHead, Means};
 
 use crate::frame::{damage, frames_in};
 use crate::head::{LogHead, head_in};
@@ -66,6 +66,57 @@ fn whole_of<F: Frozen>(
     ensures reads { OnOk result (F.Watch.reads watch.new ≡ one_more (F.Watch.reads watch.old)) }
 {
     bytes_of(alloc, file, 0, file.len() as usize, watch)
+}
+
+/// Reads the header of a log that is named by this generation, by one read. `Damaged` has the place 1 and the 20 bytes
+/// there, or as many as the file has: it comes where they are no header, or the header of another generation. `Disk`
+/// comes only where the read failed.
+pub fn read_log_head<F: Frozen>(
+    alloc: Global,
+    file: &F,
+    generation: u64,
+    watch: &mut F::Watch,
+) -> Result<LogHead, ReadFault>
+    ensures judged { IfSome (F.content file.now) (λ bytes. Judges same_head result (front_judged generation (front_of bytes))) }
+
+    // What is read is the header that stands there, and the one that stands there is read.
+    ensures found { IfOk result (λ head. IfSome (F.content file.now) (λ bytes. IsNamedHead generation (front_of bytes) head)) }
+    ensures whole { IfSome (F.content file.now) (λ bytes. (head : Head) → IsNamedHead generation (front_of bytes) head → Judges same_head result (Ok head)) }
+
+    ensures faults { F.Watch.faults watch.old ≤ F.Watch.faults watch.new }
+    ensures cause { IsErrOf result ReadFault.Disk → Rose (F.Watch.faults watch.old) (F.Watch.faults watch.new) }
+    ensures reads { OnOk result (F.Watch.reads watch.new ≡ one_more (F.Watch.reads watch.old)) }
+{
+    let front = front_in(alloc, file, watch)?;
+    named_head_in(alloc, generation, &front)
+}
+
+/// The bytes that stand where the header has its place.
+fn front_in<F: Frozen>(
+    alloc: Global,
+    file: &F,
+    watch: &mut F::Watch,
+) -> Result<Vec<u8>, ReadFault>
+    ensures read { IfOk result (λ read. IfSome (F.content file.now) (λ bytes. read.items ≡ front_of bytes)) }
+    ensures no_damage { IsNoDamage result }
+    ensures faults { F.Watch.faults watch.old ≤ F.Watch.faults watch.new }
+    ensures cause { IsErrOf result ReadFault.Disk → Rose (F.Watch.faults watch.old) (F.Watch.faults watch.new) }
+    ensures reads { OnOk result (F.Watch.reads watch.new ≡ one_more (F.Watch.reads watch.old)) }
+{
+    let at = file.len().min(HEAD_PLACE as u64);
+    let count = (file.len() - at).min(HEAD_LEN as u64) as usize;
+    bytes_of(alloc, file, at, count, watch)
+}
+
+fn named_head_in(alloc: Global, generation: u64, front: &[u8]) -> Result<LogHead, ReadFault>
+    ensures judged { Judges same_head result (front_judged generation front.now) }
+    ensures found { length front.now ≤ 20 → IfOk result (IsNamedHead generation front.now) }
+    ensures no_disk { IsNoDisk result }
+{
+    match head_in(front) {
+        Some((head, _)) if head.generation == generation => Ok(head),
+        _ => Err(damage(alloc, HEAD_PLACE, front)),
+    }
 }
 
 /// So many bytes of a file.
