@@ -1,5 +1,5 @@
 -- What a stop may leave of a log while a frame is appended.
-use Rattle.std.proofs.Common.{◌≡◌, ◌≢◌, ◌∙◌, ◌<◌, ◌≤◌, ◌+◌, ◌-◌, max, ℕ, List, [], ◌∷◌, ◌++◌, Option, None, Some, Result, Ok, Err, length, take, drop, flat_map, refl, sym, ap, subst, inl, inr, arith, length-append, append_assoc, append-nil}
+use Rattle.std.proofs.Common.{◌≡◌, ◌∙◌, ◌<◌, ◌≤◌, ◌+◌, ◌-◌, ℕ, List, [], ◌∷◌, ◌++◌, Some, Result, Ok, Err, length, drop, flat_map, refl, sym, ap, subst, inl, inr, arith, length-append, append_assoc, append-nil}
 use Rattle.std.specs.Prelude.{OnOk, OnErr, All}
 use Rattle.std.specs.List.{AllByRecursion}
 use Rattle.std.proofs.lemmas.Bool.{cases_eq}
@@ -8,15 +8,14 @@ use Rattle.std.proofs.lemmas.List.Elements.{All-head}
 use Rattle.std.proofs.lemmas.List.Concat.{flat_map-append}
 use Rattle.tc_store.specs.DiskFile.{DiskFile, FailsWrite, IsSettled, overlaid, settled_file, synced_file, written}
 use Rattle.tc_store.specs.Images.{Image}
-use Rattle.tc_store.specs.Moments.{goes_on, IfTold, LeavesAt, LeavesOnly, EachSince}
+use Rattle.tc_store.specs.Moments.{goes_on, IfTold, LeavesAt, LeavesOnly}
 use Rattle.tc_store.specs.declared.fault.DeviceFault.{DeviceFault}
 use Rattle.tc_store.proofs.GateLemmas.{settled_leaves}
-use Rattle.tc_store.proofs.MomentLemmas.{EachSince-none, EachSince-one, EachSince-trans, EachSince-failed, FailedWrite, told_map, told-goes_on}
+use Rattle.tc_store.proofs.MomentLemmas.{EachSince-none, EachSince-one, EachSince-trans, EachSince-failed, FailedWrite, told_map}
 use Rattle.tc_log.specs.declared.head.LogHead.{LogHead}
 use Rattle.tc_log.specs.declared.write.Write.{Write}
 use Rattle.tc_log.specs.Appending.{IsAtRest, appended, MeansWithOrWithout, Appends}
 use Rattle.tc_log.specs.Frame.{with_closed_gate, IsFrameKept}
-use Rattle.tc_log.specs.Reading.{Damage, log_judged}
 use Rattle.tc_log.specs.Spelling.{head_bytes, IsHead, frame_fields, frame_bytes, IsFrame, IsShut, log_bytes, log_at_rest, writes_of, Means}
 use Rattle.tc_log.proofs.Frames.{same_Ok}
 use Rattle.tc_log.proofs.Logs.{judged_spelled}
@@ -25,7 +24,7 @@ use Rattle.tc_log.proofs.Torn.{behind_leaves, gate_leaves}
 -- ---- what bytes mean
 
 -- bytes mean one header and one list of writes
-means_same : (bytes : List ℕ) (head other : LogHead) (writes others : List Write) → Means bytes head writes → Means bytes other others → (head ≡ other) × (writes ≡ others)
+pub means_same : (bytes : List ℕ) (head other : LogHead) (writes others : List Write) → Means bytes head writes → Means bytes other others → (head ≡ other) × (writes ≡ others)
 means_same bytes head other writes others one two =
     let same : (head, writes_of one.frames) ≡ (other, writes_of two.frames) = same_Ok _ _ (sym (judged_spelled bytes head one.frames one.spells) ∙ judged_spelled bytes other two.frames two.spells) in
     (ap (λ (q : LogHead × List Write). q.0) same, one.all_are ∙ ap (λ (q : LogHead × List Write). q.1) same ∙ sym two.all_are)
@@ -253,4 +252,8 @@ gate_written P gate bytes old first second third new r one two three ok err told
 
     by_result : (r : Result (Unit {0}) DeviceFault) → OnOk r (new ≡ goes_on synced_file third) → OnErr r (new ≡ third) → LeavesOnly P old new
     by_result (Ok done) ok err = rw (ok, third_is) (last_too old told)
-    by_result (Err fault) ok err = rw (err, third_is) (opened_too old told)
+    by_result (Err cause) ok err = rw (err, third_is) (opened_too old told)
+
+pub told_settled : (moments : List DiskFile) → IfTold moments IsAtRest → IfTold moments IsSettled
+told_settled [] rest = tt
+told_settled (f ∷ past) rest = rest.file ∙ ap settled_file (sym (ap (λ (g : DiskFile). g.content) rest.file))

@@ -1,11 +1,11 @@
 -- What a stop may leave of a log while it is created.
-use Rattle.std.proofs.Common.{◌≡◌, ◌∙◌, ◌<◌, ◌≤◌, ◌+◌, ℕ, List, [], ◌∷◌, ◌++◌, Option, None, Some, length, refl, sym, ap, subst, inl, inr, arith, append-nil}
+use Rattle.std.proofs.Common.{◌≡◌, ℕ, List, [], ◌∷◌, ◌++◌, None, Some, length, refl, sym, ap, subst, inl, inr, append-nil}
 use Rattle.std.proofs.lemmas.List.{nil_from_length}
 use Rattle.std.proofs.lemmas.List.Elements.{All-weaker}
 use Rattle.tc_store.specs.DiskFile.{DiskFile, written, synced_file}
 use Rattle.tc_store.specs.Gate.{opened, IsShutOr, IsClosed, IsClosedOrWhole}
 use Rattle.tc_store.specs.Images.{Image}
-use Rattle.tc_store.specs.Moments.{goes_on, IfTold, LeavesAt, LeavesOnly, EachSince}
+use Rattle.tc_store.specs.Moments.{goes_on, IfTold, LeavesAt, LeavesOnly}
 use Rattle.tc_store.proofs.MomentLemmas.{EachSince-trans}
 use Rattle.tc_log.specs.declared.head.LogHead.{LogHead}
 use Rattle.tc_log.specs.Appending.{IsShutOrWhole}

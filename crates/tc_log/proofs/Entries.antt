@@ -1,11 +1,11 @@
 -- The laws of entries and bodies: each is read from its spelling alone.
-use Rattle.std.proofs.Common.{◌≡◌, ◌∙◌, ◌<◌, ◌≤◌, ◌+◌, ◌^◌, ◌==◌, ℕ, zero, suc, nat_lt, Bool, true, false, if◌then◌else◌, List, [], ◌∷◌, ◌++◌, Option, None, Some, option_map, length, map, drop, refl, sym, ap, subst, arith, append_assoc, append-nil}
-use Rattle.std.specs.Int.{w32, w64, to_be_bytes}
+use Rattle.std.proofs.Common.{◌≡◌, ◌∙◌, ◌<◌, ◌+◌, ◌^◌, ◌==◌, ℕ, zero, suc, Bool, true, false, if◌then◌else◌, List, [], ◌∷◌, ◌++◌, Option, None, Some, option_map, length, map, drop, refl, sym, ap, subst, arith, append_assoc, append-nil}
+use Rattle.std.specs.Int.{w32}
 use Rattle.std.specs.List.{AllByRecursion}
 use Rattle.std.proofs.lemmas.Bool.Decides.{nat_tests}
 use Rattle.std.proofs.lemmas.Option.{same_Some}
 use Rattle.tc_bytes.specs.Codec.{IsBytes, IsCodec, any_order}
-use Rattle.tc_bytes.specs.Reading.{Reader, ◌>>=◌, byte_at, number_at, bytes_at, mapped_at, passing_at, elements_at, ended}
+use Rattle.tc_bytes.specs.Reading.{◌>>=◌, number_at, mapped_at, elements_at, ended}
 use Rattle.tc_bytes.proofs.Codecs.{then_parts, restated_codec, mapped_codec, passing_codec, pair_codec}
 use Rattle.tc_bytes.proofs.Fields.{number_codec_32, number_codec_64, bytes_codec, IsBytes-front}
 use Rattle.tc_bytes.proofs.Lists.{elements_codec, MayFollow-any_order}
@@ -15,7 +15,7 @@ use Rattle.tc_record.specs.Preorder.{tokens_of}
 use Rattle.tc_record.specs.Record.{record_of, body, labels, joined}
 use Rattle.tc_log.specs.declared.write.Write.{Write}
 use Rattle.tc_log.specs.declared.write.Write.TheVariants.{Upsert, Delete}
-use Rattle.tc_log.specs.Reading.{record_at, held_at, is_key, fields_at, entry_at, body_read}
+use Rattle.tc_log.specs.Reading.{record_at, held_at, is_key, entry_at, body_read}
 use Rattle.tc_log.specs.Spelling.{held_bytes, entry_bytes, body_bytes}
 use Rattle.tc_log.specs.Tokens.{is_keyless_record}
 use Rattle.tc_log.specs.Writes.{key_of, record_in, write_of, IsHeld, IsKeylessRecord, IsWrite}

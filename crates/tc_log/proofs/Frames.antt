@@ -1,8 +1,8 @@
 -- The laws of frames: they are read from their spelling alone, up to the first gate that is not open.
-use Rattle.std.proofs.Common.{◌≡◌, ◌≢◌, ◌∙◌, ◌<◌, ◌≤◌, ◌+◌, ◌-◌, ◌^◌, ◌==◌, ℕ, zero, suc, nat_lt, Bool, true, false, if◌then◌else◌, List, [], ◌∷◌, ◌++◌, Option, None, Some, Result, Ok, Err, length, flat_map, refl, sym, ap, subst, arith, append_assoc, append-nil, length-append}
+use Rattle.std.proofs.Common.{◌≡◌, ◌≢◌, ◌∙◌, ◌<◌, ◌≤◌, ◌-◌, ◌^◌, ◌==◌, ℕ, zero, suc, Bool, true, false, if◌then◌else◌, List, [], ◌∷◌, ◌++◌, Option, None, Some, Result, Ok, Err, length, flat_map, refl, sym, ap, subst, arith, append_assoc, append-nil, length-append}
 use Rattle.std.specs.Int.{w32, to_be_bytes}
 use Rattle.std.specs.List.{AllByRecursion}
-use Rattle.std.proofs.lemmas.Bool.{ne_eqb, cases_Bool}
+use Rattle.std.proofs.lemmas.Bool.{ne_eqb}
 use Rattle.std.proofs.lemmas.Bool.Decides.{nat_tests}
 use Rattle.tc_bytes.specs.Codec.{IsBytes, IsCodec, counted_bytes}
 use Rattle.tc_bytes.proofs.Codecs.{passing_codec, pair_codec, counted_bytes_codec}
@@ -14,6 +14,7 @@ use Rattle.tc_store.specs.declared.damage.ReadFault.TheVariants.{Disk, Damaged, 
 use Rattle.tc_log.specs.declared.write.Write.{Write}
 use Rattle.tc_log.specs.Judging.{Judges}
 use Rattle.tc_log.specs.Reading.{is_some_number, frame_at, body_read, Damage, damage, or_damage, judged_then, frame_judged, is_gate_open, frames_judged}
+use Rattle.tc_log.specs.Writes.{IsWrite}
 use Rattle.tc_log.specs.Spelling.{body_bytes, frame_fields, frame_bytes, IsFrame, IsShut, writes_of}
 use Rattle.tc_log.proofs.Entries.{body_again, body_found}
 
@@ -172,3 +173,13 @@ frames_refused n end before bytes view r fault out some opened is same judges = 
     refused Disk judges = tt
     refused Memory judges = tt
     refused (Damaged place kept) judges = frames_damaged n end before bytes (damage place kept) some opened judges
+
+-- ---- lawful writes
+
+all_append : (xs ys : List Write) → AllByRecursion IsWrite xs → AllByRecursion IsWrite ys → AllByRecursion IsWrite (xs ++ ys)
+all_append [] ys first second = second
+all_append (x ∷ xs) ys first second = (first.0, all_append xs ys first.1 second)
+
+pub lawful_writes : (frames : List (List Write)) → AllByRecursion IsFrame frames → AllByRecursion IsWrite (writes_of frames)
+lawful_writes [] each = tt
+lawful_writes (writes ∷ frames) each = all_append writes (writes_of frames) each.0.each (lawful_writes frames each.1)

@@ -1,12 +1,10 @@
 -- Frames that are made before they are written.
-use Rattle.std.proofs.Common.{◌≡◌, ◌∙◌, ◌<◌, ◌≤◌, ◌+◌, ◌^◌, ℕ, List, [], ◌∷◌, ◌++◌, Some, length, get_or, take, drop, refl, sym, ap, subst, arith, length-append, append-nil}
-use Rattle.std.specs.List.{AllByRecursion}
+use Rattle.std.proofs.Common.{◌≡◌, ◌∙◌, ◌<◌, ◌≤◌, ◌+◌, ℕ, List, [], ◌∷◌, ◌++◌, length, get_or, take, drop, refl, sym, ap, subst, arith, length-append, append-nil}
 use Rattle.std.proofs.lemmas.List.{take_more, take-append-drop}
 use Rattle.std.proofs.lemmas.List.Concat.{flat_map-append}
 use Rattle.tc_log.specs.declared.write.Write.{Write}
 use Rattle.tc_log.specs.Frame.{with_closed_gate, frame_writes, IsFrameKept}
-use Rattle.tc_log.specs.Spelling.{entry_bytes, body_bytes, frame_fields, IsFrame}
-use Rattle.tc_log.specs.Writes.{IsWrite}
+use Rattle.tc_log.specs.Spelling.{entry_bytes, body_bytes, IsFrame}
 use Rattle.tc_log.proofs.Entries.{body_again}
 use Rattle.tc_log.proofs.Frames.{fields_again}
 

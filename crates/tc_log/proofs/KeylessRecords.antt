@@ -1,13 +1,12 @@
 -- Which records have no member `id`, by their tokens and by their documents.
-use Rattle.std.proofs.Common.{◌≡◌, ◌∙◌, ◌<◌, ◌+◌, ◌-◌, ◌^◌, ◌==◌, ◌&&◌, ℕ, Bool, true, false, not, is_some, if◌then◌else◌, List, [], ◌∷◌, ◌++◌, Option, None, Some, length, map, refl, sym, ap, subst, inl, inr, arith, append_assoc, codes, bytes_eq}
-use Rattle.std.proofs.lemmas.Bool.{cases_Bool}
+use Rattle.std.proofs.Common.{◌≡◌, ◌∙◌, ◌<◌, ◌+◌, ◌-◌, ◌^◌, ◌==◌, ◌&&◌, ℕ, Bool, true, false, not, is_some, if◌then◌else◌, List, [], ◌∷◌, ◌++◌, Option, None, Some, length, refl, sym, ap, inl, inr, arith, append_assoc, codes, bytes_eq}
 use Rattle.std.proofs.lemmas.Bool.Decides.{nat_tests}
 use Rattle.std.proofs.lemmas.List.{length-map}
 use Rattle.tc_bytes.specs.Codec.{IsBytes}
 use Rattle.tc_model.specs.Tree.{Tree, leaf, array, object, Items, no_items, item, Members, no_members, member, members_relabel}
 use Rattle.tc_model.specs.Document.{Name, Document, Scalar}
 use Rattle.tc_model.specs.Request.{member_at}
-use Rattle.tc_record.specs.Preorder.{Piece, scalar, array_opened, object_opened, closed, Token, token, preorder, items_preorder, members_preorder}
+use Rattle.tc_record.specs.Preorder.{scalar, array_opened, object_opened, closed, Token, token, preorder, items_preorder, members_preorder}
 use Rattle.tc_record.specs.Record.{piece_tag, IsRecordOf}
 use Rattle.tc_record.specs.Walk.{Key, name}
 use Rattle.tc_record.specs.Sections.{record_read}

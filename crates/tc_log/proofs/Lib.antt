@@ -6,3 +6,4 @@ pub mod Kept
 pub mod Created
 pub mod Torn
 pub mod Appended
+pub mod UpsertLaws

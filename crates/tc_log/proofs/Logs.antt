@@ -1,14 +1,13 @@
 -- The laws of whole logs: what is spelled is read, and what is read is spelled so.
-use Rattle.std.proofs.Common.{◌≡◌, ◌∙◌, ◌<◌, ◌≤◌, ◌+◌, ◌^◌, ◌==◌, ℕ, zero, suc, nat_lt, ◌&&◌, Bool, true, false, if◌then◌else◌, List, [], ◌∷◌, ◌++◌, Option, None, Some, Result, Ok, Err, length, drop, take, flat_map, refl, sym, ap, subst, arith, append_assoc, append-nil, length-append, min, ◌-◌}
+use Rattle.std.proofs.Common.{◌≡◌, ◌∙◌, ◌<◌, ◌≤◌, ◌^◌, ◌==◌, ℕ, suc, true, List, [], ◌∷◌, ◌++◌, Option, None, Some, Result, Ok, Err, length, drop, take, flat_map, refl, sym, ap, subst, arith, append_assoc, append-nil, length-append, min, ◌-◌}
 use Rattle.std.specs.Int.{w32, w64, to_be_bytes}
-use Rattle.std.specs.List.{AllByRecursion}
 use Rattle.std.proofs.lemmas.Bool.Decides.{nat_tests}
 use Rattle.std.proofs.lemmas.List.{nil_from_length, places}
 use Rattle.std.proofs.lemmas.Option.{same_Some}
 use Rattle.std.proofs.Common.{Vec}
 use Rattle.std.specs.declared.alloc.Global.{Global}
 use Rattle.tc_bytes.specs.Codec.{IsBytes, IsCodec}
-use Rattle.tc_bytes.specs.Reading.{◌>>=◌, number_at, passing_at}
+use Rattle.tc_bytes.specs.Reading.{number_at, passing_at}
 use Rattle.tc_bytes.proofs.Codecs.{then_parts, passing_codec}
 use Rattle.tc_bytes.proofs.Fields.{number_codec_32, number_codec_64}
 use Rattle.std.specs.Prelude.{IfSome, IfOk}
@@ -20,7 +19,7 @@ use Rattle.tc_log.specs.declared.head.LogHead.{LogHead}
 use Rattle.tc_log.specs.declared.reading.LogRead.{LogRead}
 use Rattle.tc_log.specs.declared.write.Write.{Write}
 use Rattle.tc_log.specs.Reading.{is_magic, is_generation, head_at, front_of, is_of, front_judged, Damage, damage, or_damage, judged_then, frames_judged, head_judged, log_judged}
-use Rattle.tc_log.specs.Spelling.{magic, head_bytes, IsHead, IsNamedHead, frame_bytes, IsFrame, IsShut, log_bytes, writes_of, Spells, Means}
+use Rattle.tc_log.specs.Spelling.{magic, head_bytes, IsHead, IsNamedHead, frame_bytes, writes_of, Spells, Means}
 use Rattle.tc_log.proofs.Frames.{judged_parts, or_damage_parts, same_Ok, frames_again, frames_found}
 
 -- ---- headers
@@ -66,7 +65,7 @@ head_found bytes q each gives =
     let below = generation_below g.0.0 g_is.2.1 in
     subst (HeadFound bytes) (same_Some _ q g.2) (
       m_is.0 ∙ ap (λ (k : ℕ). to_be_bytes w32 k ++ m.0.1) (magic_is m.0.0 m_is.2.1) ∙ ap (λ (more : List ℕ). to_be_bytes w32 magic ++ more) (n_is.0 ∙ ap (λ (more : List ℕ). to_be_bytes w32 n.0.0 ++ more) (c_is.0 ∙ ap (λ (more : List ℕ). to_be_bytes w32 c.0.0 ++ more) g_is.0))
-      ∙ sym (four_parts (to_be_bytes w32 magic) (to_be_bytes w32 n.0.0) (to_be_bytes w32 c.0.0) (to_be_bytes w64 g.0.0) g.0.1),
+          ∙ sym (four_parts (to_be_bytes w32 magic) (to_be_bytes w32 n.0.0) (to_be_bytes w32 c.0.0) (to_be_bytes w64 g.0.0) g.0.1),
       g_is.1,
       record { number = n_is.2; count = c_is.2; first = below.0; last = below.1 },
     )

@@ -3,7 +3,7 @@ use Rattle.std.proofs.Common.{◌≡◌, ◌≢◌, ◌∙◌, ◌<◌, ◌≤�
 use Rattle.std.specs.Prelude.{unwrap_or}
 use Rattle.std.proofs.lemmas.List.Elements.{All-nil, All-cons}
 use Rattle.tc_store.specs.DiskFile.{DiskFile}
-use Rattle.tc_store.specs.Images.{Image, IsImageOf, IsUntouched, IsWithin, furthest_end}
+use Rattle.tc_store.specs.Images.{Image, IsUntouched, IsWithin, furthest_end}
 use Rattle.tc_store.specs.Moments.{LeavesAt}
 
 -- the position is there, with the same byte

@@ -5,3 +5,4 @@ pub mod Reading
 pub mod Judging
 pub mod Frame
 pub mod Appending
+pub mod Rows

@@ -12,7 +12,9 @@ use std::alloc::Global;
 use tc_bytes::{Bytes, Memory, slice_at, u8_at, u32_at, u64_at};
 
 const MAX_KEY: u64 = 0x7fff_ffff_ffff_ffff;
+
 const UPSERT: u8 = 1;
+
 const DELETE: u8 = 2;
 
 /// So many writes more, if they are spelled by the body and nothing is left of it.

@@ -17,11 +17,7 @@ use tc_store::ReadFault;
 const LEADING: usize = 9;
 
 /// The writes of all frames up to the first gate that is not open, in a file of this length that ends with the bytes.
-pub(crate) fn frames_in(
-    alloc: Global,
-    end: usize,
-    bytes: &[u8],
-) -> Result<Vec<Write>, ReadFault>
+pub(crate) fn frames_in(alloc: Global, end: usize, bytes: &[u8]) -> Result<Vec<Write>, ReadFault>
     ensures judged { Judges (λ writes. writes.items) result (frames_judged (length bytes.now) end [] bytes.now) }
     ensures no_disk { IsNoDisk result }
 {
@@ -81,11 +77,7 @@ fn count_in(bytes: &[u8]) -> Option<(u32, &[u8])>
     ensures { option_map (λ x. (x.0, x.1.now)) result ≡ passing_at is_some_number (number_at w32) bytes.now }
 {
     let (count, rest) = u32_at(bytes)?;
-    if count > 0 {
-        Some((count, rest))
-    } else {
-        None
-    }
+    if count > 0 { Some((count, rest)) } else { None }
 }
 
 /// The fault of bytes that break the rules, or want of memory for them.

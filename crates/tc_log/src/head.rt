@@ -9,6 +9,7 @@ ghost use Rattle.tc_log.specs.Spelling.{head_bytes};
 use tc_bytes::{u32_at, u64_at};
 
 const MAGIC: u32 = 0x5443_4c31;
+
 const MAX_GENERATION: u64 = 0x7fff_ffff_ffff_ffff;
 
 /// Which log a file is: the number of its partition, how many partitions there are, and the generation, which is from

@@ -12,6 +12,9 @@ mod write;
 
 pub use head::LogHead;
 pub use log::{Log, LogBroken};
-pub use reading::{LogRead, read_frames, read_log_head};
+pub use reading::{LogRead, logs_mean_one, read_frames, read_log_head};
 pub use reserving::Frame;
 pub use write::{Write, Writes};
+
+#[cfg(test)]
+mod tests;

@@ -51,11 +51,7 @@ impl<D: Device> Model for Log<D> {
 
 impl<D: Device> Log<D> {
     /// Makes the file of a log without a frame, of 22 bytes. The generation is from 1 to 2^63 - 1. Takes no memory.
-    pub fn create(
-        device: D,
-        watch: &mut D::Watch,
-        head: LogHead,
-    ) -> Result<Log<D>, LogBroken<D>>
+    pub fn create(device: D, watch: &mut D::Watch, head: LogHead) -> Result<Log<D>, LogBroken<D>>
         requires empty { D.size device ≡ 0 }
         requires first { 0 < head.generation }
         requires last { head.generation < 2 ^ 63 }
@@ -155,9 +151,10 @@ impl<D: Device> Log<D> {
         self.device.len()
     }
 
-    /// The device, as it is.
+    /// The device, as it is. Where no append failed, nothing is pending on it.
     pub fn give_back(self) -> D
-        ensures { result ≡ self.device }
+        ensures same { result ≡ self.device }
+        ensures settled { self.failed ≡ false → IfTold (D.history result) IsSettled }
     {
         self.device
     }

@@ -1,6 +1,7 @@
 //! What a closed file of a log means.
 
 ghost use Rattle.std.specs.Prelude.{◌≡◌, ◌≤◌, ◌+◌, true, ℕ, List, Ok, length, take, drop, IfOk, IfSome, OnOk, IsErrOf};
+ghost use Rattle.std.specs.List.{AllByRecursion};
 ghost use Rattle.tc_store.specs.Counts.{Rose, one_more};
 ghost use Rattle.tc_store.specs.Gate.{is_open_file};
 ghost use Rattle.tc_log.specs.declared.head.LogHead.{LogHead as Head};
@@ -8,6 +9,7 @@ ghost use Rattle.tc_log.specs.declared.write.Write.{Write as OneWrite};
 ghost use Rattle.tc_log.specs.Judging.{Judges, read_of, same_head, IsNoDisk, IsNoDamage};
 ghost use Rattle.tc_log.specs.Reading.{head_at, front_of, front_judged, log_judged, or_damage, damage as a_damage};
 ghost use Rattle.tc_log.specs.Spelling.{IsNamedHead, Means};
+ghost use Rattle.tc_log.specs.Writes.{IsWrite};
 
 use crate::frame::{damage, frames_in};
 use crate::head::{LogHead, head_in};
@@ -17,6 +19,7 @@ use tc_store::{Frozen, ReadFault};
 
 /// Where the header begins, and how long it is.
 const HEAD_PLACE: usize = 1;
+
 const HEAD_LEN: usize = 20;
 
 /// What a log means: its header, and the writes of its frames up to the first gate that is not open.
@@ -54,11 +57,7 @@ pub fn read_frames<F: Frozen>(
 }
 
 /// All bytes of a file.
-fn whole_of<F: Frozen>(
-    alloc: Global,
-    file: &F,
-    watch: &mut F::Watch,
-) -> Result<Vec<u8>, ReadFault>
+fn whole_of<F: Frozen>(alloc: Global, file: &F, watch: &mut F::Watch) -> Result<Vec<u8>, ReadFault>
     ensures read { IfOk result (λ read. IfSome (F.content file.now) (λ bytes. read.items ≡ bytes)) }
     ensures no_damage { IsNoDamage result }
     ensures faults { F.Watch.faults watch.old ≤ F.Watch.faults watch.new }
@@ -92,11 +91,7 @@ pub fn read_log_head<F: Frozen>(
 }
 
 /// The bytes that stand where the header has its place.
-fn front_in<F: Frozen>(
-    alloc: Global,
-    file: &F,
-    watch: &mut F::Watch,
-) -> Result<Vec<u8>, ReadFault>
+fn front_in<F: Frozen>(alloc: Global, file: &F, watch: &mut F::Watch) -> Result<Vec<u8>, ReadFault>
     ensures read { IfOk result (λ read. IfSome (F.content file.now) (λ bytes. read.items ≡ front_of bytes)) }
     ensures no_damage { IsNoDamage result }
     ensures faults { F.Watch.faults watch.old ≤ F.Watch.faults watch.new }
@@ -118,6 +113,15 @@ fn named_head_in(alloc: Global, generation: u64, front: &[u8]) -> Result<LogHead
         _ => Err(damage(alloc, HEAD_PLACE, front)),
     }
 }
+
+/// What a log means is one header and one list of lawful writes, and its gate is open.
+pub fn logs_mean_one()
+    ensures header { (bytes : List ℕ) (head other : Head) (writes others : List OneWrite) → Means bytes head writes → Means bytes other others → head ≡ other }
+    ensures writes { (bytes : List ℕ) (head other : Head) (writes others : List OneWrite) → Means bytes head writes → Means bytes other others → writes ≡ others }
+    ensures judged { (bytes : List ℕ) (head : Head) (writes : List OneWrite) → Means bytes head writes → log_judged bytes ≡ Ok (head, writes) }
+    ensures lawful { (bytes : List ℕ) (head : Head) (writes : List OneWrite) → Means bytes head writes → AllByRecursion IsWrite writes }
+    ensures open { (bytes : List ℕ) (head : Head) (writes : List OneWrite) → Means bytes head writes → is_open_file bytes ≡ true }
+{}
 
 /// So many bytes of a file.
 fn bytes_of<F: Frozen>(

@@ -1,5 +1,4 @@
-use Rattle.std.proofs.Common.{◌≡◌, ◌∙◌, sym, ap, subst, List, ℕ, ◌&&◌, true}
-use Rattle.tc_bytes.specs.Codec.{IsBytes}
+use Rattle.std.proofs.Common.{◌≡◌, ◌∙◌, sym, ap, ◌&&◌, true}
 use Rattle.tc_log.specs.Tokens.{is_named_keyless, is_keyless_record, lacks_id}
 use Rattle.tc_log.proofs.KeylessRecords.{read_is, unread, few_tokens}
 use Rattle.tc_log.proofs.keyless.is_keyless_record.Goals as goal

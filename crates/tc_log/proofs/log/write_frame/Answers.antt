@@ -1,4 +1,4 @@
-use Rattle.std.proofs.Common.{◌≡◌, ◌-◌, sym, subst}
+use Rattle.std.proofs.Common.{◌-◌, sym, subst}
 use Rattle.tc_store.specs.Moments.{IfTold}
 use Rattle.tc_log.specs.Appending.{MeansWithOrWithout, Appends}
 use Rattle.tc_log.proofs.Appended.{write_failed, not_synced, gate_failed, gate_written}

@@ -1,4 +1,4 @@
-use Rattle.std.proofs.Common.{◌≡◌, ◌∙◌, ◌-◌, min, ap}
+use Rattle.std.proofs.Common.{◌∙◌, ◌-◌, min, ap}
 use Rattle.tc_log.proofs.Logs.{front_answers}
 use Rattle.tc_log.proofs.reading.front_in.Goals as goal
 

@@ -1,4 +1,4 @@
-use Rattle.std.proofs.Common.{◌≡◌, ◌∙◌, ◌==◌, ◌&&◌, true, List, ℕ, Ok, Some, sym, refl, ap, if◌then◌else◌, arith}
+use Rattle.std.proofs.Common.{◌≡◌, true, Some, sym, refl, arith}
 use Rattle.std.proofs.lemmas.Bool.Decides.{nat_tests}
 use Rattle.tc_log.specs.Reading.{head_at, is_of}
 use Rattle.tc_log.proofs.Logs.{named_found}

@@ -1,4 +1,4 @@
-use Rattle.std.proofs.Common.{◌≡◌, ◌≤◌, ◌∙◌, List, ℕ, length, IfOk, subst, sym}
+use Rattle.std.proofs.Common.{◌≤◌, List, ℕ, length, IfOk, subst}
 use Rattle.tc_log.specs.Spelling.{IsNamedHead}
 use Rattle.tc_log.proofs.Logs.{named_answers}
 use Rattle.tc_log.proofs.reading.read_log_head.Goals as goal

@@ -1,4 +1,4 @@
-use Rattle.std.proofs.Common.{◌≡◌, ◌≤◌, ◌+◌, length, arith}
+use Rattle.std.proofs.Common.{arith}
 use Rattle.tc_log.proofs.Kept.{entry_within}
 use Rattle.tc_log.proofs.reserving.body_len.Goals as goal
 

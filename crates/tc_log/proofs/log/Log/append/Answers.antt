@@ -1,6 +1,6 @@
-use Rattle.std.proofs.Common.{◌≡◌, ◌∙◌, ◌≤◌, ◌+◌, ◌-◌, false, sym, ap, subst, length, arith}
+use Rattle.std.proofs.Common.{◌∙◌, sym, ap, subst, arith}
 use Rattle.tc_store.specs.Moments.{IfTold}
-use Rattle.tc_log.specs.Appending.{IsAtRest, appended}
+use Rattle.tc_log.specs.Appending.{IsAtRest}
 use Rattle.tc_log.proofs.Appended.{told_appends, told_after, told_rest, told_durable}
 use Rattle.tc_log.proofs.log.Log.append.Goals as goal
 
@@ -23,9 +23,10 @@ pub invariant_of-self-2 : goal.invariant_of-self-2
 invariant_of-self-2 g c = λ ok.
     let laws = g.met.D.Device g.world.𝓛 g.world.𝓜 g.world.𝓡 ((λ s x. x), (λ x. x), (λ x. x), λ x. x) in
     let device = c.self.inside.device in
-    let was = c.self.invariant (ap (λ s. s.failed) c.self.view_is ∙ c.requires) in
-    (omega (arith, was.0, c.in_ok-write_frame.ensures.longer),
-    subst (λ moments. IfTold moments IsAtRest) (sym c.in_ok-write_frame.ensures.appended) (told_rest (g.D.Device.history device) (g.D.Device.size device) c.bytes.result.now c.args.frame was.1 (laws.told_size device) c.bytes.ensures))
+    let was = c.self.invariant (ap (λ s. s.failed) c.self.view_is ∙ c.requires) in (
+      omega (arith, was.0, c.in_ok-write_frame.ensures.longer),
+      subst (λ moments. IfTold moments IsAtRest) (sym c.in_ok-write_frame.ensures.appended) (told_rest (g.D.Device.history device) (g.D.Device.size device) c.bytes.result.now c.args.frame was.1 (laws.told_size device) c.bytes.ensures),
+    )
 
 pub returns-clause-durable : goal.returns-clause-durable
 returns-clause-durable g c =

@@ -1,10 +1,10 @@
-use Rattle.std.proofs.Common.{◌≡◌, ◌∙◌, sym, ap, subst, ℕ, List, [], length}
+use Rattle.std.proofs.Common.{◌≡◌, ◌∙◌, sym, ap, subst, [], length}
 use Rattle.tc_store.specs.Moments.{goes_on, IfTold}
-use Rattle.tc_store.specs.DiskFile.{DiskFile, written}
+use Rattle.tc_store.specs.DiskFile.{written}
 use Rattle.tc_store.specs.Moments.{LeavesOnly}
 use Rattle.tc_store.proofs.GateLemmas.{told_from}
 use Rattle.tc_log.specs.Appending.{IsShutOrWhole}
-use Rattle.tc_log.specs.Spelling.{head_bytes, log_at_rest}
+use Rattle.tc_log.specs.Spelling.{log_at_rest}
 use Rattle.tc_log.proofs.Created.{begun_moments, filled_moments, opened_moments}
 use Rattle.tc_log.proofs.log.Log.create.Goals as goal
 

@@ -1,4 +1,4 @@
-use Rattle.std.proofs.Common.{◌≡◌, ◌∙◌, ◌<◌, ◌≤◌, length, ap, arith}
+use Rattle.std.proofs.Common.{◌∙◌, ap, arith}
 use Rattle.tc_log.specs.Frame.{frame_writes}
 use Rattle.tc_log.specs.Spelling.{IsFrame}
 use Rattle.tc_log.proofs.Kept.{kept, kept_writes}
