@@ -14,11 +14,11 @@ use Rattle.std.specs.Prelude.{IfSome, IfOk}
 use Rattle.tc_store.specs.Gate.{is_open_file}
 use Rattle.tc_store.specs.declared.damage.ReadFault.{ReadFault}
 use Rattle.tc_store.specs.declared.damage.ReadFault.TheVariants.{Disk, Damaged, Memory}
-use Rattle.tc_log.specs.Judging.{Judges, read_of, same_head}
+use Rattle.tc_log.specs.Judging.{Judges, read_of}
 use Rattle.tc_log.specs.declared.head.LogHead.{LogHead}
 use Rattle.tc_log.specs.declared.reading.LogRead.{LogRead}
 use Rattle.tc_log.specs.declared.write.Write.{Write}
-use Rattle.tc_log.specs.Reading.{is_magic, is_generation, head_at, front_of, is_of, front_judged, Damage, damage, or_damage, judged_then, frames_judged, head_judged, log_judged}
+use Rattle.tc_log.specs.Reading.{is_magic, is_generation, head_at, front_of, is_of, front_judged, Damage, damage, or_damage, frames_judged, head_judged, log_judged}
 use Rattle.tc_log.specs.Spelling.{magic, head_bytes, IsHead, IsNamedHead, frame_bytes, writes_of, Spells, Means}
 use Rattle.tc_log.proofs.Frames.{judged_parts, or_damage_parts, same_Ok, frames_again, frames_found}
 
@@ -128,13 +128,7 @@ opened_file (gate ∷ next ∷ rest) head writes each opened judged = judged_fou
 
 -- ---- what is answered
 
--- a fault is handed on
-pub judges_handed : {X Y Z W : Type 0} (view : X → Y) (other : Z → W) (j : Result Y Damage) (f : Y → Result W Damage) (fault : ReadFault) → Judges view (Err fault) j → Judges other (Err fault) (judged_then j f)
-judges_handed view other j f Disk judges = tt
-judges_handed view other j f Memory judges = tt
-judges_handed view other j f (Damaged place kept) judges = rw judges refl
-
--- and so is one through another view
+-- a fault is the same through another view
 judges_same : {X Y Z : Type 0} (view : X → Y) (other : Z → Y) (j : Result Y Damage) (fault : ReadFault) → Judges view (Err fault) j → Judges other (Err fault) j
 judges_same view other j Disk judges = tt
 judges_same view other j Memory judges = tt
@@ -169,9 +163,6 @@ head_length head = refl
 same_number : (a b : ℕ) → (a == b) ≡ true → a ≡ b
 same_number a b same = grind (arith, nat_tests)
 
-number_same : (a b : ℕ) → a ≡ b → (a == b) ≡ true
-number_same a b same = grind (arith, nat_tests)
-
 named_codec : (generation : ℕ) → IsCodec (passing_at (is_of generation) head_at) head_bytes (λ head. IsHead head × (is_of generation head ≡ true))
 named_codec generation = passing_codec (is_of generation) head_codec
 
@@ -182,17 +173,6 @@ named_found generation front head each short judged =
     let none : parts.0.1 ≡ [] = nil_from_length parts.0.1 (omega (arith, ap length here.0, length-append (head_bytes parts.0.0) parts.0.1, head_length parts.0.0, short)) in
     subst (IsNamedHead generation front) (same_Ok _ head parts.2)
     (record { is_head = here.2.0; named = same_number parts.0.0.generation generation here.2.1; spelled = here.0 ∙ ap (λ (rest : List ℕ). head_bytes parts.0.0 ++ rest) none ∙ append-nil (head_bytes parts.0.0) })
-
-pub named_judged : (generation : ℕ) (front : List ℕ) (head : LogHead) → IsNamedHead generation front head → front_judged generation front ≡ Ok head
-named_judged generation front head is =
-    let read = (named_codec generation).again head [] (is.is_head, number_same head.generation generation is.named) in
-    let bytes : front ≡ head_bytes head ++ [] = is.spelled ∙ sym (append-nil (head_bytes head)) in
-    ap (λ (bytes : List ℕ). judged_then (or_damage (passing_at (is_of generation) head_at bytes) (damage 1 front)) λ h. Ok h.0) bytes ∙ rw read refl
-
-pub named_whole : (generation : ℕ) (r : Result LogHead ReadFault) (content : Option (List ℕ)) → IfSome content (λ bytes. Judges same_head r (front_judged generation (front_of bytes)))
-    → IfSome content (λ bytes. (head : LogHead) → IsNamedHead generation (front_of bytes) head → Judges same_head r (Ok head))
-named_whole generation r None judges = tt
-named_whole generation r (Some bytes) judges = λ head is. subst (λ (j : Result LogHead Damage). Judges same_head r j) (named_judged generation (front_of bytes) head is) judges
 
 -- the front of a file of this length
 pub front_read : (content : Option (List ℕ)) (items : List ℕ) (size : ℕ) → IfSome content (λ bytes. size ≡ length bytes)
