@@ -1,0 +1,8 @@
+pub mod Writes
+pub mod Tokens
+pub mod Spelling
+pub mod Reading
+pub mod Judging
+pub mod Frame
+pub mod Appending
+pub mod Rows

@@ -1,0 +1,20 @@
+//! The write-ahead log of a partition.
+#![tactic(auto)]
+
+mod entry;
+mod frame;
+mod head;
+mod keyless;
+mod log;
+mod reading;
+mod reserving;
+mod write;
+
+pub use head::LogHead;
+pub use log::{Log, LogBroken};
+pub use reading::{LogRead, logs_mean_one, read_frames, read_log_head};
+pub use reserving::Frame;
+pub use write::{Write, Writes};
+
+#[cfg(test)]
+mod tests;
