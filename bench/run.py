@@ -50,7 +50,7 @@ def both(first, second):
     yield from second
 
 
-def show_schema(name, lines, schemas=200):
+def show_schema(name, lines, schemas=5000):
     """Shows what a `schema` costs behind these lines: the difference of a run with so many of them and one without."""
     lines = list(lines)
     _, _, without = run(lines)
