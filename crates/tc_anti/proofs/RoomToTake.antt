@@ -2,9 +2,9 @@
 use Rattle.std.proofs.Common.{◌≡◌, ◌≤◌, List, subst}
 use Rattle.tc_model.specs.Tree.{leaf, array, object}
 use Rattle.tc_model.specs.Document.{Name, ShapeTree}
-use Rattle.tc_counts.specs.Occurrences.{kind_of}
-use Rattle.tc_counts.specs.Counted.{Counters, Below, Fields, counted, counter}
-use Rattle.tc_counts.specs.Fits.{Fits}
+use Rattle.tc_model.specs.Kinds.{kind_of}
+use Rattle.tc_schema_model.specs.Counted.{Counters, Below, Fields, counted, counter}
+use Rattle.tc_schema_model.specs.Fits.{Fits}
 use Rattle.tc_value.specs.ShapeMeaning.{shape_tree}
 use Rattle.tc_value.specs.declared.shape_tree.Shape.{Shape}
 use Rattle.tc_schema.specs.Places.{place_counted, below_counted, fields_counted}

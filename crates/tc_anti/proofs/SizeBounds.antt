@@ -4,14 +4,15 @@ use Rattle.std.proofs.Common.{◌≡◌, ℕ, zero, suc, ◌+◌, ◌<◌, ◌�
 use Rattle.std.specs.List.{IsDistinct, remove}
 use Rattle.tc_model.specs.Tree.{leaf, array, object, Items, no_items, item, Members, no_members, member}
 use Rattle.tc_model.specs.Document.{Name, ShapeTree, ScalarKind, null_kind, boolean_kind, integer_kind, text_kind}
-use Rattle.tc_names.specs.Dictionary.{number_of, learned}
-use Rattle.tc_counts.specs.Occurrences.{Kind, scalar, arrays, objects, Path}
-use Rattle.tc_counts.specs.Counted.{Counted, nothing, shows, total_at}
-use Rattle.tc_counts.specs.Stands.{StandsFor}
-use Rattle.tc_counts.proofs.CountingLaws.{shows_nothing}
-use Rattle.tc_counts.specs.ShapeNames.{names_within, names_of_items, names_of_members, all_learned}
-use Rattle.tc_value.specs.TreeSize.{tree_size, items_size, members_size}
-use Rattle.tc_infer.specs.Values.{of_all_kinds}
+use Rattle.tc_model.specs.Dictionary.{number_of, learned, all_learned}
+use Rattle.tc_schema_model.specs.Occurrences.{Path}
+use Rattle.tc_model.specs.Kinds.{Kind, scalar, arrays, objects}
+use Rattle.tc_schema_model.specs.Counted.{Counted, nothing, shows, total_at}
+use Rattle.tc_schema_model.specs.Stands.{StandsFor}
+use Rattle.tc_schema_model.proofs.CountingLaws.{shows_nothing}
+use Rattle.tc_model.specs.ShapeNames.{names_within, names_of_items, names_of_members}
+use Rattle.tc_model.specs.TreeSize.{tree_size, items_size, members_size}
+use Rattle.tc_schema_model.specs.Values.{of_all_kinds}
 
 -- ---- names
 

@@ -5,10 +5,10 @@ use Rattle.std.proofs.lemmas.Bool.Decides.{Decides-eqb}
 use Rattle.std.proofs.lemmas.List.{length-map}
 use Rattle.std.proofs.lemmas.Option.{same_Some}
 use Rattle.tc_model.specs.Document.{Name}
-use Rattle.tc_names.specs.Dictionary.{number_of}
-use Rattle.tc_counts.specs.Counted.{Counted, Fields, field_at, documents_of, total}
-use Rattle.tc_counts.specs.Added.{put_field, without_field, kept_field, number}
-use Rattle.tc_counts.proofs.NumberLaws.{numbered}
+use Rattle.tc_model.specs.Dictionary.{number_of}
+use Rattle.tc_schema_model.specs.Counted.{Counted, Fields, field_at, documents_of, total}
+use Rattle.tc_schema_model.specs.Added.{put_field, without_field, kept_field, number}
+use Rattle.tc_schema_model.proofs.NumberLaws.{numbered}
 use Rattle.tc_schema.specs.Places.{place_counted, field_counted, fields_counted, listed}
 use Rattle.tc_schema.specs.Search.{IsPlaceOf}
 use Rattle.tc_schema.specs.declared.place.Node.{Node}
@@ -16,7 +16,7 @@ use Rattle.tc_schema.specs.declared.place.Field.{Field}
 use Rattle.tc_schema.specs.declared.place.Field.TheViews.{out-Node, out-Field, roll-Field, out-roll-Field}
 use Rattle.tc_schema.proofs.FieldViews.{counted_at}
 use Rattle.tc_schema.proofs.PlaceViews.{place_parts}
-use Rattle.tc_infer.proofs.FieldWrites.{number_at, written_field}
+use Rattle.tc_schema.proofs.FieldWrites.{number_at, written_field}
 
 -- ---- the field that a search found
 

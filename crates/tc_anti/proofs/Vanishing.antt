@@ -1,8 +1,9 @@
 -- What stands below an array stands nowhere without the array, and what stands below an object nowhere without it.
 use Rattle.std.proofs.Common.{◌≡◌, ℕ, ◌+◌, Bool, true, false, List, [], ◌∷◌, ◌++◌, bytes_eq, if◌then◌else◌, refl, arith}
 use Rattle.tc_model.specs.Tree.{leaf, array, object, Items, no_items, item, Members, no_members, member}
-use Rattle.tc_model.specs.Document.{Name, Document, ShapeTree, ScalarKind}
-use Rattle.tc_counts.specs.Occurrences.{Kind, arrays, objects, field, each_item, Path, occurrences, items_occurrences, members_occurrences, document_shape, count}
+use Rattle.tc_model.specs.Document.{Name, Document, ShapeTree, ScalarKind, document_shape}
+use Rattle.tc_schema_model.specs.Occurrences.{field, each_item, Path, occurrences, items_occurrences, members_occurrences, count}
+use Rattle.tc_model.specs.Kinds.{Kind, arrays, objects}
 
 -- numbers at paths that are 0 below each path without an array, and without an object
 pub record Vanishes (f : Path → Kind → ℕ) : Type 0 where

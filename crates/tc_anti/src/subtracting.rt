@@ -1,11 +1,12 @@
 //! One document less.
 
 ghost use Rattle.std.specs.Prelude.{◌≡◌, ◌+◌, ◌++◌, ◌∷◌, List, length};
-ghost use Rattle.tc_model.specs.Document.{Document};
-ghost use Rattle.tc_counts.specs.Occurrences.{Kind, Path, occurrences, document_shape};
-ghost use Rattle.tc_counts.specs.Counted.{shows, IsCanonical};
-ghost use Rattle.tc_counts.specs.Fits.{FitsByPath};
-ghost use Rattle.tc_counts.specs.Stands.{StandsFor};
+ghost use Rattle.tc_model.specs.Document.{Document, document_shape};
+ghost use Rattle.tc_schema_model.specs.Occurrences.{Path, occurrences};
+ghost use Rattle.tc_model.specs.Kinds.{Kind};
+ghost use Rattle.tc_schema_model.specs.Counted.{shows, IsCanonical};
+ghost use Rattle.tc_schema_model.specs.Fits.{FitsByPath};
+ghost use Rattle.tc_schema_model.specs.Stands.{StandsFor};
 ghost use Rattle.tc_value.specs.ShapeMeaning.{shape_tree};
 
 use crate::taking::take_shape;

@@ -2,13 +2,12 @@
 
 ghost use Rattle.std.specs.Prelude.{◌≡◌, IsTrue, is_some, length, map};
 ghost use Rattle.tc_model.specs.Tree.{items_of, members_of};
-ghost use Rattle.tc_names.specs.Dictionary.{number_of};
-ghost use Rattle.tc_counts.specs.Counted.{held, field_at, IsCanonical, IsBelowCanonical, AreFieldsCanonical};
-ghost use Rattle.tc_counts.specs.Added.{number, removed, items_removed, members_removed, kept_item};
-ghost use Rattle.tc_counts.specs.Fits.{Fits, ItemsFit, MembersFit};
+ghost use Rattle.tc_model.specs.Dictionary.{number_of};
+ghost use Rattle.tc_schema_model.specs.Counted.{held, field_at, IsCanonical, IsBelowCanonical, AreFieldsCanonical};
+ghost use Rattle.tc_schema_model.specs.Added.{number, removed, items_removed, members_removed, kept_item, member_removed};
+ghost use Rattle.tc_schema_model.specs.Fits.{Fits, ItemsFit, MembersFit};
 ghost use Rattle.tc_value.specs.ShapeMeaning.{shape_tree, shape_member};
 ghost use Rattle.tc_schema.specs.Places.{place_counted, below_counted, fields_counted};
-ghost use Rattle.tc_anti.specs.MemberTaken.{member_removed};
 
 use tc_names::Names;
 use tc_schema::{Field, Node, search_fields};

@@ -1,2 +1,3 @@
 pub mod Codec
 pub mod Reading
+pub mod Counts

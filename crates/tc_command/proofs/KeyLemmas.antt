@@ -3,8 +3,8 @@ use Rattle.std.proofs.Common.{◌≡◌, ◌≤◌, Bool, true, false, cond, not
 use Rattle.std.proofs.lemmas.List.Kept.{IsStrictlySortedBy-filter}
 use Rattle.std.specs.List.Sorted.{IsStrictlySortedBy}
 use Rattle.tc_model.specs.Tree.{Members, no_members, member, members_depth, members_of}
-use Rattle.tc_model.specs.Document.{Name, Document, Scalar, name_cmp, IsAscending}
-use Rattle.tc_model.specs.Request.{member_at, without}
+use Rattle.tc_model.specs.Document.{Name, Document, Scalar, name_cmp, IsAscending, member_at}
+use Rattle.tc_model.specs.Request.{without}
 
 -- the name is not the key's
 abbrev pub is_kept : Name → Bool

@@ -1,7 +1,8 @@
 -- What commands ask for, and what reading a line promises of them.
-use Rattle.std.specs.Prelude.{◌≡◌, ◌≤◌, ◌<◌, ◌^◌, codes, Option, Some, None, IfSome, option_map, Result, Ok, Err}
-use Rattle.tc_model.specs.Tree.{object, leaf, array, depth}
-use Rattle.tc_model.specs.Document.{Document}
+use Rattle.std.specs.Prelude.{◌≤◌, ◌<◌, ◌^◌, Option, Some, None, IfSome, option_map, Result, Ok, Err}
+use Rattle.tc_model.specs.Tree.{depth}
+use Rattle.tc_model.specs.Limits.{max_depth}
+use Rattle.tc_model.specs.Stored.{IsStorable}
 use Rattle.tc_model.specs.Request as request
 use Rattle.tc_value.specs.Meaning.{tree_of}
 use Rattle.tc_command.specs.Refusals.{refusal_of, refusal_number}
@@ -38,15 +39,9 @@ request_with command (Err Memory) = None
 
 -- ---- what is known of a command that was read
 
--- an object within the depth, without a member `id`
-abbrev pub IsStorable : Document → Type 0
-IsStorable (object ms) = (depth (object ms) ≤ request.max_depth) × (request.member_at (codes "id") ms ≡ None)
-IsStorable (array xs) = ⊥
-IsStorable (leaf s) = ⊥
-
 -- a value to compare with is within the depth
 abbrev pub IsLawfulAsk : Ask → Type 0
-IsLawfulAsk ask = IfSome ask.eq (λ doc. depth (tree_of doc) ≤ request.max_depth)
+IsLawfulAsk ask = IfSome ask.eq (λ doc. depth (tree_of doc) ≤ max_depth)
 
 -- a key is held as an `i64`
 abbrev pub IsLawful : Command → Type 0

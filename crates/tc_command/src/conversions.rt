@@ -4,9 +4,10 @@ ghost use Rattle.std.specs.Prelude.{◌≡◌, ◌≤◌, ◌<◌, ◌^◌, IsTr
 ghost use Rattle.serde_json.specs.Data.{array};
 ghost use Rattle.serde_json.specs.View.{view, items_view};
 ghost use Rattle.tc_model.specs.Tree.{depth, object, members_of};
-ghost use Rattle.tc_model.specs.Document.{IsAscending};
+ghost use Rattle.tc_model.specs.Document.{IsAscending, member_at};
 ghost use Rattle.tc_model.specs.Json.{document_of, is_whole};
-ghost use Rattle.tc_model.specs.Request.{Ask as AskMeant, Request, max_depth, within_depth, upsert_of as upsert_meant, command_of as command_meant, ask_of as ask_requested, key_of, member_at, without, path_of as path_meant, hop_of as hop_meant};
+ghost use Rattle.tc_model.specs.Request.{Ask as AskMeant, Request, within_depth, upsert_of as upsert_meant, command_of as command_meant, ask_of as ask_requested, key_of, without, path_of as path_meant, hop_of as hop_meant};
+ghost use Rattle.tc_model.specs.Limits.{max_depth};
 ghost use Rattle.tc_value.specs.Meaning.{tree_of, member_of};
 ghost use Rattle.tc_command.specs.Asks.{hop_of};
 ghost use Rattle.tc_command.specs.Commands.{request_by, request_with, IsLawful, IsLawfulAsk, IsOfLine};

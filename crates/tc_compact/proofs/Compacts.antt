@@ -3,8 +3,8 @@ use Rattle.std.proofs.Common.{◌≡◌, ◌∙◌, ℕ, ◌+◌, ◌*◌, ◌<�
 use Rattle.std.proofs.lemmas.List.{length-map}
 use Rattle.std.proofs.lemmas.Option.{same_Some}
 use Rattle.tc_model.specs.Document.{Name, Document, Scalar}
-use Rattle.tc_names.specs.Dictionary.{number_of, Extends, IsDictionary}
-use Rattle.tc_names.proofs.Numbers.{number_of-below}
+use Rattle.tc_model.specs.Dictionary.{number_of, Extends, IsDictionary}
+use Rattle.tc_model.proofs.NameNumbers.{number_of-below}
 use Rattle.tc_record.specs.Preorder.{Token, tokens_of}
 use Rattle.tc_record.specs.Record.{labels, width, numbers, joined, record_bytes, record_of, IsRecordOf}
 use Rattle.tc_record.specs.Walk.{Key, name}
@@ -12,7 +12,7 @@ use Rattle.tc_record.specs.Borrowed.{Record, Spells, named_tokens, numbered_toke
 use Rattle.tc_record.proofs.Reading.{document_again, numbered_again}
 use Rattle.tc_record.proofs.Lengths.{length-numbers}
 use Rattle.tc_record.proofs.Keyed.{preorder-relabel}
-use Rattle.tc_counts.specs.Added as counts
+use Rattle.tc_schema_model.specs.Added as counts
 use Rattle.tc_compact.specs.Compacted.{HasEach, IsCompactedRecordOf}
 use Rattle.tc_compact.specs.Slots.{names_in}
 use Rattle.tc_compact.specs.Layout.{slot_bytes, counts_in, values_in, whole, named_slots, numbered_record}

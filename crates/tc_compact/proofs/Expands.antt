@@ -3,7 +3,7 @@ use Rattle.std.proofs.Common.{◌≡◌, ◌∙◌, ℕ, ◌+◌, ◌*◌, ◌<�
 use Rattle.std.proofs.lemmas.List.{length-map}
 use Rattle.std.proofs.lemmas.Option.{same_Some}
 use Rattle.tc_model.specs.Document.{Name, Document, Scalar}
-use Rattle.tc_names.specs.Dictionary.{IsDictionary}
+use Rattle.tc_model.specs.Dictionary.{IsDictionary}
 use Rattle.tc_record.specs.declared.widths.Width.TheVariants.{Four}
 use Rattle.tc_record.specs.Widths.{width_bytes}
 use Rattle.tc_record.specs.Preorder.{Token, tokens_of}
@@ -19,7 +19,7 @@ use Rattle.tc_record.proofs.Counted.{same_numbers}
 use Rattle.tc_record.proofs.Cutting.{sections_again}
 use Rattle.tc_record.proofs.Reading.{holding_bytes, holding_fits, lengths_small, small_texts, format_for}
 use Rattle.tc_record.proofs.Lengths.{length-numbers}
-use Rattle.tc_counts.specs.Added as counts
+use Rattle.tc_schema_model.specs.Added as counts
 use Rattle.tc_compact.specs.Compacted.{HasEach, compacted, IsCompactedRecordOf}
 use Rattle.tc_compact.specs.Slots.{numbers_in, names_of}
 use Rattle.tc_compact.specs.Layout.{slot_bytes, counts_in, values_in, whole, named_slots, named_record}

@@ -1,12 +1,11 @@
 -- Names learned one after the other: they get numbers, and numbers stay.
 use Rattle.std.proofs.Common.{◌≡◌, ◌∙◌, ℕ, ◌≤◌, if◌then◌else◌, List, [], ◌∷◌, ◌++◌, Option, Some, None, is_some, unwrap_or, IsTrue, length, map, refl, sym, ap, arith, length-append}
 use Rattle.tc_model.specs.Document.{Name}
-use Rattle.tc_names.specs.Dictionary.{number_of, learned, Extends}
-use Rattle.tc_names.proofs.Growth.{Extends-same, Extends-trans, Extends-learned, number_of-Extends}
-use Rattle.tc_names.proofs.Numbers.{number_of-push}
-use Rattle.tc_counts.specs.Added as counts
+use Rattle.tc_model.specs.Dictionary.{number_of, learned, Extends, all_learned}
+use Rattle.tc_model.proofs.DictionaryGrowth.{Extends-same, Extends-trans, Extends-learned, number_of-Extends}
+use Rattle.tc_model.proofs.NameNumbers.{number_of-push}
+use Rattle.tc_schema_model.specs.Added as counts
 use Rattle.tc_compact.specs.Compacted.{HasEach}
-use Rattle.tc_counts.specs.ShapeNames.{all_learned}
 
 pub Extends-all_learned : (known xs : List Name) → Extends (all_learned known xs) known
 Extends-all_learned known [] = Extends-same known

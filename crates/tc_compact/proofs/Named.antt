@@ -6,10 +6,10 @@ use Rattle.std.proofs.Math.Seq.{take-append_seam}
 use Rattle.std.specs.List.{IsDistinct}
 use Rattle.tc_bytes.proofs.Codecs.{then_parts}
 use Rattle.tc_model.specs.Document.{Name}
-use Rattle.tc_names.specs.Dictionary.{number_of}
-use Rattle.tc_names.proofs.Numbers.{slice_get-number_of, number_of-slice_get}
+use Rattle.tc_model.specs.Dictionary.{number_of}
+use Rattle.tc_model.proofs.NameNumbers.{slice_get-number_of, number_of-slice_get}
 use Rattle.tc_record.specs.Record.{joined}
-use Rattle.tc_counts.specs.Added as counts
+use Rattle.tc_schema_model.specs.Added as counts
 use Rattle.tc_compact.specs.Compacted.{HasEach}
 use Rattle.tc_compact.specs.Slots.{names_of}
 

@@ -3,7 +3,8 @@ use Rattle.std.proofs.Common.{◌≡◌, ◌∙◌, ℕ, ◌<◌, ◌^◌, List,
 use Rattle.tc_model.specs.Tree.{Tree, leaf, array, object, Items, no_items, item, Members, no_members, member, depth, relabel, items_relabel, members_relabel}
 use Rattle.tc_model.specs.Document.{Name, Document, Scalar, IsScalar, IsTreeOf, AreItemsOf, AreMembersOf}
 use Rattle.tc_record.specs.Preorder.{Token, tokens_of}
-use Rattle.tc_record.specs.Record.{labels, joined, record_bytes, numbered_record_of, IsNumberedTree, AreNumberedItems, AreNumberedMembers, IsObject}
+use Rattle.tc_record.specs.Record.{labels, joined, record_bytes, numbered_record_of, IsNumberedTree, AreNumberedItems, AreNumberedMembers}
+use Rattle.tc_model.specs.Stored.{IsObject}
 use Rattle.tc_record.specs.Walk.{name, number}
 use Rattle.tc_record.specs.Borrowed.{numbered_tokens}
 use Rattle.tc_record.proofs.Spelled.{slot_of, name_of, slots, names}

@@ -1,10 +1,9 @@
 -- A record needs no more room in a dictionary than it has bytes.
 use Rattle.std.proofs.Common.{◌≡◌, ◌+◌, ◌≤◌, List, [], ◌∷◌, length, true, arith}
 use Rattle.tc_model.specs.Document.{Name}
-use Rattle.tc_names.specs.Dictionary.{learned}
-use Rattle.tc_names.proofs.Growth.{length-learned}
+use Rattle.tc_model.specs.Dictionary.{learned, all_learned}
+use Rattle.tc_model.proofs.DictionaryGrowth.{length-learned}
 use Rattle.tc_record.specs.Borrowed.{Record, Spells}
-use Rattle.tc_counts.specs.ShapeNames.{all_learned}
 use Rattle.tc_compact.specs.Slots.{names_in}
 use Rattle.tc_compact.proofs.Compacts.{names_lie}
 

@@ -2,13 +2,13 @@
 use Rattle.std.proofs.Common.{◌≡◌, ◌∙◌, ℕ, Bool, false, List, [], refl, sym, ap}
 use Rattle.std.proofs.lemmas.Option.{same_Some}
 use Rattle.tc_model.specs.Document.{Name, Document, Scalar}
-use Rattle.tc_names.specs.Dictionary.{Extends, IsDictionary}
+use Rattle.tc_model.specs.Dictionary.{Extends, IsDictionary}
 use Rattle.tc_record.specs.Preorder.{Token, tokens_of}
 use Rattle.tc_record.specs.Record.{labels, record_bytes, IsRecordOf}
 use Rattle.tc_record.specs.Walk.{Key}
 use Rattle.tc_record.specs.Borrowed.{Record, numbered_tokens}
 use Rattle.tc_record.proofs.Reading.{numbered_again}
-use Rattle.tc_counts.specs.Added as counts
+use Rattle.tc_schema_model.specs.Added as counts
 use Rattle.tc_compact.specs.Compacted.{compacted, IsCompactedRecordOf}
 use Rattle.tc_compact.proofs.Learned.{numbers_stay}
 use Rattle.tc_compact.proofs.Relabelled.{record-numbered}

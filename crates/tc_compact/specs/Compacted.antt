@@ -3,8 +3,8 @@ use Rattle.std.specs.Prelude.{ℕ, List, IsTrue, is_some}
 use Rattle.std.specs.List.{AllByRecursion}
 use Rattle.tc_model.specs.Tree.{relabel}
 use Rattle.tc_model.specs.Document.{Name, Document}
-use Rattle.tc_names.specs.Dictionary.{number_of}
-use Rattle.tc_counts.specs.Added as counts
+use Rattle.tc_model.specs.Dictionary.{number_of}
+use Rattle.tc_schema_model.specs.Added as counts
 use Rattle.tc_record.specs.Preorder.{tokens_of}
 use Rattle.tc_record.specs.Record.{labels, NumberedTree, IsNumberedRecordOf}
 

@@ -2,10 +2,9 @@
 
 ghost use Rattle.std.specs.Prelude.{◌≡◌, ◌<◌, ◌+◌, ◌*◌, ◌^◌, List, true, IfOk, OnOk, length};
 ghost use Rattle.tc_model.specs.Document.{Name, Document};
-ghost use Rattle.tc_names.specs.Dictionary.{Extends, IsDictionary};
+ghost use Rattle.tc_model.specs.Dictionary.{Extends, IsDictionary, all_learned};
 ghost use Rattle.tc_record.specs.Record.{IsRecordOf};
 ghost use Rattle.tc_compact.specs.Compacted.{IsCompactedRecordOf};
-ghost use Rattle.tc_counts.specs.ShapeNames.{all_learned};
 ghost use Rattle.tc_compact.specs.Slots.{names_in};
 ghost use Rattle.tc_compact.specs.Layout.{numbered_record};
 

@@ -1,6 +1,6 @@
 //! What every dictionary is.
 
-ghost use Rattle.tc_names.specs.Dictionary.{IsDictionary};
+ghost use Rattle.tc_model.specs.Dictionary.{IsDictionary};
 
 use tc_names::Names;
 

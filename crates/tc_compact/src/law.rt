@@ -2,7 +2,7 @@
 
 ghost use Rattle.std.specs.Prelude.{◌≡◌, ℕ, List};
 ghost use Rattle.tc_model.specs.Document.{Name, Document};
-ghost use Rattle.tc_names.specs.Dictionary.{Extends, IsDictionary};
+ghost use Rattle.tc_model.specs.Dictionary.{Extends, IsDictionary};
 ghost use Rattle.tc_record.specs.Record.{IsRecordOf};
 ghost use Rattle.tc_compact.specs.Compacted.{IsCompactedRecordOf};
 

@@ -1,10 +1,9 @@
 //! The names of a record, learned.
 
 ghost use Rattle.std.specs.Prelude.{◌≡◌, ◌<◌, ◌^◌, IfOk, OnOk, length, map};
-ghost use Rattle.tc_names.specs.Dictionary.{Extends, IsDictionary};
+ghost use Rattle.tc_model.specs.Dictionary.{Extends, IsDictionary, all_learned};
 ghost use Rattle.tc_record.specs.Record.{joined};
-ghost use Rattle.tc_counts.specs.Added as counts;
-ghost use Rattle.tc_counts.specs.ShapeNames.{all_learned};
+ghost use Rattle.tc_schema_model.specs.Added as counts;
 ghost use Rattle.tc_compact.specs.Slots.{names_in};
 
 use crate::dictionary::is_dictionary;

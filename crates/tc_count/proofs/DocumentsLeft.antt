@@ -2,11 +2,12 @@
 use Rattle.std.proofs.Common.{◌≡◌, ℕ, ◌+◌, ◌<◌, List, ◌∷◌, length, get_or, map, drop, sym, ap, ◌∙◌, arith}
 use Rattle.std.proofs.lemmas.List.{drop_more}
 use Rattle.tc_model.specs.Document.{Name, Document, null_kind, boolean_kind, integer_kind, text_kind}
-use Rattle.tc_counts.specs.Occurrences.{Kind, scalar, arrays, objects, Path, count}
-use Rattle.tc_counts.specs.Counted.{Counted, shows, total_at}
+use Rattle.tc_schema_model.specs.Occurrences.{Path, count}
+use Rattle.tc_model.specs.Kinds.{Kind, scalar, arrays, objects}
+use Rattle.tc_schema_model.specs.Counted.{Counted, shows, total_at}
 use Rattle.tc_value.specs.Meaning.{tree_of}
 use Rattle.tc_value.specs.declared.document.Doc.{Doc}
-use Rattle.tc_infer.specs.Values.{values_in}
+use Rattle.tc_schema_model.specs.Values.{values_in}
 
 -- the one there, and the rest
 pub documents_from : (docs : List Doc) (i : ℕ) (doc : Doc) → i < length docs → doc ≡ get_or docs i doc → map tree_of (drop i docs) ≡ tree_of doc ∷ map tree_of (drop (i + 1) docs)

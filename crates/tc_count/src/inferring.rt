@@ -1,11 +1,12 @@
 //! One document after the other.
 
 ghost use Rattle.std.specs.Prelude.{◌≡◌, ◌<◌, ◌^◌, [], All, IfOk, length, map};
-ghost use Rattle.tc_counts.specs.Occurrences.{Path};
-ghost use Rattle.tc_counts.specs.Stands.{StandsFor};
+ghost use Rattle.tc_schema_model.specs.Occurrences.{Path};
+ghost use Rattle.tc_schema_model.specs.Stands.{StandsFor};
 ghost use Rattle.tc_value.specs.Meaning.{tree_of};
-ghost use Rattle.tc_counts.specs.ShapeNames.{names_of_documents, all_learned};
-ghost use Rattle.tc_infer.specs.Values.{values_in};
+ghost use Rattle.tc_model.specs.ShapeNames.{names_of_documents};
+ghost use Rattle.tc_model.specs.Dictionary.{all_learned};
+ghost use Rattle.tc_schema_model.specs.Values.{values_in};
 
 use std::alloc::Global;
 use tc_bytes::Memory;

@@ -1,9 +1,6 @@
 -- Counts of faults, and what a call does to them.
-use Rattle.std.specs.Prelude.{ℕ, ◌+◌, ◌-◌, ◌^◌, ◌≤◌, min, nat_lt, nat_eq, Bool, true, ◌&&◌, if◌then◌else◌, List, length, Result, Ok, Err, OnErr}
-
--- a count after one more: it stands still at the end of a `u64`
-abbrev pub next_count : ℕ → ℕ
-next_count n = min (n + 1) (2 ^ 64 - 1)
+use Rattle.std.specs.Prelude.{ℕ, ◌≤◌, nat_lt, nat_eq, Bool, true, ◌&&◌, if◌then◌else◌, List, length, Result, Ok, Err, OnErr}
+use Rattle.tc_bytes.specs.Counts.{next_count, Rose}
 
 -- a count of faults after a call that failed, or that did not
 abbrev pub count_after : Bool → ℕ → ℕ
@@ -13,10 +10,6 @@ count_after failed n = if failed then next_count n else n
 abbrev pub is_failed_write : {E : Type 0} → Result ℕ E → List ℕ → Bool
 is_failed_write (Ok n) from = nat_eq n 0 && nat_lt 0 (length from)
 is_failed_write (Err e) from = true
-
--- the count rose, or it stands at its end
-abbrev pub Rose : ℕ → ℕ → Type 0
-Rose before now = next_count before ≤ now
 
 -- the count did not fall, and it rose where the call failed
 pub record HasCause {T E : Type 0} (before now : ℕ) (result : Result T E) : Type 0 where

@@ -3,7 +3,8 @@
 ghost use Rattle.std.specs.Prelude.{◌≡◌, ℕ, ◌<◌, ◌≤◌, ◌↔◌, ◌⊎◌, List, [], ◌++◌, Option, Some, Ok, length, min, take, drop, Contains, IsErr, IfOk, OnErr};
 ghost use Rattle.std.specs.Io.{ReadsAtMost, WritesAtMost};
 ghost use Rattle.std.specs.Io.KnownBytes.{ReadConsumes, WriteAppends};
-ghost use Rattle.tc_edge.specs.Faults.{next_count, count_after, is_failed_write, Rose, HasCause};
+ghost use Rattle.tc_edge.specs.Faults.{count_after, is_failed_write, HasCause};
+ghost use Rattle.tc_bytes.specs.Counts.{next_count, Rose};
 ghost use Rattle.tc_edge.specs.Memory.{MemoryInput, MemoryOutput};
 
 use crate::streams::{EdgeFault, Sink, Source};

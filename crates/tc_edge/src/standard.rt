@@ -3,7 +3,8 @@
 ghost use Rattle.std.specs.Prelude.{◌≡◌, ℕ, ◌<◌, List, Option, Ok, length, is_err};
 ghost use Rattle.std.specs.Io.{ReadsAtMost, WritesAtMost};
 ghost use Rattle.std.specs.Io.KnownBytes.{ReadConsumes, WriteAppends};
-ghost use Rattle.tc_edge.specs.Faults.{count_after, is_failed_write, Rose, HasCause};
+ghost use Rattle.tc_edge.specs.Faults.{count_after, is_failed_write, HasCause};
+ghost use Rattle.tc_bytes.specs.Counts.{Rose};
 ghost use Rattle.tc_edge.specs.Standard.{reader_of, read_faults, writer_of, write_faults};
 
 use crate::streams::{EdgeFault, Sink, Source};

@@ -3,7 +3,8 @@
 ghost use Rattle.std.specs.Prelude.{◌≡◌, ℕ, ◌<◌, List, Option, Ok, length, take, OnOk, IfErr};
 ghost use Rattle.std.specs.Io.{ReadsAtMost, WritesAtMost};
 ghost use Rattle.std.specs.Io.KnownBytes.{Appends, ReadConsumes, WriteAppends};
-ghost use Rattle.tc_edge.specs.Faults.{Rose, HasCause};
+ghost use Rattle.tc_edge.specs.Faults.{HasCause};
+ghost use Rattle.tc_bytes.specs.Counts.{Rose};
 
 use thiserror::Error;
 

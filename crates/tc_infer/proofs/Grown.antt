@@ -1,16 +1,18 @@
 -- A schema with one shape more, under the dictionary that has learned the shape's names.
 use Rattle.std.proofs.Common.{◌≡◌, ◌+◌, ◌<◌, ◌^◌, List, ◌∷◌, length, ap, ◌∙◌, arith}
-use Rattle.tc_model.specs.Document.{Name, Document, ShapeTree}
-use Rattle.tc_counts.specs.Occurrences.{Kind, Path, occurrences, document_shape}
-use Rattle.tc_counts.specs.Counted.{Counted, shows, total_at, IsCanonical}
-use Rattle.tc_counts.specs.Added.{added}
-use Rattle.tc_counts.specs.Stands.{StandsFor}
-use Rattle.tc_counts.proofs.AddedLaws.{shows-added, canonical-added}
-use Rattle.tc_names.specs.Dictionary.{Extends}
-use Rattle.tc_counts.specs.ShapeNames.{names_within, all_learned}
-use Rattle.tc_infer.specs.Room.{DoesFit}
-use Rattle.tc_infer.specs.Values.{values_at}
-use Rattle.tc_infer.proofs.NameLaws.{Extends-all_learned, named-all_learned, distinct-all_learned}
+use Rattle.tc_model.specs.Document.{Name, Document, ShapeTree, document_shape}
+use Rattle.tc_schema_model.specs.Occurrences.{Path, occurrences}
+use Rattle.tc_model.specs.Kinds.{Kind}
+use Rattle.tc_schema_model.specs.Counted.{Counted, shows, total_at, IsCanonical}
+use Rattle.tc_schema_model.specs.Added.{added}
+use Rattle.tc_schema_model.specs.Stands.{StandsFor}
+use Rattle.tc_schema_model.proofs.AddedLaws.{shows-added, canonical-added}
+use Rattle.tc_model.specs.Dictionary.{Extends, all_learned}
+use Rattle.tc_model.specs.ShapeNames.{names_within}
+use Rattle.tc_schema_model.specs.Room.{DoesFit}
+use Rattle.tc_schema_model.specs.Values.{values_at}
+use Rattle.tc_model.proofs.LearnedNames.{Extends-all_learned, distinct-all_learned}
+use Rattle.tc_schema_model.proofs.NamedShapes.{named-all_learned}
 use Rattle.tc_infer.proofs.MoreNames.{canonical_newer, same_shown, added_fits}
 
 module _ (known : List Name) (s : ShapeTree) where

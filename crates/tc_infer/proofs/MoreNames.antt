@@ -2,15 +2,16 @@
 use Rattle.std.proofs.Common.{◌≡◌, ℕ, suc, ◌+◌, ◌<◌, ◌≤◌, ◌^◌, Bool, true, false, List, [], ◌∷◌, ◌++◌, Option, Some, None, option_map, length, bytes_eq, if◌then◌else◌, refl, sym, ap, ◌∙◌, arith, length-append}
 use Rattle.std.proofs.lemmas.Bool.Decides.{nat_tests}
 use Rattle.tc_model.specs.Document.{Name, ShapeTree, null_kind, boolean_kind, integer_kind, text_kind}
-use Rattle.tc_counts.specs.Occurrences.{Kind, scalar, arrays, objects, field, each_item, Path}
-use Rattle.tc_counts.specs.Counted.{Counted, counted, Below, no_item, an_item, Fields, no_fields, a_field, nothing, held, field_at, numbered_field, shows, total_at, IsCanonical, IsBelowCanonical, AreFieldsCanonical}
-use Rattle.tc_counts.specs.Added.{IsNamed, added}
-use Rattle.tc_counts.proofs.AddedLaws.{field_canonical}
-use Rattle.tc_counts.proofs.FieldLaws.{held_canonical}
-use Rattle.tc_names.specs.Dictionary.{number_of, Extends}
-use Rattle.tc_names.proofs.Numbers.{number_of-append}
-use Rattle.tc_infer.specs.Room.{DoesFit}
-use Rattle.tc_infer.specs.Values.{values_at}
+use Rattle.tc_schema_model.specs.Occurrences.{field, each_item, Path}
+use Rattle.tc_model.specs.Kinds.{Kind, scalar, arrays, objects}
+use Rattle.tc_schema_model.specs.Counted.{Counted, counted, Below, no_item, an_item, Fields, no_fields, a_field, nothing, held, field_at, numbered_field, shows, total_at, IsCanonical, IsBelowCanonical, AreFieldsCanonical}
+use Rattle.tc_schema_model.specs.Added.{IsNamed, added}
+use Rattle.tc_schema_model.proofs.AddedLaws.{field_canonical}
+use Rattle.tc_schema_model.proofs.FieldLaws.{held_canonical}
+use Rattle.tc_model.specs.Dictionary.{number_of, Extends}
+use Rattle.tc_model.proofs.NameNumbers.{number_of-append}
+use Rattle.tc_schema_model.specs.Room.{DoesFit}
+use Rattle.tc_schema_model.specs.Values.{values_at}
 use Rattle.tc_infer.proofs.RoomLaws.{total-added}
 
 -- ---- the one form

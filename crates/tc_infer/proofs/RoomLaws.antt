@@ -2,19 +2,20 @@
 use Rattle.std.proofs.Common.{◌≡◌, ◌+◌, ◌<◌, ◌≤◌, ◌^◌, List, [], ◌∷◌, ap, ◌∙◌, subst, arith}
 use Rattle.tc_model.specs.Tree.{array, object, Items, item, Members, member}
 use Rattle.tc_model.specs.Document.{Name, ShapeTree, ScalarKind, null_kind, boolean_kind, integer_kind, text_kind}
-use Rattle.tc_names.specs.Dictionary.{number_of}
-use Rattle.tc_counts.specs.Occurrences.{Kind, scalar, arrays, objects, field, each_item, Path}
-use Rattle.tc_counts.specs.Counted.{Counted, Below, an_item, Fields, held, field_at, numbered_field, total, documents_of, shows, total_at}
-use Rattle.tc_counts.specs.Added.{put_field, number, added, items_added, members_added, IsNamed, AreItemsNamed, AreMembersNamed}
-use Rattle.tc_counts.proofs.AddedLaws.{shows-added, shows-items_added, shows-members_added, documents-added}
-use Rattle.tc_counts.proofs.FieldLaws.{field_at-put_field_here}
-use Rattle.tc_counts.proofs.NumberLaws.{numbered}
+use Rattle.tc_model.specs.Dictionary.{number_of}
+use Rattle.tc_schema_model.specs.Occurrences.{field, each_item, Path}
+use Rattle.tc_model.specs.Kinds.{Kind, scalar, arrays, objects}
+use Rattle.tc_schema_model.specs.Counted.{Counted, Below, an_item, Fields, held, field_at, numbered_field, total, documents_of, shows, total_at}
+use Rattle.tc_schema_model.specs.Added.{put_field, number, added, items_added, members_added, IsNamed, AreItemsNamed, AreMembersNamed}
+use Rattle.tc_schema_model.proofs.AddedLaws.{shows-added, shows-items_added, shows-members_added, documents-added}
+use Rattle.tc_schema_model.proofs.FieldLaws.{field_at-put_field_here}
+use Rattle.tc_schema_model.proofs.NumberLaws.{numbered}
 use Rattle.tc_schema.specs.Places.{place_counted, below_counted, fields_counted}
 use Rattle.tc_schema.specs.declared.place.Node.{Node}
 use Rattle.tc_schema.specs.declared.place.Field.TheViews.{out-Node}
 use Rattle.tc_schema.proofs.PlaceViews.{place_parts}
-use Rattle.tc_infer.specs.Room.{DoesFit, DoFieldsFit}
-use Rattle.tc_infer.specs.Values.{values_at}
+use Rattle.tc_schema_model.specs.Room.{DoesFit, DoFieldsFit}
+use Rattle.tc_schema_model.specs.Values.{values_at}
 
 -- the sum over the six kinds of what is shown
 pub total-added : (names : List Name) (s : ShapeTree) (d : Counted) → IsNamed names s → (path : Path) → total_at names (added names s d) path ≡ total_at names d path + values_at s path

@@ -1,14 +1,15 @@
 //! One document more.
 
 ghost use Rattle.std.specs.Prelude.{◌≡◌, ◌+◌, ◌<◌, ◌^◌, ◌∷◌, All, List, OnOk, OnErr, length};
-ghost use Rattle.tc_model.specs.Document.{Document};
-ghost use Rattle.tc_counts.specs.Occurrences.{Kind, Path, occurrences, document_shape};
-ghost use Rattle.tc_counts.specs.Counted.{nothing, shows, total_at, IsCanonical};
-ghost use Rattle.tc_counts.specs.Stands.{StandsFor};
-ghost use Rattle.tc_names.specs.Dictionary.{Extends};
+ghost use Rattle.tc_model.specs.Document.{Document, document_shape};
+ghost use Rattle.tc_schema_model.specs.Occurrences.{Path, occurrences};
+ghost use Rattle.tc_model.specs.Kinds.{Kind};
+ghost use Rattle.tc_schema_model.specs.Counted.{nothing, shows, total_at, IsCanonical};
+ghost use Rattle.tc_schema_model.specs.Stands.{StandsFor};
+ghost use Rattle.tc_model.specs.Dictionary.{Extends, all_learned};
 ghost use Rattle.tc_value.specs.ShapeMeaning.{shape_tree};
-ghost use Rattle.tc_counts.specs.ShapeNames.{names_within, all_learned};
-ghost use Rattle.tc_infer.specs.Values.{values_at};
+ghost use Rattle.tc_model.specs.ShapeNames.{names_within};
+ghost use Rattle.tc_schema_model.specs.Values.{values_at};
 
 use crate::counting::count_shape;
 use crate::learning::learn_names;

@@ -6,7 +6,7 @@ ghost use Rattle.serde_json.specs.View.{view, items_view, members_view};
 ghost use Rattle.tc_model.specs.Tree.{depth, items_of, members_of};
 ghost use Rattle.tc_model.specs.Document.{Document};
 ghost use Rattle.tc_model.specs.Json.{document_of, items_meant, members_meant};
-ghost use Rattle.tc_model.specs.Request.{max_depth};
+ghost use Rattle.tc_model.specs.Limits.{max_depth};
 ghost use Rattle.tc_value.specs.Meaning.{tree_of};
 
 use crate::fault::JsonFault;

@@ -2,7 +2,8 @@
 
 ghost use Rattle.std.specs.Prelude.{◌≡◌, ℕ, ◌+◌, ◌-◌, ◌≤◌, ◌<◌, ◌↔◌, false, List, [], ◌∷◌, ◌++◌, ◌==◌, length, take, drop, IfOk, IfSome, OnOk, OnErr, IsErrOf, IsTrue, MatchOption, Err, vec_len};
 ghost use Rattle.std.specs.Io.KnownBytes.{Consumes, IsAtEnd, Keeps, ReadConsumes};
-ghost use Rattle.tc_edge.specs.Faults.{Rose, HasCause};
+ghost use Rattle.tc_edge.specs.Faults.{HasCause};
+ghost use Rattle.tc_bytes.specs.Counts.{Rose};
 ghost use Rattle.tc_lines.specs.declared.intake.TheConstants.{PIECE, MAX_TAKEN};
 ghost use Rattle.tc_lines.specs.Holding.{Holding, IsOneLine, HasFeedAt};
 

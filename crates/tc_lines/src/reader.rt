@@ -2,7 +2,7 @@
 
 ghost use Rattle.std.specs.Prelude.{◌≡◌, ◌≢◌, ℕ, ◌+◌, ◌≤◌, ◌<◌, [], ◌++◌, Bool, true, false, length, take, drop, IfOk, OnErr};
 ghost use Rattle.tc_model.specs.Lines.{whole_lines};
-ghost use Rattle.tc_edge.specs.Faults.{Rose};
+ghost use Rattle.tc_bytes.specs.Counts.{Rose};
 ghost use Rattle.tc_lines.specs.Answer.{IsAnswered, Reading, is_failure};
 ghost use Rattle.tc_lines.specs.Giving.{reading_of, GivesLine, GivesLast, MakesRoom};
 ghost use Rattle.tc_lines.specs.Holding.{IsOneLine};

@@ -18,7 +18,8 @@ use Rattle.tc_log.specs.declared.write.Write.TheVariants.{Upsert, Delete}
 use Rattle.tc_log.specs.Reading.{record_at, held_at, is_key, entry_at, body_read}
 use Rattle.tc_log.specs.Spelling.{held_bytes, entry_bytes, body_bytes}
 use Rattle.tc_log.specs.Tokens.{is_keyless_record}
-use Rattle.tc_log.specs.Writes.{key_of, record_in, write_of, IsHeld, IsKeylessRecord, IsWrite}
+use Rattle.tc_log.specs.Writes.{key_of, record_in, write_of, IsHeld, IsWrite}
+use Rattle.tc_record.specs.StoredRecord.{IsStoredRecord}
 use Rattle.tc_log.proofs.KeylessRecords.{IsKeylessRecord-from_test, test-from_IsKeylessRecord}
 
 -- ---- records
@@ -33,7 +34,7 @@ length_first d rest short =
     let reads : number_at w32 (record_of d ++ rest) ≡ Some (total, behind) = number_codec_32.again total behind (omega (arith, same)) in
     (behind, reads ∙ ap (λ (n : ℕ). Some (n, behind)) same)
 
-record_again : (bytes rest : List ℕ) → IsKeylessRecord bytes → record_at (bytes ++ rest) ≡ Some (bytes, rest)
+record_again : (bytes rest : List ℕ) → IsStoredRecord bytes → record_at (bytes ++ rest) ≡ Some (bytes, rest)
 record_again bytes rest is =
     let spelled = is.is_record.spelled in
     let first = length_first is.document rest (subst (λ bs. length bs < 2 ^ 32) spelled is.is_record.short) in
@@ -41,7 +42,7 @@ record_again bytes rest is =
     let cut = (passing_codec is_keyless_record (bytes_codec (length bytes))).again bytes rest (refl, test-from_IsKeylessRecord bytes is) in
     rw told cut
 
-record_codec : IsCodec record_at (λ bytes. bytes) IsKeylessRecord
+record_codec : IsCodec record_at (λ bytes. bytes) IsStoredRecord
 record_codec = record {
   found = λ bytes front rest each gives.
       let parts = then_parts (number_at w32 bytes) _ (front, rest) gives in

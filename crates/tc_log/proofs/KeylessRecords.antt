@@ -4,8 +4,7 @@ use Rattle.std.proofs.lemmas.Bool.Decides.{nat_tests}
 use Rattle.std.proofs.lemmas.List.{length-map}
 use Rattle.tc_bytes.specs.Codec.{IsBytes}
 use Rattle.tc_model.specs.Tree.{Tree, leaf, array, object, Items, no_items, item, Members, no_members, member, members_relabel}
-use Rattle.tc_model.specs.Document.{Name, Document, Scalar}
-use Rattle.tc_model.specs.Request.{member_at}
+use Rattle.tc_model.specs.Document.{Name, Document, Scalar, member_at}
 use Rattle.tc_record.specs.Preorder.{scalar, array_opened, object_opened, closed, Token, token, preorder, items_preorder, members_preorder}
 use Rattle.tc_record.specs.Record.{piece_tag, IsRecordOf}
 use Rattle.tc_record.specs.Walk.{Key, name}
@@ -15,7 +14,8 @@ use Rattle.tc_record.proofs.Cutting.{body_length}
 use Rattle.tc_record.proofs.Keyed.{record_of-keyed}
 use Rattle.tc_record.proofs.Reading.{document_again, numbered_again, read_found}
 use Rattle.tc_log.specs.Tokens.{is_id, depth_behind, lacks_id, is_named_keyless, is_keyless_record}
-use Rattle.tc_log.specs.Writes.{IsKeyless, IsKeylessRecord}
+use Rattle.tc_model.specs.Stored.{IsKeyless}
+use Rattle.tc_record.specs.StoredRecord.{IsStoredRecord}
 
 -- ---- what stands deeper than in the outermost object
 
@@ -122,19 +122,19 @@ both : (a b : Bool) → (a && b) ≡ true → (a ≡ true) × (b ≡ true)
 both true b all = (refl, all)
 both false b all = cc
 
-keyless_spelled : (bytes : List ℕ) (named : Bool) (tokens : List (Token Key Scalar)) → named ≡ true → lacks_id 0 tokens ≡ true → Spells (record { bytes = bytes; named = named; tokens = tokens }) → IsKeylessRecord bytes
+keyless_spelled : (bytes : List ℕ) (named : Bool) (tokens : List (Token Key Scalar)) → named ≡ true → lacks_id 0 tokens ≡ true → Spells (record { bytes = bytes; named = named; tokens = tokens }) → IsStoredRecord bytes
 keyless_spelled bytes named tokens is_named lacks (inl (d, (told, is, same))) =
     record { document = d; is_record = is; keyless = keyless_from d bytes is (ap (lacks_id 0) (sym same) ∙ lacks) }
 keyless_spelled bytes named tokens is_named lacks (inr (n, (told, is, same))) = cc
 
-keyless_read : (bytes : List ℕ) (o : Option (Bool × List (Token Key Scalar))) → IsBytes bytes → record_read bytes ≡ o → is_named_keyless o ≡ true → IsKeylessRecord bytes
+keyless_read : (bytes : List ℕ) (o : Option (Bool × List (Token Key Scalar))) → IsBytes bytes → record_read bytes ≡ o → is_named_keyless o ≡ true → IsStoredRecord bytes
 keyless_read bytes None each reads passes = cc
 keyless_read bytes (Some q) each reads passes =
     let parts = both q.0 (lacks_id 0 q.1) passes in
     keyless_spelled bytes q.0 q.1 parts.0 parts.1 (read_found bytes q each reads)
 
-pub IsKeylessRecord-from_test : (bytes : List ℕ) → IsBytes bytes → is_keyless_record bytes ≡ true → IsKeylessRecord bytes
+pub IsKeylessRecord-from_test : (bytes : List ℕ) → IsBytes bytes → is_keyless_record bytes ≡ true → IsStoredRecord bytes
 IsKeylessRecord-from_test bytes each passes = keyless_read bytes (record_read bytes) each refl passes
 
-pub test-from_IsKeylessRecord : (bytes : List ℕ) → IsKeylessRecord bytes → is_keyless_record bytes ≡ true
+pub test-from_IsKeylessRecord : (bytes : List ℕ) → IsStoredRecord bytes → is_keyless_record bytes ≡ true
 test-from_IsKeylessRecord bytes is = ap is_named_keyless (document_again is.document bytes is.is_record) ∙ lacks_from is.document is.keyless

@@ -6,8 +6,8 @@ use Rattle.tc_model.specs.Document.{ShapeTree}
 use Rattle.tc_model.specs.Keyed.{value_of, with_value, without_key}
 use Rattle.tc_memory.specs.Table.{Table, Kept, gone, live, gone_over, shape_kept, below_at}
 use Rattle.tc_memory.specs.Calls.{TableCall, upsert, delete, key_of, after_call, Ascends, entry_left, shape_at, KeepsShapesOf, HandsShapeOf, CallsChangeOneKey, CallsKeepFirstShapes, CallsKeepShapesBelow}
-use Rattle.tc_memory.proofs.Ascending.{sorted-with_value, sorted-without_key}
-use Rattle.tc_memory.proofs.Lookups.{value_of-with_value, value_of-without_key}
+use Rattle.tc_model.proofs.KeyedOrder.{sorted-with_value, sorted-without_key}
+use Rattle.tc_model.proofs.KeyedLookups.{value_of-with_value, value_of-without_key}
 
 -- ---- one key
 

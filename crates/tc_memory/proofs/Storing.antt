@@ -5,8 +5,9 @@ use Rattle.std.specs.declared.result.Result.{Result}
 use Rattle.std.specs.declared.result.Result.TheVariants.{Ok, Err}
 use Rattle.tc_model.specs.Tree.{depth}
 use Rattle.tc_model.specs.Document.{Document, IsDocument}
-use Rattle.tc_record.specs.Record.{IsObject, record_of}
-use Rattle.tc_memory.specs.Table.{IsKeyless, IsStoredRecord}
+use Rattle.tc_record.specs.Record.{record_of}
+use Rattle.tc_model.specs.Stored.{IsObject, IsKeyless}
+use Rattle.tc_record.specs.StoredRecord.{IsStoredRecord}
 
 pub stored_record : {E : Type 0} (d : Document) (r : Result (List ℕ) E) → IsDocument d → IsKeyless d → IsObject d → depth d ≤ 32 → length (record_of d) < 2 ^ 32
     → IfOk r (λ bytes. bytes ≡ record_of d) → IfOk r IsStoredRecord

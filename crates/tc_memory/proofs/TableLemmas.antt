@@ -17,8 +17,8 @@ use Rattle.tc_memory.specs.declared.held.Held as held
 use Rattle.tc_memory.specs.declared.held.Held.TheVariants as variant
 use Rattle.tc_memory.specs.declared.slot.Version.{Version}
 use Rattle.tc_memory.specs.declared.slot.Slot.{Slot}
-use Rattle.tc_memory.proofs.KeyedLemmas.{option_map-lookup, map-insert_entry, set_value-insert_entry}
-use Rattle.tc_memory.proofs.Ascending.{sorted-with_value, All-with_value, sorted-without_key, All-without_key}
+use Rattle.tc_model.proofs.KeyedMaps.{option_map-lookup, map-insert_entry, set_value-insert_entry}
+use Rattle.tc_model.proofs.KeyedOrder.{sorted-with_value, All-with_value, sorted-without_key, All-without_key}
 
 pub IsTable-holding : (n : ℕ) (held : Held) (handed : Option ShapeTree) (t : Table) → n < 2 ^ 63 → IsLawfulKept held (below_at n handed t) → IsTable t → IsTable (holding n held handed t)
 IsTable-holding n held handed t in_range lawful table =

@@ -1,6 +1,8 @@
 -- What the parts of a memory table are seen as.
 use Rattle.std.specs.Prelude.{ℕ, List, map, option_map}
 use Rattle.tc_value.specs.ShapeMeaning.{shape_tree}
+use Rattle.tc_record.specs.StoredRecord.{IsStoredRecord}
+use Rattle.tc_model.specs.Keyed.{on_value}
 use Rattle.tc_memory.specs.Table as table
 use Rattle.tc_memory.specs.declared.held.Held.{Held}
 use Rattle.tc_memory.specs.declared.held.Held.TheVariants as held
@@ -16,10 +18,6 @@ version_of (version.Live bytes) = table.live bytes
 abbrev pub kept_of : Slot → table.Kept
 kept_of s = record { held = version_of s.version; below = option_map shape_tree s.below }
 
--- an entry whose value is read by f
-abbrev pub on_value : {X V : Type 0} → (X → V) → ℕ × X → ℕ × V
-on_value f e = (e.0, f e.1)
-
 -- the entries of a map from keys to slots, as those of a table
 abbrev pub table_of : List (ℕ × Slot) → table.Table
 table_of es = map (on_value kept_of) es
@@ -31,7 +29,7 @@ held_of (held.Live bytes) = table.live bytes.now
 -- what is lent is a lawful record
 abbrev pub IsLawfulHeld : Held → Type 0
 IsLawfulHeld held.Gone = Unit {0}
-IsLawfulHeld (held.Live bytes) = table.IsStoredRecord bytes.now
+IsLawfulHeld (held.Live bytes) = IsStoredRecord bytes.now
 
 -- a lent entry, as an entry of a table
 abbrev pub entry_of : Entry → ℕ × table.Kept

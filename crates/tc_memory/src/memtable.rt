@@ -42,7 +42,8 @@ impl Memtable {
     ghost use Rattle.std.specs.Prelude.{◌≡◌, ◌<◌, ◌^◌, [], length, option_map, is_some, IfSome, OnOk, OnErr};
     ghost use Rattle.tc_value.specs.ShapeMeaning.{shape_tree};
     ghost use Rattle.tc_model.specs.Keyed.{value_of};
-    ghost use Rattle.tc_memory.specs.Table.{IsTable, IsStoredRecord, IsLawfulKept, below_at, holding, upserted, deleted};
+    ghost use Rattle.tc_memory.specs.Table.{IsTable, IsLawfulKept, below_at, holding, upserted, deleted};
+    ghost use Rattle.tc_record.specs.StoredRecord.{IsStoredRecord};
     ghost use Rattle.tc_memory.specs.Meaning.{held_of, version_of, IsLawfulHeld};
 
     /// A table with no entry.

@@ -4,7 +4,8 @@ ghost use Rattle.std.specs.Prelude.{◌≡◌, IfOk, codes, pos};
 ghost use Rattle.tc_model.specs.Tree.{leaf, object, member, no_members};
 ghost use Rattle.tc_model.specs.Document.{integer};
 ghost use Rattle.tc_value.specs.Meaning.{tree_of};
-ghost use Rattle.tc_memory.specs.Table.{IsKeyless, IsStoredRecord};
+ghost use Rattle.tc_model.specs.Stored.{IsKeyless};
+ghost use Rattle.tc_record.specs.StoredRecord.{IsStoredRecord};
 
 use crate::{Entries, Entry, Held, Memtable};
 use std::alloc::{AllocError, Global};

@@ -1,15 +1,12 @@
 -- What a document is: a tree whose members carry names and whose leaves are scalars. A name is its UTF-8 bytes, and
 -- so is a text. A shape is a document without its values.
-use Rattle.std.specs.Prelude.{◌≡◌, ◌⊎◌, ℕ, zero, suc, ℤ, Bool, List, [], ◌∷◌, map, Option, Some, None, IsUtf8, FitsSigned, refl}
+use Rattle.std.specs.Prelude.{ℕ, ℤ, Bool, List, map, bytes_eq, Option, Some, None, IsUtf8, FitsSigned, if◌then◌else◌}
 use Rattle.std.specs.Int.{w64}
 use Rattle.std.specs.declared.cmp.Ordering.{Ordering}
 use Rattle.std.specs.Ordering.{nat_cmp}
 use Rattle.std.specs.Cmp.Lexicographic.{slice_cmp}
 use Rattle.std.specs.List.Sorted.{IsStrictlySortedBy}
-use Rattle.std.specs.Coded.{Coded, code_by, coded_ℕ, coded_ℤ, coded_bool, coded_list, coded⊎, coded_option}
-use Rattle.std.proofs.Common.{inl, inr}
-use Rattle.tc_model.specs.Tree.{Tree, leaf, array, object, Items, no_items, item, Members, no_members, member}
-use Rattle.tc_model.specs.TreeCode.{coded_tree}
+use Rattle.tc_model.specs.Tree.{Tree, leaf, array, object, Items, no_items, item, Members, no_members, member, listed_members, relabel}
 
 -- a name, as its bytes
 abbrev pub Name : Type 0
@@ -40,6 +37,15 @@ scalar_kind (boolean b) = boolean_kind
 scalar_kind (integer z) = integer_kind
 scalar_kind (text s) = text_kind
 
+-- the shape of a document: the kinds of its scalars in their places
+abbrev pub document_shape : Document → ShapeTree
+document_shape d = relabel (λ name. name) scalar_kind d
+
+-- the value of the member of a name
+abbrev pub member_at : Name → Members Name Scalar → Option Document
+member_at n no_members = None
+member_at n (member m t ms) = if bytes_eq m n then Some t else member_at n ms
+
 -- ---- lawful documents
 
 -- the byte order of names
@@ -49,11 +55,6 @@ name_cmp n m = slice_cmp nat_cmp n m
 -- the names of the members ascend strictly in byte order
 abbrev pub IsAscending : {S : Type 0} → List (Name × Tree Name S) → Type 0
 IsAscending ms = IsStrictlySortedBy name_cmp (map (λ m. m.0) ms)
-
--- the members of an object as a list of names and values
-abbrev pub listed_members : {L S : Type 0} → Members L S → List (L × Tree L S)
-listed_members no_members = []
-listed_members (member l t ms) = (l, t) ∷ listed_members ms
 
 -- Each leaf is one of P, each name is UTF-8, and the names of each object ascend strictly.
 abbrev mutual
@@ -80,55 +81,3 @@ IsScalar (text s) = IsUtf8 s
 -- a tree that is a document
 abbrev pub IsDocument : Document → Type 0
 IsDocument d = IsTreeOf IsScalar d
-
--- a tree that is the shape of a document
-abbrev pub IsShape : ShapeTree → Type 0
-IsShape s = IsTreeOf (λ k. Unit {0}) s
-
--- ---- codes, by which proofs tell values apart
-
-abbrev pub scalar_parts : Scalar → Option (Bool ⊎ (ℤ ⊎ List ℕ))
-scalar_parts null = None
-scalar_parts (boolean b) = Some (inl b)
-scalar_parts (integer z) = Some (inr (inl z))
-scalar_parts (text s) = Some (inr (inr s))
-
-abbrev pub scalar_from : Option (Bool ⊎ (ℤ ⊎ List ℕ)) → Scalar
-scalar_from None = null
-scalar_from (Some (inl b)) = boolean b
-scalar_from (Some (inr (inl z))) = integer z
-scalar_from (Some (inr (inr s))) = text s
-
-pub scalar_from-scalar_parts : (s : Scalar) → scalar_from (scalar_parts s) ≡ s
-scalar_from-scalar_parts null = refl
-scalar_from-scalar_parts (boolean b) = refl
-scalar_from-scalar_parts (integer z) = refl
-scalar_from-scalar_parts (text s) = refl
-
-abbrev pub coded_scalar : Coded Scalar
-coded_scalar =
-    code_by (Option (Bool ⊎ (ℤ ⊎ List ℕ))) (coded_option (coded⊎ coded_bool (coded⊎ coded_ℤ (coded_list coded_ℕ)))) scalar_parts scalar_from scalar_from-scalar_parts
-
-abbrev pub kind_number : ScalarKind → ℕ
-kind_number null_kind = 0
-kind_number boolean_kind = 1
-kind_number integer_kind = 2
-kind_number text_kind = 3
-
-abbrev pub kind_from : ℕ → ScalarKind
-kind_from zero = null_kind
-kind_from (suc zero) = boolean_kind
-kind_from (suc (suc zero)) = integer_kind
-kind_from (suc (suc (suc n))) = text_kind
-
-pub kind_from-kind_number : (k : ScalarKind) → kind_from (kind_number k) ≡ k
-kind_from-kind_number null_kind = refl
-kind_from-kind_number boolean_kind = refl
-kind_from-kind_number integer_kind = refl
-kind_from-kind_number text_kind = refl
-
-abbrev pub coded_document : Coded Document
-coded_document = coded_tree (coded_list coded_ℕ) coded_scalar
-
-abbrev pub coded_shape : Coded ShapeTree
-coded_shape = coded_tree (coded_list coded_ℕ) (code_by ℕ coded_ℕ kind_number kind_from kind_from-kind_number)

@@ -1,5 +1,5 @@
 -- Values by key, in strictly ascending key.
-use Rattle.std.specs.Prelude.{ℕ, List, [], ◌∷◌, ◌==◌, nat_lt, if◌then◌else◌, Option, Some, None}
+use Rattle.std.specs.Prelude.{ℕ, List, [], ◌∷◌, map, ◌==◌, nat_lt, if◌then◌else◌, Option, Some, None}
 
 abbrev pub Keyed : Type 0 → Type 0
 Keyed V = List (ℕ × V)
@@ -20,3 +20,11 @@ with_value n v (p ∷ ps) =
 abbrev pub without_key : {V : Type 0} → ℕ → Keyed V → Keyed V
 without_key n [] = []
 without_key n (p ∷ ps) = if n == p.0 then ps else p ∷ without_key n ps
+
+-- the values, in ascending key
+abbrev pub values_in : {V : Type 0} → Keyed V → List V
+values_in ps = map (λ p. p.1) ps
+
+-- an entry whose value is read by f
+abbrev pub on_value : {X V : Type 0} → (X → V) → ℕ × X → ℕ × V
+on_value f e = (e.0, f e.1)

@@ -1,8 +1,15 @@
 pub mod Tree
 pub mod TreeCode
+pub mod TreeSize
 pub mod Document
+pub mod DocumentCode
+pub mod Kinds
+pub mod Dictionary
+pub mod ShapeNames
 pub mod Json
 pub mod Keyed
 pub mod Lines
+pub mod Limits
+pub mod Stored
 pub mod Request
 pub mod Reply

@@ -3,7 +3,8 @@ use Rattle.std.specs.Prelude.{ℕ, ℤ, pos, List, [], ◌∷◌, length, codes,
 use Rattle.serde_json.specs.Data as json
 use Rattle.serde_json.specs.Find.{get_member, as_str}
 use Rattle.tc_model.specs.Tree.{leaf, array, object, Items, no_items, item, Members, no_members, member, depth}
-use Rattle.tc_model.specs.Document.{Name, Document, Scalar, integer, text}
+use Rattle.tc_model.specs.Document.{Name, Document, Scalar, integer, text, member_at}
+use Rattle.tc_model.specs.Limits.{max_line, max_depth}
 use Rattle.tc_model.specs.Json.{json_of, document_of, is_whole}
 
 -- why a line is refused
@@ -42,14 +43,6 @@ pub data Request : Type 0 where
   scan : Ask → Request
   collect : Request
   refused : Refusal → Request
-
--- bytes of a line before its line feed, at most
-abbrev pub max_line : ℕ
-max_line = 1048576
-
--- how deep a document may nest
-abbrev pub max_depth : ℕ
-max_depth = 32
 
 -- ---- the form of a command: its `op`, and values under exactly the names that it has
 
@@ -127,11 +120,6 @@ form_of _ = None
 abbrev pub key_of : Document → Option ℕ
 key_of (leaf (integer (pos n))) = Some n
 key_of _ = None
-
--- the value of the member of a name
-abbrev pub member_at : Name → Members Name Scalar → Option Document
-member_at n no_members = None
-member_at n (member m t ms) = if bytes_eq m n then Some t else member_at n ms
 
 -- the members but the one of a name
 abbrev pub without : Name → Members Name Scalar → Members Name Scalar

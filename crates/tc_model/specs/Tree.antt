@@ -55,3 +55,13 @@ items_of (t ∷ ts) = item t (items_of ts)
 abbrev pub members_of : {L S : Type 0} → List (L × Tree L S) → Members L S
 members_of [] = no_members
 members_of (m ∷ ms) = member m.0 m.1 (members_of ms)
+
+-- the items of an array as a list
+abbrev pub listed_items : {L S : Type 0} → Items L S → List (Tree L S)
+listed_items no_items = []
+listed_items (item t ts) = t ∷ listed_items ts
+
+-- the members of an object as a list of labels and values
+abbrev pub listed_members : {L S : Type 0} → Members L S → List (L × Tree L S)
+listed_members no_members = []
+listed_members (member l t ms) = (l, t) ∷ listed_members ms

@@ -9,8 +9,8 @@ use Rattle.std.proofs.lemmas.Bool.Decides.{nat_tests}
 use Rattle.std.proofs.lemmas.List.{length-map, take-map}
 use Rattle.std.proofs.lemmas.Slice.Eq.{bytes_eq-Decides, starts_is}
 use Rattle.indexmap.specs.IndexSet.{insert_key}
-use Rattle.tc_names.specs.Dictionary.{number_of, Extends}
-use Rattle.tc_names.proofs.Numbers.{list_any-number_of}
+use Rattle.tc_model.specs.Dictionary.{number_of, Extends}
+use Rattle.tc_model.proofs.NameNumbers.{list_any-number_of}
 
 -- the first place that passes, one element further on
 position-cons : {X : Type 0} (p : X → Bool) (x : X) (xs : List X) → position p (x ∷ xs) ≡ (if p x then Some 0 else option_map suc (position p xs))

@@ -1,4 +1,2 @@
-pub mod Growth
 pub mod Held
-pub mod Numbers
 pub mod Spelling

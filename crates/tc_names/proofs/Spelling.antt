@@ -1,22 +1,21 @@
 -- A dictionary is read from its spelling alone.
-use Rattle.std.proofs.Common.{◌≡◌, ◌<◌, ◌^◌, ℕ, Bool, true, false, not, List, [], ◌∷◌, ◌++◌, None, is_some, IsTrue, length, refl, sym, ◌∙◌, subst, rules, append_assoc, append-nil}
+use Rattle.std.proofs.Common.{◌≡◌, ◌<◌, ◌^◌, ℕ, Bool, true, false, not, List, [], ◌∷◌, ◌++◌, None, is_some, IsTrue, length, refl, sym, ◌∙◌, subst, rules, append_assoc, append-nil, Result, Ok, Err, IfOk, IsErrOf, ◌≢◌}
 use Rattle.std.specs.List.{AllByRecursion, IsDistinct}
 use Rattle.std.specs.Str.{is_utf8, bytes_eq}
 use Rattle.std.specs.Cmp.Lexicographic.{nat_list_eq_equiv}
 use Rattle.std.proofs.lemmas.Map.Keys.{IsDistinct-push}
 use Rattle.std.proofs.lemmas.Str.{IsUtf8-from_is_utf8, is_utf8-from_IsUtf8}
-use Rattle.std.proofs.Common.{Result, Ok, Err, IfOk, IsErrOf, ◌≢◌}
 use Rattle.tc_bytes.specs.Codec.{IsBytes, IsCodec, MayFollow, Gives}
 use Rattle.tc_bytes.specs.Reading.{counted_list_at}
 use Rattle.tc_bytes.proofs.Codecs.{restated_codec, passing_codec, counted_bytes_codec}
 use Rattle.tc_bytes.proofs.Lists.{counted_list_codec}
 use Rattle.tc_bytes.proofs.Whole.{one_value, whole_found, whole_refused}
-use Rattle.tc_names.specs.Dictionary.{number_of, IsName, IsDictionary}
+use Rattle.tc_model.specs.Dictionary.{number_of, IsName, IsDictionary}
 use Rattle.tc_names.specs.Section.{section, name_at, is_new, read_section}
 use Rattle.tc_names.specs.declared.fault.NamesFault.{NamesFault}
 use Rattle.tc_names.specs.declared.fault.NamesFault.TheVariants.{NotNames}
-use Rattle.tc_names.proofs.Numbers.{list_any-number_of, number_of-new}
-use Rattle.tc_names.proofs.Growth.{IsDictionary-nil}
+use Rattle.tc_model.proofs.NameNumbers.{list_any-number_of, number_of-new}
+use Rattle.tc_model.proofs.DictionaryGrowth.{IsDictionary-nil}
 
 -- names of which each is new are distinct
 distinct_from_new : (before names : List (List ℕ)) → IsDistinct bytes_eq before → MayFollow is_new before names → IsDistinct bytes_eq (before ++ names)

@@ -1,2 +1,1 @@
-pub mod Dictionary
 pub mod Section

@@ -3,7 +3,7 @@ use Rattle.std.specs.Prelude.{ℕ, Bool, not, List, Option, is_some}
 use Rattle.std.specs.Str.{is_utf8}
 use Rattle.tc_bytes.specs.Reading.{Reader, counted_bytes_at, passing_at, counted_list_at, whole}
 use Rattle.tc_bytes.specs.Codec.{counted_bytes, counted_list}
-use Rattle.tc_names.specs.Dictionary.{number_of}
+use Rattle.tc_model.specs.Dictionary.{number_of}
 
 -- the bytes of a dictionary
 abbrev pub section : List (List ℕ) → List ℕ

@@ -17,7 +17,7 @@ impl Model for Names {
 
     ghost Value = { List (List ℕ) };
 
-    ghost use Rattle.tc_names.specs.Dictionary.{IsDictionary};
+    ghost use Rattle.tc_model.specs.Dictionary.{IsDictionary};
 
     ghost view = { λ n. map string_bytes n.names.keys };
 
@@ -34,7 +34,7 @@ impl Drop for Names {
 
 impl Names {
     ghost use Rattle.std.specs.Prelude.{◌≡◌, ◌<◌, ◌^◌, ◌↔◌, ℕ, List, [], length, option_map, slice_get, IfOk, OnOk, OnErr, IsTrue, Some};
-    ghost use Rattle.tc_names.specs.Dictionary.{number_of, learned, Extends, IsDictionary};
+    ghost use Rattle.tc_model.specs.Dictionary.{number_of, learned, Extends, IsDictionary};
 
     /// No names.
     pub fn new(alloc: Global) -> Names

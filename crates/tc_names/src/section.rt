@@ -3,7 +3,7 @@
 ghost use Rattle.std.specs.Prelude.{◌≡◌, ◌≢◌, ◌<◌, ◌^◌, ℕ, List, [], length, option_map, IfOk, IfSome, IsErrOf};
 ghost use Rattle.tc_bytes.specs.Codec.{Gives};
 ghost use Rattle.tc_bytes.specs.Reading.{elements_at};
-ghost use Rattle.tc_names.specs.Dictionary.{IsDictionary};
+ghost use Rattle.tc_model.specs.Dictionary.{IsDictionary};
 ghost use Rattle.tc_names.specs.Section.{section, name_at, is_new, read_section};
 
 use crate::dictionary::Names;

@@ -6,8 +6,8 @@ use Rattle.std.specs.Ordering.{is_lt}
 use Rattle.std.specs.declared.cmp.Ordering.{Ordering}
 use Rattle.std.specs.declared.cmp.Ordering.TheVariants.{Less, Equal, Greater}
 use Rattle.std.proofs.lemmas.Cmp.{nat_list_cmp_total}
-use Rattle.tc_model.specs.Tree.{Tree, leaf, array, object, Items, no_items, item, Members, no_members, member, items_relabel, members_relabel}
-use Rattle.tc_model.specs.Document.{Name, Document, Scalar, null, boolean, integer, text, name_cmp, listed_members, IsScalar, IsTreeOf, AreItemsOf, AreMembersOf}
+use Rattle.tc_model.specs.Tree.{Tree, leaf, array, object, Items, no_items, item, Members, no_members, member, items_relabel, members_relabel, listed_members}
+use Rattle.tc_model.specs.Document.{Name, Document, Scalar, null, boolean, integer, text, name_cmp, IsScalar, IsTreeOf, AreItemsOf, AreMembersOf}
 use Rattle.tc_record.specs.Preorder.{Token, token, closed, preorder, items_preorder, members_preorder}
 use Rattle.tc_record.specs.declared.widths.Width.{Width}
 use Rattle.tc_record.specs.declared.widths.Width.TheVariants.{Zero, One, Two, Four}

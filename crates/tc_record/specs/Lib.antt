@@ -1,5 +1,6 @@
 pub mod Preorder
 pub mod Record
+pub mod StoredRecord
 pub mod Rows
 pub mod Measured
 pub mod Widths

@@ -4,6 +4,7 @@ use Rattle.std.specs.Prelude.{◌≡◌, ℕ, ◌+◌, ◌<◌, ◌≤◌, ◌^�
 use Rattle.std.specs.Int.{w32, w64, to_be_bytes, bytes_high_first, cast_unsigned}
 use Rattle.tc_model.specs.Tree.{Tree, leaf, array, object, Items, no_items, item, Members, no_members, member, depth}
 use Rattle.tc_model.specs.Document.{Document, Scalar, null, boolean, integer, text, IsScalar, IsDocument}
+use Rattle.tc_model.specs.Stored.{IsObject}
 use Rattle.tc_record.specs.Preorder.{Piece, scalar, array_opened, object_opened, closed, Token, tokens_of}
 
 -- ---- what a token adds to each column
@@ -102,10 +103,6 @@ abbrev pub numbered_record_of : NumberedTree → List ℕ
 numbered_record_of n = let ts = tokens_of n in record_bytes 1 ts (labels ts) []
 
 -- ---- which bytes are a record
-
-abbrev pub IsObject : {L S : Type 0} → Tree L S → Type 0
-IsObject (object ms) = Unit {0}
-IsObject _ = ⊥
 
 -- each scalar is one of a document, and each number has 32 bits
 abbrev mutual

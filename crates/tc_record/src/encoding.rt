@@ -6,7 +6,8 @@ ghost use Rattle.tc_model.specs.Tree.{items_of, members_of};
 ghost use Rattle.tc_model.specs.Document.{null, boolean, integer, text};
 ghost use Rattle.tc_record.specs.Preorder.{scalar, array_opened, object_opened, closed, preorder, items_preorder, members_preorder};
 ghost use Rattle.tc_value.specs.Meaning.{tree_of, member_of};
-ghost use Rattle.tc_record.specs.Record.{record_of, IsObject};
+ghost use Rattle.tc_record.specs.Record.{record_of};
+ghost use Rattle.tc_model.specs.Stored.{IsObject};
 ghost use Rattle.tc_record.specs.Parts.{part_label, part_piece, part_bytes, value_bytes};
 ghost use Rattle.tc_record.specs.Measured.{column_width};
 

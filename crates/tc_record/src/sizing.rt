@@ -2,7 +2,8 @@
 
 ghost use Rattle.std.specs.Prelude.{◌≡◌, ◌≤◌, ◌<◌, ◌^◌, IfSome, IfNone, nat_lt, if◌then◌else◌, length};
 ghost use Rattle.tc_value.specs.Meaning.{tree_of};
-ghost use Rattle.tc_record.specs.Record.{record_of, IsObject};
+ghost use Rattle.tc_record.specs.Record.{record_of};
+ghost use Rattle.tc_model.specs.Stored.{IsObject};
 ghost use Rattle.tc_record.specs.Widths.{width_bytes};
 ghost use Rattle.tc_record.specs.Measured.{column_width, column_len, record_len};
 

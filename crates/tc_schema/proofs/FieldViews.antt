@@ -1,12 +1,12 @@
 -- The field at a place of a list of fields, and the steps of a path.
-use Rattle.std.proofs.Common.{◌≡◌, ℕ, zero, suc, ◌+◌, ◌<◌, ◌≤◌, List, [], ◌∷◌, Some, length, map, get_or, drop, refl, sym, ap, ◌∙◌}
+use Rattle.std.proofs.Common.{◌≡◌, ℕ, zero, suc, ◌+◌, ◌<◌, ◌≤◌, List, [], ◌∷◌, Some, length, map, get_or, drop, refl, sym, ap, ◌∙◌, Option, None}
 use Rattle.std.specs.Prelude.{slice_get}
 use Rattle.tc_model.specs.Document.{Name}
-use Rattle.tc_counts.specs.Occurrences.{Step, field, each_item, Path, Kind}
-use Rattle.tc_counts.specs.Counted.{Counted, nothing, no_counters, no_fields, counter, counters_of, place_at, shows, numbered_field}
-use Rattle.tc_names.specs.Dictionary.{number_of}
-use Rattle.tc_counts.proofs.CounterLaws.{each_kind}
-use Rattle.std.proofs.Common.{Option, None}
+use Rattle.tc_schema_model.specs.Occurrences.{Step, field, each_item, Path}
+use Rattle.tc_model.specs.Kinds.{Kind}
+use Rattle.tc_schema_model.specs.Counted.{Counted, nothing, no_counters, no_fields, counter, counters_of, place_at, shows, numbered_field}
+use Rattle.tc_model.specs.Dictionary.{number_of}
+use Rattle.tc_schema_model.proofs.CounterLaws.{each_kind}
 use Rattle.tc_schema.specs.Places.{place_counted, field_counted}
 use Rattle.tc_schema.specs.declared.place.Field.{Field}
 use Rattle.tc_schema.specs.declared.place.Node.{Node}

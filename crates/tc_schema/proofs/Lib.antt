@@ -7,3 +7,4 @@ pub mod ReadingLaws
 pub mod PlaceCodec
 pub mod SchemaCodec
 pub mod ReadingSteps
+pub mod FieldWrites

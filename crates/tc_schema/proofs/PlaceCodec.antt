@@ -8,9 +8,9 @@ use Rattle.tc_bytes.specs.Reading.{Reader, ◌>>=◌, byte_at, number_at}
 use Rattle.tc_bytes.specs.Codec.{IsBytes, IsCodec}
 use Rattle.tc_bytes.proofs.Codecs.{then_parts}
 use Rattle.tc_bytes.proofs.Fields.{number_codec_64, byte_codec}
-use Rattle.tc_counts.specs.Counted.{Counters, no_counters, total, Counted, counted, Below, Fields, documents_of}
-use Rattle.tc_counts.specs.SchemaTree.{node_of}
-use Rattle.tc_counts.specs.SchemaBytes.{node_bytes}
+use Rattle.tc_schema_model.specs.Counted.{Counters, no_counters, total, Counted, counted, Below, Fields, documents_of}
+use Rattle.tc_schema_model.specs.SchemaTree.{node_of}
+use Rattle.tc_schema_model.specs.SchemaBytes.{node_bytes}
 use Rattle.tc_schema.specs.Writing.{kinds_in, tagged, scalar_part, array_part, object_part, scalar_parts}
 use Rattle.tc_schema.specs.Reading.{starts, kinds_at, union_at, place_at, PlaceParts, PlaceFits}
 use Rattle.tc_schema.proofs.WritingLaws.{place_bytes}

@@ -1,6 +1,6 @@
 -- What a place counts, by its parts.
 use Rattle.std.proofs.Common.{◌≡◌, ℕ, rules}
-use Rattle.tc_counts.specs.Counted.{counted}
+use Rattle.tc_schema_model.specs.Counted.{counted}
 use Rattle.tc_schema.specs.Places.{place_counted, field_counted, below_counted, fields_counted}
 use Rattle.tc_schema.specs.declared.place.Node.{Node}
 use Rattle.tc_schema.specs.declared.place.Field.{Field}

@@ -8,8 +8,8 @@ use Rattle.std.specs.List.Sorted.{IsSearchInRange, IsBinarySearchResult, IsNonDe
 use Rattle.std.specs.Ordering.{nat_cmp, ordering_index}
 use Rattle.std.proofs.lemmas.Cmp.{ranked}
 use Rattle.std.proofs.lemmas.Bool.Decides.{nat_tests}
-use Rattle.tc_counts.specs.Counted.{Counted, Fields, a_field, nothing, field_at, AreFieldsOrdered}
-use Rattle.tc_counts.specs.Added.{put_field, without_field}
+use Rattle.tc_schema_model.specs.Counted.{Counted, Fields, a_field, nothing, field_at, AreFieldsOrdered}
+use Rattle.tc_schema_model.specs.Added.{put_field, without_field}
 use Rattle.tc_schema.specs.Places.{listed}
 use Rattle.tc_schema.specs.Search.{IsPlaceOf, IsGapFor}
 

@@ -8,9 +8,9 @@ use Rattle.tc_bytes.specs.Reading.{Reader, ◌>>=◌, byte_at, number_at}
 use Rattle.tc_bytes.specs.Codec.{IsBytes, IsCodec}
 use Rattle.tc_bytes.proofs.Codecs.{then_parts}
 use Rattle.tc_bytes.proofs.Fields.{number_codec_32, number_codec_64, byte_codec}
-use Rattle.tc_counts.specs.Counted.{Counters, no_counters, counters_of, below_of, total, Counted, counted, Below, no_item, an_item, Fields, no_fields, a_field}
-use Rattle.tc_counts.specs.SchemaTree.{node_of, item_node_of, field_nodes_of}
-use Rattle.tc_counts.specs.SchemaBytes.{node_bytes, item_bytes, fields_bytes, fields_count}
+use Rattle.tc_schema_model.specs.Counted.{Counters, no_counters, counters_of, below_of, total, Counted, counted, Below, no_item, an_item, Fields, no_fields, a_field}
+use Rattle.tc_schema_model.specs.SchemaTree.{node_of, item_node_of, field_nodes_of}
+use Rattle.tc_schema_model.specs.SchemaBytes.{node_bytes, item_bytes, fields_bytes, fields_count}
 use Rattle.tc_schema.specs.Writing.{one_if_some, kinds_in, tagged, scalar_part, array_part, object_part}
 use Rattle.tc_schema.specs.Reading.{starts, counter_at, scalar_at, item_at, array_at, fields_at, object_at, objects_at, arrays_at, texts_at, integers_at, booleans_at, kinds_at, BelowFits, FieldsFit}
 

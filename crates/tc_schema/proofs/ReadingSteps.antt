@@ -4,7 +4,7 @@ use Rattle.std.specs.Int.{w32}
 use Rattle.std.proofs.lemmas.Bool.Decides.{Decides-ltb, nat_tests}
 use Rattle.std.proofs.lemmas.Bool.{false≢true}
 use Rattle.tc_bytes.specs.Reading.{Reader, ◌>>=◌, number_at}
-use Rattle.tc_counts.specs.Counted.{Counted, Below, Fields, no_fields, a_field}
+use Rattle.tc_schema_model.specs.Counted.{Counted, Below, Fields, no_fields, a_field}
 use Rattle.tc_schema.specs.Places.{listed}
 use Rattle.tc_schema.specs.Reading.{starts, scalar_at, array_at, object_at, fields_at, union_at, kinds_at, place_at}
 use Rattle.tc_schema.specs.Writing.{one_if_some}

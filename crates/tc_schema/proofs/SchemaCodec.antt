@@ -8,10 +8,10 @@ use Rattle.tc_bytes.specs.Reading.{◌>>=◌}
 use Rattle.tc_bytes.specs.Codec.{IsBytes, IsCodec}
 use Rattle.tc_bytes.proofs.Codecs.{then_parts}
 use Rattle.tc_bytes.proofs.Whole.{whole_found, whole_refused}
-use Rattle.tc_counts.specs.Counted.{Counted, counted, Below, no_item, an_item, Fields, no_fields, a_field, nothing, documents_of, counters_of, IsCanonical, IsBelowCanonical, AreFieldsCanonical, HasSmallCounters, BelowHasSmallCounters, FieldsHaveSmallCounters, CountsObjects}
-use Rattle.tc_counts.specs.SchemaTree.{SchemaNode, scalar_node, array_node, object_node, union_node, node_of, item_node_of, field_nodes_of, schema_tree}
-use Rattle.tc_counts.specs.SchemaBytes.{node_bytes, item_bytes, fields_bytes, fields_count, schema_bytes, IsSchema}
-use Rattle.tc_counts.proofs.RemovedLaws.{nothing_counted}
+use Rattle.tc_schema_model.specs.Counted.{Counted, counted, Below, no_item, an_item, Fields, no_fields, a_field, nothing, documents_of, counters_of, IsCanonical, IsBelowCanonical, AreFieldsCanonical, HasSmallCounters, BelowHasSmallCounters, FieldsHaveSmallCounters, CountsObjects}
+use Rattle.tc_schema_model.specs.SchemaTree.{SchemaNode, scalar_node, array_node, object_node, union_node, node_of, item_node_of, field_nodes_of, schema_tree}
+use Rattle.tc_schema_model.specs.SchemaBytes.{node_bytes, item_bytes, fields_bytes, fields_count, schema_bytes, IsSchema}
+use Rattle.tc_schema_model.proofs.RemovedLaws.{nothing_counted}
 use Rattle.tc_schema.specs.Writing.{union_part, scalar_parts, array_part, object_part, tagged}
 use Rattle.tc_schema.specs.Reading.{starts, place_at, root_at, read_schema, BelowFits, FieldsFit, PlaceFits}
 use Rattle.tc_schema.proofs.WritingLaws.{place_bytes}

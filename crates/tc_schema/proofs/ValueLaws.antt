@@ -4,9 +4,9 @@ use Rattle.serde_json.specs.Data as json
 use Rattle.serde_json.specs.View.{items_of, view, items_view}
 use Rattle.serde_json.specs.declared.value.Value.{Value}
 use Rattle.tc_model.specs.Document.{Name, null_kind, boolean_kind, integer_kind, text_kind}
-use Rattle.tc_counts.specs.Counted.{Counters, total, counted, Below, Fields}
-use Rattle.tc_counts.specs.SchemaTree.{SchemaNode, scalar_node, array_node, object_node, KindNodes, no_kind_nodes, a_kind_node, kinds_total, with_kind, united, kind_nodes, node_of, item_node_of, field_nodes_of}
-use Rattle.tc_counts.specs.SchemaText.{node_text, kinds_text, union_text}
+use Rattle.tc_schema_model.specs.Counted.{Counters, total, counted, Below, Fields}
+use Rattle.tc_schema_model.specs.SchemaTree.{SchemaNode, scalar_node, array_node, object_node, KindNodes, no_kind_nodes, a_kind_node, kinds_total, with_kind, united, kind_nodes, node_of, item_node_of, field_nodes_of}
+use Rattle.tc_schema_model.specs.SchemaText.{node_text, kinds_text, union_text}
 use Rattle.tc_schema.specs.Places.{place_counted, below_counted, fields_counted}
 use Rattle.tc_schema.specs.declared.place.Node.{Node}
 use Rattle.tc_schema.specs.declared.place.Field.{Field}

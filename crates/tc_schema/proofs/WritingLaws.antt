@@ -5,9 +5,9 @@ use Rattle.std.proofs.lemmas.List.{length-map}
 use Rattle.std.specs.List.{AllByRecursion}
 use Rattle.std.specs.Int.{w32, to_be_bytes}
 use Rattle.tc_model.specs.Document.{null_kind, boolean_kind, integer_kind, text_kind}
-use Rattle.tc_counts.specs.Counted.{Counters, total, Counted, counted, Below, Fields, no_fields, a_field, IsCanonical, AreFieldsCanonical}
-use Rattle.tc_counts.specs.SchemaTree.{SchemaNode, scalar_node, array_node, object_node, ItemNode, FieldNodes, KindNodes, no_kind_nodes, a_kind_node, node_counter, kinds_total, kinds_count, with_kind, united, kind_nodes, node_of, item_node_of, field_nodes_of}
-use Rattle.tc_counts.specs.SchemaBytes.{node_bytes, kinds_bytes, fields_bytes, fields_count}
+use Rattle.tc_schema_model.specs.Counted.{Counters, total, Counted, counted, Below, Fields, no_fields, a_field, IsCanonical, AreFieldsCanonical}
+use Rattle.tc_schema_model.specs.SchemaTree.{SchemaNode, scalar_node, array_node, object_node, ItemNode, FieldNodes, KindNodes, no_kind_nodes, a_kind_node, node_counter, kinds_total, kinds_count, with_kind, united, kind_nodes, node_of, item_node_of, field_nodes_of}
+use Rattle.tc_schema_model.specs.SchemaBytes.{node_bytes, kinds_bytes, fields_bytes, fields_count}
 use Rattle.tc_schema.specs.Places.{listed, place_counted, below_counted, field_counted, fields_counted, most_names}
 use Rattle.tc_schema.specs.declared.place.Node.{Node}
 use Rattle.tc_schema.specs.declared.place.Field.{Field}

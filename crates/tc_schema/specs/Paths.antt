@@ -1,7 +1,7 @@
 -- What the kinds and the paths of the code mean.
 use Rattle.std.specs.Prelude.{List, map}
 use Rattle.tc_model.specs.Document.{null_kind, boolean_kind, integer_kind, text_kind}
-use Rattle.tc_counts.specs.Occurrences as model
+use Rattle.tc_schema_model.specs.Occurrences as model
 use Rattle.tc_value.specs.declared.names.Kind.{Kind}
 use Rattle.tc_value.specs.declared.names.Kind.TheVariants.{Null, Bool, Int, Text, Array, Object}
 use Rattle.tc_value.specs.declared.names.Step.{Step}

@@ -2,7 +2,7 @@
 use Rattle.std.specs.Prelude.{◌≡◌, ◌<◌, ◌≤◌, ℕ, zero, suc, ◌+◌, ◌-◌, ◌^◌, ◌==◌, ◌&&◌, nat_lt, Bool, false, List, [], ◌∷◌, drop, length, Option, Some, None, if◌then◌else◌}
 use Rattle.std.specs.Int.{w32, w64}
 use Rattle.tc_bytes.specs.Reading.{Reader, ◌>>=◌, byte_at, number_at, whole}
-use Rattle.tc_counts.specs.Counted.{Counters, no_counters, total, Counted, counted, Below, no_item, an_item, Fields, no_fields, a_field, nothing, documents_of, counters_of}
+use Rattle.tc_schema_model.specs.Counted.{Counters, no_counters, total, Counted, counted, Below, no_item, an_item, Fields, no_fields, a_field, nothing, documents_of, counters_of}
 use Rattle.tc_schema.specs.Writing.{one_if_some}
 
 -- whether a kind of this tag stands here, where so many kinds are to come

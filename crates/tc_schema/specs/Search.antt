@@ -1,8 +1,8 @@
 -- Where the field of a number stands among fields, or would stand.
 use Rattle.std.specs.Prelude.{◌≡◌, ℕ, ◌<◌, ◌≤◌, List, Some, length, slice_get, slice_set}
 use Rattle.std.specs.List.{insert, remove}
-use Rattle.tc_counts.specs.Counted.{Counted, nothing, field_at}
-use Rattle.tc_counts.specs.Added.{put_field, without_field}
+use Rattle.tc_schema_model.specs.Counted.{Counted, nothing, field_at}
+use Rattle.tc_schema_model.specs.Added.{put_field, without_field}
 use Rattle.tc_schema.specs.Places.{listed}
 
 -- it stands there, and what is written there or taken out there is that field

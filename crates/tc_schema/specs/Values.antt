@@ -2,9 +2,9 @@
 use Rattle.std.specs.Prelude.{ℕ, ◌==◌, List, [], ◌∷◌, ◌++◌, codes, if◌then◌else◌}
 use Rattle.serde_json.specs.Data as json
 use Rattle.tc_model.specs.Document.{Name}
-use Rattle.tc_counts.specs.Counted.{Counters, Below, Fields}
-use Rattle.tc_counts.specs.SchemaTree.{item_node_of, field_nodes_of}
-use Rattle.tc_counts.specs.SchemaText.{count_member, kind_member, array_text, object_text, union_text, item_text, fields_text}
+use Rattle.tc_schema_model.specs.Counted.{Counters, Below, Fields}
+use Rattle.tc_schema_model.specs.SchemaTree.{item_node_of, field_nodes_of}
+use Rattle.tc_schema_model.specs.SchemaText.{count_member, kind_member, array_text, object_text, union_text, item_text, fields_text}
 
 -- a kind of this name, and where it is counted
 abbrev pub named_text : List ℕ → ℕ → json.Data

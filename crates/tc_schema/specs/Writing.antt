@@ -1,9 +1,9 @@
 -- The bytes of a place, part by part.
 use Rattle.std.specs.Prelude.{ℕ, ◌+◌, ◌==◌, List, [], ◌∷◌, ◌++◌, if◌then◌else◌}
 use Rattle.std.specs.Int.{w32, w64, to_be_bytes}
-use Rattle.tc_counts.specs.Counted.{Counters, total, Counted, Below, Fields}
-use Rattle.tc_counts.specs.SchemaTree.{node_of, item_node_of, field_nodes_of}
-use Rattle.tc_counts.specs.SchemaBytes.{node_bytes, item_bytes, fields_bytes, fields_count}
+use Rattle.tc_schema_model.specs.Counted.{Counters, total, Counted, Below, Fields}
+use Rattle.tc_schema_model.specs.SchemaTree.{node_of, item_node_of, field_nodes_of}
+use Rattle.tc_schema_model.specs.SchemaBytes.{node_bytes, item_bytes, fields_bytes, fields_count}
 
 -- how many kinds are counted
 abbrev pub one_if_some : ℕ → ℕ

@@ -1,8 +1,8 @@
 //! How many values of each kind stand at one place.
 
 ghost use Rattle.std.specs.Prelude.{◌≡◌, ◌+◌, ◌<◌, ◌≤◌, ◌^◌, IfSome, IfNone};
-ghost use Rattle.tc_counts.specs.Counted.{no_counters, counter, total};
-ghost use Rattle.tc_counts.specs.Added.{raised, lowered};
+ghost use Rattle.tc_schema_model.specs.Counted.{no_counters, counter, total};
+ghost use Rattle.tc_schema_model.specs.Added.{raised, lowered};
 ghost use Rattle.tc_schema.specs.Paths.{kind_meant};
 ghost use Rattle.tc_schema.specs.Writing.{one_if_some, kinds_in};
 
@@ -22,8 +22,8 @@ pub struct Counts {
 
 impl Model for Counts {
     ghost use Rattle.std.specs.Prelude.{◌<◌, ◌^◌, ◌+◌};
-    ghost use Rattle.tc_counts.specs.Counted.{Counters};
-    ghost use Rattle.tc_counts.specs.CountedCode.{coded_counters};
+    ghost use Rattle.tc_schema_model.specs.Counted.{Counters};
+    ghost use Rattle.tc_schema_model.specs.CountedCode.{coded_counters};
 
     ghost Value = { Counters };
 

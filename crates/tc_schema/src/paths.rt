@@ -1,8 +1,8 @@
 //! The counters of a schema by paths.
 
 ghost use Rattle.std.specs.Prelude.{◌≡◌, IfSome, IfNone, ◌∷◌, []};
-ghost use Rattle.tc_counts.specs.Counted.{nothing, shows, place_at, field_at, numbered_field, AreFieldsOrdered, IsOrdered};
-ghost use Rattle.tc_names.specs.Dictionary.{number_of};
+ghost use Rattle.tc_schema_model.specs.Counted.{nothing, shows, place_at, field_at, numbered_field, AreFieldsOrdered, IsOrdered};
+ghost use Rattle.tc_model.specs.Dictionary.{number_of};
 ghost use Rattle.tc_schema.specs.Paths.{kind_meant, step_meant, path_meant};
 ghost use Rattle.tc_schema.specs.Places.{place_counted, fields_counted};
 

@@ -1,7 +1,7 @@
 //! The places of a schema.
 
 ghost use Rattle.std.specs.Prelude.{◌≡◌, IfOk, map};
-ghost use Rattle.tc_counts.specs.Counted.{nothing};
+ghost use Rattle.tc_schema_model.specs.Counted.{nothing};
 ghost use Rattle.tc_schema.specs.Places.{place_counted, below_counted, field_counted};
 
 use crate::counters::Counts;

@@ -1,7 +1,7 @@
 //! Where the fields of a place stand.
 
 ghost use Rattle.std.specs.Prelude.{IfOk, IfErr, map};
-ghost use Rattle.tc_counts.specs.Counted.{AreFieldsOrdered};
+ghost use Rattle.tc_schema_model.specs.Counted.{AreFieldsOrdered};
 ghost use Rattle.tc_schema.specs.Places.{field_counted, fields_counted};
 ghost use Rattle.tc_schema.specs.Search.{IsPlaceOf, IsGapFor};
 

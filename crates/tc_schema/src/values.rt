@@ -3,8 +3,8 @@
 ghost use Rattle.std.specs.Prelude.{◌≡◌, ◌++◌, IfOk, OnOk, map};
 ghost use Rattle.serde_json.specs.Data.{put};
 ghost use Rattle.serde_json.specs.View.{view, items_view, members_view};
-ghost use Rattle.tc_counts.specs.SchemaTree.{node_of, item_node_of, field_nodes_of};
-ghost use Rattle.tc_counts.specs.SchemaText.{node_text, item_text, fields_text, array_text, object_text, union_text, name_at};
+ghost use Rattle.tc_schema_model.specs.SchemaTree.{node_of, item_node_of, field_nodes_of};
+ghost use Rattle.tc_schema_model.specs.SchemaText.{node_text, item_text, fields_text, array_text, object_text, union_text, name_at};
 ghost use Rattle.tc_schema.specs.Places.{place_counted, below_counted, fields_counted};
 ghost use Rattle.tc_schema.specs.Values.{named_text, named_values, all_scalar_values, array_values, object_values, joined_text};
 

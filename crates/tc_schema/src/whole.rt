@@ -1,14 +1,14 @@
 //! A whole schema.
 
 ghost use Rattle.std.specs.Prelude.{◌≡◌, ◌≢◌, List, IfOk, IsErrOf};
-ghost use Rattle.tc_counts.specs.Counted.{Counted, nothing, shows, IsCanonical, documents_of};
-ghost use Rattle.tc_counts.specs.SchemaText.{tree_text, schema_text};
+ghost use Rattle.tc_schema_model.specs.Counted.{Counted, nothing, shows, IsCanonical, documents_of};
+ghost use Rattle.tc_schema_model.specs.SchemaText.{tree_text, schema_text};
 ghost use Rattle.tc_model.specs.Document.{Document};
-ghost use Rattle.tc_counts.specs.Stands.{StandsFor};
+ghost use Rattle.tc_schema_model.specs.Stands.{StandsFor};
 ghost use Rattle.serde_json.specs.View.{view};
 ghost use Rattle.tc_schema.specs.Paths.{path_meant, kind_meant};
-ghost use Rattle.tc_counts.specs.SchemaTree.{schema_tree};
-ghost use Rattle.tc_counts.specs.SchemaBytes.{schema_bytes, IsSchema};
+ghost use Rattle.tc_schema_model.specs.SchemaTree.{schema_tree};
+ghost use Rattle.tc_schema_model.specs.SchemaBytes.{schema_bytes, IsSchema};
 ghost use Rattle.tc_schema.specs.Places.{place_counted, most_names};
 
 use crate::fault::SchemaFault;
@@ -32,8 +32,8 @@ pub struct Schema {
 }
 
 impl Model for Schema {
-    ghost use Rattle.tc_counts.specs.Counted.{Counted, IsCanonical};
-    ghost use Rattle.tc_counts.specs.CountedCode.{coded_counted};
+    ghost use Rattle.tc_schema_model.specs.Counted.{Counted, IsCanonical};
+    ghost use Rattle.tc_schema_model.specs.CountedCode.{coded_counted};
     ghost use Rattle.tc_schema.specs.Places.{place_counted, most_names};
 
     ghost Value = { Counted };

@@ -1,9 +1,9 @@
 //! The bytes of a schema.
 
 ghost use Rattle.std.specs.Prelude.{◌≡◌, ◌∷◌, ◌++◌, OnOk, map};
-ghost use Rattle.tc_counts.specs.Counted.{counter, IsCanonical, IsBelowCanonical, AreFieldsCanonical};
-ghost use Rattle.tc_counts.specs.SchemaTree.{node_of, item_node_of, field_nodes_of};
-ghost use Rattle.tc_counts.specs.SchemaBytes.{node_bytes, item_bytes, fields_bytes};
+ghost use Rattle.tc_schema_model.specs.Counted.{counter, IsCanonical, IsBelowCanonical, AreFieldsCanonical};
+ghost use Rattle.tc_schema_model.specs.SchemaTree.{node_of, item_node_of, field_nodes_of};
+ghost use Rattle.tc_schema_model.specs.SchemaBytes.{node_bytes, item_bytes, fields_bytes};
 ghost use Rattle.tc_value.specs.Kinds.{tag_of};
 ghost use Rattle.tc_schema.specs.Paths.{kind_meant};
 ghost use Rattle.tc_schema.specs.Places.{place_counted, below_counted, fields_counted, field_counted, most_names};

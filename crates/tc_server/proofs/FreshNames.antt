@@ -2,10 +2,9 @@
 use Rattle.std.proofs.Common.{◌≡◌, ℕ, suc, ◌+◌, ◌≤◌, Bool, true, false, List, [], ◌∷◌, ◌++◌, length, bytes_eq, if◌then◌else◌, refl, ap, ◌∙◌, append_assoc, append-nil, length-append, arith}
 use Rattle.std.specs.Prelude.{Option, Some, None, is_some, option_map}
 use Rattle.tc_model.specs.Document.{Name}
-use Rattle.tc_names.specs.Dictionary.{number_of, learned}
-use Rattle.tc_names.proofs.Numbers.{number_of-append}
-use Rattle.tc_names.proofs.Growth.{learned-known, length-learned}
-use Rattle.tc_counts.specs.ShapeNames.{all_learned}
+use Rattle.tc_model.specs.Dictionary.{number_of, learned, all_learned}
+use Rattle.tc_model.proofs.NameNumbers.{number_of-append}
+use Rattle.tc_model.proofs.DictionaryGrowth.{learned-known, length-learned}
 
 -- a name that is not known is looked for behind those that are
 looked_for : (known fresh : List Name) (name : Name) → number_of known name ≡ None → is_some (number_of (known ++ fresh) name) ≡ is_some (number_of fresh name)

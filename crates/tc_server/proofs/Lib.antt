@@ -1,5 +1,3 @@
-pub mod PairLemmas
-pub mod Replacing
 pub mod Weights
 pub mod SchemaFloats
 pub mod FreshNames

@@ -5,8 +5,8 @@ use Rattle.serde_json.specs.View.{view}
 use Rattle.serde_json.specs.declared.value.Value.{Value}
 use Rattle.serde_json.specs.Written.{has_float, items_have_float, members_have_float}
 use Rattle.tc_model.specs.Document.{Name, ScalarKind, null_kind, boolean_kind, integer_kind, text_kind}
-use Rattle.tc_counts.specs.SchemaTree.{SchemaNode, scalar_node, array_node, object_node, union_node, ItemNode, no_item_node, an_item_node, FieldNodes, no_field_nodes, a_field_node, KindNodes, no_kind_nodes, a_kind_node, SchemaTree}
-use Rattle.tc_counts.specs.SchemaText.{scalar_text, name_at, node_text, item_text, fields_text, kinds_text, tree_text}
+use Rattle.tc_schema_model.specs.SchemaTree.{SchemaNode, scalar_node, array_node, object_node, union_node, ItemNode, no_item_node, an_item_node, FieldNodes, no_field_nodes, a_field_node, KindNodes, no_kind_nodes, a_kind_node, SchemaTree}
+use Rattle.tc_schema_model.specs.SchemaText.{scalar_text, name_at, node_text, item_text, fields_text, kinds_text, tree_text}
 use Rattle.tc_json.proofs.Floats.{neither, put_keeps_no_floats}
 
 scalars : (k : ScalarKind) (n : ℕ) → has_float (scalar_text k n) ≡ false

@@ -5,7 +5,8 @@ use Rattle.std.specs.Io.KnownBytes.{Appends}
 use Rattle.std.proofs.KnownBytes.{Appends-trans, Appends-kept}
 use Rattle.std.proofs.lemmas.List.Sums.{fold-append, sum_by-append}
 use Rattle.std.proofs.lemmas.List.{map-append, length-map}
-use Rattle.tc_model.specs.Request.{max_line, request_of}
+use Rattle.tc_model.specs.Request.{request_of}
+use Rattle.tc_model.specs.Limits.{max_line}
 use Rattle.tc_world.specs.Store.{Store, empty}
 use Rattle.tc_world.specs.Answer.{Limits, after}
 use Rattle.tc_world.specs.Run.{BeginsWith, answers, after_all, Window, Windows, is_control, is_full, line_size, unless_empty, with_open, with_line, lines_in, output_of_windows}

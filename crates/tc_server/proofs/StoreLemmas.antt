@@ -10,22 +10,24 @@ use Rattle.std.proofs.lemmas.Bool.Decides.{nat_tests}
 use Rattle.std.proofs.lemmas.Option.{same_Some}
 use Rattle.std.proofs.lemmas.List.{length-map}
 use Rattle.std.proofs.lemmas.List.Elements.{All-from_recursion, All-weaker}
-use Rattle.tc_model.specs.Document.{Name, Document, ShapeTree}
+use Rattle.tc_model.specs.Document.{Name, Document, ShapeTree, document_shape}
 use Rattle.tc_model.specs.Keyed.{value_of, with_value, without_key}
-use Rattle.tc_counts.specs.Counted.{Counted, nothing, total_at}
-use Rattle.tc_counts.specs.Occurrences.{Path, count, document_shape}
-use Rattle.tc_counts.specs.Stands.{StandsFor}
-use Rattle.tc_infer.specs.Values.{values_at}
-use Rattle.tc_infer.proofs.ValueBounds.{counters_fit-sizes, nothing_stands}
-use Rattle.tc_value.specs.TreeSize.{tree_size}
+use Rattle.tc_schema_model.specs.Counted.{Counted, nothing, total_at}
+use Rattle.tc_schema_model.specs.Occurrences.{Path, count}
+use Rattle.tc_schema_model.specs.Stands.{StandsFor}
+use Rattle.tc_schema_model.specs.Values.{values_at}
+use Rattle.tc_schema_model.proofs.ValueBounds.{counters_fit-sizes, nothing_stands}
+use Rattle.tc_model.specs.TreeSize.{tree_size}
 use Rattle.tc_value.specs.declared.document.Doc.{Doc}
 use Rattle.tc_world.specs.Answer.{Limits}
 use Rattle.tc_world.specs.Store.{Pairs, Store, empty, documents}
 use Rattle.tc_server.specs.Limited.{Limited}
 use Rattle.tc_server.specs.Pairs.{pair_of}
 use Rattle.tc_server.specs.Sound.{FitsLine, IsSound}
-use Rattle.tc_server.proofs.PairLemmas.{is_some-lookup}
-use Rattle.tc_server.proofs.Replacing.{keys_in, docs_in, taken_out, none_taken_out, count_replaced, all_with, all_without}
+use Rattle.tc_model.proofs.KeyedMaps.{is_some-lookup}
+use Rattle.tc_model.proofs.Replacing.{taken_out, none_taken_out, all_with, all_without}
+use Rattle.tc_schema_model.proofs.Replaced.{count_replaced}
+use Rattle.tc_model.specs.Keyed.{values_in}
 use Rattle.tc_server.proofs.Weights.{size_weight, shape_size_weight}
 
 pub empty_is_sound : IsSound empty nothing
@@ -69,25 +71,25 @@ same_parts limits ps qs names others pairs taken = rw (pairs, taken) refl
 -- ---- a document comes
 
 -- the same where the key had no document
-pub stands_beside : (n : ℕ) (d : Document) (ps : Pairs) (names : List Name) (counts : Counted) → value_of n ps ≡ None → StandsFor names counts (d ∷ docs_in ps) → StandsFor names counts (d ∷ docs_in (without_key n ps))
-stands_beside n d ps names counts none stands = subst (λ qs. StandsFor names counts (d ∷ docs_in qs)) (sym (none_taken_out n ps none)) stands
+pub stands_beside : (n : ℕ) (d : Document) (ps : Pairs) (names : List Name) (counts : Counted) → value_of n ps ≡ None → StandsFor names counts (d ∷ values_in ps) → StandsFor names counts (d ∷ values_in (without_key n ps))
+stands_beside n d ps names counts none stands = subst (λ qs. StandsFor names counts (d ∷ values_in qs)) (sym (none_taken_out n ps none)) stands
 
 -- a schema of a new document and of all others, of which the one of its key is taken off
-pub stands_without : (n : ℕ) (d old : Document) (ps : Pairs) (names : List Name) (before after : Counted) → value_of n ps ≡ Some old → StandsFor names before (d ∷ docs_in ps)
+pub stands_without : (n : ℕ) (d old : Document) (ps : Pairs) (names : List Name) (before after : Counted) → value_of n ps ≡ Some old → StandsFor names before (d ∷ values_in ps)
     → ((front behind : List Document) → StandsFor names before (front ++ old ∷ behind) → StandsFor names after (front ++ behind))
-    → StandsFor names after (d ∷ docs_in (without_key n ps))
+    → StandsFor names after (d ∷ values_in (without_key n ps))
 stands_without n d old ps names before after there stands takes =
     let one = taken_out n ps old there in
     subst (λ docs. StandsFor names after (d ∷ docs)) (sym one.is_rest) (takes (d ∷ one.before) one.behind (subst (λ docs. StandsFor names before (d ∷ docs)) one.is_whole stands))
 
 -- what is said of lists around the old document is said of the schema
-pub around_old : (P : Type 0) (n : ℕ) (d old : Document) (ps : Pairs) (names : List Name) (counts : Counted) → value_of n ps ≡ Some old → StandsFor names counts (d ∷ docs_in ps)
+pub around_old : (P : Type 0) (n : ℕ) (d old : Document) (ps : Pairs) (names : List Name) (counts : Counted) → value_of n ps ≡ Some old → StandsFor names counts (d ∷ values_in ps)
     → ((front behind : List Document) → StandsFor names counts (front ++ old ∷ behind) → P) → P
 around_old P n d old ps names counts there stands says =
     let one = taken_out n ps old there in
     says (d ∷ one.before) one.behind (subst (λ docs. StandsFor names counts (d ∷ docs)) one.is_whole stands)
 
-sorted_pairs : (es : List (ℕ × Doc)) → keys_in (map pair_of es) ≡ keys_of es
+sorted_pairs : (es : List (ℕ × Doc)) → keys_of (map pair_of es) ≡ keys_of es
 sorted_pairs [] = refl
 sorted_pairs (e ∷ es) = ap (λ ks. e.0 ∷ ks) (sorted_pairs es)
 
@@ -97,7 +99,7 @@ few_after : (n : ℕ) (es new : List (ℕ × Doc)) (old : Option Doc) → old �
 few_after n es new old is longer room few = cases old is longer
   where
     cases : (o : Option Doc) → o ≡ lookup (is_at (nat_cmp n)) es → length new ≡ length es + (if is_some o then 0 else 1) → length (map pair_of new) < 2 ^ 32
-    cases None none longer = omega (arith, longer, room (sym (is_some-lookup n es) ∙ ap is_some (sym none)), length-map es pair_of, length-map new pair_of)
+    cases None none longer = omega (arith, longer, room (sym (is_some-lookup tree_of n es) ∙ ap is_some (sym none)), length-map es pair_of, length-map new pair_of)
     cases (Some d) some longer = omega (arith, longer, few, length-map es pair_of, length-map new pair_of)
 
 -- the parts are sound when a document was put under a key
@@ -105,16 +107,16 @@ pub put_is_sound : (n : ℕ) (d : Document) (es new : List (ℕ × Doc)) (old : 
     → IsStrictlySortedBy nat_cmp (keys_of es) → FitsLine d
     → map pair_of new ≡ with_value n d (map pair_of es)
     → old ≡ lookup (is_at (nat_cmp n)) es → length new ≡ length es + (if is_some old then 0 else 1) → (is_some (value_of n (map pair_of es)) ≡ false → length (map pair_of es) + 1 < 2 ^ 32)
-    → StandsFor names after (d ∷ docs_in (without_key n (map pair_of es)))
+    → StandsFor names after (d ∷ values_in (without_key n (map pair_of es)))
     → IsSound (record { pairs = map pair_of new; taken = names }) after
 put_is_sound n d es new old taken names before after sound sorted light pairs is longer room stands = record {
   stands = record {
     canonical = stands.canonical;
     distinct = stands.distinct;
-    counts = λ path t. stands.counts path t ∙ sym (count_replaced n d (map pair_of es) (subst (IsStrictlySortedBy nat_cmp) (sym (sorted_pairs es)) sorted) path t) ∙ ap (λ ps. count (docs_in ps) path t) (sym pairs);
+    counts = λ path t. stands.counts path t ∙ sym (count_replaced n d (map pair_of es) (subst (IsStrictlySortedBy nat_cmp) (sym (sorted_pairs es)) sorted) path t) ∙ ap (λ ps. count (values_in ps) path t) (sym pairs);
   };
   few = few_after n es new old is longer room sound.few;
-  light = subst (λ ps. AllByRecursion FitsLine (docs_in ps)) (sym pairs) (all_with FitsLine n d (map pair_of es) light sound.light);
+  light = subst (λ ps. AllByRecursion FitsLine (values_in ps)) (sym pairs) (all_with FitsLine n d (map pair_of es) light sound.light);
 }
 
 -- ---- a document goes
@@ -125,13 +127,13 @@ pub removed_is_sound : (n : ℕ) (old : Document) (es new : List (ℕ × Doc)) (
     → IsSound (record { pairs = map pair_of new; taken = taken }) after
 removed_is_sound n old es new taken before after sound there pairs fewer takes =
     let one = taken_out n (map pair_of es) old there in record {
-      stands = subst (λ docs. StandsFor taken after docs) (sym (ap docs_in pairs ∙ one.is_rest)) (takes one.before one.behind (subst (StandsFor taken before) one.is_whole sound.stands));
+      stands = subst (λ docs. StandsFor taken after docs) (sym (ap values_in pairs ∙ one.is_rest)) (takes one.before one.behind (subst (StandsFor taken before) one.is_whole sound.stands));
       few = omega (arith, fewer, sound.few, length-map es pair_of, length-map new pair_of);
-      light = subst (λ ps. AllByRecursion FitsLine (docs_in ps)) (sym pairs) (all_without FitsLine n (map pair_of es) sound.light);
+      light = subst (λ ps. AllByRecursion FitsLine (values_in ps)) (sym pairs) (all_without FitsLine n (map pair_of es) sound.light);
     }
 
 -- the schema of the documents fits each of them
-pub fits_one : (P : Type 0) (n : ℕ) (old : Document) (ps : Pairs) (taken : List Name) (counts : Counted) → value_of n ps ≡ Some old → StandsFor taken counts (docs_in ps)
+pub fits_one : (P : Type 0) (n : ℕ) (old : Document) (ps : Pairs) (taken : List Name) (counts : Counted) → value_of n ps ≡ Some old → StandsFor taken counts (values_in ps)
     → ((front behind : List Document) → StandsFor taken counts (front ++ old ∷ behind) → P) → P
 fits_one P n old ps taken counts there stands says =
     let one = taken_out n ps old there in says one.before one.behind (subst (StandsFor taken counts) one.is_whole stands)

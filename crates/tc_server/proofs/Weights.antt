@@ -2,10 +2,9 @@
 use Rattle.std.proofs.Common.{◌<◌, ◌≤◌, ◌^◌, List, [], ◌∷◌, ◌++◌, length, length-append, arith}
 use Rattle.std.specs.List.{AllByRecursion}
 use Rattle.tc_model.specs.Tree.{leaf, array, object, Items, no_items, item, Members, no_members, member, items_relabel, members_relabel}
-use Rattle.tc_model.specs.Document.{Name, Document, Scalar, null, boolean, integer, text, scalar_kind}
-use Rattle.tc_counts.specs.Occurrences.{document_shape}
-use Rattle.tc_counts.specs.ShapeNames.{names_within, names_of_items, names_of_members}
-use Rattle.tc_value.specs.TreeSize.{tree_size, items_size, members_size}
+use Rattle.tc_model.specs.Document.{Name, Document, Scalar, null, boolean, integer, text, scalar_kind, document_shape}
+use Rattle.tc_model.specs.ShapeNames.{names_within, names_of_items, names_of_members}
+use Rattle.tc_model.specs.TreeSize.{tree_size, items_size, members_size}
 use Rattle.tc_world.specs.Weight.{scalar_weight, weight, items_weight, members_weight}
 use Rattle.tc_server.specs.Sound.{FitsLine}
 

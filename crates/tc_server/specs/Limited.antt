@@ -1,7 +1,8 @@
 -- A plain store with the limits that the words set for it, which no line changes.
 use Rattle.std.specs.Prelude.{ℕ, List, refl}
 use Rattle.std.specs.Coded.{Coded, code_by, coded×, coded_list, coded_ℕ}
-use Rattle.tc_model.specs.Document.{Name, Document, coded_document}
+use Rattle.tc_model.specs.Document.{Name, Document}
+use Rattle.tc_model.specs.DocumentCode.{coded_document}
 use Rattle.tc_model.specs.Request.{Request}
 use Rattle.tc_world.specs.Store.{Store, empty}
 use Rattle.tc_world.specs.Answer.{Limits, after}

@@ -3,9 +3,9 @@
 use Rattle.std.specs.Prelude.{◌≡◌, ◌<◌, ◌≤◌, ◌^◌, ◌⊎◌, length}
 use Rattle.std.specs.List.{AllByRecursion}
 use Rattle.tc_model.specs.Document.{Document}
-use Rattle.tc_model.specs.Request.{max_line}
-use Rattle.tc_counts.specs.Counted.{Counted}
-use Rattle.tc_counts.specs.Stands.{StandsFor}
+use Rattle.tc_model.specs.Limits.{max_line}
+use Rattle.tc_schema_model.specs.Counted.{Counted}
+use Rattle.tc_schema_model.specs.Stands.{StandsFor}
 use Rattle.tc_world.specs.Store.{Store, documents}
 use Rattle.tc_world.specs.Weight.{weight}
 use Rattle.tc_server.specs.Limited.{Limited, empty_under}

@@ -1,7 +1,7 @@
 -- What a session holds and what it has written, by the windows of the lines that came.
 use Rattle.std.specs.Prelude.{◌≡◌, ◌≢◌, ℕ, ◌<◌, ◌≤◌, List, [], ◌∷◌, ◌++◌, length, map, take, sum_by, Option, Result, IfErr, ⊤}
 use Rattle.std.specs.Io.KnownBytes.{Appends, Keeps}
-use Rattle.tc_edge.specs.Faults.{Rose}
+use Rattle.tc_bytes.specs.Counts.{Rose}
 use Rattle.tc_model.specs.Request.{request_of}
 use Rattle.tc_world.specs.Answer.{Limits}
 use Rattle.tc_world.specs.Store.{empty}

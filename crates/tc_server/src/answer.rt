@@ -4,8 +4,9 @@ ghost use Rattle.std.specs.Prelude.{◌≡◌, ◌∷◌, [], IfOk, OnOk, OnErr,
 ghost use Rattle.tc_command.specs.Commands.{request_of_command};
 ghost use Rattle.tc_command.specs.Replies.{reply_of};
 ghost use Rattle.tc_model.specs.Reply.{got, schemas};
-ghost use Rattle.tc_model.specs.Request.{max_line, request_of};
-ghost use Rattle.tc_counts.specs.SchemaText.{schema_text};
+ghost use Rattle.tc_model.specs.Request.{request_of};
+ghost use Rattle.tc_model.specs.Limits.{max_line};
+ghost use Rattle.tc_schema_model.specs.SchemaText.{schema_text};
 ghost use Rattle.tc_world.proofs.LineWeight.{IsLight};
 ghost use Rattle.tc_world.specs.Answer.{reply_to};
 ghost use Rattle.tc_world.specs.Run.{answers, is_control};
@@ -42,7 +43,7 @@ impl Model for Asked {
     ghost coded = { contract.the_row.coded };
 
     ghost use Rattle.tc_server.specs.Asked.{request_asked};
-    ghost use Rattle.tc_model.specs.Request.{max_line};
+    ghost use Rattle.tc_model.specs.Limits.{max_line};
     ghost use Rattle.tc_world.proofs.LineWeight.{IsLight};
 
     ghost view = { λ a. a.action };

@@ -4,8 +4,8 @@ ghost use Rattle.std.specs.Prelude.{◌≡◌, ◌+◌, ◌++◌, ◌<◌, ◌^�
 ghost use Rattle.std.specs.List.{AllByRecursion};
 ghost use Rattle.tc_model.specs.Tree.{items_of, members_of};
 ghost use Rattle.tc_value.specs.ShapeMeaning.{shape_tree, shape_member};
-ghost use Rattle.tc_counts.specs.ShapeNames.{names_within, names_of_items, names_of_members, all_learned};
-ghost use Rattle.tc_names.specs.Dictionary.{learned};
+ghost use Rattle.tc_model.specs.ShapeNames.{names_within, names_of_items, names_of_members};
+ghost use Rattle.tc_model.specs.Dictionary.{all_learned, learned};
 
 use std::alloc::{AllocError, Global};
 use tc_bytes::Memory;

@@ -1,7 +1,7 @@
 //! A run: the words, the lines, and how it ends.
 
 ghost use Rattle.std.specs.Prelude.{◌≡◌, ℕ, ◌≤◌, ◌<◌, ◌⊎◌, false, Some, None, IfOk, IfErr, IfSome, IsErrOf, OnOk, option_map};
-ghost use Rattle.tc_edge.specs.Faults.{Rose};
+ghost use Rattle.tc_bytes.specs.Counts.{Rose};
 ghost use Rattle.tc_world.specs.Run.{max_window};
 ghost use Rattle.tc_server.specs.Ending.{Ran, Served, fault_in, limits_of, status_of};
 ghost use Rattle.tc_server.specs.Progress.{Ends, Goes};

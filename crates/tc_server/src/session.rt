@@ -2,7 +2,8 @@
 
 ghost use Rattle.std.specs.Prelude.{◌≡◌, ℕ, ◌<◌, ◌≤◌, true, false, List, [], length, OnOk, IfOk, IfErr};
 ghost use Rattle.std.specs.Io.KnownBytes.{Appends};
-ghost use Rattle.tc_model.specs.Request.{max_line, request_of};
+ghost use Rattle.tc_model.specs.Request.{request_of};
+ghost use Rattle.tc_model.specs.Limits.{max_line};
 ghost use Rattle.tc_world.specs.Run.{answers, is_control, max_window};
 ghost use Rattle.tc_server.specs.Stage.{AsksFor, FailsAtLine, HasWriteCause, TakesLine, WritesPart};
 ghost use Rattle.tc_server.specs.Asked.{request_asked};

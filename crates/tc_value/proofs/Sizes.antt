@@ -3,7 +3,7 @@ use Rattle.std.proofs.Common.{◌≡◌, ◌∙◌, ◌<◌, ◌≤◌, ◌+◌,
 use Rattle.tc_value.specs.declared.document.Doc.{Doc}
 use Rattle.tc_value.specs.declared.document.Member.{Member}
 use Rattle.tc_value.specs.Meaning.{tree_of, member_of}
-use Rattle.tc_value.specs.TreeSize.{tree_size, trees_size, labelled_size}
+use Rattle.tc_model.specs.TreeSize.{tree_size, trees_size, labelled_size}
 
 -- the elements from a place on, one by one
 pub from_place : {A : Type 0} (xs : List A) (i : ℕ) (x : A) → i < length xs → x ≡ get_or xs i x → drop i xs ≡ x ∷ drop (i + 1) xs

@@ -1,14 +1,9 @@
 -- Lists of items and members, and the trees that they make.
 use Rattle.std.proofs.Common.{◌≡◌, ◌∙◌, ap, refl, sym, List, [], ◌∷◌, map}
 use Rattle.std.specs.List.Sorted.{IsStrictlySortedBy}
-use Rattle.tc_model.specs.Tree.{Tree, array, object, Items, no_items, item, member, items_of, members_of, items_relabel, members_relabel}
-use Rattle.tc_model.specs.Document.{Name, Document, scalar_kind, listed_members, IsAscending, IsScalar, IsDocument, AreMembersOf}
-use Rattle.tc_value.specs.ShapeMeaning.{shape_of, member_shape}
-
--- the items of an array as a list
-abbrev listed_items : {L S : Type 0} → Items L S → List (Tree L S)
-listed_items no_items = []
-listed_items (item t ts) = t ∷ listed_items ts
+use Rattle.tc_model.specs.Tree.{Tree, array, object, item, member, items_of, members_of, items_relabel, members_relabel, listed_items, listed_members}
+use Rattle.tc_model.specs.Document.{Name, Document, scalar_kind, IsAscending, IsScalar, IsDocument, AreMembersOf, document_shape}
+use Rattle.tc_value.specs.ShapeMeaning.{member_shape}
 
 -- what an array holds
 abbrev items_in : {L S : Type 0} → Tree L S → List (Tree L S)
@@ -40,20 +35,20 @@ same_object xs ys e = sym (listed_members-members_of xs) ∙ (ap members_in e �
 pub lawful_object : (ms : List (Name × Document)) → IsAscending ms → AreMembersOf IsScalar (members_of ms) → IsDocument (object (members_of ms))
 lawful_object ms ascending each = (rw (listed_members-members_of ms) ascending, each)
 
-items_of-shapes : (xs : List Document) → items_of (map shape_of xs) ≡ items_relabel (λ name. name) scalar_kind (items_of xs)
+items_of-shapes : (xs : List Document) → items_of (map document_shape xs) ≡ items_relabel (λ name. name) scalar_kind (items_of xs)
 items_of-shapes [] = refl
-items_of-shapes (t ∷ ts) = ap (item (shape_of t)) (items_of-shapes ts)
+items_of-shapes (t ∷ ts) = ap (item (document_shape t)) (items_of-shapes ts)
 
 members_of-shapes : (ms : List (Name × Document)) → members_of (map member_shape ms) ≡ members_relabel (λ name. name) scalar_kind (members_of ms)
 members_of-shapes [] = refl
-members_of-shapes (m ∷ ms) = ap (member m.0 (shape_of m.1)) (members_of-shapes ms)
+members_of-shapes (m ∷ ms) = ap (member m.0 (document_shape m.1)) (members_of-shapes ms)
 
 -- the shape of an array has the shapes of its items
-pub array_shape : (xs : List Document) → array (items_of (map shape_of xs)) ≡ shape_of (array (items_of xs))
+pub array_shape : (xs : List Document) → array (items_of (map document_shape xs)) ≡ document_shape (array (items_of xs))
 array_shape xs = ap array (items_of-shapes xs)
 
 -- the shape of an object has the shapes of its members
-pub object_shape : (ms : List (Name × Document)) → object (members_of (map member_shape ms)) ≡ shape_of (object (members_of ms))
+pub object_shape : (ms : List (Name × Document)) → object (members_of (map member_shape ms)) ≡ document_shape (object (members_of ms))
 object_shape ms = ap object (members_of-shapes ms)
 
 names-shapes : (ms : List (Name × Document)) → map (λ m. m.0) (map member_shape ms) ≡ map (λ m. m.0) ms

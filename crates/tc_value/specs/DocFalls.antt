@@ -2,7 +2,7 @@
 use Rattle.std.specs.Prelude.{◌≤◌, List, [], ◌∷◌, map}
 use Rattle.std.proofs.Common.{arith}
 use denote.Param.Weighed.{most}
-use Rattle.tc_value.specs.TreeSize.{tree_size, trees_size, labelled_size}
+use Rattle.tc_model.specs.TreeSize.{tree_size, trees_size, labelled_size}
 use Rattle.tc_value.specs.Meaning.{tree_of, member_of}
 use Rattle.tc_value.specs.declared.document.Doc.{Doc}
 use Rattle.tc_value.specs.declared.document.Doc.TheVariants.{Null, Bool, Int, Text, Array, Object}

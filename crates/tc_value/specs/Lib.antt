@@ -1,6 +1,5 @@
 pub mod Kinds
 pub mod Meaning
-pub mod TreeSize
 pub mod DocFalls
 pub mod ShapeMeaning
 pub mod ShapeFalls

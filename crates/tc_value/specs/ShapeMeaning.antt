@@ -1,6 +1,6 @@
--- The tree that a shape is, and the shape of a document.
-use Rattle.tc_model.specs.Tree.{leaf, array, object, items_of, members_of, relabel}
-use Rattle.tc_model.specs.Document.{Name, Document, ShapeTree, scalar_kind, null_kind, boolean_kind, integer_kind, text_kind}
+-- The tree that a shape is.
+use Rattle.tc_model.specs.Tree.{leaf, array, object, items_of, members_of}
+use Rattle.tc_model.specs.Document.{Name, Document, ShapeTree, document_shape, null_kind, boolean_kind, integer_kind, text_kind}
 use Rattle.tc_value.specs.declared.shape_tree.Shape.{Shape}
 use Rattle.tc_value.specs.declared.shape_tree.Shape.TheVariants.{Null, Bool, Int, Text, Array, Object}
 use Rattle.tc_value.specs.declared.shape_tree.ShapeMember.{ShapeMember}
@@ -17,10 +17,6 @@ shape_tree (Object ms) = object (members_of ms)
 abbrev pub shape_member : ShapeMember → Name × ShapeTree
 shape_member m = (m.name, shape_tree m.value)
 
--- the shape of a document: the kinds of its scalars in their places
-abbrev pub shape_of : Document → ShapeTree
-shape_of d = relabel (λ name. name) scalar_kind d
-
 -- a member, with its value's shape
 abbrev pub member_shape : Name × Document → Name × ShapeTree
-member_shape m = (m.0, shape_of m.1)
+member_shape m = (m.0, document_shape m.1)

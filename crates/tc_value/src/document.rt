@@ -48,7 +48,8 @@ pub struct Members {
 
 impl Model for Items {
     ghost use Rattle.std.specs.Prelude.{List, map};
-    ghost use Rattle.tc_model.specs.Document.{Document, coded_document};
+    ghost use Rattle.tc_model.specs.Document.{Document};
+    ghost use Rattle.tc_model.specs.DocumentCode.{coded_document};
     ghost use Rattle.std.specs.Coded.{coded_list};
 
     ghost Value = { List Document };
@@ -56,7 +57,7 @@ impl Model for Items {
     ghost coded = { coded_list coded_document };
 
     ghost use Rattle.tc_value.specs.Meaning.{tree_of};
-    ghost use Rattle.tc_value.specs.TreeSize.{trees_size};
+    ghost use Rattle.tc_model.specs.TreeSize.{trees_size};
 
     ghost view = { λ a. map tree_of a.items.items };
 
@@ -70,7 +71,8 @@ impl Model for Items {
 
 impl Model for Members {
     ghost use Rattle.std.specs.Prelude.{List, map};
-    ghost use Rattle.tc_model.specs.Document.{Name, Document, IsAscending, coded_document};
+    ghost use Rattle.tc_model.specs.Document.{Name, Document, IsAscending};
+    ghost use Rattle.tc_model.specs.DocumentCode.{coded_document};
     ghost use Rattle.std.specs.Coded.{coded_list, coded_ℕ, coded×};
 
     ghost Value = { List (Name × Document) };
@@ -78,7 +80,7 @@ impl Model for Members {
     ghost coded = { coded_list (coded× (coded_list coded_ℕ) coded_document) };
 
     ghost use Rattle.tc_value.specs.Meaning.{member_of};
-    ghost use Rattle.tc_value.specs.TreeSize.{labelled_size};
+    ghost use Rattle.tc_model.specs.TreeSize.{labelled_size};
 
     ghost view = { λ a. map member_of a.members.items };
 

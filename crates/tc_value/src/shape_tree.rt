@@ -45,7 +45,8 @@ pub struct ShapeMembers {
 
 impl Model for ShapeItems {
     ghost use Rattle.std.specs.Prelude.{List, map};
-    ghost use Rattle.tc_model.specs.Document.{ShapeTree, coded_shape};
+    ghost use Rattle.tc_model.specs.Document.{ShapeTree};
+    ghost use Rattle.tc_model.specs.DocumentCode.{coded_shape};
     ghost use Rattle.std.specs.Coded.{coded_list};
 
     ghost Value = { List ShapeTree };
@@ -53,7 +54,7 @@ impl Model for ShapeItems {
     ghost coded = { coded_list coded_shape };
 
     ghost use Rattle.tc_value.specs.ShapeMeaning.{shape_tree};
-    ghost use Rattle.tc_value.specs.TreeSize.{trees_size};
+    ghost use Rattle.tc_model.specs.TreeSize.{trees_size};
 
     ghost view = { λ a. map shape_tree a.items.items };
 
@@ -67,7 +68,8 @@ impl Model for ShapeItems {
 
 impl Model for ShapeMembers {
     ghost use Rattle.std.specs.Prelude.{List, map};
-    ghost use Rattle.tc_model.specs.Document.{Name, ShapeTree, IsAscending, coded_shape};
+    ghost use Rattle.tc_model.specs.Document.{Name, ShapeTree, IsAscending};
+    ghost use Rattle.tc_model.specs.DocumentCode.{coded_shape};
     ghost use Rattle.std.specs.Coded.{coded_list, coded_ℕ, coded×};
 
     ghost Value = { List (Name × ShapeTree) };
@@ -75,7 +77,7 @@ impl Model for ShapeMembers {
     ghost coded = { coded_list (coded× (coded_list coded_ℕ) coded_shape) };
 
     ghost use Rattle.tc_value.specs.ShapeMeaning.{shape_member};
-    ghost use Rattle.tc_value.specs.TreeSize.{labelled_size};
+    ghost use Rattle.tc_model.specs.TreeSize.{labelled_size};
 
     ghost view = { λ a. map shape_member a.members.items };
 

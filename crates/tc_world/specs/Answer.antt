@@ -3,7 +3,7 @@ use Rattle.std.specs.Prelude.{ℕ, Bool, not, ◌&&◌, nat_lt, nat_le, length, 
 use Rattle.tc_model.specs.Document.{Name, Document}
 use Rattle.tc_model.specs.Request.{Request, upsert, delete, get, query, flush, schema, scan, collect, refused, Refusal, names_full, full, not_built}
 use Rattle.tc_model.specs.Reply.{Reply, upserted, deleted, got, schemas, turned_down}
-use Rattle.tc_counts.specs.SchemaText.{schema_text}
+use Rattle.tc_schema_model.specs.SchemaText.{schema_text}
 use Rattle.tc_world.specs.Store.{Store, stored, documents, names_with, with_pair, without_pair}
 
 -- how many names a store takes, and how many documents it holds

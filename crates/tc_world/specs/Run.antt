@@ -1,7 +1,8 @@
 -- What a run answers. Lines are collected into windows, and the replies of a window are written together.
 use Rattle.std.specs.Prelude.{◌≡◌, ℕ, List, [], ◌∷◌, ◌++◌, length, map, fold, sum_by, Bool, true, false, ◌||◌, nat_le, if◌then◌else◌}
 use Rattle.tc_model.specs.Lines.{lines_of, whole_lines}
-use Rattle.tc_model.specs.Request.{Request, upsert, delete, get, query, flush, schema, scan, collect, refused, max_line, request_of}
+use Rattle.tc_model.specs.Request.{Request, upsert, delete, get, query, flush, schema, scan, collect, refused, request_of}
+use Rattle.tc_model.specs.Limits.{max_line}
 use Rattle.tc_model.specs.Reply.{reply_line}
 use Rattle.tc_world.specs.Store.{Store, empty}
 use Rattle.tc_world.specs.Answer.{Limits, reply_to, after}

@@ -1,9 +1,9 @@
 -- The plain store: keys and documents in ascending key, and the names that it has taken.
 use Rattle.std.specs.Prelude.{ℕ, List, [], map, Option}
-use Rattle.tc_model.specs.Document.{Name, Document}
+use Rattle.tc_model.specs.Document.{Name, Document, document_shape}
 use Rattle.tc_model.specs.Keyed.{Keyed, value_of, with_value, without_key}
-use Rattle.tc_counts.specs.Occurrences.{document_shape}
-use Rattle.tc_counts.specs.ShapeNames.{names_within, all_learned}
+use Rattle.tc_model.specs.ShapeNames.{names_within}
+use Rattle.tc_model.specs.Dictionary.{all_learned}
 
 -- stored keys and documents
 abbrev pub Pairs : Type 0

@@ -3,11 +3,12 @@
 ghost use Rattle.std.specs.Prelude.{◌≡◌, ◌+◌, ◌<◌, ◌≤◌, ◌^◌, All, IfSome, length, map};
 ghost use Rattle.std.specs.List.{AllByRecursion};
 ghost use Rattle.tc_model.specs.Tree.{items_of, members_of};
-ghost use Rattle.tc_counts.specs.Occurrences.{Path};
-ghost use Rattle.tc_counts.specs.ShapeNames.{names_within, names_of_items, names_of_members, all_learned};
-ghost use Rattle.tc_infer.specs.Values.{values_at};
+ghost use Rattle.tc_schema_model.specs.Occurrences.{Path};
+ghost use Rattle.tc_model.specs.ShapeNames.{names_within, names_of_items, names_of_members};
+ghost use Rattle.tc_model.specs.Dictionary.{all_learned};
+ghost use Rattle.tc_schema_model.specs.Values.{values_at};
 ghost use Rattle.tc_value.specs.ShapeMeaning.{shape_tree, shape_member};
-ghost use Rattle.tc_value.specs.TreeSize.{tree_size, trees_size, labelled_size};
+ghost use Rattle.tc_model.specs.TreeSize.{tree_size, trees_size, labelled_size};
 
 use crate::{shapes_fit, subtract};
 use std::alloc::Global;
@@ -31,9 +32,9 @@ pub struct Kept {
 
 impl Model for Kept {
     ghost use Rattle.std.specs.Prelude.{◌≤◌, ℕ, length, map};
-    ghost use Rattle.tc_counts.specs.Occurrences.{Path};
-    ghost use Rattle.tc_counts.specs.Counted.{total_at};
-    ghost use Rattle.tc_counts.specs.Stands.{StandsFor};
+    ghost use Rattle.tc_schema_model.specs.Occurrences.{Path};
+    ghost use Rattle.tc_schema_model.specs.Counted.{total_at};
+    ghost use Rattle.tc_schema_model.specs.Stands.{StandsFor};
     ghost use Rattle.tc_value.specs.Meaning.{tree_of};
 
     ghost Value = { ℕ };

@@ -2,7 +2,8 @@
 
 ghost use Rattle.std.specs.Prelude.{◌≡◌, IfOk, map};
 ghost use Rattle.tc_value.specs.Meaning.{tree_of, member_of};
-ghost use Rattle.tc_value.specs.ShapeMeaning.{shape_tree, shape_member, shape_of, member_shape};
+ghost use Rattle.tc_value.specs.ShapeMeaning.{shape_tree, shape_member, member_shape};
+ghost use Rattle.tc_model.specs.Document.{document_shape};
 
 use crate::document::{Doc, Member};
 use crate::shape_tree::{Shape, ShapeItems, ShapeMember, ShapeMembers};
@@ -12,7 +13,7 @@ impl Doc {
     /// The shape of the document.
     #[cycle(shaping)]
     pub fn shape(&self, alloc: Global) -> Result<Shape, AllocError>
-        ensures { IfOk result (λ shape. shape_tree shape ≡ shape_of (tree_of self.now)) }
+        ensures { IfOk result (λ shape. shape_tree shape ≡ document_shape (tree_of self.now)) }
     {
         match self {
             Doc::Null => Ok(Shape::Null),
@@ -33,7 +34,7 @@ impl Doc {
 
 #[cycle(shaping)]
 fn shapes_of_items(items: &[Doc], alloc: Global) -> Result<Vec<Shape>, AllocError>
-    ensures { IfOk result (λ shapes. map shape_tree shapes.items ≡ map shape_of (map tree_of items.now)) }
+    ensures { IfOk result (λ shapes. map shape_tree shapes.items ≡ map document_shape (map tree_of items.now)) }
 {
     let mut shapes = Vec::with_capacity(alloc, items.len())?;
     for item in items {

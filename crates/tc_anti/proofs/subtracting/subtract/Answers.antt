@@ -1,9 +1,9 @@
 use Rattle.std.proofs.Common.{◌≡◌, length, refl, ◌∙◌, arith}
-use Rattle.tc_counts.specs.Added.{removed}
-use Rattle.tc_counts.proofs.RemovedLaws.{shows-removed, canonical-removed}
+use Rattle.tc_schema_model.specs.Added.{removed}
+use Rattle.tc_schema_model.proofs.RemovedLaws.{shows-removed, canonical-removed}
 use Rattle.tc_value.specs.ShapeMeaning.{shape_tree}
 use Rattle.tc_schema.specs.Places.{place_counted, most_names}
-use Rattle.tc_counts.proofs.FieldLaws.{canonical_below}
+use Rattle.tc_schema_model.proofs.FieldLaws.{canonical_below}
 use Rattle.tc_anti.proofs.FitLaws.{fits_by_place, others_stand}
 use Rattle.tc_anti.proofs.subtracting.subtract.Goals as goal
 

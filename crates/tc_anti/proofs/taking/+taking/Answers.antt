@@ -1,19 +1,19 @@
 use Rattle.std.proofs.Common.{◌≡◌, ◌+◌, Some, length, map, drop, refl, sym, ap, ◌∙◌, subst, arith, rules}
 use Rattle.tc_model.specs.Tree.{array, object, item, no_items, member, no_members, items_of, members_of}
-use Rattle.tc_names.specs.Dictionary.{number_of}
-use Rattle.tc_counts.specs.Counted.{field_at, IsCanonical, IsBelowCanonical, AreFieldsCanonical, AreFieldsOrdered}
-use Rattle.tc_counts.specs.Added.{removed, items_removed, members_removed, number}
-use Rattle.tc_counts.specs.Fits.{Fits, ItemsFit, MembersFit}
-use Rattle.tc_counts.proofs.AddedLaws.{field_canonical}
-use Rattle.tc_counts.proofs.FieldLaws.{fields_ordered}
-use Rattle.tc_counts.proofs.NumberLaws.{numbered}
-use Rattle.tc_counts.proofs.RemovedLaws.{canonical-items_removed, canonical-members_removed}
+use Rattle.tc_model.specs.Dictionary.{number_of}
+use Rattle.tc_schema_model.specs.Counted.{field_at, IsCanonical, IsBelowCanonical, AreFieldsCanonical, AreFieldsOrdered}
+use Rattle.tc_schema_model.specs.Added.{removed, items_removed, members_removed, number}
+use Rattle.tc_schema_model.specs.Fits.{Fits, ItemsFit, MembersFit}
+use Rattle.tc_schema_model.proofs.AddedLaws.{field_canonical}
+use Rattle.tc_schema_model.proofs.FieldLaws.{fields_ordered}
+use Rattle.tc_schema_model.proofs.NumberLaws.{numbered}
+use Rattle.tc_schema_model.proofs.RemovedLaws.{canonical-items_removed, canonical-members_removed}
 use Rattle.tc_value.specs.ShapeMeaning.{shape_tree, shape_member}
-use Rattle.tc_value.specs.TreeSize.{tree_size}
+use Rattle.tc_model.specs.TreeSize.{tree_size}
 use Rattle.tc_schema.specs.Places.{place_counted, below_counted, fields_counted}
 use Rattle.tc_schema.specs.declared.place.Field.TheViews.{out-Node, roll-Node, out-roll-Node}
 use Rattle.tc_schema.proofs.PlaceViews.{place_parts}
-use Rattle.tc_infer.proofs.ShapeWalks.{items_from, members_from, item_size, member_size}
+use Rattle.tc_value.proofs.ShapeWalks.{items_from, members_from, item_size, member_size}
 use Rattle.tc_anti.proofs.RoomToTake.{some_here}
 use Rattle.tc_anti.proofs.TakenFields.{found, stays, leaves}
 use Rattle.tc_anti.proofs.taking.+taking.Goals as goal

@@ -1,10 +1,10 @@
 use Rattle.std.proofs.Common.{◌≡◌, ◌+◌, ◌*◌, length, map, drop}
 use Rattle.tc_model.specs.Tree.{items_of, members_of}
-use Rattle.tc_counts.specs.Counted.{IsBelowCanonical, AreFieldsCanonical}
-use Rattle.tc_counts.specs.Added.{items_removed, members_removed}
-use Rattle.tc_counts.specs.Fits.{ItemsFit, MembersFit}
+use Rattle.tc_schema_model.specs.Counted.{IsBelowCanonical, AreFieldsCanonical}
+use Rattle.tc_schema_model.specs.Added.{items_removed, members_removed}
+use Rattle.tc_schema_model.specs.Fits.{ItemsFit, MembersFit}
 use Rattle.tc_value.specs.ShapeMeaning.{shape_tree, shape_member}
-use Rattle.tc_value.specs.TreeSize.{tree_size, trees_size, labelled_size}
+use Rattle.tc_model.specs.TreeSize.{tree_size, trees_size, labelled_size}
 use Rattle.tc_schema.specs.Places.{below_counted, fields_counted}
 use Rattle.tc_anti.proofs.taking.+taking.Given as goal
 

@@ -1,6 +1,6 @@
 use Rattle.std.proofs.Common.{◌≡◌, codes, map, drop}
 use Rattle.tc_model.specs.Tree.{members_of}
-use Rattle.tc_model.specs.Request.{member_at}
+use Rattle.tc_model.specs.Document.{member_at}
 use Rattle.tc_value.specs.Meaning.{member_of}
 use Rattle.tc_command.proofs.conversions.key_among.Given as goal
 

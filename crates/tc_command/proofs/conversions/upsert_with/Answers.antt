@@ -1,6 +1,6 @@
 use Rattle.std.proofs.Common.{ℕ, ◌<◌, ◌^◌, codes, Option, IfSome, map, ap, subst, ◌∙◌, arith}
 use Rattle.tc_model.specs.Tree.{members_of, members_depth}
-use Rattle.tc_model.specs.Request.{member_at}
+use Rattle.tc_model.specs.Document.{member_at}
 use Rattle.tc_value.specs.Meaning.{member_of}
 use Rattle.tc_command.proofs.KeyLemmas.{depth-without, member_at-without}
 use Rattle.tc_command.proofs.conversions.upsert_with.Goals as goal

@@ -3,9 +3,9 @@ use Rattle.std.proofs.lemmas.List.{length-map}
 use Rattle.std.proofs.lemmas.Result.{IfOk-weaker}
 use Rattle.tc_record.specs.Preorder.{tokens_of}
 use Rattle.tc_record.specs.Record.{labels, joined}
-use Rattle.tc_counts.specs.Added as counts
+use Rattle.tc_schema_model.specs.Added as counts
 use Rattle.tc_compact.specs.Compacted.{HasEach}
-use Rattle.tc_counts.specs.ShapeNames.{all_learned}
+use Rattle.tc_model.specs.Dictionary.{all_learned}
 use Rattle.tc_compact.specs.Layout.{slot_bytes, counts_in, values_in, numbered_record}
 use Rattle.tc_compact.specs.Slots.{names_in}
 use Rattle.tc_compact.proofs.Learned.{all_numbered}

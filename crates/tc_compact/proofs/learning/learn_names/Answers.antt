@@ -1,9 +1,8 @@
 use Rattle.std.proofs.Common.{rules, ◌≡◌, ◌∙◌, ◌∷◌, [], ◌++◌, length, map, sym, ap, arith, subst, append_assoc, length-append}
-use Rattle.tc_names.specs.Dictionary.{learned, Extends}
-use Rattle.tc_names.proofs.Growth.{Extends-trans, Extends-learned}
+use Rattle.tc_model.specs.Dictionary.{learned, Extends, all_learned}
+use Rattle.tc_model.proofs.DictionaryGrowth.{Extends-trans, Extends-learned}
 use Rattle.tc_record.specs.Record.{joined}
-use Rattle.tc_counts.specs.Added as counts
-use Rattle.tc_counts.specs.ShapeNames.{all_learned}
+use Rattle.tc_schema_model.specs.Added as counts
 use Rattle.tc_compact.specs.Slots.{names_in}
 use Rattle.tc_compact.proofs.Learned.{length-all_learned, number-last}
 use Rattle.tc_compact.proofs.learning.learn_names.Goals as goal

@@ -1,8 +1,7 @@
 use Rattle.std.proofs.Common.{◌≡◌, ◌+◌, ◌++◌, length, map}
-use Rattle.tc_names.specs.Dictionary.{Extends, IsDictionary}
+use Rattle.tc_model.specs.Dictionary.{Extends, IsDictionary, all_learned}
 use Rattle.tc_record.specs.Record.{joined}
-use Rattle.tc_counts.specs.Added as counts
-use Rattle.tc_counts.specs.ShapeNames.{all_learned}
+use Rattle.tc_schema_model.specs.Added as counts
 use Rattle.tc_compact.specs.Slots.{names_in}
 use Rattle.tc_compact.proofs.learning.learn_names.Given as goal
 

@@ -1,15 +1,15 @@
 use Rattle.std.proofs.Common.{◌≡◌, ◌+◌, ◌<◌, ◌^◌, ◌∷◌, length, map, drop, bytes_eq, refl, sym, ap, ◌∙◌, subst, arith}
 use Rattle.std.specs.List.{AllByRecursion, IsDistinct}
 use Rattle.std.proofs.lemmas.List.Elements.{All-from_recursion, recursion_from_All}
-use Rattle.tc_model.specs.Document.{Name}
-use Rattle.tc_counts.specs.Occurrences.{count, occurrences}
-use Rattle.tc_counts.specs.Counted.{shows, IsCanonical}
-use Rattle.tc_counts.proofs.CountingLaws.{shows_nothing}
+use Rattle.tc_model.specs.Document.{Name, document_shape}
+use Rattle.tc_schema_model.specs.Occurrences.{count, occurrences}
+use Rattle.tc_schema_model.specs.Counted.{shows, IsCanonical}
+use Rattle.tc_schema_model.proofs.CountingLaws.{shows_nothing}
 use Rattle.tc_value.specs.Meaning.{tree_of}
-use Rattle.tc_value.specs.ShapeMeaning.{shape_of}
-use Rattle.tc_counts.specs.ShapeNames.{names_within, names_of_documents, all_learned}
-use Rattle.tc_infer.specs.Values.{values_at}
-use Rattle.tc_infer.proofs.NameLaws.{all_learned-append, room_for_first, all_of_first, all_of_rest, distinct-all_learned}
+use Rattle.tc_model.specs.ShapeNames.{names_within, names_of_documents}
+use Rattle.tc_model.specs.Dictionary.{all_learned}
+use Rattle.tc_schema_model.specs.Values.{values_at}
+use Rattle.tc_model.proofs.LearnedNames.{all_learned-append, room_for_first, all_of_first, all_of_rest, distinct-all_learned}
 use Rattle.tc_count.proofs.DocumentsLeft.{documents_from, total_left}
 use Rattle.tc_count.proofs.inferring.infer.Goals as goal
 
@@ -42,7 +42,7 @@ add-requires-clause-room c =
     let rest = names_of_documents (map tree_of (drop (l.doc-index + 1) c.args.docs.now)) in
     let here = ap names_of_documents (documents_from c.args.docs.now l.doc-index doc c.loop-doc-test.true c.doc-item.is) in
     let left = ap (all_learned l.names) (sym here) ∙ l.invariant.names in
-    let first = names_within (shape_of (tree_of doc)) in
+    let first = names_within (document_shape (tree_of doc)) in
     rw (c.in_ok-shape.ensures) (room_for_first l.names first rest (subst (λ names. length names < 2 ^ 32) (sym left) c.requires.room))
 
 pub add-requires-clause-short : goal.add-requires-clause-short
@@ -51,14 +51,14 @@ add-requires-clause-short c =
     let doc = c.doc-item.result in
     let rest = names_of_documents (map tree_of (drop (l.doc-index + 1) c.args.docs.now)) in
     let here = ap names_of_documents (documents_from c.args.docs.now l.doc-index doc c.loop-doc-test.true c.doc-item.is) in
-    let first = names_within (shape_of (tree_of doc)) in
+    let first = names_within (document_shape (tree_of doc)) in
     rw (c.in_ok-shape.ensures) (All-from_recursion _ first (all_of_first IsShort first rest (subst (AllByRecursion IsShort) here l.invariant.short)))
 
 pub loop-doc-preserved : goal.loop-doc-preserved
 loop-doc-preserved c =
     let l = c.loop-doc in
     let doc = c.doc-item.result in
-    let first = names_within (shape_of (tree_of doc)) in
+    let first = names_within (document_shape (tree_of doc)) in
     let documents = map tree_of (drop (l.doc-index + 1) c.args.docs.now) in
     let rest = names_of_documents documents in
     let here = documents_from c.args.docs.now l.doc-index doc c.loop-doc-test.true c.doc-item.is in

@@ -1,9 +1,11 @@
 use Rattle.std.proofs.Common.{◌≡◌, ◌+◌, ◌<◌, ◌^◌, [], length, map, drop, bytes_eq}
 use Rattle.std.specs.List.{AllByRecursion, IsDistinct}
-use Rattle.tc_counts.specs.Occurrences.{Kind, Path, count}
-use Rattle.tc_counts.specs.Counted.{shows, IsCanonical}
+use Rattle.tc_schema_model.specs.Occurrences.{Path, count}
+use Rattle.tc_model.specs.Kinds.{Kind}
+use Rattle.tc_schema_model.specs.Counted.{shows, IsCanonical}
 use Rattle.tc_value.specs.Meaning.{tree_of}
-use Rattle.tc_counts.specs.ShapeNames.{names_of_documents, all_learned}
+use Rattle.tc_model.specs.ShapeNames.{names_of_documents}
+use Rattle.tc_model.specs.Dictionary.{all_learned}
 use Rattle.tc_count.proofs.inferring.infer.Given as goal
 
 -- what is counted and the documents that are left are all documents

@@ -2,11 +2,11 @@ use Rattle.std.proofs.Common.{◌<◌, ◌^◌, pos, codes, [], ◌∷◌, map, 
 use Rattle.std.proofs.lemmas.List.Elements.{All-nil, All-cons}
 use Rattle.tc_model.specs.Tree.{leaf, array, object, no_items, item, no_members, member}
 use Rattle.tc_model.specs.Document.{Document, null, integer, text}
-use Rattle.tc_counts.specs.Occurrences.{Path}
+use Rattle.tc_schema_model.specs.Occurrences.{Path}
 use Rattle.tc_value.specs.Meaning.{tree_of}
-use Rattle.tc_value.specs.TreeSize.{tree_size}
-use Rattle.tc_infer.specs.Values.{values_in}
-use Rattle.tc_infer.proofs.ValueBounds.{values_fit-sizes}
+use Rattle.tc_model.specs.TreeSize.{tree_size}
+use Rattle.tc_schema_model.specs.Values.{values_in}
+use Rattle.tc_schema_model.proofs.ValueBounds.{values_fit-sizes}
 use Rattle.tc_count.proofs.tests.infers_what_is_nested.Goals as goal
 
 abbrev only : Document

@@ -1,10 +1,11 @@
 use Rattle.std.proofs.Common.{◌≡◌, length, refl, sym, ◌∙◌, subst, arith}
-use Rattle.tc_counts.specs.Added.{added}
-use Rattle.tc_names.specs.Dictionary.{Extends}
+use Rattle.tc_schema_model.specs.Added.{added}
+use Rattle.tc_model.specs.Dictionary.{Extends, all_learned}
 use Rattle.tc_value.specs.ShapeMeaning.{shape_tree}
 use Rattle.tc_schema.specs.Places.{place_counted, most_names}
-use Rattle.tc_counts.specs.ShapeNames.{names_within, all_learned}
-use Rattle.tc_infer.proofs.NameLaws.{Extends-all_learned, named-all_learned}
+use Rattle.tc_model.specs.ShapeNames.{names_within}
+use Rattle.tc_model.proofs.LearnedNames.{Extends-all_learned}
+use Rattle.tc_schema_model.proofs.NamedShapes.{named-all_learned}
 use Rattle.tc_infer.proofs.MoreNames.{canonical_further}
 use Rattle.tc_infer.proofs.Grown.{grown_canonical, grown_fits, added_canonical, added_shows, added_stands}
 use Rattle.tc_infer.proofs.adding.add.Goals as goal

@@ -2,22 +2,22 @@ use Rattle.std.proofs.Common.{◌≡◌, ◌+◌, Some, length, map, drop, set, 
 use Rattle.std.proofs.lemmas.Option.{same_Some}
 use Rattle.std.proofs.lemmas.Result.{IfOk-weaker}
 use Rattle.tc_model.specs.Tree.{array, object, item, no_items, member, no_members, items_of, members_of}
-use Rattle.tc_names.specs.Dictionary.{number_of}
-use Rattle.tc_counts.specs.Counted.{held, field_at, IsCanonical, IsBelowCanonical, AreFieldsCanonical}
-use Rattle.tc_counts.specs.Added.{added, items_added, members_added, put_field, number, IsNamed, AreItemsNamed, AreMembersNamed}
-use Rattle.tc_counts.proofs.AddedLaws.{canonical-items_added, canonical-members_added, field_canonical}
-use Rattle.tc_counts.proofs.FieldLaws.{fields_ordered}
-use Rattle.tc_counts.proofs.NumberLaws.{numbered}
+use Rattle.tc_model.specs.Dictionary.{number_of}
+use Rattle.tc_schema_model.specs.Counted.{held, field_at, IsCanonical, IsBelowCanonical, AreFieldsCanonical}
+use Rattle.tc_schema_model.specs.Added.{added, items_added, members_added, put_field, number, IsNamed, AreItemsNamed, AreMembersNamed, member_added}
+use Rattle.tc_schema_model.proofs.AddedLaws.{canonical-items_added, canonical-members_added, field_canonical}
+use Rattle.tc_schema_model.proofs.FieldLaws.{fields_ordered}
+use Rattle.tc_schema_model.proofs.NumberLaws.{numbered}
 use Rattle.tc_value.specs.ShapeMeaning.{shape_tree, shape_member}
-use Rattle.tc_value.specs.TreeSize.{tree_size}
+use Rattle.tc_model.specs.TreeSize.{tree_size}
 use Rattle.tc_schema.specs.Places.{place_counted, below_counted, fields_counted}
 use Rattle.tc_schema.specs.declared.place.Field.TheViews.{out-Node, roll-Node, out-roll-Node, out-Field, roll-Field}
 use Rattle.tc_schema.proofs.PlaceViews.{place_parts}
 use Rattle.tc_schema.proofs.FieldViews.{counted_at}
-use Rattle.tc_infer.specs.Room.{DoesFit, DoFieldsFit, member_added}
+use Rattle.tc_schema_model.specs.Room.{DoesFit, DoFieldsFit}
 use Rattle.tc_infer.proofs.RoomLaws.{room_here, items_fit, members_fit, item_fits, member_fits}
-use Rattle.tc_infer.proofs.FieldWrites.{number_at, written_field}
-use Rattle.tc_infer.proofs.ShapeWalks.{items_from, members_from, item_size, member_size}
+use Rattle.tc_schema.proofs.FieldWrites.{number_at, written_field}
+use Rattle.tc_value.proofs.ShapeWalks.{items_from, members_from, item_size, member_size}
 use Rattle.tc_infer.proofs.counting.+counting.Goals as goal
 
 -- ---- the place itself

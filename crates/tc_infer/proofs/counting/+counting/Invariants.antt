@@ -1,9 +1,9 @@
 use Rattle.std.proofs.Common.{◌≡◌, ◌+◌, ◌*◌, length, map, drop}
 use Rattle.tc_model.specs.Tree.{items_of, members_of}
-use Rattle.tc_counts.specs.Counted.{IsBelowCanonical, AreFieldsCanonical}
-use Rattle.tc_counts.specs.Added.{items_added, members_added, AreItemsNamed, AreMembersNamed}
+use Rattle.tc_schema_model.specs.Counted.{IsBelowCanonical, AreFieldsCanonical}
+use Rattle.tc_schema_model.specs.Added.{items_added, members_added, AreItemsNamed, AreMembersNamed}
 use Rattle.tc_value.specs.ShapeMeaning.{shape_tree, shape_member}
-use Rattle.tc_value.specs.TreeSize.{tree_size, trees_size, labelled_size}
+use Rattle.tc_model.specs.TreeSize.{tree_size, trees_size, labelled_size}
 use Rattle.tc_schema.specs.Places.{below_counted, fields_counted}
 use Rattle.tc_infer.proofs.counting.+counting.Given as goal
 

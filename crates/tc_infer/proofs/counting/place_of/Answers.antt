@@ -1,10 +1,10 @@
 use Rattle.std.proofs.Common.{ℕ, ◌≤◌, Some, length, map, set, sym, ap, ◌∙◌, subst}
 use Rattle.std.specs.Prelude.{slice_get}
 use Rattle.std.proofs.lemmas.List.{length-map}
-use Rattle.tc_counts.specs.Counted.{Counted}
+use Rattle.tc_schema_model.specs.Counted.{Counted}
 use Rattle.tc_schema.specs.Places.{field_counted, listed}
 use Rattle.tc_schema.specs.Search.{IsGapFor}
-use Rattle.tc_infer.proofs.FieldWrites.{made_field, inserted_here, inserted_written}
+use Rattle.tc_schema.proofs.FieldWrites.{made_field, inserted_here, inserted_written}
 use Rattle.tc_infer.proofs.counting.place_of.Goals as goal
 
 gap : (c : goal.In_ok-insert-in-Err) → IsGapFor c.args.number (map field_counted c.args.fields.now.items) c.in-Err.gap

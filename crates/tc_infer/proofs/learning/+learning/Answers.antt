@@ -2,13 +2,13 @@ use Rattle.std.proofs.Common.{◌≡◌, ◌+◌, ◌<◌, ◌^◌, ◌++◌, le
 use Rattle.std.specs.List.{AllByRecursion}
 use Rattle.tc_model.specs.Tree.{array, object, items_of, members_of}
 use Rattle.tc_model.specs.Document.{Name}
-use Rattle.tc_names.specs.Dictionary.{learned, Extends}
-use Rattle.tc_names.proofs.Growth.{Extends-trans, Extends-learned}
+use Rattle.tc_model.specs.Dictionary.{learned, Extends, all_learned}
+use Rattle.tc_model.proofs.DictionaryGrowth.{Extends-trans, Extends-learned}
 use Rattle.tc_value.specs.ShapeMeaning.{shape_tree, shape_member}
-use Rattle.tc_value.specs.TreeSize.{tree_size}
-use Rattle.tc_counts.specs.ShapeNames.{names_within, names_of_items, names_of_members, all_learned}
-use Rattle.tc_infer.proofs.NameLaws.{all_learned-append, Extends-all_learned, length-all_learned, room_for_first, all_of_first, all_of_rest}
-use Rattle.tc_infer.proofs.ShapeWalks.{items_from, members_from, item_size, member_size}
+use Rattle.tc_model.specs.TreeSize.{tree_size}
+use Rattle.tc_model.specs.ShapeNames.{names_within, names_of_items, names_of_members}
+use Rattle.tc_model.proofs.LearnedNames.{all_learned-append, Extends-all_learned, length-all_learned, room_for_first, all_of_first, all_of_rest}
+use Rattle.tc_value.proofs.ShapeWalks.{items_from, members_from, item_size, member_size}
 use Rattle.tc_infer.proofs.learning.+learning.Goals as goal
 
 abbrev IsShort : Name → Type 0

@@ -1,10 +1,10 @@
 use Rattle.std.proofs.Common.{◌≡◌, ◌<◌, ◌^◌, ◌+◌, ◌*◌, length, map, drop}
 use Rattle.std.specs.List.{AllByRecursion}
 use Rattle.tc_model.specs.Tree.{items_of, members_of}
-use Rattle.tc_names.specs.Dictionary.{Extends}
+use Rattle.tc_model.specs.Dictionary.{Extends, all_learned}
 use Rattle.tc_value.specs.ShapeMeaning.{shape_tree, shape_member}
-use Rattle.tc_value.specs.TreeSize.{tree_size, trees_size, labelled_size}
-use Rattle.tc_counts.specs.ShapeNames.{names_of_items, names_of_members, all_learned}
+use Rattle.tc_model.specs.TreeSize.{tree_size, trees_size, labelled_size}
+use Rattle.tc_model.specs.ShapeNames.{names_of_items, names_of_members}
 use Rattle.tc_infer.proofs.learning.+learning.Given as goal
 
 abbrev pub decreases-learn_names : goal.decreases-learn_names

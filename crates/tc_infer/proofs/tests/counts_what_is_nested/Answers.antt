@@ -1,9 +1,9 @@
 use Rattle.std.proofs.Common.{◌<◌, ◌^◌, [], ap, arith}
 use Rattle.std.proofs.lemmas.List.Elements.{All-nil}
-use Rattle.tc_counts.specs.Counted.{nothing}
+use Rattle.tc_schema_model.specs.Counted.{nothing}
 use Rattle.tc_value.specs.ShapeMeaning.{shape_tree}
-use Rattle.tc_value.specs.TreeSize.{tree_size}
-use Rattle.tc_infer.proofs.ValueBounds.{nothing_stands, counters_fit-sizes}
+use Rattle.tc_model.specs.TreeSize.{tree_size}
+use Rattle.tc_schema_model.proofs.ValueBounds.{nothing_stands, counters_fit-sizes}
 use Rattle.tc_infer.proofs.tests.counts_what_is_nested.Goals as goal
 
 pub add-requires-clause-counters : goal.add-requires-clause-counters

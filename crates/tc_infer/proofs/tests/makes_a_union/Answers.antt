@@ -2,11 +2,11 @@ use Rattle.std.proofs.Common.{◌<◌, ◌^◌, pos, codes, [], ◌∷◌, sym, 
 use Rattle.std.proofs.lemmas.List.Elements.{All-nil, All-cons}
 use Rattle.tc_model.specs.Tree.{leaf, object, no_members, member}
 use Rattle.tc_model.specs.Document.{Document, integer}
-use Rattle.tc_counts.specs.Counted.{nothing}
-use Rattle.tc_counts.specs.Stands.{StandsFor}
+use Rattle.tc_schema_model.specs.Counted.{nothing}
+use Rattle.tc_schema_model.specs.Stands.{StandsFor}
 use Rattle.tc_value.specs.ShapeMeaning.{shape_tree}
-use Rattle.tc_value.specs.TreeSize.{tree_size}
-use Rattle.tc_infer.proofs.ValueBounds.{nothing_stands, counters_fit-sizes}
+use Rattle.tc_model.specs.TreeSize.{tree_size}
+use Rattle.tc_schema_model.proofs.ValueBounds.{nothing_stands, counters_fit-sizes}
 use Rattle.tc_infer.proofs.tests.makes_a_union.Goals as goal
 
 -- a document of the first shape

@@ -10,7 +10,7 @@ use Rattle.tc_model.specs.Json.{data_of, items_data, members_data}
 use Rattle.tc_value.specs.declared.document.Doc.{Doc}
 use Rattle.tc_value.specs.declared.document.Member.{Member}
 use Rattle.tc_value.specs.Meaning.{tree_of, member_of}
-use Rattle.tc_value.specs.TreeSize.{tree_size, trees_size, labelled_size}
+use Rattle.tc_model.specs.TreeSize.{tree_size, trees_size, labelled_size}
 use Rattle.tc_json.proofs.Values.{items_data_of, put_last}
 use Rattle.tc_json.proofs.writing.+write.Goals as goal
 

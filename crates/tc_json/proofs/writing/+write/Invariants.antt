@@ -3,7 +3,7 @@ use Rattle.serde_json.specs.View.{view, members_view}
 use Rattle.tc_model.specs.Tree.{members_of}
 use Rattle.tc_model.specs.Json.{data_of, members_data}
 use Rattle.tc_value.specs.Meaning.{tree_of, member_of}
-use Rattle.tc_value.specs.TreeSize.{tree_size, trees_size, labelled_size}
+use Rattle.tc_model.specs.TreeSize.{tree_size, trees_size, labelled_size}
 use Rattle.tc_json.proofs.writing.+write.Given as goal
 
 abbrev pub decreases-value_of : goal.decreases-value_of

@@ -2,9 +2,9 @@ use Rattle.std.proofs.Common.{◌≡◌, ◌<◌, ◌+◌, ◌-◌, ◌∙◌, �
 use Rattle.std.proofs.lemmas.List.{length_push}
 use Rattle.std.proofs.lemmas.Result.{err_from_is_err_and}
 use Rattle.tc_bytes.proofs.Lists.{elements_none, elements_refused, elements_more}
-use Rattle.tc_names.specs.Dictionary.{number_of}
+use Rattle.tc_model.specs.Dictionary.{number_of}
 use Rattle.tc_names.specs.Section.{name_at, is_new}
-use Rattle.tc_names.proofs.Growth.{learned-number, learned-new}
+use Rattle.tc_model.proofs.DictionaryGrowth.{learned-number, learned-new}
 use Rattle.tc_names.proofs.section.names_in.Goals as goal
 
 pub returns-in_err-name : goal.returns-in_err-name

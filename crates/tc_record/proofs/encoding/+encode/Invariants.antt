@@ -2,7 +2,7 @@ use Rattle.std.proofs.Common.{◌≡◌, ◌+◌, ◌*◌, ◌++◌, map, drop}
 use Rattle.tc_model.specs.Tree.{items_of, members_of}
 use Rattle.tc_record.specs.Preorder.{items_preorder, members_preorder}
 use Rattle.tc_value.specs.Meaning.{tree_of, member_of}
-use Rattle.tc_value.specs.TreeSize.{tree_size, trees_size, labelled_size}
+use Rattle.tc_model.specs.TreeSize.{tree_size, trees_size, labelled_size}
 use Rattle.tc_record.specs.Parts.{part_bytes}
 use Rattle.tc_record.proofs.encoding.+encode.Given as goal
 

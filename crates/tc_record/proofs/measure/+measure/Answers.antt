@@ -1,6 +1,6 @@
 use Rattle.std.proofs.Common.{rules, arith, ◌∙◌, ◌≤◌, ◌<◌, ◌+◌, ◌*◌, map}
 use Rattle.tc_value.specs.Meaning.{tree_of, member_of}
-use Rattle.tc_value.specs.TreeSize.{tree_size, trees_size, labelled_size}
+use Rattle.tc_model.specs.TreeSize.{tree_size, trees_size, labelled_size}
 use Rattle.tc_value.proofs.Sizes.{item_size, member_size}
 use Rattle.tc_record.proofs.Measuring.{measured-append, measured-item, measured-member}
 use Rattle.tc_record.proofs.measure.+measure.Goals as goal

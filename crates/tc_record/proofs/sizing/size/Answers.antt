@@ -1,6 +1,7 @@
 use Rattle.std.proofs.Common.{◌∙◌, ap, length}
 use Rattle.tc_value.specs.Meaning.{tree_of}
-use Rattle.tc_record.specs.Record.{IsObject, record_of}
+use Rattle.tc_record.specs.Record.{record_of}
+use Rattle.tc_model.specs.Stored.{IsObject}
 use Rattle.tc_record.specs.Measured.{record_len}
 use Rattle.tc_record.proofs.Lengths.{measured_len, sized}
 use Rattle.tc_record.proofs.sizing.size.Goals as goal

@@ -1,5 +1,5 @@
 use Rattle.std.proofs.Common.{◌≡◌, drop}
-use Rattle.tc_counts.specs.Counted.{IsOrdered, place_at}
+use Rattle.tc_schema_model.specs.Counted.{IsOrdered, place_at}
 use Rattle.tc_schema.specs.Paths.{path_meant}
 use Rattle.tc_schema.specs.Places.{place_counted}
 use Rattle.tc_schema.proofs.paths.count_from.Given as goal

@@ -1,6 +1,6 @@
 use Rattle.std.proofs.Common.{sym, subst}
-use Rattle.tc_counts.specs.Counted.{IsOrdered}
-use Rattle.tc_counts.proofs.FieldLaws.{field_ordered}
+use Rattle.tc_schema_model.specs.Counted.{IsOrdered}
+use Rattle.tc_schema_model.proofs.FieldLaws.{field_ordered}
 use Rattle.tc_schema.specs.Places.{fields_counted}
 use Rattle.tc_schema.proofs.FieldViews.{counted_at}
 use Rattle.tc_schema.proofs.paths.field_numbered.Goals as goal

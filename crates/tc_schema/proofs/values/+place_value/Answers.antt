@@ -1,8 +1,8 @@
 use Rattle.std.proofs.Common.{◌≡◌, map, ap, ◌∙◌}
 use Rattle.std.proofs.lemmas.Result.{IfOk-weaker}
 use Rattle.serde_json.specs.View.{view, items_view}
-use Rattle.tc_counts.specs.SchemaTree.{node_of}
-use Rattle.tc_counts.specs.SchemaText.{node_text}
+use Rattle.tc_schema_model.specs.SchemaTree.{node_of}
+use Rattle.tc_schema_model.specs.SchemaText.{node_text}
 use Rattle.tc_schema.specs.Places.{place_counted}
 use Rattle.tc_schema.specs.Values.{joined_text}
 use Rattle.tc_schema.proofs.ValueLaws.{value_made}

@@ -1,7 +1,7 @@
 use Rattle.std.proofs.Common.{◌≡◌, ◌≤◌, drop, length}
 use Rattle.serde_json.specs.View.{members_view}
-use Rattle.tc_counts.specs.SchemaTree.{field_nodes_of}
-use Rattle.tc_counts.specs.SchemaText.{fields_text}
+use Rattle.tc_schema_model.specs.SchemaTree.{field_nodes_of}
+use Rattle.tc_schema_model.specs.SchemaText.{fields_text}
 use Rattle.tc_schema.specs.Places.{fields_counted}
 use Rattle.tc_schema.proofs.values.+place_value.Given as goal
 

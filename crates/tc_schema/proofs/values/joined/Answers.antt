@@ -1,7 +1,7 @@
 use Rattle.std.proofs.Common.{◌≡◌, ◌≢◌, length, arith, ◌∙◌}
 use Rattle.std.proofs.lemmas.Result.{IfOk-weaker}
 use Rattle.serde_json.specs.View.{view, items_view}
-use Rattle.tc_counts.specs.SchemaText.{union_text}
+use Rattle.tc_schema_model.specs.SchemaText.{union_text}
 use Rattle.tc_schema.specs.Values.{joined_text}
 use Rattle.tc_schema.proofs.ValueLaws.{joined_others}
 use Rattle.tc_schema.proofs.values.joined.Goals as goal

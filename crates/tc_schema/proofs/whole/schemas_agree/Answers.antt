@@ -1,7 +1,7 @@
 use Rattle.std.proofs.Common.{sym, ◌∙◌, subst}
-use Rattle.tc_counts.specs.Stands.{StandsFor}
-use Rattle.tc_counts.proofs.CountingLaws.{one_schema}
-use Rattle.tc_counts.proofs.TextLaws.{text_of_documents}
+use Rattle.tc_schema_model.specs.Stands.{StandsFor}
+use Rattle.tc_schema_model.proofs.CountingLaws.{one_schema}
+use Rattle.tc_schema_model.proofs.TextLaws.{text_of_documents}
 use Rattle.tc_schema.proofs.whole.schemas_agree.Goals as goal
 
 pub returns-clause-same : goal.returns-clause-same

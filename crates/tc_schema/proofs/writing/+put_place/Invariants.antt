@@ -1,8 +1,8 @@
 use Rattle.std.proofs.Common.{◌≡◌, ◌++◌, map, drop}
 use Rattle.std.specs.List.{AllByRecursion}
-use Rattle.tc_counts.specs.Counted.{IsCanonical}
-use Rattle.tc_counts.specs.SchemaTree.{field_nodes_of}
-use Rattle.tc_counts.specs.SchemaBytes.{fields_bytes}
+use Rattle.tc_schema_model.specs.Counted.{IsCanonical}
+use Rattle.tc_schema_model.specs.SchemaTree.{field_nodes_of}
+use Rattle.tc_schema_model.specs.SchemaBytes.{fields_bytes}
 use Rattle.tc_schema.specs.Places.{field_counted, fields_counted, most_names}
 use Rattle.tc_schema.proofs.writing.+put_place.Given as goal
 

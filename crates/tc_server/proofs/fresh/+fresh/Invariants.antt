@@ -2,8 +2,9 @@ use Rattle.std.proofs.Common.{◌≡◌, ◌<◌, ◌^◌, ◌+◌, ◌*◌, ◌
 use Rattle.std.specs.List.{AllByRecursion}
 use Rattle.tc_model.specs.Tree.{items_of, members_of}
 use Rattle.tc_value.specs.ShapeMeaning.{shape_tree, shape_member}
-use Rattle.tc_value.specs.TreeSize.{tree_size, trees_size, labelled_size}
-use Rattle.tc_counts.specs.ShapeNames.{names_of_items, names_of_members, all_learned}
+use Rattle.tc_model.specs.TreeSize.{tree_size, trees_size, labelled_size}
+use Rattle.tc_model.specs.ShapeNames.{names_of_items, names_of_members}
+use Rattle.tc_model.specs.Dictionary.{all_learned}
 use Rattle.tc_server.proofs.fresh.+fresh.Given as goal
 
 abbrev pub decreases-learn_fresh : goal.decreases-learn_fresh

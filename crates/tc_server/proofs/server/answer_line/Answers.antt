@@ -1,6 +1,6 @@
 use Rattle.std.proofs.Common.{◌≡◌, ◌<◌, false, length, ap, arith}
 use Rattle.std.proofs.lemmas.Result.{err_from_is_err_and}
-use Rattle.tc_model.specs.Request.{max_line}
+use Rattle.tc_model.specs.Limits.{max_line}
 use Rattle.tc_world.specs.Run.{windows_of}
 use Rattle.tc_server.specs.Stage.{with_end}
 use Rattle.tc_server.proofs.RunLemmas.{goes_by, goes_on, fails_at_line, hears_all, ran_to_end, fails_at_end, read_failed, all_taken, reads_without_memory}

@@ -1,10 +1,11 @@
 use Rattle.std.proofs.Common.{◌≡◌, map, take}
 use Rattle.tc_value.specs.Meaning.{tree_of, member_of}
-use Rattle.tc_value.specs.ShapeMeaning.{shape_tree, shape_member, shape_of, member_shape}
+use Rattle.tc_value.specs.ShapeMeaning.{shape_tree, shape_member, member_shape}
+use Rattle.tc_model.specs.Document.{document_shape}
 use Rattle.tc_value.proofs.document.+shaping.Given as goal
 
 abbrev pub invariant-shaping::shapes_of_items-loop-item : goal.invariant-shaping::shapes_of_items-loop-item
-invariant-shaping::shapes_of_items-loop-item l = map shape_tree l.shapes.items ≡ map shape_of (map tree_of (take l.item-index l.items))
+invariant-shaping::shapes_of_items-loop-item l = map shape_tree l.shapes.items ≡ map document_shape (map tree_of (take l.item-index l.items))
 
 abbrev pub invariant-shaping::shapes_of_members-loop-member :
     goal.invariant-shaping::shapes_of_members-loop-member

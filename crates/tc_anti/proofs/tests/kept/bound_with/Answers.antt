@@ -1,6 +1,6 @@
 use Rattle.std.proofs.Common.{arith}
 use Rattle.tc_value.specs.ShapeMeaning.{shape_tree}
-use Rattle.tc_infer.proofs.ValueBounds.{values_at-size}
+use Rattle.tc_schema_model.proofs.ValueBounds.{values_at-size}
 use Rattle.tc_anti.proofs.SizeBounds.{room_within}
 use Rattle.tc_anti.proofs.tests.kept.bound_with.Goals as goal
 

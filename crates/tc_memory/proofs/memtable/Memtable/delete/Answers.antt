@@ -1,5 +1,5 @@
 use Rattle.tc_memory.specs.Meaning.{kept_of}
-use Rattle.tc_memory.proofs.KeyedLemmas.{map-remove_entry}
+use Rattle.tc_model.proofs.KeyedMaps.{map-remove_entry}
 use Rattle.tc_memory.proofs.TableLemmas.{IsTable-without_key}
 use Rattle.tc_memory.proofs.memtable.Memtable.delete.Goals as goal
 

@@ -1,6 +1,6 @@
 use Rattle.std.proofs.Common.{◌∙◌}
 use Rattle.tc_memory.specs.Meaning.{kept_of}
-use Rattle.tc_memory.proofs.KeyedLemmas.{is_some-lookup}
+use Rattle.tc_model.proofs.KeyedMaps.{is_some-lookup}
 use Rattle.tc_memory.proofs.memtable.Memtable.has.Goals as goal
 
 pub returns : goal.returns

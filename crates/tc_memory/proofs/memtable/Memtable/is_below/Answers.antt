@@ -3,7 +3,7 @@ use Rattle.std.specs.Prelude.{Some, None}
 use Rattle.tc_value.specs.ShapeMeaning.{shape_tree}
 use Rattle.tc_model.specs.Keyed.{value_of}
 use Rattle.tc_memory.specs.Meaning.{kept_of}
-use Rattle.tc_memory.proofs.KeyedLemmas.{is_some-option_map}
+use Rattle.tc_model.proofs.KeyedMaps.{is_some-option_map}
 use Rattle.tc_memory.proofs.TableLemmas.{kept_of-lookup}
 use Rattle.tc_memory.proofs.memtable.Memtable.is_below.Goals as goal
 

@@ -1,5 +1,5 @@
 use Rattle.std.proofs.Common.{◌∙◌, ap}
-use Rattle.tc_names.specs.Dictionary.{number_of}
+use Rattle.tc_model.specs.Dictionary.{number_of}
 use Rattle.tc_names.proofs.Held.{number_of-keys}
 use Rattle.tc_names.proofs.dictionary.Names.id_of.Goals as goal
 

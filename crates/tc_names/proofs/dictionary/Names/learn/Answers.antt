@@ -1,8 +1,8 @@
 use Rattle.std.proofs.Common.{◌≡◌, ◌<◌, ◌+◌, ◌^◌, ◌++◌, ◌∷◌, [], None, Some, length, map, string_bytes, sym, ap, ◌∙◌, arith, length-append}
-use Rattle.tc_names.specs.Dictionary.{number_of, IsDictionary}
-use Rattle.tc_names.proofs.Growth.{IsDictionary-push, learned-new}
+use Rattle.tc_model.specs.Dictionary.{number_of, IsDictionary}
+use Rattle.tc_model.proofs.DictionaryGrowth.{IsDictionary-push, learned-new}
 use Rattle.tc_names.proofs.Held.{insert-new}
-use Rattle.tc_names.proofs.Numbers.{number_of-append, number_of-push}
+use Rattle.tc_model.proofs.NameNumbers.{number_of-append, number_of-push}
 use Rattle.tc_names.proofs.dictionary.Names.learn.Goals as goal
 
 -- the name is not there

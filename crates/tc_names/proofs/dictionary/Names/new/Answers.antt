@@ -1,4 +1,4 @@
-use Rattle.tc_names.proofs.Growth.{IsDictionary-nil}
+use Rattle.tc_model.proofs.DictionaryGrowth.{IsDictionary-nil}
 use Rattle.tc_names.proofs.dictionary.Names.new.Goals as goal
 
 pub invariant_of-result : goal.invariant_of-result

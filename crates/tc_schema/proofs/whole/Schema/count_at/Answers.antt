@@ -1,4 +1,4 @@
-use Rattle.tc_counts.proofs.FieldLaws.{ordered_from_canonical}
+use Rattle.tc_schema_model.proofs.FieldLaws.{ordered_from_canonical}
 use Rattle.tc_schema.specs.Places.{place_counted, most_names}
 use Rattle.tc_schema.proofs.whole.Schema.count_at.Goals as goal
 

@@ -1,7 +1,7 @@
 use Rattle.std.proofs.Common.{◌≡◌, arith}
 use Rattle.std.proofs.lemmas.Result.{err_from_is_err_and}
 use Rattle.tc_bytes.proofs.Fields.{IsBytes-from_type}
-use Rattle.tc_counts.proofs.FieldLaws.{canonical_below}
+use Rattle.tc_schema_model.proofs.FieldLaws.{canonical_below}
 use Rattle.tc_schema.specs.Places.{place_counted, most_names}
 use Rattle.tc_schema.specs.declared.fault.SchemaFault.TheVariants.{NotASchema}
 use Rattle.tc_schema.proofs.SchemaCodec.{schema_found, schema_refused}

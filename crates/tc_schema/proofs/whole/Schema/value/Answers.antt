@@ -2,10 +2,10 @@ use Rattle.std.proofs.Common.{◌≡◌, List, ◌∙◌}
 use Rattle.std.proofs.lemmas.Result.{IfOk-weaker}
 use Rattle.serde_json.specs.View.{view}
 use Rattle.tc_model.specs.Document.{Document}
-use Rattle.tc_counts.specs.SchemaTree.{schema_tree}
-use Rattle.tc_counts.specs.SchemaText.{tree_text, schema_text}
-use Rattle.tc_counts.specs.Stands.{StandsFor}
-use Rattle.tc_counts.proofs.TextLaws.{text_of_documents}
+use Rattle.tc_schema_model.specs.SchemaTree.{schema_tree}
+use Rattle.tc_schema_model.specs.SchemaText.{tree_text, schema_text}
+use Rattle.tc_schema_model.specs.Stands.{StandsFor}
+use Rattle.tc_schema_model.proofs.TextLaws.{text_of_documents}
 use Rattle.tc_schema.proofs.whole.Schema.value.Goals as goal
 
 pub returns-clause-documents : goal.returns-clause-documents

@@ -1,5 +1,5 @@
 use Rattle.std.proofs.Common.{subst}
-use Rattle.tc_model.specs.Request.{max_line}
+use Rattle.tc_model.specs.Limits.{max_line}
 use Rattle.tc_world.proofs.LineWeight.{IsLight, request_weight}
 use Rattle.tc_server.proofs.answer.Asked.of.Goals as goal
 

@@ -1,4 +1,4 @@
-use Rattle.tc_counts.specs.SchemaTree.{schema_tree}
+use Rattle.tc_schema_model.specs.SchemaTree.{schema_tree}
 use Rattle.tc_server.proofs.SchemaFloats.{shown_without_floats}
 use Rattle.tc_server.proofs.store.Store.schema.Goals as goal
 

@@ -1,8 +1,9 @@
 use Rattle.std.proofs.Common.{◌≡◌, ◌<◌, ◌^◌, ◌∙◌, ⊎_elim, true, false, not, length, sym, ap, subst}
 use Rattle.std.specs.Prelude.{is_some}
 use Rattle.std.specs.List.{AllByRecursion}
-use Rattle.tc_counts.specs.Occurrences.{document_shape}
-use Rattle.tc_counts.specs.ShapeNames.{names_within, all_learned}
+use Rattle.tc_model.specs.Document.{document_shape}
+use Rattle.tc_model.specs.ShapeNames.{names_within}
+use Rattle.tc_model.specs.Dictionary.{all_learned}
 use Rattle.tc_value.specs.Meaning.{tree_of}
 use Rattle.tc_value.specs.ShapeMeaning.{shape_tree}
 use Rattle.tc_world.specs.Store.{stored}

@@ -1,6 +1,6 @@
 use Rattle.std.proofs.Common.{◌≤◌, sym, subst, map}
-use Rattle.tc_counts.specs.Counted.{total_at}
-use Rattle.tc_counts.specs.Stands.{StandsFor}
+use Rattle.tc_schema_model.specs.Counted.{total_at}
+use Rattle.tc_schema_model.specs.Stands.{StandsFor}
 use Rattle.tc_value.specs.Meaning.{tree_of}
 use Rattle.tc_anti.proofs.SizeBounds.{nothing_stands_under, no_values}
 use Rattle.tc_anti.proofs.tests.kept.Kept.none.Goals as goal

@@ -1,6 +1,6 @@
 use Rattle.std.proofs.Common.{sym, subst, map, arith}
-use Rattle.tc_counts.specs.Occurrences.{occurrences}
-use Rattle.tc_counts.specs.Stands.{StandsFor}
+use Rattle.tc_schema_model.specs.Occurrences.{occurrences}
+use Rattle.tc_schema_model.specs.Stands.{StandsFor}
 use Rattle.tc_value.specs.Meaning.{tree_of}
 use Rattle.tc_value.specs.ShapeMeaning.{shape_tree}
 use Rattle.tc_anti.proofs.SizeBounds.{total-more}

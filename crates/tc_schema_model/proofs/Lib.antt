@@ -1,0 +1,13 @@
+pub mod SchemaRows
+pub mod FieldLaws
+pub mod NumberLaws
+pub mod CounterLaws
+pub mod AddedLaws
+pub mod RemovedLaws
+pub mod KindLaws
+pub mod CountingLaws
+pub mod PutLaws
+pub mod TextLaws
+pub mod NamedShapes
+pub mod ValueBounds
+pub mod Replaced

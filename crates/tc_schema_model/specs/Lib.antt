@@ -1,0 +1,11 @@
+pub mod Occurrences
+pub mod Counted
+pub mod SchemaTree
+pub mod SchemaBytes
+pub mod SchemaText
+pub mod Stands
+pub mod Added
+pub mod CountedCode
+pub mod Fits
+pub mod Values
+pub mod Room
