@@ -15,10 +15,8 @@ use Rattle.tc_bytes.proofs.Codecs.{then_parts}
 pub spelled-next : {A : Type 0} (spell : A → List ℕ) (xs : List A) (i : ℕ) (x : A) → slice_get xs i ≡ Some x → flat_map spell (take (i + 1) xs) ≡ flat_map spell (take i xs) ++ spell x
 spelled-next spell xs i x at =
     let here : get_or xs i x ≡ x = get_or_from_slice_get xs i x x at in
-    take-next (take_more xs i x (slice_get_within xs i x at) ∙ ap (λ y. take i xs ++ y ∷ []) here)
-  where
-    take-next : take (i + 1) xs ≡ take i xs ++ x ∷ [] → flat_map spell (take (i + 1) xs) ≡ flat_map spell (take i xs) ++ spell x
-    take-next e = ap (flat_map spell) e ∙ flat_map-append spell (take i xs) (x ∷ []) ∙ ap (λ bytes. flat_map spell (take i xs) ++ bytes) (append-nil (spell x))
+    let front : take (i + 1) xs ≡ take i xs ++ x ∷ [] = take_more xs i x (slice_get_within xs i x at) ∙ ap (λ y. take i xs ++ y ∷ []) here in
+    ap (flat_map spell) front ∙ flat_map-append spell (take i xs) (x ∷ []) ∙ ap (λ bytes. flat_map spell (take i xs) ++ bytes) (append-nil (spell x))
 
 -- one element more of those that are asked for
 elements_next : {A : Type 0} (may_follow : List A → A → Bool) (read : Reader A) (n : ℕ) (before : List A) (bytes : List ℕ) → 0 < n

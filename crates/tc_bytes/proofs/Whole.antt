@@ -1,10 +1,9 @@
 -- Bytes that are the spelling of one value and nothing more: what they give, and where they give nothing.
-use Rattle.std.proofs.Common.{◌≡◌, ◌≢◌, ℕ, List, [], ◌∷◌, ◌++◌, None, Some, length, refl, sym, ap, ◌∙◌, subst, append-nil}
+use Rattle.std.proofs.Common.{◌≡◌, ◌≢◌, ℕ, List, [], ◌∷◌, ◌++◌, None, Some, refl, sym, ap, ◌∙◌, subst, append-nil}
 use Rattle.std.proofs.lemmas.Option.{same_Some}
-use Rattle.tc_bytes.specs.Reading.{Reader, ◌>>=◌, bytes_at, ended, whole, within_at}
+use Rattle.tc_bytes.specs.Reading.{Reader, ◌>>=◌, ended, whole}
 use Rattle.tc_bytes.specs.Codec.{IsBytes, IsCodec}
 use Rattle.tc_bytes.proofs.Codecs.{then_parts}
-use Rattle.tc_bytes.proofs.Fields.{IsBytes-front, bytes_codec}
 
 ended_parts : {A : Type 0} (x : A) (rest : List ℕ) (y : A) → ended (x, rest) ≡ Some y → (x ≡ y) × (rest ≡ [])
 ended_parts x [] y gives = (same_Some x y gives, refl)
@@ -33,23 +32,3 @@ pub one_value : {A : Type 0} {read : Reader A} {spell : A → List ℕ} {Fits : 
     → (x y : A) → Fits x → Fits y → spell x ≡ spell y → x ≡ y
 one_value {read = read} codec x y fits_x fits_y same =
     same_Some x y (sym (whole_again codec x fits_x) ∙ ap (whole read) same ∙ whole_again codec y fits_y)
-
--- a value that so many bytes spell
-pub within_codec : {A : Type 0} {read : Reader A} {spell : A → List ℕ} {Fits : A → Type 0} (n : ℕ) → IsCodec read spell Fits
-    → IsCodec (within_at n read) spell (λ x. (length (spell x) ≡ n) × Fits x)
-within_codec {A} {read} {spell} {Fits} n codec = record {
-  found = λ bytes x rest each gives. within_found bytes (x, rest) each gives;
-  again = λ x rest fits. rw ((bytes_codec n).again (spell x) rest fits.0, whole_again codec x fits.1) refl;
-}
-  where
-    Found : List ℕ → A × List ℕ → Type 0
-    Found bytes q = (bytes ≡ spell q.0 ++ q.1) × IsBytes q.1 × ((length (spell q.0) ≡ n) × Fits q.0)
-
-    within_found : (bytes : List ℕ) (q : A × List ℕ) → IsBytes bytes → within_at n read bytes ≡ Some q → Found bytes q
-    within_found bytes q each gives =
-        let front = then_parts (bytes_at n bytes) _ q gives in
-        let inner = then_parts (whole read front.0.0) _ q front.2 in
-        let cut = (bytes_codec n).found bytes front.0.0 front.0.1 each front.1 in
-        let here = whole_found codec front.0.0 inner.0 (IsBytes-front front.0.0 front.0.1 (subst IsBytes cut.0 each)) inner.1 in
-        subst (Found bytes) (same_Some _ _ inner.2)
-        (cut.0 ∙ ap (λ xs. xs ++ front.0.1) here.0, cut.1, (ap length (sym here.0) ∙ cut.2, here.1))

@@ -59,7 +59,3 @@ ended (x, b ∷ rest) = None
 -- the value that all of the bytes spell
 abbrev pub whole : {A : Type 0} → Reader A → List ℕ → Option A
 whole read bytes = read bytes >>= ended
-
--- the value that the next n bytes spell
-abbrev pub within_at : {A : Type 0} → ℕ → Reader A → Reader A
-within_at n read bytes = bytes_at n bytes >>= λ front. whole read front.0 >>= λ x. Some (x, front.1)

@@ -12,6 +12,3 @@ pub use writing::{put_counted, put_u32, put_u64};
 
 /// That memory was wanting: the error of each call that fails in no other way.
 pub type Memory = AllocError;
-
-#[cfg(test)]
-mod tests;
