@@ -1,10 +1,8 @@
-//! What sources and sinks give and take, call by call.
+//! Interrupted calls of readers and writers of std, and the texts of faults.
 
 ghost use Rattle.std.specs.Prelude.{IfOk, ◌≤◌};
 
-use crate::{
-    EdgeFault, MemSink, MemSource, Sink, Source, StdSink, StdSource, WriteFault, write_all,
-};
+use crate::{EdgeFault, Source, StdSink, StdSource, WriteFault, write_all};
 use std::alloc::{AllocError, Global};
 use std::io;
 use std::io::{ErrorKind, Read, Write};
@@ -22,72 +20,6 @@ fn reads<I: Source>(alloc: Global, source: &mut I, calls: usize) -> Result<Vec<u
         seen.extend_from_slice(b"|")?;
     }
     Ok(seen)
-}
-
-// As a slice of texts, so that a table can name them.
-fn failing(alloc: Global, numbers: &[u64]) -> Result<Vec<u64>, AllocError> {
-    numbers.to_vec(alloc)
-}
-
-#[test]
-fn memory_sources(rt: HostRuntime) -> Result<(), Fail> {
-    let table: [(usize, &[u64], &str); 8] = [
-        (1, &[], "a|b|c|d|e|f||"),
-        (2, &[], "ab|cd|ef|||||"),
-        (9, &[], "abcd|ef||||||"),
-        (2, &[0], "!|ab|cd|ef||||"),
-        (2, &[1], "ab|!|cd|ef||||"),
-        (2, &[2, 3], "ab|cd|!|!|ef|||"),
-        (9, &[2], "abcd|ef|!|||||"),
-        (1, &[0, 1, 2, 3, 4, 5, 6], "!|!|!|!|!|!|!|"),
-    ];
-    for (piece, numbers, want) in table {
-        let bytes = b"abcdef".to_vec(rt.alloc())?;
-        let mut source = MemSource::new(bytes, piece.max(1), failing(rt.alloc(), numbers)?);
-        let seen = reads(rt.alloc(), &mut source, 7)?;
-        assert_eq!(rt; seen.as_slice(), want.as_bytes(), "pieces of {piece}");
-    }
-    Ok(())
-}
-
-#[test]
-fn memory_sinks(rt: HostRuntime) -> Result<(), Fail> {
-    let table: [(usize, &[u64], Option<u64>, &str); 9] = [
-        (1, &[], None, "abcde"),
-        (2, &[], None, "abcde"),
-        (9, &[], None, "abcde"),
-        (2, &[0], Some(0), ""),
-        (2, &[1], Some(2), "ab"),
-        (2, &[2], Some(4), "abcd"),
-        (2, &[3], None, "abcde"),
-        (9, &[0], Some(0), ""),
-        (0, &[], Some(0), ""),
-    ];
-    for (piece, numbers, fault, want) in table {
-        let mut sink = MemSink::new(rt.alloc(), piece, failing(rt.alloc(), numbers)?);
-        let result = write_all(&mut sink, b"abcde");
-        assert_eq!(rt;
-            result.err().map(|fault| fault.taken),
-            fault,
-            "pieces of {piece}"
-        );
-        assert_eq!(rt; sink.taken(), want.as_bytes(), "pieces of {piece}");
-    }
-    Ok(())
-}
-
-#[test]
-fn a_sink_goes_on_after_a_fault(rt: HostRuntime) -> Result<(), Fail> {
-    let mut sink = MemSink::new(rt.alloc(), 2, failing(rt.alloc(), &[1])?);
-    assert_eq!(rt; write_all(&mut sink, b"abc"), Err(WriteFault { taken: 2 }));
-    assert_eq!(rt; write_all(&mut sink, b""), Ok(()));
-    assert_eq!(rt; write_all(&mut sink, b"def"), Ok(()));
-    assert_eq!(rt; sink.taken(), b"abdef".as_slice());
-    let mut none = MemSink::new(rt.alloc(), 0, failing(rt.alloc(), &[])?);
-    assert_eq!(rt; none.write(b"a"), Ok(0));
-    assert_eq!(rt; none.write(b""), Ok(0));
-    assert_eq!(rt; write_all(&mut none, b""), Ok(()));
-    Ok(())
 }
 
 // A reader and writer of one byte a call, whose first calls answer errors.
@@ -126,19 +58,6 @@ impl Write for Stuttering {
     fn flush(&mut self) -> io::Result<()> {
         Ok(())
     }
-}
-
-#[test]
-fn readers_and_writers_of_std(rt: HostRuntime) -> Result<(), Fail> {
-    let mut source = StdSource::new(b"abcdef".as_slice());
-    let seen = reads(rt.alloc(), &mut source, 3)?;
-    assert_eq!(rt; seen.as_slice(), b"abcd|ef||".as_slice());
-    assert_eq!(rt; source.into_inner().len(), 0);
-    let mut sink = StdSink::new(Vec::new(rt.alloc()));
-    assert_eq!(rt; write_all(&mut sink, b"abc"), Ok(()));
-    assert_eq!(rt; write_all(&mut sink, b"def"), Ok(()));
-    assert_eq!(rt; sink.into_inner().as_slice(), b"abcdef".as_slice());
-    Ok(())
 }
 
 #[test]
