@@ -69,22 +69,6 @@ impl Intake {
         }
     }
 
-    /// So many bytes were taken before, for tests of the greatest count.
-    #[cfg(test)]
-    pub fn after(alloc: Global, taken: u64) -> Intake
-        requires { taken ≤ MAX_TAKEN }
-        ensures { result ≡ record { front = []; rest = []; taken = taken; ended = false } }
-    {
-        Intake {
-            front: Vec::new(alloc),
-            piece: Vec::new(alloc),
-            start: 0,
-            end: 0,
-            taken,
-            ended: false,
-        }
-    }
-
     /// Whether the source told of its end.
     pub fn ended(&self) -> bool
         ensures ended { result ≡ self.now.ended }

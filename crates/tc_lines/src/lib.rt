@@ -6,6 +6,3 @@ mod reader;
 
 pub use intake::{MAX_TAKEN, PIECE};
 pub use reader::{Line, Lines};
-
-#[cfg(test)]
-mod tests;

@@ -73,21 +73,6 @@ impl Lines {
         }
     }
 
-    /// A reader that has taken so many bytes before, for tests of the greatest count.
-    #[cfg(test)]
-    pub fn after(alloc: Global, limit: usize, taken: u64) -> Lines
-        requires room { 0 < limit }
-        requires count { taken ≤ MAX_TAKEN }
-        ensures { result ≡ record { limit = limit; held = []; taken = taken; failed = false; ended = false } }
-    {
-        Lines {
-            alloc,
-            intake: Intake::after(alloc, taken),
-            limit,
-            failed: false,
-        }
-    }
-
     /// Whether an answer was a failure. The reader must not be asked again then.
     pub fn failed(&self) -> bool
         ensures { result ≡ self.now.failed }
