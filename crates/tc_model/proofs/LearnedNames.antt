@@ -1,11 +1,11 @@
 -- Names learned one after the other.
-use Rattle.std.proofs.Common.{◌≡◌, ℕ, ◌<◌, ◌≤◌, ◌^◌, Bool, true, false, List, [], ◌∷◌, ◌++◌, Option, Some, None, is_some, IsTrue, length, bytes_eq, if◌then◌else◌, refl, ap, arith, length-append}
+use Rattle.std.proofs.Common.{◌≡◌, ℕ, ◌+◌, ◌<◌, ◌≤◌, ◌^◌, Bool, true, false, List, [], ◌∷◌, ◌++◌, Option, Some, None, is_some, IsTrue, length, bytes_eq, if◌then◌else◌, refl, ap, arith, length-append}
 use Rattle.std.specs.List.{AllByRecursion, IsDistinct, list_any}
 use Rattle.std.specs.Cmp.Lexicographic.{nat_list_eq_equiv}
 use Rattle.std.proofs.lemmas.Map.Keys.{IsDistinct-push}
 use Rattle.tc_model.specs.Document.{Name}
 use Rattle.tc_model.specs.Dictionary.{number_of, learned, Extends, all_learned}
-use Rattle.tc_model.proofs.DictionaryGrowth.{Extends-same, Extends-trans, Extends-learned, number_of-Extends}
+use Rattle.tc_model.proofs.DictionaryGrowth.{Extends-same, Extends-trans, Extends-learned, length-learned, number_of-Extends}
 use Rattle.tc_model.proofs.NameNumbers.{list_any-number_of, number_of-push}
 
 pub all_learned-append : (known xs ys : List Name) → all_learned known (xs ++ ys) ≡ all_learned (all_learned known xs) ys
@@ -21,6 +21,11 @@ pub length-all_learned : (known xs : List Name) → length known ≤ length (all
 length-all_learned known xs =
     let more = Extends-all_learned known xs in
     omega (arith, ap length more.1, length-append known more.0)
+
+-- no more names are learned than come
+pub length-all_learned-most : (known names : List Name) → length (all_learned known names) ≤ length known + length names
+length-all_learned-most known [] = omega arith
+length-all_learned-most known (name ∷ names) = omega (arith, length-learned known name, length-all_learned-most (learned known name) names)
 
 pub room_for_first : (known xs ys : List Name) → length (all_learned known (xs ++ ys)) < 2 ^ 32 → length (all_learned known xs) < 2 ^ 32
 room_for_first known xs ys room = omega (arith, room, ap length (all_learned-append known xs ys), length-all_learned (all_learned known xs) ys)
