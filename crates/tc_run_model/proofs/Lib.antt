@@ -1,0 +1,4 @@
+pub mod WindowLaws
+pub mod ReplyLaws
+mod LineRows
+mod WorldRows

@@ -1,0 +1,5 @@
+pub mod World
+pub mod Replies
+pub mod Built
+pub mod Windows
+pub mod Course
