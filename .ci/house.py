@@ -1,0 +1,315 @@
+#!/usr/bin/env python3
+"""Looks at the order of the house: what a script can see of the rules in CONTRIBUTING.md. `.ci/run` ends with it.
+
+    .ci/house.py      at the top of the repository, or anywhere
+
+It is silent where all is in order. Else it prints a line for each finding, and closes with 'N passed, M failed', which
+counts the looks below. It reads files alone, and proves nothing.
+"""
+
+import collections
+import glob
+import os
+import re
+import sys
+
+PICTURE = "docs/architecture.md"
+MOST_EDITS = 5
+# A statement with fewer words and signs than this may stand twice.
+FEWEST_WORDS = 14
+# In these files names are given by the goals that they answer, and nothing else cites them.
+ANSWERS = ("Answers.antt", "Invariants.antt", "Proof.antt")
+# In a file whose name ends so the checker computes rows of examples, which nothing cites.
+ROWS = "Rows.antt"
+
+
+def read(path):
+    with open(path, encoding="utf-8", errors="replace") as it:
+        return it.read()
+
+
+def without_comments(path, text):
+    """The text with its comments blank: places stay the same."""
+    mark = r"(?<![^\s(])--(?=\s|$)[^\n]*" if path.endswith(".antt") else r"(?<!:)//[^\n]*"
+    return re.sub(mark, lambda it: " " * len(it[0]), text)
+
+
+def line_of(text, place):
+    return text.count("\n", 0, place) + 1
+
+
+class House:
+    """The files of the repository, read once."""
+
+    def __init__(self):
+        paths = sorted(glob.glob("crates/*/*/**/*", recursive=True))
+        ours = [it for it in paths if it.split("/")[2] in ("src", "specs", "proofs") and it.endswith((".rt", ".antt"))]
+        self.said = {it: read(it) for it in ours}
+        self.text = {it: without_comments(it, whole) for it, whole in self.said.items()}
+        self.stands, self.layers, self.lines = {}, {}, {}
+        layer = None
+        for number, line in enumerate(read("crates.txt").split("\n"), 1):
+            head = re.match(r"# (\d) \w", line)
+            layer = int(head[1]) if head else layer
+            row = line.partition("#")[0].strip()
+            if row:
+                name, _, below = row.partition(":")
+                name = name.split()[0]
+                self.stands[name], self.layers[name], self.lines[name] = below.split(), layer, number
+
+    def of(self, crate):
+        return {it: text for it, text in self.text.items() if it.split("/")[1] == crate}
+
+
+def crates_go_upward(house):
+    """crates.txt goes upward: each crate stands only on crates listed before it, and the layers ascend."""
+    before, last = set(), 0
+    for name, below in house.stands.items():
+        at = f"crates.txt:{house.lines[name]}"
+        if house.layers[name] is None:
+            yield f"{at}: {name} stands in no layer"
+        elif house.layers[name] < last:
+            yield f"{at}: {name} is of layer {house.layers[name]} and stands behind layer {last}"
+        last = max(last, house.layers[name] or 0)
+        for it in below:
+            if it in house.stands and it not in before:
+                yield f"{at}: {name} stands on {it}, which is listed after it"
+        before.add(name)
+
+
+def crates_are_listed(house):
+    """Each folder of crates/ is a crate of crates.txt."""
+    for folder in sorted(glob.glob("crates/*/")):
+        if folder.split("/")[1] not in house.stands:
+            yield f"{folder}: crates.txt does not list it"
+
+
+def crates_are_used(house):
+    """Each name behind the colon in crates.txt is used by the crate."""
+    for name, below in house.stands.items():
+        body = "\n".join(house.of(name).values())
+        for it in below:
+            if not re.search(rf"\b{it}\b", body):
+                yield f"crates.txt:{house.lines[name]}: nothing in {name} uses {it}"
+
+
+def crates_are_in_the_picture(house):
+    """Each crate stands in the picture of docs/architecture.md, at its layer, and in the table, and no other does."""
+    text = read(PICTURE)
+    picture = re.search(r"^```\n(.*?)^```", text, re.M | re.S)
+    if not picture:
+        yield f"{PICTURE}: it has no picture between lines of three back quotes"
+        return
+    drawn, layer = {}, None
+    for row in picture[1].split("\n"):
+        head = re.match(r" ?(\d) ", row)
+        layer = int(head[1]) if head else layer
+        drawn.update(dict.fromkeys(re.findall(r"\b[a-z]+(?:_[a-z]+)+\b", row), layer))
+    told = dict(re.findall(r"^\| `(\w+)` \| (\d) ", text, re.M))
+    for name, layer in house.layers.items():
+        if drawn.get(name) != layer:
+            yield f"{PICTURE}: {name} is not in the picture at layer {layer}"
+        if told.get(name) != str(layer):
+            yield f"{PICTURE}: {name} is not in the table at layer {layer}"
+    for name in sorted({*drawn, *told} - set(house.layers)):
+        yield f"{PICTURE}: {name} is no crate of crates.txt"
+
+
+def tops_say_their_layer(house):
+    """The first line of each lib.rt and main.rt says the crate's layer."""
+    for name, layer in house.layers.items():
+        for path in (f"crates/{name}/src/lib.rt", f"crates/{name}/src/main.rt"):
+            if path in house.said and not house.said[path].startswith(f"//! Layer {layer}, "):
+                yield f"{path}:1: it does not begin with '//! Layer {layer}, '"
+
+
+def files_say_what_they_have(house):
+    """Each file of code, definitions or lemmas begins with one line that says what is in it."""
+    for path, text in house.said.items():
+        mark = "//! " if path.endswith(".rt") else "-- "
+        if not path.endswith((*ANSWERS, "Lib.antt")) and not text.startswith(mark):
+            yield f"{path}:1: it does not begin with a line '{mark}..'"
+
+
+def proofs_stay_private(house):
+    """No crate imports a module of another's proofs/ that the Lib.antt there does not declare `pub mod`."""
+    public = {it: set(re.findall(r"^pub mod (\w+)", house.text.get(f"crates/{it}/proofs/Lib.antt", ""), re.M)) for it in house.stands}
+    for path, text in house.text.items():
+        for it in re.finditer(r"\bRattle\.(\w+)\.proofs\.(\w+)", text):
+            if it[1] in public and it[1] != path.split("/")[1] and it[2] not in public[it[1]]:
+                yield f"{path}:{line_of(text, it.start())}: {it[0]} is private to {it[1]}"
+
+
+def private_types(house, crate):
+    """The types of a crate that its lib.rt does not hand on."""
+    top = house.text.get(f"crates/{crate}/src/lib.rt", "")
+    public = {name for it in re.findall(r"\bpub use ([^;]*);", top) for name in re.findall(r"\w+", it)}
+    typed = re.compile(r"^(pub )?(?:pub\(\w+\) )?(?:struct|enum|trait) (\w+)", re.M)
+    public.update(name for is_public, name in typed.findall(top) if is_public)
+    code = [text for path, text in house.of(crate).items() if path.endswith(".rt") and "/src/tests" not in path]
+    return {name for text in code for _, name in typed.findall(text)} - public
+
+
+def lemmas_on_private_types_stay(house):
+    """No crate imports a module of another's proofs/ that speaks of types which that crate keeps private."""
+    private = {it: private_types(house, it) for it in house.stands}
+    for path, text in house.text.items():
+        for it in re.finditer(r"\bRattle\.(\w+)\.proofs\.(\w+)", text):
+            if it[1] in private and it[1] != path.split("/")[1]:
+                module = house.text.get(f"crates/{it[1]}/proofs/{it[2]}.antt", "")
+                named = re.findall(rf"\bRattle\.{it[1]}\.specs\.declared\.([^\n]*)", module)
+                found = {name for words in named for name in re.findall(r"\w+", words)} & private[it[1]]
+                if found:
+                    yield f"{path}:{line_of(text, it.start())}: {it[0]} speaks of {', '.join(sorted(found))}"
+
+
+def contracts_cite_no_proofs(house):
+    """No contract or definition cites a file of proofs/."""
+    for path, text in house.text.items():
+        if path.endswith(".rt") or "/specs/" in path:
+            for it in re.finditer(r"\bRattle\.(\w+)\.proofs\.[\w.]*\w", text):
+                if it[1] in house.stands:
+                    yield f"{path}:{line_of(text, it.start())}: it cites {it[0]}"
+
+
+WORD = re.compile(r"[A-Za-z_0-9][A-Za-z_0-9'/-]*")
+NAME = re.compile(r"^( {0,4})(?:abbrev )?(?:pub )?(?:(?:record|data) ([A-Za-z_]\w*)|([A-Za-z_][\w'/-]*) :(?=\s))", re.M)
+
+
+def names_stand_elsewhere(house):
+    """Each name of specs/ and proofs/ stands somewhere besides its own definition. Rows of examples stand alone."""
+    words = {path: collections.Counter(WORD.findall(text)) for path, text in house.text.items()}
+    every = sum(words.values(), collections.Counter())
+    for path, text in house.text.items():
+        if not path.endswith(".antt") or path.endswith((*ANSWERS, ROWS, "Lib.antt")):
+            continue
+        for it in NAME.finditer(text):
+            name, deep = it[2] or it[3], len(it[1])
+            heads = re.findall(rf"^ {{{deep}}}(?:abbrev )?(?:pub )?(?:record |data )?{re.escape(name)}(?=[ :\n])", text, re.M)
+            if every[name] == words[path][name] <= len(heads):
+                yield f"{path}:{line_of(text, it.start())}: {name} stands nowhere else"
+
+
+HEAD = re.compile(r"^( *)(?:abbrev )?(?:pub )?([A-Za-z_][\w'/◌+≡-]*) : (.*)$")
+
+
+def statements(text):
+    """The statements of a file: line, name, the whole on one line, and what follows up to an empty line."""
+    lines = text.split("\n")
+    for number, line in enumerate(lines):
+        head = HEAD.match(line)
+        if not head:
+            continue
+        whole, deep, rest = head[3], len(head[1]) + 2, number + 1
+        for more in lines[rest:]:
+            is_more = more.startswith(" " * deep) and more.strip() and not re.match(r"^ *(?:pub |abbrev )?[\w'-]+ .*=", more)
+            if not is_more and not more.strip().startswith("→"):
+                break
+            whole, rest = f"{whole} {more.strip()}", rest + 1
+        end = next((it for it in range(rest, len(lines)) if not lines[it].strip()), len(lines))
+        yield number + 1, head[2], whole, " ".join(lines[rest:end])
+
+
+BOUND = re.compile(r"[({]([a-zA-Z_][\w' ]*?) : *(Type)?|λ ([\w' ]+)\.")
+TOKEN = re.compile(r"(?<=[\w')])\.[\w']+|[\w'-]+(?= = )|[\w'-]+|[^\w\s]")
+
+
+def form_of(name, whole, body):
+    """The words and signs of a statement, its variables numbered in the order in which they are bound. A law is told by
+    what it says; what only has a type, a definition, by its equations too."""
+    bound = {it: it_is[2] for it_is in BOUND.finditer(whole) for it in (it_is[1] or it_is[3]).split()}
+    numbers = {it: f"${number}" for number, it in enumerate(bound)}
+    form = []
+    for it in TOKEN.finditer(whole):
+        is_field = whole[it.end() : it.end() + 3] == " = "
+        form.append(it[0] if is_field else numbers.get(it[0], it[0]))
+    values = {numbers[it] for it, is_type in bound.items() if not is_type}
+    result = form[len(form) - form[::-1].index("→") :] if "→" in form else form
+    if {"≡", "⊥", "≤", "<", "↔"} & set(form) or values & set(result):
+        return tuple(form)
+    return (*form, *("itself" if it == name else it for it in re.findall(r"[\w'-]+|[^\w\s]", body)))
+
+
+def statements_stand_once(house):
+    """No statement of specs/ and proofs/ stands in two files, up to the names of variables."""
+    said = collections.defaultdict(list)
+    for path, text in house.text.items():
+        if path.endswith(".antt") and not path.endswith(ANSWERS):
+            for number, name, whole, body in statements(text):
+                form = form_of(name, whole, body)
+                if len(form) >= FEWEST_WORDS and ("→" in form or "≡" in form):
+                    said[form].append((path, number, name))
+    for places in said.values():
+        if len({path for path, _, _ in places}) > 1:
+            (path, number, name), *others = places
+            yield f"{path}:{number}: {name} stands also as " + ", ".join(f"{it} at {at}:{n}" for at, n, it in others)
+
+
+def edits_are_few(house):
+    """A crate has at most five must-fail edits."""
+    for name in house.stands:
+        count = len(glob.glob(f"crates/{name}/must-fail/*.edit"))
+        if count > MOST_EDITS:
+            yield f"crates/{name}/must-fail: {count} edits, and at most {MOST_EDITS} are wanted"
+
+
+def edits_apply(house):
+    """Each must-fail edit changes a file of code at a text that stands there once."""
+    for path in sorted(glob.glob("crates/*/must-fail/*.edit")):
+        file, text = "", ""
+        for number, line in enumerate(read(path).split("\n"), 1):
+            if line.startswith("file: "):
+                file = line[len("file: ") :].strip()
+                text = house.said.get(f"crates/{path.split('/')[1]}/{file}", "")
+                if not file.startswith("src/"):
+                    yield f"{path}:{number}: it changes {file}, and not a file of src/"
+            elif line.startswith("old: ") and text.count(line[len("old: ") :]) != 1:
+                yield f"{path}:{number}: its text stands {text.count(line[len('old: ') :])} times in {file}"
+
+
+def links_lead_somewhere(house):
+    """Each document links only to files that stand."""
+    for path in sorted(["README.md", "CONTRIBUTING.md", *glob.glob("docs/**/*.md", recursive=True)]):
+        text = read(path)
+        for it in re.finditer(r"\]\(([^)#:]+)(?:#[^)]*)?\)", text):
+            if not os.path.exists(os.path.join(os.path.dirname(path), it[1])):
+                yield f"{path}:{line_of(text, it.start())}: there is no {it[1]}"
+        for it in re.finditer(r"`((?:crates|docs|bench|\.ci)/[\w./-]+\w)`", text):
+            if not os.path.exists(it[1]) and "NAME" not in it[1] and "/out/" not in it[1]:
+                yield f"{path}:{line_of(text, it.start())}: there is no {it[1]}"
+
+
+LOOKS = (
+    crates_go_upward,
+    crates_are_listed,
+    crates_are_used,
+    crates_are_in_the_picture,
+    tops_say_their_layer,
+    files_say_what_they_have,
+    proofs_stay_private,
+    lemmas_on_private_types_stay,
+    contracts_cite_no_proofs,
+    names_stand_elsewhere,
+    statements_stand_once,
+    edits_are_few,
+    edits_apply,
+    links_lead_somewhere,
+)
+
+
+def main():
+    os.chdir(os.path.join(os.path.dirname(os.path.realpath(__file__)), ".."))
+    house, failed = House(), 0
+    for look in LOOKS:
+        found = sorted(set(look(house)))
+        failed += bool(found)
+        if found:
+            print(look.__doc__)
+        for it in found:
+            print(f"  {it}")
+    if failed:
+        print(f"{len(LOOKS) - failed} passed, {failed} failed")
+    sys.exit(1 if failed else 0)
+
+
+main()
