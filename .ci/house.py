@@ -19,7 +19,7 @@ MOST_EDITS = 5
 FEWEST_WORDS = 14
 # In these files names are given by the goals that they answer, and nothing else cites them.
 ANSWERS = ("Answers.antt", "Invariants.antt", "Proof.antt")
-# In a file whose name ends so the checker computes rows of examples, which nothing cites.
+# In a file of proofs/ whose name ends so the checker computes rows of examples, which nothing cites.
 ROWS = "Rows.antt"
 
 
@@ -181,7 +181,8 @@ def names_stand_elsewhere(house):
     words = {path: collections.Counter(WORD.findall(text)) for path, text in house.text.items()}
     every = sum(words.values(), collections.Counter())
     for path, text in house.text.items():
-        if not path.endswith(".antt") or path.endswith((*ANSWERS, ROWS, "Lib.antt")):
+        are_rows = "/proofs/" in path and path.endswith(ROWS)
+        if not path.endswith(".antt") or path.endswith((*ANSWERS, "Lib.antt")) or are_rows:
             continue
         for it in NAME.finditer(text):
             name, deep = it[2] or it[3], len(it[1])

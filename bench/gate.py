@@ -124,9 +124,24 @@ def run(command):
 
 
 def crates():
+    """The crates of crates.txt in their order, each with what it stands on."""
     with open(f"{ROOT}/crates.txt", encoding="utf-8") as it:
-        rows = [line.partition("#")[0].partition(":")[0].split() for line in it]
-    return [row[0] for row in rows if row]
+        rows = [line.partition("#")[0].partition(":") for line in it]
+    return {name.split()[0]: below.split() for name, _, below in rows if name.strip()}
+
+
+def longest_chain(seconds):
+    """The chain of crates whose proofs wait for one another the longest."""
+    chains, stands = {}, crates()
+
+    def chain(name):
+        if name not in chains:
+            below = [chain(it) for it in stands[name] if it in stands]
+            most, names = max(below, default=(0, []))
+            chains[name] = most + seconds[name, PROOF], [*names, name]
+        return chains[name]
+
+    return max(map(chain, stands), default=(0, []))
 
 
 def row(name, figures):
@@ -157,6 +172,8 @@ def main():
     print(f"\nSeconds of processor time of `{' '.join(command)}`:\n")
     print("\n".join(table(seconds, whole)))
     print(f"\n{whole / 3600:.2f} processor hours in {minutes:.0f} minutes on {os.cpu_count()} processors")
+    most, names = longest_chain(seconds)
+    print(f"The longest chain of proofs takes {most:,.0f} s: {', '.join(names)}")
     if has_kept:
         print("Not the whole: some of it was kept from an earlier run on this machine")
     sys.exit(status if status >= 0 else 128 - status)
