@@ -261,7 +261,7 @@ open_failed f moments past first new cause shut is synced failed =
     let steps = opening f (told_at moments past f IsGateShut is shut) in
     let start : first ≡ synced_file f ∷ f ∷ past = synced ∙ ap (goes_on synced_file) is in
     EachSince-trans (LeavesAt (IsClosedOrWhole (opened f.content))) moments first new
-    (record { added = synced_file f ∷ []; goes_on = start ∙ ap (λ (others : List DiskFile). synced_file f ∷ others) (sym is); each = All-cons (LeavesAt (IsClosedOrWhole (opened f.content))) (synced_file f) [] steps.first_sync (All-nil (LeavesAt (IsClosedOrWhole (opened f.content)))) })
+    (record { added = synced_file f ∷ []; goes_on = start ∙ ap (λ (others : List DiskFile). synced_file f ∷ others) (sym is); each = All-cons (LeavesAt (IsClosedOrWhole (opened f.content))) (synced_file f) [] steps.first_sync (All-nil (LeavesAt (IsClosedOrWhole (opened f.content)))); untold = λ none. absurd (cc) })
     (EachSince-failed (LeavesAt (IsClosedOrWhole (opened f.content))) 0 1 first new cause failed (rw start steps.failed))
 
 -- the gate was written, and is not yet synced
@@ -275,6 +275,7 @@ open_unsynced f moments past first second new shut is synced wrote same =
       added = written 0 (1 ∷ []) (synced_file f) ∷ synced_file f ∷ [];
       goes_on = refl;
       each = All-cons P (written 0 (1 ∷ []) (synced_file f)) (synced_file f ∷ []) steps.gate (All-cons P (synced_file f) [] steps.first_sync (All-nil P));
+      untold = λ none. absurd (cc);
     })
 
 -- the gate was written and synced
@@ -289,4 +290,5 @@ open_whole f moments past first second new shut is synced wrote last =
       goes_on = refl;
       each = All-cons P (synced_file (written 0 (1 ∷ []) (synced_file f))) (written 0 (1 ∷ []) (synced_file f) ∷ synced_file f ∷ []) steps.second_sync
           (All-cons P (written 0 (1 ∷ []) (synced_file f)) (synced_file f ∷ []) steps.gate (All-cons P (synced_file f) [] steps.first_sync (All-nil P)));
+      untold = λ none. absurd (cc);
     })

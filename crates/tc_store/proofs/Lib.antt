@@ -9,4 +9,5 @@ pub mod FileLemmas
 pub mod NamesLemmas
 pub mod RemainsLemmas
 pub mod PictureLemmas
+pub mod StopLaws
 pub mod ShelfLemmas

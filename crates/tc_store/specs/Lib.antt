@@ -1,9 +1,10 @@
-pub mod Counts
 pub mod DiskFile
 pub mod Images
 pub mod Moments
 pub mod Disk
+pub mod NameOrder
 pub mod Gate
+pub mod Pictures
 pub mod StoreCalls
 pub mod KitFaults
 pub mod MemWatch

@@ -1,7 +1,7 @@
 //! The gate: byte 0 of a file, which is synced as 0 before anything else is written, and becomes 1 once all else is synced.
 
 ghost use Rattle.std.specs.Prelude.{◌≡◌, ◌<◌, ◌≤◌, ◌+◌, List, [], ◌∷◌, length, max, false, Ok, OnOk, IfOk, IfErr, IfSome, IsErr, IsErrOf};
-ghost use Rattle.tc_store.specs.Counts.{Rose, one_more};
+ghost use Rattle.tc_bytes.specs.Counts.{Rose, next_count};
 ghost use Rattle.tc_store.specs.DiskFile.{written, synced_file};
 ghost use Rattle.tc_store.specs.Gate.{is_open_file, opened, IsShutOr, IsClosed, IsClosedOrWhole};
 ghost use Rattle.tc_store.specs.Images.{Image};
@@ -101,6 +101,7 @@ impl<D: Device> Gated<D> {
             (λ device. LeavesOnly (IsClosedOrWhole (opened f.content)) (D.history self) (D.history device))) }
         ensures broken_moments { IfTold (D.history self) (λ f. IfErr result
             (λ broken. LeavesOnly (IsClosedOrWhole (opened f.content)) (D.history self) (D.history broken.device))) }
+        ensures untold { IfErr result (λ broken. D.history self ≡ [] → D.history broken.device ≡ []) }
 
         ensures faults { D.Watch.faults watch.old ≤ D.Watch.faults watch.new }
         ensures cause { IfErr result (λ broken. broken.cause ≡ DeviceFault.Fault → Rose (D.Watch.faults watch.old) (D.Watch.faults watch.new)) }
@@ -119,9 +120,10 @@ impl<D: Device> Gated<D> {
         }
     }
 
-    /// The device, with its gate closed.
+    /// The device. A stop leaves its file there, and closed.
     pub fn give_back(self) -> D
         ensures same { result ≡ self }
+        ensures closed { IfTold (D.history result) (LeavesAt IsClosed) }
     {
         self.device
     }
@@ -132,7 +134,7 @@ pub fn is_open<F: Frozen>(file: &F, watch: &mut F::Watch) -> Result<bool, Frozen
     ensures exact { IfOk result (λ is_open. IfSome (F.content file.now) (λ bytes. is_open ≡ is_open_file bytes)) }
     ensures short { F.size file.now ≤ 1 → result ≡ Ok false }
     ensures no_read { F.size file.now ≤ 1 → F.Watch.reads watch.new ≡ F.Watch.reads watch.old }
-    ensures one_read { 1 < F.size file.now → F.Watch.reads watch.new ≡ one_more (F.Watch.reads watch.old) }
+    ensures one_read { 1 < F.size file.now → F.Watch.reads watch.new ≡ next_count (F.Watch.reads watch.old) }
     ensures faults { F.Watch.faults watch.old ≤ F.Watch.faults watch.new }
     ensures cause { IsErr result → Rose (F.Watch.faults watch.old) (F.Watch.faults watch.new) }
 {

@@ -1,7 +1,7 @@
 //! A store with the watches that its users count with, and where such kits come from.
 
 ghost use Rattle.std.specs.Prelude.{◌≡◌, ◌≢◌, ◌≤◌, ℕ, List, IfOk, IsErrOf};
-ghost use Rattle.tc_store.specs.Counts.{Rose};
+ghost use Rattle.tc_bytes.specs.Counts.{Rose};
 ghost use Rattle.tc_store.specs.Disk.{Disk, IsAtRest};
 ghost use Rattle.tc_store.specs.KitFaults.{KitFaults};
 ghost use Rattle.tc_store.specs.Moments.{IfTold};
@@ -43,6 +43,7 @@ pub trait Shelf {
         ensures reader { IfOk result (λ kit. Self.Store.Watch.faults kit.reader ≡ (kit_faults self.old number).reader) }
         ensures other_faults { (other : ℕ) → other ≢ number → kit_faults self.new other ≡ kit_faults self.old other }
         ensures other_files { (other : ℕ) → other ≢ number → files self.new other ≡ files self.old other }
+        ensures same { IsErrOf result ShelfFault.Memory → self.new ≡ self.old }
         ensures faults { faults self.old ≤ faults self.new }
         ensures cause { IsErrOf result ShelfFault.Fault → Rose (faults self.old) (faults self.new) };
 }

@@ -1,7 +1,7 @@
 //! A device in memory, which keeps a record of its calls.
 
 ghost use Rattle.std.specs.Prelude.{◌≡◌, ◌⊎◌, ◌↔◌, ◌<◌, ◌≤◌, ◌+◌, ◌^◌, ◌++◌, ◌||◌, [], ◌∷◌, ℕ, length, reverse, true, false, max, OnOk, OnErr, IsErr, IsErrOf, vec_len, vec_capacity, option_map};
-ghost use Rattle.tc_store.specs.Counts.{Rose};
+ghost use Rattle.tc_bytes.specs.Counts.{Rose};
 ghost use Rattle.tc_store.specs.DeviceCalls.{file_after};
 ghost use Rattle.tc_store.specs.DiskFile.{empty_file, overlaid, written, synced_file};
 ghost use Rattle.tc_store.specs.MemWatch.{is_failing, after_call, IsNumbered};

@@ -1,7 +1,7 @@
 //! A still file in memory.
 
 ghost use Rattle.std.specs.Prelude.{◌≡◌, ◌≤◌, ◌↔◌, ◌+◌, true, Some, refl, length, take, drop, OnOk, IfSome, IsErr};
-ghost use Rattle.tc_store.specs.Counts.{Rose, one_more};
+ghost use Rattle.tc_bytes.specs.Counts.{Rose, next_count};
 ghost use Rattle.tc_store.specs.MemWatch.{is_failing, after_read};
 
 use crate::fault::FrozenFault;
@@ -41,7 +41,7 @@ impl Frozen for MemFrozen {
         ensures read { OnOk result (IfSome (frozen_content self.now) (λ bytes. into.new ≡ take (length into.old) (drop at bytes))) }
         ensures faults { watch.old.faults ≤ watch.new.faults }
         ensures cause { IsErr result → Rose watch.old.faults watch.new.faults }
-        ensures reads { watch.new.reads ≡ one_more watch.old.reads }
+        ensures reads { watch.new.reads ≡ next_count watch.old.reads }
         ensures numbered { watch.new ≡ after_read watch.old }
         ensures fails { IsErr result ↔ (is_failing watch.old ≡ true) }
     {

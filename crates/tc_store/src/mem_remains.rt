@@ -27,11 +27,11 @@ fn lay(image: &mut Vec<u8>, at: u64, bytes: &[u8]) -> Result<(), AllocError>
     overlay(image, place, bytes)
 }
 
-/// So many times one byte, which is chosen.
+/// So many times one byte, which is chosen: small numbers choose small bytes, and 0 comes last.
 fn other_bytes(alloc: Global, count: usize, choices: &mut Choices) -> Result<Vec<u8>, AllocError>
     ensures { IfOk result (λ bytes. length bytes.items ≡ count) }
 {
-    let byte = u8::MAX - choices.choose(256) as u8;
+    let byte = (choices.choose(256) as u8).wrapping_add(1);
     vec![in alloc; byte; count]
 }
 

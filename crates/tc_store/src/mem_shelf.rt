@@ -1,7 +1,7 @@
 //! A shelf in memory.
 
 ghost use Rattle.std.specs.Prelude.{◌≡◌, ◌≢◌, ◌<◌, ◌≤◌, ◌↔◌, ℕ, Some, None, All, length, IfOk, OnOk, OnErr, IsErrOf, slice_get};
-ghost use Rattle.tc_store.specs.Counts.{Rose};
+ghost use Rattle.tc_bytes.specs.Counts.{Rose};
 ghost use Rattle.tc_store.specs.Disk.{IsAtRest};
 ghost use Rattle.tc_store.specs.MemShelf.{kit_of, kit_faults_of, kit_disks};
 ghost use Rattle.tc_store.specs.MemStore.{store_disks};
@@ -96,7 +96,7 @@ impl Shelf for MemShelf {
         ensures given { IfOk result (λ kit. kit_of self.old number ≡ Some kit) }
         ensures once { OnOk result (kit_of self.new number ≡ None) }
         ensures none_there { IsErrOf result ShelfFault.Fault ↔ (kit_of self.old number ≡ None) }
-        ensures same { OnErr result (kit_of self.new number ≡ kit_of self.old number) }
+        ensures kept { OnErr result (kit_of self.new number ≡ kit_of self.old number) }
         ensures others { (other : ℕ) → other ≢ number → kit_of self.new other ≡ kit_of self.old other }
 
         ensures files { IfOk result (λ kit. store_disks kit.store ≡ kit_disks (kit_of self.old number)) }
@@ -107,6 +107,7 @@ impl Shelf for MemShelf {
         ensures reader { IfOk result (λ kit. kit.reader.faults ≡ (kit_faults_of (kit_of self.old number)).reader) }
         ensures other_faults { (other : ℕ) → other ≢ number → kit_faults_of (kit_of self.new other) ≡ kit_faults_of (kit_of self.old other) }
         ensures other_files { (other : ℕ) → other ≢ number → kit_disks (kit_of self.new other) ≡ kit_disks (kit_of self.old other) }
+        ensures same { IsErrOf result ShelfFault.Memory → self.new ≡ self.old }
         ensures faults { self.old.faults ≤ self.new.faults }
         ensures cause { IsErrOf result ShelfFault.Fault → Rose (self.old.faults) (self.new.faults) }
     {

@@ -1,13 +1,13 @@
 //! A store in memory.
 
-ghost use Rattle.std.specs.Prelude.{◌≡◌, ◌≤◌, ◌↔◌, ◌+◌, [], ◌∷◌, Some, None, true, reverse, vec_len, vec_capacity, OnOk, OnErr, IfOk, IsErrOf};
-ghost use Rattle.tc_store.specs.Counts.{Rose};
-ghost use Rattle.tc_store.specs.Disk.{none, home, still, IsThere, IsSettledHome, ListsNames};
+ghost use Rattle.std.specs.Prelude.{◌≡◌, ◌≤◌, ◌↔◌, ◌+◌, [], ◌∷◌, None, true, reverse, vec_len, vec_capacity, OnOk, OnErr, IfOk, IsErrOf};
+ghost use Rattle.tc_bytes.specs.Counts.{Rose};
+ghost use Rattle.tc_store.specs.Disk.{none, home, IsThere, IsSettledHome, ListsNames};
 ghost use Rattle.tc_store.specs.DiskFile.{IsSettled};
 ghost use Rattle.tc_store.specs.MemDisk.{disk_of, disks_of, file_entry, owed_by, owed_of, entry_of};
 ghost use Rattle.tc_store.specs.MemWatch.{is_failing, after_call};
 ghost use Rattle.tc_store.specs.Moments.{IfTold};
-ghost use Rattle.tc_store.specs.StoreCalls.{takes, content_at, makes, fresh_file_at, FailsMaking, returns_as, removes};
+ghost use Rattle.tc_store.specs.StoreCalls.{takes, content_at, makes, fresh_file_at, FailsMaking, returns_as, comes_home, content_now, frozen_entry, removes};
 
 use crate::fault::StoreFault;
 use crate::file_name::FileName;
@@ -207,12 +207,10 @@ impl Store for MemStore {
     ) -> Result<MemFrozen, StoreFault>
         requires { IfTold (device_files device) IsSettled }
 
-        ensures frozen { OnOk result (IfTold (device_files device)
-            (λ f. store_disks self.new ≡ returns_as (device_name device) (still f.content) (store_disks self.old))) }
-        ensures content { IfOk result (λ file. IfTold (device_files device) (λ f. frozen_content file ≡ Some f.content)) }
+        ensures frozen { OnOk result (store_disks self.new ≡ comes_home (device_name device) frozen_entry (device_files device) (store_disks self.old)) }
+        ensures content { IfOk result (λ file. frozen_content file ≡ content_now (device_files device)) }
         ensures name { IfOk result (λ file. frozen_name file ≡ device_name device) }
-        ensures abandoned { OnErr result (IfTold (device_files device)
-            (λ f. store_disks self.new ≡ returns_as (device_name device) (home f) (store_disks self.old))) }
+        ensures abandoned { OnErr result (store_disks self.new ≡ comes_home (device_name device) home (device_files device) (store_disks self.old)) }
         ensures faults { watch.old.faults ≤ watch.new.faults }
         ensures cause { IsErrOf result StoreFault.Fault → Rose watch.old.faults watch.new.faults }
         ensures reads { watch.new.reads ≡ watch.old.reads }

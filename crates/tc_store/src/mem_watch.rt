@@ -1,7 +1,7 @@
 //! A watch in memory, which fails the calls that it is told to.
 
 ghost use Rattle.std.specs.Prelude.{◌≡◌, ◌≤◌, true};
-ghost use Rattle.tc_store.specs.Counts.{Rose};
+ghost use Rattle.tc_bytes.specs.Counts.{Rose};
 ghost use Rattle.tc_store.specs.MemWatch.{is_failing, after_call, after_fault, after_read};
 
 use crate::watch::Watch;

@@ -25,8 +25,8 @@ fn a_write_since_a_sync_is_there_lost_torn_or_other_bytes(rt: HostRuntime) -> Re
         (2, b"abX"),
         (6, b"abXY"),
         (10, b"abc"),
-        (3, b"ab\xff\xff"),
-        (7, b"ab\xfe\xfe"),
+        (3, b"ab\x01\x01"),
+        (7, b"ab\x02\x02"),
     ];
     for (choice, bytes) in rows {
         let mut watch = MemWatch::new(Vec::new(alloc));
@@ -47,8 +47,8 @@ fn each_write_is_chosen_by_itself(rt: HostRuntime) -> Result<(), Fail> {
         (4, b"abcde"),
         (5, b"abc"),
         (9, b"abc\0\0f"),
-        (7, b"abc\xfe\xfefg"),
-        (1027, b"abc\xff\xff"),
+        (7, b"abc\x02\x02fg"),
+        (1027, b"abc\x01\x01"),
     ];
     for (choice, bytes) in rows {
         let mut watch = MemWatch::new(Vec::new(alloc));
@@ -69,7 +69,7 @@ fn a_file_that_was_never_synced_may_be_absent(rt: HostRuntime) -> Result<(), Fai
         (1, None),
         (2, Some(b"")),
         (4, Some(b"n")),
-        (6, Some(b"\xff\xff\xff")),
+        (6, Some(b"\x01\x01\x01")),
     ];
     for (choice, bytes) in rows {
         let mut watch = MemWatch::new(Vec::new(alloc));
@@ -84,7 +84,7 @@ fn a_file_that_was_never_synced_may_be_absent(rt: HostRuntime) -> Result<(), Fai
 #[test]
 fn a_failed_write_may_leave_other_bytes_past_the_content(rt: HostRuntime) -> Result<(), Fail> {
     let alloc = rt.alloc();
-    let rows: [(u64, &[u8]); 3] = [(0, b"abc"), (1, b"ab\xff\xff"), (3, b"ab\xfe\xfe")];
+    let rows: [(u64, &[u8]); 3] = [(0, b"abc"), (1, b"ab\x01\x01"), (3, b"ab\x02\x02")];
     for (choice, bytes) in rows {
         let mut watch = MemWatch::new([3].to_vec(alloc)?);
         let (mut store, mut device) = with_synced(alloc, b"abc", &mut watch)?;

@@ -1,0 +1,60 @@
+-- What a stop may leave, file by file and moment by moment.
+use Rattle.std.proofs.Common.{◌≡◌, ℕ, List, [], ◌∷◌, ◌++◌, refl, inl, inr, subst, arith}
+use Rattle.std.specs.Prelude.{◌⊎◌, Option, None, Some, All}
+use Rattle.std.proofs.lemmas.Bool.{cases_Bool}
+use Rattle.std.proofs.lemmas.List.Elements.{All-head, All-weaker}
+use Rattle.tc_store.specs.declared.file_name.FileName.{FileName}
+use Rattle.tc_store.specs.Disk.{Disk, Entry, none, home, still, out, put, same_name, Picture, bytes_at, IsPictureOf, MayLeaveAt}
+use Rattle.tc_store.specs.DiskFile.{empty_file, settled_file}
+use Rattle.tc_store.specs.Images.{Image, MayLeave}
+use Rattle.tc_store.specs.Moments.{EachSince, IfTold}
+use Rattle.tc_store.proofs.GateLemmas.{settled_leaves}
+use Rattle.tc_store.proofs.NameLemmas.{same_name-is, same_name-refl}
+
+pub settled_image : (bytes : List ℕ) (image : Image) → MayLeave (settled_file bytes) image → image ≡ Some bytes
+settled_image bytes = settled_leaves bytes (λ image. image ≡ Some bytes) refl
+
+pub fresh_image : (before : Option (List ℕ)) (image : Image) → MayLeave (empty_file before) image → (image ≡ None) ⊎ ((image ≡ Some []) ⊎ (before ≡ image))
+fresh_image before None may = inl refl
+fresh_image before (Some []) (inl is) = inr (inl refl)
+fresh_image before (Some (x ∷ xs)) (inl is) = absurd (omega (arith, is.no_longer))
+fresh_image before (Some image) (inr was) = inr (inr was)
+
+leaves_weaker : (held other : Image → Type 0) (entry : Entry) (image : Image) → ((image : Image) → held image → other image) → MayLeaveAt held entry image → MayLeaveAt other entry image
+leaves_weaker held other (none before) None give may = tt
+leaves_weaker held other (none before) (Some image) give may = may
+leaves_weaker held other (home f) image give may = may
+leaves_weaker held other (still bytes) image give may = may
+leaves_weaker held other out image give may = give image may
+
+pub picture_weaker : (held other : FileName → Image → Type 0) (disk : Disk) (picture : Picture) → ((name : FileName) (image : Image) → held name image → other name image)
+    → IsPictureOf held disk picture → IsPictureOf other disk picture
+picture_weaker held other disk picture give is = record {
+  once = is.once;
+  each = λ name. leaves_weaker (held name) (other name) (disk name) (bytes_at picture name) (give name) (is.each name);
+}
+
+-- where one entry changed, a picture that may be left afterwards might have been left before, if that is so of its file
+pub picture_before : (held : FileName → Image → Type 0) (name : FileName) (entry : Entry) (disk : Disk) (picture : Picture)
+    → (MayLeaveAt (held name) entry (bytes_at picture name) → MayLeaveAt (held name) (disk name) (bytes_at picture name))
+    → IsPictureOf held (put name entry disk) picture → IsPictureOf held disk picture
+picture_before held name entry disk picture back is = record {
+  once = is.once;
+  each = λ n. elim (cases_Bool (same_name name n)) [
+    | inl this ↦
+        let own : MayLeaveAt (held name) entry (bytes_at picture name) = rw (same_name-refl name) at (is.each name) in
+        subst (λ (m : FileName). MayLeaveAt (held m) (disk m) (bytes_at picture m)) (same_name-is name n this) (back own)
+    | inr other ↦ rw other at (is.each n)
+  ];
+}
+
+-- what each moment so far had, and each further one has, the last one has
+pub now_since : {X : Type 0} (P : X → Type 0) (old new : List X) → IfTold old P → EachSince P old new → IfTold new P
+now_since {X = X} P old new was since = rw since.goes_on (now since.added since.each old was)
+  where
+    now : (added : List X) → All P added → (old : List X) → IfTold old P → IfTold (added ++ old) P
+    now [] each old was = was
+    now (x ∷ added) each old was = All-head P x added each
+
+pub since_weaker : {X : Type 0} (P Q : X → Type 0) (old new : List X) → ((x : X) → P x → Q x) → EachSince P old new → EachSince Q old new
+since_weaker P Q old new give since = record { added = since.added; goes_on = since.goes_on; each = All-weaker P Q give since.added since.each; untold = since.untold }
