@@ -54,7 +54,7 @@ def purpose(process):
         crate = words[words.index("--crate-name") + 1]
         if folder.startswith("rt-edit-"):
             return crate, EDITS
-        is_test = any(it.endswith(f"{crate}_tests.o") for it in words)
+        is_test = "--test" in words or any(it.endswith(f"{crate}_tests.o") for it in words)
         return crate, TESTS if is_test else PROOF
     ran = next((it for it in words if re.search(r"/rt-run-[^/]*/bin/", it)), None)
     if ran is None:
