@@ -21,6 +21,12 @@ FEWEST_WORDS = 14
 ANSWERS = ("Answers.antt", "Invariants.antt", "Proof.antt")
 # In a file of proofs/ whose name ends so the checker computes rows of examples, which nothing cites.
 ROWS = "Rows.antt"
+# Definitions, and laws that no clause can state, which crates to come stand on. A name leaves this list once it is used.
+AWAITED = {
+    "tc_plain_model": ("reopened",),
+    "tc_run_model": ("worlds_left",),
+    "tc_store": ("LeavesPictures", "now_since", "picture_before", "picture_weaker", "since_weaker"),
+}
 
 
 def read(path):
@@ -174,21 +180,69 @@ def contracts_cite_no_proofs(house):
 
 WORD = re.compile(r"[A-Za-z_0-9][A-Za-z_0-9'/-]*")
 NAME = re.compile(r"^( {0,4})(?:abbrev )?(?:pub )?(?:(?:record|data) ([A-Za-z_]\w*)|([A-Za-z_][\w'/-]*) :(?=\s))", re.M)
+USE = re.compile(r"^ *(?:pub )?use [^\n]*(?:\n +[^\n]*\})?", re.M)
+START = re.compile(r"(?:abbrev )?(?:pub )?(?:(record|data|ruleset) ([A-Za-z_]\w*)|(mutual|module)\b|([A-Za-z_◌][\w'/◌+≡×∷≤<^&|-]*) :(?=\s|$))")
 
 
-def names_stand_elsewhere(house):
-    """Each name of specs/ and proofs/ stands somewhere besides its own definition. Rows of examples stand alone."""
+def definitions(text, before=0):
+    """The definitions of a file: line, the names that each gives, and its text. One of `mutual` gives several names."""
+    lines = text.split("\n")
+    starts = [(number, found) for number, line in enumerate(lines) if (found := START.match(line))]
+    ends = [number for number, _ in starts[1:]] + [len(lines)]
+    for (number, found), end in zip(starts, ends):
+        body = "\n".join(lines[number:end])
+        kind = found[1] or found[3]
+        if kind == "module":
+            inner = "\n".join(line.removeprefix("  ") for line in lines[number + 1 : end])
+            yield from definitions(inner, before + number + 1)
+            continue
+        names = {it[2] or it[3] for it in NAME.finditer(body)} if kind in ("mutual", "record", "data") else set()
+        yield before + number + 1, {*names, *(it for it in (found[2], found[4]) if it)}, body
+
+
+def reached(words, left):
+    """The words that words lead to through definitions, and the definitions that are not met on the way."""
+    words, met = set(words), True
+    while met:
+        met, unmet = [], []
+        for it in left:
+            (met if it[2] & words else unmet).append(it)
+        words.update(*(it[3] for it in met))
+        left = unmet
+    return words, left
+
+
+def names_are_used(house):
+    """Each name of specs/ and proofs/ is used: by code, by an answer to a goal, by a row of examples, or by what these
+    use. Names in AWAITED need no use yet, and leave it once they have one."""
+    used, left = set(), []
+    for path, text in house.text.items():
+        bare = USE.sub(lambda it: "\n" * it[0].count("\n"), text)
+        if path.endswith((".rt", *ANSWERS)) or "/proofs/" in path and path.endswith(ROWS):
+            used.update(WORD.findall(bare))
+        elif not path.endswith("Lib.antt"):
+            left += [(path, line, names, set(WORD.findall(body))) for line, names, body in definitions(bare)]
+    used, left = reached(used, left)
+    for crate, awaited in AWAITED.items():
+        own = {name for path, _, names, _ in left if path.split("/")[1] == crate for name in names}
+        for name in sorted(set(awaited) - own):
+            yield f".ci/house.py: {name} of {crate} is used or gone, and so no longer awaited"
+        used.update(awaited)
+    for path, line, names, _ in reached(used, left)[1]:
+        yield f"{path}:{line}: nothing uses {', '.join(sorted(names))}"
+
+
+def parts_are_used(house):
+    """Each part of a definition (a field, a constructor, a function behind `where`) stands somewhere besides itself."""
     words = {path: collections.Counter(WORD.findall(text)) for path, text in house.text.items()}
     every = sum(words.values(), collections.Counter())
     for path, text in house.text.items():
-        are_rows = "/proofs/" in path and path.endswith(ROWS)
-        if not path.endswith(".antt") or path.endswith((*ANSWERS, "Lib.antt")) or are_rows:
-            continue
-        for it in NAME.finditer(text):
-            name, deep = it[2] or it[3], len(it[1])
-            heads = re.findall(rf"^ {{{deep}}}(?:abbrev )?(?:pub )?(?:record |data )?{re.escape(name)}(?=[ :\n])", text, re.M)
-            if every[name] == words[path][name] <= len(heads):
-                yield f"{path}:{line_of(text, it.start())}: {name} stands nowhere else"
+        if path.endswith(".antt") and not path.endswith((*ANSWERS, "Lib.antt")):
+            for it in NAME.finditer(text):
+                name, deep = it[2] or it[3], len(it[1])
+                heads = re.findall(rf"^ {{{deep}}}(?:pub )?{re.escape(name)}(?=[ :\n])", text, re.M)
+                if deep and every[name] == words[path][name] <= len(heads):
+                    yield f"{path}:{line_of(text, it.start())}: {name} stands nowhere else"
 
 
 HEAD = re.compile(r"^( *)(?:abbrev )?(?:pub )?([A-Za-z_][\w'/◌+≡-]*) : (.*)$")
@@ -290,7 +344,8 @@ LOOKS = (
     proofs_stay_private,
     lemmas_on_private_types_stay,
     contracts_cite_no_proofs,
-    names_stand_elsewhere,
+    names_are_used,
+    parts_are_used,
     statements_stand_once,
     edits_are_few,
     edits_apply,
@@ -305,7 +360,7 @@ def main():
         found = sorted(set(look(house)))
         failed += bool(found)
         if found:
-            print(look.__doc__)
+            print(" ".join(look.__doc__.split()))
         for it in found:
             print(f"  {it}")
     if failed:
