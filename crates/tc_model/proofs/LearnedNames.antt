@@ -1,10 +1,11 @@
 -- Names learned one after the other.
-use Rattle.std.proofs.Common.{◌≡◌, ℕ, ◌+◌, ◌<◌, ◌≤◌, ◌^◌, Bool, true, false, List, [], ◌∷◌, ◌++◌, Option, Some, None, is_some, IsTrue, length, bytes_eq, if◌then◌else◌, refl, ap, arith, length-append}
+use Rattle.std.proofs.Common.{◌≡◌, ◌∙◌, ℕ, ◌+◌, ◌<◌, ◌≤◌, ◌^◌, Bool, true, false, List, [], ◌∷◌, ◌++◌, Option, Some, None, is_some, IsTrue, length, bytes_eq, if◌then◌else◌, refl, ap, arith, length-append}
 use Rattle.std.specs.List.{AllByRecursion, IsDistinct, list_any}
 use Rattle.std.specs.Cmp.Lexicographic.{nat_list_eq_equiv}
 use Rattle.std.proofs.lemmas.Map.Keys.{IsDistinct-push}
 use Rattle.tc_model.specs.Document.{Name}
 use Rattle.tc_model.specs.Dictionary.{number_of, learned, Extends, all_learned}
+use Rattle.tc_model.specs.KnownNames.{HasNumber, HasEach}
 use Rattle.tc_model.proofs.DictionaryGrowth.{Extends-same, Extends-trans, Extends-learned, length-learned, number_of-Extends}
 use Rattle.tc_model.proofs.NameNumbers.{list_any-number_of, number_of-push}
 
@@ -53,9 +54,6 @@ distinct-all_learned known (x ∷ xs) distinct = distinct-all_learned (learned k
 
 -- ---- each has a number
 
-abbrev pub HasNumber : List Name → Name → Type 0
-HasNumber names name = IsTrue (is_some (number_of names name))
-
 pub number-learned : (known : List Name) (name : Name) → HasNumber (learned known name) name
 number-learned known name = cases (number_of known name) refl
   where
@@ -70,6 +68,11 @@ number-stays known more name has = cases (number_of known name) refl has
     cases None none has = absurd (cc)
     cases (Some n) some has = ap is_some (number_of-Extends (all_learned known more) known name n (Extends-all_learned known more) some)
 
-pub all_numbered : (known xs : List Name) → AllByRecursion (HasNumber (all_learned known xs)) xs
+pub all_numbered : (known xs : List Name) → HasEach (all_learned known xs) xs
 all_numbered known [] = tt
 all_numbered known (x ∷ xs) = (number-stays (learned known x) xs x (number-learned known x), all_numbered (learned known x) xs)
+
+-- names that are known change nothing
+pub all_learned-known : (known names : List Name) → HasEach known names → all_learned known names ≡ known
+all_learned-known known [] has = refl
+all_learned-known known (name ∷ names) has = ap (λ after. all_learned after names) (ap (λ there. if there then known else known ++ name ∷ []) has.0) ∙ all_learned-known known names has.1

@@ -5,6 +5,7 @@ pub mod Document
 pub mod DocumentCode
 pub mod Kinds
 pub mod Dictionary
+pub mod KnownNames
 pub mod ShapeNames
 pub mod Json
 pub mod Keyed

@@ -5,7 +5,8 @@ use Rattle.tc_model.specs.Tree.{leaf, array, object, Items, no_items, item, Memb
 use Rattle.tc_model.specs.Document.{Name, ShapeTree, ScalarKind}
 use Rattle.tc_model.specs.Dictionary.{all_learned}
 use Rattle.tc_model.specs.ShapeNames.{names_within, names_of_items, names_of_members}
-use Rattle.tc_model.proofs.LearnedNames.{HasNumber, all_numbered, all_of_first, all_of_rest}
+use Rattle.tc_model.specs.KnownNames.{HasNumber}
+use Rattle.tc_model.proofs.LearnedNames.{all_numbered, all_of_first, all_of_rest}
 use Rattle.tc_schema_model.specs.Added.{IsNamed, AreItemsNamed, AreMembersNamed}
 
 mutual
