@@ -1,5 +1,6 @@
 -- The tokens of a document are read as that document, and what is read of a document's tokens is lawful.
-use Rattle.std.proofs.Common.{◌≡◌, ◌∙◌, ℕ, Bool, true, false, List, [], ◌∷◌, ◌++◌, map, Option, None, Some, option_map, inl, inr, refl, sym, ap, subst, append_assoc}
+use Rattle.std.proofs.Common.{◌≡◌, ◌∙◌, ℕ, true, List, [], ◌∷◌, ◌++◌, map, Option, None, Some, option_map, inl, inr, refl, sym, ap, subst, append_assoc}
+use Rattle.std.proofs.lemmas.Bool.{both_ways}
 use Rattle.std.proofs.lemmas.Option.{same_Some}
 use Rattle.tc_model.specs.Tree.{leaf, array, object, Items, no_items, item, Members, no_members, member, items_of, members_of, items_relabel, members_relabel}
 use Rattle.tc_model.specs.Document.{Name, Document, Scalar, IsAscending, IsScalar, IsDocument, AreItemsOf, AreMembersOf}
@@ -100,10 +101,7 @@ pub record SpellsDocument (bytes : List ℕ) (tokens : List (Token Key Scalar)) 
 
 pub spells_document : (r : Record) (bytes : List ℕ) (tokens : List (Token Key Scalar)) → Spells r → r.named ≡ true → r.bytes ≡ bytes → tokens ≡ r.tokens → SpellsDocument bytes tokens
 spells_document r bytes tokens (inl d) named same read = record { document = d.0; is = subst (IsRecordOf d.0) same d.1.1; tokens_are = read ∙ d.1.2 }
-spells_document r bytes tokens (inr n) named same read = neither r.named named n.1.0
-  where
-    neither : {A : Type 0} (b : Bool) → b ≡ true → b ≡ false → A
-    neither b yes_named no_names = cc
+spells_document r bytes tokens (inr n) named same read = absurd (both_ways r.named n.1.0 named)
 
 pub spelled_holds : (bytes : List ℕ) (tokens : List (Token Key Scalar)) → SpellsDocument bytes tokens → HoldDocuments (levels_of tokens)
 spelled_holds bytes tokens spelled = rw spelled.tokens_are (document_holds spelled.document spelled.is.document)

@@ -10,12 +10,13 @@ use Rattle.tc_bytes.proofs.Codecs.{then_parts}
 use Rattle.tc_model.specs.Document.{Scalar}
 use Rattle.tc_record.specs.Preorder.{Token}
 use Rattle.tc_record.specs.Widths.{width_bytes}
-use Rattle.tc_record.specs.Record.{tags, fixed, texts, width, numbers, joined, body, record_bytes}
-use Rattle.tc_record.specs.Walk.{Key, Format, Columns}
+use Rattle.tc_record.specs.Record.{tags, fixed, texts, width, numbers, joined, header_size, body, record_bytes}
+use Rattle.tc_record.specs.Walk.{Key, Format}
 use Rattle.tc_record.specs.Sections.{Header, header_at, form_from, numbers_at, Sections, columns_behind, sections_in}
 use Rattle.tc_record.proofs.Lengths.{few_numbers}
+use Rattle.tc_record.proofs.ColumnLaws.{columns_by, no_columns, same_columns}
 use Rattle.tc_record.proofs.Texts.{AreBytes}
-use Rattle.tc_record.proofs.Walks.{no_columns, with_tokens}
+use Rattle.tc_record.proofs.Walks.{with_tokens}
 use Rattle.tc_record.proofs.Spelled.{slots, names, spelled_fixed, spelled_lengths, spelled_texts, spelled_slots, spelled_names}
 use Rattle.tc_record.proofs.Fitting.{AreFit, TokensFit}
 use Rattle.tc_record.proofs.Counted.{sum_from, sum_from-joined, numbers_again, numbers_found, same_test}
@@ -167,17 +168,10 @@ sections_found bytes s each gives =
 
 -- ---- what is spelled is cut
 
-abbrev five : List ℕ → List ℕ → List ℕ → List ℕ → List ℕ → Columns
-five fixed_bytes length_bytes text_bytes slot_bytes name_bytes = record { fixed = fixed_bytes; lengths = length_bytes; texts = text_bytes; slots = slot_bytes; names = name_bytes }
-
-same_five : (c : Columns) (a b d e g : List ℕ) → c.fixed ≡ a → c.lengths ≡ b → c.texts ≡ d → c.slots ≡ e → c.names ≡ g → c ≡ five a b d e g
-same_five c a b d e g p q r s t =
-    ap (λ x. five x c.lengths c.texts c.slots c.names) p ∙ ap (λ x. five a x c.texts c.slots c.names) q ∙ ap (λ x. five a b x c.slots c.names) r ∙ ap (λ x. five a b d x c.names) s ∙ ap (λ x. five a b d e x) t
-
 -- the header of tokens
 abbrev pub header_of_tokens : ℕ → List (Token Key Scalar) → Header
 header_of_tokens form ts = record {
-  total = 23 + length (body ts (slots ts) (names ts));
+  total = header_size + length (body ts (slots ts) (names ts));
   form = form;
   tags = length (tags ts);
   fixed = length (fixed ts);
@@ -197,7 +191,7 @@ body_length ts =
     let text_columns = numbers (width lengths) lengths ++ text_part in
     omega (arith, length-append (tags ts) (fixed ts ++ text_columns), length-append (fixed ts) text_columns, length-append (numbers (width lengths) lengths) text_part, length-append (joined (texts ts)) last, length-append (numbers (width (slots ts)) (slots ts)) (names ts))
 
-header_fits : (form : ℕ) (ts : List (Token Key Scalar)) → 23 + length (body ts (slots ts) (names ts)) < 2 ^ 32 → HeaderFits (header_of_tokens form ts)
+header_fits : (form : ℕ) (ts : List (Token Key Scalar)) → header_size + length (body ts (slots ts) (names ts)) < 2 ^ 32 → HeaderFits (header_of_tokens form ts)
 header_fits form ts short =
     let sum = body_length ts in
     record {
@@ -209,7 +203,7 @@ header_fits form ts short =
     }
 
 columns_again : (f : Format) (form : ℕ) (ts : List (Token Key Scalar)) → TokensFit f ts → width_bytes f.text_width ≡ width (map length (texts ts)) → width_bytes f.slot_width ≡ width (slots ts)
-    → 23 + length (body ts (slots ts) (names ts)) < 2 ^ 32
+    → header_size + length (body ts (slots ts) (names ts)) < 2 ^ 32
     → columns_behind (header_of_tokens form ts) f.named (body ts (slots ts) (names ts)) ≡ Some (record { format = f; tags = tags ts; columns = with_tokens f ts no_columns })
 columns_again f form ts fits text_width slot_width short =
     let lengths = map length (texts ts) in
@@ -223,8 +217,8 @@ columns_again f form ts fits text_width slot_width short =
     subst (λ n. numbers_at n (length lengths) (numbers n lengths ++ r3) ≡ Some (record { width = f.text_width; bytes = numbers n lengths; total = sum_from 0 lengths }, r3)) text_width (numbers_again f.text_width lengths r3 fits.texts text_width) in
     let read_slots : numbers_at (width (slots ts)) (length (slots ts)) r4 ≡ Some (record { width = f.slot_width; bytes = numbers (width (slots ts)) (slots ts); total = sum_from 0 (slots ts) }, names ts) =
     subst (λ n. numbers_at n (length (slots ts)) (numbers n (slots ts) ++ names ts) ≡ Some (record { width = f.slot_width; bytes = numbers n (slots ts); total = sum_from 0 (slots ts) }, names ts)) slot_width (numbers_again f.slot_width (slots ts) (names ts) fits.slots slot_width) in
-    let columns : with_tokens f ts no_columns ≡ five (fixed ts) (numbers (width lengths) lengths) (joined (texts ts)) (numbers (width (slots ts)) (slots ts)) (names ts) =
-    same_five (with_tokens f ts no_columns) _ _ _ _ _ (spelled_fixed f ts) (spelled_lengths f ts ∙ ap (λ n. numbers n lengths) text_width) (spelled_texts f ts) (spelled_slots f ts ∙ ap (λ n. numbers n (slots ts)) slot_width) (spelled_names f ts) in
+    let columns : with_tokens f ts no_columns ≡ columns_by (fixed ts) (numbers (width lengths) lengths) (joined (texts ts)) (numbers (width (slots ts)) (slots ts)) (names ts) =
+    same_columns (with_tokens f ts no_columns) _ _ _ _ _ (spelled_fixed f ts) (spelled_lengths f ts ∙ ap (λ n. numbers n lengths) text_width) (spelled_texts f ts) (spelled_slots f ts ∙ ap (λ n. numbers n (slots ts)) slot_width) (spelled_names f ts) in
     rw (columns, bytes_again (length (tags ts)) (tags ts) r1 refl, bytes_again (length (fixed ts)) (fixed ts) r2 refl, read_lengths, bytes_again (sum_from 0 lengths) (joined (texts ts)) r4 total, read_slots) refl
 
 -- the columns that tokens have are cut out of their record
@@ -232,7 +226,7 @@ pub sections_again : (f : Format) (form : ℕ) (ts : List (Token Key Scalar)) �
     → length (record_bytes form ts (slots ts) (names ts)) < 2 ^ 32 → sections_in (record_bytes form ts (slots ts) (names ts)) ≡ Some (record { format = f; tags = tags ts; columns = with_tokens f ts no_columns })
 sections_again f form ts is fits text_width slot_width short =
     let content = body ts (slots ts) (names ts) in
-    let small : 23 + length content < 2 ^ 32 = omega arith in
-    let whole : 23 + length content ≡ length (record_bytes form ts (slots ts) (names ts)) = omega arith in
+    let small : header_size + length content < 2 ^ 32 = omega arith in
+    let whole : header_size + length content ≡ length (record_bytes form ts (slots ts) (names ts)) = omega arith in
     rw (header_again (header_of_tokens form ts) content (header_fits form ts small), is, columns_again f form ts fits text_width slot_width small)
-    (same_test (23 + length content) (length (record_bytes form ts (slots ts) (names ts))) _ None whole)
+    (same_test (header_size + length content) (length (record_bytes form ts (slots ts) (names ts))) _ None whole)

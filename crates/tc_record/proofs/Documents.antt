@@ -1,10 +1,11 @@
 -- What fits the columns is a document, or a numbered tree.
-use Rattle.std.proofs.Common.{◌≡◌, ◌<◌, ◌^◌, ℕ, Bool, true, false, List, [], ◌∷◌, ◌++◌, Option, None, Some, map, refl, ap, subst, arith}
+use Rattle.std.proofs.Common.{◌≡◌, ◌<◌, ◌^◌, ℕ, true, false, List, [], ◌∷◌, ◌++◌, Option, None, Some, map, refl, ap, subst, arith}
 use Rattle.std.specs.List.{AllByRecursion}
 use Rattle.std.specs.List.Sorted.{IsStrictlySortedBy}
 use Rattle.std.specs.Ordering.{is_lt}
 use Rattle.std.specs.declared.cmp.Ordering.{Ordering}
 use Rattle.std.specs.declared.cmp.Ordering.TheVariants.{Less, Equal, Greater}
+use Rattle.std.proofs.lemmas.Bool.{both_ways}
 use Rattle.std.proofs.lemmas.Cmp.{nat_list_cmp_total}
 use Rattle.tc_model.specs.Tree.{Tree, leaf, array, object, Items, no_items, item, Members, no_members, member, items_relabel, members_relabel, listed_members}
 use Rattle.tc_model.specs.Document.{Name, Document, Scalar, null, boolean, integer, text, name_cmp, IsScalar, IsTreeOf, AreItemsOf, AreMembersOf}
@@ -75,9 +76,6 @@ follows_before (Some m) n ns above follows = let below = less (name_cmp m n) abo
 same_next : (next : Option Name) (n : Name) → in_object next ≡ in_object (Some n) → next ≡ Some n
 same_next next n e = cc
 
-no_number : {A : Type 0} (b : Bool) → b ≡ true → b ≡ false → A
-no_number b yes_named no_names = cc
-
 -- no name
 sorted_nil : Follows None []
 unfolding IsStrictlySortedBy
@@ -114,7 +112,7 @@ named_member f last (name n) t ms next is labelled value further =
       lawful = (labelled.1, value.lawful, further.lawful);
       follows = follows_before last n _ labelled.2 follows;
     }
-named_member f last (number k) t ms next is labelled value further = no_number f.named is labelled.0
+named_member f last (number k) t ms next is labelled value further = absurd (both_ways f.named labelled.0 is)
 
 mutual
   document_found : (t : Tree Key Scalar) (f : Format) → f.named ≡ true → IsKeyed f t → DocumentFound t
@@ -158,7 +156,7 @@ pub record NumberedMembersFound (ms : Members Key Scalar) : Type 0 where
 
 numbered_member : (f : Format) (last : Option Name) (k : Key) (t : Tree Key Scalar) (ms : Members Key Scalar) (next : Option Name) → f.named ≡ false → IsLabelled f (in_object last) (Some k) (in_object next) → NumberedFound t → NumberedMembersFound ms
     → NumberedMembersFound (member k t ms)
-numbered_member f last (name n) t ms next is labelled value further = no_number f.named labelled.0 is
+numbered_member f last (name n) t ms next is labelled value further = absurd (both_ways f.named is labelled.0)
 numbered_member f last (number k) t ms next is labelled value further = record {
   members = member k value.tree further.members;
   same = rw (value.same, further.same) refl;

@@ -1,5 +1,6 @@
 -- What is read of a record's columns is a tree that they spell.
-use Rattle.std.proofs.Common.{◌≡◌, ◌∙◌, ◌≤◌, ◌==◌, ◌&&◌, ℕ, suc, nat_lt, Bool, true, false, if◌then◌else◌, List, [], ◌∷◌, ◌++◌, Option, None, Some, length, refl, sym, ap, subst, arith, append_assoc}
+use Rattle.std.proofs.Common.{◌≡◌, ◌∙◌, ◌≤◌, ◌==◌, ℕ, suc, nat_lt, Bool, true, false, if◌then◌else◌, List, [], ◌∷◌, ◌++◌, Option, None, Some, length, refl, sym, ap, subst, arith, append_assoc}
+use Rattle.std.proofs.lemmas.Bool.{and_parts}
 use Rattle.std.proofs.lemmas.Bool.Decides.{nat_tests}
 use Rattle.std.proofs.lemmas.List.{map-append}
 use Rattle.std.proofs.lemmas.Option.{same_Some}
@@ -10,14 +11,11 @@ use Rattle.tc_model.specs.Document.{Scalar}
 use Rattle.tc_record.specs.Preorder.{Piece, scalar, array_opened, object_opened, closed, Token, token, preorder, items_preorder, members_preorder}
 use Rattle.tc_record.specs.Record.{piece_tag}
 use Rattle.tc_record.specs.Walk.{Key, Level, in_array, in_object, Format, Columns, value_at, opened, step, is_used_up, walk, tokens_read}
+use Rattle.tc_record.proofs.ColumnLaws.{no_columns, same_columns}
 use Rattle.tc_record.proofs.Texts.{AreBytes}
 use Rattle.tc_record.proofs.Scalars.{FitsPiece}
 use Rattle.tc_record.proofs.Labels.{IsLabelled, with_token, if_parts, value_found}
-use Rattle.tc_record.proofs.Walks.{AreKeyedMembers, no_columns, with_tokens, tags_of, close, Completes, one_more, members_again, with_tokens-append}
-
-both : (a b : Bool) → (a && b) ≡ true → (a ≡ true) × (b ≡ true)
-both true b yes_both = (refl, yes_both)
-both false b yes_both = cc
+use Rattle.tc_record.proofs.Walks.{AreKeyedMembers, with_tokens, tags_of, close, Completes, one_more, members_again, with_tokens-append}
 
 empty : (xs : List ℕ) → (length xs == 0) ≡ true → xs ≡ []
 empty [] none = refl
@@ -26,20 +24,13 @@ empty (x ∷ xs) none = absurd (some (length xs) none)
     some : (n : ℕ) → (suc n == 0) ≡ true → ⊥
     some n e = grind (arith, nat_tests)
 
-abbrev five : List ℕ → List ℕ → List ℕ → List ℕ → List ℕ → Columns
-five fixed lengths texts slots names = record { fixed = fixed; lengths = lengths; texts = texts; slots = slots; names = names }
-
-same_columns : (c : Columns) → c.fixed ≡ [] → c.lengths ≡ [] → c.texts ≡ [] → c.slots ≡ [] → c.names ≡ [] → c ≡ no_columns
-same_columns c p q r s t =
-    ap (λ x. five x c.lengths c.texts c.slots c.names) p ∙ ap (λ x. five [] x c.texts c.slots c.names) q ∙ ap (λ x. five [] [] x c.slots c.names) r ∙ ap (λ x. five [] [] [] x c.names) s ∙ ap (λ x. five [] [] [] [] x) t
-
 used_up : (c : Columns) → is_used_up c ≡ true → c ≡ no_columns
 used_up c ended =
-    let fixed = both (length c.fixed == 0) _ ended in
-    let lengths = both (length c.lengths == 0) _ fixed.1 in
-    let texts = both (length c.texts == 0) _ lengths.1 in
-    let slots = both (length c.slots == 0) (length c.names == 0) texts.1 in
-    same_columns c (empty c.fixed fixed.0) (empty c.lengths lengths.0) (empty c.texts texts.0) (empty c.slots slots.0) (empty c.names slots.1)
+    let fixed = and_parts (length c.fixed == 0) _ ended in
+    let lengths = and_parts (length c.lengths == 0) _ fixed.1 in
+    let texts = and_parts (length c.texts == 0) _ lengths.1 in
+    let slots = and_parts (length c.slots == 0) (length c.names == 0) texts.1 in
+    same_columns c [] [] [] [] [] (empty c.fixed fixed.0) (empty c.lengths lengths.0) (empty c.texts texts.0) (empty c.slots slots.0) (empty c.names slots.1)
 
 -- the tokens that a walk read
 pub record WalkFound (f : Format) (tags : List ℕ) (levels : List Level) (c : Columns) (ts : List (Token Key Scalar)) : Type 0 where

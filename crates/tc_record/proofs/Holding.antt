@@ -10,7 +10,7 @@ use Rattle.tc_record.specs.Walk as walk
 use Rattle.tc_record.specs.Held.{tokens_held}
 use Rattle.tc_record.specs.Sections as cut
 use Rattle.tc_record.specs.SectionsView.{sections_of}
-use Rattle.tc_record.specs.Borrowed.{Spells, IsRecord, named_tokens, numbered_tokens}
+use Rattle.tc_record.specs.Borrowed.{Record, Spells, IsRecord, named_tokens, numbered_tokens}
 use Rattle.tc_record.specs.declared.sections.Sections.{Sections}
 use Rattle.tc_record.proofs.Reading.{document_again, numbered_again, read_found}
 
@@ -67,3 +67,19 @@ no_tokens bytes s cut_is none = read_held bytes s None cut_is (is_none (tokens_h
     is_none : (held : Option Tokens) → false ≡ is_some held → held ≡ None
     is_none None e = refl
     is_none (Some ts) e = cc
+
+-- the bytes of a record that spells something are a record
+pub spelled_record : (r : Record) → Spells r → IsRecord r.bytes
+spelled_record r (inl d) = inl (d.0, d.1.1)
+spelled_record r (inr n) = inr (n.0, n.1.1)
+
+-- bytes that are known to be a record are cut, and have tokens
+pub known_cut : (bytes : List ℕ) → cut.sections_in bytes ≡ None → IsRecord bytes → ⊥
+known_cut bytes none is = unread bytes (uncut bytes none) is
+
+pub known_tokens : (bytes : List ℕ) (s : Sections) → cut.sections_in bytes ≡ Some (sections_of s) → IsRecord bytes → true ≡ is_some (tokens_held s)
+known_tokens bytes s cut_is is = by_test (is_some (tokens_held s)) (no_tokens bytes s cut_is)
+  where
+    by_test : (some : Bool) → (false ≡ some → cut.record_read bytes ≡ None) → true ≡ some
+    by_test true none = refl
+    by_test false none = absurd (unread bytes (none refl) is)

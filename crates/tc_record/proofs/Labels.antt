@@ -1,5 +1,5 @@
 -- The laws of labels and of values that stand in a level.
-use Rattle.std.proofs.Common.{◌≡◌, ◌∙◌, ℕ, Bool, true, false, if◌then◌else◌, List, ◌++◌, Option, None, Some, length, refl, sym, ap, subst}
+use Rattle.std.proofs.Common.{◌≡◌, ◌∙◌, ℕ, Bool, true, false, if◌then◌else◌, ◌++◌, Option, None, Some, length, refl, sym, ap, subst}
 use Rattle.std.specs.Int.{bytes_high_first}
 use Rattle.std.specs.Str.{IsUtf8}
 use Rattle.std.proofs.lemmas.Option.{same_Some}
@@ -11,6 +11,7 @@ use Rattle.tc_record.specs.declared.widths.Width.{Width}
 use Rattle.tc_record.specs.Widths.{width_bytes}
 use Rattle.tc_record.specs.Record.{piece_tag}
 use Rattle.tc_record.specs.Walk.{Key, name, number, Level, in_array, in_object, Format, Columns, sized_number_at, utf8_at, is_above, name_at, label_at, piece_at, value_at}
+use Rattle.tc_record.proofs.ColumnLaws.{same_columns}
 use Rattle.tc_record.proofs.Sized.{FitsWidth, sized_codec}
 use Rattle.tc_record.proofs.Texts.{AreBytes, utf8_again, utf8_found}
 use Rattle.tc_record.proofs.Scalars.{with_piece, FitsPiece, piece_again, piece_found}
@@ -53,12 +54,6 @@ pub if_parts : {A : Type 0} (b : Bool) (x q : A) → (if b then Some x else None
 if_parts true x q gives = (same_Some x q gives, refl)
 if_parts false x q gives = cc
 
-slot_columns : (c : Columns) (slots names : List ℕ) → c.slots ≡ slots → c.names ≡ names → c ≡ record c { slots = slots; names = names }
-slot_columns c slots names p q = rw (← p, ← q) refl
-
-slot_column : (c : Columns) (slots : List ℕ) → c.slots ≡ slots → c ≡ record c { slots = slots }
-slot_column c slots p = rw (← p) refl
-
 name_found : (w : Width) (last : Option Name) (c : Columns) (q : Name × Columns) → AreBytes c → name_at w last c ≡ Some q → NameFound w last c q
 name_found w last c q each gives =
     let one = then_parts (sized_number_at w c.slots) _ q gives in
@@ -69,7 +64,7 @@ name_found w last c q each gives =
     let told : c.slots ≡ bytes_high_first (width_bytes w) (length two.0.0) ++ one.0.1 = rw held.len count.0 in
     subst (NameFound w last c) passes.0
     (record {
-      spelled = slot_columns c _ _ told held.spelled;
+      spelled = same_columns c _ _ _ _ _ refl refl refl told held.spelled;
       rest = record { fixed = each.fixed; lengths = each.lengths; texts = each.texts; slots = count.1; names = held.rest };
       utf8 = held.utf8;
       above = passes.1;
@@ -95,7 +90,7 @@ object_found f last c q false is each gives =
     subst (LabelFound f (in_object last) c) (same_Some _ q one.2)
     (record {
       labelled = (is, slot.2, refl);
-      spelled = slot_column c _ slot.0;
+      spelled = same_columns c _ _ _ _ _ refl refl refl slot.0 refl;
       rest = record { fixed = each.fixed; lengths = each.lengths; texts = each.texts; slots = slot.1; names = each.names };
     })
 

@@ -5,7 +5,7 @@ use Rattle.std.proofs.lemmas.Bool.Decides.{nat_tests}
 use Rattle.std.proofs.lemmas.List.{map-append}
 use Rattle.tc_model.specs.Document.{Name, Document, Scalar}
 use Rattle.tc_record.specs.Preorder.{Token, tokens_of}
-use Rattle.tc_record.specs.declared.measure.Column.{Column}
+use Rattle.tc_record.specs.declared.measure.ColumnSum.{ColumnSum}
 use Rattle.tc_record.specs.declared.measure.Measure.{Measure}
 use Rattle.tc_record.specs.Record.{piece_text, piece_fixed, tags, fixed, texts, labels, greatest, width, width_of, numbers, joined, record_bytes, record_of}
 use Rattle.tc_record.specs.Measured.{sum_within, with_element, with_elements, with_label, with_piece, measured, no_elements, nothing_measured, column_width, column_len, record_len}
@@ -20,19 +20,19 @@ length-numbers w (n ∷ ns) = grind (arith, length-append (bytes_high_first w n)
 
 -- ---- columns
 
-with_elements-append : (ns ms : List ℕ) (c : Column) → with_elements c (ns ++ ms) ≡ with_elements (with_elements c ns) ms
+with_elements-append : (ns ms : List ℕ) (c : ColumnSum) → with_elements c (ns ++ ms) ≡ with_elements (with_elements c ns) ms
 with_elements-append [] ms c = refl
 with_elements-append (n ∷ ns) ms c = with_elements-append ns ms (with_element c n)
 
-elements_count : (ns : List ℕ) (c : Column) → c.count < 2 ^ 64 → (with_elements c ns).count ≡ min (c.count + length ns) (2 ^ 64 - 1)
+elements_count : (ns : List ℕ) (c : ColumnSum) → c.count < 2 ^ 64 → (with_elements c ns).count ≡ min (c.count + length ns) (2 ^ 64 - 1)
 elements_count [] c fits = omega arith
 elements_count (n ∷ ns) c fits = omega (arith, elements_count ns (with_element c n) (omega arith))
 
-elements_greatest : (ns : List ℕ) (c : Column) → (with_elements c ns).greatest ≡ max c.greatest (greatest ns)
+elements_greatest : (ns : List ℕ) (c : ColumnSum) → (with_elements c ns).greatest ≡ max c.greatest (greatest ns)
 elements_greatest [] c = omega arith
 elements_greatest (n ∷ ns) c = omega (arith, elements_greatest ns (with_element c n))
 
-elements_bytes : (xs : List (List ℕ)) (c : Column) → c.bytes < 2 ^ 64 → (with_elements c (map length xs)).bytes ≡ min (c.bytes + length (joined xs)) (2 ^ 64 - 1)
+elements_bytes : (xs : List (List ℕ)) (c : ColumnSum) → c.bytes < 2 ^ 64 → (with_elements c (map length xs)).bytes ≡ min (c.bytes + length (joined xs)) (2 ^ 64 - 1)
 elements_bytes [] c fits = omega arith
 elements_bytes (x ∷ xs) c fits = omega (arith, length-append x (joined xs), elements_bytes xs (with_element c (length x)) (omega arith))
 
@@ -72,7 +72,7 @@ product_within k (suc (suc (suc (suc (suc w))))) small = absurd (omega arith)
 width_some : (count greatest : ℕ) → 0 < count → (if count == 0 then 0 else width_of greatest) ≡ width_of greatest
 width_some count greatest some = grind (arith, nat_tests)
 
-column_parts : (c : Column) (k b : ℕ) → 0 < k → c.count ≡ min k (2 ^ 64 - 1) → c.bytes ≡ min b (2 ^ 64 - 1) → column_len c ≡ min (k * width_of c.greatest + b) (2 ^ 64 - 1)
+column_parts : (c : ColumnSum) (k b : ℕ) → 0 < k → c.count ≡ min k (2 ^ 64 - 1) → c.bytes ≡ min b (2 ^ 64 - 1) → column_len c ≡ min (k * width_of c.greatest + b) (2 ^ 64 - 1)
 column_parts c k b some count bytes =
     let w : column_width c ≡ width_of c.greatest = width_some c.count c.greatest (omega arith) in
     let product : min (c.count * width_of c.greatest) (2 ^ 64 - 1) ≡ min (k * width_of c.greatest) (2 ^ 64 - 1) = rw count (product_within k (width_of c.greatest) (width_of-le c.greatest)) in
@@ -132,7 +132,7 @@ sized n len None p is answered = (tt, λ _. too_long n len is answered)
 -- ---- a measure of a record that is short enough
 
 -- a column that is short is measured exactly
-pub record IsExact (xs : List (List ℕ)) (c : Column) : Type 0 where
+pub record IsExact (xs : List (List ℕ)) (c : ColumnSum) : Type 0 where
   pub count : c.count ≡ length (map length xs)
   pub width : column_width c ≡ width (map length xs)
 

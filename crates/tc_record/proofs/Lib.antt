@@ -5,6 +5,7 @@ pub mod Utf8
 pub mod Stacks
 pub mod Scans
 pub mod Sized
+pub mod ColumnLaws
 pub mod Texts
 pub mod Scalars
 pub mod Labels
@@ -19,3 +20,4 @@ pub mod Cutting
 pub mod Reading
 pub mod Holding
 pub mod Built
+pub mod OneDocument

@@ -14,6 +14,7 @@ use Rattle.tc_record.specs.Preorder.{Piece, scalar, array_opened, object_opened,
 use Rattle.tc_record.specs.declared.widths.Width.{Width}
 use Rattle.tc_record.specs.Record.{piece_tag}
 use Rattle.tc_record.specs.Walk.{Columns, bool_of, bool_at, integer_at, text_at, piece_at}
+use Rattle.tc_record.proofs.ColumnLaws.{same_columns}
 use Rattle.tc_record.proofs.Sized.{FitsWidth}
 use Rattle.tc_record.proofs.Texts.{AreBytes, with_text, text_again, text_found}
 
@@ -64,9 +65,6 @@ pub record PieceFound (w : Width) (tag : ℕ) (c : Columns) (q : Piece Scalar ×
   pub rest : AreBytes q.1
   pub fits : FitsPiece w q.0
 
-fixed_column : (c : Columns) (fixed : List ℕ) → c.fixed ≡ fixed → c ≡ record c { fixed = fixed }
-fixed_column c fixed p = rw (← p) refl
-
 with_fixed : (c : Columns) (rest : List ℕ) → AreBytes c → IsBytes rest → AreBytes (record c { fixed = rest })
 with_fixed c rest each here = record { fixed = here; lengths = each.lengths; texts = each.texts; slots = each.slots; names = each.names }
 
@@ -86,7 +84,7 @@ boolean_found w c q each gives =
     let held = same_Some _ whole.0 two.2 in
     let spelled : c.fixed ≡ (if two.0 then 1 else 0) ∷ one.0.1 = byte.0 ∙ ap (λ n. n ∷ one.0.1) (bool_found one.0.0 two.0 two.1) in
     subst (PieceFound w 2 c) (ap (λ (b : Bool × Columns). as_piece b) held ∙ same_Some _ q whole.2)
-    (record { tagged = refl; spelled = fixed_column c _ spelled; rest = with_fixed c one.0.1 each byte.1; fits = (tt, tt) })
+    (record { tagged = refl; spelled = same_columns c _ _ _ _ _ spelled refl refl refl refl; rest = with_fixed c one.0.1 each byte.1; fits = (tt, tt) })
 
 integer_found : (w : Width) (c : Columns) (q : Piece Scalar × Columns) → AreBytes c → integer_at c ≡ Some q → PieceFound w 3 c q
 integer_found w c q each gives =
@@ -94,7 +92,7 @@ integer_found w c q each gives =
     let number = number_codec_64.found c.fixed one.0.0 one.0.1 each.fixed one.1 in
     let spelled : c.fixed ≡ to_be_bytes w64 (cast_unsigned w64 (cast_signed w64 one.0.0)) ++ one.0.1 = rw (of_z-to_z w64 one.0.0 number.2) number.0 in
     subst (PieceFound w 3 c) (same_Some _ q one.2)
-    (record { tagged = refl; spelled = fixed_column c _ spelled; rest = with_fixed c one.0.1 each number.1; fits = (sfits_to_z (record { fits = number.2 }), tt) })
+    (record { tagged = refl; spelled = same_columns c _ _ _ _ _ spelled refl refl refl refl; rest = with_fixed c one.0.1 each number.1; fits = (sfits_to_z (record { fits = number.2 }), tt) })
 
 text_piece_found : (w : Width) (c : Columns) (q : Piece Scalar × Columns) → AreBytes c → (text_at w c >>= λ t. Some (scalar (text t.0), t.1)) ≡ Some q → PieceFound w 4 c q
 text_piece_found w c q each gives =

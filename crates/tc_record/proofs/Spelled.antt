@@ -11,7 +11,8 @@ use Rattle.tc_record.specs.Record.{piece_fixed, piece_text, fixed, texts, labels
 use Rattle.tc_record.specs.Walk.{Key, name, number, Format, Columns}
 use Rattle.tc_record.proofs.Scalars.{with_piece}
 use Rattle.tc_record.proofs.Labels.{with_label}
-use Rattle.tc_record.proofs.Walks.{with_tokens, no_columns}
+use Rattle.tc_record.proofs.ColumnLaws.{no_columns}
+use Rattle.tc_record.proofs.Walks.{with_tokens}
 
 -- what a label adds to the slots, and to the names
 abbrev pub slot_of : Key → ℕ

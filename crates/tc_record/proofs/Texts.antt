@@ -12,6 +12,7 @@ use Rattle.tc_bytes.proofs.Codecs.{then_parts}
 use Rattle.tc_record.specs.declared.widths.Width.{Width}
 use Rattle.tc_record.specs.Widths.{width_bytes}
 use Rattle.tc_record.specs.Walk.{Columns, sized_number_at, utf8_at, text_at}
+use Rattle.tc_record.proofs.ColumnLaws.{same_columns}
 use Rattle.tc_record.proofs.Sized.{FitsWidth, sized_codec}
 
 -- each number of each column is a byte
@@ -55,9 +56,6 @@ pub record TextFound (w : Width) (c : Columns) (q : List ℕ × Columns) : Type 
   pub utf8 : IsUtf8 q.0
   pub fits : FitsWidth w (length q.0)
 
-two_columns : (c : Columns) (lengths texts : List ℕ) → c.lengths ≡ lengths → c.texts ≡ texts → c ≡ record c { lengths = lengths; texts = texts }
-two_columns c lengths texts p q = rw (← p, ← q) refl
-
 pub text_found : (w : Width) (c : Columns) (q : List ℕ × Columns) → AreBytes c → text_at w c ≡ Some q → TextFound w c q
 text_found w c q each gives =
     let one = then_parts (sized_number_at w c.lengths) _ q gives in
@@ -67,7 +65,7 @@ text_found w c q each gives =
     let told : c.lengths ≡ bytes_high_first (width_bytes w) (length two.0.0) ++ one.0.1 = rw held.len number.0 in
     subst (TextFound w c) (same_Some _ q two.2)
     (record {
-      spelled = two_columns c _ _ told held.spelled;
+      spelled = same_columns c _ _ _ _ _ refl told held.spelled refl refl;
       rest = record { fixed = each.fixed; lengths = number.1; texts = held.rest; slots = each.slots; names = each.names };
       utf8 = held.utf8;
       fits = subst (FitsWidth w) (sym held.len) number.2;

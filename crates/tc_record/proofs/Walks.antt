@@ -26,9 +26,6 @@ abbrev mutual
   AreKeyedMembers f last no_members = Unit {0}
   AreKeyedMembers f last (member k t ms) = (next : Option Name) × (IsLabelled f (in_object last) (Some k) (in_object next) × IsKeyed f t × AreKeyedMembers f next ms)
 
-abbrev pub no_columns : Columns
-no_columns = record { fixed = []; lengths = []; texts = []; slots = []; names = [] }
-
 -- the columns before tokens were read
 abbrev pub with_tokens : Format → List (Token Key Scalar) → Columns → Columns
 with_tokens f [] c = c

@@ -2,6 +2,7 @@
 use Rattle.std.specs.Prelude.{ℕ, ◌==◌, Bool, true, false, if◌then◌else◌, List, [], ◌∷◌, Option, None, Some}
 use Rattle.tc_bytes.specs.Reading.{◌>>=◌}
 use Rattle.tc_model.specs.Document.{Scalar}
+use Rattle.tc_model.specs.Kinds.{tag as kind_tag, objects}
 use Rattle.tc_record.specs.Preorder.{Token, token, object_opened}
 use Rattle.tc_record.specs.Walk as walk
 use Rattle.tc_record.specs.WalkView.{columns_of, format_of}
@@ -18,4 +19,4 @@ abbrev pub tokens_left : Bool → List ℕ → Walk → Option (List (Token walk
 tokens_left true tags w = walk.walk (format_of w.format) tags (stack_of w.levels w.depth) (columns_of w.columns)
 tokens_left false [] w = None
 tokens_left false (tag ∷ tags) w =
-    if tag == 6 then (walk.walk (format_of w.format) tags (stack_of w.levels w.depth) (columns_of w.columns) >>= λ ts. Some (token None object_opened ∷ ts)) else None
+    if tag == kind_tag objects then (walk.walk (format_of w.format) tags (stack_of w.levels w.depth) (columns_of w.columns) >>= λ ts. Some (token None object_opened ∷ ts)) else None

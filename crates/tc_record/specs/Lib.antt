@@ -4,7 +4,7 @@ pub mod StoredRecord
 pub mod Rows
 pub mod Measured
 pub mod Widths
-pub mod Parts
+pub mod ColumnBytes
 pub mod Walk
 pub mod WalkView
 pub mod Stack

@@ -3,23 +3,23 @@
 use Rattle.std.specs.Prelude.{◌≡◌, ℕ, ◌+◌, ◌<◌, ◌≤◌, ◌^◌, max, nat_lt, if◌then◌else◌, List, [], ◌∷◌, ◌++◌, length, map, flat_map, option_to_list}
 use Rattle.std.specs.Int.{w32, w64, to_be_bytes, bytes_high_first, cast_unsigned}
 use Rattle.tc_model.specs.Tree.{Tree, leaf, array, object, Items, no_items, item, Members, no_members, member, depth}
-use Rattle.tc_model.specs.Document.{Document, Scalar, null, boolean, integer, text, IsScalar, IsDocument}
+use Rattle.tc_model.specs.Document.{Document, Scalar, null, boolean, integer, text, IsScalar, IsDocument, scalar_kind}
+use Rattle.tc_model.specs.Kinds.{scalar_tag, tag as kind_tag, arrays, objects}
+use Rattle.tc_model.specs.Limits.{max_depth}
 use Rattle.tc_model.specs.Stored.{IsObject}
 use Rattle.tc_record.specs.Preorder.{Piece, scalar, array_opened, object_opened, closed, Token, tokens_of}
 
 -- ---- what a token adds to each column
 
-abbrev pub scalar_tag : Scalar → ℕ
-scalar_tag null = 1
-scalar_tag (boolean b) = 2
-scalar_tag (integer z) = 3
-scalar_tag (text s) = 4
+-- the tag of a value is the number of its kind, and a close has one of its own
+abbrev pub close_tag : ℕ
+close_tag = 7
 
 abbrev pub piece_tag : Piece Scalar → ℕ
-piece_tag (scalar s) = scalar_tag s
-piece_tag array_opened = 5
-piece_tag object_opened = 6
-piece_tag closed = 7
+piece_tag (scalar s) = scalar_tag (scalar_kind s)
+piece_tag array_opened = kind_tag arrays
+piece_tag object_opened = kind_tag objects
+piece_tag closed = close_tag
 
 abbrev pub scalar_fixed : Scalar → List ℕ
 scalar_fixed null = []
@@ -78,6 +78,10 @@ numbers w ns = flat_map (bytes_high_first w) ns
 abbrev pub joined : List (List ℕ) → List ℕ
 joined ts = flat_map (λ t. t) ts
 
+-- how many bytes the header has
+abbrev pub header_size : ℕ
+header_size = 23
+
 -- what stands behind the header
 abbrev pub body : {L : Type 0} → List (Token L Scalar) → List ℕ → List ℕ → List ℕ
 body ts slots names =
@@ -88,7 +92,7 @@ body ts slots names =
 abbrev pub record_bytes : {L : Type 0} → ℕ → List (Token L Scalar) → List ℕ → List ℕ → List ℕ
 record_bytes form ts slots names =
     let lengths = map length (texts ts) in
-    to_be_bytes w32 (23 + length (body ts slots names)) ++ (form ∷ (to_be_bytes w32 (length (tags ts)) ++ (to_be_bytes w32 (length (fixed ts)) ++ (to_be_bytes w32 (length lengths) ++ (width lengths ∷ (to_be_bytes w32 (length slots) ++ (width slots ∷ body ts slots names)))))))
+    to_be_bytes w32 (header_size + length (body ts slots names)) ++ (form ∷ (to_be_bytes w32 (length (tags ts)) ++ (to_be_bytes w32 (length (fixed ts)) ++ (to_be_bytes w32 (length lengths) ++ (width lengths ∷ (to_be_bytes w32 (length slots) ++ (width slots ∷ body ts slots names)))))))
 
 -- form 0: a slot is the length of a name, and the names follow
 abbrev pub record_of : Document → List ℕ
@@ -119,17 +123,17 @@ abbrev mutual
   AreNumberedMembers no_members = Unit {0}
   AreNumberedMembers (member n t ms) = (n < 2 ^ 32) × IsNumberedTree t × AreNumberedMembers ms
 
--- an object of depth at most 32 whose record has these bytes
+-- an object, no deeper than documents may be, whose record has these bytes
 pub record IsRecordOf (d : Document) (bytes : List ℕ) : Type 0 where
   pub document : IsDocument d
   pub is_object : IsObject d
-  pub shallow : depth d ≤ 32
+  pub shallow : depth d ≤ max_depth
   pub spelled : bytes ≡ record_of d
   pub short : length bytes < 2 ^ 32
 
 pub record IsNumberedRecordOf (n : NumberedTree) (bytes : List ℕ) : Type 0 where
   pub tree : IsNumberedTree n
   pub is_object : IsObject n
-  pub shallow : depth n ≤ 32
+  pub shallow : depth n ≤ max_depth
   pub spelled : bytes ≡ numbered_record_of n
   pub short : length bytes < 2 ^ 32

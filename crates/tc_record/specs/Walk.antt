@@ -4,8 +4,11 @@ use Rattle.std.specs.Int.{w16, w32, w64, cast_signed}
 use Rattle.std.specs.Str.{is_utf8}
 use Rattle.std.specs.Ordering.{is_lt}
 use Rattle.tc_bytes.specs.Reading.{Reader, ◌>>=◌, byte_at, number_at, bytes_at}
-use Rattle.tc_model.specs.Document.{Name, Scalar, null, boolean, integer, text, name_cmp}
+use Rattle.tc_model.specs.Document.{Name, Scalar, null, boolean, integer, text, name_cmp, null_kind, boolean_kind, integer_kind, text_kind}
+use Rattle.tc_model.specs.Kinds.{scalar_tag, tag as kind_tag, arrays, objects}
+use Rattle.tc_model.specs.Limits.{max_depth}
 use Rattle.tc_record.specs.Preorder.{Piece, scalar, array_opened, object_opened, closed, Token, token}
+use Rattle.tc_record.specs.Record.{close_tag}
 use Rattle.tc_record.specs.declared.widths.Width.{Width}
 use Rattle.tc_record.specs.declared.widths.Width.TheVariants.{Zero, One, Two, Four}
 
@@ -60,12 +63,12 @@ integer_at c = number_at w64 c.fixed >>= λ n. Some (scalar (integer (cast_signe
 -- a value, or the opening of one, by its tag
 abbrev pub piece_at : Width → ℕ → Columns → Option (Piece Scalar × Columns)
 piece_at w tag c =
-    if tag == 1 then Some (scalar null, c)
-    else (if tag == 2 then (bool_at c >>= λ b. Some (scalar (boolean b.0), b.1))
-    else (if tag == 3 then integer_at c
-    else (if tag == 4 then (text_at w c >>= λ t. Some (scalar (text t.0), t.1))
-    else (if tag == 5 then Some (array_opened, c)
-    else (if tag == 6 then Some (object_opened, c) else None)))))
+    if tag == scalar_tag null_kind then Some (scalar null, c)
+    else (if tag == scalar_tag boolean_kind then (bool_at c >>= λ b. Some (scalar (boolean b.0), b.1))
+    else (if tag == scalar_tag integer_kind then integer_at c
+    else (if tag == scalar_tag text_kind then (text_at w c >>= λ t. Some (scalar (text t.0), t.1))
+    else (if tag == kind_tag arrays then Some (array_opened, c)
+    else (if tag == kind_tag objects then Some (object_opened, c) else None)))))
 
 -- the name stands above the one before, if there is one
 abbrev pub is_above : Option Name → Name → Bool
@@ -83,11 +86,11 @@ label_at f (in_object last) c =
     if f.named then (name_at f.slot_width last c >>= λ n. Some (Some (name n.0), in_object (Some n.0), n.1))
     else (sized_number_at f.slot_width c.slots >>= λ n. Some (Some (number n.0), in_object None, record c { slots = n.1 }))
 
--- the levels behind a piece, of which there are at most 32
+-- the levels behind a piece, of which there are no more than a document may nest
 abbrev pub opened : Piece Scalar → List Level → Option (List Level)
 opened (scalar s) levels = Some levels
-opened array_opened levels = if nat_lt (length levels) 32 then Some (in_array ∷ levels) else None
-opened object_opened levels = if nat_lt (length levels) 32 then Some (in_object None ∷ levels) else None
+opened array_opened levels = if nat_lt (length levels) max_depth then Some (in_array ∷ levels) else None
+opened object_opened levels = if nat_lt (length levels) max_depth then Some (in_object None ∷ levels) else None
 opened closed levels = None
 
 -- a value that stands in a level, as a token, with the level and the columns behind it
@@ -98,7 +101,7 @@ value_at f level tag c = label_at f level c >>= λ l. piece_at f.text_width tag 
 abbrev pub step : Format → ℕ → List Level → Columns → Option (Token Key Scalar × List Level × Columns)
 step f tag [] c = None
 step f tag (level ∷ levels) c =
-    if tag == 7 then Some (token None closed, levels, c)
+    if tag == close_tag then Some (token None closed, levels, c)
     else (value_at f level tag c >>= λ v. opened v.0.piece (v.1 ∷ levels) >>= λ inner. Some (v.0, inner, v.2))
 
 abbrev pub is_used_up : Columns → Bool
@@ -113,4 +116,4 @@ walk f (tag ∷ tags) levels c = step f tag levels c >>= λ s. walk f tags s.1 s
 -- all tokens of a record, whose first one opens an object
 abbrev pub tokens_read : Format → List ℕ → Columns → Option (List (Token Key Scalar))
 tokens_read f [] c = None
-tokens_read f (tag ∷ tags) c = if tag == 6 then (walk f tags (in_object None ∷ []) c >>= λ ts. Some (token None object_opened ∷ ts)) else None
+tokens_read f (tag ∷ tags) c = if tag == kind_tag objects then (walk f tags (in_object None ∷ []) c >>= λ ts. Some (token None object_opened ∷ ts)) else None

@@ -49,6 +49,17 @@ impl<'a> Cursor<'a> {
         }
     }
 
+    /// A second cursor that stands where this one does. Takes no memory.
+    pub fn again(&self) -> Cursor<'a>
+        ensures { result ≡ self.now }
+    {
+        Cursor {
+            tags: self.tags,
+            started: self.started,
+            walk: self.walk,
+        }
+    }
+
     /// The next token in preorder, or `None` at the end. Takes no memory.
     pub fn next(&mut self) -> Option<Token<'a>>
         ensures taken { self.old ≡ option_to_list (option_map token_of result) ++ self.new }

@@ -11,7 +11,7 @@ use tc_value::{Doc, Member};
 
 /// Texts or names: how many, the longest, and all their bytes.
 #[derive(Clone, Copy)]
-pub(crate) struct Column {
+pub(crate) struct ColumnSum {
     pub(crate) count: u64,
     pub(crate) greatest: u64,
     pub(crate) bytes: u64,
@@ -22,15 +22,15 @@ pub(crate) struct Column {
 pub(crate) struct Measure {
     pub(crate) tags: u64,
     pub(crate) fixed: u64,
-    pub(crate) texts: Column,
-    pub(crate) names: Column,
+    pub(crate) texts: ColumnSum,
+    pub(crate) names: ColumnSum,
 }
 
 /// The columns of a whole document.
 pub(crate) fn measure_document(doc: &Doc) -> Measure
     ensures { result ≡ measured nothing_measured (preorder None (tree_of doc.now)) }
 {
-    let none = Column {
+    let none = ColumnSum {
         count: 0,
         greatest: 0,
         bytes: 0,
@@ -44,10 +44,10 @@ pub(crate) fn measure_document(doc: &Doc) -> Measure
     with_value(doc, start)
 }
 
-fn with_length(column: Column, len: usize) -> Column
+fn with_length(column: ColumnSum, len: usize) -> ColumnSum
     ensures { result ≡ with_element column len }
 {
-    Column {
+    ColumnSum {
         count: column.count.saturating_add(1),
         greatest: column.greatest.max(len as u64),
         bytes: column.bytes.saturating_add(len as u64),

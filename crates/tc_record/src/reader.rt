@@ -6,6 +6,7 @@ ghost use Rattle.tc_bytes.specs.Reading.{number_at};
 ghost use Rattle.tc_record.specs.Walk.{sized_number_at, utf8_at, text_at, name_at, bool_at, integer_at, piece_at, in_object, is_above as stands_above, label_at, value_at};
 ghost use Rattle.tc_record.specs.WalkView.{key_of, piece_of, token_of, columns_of, level_of, format_of};
 
+use crate::tags::{ARRAY_TAG, BOOLEAN_TAG, INTEGER_TAG, NULL_TAG, OBJECT_TAG, TEXT_TAG};
 use crate::token::{Label, Piece, Token};
 use crate::widths::Width;
 use std::str;
@@ -114,19 +115,19 @@ fn integer_in(columns: Columns<'_>) -> Option<(Piece<'_>, Columns<'_>)>
 fn piece_in(width: Width, tag: u8, columns: Columns<'_>) -> Option<(Piece<'_>, Columns<'_>)>
     ensures { option_map (λ x. (piece_of x.0, columns_of x.1)) result ≡ piece_at width tag (columns_of columns.entry) }
 {
-    if tag == 1 {
+    if tag == NULL_TAG {
         Some((Piece::Null, columns))
-    } else if tag == 2 {
+    } else if tag == BOOLEAN_TAG {
         let (value, behind) = bool_in(columns)?;
         Some((Piece::Bool(value), behind))
-    } else if tag == 3 {
+    } else if tag == INTEGER_TAG {
         integer_in(columns)
-    } else if tag == 4 {
+    } else if tag == TEXT_TAG {
         let (text, behind) = text_in(width, columns)?;
         Some((Piece::Text(text), behind))
-    } else if tag == 5 {
+    } else if tag == ARRAY_TAG {
         Some((Piece::Array, columns))
-    } else if tag == 6 {
+    } else if tag == OBJECT_TAG {
         Some((Piece::Object, columns))
     } else {
         None

@@ -11,6 +11,7 @@ ghost use Rattle.tc_record.specs.Borrowed.{Spells, IsRecord, named_tokens, numbe
 use crate::cursor::Cursor;
 use crate::reader::Columns;
 use crate::sections::{Sections, sections_of_record};
+use crate::tags::OBJECT_TAG;
 use crate::walking::Walk;
 use std::marker::Model;
 
@@ -55,6 +56,19 @@ impl<'a> RecordRef<'a> {
         }
     }
 
+    /// The record that bytes are known to be. Takes no memory, and looks neither at tags nor at texts nor at names.
+    pub fn known(bytes: &'a [u8]) -> RecordRef<'a>
+        requires { IsRecord bytes.now }
+        ensures bytes { result.bytes ≡ bytes.now }
+        ensures spells { Spells result }
+        ensures document { (d : Document) → IsRecordOf d bytes.now → (result.named ≡ true) × (result.tokens ≡ named_tokens d) }
+    {
+        match sections_of_record(bytes) {
+            Some(sections) => RecordRef { bytes, sections },
+            None => unreachable!(),
+        }
+    }
+
     /// Whether members carry names, as in form 0.
     pub fn named(&self) -> bool
         ensures { result ≡ self.now.named }
@@ -65,9 +79,20 @@ impl<'a> RecordRef<'a> {
     /// The bytes of the whole record, which spell a document or a numbered tree.
     pub fn bytes(&self) -> &'a [u8]
         ensures same { result.now ≡ self.now.bytes }
+        ensures is_record { IsRecord result.now }
         ensures spells { Spells self.now }
     {
         self.bytes
+    }
+
+    /// The same record, borrowed once more. Takes no memory.
+    pub fn again(&self) -> RecordRef<'a>
+        ensures { result ≡ self.now }
+    {
+        RecordRef {
+            bytes: self.bytes,
+            sections: self.sections,
+        }
     }
 
     /// A cursor that stands before the first token. Takes no memory.
@@ -88,7 +113,7 @@ fn has_tokens(sections: Sections<'_>) -> bool
     match sections.tags {
         [] => false,
         [first, rest @ ..] => {
-            *first == 6 && walks(rest, Walk::in_object(sections.format, sections.columns))
+            *first == OBJECT_TAG && walks(rest, Walk::in_object(sections.format, sections.columns))
         }
     }
 }

@@ -7,9 +7,12 @@ ghost use Rattle.tc_model.specs.Stored.{IsObject};
 ghost use Rattle.tc_record.specs.Widths.{width_bytes};
 ghost use Rattle.tc_record.specs.Measured.{column_width, column_len, record_len};
 
-use crate::measure::{Column, Measure, measure_document};
+use crate::measure::{ColumnSum, Measure, measure_document};
 use crate::widths::Width;
 use tc_value::Doc;
+
+/// How many bytes the header of a record has.
+pub const HEADER_SIZE: usize = 23;
 
 /// The length of the record of form 0, or `None` where the document is no object or its record would have 4,294,967,296
 /// bytes or more. Takes no memory.
@@ -33,7 +36,7 @@ fn within_u32(len: u64) -> Option<u32>
     }
 }
 
-pub(crate) fn width_of_column(column: Column) -> Width
+pub(crate) fn width_of_column(column: ColumnSum) -> Width
     ensures { width_bytes result ≡ column_width column }
 {
     if column.count == 0 {
@@ -43,7 +46,7 @@ pub(crate) fn width_of_column(column: Column) -> Width
     }
 }
 
-fn len_of_column(column: Column) -> u64
+fn len_of_column(column: ColumnSum) -> u64
     ensures { result ≡ column_len column }
 {
     let width = width_of_column(column).bytes();
@@ -56,7 +59,7 @@ fn len_of_column(column: Column) -> u64
 pub(crate) fn len_of_record(measure: Measure) -> u64
     ensures { result ≡ record_len measure }
 {
-    let values = 23u64
+    let values = (HEADER_SIZE as u64)
         .saturating_add(measure.tags)
         .saturating_add(measure.fixed);
     let texts = len_of_column(measure.texts);

@@ -1,11 +1,13 @@
 //! A walk over the tokens of a record.
 
 ghost use Rattle.std.specs.Prelude.{◌≡◌, ◌≤◌, ◌∷◌, [], option_map, length, nat_lt, if◌then◌else◌};
+ghost use Rattle.tc_model.specs.Limits.{max_depth};
 ghost use Rattle.tc_record.specs.Walk.{step, opened, in_object};
 ghost use Rattle.tc_record.specs.WalkView.{token_of, piece_of, columns_of, level_of, format_of};
 ghost use Rattle.tc_record.specs.Stack.{stack_of};
 
 use crate::reader::{Columns, Format, Level, value_in};
+use crate::tags::CLOSE_TAG;
 use crate::token::{Label, Piece, Token};
 
 /// How deep arrays and objects may nest in a record.
@@ -16,10 +18,10 @@ pub(crate) const MAX_DEPTH: usize = 32;
 pub(crate) struct Walk<'a> {
     pub(crate) format: Format,
     pub(crate) columns: Columns<'a>,
-    pub(crate) levels: [Level<'a>; 32],
+    pub(crate) levels: [Level<'a>; MAX_DEPTH],
     pub(crate) depth: usize,
-    ghost room: { length levels ≡ 32 },
-    ghost shallow: { depth ≤ 32 },
+    ghost room: { length levels ≡ max_depth },
+    ghost shallow: { depth ≤ max_depth },
 }
 
 impl<'a> Walk<'a> {
@@ -32,7 +34,7 @@ impl<'a> Walk<'a> {
         Walk {
             format,
             columns,
-            levels: [Level::Object(None); 32],
+            levels: [Level::Object(None); MAX_DEPTH],
             depth: 1,
         }
     }
@@ -45,7 +47,7 @@ impl<'a> Walk<'a> {
         if self.depth == 0 {
             return None;
         }
-        if tag == 7 {
+        if tag == CLOSE_TAG {
             self.depth -= 1;
             return Some(Token {
                 label: Label::Bare,
@@ -82,7 +84,7 @@ impl<'a> Walk<'a> {
     }
 
     fn push(&mut self, level: Level<'a>) -> bool
-        ensures pushed { (if result then Some (stack_of self.new.levels self.new.depth) else None) ≡ (if nat_lt (length (stack_of self.old.levels self.old.depth)) 32 then Some (level_of level.entry ∷ stack_of self.old.levels self.old.depth) else None) }
+        ensures pushed { (if result then Some (stack_of self.new.levels self.new.depth) else None) ≡ (if nat_lt (length (stack_of self.old.levels self.old.depth)) max_depth then Some (level_of level.entry ∷ stack_of self.old.levels self.old.depth) else None) }
         ensures format { self.new.format ≡ self.old.format }
         ensures columns { columns_of self.new.columns ≡ columns_of self.old.columns }
     {

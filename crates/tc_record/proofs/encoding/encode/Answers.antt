@@ -1,4 +1,4 @@
-use Rattle.std.proofs.Common.{◌≡◌, ◌∙◌, ap, length}
+use Rattle.std.proofs.Common.{◌≡◌, ◌∙◌, ◌<◌, ◌^◌, sym, ap, subst, length}
 use Rattle.tc_value.specs.Meaning.{tree_of}
 use Rattle.tc_record.specs.Record.{record_of}
 use Rattle.tc_record.specs.Measured.{record_len}
@@ -37,10 +37,21 @@ put_header-requires-clause-names c =
     let few = few_names d c.requires.short in
     rw c.measure_document-measure.ensures few
 
-pub returns : goal.returns
-returns c =
+pub returns-clause-spelled : goal.returns-clause-spelled
+returns-clause-spelled c =
     let d = tree_of c.args.doc.now in
     let exact = exact_measure d c.requires.short in
     let exact_here : IsExactMeasure d c.measure_document-measure.result = rw c.measure_document-measure.ensures exact in
     c.of.ensures.same ∙ encoded d c.measure_document-measure.result c.width_of_column-text_width.result c.width_of_column-name_width.result _ _ _ _ _ _ _ exact_here c.width_of_column-text_width.ensures c.width_of_column-name_width.ensures
     (begun c.put_header.new.out.items c.in_ok-out.out.items _ _ _ _ _ _ _ _ c.in_ok-put_header.ensures c.in_ok-out.ensures.items c.len_of_record-len.ensures) c.in_ok-put_value.ensures c.in_ok-put_value-2.ensures c.in_ok-put_value-3.ensures c.in_ok-put_value-4.ensures c.in_ok-put_value-5.ensures c.in_ok-put_value-6.ensures
+
+pub returns-clause-is_record : goal.returns-clause-is_record
+returns-clause-is_record c =
+    let spelled : c.of.result ≡ record_of (tree_of c.args.doc.now) = returns-clause-spelled c in
+    λ document shallow. record {
+      document = document;
+      is_object = c.requires.object;
+      shallow = shallow;
+      spelled = spelled;
+      short = subst (λ bytes. length bytes < 2 ^ 32) (sym spelled) c.requires.short;
+    }
