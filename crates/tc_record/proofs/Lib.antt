@@ -20,4 +20,6 @@ pub mod Cutting
 pub mod Reading
 pub mod Holding
 pub mod Built
+pub mod RecordRows
 pub mod OneDocument
+pub mod StoredRecords

@@ -1,6 +1,7 @@
 pub mod Preorder
 pub mod Record
 pub mod StoredRecord
+pub mod StoredTest
 pub mod Rows
 pub mod Measured
 pub mod Widths

@@ -3,8 +3,6 @@
 
 mod building;
 mod cursor;
-#[cfg(test)]
-mod decode_tests;
 mod decoding;
 mod encoding;
 mod fault;
@@ -15,9 +13,8 @@ mod reader;
 mod record_ref;
 mod sections;
 mod sizing;
+mod stored;
 mod tags;
-#[cfg(test)]
-mod tests;
 mod token;
 mod walking;
 mod widths;
@@ -29,5 +26,6 @@ pub use fault::RecordFault;
 pub use law::one_document;
 pub use record_ref::RecordRef;
 pub use sizing::{HEADER_SIZE, size};
+pub use stored::is_stored_record;
 pub use token::{Label, Piece, Token};
 pub use widths::{Width, put_number};

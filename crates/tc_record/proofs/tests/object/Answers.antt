@@ -1,6 +1,0 @@
-use Rattle.std.proofs.Common.{rules}
-use Rattle.tc_value.proofs.Trees.{ascending_single}
-use Rattle.tc_record.proofs.tests.object.Goals as goal
-
-pub of-requires : goal.of-requires
-of-requires c = search (rules, ascending_single)
