@@ -1,5 +1,6 @@
 -- The record of form 1 of a record of form 0, part by part.
 use Rattle.std.proofs.Common.{◌≡◌, ◌∙◌, ℕ, ◌+◌, ◌*◌, ◌<◌, ◌≤◌, ◌^◌, Bool, true, false, List, [], ◌∷◌, ◌++◌, Option, None, Some, unwrap_or, length, map, inl, inr, refl, sym, ap, subst, arith, length-append, append-nil, slice_index}
+use Rattle.std.proofs.lemmas.Bool.{true≢false, both_ways}
 use Rattle.std.proofs.lemmas.List.{length-map}
 use Rattle.std.proofs.lemmas.Option.{same_Some}
 use Rattle.tc_model.specs.Document.{Name, Document, Scalar}
@@ -13,10 +14,11 @@ use Rattle.tc_record.proofs.Reading.{document_again, numbered_again}
 use Rattle.tc_record.proofs.Lengths.{length-numbers}
 use Rattle.tc_record.proofs.Keyed.{preorder-relabel}
 use Rattle.tc_schema_model.specs.Added as counts
-use Rattle.tc_compact.specs.Compacted.{HasEach, IsCompactedRecordOf}
+use Rattle.tc_compact.specs.Compacted.{IsCompactedRecordOf}
+use Rattle.tc_model.specs.KnownNames.{HasEach}
 use Rattle.tc_compact.specs.Slots.{names_in}
 use Rattle.tc_compact.specs.Layout.{slot_bytes, counts_in, values_in, whole, named_slots, numbered_record}
-use Rattle.tc_compact.proofs.Learned.{numbers_stay}
+use Rattle.tc_schema_model.proofs.LastingNumbers.{numbers-Extends}
 use Rattle.tc_compact.proofs.Relabelled.{depth-numbered, object-numbered, lawful-numbered, names_in-to_names, record-numbered}
 use Rattle.tc_compact.proofs.Laid.{counts, values, record_laid, Cut, whole_cut, slots_between}
 
@@ -25,11 +27,8 @@ use Rattle.tc_compact.proofs.Laid.{counts, values, record_laid, Cut, whole_cut, 
 abbrev Tokens : Type 0
 Tokens = List (Token Key Scalar)
 
-both : (b : Bool) → b ≡ true → b ≡ false → ⊥
-both b yes_is no_is = cc
-
 two_forms : (ts us : Tokens) → ◌≡◌ {A = Option (Bool × Tokens)} (Some (true, ts)) (Some (false, us)) → ⊥
-two_forms ts us e = both true refl (ap (λ (p : Bool × Tokens). p.0) (same_Some (true, ts) (false, us) e))
+two_forms ts us e = true≢false (ap (λ (p : Bool × Tokens). p.0) (same_Some (true, ts) (false, us) e))
 
 -- a record that spells something has the tokens of its document
 pub document_tokens : (r : Record) (d : Document) → Spells r → IsRecordOf d r.bytes → (r.named ≡ true) × (r.tokens ≡ named_tokens d)
@@ -46,7 +45,7 @@ document_names d = ap names_in (preorder-relabel name d None) ∙ names_in-to_na
 -- a record of form 0 has a document
 pub named_document : (r : Record) → Spells r → r.named ≡ true → (d : Document) × IsRecordOf d r.bytes
 named_document r (inl one) named = (one.0, one.1.1)
-named_document r (inr one) named = absurd (both (r.named) named one.1.0)
+named_document r (inr one) named = absurd (both_ways r.named one.1.0 named)
 
 -- ---- the parts of its record
 
@@ -136,7 +135,7 @@ pub compacts : (names newer : List Name) (d : Document) (named_bytes numbers_the
 compacts names newer d named_bytes numbers_there bytes behind dictionary extends is short known are behind_is built =
     let ts = tokens_of d in
     let ls = labels ts in
-    let stay = numbers_stay newer names ls extends known in
+    let stay = numbers-Extends newer names ls extends known in
     let ns = map (counts.number newer) ls in
     let cut = document_cut d named_bytes is.spelled in
     let there : numbers_there ≡ ns = are ∙ sym stay.1 in

@@ -1,5 +1,6 @@
 -- The record of form 0 of a record of form 1, part by part.
-use Rattle.std.proofs.Common.{◌≡◌, ◌∙◌, ℕ, ◌+◌, ◌*◌, ◌<◌, ◌≤◌, ◌^◌, Bool, true, false, List, [], ◌∷◌, ◌++◌, Option, None, Some, length, map, inl, inr, refl, sym, ap, subst, arith, length-append, append-nil, slice_index}
+use Rattle.std.proofs.Common.{◌≡◌, ◌∙◌, ℕ, ◌+◌, ◌*◌, ◌<◌, ◌≤◌, ◌^◌, true, false, List, [], ◌∷◌, ◌++◌, Option, None, Some, length, map, inl, inr, refl, sym, ap, subst, arith, length-append, append-nil, slice_index}
+use Rattle.std.proofs.lemmas.Bool.{both_ways}
 use Rattle.std.proofs.lemmas.List.{length-map}
 use Rattle.std.proofs.lemmas.Option.{same_Some}
 use Rattle.tc_model.specs.Document.{Name, Document, Scalar}
@@ -11,7 +12,8 @@ use Rattle.tc_record.specs.Record.{NumberedTree, tags, fixed, texts, labels, wid
 use Rattle.tc_record.specs.Sections.{Sections, sections_in}
 use Rattle.tc_record.specs.Walk.{Key, name, number, Columns}
 use Rattle.tc_record.specs.Borrowed.{Record, Spells, numbered_tokens}
-use Rattle.tc_record.proofs.Walks.{with_tokens, no_columns}
+use Rattle.tc_record.proofs.ColumnLaws.{no_columns}
+use Rattle.tc_record.proofs.Walks.{with_tokens}
 use Rattle.tc_record.proofs.Spelled.{slots, names as record_names, spelled_fixed, spelled_lengths, spelled_texts, spelled_slots, spelled_names}
 use Rattle.tc_record.proofs.Keyed.{keyed, retoken, preorder-relabel, record-retoken, record_of-keyed, slots_of-keyed, names_of-keyed}
 use Rattle.tc_record.proofs.Fitting.{AreFit, TokensFit}
@@ -20,9 +22,10 @@ use Rattle.tc_record.proofs.Cutting.{sections_again}
 use Rattle.tc_record.proofs.Reading.{holding_bytes, holding_fits, lengths_small, small_texts, format_for}
 use Rattle.tc_record.proofs.Lengths.{length-numbers}
 use Rattle.tc_schema_model.specs.Added as counts
-use Rattle.tc_compact.specs.Compacted.{HasEach, compacted, IsCompactedRecordOf}
+use Rattle.tc_compact.specs.Compacted.{compacted, IsCompactedRecordOf}
+use Rattle.tc_model.specs.KnownNames.{HasEach}
 use Rattle.tc_compact.specs.Slots.{numbers_in, names_of}
-use Rattle.tc_compact.specs.Layout.{slot_bytes, counts_in, values_in, whole, named_slots, named_record}
+use Rattle.tc_compact.specs.Layout.{slot_bytes, counts_in, values_in, named_slots, named_record}
 use Rattle.tc_compact.proofs.Relabelled.{slots-to_names, names-to_names, numbers_in-to_numbers, tokens-numbered, record-numbered}
 use Rattle.tc_compact.proofs.Laid.{counts, values, record_laid, Cut, whole_cut}
 use Rattle.tc_compact.proofs.Named.{name_at, names_of-known, names_found, same_names}
@@ -65,10 +68,7 @@ module _ {L : Type 0} where
 
 -- a record of form 1 has a numbered tree
 pub numbered_tree : (r : Record) → Spells r → r.named ≡ false → (n : NumberedTree) × IsNumberedRecordOf n r.bytes × (numbers_in r.tokens ≡ labels (tokens_of n))
-numbered_tree r (inl one) unnamed = absurd (both r.named one.1.0 unnamed)
-  where
-    both : (b : Bool) → b ≡ true → b ≡ false → ⊥
-    both b yes_is no_is = cc
+numbered_tree r (inl one) unnamed = absurd (both_ways r.named unnamed one.1.0)
 numbered_tree r (inr one) unnamed =
     (one.0, one.1.1, ap numbers_in (one.1.2 ∙ preorder-relabel number one.0 None) ∙ numbers_in-to_numbers (λ k. k) (tokens_of one.0) ∙ same (labels (tokens_of one.0)))
   where
@@ -136,9 +136,6 @@ same_columns ts us bytes first second short fits more =
       names_are = names_are;
       numbered = λ ks. rw (tags_are, fixed_are, lengths_are, texts_are) refl;
     }
-
-form_at : (form : ℕ) (counts values behind : List ℕ) (w : ℕ) → slice_index (whole form counts w values behind) 4 ≡ form
-form_at form counts values behind w = refl
 
 -- what a record says that was built of the names of a record's numbers
 pub expanded_found : (names : List Name) (from built : Record) (ns : List Name) → IsDictionary names → Spells from → from.named ≡ false → names_of names (numbers_in from.tokens) ≡ Some ns

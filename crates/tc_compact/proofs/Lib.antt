@@ -1,4 +1,3 @@
-pub mod Learned
 pub mod Relabelled
 pub mod Laid
 pub mod Built
@@ -7,3 +6,4 @@ pub mod Named
 pub mod Expands
 pub mod Room
 pub mod RoundTrip
+pub mod Agreeing

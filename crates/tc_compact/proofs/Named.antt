@@ -10,7 +10,7 @@ use Rattle.tc_model.specs.Dictionary.{number_of}
 use Rattle.tc_model.proofs.NameNumbers.{slice_get-number_of, number_of-slice_get}
 use Rattle.tc_record.specs.Record.{joined}
 use Rattle.tc_schema_model.specs.Added as counts
-use Rattle.tc_compact.specs.Compacted.{HasEach}
+use Rattle.tc_model.specs.KnownNames.{HasEach}
 use Rattle.tc_compact.specs.Slots.{names_of}
 
 -- the name of a number, or none of its bytes

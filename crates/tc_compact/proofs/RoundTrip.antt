@@ -10,7 +10,7 @@ use Rattle.tc_record.specs.Borrowed.{Record, numbered_tokens}
 use Rattle.tc_record.proofs.Reading.{numbered_again}
 use Rattle.tc_schema_model.specs.Added as counts
 use Rattle.tc_compact.specs.Compacted.{compacted, IsCompactedRecordOf}
-use Rattle.tc_compact.proofs.Learned.{numbers_stay}
+use Rattle.tc_schema_model.proofs.LastingNumbers.{numbers-Extends}
 use Rattle.tc_compact.proofs.Relabelled.{record-numbered}
 use Rattle.tc_compact.proofs.Compacts.{compacted_record}
 use Rattle.tc_compact.proofs.Expands.{built_record, compacted_names, names_are, expands}
@@ -18,7 +18,7 @@ use Rattle.tc_compact.proofs.Expands.{built_record, compacted_names, names_are, 
 pub compacted_stays : (d : Document) (whole bytes : List ℕ) (names newer : List Name) → IsRecordOf d whole → IsCompactedRecordOf names d bytes → IsDictionary newer → Extends newer names → IsCompactedRecordOf newer d bytes
 compacted_stays d whole bytes names newer is form1 dictionary extends =
     let ts = tokens_of d in
-    let stay = numbers_stay newer names (labels ts) extends form1.known in
+    let stay = numbers-Extends newer names (labels ts) extends form1.known in
     compacted_record newer d whole bytes dictionary is stay.0 (form1.numbered.spelled ∙ record-numbered (counts.number names) d ∙ ap (λ ks. record_bytes 1 ts ks []) (sym stay.1)) form1.numbered.short
 
 pub one_record : (d e : Document) (whole other bytes : List ℕ) (names : List Name) → IsRecordOf d whole → IsCompactedRecordOf names d bytes → IsRecordOf e other → IsCompactedRecordOf names e bytes → whole ≡ other

@@ -3,7 +3,7 @@
 ghost use Rattle.std.specs.Prelude.{◌≡◌, ◌<◌, ◌+◌, ◌*◌, ◌^◌, List, true, IfOk, OnOk, length};
 ghost use Rattle.tc_model.specs.Document.{Name, Document};
 ghost use Rattle.tc_model.specs.Dictionary.{Extends, IsDictionary, all_learned};
-ghost use Rattle.tc_record.specs.Record.{IsRecordOf};
+ghost use Rattle.tc_record.specs.Record.{header_size, IsRecordOf};
 ghost use Rattle.tc_compact.specs.Compacted.{IsCompactedRecordOf};
 ghost use Rattle.tc_compact.specs.Slots.{names_in};
 ghost use Rattle.tc_compact.specs.Layout.{numbered_record};
@@ -13,7 +13,7 @@ use crate::learning::learn_names;
 use std::alloc::Global;
 use tc_bytes::{Bytes, Memory};
 use tc_names::Names;
-use tc_record::RecordRef;
+use tc_record::{HEADER_SIZE, RecordRef};
 
 /// The record of form 1 of a record of form 0 that has fewer than 1,073,741,824 bytes. New names are learned from the
 /// front of the record: the name of a member, and then those within its value. Errs only for want of memory, with some
@@ -36,11 +36,11 @@ pub fn compact(alloc: Global, from: RecordRef<'_>, names: &mut Names) -> Result<
 
 /// A record of form 1 with these slots. Errs only for want of memory.
 fn with_numbers(alloc: Global, shared: Shared<'_>, numbers: &[usize]) -> Result<Bytes, Memory>
-    requires short { 23 + length shared.values.now + length numbers.now * 4 < 2 ^ 32 }
+    requires short { header_size + length shared.values.now + length numbers.now * 4 < 2 ^ 32 }
     ensures { IfOk result (λ bytes. bytes ≡ numbered_record shared.entry.counts.now shared.entry.values.now numbers.now) }
 {
     let width = width_of_slots(numbers);
-    let len = 23 + shared.values.len() + numbers.len() * usize::from(width.bytes());
+    let len = HEADER_SIZE + shared.values.len() + numbers.len() * usize::from(width.bytes());
     let mut out = begin(alloc, len as u32, 1, shared, width)?;
     put_slots(width, numbers, &mut out)?;
     Ok(Bytes::of(out))

@@ -2,7 +2,7 @@
 
 ghost use Rattle.std.specs.Prelude.{◌≡◌, ◌≤◌, ◌+◌, ◌^◌, ◌-◌, ℕ, List, Some, None, IfOk, IsErrOf, length, map, min};
 ghost use Rattle.tc_model.specs.Document.{Document};
-ghost use Rattle.tc_record.specs.Record.{IsRecordOf, joined};
+ghost use Rattle.tc_record.specs.Record.{header_size, IsRecordOf, joined};
 ghost use Rattle.tc_compact.specs.Compacted.{IsCompactedRecordOf};
 ghost use Rattle.tc_compact.specs.Slots.{numbers_in, names_of};
 ghost use Rattle.tc_compact.specs.Layout.{named_slots, named_record};
@@ -12,7 +12,7 @@ use crate::layout::{Shared, begin, put_names, put_slots, shared_in, width_of_slo
 use std::alloc::Global;
 use tc_bytes::Bytes;
 use tc_names::Names;
-use tc_record::{Label, RecordFault, RecordRef};
+use tc_record::{HEADER_SIZE, Label, RecordFault, RecordRef};
 
 /// The record of form 0 whose form 1 under a dictionary these bytes are. `NotARecord` comes exactly where there is none:
 /// the bytes are no record of form 1, a number has no name, the names of an object do not ascend, or the record of
@@ -77,11 +77,11 @@ fn with_names(alloc: Global, shared: Shared<'_>, found: &Found<'_>) -> Result<Ve
     requires lengths { found.now.lengths.items ≡ map length (map (λ n. n.now) found.now.names.items) }
     requires bytes { found.now.name_bytes ≡ min (length (joined (map (λ n. n.now) found.now.names.items))) (2 ^ 64 - 1) }
     ensures spelled { IfOk result (λ out. out.items ≡ named_record shared.entry.counts.now shared.entry.values.now (map (λ n. n.now) found.now.names.items)) }
-    ensures refused { IsErrOf result RecordFault.NotARecord → 2 ^ 32 ≤ 23 + (length shared.entry.values.now + length (named_slots (map (λ n. n.now) found.now.names.items))) }
+    ensures refused { IsErrOf result RecordFault.NotARecord → 2 ^ 32 ≤ header_size + (length shared.entry.values.now + length (named_slots (map (λ n. n.now) found.now.names.items))) }
 {
     let lengths = found.lengths.as_slice();
     let width = width_of_slots(lengths);
-    let len = (23 + shared.values.len() as u64)
+    let len = (HEADER_SIZE as u64 + shared.values.len() as u64)
         .saturating_add((lengths.len() * usize::from(width.bytes())) as u64)
         .saturating_add(found.name_bytes);
     if len >= 0x1_0000_0000 {

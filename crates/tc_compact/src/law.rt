@@ -1,10 +1,15 @@
-//! That nothing is lost when names become numbers.
+//! That nothing is lost when names become numbers, and that records and shapes have the same names.
 
-ghost use Rattle.std.specs.Prelude.{◌≡◌, ℕ, List};
-ghost use Rattle.tc_model.specs.Document.{Name, Document};
-ghost use Rattle.tc_model.specs.Dictionary.{Extends, IsDictionary};
+ghost use Rattle.std.specs.Prelude.{◌≡◌, ◌<◌, ◌≤◌, ◌+◌, ◌^◌, ℕ, List, true, All, length};
+ghost use Rattle.tc_model.specs.Document.{Name, Document, document_shape};
+ghost use Rattle.tc_model.specs.Dictionary.{Extends, IsDictionary, all_learned};
+ghost use Rattle.tc_model.specs.KnownNames.{HasEach};
+ghost use Rattle.tc_model.specs.ShapeNames.{names_within};
+ghost use Rattle.tc_model.specs.TreeSize.{tree_size};
+ghost use Rattle.tc_record.specs.Borrowed.{Record, Spells, named_tokens};
 ghost use Rattle.tc_record.specs.Record.{IsRecordOf};
 ghost use Rattle.tc_compact.specs.Compacted.{IsCompactedRecordOf};
+ghost use Rattle.tc_compact.specs.Slots.{names_in};
 
 /// A law, and no work. The form 1 of a record under a dictionary is its form 1 under each dictionary that extends that
 /// one, and of no other record there. So `expand` answers the record that was handed to `compact`, unless memory is
@@ -12,4 +17,15 @@ ghost use Rattle.tc_compact.specs.Compacted.{IsCompactedRecordOf};
 pub fn round_trip()
     ensures stays { (d : Document) (whole bytes : List ℕ) (names newer : List Name) → IsRecordOf d whole → IsCompactedRecordOf names d bytes → IsDictionary newer → Extends newer names → IsCompactedRecordOf newer d bytes }
     ensures one { (d e : Document) (whole other bytes : List ℕ) (names : List Name) → IsRecordOf d whole → IsCompactedRecordOf names d bytes → IsRecordOf e other → IsCompactedRecordOf names e bytes → whole ≡ other }
+{}
+
+/// A law, and no work. A record and the shape of its document have the same names in the same order, so what `compact`
+/// learns of the one is what `add` learns of the other; and a dictionary that has them all learns nothing of either.
+/// Each name is short, and a record has at least a byte for each name and for each value.
+pub fn names_agree()
+    ensures order { (d : Document) → names_in (named_tokens d) ≡ names_within (document_shape d) }
+    ensures known { (names wanted : List Name) → HasEach names wanted → all_learned names wanted ≡ names }
+    ensures short { (d : Document) (whole : List ℕ) → IsRecordOf d whole → All (λ name. length name < 2 ^ 32) (names_within (document_shape d)) }
+    ensures few { (r : Record) (known : List Name) → Spells r → r.named ≡ true → length (all_learned known (names_in r.tokens)) ≤ length known + length r.bytes }
+    ensures values { (d : Document) (whole : List ℕ) → IsRecordOf d whole → tree_size d ≤ length whole }
 {}

@@ -1,13 +1,19 @@
 //! The parts of a record that both of its forms share, and the parts that differ.
 
 ghost use Rattle.std.specs.Prelude.{◌≡◌, ◌≤◌, ◌+◌, ◌++◌, IfOk, OnOk, length, map};
-ghost use Rattle.tc_record.specs.Record.{greatest as greatest_of, width as least_width, numbers, joined};
+ghost use Rattle.tc_record.specs.Record.{header_size, greatest as greatest_of, width as least_width, numbers, joined};
 ghost use Rattle.tc_record.specs.Widths.{width_bytes};
 ghost use Rattle.tc_compact.specs.Layout.{front, slot_bytes, counts_in, values_in};
 
 use std::alloc::Global;
 use tc_bytes::{Memory, put_u32};
-use tc_record::{Width, put_number};
+use tc_record::{HEADER_SIZE, Width, put_number};
+
+/// Where the counts of a header begin.
+const COUNTS_PLACE: usize = 5;
+
+/// Where the width of a slot stands, which is the last byte of a header.
+const SLOT_WIDTH_PLACE: usize = 22;
 
 /// The counts of a header, and the columns before the slots.
 #[derive(Clone, Copy)]
@@ -18,14 +24,14 @@ pub(crate) struct Shared<'a> {
 
 /// The shared parts of a record that has so many members and so many bytes of names.
 pub(crate) fn shared_in(bytes: &[u8], members: usize, name_bytes: usize) -> Shared<'_>
-    requires { 23 + (slot_bytes bytes.now members + name_bytes) ≤ length bytes.now }
+    requires { header_size + (slot_bytes bytes.now members + name_bytes) ≤ length bytes.now }
     ensures counts { result.counts.now ≡ counts_in bytes.now }
     ensures values { result.values.now ≡ values_in bytes.now (slot_bytes bytes.now members + name_bytes) }
 {
-    let behind = members * usize::from(bytes[22]) + name_bytes;
+    let behind = members * usize::from(bytes[SLOT_WIDTH_PLACE]) + name_bytes;
     Shared {
-        counts: &bytes[5..22],
-        values: &bytes[23..bytes.len() - behind],
+        counts: &bytes[COUNTS_PLACE..SLOT_WIDTH_PLACE],
+        values: &bytes[HEADER_SIZE..bytes.len() - behind],
     }
 }
 

@@ -7,9 +7,7 @@ mod expanding;
 mod law;
 mod layout;
 mod learning;
-#[cfg(test)]
-mod tests;
 
 pub use compacting::compact;
 pub use expanding::expand;
-pub use law::round_trip;
+pub use law::{names_agree, round_trip};

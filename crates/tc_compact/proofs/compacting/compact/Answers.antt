@@ -4,11 +4,11 @@ use Rattle.std.proofs.lemmas.Result.{IfOk-weaker}
 use Rattle.tc_record.specs.Preorder.{tokens_of}
 use Rattle.tc_record.specs.Record.{labels, joined}
 use Rattle.tc_schema_model.specs.Added as counts
-use Rattle.tc_compact.specs.Compacted.{HasEach}
+use Rattle.tc_model.specs.KnownNames.{HasEach}
 use Rattle.tc_model.specs.Dictionary.{all_learned}
 use Rattle.tc_compact.specs.Layout.{slot_bytes, counts_in, values_in, numbered_record}
 use Rattle.tc_compact.specs.Slots.{names_in}
-use Rattle.tc_compact.proofs.Learned.{all_numbered}
+use Rattle.tc_model.proofs.LearnedNames.{all_numbered}
 use Rattle.tc_compact.proofs.Compacts.{document_tokens, document_names, names_lie, compacts}
 use Rattle.tc_compact.proofs.compacting.compact.Goals as goal
 

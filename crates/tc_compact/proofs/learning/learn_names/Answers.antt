@@ -4,7 +4,8 @@ use Rattle.tc_model.proofs.DictionaryGrowth.{Extends-trans, Extends-learned}
 use Rattle.tc_record.specs.Record.{joined}
 use Rattle.tc_schema_model.specs.Added as counts
 use Rattle.tc_compact.specs.Slots.{names_in}
-use Rattle.tc_compact.proofs.Learned.{length-all_learned, number-last}
+use Rattle.tc_model.proofs.LearnedNames.{length-all_learned}
+use Rattle.tc_schema_model.proofs.LastingNumbers.{number-all_learned}
 use Rattle.tc_compact.proofs.learning.learn_names.Goals as goal
 
 pub learn-requires-clause-room : goal.learn-requires-clause-room
@@ -24,7 +25,7 @@ loop-token-preserved-in-Name c =
     let here : names_in l.cursor ≡ n ∷ rest = search rules in
     let known : c.learn.new.self ≡ learned l.names n = c.in_ok-number.ensures.ok in
     let left : all_learned c.learn.new.self rest ≡ after = ap (λ names. all_learned names rest) known ∙ ap (all_learned l.names) (sym here) ∙ l.invariant.left in
-    let number : counts.number after n ≡ c.in_ok-number.number = ap (λ names. counts.number names n) (sym left) ∙ number-last c.learn.new.self n rest c.in_ok-number.number c.in_ok-number.ensures.number in
+    let number : counts.number after n ≡ c.in_ok-number.number = ap (λ names. counts.number names n) (sym left) ∙ number-all_learned c.learn.new.self n rest c.in_ok-number.number c.in_ok-number.ensures.number in
     record {
       left = left;
       numbers =
