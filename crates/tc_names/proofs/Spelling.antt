@@ -52,10 +52,6 @@ dictionary_codec = restated_codec
     (λ names dictionary. (dictionary.few, read_from_names names dictionary.each, new_from_distinct [] names dictionary.distinct))
     (counted_list_codec is_new (passing_codec is_utf8 counted_bytes_codec))
 
--- two dictionaries have two sections
-pub one_dictionary : (names others : List (List ℕ)) → IsDictionary names → IsDictionary others → section names ≡ section others → names ≡ others
-one_dictionary = one_value dictionary_codec
-
 -- for `from_utf8`: the test, and what it tests
 pub ruleset utf8_tests = (IsUtf8-from_is_utf8, is_utf8-from_IsUtf8)
 
@@ -65,10 +61,13 @@ pub section-found : (result : Result (List (List ℕ)) NamesFault) (bytes : List
 section-found (Ok names) bytes each gives = (whole_found dictionary_codec bytes names each gives).0
 section-found (Err fault) bytes each gives = tt
 
-pub section-dictionary : (result : Result (List (List ℕ)) NamesFault) (bytes : List ℕ) → IsBytes bytes → Gives (λ names. names) NotNames result (read_section bytes)
-    → IfOk result IsDictionary
-section-dictionary (Ok names) bytes each gives = (whole_found dictionary_codec bytes names each gives).1
-section-dictionary (Err fault) bytes each gives = tt
+-- no other dictionary has these bytes
+pub section-only : (result : Result (List (List ℕ)) NamesFault) (bytes : List ℕ) → IsBytes bytes → Gives (λ names. names) NotNames result (read_section bytes)
+    → IfOk result (λ names. (other : List (List ℕ)) → IsDictionary other → bytes ≡ section other → names ≡ other)
+section-only (Ok names) bytes each gives =
+    let here = whole_found dictionary_codec bytes names each gives in
+    λ other dictionary same. one_value dictionary_codec names other here.1 dictionary (sym here.0 ∙ same)
+section-only (Err fault) bytes each gives = tt
 
 -- and it refuses bytes only where no dictionary has them
 pub section-refused : (result : Result (List (List ℕ)) NamesFault) (bytes : List ℕ) → Gives (λ names. names) NotNames result (read_section bytes)

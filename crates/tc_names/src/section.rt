@@ -28,6 +28,7 @@ impl Names {
     pub fn from_bytes(alloc: Global, bytes: &[u8]) -> Result<Names, NamesFault>
         ensures found { IfOk result (λ names. bytes.now ≡ section names) }
         ensures dictionary { IfOk result IsDictionary }
+        ensures only { IfOk result (λ names. (other : List (List ℕ)) → IsDictionary other → bytes.now ≡ section other → names ≡ other) }
         ensures refused { IsErrOf result NamesFault.NotNames → (names : List (List ℕ)) → IsDictionary names → bytes.now ≢ section names }
     {
         read(alloc, bytes)
