@@ -1,3 +1,1 @@
-pub mod RoomLaws
-pub mod MoreNames
-pub mod Grown
+pub mod PlaceRoom

@@ -4,13 +4,12 @@ use Rattle.std.proofs.lemmas.Bool.Decides.{Decides-ltb, Decides-eqb}
 use Rattle.std.proofs.lemmas.Bool.{false≢true}
 use Rattle.std.proofs.lemmas.Slice.Eq.{bytes_eq-Decides}
 use Rattle.tc_model.specs.Tree.{leaf, array, object, Items, no_items, item, Members, no_members, member}
-use Rattle.tc_model.specs.Document.{Name, Document, ShapeTree, ScalarKind, null_kind, boolean_kind, integer_kind, text_kind, document_shape}
+use Rattle.tc_model.specs.Document.{Name, ShapeTree, ScalarKind, null_kind, boolean_kind, integer_kind, text_kind}
 use Rattle.tc_model.specs.Dictionary.{number_of}
 use Rattle.tc_schema_model.specs.Occurrences.{field, each_item, Path, occurrences, items_occurrences, members_occurrences}
 use Rattle.tc_model.specs.Kinds.{Kind, scalar, arrays, objects}
 use Rattle.tc_schema_model.specs.Counted.{Counters, Counted, counted, Below, an_item, Fields, no_fields, a_field, nothing, held, field_at, numbered_field, documents_of, shows, IsCanonical, IsBelowCanonical, AreFieldsCanonical}
 use Rattle.tc_schema_model.specs.Added.{raised, put_field, number, added, items_added, members_added, IsNamed, AreItemsNamed, AreMembersNamed}
-use Rattle.tc_schema_model.specs.Stands.{StandsFor}
 use Rattle.tc_schema_model.proofs.CounterLaws.{counter-raised, total-raised}
 use Rattle.tc_schema_model.proofs.FieldLaws.{field_at-put_field_here, field_at-put_field_elsewhere, held_canonical}
 use Rattle.tc_schema_model.proofs.NumberLaws.{numbered, one_name, name_stands}
@@ -133,11 +132,3 @@ mutual
       canonical-members_added names ms (put_field n d fs) named.2
       (canonical-put_field (length names) 0 n d fs (omega arith) ((name_stands names label n (numbered names label named.0)).0) (omega (arith, documents-added names s (field_at n fs)))
       (canonical-added names s (field_at n fs) named.1 (field_canonical (length names) 0 n fs canonical)) canonical)
-
--- from a list of documents to the list with one more
-pub stands-added : (names : List Name) (d : Counted) (docs : List Document) (doc : Document) → IsNamed names (document_shape doc) → StandsFor names d docs → StandsFor names (added names (document_shape doc) d) (doc ∷ docs)
-stands-added names d docs doc named stands = record {
-  canonical = canonical-added names (document_shape doc) d named stands.canonical;
-  distinct = stands.distinct;
-  counts = λ path t. omega (arith, shows-added names (document_shape doc) d named path t, stands.counts path t);
-}

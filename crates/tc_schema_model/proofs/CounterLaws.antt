@@ -17,9 +17,6 @@ each_kind P a b c d e f objects = f
 pub total-raised : (k : Kind) (n : ℕ) (c : Counters) → total (raised k n c) ≡ total c + n
 total-raised k n c = each_kind (λ k. total (raised k n c) ≡ total c + n) (omega arith) (omega arith) (omega arith) (omega arith) (omega arith) (omega arith) k
 
-pub total-lowered : (k : Kind) (n : ℕ) (c : Counters) → n ≤ counter c k → total (lowered k n c) + n ≡ total c
-total-lowered k n c = each_kind (λ k. n ≤ counter c k → total (lowered k n c) + n ≡ total c) (λ h. omega arith) (λ h. omega arith) (λ h. omega arith) (λ h. omega arith) (λ h. omega arith) (λ h. omega arith) k
-
 pub counter-raised : (k : Kind) (n : ℕ) (c : Counters) (t : Kind) → counter (raised k n c) t ≡ counter c t + (if is_kind k t then n else 0)
 counter-raised k n c t =
     each_kind (λ k. counter (raised k n c) t ≡ counter c t + (if is_kind k t then n else 0))

@@ -51,10 +51,6 @@ at_first n d fs = grind (arith, nat_tests)
 pub after_first : (n m : ℕ) (d : Counted) (fs : Fields) → m < n → field_at n (a_field m d fs) ≡ field_at n fs
 after_first n m d fs less = grind (arith, nat_tests)
 
-lower_than : (limit low n : ℕ) (fs : Fields) → AreFieldsCanonical limit low fs → n < low → field_at n fs ≡ nothing
-lower_than limit low n no_fields canonical less = refl
-lower_than limit low n (a_field m d fs) canonical less = below_first n m d fs (omega (arith, canonical.0))
-
 -- ---- the one form is one
 
 module _ (names : List Name) (distinct : IsDistinct bytes_eq names) where

@@ -60,10 +60,6 @@ mutual
   fields_ordered limit low no_fields canonical = tt
   fields_ordered limit low (a_field n d fs) canonical = (canonical.0, ordered_from_canonical limit d canonical.3, fields_ordered limit (n + 1) fs canonical.4)
 
-pub held_ordered : (b : Below) → IsBelowOrdered b → IsOrdered (held b)
-held_ordered no_item order = (tt, tt)
-held_ordered (an_item d) order = order
-
 pub field_ordered : (low n : ℕ) (fs : Fields) → AreFieldsOrdered low fs → IsOrdered (field_at n fs)
 field_ordered low n no_fields order = (tt, tt)
 field_ordered low n (a_field k e fs) order = choose n k e fs order.1 (field_ordered (k + 1) n fs order.2)

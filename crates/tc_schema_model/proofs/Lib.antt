@@ -12,3 +12,9 @@ pub mod TextLaws
 pub mod NamedShapes
 pub mod ValueBounds
 pub mod Replaced
+pub mod RoomLaws
+pub mod MoreNames
+pub mod Grown
+pub mod SmallCounters
+pub mod CanonicalTrees
+pub mod TreesMade

@@ -48,9 +48,6 @@ in_members (member label v ms) name path t = by_test (bytes_eq label name) (in_m
 
 -- ---- the values of one kind
 
-of_kind-more : (t : Kind) (v : ShapeTree) (vs : List ShapeTree) → of_kind t (v ∷ vs) ≡ (if is_kind (kind_of v) t then v ∷ of_kind t vs else of_kind t vs)
-of_kind-more t v vs = refl
-
 how_many : (t : Kind) (vs : List ShapeTree) → occurrences_in vs [] t ≡ length (of_kind t vs)
 how_many t [] = refl
 how_many t (v ∷ vs) = by_test (is_kind (kind_of v) t) (how_many t vs)

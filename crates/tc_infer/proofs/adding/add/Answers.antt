@@ -6,8 +6,8 @@ use Rattle.tc_schema.specs.Places.{place_counted, most_names}
 use Rattle.tc_model.specs.ShapeNames.{names_within}
 use Rattle.tc_model.proofs.LearnedNames.{Extends-all_learned}
 use Rattle.tc_schema_model.proofs.NamedShapes.{named-all_learned}
-use Rattle.tc_infer.proofs.MoreNames.{canonical_further}
-use Rattle.tc_infer.proofs.Grown.{grown_canonical, grown_fits, added_canonical, added_shows, added_stands}
+use Rattle.tc_schema_model.proofs.FieldLaws.{canonical_below}
+use Rattle.tc_schema_model.proofs.Grown.{grown_canonical, grown_fits, added_canonical, added_shows, added_stands}
 use Rattle.tc_infer.proofs.adding.add.Goals as goal
 
 -- ---- once the names are learned
@@ -40,7 +40,7 @@ of-requires c =
     let grown = all_learned known (names_within s) in
     let counted : place_counted c.count_shape.new.place ≡ added grown s c.args.schema.now =
     c.in_ok-count_shape.ensures ∙ rw (c.into_root-root.ensures.counted, c.replace.ensures.value, c.in_ok-learn_names.ensures.ok) refl in
-    rw (counted) (canonical_further (length grown) most_names (added grown s c.args.schema.now) (omega (arith, c.requires.room)) (added_canonical known s c.args.schema.now c.requires.canonical))
+    rw (counted) (canonical_below (length grown) most_names (added grown s c.args.schema.now) (omega (arith, c.requires.room)) (added_canonical known s c.args.schema.now c.requires.canonical))
 
 -- what the schema counts
 counted : (c : goal.After-drop-schema-2) → c.of.result ≡ added (all_learned c.args.names.now (names_within (shape_tree c.args.shape.now))) (shape_tree c.args.shape.now) c.args.schema.now

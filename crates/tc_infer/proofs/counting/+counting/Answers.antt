@@ -15,7 +15,8 @@ use Rattle.tc_schema.specs.declared.place.Field.TheViews.{out-Node, roll-Node, o
 use Rattle.tc_schema.proofs.PlaceViews.{place_parts}
 use Rattle.tc_schema.proofs.FieldViews.{counted_at}
 use Rattle.tc_schema_model.specs.Room.{DoesFit, DoFieldsFit}
-use Rattle.tc_infer.proofs.RoomLaws.{room_here, items_fit, members_fit, item_fits, member_fits}
+use Rattle.tc_schema_model.proofs.RoomLaws.{item_fits, member_fits}
+use Rattle.tc_infer.proofs.PlaceRoom.{room_here, items_fit, members_fit}
 use Rattle.tc_schema.proofs.FieldWrites.{number_at, written_field}
 use Rattle.tc_value.proofs.ShapeWalks.{items_from, members_from, item_size, member_size}
 use Rattle.tc_infer.proofs.counting.+counting.Goals as goal

@@ -7,28 +7,12 @@ use Rattle.tc_model.specs.Kinds.{Kind, scalar, arrays, objects}
 use Rattle.tc_schema_model.specs.Counted.{Counted, counted, Below, no_item, an_item, Fields, no_fields, a_field, nothing, held, field_at, numbered_field, shows, total_at, IsCanonical, IsBelowCanonical, AreFieldsCanonical}
 use Rattle.tc_schema_model.specs.Added.{IsNamed, added}
 use Rattle.tc_schema_model.proofs.AddedLaws.{field_canonical}
-use Rattle.tc_schema_model.proofs.FieldLaws.{held_canonical}
+use Rattle.tc_schema_model.proofs.FieldLaws.{held_canonical, canonical_below}
 use Rattle.tc_model.specs.Dictionary.{number_of, Extends}
 use Rattle.tc_model.proofs.NameNumbers.{number_of-append}
 use Rattle.tc_schema_model.specs.Room.{DoesFit}
 use Rattle.tc_schema_model.specs.Values.{values_at}
-use Rattle.tc_infer.proofs.RoomLaws.{total-added}
-
--- ---- the one form
-
-mutual
-  pub canonical_further : (limit further : ℕ) (d : Counted) → limit ≤ further → IsCanonical limit d → IsCanonical further d
-  canonical_further limit further (counted c b fs) le canonical =
-      (canonical.0, canonical.1, below_further limit further b le canonical.2, fields_further limit further 0 fs le canonical.3)
-
-  below_further : (limit further : ℕ) (b : Below) → limit ≤ further → IsBelowCanonical limit b → IsBelowCanonical further b
-  below_further limit further no_item le canonical = tt
-  below_further limit further (an_item d) le canonical = (canonical.0, canonical_further limit further d le canonical.1)
-
-  fields_further : (limit further low : ℕ) (fs : Fields) → limit ≤ further → AreFieldsCanonical limit low fs → AreFieldsCanonical further low fs
-  fields_further limit further low no_fields le canonical = tt
-  fields_further limit further low (a_field n d fs) le canonical =
-      (canonical.0, omega (arith, canonical.1), canonical.2, canonical_further limit further d le canonical.3, fields_further limit further (n + 1) fs le canonical.4)
+use Rattle.tc_schema_model.proofs.RoomLaws.{total-added}
 
 -- ---- what is shown
 
@@ -60,7 +44,7 @@ same_field names more name fs canonical = cases (number_of names name) refl (num
     cases None none None is = refl
     cases None none (Some n) is = nothing_behind (length names) 0 n fs (number_behind names more name n none is) canonical
 
-numbered_canonical : (limit : ℕ) (o : Option ℕ) (fs : Fields) → AreFieldsCanonical limit 0 fs → IsCanonical limit (numbered_field o fs)
+pub numbered_canonical : (limit : ℕ) (o : Option ℕ) (fs : Fields) → AreFieldsCanonical limit 0 fs → IsCanonical limit (numbered_field o fs)
 numbered_canonical limit None fs canonical = (λ _. refl, λ _. refl, tt, tt)
 numbered_canonical limit (Some n) fs canonical = field_canonical limit 0 n fs canonical
 
@@ -77,7 +61,7 @@ pub same_shown : (newer older : List Name) (d : Counted) (path : Path) (t : Kind
 same_shown newer older d path t extends canonical = ap (λ names. shows names d path t) extends.1 ∙ shows_further older extends.0 d path t canonical
 
 pub canonical_newer : (newer older : List Name) (d : Counted) → Extends newer older → IsCanonical (length older) d → IsCanonical (length newer) d
-canonical_newer newer older d extends canonical = canonical_further (length older) (length newer) d (omega (arith, ap length extends.1, length-append older extends.0)) canonical
+canonical_newer newer older d extends canonical = canonical_below (length older) (length newer) d (omega (arith, ap length extends.1, length-append older extends.0)) canonical
 
 same_total : (newer older : List Name) (d : Counted) (path : Path) → Extends newer older → IsCanonical (length older) d → total_at newer d path ≡ total_at older d path
 same_total newer older d path extends canonical =

@@ -13,7 +13,7 @@ use Rattle.tc_schema_model.specs.Room.{DoesFit}
 use Rattle.tc_schema_model.specs.Values.{values_at}
 use Rattle.tc_model.proofs.LearnedNames.{Extends-all_learned, distinct-all_learned}
 use Rattle.tc_schema_model.proofs.NamedShapes.{named-all_learned}
-use Rattle.tc_infer.proofs.MoreNames.{canonical_newer, same_shown, added_fits}
+use Rattle.tc_schema_model.proofs.MoreNames.{canonical_newer, same_shown, added_fits}
 
 module _ (known : List Name) (s : ShapeTree) where
   abbrev grown : List Name

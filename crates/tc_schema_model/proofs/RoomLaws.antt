@@ -1,19 +1,15 @@
 -- What is counted of a part of a shape fits where what is counted of the whole shape does.
-use Rattle.std.proofs.Common.{◌≡◌, ◌+◌, ◌<◌, ◌≤◌, ◌^◌, List, [], ◌∷◌, ap, ◌∙◌, subst, arith}
-use Rattle.tc_model.specs.Tree.{array, object, Items, item, Members, member}
+use Rattle.std.proofs.Common.{◌≡◌, ◌+◌, ◌<◌, ◌≤◌, ◌^◌, List, [], ◌∷◌, ap, ◌∙◌, arith}
+use Rattle.tc_model.specs.Tree.{Items, item, Members, member}
 use Rattle.tc_model.specs.Document.{Name, ShapeTree, ScalarKind, null_kind, boolean_kind, integer_kind, text_kind}
 use Rattle.tc_model.specs.Dictionary.{number_of}
-use Rattle.tc_schema_model.specs.Occurrences.{field, each_item, Path}
+use Rattle.tc_schema_model.specs.Occurrences.{Path}
 use Rattle.tc_model.specs.Kinds.{Kind, scalar, arrays, objects}
-use Rattle.tc_schema_model.specs.Counted.{Counted, Below, an_item, Fields, held, field_at, numbered_field, total, documents_of, shows, total_at}
+use Rattle.tc_schema_model.specs.Counted.{Counted, Below, an_item, Fields, held, field_at, numbered_field, shows, total_at}
 use Rattle.tc_schema_model.specs.Added.{put_field, number, added, items_added, members_added, IsNamed, AreItemsNamed, AreMembersNamed}
-use Rattle.tc_schema_model.proofs.AddedLaws.{shows-added, shows-items_added, shows-members_added, documents-added}
+use Rattle.tc_schema_model.proofs.AddedLaws.{shows-added, shows-items_added, shows-members_added}
 use Rattle.tc_schema_model.proofs.FieldLaws.{field_at-put_field_here}
 use Rattle.tc_schema_model.proofs.NumberLaws.{numbered}
-use Rattle.tc_schema.specs.Places.{place_counted, below_counted, fields_counted}
-use Rattle.tc_schema.specs.declared.place.Node.{Node}
-use Rattle.tc_schema.specs.declared.place.Field.TheViews.{out-Node}
-use Rattle.tc_schema.proofs.PlaceViews.{place_parts}
 use Rattle.tc_schema_model.specs.Room.{DoesFit, DoFieldsFit}
 use Rattle.tc_schema_model.specs.Values.{values_at}
 
@@ -29,19 +25,6 @@ total-grows names d e path grows = omega (arith, grows (scalar null_kind), grows
 
 fits_below : (names : List Name) (d e : Counted) → ((path : Path) (t : Kind) → shows names d path t ≤ shows names e path t) → DoesFit names e → DoesFit names d
 fits_below names d e grows fits = λ path. omega (arith, fits path, total-grows names d e path (grows path))
-
--- the counter of the place itself
-pub room_here : (names : List Name) (s : ShapeTree) (p : Node) → DoesFit names (added names s (place_counted p)) → total (out-Node p).counts + 1 < 2 ^ 64
-room_here names s p fits =
-    let parts : documents_of (place_counted p) ≡ total (out-Node p).counts = ap documents_of (place_parts p) in
-    omega (arith, parts, documents-added names s (place_counted p), fits [])
-
--- the items, and the fields
-pub items_fit : (names : List Name) (xs : Items Name ScalarKind) (p : Node) → DoesFit names (added names (array xs) (place_counted p)) → DoesFit names (held (items_added names xs (below_counted (out-Node p).item)))
-items_fit names xs p fits = λ path. subst (λ d. total_at names (added names (array xs) d) (each_item ∷ path) < 2 ^ 64) (place_parts p) (fits (each_item ∷ path))
-
-pub members_fit : (names : List Name) (ms : Members Name ScalarKind) (p : Node) → DoesFit names (added names (object ms) (place_counted p)) → DoFieldsFit names (members_added names ms (fields_counted (out-Node p).fields.items))
-members_fit names ms p fits = λ name path. subst (λ d. total_at names (added names (object ms) d) (field name ∷ path) < 2 ^ 64) (place_parts p) (fits (field name ∷ path))
 
 -- one item before the others
 pub item_fits : (names : List Name) (s : ShapeTree) (xs : Items Name ScalarKind) (b : Below) → AreItemsNamed names xs → DoesFit names (held (items_added names (item s xs) b)) → DoesFit names (added names s (held b))
