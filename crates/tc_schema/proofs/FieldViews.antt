@@ -1,12 +1,11 @@
 -- The field at a place of a list of fields, and the steps of a path.
-use Rattle.std.proofs.Common.{◌≡◌, ℕ, zero, suc, ◌+◌, ◌<◌, ◌≤◌, List, [], ◌∷◌, Some, length, map, get_or, drop, refl, sym, ap, ◌∙◌, Option, None}
+use Rattle.std.proofs.Common.{◌≡◌, ℕ, zero, suc, ◌+◌, ◌<◌, ◌≤◌, List, [], ◌∷◌, Some, length, map, get_or, drop, refl, sym, ap, ◌∙◌}
 use Rattle.std.specs.Prelude.{slice_get}
 use Rattle.tc_model.specs.Document.{Name}
 use Rattle.tc_schema_model.specs.Occurrences.{Step, field, each_item, Path}
 use Rattle.tc_model.specs.Kinds.{Kind}
-use Rattle.tc_schema_model.specs.Counted.{Counted, nothing, no_counters, no_fields, counter, counters_of, place_at, shows, numbered_field}
-use Rattle.tc_model.specs.Dictionary.{number_of}
-use Rattle.tc_schema_model.proofs.CounterLaws.{each_kind}
+use Rattle.tc_schema_model.specs.Counted.{Counted, nothing, counter, counters_of, place_at, shows}
+use Rattle.tc_schema_model.proofs.CountingLaws.{shows_nothing}
 use Rattle.tc_schema.specs.Places.{place_counted, field_counted}
 use Rattle.tc_schema.specs.declared.place.Field.{Field}
 use Rattle.tc_schema.specs.declared.place.Node.{Node}
@@ -16,7 +15,7 @@ use Rattle.tc_value.specs.declared.names.Step as code
 use Rattle.std.proofs.lemmas.List.{drop_more, drop_all}
 use Rattle.tc_schema.proofs.PlaceViews.{field_parts, place_parts}
 
-pub counted_at : (fs : List Field) (i : ℕ) (f : Field) (n : ℕ) (d : Counted) → slice_get (map field_counted fs) i ≡ Some (n, d) → place_counted (out-Field (get_or fs i f)).node ≡ d
+pub counted_at : (fs : List Field) (i : ℕ) (f : Field) (n : ℕ) (d : Counted) → slice_get (map field_counted fs) i ≡ Some (n, d) → place_counted (out-Field (get_or fs i f)).node.value ≡ d
 counted_at [] i f n d here = cc
 counted_at (g ∷ fs) zero f n d here =
     let pair : field_counted g ≡ (n, d) = cc in
@@ -27,16 +26,6 @@ counted_at (g ∷ fs) (suc i) f n d here = counted_at fs i f n d here
 pub one_step : (names : List Name) (d : Counted) (step : Step) (path : Path) → place_at names d (step ∷ path) ≡ place_at names (place_at names d (step ∷ [])) path
 one_step names d (field name) path = refl
 one_step names d each_item path = refl
-
--- nothing shows nothing
-pub shows_nothing : (names : List Name) (path : Path) (t : Kind) → shows names nothing path t ≡ 0
-shows_nothing names [] t = each_kind (λ t. counter no_counters t ≡ 0) refl refl refl refl refl refl t
-shows_nothing names (each_item ∷ path) t = shows_nothing names path t
-shows_nothing names (field name ∷ path) t = ap (λ d. shows names d path t) (at (number_of names name)) ∙ shows_nothing names path t
-  where
-    at : (o : Option ℕ) → numbered_field o no_fields ≡ nothing
-    at None = refl
-    at (Some n) = refl
 
 -- where a step leads to nothing, the path shows nothing
 pub ended_at_nothing : (names : List Name) (place here : Counted) (path left rest : Path) (step : Step) (t : Kind)

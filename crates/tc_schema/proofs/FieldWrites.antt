@@ -1,17 +1,19 @@
 -- A field that is written, or put in, among the fields of a place.
 use Rattle.std.proofs.Common.{◌≡◌, ℕ, zero, suc, ◌≤◌, List, [], ◌∷◌, Some, length, map, get_or, set, refl, sym, ap, ◌∙◌, arith}
 use Rattle.std.specs.Prelude.{slice_get}
+use Rattle.std.specs.declared.alloc.Global.{Global}
+use Rattle.std.specs.declared.boxed.Box.{Box}
 use Rattle.std.specs.List.{insert}
 use Rattle.std.proofs.lemmas.List.{map-set}
 use Rattle.tc_schema_model.specs.Counted.{Counted}
 use Rattle.tc_schema.specs.Places.{place_counted, field_counted, fields_counted, listed}
 use Rattle.tc_schema.specs.declared.place.Node.{Node}
 use Rattle.tc_schema.specs.declared.place.Field.{Field}
-use Rattle.tc_schema.specs.declared.place.Field.TheViews.{out-Field, roll-Field, out-roll-Field}
-use Rattle.tc_schema.proofs.PlaceViews.{field_parts}
+use Rattle.tc_schema.specs.declared.place.Field.TheViews.{out-Field, roll-Field}
+use Rattle.tc_schema.proofs.PlaceViews.{field_parts, field_made}
 
-pub made_field : (n : ℕ) (node : Node) (d : Counted) → place_counted node ≡ d → field_counted (roll-Field record { number = n; node = node }) ≡ (n, d)
-made_field n node d is = field_parts (roll-Field record { number = n; node = node }) ∙ rw (out-roll-Field) (ap (λ e. let pair : ℕ × Counted = (n, e) in pair) is)
+pub made_field : (n : ℕ) (node : Box Node Global) (d : Counted) → place_counted node.value ≡ d → field_counted (roll-Field record { number = n; node = node }) ≡ (n, d)
+made_field n node d is = field_made n node ∙ ap (λ e. let pair : ℕ × Counted = (n, e) in pair) is
 
 pub inserted_here : {X Y : Type 0} (f : X → Y) (xs : List X) (i : ℕ) (x : X) → i ≤ length xs → slice_get (map f (insert xs i x)) i ≡ Some (f x)
 inserted_here f xs zero x inside = refl
@@ -32,5 +34,5 @@ number_at (g ∷ fs) zero f n d here =
 number_at (g ∷ fs) (suc i) f n d here = number_at fs i f n d here
 
 -- its place is written anew
-pub written_field : (fs : List Field) (i n k : ℕ) (node : Node) (d : Counted) → k ≡ n → place_counted node ≡ d → fields_counted (set fs i (roll-Field record { number = k; node = node })) ≡ listed (set (map field_counted fs) i (n, d))
+pub written_field : (fs : List Field) (i n k : ℕ) (node : Box Node Global) (d : Counted) → k ≡ n → place_counted node.value ≡ d → fields_counted (set fs i (roll-Field record { number = k; node = node })) ≡ listed (set (map field_counted fs) i (n, d))
 written_field fs i n k node d number is = ap listed (map-set field_counted fs i (roll-Field record { number = k; node = node }) ∙ ap (set (map field_counted fs) i) (made_field k node d is ∙ ap (λ m. let pair : ℕ × Counted = (m, d) in pair) number))

@@ -1,7 +1,8 @@
 -- What the kinds and the paths of the code mean.
 use Rattle.std.specs.Prelude.{List, map}
 use Rattle.tc_model.specs.Document.{null_kind, boolean_kind, integer_kind, text_kind}
-use Rattle.tc_schema_model.specs.Occurrences as model
+use Rattle.tc_model.specs.Kinds as model
+use Rattle.tc_schema_model.specs.Occurrences as paths
 use Rattle.tc_value.specs.declared.names.Kind.{Kind}
 use Rattle.tc_value.specs.declared.names.Kind.TheVariants.{Null, Bool, Int, Text, Array, Object}
 use Rattle.tc_value.specs.declared.names.Step.{Step}
@@ -15,9 +16,9 @@ kind_meant Text = model.scalar text_kind
 kind_meant Array = model.arrays
 kind_meant Object = model.objects
 
-abbrev pub step_meant : Step → model.Step
-step_meant (Field name) = model.field name
-step_meant Item = model.each_item
+abbrev pub step_meant : Step → paths.Step
+step_meant (Field name) = paths.field name
+step_meant Item = paths.each_item
 
-abbrev pub path_meant : List Step → model.Path
+abbrev pub path_meant : List Step → paths.Path
 path_meant path = map step_meant path

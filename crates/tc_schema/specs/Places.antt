@@ -23,7 +23,7 @@ below_step None = no_item
 below_step (Some b) = an_item b.value
 
 abbrev pub field_step : Field-F (ℕ × Counted) Counted → ℕ × Counted
-field_step f = (f.number, f.node)
+field_step f = (f.number, f.node.value)
 
 abbrev pub place_step : Node-F (ℕ × Counted) Counted → Counted
 place_step p = counted p.counts (below_step p.item) (listed p.fields.items)

@@ -23,7 +23,8 @@ pub struct Node {
 #[derive(Drop, Debug)]
 pub struct Field {
     pub number: u32,
-    pub node: Node,
+    /// Apart, so that fields before and behind it move cheaply.
+    pub node: Box<Node>,
 }
 
 impl Node {
@@ -69,7 +70,7 @@ fn copy_fields(fields: &[Field], alloc: Global) -> Result<Vec<Field>, AllocError
     for field in fields {
         copied.push(Field {
             number: field.number,
-            node: field.node.copy(alloc)?,
+            node: Box::new(alloc, field.node.copy(alloc)?)?,
         })?;
     }
     Ok(copied)

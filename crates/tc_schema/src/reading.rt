@@ -212,7 +212,10 @@ fn read_fields(
             return Err(SchemaFault::NotASchema);
         }
         let (node, after) = read_place(after, levels, names, alloc)?;
-        fields.push(Field { number, node })?;
+        fields.push(Field {
+            number,
+            node: Box::new(alloc, node)?,
+        })?;
         low = number + 1;
         rest = after;
     }

@@ -1,13 +1,14 @@
-use Rattle.std.proofs.Common.{sym, subst}
+use Rattle.std.proofs.Common.{sym, ap, ◌∙◌, subst}
 use Rattle.tc_schema_model.specs.Counted.{IsOrdered}
 use Rattle.tc_schema_model.proofs.FieldLaws.{field_ordered}
-use Rattle.tc_schema.specs.Places.{fields_counted}
+use Rattle.tc_schema.specs.Places.{place_counted, fields_counted}
 use Rattle.tc_schema.proofs.FieldViews.{counted_at}
 use Rattle.tc_schema.proofs.paths.field_numbered.Goals as goal
 
 pub returns-in-Ok-clause-there : goal.returns-in-Ok-clause-there
-returns-in-Ok-clause-there c = counted_at c.args.fields.now c.in-Ok.at _ c.args.number _ c.in-Ok.ensures.found.here
+returns-in-Ok-clause-there c = ap place_counted c.deref.ensures ∙ counted_at c.args.fields.now c.in-Ok.at _ c.args.number _ c.in-Ok.ensures.found.here
 
 pub returns-in-Ok-clause-ordered : goal.returns-in-Ok-clause-ordered
 returns-in-Ok-clause-ordered c =
-    subst IsOrdered (sym (counted_at c.args.fields.now c.in-Ok.at _ c.args.number _ c.in-Ok.ensures.found.here)) (field_ordered 0 c.args.number (fields_counted c.args.fields.now) c.requires)
+    subst IsOrdered (sym (ap place_counted c.deref.ensures ∙ counted_at c.args.fields.now c.in-Ok.at _ c.args.number _ c.in-Ok.ensures.found.here))
+    (field_ordered 0 c.args.number (fields_counted c.args.fields.now) c.requires)

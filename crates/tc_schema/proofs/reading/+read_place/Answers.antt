@@ -4,7 +4,7 @@ use Rattle.std.proofs.lemmas.Result.{err_from_is_err_and}
 use Rattle.tc_bytes.specs.Reading.{number_at}
 use Rattle.tc_schema.specs.Places.{field_counted, place_counted}
 use Rattle.std.proofs.lemmas.List.{map_push, take_rest}
-use Rattle.tc_schema.proofs.PlaceViews.{field_made}
+use Rattle.tc_schema.proofs.FieldWrites.{made_field}
 use Rattle.tc_schema.specs.Reading.{place_at}
 use Rattle.tc_schema.proofs.ReadingSteps.{onto, place_step, no_number, number_refused, no_place, next_field, all_read, kinds_missing}
 use Rattle.tc_schema.proofs.reading.+read_place.Goals as goal
@@ -44,7 +44,7 @@ read_fields-loop-done-preserved t c =
     let below : c.in_ok-number.number < c.args.names = let h = c.if-number-names.false in omega arith in
     let fewer : c.args.many - (c.loop-done.done + 1) ≡ c.args.many - c.loop-done.done - 1 = omega arith in
     let more : map field_counted c.push.new.self.items ≡ map field_counted c.loop-done.fields.items ++ (c.in_ok-number.number, place_counted c.in_ok-node.node) ∷ [] =
-    ap (map field_counted) c.in_ok-push.ensures.items ∙ map_push field_counted c.loop-done.fields.items _ ∙ ap (λ f. map field_counted c.loop-done.fields.items ++ f ∷ []) (field_made c.in_ok-number.number c.in_ok-node.node) in
+    ap (map field_counted) c.in_ok-push.ensures.items ∙ map_push field_counted c.loop-done.fields.items _ ∙ ap (λ f. map field_counted c.loop-done.fields.items ++ f ∷ []) (made_field c.in_ok-number.number _ (place_counted c.in_ok-node.node) (ap place_counted c.in_ok-new.ensures.ok)) in
     rw (more, fewer)
     (next_field (place_at c.args.names c.args.levels) c.args.names (c.args.many - c.loop-done.done) c.loop-done.low c.loop-done.rest.now c.in_ok-number.number c.in_ok-number.after.now (place_counted c.in_ok-node.node) c.in_ok-node.after.now
     (map field_counted c.loop-done.fields.items) left number least below c.in_ok-node.ensures
