@@ -8,8 +8,9 @@ use Rattle.std.specs.List.Sorted.{IsSearchInRange, IsBinarySearchResult, IsNonDe
 use Rattle.std.specs.Ordering.{nat_cmp, ordering_index}
 use Rattle.std.proofs.lemmas.Cmp.{ranked}
 use Rattle.std.proofs.lemmas.Bool.Decides.{nat_tests}
-use Rattle.tc_schema_model.specs.Counted.{Counted, Fields, a_field, nothing, field_at, AreFieldsOrdered}
+use Rattle.tc_schema_model.specs.Counted.{Counted, Fields, a_field, AreFieldsOrdered}
 use Rattle.tc_schema_model.specs.Added.{put_field, without_field}
+use Rattle.tc_schema_model.proofs.CountingLaws.{below_first, at_first, after_first}
 use Rattle.tc_schema.specs.Places.{listed}
 use Rattle.tc_schema.specs.Search.{IsPlaceOf, IsGapFor}
 
@@ -24,25 +25,19 @@ at_least low n d (f ∷ fs) (suc i) order here = let rest = at_least (f.0 + 1) n
 place_first : (n : ℕ) (d : Counted) (fs : List (ℕ × Counted)) → IsPlaceOf n ((n, d) ∷ fs) 0
 place_first n d fs = record {
   inside = omega arith;
-  here = ap (λ e. let pair : ℕ × Counted = (n, e) in Some pair) (found n d (listed fs));
+  here = ap (λ e. let pair : ℕ × Counted = (n, e) in Some pair) (sym (at_first n d (listed fs)));
   written = λ e. grind (arith, nat_tests);
   taken = grind (arith, nat_tests);
 }
-  where
-    found : (n : ℕ) (d : Counted) (fs : Fields) → d ≡ field_at n (a_field n d fs)
-    found n d fs = grind (arith, nat_tests)
 
 place_later : (n : ℕ) (f : ℕ × Counted) (fs : List (ℕ × Counted)) (i : ℕ) → f.0 < n → IsPlaceOf n fs i → IsPlaceOf n (f ∷ fs) (suc i)
 place_later n f fs i less later = record {
   inside = let h = later.inside in omega arith;
-  here = later.here ∙ ap (λ d. let pair : ℕ × Counted = (n, d) in Some pair) (found n f.0 f.1 (listed fs) less);
+  here = later.here ∙ ap (λ d. let pair : ℕ × Counted = (n, d) in Some pair) (sym (after_first n f.0 f.1 (listed fs) less));
   written = λ d. ap (a_field f.0 f.1) (later.written d) ∙ put n d f.0 f.1 (listed fs) less;
   taken = ap (a_field f.0 f.1) later.taken ∙ out n f.0 f.1 (listed fs) less;
 }
   where
-    found : (n k : ℕ) (e : Counted) (fs : Fields) → k < n → field_at n fs ≡ field_at n (a_field k e fs)
-    found n k e fs less = grind (arith, nat_tests)
-
     put : (n : ℕ) (d : Counted) (k : ℕ) (e : Counted) (fs : Fields) → k < n → a_field k e (put_field n d fs) ≡ put_field n d (a_field k e fs)
     put n d k e fs less = grind (arith, nat_tests)
 
@@ -59,24 +54,18 @@ place_from low n d (f ∷ fs) (suc i) order here =
 
 gap_first : (n : ℕ) (fs : List (ℕ × Counted)) → IfSome (slice_get fs 0) (λ f. n < f.0) → IsGapFor n fs 0
 gap_first n [] after = record { inside = omega arith; none = refl; filled = λ d. refl }
-gap_first n (f ∷ fs) after = record { inside = omega arith; none = none n f.0 f.1 (listed fs) after; filled = λ d. put n d f.0 f.1 (listed fs) after }
+gap_first n (f ∷ fs) after = record { inside = omega arith; none = below_first n f.0 f.1 (listed fs) after; filled = λ d. put n d f.0 f.1 (listed fs) after }
   where
-    none : (n k : ℕ) (e : Counted) (fs : Fields) → n < k → field_at n (a_field k e fs) ≡ nothing
-    none n k e fs less = grind (arith, nat_tests)
-
     put : (n : ℕ) (d : Counted) (k : ℕ) (e : Counted) (fs : Fields) → n < k → a_field n d (a_field k e fs) ≡ put_field n d (a_field k e fs)
     put n d k e fs less = grind (arith, nat_tests)
 
 gap_later : (n : ℕ) (f : ℕ × Counted) (fs : List (ℕ × Counted)) (i : ℕ) → f.0 < n → IsGapFor n fs i → IsGapFor n (f ∷ fs) (suc i)
 gap_later n f fs i less later = record {
   inside = let h = later.inside in omega arith;
-  none = found n f.0 f.1 (listed fs) less ∙ later.none;
+  none = after_first n f.0 f.1 (listed fs) less ∙ later.none;
   filled = λ d. ap (a_field f.0 f.1) (later.filled d) ∙ put n d f.0 f.1 (listed fs) less;
 }
   where
-    found : (n k : ℕ) (e : Counted) (fs : Fields) → k < n → field_at n (a_field k e fs) ≡ field_at n fs
-    found n k e fs less = grind (arith, nat_tests)
-
     put : (n : ℕ) (d : Counted) (k : ℕ) (e : Counted) (fs : Fields) → k < n → a_field k e (put_field n d fs) ≡ put_field n d (a_field k e fs)
     put n d k e fs less = grind (arith, nat_tests)
 

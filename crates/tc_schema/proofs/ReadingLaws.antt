@@ -1,7 +1,7 @@
 -- What is read of a place is spelled so, and what is spelled so is read.
 use Rattle.std.proofs.Common.{◌≡◌, ◌≢◌, ℕ, zero, suc, ◌+◌, ◌-◌, ◌<◌, ◌≤◌, ◌^◌, ◌==◌, ◌&&◌, nat_lt, Bool, true, false, List, [], ◌∷◌, ◌++◌, drop, Some, None, if◌then◌else◌, refl, sym, ap, ◌∙◌, subst, arith, append_assoc}
 use Rattle.std.specs.Int.{w32, w64, to_be_bytes}
-use Rattle.std.proofs.lemmas.Bool.{false≢true}
+use Rattle.std.proofs.lemmas.Bool.{false≢true, le-ltb, lt-ltb}
 use Rattle.std.proofs.lemmas.Bool.Decides.{Decides-eqb, Decides-ltb, nat_tests}
 use Rattle.std.proofs.lemmas.Option.{same_Some, some_pair_parts}
 use Rattle.tc_bytes.specs.Reading.{Reader, ◌>>=◌, byte_at, number_at}
@@ -178,17 +178,11 @@ module _ {P : Counted → Type 0} {read : Reader Counted} (codec : IsCodec read 
       let one_more : 1 + count ≡ suc count = omega arith in
       ap (fields_at read limit (1 + count) low) (regroup (to_be_bytes w32 n) (node_bytes (node_of d)) (fields_bytes (field_nodes_of fs)) rest)
       ∙ ap (λ m. fields_at read limit m low (to_be_bytes w32 n ++ inside)) one_more
-      ∙ fields_step limit count low n (to_be_bytes w32 n ++ inside) inside later d fs rest (number_codec_32.again n inside (omega (arith, few, fits.1))) (not_under n low fits.0) (is_inside n limit fits.1)
+      ∙ fields_step limit count low n (to_be_bytes w32 n ++ inside) inside later d fs rest (number_codec_32.again n inside (omega (arith, few, fits.1))) (le-ltb n low fits.0) (lt-ltb n limit fits.1)
       (codec.again d later fits.2) (fields_again limit (n + 1) fs rest few fits.3)
     where
       regroup : (a b c d : List ℕ) → (a ++ (b ++ c)) ++ d ≡ a ++ (b ++ (c ++ d))
       regroup a b c d = simp append_assoc
-
-      not_under : (n low : ℕ) → low ≤ n → nat_lt n low ≡ false
-      not_under n low le = grind (arith, nat_tests)
-
-      is_inside : (n limit : ℕ) → n < limit → nat_lt n limit ≡ true
-      is_inside n limit less = grind (arith, nat_tests)
 
   few_fit : (limit low : ℕ) (fs : Fields) → low ≤ limit → FieldsFit P limit low fs → fields_count (field_nodes_of fs) + low ≤ limit
   few_fit limit low no_fields least fits = omega arith

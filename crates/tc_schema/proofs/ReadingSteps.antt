@@ -2,7 +2,7 @@
 use Rattle.std.proofs.Common.{◌≡◌, ◌≢◌, ℕ, zero, suc, ◌+◌, ◌-◌, ◌<◌, ◌≤◌, ◌==◌, nat_lt, Bool, true, false, List, [], ◌∷◌, ◌++◌, drop, Option, Some, None, option_map, ◌⊎◌, inl, inr, if◌then◌else◌, refl, sym, ap, ◌∙◌, arith}
 use Rattle.std.specs.Int.{w32}
 use Rattle.std.proofs.lemmas.Bool.Decides.{Decides-ltb, nat_tests}
-use Rattle.std.proofs.lemmas.Bool.{false≢true}
+use Rattle.std.proofs.lemmas.Bool.{false≢true, le-ltb, lt-ltb}
 use Rattle.tc_bytes.specs.Reading.{Reader, ◌>>=◌, number_at}
 use Rattle.tc_schema_model.specs.Counted.{Counted, Below, Fields, no_fields, a_field}
 use Rattle.tc_schema.specs.Places.{listed}
@@ -50,13 +50,7 @@ module _ (read : Reader Counted) (limit : ℕ) where
 
   pub no_place : (left low : ℕ) (bytes : List ℕ) (n : ℕ) (r : List ℕ) → 0 < left → number_at w32 bytes ≡ Some (n, r) → low ≤ n → n < limit → read r ≡ None → fields_at read limit left low bytes ≡ None
   no_place zero low bytes n r some number least below none = absurd (omega arith)
-  no_place (suc left) low bytes n r some number least below none = rw (number, not_under n low least, is_inside n limit below, none) refl
-    where
-      not_under : (n low : ℕ) → low ≤ n → nat_lt n low ≡ false
-      not_under n low le = grind (arith, nat_tests)
-
-      is_inside : (n limit : ℕ) → n < limit → nat_lt n limit ≡ true
-      is_inside n limit less = grind (arith, nat_tests)
+  no_place (suc left) low bytes n r some number least below none = rw (number, le-ltb n low least, lt-ltb n limit below, none) refl
 
   -- one field, and those after it
   pub next_field : (left low : ℕ) (bytes : List ℕ) (n : ℕ) (r : List ℕ) (d : Counted) (r2 : List ℕ) (done : List (ℕ × Counted)) → 0 < left → number_at w32 bytes ≡ Some (n, r) → low ≤ n → n < limit → read r ≡ Some (d, r2)
@@ -64,14 +58,8 @@ module _ (read : Reader Counted) (limit : ℕ) where
   next_field zero low bytes n r d r2 done some number least below place = absurd (omega arith)
   next_field (suc left) low bytes n r d r2 done some number least below place =
       let less : suc left - 1 ≡ left = omega arith in
-      rw (number, not_under n low least, is_inside n limit below, place, less) (joined (fields_at read limit left (n + 1) r2))
+      rw (number, le-ltb n low least, lt-ltb n limit below, place, less) (joined (fields_at read limit left (n + 1) r2))
     where
-      not_under : (n low : ℕ) → low ≤ n → nat_lt n low ≡ false
-      not_under n low le = grind (arith, nat_tests)
-
-      is_inside : (n limit : ℕ) → n < limit → nat_lt n limit ≡ true
-      is_inside n limit less = grind (arith, nat_tests)
-
       joined : (o : Option (Fields × List ℕ)) → option_map (onto (done ++ (n, d) ∷ [])) o ≡ option_map (onto done) (o >>= λ fs. Some (a_field n d fs.0, fs.1))
       joined None = refl
       joined (Some q) = ap (λ fs. let pair : Fields × List ℕ = (fs, q.1) in Some pair) (before_more done (n, d) q.0)

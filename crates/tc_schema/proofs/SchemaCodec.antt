@@ -4,10 +4,10 @@ use Rattle.std.specs.Int.{w32, to_be_bytes}
 use Rattle.std.proofs.lemmas.Bool.{false≢true}
 use Rattle.std.proofs.lemmas.Bool.Decides.{Decides-eqb}
 use Rattle.std.proofs.lemmas.Option.{same_Some}
-use Rattle.tc_bytes.specs.Reading.{◌>>=◌}
+use Rattle.tc_bytes.specs.Reading.{◌>>=◌, whole}
 use Rattle.tc_bytes.specs.Codec.{IsBytes, IsCodec}
 use Rattle.tc_bytes.proofs.Codecs.{then_parts}
-use Rattle.tc_bytes.proofs.Whole.{whole_found, whole_refused}
+use Rattle.tc_bytes.proofs.Whole.{whole_found, whole_again, whole_refused}
 use Rattle.tc_schema_model.specs.Counted.{Counted, counted, Below, no_item, an_item, Fields, no_fields, a_field, nothing, documents_of, counters_of, IsCanonical, IsBelowCanonical, AreFieldsCanonical, HasSmallCounters, BelowHasSmallCounters, FieldsHaveSmallCounters, CountsObjects}
 use Rattle.tc_schema_model.specs.SchemaTree.{SchemaNode, scalar_node, array_node, object_node, union_node, node_of, item_node_of, field_nodes_of, schema_tree}
 use Rattle.tc_schema_model.specs.SchemaBytes.{node_bytes, item_bytes, fields_bytes, fields_count, schema_bytes, IsSchema}
@@ -182,8 +182,9 @@ schema_found limit bytes d few each gives = let here = whole_found (root_codec l
     schema_from (inl same) = subst (IsSchema limit) (sym same) record { canonical = (λ _. refl, λ _. refl, tt, tt); of_objects = refl; small = (omega arith, tt, tt) }
     schema_from (inr fits) = let here = read_from limit (length bytes) d fits.0 in record { canonical = here.1; of_objects = fits.1; small = here.2 }
 
-pub schema_refused : (limit : ℕ) (bytes : List ℕ) → limit < 2 ^ 32 → read_schema limit bytes ≡ None → (d : Counted) → IsSchema limit d → bytes ≢ schema_bytes (schema_tree d)
-schema_refused limit bytes few none d schema same = whole_refused (root_codec limit (length bytes) few) bytes none d (by_test (documents_of d == 0) (Decides-eqb (documents_of d) 0)) same
+-- a schema that bytes spell is read within as many levels as there are bytes
+root_fits : (limit : ℕ) (bytes : List ℕ) (d : Counted) → IsSchema limit d → bytes ≡ schema_bytes (schema_tree d) → RootFits limit (length bytes) d
+root_fits limit bytes d schema same = by_test (documents_of d == 0) (Decides-eqb (documents_of d) 0)
   where
     by_test : (empty : Bool) → (empty ≡ true → documents_of d ≡ 0) × (documents_of d ≡ 0 → empty ≡ true) → RootFits limit (length bytes) d
     by_test true is = inl (nothing_counted limit d schema.canonical (is.0 refl))
@@ -191,3 +192,11 @@ schema_refused limit bytes few none d schema same = whole_refused (root_codec li
         let some : documents_of d ≢ 0 = λ zero. false≢true (is.1 zero) in
         let long : length bytes ≡ length (node_bytes (node_of d)) = ap length (same ∙ spells_place d (omega arith)) in
         inr (fits_within limit (length bytes) d schema.canonical (omega arith) schema.small (omega (arith, long, levels_fit limit d schema.canonical)), schema.of_objects)
+
+-- no other schema is spelled so
+pub schema_only : (limit : ℕ) (bytes : List ℕ) (d : Counted) → limit < 2 ^ 32 → read_schema limit bytes ≡ Some d → (other : Counted) → IsSchema limit other → bytes ≡ schema_bytes (schema_tree other) → d ≡ other
+schema_only limit bytes d few gives other schema same =
+    same_Some d other (sym gives ∙ ap (whole (root_at limit (length bytes))) same ∙ whole_again (root_codec limit (length bytes) few) other (root_fits limit bytes other schema same))
+
+pub schema_refused : (limit : ℕ) (bytes : List ℕ) → limit < 2 ^ 32 → read_schema limit bytes ≡ None → (d : Counted) → IsSchema limit d → bytes ≢ schema_bytes (schema_tree d)
+schema_refused limit bytes few none d schema same = whole_refused (root_codec limit (length bytes) few) bytes none d (root_fits limit bytes d schema same) same

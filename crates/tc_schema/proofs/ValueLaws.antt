@@ -13,7 +13,7 @@ use Rattle.tc_schema.specs.declared.place.Field.{Field}
 use Rattle.tc_schema.specs.declared.place.Field.TheViews.{out-Node}
 use Rattle.tc_schema.proofs.PlaceViews.{place_parts}
 use Rattle.tc_schema.specs.Values.{named_values, array_values, object_values, all_scalar_values, joined_text}
-use Rattle.tc_schema.proofs.WritingLaws.{total-kind_nodes}
+use Rattle.tc_schema_model.proofs.KindLaws.{total-kind_nodes}
 
 -- the texts of the kinds as a list
 abbrev listed_text : List Name → KindNodes → List json.Data

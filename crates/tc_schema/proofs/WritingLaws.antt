@@ -1,13 +1,14 @@
 -- The bytes of a place are those of its parts.
 use Rattle.std.proofs.Common.{◌≡◌, ◌≢◌, ℕ, ◌+◌, ◌<◌, ◌≤◌, ◌^◌, lit≤, ◌==◌, Bool, true, false, List, [], ◌∷◌, ◌++◌, length, map, if◌then◌else◌, refl, sym, ap, ◌∙◌, arith, append_assoc, append-nil}
-use Rattle.std.proofs.lemmas.Bool.Decides.{Decides-eqb, nat_tests}
+use Rattle.std.proofs.lemmas.Bool.Decides.{nat_tests}
 use Rattle.std.proofs.lemmas.List.{length-map}
 use Rattle.std.specs.List.{AllByRecursion}
 use Rattle.std.specs.Int.{w32, to_be_bytes}
 use Rattle.tc_model.specs.Document.{null_kind, boolean_kind, integer_kind, text_kind}
 use Rattle.tc_schema_model.specs.Counted.{Counters, total, Counted, counted, Below, Fields, no_fields, a_field, IsCanonical, AreFieldsCanonical}
-use Rattle.tc_schema_model.specs.SchemaTree.{SchemaNode, scalar_node, array_node, object_node, ItemNode, FieldNodes, KindNodes, no_kind_nodes, a_kind_node, node_counter, kinds_total, kinds_count, with_kind, united, kind_nodes, node_of, item_node_of, field_nodes_of}
+use Rattle.tc_schema_model.specs.SchemaTree.{SchemaNode, scalar_node, array_node, object_node, ItemNode, FieldNodes, KindNodes, no_kind_nodes, a_kind_node, kinds_total, kinds_count, with_kind, united, kind_nodes, node_of, item_node_of, field_nodes_of}
 use Rattle.tc_schema_model.specs.SchemaBytes.{node_bytes, kinds_bytes, fields_bytes, fields_count}
+use Rattle.tc_schema_model.proofs.KindLaws.{total-kind_nodes}
 use Rattle.tc_schema.specs.Places.{listed, place_counted, below_counted, field_counted, fields_counted, most_names}
 use Rattle.tc_schema.specs.declared.place.Node.{Node}
 use Rattle.tc_schema.specs.declared.place.Field.{Field}
@@ -39,13 +40,6 @@ count-with_kind n node rest = by_test (n == 0)
     by_test true = omega arith
     by_test false = refl
 
-total-with_kind : (n : ℕ) (node : ℕ → SchemaNode) (rest : KindNodes) → node_counter (node n) ≡ n → kinds_total (with_kind n node rest) ≡ n + kinds_total rest
-total-with_kind n node rest same = by_test (n == 0) (Decides-eqb n 0)
-  where
-    by_test : (none : Bool) → (none ≡ true → n ≡ 0) × (n ≡ 0 → none ≡ true) → kinds_total (if none then rest else a_kind_node (node n) rest) ≡ n + kinds_total rest
-    by_test true decides = let zero : n ≡ 0 = decides.0 refl in omega arith
-    by_test false decides = omega (arith, same)
-
 pub count-kind_nodes : (c : Counters) (i : ItemNode) (fs : FieldNodes) → kinds_count (kind_nodes c i fs) ≡ kinds_in c
 count-kind_nodes c i fs =
     let objects = with_kind c.objects (λ n. object_node n fs) no_kind_nodes in
@@ -61,23 +55,6 @@ count-kind_nodes c i fs =
       count-with_kind c.texts (scalar_node text_kind) arrays,
       count-with_kind c.arrays (λ n. array_node n i) objects,
       count-with_kind c.objects (λ n. object_node n fs) no_kind_nodes,
-    )
-
-pub total-kind_nodes : (c : Counters) (i : ItemNode) (fs : FieldNodes) → kinds_total (kind_nodes c i fs) ≡ total c
-total-kind_nodes c i fs =
-    let objects = with_kind c.objects (λ n. object_node n fs) no_kind_nodes in
-    let arrays = with_kind c.arrays (λ n. array_node n i) objects in
-    let texts = with_kind c.texts (scalar_node text_kind) arrays in
-    let integers = with_kind c.integers (scalar_node integer_kind) texts in
-    let booleans = with_kind c.booleans (scalar_node boolean_kind) integers in
-    omega (
-      arith,
-      total-with_kind c.nulls (scalar_node null_kind) booleans refl,
-      total-with_kind c.booleans (scalar_node boolean_kind) integers refl,
-      total-with_kind c.integers (scalar_node integer_kind) texts refl,
-      total-with_kind c.texts (scalar_node text_kind) arrays refl,
-      total-with_kind c.arrays (λ n. array_node n i) objects refl,
-      total-with_kind c.objects (λ n. object_node n fs) no_kind_nodes refl,
     )
 
 bytes-kind_nodes : (c : Counters) (b : Below) (fs : Fields) → kinds_bytes (kind_nodes c (item_node_of b) (field_nodes_of fs)) ≡ scalar_parts c ++ (array_part c.arrays b ++ object_part c.objects fs)

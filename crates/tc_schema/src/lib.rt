@@ -3,6 +3,7 @@
 
 mod counters;
 mod fault;
+mod laws;
 mod paths;
 mod place;
 mod reading;
@@ -13,6 +14,7 @@ mod writing;
 
 pub use counters::Counts;
 pub use fault::SchemaFault;
+pub use laws::{counters_are_small, counters_fit, trees_have_one_form};
 pub use place::{Field, Node};
 pub use search::search_fields;
 pub use whole::{Schema, schemas_agree};

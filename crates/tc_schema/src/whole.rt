@@ -120,6 +120,7 @@ impl Schema {
     pub fn from_bytes(alloc: Global, bytes: &[u8], names: u32) -> Result<Schema, SchemaFault>
         ensures found { IfOk result (λ schema. bytes.now ≡ schema_bytes (schema_tree schema)) }
         ensures schema { IfOk result (IsSchema names) }
+        ensures only { IfOk result (λ schema. (other : Counted) → IsSchema names other → bytes.now ≡ schema_bytes (schema_tree other) → schema ≡ other) }
         ensures refused { IsErrOf result SchemaFault.NotASchema → (schema : Counted) → IsSchema names schema → bytes.now ≢ schema_bytes (schema_tree schema) }
     {
         let root = read_root(bytes, names, alloc)?;

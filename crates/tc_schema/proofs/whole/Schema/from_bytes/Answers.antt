@@ -4,7 +4,7 @@ use Rattle.tc_bytes.proofs.Fields.{IsBytes-from_type}
 use Rattle.tc_schema_model.proofs.FieldLaws.{canonical_below}
 use Rattle.tc_schema.specs.Places.{place_counted, most_names}
 use Rattle.tc_schema.specs.declared.fault.SchemaFault.TheVariants.{NotASchema}
-use Rattle.tc_schema.proofs.SchemaCodec.{schema_found, schema_refused}
+use Rattle.tc_schema.proofs.SchemaCodec.{schema_found, schema_only, schema_refused}
 use Rattle.tc_schema.proofs.whole.Schema.from_bytes.Goals as goal
 
 pub returns-in_err-root-clause-refused : goal.returns-in_err-root-clause-refused
@@ -25,3 +25,6 @@ returns-clause-found c =
 pub returns-clause-schema : goal.returns-clause-schema
 returns-clause-schema c =
     (schema_found c.args.names c.args.bytes.now (place_counted c.in_ok-root.root) (omega arith) (IsBytes-from_type c.args.bytes.now c.type_inv.bytes) c.in_ok-root.ensures).1
+
+pub returns-clause-only : goal.returns-clause-only
+returns-clause-only c = schema_only c.args.names c.args.bytes.now (place_counted c.in_ok-root.root) (omega arith) c.in_ok-root.ensures
