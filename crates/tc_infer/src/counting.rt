@@ -130,7 +130,7 @@ fn place_of(number: u32, fields: &mut Vec<Field>, alloc: Global) -> Result<usize
     match search_fields(fields, number) {
         Ok(place) => Ok(place),
         Err(gap) => {
-            let node = Node::new(alloc);
+            let node = Box::new(alloc, Node::new(alloc))?;
             fields.insert(gap, Field { number, node })?;
             Ok(gap)
         }

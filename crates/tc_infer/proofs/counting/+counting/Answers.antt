@@ -130,8 +130,8 @@ count_member-count_shape-requires t c =
     let here = c.index_mut.result.now in
     let number_is : c.unwrap-number.result ≡ number names name = same_Some _ _ (sym c.unwrap-number.ensures ∙ c.id_of.ensures.number ∙ ap (number_of names) c.as_str.ensures.bytes ∙ numbered names name c.requires.known) in
     let stands = counted_at c.place_of.new.fields.items c.in_ok-at.at here c.unwrap-number.result (field_at c.unwrap-number.result fields) c.in_ok-at.ensures.here in
-    let counted : place_counted (out-Field here).node ≡ field_at (number names name) fields =
-    ap (λ f. place_counted (out-Field f).node) c.index_mut.ensures.value ∙ stands ∙ ap (λ n. field_at n fields) number_is in (
+    let counted : place_counted c.deref_mut.result.now ≡ field_at (number names name) fields =
+    ap place_counted c.deref_mut.ensures.value ∙ ap (λ f. place_counted (out-Field f).node.value) c.index_mut.ensures.value ∙ stands ∙ ap (λ n. field_at n fields) number_is in (
       omega (arith, c.decreases),
       (
         c.requires.named,
@@ -154,14 +154,14 @@ count_member-returns t c =
     let d = added names s (field_at (number names name) fields) in
     let number_is : n ≡ number names name = same_Some _ _ (sym c.unwrap-number.ensures ∙ c.id_of.ensures.number ∙ ap (number_of names) c.as_str.ensures.bytes ∙ numbered names name c.requires.known) in
     let stands = counted_at all c.in_ok-at.at here n (field_at n fields) c.in_ok-at.ensures.here in
-    let counted : place_counted (out-Field here).node ≡ field_at (number names name) fields =
-    ap (λ f. place_counted (out-Field f).node) c.index_mut.ensures.value ∙ stands ∙ ap (λ n. field_at n fields) number_is in
+    let counted : place_counted c.deref_mut.result.now ≡ field_at (number names name) fields =
+    ap place_counted c.deref_mut.ensures.value ∙ ap (λ f. place_counted (out-Field f).node.value) c.index_mut.ensures.value ∙ stands ∙ ap (λ n. field_at n fields) number_is in
     let own : (out-Field here).number ≡ n = ap (λ f. (out-Field f).number) c.index_mut.ensures.value ∙ number_at all c.in_ok-at.at here n (field_at n fields) c.in_ok-at.ensures.here in
     IfOk-weaker c.count_shape.result
-    (λ _. place_counted c.count_shape.new.place ≡ added names s (place_counted (out-Field here).node))
-    (λ _. fields_counted (set all c.in_ok-at.at (roll-Field record { number = (out-Field here).number; node = c.count_shape.new.place })) ≡ member_added names (shape_member c.args.member.now) fields)
+    (λ _. place_counted c.count_shape.new.place ≡ added names s (place_counted c.deref_mut.result.now))
+    (λ _. fields_counted (set all c.in_ok-at.at (roll-Field record { number = (out-Field here).number; node = record (out-Field here).node { value = c.count_shape.new.place } })) ≡ member_added names (shape_member c.args.member.now) fields)
     (λ _ is.
-    written_field all c.in_ok-at.at n (out-Field here).number c.count_shape.new.place d own (is ∙ ap (added names s) counted)
+    written_field all c.in_ok-at.at n (out-Field here).number _ d own (is ∙ ap (added names s) counted)
     ∙ c.in_ok-at.ensures.written d ∙ ap (λ k. put_field k d fields) number_is)
     c.count_shape.ensures
 

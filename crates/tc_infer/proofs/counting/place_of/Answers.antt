@@ -2,7 +2,7 @@ use Rattle.std.proofs.Common.{ℕ, ◌≤◌, Some, length, map, set, sym, ap, �
 use Rattle.std.specs.Prelude.{slice_get}
 use Rattle.std.proofs.lemmas.List.{length-map}
 use Rattle.tc_schema_model.specs.Counted.{Counted}
-use Rattle.tc_schema.specs.Places.{field_counted, listed}
+use Rattle.tc_schema.specs.Places.{place_counted, field_counted, listed}
 use Rattle.tc_schema.specs.Search.{IsGapFor}
 use Rattle.tc_schema.proofs.FieldWrites.{made_field, inserted_here, inserted_written}
 use Rattle.tc_infer.proofs.counting.place_of.Goals as goal
@@ -17,7 +17,7 @@ pub returns-in_ok-insert-in-Err-clause-here : goal.returns-in_ok-insert-in-Err-c
 returns-in_ok-insert-in-Err-clause-here c =
     ap (λ fs. slice_get (map field_counted fs) c.in-Err.gap) c.in_ok-insert-in-Err.ensures.items
     ∙ inserted_here field_counted c.args.fields.now.items c.in-Err.gap _ (inside c)
-    ∙ ap Some (made_field c.args.number _ _ (c.new-node.ensures ∙ sym (gap c).none))
+    ∙ ap Some (made_field c.args.number _ _ (ap place_counted c.in_ok-node-in-Err.ensures.ok ∙ c.new.ensures ∙ sym (gap c).none))
 
 pub returns-in_ok-insert-in-Err-clause-written : goal.returns-in_ok-insert-in-Err-clause-written
 returns-in_ok-insert-in-Err-clause-written c = λ d.
