@@ -41,6 +41,10 @@ scalar_kind (text s) = text_kind
 abbrev pub document_shape : Document → ShapeTree
 document_shape d = relabel (λ name. name) scalar_kind d
 
+-- a member, with its value's shape
+abbrev pub member_shape : Name × Document → Name × ShapeTree
+member_shape m = (m.0, document_shape m.1)
+
 -- the value of the member of a name
 abbrev pub member_at : Name → Members Name Scalar → Option Document
 member_at n no_members = None

@@ -6,7 +6,7 @@ use Rattle.tc_model.specs.Tree.{leaf, array, object, Items, no_items, item, Memb
 use Rattle.tc_model.specs.Document.{Name, Document, Scalar, IsAscending, IsScalar, IsDocument, AreItemsOf, AreMembersOf}
 use Rattle.tc_value.specs.Meaning.{tree_of}
 use Rattle.tc_value.specs.declared.document.Doc.{Doc}
-use Rattle.tc_value.proofs.Trees.{listed_members-members_of}
+use Rattle.tc_model.proofs.TreeLists.{listed_members-members_of}
 use Rattle.tc_record.specs.Preorder.{Token, token, array_opened, object_opened, preorder, items_preorder, members_preorder}
 use Rattle.tc_record.specs.Record.{IsRecordOf}
 use Rattle.tc_record.specs.Borrowed.{Record, Spells, named_tokens}

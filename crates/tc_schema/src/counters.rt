@@ -3,7 +3,7 @@
 ghost use Rattle.std.specs.Prelude.{◌≡◌, ◌+◌, ◌<◌, ◌≤◌, ◌^◌, IfSome, IfNone};
 ghost use Rattle.tc_schema_model.specs.Counted.{no_counters, counter, total};
 ghost use Rattle.tc_schema_model.specs.Added.{raised, lowered};
-ghost use Rattle.tc_schema.specs.Paths.{kind_meant};
+ghost use Rattle.tc_value.specs.Kinds.{kind_meant};
 ghost use Rattle.tc_schema.specs.Writing.{one_if_some, kinds_in};
 
 use std::marker::Model;

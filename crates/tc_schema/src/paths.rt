@@ -3,7 +3,8 @@
 ghost use Rattle.std.specs.Prelude.{◌≡◌, IfSome, IfNone, ◌∷◌, []};
 ghost use Rattle.tc_schema_model.specs.Counted.{nothing, shows, place_at, field_at, numbered_field, AreFieldsOrdered, IsOrdered};
 ghost use Rattle.tc_model.specs.Dictionary.{number_of};
-ghost use Rattle.tc_schema.specs.Paths.{kind_meant, step_meant, path_meant};
+ghost use Rattle.tc_schema.specs.Paths.{step_meant, path_meant};
+ghost use Rattle.tc_value.specs.Kinds.{kind_meant};
 ghost use Rattle.tc_schema.specs.Places.{place_counted, fields_counted};
 
 use crate::place::{Field, Node};

@@ -4,8 +4,8 @@ ghost use Rattle.std.specs.Prelude.{◌≡◌, ◌∷◌, ◌++◌, OnOk, map};
 ghost use Rattle.tc_schema_model.specs.Counted.{counter, IsCanonical, IsBelowCanonical, AreFieldsCanonical};
 ghost use Rattle.tc_schema_model.specs.SchemaTree.{node_of, item_node_of, field_nodes_of};
 ghost use Rattle.tc_schema_model.specs.SchemaBytes.{node_bytes, item_bytes, fields_bytes};
-ghost use Rattle.tc_value.specs.Kinds.{tag_of};
-ghost use Rattle.tc_schema.specs.Paths.{kind_meant};
+ghost use Rattle.tc_model.specs.Kinds.{tag};
+ghost use Rattle.tc_value.specs.Kinds.{kind_meant};
 ghost use Rattle.tc_schema.specs.Places.{place_counted, below_counted, fields_counted, field_counted, most_names};
 ghost use Rattle.tc_schema.specs.Writing.{tagged, field_part, scalar_part, scalar_parts, array_part, object_part, union_part};
 
@@ -98,7 +98,7 @@ fn put_scalars(counts: &Counts, out: &mut Vec<u8>) -> Result<(), AllocError>
 }
 
 fn put_scalar(kind: Kind, counts: &Counts, out: &mut Vec<u8>) -> Result<(), AllocError>
-    ensures { OnOk result (out.new.items ≡ out.old.items ++ scalar_part (tag_of kind) (counter counts.now (kind_meant kind))) }
+    ensures { OnOk result (out.new.items ≡ out.old.items ++ scalar_part (tag (kind_meant kind)) (counter counts.now (kind_meant kind))) }
 {
     let count = counts.of_kind(kind);
     if count == 0 {

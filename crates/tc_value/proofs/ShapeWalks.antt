@@ -1,9 +1,10 @@
 -- A list of shapes, from a place on.
-use Rattle.std.proofs.Common.{◌≡◌, ℕ, zero, suc, ◌+◌, ◌<◌, ◌≤◌, List, [], ◌∷◌, length, get_or, map, drop, sym, ap, ◌∙◌, subst, arith}
+use Rattle.std.proofs.Common.{◌≡◌, ℕ, ◌+◌, ◌<◌, ◌≤◌, List, ◌∷◌, length, get_or, map, drop, sym, ap, ◌∙◌}
 use Rattle.std.proofs.lemmas.List.{drop_more}
 use Rattle.tc_model.specs.Tree.{item, member, items_of, members_of}
 use Rattle.tc_value.specs.ShapeMeaning.{shape_tree, shape_member}
 use Rattle.tc_model.specs.TreeSize.{tree_size, trees_size, labelled_size}
+use Rattle.tc_model.proofs.TreeLists.{size_at, labelled_size_at}
 use Rattle.tc_value.specs.declared.shape_tree.Shape.{Shape}
 use Rattle.tc_value.specs.declared.shape_tree.ShapeMember.{ShapeMember}
 
@@ -16,17 +17,7 @@ members_from ms i m inside is = ap (λ ns. members_of (map shape_member ns)) (dr
 
 -- one of them has no more values than all
 pub item_size : (xs : List Shape) (i : ℕ) (x : Shape) → i < length xs → x ≡ get_or xs i x → tree_size (shape_tree x) ≤ trees_size (map shape_tree xs)
-item_size xs i x inside is = subst (λ y. tree_size (shape_tree y) ≤ trees_size (map shape_tree xs)) (sym is) (at xs i x inside)
-  where
-    at : (xs : List Shape) (i : ℕ) (x : Shape) → i < length xs → tree_size (shape_tree (get_or xs i x)) ≤ trees_size (map shape_tree xs)
-    at [] i x inside = absurd (omega arith)
-    at (y ∷ xs) zero x inside = omega arith
-    at (y ∷ xs) (suc i) x inside = omega (arith, at xs i x (omega arith))
+item_size xs i x inside is = size_at shape_tree xs i x inside is
 
 pub member_size : (ms : List ShapeMember) (i : ℕ) (m : ShapeMember) → i < length ms → m ≡ get_or ms i m → tree_size (shape_tree m.value) ≤ labelled_size (map shape_member ms)
-member_size ms i m inside is = subst (λ n. tree_size (shape_tree n.value) ≤ labelled_size (map shape_member ms)) (sym is) (at ms i m inside)
-  where
-    at : (ms : List ShapeMember) (i : ℕ) (m : ShapeMember) → i < length ms → tree_size (shape_tree (get_or ms i m).value) ≤ labelled_size (map shape_member ms)
-    at [] i m inside = absurd (omega arith)
-    at (n ∷ ms) zero m inside = omega arith
-    at (n ∷ ms) (suc i) m inside = omega (arith, at ms i m (omega arith))
+member_size ms i m inside is = labelled_size_at shape_member ms i m inside is

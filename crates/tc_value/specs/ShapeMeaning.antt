@@ -16,7 +16,3 @@ shape_tree (Object ms) = object (members_of ms)
 -- a member's shape, by its name and its tree
 abbrev pub shape_member : ShapeMember → Name × ShapeTree
 shape_member m = (m.name, shape_tree m.value)
-
--- a member, with its value's shape
-abbrev pub member_shape : Name × Document → Name × ShapeTree
-member_shape m = (m.0, document_shape m.1)

@@ -1,7 +1,8 @@
 //! Texts, kinds of values, and steps of a path.
 
 ghost use Rattle.std.specs.Prelude.{◌≡◌, IfOk, IsUtf8, string_bytes};
-ghost use Rattle.tc_value.specs.Kinds.{tag_of};
+ghost use Rattle.tc_model.specs.Kinds.{tag};
+ghost use Rattle.tc_value.specs.Kinds.{kind_meant};
 
 use std::alloc::{AllocError, Global};
 use std::marker::Model;
@@ -67,7 +68,7 @@ pub enum Kind {
 impl Kind {
     /// The number of a kind in the formats, from 1 to 6.
     pub fn tag(self) -> u8
-        ensures { result ≡ tag_of self }
+        ensures { result ≡ tag (kind_meant self) }
     {
         match self {
             Kind::Null => 1,

@@ -2,8 +2,8 @@
 
 ghost use Rattle.std.specs.Prelude.{◌≡◌, IfOk, map};
 ghost use Rattle.tc_value.specs.Meaning.{tree_of, member_of};
-ghost use Rattle.tc_value.specs.ShapeMeaning.{shape_tree, shape_member, member_shape};
-ghost use Rattle.tc_model.specs.Document.{document_shape};
+ghost use Rattle.tc_value.specs.ShapeMeaning.{shape_tree, shape_member};
+ghost use Rattle.tc_model.specs.Document.{member_shape, document_shape};
 
 use crate::document::{Doc, Member};
 use crate::shape_tree::{Shape, ShapeItems, ShapeMember, ShapeMembers};

@@ -1,4 +1,5 @@
-use Rattle.tc_schema.specs.Paths.{kind_meant, path_meant}
+use Rattle.tc_schema.specs.Paths.{path_meant}
+use Rattle.tc_value.specs.Kinds.{kind_meant}
 use Rattle.tc_schema.specs.Places.{place_counted}
 use Rattle.tc_schema.proofs.FieldViews.{ended_at_nothing, path_left, arrived}
 use Rattle.tc_schema.proofs.paths.count_from.Goals as goal

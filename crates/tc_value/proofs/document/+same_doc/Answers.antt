@@ -1,5 +1,5 @@
 use Rattle.std.proofs.Common.{rules}
-use Rattle.tc_value.proofs.Trees.{same_array, same_object}
+use Rattle.tc_model.proofs.TreeLists.{same_array, same_object}
 use Rattle.tc_value.proofs.document.+same_doc.Goals as goal
 
 pub Doc::same-returns-in-Array-other : goal.Doc::same-returns-in-Array-other

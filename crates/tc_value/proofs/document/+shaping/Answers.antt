@@ -1,5 +1,5 @@
 use Rattle.std.proofs.Common.{rules}
-use Rattle.tc_value.proofs.Trees.{array_shape, object_shape, ascending_shapes}
+use Rattle.tc_model.proofs.TreeLists.{array_shape, object_shape, ascending_shapes}
 use Rattle.tc_value.proofs.document.+shaping.Goals as goal
 
 pub Doc::shape-of-requires-in-Object : goal.Doc::shape-of-requires-in-Object

@@ -1,7 +1,7 @@
 use Rattle.std.proofs.Common.{◌≡◌, map, take}
 use Rattle.tc_value.specs.Meaning.{tree_of, member_of}
-use Rattle.tc_value.specs.ShapeMeaning.{shape_tree, shape_member, member_shape}
-use Rattle.tc_model.specs.Document.{document_shape}
+use Rattle.tc_value.specs.ShapeMeaning.{shape_tree, shape_member}
+use Rattle.tc_model.specs.Document.{member_shape, document_shape}
 use Rattle.tc_value.proofs.document.+shaping.Given as goal
 
 abbrev pub invariant-shaping::shapes_of_items-loop-item : goal.invariant-shaping::shapes_of_items-loop-item

@@ -1,5 +1,5 @@
 use Rattle.std.proofs.Common.{rules}
-use Rattle.tc_value.proofs.Trees.{ascending_single}
+use Rattle.tc_model.proofs.TreeLists.{ascending_single}
 use Rattle.tc_anti.proofs.tests.documents.object.Goals as goal
 
 pub of-requires : goal.of-requires

@@ -1,9 +1,9 @@
--- Lists of items and members, and the trees that they make.
-use Rattle.std.proofs.Common.{◌≡◌, ◌∙◌, ap, refl, sym, List, [], ◌∷◌, map}
+-- Trees made of lists of items and members: the lists that they have again, and their shapes.
+use Rattle.std.proofs.Common.{◌≡◌, ◌∙◌, ◌<◌, ◌≤◌, ℕ, zero, suc, ap, refl, subst, sym, List, [], ◌∷◌, get_or, length, map, arith}
 use Rattle.std.specs.List.Sorted.{IsStrictlySortedBy}
 use Rattle.tc_model.specs.Tree.{Tree, array, object, item, member, items_of, members_of, items_relabel, members_relabel, listed_items, listed_members}
-use Rattle.tc_model.specs.Document.{Name, Document, scalar_kind, IsAscending, IsScalar, IsDocument, AreMembersOf, document_shape}
-use Rattle.tc_value.specs.ShapeMeaning.{member_shape}
+use Rattle.tc_model.specs.TreeSize.{tree_size, trees_size, labelled_size}
+use Rattle.tc_model.specs.Document.{Name, Document, scalar_kind, IsAscending, IsScalar, IsDocument, AreMembersOf, document_shape, member_shape}
 
 -- what an array holds
 abbrev items_in : {L S : Type 0} → Tree L S → List (Tree L S)
@@ -63,3 +63,23 @@ ascending_shapes ms ascending = rw (names-shapes ms) ascending
 pub ascending_single : (m : Name × Document) → IsAscending (m ∷ [])
 unfolding IsStrictlySortedBy
 ascending_single m = (tt, tt)
+
+-- ---- a tree of a list has no more values than the list
+
+size_at_place : {A L S : Type 0} (f : A → Tree L S) (xs : List A) (i : ℕ) (x : A) → i < length xs → tree_size (f (get_or xs i x)) ≤ trees_size (map f xs)
+size_at_place f [] i x inside = absurd (omega arith)
+size_at_place f (y ∷ xs) zero x inside = omega arith
+size_at_place f (y ∷ xs) (suc i) x inside = omega (arith, size_at_place f xs i x (omega arith))
+
+labelled_size_at_place : {A L S : Type 0} (f : A → L × Tree L S) (xs : List A) (i : ℕ) (x : A) → i < length xs → tree_size (f (get_or xs i x)).1 ≤ labelled_size (map f xs)
+labelled_size_at_place f [] i x inside = absurd (omega arith)
+labelled_size_at_place f (y ∷ xs) zero x inside = omega arith
+labelled_size_at_place f (y ∷ xs) (suc i) x inside = omega (arith, labelled_size_at_place f xs i x (omega arith))
+
+-- the tree of what stands at a place
+pub size_at : {A L S : Type 0} (f : A → Tree L S) (xs : List A) (i : ℕ) (x : A) → i < length xs → x ≡ get_or xs i x → tree_size (f x) ≤ trees_size (map f xs)
+size_at f xs i x inside is = subst (λ y. tree_size (f y) ≤ trees_size (map f xs)) (sym is) (size_at_place f xs i x inside)
+
+-- and where the trees carry labels
+pub labelled_size_at : {A L S : Type 0} (f : A → L × Tree L S) (xs : List A) (i : ℕ) (x : A) → i < length xs → x ≡ get_or xs i x → tree_size (f x).1 ≤ labelled_size (map f xs)
+labelled_size_at f xs i x inside is = subst (λ y. tree_size (f y).1 ≤ labelled_size (map f xs)) (sym is) (labelled_size_at_place f xs i x inside)

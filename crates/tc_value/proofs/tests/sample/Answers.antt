@@ -1,6 +1,0 @@
-use Rattle.std.proofs.Common.{rules}
-use Rattle.tc_value.proofs.Trees.{ascending_single}
-use Rattle.tc_value.proofs.tests.sample.Goals as goal
-
-pub of-requires-2 : goal.of-requires-2
-of-requires-2 c = search (rules, ascending_single)
