@@ -35,13 +35,20 @@ impl Doc {
     /// Whether arrays and objects nest no deeper than this. Stops at the first value that does, and takes no memory.
     #[cycle(limits)]
     pub fn nests_within(&self, limit: u32) -> bool
-        ensures { IsTrue result ↔ (depth (tree_of self.now) ≤ limit) }
+        ensures within { IsTrue result ↔ (depth (tree_of self.now) ≤ limit) }
+        ensures lawful { IsTrue result → IsDocument (tree_of self.now) }
     {
         match self {
             Doc::Null => true,
             Doc::Bool(_) => true,
-            Doc::Int(_) => true,
-            Doc::Text(_) => true,
+            Doc::Int(value) => {
+                let _value = *value;
+                true
+            }
+            Doc::Text(text) => {
+                let _text = text.as_str();
+                true
+            }
             Doc::Array(items) => limit > 0 && items_nest_within(&items.items, limit - 1),
             Doc::Object(members) => limit > 0 && members_nest_within(&members.members, limit - 1),
         }
@@ -77,7 +84,8 @@ fn depth_of_members(members: &[Member]) -> u32
 
 #[cycle(limits)]
 fn items_nest_within(items: &[Doc], limit: u32) -> bool
-    ensures { IsTrue result ↔ (items_depth (items_of (map tree_of items.now)) ≤ limit) }
+    ensures within { IsTrue result ↔ (items_depth (items_of (map tree_of items.now)) ≤ limit) }
+    ensures lawful { IsTrue result → AreItemsOf IsScalar (items_of (map tree_of items.now)) }
 {
     for item in items {
         if !item.nests_within(limit) {
@@ -89,9 +97,11 @@ fn items_nest_within(items: &[Doc], limit: u32) -> bool
 
 #[cycle(limits)]
 fn members_nest_within(members: &[Member], limit: u32) -> bool
-    ensures { IsTrue result ↔ (members_depth (members_of (map member_of members.now)) ≤ limit) }
+    ensures within { IsTrue result ↔ (members_depth (members_of (map member_of members.now)) ≤ limit) }
+    ensures lawful { IsTrue result → AreMembersOf IsScalar (members_of (map member_of members.now)) }
 {
     for member in members {
+        let _name = member.name.as_str();
         if !member.value.nests_within(limit) {
             return false;
         }
