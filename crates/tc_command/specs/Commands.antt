@@ -1,7 +1,7 @@
 -- What commands ask for, and what reading a line promises of them.
-use Rattle.std.specs.Prelude.{◌≤◌, ◌<◌, ◌^◌, Option, Some, None, IfSome, option_map, Result, Ok, Err}
+use Rattle.std.specs.Prelude.{◌≤◌, Option, Some, None, IfSome, option_map, Result, Ok, Err}
 use Rattle.tc_model.specs.Tree.{depth}
-use Rattle.tc_model.specs.Limits.{max_depth}
+use Rattle.tc_model.specs.Limits.{max_depth, max_key}
 use Rattle.tc_model.specs.Stored.{IsStorable}
 use Rattle.tc_model.specs.Request as request
 use Rattle.tc_value.specs.Meaning.{tree_of}
@@ -25,7 +25,7 @@ request_of_command Schema = request.schema
 request_of_command (Scan ask) = request.scan (ask_of ask)
 request_of_command Collect = request.collect
 
--- what the answer of reading a line says that the line asks for, unless memory was wanting
+-- what the answer of reading a line says that the line asks for, unless there was no memory
 abbrev pub request_by : Result Command ParseFault → Option request.Request
 request_by (Ok command) = Some (request_of_command command)
 request_by (Err (Refused refusal)) = Some (request.refused (refusal_of refusal))
@@ -43,11 +43,11 @@ request_with command (Err Memory) = None
 abbrev pub IsLawfulAsk : Ask → Type 0
 IsLawfulAsk ask = IfSome ask.eq (λ doc. depth (tree_of doc) ≤ max_depth)
 
--- a key is held as an `i64`
+-- a key is no more than the greatest
 abbrev pub IsLawful : Command → Type 0
-IsLawful (Upsert key doc) = (key < 2 ^ 63) × IsStorable (tree_of doc)
-IsLawful (Delete key) = key < 2 ^ 63
-IsLawful (Get key) = key < 2 ^ 63
+IsLawful (Upsert key doc) = (key ≤ max_key) × IsStorable (tree_of doc)
+IsLawful (Delete key) = key ≤ max_key
+IsLawful (Get key) = key ≤ max_key
 IsLawful (Query ask) = IsLawfulAsk ask
 IsLawful Flush = Unit {0}
 IsLawful Schema = Unit {0}

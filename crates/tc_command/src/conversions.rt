@@ -1,13 +1,13 @@
 //! The command of a form.
 
-ghost use Rattle.std.specs.Prelude.{◌≡◌, ◌≤◌, ◌<◌, ◌^◌, IsTrue, IsSome, IfOk, IfErr, IfSome, Some, codes, map, option_map, option_and_then};
+ghost use Rattle.std.specs.Prelude.{◌≡◌, ◌≤◌, IsTrue, IsSome, IfOk, IfErr, IfSome, Some, codes, map, option_map, option_and_then};
 ghost use Rattle.serde_json.specs.Data.{array};
 ghost use Rattle.serde_json.specs.View.{view, items_view};
 ghost use Rattle.tc_model.specs.Tree.{depth, object, members_of};
 ghost use Rattle.tc_model.specs.Document.{IsAscending, member_at};
 ghost use Rattle.tc_model.specs.Json.{document_of, is_whole};
 ghost use Rattle.tc_model.specs.Request.{Ask as AskMeant, Request, within_depth, upsert_of as upsert_meant, command_of as command_meant, ask_of as ask_requested, key_of, without, path_of as path_meant, hop_of as hop_meant};
-ghost use Rattle.tc_model.specs.Limits.{max_depth};
+ghost use Rattle.tc_model.specs.Limits.{max_depth, max_key};
 ghost use Rattle.tc_value.specs.Meaning.{tree_of, member_of};
 ghost use Rattle.tc_command.specs.Asks.{hop_of};
 ghost use Rattle.tc_command.specs.Commands.{request_by, request_with, IsLawful, IsLawfulAsk, IsOfLine};
@@ -48,7 +48,7 @@ pub(crate) fn command_of(alloc: Global, form: Form<'_>) -> Result<Command, Parse
 // The key that a value is: a number that is not negative.
 fn key_in(value: &Value) -> Option<u64>
     ensures key { result ≡ option_and_then key_of (document_of (view value.now)) }
-    ensures bound { IfSome result (λ n. n < 2 ^ 63) }
+    ensures bound { IfSome result (λ n. n ≤ max_key) }
 {
     let number = value.as_i64()?;
     if number >= 0 {
@@ -107,7 +107,7 @@ fn without_id(mut members: Vec<Member>) -> Members
 fn key_among(members: &[Member]) -> Option<u64>
     ensures key { result
         ≡ option_and_then key_of (member_at (codes "id") (members_of (map member_of members.now))) }
-    ensures bound { IfSome result (λ n. n < 2 ^ 63) }
+    ensures bound { IfSome result (λ n. n ≤ max_key) }
 {
     for member in members {
         if member.name.as_str() == "id" {
@@ -119,7 +119,7 @@ fn key_among(members: &[Member]) -> Option<u64>
 
 fn key_of(doc: &Doc) -> Option<u64>
     ensures key { result ≡ key_of (tree_of doc.now) }
-    ensures bound { IfSome result (λ n. n < 2 ^ 63) }
+    ensures bound { IfSome result (λ n. n ≤ max_key) }
 {
     match doc {
         Doc::Int(number) => if *number >= 0 {

@@ -13,10 +13,7 @@ use crate::fault::JsonFault;
 use crate::wholeness::is_whole;
 use serde_json::{Map, Value};
 use std::alloc::{AllocError, Global};
-use tc_value::{Doc, Items, Member, Members, Text};
-
-// How deep a document may nest.
-const MAX_DEPTH: usize = 32;
+use tc_value::{Doc, Items, MAX_DEPTH, Member, Members, Text};
 
 /// The document that a JSON value means, in memory of its own. Errs with `NotWhole` exactly where a
 /// number in the value is not held as an `i64`, and with `TooDeep` exactly where all numbers are and
@@ -38,7 +35,7 @@ pub fn doc_of(alloc: Global, value: &Value) -> Result<Doc, JsonFault>
 // The document of a value that nests no deeper than `room`. The first fault in the value is answered,
 // so that one pass serves where there is none.
 #[cycle(convert)]
-fn convert(alloc: Global, value: &Value, room: usize) -> Result<Doc, JsonFault>
+fn convert(alloc: Global, value: &Value, room: u32) -> Result<Doc, JsonFault>
     ensures ok { IfOk result (λ d. document_of (view value.now) ≡ Some (tree_of d)) }
     ensures shallow { IfOk result (λ d. nesting (view value.now) ≤ room) }
     ensures not_whole { IsErrOf result JsonFault.NotWhole → document_of (view value.now) ≡ None }
@@ -61,7 +58,7 @@ fn convert(alloc: Global, value: &Value, room: usize) -> Result<Doc, JsonFault>
 }
 
 #[cycle(convert)]
-fn convert_items(alloc: Global, items: &Vec<Value>, room: usize) -> Result<Items, JsonFault>
+fn convert_items(alloc: Global, items: &Vec<Value>, room: u32) -> Result<Items, JsonFault>
     ensures ok { IfOk result (λ xs. items_meant (items_view items.now.items) ≡ Some (items_of xs)) }
     ensures shallow { IfOk result (λ xs. items_depth (items_view items.now.items) ≤ room) }
     ensures not_whole { IsErrOf result JsonFault.NotWhole → items_meant (items_view items.now.items) ≡ None }
@@ -78,7 +75,7 @@ fn convert_items(alloc: Global, items: &Vec<Value>, room: usize) -> Result<Items
 fn convert_members(
     alloc: Global,
     members: &Map<String, Value>,
-    room: usize,
+    room: u32,
 ) -> Result<Members, JsonFault>
     ensures ok { IfOk result (λ ms. members_meant (members_view members.now.entries) ≡ Some (members_of ms)) }
     ensures shallow { IfOk result (λ ms. members_depth (members_view members.now.entries) ≤ room) }

@@ -2,11 +2,11 @@
 #![tactic(auto)]
 
 mod document;
+mod limits;
 mod names;
 mod shape_tree;
-#[cfg(test)]
-mod tests;
 
 pub use document::{Doc, Items, Member, Members};
+pub use limits::MAX_DEPTH;
 pub use names::{Kind, Step, Text};
 pub use shape_tree::{Shape, ShapeItems, ShapeMember, ShapeMembers};
