@@ -78,7 +78,7 @@ impl fmt::Display for Refusal {
 pub enum ParseFault {
     #[error("the line is refused: {0}")]
     Refused(Refusal),
-    #[error("memory was wanting")]
+    #[error("no memory")]
     Memory,
 }
 

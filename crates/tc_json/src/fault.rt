@@ -13,7 +13,7 @@ pub enum JsonFault {
     NotWhole,
     #[error("the value nests too deep")]
     TooDeep,
-    #[error("memory was wanting")]
+    #[error("no memory")]
     Memory,
 }
 

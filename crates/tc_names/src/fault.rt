@@ -11,7 +11,7 @@ pub enum NamesFault {
     #[error("the bytes are no names section")]
     NotNames,
     /// Memory was wanting.
-    #[error("out of memory")]
+    #[error("no memory")]
     Memory,
 }
 

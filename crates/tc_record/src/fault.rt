@@ -10,7 +10,7 @@ pub enum RecordFault {
     #[error("the bytes are no record with names")]
     NotARecord,
     /// Memory was wanting.
-    #[error("out of memory")]
+    #[error("no memory")]
     Memory,
 }
 

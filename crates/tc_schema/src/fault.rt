@@ -11,7 +11,7 @@ pub enum SchemaFault {
     #[error("the bytes are no schema")]
     NotASchema,
     /// Memory was wanting.
-    #[error("out of memory")]
+    #[error("no memory")]
     Memory,
 }
 

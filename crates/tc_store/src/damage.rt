@@ -67,7 +67,7 @@ pub enum ReadFault {
     Disk,
     #[error("the file is damaged at byte {place}")]
     Damaged { place: u64, bytes: Bytes },
-    #[error("out of memory")]
+    #[error("no memory")]
     Memory,
 }
 
