@@ -1,13 +1,7 @@
+pub mod FileLaws
 pub mod MomentLemmas
 pub mod GateLemmas
-pub mod DeviceRecord
+pub mod Judged
 pub mod NameLemmas
-pub mod DiskLemmas
-pub mod SlotLemmas
-pub mod StepLemmas
-pub mod FileLemmas
-pub mod NamesLemmas
-pub mod RemainsLemmas
-pub mod PictureLemmas
 pub mod StopLaws
-pub mod ShelfLemmas
+mod Memory

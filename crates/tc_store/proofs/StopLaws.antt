@@ -5,9 +5,10 @@ use Rattle.std.proofs.lemmas.Bool.{cases_Bool}
 use Rattle.std.proofs.lemmas.List.Elements.{All-head, All-weaker}
 use Rattle.tc_store.specs.declared.file_name.FileName.{FileName}
 use Rattle.tc_store.specs.Disk.{Disk, Entry, none, home, still, out, put, same_name, Picture, bytes_at, IsPictureOf, MayLeaveAt}
-use Rattle.tc_store.specs.DiskFile.{empty_file, settled_file}
+use Rattle.tc_store.specs.DiskFile.{DiskFile, empty_file, settled_file}
+use Rattle.tc_store.specs.Gate.{IsShutOr, IsClosed, IsClosedOrWhole, IsShutOrWhole}
 use Rattle.tc_store.specs.Images.{Image, MayLeave}
-use Rattle.tc_store.specs.Moments.{EachSince, IfTold}
+use Rattle.tc_store.specs.Moments.{EachSince, IfTold, LeavesAt, LeavesOnly}
 use Rattle.tc_store.proofs.GateLemmas.{settled_leaves}
 use Rattle.tc_store.proofs.NameLemmas.{same_name-is, same_name-refl}
 
@@ -20,18 +21,18 @@ fresh_image before (Some []) (inl is) = inr (inl refl)
 fresh_image before (Some (x ∷ xs)) (inl is) = absurd (omega (arith, is.no_longer))
 fresh_image before (Some image) (inr was) = inr (inr was)
 
-leaves_weaker : (held other : Image → Type 0) (entry : Entry) (image : Image) → ((image : Image) → held image → other image) → MayLeaveAt held entry image → MayLeaveAt other entry image
-leaves_weaker held other (none before) None give may = tt
-leaves_weaker held other (none before) (Some image) give may = may
-leaves_weaker held other (home f) image give may = may
-leaves_weaker held other (still bytes) image give may = may
-leaves_weaker held other out image give may = give image may
+entry_weaker : (held other : Image → Type 0) (entry : Entry) (image : Image) → ((image : Image) → held image → other image) → MayLeaveAt held entry image → MayLeaveAt other entry image
+entry_weaker held other (none before) None give may = tt
+entry_weaker held other (none before) (Some image) give may = may
+entry_weaker held other (home f) image give may = may
+entry_weaker held other (still bytes) image give may = may
+entry_weaker held other out image give may = give image may
 
 pub picture_weaker : (held other : FileName → Image → Type 0) (disk : Disk) (picture : Picture) → ((name : FileName) (image : Image) → held name image → other name image)
     → IsPictureOf held disk picture → IsPictureOf other disk picture
 picture_weaker held other disk picture give is = record {
   once = is.once;
-  each = λ name. leaves_weaker (held name) (other name) (disk name) (bytes_at picture name) (give name) (is.each name);
+  each = λ name. entry_weaker (held name) (other name) (disk name) (bytes_at picture name) (give name) (is.each name);
 }
 
 -- where one entry changed, a picture that may be left afterwards might have been left before, if that is so of its file
@@ -58,3 +59,22 @@ now_since {X = X} P old new was since = rw since.goes_on (now since.added since.
 
 pub since_weaker : {X : Type 0} (P Q : X → Type 0) (old new : List X) → ((x : X) → P x → Q x) → EachSince P old new → EachSince Q old new
 since_weaker P Q old new give since = record { added = since.added; goes_on = since.goes_on; each = All-weaker P Q give since.added since.each; untold = since.untold }
+
+pub leaves_only_weaker : (P Q : Image → Type 0) (old new : List DiskFile) → ((image : Image) → P image → Q image) → LeavesOnly P old new → LeavesOnly Q old new
+leaves_only_weaker P Q old new give leaves = since_weaker (LeavesAt P) (LeavesAt Q) old new (λ f at image may. give image (at image may)) leaves
+
+-- ---- absent, closed, the file before, or whole
+
+pub shut_or_whole-shut : (before : Image) (whole : List ℕ) (image : Image) → IsShutOr before image → IsShutOrWhole before whole image
+shut_or_whole-shut before whole None is = tt
+shut_or_whole-shut before whole (Some image) (inl closed) = inl closed
+shut_or_whole-shut before whole (Some image) (inr same) = inr (inl same)
+
+pub shut_or_whole-closed : (before : Image) (whole : List ℕ) (image : Image) → IsClosed image → IsShutOrWhole before whole image
+shut_or_whole-closed before whole None is = tt
+shut_or_whole-closed before whole (Some image) closed = inl closed
+
+pub shut_or_whole-whole : (before : Image) (whole : List ℕ) (image : Image) → IsClosedOrWhole whole image → IsShutOrWhole before whole image
+shut_or_whole-whole before whole None is = tt
+shut_or_whole-whole before whole (Some image) (inl closed) = inl closed
+shut_or_whole-whole before whole (Some image) (inr same) = inr (inr same)

@@ -1,3 +1,4 @@
+pub mod Counted
 pub mod DiskFile
 pub mod Images
 pub mod Moments
@@ -6,15 +7,6 @@ pub mod NameOrder
 pub mod Gate
 pub mod Pictures
 pub mod StoreCalls
+pub mod Judging
 pub mod KitFaults
-pub mod MemWatch
-pub mod DeviceCalls
-pub mod MemDevice
-pub mod MemFrozen
-pub mod DeviceLaws
-pub mod MemDisk
-pub mod MemStore
-pub mod MemNames
-pub mod MemRemains
-pub mod MemShelf
-pub mod StoreLaws
+pub mod Memory

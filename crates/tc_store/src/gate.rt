@@ -1,7 +1,8 @@
 //! The gate: byte 0 of a file, which is synced as 0 before anything else is written, and becomes 1 once all else is synced.
 
-ghost use Rattle.std.specs.Prelude.{◌≡◌, ◌<◌, ◌≤◌, ◌+◌, List, [], ◌∷◌, length, max, false, Ok, OnOk, IfOk, IfErr, IfSome, IsErr, IsErrOf};
-ghost use Rattle.tc_bytes.specs.Counts.{Rose, next_count};
+ghost use Rattle.std.specs.Prelude.{◌≡◌, ◌<◌, ◌≤◌, ◌+◌, [], ◌∷◌, length, max, false, Ok, OnOk, IfOk, IfErr, IfSome, IsErr, IsErrOf};
+ghost use Rattle.std.specs.Result.{IsErrAnd};
+ghost use Rattle.tc_store.specs.Counted.{IsCounted, IsCountedRead};
 ghost use Rattle.tc_store.specs.DiskFile.{written, synced_file};
 ghost use Rattle.tc_store.specs.Gate.{is_open_file, opened, IsShutOr, IsClosed, IsClosedOrWhole};
 ghost use Rattle.tc_store.specs.Images.{Image};
@@ -53,9 +54,7 @@ impl<D: Device> Gated<D> {
         ensures broken_moments { (before : Image) → IfTold (D.history device) (LeavesAt (IsShutOr before))
             → IfErr result (λ broken. LeavesOnly (IsShutOr before) (D.history device) (D.history broken.device)) }
 
-        ensures faults { D.Watch.faults watch.old ≤ D.Watch.faults watch.new }
-        ensures cause { IfErr result (λ broken. broken.cause ≡ DeviceFault.Fault → Rose (D.Watch.faults watch.old) (D.Watch.faults watch.new)) }
-        ensures reads { D.Watch.reads watch.new ≡ D.Watch.reads watch.old }
+        ensures counted { IsCounted (IsErrAnd result (λ broken. broken.cause ≡ DeviceFault.Fault)) (D.Watch.counts watch.old) (D.Watch.counts watch.new) }
     {
         let mut device = device;
         if let Err(cause) = device.write_at(0, &[0], watch) {
@@ -82,9 +81,7 @@ impl<D: Device> Gated<D> {
         // At each moment of the call the file is there, and closed.
         ensures moments { LeavesOnly IsClosed (D.history self.old) (D.history self.new) }
 
-        ensures faults { D.Watch.faults watch.old ≤ D.Watch.faults watch.new }
-        ensures cause { IsErrOf result DeviceFault.Fault → Rose (D.Watch.faults watch.old) (D.Watch.faults watch.new) }
-        ensures reads { D.Watch.reads watch.new ≡ D.Watch.reads watch.old }
+        ensures counted { IsCounted (IsErrOf result DeviceFault.Fault) (D.Watch.counts watch.old) (D.Watch.counts watch.new) }
     {
         self.device.write_at(at, bytes, watch)
     }
@@ -103,9 +100,7 @@ impl<D: Device> Gated<D> {
             (λ broken. LeavesOnly (IsClosedOrWhole (opened f.content)) (D.history self) (D.history broken.device))) }
         ensures untold { IfErr result (λ broken. D.history self ≡ [] → D.history broken.device ≡ []) }
 
-        ensures faults { D.Watch.faults watch.old ≤ D.Watch.faults watch.new }
-        ensures cause { IfErr result (λ broken. broken.cause ≡ DeviceFault.Fault → Rose (D.Watch.faults watch.old) (D.Watch.faults watch.new)) }
-        ensures reads { D.Watch.reads watch.new ≡ D.Watch.reads watch.old }
+        ensures counted { IsCounted (IsErrAnd result (λ broken. broken.cause ≡ DeviceFault.Fault)) (D.Watch.counts watch.old) (D.Watch.counts watch.new) }
     {
         let mut device = self.device;
         if let Err(cause) = device.sync(watch) {
@@ -133,10 +128,8 @@ impl<D: Device> Gated<D> {
 pub fn is_open<F: Frozen>(file: &F, watch: &mut F::Watch) -> Result<bool, FrozenFault>
     ensures exact { IfOk result (λ is_open. IfSome (F.content file.now) (λ bytes. is_open ≡ is_open_file bytes)) }
     ensures short { F.size file.now ≤ 1 → result ≡ Ok false }
-    ensures no_read { F.size file.now ≤ 1 → F.Watch.reads watch.new ≡ F.Watch.reads watch.old }
-    ensures one_read { 1 < F.size file.now → F.Watch.reads watch.new ≡ next_count (F.Watch.reads watch.old) }
-    ensures faults { F.Watch.faults watch.old ≤ F.Watch.faults watch.new }
-    ensures cause { IsErr result → Rose (F.Watch.faults watch.old) (F.Watch.faults watch.new) }
+    ensures no_read { F.size file.now ≤ 1 → IsCounted (IsErr result) (F.Watch.counts watch.old) (F.Watch.counts watch.new) }
+    ensures one_read { 1 < F.size file.now → IsCountedRead (IsErr result) (F.Watch.counts watch.old) (F.Watch.counts watch.new) }
 {
     if file.len() <= 1 {
         return Ok(false);

@@ -37,10 +37,10 @@ pub trait Shelf {
     fn kit(&mut self, alloc: Global, number: u32) -> Result<Kit<Self::Store>, ShelfFault>
         ensures files { IfOk result (λ kit. Self.Store.history kit.store ≡ files self.old number) }
         ensures at_rest { IfOk result (λ kit. IfTold (Self.Store.history kit.store) IsAtRest) }
-        ensures main { IfOk result (λ kit. Self.Store.Watch.faults kit.main ≡ (kit_faults self.old number).main) }
-        ensures flusher { IfOk result (λ kit. Self.Store.Watch.faults kit.flusher ≡ (kit_faults self.old number).flusher) }
-        ensures merger { IfOk result (λ kit. Self.Store.Watch.faults kit.merger ≡ (kit_faults self.old number).merger) }
-        ensures reader { IfOk result (λ kit. Self.Store.Watch.faults kit.reader ≡ (kit_faults self.old number).reader) }
+        ensures main { IfOk result (λ kit. (Self.Store.Watch.counts kit.main).faults ≡ (kit_faults self.old number).main) }
+        ensures flusher { IfOk result (λ kit. (Self.Store.Watch.counts kit.flusher).faults ≡ (kit_faults self.old number).flusher) }
+        ensures merger { IfOk result (λ kit. (Self.Store.Watch.counts kit.merger).faults ≡ (kit_faults self.old number).merger) }
+        ensures reader { IfOk result (λ kit. (Self.Store.Watch.counts kit.reader).faults ≡ (kit_faults self.old number).reader) }
         ensures other_faults { (other : ℕ) → other ≢ number → kit_faults self.new other ≡ kit_faults self.old other }
         ensures other_files { (other : ℕ) → other ≢ number → files self.new other ≡ files self.old other }
         ensures same { IsErrOf result ShelfFault.Memory → self.new ≡ self.old }
