@@ -1,6 +1,8 @@
 -- The field of a member: where it stands, what is counted there once a shape is taken off, and whether it is kept.
 use Rattle.std.proofs.Common.{◌≡◌, ◌≢◌, ℕ, zero, suc, ◌<◌, ◌==◌, Bool, true, false, List, [], ◌∷◌, Option, Some, IsTrue, is_some, length, map, set, get_or, get_or-set_same, refl, sym, ap, ◌∙◌, subst, arith}
 use Rattle.std.specs.List.{remove}
+use Rattle.std.specs.declared.alloc.Global.{Global}
+use Rattle.std.specs.declared.boxed.Box.{Box}
 use Rattle.std.proofs.lemmas.Bool.Decides.{Decides-eqb}
 use Rattle.std.proofs.lemmas.List.{length-map}
 use Rattle.std.proofs.lemmas.Option.{same_Some}
@@ -24,7 +26,7 @@ pub record Found (n i : ℕ) (all : List Field) (here : Field) : Type 0 where
   pub place : IsPlaceOf n (map field_counted all) i
   pub inside : i < length all
   pub own : (out-Field here).number ≡ n
-  pub counted : place_counted (out-Field here).node ≡ field_at n (fields_counted all)
+  pub counted : place_counted (out-Field here).node.value ≡ field_at n (fields_counted all)
 
 -- by the number that the dictionary told
 pub found : (names : List Name) (name asked : Name) (told : Option ℕ) (n i : ℕ) (all searched : List Field) (here : Field)
@@ -37,7 +39,7 @@ found names name asked told n i all searched here known same answer some over st
       place = place;
       inside = subst (λ l. i < l) (length-map all field_counted) place.inside;
       own = ap (λ f. (out-Field f).number) is ∙ number_at all i here (number names name) there place.here;
-      counted = ap (λ f. place_counted (out-Field f).node) is ∙ counted_at all i here (number names name) there place.here;
+      counted = ap (λ f. place_counted (out-Field f).node.value) is ∙ counted_at all i here (number names name) there place.here;
     }
 
 -- ---- what is written there, and taken out
@@ -48,10 +50,10 @@ taken_after_set f (y ∷ xs) zero x inside = refl
 taken_after_set f (y ∷ xs) (suc i) x inside = ap (λ ys. f y ∷ ys) (taken_after_set f xs i x (omega arith))
 
 -- what is counted there once it is written
-counted_there : (fs : List Field) (i k : ℕ) (node : Node) (here : Field) → i < length fs → here ≡ get_or (set fs i (roll-Field record { number = k; node = node })) i here
-    → total (out-Node (out-Field here).node).counts ≡ documents_of (place_counted node)
+counted_there : (fs : List Field) (i k : ℕ) (node : Box Node Global) (here : Field) → i < length fs → here ≡ get_or (set fs i (roll-Field record { number = k; node = node })) i here
+    → total (out-Node (out-Field here).node.value).counts ≡ documents_of (place_counted node.value)
 counted_there fs i k node here inside is =
-    ap (λ f. total (out-Node (out-Field f).node).counts) (is ∙ get_or-set_same fs i (roll-Field record { number = k; node = node }) here inside) ∙ rw (out-roll-Field) (sym (ap documents_of (place_parts node)))
+    ap (λ f. total (out-Node (out-Field f).node.value).counts) (is ∙ get_or-set_same fs i (roll-Field record { number = k; node = node }) here inside) ∙ rw (out-roll-Field) (sym (ap documents_of (place_parts node.value)))
 
 -- ---- whether it is kept
 
@@ -72,8 +74,8 @@ field_stays : (n : ℕ) (d : Counted) (fs : Fields) → documents_of d ≢ 0 →
 field_stays n d fs some = rw (is_some_there d some) refl
 
 -- the node is written, and stays where it counts something
-pub stays : (n i : ℕ) (all : List Field) (here there : Field) (node : Node) (d : Counted) → Found n i all here → place_counted node ≡ d
-    → there ≡ get_or (set all i (roll-Field record { number = (out-Field here).number; node = node })) i there → total (out-Node (out-Field there).node).counts ≢ 0
+pub stays : (n i : ℕ) (all : List Field) (here there : Field) (node : Box Node Global) (d : Counted) → Found n i all here → place_counted node.value ≡ d
+    → there ≡ get_or (set all i (roll-Field record { number = (out-Field here).number; node = node })) i there → total (out-Node (out-Field there).node.value).counts ≢ 0
     → fields_counted (set all i (roll-Field record { number = (out-Field here).number; node = node })) ≡ kept_field n d (fields_counted all)
 stays n i all here there node d f is again some =
     written_field all i n (out-Field here).number node d f.own is
@@ -81,8 +83,8 @@ stays n i all here there node d f is again some =
     ∙ field_stays n d (fields_counted all) (λ none. some (counted_there all i (out-Field here).number node there f.inside again ∙ ap documents_of is ∙ none))
 
 -- and leaves where it counts nothing
-pub leaves : (n i : ℕ) (all : List Field) (here there : Field) (node : Node) (d : Counted) → Found n i all here → place_counted node ≡ d
-    → there ≡ get_or (set all i (roll-Field record { number = (out-Field here).number; node = node })) i there → total (out-Node (out-Field there).node).counts ≡ 0
+pub leaves : (n i : ℕ) (all : List Field) (here there : Field) (node : Box Node Global) (d : Counted) → Found n i all here → place_counted node.value ≡ d
+    → there ≡ get_or (set all i (roll-Field record { number = (out-Field here).number; node = node })) i there → total (out-Node (out-Field there).node.value).counts ≡ 0
     → fields_counted (remove (set all i (roll-Field record { number = (out-Field here).number; node = node })) i) ≡ kept_field n d (fields_counted all)
 leaves n i all here there node d f is again none =
     ap listed (taken_after_set field_counted all i (roll-Field record { number = (out-Field here).number; node = node }) f.inside)

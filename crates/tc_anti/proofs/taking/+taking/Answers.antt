@@ -1,7 +1,7 @@
 use Rattle.std.proofs.Common.{◌≡◌, ◌+◌, Some, length, map, drop, refl, sym, ap, ◌∙◌, subst, arith, rules}
 use Rattle.tc_model.specs.Tree.{array, object, item, no_items, member, no_members, items_of, members_of}
 use Rattle.tc_model.specs.Dictionary.{number_of}
-use Rattle.tc_schema_model.specs.Counted.{field_at, IsCanonical, IsBelowCanonical, AreFieldsCanonical, AreFieldsOrdered}
+use Rattle.tc_schema_model.specs.Counted.{field_at, IsCanonical, IsBelowCanonical, AreFieldsCanonical, AreFieldsOrdered, total}
 use Rattle.tc_schema_model.specs.Added.{removed, items_removed, members_removed, number}
 use Rattle.tc_schema_model.specs.Fits.{Fits, ItemsFit, MembersFit}
 use Rattle.tc_schema_model.proofs.AddedLaws.{field_canonical}
@@ -120,7 +120,8 @@ take_member-take_shape-requires t c =
     let here = c.index_mut.result.now in
     let f = found names m.name c.as_str.result.now c.id_of.result c.unwrap-number.result c.in-Ok.at all c.deref.result.now here c.requires.known c.as_str.ensures.bytes c.id_of.ensures.number c.unwrap-number.ensures c.deref.ensures.value c.in-Ok.ensures.found c.index_mut.ensures.value in
     let canonical = field_canonical (length names) 0 (number names m.name) (fields_counted all) c.requires.canonical in
-    (omega (arith, c.decreases), (subst (IsCanonical (length names)) (sym f.counted) canonical, subst (Fits names (shape_tree m.value)) (sym f.counted) c.requires.fits))
+    let counted = ap place_counted c.deref_mut.ensures.value ∙ f.counted in
+    (omega (arith, c.decreases), (subst (IsCanonical (length names)) (sym counted) canonical, subst (Fits names (shape_tree m.value)) (sym counted) c.requires.fits))
 
 pub take_member-returns-else-total-eq0 : goal.take_member-returns-else-total-eq0
 take_member-returns-else-total-eq0 t c =
@@ -131,8 +132,8 @@ take_member-returns-else-total-eq0 t c =
     let f = found names m.name c.as_str.result.now c.id_of.result c.unwrap-number.result c.in-Ok.at all c.deref.result.now here c.requires.known c.as_str.ensures.bytes c.id_of.ensures.number c.unwrap-number.ensures c.deref.ensures.value c.in-Ok.ensures.found c.index_mut.ensures.value in
     let n = number names m.name in
     let s = shape_tree m.value in
-    stays n c.in-Ok.at all here c.index.result.now c.take_shape.new.place (removed names s (field_at n (fields_counted all))) f
-    (c.take_shape.ensures ∙ ap (removed names s) f.counted) c.index.ensures (λ none. c.if-total-eq0.false (c.total.ensures.total ∙ none))
+    stays n c.in-Ok.at all here c.index.result.now _ (removed names s (field_at n (fields_counted all))) f
+    (c.take_shape.ensures ∙ ap (removed names s) (ap place_counted c.deref_mut.ensures.value ∙ f.counted)) c.index.ensures (λ none. c.if-total-eq0.false (c.total.ensures.total ∙ ap (λ p. total (out-Node p).counts) c.deref-2.ensures ∙ none))
 
 pub take_member-returns-then-total-eq0 : goal.take_member-returns-then-total-eq0
 take_member-returns-then-total-eq0 t c =
@@ -144,8 +145,8 @@ take_member-returns-then-total-eq0 t c =
     let n = number names m.name in
     let s = shape_tree m.value in
     ap fields_counted c.remove.ensures.items
-    ∙ leaves n c.in-Ok.at all here c.index.result.now c.take_shape.new.place (removed names s (field_at n (fields_counted all))) f
-    (c.take_shape.ensures ∙ ap (removed names s) f.counted) c.index.ensures (sym c.total.ensures.total ∙ c.if-total-eq0.true)
+    ∙ leaves n c.in-Ok.at all here c.index.result.now _ (removed names s (field_at n (fields_counted all))) f
+    (c.take_shape.ensures ∙ ap (removed names s) (ap place_counted c.deref_mut.ensures.value ∙ f.counted)) c.index.ensures (sym (c.total.ensures.total ∙ ap (λ p. total (out-Node p).counts) c.deref-2.ensures) ∙ c.if-total-eq0.true)
 
 pub take_members-take_member-requires : goal.take_members-take_member-requires
 take_members-take_member-requires t c =
