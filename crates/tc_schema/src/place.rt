@@ -7,6 +7,9 @@ ghost use Rattle.tc_schema.specs.Places.{place_counted, below_counted, field_cou
 use crate::counters::Counts;
 use std::alloc::{AllocError, Global};
 
+/// The tag of a union in the format, beside those of the kinds.
+pub const UNION_TAG: u8 = 8;
+
 /// One place of a schema. Where values of several kinds stand there it is a union.
 #[cycle(place)]
 #[derive(Drop, Debug)]

@@ -8,12 +8,10 @@ ghost use Rattle.tc_schema.specs.Reading.{starts, counter_at, scalar_at, item_at
 
 use crate::counters::{Counts, one_if_some};
 use crate::fault::SchemaFault;
-use crate::place::{Field, Node};
+use crate::place::{Field, Node, UNION_TAG};
 use std::alloc::Global;
 use tc_bytes::{u8_at, u32_at, u64_at};
 use tc_value::Kind;
-
-const UNION_TAG: u8 = 8;
 
 /// The root of the schema that all of the bytes spell.
 pub fn read_root(bytes: &[u8], names: u32, alloc: Global) -> Result<Node, SchemaFault>

@@ -10,12 +10,10 @@ ghost use Rattle.tc_schema.specs.Places.{place_counted, below_counted, fields_co
 ghost use Rattle.tc_schema.specs.Writing.{tagged, field_part, scalar_part, scalar_parts, array_part, object_part, union_part};
 
 use crate::counters::Counts;
-use crate::place::{Field, Node};
+use crate::place::{Field, Node, UNION_TAG};
 use std::alloc::AllocError;
 use tc_bytes::{put_u32, put_u64};
 use tc_value::Kind;
-
-const UNION_TAG: u8 = 8;
 
 /// Appends the bytes of a place. Errs only for want of memory.
 #[cycle(put_place)]

@@ -1,9 +1,9 @@
 -- The bytes of a schema, and which schemas have bytes.
 use Rattle.std.specs.Prelude.{ℕ, ◌+◌, List, [], ◌∷◌, ◌++◌, Some, None}
 use Rattle.std.specs.Int.{w32, w64, to_be_bytes}
-use Rattle.tc_model.specs.Kinds.{scalar_tag}
+use Rattle.tc_model.specs.Kinds.{arrays, objects, scalar_tag, tag}
 use Rattle.tc_schema_model.specs.Counted.{Counted, IsCanonical, CountsObjects, HasSmallCounters}
-use Rattle.tc_schema_model.specs.SchemaTree.{SchemaNode, scalar_node, array_node, object_node, union_node, ItemNode, no_item_node, an_item_node, FieldNodes, no_field_nodes, a_field_node, KindNodes, no_kind_nodes, a_kind_node, SchemaTree, kinds_count}
+use Rattle.tc_schema_model.specs.SchemaTree.{SchemaNode, scalar_node, array_node, object_node, union_node, ItemNode, no_item_node, an_item_node, FieldNodes, no_field_nodes, a_field_node, KindNodes, no_kind_nodes, a_kind_node, SchemaTree, union_tag, kinds_count}
 
 abbrev pub fields_count : FieldNodes → ℕ
 fields_count no_field_nodes = 0
@@ -13,9 +13,9 @@ fields_count (a_field_node n t fs) = 1 + fields_count fs
 abbrev mutual
   pub node_bytes : SchemaNode → List ℕ
   node_bytes (scalar_node k n) = scalar_tag k ∷ to_be_bytes w64 n
-  node_bytes (array_node n i) = 5 ∷ (to_be_bytes w64 n ++ item_bytes i)
-  node_bytes (object_node n fs) = 6 ∷ (to_be_bytes w64 n ++ (to_be_bytes w32 (fields_count fs) ++ fields_bytes fs))
-  node_bytes (union_node n ks) = 8 ∷ (to_be_bytes w64 n ++ (kinds_count ks ∷ kinds_bytes ks))
+  node_bytes (array_node n i) = tag arrays ∷ (to_be_bytes w64 n ++ item_bytes i)
+  node_bytes (object_node n fs) = tag objects ∷ (to_be_bytes w64 n ++ (to_be_bytes w32 (fields_count fs) ++ fields_bytes fs))
+  node_bytes (union_node n ks) = union_tag ∷ (to_be_bytes w64 n ++ (kinds_count ks ∷ kinds_bytes ks))
 
   -- whether there is an item node, and the node
   pub item_bytes : ItemNode → List ℕ

@@ -1,7 +1,7 @@
 -- The schema as a tree with unions, the tree that counters make, and when such a tree is in the one form.
 use Rattle.std.specs.Prelude.{◌≡◌, ℕ, ◌+◌, ◌<◌, ◌≤◌, ◌==◌, Option, Some, None, if◌then◌else◌}
 use Rattle.tc_model.specs.Document.{ScalarKind, null_kind, boolean_kind, integer_kind, text_kind}
-use Rattle.tc_model.specs.Kinds.{scalar_tag}
+use Rattle.tc_model.specs.Kinds.{arrays, objects, scalar_tag, tag}
 use Rattle.tc_schema_model.specs.Counted.{Counters, Counted, counted, Below, no_item, an_item, Fields, no_fields, a_field, documents_of}
 
 -- each node has its counter
@@ -31,6 +31,10 @@ mutual
 abbrev pub SchemaTree : Type 0
 SchemaTree = Option SchemaNode
 
+-- the tag of a union, beside those of the kinds
+abbrev pub union_tag : ℕ
+union_tag = 8
+
 -- the counter and the tag of a node
 abbrev pub node_counter : SchemaNode → ℕ
 node_counter (scalar_node k n) = n
@@ -40,9 +44,9 @@ node_counter (union_node n ks) = n
 
 abbrev pub node_tag : SchemaNode → ℕ
 node_tag (scalar_node k n) = scalar_tag k
-node_tag (array_node n i) = 5
-node_tag (object_node n fs) = 6
-node_tag (union_node n ks) = 8
+node_tag (array_node n i) = tag arrays
+node_tag (object_node n fs) = tag objects
+node_tag (union_node n ks) = union_tag
 
 -- the counters of the kinds together
 abbrev pub kinds_total : KindNodes → ℕ
