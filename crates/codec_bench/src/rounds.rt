@@ -1,9 +1,10 @@
 //! Calls of the codec, each done so many times. A sum of what they answer keeps them from being left out.
 
+use crate::forms::{compacted, expanded};
 use anyhow::{Result, bail};
 use std::alloc::{AllocError, Global};
 use tc_bytes::Bytes;
-use tc_record::{Piece, RecordFault, RecordRef, decode, encode, size};
+use tc_record::{Cursor, Piece, RecordFault, RecordRef, decode, encode, size};
 use tc_value::Doc;
 
 /// The record of a document, or `None` where it has none.
@@ -28,6 +29,10 @@ pub(crate) fn sum_of(
         "decode" => Ok(decoded(alloc, bytes, rounds)?),
         "check" => Ok(checked(bytes, rounds)),
         "cursor" => Ok(walked(bytes, rounds)),
+        "again" => Ok(walked_again(bytes)),
+        "compact" => Ok(compacted(alloc, bytes, rounds)?),
+        "expand" => Ok(expanded(alloc, bytes)?),
+        "same" => Ok(u64::from(decode(alloc, bytes)?.same(doc))),
         other => bail!("no call {other}"),
     }
 }
@@ -84,15 +89,24 @@ fn walked(bytes: &[u8], rounds: u32) -> u64 {
     };
     let mut sum = 0u64;
     for _ in 0..rounds {
-        sum = sum.wrapping_add(walked_once(&record));
+        sum = sum.wrapping_add(walked_once(record.cursor(), bytes.len()));
     }
     sum
 }
 
-fn walked_once(record: &RecordRef<'_>) -> u64 {
-    let mut cursor = record.cursor();
+/// Borrows a record that is known to be one a second time, and walks over it with a second cursor.
+fn walked_again(bytes: &[u8]) -> u64 {
+    let Some(record) = RecordRef::of(bytes) else {
+        return 0;
+    };
+    let again = RecordRef::known(record.bytes()).again();
+    walked_once(again.cursor().again(), bytes.len())
+}
+
+fn walked_once(start: Cursor<'_>, len: usize) -> u64 {
+    let mut cursor = start;
     let mut sum = 0u64;
-    for _ in 0..record.bytes().len() {
+    for _ in 0..len {
         match cursor.next() {
             None => break,
             Some(token) => sum = sum.wrapping_add(weight(token.value)),

@@ -14,9 +14,7 @@ ghost use Rattle.tc_record.specs.Measured.{column_width};
 
 use crate::measure::{Measure, measure_document};
 use crate::sizing::{len_of_record, width_of_column};
-use crate::tags::{
-    ARRAY_TAG, BOOLEAN_TAG, CLOSE_TAG, INTEGER_TAG, NULL_TAG, OBJECT_TAG, TEXT_TAG,
-};
+use crate::tags::{ARRAY_TAG, BOOLEAN_TAG, CLOSE_TAG, INTEGER_TAG, NULL_TAG, OBJECT_TAG, TEXT_TAG};
 use crate::widths::{Width, put_number};
 use std::alloc::{AllocError, Global};
 use tc_bytes::{Bytes, put_u32};

@@ -62,6 +62,7 @@ impl<'a> RecordRef<'a> {
         ensures bytes { result.bytes ≡ bytes.now }
         ensures spells { Spells result }
         ensures document { (d : Document) → IsRecordOf d bytes.now → (result.named ≡ true) × (result.tokens ≡ named_tokens d) }
+        ensures numbered { (n : NumberedTree) → IsNumberedRecordOf n bytes.now → (result.named ≡ false) × (result.tokens ≡ numbered_tokens n) }
     {
         match sections_of_record(bytes) {
             Some(sections) => RecordRef { bytes, sections },

@@ -2,7 +2,7 @@ use Rattle.std.proofs.Common.{◌≡◌, ◌∙◌, ap, sym, Some, option_map}
 use Rattle.tc_bytes.specs.Codec.{IsBytes}
 use Rattle.tc_record.specs.Sections.{sections_in}
 use Rattle.tc_record.specs.SectionsView.{sections_of}
-use Rattle.tc_record.proofs.Holding.{held_spells, held_document, known_cut, known_tokens}
+use Rattle.tc_record.proofs.Holding.{held_spells, held_document, held_numbered, known_cut, known_tokens}
 use Rattle.tc_record.proofs.record_ref.RecordRef.known.Goals as goal
 
 pub unreachable-requires : goal.unreachable-requires
@@ -24,3 +24,8 @@ pub returns-clause-document : goal.returns-clause-document
 returns-clause-document c =
     let cut : sections_in c.args.bytes.now ≡ Some (sections_of c.in-Some.sections) = sym c.sections_of_record.ensures ∙ ap (option_map sections_of) c.in-Some.is in
     λ d is. held_document c.args.bytes.now c.in-Some.sections d cut is
+
+pub returns-clause-numbered : goal.returns-clause-numbered
+returns-clause-numbered c =
+    let cut : sections_in c.args.bytes.now ≡ Some (sections_of c.in-Some.sections) = sym c.sections_of_record.ensures ∙ ap (option_map sections_of) c.in-Some.is in
+    λ n is. held_numbered c.args.bytes.now c.in-Some.sections n cut is
