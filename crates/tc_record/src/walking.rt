@@ -9,16 +9,17 @@ ghost use Rattle.tc_record.specs.Stack.{stack_of};
 use crate::reader::{Columns, Format, Level, value_in};
 use crate::tags::CLOSE_TAG;
 use crate::token::{Label, Piece, Token};
+use tc_value::MAX_DEPTH;
 
-/// How deep arrays and objects may nest in a record.
-pub(crate) const MAX_DEPTH: usize = 32;
+/// How many arrays and objects may be open at once.
+const MAX_LEVELS: usize = MAX_DEPTH as usize;
 
 /// What is open, innermost last, and what is left of the columns beside the tags.
 #[derive(Clone, Copy)]
 pub(crate) struct Walk<'a> {
     pub(crate) format: Format,
     pub(crate) columns: Columns<'a>,
-    pub(crate) levels: [Level<'a>; MAX_DEPTH],
+    pub(crate) levels: [Level<'a>; MAX_LEVELS],
     pub(crate) depth: usize,
     ghost room: { length levels ≡ max_depth },
     ghost shallow: { depth ≤ max_depth },
@@ -34,7 +35,7 @@ impl<'a> Walk<'a> {
         Walk {
             format,
             columns,
-            levels: [Level::Object(None); MAX_DEPTH],
+            levels: [Level::Object(None); MAX_LEVELS],
             depth: 1,
         }
     }
@@ -88,7 +89,7 @@ impl<'a> Walk<'a> {
         ensures format { self.new.format ≡ self.old.format }
         ensures columns { columns_of self.new.columns ≡ columns_of self.old.columns }
     {
-        if self.depth >= MAX_DEPTH {
+        if self.depth >= MAX_LEVELS {
             return false;
         }
         self.levels[self.depth] = level;
