@@ -8,8 +8,6 @@ mod forms;
 mod line;
 mod refusals;
 mod replies;
-#[cfg(test)]
-mod tests;
 mod texts;
 
 pub use asks::{Ask, Hop, PathExpr};

@@ -10,6 +10,3 @@ pub use fault::JsonFault;
 pub use reading::doc_of;
 pub use wholeness::is_whole;
 pub use writing::{text_of, value_of};
-
-#[cfg(test)]
-mod tests;

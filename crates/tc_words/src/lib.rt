@@ -10,6 +10,3 @@ mod words;
 pub use fault::WordsFault;
 pub use run::Options;
 pub use words::options;
-
-#[cfg(test)]
-mod tests;

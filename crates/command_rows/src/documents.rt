@@ -1,0 +1,82 @@
+//! Documents: read from JSON, written, measured, copied, compared and shaped.
+
+use serde_json::Value;
+use std::alloc::Global;
+use tc_json::{JsonFault, doc_of, is_whole, text_of, value_of};
+use tc_value::{Doc, Kind};
+
+/// What a call on documents answers.
+pub(crate) fn answer_of(alloc: Global, call: &str, argument: &str) -> Option<String> {
+    match call {
+        "document" => reading(alloc, &Value::from_str(alloc, argument).ok()?),
+        "depth" => depth(alloc, &document(alloc, argument)?),
+        "copy" => copy(alloc, &document(alloc, argument)?),
+        "shape" => shape(alloc, &document(alloc, argument)?),
+        "same" => same(alloc, argument),
+        "tags" => tags(alloc),
+        _ => None,
+    }
+}
+
+fn document(alloc: Global, text: &str) -> Option<Doc> {
+    doc_of(alloc, &Value::from_str(alloc, text).ok()?).ok()
+}
+
+// Whether each number of a JSON value is whole, and the document that it means, or why it means none.
+fn reading(alloc: Global, value: &Value) -> Option<String> {
+    let whole = is_whole(value);
+    match doc_of(alloc, value) {
+        Ok(doc) => written(alloc, whole, value, &doc),
+        Err(JsonFault::Memory) => None,
+        Err(fault) => format!(in alloc; "{whole} {fault}\n").ok(),
+    }
+}
+
+// Whether the document's JSON value is this one, and its text.
+fn written(alloc: Global, whole: bool, value: &Value, doc: &Doc) -> Option<String> {
+    let same = value_of(alloc, doc).ok()? == *value;
+    format!(in alloc; "{whole} {same} {}\n", text_of(alloc, doc).ok()?.as_str()).ok()
+}
+
+// The depth, and the least limit that the document nests within.
+fn depth(alloc: Global, doc: &Doc) -> Option<String> {
+    let mut limit = 0u32;
+    for _ in 0..33 {
+        if doc.nests_within(limit) {
+            return format!(in alloc; "{} {limit}\n", doc.depth()).ok();
+        }
+        limit += 1;
+    }
+    None
+}
+
+// Whether the copy is the same, and its text.
+fn copy(alloc: Global, doc: &Doc) -> Option<String> {
+    let copied = doc.copy(alloc).ok()?;
+    let same = copied.same(doc);
+    format!(in alloc; "{same} {}\n", text_of(alloc, &copied).ok()?.as_str()).ok()
+}
+
+// Whether two documents, between them a space, are the same.
+fn same(alloc: Global, texts: &str) -> Option<String> {
+    let (first, second) = texts.split_once(' ')?;
+    let same = document(alloc, first)?.same(&document(alloc, second)?);
+    format!(in alloc; "{same}\n").ok()
+}
+
+// The copy of the document's shape.
+fn shape(alloc: Global, doc: &Doc) -> Option<String> {
+    let copied = doc.shape(alloc).ok()?.copy(alloc).ok()?;
+    format!(in alloc; "{copied:?}\n").ok()
+}
+
+fn tags(alloc: Global) -> Option<String> {
+    let scalars = [
+        Kind::Null.tag(),
+        Kind::Bool.tag(),
+        Kind::Int.tag(),
+        Kind::Text.tag(),
+    ];
+    let (array, object) = (Kind::Array.tag(), Kind::Object.tag());
+    format!(in alloc; "{scalars:?} {array} {object}\n").ok()
+}

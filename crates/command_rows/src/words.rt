@@ -1,0 +1,25 @@
+//! The words of the command line.
+
+use std::alloc::Global;
+use tc_value::Text;
+use tc_words::{WordsFault, options};
+
+/// The options that words ask for, which stand between single spaces.
+pub(crate) fn asked(alloc: Global, line: &str) -> Option<String> {
+    let mut words = Vec::new(alloc);
+    for word in line.split(' ') {
+        words
+            .push(Text::of(String::from_str(alloc, word).ok()?))
+            .ok()?;
+    }
+    shown(alloc, words.as_slice())
+}
+
+/// The options that words ask for, or why they ask for none.
+pub(crate) fn shown(alloc: Global, words: &[Text]) -> Option<String> {
+    match options(alloc, words) {
+        Ok(options) => format!(in alloc; "{options:?}\n").ok(),
+        Err(WordsFault::Memory) => None,
+        Err(fault) => format!(in alloc; "{fault}\n").ok(),
+    }
+}
