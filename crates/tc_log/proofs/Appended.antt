@@ -1,9 +1,8 @@
 -- What a stop may leave of a log while a frame is appended.
-use Rattle.std.proofs.Common.{◌≡◌, ◌∙◌, ◌<◌, ◌≤◌, ◌+◌, ◌-◌, ℕ, List, [], ◌∷◌, ◌++◌, Some, Result, Ok, Err, length, drop, flat_map, refl, sym, ap, subst, inl, inr, arith, length-append, append_assoc, append-nil}
+use Rattle.std.proofs.Common.{◌≡◌, ◌∙◌, ◌<◌, ◌≤◌, ◌+◌, ◌-◌, ℕ, List, [], ◌∷◌, ◌++◌, Some, Result, Ok, Err, length, flat_map, refl, sym, ap, subst, inl, inr, arith, length-append, append_assoc, append-nil}
 use Rattle.std.specs.Prelude.{OnOk, OnErr, All}
 use Rattle.std.specs.List.{AllByRecursion}
 use Rattle.std.proofs.lemmas.Bool.{cases_eq}
-use Rattle.std.proofs.lemmas.List.{take_all, drop_all, take_at, drop_at}
 use Rattle.std.proofs.lemmas.List.Elements.{All-head}
 use Rattle.std.proofs.lemmas.List.Concat.{flat_map-append}
 use Rattle.tc_store.specs.DiskFile.{DiskFile, FailsWrite, IsSettled, overlaid, settled_file, synced_file, written}
@@ -11,13 +10,14 @@ use Rattle.tc_store.specs.Images.{Image}
 use Rattle.tc_store.specs.Moments.{goes_on, IfTold, LeavesAt, LeavesOnly}
 use Rattle.tc_store.specs.declared.fault.DeviceFault.{DeviceFault}
 use Rattle.tc_store.proofs.GateLemmas.{settled_leaves}
+use Rattle.tc_store.proofs.FileLaws.{over_end, over_gate}
 use Rattle.tc_store.proofs.MomentLemmas.{EachSince-none, EachSince-one, EachSince-trans, EachSince-failed, FailedWrite, told_map}
 use Rattle.tc_log.specs.declared.head.LogHead.{LogHead}
 use Rattle.tc_log.specs.declared.write.Write.{Write}
 use Rattle.tc_log.specs.Appending.{IsAtRest, appended, MeansWithOrWithout, Appends}
 use Rattle.tc_log.specs.Frame.{with_closed_gate, IsFrameKept}
 use Rattle.tc_log.specs.Spelling.{head_bytes, IsHead, frame_fields, frame_bytes, IsFrame, IsShut, log_bytes, log_at_rest, writes_of, Means}
-use Rattle.tc_log.proofs.Frames.{same_Ok}
+use Rattle.tc_store.proofs.Judged.{same_Ok}
 use Rattle.tc_log.proofs.Logs.{judged_spelled}
 use Rattle.tc_log.proofs.Torn.{behind_leaves, gate_leaves}
 
@@ -49,16 +49,6 @@ grown head frames more =
 
 more_writes : (frames : List (List Write)) (more : List Write) → writes_of (frames ++ more ∷ []) ≡ writes_of frames ++ more
 more_writes frames more = flat_map-append (λ (writes : List Write). writes) frames (more ∷ []) ∙ ap (λ (ws : List Write). writes_of frames ++ ws) (append-nil more)
-
--- ---- what is laid over the end
-
-over_end : (n : ℕ) (bytes content : List ℕ) → n ≡ length content → overlaid n bytes content ≡ content ++ bytes
-over_end n bytes content is = rw (take_all n content (omega (arith, is)), drop_all (n + length bytes) content (omega (arith, is))) (append-nil (content ++ bytes))
-
-over_gate : (n x : ℕ) (front bytes : List ℕ) → n ≡ length front → overlaid n (1 ∷ []) (front ++ x ∷ bytes) ≡ front ++ 1 ∷ bytes
-over_gate n x front bytes is =
-    let behind : drop (n + 1) (front ++ x ∷ bytes) ≡ bytes = ap (drop (n + 1)) (sym (append_assoc front (x ∷ []) bytes)) ∙ drop_at (front ++ x ∷ []) bytes (n + 1) (omega (arith, is, length-append front (x ∷ []))) in
-    rw (take_at front (x ∷ bytes) n (sym is), behind) (append_assoc front (1 ∷ []) bytes)
 
 -- a log at rest whose end is at a place, and a frame
 record Ready (f : DiskFile) (gate : ℕ) (bytes : List ℕ) (head : LogHead) (writes more : List Write) : Type 0 where
@@ -253,6 +243,13 @@ gate_written P gate bytes old first second third new r one two three ok err told
     by_result : (r : Result (Unit {0}) DeviceFault) → OnOk r (new ≡ goes_on synced_file third) → OnErr r (new ≡ third) → LeavesOnly P old new
     by_result (Ok done) ok err = rw (ok, third_is) (last_too old told)
     by_result (Err cause) ok err = rw (err, third_is) (opened_too old told)
+
+-- a log that was just created
+pub created_means : (moments : List DiskFile) (head : LogHead) → IsHead head → IfTold moments (λ f. f ≡ settled_file (log_at_rest head [])) → IfTold moments (λ f. IsSettled f × Means f.content head [])
+created_means [] head is created = tt
+created_means (f ∷ past) head is created =
+    let content : f.content ≡ log_at_rest head [] = ap (λ (g : DiskFile). g.content) created in
+    (created ∙ ap settled_file (sym content), subst (λ (bytes : List ℕ). Means bytes head []) (sym content) (means_with head [] (0 ∷ []) is tt (λ e. absurd (omega (arith, e)))))
 
 pub told_settled : (moments : List DiskFile) → IfTold moments IsAtRest → IfTold moments IsSettled
 told_settled [] rest = tt

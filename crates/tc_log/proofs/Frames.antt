@@ -1,5 +1,5 @@
 -- The laws of frames: they are read from their spelling alone, up to the first gate that is not open.
-use Rattle.std.proofs.Common.{◌≡◌, ◌≢◌, ◌∙◌, ◌<◌, ◌≤◌, ◌-◌, ◌^◌, ◌==◌, ℕ, zero, suc, Bool, true, false, if◌then◌else◌, List, [], ◌∷◌, ◌++◌, Option, None, Some, Result, Ok, Err, length, flat_map, refl, sym, ap, subst, arith, append_assoc, append-nil, length-append}
+use Rattle.std.proofs.Common.{◌≡◌, ◌≢◌, ◌∙◌, ◌<◌, ◌≤◌, ◌-◌, ◌^◌, ◌==◌, ℕ, zero, suc, Bool, true, false, if◌then◌else◌, List, [], ◌∷◌, ◌++◌, Some, Result, Ok, Err, length, flat_map, refl, sym, ap, subst, arith, append_assoc, append-nil, length-append, Vec}
 use Rattle.std.specs.Int.{w32, to_be_bytes}
 use Rattle.std.specs.List.{AllByRecursion}
 use Rattle.std.proofs.lemmas.Bool.{ne_eqb}
@@ -7,15 +7,15 @@ use Rattle.std.proofs.lemmas.Bool.Decides.{nat_tests}
 use Rattle.tc_bytes.specs.Codec.{IsBytes, IsCodec, counted_bytes}
 use Rattle.tc_bytes.proofs.Codecs.{passing_codec, pair_codec, counted_bytes_codec}
 use Rattle.tc_bytes.proofs.Fields.{number_codec_32, IsBytes-front}
-use Rattle.std.proofs.Common.{Vec}
 use Rattle.std.specs.declared.alloc.Global.{Global}
 use Rattle.tc_store.specs.declared.damage.ReadFault.{ReadFault}
 use Rattle.tc_store.specs.declared.damage.ReadFault.TheVariants.{Disk, Damaged, Memory}
 use Rattle.tc_log.specs.declared.write.Write.{Write}
-use Rattle.tc_log.specs.Judging.{Judges}
-use Rattle.tc_log.specs.Reading.{is_some_number, frame_at, body_read, Damage, damage, or_damage, judged_then, frame_judged, is_gate_open, frames_judged}
+use Rattle.tc_store.specs.Judging.{Judges, Damage, damage, or_damage, judged_then}
+use Rattle.tc_log.specs.Reading.{is_some_number, frame_at, body_read, frame_judged, is_gate_open, frames_judged}
 use Rattle.tc_log.specs.Writes.{IsWrite}
 use Rattle.tc_log.specs.Spelling.{body_bytes, frame_fields, frame_bytes, IsFrame, IsShut, writes_of}
+use Rattle.tc_store.proofs.Judged.{judged_parts, or_damage_parts, same_Ok}
 use Rattle.tc_log.proofs.Entries.{body_again, body_found}
 
 pub frame_codec : IsCodec frame_at (λ f. to_be_bytes w32 f.0 ++ counted_bytes f.1) (λ f. ((f.0 < 2 ^ 32) × (is_some_number f.0 ≡ true)) × (length f.1 < 2 ^ 32))
@@ -26,18 +26,6 @@ some_test n some = grind (arith, nat_tests)
 
 some_below : (n : ℕ) → is_some_number n ≡ true → 0 < n
 some_below n is = grind (arith, nat_tests)
-
--- what goes on from what was judged right
-pub judged_parts : {A B : Type 0} (first : Result A Damage) (second : A → Result B Damage) (y : B) → judged_then first second ≡ Ok y → (x : A) × (first ≡ Ok x) × (second x ≡ Ok y)
-judged_parts (Ok x) second y judged = (x, refl, judged)
-judged_parts (Err d) second y judged = cc
-
-pub or_damage_parts : {A : Type 0} (o : Option A) (d : Damage) (x : A) → or_damage o d ≡ Ok x → o ≡ Some x
-or_damage_parts (Some y) d x judged = let same : y ≡ x = cc in ap Some same
-or_damage_parts None d x judged = cc
-
-pub same_Ok : {A : Type 0} (x y : A) → ◌≡◌ {A = Result A Damage} (Ok x) (Ok y) → x ≡ y
-same_Ok x y same = cc
 
 -- ---- one frame
 

@@ -1,5 +1,5 @@
 -- Which records have no member `id`, by their tokens and by their documents.
-use Rattle.std.proofs.Common.{◌≡◌, ◌∙◌, ◌<◌, ◌+◌, ◌-◌, ◌^◌, ◌==◌, ◌&&◌, ℕ, Bool, true, false, not, is_some, if◌then◌else◌, List, [], ◌∷◌, ◌++◌, Option, None, Some, length, refl, sym, ap, inl, inr, arith, append_assoc, codes, bytes_eq}
+use Rattle.std.proofs.Common.{◌≡◌, ◌∙◌, ◌<◌, ◌+◌, ◌-◌, ◌^◌, ◌==◌, ℕ, Bool, true, false, not, is_some, if◌then◌else◌, List, [], ◌∷◌, ◌++◌, Option, None, Some, length, refl, sym, ap, inl, inr, arith, append_assoc, codes, bytes_eq}
 use Rattle.std.proofs.lemmas.Bool.Decides.{nat_tests}
 use Rattle.std.proofs.lemmas.List.{length-map}
 use Rattle.tc_bytes.specs.Codec.{IsBytes}
@@ -118,10 +118,6 @@ few_tokens r (inl (d, (named, is, tokens))) is_named =
 few_tokens r (inr (n, (named, is, tokens))) is_named = cc
 
 -- what is tested is what is defined
-both : (a b : Bool) → (a && b) ≡ true → (a ≡ true) × (b ≡ true)
-both true b all = (refl, all)
-both false b all = cc
-
 keyless_spelled : (bytes : List ℕ) (named : Bool) (tokens : List (Token Key Scalar)) → named ≡ true → lacks_id 0 tokens ≡ true → Spells (record { bytes = bytes; named = named; tokens = tokens }) → IsStoredRecord bytes
 keyless_spelled bytes named tokens is_named lacks (inl (d, (told, is, same))) =
     record { document = d; is_record = is; keyless = keyless_from d bytes is (ap (lacks_id 0) (sym same) ∙ lacks) }
@@ -129,12 +125,11 @@ keyless_spelled bytes named tokens is_named lacks (inr (n, (told, is, same))) = 
 
 keyless_read : (bytes : List ℕ) (o : Option (Bool × List (Token Key Scalar))) → IsBytes bytes → record_read bytes ≡ o → is_named_keyless o ≡ true → IsStoredRecord bytes
 keyless_read bytes None each reads passes = cc
-keyless_read bytes (Some q) each reads passes =
-    let parts = both q.0 (lacks_id 0 q.1) passes in
-    keyless_spelled bytes q.0 q.1 parts.0 parts.1 (read_found bytes q each reads)
+keyless_read bytes (Some (true, tokens)) each reads passes = keyless_spelled bytes true tokens refl passes (read_found bytes (true, tokens) each reads)
+keyless_read bytes (Some (false, tokens)) each reads passes = cc
 
-pub IsKeylessRecord-from_test : (bytes : List ℕ) → IsBytes bytes → is_keyless_record bytes ≡ true → IsStoredRecord bytes
-IsKeylessRecord-from_test bytes each passes = keyless_read bytes (record_read bytes) each refl passes
+pub IsStoredRecord-from_test : (bytes : List ℕ) → IsBytes bytes → is_keyless_record bytes ≡ true → IsStoredRecord bytes
+IsStoredRecord-from_test bytes each passes = keyless_read bytes (record_read bytes) each refl passes
 
-pub test-from_IsKeylessRecord : (bytes : List ℕ) → IsStoredRecord bytes → is_keyless_record bytes ≡ true
-test-from_IsKeylessRecord bytes is = ap is_named_keyless (document_again is.document bytes is.is_record) ∙ lacks_from is.document is.keyless
+pub test-from_IsStoredRecord : (bytes : List ℕ) → IsStoredRecord bytes → is_keyless_record bytes ≡ true
+test-from_IsStoredRecord bytes is = ap is_named_keyless (document_again is.document bytes is.is_record) ∙ lacks_from is.document is.keyless

@@ -1,10 +1,9 @@
 -- The laws of whole logs: what is spelled is read, and what is read is spelled so.
-use Rattle.std.proofs.Common.{◌≡◌, ◌∙◌, ◌<◌, ◌≤◌, ◌^◌, ◌==◌, ℕ, suc, true, List, [], ◌∷◌, ◌++◌, Option, None, Some, Result, Ok, Err, length, drop, take, flat_map, refl, sym, ap, subst, arith, append_assoc, append-nil, length-append, min, ◌-◌}
+use Rattle.std.proofs.Common.{◌≡◌, ◌∙◌, ◌<◌, ◌≤◌, ◌^◌, ◌==◌, ℕ, suc, true, List, [], ◌∷◌, ◌++◌, Option, None, Some, Result, Ok, Err, length, drop, take, flat_map, refl, sym, ap, subst, arith, append_assoc, append-nil, length-append, min, ◌-◌, Vec}
 use Rattle.std.specs.Int.{w32, w64, to_be_bytes}
 use Rattle.std.proofs.lemmas.Bool.Decides.{nat_tests}
 use Rattle.std.proofs.lemmas.List.{nil_from_length, places}
 use Rattle.std.proofs.lemmas.Option.{same_Some}
-use Rattle.std.proofs.Common.{Vec}
 use Rattle.std.specs.declared.alloc.Global.{Global}
 use Rattle.tc_bytes.specs.Codec.{IsBytes, IsCodec}
 use Rattle.tc_bytes.specs.Reading.{number_at, passing_at}
@@ -13,14 +12,17 @@ use Rattle.tc_bytes.proofs.Fields.{number_codec_32, number_codec_64}
 use Rattle.std.specs.Prelude.{IfSome, IfOk}
 use Rattle.tc_store.specs.Gate.{is_open_file}
 use Rattle.tc_store.specs.declared.damage.ReadFault.{ReadFault}
-use Rattle.tc_store.specs.declared.damage.ReadFault.TheVariants.{Disk, Damaged, Memory}
-use Rattle.tc_log.specs.Judging.{Judges, read_of}
+use Rattle.tc_log.specs.Judging.{read_of, same_head}
+use Rattle.tc_store.specs.Judging.{Judges, Damage, damage, or_damage}
 use Rattle.tc_log.specs.declared.head.LogHead.{LogHead}
 use Rattle.tc_log.specs.declared.reading.LogRead.{LogRead}
 use Rattle.tc_log.specs.declared.write.Write.{Write}
-use Rattle.tc_log.specs.Reading.{is_magic, is_generation, head_at, front_of, is_of, front_judged, Damage, damage, or_damage, frames_judged, head_judged, log_judged}
+use Rattle.tc_log.specs.Reading.{is_magic, is_generation, head_at, front_of, is_of, front_judged, frames_judged, head_judged, log_judged}
+use Rattle.std.specs.List.{AllByRecursion}
+use Rattle.tc_log.specs.Writes.{IsWrite}
 use Rattle.tc_log.specs.Spelling.{magic, head_bytes, IsHead, IsNamedHead, frame_bytes, writes_of, Spells, Means}
-use Rattle.tc_log.proofs.Frames.{judged_parts, or_damage_parts, same_Ok, frames_again, frames_found}
+use Rattle.tc_log.proofs.Frames.{frames_again, frames_found, lawful_writes}
+use Rattle.tc_store.proofs.Judged.{judged_parts, or_damage_parts, same_Ok}
 
 -- ---- headers
 
@@ -126,27 +128,14 @@ opened_file (gate ∷ next ∷ rest) head writes each opened judged = judged_fou
     number_is : (a b : ℕ) → (a == b) ≡ true → a ≡ b
     number_is a b same = grind (arith, nat_tests)
 
+-- what is read is lawful, whatever the gate of the file is
+pub judged_lawful : (bytes : List ℕ) (head : LogHead) (writes : List Write) → IsBytes bytes → log_judged bytes ≡ Ok (head, writes) → IsHead head × AllByRecursion IsWrite writes
+judged_lawful [] head writes each judged = cc
+judged_lawful (gate ∷ behind) head writes each judged =
+    let means = judged_found 1 behind head writes (λ i. each (suc i)) refl judged in
+    (means.spells.head_is, subst (AllByRecursion IsWrite) (sym means.all_are) (lawful_writes means.frames means.spells.each))
+
 -- ---- what is answered
-
--- a fault is the same through another view
-judges_same : {X Y Z : Type 0} (view : X → Y) (other : Z → Y) (j : Result Y Damage) (fault : ReadFault) → Judges view (Err fault) j → Judges other (Err fault) j
-judges_same view other j Disk judges = tt
-judges_same view other j Memory judges = tt
-judges_same view other j (Damaged place kept) judges = judges
-
--- what a `?` hands on
-pub judges_out : {X Y Z : Type 0} (view : X → Y) (other : Z → Y) (j : Result Y Damage) (r : Result X ReadFault) (fault : ReadFault) (s : Result Z ReadFault) → r ≡ Err fault → (y : ReadFault) × (s ≡ Err y) × (y ≡ fault) → Judges view r j → Judges other s j
-judges_out view other j r fault s was p judges = rw (p.1, p.2) (judges_same view other j fault (rw was at judges))
-
--- what holds of the bytes that were read holds of the content, if it is told
-pub of_content : (content : Option (List ℕ)) (items : List ℕ) (P : List ℕ → Type 0) → IfSome content (λ bytes. items ≡ bytes) → P items → IfSome content P
-of_content None items P same holds = tt
-of_content (Some bytes) items P same holds = subst P same holds
-
--- what is known of the content, too
-pub of_open_content : (content : Option (List ℕ)) (items : List ℕ) (Q P : List ℕ → Type 0) → IfSome content (λ bytes. items ≡ bytes) → IfSome content Q → (Q items → P items) → IfSome content P
-of_open_content None items Q P same known gives = tt
-of_open_content (Some bytes) items Q P same known gives = subst P same (gives (subst Q (sym same) known))
 
 -- what a log means is what is answered
 pub answers_whole : (r : Result LogRead ReadFault) (content : Option (List ℕ)) → IfSome content (λ bytes. Judges read_of r (log_judged bytes))
@@ -173,6 +162,29 @@ named_found generation front head each short judged =
     let none : parts.0.1 ≡ [] = nil_from_length parts.0.1 (omega (arith, ap length here.0, length-append (head_bytes parts.0.0) parts.0.1, head_length parts.0.0, short)) in
     subst (IsNamedHead generation front) (same_Ok _ head parts.2)
     (record { is_head = here.2.0; named = same_number parts.0.0.generation generation here.2.1; spelled = here.0 ∙ ap (λ (rest : List ℕ). head_bytes parts.0.0 ++ rest) none ∙ append-nil (head_bytes parts.0.0) })
+
+-- what is read as a header of a generation is one
+pub named_lawful : (generation : ℕ) (front : List ℕ) (head : LogHead) → IsBytes front → front_judged generation front ≡ Ok head → IsHead head × (head.generation ≡ generation)
+named_lawful generation front head each judged =
+    let parts = judged_parts (or_damage (passing_at (is_of generation) head_at front) (damage 1 front)) _ head judged in
+    let here = (named_codec generation).found front parts.0.0 parts.0.1 each (or_damage_parts (passing_at (is_of generation) head_at front) (damage 1 front) parts.0 parts.1) in
+    subst (λ (h : LogHead). IsHead h × (h.generation ≡ generation)) (same_Ok _ head parts.2) (here.2.0, same_number parts.0.0.generation generation here.2.1)
+
+-- the header of a generation is read as one
+named_judged : (generation : ℕ) (front : List ℕ) (head : LogHead) → IsNamedHead generation front head → front_judged generation front ≡ Ok head
+named_judged generation front head is =
+    let read : passing_at (is_of generation) head_at (head_bytes head ++ []) ≡ Some (head, []) = (named_codec generation).again head [] (is.is_head, same_test head.generation generation is.named) in
+    rw (is.spelled ∙ sym (append-nil (head_bytes head)), read) refl
+  where
+    same_test : (a b : ℕ) → a ≡ b → (a == b) ≡ true
+    same_test a b same = grind (arith, nat_tests)
+
+-- the header that stands there is what is answered
+pub answers_head : (generation : ℕ) (r : Result LogHead ReadFault) (content : Option (List ℕ)) (items : List ℕ) → IfSome content (λ bytes. items ≡ front_of bytes)
+    → Judges same_head r (front_judged generation items) → IfSome content (λ bytes. (head : LogHead) → IsNamedHead generation (front_of bytes) head → Judges same_head r (Ok head))
+answers_head generation r None items same judged = tt
+answers_head generation r (Some bytes) items same judged = λ head is.
+    subst (λ (j : Result LogHead Damage). Judges same_head r j) (ap (front_judged generation) same ∙ named_judged generation (front_of bytes) head is) judged
 
 -- the front of a file of this length
 pub front_read : (content : Option (List ℕ)) (items : List ℕ) (size : ℕ) → IfSome content (λ bytes. size ≡ length bytes)

@@ -1,5 +1,6 @@
 pub mod Writes
 pub mod Tokens
+pub mod Layout
 pub mod Spelling
 pub mod Reading
 pub mod Judging

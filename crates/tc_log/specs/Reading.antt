@@ -1,11 +1,13 @@
 -- How the bytes of a log are judged: the header and the writes up to the first gate that is not open, or a place and
 -- the bytes there that break the rules.
-use Rattle.std.specs.Prelude.{ℕ, zero, suc, ◌-◌, ◌^◌, ◌==◌, ◌&&◌, nat_lt, Bool, false, if◌then◌else◌, List, [], ◌∷◌, length, take, drop, Option, None, Some, Result, Ok, Err}
+use Rattle.std.specs.Prelude.{ℕ, zero, suc, ◌-◌, ◌^◌, ◌==◌, ◌&&◌, nat_lt, Bool, false, if◌then◌else◌, List, [], ◌∷◌, length, take, drop, Option, None, Some, Result, Ok}
 use Rattle.std.specs.Int.{w32, w64}
 use Rattle.tc_bytes.specs.Codec.{any_order}
 use Rattle.tc_bytes.specs.Reading.{Reader, ◌>>=◌, byte_at, number_at, bytes_at, counted_bytes_at, mapped_at, passing_at, pair_at, elements_at, ended}
+use Rattle.tc_store.specs.Judging.{Damage, damage, or_damage, judged_then}
 use Rattle.tc_log.specs.declared.head.LogHead.{LogHead}
 use Rattle.tc_log.specs.declared.write.Write.{Write}
+use Rattle.tc_log.specs.Layout.{upsert_tag, delete_tag, head_place, head_size, leading_size}
 use Rattle.tc_log.specs.Spelling.{magic}
 use Rattle.tc_log.specs.Tokens.{is_keyless_record}
 use Rattle.tc_log.specs.Writes.{write_of}
@@ -31,7 +33,7 @@ record_at bytes = number_at w32 bytes >>= λ total. passing_at is_keyless_record
 
 abbrev pub held_at : Reader (Option (List ℕ))
 held_at bytes =
-    byte_at bytes >>= λ kind. if kind.0 == 1 then mapped_at Some record_at kind.1 else (if kind.0 == 2 then Some (None, kind.1) else None)
+    byte_at bytes >>= λ kind. if kind.0 == upsert_tag then mapped_at Some record_at kind.1 else (if kind.0 == delete_tag then Some (None, kind.1) else None)
 
 abbrev pub is_key : ℕ → Bool
 is_key n = nat_lt n (2 ^ 63)
@@ -57,27 +59,11 @@ frame_at = pair_at (passing_at is_some_number (number_at w32)) (λ n. counted_by
 
 -- ---- judging
 
--- bytes that break the rules, and their place in the file
-pub record Damage : Type 0 where
-  pub place : ℕ
-  pub bytes : List ℕ
-
-abbrev pub damage : ℕ → List ℕ → Damage
-damage place bytes = record { place = place; bytes = bytes }
-
-abbrev pub or_damage : {A : Type 0} → Option A → Damage → Result A Damage
-or_damage (Some x) d = Ok x
-or_damage None d = Err d
-
-abbrev pub judged_then : {A B : Type 0} → Result A Damage → (A → Result B Damage) → Result B Damage
-judged_then (Ok x) f = f x
-judged_then (Err d) f = Err d
-
 -- One frame from its gate on, in a file that ends at a place: the writes before with those of the frame, and what
--- stands behind. Damage is the nine leading bytes, or else the body.
+-- stands behind. Damage is the leading bytes, or else the body.
 abbrev pub frame_judged : ℕ → List Write → List ℕ → Result (List Write × List ℕ) Damage
 frame_judged end before bytes =
-    judged_then (or_damage (frame_at (drop 1 bytes)) (damage (end - length bytes) (take 9 bytes))) λ f.
+    judged_then (or_damage (frame_at (drop 1 bytes)) (damage (end - length bytes) (take leading_size bytes))) λ f.
     judged_then (or_damage (body_read f.0.0 before f.0.1) (damage (end - length f.1 - length f.0.1) f.0.1)) λ writes. Ok (writes, f.1)
 
 abbrev pub is_gate_open : List ℕ → Bool
@@ -91,19 +77,19 @@ frames_judged (suc n) end before bytes =
     if is_gate_open bytes then judged_then (frame_judged end before bytes) (λ f. frames_judged n end f.0 f.1) else Ok before
 
 abbrev pub head_judged : List ℕ → Result (LogHead × List ℕ) Damage
-head_judged bytes = or_damage (head_at (drop 1 bytes)) (damage 1 (take 20 (drop 1 bytes)))
+head_judged bytes = or_damage (head_at (drop head_place bytes)) (damage head_place (take head_size (drop head_place bytes)))
 
 -- a whole file, of which the gate is open
 abbrev pub log_judged : List ℕ → Result (LogHead × List Write) Damage
 log_judged bytes = judged_then (head_judged bytes) λ h. judged_then (frames_judged (length h.1) (length bytes) [] h.1) λ writes. Ok (h.0, writes)
 
--- what stands where the header of a file has its place: 20 bytes, or as many as there are
+-- what stands where the header of a file has its place: as many bytes, or as many as there are
 abbrev pub front_of : List ℕ → List ℕ
-front_of bytes = take 20 (drop 1 bytes)
+front_of bytes = take head_size (drop head_place bytes)
 
 abbrev pub is_of : ℕ → LogHead → Bool
 is_of generation head = head.generation == generation
 
 -- these bytes as the header of a log of this generation
 abbrev pub front_judged : ℕ → List ℕ → Result LogHead Damage
-front_judged generation front = judged_then (or_damage (passing_at (is_of generation) head_at front) (damage 1 front)) λ h. Ok h.0
+front_judged generation front = judged_then (or_damage (passing_at (is_of generation) head_at front) (damage head_place front)) λ h. Ok h.0

@@ -7,15 +7,12 @@ ghost use Rattle.tc_bytes.specs.Reading.{number_at, passing_at};
 ghost use Rattle.tc_log.specs.Writes.{write_of};
 
 use crate::keyless::is_keyless_record;
+use crate::layout::{DELETE, UPSERT};
 use crate::write::Write;
 use std::alloc::Global;
 use tc_bytes::{Bytes, Memory, slice_at, u8_at, u32_at, u64_at};
 
 const MAX_KEY: u64 = 0x7fff_ffff_ffff_ffff;
-
-const UPSERT: u8 = 1;
-
-const DELETE: u8 = 2;
 
 /// So many writes more, if they are spelled by the body and nothing is left of it.
 pub(crate) fn body_in(

@@ -1,20 +1,17 @@
 //! The frames of a log.
 
-ghost use Rattle.std.specs.Prelude.{◌≡◌, ◌-◌, List, length, option_map};
-ghost use Rattle.std.specs.Prelude.{[], ◌<◌};
+ghost use Rattle.std.specs.Prelude.{◌≡◌, ◌-◌, length, option_map, [], ◌<◌};
 ghost use Rattle.std.specs.Int.{w32};
 ghost use Rattle.tc_bytes.specs.Reading.{number_at, passing_at};
-ghost use Rattle.tc_log.specs.Judging.{Judges, IsNoDisk, IsDamageOr};
+ghost use Rattle.tc_store.specs.Judging.{Judges, IsNoDisk, IsDamageOr};
 ghost use Rattle.tc_log.specs.Reading.{is_some_number, frame_at, frame_judged, frames_judged, is_gate_open as gate_open};
 
 use crate::entry::body_in;
+use crate::layout::LEADING;
 use crate::write::Write;
 use std::alloc::Global;
-use tc_bytes::{Bytes, counted_at, u32_at};
-use tc_store::ReadFault;
-
-/// Bytes at the front of a frame that tell of its body: the gate, the number of writes, the length of the body.
-const LEADING: usize = 9;
+use tc_bytes::{counted_at, u32_at};
+use tc_store::{ReadFault, damaged};
 
 /// The writes of all frames up to the first gate that is not open, in a file of this length that ends with the bytes.
 pub(crate) fn frames_in(alloc: Global, end: usize, bytes: &[u8]) -> Result<Vec<Write>, ReadFault>
@@ -54,13 +51,13 @@ fn frame_in<'a>(
 {
     let Some((count, body, rest)) = parts_in(&bytes[1..]) else {
         let leading = &bytes[..bytes.len().min(LEADING)];
-        return Err(damage(alloc, end.saturating_sub(bytes.len()), leading));
+        return Err(damaged(alloc, end.saturating_sub(bytes.len()), leading));
     };
     if body_in(alloc, count, body, writes)? {
         Ok(rest)
     } else {
         let place = end.saturating_sub(rest.len()).saturating_sub(body.len());
-        Err(damage(alloc, place, body))
+        Err(damaged(alloc, place, body))
     }
 }
 
@@ -78,17 +75,4 @@ fn count_in(bytes: &[u8]) -> Option<(u32, &[u8])>
 {
     let (count, rest) = u32_at(bytes)?;
     if count > 0 { Some((count, rest)) } else { None }
-}
-
-/// The fault of bytes that break the rules, or want of memory for them.
-pub(crate) fn damage(alloc: Global, place: usize, bytes: &[u8]) -> ReadFault
-    ensures { IsDamageOr place bytes.now result }
-{
-    match Vec::from_slice(alloc, bytes) {
-        Ok(bytes) => ReadFault::Damaged {
-            place: place as u64,
-            bytes: Bytes::of(bytes),
-        },
-        Err(_) => ReadFault::Memory,
-    }
 }

@@ -5,13 +5,14 @@ mod entry;
 mod frame;
 mod head;
 mod keyless;
+mod layout;
 mod log;
 mod reading;
 mod reserving;
 mod write;
 
 pub use head::LogHead;
-pub use log::{Log, LogBroken};
+pub use log::Log;
 pub use reading::{LogRead, logs_mean_one, read_frames, read_log_head};
 pub use reserving::Frame;
 pub use write::{Write, Writes};

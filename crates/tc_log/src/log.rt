@@ -1,17 +1,19 @@
 //! The log that is written.
 
-ghost use Rattle.std.specs.Prelude.{◌≡◌, ◌<◌, ◌≤◌, ◌+◌, ◌-◌, ◌^◌, ◌++◌, [], ◌∷◌, ℕ, List, true, false, length, IfOk, IfErr, OnOk, OnErr, IsErrOf};
+ghost use Rattle.std.specs.Prelude.{◌≡◌, ◌<◌, ◌≤◌, ◌+◌, ◌-◌, ◌^◌, ◌++◌, [], List, true, false, length, IfOk, IfErr, OnOk, OnErr, IsErrOf};
 ghost use Rattle.std.specs.List.{AllByRecursion};
-ghost use Rattle.tc_store.specs.Counts.{Rose};
+ghost use Rattle.std.specs.Result.{IsErrAnd};
+ghost use Rattle.tc_store.specs.Counted.{IsCounted};
 ghost use Rattle.tc_store.specs.DiskFile.{settled_file, IsSettled};
-ghost use Rattle.tc_store.specs.Gate.{IsShutOr};
+ghost use Rattle.tc_store.specs.Gate.{IsShutOr, IsShutOrWhole};
 ghost use Rattle.tc_store.specs.Images.{Image};
 ghost use Rattle.tc_store.specs.Moments.{IfTold, LeavesAt, LeavesOnly};
 ghost use Rattle.tc_log.specs.declared.head.LogHead.{LogHead as Head};
 ghost use Rattle.tc_log.specs.declared.write.Write.{Write as OneWrite};
-ghost use Rattle.tc_log.specs.Appending.{IsShutOrWhole, created, appended, MeansWithOrWithout, Appends};
+ghost use Rattle.tc_log.specs.Appending.{created, appended, MeansWithOrWithout, Appends};
 ghost use Rattle.tc_log.specs.Frame.{with_closed_gate};
-ghost use Rattle.tc_log.specs.Spelling.{head_bytes, body_bytes, frame_bytes, log_at_rest, Means};
+ghost use Rattle.tc_log.specs.Layout.{empty_size};
+ghost use Rattle.tc_log.specs.Spelling.{body_bytes, frame_bytes, log_at_rest, Means};
 ghost use Rattle.tc_log.specs.Writes.{IsWrite};
 
 use crate::head::{LogHead, head_and_gate};
@@ -20,14 +22,7 @@ use crate::write::Write;
 use std::alloc::Global;
 use std::marker::Model;
 use tc_bytes::Memory;
-use tc_store::{Device, DeviceFault, Gated};
-
-/// What is left of a device after a creation that failed.
-#[derive(Drop)]
-pub struct LogBroken<D: Device> {
-    pub device: D,
-    pub cause: DeviceFault,
-}
+use tc_store::{Broken, Device, DeviceFault, Gated};
 
 /// A log that is being written. Contracts see its device, and whether an append failed. While none has, a stop leaves
 /// the content of the device as it is.
@@ -41,24 +36,26 @@ impl<D: Device> Model for Log<D> {
     ghost use Rattle.std.specs.Prelude.{◌≡◌, ◌≤◌, false};
     ghost use Rattle.tc_store.specs.Moments.{IfTold};
     ghost use Rattle.tc_log.specs.Appending.{LogState, IsAtRest};
+    ghost use Rattle.tc_log.specs.Layout.{empty_size};
 
     ghost Value = { LogState D };
 
     ghost view = { λ l. record { device = l.device; failed = l.failed } };
 
-    ghost invariant = { λ l. l.failed ≡ false → (22 ≤ D.size l.device) × IfTold (D.history l.device) IsAtRest };
+    ghost invariant = { λ l. l.failed ≡ false → (empty_size ≤ D.size l.device) × IfTold (D.history l.device) IsAtRest };
 }
 
 impl<D: Device> Log<D> {
     /// Makes the file of a log without a frame, of 22 bytes. The generation is from 1 to 2^63 - 1. Takes no memory.
-    pub fn create(device: D, watch: &mut D::Watch, head: LogHead) -> Result<Log<D>, LogBroken<D>>
+    pub fn create(device: D, watch: &mut D::Watch, head: LogHead) -> Result<Log<D>, Broken<D>>
         requires empty { D.size device ≡ 0 }
         requires first { 0 < head.generation }
         requires last { head.generation < 2 ^ 63 }
 
         ensures created { IfOk result (λ log. D.history log.device ≡ created head (D.history device)) }
         ensures content { IfOk result (λ log. IfTold (D.history log.device) (λ f. f ≡ settled_file (log_at_rest head []))) }
-        ensures size { IfOk result (λ log. D.size log.device ≡ 22) }
+        ensures means { IfOk result (λ log. IfTold (D.history log.device) (λ f. IsSettled f × Means f.content head [])) }
+        ensures size { IfOk result (λ log. D.size log.device ≡ empty_size) }
         ensures not_failed { IfOk result (λ log. log.failed ≡ false) }
         ensures name { IfOk result (λ log. D.name log.device ≡ D.name device) }
         ensures broken_name { IfErr result (λ broken. D.name broken.device ≡ D.name device) }
@@ -68,22 +65,16 @@ impl<D: Device> Log<D> {
             → IfOk result (λ log. LeavesOnly (IsShutOrWhole before (log_at_rest head [])) (D.history device) (D.history log.device))) }
         ensures broken_moments { (before : Image) → IfTold (D.history device) (λ f. LeavesAt (IsShutOr before) f
             → IfErr result (λ broken. LeavesOnly (IsShutOrWhole before (log_at_rest head [])) (D.history device) (D.history broken.device))) }
+        ensures untold { IfErr result (λ broken. D.history device ≡ [] → D.history broken.device ≡ []) }
 
-        ensures faults { D.Watch.faults watch.old ≤ D.Watch.faults watch.new }
-        ensures cause { IfErr result (λ broken. broken.cause ≡ DeviceFault.Fault → Rose (D.Watch.faults watch.old) (D.Watch.faults watch.new)) }
-        ensures reads { D.Watch.reads watch.new ≡ D.Watch.reads watch.old }
+        ensures counted { IsCounted (IsErrAnd result (λ broken. broken.cause ≡ DeviceFault.Fault)) (D.Watch.counts watch.old) (D.Watch.counts watch.new) }
     {
         let mut gated = match Gated::begin(device, watch) {
             Ok(gated) => gated,
-            Err(broken) => {
-                return Err(LogBroken {
-                    device: broken.device,
-                    cause: broken.cause,
-                });
-            }
+            Err(broken) => return Err(broken),
         };
         if let Err(cause) = gated.write(1, &head_and_gate(head), watch) {
-            return Err(LogBroken {
+            return Err(Broken {
                 device: gated.give_back(),
                 cause,
             });
@@ -93,10 +84,7 @@ impl<D: Device> Log<D> {
                 device,
                 failed: false,
             }),
-            Err(broken) => Err(LogBroken {
-                device: broken.device,
-                cause: broken.cause,
-            }),
+            Err(broken) => Err(broken),
         }
     }
 
@@ -134,9 +122,7 @@ impl<D: Device> Log<D> {
         ensures after { (head : Head) (writes : List OneWrite) → IfTold (D.history self.old.device) (λ f. Means f.content head writes)
             → IfTold (D.history self.new.device) (LeavesAt (MeansWithOrWithout head writes frame)) }
 
-        ensures faults { D.Watch.faults watch.old ≤ D.Watch.faults watch.new }
-        ensures cause { IsErrOf result DeviceFault.Fault → Rose (D.Watch.faults watch.old) (D.Watch.faults watch.new) }
-        ensures reads { D.Watch.reads watch.new ≡ D.Watch.reads watch.old }
+        ensures counted { IsCounted (IsErrOf result DeviceFault.Fault) (D.Watch.counts watch.old) (D.Watch.counts watch.new) }
     {
         self.failed = true;
         write_frame(&mut self.device, frame.bytes(), watch)?;
@@ -174,9 +160,7 @@ fn write_frame<D: Device>(
     ensures moments { (head : Head) (writes more : List OneWrite) → IfTold (D.history device.old) (Appends (MeansWithOrWithout head writes more) (D.size device.old - 1) bytes.now)
         → LeavesOnly (MeansWithOrWithout head writes more) (D.history device.old) (D.history device.new) }
     ensures name { D.name device.new ≡ D.name device.old }
-    ensures faults { D.Watch.faults watch.old ≤ D.Watch.faults watch.new }
-    ensures cause { IsErrOf result DeviceFault.Fault → Rose (D.Watch.faults watch.old) (D.Watch.faults watch.new) }
-    ensures reads { D.Watch.reads watch.new ≡ D.Watch.reads watch.old }
+    ensures counted { IsCounted (IsErrOf result DeviceFault.Fault) (D.Watch.counts watch.old) (D.Watch.counts watch.new) }
 {
     let gate = device.len() - 1;
     device.write_at(gate + 1, bytes, watch)?;

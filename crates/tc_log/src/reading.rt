@@ -1,26 +1,25 @@
 //! What a closed file of a log means.
 
-ghost use Rattle.std.specs.Prelude.{◌≡◌, ◌≤◌, ◌+◌, true, ℕ, List, Ok, length, take, drop, IfOk, IfSome, OnOk, IsErrOf};
+ghost use Rattle.std.specs.Prelude.{◌≡◌, ◌≤◌, ◌+◌, true, ℕ, List, Ok, Err, length, take, drop, IfOk, IfSome, IsErrOf};
 ghost use Rattle.std.specs.List.{AllByRecursion};
-ghost use Rattle.tc_store.specs.Counts.{Rose, one_more};
+ghost use Rattle.std.specs.Result.{IsOk};
+ghost use Rattle.tc_store.specs.Counted.{IsCountedOnce};
 ghost use Rattle.tc_store.specs.Gate.{is_open_file};
 ghost use Rattle.tc_log.specs.declared.head.LogHead.{LogHead as Head};
 ghost use Rattle.tc_log.specs.declared.write.Write.{Write as OneWrite};
-ghost use Rattle.tc_log.specs.Judging.{Judges, read_of, same_head, IsNoDisk, IsNoDamage};
-ghost use Rattle.tc_log.specs.Reading.{head_at, front_of, front_judged, log_judged, or_damage, damage as a_damage};
-ghost use Rattle.tc_log.specs.Spelling.{IsNamedHead, Means};
+ghost use Rattle.tc_log.specs.Judging.{read_of, same_head};
+ghost use Rattle.tc_store.specs.Judging.{Judges, IfDamaged, IsNoDisk, IsNoDamage, or_damage, damage as a_damage};
+ghost use Rattle.tc_log.specs.Layout.{head_place, head_size};
+ghost use Rattle.tc_log.specs.Reading.{head_at, front_of, front_judged, log_judged};
+ghost use Rattle.tc_log.specs.Spelling.{IsHead, IsNamedHead, Means};
 ghost use Rattle.tc_log.specs.Writes.{IsWrite};
 
-use crate::frame::{damage, frames_in};
+use crate::frame::frames_in;
 use crate::head::{LogHead, head_in};
+use crate::layout::{HEAD_LEN, HEAD_PLACE};
 use crate::write::{Write, Writes};
 use std::alloc::Global;
-use tc_store::{Frozen, ReadFault};
-
-/// Where the header begins, and how long it is.
-const HEAD_PLACE: usize = 1;
-
-const HEAD_LEN: usize = 20;
+use tc_store::{Frozen, ReadFault, bytes_of, damaged, whole_of};
 
 /// What a log means: its header, and the writes of its frames up to the first gate that is not open.
 #[derive(Drop, Debug)]
@@ -44,9 +43,11 @@ pub fn read_frames<F: Frozen>(
     ensures found { IfOk result (λ read. IfSome (F.content file.now) (λ bytes. Means bytes read.head read.writes)) }
     ensures whole { IfSome (F.content file.now) (λ bytes. (head : Head) (writes : List OneWrite) → Means bytes head writes → Judges read_of result (Ok (head, writes))) }
 
-    ensures faults { F.Watch.faults watch.old ≤ F.Watch.faults watch.new }
-    ensures cause { IsErrOf result ReadFault.Disk → Rose (F.Watch.faults watch.old) (F.Watch.faults watch.new) }
-    ensures reads { OnOk result (F.Watch.reads watch.new ≡ one_more (F.Watch.reads watch.old)) }
+    // Also of a file that does not tell its content.
+    ensures lawful { IfOk result (λ read. IsHead read.head × AllByRecursion IsWrite read.writes) }
+    ensures damaged { IfDamaged result (λ place bytes. (whole : List ℕ) × (length whole ≡ F.size file.now) × (log_judged whole ≡ Err (a_damage place bytes))) }
+
+    ensures counted { IsCountedOnce (IsErrOf result ReadFault.Disk) (IsOk result) (F.Watch.counts watch.old) (F.Watch.counts watch.new) }
 {
     let bytes = whole_of(alloc, file, watch)?;
     let (head, writes) = log_in(alloc, &bytes)?;
@@ -54,17 +55,6 @@ pub fn read_frames<F: Frozen>(
         head,
         writes: Writes::of(writes),
     })
-}
-
-/// All bytes of a file.
-fn whole_of<F: Frozen>(alloc: Global, file: &F, watch: &mut F::Watch) -> Result<Vec<u8>, ReadFault>
-    ensures read { IfOk result (λ read. IfSome (F.content file.now) (λ bytes. read.items ≡ bytes)) }
-    ensures no_damage { IsNoDamage result }
-    ensures faults { F.Watch.faults watch.old ≤ F.Watch.faults watch.new }
-    ensures cause { IsErrOf result ReadFault.Disk → Rose (F.Watch.faults watch.old) (F.Watch.faults watch.new) }
-    ensures reads { OnOk result (F.Watch.reads watch.new ≡ one_more (F.Watch.reads watch.old)) }
-{
-    bytes_of(alloc, file, 0, file.len() as usize, watch)
 }
 
 /// Reads the header of a log that is named by this generation, by one read. `Damaged` has the place 1 and the 20 bytes
@@ -82,9 +72,11 @@ pub fn read_log_head<F: Frozen>(
     ensures found { IfOk result (λ head. IfSome (F.content file.now) (λ bytes. IsNamedHead generation (front_of bytes) head)) }
     ensures whole { IfSome (F.content file.now) (λ bytes. (head : Head) → IsNamedHead generation (front_of bytes) head → Judges same_head result (Ok head)) }
 
-    ensures faults { F.Watch.faults watch.old ≤ F.Watch.faults watch.new }
-    ensures cause { IsErrOf result ReadFault.Disk → Rose (F.Watch.faults watch.old) (F.Watch.faults watch.new) }
-    ensures reads { OnOk result (F.Watch.reads watch.new ≡ one_more (F.Watch.reads watch.old)) }
+    // Also of a file that does not tell its content.
+    ensures lawful { IfOk result (λ head. IsHead head × (head.generation ≡ generation)) }
+    ensures damaged { IfDamaged result (λ place bytes. front_judged generation bytes ≡ Err (a_damage place bytes)) }
+
+    ensures counted { IsCountedOnce (IsErrOf result ReadFault.Disk) (IsOk result) (F.Watch.counts watch.old) (F.Watch.counts watch.new) }
 {
     let front = front_in(alloc, file, watch)?;
     named_head_in(alloc, generation, &front)
@@ -94,9 +86,7 @@ pub fn read_log_head<F: Frozen>(
 fn front_in<F: Frozen>(alloc: Global, file: &F, watch: &mut F::Watch) -> Result<Vec<u8>, ReadFault>
     ensures read { IfOk result (λ read. IfSome (F.content file.now) (λ bytes. read.items ≡ front_of bytes)) }
     ensures no_damage { IsNoDamage result }
-    ensures faults { F.Watch.faults watch.old ≤ F.Watch.faults watch.new }
-    ensures cause { IsErrOf result ReadFault.Disk → Rose (F.Watch.faults watch.old) (F.Watch.faults watch.new) }
-    ensures reads { OnOk result (F.Watch.reads watch.new ≡ one_more (F.Watch.reads watch.old)) }
+    ensures counted { IsCountedOnce (IsErrOf result ReadFault.Disk) (IsOk result) (F.Watch.counts watch.old) (F.Watch.counts watch.new) }
 {
     let at = file.len().min(HEAD_PLACE as u64);
     let count = (file.len() - at).min(HEAD_LEN as u64) as usize;
@@ -105,12 +95,14 @@ fn front_in<F: Frozen>(alloc: Global, file: &F, watch: &mut F::Watch) -> Result<
 
 fn named_head_in(alloc: Global, generation: u64, front: &[u8]) -> Result<LogHead, ReadFault>
     ensures judged { Judges same_head result (front_judged generation front.now) }
-    ensures found { length front.now ≤ 20 → IfOk result (IsNamedHead generation front.now) }
+    ensures found { length front.now ≤ head_size → IfOk result (IsNamedHead generation front.now) }
+    ensures lawful { IfOk result (λ head. IsHead head × (head.generation ≡ generation)) }
+    ensures damaged { IfDamaged result (λ place kept. front_judged generation kept ≡ Err (a_damage place kept)) }
     ensures no_disk { IsNoDisk result }
 {
     match head_in(front) {
         Some((head, _)) if head.generation == generation => Ok(head),
-        _ => Err(damage(alloc, HEAD_PLACE, front)),
+        _ => Err(damaged(alloc, HEAD_PLACE, front)),
     }
 }
 
@@ -123,32 +115,12 @@ pub fn logs_mean_one()
     ensures open { (bytes : List ℕ) (head : Head) (writes : List OneWrite) → Means bytes head writes → is_open_file bytes ≡ true }
 {}
 
-/// So many bytes of a file.
-fn bytes_of<F: Frozen>(
-    alloc: Global,
-    file: &F,
-    at: u64,
-    count: usize,
-    watch: &mut F::Watch,
-) -> Result<Vec<u8>, ReadFault>
-    requires { at + count ≤ F.size file.now }
-    ensures read { IfOk result (λ read. IfSome (F.content file.now) (λ bytes. read.items ≡ take count (drop at bytes))) }
-    ensures no_damage { IsNoDamage result }
-    ensures faults { F.Watch.faults watch.old ≤ F.Watch.faults watch.new }
-    ensures cause { IsErrOf result ReadFault.Disk → Rose (F.Watch.faults watch.old) (F.Watch.faults watch.new) }
-    ensures reads { OnOk result (F.Watch.reads watch.new ≡ one_more (F.Watch.reads watch.old)) }
-{
-    let mut bytes = vec![in alloc; 0u8; count]?;
-    match file.read(at, &mut bytes, watch) {
-        Ok(()) => Ok(bytes),
-        Err(_) => Err(ReadFault::Disk),
-    }
-}
-
 /// The header and the writes of a log with these bytes.
 fn log_in(alloc: Global, bytes: &[u8]) -> Result<(LogHead, Vec<Write>), ReadFault>
     ensures judged { Judges (λ x. (x.0, x.1.items)) result (log_judged bytes.now) }
     ensures found { is_open_file bytes.now ≡ true → IfOk result (λ x. Means bytes.now x.0 x.1.items) }
+    ensures lawful { IfOk result (λ x. IsHead x.0 × AllByRecursion IsWrite x.1.items) }
+    ensures damaged { IfDamaged result (λ place kept. log_judged bytes.now ≡ Err (a_damage place kept)) }
     ensures no_disk { IsNoDisk result }
 {
     let (head, frames) = judged_head_in(alloc, behind_gate(bytes))?;
@@ -167,14 +139,14 @@ fn behind_gate(bytes: &[u8]) -> &[u8]
 
 /// A header, and what stands behind it.
 fn judged_head_in(alloc: Global, bytes: &[u8]) -> Result<(LogHead, &[u8]), ReadFault>
-    ensures judged { Judges (λ x. (x.0, x.1.now)) result (or_damage (head_at bytes.now) (a_damage 1 (take 20 bytes.now))) }
+    ensures judged { Judges (λ x. (x.0, x.1.now)) result (or_damage (head_at bytes.now) (a_damage head_place (take head_size bytes.now))) }
     ensures no_disk { IsNoDisk result }
 {
     match head_in(bytes) {
         Some(found) => Ok(found),
         None => {
             let front = &bytes[..bytes.len().min(HEAD_LEN)];
-            Err(damage(alloc, HEAD_PLACE, front))
+            Err(damaged(alloc, HEAD_PLACE, front))
         }
     }
 }

@@ -1,11 +1,12 @@
 //! A frame that is made before it is written.
 
-ghost use Rattle.std.specs.Prelude.{◌≡◌, ◌<◌, ◌≤◌, ◌+◌, ◌^◌, ◌++◌, length, is_ok, if◌then◌else◌, IfOk, OnOk};
+ghost use Rattle.std.specs.Prelude.{◌≡◌, ◌<◌, ◌≤◌, ◌+◌, ◌^◌, ◌++◌, length, IfOk, OnOk};
 ghost use Rattle.std.specs.List.{AllByRecursion};
 ghost use Rattle.tc_log.specs.Frame.{IsFrameKept, with_closed_gate};
 ghost use Rattle.tc_log.specs.Spelling.{entry_bytes, body_bytes};
 ghost use Rattle.tc_log.specs.Writes.{IsWrite};
 
+use crate::layout::{DELETE, ENTRY_FRONT, LEADING, UPSERT};
 use crate::write::Write;
 use std::alloc::Global;
 use std::marker::Model;
@@ -56,7 +57,7 @@ fn frame_of(alloc: Global, writes: &[Write]) -> Result<Vec<u8>, Memory>
     ensures { IfOk result (λ bytes. bytes.items ≡ with_closed_gate writes.now) }
 {
     let len = body_len(writes);
-    let mut out = Vec::with_capacity(alloc, len + 9)?;
+    let mut out = Vec::with_capacity(alloc, len + LEADING)?;
     put_u32(&mut out, writes.len() as u32)?;
     put_u32(&mut out, len as u32)?;
     put_body(&mut out, writes)?;
@@ -81,8 +82,8 @@ fn entry_len(write: &Write) -> usize
     ensures { result ≡ length (entry_bytes write.now) }
 {
     match write {
-        Write::Upsert { key: _, bytes } => bytes.as_slice().len() + 9,
-        Write::Delete { key: _ } => 9,
+        Write::Upsert { key: _, bytes } => bytes.as_slice().len() + ENTRY_FRONT,
+        Write::Delete { key: _ } => ENTRY_FRONT,
     }
 }
 
@@ -101,12 +102,12 @@ fn put_entry(out: &mut Vec<u8>, write: &Write) -> Result<(), Memory>
     match write {
         Write::Upsert { key, bytes } => {
             put_u64(out, *key)?;
-            out.push(1)?;
+            out.push(UPSERT)?;
             out.extend_from_slice(bytes.as_slice())
         }
         Write::Delete { key } => {
             put_u64(out, *key)?;
-            out.push(2)?;
+            out.push(DELETE)?;
             Ok(())
         }
     }

@@ -2,7 +2,8 @@
 
 ghost use Rattle.std.specs.Prelude.{◌≡◌, [], ◌∷◌, false, Ok, Err, IfOk, IfSome, OnOk};
 ghost use Rattle.std.specs.List.{AllByRecursion};
-ghost use Rattle.tc_log.specs.Reading.{log_judged, damage};
+ghost use Rattle.tc_log.specs.Reading.{log_judged};
+ghost use Rattle.tc_store.specs.Judging.{damage};
 ghost use Rattle.tc_log.specs.Rows.{first_head, one_upsert, log_with, body_with, deleting_log};
 ghost use Rattle.tc_log.specs.Spelling.{log_at_rest};
 ghost use Rattle.tc_log.specs.Writes.{IsWrite};

@@ -1,7 +1,7 @@
 use Rattle.std.proofs.Common.{◌≡◌, true, Some, sym, refl, arith}
 use Rattle.std.proofs.lemmas.Bool.Decides.{nat_tests}
 use Rattle.tc_log.specs.Reading.{head_at, is_of}
-use Rattle.tc_log.proofs.Logs.{named_found}
+use Rattle.tc_log.proofs.Logs.{named_found, named_lawful}
 use Rattle.tc_log.proofs.reading.named_head_in.Goals as goal
 
 pub returns-in-Some-clause-found : goal.returns-in-Some-clause-found
@@ -9,3 +9,9 @@ returns-in-Some-clause-found c = λ short.
     let named : is_of c.args.generation c.in-Some.head ≡ true = let is = c.if-head-generation.true in grind (arith, nat_tests) in
     let read : head_at c.args.front.now ≡ Some (c.in-Some.head, c.in-Some.field-0-1.now) = sym c.in-Some.ensures in
     named_found c.args.generation c.args.front.now c.in-Some.head (λ i. (c.type_inv.front i).fits) short (rw (read, named) refl)
+
+pub returns-in-Some-clause-lawful : goal.returns-in-Some-clause-lawful
+returns-in-Some-clause-lawful c =
+    let named : is_of c.args.generation c.in-Some.head ≡ true = let is = c.if-head-generation.true in grind (arith, nat_tests) in
+    let read : head_at c.args.front.now ≡ Some (c.in-Some.head, c.in-Some.field-0-1.now) = sym c.in-Some.ensures in
+    named_lawful c.args.generation c.args.front.now c.in-Some.head (λ i. (c.type_inv.front i).fits) (rw (read, named) refl)

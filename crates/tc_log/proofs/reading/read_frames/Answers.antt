@@ -1,10 +1,12 @@
 use Rattle.std.proofs.Common.{◌≡◌, ◌∙◌, true, Ok, sym, ap, subst}
 use Rattle.std.proofs.lemmas.Result.{err_from_is_err_and}
 use Rattle.tc_store.specs.Gate.{is_open_file}
-use Rattle.tc_log.specs.Judging.{Judges, read_of}
+use Rattle.tc_log.specs.Judging.{read_of}
+use Rattle.tc_store.specs.Judging.{Judges}
 use Rattle.tc_log.specs.Reading.{log_judged}
 use Rattle.tc_log.specs.Spelling.{Means}
-use Rattle.tc_log.proofs.Logs.{judges_out, of_content, of_open_content, answers_whole}
+use Rattle.tc_log.proofs.Logs.{answers_whole}
+use Rattle.tc_store.proofs.Judged.{judges_out, of_content, of_open_content}
 use Rattle.tc_log.proofs.reading.read_frames.Goals as goal
 
 pub returns-in_err-head-clause-judged : goal.returns-in_err-head-clause-judged

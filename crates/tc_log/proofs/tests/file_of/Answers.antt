@@ -1,8 +1,8 @@
 use Rattle.std.proofs.Common.{◌≡◌, ◌∙◌, [], ◌∷◌, ◌++◌, sym, ap, subst, refl}
 use Rattle.tc_store.specs.declared.file_name.FileName.TheVariants.{Log}
-use Rattle.tc_store.specs.declared.mem_entry.MemFile.{MemFile}
+use Rattle.tc_store.specs.declared.mem.entry.MemFile.{MemFile}
 use Rattle.tc_store.specs.Disk.{IsSettledHome}
-use Rattle.tc_store.specs.MemDisk.{file_entry}
+use Rattle.tc_store.specs.Memory.Disk.{file_entry}
 use Rattle.tc_store.specs.Moments.{IfTold}
 use Rattle.tc_log.proofs.tests.file_of.Goals as goal
 
