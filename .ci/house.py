@@ -11,6 +11,7 @@ import collections
 import glob
 import os
 import re
+import signal
 import sys
 
 PICTURE = "docs/architecture.md"
@@ -52,7 +53,7 @@ class House:
         ours = [it for it in paths if it.split("/")[2] in ("src", "specs", "proofs") and it.endswith((".rt", ".antt"))]
         self.said = {it: read(it) for it in ours}
         self.text = {it: without_comments(it, whole) for it, whole in self.said.items()}
-        self.stands, self.layers, self.lines = {}, {}, {}
+        self.stands, self.layers, self.lines, self.again = {}, {}, {}, []
         layer = None
         for number, line in enumerate(read("crates.txt").split("\n"), 1):
             head = re.match(r"# (\d) \w", line)
@@ -61,6 +62,7 @@ class House:
             if row:
                 name, _, below = row.partition(":")
                 name = name.split()[0]
+                self.again += [(number, name)] if name in self.stands else []
                 self.stands[name], self.layers[name], self.lines[name] = below.split(), layer, number
 
     def of(self, crate):
@@ -69,6 +71,8 @@ class House:
 
 def crates_go_upward(house):
     """crates.txt goes upward: each crate stands only on crates listed before it, and the layers ascend."""
+    for number, name in house.again:
+        yield f"crates.txt:{number}: {name} stands on another line too"
     before, last = set(), 0
     for name, below in house.stands.items():
         at = f"crates.txt:{house.lines[name]}"
@@ -354,6 +358,7 @@ LOOKS = (
 
 
 def main():
+    signal.signal(signal.SIGPIPE, signal.SIG_DFL)
     os.chdir(os.path.join(os.path.dirname(os.path.realpath(__file__)), ".."))
     house, failed = House(), 0
     for look in LOOKS:
