@@ -141,6 +141,21 @@ def files_say_what_they_have(house):
             yield f"{path}:1: it does not begin with a line '{mark}..'"
 
 
+def files_are_named(house):
+    """Each file of code is named by a `mod`, and each file of definitions or lemmas by the Lib.antt beside it."""
+    for path in house.said:
+        crate, part, *inside = path.split("/")[1:]
+        stem = inside[-1].rpartition(".")[0]
+        if part == "src" and path not in (f"crates/{crate}/src/lib.rt", f"crates/{crate}/src/main.rt"):
+            code = [text for it, text in house.of(crate).items() if "/src/" in it and it != path]
+            if not any(re.search(rf"^\s*(?:pub(?:\(\w+\))? )?mod {stem}\b", text, re.M) for text in code):
+                yield f"{path}: no `mod` names it"
+        elif part != "src" and len(inside) == 1 and stem != "Lib":
+            lib = house.text.get(f"crates/{crate}/{part}/Lib.antt", "")
+            if not re.search(rf"^(?:pub )?mod {stem}\b", lib, re.M):
+                yield f"{path}: crates/{crate}/{part}/Lib.antt does not name it"
+
+
 def proofs_stay_private(house):
     """No crate imports a module of another's proofs/ that the Lib.antt there does not declare `pub mod`."""
     public = {it: set(re.findall(r"^pub mod (\w+)", house.text.get(f"crates/{it}/proofs/Lib.antt", ""), re.M)) for it in house.stands}
@@ -345,6 +360,7 @@ LOOKS = (
     crates_are_in_the_picture,
     tops_say_their_layer,
     files_say_what_they_have,
+    files_are_named,
     proofs_stay_private,
     lemmas_on_private_types_stay,
     contracts_cite_no_proofs,
