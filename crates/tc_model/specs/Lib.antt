@@ -14,3 +14,4 @@ pub mod Limits
 pub mod Stored
 pub mod Request
 pub mod Reply
+pub mod Weight
