@@ -1,4 +1,4 @@
-//! Byte strings, and the fields of a binary format.
+//! Layer 1, base: byte strings, and the fields of a binary format.
 #![tactic(auto)]
 
 mod byte_string;

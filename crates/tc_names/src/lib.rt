@@ -1,4 +1,4 @@
-//! The dictionary of a store's member names, which only grows.
+//! Layer 1, base: the dictionary of a store's member names, which only grows.
 #![tactic(auto)]
 
 mod dictionary;

@@ -1,3 +1,3 @@
-//! What a run means: partitions together, the replies to lines, the windows in which they are answered, and how far a run
-//! comes. There is no code here; the contract of the server is stated in these words.
+//! Layer 0, meaning: runs over partitions, the replies to lines, the windows in which they are answered, and how far a
+//! run comes. There is no code here; the contract of the server is stated in these words.
 #![tactic(auto)]

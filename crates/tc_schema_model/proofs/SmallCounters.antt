@@ -15,9 +15,12 @@ use Rattle.tc_schema_model.proofs.NumberLaws.{number_of_name_at}
 module _ (names : List Name) (distinct : IsDistinct bytes_eq names) where
   mutual
     pub small_from_paths : (d : Counted) → IsCanonical (length names) d → ((path : Path) → total_at names d path < 2 ^ 64) → HasSmallCounters d
-    small_from_paths (counted c b fs) canonical fits =
-        (fits [], below_from_paths b canonical.2 (λ path. fits (each_item ∷ path)), fields_from_paths 0 fs canonical.3 (λ n least below path.
-            subst (λ o. total_at names (numbered_field o fs) path < 2 ^ 64) (number_of_name_at names n distinct below) (fits (field (name_at names n) ∷ path))))
+    small_from_paths (counted c b fs) canonical fits = (
+      fits [],
+      below_from_paths b canonical.2 (λ path. fits (each_item ∷ path)),
+      fields_from_paths 0 fs canonical.3 (λ n least below path.
+          subst (λ o. total_at names (numbered_field o fs) path < 2 ^ 64) (number_of_name_at names n distinct below) (fits (field (name_at names n) ∷ path))),
+    )
 
     below_from_paths : (b : Below) → IsBelowCanonical (length names) b → ((path : Path) → total_at names (held b) path < 2 ^ 64) → BelowHasSmallCounters b
     below_from_paths no_item canonical fits = tt
@@ -25,9 +28,10 @@ module _ (names : List Name) (distinct : IsDistinct bytes_eq names) where
 
     fields_from_paths : (low : ℕ) (fs : Fields) → AreFieldsCanonical (length names) low fs → ((n : ℕ) → low ≤ n → n < length names → (path : Path) → total_at names (field_at n fs) path < 2 ^ 64) → FieldsHaveSmallCounters fs
     fields_from_paths low no_fields canonical fits = tt
-    fields_from_paths low (a_field n d fs) canonical fits =
-        (small_from_paths d canonical.3 (λ path. subst (λ e. total_at names e path < 2 ^ 64) (at_first n d fs) (fits n canonical.0 canonical.1 path)),
-        fields_from_paths (n + 1) fs canonical.4 (λ k least below path. subst (λ e. total_at names e path < 2 ^ 64) (after_first k n d fs (omega arith)) (fits k (omega (arith, canonical.0)) below path)))
+    fields_from_paths low (a_field n d fs) canonical fits = (
+      small_from_paths d canonical.3 (λ path. subst (λ e. total_at names e path < 2 ^ 64) (at_first n d fs) (fits n canonical.0 canonical.1 path)),
+      fields_from_paths (n + 1) fs canonical.4 (λ k least below path. subst (λ e. total_at names e path < 2 ^ 64) (after_first k n d fs (omega arith)) (fits k (omega (arith, canonical.0)) below path)),
+    )
 
 -- ---- at paths
 

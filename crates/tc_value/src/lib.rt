@@ -1,4 +1,4 @@
-//! Documents and their shapes.
+//! Layer 1, base: documents and their shapes.
 #![tactic(auto)]
 
 mod document;
