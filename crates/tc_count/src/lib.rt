@@ -7,3 +7,6 @@ pub use inferring::{Inferred, infer};
 
 #[cfg(test)]
 mod tests;
+
+#[cfg(test)]
+mod layer_tests;

@@ -7,6 +7,3 @@ mod section;
 
 pub use dictionary::Names;
 pub use fault::NamesFault;
-
-#[cfg(test)]
-mod tests;

@@ -18,6 +18,3 @@ pub use laws::{counters_are_small, counters_fit, trees_have_one_form};
 pub use place::{Field, Node};
 pub use search::search_fields;
 pub use whole::{Schema, schemas_agree};
-
-#[cfg(test)]
-mod tests;
