@@ -4,8 +4,8 @@ use Rattle.std.proofs.Common.{◌≡◌, ◌≢◌, ℕ, ◌+◌, ◌<◌, ◌�
 use Rattle.std.proofs.lemmas.Bool.{false≢true}
 use Rattle.std.proofs.lemmas.Bool.Decides.{Decides-eqb}
 use Rattle.tc_model.specs.Document.{null_kind, boolean_kind, integer_kind, text_kind}
-use Rattle.tc_schema_model.specs.Counted.{Counters, Counted, counted, Below, no_item, an_item, Fields, no_fields, a_field, total, documents_of, IsCanonical, IsBelowCanonical, AreFieldsCanonical}
-use Rattle.tc_schema_model.specs.SchemaTree.{SchemaNode, scalar_node, array_node, object_node, union_node, ItemNode, FieldNodes, KindNodes, no_kind_nodes, a_kind_node, node_tag, kinds_total, kinds_count, with_kind, united, kind_nodes, node_of, item_node_of, field_nodes_of, schema_tree, IsCanonicalNode, IsCanonicalItem, AreCanonicalFields, AreCanonicalKinds, IsCanonicalTree}
+use Rattle.tc_schema_model.specs.Counted.{Counters, Counted, counted, Below, no_item, an_item, Fields, no_fields, a_field, documents_of, IsCanonical, IsBelowCanonical, AreFieldsCanonical}
+use Rattle.tc_schema_model.specs.SchemaTree.{SchemaNode, scalar_node, array_node, object_node, ItemNode, FieldNodes, KindNodes, no_kind_nodes, a_kind_node, node_tag, kinds_total, with_kind, united, kind_nodes, node_of, item_node_of, field_nodes_of, schema_tree, IsCanonicalNode, IsCanonicalItem, AreCanonicalFields, AreCanonicalKinds, IsCanonicalTree}
 use Rattle.tc_schema_model.proofs.KindLaws.{total-kind_nodes}
 
 from_lower : (limit low lower : ℕ) (ks : KindNodes) → lower ≤ low → AreCanonicalKinds limit low ks → AreCanonicalKinds limit lower ks

@@ -4,7 +4,7 @@ use Rattle.std.proofs.lemmas.Bool.Decides.{nat_tests}
 use Rattle.tc_model.specs.Document.{Name, ShapeTree, null_kind, boolean_kind, integer_kind, text_kind}
 use Rattle.tc_schema_model.specs.Occurrences.{field, each_item, Path}
 use Rattle.tc_model.specs.Kinds.{Kind, scalar, arrays, objects}
-use Rattle.tc_schema_model.specs.Counted.{Counted, counted, Below, no_item, an_item, Fields, no_fields, a_field, nothing, held, field_at, numbered_field, shows, total_at, IsCanonical, IsBelowCanonical, AreFieldsCanonical}
+use Rattle.tc_schema_model.specs.Counted.{Counted, counted, Fields, no_fields, a_field, nothing, held, field_at, numbered_field, shows, total_at, IsCanonical, AreFieldsCanonical}
 use Rattle.tc_schema_model.specs.Added.{IsNamed, added}
 use Rattle.tc_schema_model.proofs.AddedLaws.{field_canonical}
 use Rattle.tc_schema_model.proofs.FieldLaws.{held_canonical, canonical_below}

@@ -1,5 +1,5 @@
 -- What is counted of a part of a shape fits where what is counted of the whole shape does.
-use Rattle.std.proofs.Common.{◌≡◌, ◌+◌, ◌<◌, ◌≤◌, ◌^◌, List, [], ◌∷◌, ap, ◌∙◌, arith}
+use Rattle.std.proofs.Common.{◌≡◌, ◌+◌, ◌≤◌, List, ap, ◌∙◌, arith}
 use Rattle.tc_model.specs.Tree.{Items, item, Members, member}
 use Rattle.tc_model.specs.Document.{Name, ShapeTree, ScalarKind, null_kind, boolean_kind, integer_kind, text_kind}
 use Rattle.tc_model.specs.Dictionary.{number_of}

@@ -1,10 +1,9 @@
 -- That counters have 64 bits, said of places and said of paths.
-use Rattle.std.proofs.Common.{◌≡◌, ℕ, ◌+◌, ◌<◌, ◌≤◌, ◌^◌, ◌==◌, nat_lt, Bool, true, false, List, [], ◌∷◌, Option, Some, None, length, bytes_eq, if◌then◌else◌, refl, sym, ap, subst, arith}
+use Rattle.std.proofs.Common.{ℕ, ◌+◌, ◌<◌, ◌≤◌, ◌^◌, ◌==◌, nat_lt, Bool, true, false, List, [], ◌∷◌, Option, Some, None, length, bytes_eq, if◌then◌else◌, subst, arith}
 use Rattle.std.specs.List.{IsDistinct}
-use Rattle.tc_model.specs.Document.{Name, null_kind, boolean_kind, integer_kind, text_kind}
+use Rattle.tc_model.specs.Document.{Name}
 use Rattle.tc_model.specs.Dictionary.{number_of}
 use Rattle.tc_schema_model.specs.Occurrences.{field, each_item, Path}
-use Rattle.tc_model.specs.Kinds.{scalar, arrays, objects}
 use Rattle.tc_schema_model.specs.Counted.{Counted, counted, Below, no_item, an_item, Fields, no_fields, a_field, nothing, held, field_at, numbered_field, total_at, IsCanonical, IsBelowCanonical, AreFieldsCanonical, HasSmallCounters, BelowHasSmallCounters, FieldsHaveSmallCounters}
 use Rattle.tc_schema_model.specs.SchemaText.{name_at}
 use Rattle.tc_schema_model.proofs.CountingLaws.{at_first, after_first}

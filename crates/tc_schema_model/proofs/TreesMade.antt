@@ -4,7 +4,7 @@ use Rattle.std.proofs.lemmas.Bool.{false≢true}
 use Rattle.std.proofs.lemmas.Bool.Decides.{Decides-eqb}
 use Rattle.tc_model.specs.Document.{ScalarKind, null_kind, boolean_kind, integer_kind, text_kind}
 use Rattle.tc_model.specs.Kinds.{scalar_tag}
-use Rattle.tc_schema_model.specs.Counted.{Counters, Counted, counted, Below, no_item, an_item, Fields, no_fields, a_field, total, documents_of, IsCanonical, IsBelowCanonical, AreFieldsCanonical}
+use Rattle.tc_schema_model.specs.Counted.{Counters, Counted, counted, Below, no_item, an_item, Fields, no_fields, a_field, documents_of, IsCanonical, IsBelowCanonical, AreFieldsCanonical}
 use Rattle.tc_schema_model.specs.SchemaTree.{SchemaNode, scalar_node, array_node, object_node, union_node, ItemNode, no_item_node, an_item_node, FieldNodes, no_field_nodes, a_field_node, KindNodes, no_kind_nodes, a_kind_node, node_counter, node_tag, kinds_total, kinds_count, with_kind, united, kind_nodes, node_of, item_node_of, field_nodes_of, IsCanonicalNode, IsCanonicalItem, AreCanonicalFields, AreCanonicalKinds}
 use Rattle.tc_schema_model.proofs.KindLaws.{total-kind_nodes}
 
