@@ -1,4 +1,4 @@
-//! The schema that is inferred from documents: how many values of each kind stand at each place.
+//! Layer 2, schema: how many values of each kind stand at each place of documents.
 #![tactic(auto)]
 
 mod counters;
