@@ -76,12 +76,3 @@ Extends-learned names name = cases (is_some (number_of names name))
 -- an extending dictionary gives each older name its older number
 pub number_of-Extends : (newer older : List (List ℕ)) (name : List ℕ) (id : ℕ) → Extends newer older → number_of older name ≡ Some id → number_of newer name ≡ Some id
 number_of-Extends newer older name id extends known = subst (λ names. number_of names name ≡ Some id) (sym extends.1) (number_of-append older extends.0 name id known)
-
--- and each older number its older name
-pub slice_get-Extends : (newer older : List (List ℕ)) (id : ℕ) (name : List ℕ) → Extends newer older → slice_get older id ≡ Some name → slice_get newer id ≡ Some name
-slice_get-Extends newer older id name extends at = subst (λ names. slice_get names id ≡ Some name) (sym extends.1) (within older id at)
-  where
-    within : (names : List (List ℕ)) (i : ℕ) → slice_get names i ≡ Some name → slice_get (names ++ extends.0) i ≡ Some name
-    within [] i here = cc
-    within (first ∷ names) zero here = here
-    within (first ∷ names) (suc i) here = within names i here
