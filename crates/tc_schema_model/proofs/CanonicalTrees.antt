@@ -23,12 +23,17 @@ one_kind limit tag n node rest same below here behind = by_test (n == 0) (Decide
 
 all_kinds : (limit : ℕ) (c : Counters) (i : ItemNode) (fs : FieldNodes) → IsCanonicalItem limit i → AreCanonicalFields limit 0 fs → AreCanonicalKinds limit 1 (kind_nodes c i fs)
 all_kinds limit c i fs item fields =
-    let objects = one_kind limit 6 c.objects (λ n. object_node n fs) no_kind_nodes refl (omega arith) (λ some. (some, fields)) tt in
-    let arrays = one_kind limit 5 c.arrays (λ n. array_node n i) _ refl (omega arith) (λ some. (some, item)) objects in
-    let texts = one_kind limit 4 c.texts (scalar_node text_kind) _ refl (omega arith) (λ some. some) arrays in
-    let integers = one_kind limit 3 c.integers (scalar_node integer_kind) _ refl (omega arith) (λ some. some) texts in
-    let booleans = one_kind limit 2 c.booleans (scalar_node boolean_kind) _ refl (omega arith) (λ some. some) integers in
-    one_kind limit 1 c.nulls (scalar_node null_kind) _ refl (omega arith) (λ some. some) booleans
+    let from_objects = with_kind c.objects (λ n. object_node n fs) no_kind_nodes in
+    let from_arrays = with_kind c.arrays (λ n. array_node n i) from_objects in
+    let from_texts = with_kind c.texts (scalar_node text_kind) from_arrays in
+    let from_integers = with_kind c.integers (scalar_node integer_kind) from_texts in
+    let from_booleans = with_kind c.booleans (scalar_node boolean_kind) from_integers in
+    let objects : AreCanonicalKinds limit 6 from_objects = one_kind limit 6 c.objects (λ n. object_node n fs) no_kind_nodes refl (omega arith) (λ some. (some, fields)) tt in
+    let arrays : AreCanonicalKinds limit 5 from_arrays = one_kind limit 5 c.arrays (λ n. array_node n i) from_objects refl (omega arith) (λ some. (some, item)) objects in
+    let texts : AreCanonicalKinds limit 4 from_texts = one_kind limit 4 c.texts (scalar_node text_kind) from_arrays refl (omega arith) (λ some. some) arrays in
+    let integers : AreCanonicalKinds limit 3 from_integers = one_kind limit 3 c.integers (scalar_node integer_kind) from_texts refl (omega arith) (λ some. some) texts in
+    let booleans : AreCanonicalKinds limit 2 from_booleans = one_kind limit 2 c.booleans (scalar_node boolean_kind) from_integers refl (omega arith) (λ some. some) integers in
+    one_kind limit 1 c.nulls (scalar_node null_kind) from_booleans refl (omega arith) (λ some. some) booleans
 
 one_node : (limit : ℕ) (ks : KindNodes) → AreCanonicalKinds limit 1 ks → 0 < kinds_total ks → IsCanonicalNode limit (united ks)
 one_node limit no_kind_nodes are some = absurd (omega (arith, some))
