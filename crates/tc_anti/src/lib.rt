@@ -5,6 +5,3 @@ mod subtracting;
 mod taking;
 
 pub use subtracting::{shapes_fit, subtract};
-
-#[cfg(test)]
-mod tests;

@@ -3,7 +3,9 @@
 ghost use Rattle.std.specs.Prelude.{◌≡◌, ◌+◌, ◌++◌, ◌∷◌, List, length};
 ghost use Rattle.tc_model.specs.Document.{Document, document_shape};
 ghost use Rattle.tc_schema_model.specs.Occurrences.{Path, occurrences};
-ghost use Rattle.tc_model.specs.Kinds.{Kind};
+ghost use Rattle.tc_model.specs.Kinds.{Kind, kind_of, objects};
+ghost use Rattle.tc_schema_model.specs.Added.{removed};
+ghost use Rattle.tc_schema_model.specs.SchemaBytes.{IsSchema};
 ghost use Rattle.tc_schema_model.specs.Counted.{shows, IsCanonical};
 ghost use Rattle.tc_schema_model.specs.Fits.{FitsByPath};
 ghost use Rattle.tc_schema_model.specs.Stands.{StandsFor};
@@ -19,8 +21,10 @@ use tc_value::Shape;
 /// binary search, and a field that leaves moves those behind it up by one.
 pub fn subtract(schema: &mut Schema, names: &Names, shape: &Shape)
     requires fits { FitsByPath names.now schema.old (shape_tree shape.now) }
+    ensures removed { schema.new ≡ removed names.now (shape_tree shape.now) schema.old }
     ensures counted { (path : Path) (t : Kind) → shows names.now schema.new path t + occurrences (shape_tree shape.now) path t ≡ shows names.now schema.old path t }
     ensures canonical { IsCanonical (length names.now) schema.new }
+    ensures readable { kind_of (shape_tree shape.now) ≡ objects → IsSchema (length names.now) schema.old → IsSchema (length names.now) schema.new }
     ensures stands { (before after : List Document) (doc : Document) → document_shape doc ≡ shape_tree shape.now → StandsFor names.now schema.old (before ++ doc ∷ after) → StandsFor names.now schema.new (before ++ after) }
 {
     // that the names are distinct, and fewer than 2^32

@@ -6,6 +6,3 @@ mod counting;
 mod learning;
 
 pub use adding::add;
-
-#[cfg(test)]
-mod tests;

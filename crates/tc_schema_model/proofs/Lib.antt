@@ -18,3 +18,7 @@ pub mod Grown
 pub mod SmallCounters
 pub mod CanonicalTrees
 pub mod TreesMade
+pub mod Vanishing
+pub mod FitLaws
+pub mod Readable
+pub mod DocumentsTogether

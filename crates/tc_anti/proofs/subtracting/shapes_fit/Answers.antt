@@ -1,6 +1,6 @@
 use Rattle.std.proofs.Common.{subst}
 use Rattle.tc_schema_model.specs.Fits.{FitsByPath}
-use Rattle.tc_anti.proofs.FitLaws.{document_fits}
+use Rattle.tc_schema_model.proofs.FitLaws.{document_fits}
 use Rattle.tc_anti.proofs.subtracting.shapes_fit.Goals as goal
 
 pub returns : goal.returns

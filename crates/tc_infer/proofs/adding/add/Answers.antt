@@ -1,4 +1,5 @@
-use Rattle.std.proofs.Common.{◌≡◌, length, refl, sym, ◌∙◌, subst, arith}
+use Rattle.std.proofs.Common.{◌≡◌, bytes_eq, length, refl, sym, ◌∙◌, subst, arith}
+use Rattle.std.specs.List.{IsDistinct}
 use Rattle.tc_schema_model.specs.Added.{added}
 use Rattle.tc_model.specs.Dictionary.{Extends, all_learned}
 use Rattle.tc_value.specs.ShapeMeaning.{shape_tree}
@@ -8,6 +9,7 @@ use Rattle.tc_model.proofs.LearnedNames.{Extends-all_learned}
 use Rattle.tc_schema_model.proofs.NamedShapes.{named-all_learned}
 use Rattle.tc_schema_model.proofs.FieldLaws.{canonical_below}
 use Rattle.tc_schema_model.proofs.Grown.{grown_canonical, grown_fits, added_canonical, added_shows, added_stands}
+use Rattle.tc_schema_model.proofs.Readable.{schema-added}
 use Rattle.tc_infer.proofs.adding.add.Goals as goal
 
 -- ---- once the names are learned
@@ -59,3 +61,15 @@ returns-clause-extends c =
 
 pub returns-clause-stands : goal.returns-clause-stands
 returns-clause-stands c = rw (counted c, c.in_ok-learn_names.ensures.ok) (added_stands c.args.names.now (shape_tree c.args.shape.now) c.args.schema.now)
+
+pub returns-clause-added : goal.returns-clause-added
+returns-clause-added c = rw (c.in_ok-learn_names.ensures.ok) (counted c)
+
+pub returns-clause-readable : goal.returns-clause-readable
+returns-clause-readable c =
+    let known = c.args.names.now in
+    let s = shape_tree c.args.shape.now in
+    let d = c.args.schema.now in
+    let grown = all_learned known (names_within s) in
+    let distinct : IsDistinct bytes_eq grown = subst (IsDistinct bytes_eq) c.in_ok-learn_names.ensures.ok c.len-known.ensures.dictionary.distinct in
+    rw (counted c, c.in_ok-learn_names.ensures.ok) (λ is each. schema-added grown distinct s d is (added_canonical known s d c.requires.canonical) (grown_fits known s d c.requires.canonical c.requires.counters) each)

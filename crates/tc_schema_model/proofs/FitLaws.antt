@@ -17,7 +17,7 @@ use Rattle.tc_schema_model.proofs.CountingLaws.{shows_nothing, at_first}
 use Rattle.tc_schema_model.proofs.FieldLaws.{held_canonical}
 use Rattle.tc_schema_model.proofs.NumberLaws.{numbered, number_of_name_at}
 use Rattle.tc_schema_model.proofs.RemovedLaws.{shows-removed, shows-items_removed, shows-members_removed, canonical-items_removed, canonical-members_removed}
-use Rattle.tc_anti.proofs.Vanishing.{Vanishes, items_vanish, members_vanish, documents_vanish}
+use Rattle.tc_schema_model.proofs.Vanishing.{Vanishes, items_vanish, members_vanish, documents_vanish}
 
 -- numbers that can be taken off others: none is too large, and where the last array goes nothing is left of the items,
 -- and where the last object goes nothing of the members
@@ -77,12 +77,12 @@ covers_rest from all first rest left parts taken covers = record {
 
 -- ---- what shows nothing is nothing
 
-no_item_left : (names : List Name) (b : Below) → IsBelowCanonical (length names) b → ((path : Path) (t : Kind) → shows names (held b) path t ≡ 0) → b ≡ no_item
+pub no_item_left : (names : List Name) (b : Below) → IsBelowCanonical (length names) b → ((path : Path) (t : Kind) → shows names (held b) path t ≡ 0) → b ≡ no_item
 no_item_left names no_item canonical none = refl
 no_item_left names (an_item (counted c b fs)) canonical none =
     absurd (omega (arith, canonical.0, none [] (scalar null_kind), none [] (scalar boolean_kind), none [] (scalar integer_kind), none [] (scalar text_kind), none [] arrays, none [] objects))
 
-no_fields_left : (names : List Name) (fs : Fields) → IsDistinct bytes_eq names → AreFieldsCanonical (length names) 0 fs → ((name : Name) (path : Path) (t : Kind) → shows names (numbered_field (number_of names name) fs) path t ≡ 0) → fs ≡ no_fields
+pub no_fields_left : (names : List Name) (fs : Fields) → IsDistinct bytes_eq names → AreFieldsCanonical (length names) 0 fs → ((name : Name) (path : Path) (t : Kind) → shows names (numbered_field (number_of names name) fs) path t ≡ 0) → fs ≡ no_fields
 no_fields_left names no_fields distinct canonical none = refl
 no_fields_left names (a_field n (counted c b gs) fs) distinct canonical none =
     let first : (t : Kind) → counter c t ≡ 0 = λ t.
