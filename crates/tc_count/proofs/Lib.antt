@@ -1,1 +1,6 @@
-pub mod DocumentsLeft
+pub mod AscendingMembers
+pub mod GatheredValues
+pub mod Grouping
+pub mod PlaceMade
+pub mod SplitLists
+pub mod Walks

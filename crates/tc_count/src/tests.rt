@@ -1,84 +1,49 @@
-//! Documents inferred with ample memory: the bytes, the text and the names.
+//! Schemas inferred, and added to and subtracted from, with ample memory.
 
-ghost use Rattle.std.specs.Prelude.{◌≡◌, IfOk, codes, pos, map, [], ◌∷◌};
-ghost use Rattle.tc_model.specs.Tree.{leaf, array, object, no_items, item, no_members, member};
-ghost use Rattle.tc_model.specs.Document.{null, integer, text};
-ghost use Rattle.tc_value.specs.Meaning.{tree_of};
+mod documents;
+mod kept;
 
 use crate::infer;
-use std::alloc::{AllocError, Global};
+use documents::{Chance, object, some_object, string};
+use kept::Kept;
 use std::test::Fail;
-use tc_value::{Doc, Items, Member, Members, Text};
-
-/// The bytes of the schema of `{"a":1}` and `{"a":"x"}`.
-const UNION: [u8; 45] = [
-    6, 0, 0, 0, 0, 0, 0, 0, 2, 0, 0, 0, 1, 0, 0, 0, 0, 8, 0, 0, 0, 0, 0, 0, 0, 2, 2, 3, 0, 0, 0, 0,
-    0, 0, 0, 1, 4, 0, 0, 0, 0, 0, 0, 0, 1,
-];
-
-/// The text of the schema of `{"v":[1,"x",[],{"b":null}]}`.
-const MIXED: &str =
-    "{\"count\":1,\"fields\":{\"v\":{\"count\":1,\"items\":{\"count\":4,\"kind\":\"union\",\"kinds\":[{\"count\":1,\"kind\":\"integer\"},{\"count\":1,\"kind\":\"text\"},{\"count\":1,\"items\":null,\"kind\":\"array\"},{\"count\":1,\"fields\":{\"b\":{\"count\":1,\"kind\":\"null\"}},\"kind\":\"object\"}]},\"kind\":\"array\"}},\"kind\":\"object\"}";
-
-/// An object of one member.
-fn of_one_member(alloc: Global, name: &str, value: Doc) -> Result<Doc, AllocError>
-    ensures { IfOk result (λ doc. tree_of doc ≡ object (member name.now (tree_of value) no_members)) }
-{
-    let name = Text::of(String::from_str(alloc, name)?);
-    let mut members = Vec::new(alloc);
-    members.push(Member { name, value })?;
-    Ok(Doc::Object(Members::of(members)))
-}
-
-/// `x`
-fn x(alloc: Global) -> Result<Doc, AllocError>
-    ensures { IfOk result (λ doc. tree_of doc ≡ leaf (text (codes "x"))) }
-{
-    Ok(Doc::Text(Text::of(String::from_str(alloc, "x")?)))
-}
-
-/// `{"a":1}` and `{"a":"x"}`.
-fn two_kinds(alloc: Global) -> Result<Vec<Doc>, AllocError>
-    ensures { IfOk result (λ docs. map tree_of docs.items ≡ object (member (codes "a") (leaf (integer (pos 1))) no_members) ∷ object (member (codes "a") (leaf (text (codes "x"))) no_members) ∷ []) }
-{
-    let mut docs = Vec::new(alloc);
-    docs.push(of_one_member(alloc, "a", Doc::Int(1))?)?;
-    docs.push(of_one_member(alloc, "a", x(alloc)?)?)?;
-    Ok(docs)
-}
-
-/// `{"v":[1,"x",[],{"b":null}]}` alone.
-fn nested(alloc: Global) -> Result<Vec<Doc>, AllocError>
-    ensures { IfOk result (λ docs. map tree_of docs.items ≡ object (member (codes "v") (array (item (leaf (integer (pos 1))) (item (leaf (text (codes "x"))) (item (array no_items) (item (object (member (codes "b") (leaf null) no_members)) no_items))))) no_members) ∷ []) }
-{
-    let mut items = Vec::new(alloc);
-    items.push(Doc::Int(1))?;
-    items.push(x(alloc)?)?;
-    items.push(Doc::Array(Items::of(Vec::new(alloc))))?;
-    items.push(of_one_member(alloc, "b", Doc::Null)?)?;
-    let mut docs = Vec::new(alloc);
-    docs.push(of_one_member(alloc, "v", Doc::Array(Items::of(items)))?)?;
-    Ok(docs)
-}
+use tc_value::Doc;
 
 #[test]
-fn infers_two_kinds(rt: HostRuntime) -> Result<(), Fail> {
-    let docs = two_kinds(rt.alloc())?;
-    let inferred = infer(rt.alloc(), docs.as_slice())?;
-    let bytes = inferred.schema.to_bytes(rt.alloc())?;
-    assert_eq!(rt; bytes.as_slice(), UNION.as_slice());
-    assert_eq!(rt; inferred.names.id_of("a"), Some(0));
+fn counts_down_to_nothing(rt: HostRuntime) -> Result<(), Fail> {
+    let alloc = rt.alloc();
+    let kept = Kept::none(alloc)
+        .with(alloc, object(alloc, "a", Doc::Int(1))?)?
+        .with(alloc, object(alloc, "a", string(alloc)?)?)?;
+    assert_eq!(rt;
+        kept.text(alloc)?.as_str(),
+        "{\"count\":2,\"fields\":{\"a\":{\"count\":2,\"kind\":\"union\",\"kinds\":[{\"count\":1,\"kind\":\"integer\"},{\"count\":1,\"kind\":\"text\"}]}},\"kind\":\"object\"}"
+    );
+    let kept = kept.without(alloc, 0)?;
+    assert_eq!(rt;
+        kept.text(alloc)?.as_str(),
+        "{\"count\":1,\"fields\":{\"a\":{\"count\":1,\"kind\":\"integer\"}},\"kind\":\"object\"}"
+    );
+    let kept = kept.without(alloc, 0)?;
+    assert_eq!(rt; kept.text(alloc)?.as_str(), "null");
     Ok(())
 }
 
 #[test]
-fn infers_what_is_nested(rt: HostRuntime) -> Result<(), Fail> {
-    let docs = nested(rt.alloc())?;
-    let inferred = infer(rt.alloc(), docs.as_slice())?;
-    let value = inferred.schema.value(rt.alloc(), &inferred.names)?;
-    let text = value.to_string(rt.alloc())?;
-    assert_eq!(rt; text.as_str(), MIXED);
-    assert_eq!(rt; inferred.names.id_of("v"), Some(0));
-    assert_eq!(rt; inferred.names.id_of("b"), Some(1));
+fn leaves_what_is_inferred(rt: HostRuntime) -> Result<(), Fail> {
+    let alloc = rt.alloc();
+    let mut chance = Chance::new();
+    let mut kept = Kept::none(alloc);
+    for step in 0..2000 {
+        let held = kept.len();
+        kept = if chance.below(2) == 0 && held > 0 {
+            kept.without(alloc, chance.below(held as u64) as usize)?
+        } else {
+            kept.with(alloc, some_object(3, alloc, &mut chance)?)?
+        };
+        if step % 50 == 49 {
+            assert_eq!(rt; kept.text(alloc)?.as_str(), kept.text_anew(alloc)?.as_str());
+        }
+    }
     Ok(())
 }

@@ -1,74 +1,56 @@
-use Rattle.std.proofs.Common.{◌≡◌, ◌+◌, ◌<◌, ◌^◌, ◌∷◌, length, map, drop, bytes_eq, refl, sym, ap, ◌∙◌, subst, arith}
-use Rattle.std.specs.List.{AllByRecursion, IsDistinct}
-use Rattle.std.proofs.lemmas.List.Elements.{All-from_recursion, recursion_from_All}
+use Rattle.std.proofs.Common.{◌≡◌, ◌<◌, ◌^◌, [], List, length, map, sym, ap, ◌∙◌, subst, arith}
+use Rattle.std.specs.List.{AllByRecursion}
+use Rattle.std.proofs.lemmas.List.Elements.{recursion_from_All}
+use Rattle.tc_model.specs.Tree.{items_of}
 use Rattle.tc_model.specs.Document.{Name, document_shape}
-use Rattle.tc_schema_model.specs.Occurrences.{count, occurrences}
-use Rattle.tc_schema_model.specs.Counted.{shows, IsCanonical}
-use Rattle.tc_schema_model.proofs.CountingLaws.{shows_nothing}
-use Rattle.tc_value.specs.Meaning.{tree_of}
-use Rattle.tc_model.specs.ShapeNames.{names_within, names_of_documents}
 use Rattle.tc_model.specs.Dictionary.{all_learned}
-use Rattle.tc_schema_model.specs.Values.{values_at}
-use Rattle.tc_model.proofs.LearnedNames.{all_learned-append, room_for_first, all_of_first, all_of_rest, distinct-all_learned}
-use Rattle.tc_count.proofs.DocumentsLeft.{documents_from, total_left}
+use Rattle.tc_model.specs.ShapeNames.{names_of_items, names_of_documents}
+use Rattle.tc_schema_model.specs.Counted.{shows, IsCanonical}
+use Rattle.tc_schema_model.specs.Occurrences.{items_occurrences}
+use Rattle.tc_schema_model.proofs.FieldLaws.{canonical_below}
+use Rattle.tc_value.specs.Meaning.{tree_of}
+use Rattle.tc_value.specs.ShapeMeaning.{shape_tree}
+use Rattle.tc_schema.specs.Places.{place_counted, most_names}
+use Rattle.tc_count.specs.Counting.{IsZeroUnnumbered}
+use Rattle.tc_model.proofs.NamesOfShapes.{names_of_shapes}
+use Rattle.tc_schema_model.proofs.DocumentsTogether.{occur_in_shapes}
+use Rattle.tc_count.proofs.Grouping.{zero-all_learned}
 use Rattle.tc_count.proofs.inferring.infer.Goals as goal
 
-abbrev IsShort : Name → Type 0
-IsShort name = length name < 2 ^ 32
+-- the names of the shapes are those of the documents
+listed : (c : goal.After-as_slice-2) → c.as_slice-2.result.now ≡ names_of_documents (map tree_of c.args.docs.now)
+listed c =
+    c.as_slice-2.ensures.value ∙ c.in_ok-listed.ensures
+    ∙ ap (λ shapes. names_of_items (items_of shapes)) (ap (map shape_tree) c.as_slice.ensures.value ∙ c.in_ok-shapes.ensures)
+    ∙ names_of_shapes (map tree_of c.args.docs.now)
 
-pub loop-doc-init : goal.loop-doc-init
-unfolding IsDistinct
-loop-doc-init c = record {
-  canonical = subst (IsCanonical _) (sym c.empty-schema.ensures) (λ _. refl, λ _. refl, tt, tt);
-  distinct = rw (c.new-names.ensures.empty) tt;
-  counted = λ path t. rw (c.new-names.ensures.empty, c.empty-schema.ensures, shows_nothing) (omega arith);
-  names = rw (c.new-names.ensures.empty) refl;
-  short = recursion_from_All _ _ c.requires.short;
+pub dictionary_of-requires-clause-room : goal.dictionary_of-requires-clause-room
+dictionary_of-requires-clause-room c = subst (λ names. length (all_learned [] names) < 2 ^ 32) (sym (listed c)) c.requires.room
+
+pub dictionary_of-requires-clause-short : goal.dictionary_of-requires-clause-short
+dictionary_of-requires-clause-short c = subst (AllByRecursion (λ name. length name < 2 ^ 32)) (sym (listed c)) (recursion_from_All _ _ c.requires.short)
+
+pub root_of-requires : goal.root_of-requires
+root_of-requires c =
+    let xs = items_of (map shape_tree c.as_slice-3.result.now) in
+    let names : c.in_ok-names.names ≡ all_learned [] (names_of_items xs) =
+    c.in_ok-names.ensures ∙ ap (all_learned []) (c.as_slice-2.ensures.value ∙ c.in_ok-listed.ensures ∙ ap (λ shapes. names_of_items (items_of (map shape_tree shapes))) (c.as_slice.ensures.value ∙ sym c.as_slice-3.ensures.value)) in
+    record { numbered = subst (λ names. IsZeroUnnumbered names (items_occurrences xs)) (sym names) (zero-all_learned [] xs) }
+
+pub of-schema-requires : goal.of-schema-requires
+of-schema-requires c = canonical_below (length c.in_ok-names.names) most_names (place_counted c.in_ok-root.root) (omega (arith, c.len-known.ensures.dictionary.few)) c.in_ok-root.ensures.canonical
+
+pub returns-clause-names : goal.returns-clause-names
+returns-clause-names c =
+    c.in_ok-names.ensures ∙ ap (all_learned []) (c.as_slice-2.ensures.value ∙ c.in_ok-listed.ensures ∙ ap (λ shapes. names_of_items (items_of shapes)) (ap (map shape_tree) c.as_slice.ensures.value ∙ c.in_ok-shapes.ensures) ∙ names_of_shapes (map tree_of c.args.docs.now))
+
+pub returns-clause-stands : goal.returns-clause-stands
+returns-clause-stands c = record {
+  canonical = subst (IsCanonical (length c.in_ok-names.names)) (sym c.of-schema.ensures) c.in_ok-root.ensures.canonical;
+  distinct = c.len-known.ensures.dictionary.distinct;
+  counts = λ path t.
+      ap (λ d. shows c.in_ok-names.names d path t) c.of-schema.ensures
+      ∙ c.in_ok-root.ensures.shown path t
+      ∙ ap (λ shapes. items_occurrences (items_of shapes) path t) (ap (map shape_tree) c.as_slice-3.ensures.value ∙ c.in_ok-shapes.ensures)
+      ∙ occur_in_shapes (map tree_of c.args.docs.now) path t;
 }
-
-pub add-requires-clause-counters : goal.add-requires-clause-counters
-add-requires-clause-counters c = λ path.
-    let l = c.loop-doc in
-    let doc = c.doc-item.result in
-    let rest = map tree_of (drop (l.doc-index + 1) c.args.docs.now) in
-    let here = documents_from c.args.docs.now l.doc-index doc c.loop-doc-test.true c.doc-item.is in
-    let whole = total_left l.names l.schema (tree_of doc ∷ rest) (map tree_of c.args.docs.now) path (λ t. ap (λ left. shows l.names l.schema path t + count left path t) (sym here) ∙ l.invariant.counted path t) in
-    omega (arith, whole, c.requires.counters path, ap (λ s. values_at s path) c.in_ok-shape.ensures)
-
-pub add-requires-clause-room : goal.add-requires-clause-room
-add-requires-clause-room c =
-    let l = c.loop-doc in
-    let doc = c.doc-item.result in
-    let rest = names_of_documents (map tree_of (drop (l.doc-index + 1) c.args.docs.now)) in
-    let here = ap names_of_documents (documents_from c.args.docs.now l.doc-index doc c.loop-doc-test.true c.doc-item.is) in
-    let left = ap (all_learned l.names) (sym here) ∙ l.invariant.names in
-    let first = names_within (document_shape (tree_of doc)) in
-    rw (c.in_ok-shape.ensures) (room_for_first l.names first rest (subst (λ names. length names < 2 ^ 32) (sym left) c.requires.room))
-
-pub add-requires-clause-short : goal.add-requires-clause-short
-add-requires-clause-short c =
-    let l = c.loop-doc in
-    let doc = c.doc-item.result in
-    let rest = names_of_documents (map tree_of (drop (l.doc-index + 1) c.args.docs.now)) in
-    let here = ap names_of_documents (documents_from c.args.docs.now l.doc-index doc c.loop-doc-test.true c.doc-item.is) in
-    let first = names_within (document_shape (tree_of doc)) in
-    rw (c.in_ok-shape.ensures) (All-from_recursion _ first (all_of_first IsShort first rest (subst (AllByRecursion IsShort) here l.invariant.short)))
-
-pub loop-doc-preserved : goal.loop-doc-preserved
-loop-doc-preserved c =
-    let l = c.loop-doc in
-    let doc = c.doc-item.result in
-    let first = names_within (document_shape (tree_of doc)) in
-    let documents = map tree_of (drop (l.doc-index + 1) c.args.docs.now) in
-    let rest = names_of_documents documents in
-    let here = documents_from c.args.docs.now l.doc-index doc c.loop-doc-test.true c.doc-item.is in
-    let known : c.add.new.names ≡ all_learned l.names first = c.in_ok-add.ensures.names ∙ ap (λ s. all_learned l.names (names_within s)) c.in_ok-shape.ensures in
-    record {
-      canonical = c.in_ok-add.ensures.canonical;
-      distinct = subst (IsDistinct bytes_eq) (sym known) (distinct-all_learned l.names first l.invariant.distinct);
-      counted = λ path t.
-          let whole = ap (λ left. shows l.names l.schema path t + count left path t) (sym here) ∙ l.invariant.counted path t in
-          omega (arith, whole, c.in_ok-add.ensures.counted path t, ap (λ s. occurrences s path t) c.in_ok-shape.ensures);
-      names = ap (λ names. all_learned names rest) known ∙ sym (all_learned-append l.names first rest) ∙ ap (λ left. all_learned l.names (names_of_documents left)) (sym here) ∙ l.invariant.names;
-      short = all_of_rest IsShort first rest (subst (AllByRecursion IsShort) (ap names_of_documents here) l.invariant.short);
-    }

@@ -1,0 +1,14 @@
+use Rattle.std.proofs.Common.{◌+◌, ◌++◌, map, drop, sym, ap, ◌∙◌, append_assoc}
+use Rattle.tc_value.specs.ShapeMeaning.{shape_tree, shape_member}
+use Rattle.tc_count.specs.Gathered.{members_held, members_among}
+use Rattle.tc_count.proofs.Walks.{map_from}
+use Rattle.tc_count.proofs.gathering.members_among.Goals as goal
+
+pub loop-value-preserved : goal.loop-value-preserved
+loop-value-preserved c =
+    let l = c.loop-value in
+    let x = c.value-item.result in
+    let old = map shape_member l.members.items in
+    let rest = members_among (map shape_tree (drop (l.value-index + 1) c.args.values.now)) in
+    let here = map_from shape_tree c.args.values.now l.value-index x c.loop-value-test.true c.value-item.is in
+    ap (λ members. members ++ rest) c.in_ok-push_members.ensures ∙ append_assoc old (members_held (shape_tree x)) rest ∙ ap (λ ss. old ++ members_among ss) (sym here) ∙ l.invariant
