@@ -12,7 +12,7 @@ use std::alloc::{AllocError, Global};
 use std::test::Fail;
 use tc_bytes::Bytes;
 use tc_record::{encode, size};
-use tc_value::{Doc, Member, Members, Shape, Text};
+use tc_value::{Doc, MAX_DEPTH, Member, Members, Shape, Text};
 
 /// `{"v":1}`
 fn document(alloc: Global) -> Result<Doc, AllocError>
@@ -31,10 +31,9 @@ fn stored(alloc: Global, doc: &Doc) -> Result<Bytes, AllocError>
     requires { IsKeyless (tree_of doc.now) }
     ensures { IfOk result IsStoredRecord }
 {
-    if !doc.nests_within(32) {
+    if !doc.nests_within(MAX_DEPTH) {
         return Err(AllocError);
     }
-    let _depth = doc.depth();
     match size(doc) {
         Some(_len) => encode(alloc, doc),
         None => Err(AllocError),
