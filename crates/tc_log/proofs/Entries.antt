@@ -17,10 +17,10 @@ use Rattle.tc_log.specs.declared.write.Write.{Write}
 use Rattle.tc_log.specs.declared.write.Write.TheVariants.{Upsert, Delete}
 use Rattle.tc_log.specs.Reading.{record_at, held_at, is_key, entry_at, body_read}
 use Rattle.tc_log.specs.Spelling.{held_bytes, entry_bytes, body_bytes}
-use Rattle.tc_log.specs.Tokens.{is_keyless_record}
+use Rattle.tc_record.specs.StoredTest.{is_stored}
 use Rattle.tc_log.specs.Writes.{key_of, record_in, write_of, IsHeld, IsWrite}
 use Rattle.tc_record.specs.StoredRecord.{IsStoredRecord}
-use Rattle.tc_log.proofs.KeylessRecords.{IsStoredRecord-from_test, test-from_IsStoredRecord}
+use Rattle.tc_record.proofs.StoredRecords.{IsStoredRecord-from_test, test-from_IsStoredRecord}
 
 -- ---- records
 
@@ -39,14 +39,14 @@ record_again bytes rest is =
     let spelled = is.is_record.spelled in
     let first = length_first is.document rest (subst (λ bs. length bs < 2 ^ 32) spelled is.is_record.short) in
     let told : number_at w32 (bytes ++ rest) ≡ Some (length bytes, first.0) = subst (λ bs. number_at w32 (bs ++ rest) ≡ Some (length bs, first.0)) (sym spelled) first.1 in
-    let cut = (passing_codec is_keyless_record (bytes_codec (length bytes))).again bytes rest (refl, test-from_IsStoredRecord bytes is) in
+    let cut = (passing_codec is_stored (bytes_codec (length bytes))).again bytes rest (refl, test-from_IsStoredRecord bytes is) in
     rw told cut
 
 record_codec : IsCodec record_at (λ bytes. bytes) IsStoredRecord
 record_codec = record {
   found = λ bytes front rest each gives.
       let parts = then_parts (number_at w32 bytes) _ (front, rest) gives in
-      let cut = (passing_codec is_keyless_record (bytes_codec parts.0.0)).found bytes front rest each parts.2 in
+      let cut = (passing_codec is_stored (bytes_codec parts.0.0)).found bytes front rest each parts.2 in
       (cut.0, cut.1, IsStoredRecord-from_test front (IsBytes-front front rest (subst IsBytes cut.0 each)) cut.2.1);
   again = record_again;
 }

@@ -1,4 +1,3 @@
-pub mod KeylessRecords
 pub mod Entries
 pub mod Frames
 pub mod Logs

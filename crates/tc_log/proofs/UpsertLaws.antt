@@ -5,9 +5,9 @@ use Rattle.std.proofs.lemmas.Bool.Decides.{nat_tests}
 use Rattle.tc_bytes.specs.Codec.{IsBytes}
 use Rattle.tc_record.specs.Rows.{flag_record}
 use Rattle.tc_log.specs.Rows.{one_upsert}
-use Rattle.tc_log.specs.Tokens.{is_keyless_record}
+use Rattle.tc_record.specs.StoredTest.{is_stored}
 use Rattle.tc_log.specs.Writes.{IsWrite}
-use Rattle.tc_log.proofs.KeylessRecords.{IsStoredRecord-from_test}
+use Rattle.tc_record.proofs.StoredRecords.{IsStoredRecord-from_test}
 
 all_bytes : List ℕ → Bool
 all_bytes [] = true
@@ -27,6 +27,6 @@ IsBytes-from_all (b ∷ bytes) all (suc i) = IsBytes-from_all bytes (others (nat
     others false rest all = cc
 
 -- where the record passes the test
-pub lawful_upsert : is_keyless_record flag_record ≡ true → AllByRecursion IsWrite one_upsert
+pub lawful_upsert : is_stored flag_record ≡ true → AllByRecursion IsWrite one_upsert
 unfolding all_bytes
 lawful_upsert passes = (record { key = omega arith; held = IsStoredRecord-from_test flag_record (IsBytes-from_all flag_record refl) passes }, tt)

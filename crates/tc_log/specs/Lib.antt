@@ -1,5 +1,4 @@
 pub mod Writes
-pub mod Tokens
 pub mod Layout
 pub mod Spelling
 pub mod Reading

@@ -9,7 +9,7 @@ use Rattle.tc_log.specs.declared.head.LogHead.{LogHead}
 use Rattle.tc_log.specs.declared.write.Write.{Write}
 use Rattle.tc_log.specs.Layout.{upsert_tag, delete_tag, head_place, head_size, leading_size}
 use Rattle.tc_log.specs.Spelling.{magic}
-use Rattle.tc_log.specs.Tokens.{is_keyless_record}
+use Rattle.tc_record.specs.StoredTest.{is_stored}
 use Rattle.tc_log.specs.Writes.{write_of}
 
 -- ---- the header
@@ -29,7 +29,7 @@ head_at bytes =
 
 -- a record behind its length, which is its first field
 abbrev pub record_at : Reader (List ℕ)
-record_at bytes = number_at w32 bytes >>= λ total. passing_at is_keyless_record (bytes_at total.0) bytes
+record_at bytes = number_at w32 bytes >>= λ total. passing_at is_stored (bytes_at total.0) bytes
 
 abbrev pub held_at : Reader (Option (List ℕ))
 held_at bytes =

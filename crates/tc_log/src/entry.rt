@@ -6,11 +6,11 @@ ghost use Rattle.std.specs.Int.{w64};
 ghost use Rattle.tc_bytes.specs.Reading.{number_at, passing_at};
 ghost use Rattle.tc_log.specs.Writes.{write_of};
 
-use crate::keyless::is_keyless_record;
 use crate::layout::{DELETE, UPSERT};
 use crate::write::Write;
 use std::alloc::Global;
 use tc_bytes::{Bytes, Memory, slice_at, u8_at, u32_at, u64_at};
+use tc_record::is_stored_record;
 
 const MAX_KEY: u64 = 0x7fff_ffff_ffff_ffff;
 
@@ -86,7 +86,7 @@ fn record_in(bytes: &[u8]) -> Option<(&[u8], &[u8])>
 {
     let (total, _) = u32_at(bytes)?;
     let (record, rest) = slice_at(bytes, total as usize)?;
-    if is_keyless_record(record) {
+    if is_stored_record(record) {
         Some((record, rest))
     } else {
         None

@@ -4,7 +4,6 @@
 mod entry;
 mod frame;
 mod head;
-mod keyless;
 mod layout;
 mod log;
 mod reading;

@@ -9,11 +9,11 @@ ghost use Rattle.tc_log.specs.Spelling.{log_at_rest};
 ghost use Rattle.tc_log.specs.Writes.{IsWrite};
 ghost use Rattle.tc_log.specs.declared.write.Write.TheVariants.{Delete};
 
-use crate::keyless::is_keyless_record;
 use crate::{Frame, Log, LogHead, Write, read_frames, read_log_head};
 use std::alloc::Global;
 use std::test::Fail;
 use tc_bytes::Bytes;
+use tc_record::is_stored_record;
 use tc_store::{
     DeviceFault, FileName, Frozen, MemDevice, MemFile, MemFrozen, MemStore, MemWatch, ReadFault,
     Store, Watch, is_open,
@@ -146,7 +146,7 @@ fn upsert(alloc: Global) -> Result<Vec<Write>, Fail>
     ensures same { IfOk result (λ writes. writes.items ≡ one_upsert) }
     ensures lawful { OnOk result (AllByRecursion IsWrite one_upsert) }
 {
-    if !is_keyless_record(&RECORD) {
+    if !is_stored_record(&RECORD) {
         return Err("a record")?;
     }
     let mut writes = Vec::new(alloc);
