@@ -6,7 +6,8 @@
 The program is crates/codec_bench/out/codec_bench, which `rt run` in crates/codec_bench builds. A figure is the CPU time
 of N calls: that of a run with 2N calls less that of a run with N, so starting and reading the document are not in it.
 `size` asks for a record's length, `encode` writes it, `check` looks whether bytes are a record, `cursor` walks over the
-tokens of one that was looked at, and `decode` makes the document of one, the look included.
+tokens of one that was looked at, `decode` makes the document of one, the look included, and `compact` writes one with
+numbers in place of names.
 """
 
 import os
@@ -24,7 +25,7 @@ DOCUMENTS = {
     "100 readings": feeds.readings(1_000_000, 1_000_000),
 }
 
-CALLS = ("size", "encode", "check", "cursor", "decode")
+CALLS = ("size", "encode", "check", "cursor", "decode", "compact")
 
 
 def run(document, call, rounds):
