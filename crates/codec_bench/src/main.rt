@@ -1,4 +1,5 @@
-//! Does calls of the record codec again and again on documents, so that their time can be taken from outside.
+//! Layer 6, programs: does calls of the record codec again and again on documents, so that their time can be taken from
+//! outside.
 //! `codec_bench ROUNDS CALL ..` reads documents as JSON from standard input, one a line, and prints for each call and
 //! each document the length of the record and a checksum.
 #![tactic(auto)]

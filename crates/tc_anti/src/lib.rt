@@ -1,4 +1,4 @@
-//! One document less in a schema that was inferred.
+//! Layer 2, schema: one document less in a schema that was inferred.
 #![tactic(auto)]
 
 mod subtracting;

@@ -1,4 +1,4 @@
-//! Commands and replies: what a line asks for, and the line that answers it.
+//! Layer 2, text: what a line asks for, and the line that answers it.
 #![tactic(auto)]
 
 mod asks;

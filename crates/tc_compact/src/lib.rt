@@ -1,4 +1,4 @@
-//! Records whose members carry the numbers of their names in a dictionary.
+//! Layer 2, records: records whose members carry the numbers of their names in a dictionary.
 #![tactic(auto)]
 
 mod compacting;

@@ -1,4 +1,4 @@
-//! The schema of documents, counted plainly from all of them: what every other count is compared with.
+//! Layer 2, schema: the schema of documents, counted plainly from all of them, which every other count is compared with.
 #![tactic(auto)]
 
 mod counting;

@@ -1,4 +1,4 @@
-//! Bytes that come in and go out: the traits of sources and sinks, and those in memory and of std.
+//! Layer 1, base: bytes that come in and go out, the traits of sources and sinks, and those in memory and of std.
 #![tactic(auto)]
 
 mod memory;

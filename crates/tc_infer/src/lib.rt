@@ -1,4 +1,4 @@
-//! One document more in a schema that was inferred.
+//! Layer 2, schema: one document more in a schema that was inferred.
 #![tactic(auto)]
 
 mod adding;

@@ -1,4 +1,4 @@
-//! Documents and JSON values: which document a value means, and which value and which text a document is.
+//! Layer 2, text: which document a JSON value means, and which value and which text a document is.
 #![tactic(auto)]
 
 mod fault;

@@ -1,4 +1,4 @@
-//! The lines of a source, read piece by piece.
+//! Layer 2, text: the lines of a source, read piece by piece.
 #![tactic(auto)]
 
 mod intake;

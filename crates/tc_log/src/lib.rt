@@ -1,4 +1,4 @@
-//! The write-ahead log of a partition.
+//! Layer 2, disk: the write-ahead log of a partition.
 #![tactic(auto)]
 
 mod entry;

@@ -1,4 +1,5 @@
-//! The memory table of a partition: the newest writes by key, and the shape of what each key has below them.
+//! Layer 3, files: the memory table of a partition, with the newest writes by key and the shape of what each key has below
+//! them.
 #![tactic(auto)]
 
 mod entries;

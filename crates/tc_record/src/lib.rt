@@ -1,4 +1,4 @@
-//! The vector-based record of a document.
+//! Layer 2, records: the vector-based record of a document.
 #![tactic(auto)]
 
 mod building;

@@ -1,4 +1,4 @@
-//! The server: reads lines, answers them from the store, and writes the replies.
+//! Layer 6, programs: the server, which reads lines, answers them from the store, and writes the replies.
 #![tactic(auto)]
 
 mod answer;

@@ -1,4 +1,4 @@
-//! Files and what a stop may leave of them: stores, devices, gates, and their forms in memory.
+//! Layer 2, disk: files and what a stop may leave of them, with stores, devices and gates, and their forms in memory.
 #![tactic(auto)]
 
 mod damage;

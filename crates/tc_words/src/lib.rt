@@ -1,4 +1,4 @@
-//! The words of the command line: which run they ask for.
+//! Layer 2, text: the words of the command line, and which run they ask for.
 #![tactic(auto)]
 
 mod fault;

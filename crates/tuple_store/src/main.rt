@@ -1,4 +1,4 @@
-//! The program: a document store that answers lines of JSON on standard input.
+//! Layer 6, programs: a document store that answers lines of JSON on standard input.
 #![tactic(auto)]
 
 use std::env::Env;
