@@ -1,5 +1,5 @@
 -- How a dictionary grows: what a new name leaves, and that older dictionaries come first in newer ones.
-use Rattle.std.proofs.Common.{◌≡◌, ◌<◌, ◌≤◌, ◌⊎◌, inl, inr, ◌+◌, ◌^◌, ℕ, zero, suc, Bool, true, false, if◌then◌else◌, List, [], ◌∷◌, ◌++◌, Option, None, Some, is_some, length, slice_get, refl, sym, ap, ◌∙◌, subst, arith, append_assoc, append-nil, length-append}
+use Rattle.std.proofs.Common.{◌≡◌, ◌<◌, ◌≤◌, ◌⊎◌, inl, inr, ◌+◌, ◌^◌, ℕ, Bool, true, false, if◌then◌else◌, List, [], ◌∷◌, ◌++◌, Option, None, Some, is_some, length, refl, sym, ap, ◌∙◌, subst, arith, append_assoc, append-nil, length-append}
 use Rattle.std.specs.List.{AllByRecursion, IsDistinct}
 use Rattle.std.specs.Cmp.Lexicographic.{nat_list_eq_equiv}
 use Rattle.std.proofs.lemmas.Map.Keys.{IsDistinct-push}
@@ -23,12 +23,6 @@ IsDictionary-push names name dictionary one new room = record {
   each = each-push names name dictionary.each one;
   few = omega (arith, length-append names (name ∷ []));
 }
-
--- what may stand at a place of a dictionary
-pub IsName-at : (names : List (List ℕ)) (id : ℕ) (name : List ℕ) → AllByRecursion IsName names → slice_get names id ≡ Some name → IsName name
-IsName-at [] id name each at = cc
-IsName-at (first ∷ names) zero name each at = let same : first ≡ name = same_Some first name at in subst IsName same each.0
-IsName-at (first ∷ names) (suc id) name each at = IsName-at names id name each.1 at
 
 -- a known name changes nothing, and a new one stands at the end
 pub learned-known : (names : List (List ℕ)) (name : List ℕ) (id : ℕ) → number_of names name ≡ Some id → learned names name ≡ names

@@ -1,11 +1,11 @@
 -- A schema of objects with one object more, or less, is one whose bytes are read again.
-use Rattle.std.proofs.Common.{◌≡◌, ◌+◌, ◌<◌, ◌≤◌, ◌^◌, List, length, bytes_eq, arith}
+use Rattle.std.proofs.Common.{◌≡◌, ◌+◌, ◌≤◌, List, length, bytes_eq, arith}
 use Rattle.std.specs.List.{IsDistinct}
 use Rattle.tc_model.specs.Tree.{leaf, array, object}
 use Rattle.tc_model.specs.Document.{Name, ShapeTree, null_kind, boolean_kind, integer_kind, text_kind}
 use Rattle.tc_model.specs.Kinds.{Kind, kind_of, scalar, arrays, objects}
 use Rattle.tc_schema_model.specs.Occurrences.{Path, occurrences}
-use Rattle.tc_schema_model.specs.Counted.{Counted, counted, shows, total_at, CountsObjects, HasSmallCounters, IsCanonical}
+use Rattle.tc_schema_model.specs.Counted.{Counted, counted, shows, total_at, CountsObjects, IsCanonical}
 use Rattle.tc_schema_model.specs.Added.{added, removed}
 use Rattle.tc_schema_model.specs.Fits.{Fits}
 use Rattle.tc_schema_model.specs.Room.{DoesFit}

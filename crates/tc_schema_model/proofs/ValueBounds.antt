@@ -87,7 +87,3 @@ small_at docs each path = All-weaker _ _ small docs each
 pub counters_fit-sizes : (names : List Name) (d : Counted) (docs : List Document) (s : ShapeTree) → StandsFor names d docs → length docs < 2 ^ 32
     → All (λ doc. tree_size doc < 2 ^ 32) docs → tree_size s < 2 ^ 32 → (path : Path) → total_at names d path + values_at s path < 2 ^ 64
 counters_fit-sizes names d docs s stands few each here path = counters_fit names d docs s stands few path (small_at docs each path) (omega (arith, here, values_at-size s path))
-
--- the values of so few documents can be counted
-pub values_fit-sizes : (docs : List Document) → length docs < 2 ^ 32 → All (λ doc. tree_size doc < 2 ^ 32) docs → (path : Path) → values_in docs path < 2 ^ 64
-values_fit-sizes docs few each path = omega (arith, values_in-few docs path (recursion_from_All _ docs (small_at docs each path)), few)
