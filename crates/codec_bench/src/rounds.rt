@@ -9,10 +9,10 @@ use tc_value::Doc;
 
 /// The record of a document, or `None` where it has none.
 pub(crate) fn record_of_document(alloc: Global, doc: &Doc) -> Result<Option<Bytes>, AllocError> {
-    if size(doc).is_none() {
-        return Ok(None);
+    match size(doc) {
+        Some(_len) => Ok(Some(encode(alloc, doc)?)),
+        None => Ok(None),
     }
-    Ok(Some(encode(alloc, doc)?))
 }
 
 /// Does a call by its name, on a document or on a record.

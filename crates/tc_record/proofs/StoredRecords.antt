@@ -6,7 +6,7 @@ use Rattle.std.proofs.lemmas.List.{length-map}
 use Rattle.tc_bytes.specs.Codec.{IsBytes}
 use Rattle.tc_model.specs.Tree.{Tree, leaf, array, object, Items, no_items, item, Members, no_members, member, relabel, members_relabel}
 use Rattle.tc_model.specs.Document.{Name, Document, Scalar, member_at}
-use Rattle.tc_record.specs.Preorder.{scalar, array_opened, object_opened, closed, Token, token, preorder, items_preorder, members_preorder}
+use Rattle.tc_record.specs.Preorder.{scalar, array_opened, object_opened, Token, token, preorder, items_preorder, members_preorder}
 use Rattle.tc_record.specs.Record.{piece_tag, IsRecordOf}
 use Rattle.tc_record.specs.Walk.{Key, name}
 use Rattle.tc_record.specs.Sections.{record_read}
