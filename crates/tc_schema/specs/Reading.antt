@@ -2,13 +2,16 @@
 use Rattle.std.specs.Prelude.{◌≡◌, ◌<◌, ◌≤◌, ℕ, zero, suc, ◌+◌, ◌-◌, ◌^◌, ◌==◌, ◌&&◌, nat_lt, Bool, false, List, [], ◌∷◌, drop, length, Option, Some, None, if◌then◌else◌}
 use Rattle.std.specs.Int.{w32, w64}
 use Rattle.tc_bytes.specs.Reading.{Reader, ◌>>=◌, byte_at, number_at, whole}
+use Rattle.tc_model.specs.Document.{null_kind, boolean_kind, integer_kind, text_kind}
+use Rattle.tc_model.specs.Kinds.{arrays, objects, scalar_tag, tag}
 use Rattle.tc_schema_model.specs.Counted.{Counters, no_counters, total, Counted, counted, Below, no_item, an_item, Fields, no_fields, a_field, nothing, documents_of, counters_of}
+use Rattle.tc_schema_model.specs.SchemaTree.{union_tag}
 use Rattle.tc_schema.specs.Writing.{one_if_some}
 
 -- whether a kind of this tag stands here, where so many kinds are to come
 abbrev pub starts : ℕ → ℕ → List ℕ → Bool
-starts tag left [] = false
-starts tag left (b ∷ bytes) = nat_lt 0 left && b == tag
+starts t left [] = false
+starts t left (b ∷ bytes) = nat_lt 0 left && b == t
 
 -- a counter, which is not 0
 abbrev pub counter_at : Reader ℕ
@@ -16,7 +19,7 @@ counter_at bytes = number_at w64 bytes >>= λ n. if n.0 == 0 then None else Some
 
 -- the counter of a scalar kind, or 0
 abbrev pub scalar_at : ℕ → ℕ → Reader ℕ
-scalar_at tag left bytes = if starts tag left bytes then counter_at (drop 1 bytes) else Some (0, bytes)
+scalar_at t left bytes = if starts t left bytes then counter_at (drop 1 bytes) else Some (0, bytes)
 
 -- the items of an array
 abbrev pub item_at : Reader Counted → Reader Below
@@ -26,7 +29,7 @@ item_at read bytes =
 -- the counter of arrays with their items, or 0
 abbrev pub array_at : Reader Counted → ℕ → Reader (ℕ × Below)
 array_at read left bytes =
-    if starts 5 left bytes then (counter_at (drop 1 bytes) >>= λ n. item_at read n.1 >>= λ b. Some ((n.0, b.0), b.1)) else Some ((0, no_item), bytes)
+    if starts (tag arrays) left bytes then (counter_at (drop 1 bytes) >>= λ n. item_at read n.1 >>= λ b. Some ((n.0, b.0), b.1)) else Some ((0, no_item), bytes)
 
 -- so many fields whose numbers ascend from this one on, below the limit
 abbrev pub fields_at : Reader Counted → ℕ → ℕ → ℕ → Reader Fields
@@ -37,7 +40,7 @@ fields_at read limit (suc left) low bytes =
 -- the counter of objects with their fields, or 0
 abbrev pub object_at : Reader Counted → ℕ → ℕ → Reader (ℕ × Fields)
 object_at read limit left bytes =
-    if starts 6 left bytes then (counter_at (drop 1 bytes) >>= λ n. number_at w32 n.1 >>= λ many. fields_at read limit many.0 0 many.1 >>= λ fs. Some ((n.0, fs.0), fs.1)) else Some ((0, no_fields), bytes)
+    if starts (tag objects) left bytes then (counter_at (drop 1 bytes) >>= λ n. number_at w32 n.1 >>= λ many. fields_at read limit many.0 0 many.1 >>= λ fs. Some ((n.0, fs.0), fs.1)) else Some ((0, no_fields), bytes)
 
 -- So many kinds by ascending tag, which together are fewer than 2^64: each kind after those before it.
 abbrev pub objects_at : Reader Counted → ℕ → ℕ → Counters → Below → Reader Counted
@@ -48,16 +51,16 @@ abbrev pub arrays_at : Reader Counted → ℕ → ℕ → Counters → Reader Co
 arrays_at read limit left c bytes = array_at read left bytes >>= λ e. objects_at read limit (left - one_if_some e.0.0) (record c { arrays = e.0.0 }) e.0.1 e.1
 
 abbrev pub texts_at : Reader Counted → ℕ → ℕ → Counters → Reader Counted
-texts_at read limit left c bytes = scalar_at 4 left bytes >>= λ d. arrays_at read limit (left - one_if_some d.0) (record c { texts = d.0 }) d.1
+texts_at read limit left c bytes = scalar_at (scalar_tag text_kind) left bytes >>= λ d. arrays_at read limit (left - one_if_some d.0) (record c { texts = d.0 }) d.1
 
 abbrev pub integers_at : Reader Counted → ℕ → ℕ → Counters → Reader Counted
-integers_at read limit left c bytes = scalar_at 3 left bytes >>= λ d. texts_at read limit (left - one_if_some d.0) (record c { integers = d.0 }) d.1
+integers_at read limit left c bytes = scalar_at (scalar_tag integer_kind) left bytes >>= λ d. texts_at read limit (left - one_if_some d.0) (record c { integers = d.0 }) d.1
 
 abbrev pub booleans_at : Reader Counted → ℕ → ℕ → Counters → Reader Counted
-booleans_at read limit left c bytes = scalar_at 2 left bytes >>= λ d. integers_at read limit (left - one_if_some d.0) (record c { booleans = d.0 }) d.1
+booleans_at read limit left c bytes = scalar_at (scalar_tag boolean_kind) left bytes >>= λ d. integers_at read limit (left - one_if_some d.0) (record c { booleans = d.0 }) d.1
 
 abbrev pub kinds_at : Reader Counted → ℕ → ℕ → Reader Counted
-kinds_at read limit left bytes = scalar_at 1 left bytes >>= λ d. booleans_at read limit (left - one_if_some d.0) (record no_counters { nulls = d.0 }) d.1
+kinds_at read limit left bytes = scalar_at (scalar_tag null_kind) left bytes >>= λ d. booleans_at read limit (left - one_if_some d.0) (record no_counters { nulls = d.0 }) d.1
 
 -- a union has at least two kinds and their sum as its counter
 abbrev pub union_at : Reader Counted → ℕ → Reader Counted
@@ -67,7 +70,7 @@ union_at read limit bytes =
 -- a place, where no more than so many levels nest
 abbrev pub place_at : ℕ → ℕ → Reader Counted
 place_at limit zero bytes = None
-place_at limit (suc levels) bytes = if starts 8 1 bytes then union_at (place_at limit levels) limit (drop 1 bytes) else kinds_at (place_at limit levels) limit 1 bytes
+place_at limit (suc levels) bytes = if starts union_tag 1 bytes then union_at (place_at limit levels) limit (drop 1 bytes) else kinds_at (place_at limit levels) limit 1 bytes
 
 -- a schema, which is empty or of objects
 abbrev pub root_at : ℕ → ℕ → Reader Counted

@@ -1,8 +1,10 @@
 -- The bytes of a place, part by part.
 use Rattle.std.specs.Prelude.{ℕ, ◌+◌, ◌==◌, List, [], ◌∷◌, ◌++◌, if◌then◌else◌}
 use Rattle.std.specs.Int.{w32, w64, to_be_bytes}
+use Rattle.tc_model.specs.Document.{null_kind, boolean_kind, integer_kind, text_kind}
+use Rattle.tc_model.specs.Kinds.{arrays, objects, scalar_tag, tag}
 use Rattle.tc_schema_model.specs.Counted.{Counters, total, Counted, Below, Fields}
-use Rattle.tc_schema_model.specs.SchemaTree.{node_of, item_node_of, field_nodes_of}
+use Rattle.tc_schema_model.specs.SchemaTree.{union_tag, node_of, item_node_of, field_nodes_of}
 use Rattle.tc_schema_model.specs.SchemaBytes.{node_bytes, item_bytes, fields_bytes, fields_count}
 
 -- how many kinds are counted
@@ -14,24 +16,24 @@ kinds_in c = one_if_some c.nulls + one_if_some c.booleans + one_if_some c.intege
 
 -- a tag and a counter
 abbrev pub tagged : ℕ → ℕ → List ℕ
-tagged tag n = tag ∷ to_be_bytes w64 n
+tagged t n = t ∷ to_be_bytes w64 n
 
 -- a kind with what it holds, where it is counted
 abbrev pub scalar_part : ℕ → ℕ → List ℕ
-scalar_part tag n = if n == 0 then [] else tagged tag n
+scalar_part t n = if n == 0 then [] else tagged t n
 
 abbrev pub array_part : ℕ → Below → List ℕ
-array_part n b = if n == 0 then [] else tagged 5 n ++ item_bytes (item_node_of b)
+array_part n b = if n == 0 then [] else tagged (tag arrays) n ++ item_bytes (item_node_of b)
 
 abbrev pub object_part : ℕ → Fields → List ℕ
-object_part n fs = if n == 0 then [] else tagged 6 n ++ (to_be_bytes w32 (fields_count (field_nodes_of fs)) ++ fields_bytes (field_nodes_of fs))
+object_part n fs = if n == 0 then [] else tagged (tag objects) n ++ (to_be_bytes w32 (fields_count (field_nodes_of fs)) ++ fields_bytes (field_nodes_of fs))
 
 -- what stands before the kinds of a union
 abbrev pub union_part : Counters → List ℕ
-union_part c = if kinds_in c == 1 then [] else tagged 8 (total c) ++ kinds_in c ∷ []
+union_part c = if kinds_in c == 1 then [] else tagged union_tag (total c) ++ kinds_in c ∷ []
 
 abbrev pub scalar_parts : Counters → List ℕ
-scalar_parts c = scalar_part 1 c.nulls ++ (scalar_part 2 c.booleans ++ (scalar_part 3 c.integers ++ scalar_part 4 c.texts))
+scalar_parts c = scalar_part (scalar_tag null_kind) c.nulls ++ (scalar_part (scalar_tag boolean_kind) c.booleans ++ (scalar_part (scalar_tag integer_kind) c.integers ++ scalar_part (scalar_tag text_kind) c.texts))
 
 -- a field
 abbrev pub field_part : ℕ × Counted → List ℕ
