@@ -3,17 +3,23 @@
 use serde_json::Value;
 use std::alloc::Global;
 use tc_json::{JsonFault, doc_of, is_whole, text_of, value_of};
-use tc_value::{Doc, Kind};
+use tc_value::{Doc, Kind, MAX_DEPTH};
 
 /// What a call on documents answers.
 pub(crate) fn answer_of(alloc: Global, call: &str, argument: &str) -> Option<String> {
     match call {
-        "document" => reading(alloc, &Value::from_str(alloc, argument).ok()?),
-        "depth" => depth(alloc, &document(alloc, argument)?),
-        "copy" => copy(alloc, &document(alloc, argument)?),
-        "shape" => shape(alloc, &document(alloc, argument)?),
+        "document" => reading(alloc, argument),
         "same" => same(alloc, argument),
         "tags" => tags(alloc),
+        _ => answer_for(alloc, call, &document(alloc, argument)?),
+    }
+}
+
+fn answer_for(alloc: Global, call: &str, doc: &Doc) -> Option<String> {
+    match call {
+        "depth" => depth(alloc, doc),
+        "copy" => copy(alloc, doc),
+        "shape" => shape(alloc, doc),
         _ => None,
     }
 }
@@ -22,8 +28,12 @@ fn document(alloc: Global, text: &str) -> Option<Doc> {
     doc_of(alloc, &Value::from_str(alloc, text).ok()?).ok()
 }
 
+fn reading(alloc: Global, text: &str) -> Option<String> {
+    judged(alloc, &Value::from_str(alloc, text).ok()?)
+}
+
 // Whether each number of a JSON value is whole, and the document that it means, or why it means none.
-fn reading(alloc: Global, value: &Value) -> Option<String> {
+fn judged(alloc: Global, value: &Value) -> Option<String> {
     let whole = is_whole(value);
     match doc_of(alloc, value) {
         Ok(doc) => written(alloc, whole, value, &doc),
@@ -35,26 +45,30 @@ fn reading(alloc: Global, value: &Value) -> Option<String> {
 // Whether the document's JSON value is this one, and its text.
 fn written(alloc: Global, whole: bool, value: &Value, doc: &Doc) -> Option<String> {
     let same = value_of(alloc, doc).ok()? == *value;
-    format!(in alloc; "{whole} {same} {}\n", text_of(alloc, doc).ok()?.as_str()).ok()
+    let text = text_of(alloc, doc).ok()?;
+    format!(in alloc; "{whole} {same} {}\n", text.as_str()).ok()
 }
 
-// The depth, and the least limit that the document nests within.
+// The depth, and whether the document nests within 0, 1, 2 and 31.
 fn depth(alloc: Global, doc: &Doc) -> Option<String> {
-    let mut limit = 0u32;
-    for _ in 0..33 {
-        if doc.nests_within(limit) {
-            return format!(in alloc; "{} {limit}\n", doc.depth()).ok();
-        }
-        limit += 1;
+    if !doc.nests_within(MAX_DEPTH) {
+        return None;
     }
-    None
+    let within = [
+        doc.nests_within(0),
+        doc.nests_within(1),
+        doc.nests_within(2),
+        doc.nests_within(31),
+    ];
+    format!(in alloc; "{} {within:?}\n", doc.depth()).ok()
 }
 
 // Whether the copy is the same, and its text.
 fn copy(alloc: Global, doc: &Doc) -> Option<String> {
     let copied = doc.copy(alloc).ok()?;
     let same = copied.same(doc);
-    format!(in alloc; "{same} {}\n", text_of(alloc, &copied).ok()?.as_str()).ok()
+    let text = text_of(alloc, &copied).ok()?;
+    format!(in alloc; "{same} {}\n", text.as_str()).ok()
 }
 
 // Whether two documents, between them a space, are the same.

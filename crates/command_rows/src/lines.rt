@@ -1,9 +1,9 @@
 //! Lines: the commands that they ask for.
 
+use crate::replies::line_of;
 use std::alloc::Global;
 use std::fmt::Write;
-use std::str;
-use tc_command::{Ask, Command, Hop, ParseFault, Refusal, Reply, parse, reply_text};
+use tc_command::{Ask, Command, Hop, ParseFault, Refusal, Reply, parse};
 use tc_json::text_of;
 use tc_value::Doc;
 
@@ -32,9 +32,8 @@ pub(crate) fn hex(alloc: Global, digits: &str) -> Option<String> {
 }
 
 fn refused(alloc: Global, refusal: Refusal) -> Option<String> {
-    let reply = reply_text(alloc, &Reply::Refused(refusal)).ok()?;
-    let text = str::from_utf8(reply.as_slice()).ok()?;
-    format!(in alloc; "{} {text}", refusal.number()).ok()
+    let line = line_of(alloc, &Reply::Refused(refusal))?;
+    format!(in alloc; "{} {}", refusal.number(), line.as_str()).ok()
 }
 
 fn shown(alloc: Global, command: &Command) -> Option<String> {
@@ -59,14 +58,18 @@ fn upsert_shown(alloc: Global, key: u64, doc: &Doc) -> Option<String> {
 fn ask_shown(alloc: Global, op: &str, ask: &Ask) -> Option<String> {
     let copied = ask.copy(alloc).ok()?;
     let mut text = String::from_str(alloc, op).ok()?;
-    for hop in copied.path.as_slice() {
-        push_hop(&mut text, hop)?;
-    }
-    if let Some(doc) = &copied.eq {
-        push_compared(alloc, &mut text, doc)?;
-    }
-    text.push('\n').ok()?;
+    push_ask(alloc, &mut text, &copied)?;
     Some(text)
+}
+
+fn push_ask(alloc: Global, text: &mut String, ask: &Ask) -> Option<()> {
+    for hop in ask.path.as_slice() {
+        push_hop(text, hop)?;
+    }
+    match &ask.eq {
+        Some(doc) => push_compared(alloc, text, doc),
+        None => text.push('\n').ok(),
+    }
 }
 
 fn push_hop(text: &mut String, hop: &Hop) -> Option<()> {
@@ -78,5 +81,6 @@ fn push_hop(text: &mut String, hop: &Hop) -> Option<()> {
 }
 
 fn push_compared(alloc: Global, text: &mut String, doc: &Doc) -> Option<()> {
-    write!(text, " eq {}", text_of(alloc, doc).ok()?.as_str()).ok()
+    let written = text_of(alloc, doc).ok()?;
+    write!(text, " eq {}\n", written.as_str()).ok()
 }

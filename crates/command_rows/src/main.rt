@@ -1,6 +1,7 @@
 //! Layer 6, programs: does the public calls on documents, lines, replies and the words of the command line, one a row of
-//! standard input, and prints what they answer. A row is the name of a call and its argument, between them a space; `no answer` stands
-//! for a row out of form, and for one whose calls err. A row that begins with `#` is a note, and is printed as it is.
+//! standard input, and prints what they answer. A row is the name of a call and its argument, between them a space;
+//! `no answer` stands for a row out of form, and for one whose calls err. A row that begins with `#` is a note, and is
+//! printed as it is.
 #![tactic(auto)]
 
 mod documents;

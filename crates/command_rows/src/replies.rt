@@ -12,7 +12,8 @@ pub(crate) fn written(alloc: Global, name: &str) -> Option<String> {
     line_of(alloc, &reply_named(alloc, name)?)
 }
 
-fn line_of(alloc: Global, reply: &Reply) -> Option<String> {
+/// The line of a reply.
+pub(crate) fn line_of(alloc: Global, reply: &Reply) -> Option<String> {
     let line = reply_text(alloc, reply).ok()?;
     String::from_str(alloc, str::from_utf8(line.as_slice()).ok()?).ok()
 }
