@@ -259,7 +259,7 @@ def parts_are_used(house):
         if path.endswith(".antt") and not path.endswith((*ANSWERS, "Lib.antt")):
             for it in NAME.finditer(text):
                 name, deep = it[2] or it[3], len(it[1])
-                heads = re.findall(rf"^ {{{deep}}}(?:pub )?{re.escape(name)}(?=[ :\n])", text, re.M)
+                heads = re.findall(rf"^ {{{deep}}}(?:pub )?{re.escape(name)}(?: :| [^\n]*=$| [^\n]* = )", text, re.M)
                 if deep and every[name] == words[path][name] <= len(heads):
                     yield f"{path}:{line_of(text, it.start())}: {name} stands nowhere else"
 
