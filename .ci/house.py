@@ -251,17 +251,24 @@ def names_are_used(house):
         yield f"{path}:{line}: nothing uses {', '.join(sorted(names))}"
 
 
-def parts_are_used(house):
-    """Each part of a definition (a field, a constructor, a function behind `where`) stands somewhere besides itself."""
+def steps_are_used(house):
+    """Each function behind a `where` is used."""
     words = {path: collections.Counter(WORD.findall(text)) for path, text in house.text.items()}
     every = sum(words.values(), collections.Counter())
     for path, text in house.text.items():
-        if path.endswith(".antt") and not path.endswith((*ANSWERS, "Lib.antt")):
-            for it in NAME.finditer(text):
-                name, deep = it[2] or it[3], len(it[1])
-                heads = re.findall(rf"^ {{{deep}}}(?:pub )?{re.escape(name)}(?: :| [^\n]*=$| [^\n]* = )", text, re.M)
-                if deep and every[name] == words[path][name] <= len(heads):
-                    yield f"{path}:{line_of(text, it.start())}: {name} stands nowhere else"
+        if not path.endswith(".antt") or path.endswith((*ANSWERS, "Lib.antt")):
+            continue
+        lines = text.split("\n")
+        for number, line in enumerate(lines):
+            found = re.match(r"( +)([A-Za-z_][\w'/-]*) :(?=\s)", line)
+            if not found:
+                continue
+            deep, name = len(found[1]), found[2]
+            above = (it for it in reversed(lines[:number]) if it.strip() and len(it) - len(it.lstrip()) < deep)
+            if next(above, "").strip() == "where":
+                heads = re.findall(rf"^ {{{deep}}}{re.escape(name)}(?: :| [^\n]*=$| [^\n]* = )", text, re.M)
+                if every[name] == words[path][name] <= len(heads):
+                    yield f"{path}:{number + 1}: nothing uses {name}"
 
 
 HEAD = re.compile(r"^( *)(?:abbrev )?(?:pub )?([A-Za-z_][\w'/◌+≡-]*) : (.*)$")
@@ -365,7 +372,7 @@ LOOKS = (
     lemmas_on_private_types_stay,
     contracts_cite_no_proofs,
     names_are_used,
-    parts_are_used,
+    steps_are_used,
     statements_stand_once,
     edits_are_few,
     edits_apply,
