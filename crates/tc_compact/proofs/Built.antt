@@ -1,7 +1,7 @@
 -- A record that was written part by part.
 use Rattle.std.proofs.Common.{◌≡◌, ◌∙◌, ℕ, ◌+◌, ◌-◌, ◌*◌, ◌^◌, min, List, ◌++◌, length, map, ap, arith, append_assoc, length-append}
 use Rattle.tc_record.specs.Record.{width, numbers, joined}
-use Rattle.tc_record.proofs.Lengths.{length-numbers}
+use Rattle.tc_record.proofs.NumberLengths.{length-numbers}
 use Rattle.tc_compact.specs.Layout.{front, named_slots, named_record, numbered_record}
 
 -- the bytes of the slots of form 0 and of the names

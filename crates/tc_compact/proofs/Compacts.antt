@@ -11,7 +11,7 @@ use Rattle.tc_record.specs.Record.{labels, width, numbers, joined, record_bytes,
 use Rattle.tc_record.specs.Walk.{Key, name}
 use Rattle.tc_record.specs.Borrowed.{Record, Spells, named_tokens, numbered_tokens}
 use Rattle.tc_record.proofs.Reading.{document_again, numbered_again}
-use Rattle.tc_record.proofs.Lengths.{length-numbers}
+use Rattle.tc_record.proofs.NumberLengths.{length-numbers}
 use Rattle.tc_record.proofs.Keyed.{preorder-relabel}
 use Rattle.tc_schema_model.specs.Added as counts
 use Rattle.tc_compact.specs.Compacted.{IsCompactedRecordOf}

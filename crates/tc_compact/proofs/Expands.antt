@@ -20,7 +20,7 @@ use Rattle.tc_record.proofs.Fitting.{AreFit, TokensFit}
 use Rattle.tc_record.proofs.Counted.{same_numbers}
 use Rattle.tc_record.proofs.Cutting.{sections_again}
 use Rattle.tc_record.proofs.Reading.{holding_bytes, holding_fits, lengths_small, small_texts, format_for}
-use Rattle.tc_record.proofs.Lengths.{length-numbers}
+use Rattle.tc_record.proofs.NumberLengths.{length-numbers}
 use Rattle.tc_schema_model.specs.Added as counts
 use Rattle.tc_compact.specs.Compacted.{compacted, IsCompactedRecordOf}
 use Rattle.tc_model.specs.KnownNames.{HasEach}

@@ -5,7 +5,7 @@ use Rattle.std.proofs.Math.Seq.{take-append_seam}
 use Rattle.tc_model.specs.Document.{Scalar}
 use Rattle.tc_record.specs.Preorder.{Token}
 use Rattle.tc_record.specs.Record.{tags, fixed, texts, greatest, width, numbers, joined, body, record_bytes}
-use Rattle.tc_record.proofs.Lengths.{length-numbers}
+use Rattle.tc_record.proofs.NumberLengths.{length-numbers}
 use Rattle.tc_compact.specs.Layout.{counts_in, values_in, whole}
 
 module _ {L : Type 0} where

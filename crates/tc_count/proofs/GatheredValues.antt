@@ -5,7 +5,8 @@ use Rattle.tc_model.specs.Document.{Name, ShapeTree, ScalarKind}
 use Rattle.tc_model.specs.Kinds.{Kind, kind_of, is_kind}
 use Rattle.tc_model.specs.TreeSize.{tree_size, items_size, members_size, trees_size, labelled_size}
 use Rattle.tc_schema_model.specs.Occurrences.{field, each_item, Path, occurrences, items_occurrences, members_occurrences}
-use Rattle.tc_count.specs.Gathered.{items_held, members_held, items_among, members_among, values_named}
+use Rattle.tc_count.specs.Gathered.{items_among, members_among, values_named}
+use Rattle.tc_schema_model.specs.SchemaText.{items_in, members_in}
 
 -- ---- what occurs
 
@@ -31,25 +32,25 @@ again_members : (ms : Members Name ScalarKind) → members_of (listed_members ms
 again_members no_members = refl
 again_members (member name s ms) = ap (member name s) (again_members ms)
 
-items_held_occur : (s : ShapeTree) (path : Path) (t : Kind) → items_occurrences (items_of (items_held s)) path t ≡ occurrences s (each_item ∷ path) t
+items_held_occur : (s : ShapeTree) (path : Path) (t : Kind) → items_occurrences (items_of (items_in s)) path t ≡ occurrences s (each_item ∷ path) t
 items_held_occur (leaf k) path t = refl
 items_held_occur (array xs) path t = ap (λ ys. items_occurrences ys path t) (again_items xs)
 items_held_occur (object ms) path t = refl
 
-members_held_occur : (s : ShapeTree) (name : Name) (path : Path) (t : Kind) → members_occurrences (members_of (members_held s)) name path t ≡ occurrences s (field name ∷ path) t
+members_held_occur : (s : ShapeTree) (name : Name) (path : Path) (t : Kind) → members_occurrences (members_of (members_in s)) name path t ≡ occurrences s (field name ∷ path) t
 members_held_occur (leaf k) name path t = refl
 members_held_occur (array xs) name path t = refl
 members_held_occur (object ms) name path t = ap (λ ns. members_occurrences ns name path t) (again_members ms)
 
 pub items_among_occur : (ss : List ShapeTree) (path : Path) (t : Kind) → items_occurrences (items_of (items_among ss)) path t ≡ items_occurrences (items_of ss) (each_item ∷ path) t
 items_among_occur [] path t = refl
-items_among_occur (s ∷ ss) path t = omega (arith, items_occur-append (items_held s) (items_among ss) path t, items_held_occur s path t, items_among_occur ss path t)
+items_among_occur (s ∷ ss) path t = omega (arith, items_occur-append (items_in s) (items_among ss) path t, items_held_occur s path t, items_among_occur ss path t)
 
 pub members_among_occur : (ss : List ShapeTree) (name : Name) (path : Path) (t : Kind)
     → members_occurrences (members_of (members_among ss)) name path t ≡ items_occurrences (items_of ss) (field name ∷ path) t
 members_among_occur [] name path t = refl
 members_among_occur (s ∷ ss) name path t =
-    omega (arith, members_occur-append (members_held s) (members_among ss) name path t, members_held_occur s name path t, members_among_occur ss name path t)
+    omega (arith, members_occur-append (members_in s) (members_among ss) name path t, members_held_occur s name path t, members_among_occur ss name path t)
 
 pub values_named_occur : (name : Name) (ms : List (Name × ShapeTree)) (path : Path) (t : Kind) → items_occurrences (items_of (values_named name ms)) path t ≡ members_occurrences (members_of ms) name path t
 values_named_occur name [] path t = refl
@@ -70,7 +71,7 @@ size-append_members : (ms ns : List (Name × ShapeTree)) → labelled_size (ms +
 size-append_members [] ns = omega arith
 size-append_members (m ∷ ms) ns = omega (arith, size-append_members ms ns)
 
-size-held : (s : ShapeTree) → trees_size (items_held s) + labelled_size (members_held s) + 1 ≡ tree_size s
+size-held : (s : ShapeTree) → trees_size (items_in s) + labelled_size (members_in s) + 1 ≡ tree_size s
 size-held (leaf k) = refl
 size-held (array xs) = omega (arith, ap items_size (again_items xs))
 size-held (object ms) = omega (arith, ap members_size (again_members ms))
@@ -79,7 +80,7 @@ size-held (object ms) = omega (arith, ap members_size (again_members ms))
 pub size-among : (ss : List ShapeTree) → trees_size (items_among ss) + labelled_size (members_among ss) + length ss ≡ trees_size ss
 size-among [] = refl
 size-among (s ∷ ss) =
-    omega (arith, size-append (items_held s) (items_among ss), size-append_members (members_held s) (members_among ss), size-held s, size-among ss)
+    omega (arith, size-append (items_in s) (items_among ss), size-append_members (members_in s) (members_among ss), size-held s, size-among ss)
 
 pub size-named : (name : Name) (ms : List (Name × ShapeTree)) → trees_size (values_named name ms) ≤ labelled_size ms
 size-named name [] = omega arith

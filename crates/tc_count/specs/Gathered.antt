@@ -1,28 +1,17 @@
 -- Values gathered from shapes: the items of all arrays among them, the members of all objects, and of members the values
 -- of one name.
 use Rattle.std.specs.Prelude.{List, [], ◌∷◌, ◌++◌, bytes_eq, if◌then◌else◌}
-use Rattle.tc_model.specs.Tree.{leaf, array, object, listed_items, listed_members}
 use Rattle.tc_model.specs.Document.{Name, ShapeTree}
-
--- what one value holds
-abbrev pub items_held : ShapeTree → List ShapeTree
-items_held (leaf k) = []
-items_held (array xs) = listed_items xs
-items_held (object ms) = []
-
-abbrev pub members_held : ShapeTree → List (Name × ShapeTree)
-members_held (leaf k) = []
-members_held (array xs) = []
-members_held (object ms) = listed_members ms
+use Rattle.tc_schema_model.specs.SchemaText.{items_in, members_in}
 
 -- what all of them hold
 abbrev pub items_among : List ShapeTree → List ShapeTree
 items_among [] = []
-items_among (s ∷ ss) = items_held s ++ items_among ss
+items_among (s ∷ ss) = items_in s ++ items_among ss
 
 abbrev pub members_among : List ShapeTree → List (Name × ShapeTree)
 members_among [] = []
-members_among (s ∷ ss) = members_held s ++ members_among ss
+members_among (s ∷ ss) = members_in s ++ members_among ss
 
 -- the values of one name
 abbrev pub values_named : Name → List (Name × ShapeTree) → List ShapeTree

@@ -6,7 +6,8 @@ ghost use Rattle.tc_schema_model.specs.Counted.{total};
 ghost use Rattle.tc_value.specs.ShapeMeaning.{shape_tree, shape_member};
 ghost use Rattle.tc_value.specs.Kinds.{kind_meant};
 ghost use Rattle.tc_count.specs.Counting.{CountKinds};
-ghost use Rattle.tc_count.specs.Gathered.{items_held, members_held, items_among, members_among, values_named};
+ghost use Rattle.tc_count.specs.Gathered.{items_among, members_among, values_named};
+ghost use Rattle.tc_schema_model.specs.SchemaText.{items_in, members_in};
 
 use std::alloc::{AllocError, Global};
 use tc_schema::Counts;
@@ -49,7 +50,7 @@ pub fn items_among(values: &[Shape], alloc: Global) -> Result<Vec<Shape>, AllocE
 }
 
 fn push_items(value: &Shape, items: &mut Vec<Shape>, alloc: Global) -> Result<(), AllocError>
-    ensures { OnOk result (map shape_tree items.new.items ≡ map shape_tree items.old.items ++ items_held (shape_tree value.now)) }
+    ensures { OnOk result (map shape_tree items.new.items ≡ map shape_tree items.old.items ++ items_in (shape_tree value.now)) }
 {
     match value {
         Shape::Array(held) => push_shapes(held.as_slice(), items, alloc),
@@ -82,7 +83,7 @@ fn push_members(
     members: &mut Vec<ShapeMember>,
     alloc: Global,
 ) -> Result<(), AllocError>
-    ensures { OnOk result (map shape_member members.new.items ≡ map shape_member members.old.items ++ members_held (shape_tree value.now)) }
+    ensures { OnOk result (map shape_member members.new.items ≡ map shape_member members.old.items ++ members_in (shape_tree value.now)) }
 {
     match value {
         Shape::Object(held) => push_each(held.as_slice(), members, alloc),

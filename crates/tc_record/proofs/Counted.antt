@@ -14,7 +14,7 @@ use Rattle.tc_record.specs.Widths.{width_bytes}
 use Rattle.tc_record.specs.Record.{greatest, width, width_of, numbers, joined}
 use Rattle.tc_record.specs.Walk.{sized_number_at}
 use Rattle.tc_record.specs.Sections.{width_from, scan_at, Numbers, least_width, numbers_at}
-use Rattle.tc_record.proofs.Lengths.{length-numbers}
+use Rattle.tc_record.proofs.NumberLengths.{length-numbers}
 use Rattle.tc_record.proofs.Sized.{sized_codec}
 use Rattle.tc_record.proofs.Labels.{if_parts}
 use Rattle.tc_record.proofs.Fitting.{AreFit}

@@ -1,22 +1,14 @@
 -- How long a record is, and that its measure says so.
 use Rattle.std.proofs.Common.{◌≡◌, ◌∙◌, ◌<◌, ◌≤◌, ◌+◌, ◌-◌, ◌*◌, ◌^◌, ℕ, zero, suc, min, max, if◌then◌else◌, ◌==◌, nat_lt, refl, sym, ap, List, [], ◌∷◌, ◌++◌, length, map, None, Some, Option, option_to_list, IfSome, IfNone, arith, length-append}
-use Rattle.std.specs.Int.{bytes_high_first}
 use Rattle.std.proofs.lemmas.Bool.Decides.{nat_tests}
 use Rattle.std.proofs.lemmas.List.{map-append}
 use Rattle.tc_model.specs.Document.{Name, Document, Scalar}
 use Rattle.tc_record.specs.Preorder.{Token, tokens_of}
+use Rattle.tc_record.proofs.NumberLengths.{length-numbers}
 use Rattle.tc_record.specs.declared.measure.ColumnSum.{ColumnSum}
 use Rattle.tc_record.specs.declared.measure.Measure.{Measure}
 use Rattle.tc_record.specs.Record.{piece_text, piece_fixed, tags, fixed, texts, labels, greatest, width, width_of, numbers, joined, record_bytes, record_of}
 use Rattle.tc_record.specs.Measured.{sum_within, with_element, with_elements, with_label, with_piece, measured, no_elements, nothing_measured, column_width, column_len, record_len}
-
-length-bytes_high_first : (w n : ℕ) → length (bytes_high_first w n) ≡ w
-length-bytes_high_first zero n = refl
-length-bytes_high_first (suc w) n = ap suc (length-bytes_high_first w n)
-
-pub length-numbers : (w : ℕ) (ns : List ℕ) → length (numbers w ns) ≡ length ns * w
-length-numbers w [] = omega arith
-length-numbers w (n ∷ ns) = grind (arith, length-append (bytes_high_first w n) (numbers w ns), length-bytes_high_first w n, length-numbers w ns)
 
 -- ---- columns
 

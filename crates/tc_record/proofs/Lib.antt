@@ -1,4 +1,5 @@
 pub mod Measuring
+pub mod NumberLengths
 pub mod Lengths
 pub mod Encoded
 pub mod Utf8

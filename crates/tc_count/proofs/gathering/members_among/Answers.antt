@@ -1,6 +1,7 @@
 use Rattle.std.proofs.Common.{◌+◌, ◌++◌, map, drop, sym, ap, ◌∙◌, append_assoc}
 use Rattle.tc_value.specs.ShapeMeaning.{shape_tree, shape_member}
-use Rattle.tc_count.specs.Gathered.{members_held, members_among}
+use Rattle.tc_count.specs.Gathered.{members_among}
+use Rattle.tc_schema_model.specs.SchemaText.{members_in}
 use Rattle.tc_count.proofs.Walks.{map_from}
 use Rattle.tc_count.proofs.gathering.members_among.Goals as goal
 
@@ -11,4 +12,4 @@ loop-value-preserved c =
     let old = map shape_member l.members.items in
     let rest = members_among (map shape_tree (drop (l.value-index + 1) c.args.values.now)) in
     let here = map_from shape_tree c.args.values.now l.value-index x c.loop-value-test.true c.value-item.is in
-    ap (λ members. members ++ rest) c.in_ok-push_members.ensures ∙ append_assoc old (members_held (shape_tree x)) rest ∙ ap (λ ss. old ++ members_among ss) (sym here) ∙ l.invariant
+    ap (λ members. members ++ rest) c.in_ok-push_members.ensures ∙ append_assoc old (members_in (shape_tree x)) rest ∙ ap (λ ss. old ++ members_among ss) (sym here) ∙ l.invariant

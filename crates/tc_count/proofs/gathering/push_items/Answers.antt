@@ -3,7 +3,7 @@ use Rattle.std.proofs.lemmas.Result.{IfOk-weaker}
 use Rattle.tc_model.specs.Tree.{array, items_of, listed_items}
 use Rattle.tc_value.specs.ShapeMeaning.{shape_tree}
 use Rattle.tc_model.proofs.TreeLists.{same_array}
-use Rattle.tc_count.specs.Gathered.{items_held}
+use Rattle.tc_schema_model.specs.SchemaText.{items_in}
 use Rattle.tc_count.proofs.GatheredValues.{again_items}
 use Rattle.tc_count.proofs.gathering.push_items.Goals as goal
 
@@ -15,6 +15,6 @@ returns-in-Array c =
     let listed : listed_items (items_of slice) ≡ slice = same_array (listed_items (items_of slice)) slice (ap array (again_items (items_of slice))) in
     IfOk-weaker c.push_shapes.result
     (λ _. map shape_tree c.push_shapes.new.all.items ≡ old ++ slice)
-    (λ _. map shape_tree c.push_shapes.new.all.items ≡ old ++ items_held (shape_tree c.args.value.now))
-    (λ _ is. is ∙ ap (λ items. old ++ items) (sym (ap items_held whole ∙ listed)))
+    (λ _. map shape_tree c.push_shapes.new.all.items ≡ old ++ items_in (shape_tree c.args.value.now))
+    (λ _ is. is ∙ ap (λ items. old ++ items) (sym (ap items_in whole ∙ listed)))
     c.push_shapes.ensures
