@@ -29,7 +29,7 @@ get_member-whole : (n : List ℕ) (ms : Members) → is_some (members_meant ms) 
 get_member-whole n no_members h = tt
 get_member-whole n (member l d ms) h =
     let parts = both_whole (document_of d) (members_meant ms) (member_of l) h in
-    at_order (slice_cmp nat_cmp n l) parts.0 (get_member-whole n ms parts.1)
+    let later = get_member-whole n ms parts.1 in at_order (slice_cmp nat_cmp n l) parts.0 later
   where
     at_order : (o : Ordering) → IsTrue (is_whole d) → IfSome (get_member n ms) (λ e. IsTrue (is_whole e))
         → IfSome (match_ordering o (get_member n ms) (Some d) (get_member n ms)) (λ e. IsTrue (is_whole e))
