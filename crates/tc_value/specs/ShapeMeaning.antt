@@ -1,6 +1,6 @@
 -- The tree that a shape is.
 use Rattle.tc_model.specs.Tree.{leaf, array, object, items_of, members_of}
-use Rattle.tc_model.specs.Document.{Name, Document, ShapeTree, document_shape, null_kind, boolean_kind, integer_kind, text_kind}
+use Rattle.tc_model.specs.Document.{Name, ShapeTree, null_kind, boolean_kind, integer_kind, text_kind}
 use Rattle.tc_value.specs.declared.shape_tree.Shape.{Shape}
 use Rattle.tc_value.specs.declared.shape_tree.Shape.TheVariants.{Null, Bool, Int, Text, Array, Object}
 use Rattle.tc_value.specs.declared.shape_tree.ShapeMember.{ShapeMember}
