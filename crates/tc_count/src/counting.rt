@@ -41,11 +41,7 @@ pub fn place_of(values: &[Shape], names: &Names, alloc: Global) -> Result<Node, 
 
 /// The place of items, if there are any.
 #[cycle(counting)]
-fn item_of(
-    items: &[Shape],
-    names: &Names,
-    alloc: Global,
-) -> Result<Option<Box<Node>>, AllocError>
+fn item_of(items: &[Shape], names: &Names, alloc: Global) -> Result<Option<Box<Node>>, AllocError>
     requires numbered { IsZeroUnnumbered names.now (items_occurrences (items_of (map shape_tree items.now))) }
     ensures shown { IfOk result (λ item. Shows names.now (held (below_counted item)) (items_occurrences (items_of (map shape_tree items.now)))) }
     ensures canonical { IfOk result (λ item. IsBelowCanonical (length names.now) (below_counted item)) }

@@ -9,7 +9,6 @@ mod naming;
 pub use inferring::{Inferred, infer};
 
 #[cfg(test)]
-mod tests;
-
-#[cfg(test)]
 mod layer_tests;
+#[cfg(test)]
+mod tests;
