@@ -1,5 +1,5 @@
 -- What occurs in values that were gathered occurs in those that they were gathered from, and they are fewer.
-use Rattle.std.proofs.Common.{◌≡◌, ◌+◌, ◌≤◌, Bool, true, false, List, [], ◌∷◌, ◌++◌, length, bytes_eq, if◌then◌else◌, refl, ap, ◌∙◌, arith}
+use Rattle.std.proofs.Common.{◌≡◌, ◌+◌, ◌≤◌, Bool, true, false, List, [], ◌∷◌, ◌++◌, length, bytes_eq, if◌then◌else◌, refl, ap, arith}
 use Rattle.tc_model.specs.Tree.{leaf, array, object, Items, no_items, item, Members, no_members, member, items_of, members_of, listed_items, listed_members}
 use Rattle.tc_model.specs.Document.{Name, ShapeTree, ScalarKind}
 use Rattle.tc_model.specs.Kinds.{Kind, kind_of, is_kind}

@@ -1,16 +1,16 @@
 -- A place shows the values that its counters, its items and its fields were grouped from, and is in the one form.
-use Rattle.std.proofs.Common.{◌≡◌, ◌⊎◌, inl, inr, ℕ, ◌+◌, ◌<◌, ◌≤◌, List, [], ◌∷◌, ◌++◌, Option, None, Some, length, map, bytes_eq, refl, sym, ap, ◌∙◌, subst, arith}
+use Rattle.std.proofs.Common.{◌≡◌, ◌⊎◌, inl, inr, ℕ, ◌+◌, ◌<◌, ◌≤◌, List, [], ◌∷◌, ◌++◌, Option, None, Some, length, bytes_eq, refl, sym, ap, ◌∙◌, subst, arith}
 use Rattle.std.specs.List.{IsDistinct}
 use Rattle.std.specs.Prelude.{slice_get}
 use Rattle.std.proofs.lemmas.Bool.{cases_lt}
 use Rattle.std.proofs.lemmas.Option.{same_Some}
 use Rattle.tc_model.specs.Tree.{array, Items, items_of, members_of}
-use Rattle.tc_model.specs.Document.{Name, Document, ShapeTree, ScalarKind, document_shape}
+use Rattle.tc_model.specs.Document.{Name, ShapeTree, ScalarKind}
 use Rattle.tc_model.specs.Dictionary.{number_of, all_learned}
-use Rattle.tc_model.specs.ShapeNames.{names_of_items, names_within, names_of_documents}
+use Rattle.tc_model.specs.ShapeNames.{names_of_items}
 use Rattle.tc_model.specs.Kinds.{Kind, arrays, objects}
-use Rattle.tc_schema_model.specs.Occurrences.{field, each_item, Path, items_occurrences, members_occurrences, count, occurrences}
-use Rattle.tc_schema_model.specs.Counted.{Counters, Counted, counted, counter, Below, no_item, Fields, no_fields, a_field, held, below_of, fields_of, field_at, numbered_field, documents_of, shows, IsCanonical, IsBelowCanonical, AreFieldsCanonical}
+use Rattle.tc_schema_model.specs.Occurrences.{field, each_item, Path, items_occurrences, members_occurrences}
+use Rattle.tc_schema_model.specs.Counted.{Counters, Counted, counted, Below, no_item, Fields, no_fields, a_field, held, below_of, fields_of, field_at, numbered_field, shows, IsCanonical, IsBelowCanonical, AreFieldsCanonical}
 use Rattle.tc_schema_model.specs.Added.{items_added, AreItemsNamed}
 use Rattle.tc_schema_model.proofs.AddedLaws.{shows-items_added}
 use Rattle.tc_schema_model.proofs.CountingLaws.{shows_nothing, at_first, after_first}

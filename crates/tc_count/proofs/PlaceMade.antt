@@ -1,5 +1,5 @@
 -- What a place counts that is made of its parts.
-use Rattle.std.proofs.Common.{◌≡◌, List, Option, refl, ◌∙◌}
+use Rattle.std.proofs.Common.{◌≡◌, Option, refl, ◌∙◌}
 use Rattle.std.specs.declared.alloc.Global.{Global}
 use Rattle.std.specs.declared.boxed.Box.{Box}
 use Rattle.tc_schema_model.specs.Counted.{Counters, counted}

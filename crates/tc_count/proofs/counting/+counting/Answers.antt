@@ -1,17 +1,14 @@
-use Rattle.std.proofs.Common.{◌≡◌, ℕ, ◌+◌, ◌-◌, ◌*◌, ◌<◌, ◌++◌, ◌∷◌, [], Some, option_map, length, map, sym, ap, ◌∙◌, subst, arith}
+use Rattle.std.proofs.Common.{◌≡◌, ℕ, ◌+◌, ◌-◌, ◌<◌, ◌++◌, ◌∷◌, Some, option_map, length, map, sym, ap, ◌∙◌, subst, arith}
 use Rattle.std.specs.Prelude.{slice_get}
 use Rattle.std.proofs.lemmas.List.{length-map}
-use Rattle.tc_model.specs.Document.{Name}
-use Rattle.tc_model.specs.Kinds.{Kind}
 use Rattle.tc_model.specs.Tree.{items_of, members_of}
 use Rattle.tc_model.specs.TreeSize.{trees_size, labelled_size}
-use Rattle.tc_schema_model.specs.Counted.{Counted, a_field, shows, documents_of, IsCanonical}
-use Rattle.tc_schema_model.specs.Occurrences.{Path, field, items_occurrences, members_occurrences}
+use Rattle.tc_schema_model.specs.Counted.{Counted, a_field}
+use Rattle.tc_schema_model.specs.Occurrences.{field, items_occurrences, members_occurrences}
 use Rattle.tc_schema_model.proofs.CountingLaws.{shows_nothing}
 use Rattle.tc_value.specs.ShapeMeaning.{shape_tree, shape_member}
 use Rattle.tc_schema.specs.Places.{place_counted, below_counted, fields_counted}
 use Rattle.tc_schema.proofs.PlaceViews.{field_made}
-use Rattle.tc_count.specs.Counting.{Shows}
 use Rattle.tc_count.specs.Gathered.{items_among, members_among, values_named}
 use Rattle.tc_count.proofs.GatheredValues.{size-among, size-named, values_named_occur}
 use Rattle.tc_count.proofs.Grouping.{zero_items, zero_members, grouped_shows, grouped_canonical, further_canonical, first_shows, none_shows, no_fields_show}
@@ -104,7 +101,7 @@ put_first-returns-then-is_empty-clause-shown t c =
     let stands : slice_get names c.args.number ≡ Some first = sym c.name_of.ensures.name ∙ ap (option_map (λ name. name.now)) c.unwrap-name.ensures in
     let none = none_there c.as_slice.result.now c.is_empty.result c.is_empty.ensures c.if-is_empty.true in
     none_shows names (members_occurrences (members_of ms)) (length names) c.args.number first fields stands c.requires.canonical c.requires.shown (λ path t.
-        sym (values_named_occur first ms path t) ∙ ap (λ values. items_occurrences (items_of values) path t) (sym c.in_ok-values.ensures ∙ ap (map shape_tree) (sym c.as_slice.ensures.value ∙ none)))
+    sym (values_named_occur first ms path t) ∙ ap (λ values. items_occurrences (items_of values) path t) (sym c.in_ok-values.ensures ∙ ap (map shape_tree) (sym c.as_slice.ensures.value ∙ none)))
 
 pub put_first-returns-then-is_empty-clause-canonical : goal.put_first-returns-then-is_empty-clause-canonical
 put_first-returns-then-is_empty-clause-canonical t c = further_canonical (length c.args.names.now) c.args.number (fields_counted c.args.fields.now.items) c.requires.canonical
@@ -124,4 +121,4 @@ put_first-returns-clause-shown t c =
     ap fields_counted c.in_ok-insert.ensures.items
     ∙ ap (λ f. a_field f.0 f.1 fields) (field_made n c.in_ok-node.node ∙ ap (λ e. let pair : ℕ × Counted = (n, place_counted e) in pair) c.in_ok-node.ensures.ok) in
     rw (written) (first_shows names (members_occurrences (members_of ms)) n first d fields stands c.requires.shown (λ path t.
-        c.in_ok-place.ensures.shown path t ∙ ap (λ values. items_occurrences (items_of values) path t) here ∙ values_named_occur first ms path t))
+    c.in_ok-place.ensures.shown path t ∙ ap (λ values. items_occurrences (items_of values) path t) here ∙ values_named_occur first ms path t))

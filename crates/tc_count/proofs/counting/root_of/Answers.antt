@@ -1,4 +1,4 @@
-use Rattle.std.proofs.Common.{◌≡◌, [], map, sym, ap, ◌∙◌}
+use Rattle.std.proofs.Common.{map, sym, ap, ◌∙◌}
 use Rattle.tc_model.specs.Tree.{items_of}
 use Rattle.tc_schema_model.specs.Counted.{shows}
 use Rattle.tc_schema_model.specs.Occurrences.{items_occurrences}

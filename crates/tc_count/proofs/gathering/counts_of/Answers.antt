@@ -1,4 +1,4 @@
-use Rattle.std.proofs.Common.{◌≡◌, ℕ, ◌+◌, [], if◌then◌else◌, ap, ◌∙◌, arith}
+use Rattle.std.proofs.Common.{ℕ, [], if◌then◌else◌, ap, ◌∙◌, arith}
 use Rattle.tc_model.specs.Kinds.{is_kind}
 use Rattle.tc_schema_model.specs.Counted.{counter, total}
 use Rattle.tc_schema_model.specs.Occurrences.{items_occurrences}

@@ -1,8 +1,7 @@
-use Rattle.std.proofs.Common.{◌≡◌, ◌<◌, ◌^◌, [], List, length, map, sym, ap, ◌∙◌, subst, arith}
+use Rattle.std.proofs.Common.{◌≡◌, ◌<◌, ◌^◌, [], length, map, sym, ap, ◌∙◌, subst, arith}
 use Rattle.std.specs.List.{AllByRecursion}
 use Rattle.std.proofs.lemmas.List.Elements.{recursion_from_All}
 use Rattle.tc_model.specs.Tree.{items_of}
-use Rattle.tc_model.specs.Document.{Name, document_shape}
 use Rattle.tc_model.specs.Dictionary.{all_learned}
 use Rattle.tc_model.specs.ShapeNames.{names_of_items, names_of_documents}
 use Rattle.tc_schema_model.specs.Counted.{shows, IsCanonical}

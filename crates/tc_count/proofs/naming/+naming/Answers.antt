@@ -1,9 +1,8 @@
-use Rattle.std.proofs.Common.{◌≡◌, ◌+◌, ◌∷◌, [], ◌++◌, map, drop, sym, ap, ◌∙◌, append_assoc, arith}
-use Rattle.tc_model.specs.Tree.{array, object, items_of, members_of}
-use Rattle.tc_model.specs.ShapeNames.{names_within, names_of_items, names_of_members}
-use Rattle.tc_model.specs.TreeSize.{tree_size}
-use Rattle.tc_value.specs.ShapeMeaning.{shape_tree, shape_member}
-use Rattle.tc_value.proofs.ShapeWalks.{items_from, members_from, item_size, member_size}
+use Rattle.std.proofs.Common.{◌+◌, ◌++◌, map, drop, sym, ap, ◌∙◌, append_assoc, arith}
+use Rattle.tc_model.specs.Tree.{items_of}
+use Rattle.tc_model.specs.ShapeNames.{names_within, names_of_items}
+use Rattle.tc_value.specs.ShapeMeaning.{shape_tree}
+use Rattle.tc_value.proofs.ShapeWalks.{items_from, item_size, member_size}
 use Rattle.tc_count.proofs.naming.+naming.Goals as goal
 
 pub push_names_of_items-push_names-requires : goal.push_names_of_items-push_names-requires

@@ -1,8 +1,7 @@
-use Rattle.std.proofs.Common.{◌≡◌, ◌<◌, ◌^◌, [], length, map, ap, ◌∙◌, subst, arith}
+use Rattle.std.proofs.Common.{◌<◌, ◌^◌, [], length, map, ap, ◌∙◌, subst, arith}
 use Rattle.std.specs.List.{AllByRecursion}
 use Rattle.std.proofs.lemmas.List.Elements.{All-from_recursion}
 use Rattle.tc_model.specs.Tree.{array, items_of}
-use Rattle.tc_model.specs.Document.{document_shape}
 use Rattle.tc_model.specs.Dictionary.{all_learned}
 use Rattle.tc_model.specs.ShapeNames.{names_of_items, names_of_documents}
 use Rattle.tc_model.specs.TreeSize.{tree_size}

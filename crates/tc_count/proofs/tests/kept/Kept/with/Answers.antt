@@ -1,4 +1,4 @@
-use Rattle.std.proofs.Common.{◌≤◌, sym, ap, subst, map, arith}
+use Rattle.std.proofs.Common.{sym, ap, subst, map, arith}
 use Rattle.tc_schema_model.specs.Stands.{StandsFor}
 use Rattle.tc_schema_model.specs.Values.{values_in}
 use Rattle.tc_schema_model.proofs.ValueBounds.{total-stands}
