@@ -1,0 +1,49 @@
+-- A partition of a world stores what its writes leave of what it stored when the run began.
+use Rattle.std.proofs.Common.{◌≡◌, ℕ, zero, suc, Bool, true, false, List, [], ◌∷◌, refl, ap, sym, ◌∙◌}
+use Rattle.std.specs.Prelude.{Option, Some, is_some, length, map, if◌then◌else◌}
+use Rattle.std.specs.List.{AllByRecursion}
+use Rattle.tc_model.specs.Request.{Request, upsert, delete, get, query, flush, schema, scan, collect, refused}
+use Rattle.tc_plain_model.specs.Writes.{after_writes}
+use Rattle.tc_plain_model.specs.Store.{Store}
+use Rattle.tc_plain_model.specs.Part.{Limits, part_writes}
+use Rattle.tc_plain_model.proofs.WriteLaws.{part_left-writes, after_writes-append}
+use Rattle.tc_run_model.specs.World.{Part, Scan, World, first_world, home_of, part_after, changed_at, after, after_all}
+
+abbrev pub StandsOnWrites : Part → Type 0
+StandsOnWrites part = part.now.pairs ≡ after_writes part.opened part.writes
+
+abbrev pub AllStand : World → Type 0
+AllStand w = AllByRecursion StandsOnWrites w.parts
+
+pub first_stands : (limits : Limits) (stores : List Store) → AllStand (first_world limits stores)
+first_stands limits [] = tt
+first_stands limits (s ∷ stores) = (refl, first_stands limits stores)
+
+part_stands : (limits : Limits) (r : Request) (part : Part) → StandsOnWrites part → StandsOnWrites (part_after limits r part)
+part_stands limits r part stands =
+    part_left-writes limits r part.now ∙ ap (λ ps. after_writes ps (part_writes limits r part.now)) stands ∙ sym (after_writes-append part.opened part.writes (part_writes limits r part.now))
+
+changed_stands : (limits : Limits) (r : Request) (p : ℕ) (parts : List Part) → AllByRecursion StandsOnWrites parts → AllByRecursion StandsOnWrites (changed_at p (part_after limits r) parts)
+changed_stands limits r p [] all = tt
+changed_stands limits r zero (part ∷ parts) all = (part_stands limits r part all.0, all.1)
+changed_stands limits r (suc p) (part ∷ parts) all = (all.0, changed_stands limits r p parts all.1)
+
+scan_stands : (b : Bool) (w : World) (running : Option Scan) → AllStand w → AllStand (if b then w else record w { running = running })
+scan_stands true w running all = all
+scan_stands false w running all = all
+
+-- after a request, and after requests
+pub after_stands : (r : Request) (w : World) → AllStand w → AllStand (after r w)
+after_stands (upsert n d) w all = changed_stands w.limits (upsert n d) (home_of n w) w.parts all
+after_stands (delete n) w all = changed_stands w.limits (delete n) (home_of n w) w.parts all
+after_stands (get n) w all = all
+after_stands (query ask) w all = all
+after_stands flush w all = all
+after_stands schema w all = all
+after_stands (scan ask) w all = scan_stands (is_some w.running) w (Some (record { ask = ask; seen = map (λ part. length part.writes) w.parts })) all
+after_stands collect w all = all
+after_stands (refused r) w all = all
+
+pub after_all_stands : (rs : List Request) (w : World) → AllStand w → AllStand (after_all rs w)
+after_all_stands [] w all = all
+after_all_stands (r ∷ rs) w all = after_all_stands rs (after r w) (after_stands r w all)
