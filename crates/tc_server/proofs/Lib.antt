@@ -1,6 +1,7 @@
-pub mod Weights
 pub mod SchemaFloats
 pub mod FreshNames
 pub mod StoreLemmas
+pub mod Holding
+pub mod Answering
 pub mod SessionLemmas
 pub mod RunLemmas

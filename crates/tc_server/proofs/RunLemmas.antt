@@ -8,18 +8,21 @@ use Rattle.tc_lines.specs.declared.intake.TheConstants.{MAX_TAKEN}
 use Rattle.tc_lines.specs.declared.reader.Line.{Line}
 use Rattle.tc_lines.specs.declared.reader.Line.TheVariants.{End}
 use Rattle.tc_model.specs.Lines.{lines_of, whole_lines}
-use Rattle.tc_world.specs.Answer.{Limits}
-use Rattle.tc_world.specs.Run.{BeginsWith, Window, Windows, windows_of, unless_empty, closed_windows, windows, output_of_windows, output_of_lines, lines_in}
-use Rattle.tc_world.proofs.WindowLaws.{BeginsWith-trans, closed-windows_of-append, lines_held-windows_of, windows_of-push, lines_in-append, lines_in-unless_empty}
-use Rattle.tc_server.specs.Ending.{HaveClosed, Ran}
+use Rattle.tc_plain_model.specs.Store.{empty}
+use Rattle.tc_plain_model.specs.Part.{Limits}
+use Rattle.tc_run_model.specs.World.{World, part_of, first_world}
+use Rattle.tc_run_model.specs.Windows.{BeginsWith, Window, Windows, windows_of, unless_empty, closed_windows, windows}
+use Rattle.tc_run_model.specs.Course.{HaveClosed}
+use Rattle.tc_run_model.proofs.WindowLaws.{BeginsWith-trans, closed-windows_of-append, windows_of-push}
+use Rattle.tc_server.specs.Ending.{ending_of, RanTo}
 use Rattle.tc_server.specs.Progress.{StandsBehind, HasSeenAll, HasSeen, HasCome}
-use Rattle.tc_server.specs.Limited.{empty_under}
+use Rattle.tc_server.specs.Limited.{Limited, empty_under}
 use Rattle.tc_server.specs.Window.{requests_of}
-use Rattle.tc_server.specs.Stage.{IsAt, with_end, FailsAfter, WroteSome, StopsIn, TakesLine, FailsAtLine}
+use Rattle.tc_server.specs.Stage.{IsAt, with_end, EndsAmong, StopsIn, TakesLine, FailsAtLine}
 use Rattle.tc_server.specs.declared.outcome.RunFault.{RunFault}
 use Rattle.tc_server.specs.declared.outcome.RunFault.TheVariants.{Usage, Read, Write, Spent, Memory}
 use Rattle.tc_server.specs.declared.session.Session.{Session}
-use Rattle.tc_server.proofs.SessionLemmas.{BeginsWith-refl}
+use Rattle.tc_server.proofs.SessionLemmas.{stops_between}
 
 -- ---- one more line
 
@@ -47,18 +50,18 @@ all_lines : (f : List ℕ → List (List ℕ)) (input now held : List ℕ) (seen
 all_lines f input now held seen lines law same = law now ∙ ap (λ more. seen ++ more) same
 
 -- a reader that has not ended stands behind the lines that it saw
-stands : (seen : List (List ℕ)) (reading : Reading) (first left : Option (List ℕ)) → reading.ended ≡ false → (heard : HasSeen seen reading first left) → StandsBehind heard.input seen reading.held
-stands seen reading first left goes heard =
+stands : (seen : List (List ℕ)) (reading : Reading) (begun left : Option (List ℕ)) → reading.ended ≡ false → (heard : HasSeen seen reading begun left) → StandsBehind heard.input seen reading.held
+stands seen reading begun left goes heard =
     ⊎_elim (λ place. place.1) (λ place. let both : true ≡ false = sym place.0 ∙ goes in absurd (cc)) heard.place
 
 -- a line was heard
-pub hears_line : (seen : List (List ℕ)) (line : List ℕ) (old new : Reading) (first left left' : Option (List ℕ)) → old.ended ≡ false → HasSeen seen old first left
+pub hears_line : (seen : List (List ℕ)) (line : List ℕ) (old new : Reading) (begun left left' : Option (List ℕ)) → old.ended ≡ false → HasSeen seen old begun left
     → (now : List ℕ) → Consumes left left' now → new.taken ≡ old.taken + length now → IsNextLine (old.held ++ now) line new left'
-    → HasSeen (seen ++ line ∷ []) new first left'
-hears_line seen line old new first left left' goes heard now consumed counted next =
-    let behind = stands seen old first left goes heard in record {
+    → HasSeen (seen ++ line ∷ []) new begun left'
+hears_line seen line old new begun left left' goes heard now consumed counted next =
+    let behind = stands seen old begun left goes heard in record {
       input = heard.input ++ now;
-      consumed = Consumes-trans first left left' heard.input now heard.consumed consumed;
+      consumed = Consumes-trans begun left left' heard.input now heard.consumed consumed;
       counted = omega (arith, counted, heard.counted, length-append heard.input now);
       place = ⊎_elim
           (λ begins. inl (begins.1, stands_behind_line heard.input now old.held new.held seen line behind begins.0))
@@ -89,158 +92,177 @@ closed_at_end limit seen input left all = record {
       (record { more = unless_empty (windows_of limit seen).open_lines; goes_on = refl });
 }
 
-has_closed : (limit : ℕ) (seen : List (List ℕ)) (reading : Reading) (first left : Option (List ℕ)) (heard : HasSeen seen reading first left) → HasClosed limit seen heard.input left
-has_closed limit seen reading first left heard =
+has_closed : (limit : ℕ) (seen : List (List ℕ)) (reading : Reading) (begun left : Option (List ℕ)) (heard : HasSeen seen reading begun left) → HasClosed limit seen heard.input left
+has_closed limit seen reading begun left heard =
     ⊎_elim
     (λ place. closed_so_far limit seen (whole_lines (reading.held ++ [])) heard.input left (ap whole_lines (sym (append-nil heard.input)) ∙ place.1.whole []))
     (λ place. closed_at_end limit seen heard.input left place.1)
     heard.place
 
 -- a fault in windows that have closed ends the run
-ends_in : (limits : Limits) (limit : ℕ) (seen : List (List ℕ)) (input : List ℕ) (first left base taken : Option (List ℕ)) (fault : RunFault) → Consumes first left input → HasClosed limit seen input left
-    → StopsIn limits fault base (windows_of limit seen).closed taken → Ran limits limit (Some fault) first left base taken
-ends_in limits limit seen input first left base taken (Write n) consumed has stops = record {
+ends_in : (first : World) (limit : ℕ) (seen : List (List ℕ)) (input : List ℕ) (begun left base taken : Option (List ℕ)) (fault : RunFault) → Consumes begun left input → HasClosed limit seen input left
+    → StopsIn first fault base (windows_of limit seen).closed taken → RanTo (ending_of (Some fault)) first limit begun left base taken
+ends_in first limit seen input begun left base taken (Write n) consumed has stops = record {
   input = input;
   consumed = consumed;
-  did = (
-    has.closed,
-    has.have,
-    record {
-      before = stops.before;
-      failed = stops.failed;
-      among = BeginsWith-trans has.begin stops.among;
-      within = stops.within;
-      written = stops.written;
-    },
-  );
+  answered = stops.answered;
+  last = stops.last;
+  replies = stops.replies;
+  given = stops.given;
+  reached = (has.closed, has.have, BeginsWith-trans has.begin stops.among);
+  took = stops.took;
 }
-ends_in limits limit seen input first left base taken Memory consumed has stops = record {
+ends_in first limit seen input begun left base taken Memory consumed has stops = record {
   input = input;
   consumed = consumed;
-  did = (
-    has.closed,
-    has.have,
-    record {
-      before = stops.before;
-      among = BeginsWith-trans has.begin stops.among;
-      written = stops.written;
-    },
-  );
+  answered = stops.answered;
+  last = stops.last;
+  replies = stops.replies;
+  given = stops.given;
+  reached = (has.closed, has.have, BeginsWith-trans has.begin stops.among);
+  took = stops.took;
 }
-ends_in limits limit seen input first left base taken Usage consumed has stops = absurd stops
-ends_in limits limit seen input first left base taken Read consumed has stops = absurd stops
-ends_in limits limit seen input first left base taken Spent consumed has stops = absurd stops
+ends_in first limit seen input begun left base taken Usage consumed has stops = absurd stops
+ends_in first limit seen input begun left base taken Read consumed has stops = absurd stops
+ends_in first limit seen input begun left base taken Spent consumed has stops = absurd stops
 
 -- ---- a line is taken
 
-pub goes_on : (limits : Limits) (line : List ℕ) (old new : Reading) (before after : Session) (first left left' base taken taken' : Option (List ℕ)) → old.ended ≡ false → (come : HasCome limits old before first left base taken)
+pub goes_on : (first : World) (line : List ℕ) (old new : Reading) (before after : Session) (begun left left' base taken taken' : Option (List ℕ)) → old.ended ≡ false → (come : HasCome first old before begun left base taken)
     → (now : List ℕ) → Consumes left left' now → new.taken ≡ old.taken + length now → IsNextLine (old.held ++ now) line new left'
     → TakesLine line before taken after taken' → after.window.limit ≡ before.window.limit
-    → HasCome limits new after first left' base taken'
-goes_on limits line old new before after first left left' base taken taken' goes come now consumed counted next takes same = record {
+    → HasCome first new after begun left' base taken'
+goes_on first line old new before after begun left left' base taken taken' goes come now consumed counted next takes same = record {
   seen = come.seen ++ line ∷ [];
-  heard = hears_line come.seen line old new first left left' goes come.heard now consumed counted next;
-  at = subst (λ (ws : Windows). IsAt limits base ws after taken') (sym (ap (λ limit. windows_of limit (come.seen ++ line ∷ [])) same ∙ windows_of-push before.window.limit come.seen line)) (takes limits base (windows_of before.window.limit come.seen) come.at);
+  heard = hears_line come.seen line old new begun left left' goes come.heard now consumed counted next;
+  at = subst (λ (ws : Windows). IsAt first base ws after taken') (sym (ap (λ limit. windows_of limit (come.seen ++ line ∷ [])) same ∙ windows_of-push before.window.limit come.seen line)) (takes first base (windows_of before.window.limit come.seen) come.at);
 }
 
-pub fails_at_line : (limits : Limits) (fault : RunFault) (line : List ℕ) (old new : Reading) (before : Session) (first left left' base taken taken' : Option (List ℕ)) → old.ended ≡ false → (come : HasCome limits old before first left base taken)
+pub fails_at_line : (first : World) (fault : RunFault) (line : List ℕ) (old new : Reading) (before : Session) (begun left left' base taken taken' : Option (List ℕ)) → old.ended ≡ false → (come : HasCome first old before begun left base taken)
     → (now : List ℕ) → Consumes left left' now → new.taken ≡ old.taken + length now → IsNextLine (old.held ++ now) line new left'
     → FailsAtLine fault line before taken taken'
-    → Ran limits before.window.limit (Some fault) first left' base taken'
-fails_at_line limits fault line old new before first left left' base taken taken' goes come now consumed counted next fails =
+    → RanTo (ending_of (Some fault)) first before.window.limit begun left' base taken'
+fails_at_line first fault line old new before begun left left' base taken taken' goes come now consumed counted next fails =
     let limit = before.window.limit in
     let seen = come.seen ++ line ∷ [] in
-    let heard = hears_line come.seen line old new first left left' goes come.heard now consumed counted next in
-    ends_in limits limit seen heard.input first left' base taken' fault heard.consumed (has_closed limit seen new first left' heard)
-    (subst (λ (ws : Windows). StopsIn limits fault base ws.closed taken') (sym (windows_of-push limit come.seen line)) (fails limits base (windows_of limit come.seen) come.at))
+    let heard = hears_line come.seen line old new begun left left' goes come.heard now consumed counted next in
+    ends_in first limit seen heard.input begun left' base taken' fault heard.consumed (has_closed limit seen new begun left' heard)
+    (subst (λ (ws : Windows). StopsIn first fault base ws.closed taken') (sym (windows_of-push limit come.seen line)) (fails first base (windows_of limit come.seen) come.at))
 
 -- ---- the end of the input
 
 -- all lines of the input were seen
-pub record HasHeardAll (seen : List (List ℕ)) (first left : Option (List ℕ)) : Type 0 where
+pub record HasHeardAll (seen : List (List ℕ)) (begun left : Option (List ℕ)) : Type 0 where
   pub input : List ℕ
-  pub consumed : Consumes first left input
+  pub consumed : Consumes begun left input
   pub all : HasSeenAll input seen left
 
-pub hears_end : (seen : List (List ℕ)) (old new : Reading) (first left left' : Option (List ℕ)) → old.ended ≡ false → HasSeen seen old first left
-    → (now : List ℕ) → Consumes left left' now → old.held ++ now ≡ [] → IsAtEnd left' → HasHeardAll seen first left'
-hears_end seen old new first left left' goes heard now consumed none at_end =
-    let behind = stands seen old first left goes heard in record {
+pub hears_end : (seen : List (List ℕ)) (old new : Reading) (begun left left' : Option (List ℕ)) → old.ended ≡ false → HasSeen seen old begun left
+    → (now : List ℕ) → Consumes left left' now → old.held ++ now ≡ [] → IsAtEnd left' → HasHeardAll seen begun left'
+hears_end seen old new begun left left' goes heard now consumed none at_end =
+    let behind = stands seen old begun left goes heard in record {
       input = heard.input ++ now;
-      consumed = Consumes-trans first left left' heard.input now heard.consumed consumed;
+      consumed = Consumes-trans begun left left' heard.input now heard.consumed consumed;
       all = record { at_end = at_end; lines = all_lines lines_of heard.input now old.held seen [] behind.lines (ap lines_of none) ∙ append-nil seen };
     }
 
-pub heard_end : (seen : List (List ℕ)) (reading : Reading) (first left : Option (List ℕ)) → reading.ended ≡ true → HasSeen seen reading first left → HasHeardAll seen first left
-heard_end seen reading first left ended heard =
+pub heard_end : (seen : List (List ℕ)) (reading : Reading) (begun left : Option (List ℕ)) → reading.ended ≡ true → HasSeen seen reading begun left → HasHeardAll seen begun left
+heard_end seen reading begun left ended heard =
     ⊎_elim
     (λ place. let both : true ≡ false = sym ended ∙ place.0 in absurd (cc))
     (λ place. record { input = heard.input; consumed = heard.consumed; all = place.1 })
     heard.place
 
--- the lines of windows of which the open one has closed
-lines_in-with_end : (limit : ℕ) (lines : List (List ℕ)) → lines_in (with_end (windows_of limit lines)).closed ≡ lines
-lines_in-with_end limit lines =
-    let ws = windows_of limit lines in
-    lines_in-append ws.closed (unless_empty ws.open_lines) ∙ ap (λ more. lines_in ws.closed ++ more) (lines_in-unless_empty ws.open_lines) ∙ lines_held-windows_of limit lines
+-- all windows of the input, where these are its lines
+all_windows : (limit : ℕ) (seen : List (List ℕ)) (input : List ℕ) (left : Option (List ℕ)) → HasSeenAll input seen left → (with_end (windows_of limit seen)).closed ≡ windows limit input
+all_windows limit seen input left all = ap (λ lines. (with_end (windows_of limit lines)).closed) (sym all.lines)
 
-pub ran_to_end : (limits : Limits) (limit : ℕ) (seen : List (List ℕ)) (session : Session) (first left base taken : Option (List ℕ)) → HasHeardAll seen first left → IsAt limits base (with_end (windows_of limit seen)) session taken
-    → Ran limits limit None first left base taken
-ran_to_end limits limit seen session first left base taken heard at = record {
+pub ran_to_end : (first : World) (limit : ℕ) (seen : List (List ℕ)) (session : Session) (begun left base taken : Option (List ℕ)) → HasHeardAll seen begun left → IsAt first base (with_end (windows_of limit seen)) session taken
+    → RanTo (ending_of None) first limit begun left base taken
+ran_to_end first limit seen session begun left base taken heard at = record {
   input = heard.input;
   consumed = heard.consumed;
-  did = (heard.all.at_end, subst (λ lines. Appends base taken (output_of_lines limits lines)) (lines_in-with_end limit seen ∙ sym heard.all.lines) at.written);
+  answered = (with_end (windows_of limit seen)).closed;
+  last = [];
+  replies = at.replies;
+  given = at.given;
+  reached = (heard.all.at_end, all_windows limit seen heard.input left heard.all, refl);
+  took = at.written;
 }
 
-pub fails_at_end : (limits : Limits) (limit : ℕ) (seen : List (List ℕ)) (fault : RunFault) (first left base taken : Option (List ℕ)) → HasHeardAll seen first left → StopsIn limits fault base (with_end (windows_of limit seen)).closed taken
-    → Ran limits limit (Some fault) first left base taken
-fails_at_end limits limit seen (Write n) first left base taken heard stops = record {
+pub fails_at_end : (first : World) (limit : ℕ) (seen : List (List ℕ)) (fault : RunFault) (begun left base taken : Option (List ℕ)) → HasHeardAll seen begun left → StopsIn first fault base (with_end (windows_of limit seen)).closed taken
+    → RanTo (ending_of (Some fault)) first limit begun left base taken
+fails_at_end first limit seen (Write n) begun left base taken heard stops = record {
   input = heard.input;
   consumed = heard.consumed;
-  did = (windows limit heard.input, inr (heard.all.at_end, refl), subst (λ lines. FailsAfter limits n base (with_end (windows_of limit lines)).closed taken) (sym heard.all.lines) stops);
+  answered = stops.answered;
+  last = stops.last;
+  replies = stops.replies;
+  given = stops.given;
+  reached = ((with_end (windows_of limit seen)).closed, inr (heard.all.at_end, all_windows limit seen heard.input left heard.all), stops.among);
+  took = stops.took;
 }
-fails_at_end limits limit seen Memory first left base taken heard stops = record {
+fails_at_end first limit seen Memory begun left base taken heard stops = record {
   input = heard.input;
   consumed = heard.consumed;
-  did = (windows limit heard.input, inr (heard.all.at_end, refl), subst (λ lines. WroteSome limits base (with_end (windows_of limit lines)).closed taken) (sym heard.all.lines) stops);
+  answered = stops.answered;
+  last = stops.last;
+  replies = stops.replies;
+  given = stops.given;
+  reached = ((with_end (windows_of limit seen)).closed, inr (heard.all.at_end, all_windows limit seen heard.input left heard.all), stops.among);
+  took = stops.took;
 }
-fails_at_end limits limit seen Usage first left base taken heard stops = absurd stops
-fails_at_end limits limit seen Read first left base taken heard stops = absurd stops
-fails_at_end limits limit seen Spent first left base taken heard stops = absurd stops
+fails_at_end first limit seen Usage begun left base taken heard stops = absurd stops
+fails_at_end first limit seen Read begun left base taken heard stops = absurd stops
+fails_at_end first limit seen Spent begun left base taken heard stops = absurd stops
 
 -- ---- a failure of the reader
 
 -- the windows that closed among the whole lines of what was read are those of the lines that were seen
-closed-no_more : (limit : ℕ) (seen : List (List ℕ)) (old : Reading) (first left : Option (List ℕ)) → old.ended ≡ false → (heard : HasSeen seen old first left)
+closed-no_more : (limit : ℕ) (seen : List (List ℕ)) (old : Reading) (begun left : Option (List ℕ)) → old.ended ≡ false → (heard : HasSeen seen old begun left)
     → (now : List ℕ) → whole_lines (old.held ++ now) ≡ [] → (windows_of limit seen).closed ≡ closed_windows limit (heard.input ++ now)
-closed-no_more limit seen old first left goes heard now none =
-    ap (λ lines. (windows_of limit lines).closed) (sym (all_lines whole_lines heard.input now old.held seen [] (stands seen old first left goes heard).whole none ∙ append-nil seen))
+closed-no_more limit seen old begun left goes heard now none =
+    ap (λ lines. (windows_of limit lines).closed) (sym (all_lines whole_lines heard.input now old.held seen [] (stands seen old begun left goes heard).whole none ∙ append-nil seen))
 
-pub read_failed : (limits : Limits) (old : Reading) (session : Session) (first left left' base taken : Option (List ℕ)) → old.ended ≡ false → HasCome limits old session first left base taken
-    → (now : List ℕ) → Consumes left left' now → whole_lines (old.held ++ now) ≡ [] → Ran limits session.window.limit (Some Read) first left' base taken
-read_failed limits old session first left left' base taken goes come now consumed none = record {
+pub read_failed : (first : World) (old : Reading) (session : Session) (begun left left' base taken : Option (List ℕ)) → old.ended ≡ false → HasCome first old session begun left base taken
+    → (now : List ℕ) → Consumes left left' now → whole_lines (old.held ++ now) ≡ [] → RanTo (ending_of (Some Read)) first session.window.limit begun left' base taken
+read_failed first old session begun left left' base taken goes come now consumed none = record {
   input = come.heard.input ++ now;
-  consumed = Consumes-trans first left left' come.heard.input now come.heard.consumed consumed;
-  did = subst (λ closed. Appends base taken (output_of_windows limits closed)) (closed-no_more session.window.limit come.seen old first left goes come.heard now none) come.at.written;
+  consumed = Consumes-trans begun left left' come.heard.input now come.heard.consumed consumed;
+  answered = (windows_of session.window.limit come.seen).closed;
+  last = [];
+  replies = come.at.replies;
+  given = come.at.given;
+  reached = (closed-no_more session.window.limit come.seen old begun left goes come.heard now none, refl);
+  took = come.at.written;
 }
 
-pub all_taken : (limits : Limits) (old new : Reading) (session : Session) (first left left' base taken : Option (List ℕ)) → old.ended ≡ false → HasCome limits old session first left base taken
+pub all_taken : (first : World) (old new : Reading) (session : Session) (begun left left' base taken : Option (List ℕ)) → old.ended ≡ false → HasCome first old session begun left base taken
     → (now : List ℕ) → Consumes left left' now → new.taken ≡ old.taken + length now → whole_lines (old.held ++ now) ≡ [] → new.taken ≡ MAX_TAKEN
-    → Ran limits session.window.limit (Some Spent) first left' base taken
-all_taken limits old new session first left left' base taken goes come now consumed counted none all = record {
+    → RanTo (ending_of (Some Spent)) first session.window.limit begun left' base taken
+all_taken first old new session begun left left' base taken goes come now consumed counted none all = record {
   input = come.heard.input ++ now;
-  consumed = Consumes-trans first left left' come.heard.input now come.heard.consumed consumed;
-  did = (omega (arith, all, counted, come.heard.counted, length-append come.heard.input now), subst (λ closed. Appends base taken (output_of_windows limits closed)) (closed-no_more session.window.limit come.seen old first left goes come.heard now none) come.at.written);
+  consumed = Consumes-trans begun left left' come.heard.input now come.heard.consumed consumed;
+  answered = (windows_of session.window.limit come.seen).closed;
+  last = [];
+  replies = come.at.replies;
+  given = come.at.given;
+  reached = (
+    omega (arith, all, counted, come.heard.counted, length-append come.heard.input now),
+    closed-no_more session.window.limit come.seen old begun left goes come.heard now none,
+    refl,
+  );
+  took = come.at.written;
 }
 
-pub reads_without_memory : (limits : Limits) (old : Reading) (session : Session) (first left left' base taken : Option (List ℕ)) → old.ended ≡ false → HasCome limits old session first left base taken
-    → (now : List ℕ) → Consumes left left' now → Ran limits session.window.limit (Some Memory) first left' base taken
-reads_without_memory limits old session first left left' base taken goes come now consumed =
+pub reads_without_memory : (first : World) (old : Reading) (session : Session) (begun left left' base taken : Option (List ℕ)) → old.ended ≡ false → HasCome first old session begun left base taken
+    → (now : List ℕ) → Consumes left left' now → RanTo (ending_of (Some Memory)) first session.window.limit begun left' base taken
+reads_without_memory first old session begun left left' base taken goes come now consumed =
     let limit = session.window.limit in
     let input = come.heard.input ++ now in
-    ends_in limits limit come.seen input first left' base taken Memory (Consumes-trans first left left' come.heard.input now come.heard.consumed consumed)
-    (closed_so_far limit come.seen (whole_lines (old.held ++ now)) input left' ((stands come.seen old first left goes come.heard).whole now))
-    (record { before = (windows_of limit come.seen).closed; among = BeginsWith-refl _; written = come.at.written })
+    ends_in first limit come.seen input begun left' base taken Memory (Consumes-trans begun left left' come.heard.input now come.heard.consumed consumed)
+    (closed_so_far limit come.seen (whole_lines (old.held ++ now)) input left' ((stands come.seen old begun left goes come.heard).whole now))
+    (stops_between first base taken (windows_of limit come.seen) session come.at)
 
 -- ---- the answers of the reader
 
@@ -253,12 +275,12 @@ pub goes_by : (answer : Line) (old : Reading) → (answer ≡ End → ⊥) → (
 goes_by answer old other ends = not_true old.ended (λ ended. other (ends ended))
 
 -- at the answer of the end all lines were seen
-pub hears_all : (seen : List (List ℕ)) (old new : Reading) (first left left' : Option (List ℕ)) → HasSeen seen old first left
-    → (old.ended ≡ false → IsAnswered End old new left left') → (old.ended ≡ true → left' ≡ left) → HasHeardAll seen first left'
-hears_all seen old new first left left' heard answers same =
+pub hears_all : (seen : List (List ℕ)) (old new : Reading) (begun left left' : Option (List ℕ)) → HasSeen seen old begun left
+    → (old.ended ≡ false → IsAnswered End old new left left') → (old.ended ≡ true → left' ≡ left) → HasHeardAll seen begun left'
+hears_all seen old new begun left left' heard answers same =
     ⊎_elim
-    (λ place. let a = answers place.0 in hears_end seen old new first left left' place.0 heard a.input a.consumed a.says.0 a.says.1.at_end)
-    (λ place. subst (HasHeardAll seen first) (sym (same place.0)) (heard_end seen old first left place.0 heard))
+    (λ place. let a = answers place.0 in hears_end seen old new begun left left' place.0 heard a.input a.consumed a.says.0 a.says.1.at_end)
+    (λ place. subst (HasHeardAll seen begun) (sym (same place.0)) (heard_end seen old begun left place.0 heard))
     heard.place
 
 -- ---- the first line, and after as many as can be
@@ -266,7 +288,7 @@ hears_all seen old new first left left' heard answers same =
 -- before the first line nothing was read nor written
 pub begins : (limits : Limits) (limit : ℕ) (reading : Reading) (session : Session) (left taken : Option (List ℕ)) → reading ≡ record { limit = limit; held = []; taken = 0; failed = false; ended = false }
     → session.store ≡ empty_under limits → requests_of session.window ≡ [] → session.window.bytes ≡ 0
-    → HasCome limits reading session left left taken taken
+    → HasCome (first_world limits (empty ∷ [])) reading session left left taken taken
 begins limits limit reading session left taken fresh store requests bytes =
     let held : reading.held ≡ [] = ap (λ (r : Reading). r.held) fresh in record {
       seen = [];
@@ -282,11 +304,18 @@ begins limits limit reading session left taken fresh store requests bytes =
           },
         );
       };
-      at = record { store = store; requests = requests; bytes = bytes; written = Appends-nil taken };
+      at = record {
+        replies = [];
+        given = tt;
+        written = Appends-nil taken;
+        store = record { part = part_of empty; alone = refl; stores = ap (λ (s : Limited). s.plain) (sym store); limits = ap (λ (s : Limited). s.limits) (sym store) };
+        requests = requests;
+        bytes = bytes;
+      };
     }
 
 -- a run that gives up between two lines has answered the windows that have closed
-pub gives_up : (limits : Limits) (reading : Reading) (session : Session) (first left base taken : Option (List ℕ)) → HasCome limits reading session first left base taken → Ran limits session.window.limit (Some Memory) first left base taken
-gives_up limits reading session first left base taken come =
-    ends_in limits session.window.limit come.seen come.heard.input first left base taken Memory come.heard.consumed (has_closed session.window.limit come.seen reading first left come.heard)
-    (record { before = (windows_of session.window.limit come.seen).closed; among = BeginsWith-refl _; written = come.at.written })
+pub gives_up : (first : World) (reading : Reading) (session : Session) (begun left base taken : Option (List ℕ)) → HasCome first reading session begun left base taken → RanTo (ending_of (Some Memory)) first session.window.limit begun left base taken
+gives_up first reading session begun left base taken come =
+    ends_in first session.window.limit come.seen come.heard.input begun left base taken Memory come.heard.consumed (has_closed session.window.limit come.seen reading begun left come.heard)
+    (stops_between first base taken (windows_of session.window.limit come.seen) session come.at)

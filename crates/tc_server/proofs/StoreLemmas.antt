@@ -19,16 +19,18 @@ use Rattle.tc_schema_model.specs.Values.{values_at}
 use Rattle.tc_schema_model.proofs.ValueBounds.{counters_fit-sizes, nothing_stands}
 use Rattle.tc_model.specs.TreeSize.{tree_size}
 use Rattle.tc_value.specs.declared.document.Doc.{Doc}
-use Rattle.tc_world.specs.Answer.{Limits}
-use Rattle.tc_world.specs.Store.{Pairs, Store, empty, documents}
+use Rattle.tc_model.specs.Weight.{FitsLine}
+use Rattle.tc_plain_model.specs.Writes.{Pairs}
+use Rattle.tc_plain_model.specs.Store.{Store, empty, documents}
+use Rattle.tc_plain_model.specs.Part.{Limits}
 use Rattle.tc_server.specs.Limited.{Limited}
 use Rattle.tc_server.specs.Pairs.{pair_of}
-use Rattle.tc_server.specs.Sound.{FitsLine, IsSound}
+use Rattle.tc_server.specs.Sound.{IsSound}
 use Rattle.tc_model.proofs.KeyedMaps.{is_some-lookup}
 use Rattle.tc_model.proofs.Replacing.{taken_out, none_taken_out, all_with, all_without}
 use Rattle.tc_schema_model.proofs.Replaced.{count_replaced}
 use Rattle.tc_model.specs.Keyed.{values_in}
-use Rattle.tc_server.proofs.Weights.{size_weight, shape_size_weight}
+use Rattle.tc_model.proofs.WeightBounds.{size_weight, shape_size_weight}
 
 pub empty_is_sound : IsSound empty nothing
 empty_is_sound = record { stands = nothing_stands; few = omega arith; light = tt }

@@ -1,10 +1,10 @@
 -- What a run read and wrote, by the way in which it ended.
-use Rattle.std.specs.Prelude.{◌≡◌, ℕ, ◌⊎◌, List, length, Option, Some, None, Result, Ok, Err}
-use Rattle.std.specs.Io.KnownBytes.{Appends, Consumes, Keeps, IsAtEnd}
-use Rattle.tc_lines.specs.declared.intake.TheConstants.{MAX_TAKEN}
-use Rattle.tc_world.specs.Answer.{Limits}
-use Rattle.tc_world.specs.Run.{Window, closed_windows, windows, output_of, output_of_windows}
-use Rattle.tc_server.specs.Stage.{FailsAfter, WroteSome}
+use Rattle.std.specs.Prelude.{ℕ, List, [], ◌∷◌, Option, Some, None, Result, Ok, Err}
+use Rattle.std.specs.Io.KnownBytes.{Keeps}
+use Rattle.tc_plain_model.specs.Store.{empty}
+use Rattle.tc_plain_model.specs.Part.{Limits}
+use Rattle.tc_run_model.specs.World.{World, first_world}
+use Rattle.tc_run_model.specs.Course.{Ending, finished, input_failed, input_spent, output_failed, stopped, each_line, Ran}
 use Rattle.tc_server.specs.declared.outcome.RunFault.{RunFault}
 use Rattle.tc_server.specs.declared.outcome.RunFault.TheVariants.{Usage, Read, Write, Spent, Memory}
 use Rattle.tc_words.specs.declared.run.Options.{Options}
@@ -23,35 +23,31 @@ abbrev pub fault_in : {T : Type 0} → Result T RunFault → Option RunFault
 fault_in (Ok x) = None
 fault_in (Err fault) = Some fault
 
--- These windows closed: by the lines that came with their line feed, or by the end of the input too.
-abbrev pub HaveClosed : ℕ → List ℕ → Option (List ℕ) → List Window → Type 0
-HaveClosed most input left closed = (closed ≡ closed_windows most input) ⊎ (IsAtEnd left × (closed ≡ windows most input))
+-- how a run ended, by the fault that it answered; a fault in the words ends no run
+abbrev pub ending_of : Option RunFault → Option Ending
+ending_of None = Some finished
+ending_of (Some Read) = Some input_failed
+ending_of (Some Spent) = Some input_spent
+ending_of (Some (Write n)) = Some (output_failed n)
+ending_of (Some Memory) = Some stopped
+ending_of (Some Usage) = None
 
--- What a run over windows of at most `most` lines did, where it read some input and came to `left`. At the end of the
--- input, all replies were written. At a fault of the source, or with its bytes spent, all windows that had closed were
--- answered. At a fault of the sink, one window's replies were taken in part, and those of all windows before it whole.
--- For want of memory, the replies of some of the windows were written, in order.
-abbrev pub RanOver : Limits → ℕ → Option RunFault → List ℕ → Option (List ℕ) → Option (List ℕ) → Option (List ℕ) → Type 0
-RanOver limits most None input left taken taken' = IsAtEnd left × Appends taken taken' (output_of limits input)
-RanOver limits most (Some Read) input left taken taken' = Appends taken taken' (output_of_windows limits (closed_windows most input))
-RanOver limits most (Some Spent) input left taken taken' = (length input ≡ MAX_TAKEN) × Appends taken taken' (output_of_windows limits (closed_windows most input))
-RanOver limits most (Some (Write n)) input left taken taken' = (closed : List Window) × HaveClosed most input left closed × FailsAfter limits n taken closed taken'
-RanOver limits most (Some Memory) input left taken taken' = (closed : List Window) × HaveClosed most input left closed × WroteSome limits taken closed taken'
-RanOver limits most (Some Usage) input left taken taken' = ⊥
-
--- a run under limits, over windows of at most `most` lines
-pub record Ran (limits : Limits) (most : ℕ) (fault : Option RunFault) (left left' taken taken' : Option (List ℕ)) : Type 0 where
-  pub input : List ℕ
-  pub consumed : Consumes left left' input
-  pub did : RanOver limits most fault input left' taken taken'
+-- a run from a first world, over windows of at most so many lines, that ended so
+abbrev pub RanTo : Option Ending → World → ℕ → Option (List ℕ) → Option (List ℕ) → Option (List ℕ) → Option (List ℕ) → Type 0
+RanTo None first most left left' taken taken' = ⊥
+RanTo (Some ending) first most left left' taken taken' = Ran each_line first most ending left left' taken taken'
 
 -- the limits that options set
 abbrev pub limits_of : Options → Limits
 limits_of options = record { names = options.names; docs = options.docs }
 
+-- the first world of a run: one partition, in which nothing is stored
+abbrev pub opened_by : Options → World
+opened_by options = first_world (limits_of options) (empty ∷ [])
+
 -- A run for these options, or for words that are none, which reads and writes nothing.
 abbrev pub Served : Option Options → Option RunFault → Option (List ℕ) → Option (List ℕ) → Option (List ℕ) → Option (List ℕ) → Type 0
-Served (Some options) fault left left' taken taken' = Ran (limits_of options) options.window fault left left' taken taken'
+Served (Some options) fault left left' taken taken' = RanTo (ending_of fault) (opened_by options) options.window left left' taken taken'
 Served None (Some Usage) left left' taken taken' = Keeps left left' × Keeps taken taken'
 Served None (Some Memory) left left' taken taken' = Keeps left left' × Keeps taken taken'
 Served None _ left left' taken taken' = ⊥

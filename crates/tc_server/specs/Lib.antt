@@ -1,5 +1,6 @@
 pub mod Pairs
 pub mod Limited
+pub mod Holds
 pub mod Sound
 pub mod Asked
 pub mod Window

@@ -1,12 +1,13 @@
--- A plain store with the limits that the words set for it, which no line changes.
-use Rattle.std.specs.Prelude.{ℕ, List, refl}
+-- What the code's store is: what one partition stores, under limits that no line changes.
+use Rattle.std.specs.Prelude.{ℕ, List, [], ◌∷◌, refl}
 use Rattle.std.specs.Coded.{Coded, code_by, coded×, coded_list, coded_ℕ}
 use Rattle.tc_model.specs.Document.{Name, Document}
 use Rattle.tc_model.specs.DocumentCode.{coded_document}
-use Rattle.tc_model.specs.Request.{Request}
-use Rattle.tc_world.specs.Store.{Store, empty}
-use Rattle.tc_world.specs.Answer.{Limits, after}
-use Rattle.tc_world.specs.Run.{after_all}
+use Rattle.tc_model.specs.Request.{Request, upsert, delete, get, query, flush, schema, scan, collect, refused, not_built}
+use Rattle.tc_model.specs.Reply.{Reply, schemas, turned_down}
+use Rattle.tc_schema_model.specs.SchemaText.{schema_text}
+use Rattle.tc_plain_model.specs.Store.{Store, empty, documents}
+use Rattle.tc_plain_model.specs.Part.{Limits, part_reply, part_left}
 
 pub record Limited : Type 0 where
   pub limits : Limits
@@ -16,12 +17,21 @@ pub record Limited : Type 0 where
 abbrev pub empty_under : Limits → Limited
 empty_under limits = record { limits = limits; plain = empty }
 
--- what a request leaves, and what requests leave
-abbrev pub left_by : Request → Limited → Limited
-left_by r s = record { limits = s.limits; plain = after s.limits r s.plain }
+-- what the store replies; commands that are not built are refused as such
+abbrev pub reply_by : Request → Limited → Reply
+reply_by (upsert n d) s = part_reply s.limits (upsert n d) s.plain
+reply_by (delete n) s = part_reply s.limits (delete n) s.plain
+reply_by (get n) s = part_reply s.limits (get n) s.plain
+reply_by (query ask) s = turned_down not_built
+reply_by flush s = turned_down not_built
+reply_by schema s = schemas (schema_text (documents s.plain) ∷ [])
+reply_by (scan ask) s = turned_down not_built
+reply_by collect s = turned_down not_built
+reply_by (refused r) s = turned_down r
 
-abbrev pub left_by_all : List Request → Limited → Limited
-left_by_all rs s = record { limits = s.limits; plain = after_all s.limits rs s.plain }
+-- what a request leaves
+abbrev pub left_by : Request → Limited → Limited
+left_by r s = record { limits = s.limits; plain = part_left s.limits r s.plain }
 
 -- the code, as the pair of the limits and of the pairs and names
 abbrev pub coded_limited : Coded Limited

@@ -3,9 +3,9 @@ use Rattle.std.specs.Prelude.{◌≡◌, ℕ, ◌⊎◌, Bool, true, false, List
 use Rattle.std.specs.Io.KnownBytes.{Consumes, IsAtEnd}
 use Rattle.tc_lines.specs.Answer.{Reading}
 use Rattle.tc_model.specs.Lines.{lines_of, whole_lines}
-use Rattle.tc_world.specs.Answer.{Limits}
-use Rattle.tc_world.specs.Run.{windows_of}
-use Rattle.tc_server.specs.Ending.{Ran}
+use Rattle.tc_run_model.specs.World.{World}
+use Rattle.tc_run_model.specs.Windows.{windows_of}
+use Rattle.tc_server.specs.Ending.{ending_of, RanTo}
 use Rattle.tc_server.specs.Stage.{IsAt}
 use Rattle.tc_server.specs.declared.outcome.RunFault.{RunFault}
 use Rattle.tc_server.specs.declared.session.Session.{Session}
@@ -20,30 +20,30 @@ pub record HasSeenAll (input : List ℕ) (seen : List (List ℕ)) (left : Option
   pub at_end : IsAtEnd left
   pub lines : lines_of input ≡ seen
 
--- The reader has seen these lines, of the source that had `first` left.
-pub record HasSeen (seen : List (List ℕ)) (reading : Reading) (first left : Option (List ℕ)) : Type 0 where
+-- The reader has seen these lines, of the source that had `begun` left.
+pub record HasSeen (seen : List (List ℕ)) (reading : Reading) (begun left : Option (List ℕ)) : Type 0 where
   pub input : List ℕ
-  pub consumed : Consumes first left input
+  pub consumed : Consumes begun left input
   pub counted : reading.taken ≡ length input
   pub place : ((reading.ended ≡ false) × StandsBehind input seen reading.held) ⊎ ((reading.ended ≡ true) × HasSeenAll input seen left)
 
 -- Lines were seen, and the session stands behind their windows.
-pub record HasCome (limits : Limits) (reading : Reading) (session : Session) (first left base taken : Option (List ℕ)) : Type 0 where
+pub record HasCome (first : World) (reading : Reading) (session : Session) (begun left base taken : Option (List ℕ)) : Type 0 where
   pub seen : List (List ℕ)
-  pub heard : HasSeen seen reading first left
-  pub at : IsAt limits base (windows_of session.window.limit seen) session taken
+  pub heard : HasSeen seen reading begun left
+  pub at : IsAt first base (windows_of session.window.limit seen) session taken
 
 -- a run goes on where more lines may come, or has ended
-abbrev pub ComesTo : Limits → Bool → ℕ → Reading → Session → Option (List ℕ) → Option (List ℕ) → Option (List ℕ) → Option (List ℕ) → Type 0
-ComesTo limits true most reading session first left base taken = HasCome limits reading session first left base taken
-ComesTo limits false most reading session first left base taken = Ran limits most None first left base taken
+abbrev pub ComesTo : World → Bool → ℕ → Reading → Session → Option (List ℕ) → Option (List ℕ) → Option (List ℕ) → Option (List ℕ) → Type 0
+ComesTo first true most reading session begun left base taken = HasCome first reading session begun left base taken
+ComesTo first false most reading session begun left base taken = RanTo (ending_of None) first most begun left base taken
 
 -- one more line was taken, or the input has ended
 abbrev pub Goes : Bool → Reading → Session → Option (List ℕ) → Option (List ℕ) → Reading → Session → Option (List ℕ) → Option (List ℕ) → Type 0
 Goes more reading session left taken reading' session' left' taken' =
-    (limits : Limits) (first base : Option (List ℕ)) → HasCome limits reading session first left base taken → ComesTo limits more session.window.limit reading' session' first left' base taken'
+    (first : World) (begun base : Option (List ℕ)) → HasCome first reading session begun left base taken → ComesTo first more session.window.limit reading' session' begun left' base taken'
 
 -- the run has ended by a fault
 abbrev pub Ends : RunFault → Reading → Session → Option (List ℕ) → Option (List ℕ) → Option (List ℕ) → Option (List ℕ) → Type 0
 Ends fault reading session left left' taken taken' =
-    (limits : Limits) (first base : Option (List ℕ)) → HasCome limits reading session first left base taken → Ran limits session.window.limit (Some fault) first left' base taken'
+    (first : World) (begun base : Option (List ℕ)) → HasCome first reading session begun left base taken → RanTo (ending_of (Some fault)) first session.window.limit begun left' base taken'

@@ -6,18 +6,21 @@ ghost use Rattle.tc_command.specs.Replies.{reply_of};
 ghost use Rattle.tc_model.specs.Reply.{got, schemas};
 ghost use Rattle.tc_model.specs.Request.{request_of};
 ghost use Rattle.tc_model.specs.Limits.{max_line};
+ghost use Rattle.tc_model.specs.Weight.{IsLight};
 ghost use Rattle.tc_schema_model.specs.SchemaText.{schema_text};
-ghost use Rattle.tc_world.proofs.LineWeight.{IsLight};
-ghost use Rattle.tc_world.specs.Answer.{reply_to};
-ghost use Rattle.tc_world.specs.Run.{answers, is_control};
-ghost use Rattle.tc_world.specs.Store.{documents, stored};
+ghost use Rattle.tc_plain_model.specs.Store.{documents, stored};
+ghost use Rattle.tc_run_model.specs.World.{World};
+ghost use Rattle.tc_run_model.specs.Built.{if_built};
+ghost use Rattle.tc_run_model.specs.Windows.{is_control};
 ghost use Rattle.tc_server.specs.Asked.{request_asked};
-ghost use Rattle.tc_server.specs.Limited.{left_by, left_by_all};
+ghost use Rattle.tc_server.specs.Holds.{AreAnswered, Holds};
+ghost use Rattle.tc_server.specs.Limited.{left_by, reply_by};
 ghost use Rattle.tc_server.specs.Sound.{IsKeptOrEmpty};
 ghost use Rattle.tc_server.specs.declared.answer.Action.TheVariants.{Refuse};
 
 use crate::store::Store;
 use std::alloc::{AllocError, Global};
+use std::collections::VecDeque;
 use std::marker::Model;
 use tc_command::{Command, ParseFault, Refusal, Reply, Schemas, parse, reply_text};
 
@@ -44,7 +47,7 @@ impl Model for Asked {
 
     ghost use Rattle.tc_server.specs.Asked.{request_asked};
     ghost use Rattle.tc_model.specs.Limits.{max_line};
-    ghost use Rattle.tc_world.proofs.LineWeight.{IsLight};
+    ghost use Rattle.tc_model.specs.Weight.{IsLight};
 
     ghost view = { λ a. a.action };
 
@@ -87,7 +90,7 @@ impl Asked {
 
     /// The reply, and what it leaves in the store. Errs only for want of memory: the store is then unchanged or empty.
     pub fn answer(self, alloc: Global, store: &mut Store) -> Result<Reply, AllocError>
-        ensures reply { IfOk result (λ reply. reply_of reply ≡ reply_to store.old.limits (request_asked self) store.old.plain) }
+        ensures reply { IfOk result (λ reply. reply_of reply ≡ reply_by (request_asked self) store.old) }
         ensures after { OnOk result (store.new ≡ left_by (request_asked self) store.old) }
         ensures err { OnErr result (IsKeptOrEmpty store.old store.new) }
     {
@@ -100,7 +103,7 @@ impl Asked {
 
 fn run(alloc: Global, store: &mut Store, command: Command) -> Result<Reply, AllocError>
     requires light { IsLight max_line (request_of_command command) }
-    ensures reply { IfOk result (λ reply. reply_of reply ≡ reply_to store.old.limits (request_of_command command) store.old.plain) }
+    ensures reply { IfOk result (λ reply. reply_of reply ≡ reply_by (request_of_command command) store.old) }
     ensures after { OnOk result (store.new ≡ left_by (request_of_command command) store.old) }
     ensures err { OnErr result (IsKeptOrEmpty store.old store.new) }
 {
@@ -138,20 +141,23 @@ fn schemas(alloc: Global, store: &Store) -> Result<Reply, AllocError>
     Ok(Reply::Schemas(Schemas::of(values)))
 }
 
-/// The reply lines, in order, and what they leave in the store. Errs only for want of memory.
+/// Answers the lines, in order, until none is left, and leaves their reply lines in `replies`, in whose place others
+/// stood. Errs only for want of memory.
 pub fn answer_all(
     alloc: Global,
     store: &mut Store,
-    asked: Vec<Asked>,
-) -> Result<Vec<u8>, AllocError>
-    ensures replies { IfOk result (λ replies. replies.items ≡ answers store.old.limits (map request_asked asked.items) store.old.plain) }
-    ensures after { OnOk result (store.new ≡ left_by_all (map request_asked asked.items) store.old) }
+    asked: &mut VecDeque<Asked>,
+    replies: &mut Vec<u8>,
+) -> Result<(), AllocError>
+    ensures answered { OnOk result ((w : World) → Holds w store.old
+        → AreAnswered w (map if_built (map request_asked asked.old.items)) replies.new.items store.new) }
+    ensures none_left { OnOk result (asked.new.items ≡ []) }
 {
-    let mut replies = Vec::new(alloc);
-    for one in asked {
+    replies.clear();
+    while let Some(one) = asked.pop_front() {
         let reply = one.answer(alloc, store)?;
         let line = reply_text(alloc, &reply)?;
         replies.extend_from_slice(line.as_slice())?;
     }
-    Ok(replies)
+    Ok(())
 }

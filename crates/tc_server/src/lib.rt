@@ -11,6 +11,3 @@ mod window;
 
 pub use outcome::{Outcome, RunFault, fault_text};
 pub use server::serve;
-
-#[cfg(test)]
-mod tests;

@@ -2,8 +2,8 @@
 
 ghost use Rattle.std.specs.Prelude.{◌≡◌, ℕ, ◌≤◌, ◌<◌, ◌⊎◌, false, Some, None, IfOk, IfErr, IfSome, IsErrOf, OnOk, option_map};
 ghost use Rattle.tc_bytes.specs.Counts.{Rose};
-ghost use Rattle.tc_world.specs.Run.{max_window};
-ghost use Rattle.tc_server.specs.Ending.{Ran, Served, fault_in, limits_of, status_of};
+ghost use Rattle.tc_run_model.specs.Windows.{max_window};
+ghost use Rattle.tc_server.specs.Ending.{RanTo, Served, ending_of, fault_in, opened_by, status_of};
 ghost use Rattle.tc_server.specs.Progress.{Ends, Goes};
 ghost use Rattle.tc_server.specs.Stage.{IsWrite};
 ghost use Rattle.tc_words.specs.Options.{options_of};
@@ -77,7 +77,7 @@ fn answer_lines<I: Source, O: Sink>(
     source: &mut I,
     sink: &mut O,
 ) -> Result<(), RunFault>
-    ensures ran { Ran (limits_of options.now) options.now.window (fault_in result)
+    ensures ran { RanTo (ending_of (fault_in result)) (opened_by options.now) options.now.window
         (I.left source.old) (I.left source.new) (O.taken sink.old) (O.taken sink.new) }
     ensures read { IfErr result (λ fault. fault ≡ RunFault.Read → Rose (I.faults source.old) (I.faults source.new)) }
     ensures write { IfErr result (λ fault. IsWrite fault → Rose (O.faults sink.old) (O.faults sink.new)) }

@@ -1,32 +1,33 @@
 //! A run between two lines: the store, and the window that is open.
 
-ghost use Rattle.std.specs.Prelude.{◌≡◌, ℕ, ◌<◌, ◌≤◌, true, false, List, [], length, OnOk, IfOk, IfErr};
-ghost use Rattle.std.specs.Io.KnownBytes.{Appends};
+ghost use Rattle.std.specs.Prelude.{◌≡◌, ℕ, ◌<◌, ◌≤◌, true, false, List, [], length, OnOk, IfErr};
 ghost use Rattle.tc_model.specs.Request.{request_of};
 ghost use Rattle.tc_model.specs.Limits.{max_line};
-ghost use Rattle.tc_world.specs.Run.{answers, is_control, max_window};
-ghost use Rattle.tc_server.specs.Stage.{AsksFor, FailsAtLine, HasWriteCause, TakesLine, WritesPart};
+ghost use Rattle.tc_run_model.specs.World.{World};
+ghost use Rattle.tc_run_model.specs.Windows.{is_control, max_window};
+ghost use Rattle.tc_server.specs.Stage.{AsksFor, FailsAtLine, HasWriteCause, TakesLine};
 ghost use Rattle.tc_server.specs.Asked.{request_asked};
 ghost use Rattle.tc_server.specs.Ending.{limits_of};
-ghost use Rattle.tc_server.specs.Limited.{empty_under, left_by_all};
-ghost use Rattle.tc_server.specs.Window.{requests_of};
+ghost use Rattle.tc_server.specs.Holds.{AreWritten, Holds, WritesPart};
+ghost use Rattle.tc_server.specs.Limited.{empty_under};
+ghost use Rattle.tc_server.specs.Window.{answered_of, requests_of};
 
-use crate::answer::{Asked, answer_all};
+use crate::answer::Asked;
 use crate::outcome::RunFault;
 use crate::store::Store;
 use crate::window::Window;
-use std::alloc::{AllocError, Global};
-use std::mem;
+use std::alloc::Global;
 use tc_bytes::Bytes;
 use tc_command::Refusal;
 use tc_edge::{Sink, write_all};
 use tc_words::Options;
 
-/// The store, and the window that is open.
+/// The store, the window that is open, and room for the replies to a window, which is kept from one to the next.
 #[derive(Drop)]
 pub struct Session {
     pub store: Store,
     pub window: Window,
+    replies: Vec<u8>,
 }
 
 impl Session {
@@ -40,35 +41,23 @@ impl Session {
         Session {
             store: Store::new(alloc, options.names, options.docs),
             window: Window::new(alloc, options.window as usize),
+            replies: Vec::new(alloc),
         }
-    }
-
-    // The replies to the window that is open, which is empty afterwards.
-    fn answers(&mut self, alloc: Global) -> Result<Vec<u8>, AllocError>
-        ensures replies { IfOk result (λ replies. replies.items ≡ answers self.old.store.limits (requests_of self.old.window) self.old.store.plain) }
-        ensures store { OnOk result (self.new.store ≡ left_by_all (requests_of self.old.window) self.old.store) }
-        ensures requests { OnOk result (requests_of self.new.window ≡ []) }
-        ensures bytes { OnOk result (self.new.window.bytes ≡ 0) }
-        ensures limit { OnOk result (self.new.window.limit ≡ self.old.window.limit) }
-    {
-        let empty = Window::new(alloc, self.window.limit);
-        let window = mem::replace(&mut self.window, empty);
-        answer_all(alloc, &mut self.store, window.asked)
     }
 
     /// Answers the window that is open, and writes the replies. Errs where the sink fails, and for want of memory.
     pub fn close<O: Sink>(&mut self, alloc: Global, sink: &mut O) -> Result<(), RunFault>
-        ensures written { OnOk result
-            (Appends (O.taken sink.old) (O.taken sink.new) (answers self.old.store.limits (requests_of self.old.window) self.old.store.plain)) }
-        ensures store { OnOk result (self.new.store ≡ left_by_all (requests_of self.old.window) self.old.store) }
+        ensures written { OnOk result ((w : World) → Holds w self.old.store
+            → AreWritten w (answered_of self.old.window) (O.taken sink.old) (O.taken sink.new) self.new.store) }
         ensures requests { OnOk result (requests_of self.new.window ≡ []) }
         ensures bytes { OnOk result (self.new.window.bytes ≡ 0) }
         ensures limit { OnOk result (self.new.window.limit ≡ self.old.window.limit) }
-        ensures fault { IfErr result (λ fault. WritesPart fault (answers self.old.store.limits (requests_of self.old.window) self.old.store.plain) (O.taken sink.old) (O.taken sink.new)) }
+        ensures fault { IfErr result (λ fault. (w : World) → Holds w self.old.store
+            → WritesPart fault w (answered_of self.old.window) (O.taken sink.old) (O.taken sink.new)) }
         ensures cause { HasWriteCause (O.faults sink.old) (O.faults sink.new) result }
     {
-        let replies = self.answers(alloc)?;
-        write_all(sink, replies.as_slice())?;
+        self.window.answer(alloc, &mut self.store, &mut self.replies)?;
+        write_all(sink, self.replies.as_slice())?;
         Ok(())
     }
 

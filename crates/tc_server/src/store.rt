@@ -12,10 +12,11 @@ ghost use Rattle.tc_model.specs.Dictionary.{all_learned};
 ghost use Rattle.tc_model.specs.Request.{upsert, delete};
 ghost use Rattle.tc_value.specs.Meaning.{tree_of};
 ghost use Rattle.tc_value.specs.ShapeMeaning.{shape_tree};
-ghost use Rattle.tc_world.specs.Answer.{lacks_names, reply_to};
-ghost use Rattle.tc_world.specs.Store.{documents, names_with, stored, with_pair};
-ghost use Rattle.tc_server.specs.Limited.{empty_under, left_by};
-ghost use Rattle.tc_server.specs.Sound.{FitsLine, IsKeptOrEmpty};
+ghost use Rattle.tc_model.specs.Weight.{FitsLine};
+ghost use Rattle.tc_plain_model.specs.Store.{documents, names_with, stored, with_pair};
+ghost use Rattle.tc_plain_model.specs.Part.{lacks_names};
+ghost use Rattle.tc_server.specs.Limited.{empty_under, left_by, reply_by};
+ghost use Rattle.tc_server.specs.Sound.{IsKeptOrEmpty};
 
 use crate::fresh::count_fresh;
 use serde_json::Value;
@@ -93,7 +94,7 @@ impl Store {
     /// store is then unchanged or empty.
     pub fn upsert(&mut self, alloc: Global, key: u64, doc: Doc) -> Result<Reply, AllocError>
         requires light { FitsLine (tree_of doc) }
-        ensures reply { IfOk result (λ reply. reply_of reply ≡ reply_to self.old.limits (upsert key (tree_of doc)) self.old.plain) }
+        ensures reply { IfOk result (λ reply. reply_of reply ≡ reply_by (upsert key (tree_of doc)) self.old) }
         ensures after { OnOk result (self.new ≡ left_by (upsert key (tree_of doc)) self.old) }
         ensures err { OnErr result (IsKeptOrEmpty self.old self.new) }
     {

@@ -1,6 +1,9 @@
 //! Layer 6, programs: a document store that answers lines of JSON on standard input.
 #![tactic(auto)]
 
+ghost use Rattle.std.specs.Prelude.{◌≡◌};
+ghost use Rattle.std.specs.Process.{exit_status};
+
 use std::env::Env;
 use std::io::{Eprint, ErrorKind};
 use std::process::ExitCode;
@@ -21,6 +24,13 @@ fn main(rt: HostRuntime) -> ExitCode {
     if let Some(fault) = outcome.fault {
         report(&rt, &fault);
     }
+    exit_of(&outcome)
+}
+
+// The exit of the program.
+fn exit_of(outcome: &Outcome) -> ExitCode
+    ensures { exit_status result ≡ outcome.now.status }
+{
     ExitCode::from(outcome.status)
 }
 
@@ -51,3 +61,6 @@ fn report(rt: &(impl Eprint + AllocGlobal), fault: &RunFault) {
         let _ = eprintln!(rt; "{}", text.as_str());
     }
 }
+
+#[cfg(test)]
+mod tests;

@@ -1,5 +1,5 @@
 use Rattle.std.proofs.Common.{ap, arith}
-use Rattle.tc_server.specs.Ending.{limits_of}
+use Rattle.tc_server.specs.Ending.{limits_of, opened_by}
 use Rattle.tc_server.proofs.RunLemmas.{begins, gives_up}
 use Rattle.tc_server.proofs.server.answer_lines.Goals as goal
 
@@ -11,8 +11,8 @@ loop-init g c =
 pub returns-then-not-branch-clause-ran : goal.returns-then-not-branch-clause-ran
 returns-then-not-branch-clause-ran g c =
     let ended = rw c.if-not-branch.true at c.in_ok-answer_line.ensures.more in
-    rw (← c.loop.invariant.3) (ended (limits_of c.args.options.now) (g.I.Source.left c.args.source.now) (g.O.Sink.taken c.args.sink.now) c.loop.invariant.4)
+    rw (← c.loop.invariant.3) (ended (opened_by c.args.options.now) (g.I.Source.left c.args.source.now) (g.O.Sink.taken c.args.sink.now) c.loop.invariant.4)
 
 pub returns-clause-ran : goal.returns-clause-ran
 returns-clause-ran g c =
-    rw (← c.loop.invariant.3) (gives_up (limits_of c.args.options.now) c.loop.lines c.loop.session (g.I.Source.left c.args.source.now) (g.I.Source.left c.loop.source) (g.O.Sink.taken c.args.sink.now) (g.O.Sink.taken c.loop.sink) c.loop.invariant.4)
+    rw (← c.loop.invariant.3) (gives_up (opened_by c.args.options.now) c.loop.lines c.loop.session (g.I.Source.left c.args.source.now) (g.I.Source.left c.loop.source) (g.O.Sink.taken c.args.sink.now) (g.O.Sink.taken c.loop.sink) c.loop.invariant.4)

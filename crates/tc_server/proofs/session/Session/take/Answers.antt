@@ -1,6 +1,6 @@
 use Rattle.std.proofs.Common.{◌∙◌, ap, sym}
 use Rattle.std.proofs.lemmas.Result.{on_ok_weaker}
-use Rattle.tc_world.specs.Run.{is_control}
+use Rattle.tc_run_model.specs.Windows.{is_control}
 use Rattle.tc_server.proofs.session.Session.take.Goals as goal
 
 pub returns-then-is_control-clause-ok : goal.returns-then-is_control-clause-ok

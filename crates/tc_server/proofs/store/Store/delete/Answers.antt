@@ -2,7 +2,7 @@ use Rattle.std.proofs.Common.{◌∙◌, sym, ap, refl}
 use Rattle.std.specs.Prelude.{option_map}
 use Rattle.tc_model.specs.Document.{document_shape}
 use Rattle.tc_value.specs.ShapeMeaning.{shape_tree}
-use Rattle.tc_world.specs.Store.{stored}
+use Rattle.tc_plain_model.specs.Store.{stored}
 use Rattle.tc_model.proofs.Replacing.{none_taken_out}
 use Rattle.tc_server.proofs.StoreLemmas.{none_mapped, same_parts}
 use Rattle.tc_server.proofs.store.Store.delete.Goals as goal

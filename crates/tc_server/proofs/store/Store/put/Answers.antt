@@ -14,7 +14,7 @@ use Rattle.tc_server.specs.Pairs.{pair_of}
 use Rattle.tc_model.proofs.KeyedMaps.{map-insert_entry}
 use Rattle.tc_model.specs.Keyed.{values_in}
 use Rattle.tc_server.proofs.StoreLemmas.{counters_have_room, empty_is_sound, is_mapped, none_mapped, around_old, stands_beside, stands_without, put_is_sound, same_parts}
-use Rattle.tc_server.proofs.Weights.{light_names}
+use Rattle.tc_model.proofs.WeightBounds.{light_names}
 use Rattle.tc_server.proofs.store.Store.put.Goals as goal
 
 pub add-requires-clause-counters : goal.add-requires-clause-counters

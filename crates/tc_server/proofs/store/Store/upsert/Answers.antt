@@ -6,9 +6,9 @@ use Rattle.tc_model.specs.ShapeNames.{names_within}
 use Rattle.tc_model.specs.Dictionary.{all_learned}
 use Rattle.tc_value.specs.Meaning.{tree_of}
 use Rattle.tc_value.specs.ShapeMeaning.{shape_tree}
-use Rattle.tc_world.specs.Store.{stored}
+use Rattle.tc_plain_model.specs.Store.{stored}
 use Rattle.tc_server.proofs.StoreLemmas.{same_is_some}
-use Rattle.tc_server.proofs.Weights.{light_names, light_names_are_few}
+use Rattle.tc_model.proofs.WeightBounds.{light_names, light_names_are_few}
 use Rattle.tc_server.proofs.store.Store.upsert.Goals as goal
 
 pub lacks_names-requires-clause-room : goal.lacks_names-requires-clause-room

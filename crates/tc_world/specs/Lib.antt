@@ -1,4 +1,0 @@
-pub mod Store
-pub mod Answer
-pub mod Run
-pub mod Weight
