@@ -18,6 +18,7 @@ use Rattle.tc_schema_model.specs.Stands.{StandsFor}
 use Rattle.tc_schema_model.specs.Values.{values_at}
 use Rattle.tc_schema_model.proofs.ValueBounds.{counters_fit-sizes, nothing_stands}
 use Rattle.tc_model.specs.TreeSize.{tree_size}
+use Rattle.tc_value.specs.Meaning.{tree_of}
 use Rattle.tc_value.specs.declared.document.Doc.{Doc}
 use Rattle.tc_model.specs.Weight.{FitsLine}
 use Rattle.tc_plain_model.specs.Writes.{Pairs}
