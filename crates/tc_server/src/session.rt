@@ -56,7 +56,8 @@ impl Session {
             → WritesPart fault w (answered_of self.old.window) (O.taken sink.old) (O.taken sink.new)) }
         ensures cause { HasWriteCause (O.faults sink.old) (O.faults sink.new) result }
     {
-        self.window.answer(alloc, &mut self.store, &mut self.replies)?;
+        self.window
+            .answer(alloc, &mut self.store, &mut self.replies)?;
         write_all(sink, self.replies.as_slice())?;
         Ok(())
     }

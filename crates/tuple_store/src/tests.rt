@@ -67,7 +67,8 @@ fn run(
 #[test]
 fn pieces_of_lines(rt: HostRuntime) -> Result<(), Fail> {
     let input = b"{\"op\":\"get\",\"id\":1}\n\n\r\n{\"op\":\"get\",\"id\":1}";
-    let want = b"{\"doc\":null}\n{\"refused\":\"malformed\"}\n{\"refused\":\"malformed\"}\n{\"doc\":null}\n";
+    let want =
+        b"{\"doc\":null}\n{\"refused\":\"malformed\"}\n{\"refused\":\"malformed\"}\n{\"doc\":null}\n";
     for words in [PLAIN, ONE_BY_ONE] {
         for piece in [1usize, 7] {
             let edges = Edges {

@@ -1,6 +1,5 @@
 //! What a store in memory keeps under a name, and what its calls changed.
 
-
 use crate::file_name::FileName;
 use crate::mem::device::MemDevice;
 use std::sync::Arc;

@@ -6,8 +6,8 @@ ghost use Rattle.tc_store.specs.Disk.{Disk, IsPictureOf, MayLeaveAt};
 ghost use Rattle.tc_store.specs.Memory.Disk.{disk_of};
 ghost use Rattle.tc_store.specs.Memory.Remains.{IsAbsent, IsPictureSoFar, picture_of};
 
-use crate::mem::choices::Choices;
 use crate::file_name::FileName;
+use crate::mem::choices::Choices;
 use crate::mem::entry::{MemFile, Slot};
 use crate::mem::remains::{copied, held_image};
 use crate::mem::slots::{file_of, slot_of};

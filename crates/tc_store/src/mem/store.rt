@@ -14,7 +14,9 @@ use crate::file_name::FileName;
 use crate::mem::device::{MemDevice, push_in_room};
 use crate::mem::entry::{Act, Change, Held, MemFile, Slot};
 use crate::mem::frozen::MemFrozen;
-use crate::mem::slots::{make_slot, names_of, owed, remove_slot, return_slot, shares_of, take_from};
+use crate::mem::slots::{
+    make_slot, names_of, owed, remove_slot, return_slot, shares_of, take_from,
+};
 use crate::mem::stop::files_left;
 use crate::mem::watch::MemWatch;
 use crate::store::Store;
