@@ -1,5 +1,6 @@
 -- The laws of entries and bodies: each is read from its spelling alone.
 use Rattle.std.proofs.Common.{◌≡◌, ◌∙◌, ◌<◌, ◌+◌, ◌^◌, ◌==◌, ℕ, zero, suc, Bool, true, false, if◌then◌else◌, List, [], ◌∷◌, ◌++◌, Option, None, Some, option_map, length, map, drop, refl, sym, ap, subst, arith, append_assoc, append-nil}
+use Rattle.std.proofs.lemmas.Bool.{eqb-true}
 use Rattle.std.specs.Int.{w32}
 use Rattle.std.specs.List.{AllByRecursion}
 use Rattle.std.proofs.lemmas.Bool.Decides.{nat_tests}
@@ -56,18 +57,15 @@ record_codec = record {
 Found : List ℕ → Option (List ℕ) × List ℕ → Type 0
 Found bytes q = (bytes ≡ held_bytes q.0 ++ q.1) × IsBytes q.1 × IsHeld q.0
 
-number_is : (a b : ℕ) → (a == b) ≡ true → a ≡ b
-number_is a b same = grind (arith, nat_tests)
-
 kind_found : (kind : ℕ) (more : List ℕ) (q : Option (List ℕ) × List ℕ) (one two : Bool) → (kind == 1) ≡ one → (kind == 2) ≡ two → IsBytes more
     → (if one then mapped_at Some record_at more else (if two then Some (None, more) else None)) ≡ Some q → Found (kind ∷ more) q
 unfolding Found
 kind_found kind more q true two is_one is_two each gives =
     let parts = then_parts (record_at more) _ q gives in
     let here = record_codec.found more parts.0.0 parts.0.1 each parts.1 in
-    subst (Found (kind ∷ more)) (same_Some _ q parts.2) (rw (number_is kind 1 is_one) (ap (λ bytes. 1 ∷ bytes) here.0), here.1, here.2)
+    subst (Found (kind ∷ more)) (same_Some _ q parts.2) (rw (eqb-true kind 1 is_one) (ap (λ bytes. 1 ∷ bytes) here.0), here.1, here.2)
 kind_found kind more q false true is_one is_two each gives =
-    subst (Found (kind ∷ more)) (same_Some _ q gives) (rw (number_is kind 2 is_two) refl, each, tt)
+    subst (Found (kind ∷ more)) (same_Some _ q gives) (rw (eqb-true kind 2 is_two) refl, each, tt)
 kind_found kind more q false false is_one is_two each gives = cc
 
 held_codec : IsCodec held_at held_bytes IsHeld

@@ -2,7 +2,7 @@
 use Rattle.std.proofs.Common.{◌≡◌, ◌≢◌, ◌∙◌, ◌<◌, ◌≤◌, ◌-◌, ◌^◌, ◌==◌, ℕ, zero, suc, Bool, true, false, if◌then◌else◌, List, [], ◌∷◌, ◌++◌, Some, Result, Ok, Err, length, flat_map, refl, sym, ap, subst, arith, append_assoc, append-nil, length-append, Vec}
 use Rattle.std.specs.Int.{w32, to_be_bytes}
 use Rattle.std.specs.List.{AllByRecursion}
-use Rattle.std.proofs.lemmas.Bool.{ne_eqb}
+use Rattle.std.proofs.lemmas.Bool.{ne_eqb, eqb-true}
 use Rattle.std.proofs.lemmas.Bool.Decides.{nat_tests}
 use Rattle.tc_bytes.specs.Codec.{IsBytes, IsCodec, counted_bytes}
 use Rattle.tc_bytes.proofs.Codecs.{passing_codec, pair_codec, counted_bytes_codec}
@@ -114,9 +114,6 @@ one_found before behind q all one others = record {
   all_are = others.all_are ∙ ap (λ writes. writes ++ writes_of others.frames) one.all_are ∙ append_assoc before one.writes (writes_of others.frames);
 }
 
-number_is : (a b : ℕ) → (a == b) ≡ true → a ≡ b
-number_is a b same = grind (arith, nat_tests)
-
 pub frames_found : (n end : ℕ) (before : List Write) (bytes : List ℕ) (all : List Write) → length bytes ≤ n → IsBytes bytes → frames_judged n end before bytes ≡ Ok all → FramesFound before bytes all
 frames_found zero end before [] all few each judged = none_found before [] all tt judged
 frames_found zero end before (b ∷ bytes) all few each judged = absurd (omega (arith, few))
@@ -132,7 +129,7 @@ frames_found (suc n) end before (gate ∷ behind) all few each judged = by_gate 
         let parts = judged_parts (frame_judged end before (gate ∷ behind)) _ all judged in
         let one = frame_found end gate before behind parts.0 (λ i. each (suc i)) parts.1 in
         let shorter = ap length one.spelled ∙ length-append (frame_fields one.writes) parts.0.1 in
-        subst (λ g. FramesFound before (g ∷ behind) all) (sym (number_is gate 1 is)) (one_found before behind parts.0 all one (others parts.0 (omega arith) one.rest parts.2))
+        subst (λ g. FramesFound before (g ∷ behind) all) (sym (eqb-true gate 1 is)) (one_found before behind parts.0 all one (others parts.0 (omega arith) one.rest parts.2))
 
 -- ---- a turn of the loop that reads the frames
 

@@ -1,5 +1,6 @@
 -- The laws of whole logs: what is spelled is read, and what is read is spelled so.
 use Rattle.std.proofs.Common.{◌≡◌, ◌∙◌, ◌<◌, ◌≤◌, ◌^◌, ◌==◌, ℕ, suc, true, List, [], ◌∷◌, ◌++◌, Option, None, Some, Result, Ok, Err, length, drop, take, flat_map, refl, sym, ap, subst, arith, append_assoc, append-nil, length-append, min, ◌-◌, Vec}
+use Rattle.std.proofs.lemmas.Bool.{eqb-true}
 use Rattle.std.specs.Int.{w32, w64, to_be_bytes}
 use Rattle.std.proofs.lemmas.Bool.Decides.{nat_tests}
 use Rattle.std.proofs.lemmas.List.{nil_from_length, places}
@@ -123,10 +124,7 @@ judged_found gate behind head writes each opened judged =
 pub opened_file : (bytes : List ℕ) (head : LogHead) (writes : List Write) → IsBytes bytes → is_open_file bytes ≡ true → log_judged bytes ≡ Ok (head, writes) → Means bytes head writes
 opened_file [] head writes each opened judged = cc
 opened_file (gate ∷ []) head writes each opened judged = cc
-opened_file (gate ∷ next ∷ rest) head writes each opened judged = judged_found gate (next ∷ rest) head writes (λ i. each (suc i)) (number_is gate 1 opened) judged
-  where
-    number_is : (a b : ℕ) → (a == b) ≡ true → a ≡ b
-    number_is a b same = grind (arith, nat_tests)
+opened_file (gate ∷ next ∷ rest) head writes each opened judged = judged_found gate (next ∷ rest) head writes (λ i. each (suc i)) (eqb-true gate 1 opened) judged
 
 -- what is read is lawful, whatever the gate of the file is
 pub judged_lawful : (bytes : List ℕ) (head : LogHead) (writes : List Write) → IsBytes bytes → log_judged bytes ≡ Ok (head, writes) → IsHead head × AllByRecursion IsWrite writes
@@ -149,9 +147,6 @@ answers_whole r (Some bytes) judges = λ head writes means.
 head_length : (head : LogHead) → length (head_bytes head) ≡ 20
 head_length head = refl
 
-same_number : (a b : ℕ) → (a == b) ≡ true → a ≡ b
-same_number a b same = grind (arith, nat_tests)
-
 named_codec : (generation : ℕ) → IsCodec (passing_at (is_of generation) head_at) head_bytes (λ head. IsHead head × (is_of generation head ≡ true))
 named_codec generation = passing_codec (is_of generation) head_codec
 
@@ -161,14 +156,14 @@ named_found generation front head each short judged =
     let here = (named_codec generation).found front parts.0.0 parts.0.1 each (or_damage_parts (passing_at (is_of generation) head_at front) (damage 1 front) parts.0 parts.1) in
     let none : parts.0.1 ≡ [] = nil_from_length parts.0.1 (omega (arith, ap length here.0, length-append (head_bytes parts.0.0) parts.0.1, head_length parts.0.0, short)) in
     subst (IsNamedHead generation front) (same_Ok _ head parts.2)
-    (record { is_head = here.2.0; named = same_number parts.0.0.generation generation here.2.1; spelled = here.0 ∙ ap (λ (rest : List ℕ). head_bytes parts.0.0 ++ rest) none ∙ append-nil (head_bytes parts.0.0) })
+    (record { is_head = here.2.0; named = eqb-true parts.0.0.generation generation here.2.1; spelled = here.0 ∙ ap (λ (rest : List ℕ). head_bytes parts.0.0 ++ rest) none ∙ append-nil (head_bytes parts.0.0) })
 
 -- what is read as a header of a generation is one
 pub named_lawful : (generation : ℕ) (front : List ℕ) (head : LogHead) → IsBytes front → front_judged generation front ≡ Ok head → IsHead head × (head.generation ≡ generation)
 named_lawful generation front head each judged =
     let parts = judged_parts (or_damage (passing_at (is_of generation) head_at front) (damage 1 front)) _ head judged in
     let here = (named_codec generation).found front parts.0.0 parts.0.1 each (or_damage_parts (passing_at (is_of generation) head_at front) (damage 1 front) parts.0 parts.1) in
-    subst (λ (h : LogHead). IsHead h × (h.generation ≡ generation)) (same_Ok _ head parts.2) (here.2.0, same_number parts.0.0.generation generation here.2.1)
+    subst (λ (h : LogHead). IsHead h × (h.generation ≡ generation)) (same_Ok _ head parts.2) (here.2.0, eqb-true parts.0.0.generation generation here.2.1)
 
 -- the header of a generation is read as one
 named_judged : (generation : ℕ) (front : List ℕ) (head : LogHead) → IsNamedHead generation front head → front_judged generation front ≡ Ok head

@@ -1,5 +1,6 @@
 -- The laws of columns of numbers, whose width is the least that holds each.
-use Rattle.std.proofs.Common.{◌≡◌, ◌∙◌, ◌<◌, ◌+◌, ◌-◌, ◌*◌, ◌^◌, ◌==◌, ℕ, zero, suc, max, min, true, if◌then◌else◌, List, [], ◌∷◌, ◌++◌, None, Some, length, map, refl, sym, ap, subst, arith, append_assoc, append-nil, length-append}
+use Rattle.std.proofs.Common.{◌≡◌, ◌∙◌, ◌<◌, ◌+◌, ◌-◌, ◌*◌, ◌^◌, ◌==◌, ℕ, zero, suc, max, min, if◌then◌else◌, List, [], ◌∷◌, ◌++◌, None, Some, length, map, refl, sym, ap, subst, arith, append_assoc, append-nil, length-append}
+use Rattle.std.proofs.lemmas.Bool.{eqb-true}
 use Rattle.std.specs.Int.{bytes_high_first}
 use Rattle.std.proofs.lemmas.Bool.Decides.{nat_tests}
 use Rattle.std.proofs.lemmas.List.{nil_from_length}
@@ -92,9 +93,6 @@ least (n ∷ ns) =
 pub same_test : {A : Type 0} (a b : ℕ) (x y : A) → a ≡ b → (if a == b then x else y) ≡ x
 same_test a b x y e = grind (arith, nat_tests)
 
-test_same : (a b : ℕ) → (a == b) ≡ true → a ≡ b
-test_same a b e = grind (arith, nat_tests)
-
 -- ---- columns
 
 pub numbers_again : (w : Width) (ns rest : List ℕ) → AreFit w ns → width_bytes w ≡ width ns
@@ -128,7 +126,7 @@ numbers_found told count bytes q each gives =
     let ns = scanned.numbers_read in
     let nothing_left : scanned.rest ≡ [] = nil_from_length scanned.rest (no_rest (count * width_bytes w) _ _ column.2 (ap length scanned.spelled ∙ length-append (numbers (width_bytes w) ns) scanned.rest) (length-numbers (width_bytes w) ns ∙ ap (λ n. n * width_bytes w) (sym scanned.many))) in
     let whole : two.0.0 ≡ numbers (width_bytes w) ns = scanned.spelled ∙ ap (λ r. numbers (width_bytes w) ns ++ r) nothing_left ∙ append-nil (numbers (width_bytes w) ns) in
-    let told_least : told ≡ width ns = test_same told (least_width count three.0.0) passes.1 ∙ least_read count three.0.0 ns scanned.many (ap (λ (p : ℕ × ℕ). p.0) scanned.result) in
+    let told_least : told ≡ width ns = eqb-true told (least_width count three.0.0) passes.1 ∙ least_read count three.0.0 ns scanned.many (ap (λ (p : ℕ × ℕ). p.0) scanned.result) in
     subst (NumbersFound told count bytes) passes.0
     (record { elements = ns; width_told = width_from_found told w one.1; width_least = told_least; many = scanned.many; column = whole; spelled = column.0; each = front; rest = column.1; fits = scanned.fits })
   where

@@ -1,7 +1,7 @@
 -- The laws of the header and of the columns behind it.
 use Rattle.std.proofs.Common.{◌≡◌, ◌∙◌, ◌<◌, ◌+◌, ◌^◌, ◌==◌, ℕ, Bool, true, false, if◌then◌else◌, List, ◌∷◌, ◌++◌, Option, None, Some, length, map, refl, sym, ap, subst, arith, length-append}
+use Rattle.std.proofs.lemmas.Bool.{eqb-true}
 use Rattle.std.specs.Int.{w32, to_be_bytes}
-use Rattle.std.proofs.lemmas.Bool.Decides.{nat_tests}
 use Rattle.std.proofs.lemmas.Option.{same_Some}
 use Rattle.tc_bytes.specs.Reading.{byte_at, number_at, bytes_at}
 use Rattle.tc_bytes.specs.Codec.{IsBytes}
@@ -153,7 +153,7 @@ sections_found bytes s each gives =
       header = h;
       rest = one.0.1;
       spelled = header.spelled;
-      total = test_same h.total (length bytes) passes.1;
+      total = eqb-true h.total (length bytes) passes.1;
       form = two.1 ∙ ap Some (sym columns.named_is);
       fits = header.fits;
       columns = subst (λ b. ColumnsFound h b one.0.1 s) (sym columns.named_is) columns;
@@ -162,9 +162,6 @@ sections_found bytes s each gives =
     unless_none : {A : Type 0} (b : Bool) (x : Option A) (q : A) → (if b then x else None) ≡ Some q → (x ≡ Some q) × (b ≡ true)
     unless_none true x q gives = (gives, refl)
     unless_none false x q gives = cc
-
-    test_same : (a b : ℕ) → (a == b) ≡ true → a ≡ b
-    test_same a b e = grind (arith, nat_tests)
 
 -- ---- what is spelled is cut
 
