@@ -17,4 +17,10 @@ pub use reserving::Frame;
 pub use write::{Write, Writes};
 
 #[cfg(test)]
+mod samples;
+#[cfg(test)]
+mod stop_tests;
+#[cfg(test)]
+mod store_tests;
+#[cfg(test)]
 mod tests;
