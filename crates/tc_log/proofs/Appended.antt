@@ -219,30 +219,23 @@ gate_failed P gate bytes old first second new cause one two failed told =
     further [] told = tt
     further (f ∷ past) told = told.opened_failed
 
+opened_too : (P : Image → Type 0) (gate : ℕ) (bytes : List ℕ) (old : List DiskFile) → IfTold old (Appends P gate bytes) → LeavesOnly P old (goes_on (written gate (1 ∷ [])) (goes_on synced_file (goes_on (written (gate + 1) bytes) old)))
+opened_too P gate bytes [] told = EachSince-none (LeavesAt P) [] [] refl
+opened_too P gate bytes (f ∷ past) told =
+    EachSince-trans (LeavesAt P) (f ∷ past) (synced_file (written (gate + 1) bytes f) ∷ written (gate + 1) bytes f ∷ f ∷ past) _ (synced_too P gate bytes (f ∷ past) told)
+    (EachSince-one (LeavesAt P) (written gate (1 ∷ [])) (synced_file (written (gate + 1) bytes f) ∷ written (gate + 1) bytes f ∷ f ∷ past) told.opened)
+
+last_too : (P : Image → Type 0) (gate : ℕ) (bytes : List ℕ) (old : List DiskFile) → IfTold old (Appends P gate bytes) → LeavesOnly P old (appended gate bytes old)
+last_too P gate bytes [] told = EachSince-none (LeavesAt P) [] [] refl
+last_too P gate bytes (f ∷ past) told =
+    let third = goes_on (written gate (1 ∷ [])) (goes_on synced_file (goes_on (written (gate + 1) bytes) (f ∷ past))) in
+    EachSince-trans (LeavesAt P) (f ∷ past) third _ (opened_too P gate bytes (f ∷ past) told) (EachSince-one (LeavesAt P) synced_file third told.second_sync)
+
 -- the gate was written, and synced or not
 pub gate_written : (P : Image → Type 0) (gate : ℕ) (bytes : List ℕ) (old first second third new : List DiskFile) (r : Result (Unit {0}) DeviceFault) → first ≡ goes_on (written (gate + 1) bytes) old → second ≡ goes_on synced_file first
     → third ≡ goes_on (written gate (1 ∷ [])) second → OnOk r (new ≡ goes_on synced_file third) → OnErr r (new ≡ third) → IfTold old (Appends P gate bytes) → LeavesOnly P old new
-gate_written P gate bytes old first second third new r one two three ok err told =
-    by_result r ok err
-  where
-    opened_too : (old : List DiskFile) → IfTold old (Appends P gate bytes) → LeavesOnly P old (goes_on (written gate (1 ∷ [])) (goes_on synced_file (goes_on (written (gate + 1) bytes) old)))
-    opened_too [] told = EachSince-none (LeavesAt P) [] [] refl
-    opened_too (f ∷ past) told =
-        EachSince-trans (LeavesAt P) (f ∷ past) (synced_file (written (gate + 1) bytes f) ∷ written (gate + 1) bytes f ∷ f ∷ past) _ (synced_too P gate bytes (f ∷ past) told)
-        (EachSince-one (LeavesAt P) (written gate (1 ∷ [])) (synced_file (written (gate + 1) bytes f) ∷ written (gate + 1) bytes f ∷ f ∷ past) told.opened)
-
-    last_too : (old : List DiskFile) → IfTold old (Appends P gate bytes) → LeavesOnly P old (appended gate bytes old)
-    last_too [] told = EachSince-none (LeavesAt P) [] [] refl
-    last_too (f ∷ past) told =
-        let third = goes_on (written gate (1 ∷ [])) (goes_on synced_file (goes_on (written (gate + 1) bytes) (f ∷ past))) in
-        EachSince-trans (LeavesAt P) (f ∷ past) third _ (opened_too (f ∷ past) told) (EachSince-one (LeavesAt P) synced_file third told.second_sync)
-
-    third_is : third ≡ goes_on (written gate (1 ∷ [])) (goes_on synced_file (goes_on (written (gate + 1) bytes) old))
-    third_is = three ∙ ap (goes_on (written gate (1 ∷ []))) (two ∙ ap (goes_on synced_file) one)
-
-    by_result : (r : Result (Unit {0}) DeviceFault) → OnOk r (new ≡ goes_on synced_file third) → OnErr r (new ≡ third) → LeavesOnly P old new
-    by_result (Ok done) ok err = rw (ok, third_is) (last_too old told)
-    by_result (Err cause) ok err = rw (err, third_is) (opened_too old told)
+gate_written P gate bytes old first second third new (Ok done) one two three ok err told = rw (ok, three, two, one) (last_too P gate bytes old told)
+gate_written P gate bytes old first second third new (Err cause) one two three ok err told = rw (err, three, two, one) (opened_too P gate bytes old told)
 
 -- a log that was just created
 pub created_means : (moments : List DiskFile) (head : LogHead) → IsHead head → IfTold moments (λ f. f ≡ settled_file (log_at_rest head [])) → IfTold moments (λ f. IsSettled f × Means f.content head [])

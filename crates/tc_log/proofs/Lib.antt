@@ -5,4 +5,3 @@ pub mod Kept
 pub mod Created
 pub mod Torn
 pub mod Appended
-pub mod UpsertLaws

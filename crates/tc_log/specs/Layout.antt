@@ -1,5 +1,5 @@
 -- The tags and the sizes in the bytes of a log.
-use Rattle.std.specs.Prelude.{ℕ}
+use Rattle.std.specs.Prelude.{ℕ, ◌^◌}
 
 -- an entry with a record
 abbrev pub upsert_tag : ℕ
@@ -8,6 +8,10 @@ upsert_tag = 1
 -- an entry without one
 abbrev pub delete_tag : ℕ
 delete_tag = 2
+
+-- keys and generations are below this
+abbrev pub number_end : ℕ
+number_end = 2 ^ 63
 
 -- the header stands behind the gate of the log
 abbrev pub head_place : ℕ

@@ -1,13 +1,13 @@
 -- How the bytes of a log are judged: the header and the writes up to the first gate that is not open, or a place and
 -- the bytes there that break the rules.
-use Rattle.std.specs.Prelude.{ℕ, zero, suc, ◌-◌, ◌^◌, ◌==◌, ◌&&◌, nat_lt, Bool, false, if◌then◌else◌, List, [], ◌∷◌, length, take, drop, Option, None, Some, Result, Ok}
+use Rattle.std.specs.Prelude.{ℕ, zero, suc, ◌-◌, ◌==◌, ◌&&◌, nat_lt, Bool, false, if◌then◌else◌, List, [], ◌∷◌, length, take, drop, Option, None, Some, Result, Ok}
 use Rattle.std.specs.Int.{w32, w64}
 use Rattle.tc_bytes.specs.Codec.{any_order}
 use Rattle.tc_bytes.specs.Reading.{Reader, ◌>>=◌, byte_at, number_at, bytes_at, counted_bytes_at, mapped_at, passing_at, pair_at, elements_at, ended}
 use Rattle.tc_store.specs.Judging.{Damage, damage, or_damage, judged_then}
 use Rattle.tc_log.specs.declared.head.LogHead.{LogHead}
 use Rattle.tc_log.specs.declared.write.Write.{Write}
-use Rattle.tc_log.specs.Layout.{upsert_tag, delete_tag, head_place, head_size, leading_size}
+use Rattle.tc_log.specs.Layout.{number_end, upsert_tag, delete_tag, head_place, head_size, leading_size}
 use Rattle.tc_log.specs.Spelling.{magic}
 use Rattle.tc_record.specs.StoredTest.{is_stored}
 use Rattle.tc_log.specs.Writes.{write_of}
@@ -18,7 +18,7 @@ abbrev pub is_magic : ℕ → Bool
 is_magic n = n == magic
 
 abbrev pub is_generation : ℕ → Bool
-is_generation n = nat_lt 0 n && nat_lt n (2 ^ 63)
+is_generation n = nat_lt 0 n && nat_lt n number_end
 
 abbrev pub head_at : Reader LogHead
 head_at bytes =
@@ -36,7 +36,7 @@ held_at bytes =
     byte_at bytes >>= λ kind. if kind.0 == upsert_tag then mapped_at Some record_at kind.1 else (if kind.0 == delete_tag then Some (None, kind.1) else None)
 
 abbrev pub is_key : ℕ → Bool
-is_key n = nat_lt n (2 ^ 63)
+is_key n = nat_lt n number_end
 
 abbrev pub fields_at : Reader (ℕ × Option (List ℕ))
 fields_at = pair_at (passing_at is_key (number_at w64)) (λ key. held_at)

@@ -12,7 +12,7 @@ ghost use Rattle.tc_log.specs.declared.head.LogHead.{LogHead as Head};
 ghost use Rattle.tc_log.specs.declared.write.Write.{Write as OneWrite};
 ghost use Rattle.tc_log.specs.Appending.{created, appended, MeansWithOrWithout, Appends};
 ghost use Rattle.tc_log.specs.Frame.{with_closed_gate};
-ghost use Rattle.tc_log.specs.Layout.{empty_size};
+ghost use Rattle.tc_log.specs.Layout.{empty_size, number_end};
 ghost use Rattle.tc_log.specs.Spelling.{body_bytes, frame_bytes, log_at_rest, Means};
 ghost use Rattle.tc_log.specs.Writes.{IsWrite};
 
@@ -50,7 +50,7 @@ impl<D: Device> Log<D> {
     pub fn create(device: D, watch: &mut D::Watch, head: LogHead) -> Result<Log<D>, Broken<D>>
         requires empty { D.size device ≡ 0 }
         requires first { 0 < head.generation }
-        requires last { head.generation < 2 ^ 63 }
+        requires last { head.generation < number_end }
 
         ensures created { IfOk result (λ log. D.history log.device ≡ created head (D.history device)) }
         ensures content { IfOk result (λ log. IfTold (D.history log.device) (λ f. f ≡ settled_file (log_at_rest head []))) }

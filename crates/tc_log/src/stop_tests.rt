@@ -6,12 +6,7 @@ use std::test::Fail;
 use tc_store::{Device, Frozen, MemFrozen, MemStore, MemWatch, Store};
 
 /// Whether a stop leaves one file with these bytes, or no file.
-fn leaves(
-    alloc: Global,
-    store: MemStore,
-    choice: u64,
-    bytes: Option<&[u8]>,
-) -> Result<bool, Fail> {
+fn leaves(alloc: Global, store: MemStore, choice: u64, bytes: Option<&[u8]>) -> Result<bool, Fail> {
     let mut watch = MemWatch::new(Vec::new(alloc));
     let mut left = store.stop(choice)?;
     let names = left.names(alloc, &mut watch)?;
