@@ -1,8 +1,8 @@
 -- How a run comes from line to line, and what it did where it ends.
-use Rattle.std.proofs.Common.{◌≡◌, ℕ, ◌+◌, Bool, true, false, List, [], ◌∷◌, ◌++◌, length, refl, ap, sym, subst, ◌∙◌, inl, inr, ⊎_elim, append_assoc, append-nil, length-append, arith}
+use Rattle.std.proofs.Common.{◌≡◌, ◌⊎◌, ℕ, ◌+◌, Bool, true, false, List, [], ◌∷◌, ◌++◌, length, refl, ap, sym, subst, ◌∙◌, inl, inr, ⊎_elim, append_assoc, append-nil, length-append, arith}
 use Rattle.std.specs.Prelude.{Option, Some, None}
-use Rattle.std.specs.Io.KnownBytes.{Appends, Consumes, IsAtEnd}
-use Rattle.std.proofs.KnownBytes.{Consumes-nil, Consumes-trans, Appends-nil}
+use Rattle.std.specs.Io.KnownBytes.{Consumes, IsAtEnd}
+use Rattle.std.proofs.KnownBytes.{Consumes-nil, Consumes-trans, Appends-nil, Keeps-refl}
 use Rattle.tc_lines.specs.Answer.{Reading, BeginsWithLine, IsNextLine, IsAnswered}
 use Rattle.tc_lines.specs.declared.intake.TheConstants.{MAX_TAKEN}
 use Rattle.tc_lines.specs.declared.reader.Line.{Line}
@@ -14,11 +14,12 @@ use Rattle.tc_run_model.specs.World.{World, part_of, first_world}
 use Rattle.tc_run_model.specs.Windows.{BeginsWith, Window, Windows, windows_of, unless_empty, closed_windows, windows}
 use Rattle.tc_run_model.specs.Course.{HaveClosed}
 use Rattle.tc_run_model.proofs.WindowLaws.{BeginsWith-trans, closed-windows_of-append, windows_of-push}
-use Rattle.tc_server.specs.Ending.{ending_of, RanTo}
+use Rattle.tc_server.specs.Ending.{ending_of, RanTo, opened_by, Served}
+use Rattle.tc_words.specs.declared.run.Options.{Options}
 use Rattle.tc_server.specs.Progress.{StandsBehind, HasSeenAll, HasSeen, HasCome}
 use Rattle.tc_server.specs.Limited.{Limited, empty_under}
 use Rattle.tc_server.specs.Window.{requests_of}
-use Rattle.tc_server.specs.Stage.{IsAt, with_end, EndsAmong, StopsIn, TakesLine, FailsAtLine}
+use Rattle.tc_server.specs.Stage.{IsAt, with_end, StopsIn, TakesLine, FailsAtLine}
 use Rattle.tc_server.specs.declared.outcome.RunFault.{RunFault}
 use Rattle.tc_server.specs.declared.outcome.RunFault.TheVariants.{Usage, Read, Write, Spent, Memory}
 use Rattle.tc_server.specs.declared.session.Session.{Session}
@@ -319,3 +320,28 @@ pub gives_up : (first : World) (reading : Reading) (session : Session) (begun le
 gives_up first reading session begun left base taken come =
     ends_in first session.window.limit come.seen come.heard.input begun left base taken Memory come.heard.consumed (has_closed session.window.limit come.seen reading begun left come.heard)
     (stops_between first base taken (windows_of session.window.limit come.seen) session come.at)
+
+-- ---- no run
+
+-- a run that stopped before it read
+ran_nothing : (first : World) (most : ℕ) (left taken : Option (List ℕ)) → RanTo (ending_of (Some Memory)) first most left left taken taken
+ran_nothing first most left taken = record {
+  input = [];
+  consumed = Consumes-nil left;
+  answered = [];
+  last = [];
+  replies = [];
+  given = tt;
+  reached = (closed_windows most [], inl refl, record { more = closed_windows most []; goes_on = refl });
+  took = Appends-nil taken;
+}
+
+by_options : (o : Option Options) (left taken : Option (List ℕ)) → Served o (Some Memory) left left taken taken
+by_options None left taken = (Keeps-refl left, Keeps-refl taken)
+by_options (Some options) left taken = ran_nothing (opened_by options) options.window left taken
+
+-- where the words gave no options, nothing was read nor written
+pub served_nothing : (o : Option Options) (fault : RunFault) (left taken : Option (List ℕ)) → (fault ≡ Usage) ⊎ (fault ≡ Memory) → (fault ≡ Usage → o ≡ None) → Served o (Some fault) left left taken taken
+served_nothing o fault left taken (inl usage) none =
+    rw (none usage, usage) (Keeps-refl left, Keeps-refl taken)
+served_nothing o fault left taken (inr memory) none = rw memory (by_options o left taken)

@@ -1,5 +1,5 @@
 -- What a session does with a line, said of the windows that it stands behind.
-use Rattle.std.proofs.Common.{◌≡◌, ℕ, ◌+◌, ◌<◌, ◌≤◌, true, false, List, [], ◌∷◌, ◌++◌, length, take, map, refl, ap, sym, subst, ◌∙◌, append_assoc, append-nil, arith, length-append}
+use Rattle.std.proofs.Common.{◌≡◌, ℕ, ◌+◌, ◌<◌, ◌≤◌, true, false, List, [], ◌∷◌, ◌++◌, length, take, map, length-append, refl, ap, sym, subst, ◌∙◌, append-nil, arith}
 use Rattle.std.specs.Prelude.{Option, nat_le, ◌||◌}
 use Rattle.std.specs.Io.KnownBytes.{Appends}
 use Rattle.std.proofs.KnownBytes.{Appends-trans, Appends-kept}
@@ -128,12 +128,12 @@ fails_closing first base taken taken' ws session (Write n) whole at writes among
       last = ws.open_lines;
       replies = at.replies;
       given = at.given;
-      among = subst (λ end. BeginsWith whole (ws.closed ++ end)) (unless_empty-answered w ws.open_lines more n part.1.0 part.1.1.0) among;
+      among = subst (λ end. BeginsWith whole (ws.closed ++ end)) (unless_empty-answered w ws.open_lines more n part.1 part.2) among;
       took = (
         more,
-        part.1.0,
-        omega (arith, part.1.1.0, ap length (each_line-append at.replies more), length-append (each_line at.replies) (each_line more)),
-        first_bytes base taken taken' at.replies more n at.written part.1.1.1,
+        part.1,
+        omega (arith, part.2, ap length (each_line-append at.replies more), length-append (each_line at.replies) (each_line more)),
+        first_bytes base taken taken' at.replies more n at.written part.3,
       );
     }
 fails_closing first base taken taken' ws session Memory whole at writes among =

@@ -18,13 +18,13 @@ use Rattle.tc_schema_model.specs.Stands.{StandsFor}
 use Rattle.tc_schema_model.specs.Values.{values_at}
 use Rattle.tc_schema_model.proofs.ValueBounds.{counters_fit-sizes, nothing_stands}
 use Rattle.tc_model.specs.TreeSize.{tree_size}
-use Rattle.tc_value.specs.Meaning.{tree_of}
 use Rattle.tc_value.specs.declared.document.Doc.{Doc}
 use Rattle.tc_model.specs.Weight.{FitsLine}
 use Rattle.tc_plain_model.specs.Writes.{Pairs}
 use Rattle.tc_plain_model.specs.Store.{Store, empty, documents}
 use Rattle.tc_plain_model.specs.Part.{Limits}
 use Rattle.tc_server.specs.Limited.{Limited}
+use Rattle.tc_value.specs.Meaning.{tree_of}
 use Rattle.tc_server.specs.Pairs.{pair_of}
 use Rattle.tc_server.specs.Sound.{IsSound}
 use Rattle.tc_model.proofs.KeyedMaps.{is_some-lookup}

@@ -1,9 +1,9 @@
 //! What a line asks for, and the reply to it.
 
-ghost use Rattle.std.specs.Prelude.{◌≡◌, ◌∷◌, [], IfOk, OnOk, OnErr, map};
+ghost use Rattle.std.specs.Prelude.{◌≡◌, ◌∷◌, ◌++◌, [], IfOk, OnOk, OnErr, map};
 ghost use Rattle.tc_command.specs.Commands.{request_of_command};
 ghost use Rattle.tc_command.specs.Replies.{reply_of};
-ghost use Rattle.tc_model.specs.Reply.{got, schemas};
+ghost use Rattle.tc_model.specs.Reply.{got, reply_line, schemas};
 ghost use Rattle.tc_model.specs.Request.{request_of};
 ghost use Rattle.tc_model.specs.Limits.{max_line};
 ghost use Rattle.tc_model.specs.Weight.{IsLight};
@@ -155,9 +155,23 @@ pub fn answer_all(
 {
     replies.clear();
     while let Some(one) = asked.pop_front() {
-        let reply = one.answer(alloc, store)?;
-        let line = reply_text(alloc, &reply)?;
-        replies.extend_from_slice(line.as_slice())?;
+        answer_one(alloc, store, one, replies)?;
     }
+    Ok(())
+}
+
+// Answers a line, and puts its reply line behind the others. Errs only for want of memory.
+fn answer_one(
+    alloc: Global,
+    store: &mut Store,
+    asked: Asked,
+    replies: &mut Vec<u8>,
+) -> Result<(), AllocError>
+    ensures reply { OnOk result (replies.new.items ≡ replies.old.items ++ reply_line (reply_by (request_asked asked) store.old)) }
+    ensures after { OnOk result (store.new ≡ left_by (request_asked asked) store.old) }
+{
+    let reply = asked.answer(alloc, store)?;
+    let line = reply_text(alloc, &reply)?;
+    replies.extend_from_slice(line.as_slice())?;
     Ok(())
 }

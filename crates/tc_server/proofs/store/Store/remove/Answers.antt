@@ -2,8 +2,8 @@ use Rattle.std.proofs.Common.{◌∙◌, map, ap, arith}
 use Rattle.tc_schema_model.specs.Fits.{FitsByPath}
 use Rattle.tc_model.specs.Document.{document_shape}
 use Rattle.tc_model.specs.Keyed.{value_of}
-use Rattle.tc_value.specs.Meaning.{tree_of}
 use Rattle.tc_value.specs.ShapeMeaning.{shape_tree}
+use Rattle.tc_value.specs.Meaning.{tree_of}
 use Rattle.tc_server.specs.Pairs.{pair_of}
 use Rattle.tc_model.proofs.KeyedMaps.{map-remove_entry}
 use Rattle.tc_server.proofs.StoreLemmas.{is_mapped, fits_one, removed_is_sound}
