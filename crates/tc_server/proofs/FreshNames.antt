@@ -3,6 +3,7 @@ use Rattle.std.proofs.Common.{◌≡◌, ℕ, suc, ◌+◌, ◌≤◌, Bool, tru
 use Rattle.std.specs.Prelude.{Option, Some, None, is_some, option_map}
 use Rattle.tc_model.specs.Document.{Name}
 use Rattle.tc_model.specs.Dictionary.{number_of, learned, all_learned}
+use Rattle.tc_model.proofs.LearnedNames.{length-all_learned-most}
 use Rattle.tc_model.proofs.NameNumbers.{number_of-append}
 use Rattle.tc_model.proofs.DictionaryGrowth.{learned-known, length-learned}
 
@@ -35,17 +36,9 @@ learned_behind known fresh name none = cases (is_some (number_of (known ++ fresh
 pub nothing_learned : (known fresh : List Name) (name : Name) (n : ℕ) → number_of known name ≡ Some n → learned (known ++ fresh) name ≡ known ++ fresh
 nothing_learned known fresh name n some = learned-known (known ++ fresh) name n (number_of-append known fresh name n some)
 
-length-all_learned : (known xs : List Name) → length (all_learned known xs) ≤ length known + length xs
-length-all_learned known [] = omega arith
-length-all_learned known (x ∷ xs) = omega (arith, length-all_learned (learned known x) xs, length-learned known x)
-
 -- no more are learned than come
 pub grown : (known old new xs : List Name) → known ++ new ≡ all_learned (known ++ old) xs → length new ≤ length old + length xs
-grown known old new xs is = omega (arith, length-all_learned (known ++ old) xs, ap length is, length-append known new, length-append known old)
-
--- behind no names, what was learned is what is fresh
-pub fresh_length : (known fresh xs : List Name) → known ++ fresh ≡ all_learned (known ++ []) xs → length (all_learned known xs) ≡ length known + length fresh
-fresh_length known fresh xs is = omega (arith, length-append known fresh, ap length (is ∙ ap (λ names. all_learned names xs) (append-nil known)))
+grown known old new xs is = omega (arith, length-all_learned-most (known ++ old) xs, ap length is, length-append known new, length-append known old)
 
 pub one_grown : (known old new : List Name) (name : Name) → known ++ new ≡ learned (known ++ old) name → length new ≤ length old + 1
 one_grown known old new name is = omega (arith, length-learned (known ++ old) name, ap length is, length-append known new, length-append known old)
