@@ -1,6 +1,6 @@
 //! Sources and sinks in memory, whose calls fail where they are told to.
 
-ghost use Rattle.std.specs.Prelude.{◌≡◌, ℕ, ◌<◌, ◌≤◌, ◌↔◌, ◌⊎◌, List, [], ◌++◌, Option, Some, Ok, length, min, take, drop, Contains, IsErr, IfOk, OnErr};
+ghost use Rattle.std.specs.Prelude.{◌≡◌, ℕ, ◌<◌, ◌≤◌, ◌↔◌, ◌⊎◌, List, [], ◌++◌, Option, None, Some, Ok, length, min, take, drop, Contains, IsErr, IfOk, OnErr};
 ghost use Rattle.std.specs.Io.{ReadsAtMost, WritesAtMost};
 ghost use Rattle.std.specs.Io.KnownBytes.{ReadConsumes, WriteAppends};
 ghost use Rattle.tc_edge.specs.Faults.{count_after, is_failed_write, HasCause};
@@ -60,12 +60,14 @@ impl MemSource {
     }
 }
 
-impl Source for MemSource {
+impl<O: Sink> Source<O> for MemSource {
     ghost left = { λ s. Some s.left };
 
     ghost faults = { λ s. s.faults };
 
-    fn read(&mut self, into: &mut [u8]) -> Result<usize, EdgeFault>
+    ghost moments = { λ s. None };
+
+    fn read(&mut self, into: &mut [u8], _beside: &O) -> Result<usize, EdgeFault>
         ensures bound { ReadsAtMost result into.new }
         ensures bytes { ReadConsumes (Some self.old.left) (Some self.new.left) result into.new }
         ensures cause { HasCause self.old.faults self.new.faults result }

@@ -1,6 +1,6 @@
 //! Sources and sinks over std's readers and writers.
 
-ghost use Rattle.std.specs.Prelude.{◌≡◌, ℕ, ◌<◌, List, Option, Ok, length, is_err};
+ghost use Rattle.std.specs.Prelude.{◌≡◌, ℕ, ◌<◌, List, Option, None, Ok, length, is_err};
 ghost use Rattle.std.specs.Io.{ReadsAtMost, WritesAtMost};
 ghost use Rattle.std.specs.Io.KnownBytes.{ReadConsumes, WriteAppends};
 ghost use Rattle.tc_edge.specs.Faults.{count_after, is_failed_write, HasCause};
@@ -35,12 +35,14 @@ impl<R> StdSource<R> {
     }
 }
 
-impl<R: Read> Source for StdSource<R> {
+impl<R: Read, O: Sink> Source<O> for StdSource<R> {
     ghost left = { λ s. R.remaining s.inner };
 
     ghost faults = { λ s. s.faults };
 
-    fn read(&mut self, into: &mut [u8]) -> Result<usize, EdgeFault>
+    ghost moments = { λ s. None };
+
+    fn read(&mut self, into: &mut [u8], _beside: &O) -> Result<usize, EdgeFault>
         ensures bound { ReadsAtMost result into.new }
         ensures bytes { ReadConsumes (R.remaining (reader_of self.old))
             (R.remaining (reader_of self.new)) result into.new }

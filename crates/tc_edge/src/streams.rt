@@ -1,9 +1,10 @@
 //! The traits of sources and sinks of bytes, and writing all of a piece.
 
-ghost use Rattle.std.specs.Prelude.{◌≡◌, ℕ, ◌<◌, List, Option, Ok, length, take, OnOk, IfErr};
+ghost use Rattle.std.specs.Prelude.{◌≡◌, ℕ, ◌<◌, List, Option, Ok, length, take, OnOk, OnErr, IfOk, IfErr};
 ghost use Rattle.std.specs.Io.{ReadsAtMost, WritesAtMost};
 ghost use Rattle.std.specs.Io.KnownBytes.{Appends, ReadConsumes, WriteAppends};
 ghost use Rattle.tc_edge.specs.Faults.{HasCause};
+ghost use Rattle.tc_edge.specs.Moments.{Moment, one_read, with_further};
 ghost use Rattle.tc_bytes.specs.Counts.{Rose};
 
 use thiserror::Error;
@@ -13,20 +14,28 @@ use thiserror::Error;
 #[error("a read or a write failed")]
 pub struct EdgeFault;
 
-/// Bytes that come in.
-pub trait Source {
+/// Bytes that come in, read beside a sink. A read borrows the sink as it stands, so that a source
+/// can tell what had been accepted when its bytes were asked for.
+pub trait Source<O: Sink> {
     /// The bytes that are left, where they are told.
     ghost left: { Self → Option (List ℕ) };
 
     /// How many calls failed. The count never falls, and stands still at 2^64 - 1.
     ghost faults: { Self → ℕ };
 
+    /// The reads that did not fail, the newest first, where they are told. A source that keeps them
+    /// in memory may thus fail where it is refused.
+    ghost moments: { Self → Option (List Moment) };
+
     /// Moves the next bytes to the front of `into`. `Ok(0)` for a place that is not empty is the
     /// end of the input. An `Err` takes no byte.
-    fn read(&mut self, into: &mut [u8]) -> Result<usize, EdgeFault>
+    fn read(&mut self, into: &mut [u8], beside: &O) -> Result<usize, EdgeFault>
         ensures bound { ReadsAtMost result into.new }
         ensures bytes { ReadConsumes (left self.old) (left self.new) result into.new }
-        ensures cause { HasCause (faults self.old) (faults self.new) result };
+        ensures cause { HasCause (faults self.old) (faults self.new) result }
+        ensures told { IfOk result (λ n. moments self.new
+            ≡ with_further (one_read (O.taken beside.now) (take n into.new)) (moments self.old)) }
+        ensures untold { OnErr result (moments self.new ≡ moments self.old) };
 }
 
 /// Bytes that go out.

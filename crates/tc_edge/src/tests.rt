@@ -2,18 +2,23 @@
 
 ghost use Rattle.std.specs.Prelude.{IfOk, ◌≤◌};
 
-use crate::{EdgeFault, Source, StdSink, StdSource, WriteFault, write_all};
+use crate::{EdgeFault, MemSink, Source, StdSink, StdSource, WriteFault, write_all};
 use std::alloc::{AllocError, Global};
 use std::io;
 use std::io::{ErrorKind, Read, Write};
 use std::test::Fail;
 
 // What a number of reads into four bytes gave: the bytes of each, or `!` for a fault.
-fn reads<I: Source>(alloc: Global, source: &mut I, calls: usize) -> Result<Vec<u8>, AllocError> {
+fn reads<I: Source<MemSink>>(
+    alloc: Global,
+    source: &mut I,
+    calls: usize,
+) -> Result<Vec<u8>, AllocError> {
+    let beside = MemSink::new(alloc, 0, Vec::new(alloc));
     let mut seen = Vec::new(alloc);
     for _ in 0..calls {
         let mut piece = [b'?'; 4];
-        match source.read(&mut piece) {
+        match source.read(&mut piece, &beside) {
             Ok(count) => seen.extend_from_slice(&piece[..count])?,
             Err(EdgeFault) => seen.extend_from_slice(b"!")?,
         }

@@ -27,7 +27,7 @@ copied bytes into front at piece m n within some e most least =
     )
 
 pub returns-clause-bytes : goal.returns-clause-bytes
-returns-clause-bytes c =
+returns-clause-bytes g c =
     rw (← c.self.view_is, ← c.deref-2.ensures.value)
     (copied c.deref-2.result.now c.args.into.now c.copy_from_slice.new.self _ _ _ _ (rw c.deref-2.ensures.value c.self.invariant.0) c.self.invariant.1
     c.copy_from_slice.ensures.after c.min.ensures c.min-count.ensures)
