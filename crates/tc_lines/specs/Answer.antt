@@ -1,7 +1,9 @@
 -- A reader of lines, and what each of its answers says.
 use Rattle.std.specs.Prelude.{◌≡◌, ℕ, ◌+◌, ◌≤◌, ◌<◌, ◌⊎◌, Bool, true, false, List, [], ◌∷◌, ◌++◌, length, Option}
 use Rattle.std.specs.Io.KnownBytes.{Consumes, IsAtEnd}
+use Rattle.tc_edge.specs.Moments.{Moment}
 use Rattle.tc_model.specs.Lines.{lines_of, whole_lines}
+use Rattle.tc_lines.specs.Needed.{HasReadNeeded}
 use Rattle.tc_lines.specs.declared.intake.TheConstants.{MAX_TAKEN}
 use Rattle.tc_lines.specs.declared.reader.Line.{Line}
 use Rattle.tc_lines.specs.declared.reader.Line.TheVariants.{Whole, Oversized, End, ReadFault, Spent, Memory}
@@ -54,9 +56,10 @@ is_failure ReadFault = true
 is_failure Spent = true
 is_failure Memory = true
 
--- The reader read some input, and this is its answer.
-pub record IsAnswered (answer : Line) (old new : Reading) (left left' : Option (List ℕ)) : Type 0 where
+-- The reader read some input, and this is its answer. Each read was needed.
+pub record IsAnswered (answer : Line) (old new : Reading) (left left' accepted : Option (List ℕ)) (told told' : Option (List Moment)) : Type 0 where
   pub input : List ℕ
   pub consumed : Consumes left left' input
   pub counted : new.taken ≡ old.taken + length input
   pub says : Answers answer (old.held ++ input) new left'
+  pub prompt : HasReadNeeded old.held accepted input told told'

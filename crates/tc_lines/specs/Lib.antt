@@ -1,3 +1,4 @@
 pub mod Answer
 pub mod Giving
 pub mod Holding
+pub mod Needed

@@ -3,6 +3,7 @@
 ghost use Rattle.std.specs.Prelude.{◌≡◌, ℕ, ◌+◌, ◌-◌, ◌≤◌, ◌<◌, ◌↔◌, false, List, [], ◌∷◌, ◌++◌, ◌==◌, length, take, drop, IfOk, IfSome, OnOk, OnErr, IsErrOf, IsTrue, MatchOption, Err, vec_len};
 ghost use Rattle.std.specs.Io.KnownBytes.{Consumes, IsAtEnd, Keeps, ReadConsumes};
 ghost use Rattle.tc_edge.specs.Faults.{HasCause};
+ghost use Rattle.tc_edge.specs.Moments.{one_read, with_further};
 ghost use Rattle.tc_bytes.specs.Counts.{Rose};
 ghost use Rattle.tc_lines.specs.declared.intake.TheConstants.{PIECE, MAX_TAKEN};
 ghost use Rattle.tc_lines.specs.Holding.{Holding, IsOneLine, HasFeedAt};
@@ -12,7 +13,7 @@ use std::alloc::Global;
 use std::marker::Model;
 use std::mem;
 use tc_bytes::{Bytes, Memory};
-use tc_edge::{EdgeFault, Source};
+use tc_edge::{EdgeFault, Sink, Source};
 
 /// At most so many bytes are taken from a source in one read.
 pub const PIECE: usize = 65_536;
@@ -162,8 +163,9 @@ impl Intake {
         self.start += len + 1;
     }
 
-    /// Takes the next bytes of the source. `Ok(0)` is its end. After an `Err` nothing has changed.
-    pub fn read<I: Source>(&mut self, source: &mut I) -> Result<usize, Stop>
+    /// Takes the next bytes of the source, beside a sink. `Ok(0)` is its end. After an `Err` nothing
+    /// has changed.
+    pub fn read<I: Source<O>, O: Sink>(&mut self, source: &mut I, sink: &O) -> Result<usize, Stop>
         requires { self.old.rest ≡ [] }
         ensures ok { IfOk result (λ n. (length self.new.rest ≡ n)
             × (self.new ≡ record self.old {
@@ -174,6 +176,9 @@ impl Intake {
         ensures bytes { IfOk result (λ n. Consumes (I.left source.old) (I.left source.new) self.new.rest
             × (n ≡ 0 → IsAtEnd (I.left source.new))) }
         ensures err { OnErr result ((self.new ≡ self.old) × Keeps (I.left source.old) (I.left source.new)) }
+        ensures told { OnOk result (I.moments source.new
+            ≡ with_further (one_read (O.taken sink.now) self.new.rest) (I.moments source.old)) }
+        ensures untold { OnErr result (I.moments source.new ≡ I.moments source.old) }
         ensures fault { IsErrOf result Stop.ReadFault → Rose (I.faults source.old) (I.faults source.new) }
         ensures kept { I.faults source.old ≤ I.faults source.new }
         ensures unread { OnErr result (¬ IsErrOf result Stop.ReadFault → source.new ≡ source.old) }
@@ -191,7 +196,7 @@ impl Intake {
             return Err(Stop::Memory);
         }
         let most = (MAX_TAKEN - self.taken).min(PIECE as u64) as usize;
-        let Ok(count) = read_front(source, self.piece.as_mut_slice(), most) else {
+        let Ok(count) = read_front(source, sink, self.piece.as_mut_slice(), most) else {
             return Err(Stop::ReadFault);
         };
         self.end = count;
@@ -227,12 +232,20 @@ fn open_piece(piece: &mut Vec<u8>) -> Result<(), Memory>
 }
 
 // Reads into the first bytes of the place.
-fn read_front<I: Source>(source: &mut I, place: &mut [u8], most: usize) -> Result<usize, EdgeFault>
+fn read_front<I: Source<O>, O: Sink>(
+    source: &mut I,
+    sink: &O,
+    place: &mut [u8],
+    most: usize,
+) -> Result<usize, EdgeFault>
     requires some { 0 < most }
     requires within { most ≤ length place.old }
     ensures bound { IfOk result (λ n. n ≤ most) }
     ensures bytes { ReadConsumes (I.left source.old) (I.left source.new) result place.new }
     ensures cause { HasCause (I.faults source.old) (I.faults source.new) result }
+    ensures told { IfOk result (λ n. I.moments source.new
+        ≡ with_further (one_read (O.taken sink.now) (take n place.new)) (I.moments source.old)) }
+    ensures untold { OnErr result (I.moments source.new ≡ I.moments source.old) }
 {
-    source.read(&mut place[..most])
+    source.read(&mut place[..most], sink)
 }

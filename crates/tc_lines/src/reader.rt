@@ -12,7 +12,7 @@ use crate::intake::{Intake, Stop};
 use std::alloc::Global;
 use std::marker::Model;
 use tc_bytes::{Bytes, Memory};
-use tc_edge::Source;
+use tc_edge::{Sink, Source};
 
 /// What a reader answers when it is asked for a line.
 #[derive(Drop, Debug)]
@@ -81,12 +81,14 @@ impl Lines {
     }
 
     /// The next line of the source. A carriage return before the line feed belongs to the line, and
-    /// the last line may lack its line feed.
-    pub fn next<I: Source>(&mut self, source: &mut I) -> Line
+    /// the last line may lack its line feed. Each read is made beside the sink as it stands, so a
+    /// caller who answers what a line closes, before it asks for the next, is prompt.
+    pub fn next<I: Source<O>, O: Sink>(&mut self, source: &mut I, sink: &O) -> Line
         requires { self.old.failed ≡ false }
 
         ensures answer { self.old.ended ≡ false
-            → IsAnswered result self.old self.new (I.left source.old) (I.left source.new) }
+            → IsAnswered result self.old self.new (I.left source.old) (I.left source.new)
+            (O.taken sink.now) (I.moments source.old) (I.moments source.new) }
 
         // No read is made once the source has told of its end.
         ensures ended { self.old.ended ≡ true
@@ -113,18 +115,25 @@ impl Lines {
         if self.intake.ended() {
             return Line::End;
         }
-        let line = next_line(&mut self.intake, self.alloc, self.limit, source);
+        let line = next_line(&mut self.intake, self.alloc, self.limit, source, sink);
         self.failed = line.is_failure();
         line
     }
 }
 
 // The line before the first line feed that is held, or else of what is read next.
-fn next_line<I: Source>(intake: &mut Intake, alloc: Global, limit: usize, source: &mut I) -> Line
+fn next_line<I: Source<O>, O: Sink>(
+    intake: &mut Intake,
+    alloc: Global,
+    limit: usize,
+    source: &mut I,
+    sink: &O,
+) -> Line
     requires front { intake.old.front ≡ [] }
     requires ended { intake.old.ended ≡ false }
     ensures answer { IsAnswered result (reading_of limit false intake.old)
-        (reading_of limit (is_failure result) intake.new) (I.left source.old) (I.left source.new) }
+        (reading_of limit (is_failure result) intake.new) (I.left source.old) (I.left source.new)
+        (O.taken sink.now) (I.moments source.old) (I.moments source.new) }
     ensures front { is_failure result ≡ false → intake.new.front ≡ [] }
     ensures ended { intake.new.ended ≡ true → intake.new.front ++ intake.new.rest ≡ [] }
     ensures bounded { length (intake.new.front ++ intake.new.rest) ≤ limit + PIECE }
@@ -139,20 +148,27 @@ fn next_line<I: Source>(intake: &mut Intake, alloc: Global, limit: usize, source
 {
     match intake.find_feed() {
         Some(len) => line_at(intake, alloc, limit, len, false),
-        None => read_line(intake, alloc, limit, source),
+        None => read_line(intake, alloc, limit, source, sink),
     }
 }
 
 // The line of what is read next, where no line feed is held. The bytes of a line that is too long
 // are dropped piece by piece.
-fn read_line<I: Source>(intake: &mut Intake, alloc: Global, limit: usize, source: &mut I) -> Line
+fn read_line<I: Source<O>, O: Sink>(
+    intake: &mut Intake,
+    alloc: Global,
+    limit: usize,
+    source: &mut I,
+    sink: &O,
+) -> Line
     requires front { intake.old.front ≡ [] }
     requires ended { intake.old.ended ≡ false }
     requires rest { IsOneLine intake.old.rest }
     requires piece { length intake.old.rest ≤ PIECE }
     requires count { intake.old.taken ≤ MAX_TAKEN }
     ensures answer { IsAnswered result (reading_of limit false intake.old)
-        (reading_of limit (is_failure result) intake.new) (I.left source.old) (I.left source.new) }
+        (reading_of limit (is_failure result) intake.new) (I.left source.old) (I.left source.new)
+        (O.taken sink.now) (I.moments source.old) (I.moments source.new) }
     ensures front { is_failure result ≡ false → intake.new.front ≡ [] }
     ensures ended { intake.new.ended ≡ true → intake.new.front ++ intake.new.rest ≡ [] }
     ensures bounded { length (intake.new.front ++ intake.new.rest) ≤ limit + PIECE }
@@ -168,7 +184,7 @@ fn read_line<I: Source>(intake: &mut Intake, alloc: Global, limit: usize, source
             Ok(too_long) => oversized = too_long,
             Err(_) => return Line::Memory,
         }
-        match intake.read(source) {
+        match intake.read(source, sink) {
             Ok(0) => return last_line(intake, alloc, oversized),
             Ok(_) => {}
             Err(Stop::ReadFault) => return Line::ReadFault,

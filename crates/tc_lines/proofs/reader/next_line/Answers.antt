@@ -7,7 +7,7 @@ use Rattle.tc_lines.proofs.reader.next_line.Goals as goal
 
 pub returns-in-Some-clause-answer : goal.returns-in-Some-clause-answer
 returns-in-Some-clause-answer g c =
-    answers_at_feed _ _ _ _ _ _ _ _ _ (starts _ _ _ c.requires.front) c.requires.ended c.in-Some.ensures.feed c.line_at.ensures.line c.line_at.ensures.left c.line_at.ensures.failed
+    answers_at_feed _ _ _ _ _ _ _ _ _ _ _ _ (starts _ _ _ _ _ c.requires.front) c.requires.ended c.in-Some.ensures.feed c.line_at.ensures.line c.line_at.ensures.left c.line_at.ensures.failed
 
 pub returns-in-Some-clause-spent : goal.returns-in-Some-clause-spent
 returns-in-Some-clause-spent g c =
