@@ -18,7 +18,7 @@ use tc_value::Text;
 use tc_words::{Options, WordsFault, options};
 
 /// Answers the lines of the source for the words of the command line, which stand behind the folder.
-pub fn serve<I: Source, O: Sink>(
+pub fn serve<I: Source<O>, O: Sink>(
     alloc: Global,
     words: &[Text],
     source: &mut I,
@@ -41,7 +41,7 @@ pub fn serve<I: Source, O: Sink>(
     }
 }
 
-fn run<I: Source, O: Sink>(
+fn run<I: Source<O>, O: Sink>(
     alloc: Global,
     words: &[Text],
     source: &mut I,
@@ -71,7 +71,7 @@ fn options_of(alloc: Global, words: &[Text]) -> Result<Options, RunFault>
 }
 
 // Answers the lines of the source, under the limits and in the windows of the options.
-fn answer_lines<I: Source, O: Sink>(
+fn answer_lines<I: Source<O>, O: Sink>(
     alloc: Global,
     options: &Options,
     source: &mut I,
@@ -94,7 +94,7 @@ fn answer_lines<I: Source, O: Sink>(
 }
 
 // Takes the next line, and answers whether more may come. At the end of the input the last window is answered.
-fn answer_line<I: Source, O: Sink>(
+fn answer_line<I: Source<O>, O: Sink>(
     alloc: Global,
     lines: &mut Lines,
     session: &mut Session,
@@ -121,7 +121,7 @@ fn answer_line<I: Source, O: Sink>(
     ensures write_kept { O.faults sink.old ≤ O.faults sink.new }
     ensures write { IfErr result (λ fault. IsWrite fault → Rose (O.faults sink.old) (O.faults sink.new)) }
 {
-    match lines.next(source) {
+    match lines.next(source, sink) {
         Line::Whole(line) => {
             session.take_whole(alloc, line, sink)?;
             Ok(true)
