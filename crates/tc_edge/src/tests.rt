@@ -1,6 +1,7 @@
-//! Interrupted calls of readers and writers of std, and the texts of faults.
+//! Interrupted calls of readers and writers of std, a source that tells its reads, and the texts of faults.
 
-ghost use Rattle.std.specs.Prelude.{IfOk, ◌≤◌};
+ghost use Rattle.std.specs.Prelude.{◌≡◌, ◌≤◌, Option, None, Some, List, ◌∷◌, map, IfOk, OnOk, OnErr};
+ghost use Rattle.tc_edge.specs.Moments.{Moment, one_read, with_further};
 
 use crate::{EdgeFault, MemSink, Source, StdSink, StdSource, WriteFault, write_all};
 use std::alloc::{AllocError, Global};
@@ -86,6 +87,75 @@ fn interrupted_calls_are_made_again(rt: HostRuntime) -> Result<(), Fail> {
             fault,
             "{errors} errors"
         );
+    }
+    Ok(())
+}
+
+// A read: what the sink had accepted, and the bytes that it gave.
+#[derive(Drop)]
+struct Kept {
+    accepted: Vec<u8>,
+    given: Vec<u8>,
+}
+
+// A source of one byte a read, which keeps its reads, the newest first.
+#[derive(Drop)]
+struct Telling {
+    kept: Vec<Kept>,
+    faults: u64,
+}
+
+impl Telling {
+    fn keep(&mut self, alloc: Global, accepted: &[u8], given: &[u8]) -> Result<(), AllocError>
+        ensures kept { OnOk result ((kept : Kept) × (self.new.kept.items ≡ kept ∷ self.old.kept.items)
+            × (kept.accepted.items ≡ accepted.now) × (kept.given.items ≡ given.now)) }
+        ensures same { OnErr result (self.new.kept.items ≡ self.old.kept.items) }
+        ensures faults { self.new.faults ≡ self.old.faults }
+    {
+        let kept = Kept {
+            accepted: Vec::from_slice(alloc, accepted)?,
+            given: Vec::from_slice(alloc, given)?,
+        };
+        Ok(self.kept.insert(0, kept)?)
+    }
+}
+
+impl Source<MemSink> for Telling {
+    ghost left = { λ s. None };
+
+    ghost faults = { λ s. s.faults };
+
+    ghost moments = { λ s. Some (map
+        (λ kept. record { accepted = Some kept.accepted.items; given = kept.given.items }) s.kept.items) };
+
+    fn read(&mut self, into: &mut [u8], beside: &MemSink) -> Result<usize, EdgeFault> {
+        let alloc = *self.kept.allocator();
+        let count = into.len().min(1);
+        into[..count].fill(b'x');
+        if self.keep(alloc, beside.taken(), &into[..count]).is_err() {
+            self.faults = self.faults.saturating_add(1);
+            return Err(EdgeFault);
+        }
+        Ok(count)
+    }
+}
+
+#[test]
+fn a_source_tells_its_reads(rt: HostRuntime) -> Result<(), Fail> {
+    let mut sink = MemSink::new(rt.alloc(), 9, Vec::new(rt.alloc()));
+    let mut source = Telling {
+        kept: Vec::new(rt.alloc()),
+        faults: 0,
+    };
+    let mut place = [0u8; 4];
+    assert_eq!(rt; source.read(&mut place, &sink), Ok(1));
+    assert_eq!(rt; write_all(&mut sink, b"ab"), Ok(()));
+    assert_eq!(rt; source.read(&mut place, &sink), Ok(1));
+    let accepted: [&[u8]; 2] = [b"ab", b""];
+    assert_eq!(rt; source.kept.len(), 2);
+    for (kept, accepted) in source.kept.iter().zip(accepted) {
+        assert_eq!(rt; kept.accepted.as_slice(), accepted);
+        assert_eq!(rt; kept.given.as_slice(), b"x".as_slice());
     }
     Ok(())
 }
