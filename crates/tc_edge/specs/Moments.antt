@@ -24,6 +24,13 @@ abbrev pub ArePrompt : (List ℕ → Option (List ℕ) → Type 0) → List Mome
 ArePrompt due [] = Unit {0}
 ArePrompt due (moment ∷ before) = due (all_given before) moment.accepted × ArePrompt due before
 
+-- The reads from those told before on to those told now gave this input, and each was prompt.
+pub record GavePromptly (due : List ℕ → Option (List ℕ) → Type 0) (input : List ℕ) (told told' : Option (List Moment)) : Type 0 where
+  pub further : List Moment
+  pub moments : told' ≡ with_further further told
+  pub given : all_given further ≡ input
+  pub prompt : ArePrompt due further
+
 -- From the reads that were told on to those that are told now, each further one was prompt.
 abbrev pub IsPrompt : (List ℕ → Option (List ℕ) → Type 0) → Option (List Moment) → Option (List Moment) → Type 0
-IsPrompt due old new = (further : List Moment) × (new ≡ with_further further old) × ArePrompt due further
+IsPrompt due told told' = (input : List ℕ) × GavePromptly due input told told'
