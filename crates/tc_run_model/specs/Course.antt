@@ -76,6 +76,11 @@ Took shown (output_failed n) first answered last replies taken taken' =
 Took shown stopped first answered last replies taken taken' = Appends taken taken' (shown replies)
 Took shown unopened first answered last replies taken taken' = Appends taken taken' (shown replies)
 
+-- What is due by given input: the replies to the windows that have closed among it, to a sink that had taken `base`.
+abbrev pub IsDue : Shown → World → ℕ → Option (List ℕ) → List ℕ → Option (List ℕ) → Type 0
+IsDue shown first most base given accepted =
+    (replies : List Reply) × AreReplies (requests_in (closed_windows most given)) first replies × Appends base accepted (shown replies)
+
 -- ---- a run
 
 -- a run from a first world, over windows of at most so many lines, of whose replies so much is shown
