@@ -3,18 +3,22 @@ use Rattle.std.proofs.Common.{◌≡◌, ◌⊎◌, ℕ, ◌+◌, Bool, true, fa
 use Rattle.std.specs.Prelude.{Option, Some, None}
 use Rattle.std.specs.Io.KnownBytes.{Consumes, IsAtEnd}
 use Rattle.std.proofs.KnownBytes.{Consumes-nil, Consumes-trans, Appends-nil, Keeps-refl}
+use Rattle.tc_edge.specs.Moments.{Moment, GavePromptly}
+use Rattle.tc_lines.specs.Needed.{HasReadNeeded}
 use Rattle.tc_lines.specs.Answer.{Reading, BeginsWithLine, IsNextLine, IsAnswered}
 use Rattle.tc_lines.specs.declared.intake.TheConstants.{MAX_TAKEN}
 use Rattle.tc_lines.specs.declared.reader.Line.{Line}
 use Rattle.tc_lines.specs.declared.reader.Line.TheVariants.{End}
+use Rattle.tc_lines.proofs.NeededReads.{begins_promptly, goes_on_promptly}
 use Rattle.tc_model.specs.Lines.{lines_of, whole_lines}
 use Rattle.tc_plain_model.specs.Store.{empty}
 use Rattle.tc_plain_model.specs.Part.{Limits}
 use Rattle.tc_run_model.specs.World.{World, part_of, first_world}
 use Rattle.tc_run_model.specs.Windows.{BeginsWith, Window, Windows, windows_of, unless_empty, closed_windows, windows}
-use Rattle.tc_run_model.specs.Course.{HaveClosed}
+use Rattle.tc_run_model.specs.Course.{HaveClosed, requests_in, each_line, IsDue}
+use Rattle.tc_run_model.specs.Replies.{AreReplies}
 use Rattle.tc_run_model.proofs.WindowLaws.{BeginsWith-trans, closed-windows_of-append, windows_of-push}
-use Rattle.tc_server.specs.Ending.{ending_of, RanTo, opened_by, Served}
+use Rattle.tc_server.specs.Ending.{ending_of, RanTo, opened_by, ReadsPromptly, Served, ServedPromptly}
 use Rattle.tc_words.specs.declared.run.Options.{Options}
 use Rattle.tc_server.specs.Progress.{StandsBehind, HasSeenAll, HasSeen, HasCome}
 use Rattle.tc_server.specs.Limited.{Limited, empty_under}
@@ -100,6 +104,25 @@ has_closed limit seen reading begun left heard =
     (λ place. closed_at_end limit seen heard.input left place.1)
     heard.place
 
+-- the windows that closed among the whole lines of what was read are those of the lines that were seen
+closed-no_more : (limit : ℕ) (seen : List (List ℕ)) (old : Reading) (begun left : Option (List ℕ)) → old.ended ≡ false → (heard : HasSeen seen old begun left)
+    → (now : List ℕ) → whole_lines (old.held ++ now) ≡ [] → (windows_of limit seen).closed ≡ closed_windows limit (heard.input ++ now)
+closed-no_more limit seen old begun left goes heard now none =
+    ap (λ lines. (windows_of limit lines).closed) (sym (all_lines whole_lines heard.input now old.held seen [] (stands seen old begun left goes heard).whole none ∙ append-nil seen))
+
+-- The reads of the next line were prompt: what the lines that were seen closed is answered, and these reads gave no whole
+-- line but at their end.
+asks_promptly : (first : World) (old : Reading) (session : Session) (begun left base taken : Option (List ℕ)) (told told' told'' : Option (List Moment)) → old.ended ≡ false
+    → (come : HasCome first old session begun left base taken told told') → (now : List ℕ) → HasReadNeeded old.held taken now told' told''
+    → GavePromptly (IsDue each_line first session.window.limit base) (come.heard.input ++ now) told told''
+asks_promptly first old session begun left base taken told told' told'' goes come now reads =
+    let limit = session.window.limit in
+    goes_on_promptly (IsDue each_line first limit base) come.heard.input now old.held taken told told' told'' come.prompt reads (λ given none. (
+      come.at.replies,
+      subst (λ ws. AreReplies (requests_in ws) first come.at.replies) (closed-no_more limit come.seen old begun left goes come.heard given none) come.at.given,
+      come.at.written,
+    ))
+
 -- a fault in windows that have closed ends the run
 ends_in : (first : World) (limit : ℕ) (seen : List (List ℕ)) (input : List ℕ) (begun left base taken : Option (List ℕ)) (fault : RunFault) → Consumes begun left input → HasClosed limit seen input left
     → StopsIn first fault base (windows_of limit seen).closed taken → RanTo (ending_of (Some fault)) first limit begun left base taken
@@ -129,17 +152,19 @@ ends_in first limit seen input begun left base taken Spent consumed has stops = 
 
 -- ---- a line is taken
 
-pub goes_on : (first : World) (line : List ℕ) (old new : Reading) (before after : Session) (begun left left' base taken taken' : Option (List ℕ)) → old.ended ≡ false → (come : HasCome first old before begun left base taken)
-    → (now : List ℕ) → Consumes left left' now → new.taken ≡ old.taken + length now → IsNextLine (old.held ++ now) line new left'
-    → TakesLine line before taken after taken' → after.window.limit ≡ before.window.limit
-    → HasCome first new after begun left' base taken'
-goes_on first line old new before after begun left left' base taken taken' goes come now consumed counted next takes same = record {
+pub goes_on : (first : World) (line : List ℕ) (old new : Reading) (before after : Session) (begun left left' base taken taken' : Option (List ℕ)) (told told' told'' : Option (List Moment)) → old.ended ≡ false
+    → (come : HasCome first old before begun left base taken told told') → (now : List ℕ) → Consumes left left' now → new.taken ≡ old.taken + length now → IsNextLine (old.held ++ now) line new left'
+    → HasReadNeeded old.held taken now told' told'' → TakesLine line before taken after taken' → after.window.limit ≡ before.window.limit
+    → HasCome first new after begun left' base taken' told told''
+unfolding hears_line
+goes_on first line old new before after begun left left' base taken taken' told told' told'' goes come now consumed counted next reads takes same = record {
   seen = come.seen ++ line ∷ [];
   heard = hears_line come.seen line old new begun left left' goes come.heard now consumed counted next;
   at = subst (λ (ws : Windows). IsAt first base ws after taken') (sym (ap (λ limit. windows_of limit (come.seen ++ line ∷ [])) same ∙ windows_of-push before.window.limit come.seen line)) (takes first base (windows_of before.window.limit come.seen) come.at);
+  prompt = subst (λ limit. GavePromptly (IsDue each_line first limit base) (come.heard.input ++ now) told told'') (sym same) (asks_promptly first old before begun left base taken told told' told'' goes come now reads);
 }
 
-pub fails_at_line : (first : World) (fault : RunFault) (line : List ℕ) (old new : Reading) (before : Session) (begun left left' base taken taken' : Option (List ℕ)) → old.ended ≡ false → (come : HasCome first old before begun left base taken)
+pub fails_at_line : {told told' : Option (List Moment)} (first : World) (fault : RunFault) (line : List ℕ) (old new : Reading) (before : Session) (begun left left' base taken taken' : Option (List ℕ)) → old.ended ≡ false → (come : HasCome first old before begun left base taken told told')
     → (now : List ℕ) → Consumes left left' now → new.taken ≡ old.taken + length now → IsNextLine (old.held ++ now) line new left'
     → FailsAtLine fault line before taken taken'
     → RanTo (ending_of (Some fault)) first before.window.limit begun left' base taken'
@@ -219,13 +244,7 @@ fails_at_end first limit seen Spent begun left base taken heard stops = absurd s
 
 -- ---- a failure of the reader
 
--- the windows that closed among the whole lines of what was read are those of the lines that were seen
-closed-no_more : (limit : ℕ) (seen : List (List ℕ)) (old : Reading) (begun left : Option (List ℕ)) → old.ended ≡ false → (heard : HasSeen seen old begun left)
-    → (now : List ℕ) → whole_lines (old.held ++ now) ≡ [] → (windows_of limit seen).closed ≡ closed_windows limit (heard.input ++ now)
-closed-no_more limit seen old begun left goes heard now none =
-    ap (λ lines. (windows_of limit lines).closed) (sym (all_lines whole_lines heard.input now old.held seen [] (stands seen old begun left goes heard).whole none ∙ append-nil seen))
-
-pub read_failed : (first : World) (old : Reading) (session : Session) (begun left left' base taken : Option (List ℕ)) → old.ended ≡ false → HasCome first old session begun left base taken
+pub read_failed : {told told' : Option (List Moment)} (first : World) (old : Reading) (session : Session) (begun left left' base taken : Option (List ℕ)) → old.ended ≡ false → HasCome first old session begun left base taken told told'
     → (now : List ℕ) → Consumes left left' now → whole_lines (old.held ++ now) ≡ [] → RanTo (ending_of (Some Read)) first session.window.limit begun left' base taken
 read_failed first old session begun left left' base taken goes come now consumed none = record {
   input = come.heard.input ++ now;
@@ -238,7 +257,7 @@ read_failed first old session begun left left' base taken goes come now consumed
   took = come.at.written;
 }
 
-pub all_taken : (first : World) (old new : Reading) (session : Session) (begun left left' base taken : Option (List ℕ)) → old.ended ≡ false → HasCome first old session begun left base taken
+pub all_taken : {told told' : Option (List Moment)} (first : World) (old new : Reading) (session : Session) (begun left left' base taken : Option (List ℕ)) → old.ended ≡ false → HasCome first old session begun left base taken told told'
     → (now : List ℕ) → Consumes left left' now → new.taken ≡ old.taken + length now → whole_lines (old.held ++ now) ≡ [] → new.taken ≡ MAX_TAKEN
     → RanTo (ending_of (Some Spent)) first session.window.limit begun left' base taken
 all_taken first old new session begun left left' base taken goes come now consumed counted none all = record {
@@ -256,7 +275,7 @@ all_taken first old new session begun left left' base taken goes come now consum
   took = come.at.written;
 }
 
-pub reads_without_memory : (first : World) (old : Reading) (session : Session) (begun left left' base taken : Option (List ℕ)) → old.ended ≡ false → HasCome first old session begun left base taken
+pub reads_without_memory : {told told' : Option (List Moment)} (first : World) (old : Reading) (session : Session) (begun left left' base taken : Option (List ℕ)) → old.ended ≡ false → HasCome first old session begun left base taken told told'
     → (now : List ℕ) → Consumes left left' now → RanTo (ending_of (Some Memory)) first session.window.limit begun left' base taken
 reads_without_memory first old session begun left left' base taken goes come now consumed =
     let limit = session.window.limit in
@@ -276,21 +295,31 @@ pub goes_by : (answer : Line) (old : Reading) → (answer ≡ End → ⊥) → (
 goes_by answer old other ends = not_true old.ended (λ ended. other (ends ended))
 
 -- at the answer of the end all lines were seen
-pub hears_all : (seen : List (List ℕ)) (old new : Reading) (begun left left' : Option (List ℕ)) → HasSeen seen old begun left
-    → (old.ended ≡ false → IsAnswered End old new left left') → (old.ended ≡ true → left' ≡ left) → HasHeardAll seen begun left'
+pub hears_all : {accepted : Option (List ℕ)} {told told' : Option (List Moment)} (seen : List (List ℕ)) (old new : Reading) (begun left left' : Option (List ℕ)) → HasSeen seen old begun left
+    → (old.ended ≡ false → IsAnswered End old new left left' accepted told told') → (old.ended ≡ true → left' ≡ left) → HasHeardAll seen begun left'
 hears_all seen old new begun left left' heard answers same =
     ⊎_elim
     (λ place. let a = answers place.0 in hears_end seen old new begun left left' place.0 heard a.input a.consumed a.says.0 a.says.1.at_end)
     (λ place. subst (HasHeardAll seen begun) (sym (same place.0)) (heard_end seen old begun left place.0 heard))
     heard.place
 
+-- all reads up to an answer were prompt
+pub asked_promptly : (answer : Line) (first : World) (old new : Reading) (session : Session) (begun left left' base taken : Option (List ℕ)) (told told' told'' : Option (List Moment))
+    → HasCome first old session begun left base taken told told' → (old.ended ≡ false → IsAnswered answer old new left left' taken told' told'') → (old.ended ≡ true → told'' ≡ told')
+    → ReadsPromptly first session.window.limit base told told''
+asked_promptly answer first old new session begun left left' base taken told told' told'' come answers same =
+    ⊎_elim
+    (λ place. let a = answers place.0 in (come.heard.input ++ a.input, asks_promptly first old session begun left base taken told told' told'' place.0 come a.input a.prompt))
+    (λ place. (come.heard.input, subst (GavePromptly (IsDue each_line first session.window.limit base) come.heard.input told) (sym (same place.0)) come.prompt))
+    come.heard.place
+
 -- ---- the first line, and after as many as can be
 
 -- before the first line nothing was read nor written
-pub begins : (limits : Limits) (limit : ℕ) (reading : Reading) (session : Session) (left taken : Option (List ℕ)) → reading ≡ record { limit = limit; held = []; taken = 0; failed = false; ended = false }
+pub begins : (limits : Limits) (limit : ℕ) (reading : Reading) (session : Session) (left taken : Option (List ℕ)) (told : Option (List Moment)) → reading ≡ record { limit = limit; held = []; taken = 0; failed = false; ended = false }
     → session.store ≡ empty_under limits → requests_of session.window ≡ [] → session.window.bytes ≡ 0
-    → HasCome (first_world limits (empty ∷ [])) reading session left left taken taken
-begins limits limit reading session left taken fresh store requests bytes =
+    → HasCome (first_world limits (empty ∷ [])) reading session left left taken taken told told
+begins limits limit reading session left taken told fresh store requests bytes =
     let held : reading.held ≡ [] = ap (λ (r : Reading). r.held) fresh in record {
       seen = [];
       heard = record {
@@ -313,10 +342,11 @@ begins limits limit reading session left taken fresh store requests bytes =
         requests = requests;
         bytes = bytes;
       };
+      prompt = begins_promptly (IsDue each_line (first_world limits (empty ∷ [])) session.window.limit taken) told;
     }
 
 -- a run that gives up between two lines has answered the windows that have closed
-pub gives_up : (first : World) (reading : Reading) (session : Session) (begun left base taken : Option (List ℕ)) → HasCome first reading session begun left base taken → RanTo (ending_of (Some Memory)) first session.window.limit begun left base taken
+pub gives_up : {told told' : Option (List Moment)} (first : World) (reading : Reading) (session : Session) (begun left base taken : Option (List ℕ)) → HasCome first reading session begun left base taken told told' → RanTo (ending_of (Some Memory)) first session.window.limit begun left base taken
 gives_up first reading session begun left base taken come =
     ends_in first session.window.limit come.seen come.heard.input begun left base taken Memory come.heard.consumed (has_closed session.window.limit come.seen reading begun left come.heard)
     (stops_between first base taken (windows_of session.window.limit come.seen) session come.at)
@@ -345,3 +375,8 @@ pub served_nothing : (o : Option Options) (fault : RunFault) (left taken : Optio
 served_nothing o fault left taken (inl usage) none =
     rw (none usage, usage) (Keeps-refl left, Keeps-refl taken)
 served_nothing o fault left taken (inr memory) none = rw memory (by_options o left taken)
+
+-- where the words gave no options, there was no read
+pub served_unread : (o : Option Options) (base : Option (List ℕ)) (told : Option (List Moment)) → ServedPromptly o base told told
+served_unread None base told = refl
+served_unread (Some options) base told = ([], begins_promptly (IsDue each_line (opened_by options) options.window base) told)

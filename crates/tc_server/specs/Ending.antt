@@ -1,10 +1,11 @@
 -- What a run read and wrote, by the way in which it ended.
-use Rattle.std.specs.Prelude.{ℕ, List, [], ◌∷◌, Option, Some, None, Result, Ok, Err}
+use Rattle.std.specs.Prelude.{◌≡◌, ℕ, List, [], ◌∷◌, Option, Some, None, Result, Ok, Err}
 use Rattle.std.specs.Io.KnownBytes.{Keeps}
+use Rattle.tc_edge.specs.Moments.{Moment, IsPrompt}
 use Rattle.tc_plain_model.specs.Store.{empty}
 use Rattle.tc_plain_model.specs.Part.{Limits}
 use Rattle.tc_run_model.specs.World.{World, first_world}
-use Rattle.tc_run_model.specs.Course.{Ending, finished, input_failed, input_spent, output_failed, stopped, each_line, Ran}
+use Rattle.tc_run_model.specs.Course.{Ending, finished, input_failed, input_spent, output_failed, stopped, each_line, IsDue, Ran}
 use Rattle.tc_server.specs.declared.outcome.RunFault.{RunFault}
 use Rattle.tc_server.specs.declared.outcome.RunFault.TheVariants.{Usage, Read, Write, Spent, Memory}
 use Rattle.tc_words.specs.declared.run.Options.{Options}
@@ -45,9 +46,19 @@ limits_of options = record { names = options.names; docs = options.docs }
 abbrev pub opened_by : Options → World
 opened_by options = first_world (limits_of options) (empty ∷ [])
 
+-- Each read from those told at first on to those told now was asked for when the sink, which had taken `base`, had
+-- accepted the replies to the windows that had closed among the bytes given before it, and no more.
+abbrev pub ReadsPromptly : World → ℕ → Option (List ℕ) → Option (List Moment) → Option (List Moment) → Type 0
+ReadsPromptly first most base told told' = IsPrompt (IsDue each_line first most base) told told'
+
 -- A run for these options, or for words that are none, which reads and writes nothing.
 abbrev pub Served : Option Options → Option RunFault → Option (List ℕ) → Option (List ℕ) → Option (List ℕ) → Option (List ℕ) → Type 0
 Served (Some options) fault left left' taken taken' = RanTo (ending_of fault) (opened_by options) options.window left left' taken taken'
 Served None (Some Usage) left left' taken taken' = Keeps left left' × Keeps taken taken'
 Served None (Some Memory) left left' taken taken' = Keeps left left' × Keeps taken taken'
 Served None _ left left' taken taken' = ⊥
+
+-- the reads of a run for these options were prompt, and for words that are none there was no read
+abbrev pub ServedPromptly : Option Options → Option (List ℕ) → Option (List Moment) → Option (List Moment) → Type 0
+ServedPromptly (Some options) base told told' = ReadsPromptly (opened_by options) options.window base told told'
+ServedPromptly None base told told' = told' ≡ told

@@ -3,8 +3,8 @@
 ghost use Rattle.std.specs.Prelude.{◌≡◌, ℕ, ◌≤◌, ◌<◌, ◌⊎◌, false, Some, None, IfOk, IfErr, IfSome, IsErrOf, OnOk, option_map};
 ghost use Rattle.tc_bytes.specs.Counts.{Rose};
 ghost use Rattle.tc_run_model.specs.Windows.{max_window};
-ghost use Rattle.tc_server.specs.Ending.{RanTo, Served, ending_of, fault_in, opened_by, status_of};
-ghost use Rattle.tc_server.specs.Progress.{Ends, Goes};
+ghost use Rattle.tc_server.specs.Ending.{RanTo, ReadsPromptly, Served, ServedPromptly, ending_of, fault_in, opened_by, status_of};
+ghost use Rattle.tc_server.specs.Progress.{AsksPromptly, Ends, Goes};
 ghost use Rattle.tc_server.specs.Stage.{IsWrite};
 ghost use Rattle.tc_words.specs.Options.{options_of};
 
@@ -30,6 +30,11 @@ pub fn serve<I: Source<O>, O: Sink>(
     ensures served { Served (options_of words.now) result.fault
         (I.left source.old) (I.left source.new) (O.taken sink.old) (O.taken sink.new) }
 
+    // At each read the sink had accepted the replies to the windows that had closed among what was
+    // given before it, and no more.
+    ensures prompt { ServedPromptly (options_of words.now) (O.taken sink.old)
+        (I.moments source.old) (I.moments source.new) }
+
     // When a fault may be answered.
     ensures usage { result.fault ≡ Some RunFault.Usage → options_of words.now ≡ None }
     ensures read { result.fault ≡ Some RunFault.Read → Rose (I.faults source.old) (I.faults source.new) }
@@ -49,6 +54,8 @@ fn run<I: Source<O>, O: Sink>(
 ) -> Result<(), RunFault>
     ensures served { Served (options_of words.now) (fault_in result)
         (I.left source.old) (I.left source.new) (O.taken sink.old) (O.taken sink.new) }
+    ensures prompt { ServedPromptly (options_of words.now) (O.taken sink.old)
+        (I.moments source.old) (I.moments source.new) }
     ensures usage { IfErr result (λ fault. fault ≡ RunFault.Usage → options_of words.now ≡ None) }
     ensures read { IfErr result (λ fault. fault ≡ RunFault.Read → Rose (I.faults source.old) (I.faults source.new)) }
     ensures write { IfErr result (λ fault. IsWrite fault → Rose (O.faults sink.old) (O.faults sink.new)) }
@@ -79,6 +86,8 @@ fn answer_lines<I: Source<O>, O: Sink>(
 ) -> Result<(), RunFault>
     ensures ran { RanTo (ending_of (fault_in result)) (opened_by options.now) options.now.window
         (I.left source.old) (I.left source.new) (O.taken sink.old) (O.taken sink.new) }
+    ensures prompt { ReadsPromptly (opened_by options.now) options.now.window (O.taken sink.old)
+        (I.moments source.old) (I.moments source.new) }
     ensures read { IfErr result (λ fault. fault ≡ RunFault.Read → Rose (I.faults source.old) (I.faults source.new)) }
     ensures write { IfErr result (λ fault. IsWrite fault → Rose (O.faults sink.old) (O.faults sink.new)) }
 {
@@ -111,10 +120,15 @@ fn answer_line<I: Source<O>, O: Sink>(
 
     // Behind the lines that came before, one more came, or the input is answered, or the run has failed.
     ensures more { IfOk result (λ more. Goes more
-        lines.old session.old (I.left source.old) (O.taken sink.old)
-        lines.new session.new (I.left source.new) (O.taken sink.new)) }
+        lines.old session.old (I.left source.old) (O.taken sink.old) (I.moments source.old)
+        lines.new session.new (I.left source.new) (O.taken sink.new) (I.moments source.new)) }
     ensures fault { IfErr result (λ fault. Ends fault lines.old session.old
-        (I.left source.old) (I.left source.new) (O.taken sink.old) (O.taken sink.new)) }
+        (I.left source.old) (I.left source.new) (O.taken sink.old) (O.taken sink.new)
+        (I.moments source.old)) }
+
+    // Each read for the line was asked for when all windows before it were answered, and no more.
+    ensures prompt { AsksPromptly lines.old session.old (I.left source.old) (O.taken sink.old)
+        (I.moments source.old) (I.moments source.new) }
 
     ensures read_kept { I.faults source.old ≤ I.faults source.new }
     ensures read { IfErr result (λ fault. fault ≡ RunFault.Read → Rose (I.faults source.old) (I.faults source.new)) }
