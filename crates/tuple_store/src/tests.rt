@@ -2,6 +2,7 @@
 
 mod churn;
 mod longer;
+mod prompt;
 
 use std::alloc::{AllocError, Global};
 use std::test::Fail;
