@@ -13,18 +13,18 @@ use Rattle.std.proofs.lemmas.Map.Keys.{sorted_head, sorted_tail}
 use Rattle.tc_model.specs.Keyed.{Keyed, with_value, without_key}
 
 -- each of these keys is greater
-abbrev AreAbove : ℕ → List ℕ → Type 0
+abbrev pub AreAbove : ℕ → List ℕ → Type 0
 AreAbove m ks = AllByRecursion (λ k. nat_cmp m k ≡ Less) ks
 
-sorted_nil : IsStrictlySortedBy nat_cmp []
+pub sorted_nil : IsStrictlySortedBy nat_cmp []
 unfolding IsStrictlySortedBy
 sorted_nil = tt
 
-sorted_cons : (k : ℕ) (ks : List ℕ) → AreAbove k ks → IsStrictlySortedBy nat_cmp ks → IsStrictlySortedBy nat_cmp (k ∷ ks)
+pub sorted_cons : (k : ℕ) (ks : List ℕ) → AreAbove k ks → IsStrictlySortedBy nat_cmp ks → IsStrictlySortedBy nat_cmp (k ∷ ks)
 unfolding IsStrictlySortedBy
 sorted_cons k ks above sorted = (above, sorted)
 
-above_less : (n m : ℕ) (ks : List ℕ) → nat_cmp n m ≡ Less → AreAbove m ks → AreAbove n ks
+pub above_less : (n m : ℕ) (ks : List ℕ) → nat_cmp n m ≡ Less → AreAbove m ks → AreAbove n ks
 above_less n m [] less above = tt
 above_less n m (k ∷ ks) less above = (nat_cmp_total.trans n m k less above.0, above_less n m ks less above.1)
 

@@ -1,8 +1,15 @@
 -- Values by key, in strictly ascending key.
 use Rattle.std.specs.Prelude.{ℕ, List, [], ◌∷◌, map, ◌==◌, nat_lt, if◌then◌else◌, Option, Some, None}
+use Rattle.std.specs.List.Sorted.{IsStrictlySortedBy}
+use Rattle.std.specs.Map.{keys_of}
+use Rattle.std.specs.Ordering.{nat_cmp}
 
 abbrev pub Keyed : Type 0 → Type 0
 Keyed V = List (ℕ × V)
+
+-- that the keys ascend
+abbrev pub Ascends : {V : Type 0} → Keyed V → Type 0
+Ascends ps = IsStrictlySortedBy nat_cmp (keys_of ps)
 
 -- the value of a key
 abbrev pub value_of : {V : Type 0} → ℕ → Keyed V → Option V

@@ -27,6 +27,10 @@ documents s = values_in s.pairs
 abbrev pub names_with : Document → List Name → List Name
 names_with d names = all_learned names (names_within (document_shape d))
 
+-- taken names, and behind them those of the documents that these writes leave of nothing, in ascending key
+abbrev pub names_after : List Name → List Write → List Name
+names_after names ws = all_learned names (names_of_documents (values_in (after_writes [] ws)))
+
 -- the store with this document at a key
 abbrev pub with_pair : ℕ → Document → Store → Store
 with_pair n d s = record { pairs = with_value n d s.pairs; taken = names_with d s.taken }
@@ -40,5 +44,5 @@ without_pair n s = record { pairs = without_key n s.pairs; taken = s.taken }
 abbrev pub reopened : Pairs → List Name → List Write → Store
 reopened live dictionary logged = record {
   pairs = after_writes live logged;
-  taken = all_learned dictionary (names_of_documents (values_in (after_writes [] logged)));
+  taken = names_after dictionary logged;
 }
