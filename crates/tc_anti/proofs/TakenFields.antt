@@ -7,10 +7,10 @@ use Rattle.std.proofs.lemmas.Bool.Decides.{Decides-eqb}
 use Rattle.std.proofs.lemmas.List.{length-map}
 use Rattle.std.proofs.lemmas.Option.{same_Some}
 use Rattle.tc_model.specs.Document.{Name}
-use Rattle.tc_model.specs.Dictionary.{number_of}
+use Rattle.tc_model.specs.Dictionary.{number_of, number}
 use Rattle.tc_schema_model.specs.Counted.{Counted, Fields, field_at, documents_of, total}
-use Rattle.tc_schema_model.specs.Added.{put_field, without_field, kept_field, number}
-use Rattle.tc_schema_model.proofs.NumberLaws.{numbered}
+use Rattle.tc_schema_model.specs.Added.{put_field, without_field, kept_field}
+use Rattle.tc_model.proofs.NameNumbers.{numbered}
 use Rattle.tc_schema.specs.Places.{place_counted, field_counted, fields_counted, listed}
 use Rattle.tc_schema.specs.Search.{IsPlaceOf}
 use Rattle.tc_schema.specs.declared.place.Node.{Node}

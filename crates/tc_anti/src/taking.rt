@@ -2,9 +2,9 @@
 
 ghost use Rattle.std.specs.Prelude.{◌≡◌, IsTrue, is_some, length, map};
 ghost use Rattle.tc_model.specs.Tree.{items_of, members_of};
-ghost use Rattle.tc_model.specs.Dictionary.{number_of};
+ghost use Rattle.tc_model.specs.Dictionary.{number_of, number};
 ghost use Rattle.tc_schema_model.specs.Counted.{held, field_at, IsCanonical, IsBelowCanonical, AreFieldsCanonical};
-ghost use Rattle.tc_schema_model.specs.Added.{number, removed, items_removed, members_removed, kept_item, member_removed};
+ghost use Rattle.tc_schema_model.specs.Added.{removed, items_removed, members_removed, kept_item, member_removed};
 ghost use Rattle.tc_schema_model.specs.Fits.{Fits, ItemsFit, MembersFit};
 ghost use Rattle.tc_value.specs.ShapeMeaning.{shape_tree, shape_member};
 ghost use Rattle.tc_schema.specs.Places.{place_counted, below_counted, fields_counted};

@@ -6,7 +6,7 @@ mod reading;
 mod writing;
 
 pub use byte_string::Bytes;
-pub use reading::{counted_at, slice_at, u8_at, u32_at, u64_at};
+pub use reading::{counted_at, slice_at, u8_at, u16_at, u32_at, u64_at};
 use std::alloc::AllocError;
 pub use writing::{put_counted, put_u32, put_u64};
 

@@ -1,7 +1,7 @@
 //! Fields read from the front of a slice: the value and what stands behind it, or `None` where the slice is too short.
 
 ghost use Rattle.std.specs.Prelude.{◌≡◌, ◌<◌, ◌^◌, length, option_map, IfSome};
-ghost use Rattle.std.specs.Int.{w32, w64};
+ghost use Rattle.std.specs.Int.{w16, w32, w64};
 ghost use Rattle.tc_bytes.specs.Reading.{byte_at, number_at, bytes_at, counted_bytes_at};
 
 /// One byte.
@@ -12,6 +12,17 @@ pub fn u8_at(bytes: &[u8]) -> Option<(u8, &[u8])>
         [] => None,
         [first, rest @ ..] => Some((*first, rest)),
     }
+}
+
+/// A big-endian number of two bytes.
+pub fn u16_at(bytes: &[u8]) -> Option<(u16, &[u8])>
+    ensures { option_map (λ x. (x.0, x.1.now)) result ≡ number_at w16 bytes.now }
+{
+    if bytes.len() < 2 {
+        return None;
+    }
+    let (front, rest) = bytes.split_at(2);
+    Some((u16::from_be_bytes([front[0], front[1]]), rest))
 }
 
 /// A big-endian number of four bytes.

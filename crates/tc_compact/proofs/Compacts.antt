@@ -4,7 +4,7 @@ use Rattle.std.proofs.lemmas.Bool.{true≢false, both_ways}
 use Rattle.std.proofs.lemmas.List.{length-map}
 use Rattle.std.proofs.lemmas.Option.{same_Some}
 use Rattle.tc_model.specs.Document.{Name, Document, Scalar}
-use Rattle.tc_model.specs.Dictionary.{number_of, Extends, IsDictionary}
+use Rattle.tc_model.specs.Dictionary.{number_of, Extends, IsDictionary, number as name_number}
 use Rattle.tc_model.proofs.NameNumbers.{number_of-below}
 use Rattle.tc_record.specs.Preorder.{Token, tokens_of}
 use Rattle.tc_record.specs.Record.{labels, width, numbers, joined, record_bytes, record_of, IsRecordOf}
@@ -13,12 +13,11 @@ use Rattle.tc_record.specs.Borrowed.{Record, Spells, named_tokens, numbered_toke
 use Rattle.tc_record.proofs.Reading.{document_again, numbered_again}
 use Rattle.tc_record.proofs.NumberLengths.{length-numbers}
 use Rattle.tc_record.proofs.Keyed.{preorder-relabel}
-use Rattle.tc_schema_model.specs.Added as counts
 use Rattle.tc_compact.specs.Compacted.{IsCompactedRecordOf}
 use Rattle.tc_model.specs.KnownNames.{HasEach}
 use Rattle.tc_compact.specs.Slots.{names_in}
 use Rattle.tc_compact.specs.Layout.{slot_bytes, counts_in, values_in, whole, named_slots, numbered_record}
-use Rattle.tc_schema_model.proofs.LastingNumbers.{numbers-Extends}
+use Rattle.tc_model.proofs.LastingNumbers.{numbers-Extends}
 use Rattle.tc_compact.proofs.Relabelled.{depth-numbered, object-numbered, lawful-numbered, names_in-to_names, record-numbered}
 use Rattle.tc_compact.proofs.Laid.{counts, values, record_laid, Cut, whole_cut, slots_between}
 
@@ -100,7 +99,7 @@ names_lie r spells named =
 
 -- ---- form 1
 
-small_numbers : (names : List Name) → IsDictionary names → (n : Name) → counts.number names n < 2 ^ 32
+small_numbers : (names : List Name) → IsDictionary names → (n : Name) → name_number names n < 2 ^ 32
 small_numbers names dictionary n = cases (number_of names n) refl
   where
     cases : (o : Option ℕ) → number_of names n ≡ o → unwrap_or o 0 < 2 ^ 32
@@ -109,14 +108,14 @@ small_numbers names dictionary n = cases (number_of names n) refl
 
 -- a document's record of form 1, where it is short enough
 pub compacted_record : (names : List Name) (d : Document) (named_bytes bytes : List ℕ) → IsDictionary names → IsRecordOf d named_bytes → HasEach names (labels (tokens_of d))
-    → bytes ≡ record_bytes 1 (tokens_of d) (map (counts.number names) (labels (tokens_of d))) [] → length bytes < 2 ^ 32 → IsCompactedRecordOf names d bytes
+    → bytes ≡ record_bytes 1 (tokens_of d) (map (name_number names) (labels (tokens_of d))) [] → length bytes < 2 ^ 32 → IsCompactedRecordOf names d bytes
 compacted_record names d named_bytes bytes dictionary is known spelled short = record {
   known = known;
   numbered = record {
-    tree = lawful-numbered (counts.number names) (small_numbers names dictionary) d is.document;
-    is_object = object-numbered (counts.number names) d is.is_object;
-    shallow = subst (λ n. n ≤ 32) (sym (depth-numbered (counts.number names) d)) is.shallow;
-    spelled = spelled ∙ sym (record-numbered (counts.number names) d);
+    tree = lawful-numbered (name_number names) (small_numbers names dictionary) d is.document;
+    is_object = object-numbered (name_number names) d is.is_object;
+    shallow = subst (λ n. n ≤ 32) (sym (depth-numbered (name_number names) d)) is.shallow;
+    spelled = spelled ∙ sym (record-numbered (name_number names) d);
     short = short;
   };
 }
@@ -130,16 +129,16 @@ numbered_laid ts ns members =
 
 -- what was built is the record of form 1, under the dictionary and under each that goes on
 pub compacts : (names newer : List Name) (d : Document) (named_bytes numbers_there bytes : List ℕ) (behind : ℕ) → IsDictionary newer → Extends newer names → IsRecordOf d named_bytes → length named_bytes < 2 ^ 30
-    → HasEach names (labels (tokens_of d)) → numbers_there ≡ map (counts.number names) (labels (tokens_of d)) → behind ≡ slot_bytes named_bytes (length (labels (tokens_of d))) + length (joined (labels (tokens_of d)))
+    → HasEach names (labels (tokens_of d)) → numbers_there ≡ map (name_number names) (labels (tokens_of d)) → behind ≡ slot_bytes named_bytes (length (labels (tokens_of d))) + length (joined (labels (tokens_of d)))
     → bytes ≡ numbered_record (counts_in named_bytes) (values_in named_bytes behind) numbers_there → IsCompactedRecordOf newer d bytes
 compacts names newer d named_bytes numbers_there bytes behind dictionary extends is short known are behind_is built =
     let ts = tokens_of d in
     let ls = labels ts in
     let stay = numbers-Extends newer names ls extends known in
-    let ns = map (counts.number newer) ls in
+    let ns = map (name_number newer) ls in
     let cut = document_cut d named_bytes is.spelled in
     let there : numbers_there ≡ ns = are ∙ sym stay.1 in
-    let members : length ns ≡ length ls = length-map ls (counts.number newer) in
+    let members : length ns ≡ length ls = length-map ls (name_number newer) in
     let values_are : values_in named_bytes behind ≡ values ts = ap (values_in named_bytes) (behind_is ∙ behind_values ls named_bytes _ _ cut) ∙ cut.values_are in
     let laid : bytes ≡ numbered_record (counts ts (length ls)) (values ts) ns =
     built ∙ ap (λ (k : List ℕ). numbered_record k (values_in named_bytes behind) numbers_there) cut.counts_are ∙ ap (λ v. numbered_record (counts ts (length ls)) v numbers_there) values_are ∙ ap (numbered_record (counts ts (length ls)) (values ts)) there in

@@ -4,7 +4,7 @@ use Rattle.std.proofs.lemmas.Bool.{both_ways}
 use Rattle.std.proofs.lemmas.List.{length-map}
 use Rattle.std.proofs.lemmas.Option.{same_Some}
 use Rattle.tc_model.specs.Document.{Name, Document, Scalar}
-use Rattle.tc_model.specs.Dictionary.{IsDictionary}
+use Rattle.tc_model.specs.Dictionary.{IsDictionary, number as name_number}
 use Rattle.tc_record.specs.declared.widths.Width.TheVariants.{Four}
 use Rattle.tc_record.specs.Widths.{width_bytes}
 use Rattle.tc_record.specs.Preorder.{Token, tokens_of}
@@ -21,7 +21,6 @@ use Rattle.tc_record.proofs.Counted.{same_numbers}
 use Rattle.tc_record.proofs.Cutting.{sections_again}
 use Rattle.tc_record.proofs.Reading.{holding_bytes, holding_fits, lengths_small, small_texts, format_for}
 use Rattle.tc_record.proofs.NumberLengths.{length-numbers}
-use Rattle.tc_schema_model.specs.Added as counts
 use Rattle.tc_compact.specs.Compacted.{compacted, IsCompactedRecordOf}
 use Rattle.tc_model.specs.KnownNames.{HasEach}
 use Rattle.tc_compact.specs.Slots.{numbers_in, names_of}
@@ -84,16 +83,16 @@ names_count names ks ns dictionary gives = let found = names_found names ks ns d
 -- its numbers have its names
 pub compacted_names : (names : List Name) (d : Document) (r : Record) → HasEach names (labels (tokens_of d)) → r.tokens ≡ numbered_tokens (compacted names d) → names_of names (numbers_in r.tokens) ≡ Some (labels (tokens_of d))
 compacted_names names d r known tokens =
-    ap (λ ts. names_of names (numbers_in ts)) (tokens ∙ tokens-numbered (counts.number names) d) ∙ ap (names_of names) (numbers_in-to_numbers (counts.number names) (tokens_of d)) ∙ names_of-known names (labels (tokens_of d)) known
+    ap (λ ts. names_of names (numbers_in ts)) (tokens ∙ tokens-numbered (name_number names) d) ∙ ap (names_of names) (numbers_in-to_numbers (name_number names) (tokens_of d)) ∙ names_of-known names (labels (tokens_of d)) known
 
 -- and what is built is its record
 pub expands : (names : List Name) (d : Document) (bytes named_bytes out : List ℕ) (ns : List Name) → IsRecordOf d named_bytes → IsCompactedRecordOf names d bytes → ns ≡ labels (tokens_of d)
     → out ≡ built_record bytes ns → out ≡ named_bytes
 expands names d bytes named_bytes out ns is form1 are built =
     let ts = tokens_of d in
-    let ks = map (counts.number names) (labels ts) in
-    let members : length ns ≡ length ks = ap length are ∙ sym (length-map (labels ts) (counts.number names)) in
-    named_laid ts ks bytes ns out (form1.numbered.spelled ∙ record-numbered (counts.number names) d) members built ∙ ap (λ ls. record_bytes 0 ts (map length ls) (joined ls)) are ∙ sym is.spelled
+    let ks = map (name_number names) (labels ts) in
+    let members : length ns ≡ length ks = ap length are ∙ sym (length-map (labels ts) (name_number names)) in
+    named_laid ts ks bytes ns out (form1.numbered.spelled ∙ record-numbered (name_number names) d) members built ∙ ap (λ ls. record_bytes 0 ts (map length ls) (joined ls)) are ∙ sym is.spelled
 
 -- ---- what is read of what was built
 
@@ -166,8 +165,8 @@ expanded_found names from built ns dictionary spells unnamed gives laid (inl one
     let short_labels : length (joined ls) < 2 ^ 32 = omega (arith, is.short, names_within 0 (tokens_of d) (map length ls) (joined ls), ap length is.spelled) in
     let same = same_columns ts us built.bytes first second is.short (subst (AreFit Four) (sym slots_ns) (lengths_small ns short_names)) (subst (AreFit Four) (sym (slots_of-keyed d)) (lengths_small ls short_labels)) in
     let names_are : ls ≡ ns = same_names ls ns (sym (slots_of-keyed d) ∙ sym same.slots_are ∙ slots_ns) (sym (names_of-keyed d) ∙ sym same.names_are ∙ names_ns) in
-    let form1 : from.bytes ≡ record_bytes 1 (tokens_of d) (map (counts.number names) ls) [] =
-    tree.1.spelled ∙ sym (record-retoken g 1 tn ks []) ∙ same.numbered ks ∙ ap (λ vs. record_bytes 1 vs ks []) (preorder-relabel name d None) ∙ record-retoken name 1 (tokens_of d) ks [] ∙ ap (λ ns. record_bytes 1 (tokens_of d) ns []) (sym (ap (map (counts.number names)) names_are ∙ found.numbers)) in
+    let form1 : from.bytes ≡ record_bytes 1 (tokens_of d) (map (name_number names) ls) [] =
+    tree.1.spelled ∙ sym (record-retoken g 1 tn ks []) ∙ same.numbered ks ∙ ap (λ vs. record_bytes 1 vs ks []) (preorder-relabel name d None) ∙ record-retoken name 1 (tokens_of d) ks [] ∙ ap (λ ns. record_bytes 1 (tokens_of d) ns []) (sym (ap (map (name_number names)) names_are ∙ found.numbers)) in
     (d, is, compacted_record names d built.bytes from.bytes dictionary is (subst (HasEach names) (sym names_are) found.known) form1 tree.1.short)
 
 -- ---- what the parts have
@@ -187,9 +186,9 @@ pub not_too_long : (names : List Name) (d : Document) (bytes named_bytes : List 
     → v ≡ length (values_in bytes (slot_bytes bytes (length ns) + 0)) → 2 ^ 32 ≤ 23 + (v + length (named_slots ns)) → ⊥
 not_too_long names d bytes named_bytes ns v is form1 are len long =
     let ts = tokens_of d in
-    let ks = map (counts.number names) (labels ts) in
-    let members : length ns ≡ length ks = ap length are ∙ sym (length-map (labels ts) (counts.number names)) in
-    let cut = numbered_cut ts ks bytes (form1.numbered.spelled ∙ record-numbered (counts.number names) d) in
+    let ks = map (name_number names) (labels ts) in
+    let members : length ns ≡ length ks = ap length are ∙ sym (length-map (labels ts) (name_number names)) in
+    let cut = numbered_cut ts ks bytes (form1.numbered.spelled ∙ record-numbered (name_number names) d) in
     let values_len : v ≡ length (values ts) = len ∙ ap length (ap (λ m. values_in bytes (slot_bytes bytes m + 0)) members ∙ cut.values_are) in
     absurd (omega (arith, values_len, long, ap (λ ls. length (named_slots ls)) are, (document_cut d named_bytes is.spelled).len, is.short))
 

@@ -6,10 +6,9 @@ use Rattle.std.proofs.Math.Seq.{take-append_seam}
 use Rattle.std.specs.List.{IsDistinct}
 use Rattle.tc_bytes.proofs.Codecs.{then_parts}
 use Rattle.tc_model.specs.Document.{Name}
-use Rattle.tc_model.specs.Dictionary.{number_of}
+use Rattle.tc_model.specs.Dictionary.{number_of, number as name_number}
 use Rattle.tc_model.proofs.NameNumbers.{slice_get-number_of, number_of-slice_get}
 use Rattle.tc_record.specs.Record.{joined}
-use Rattle.tc_schema_model.specs.Added as counts
 use Rattle.tc_model.specs.KnownNames.{HasEach}
 use Rattle.tc_compact.specs.Slots.{names_of}
 
@@ -18,18 +17,18 @@ abbrev pub name_at : List Name → ℕ → Name
 name_at names k = unwrap_or (slice_get names k) []
 
 -- the numbers of known names have these names
-pub names_of-known : (names ls : List Name) → HasEach names ls → names_of names (map (counts.number names) ls) ≡ Some ls
+pub names_of-known : (names ls : List Name) → HasEach names ls → names_of names (map (name_number names) ls) ≡ Some ls
 names_of-known names [] known = refl
 names_of-known names (l ∷ ls) known = cases (number_of names l) refl known.0 (names_of-known names ls known.1)
   where
-    cases : (o : Option ℕ) → number_of names l ≡ o → IsTrue (is_some o) → names_of names (map (counts.number names) ls) ≡ Some ls → names_of names (map (counts.number names) (l ∷ ls)) ≡ Some (l ∷ ls)
+    cases : (o : Option ℕ) → number_of names l ≡ o → IsTrue (is_some o) → names_of names (map (name_number names) ls) ≡ Some ls → names_of names (map (name_number names) (l ∷ ls)) ≡ Some (l ∷ ls)
     cases None none has rest = absurd (cc)
     cases (Some k) some has rest = rw (some, slice_get-number_of names l k some, rest) refl
 
 -- names that were found
 pub record NamesFound (names : List Name) (ks : List ℕ) (ns : List Name) : Type 0 where
   pub known : HasEach names ns
-  pub numbers : map (counts.number names) ns ≡ ks
+  pub numbers : map (name_number names) ns ≡ ks
   pub at : ns ≡ map (name_at names) ks
 
 pub names_found : (names : List Name) (ks : List ℕ) (ns : List Name) → IsDistinct bytes_eq names → names_of names ks ≡ Some ns → NamesFound names ks ns
@@ -44,7 +43,7 @@ names_found names (k ∷ ks) ns distinct gives =
     subst (NamesFound names (k ∷ ks)) (same_Some (one.0 ∷ two.0) ns two.2)
     (record {
       known = (ap is_some number, rest.known);
-      numbers = ap (λ o. unwrap_or o 0 ∷ map (counts.number names) two.0) number ∙ ap (λ more. k ∷ more) rest.numbers;
+      numbers = ap (λ o. unwrap_or o 0 ∷ map (name_number names) two.0) number ∙ ap (λ more. k ∷ more) rest.numbers;
       at = ap (λ o. unwrap_or o [] ∷ two.0) (sym one.1) ∙ ap (λ more. name_at names k ∷ more) rest.at;
     })
 

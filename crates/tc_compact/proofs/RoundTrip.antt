@@ -2,15 +2,14 @@
 use Rattle.std.proofs.Common.{◌≡◌, ◌∙◌, ℕ, Bool, false, List, [], refl, sym, ap}
 use Rattle.std.proofs.lemmas.Option.{same_Some}
 use Rattle.tc_model.specs.Document.{Name, Document, Scalar}
-use Rattle.tc_model.specs.Dictionary.{Extends, IsDictionary}
+use Rattle.tc_model.specs.Dictionary.{Extends, IsDictionary, number as name_number}
 use Rattle.tc_record.specs.Preorder.{Token, tokens_of}
 use Rattle.tc_record.specs.Record.{labels, record_bytes, IsRecordOf}
 use Rattle.tc_record.specs.Walk.{Key}
 use Rattle.tc_record.specs.Borrowed.{Record, numbered_tokens}
 use Rattle.tc_record.proofs.Reading.{numbered_again}
-use Rattle.tc_schema_model.specs.Added as counts
 use Rattle.tc_compact.specs.Compacted.{compacted, IsCompactedRecordOf}
-use Rattle.tc_schema_model.proofs.LastingNumbers.{numbers-Extends}
+use Rattle.tc_model.proofs.LastingNumbers.{numbers-Extends}
 use Rattle.tc_compact.proofs.Relabelled.{record-numbered}
 use Rattle.tc_compact.proofs.Compacts.{compacted_record}
 use Rattle.tc_compact.proofs.Expands.{built_record, compacted_names, names_are, expands}
@@ -19,7 +18,7 @@ pub compacted_stays : (d : Document) (whole bytes : List ℕ) (names newer : Lis
 compacted_stays d whole bytes names newer is form1 dictionary extends =
     let ts = tokens_of d in
     let stay = numbers-Extends newer names (labels ts) extends form1.known in
-    compacted_record newer d whole bytes dictionary is stay.0 (form1.numbered.spelled ∙ record-numbered (counts.number names) d ∙ ap (λ ks. record_bytes 1 ts ks []) (sym stay.1)) form1.numbered.short
+    compacted_record newer d whole bytes dictionary is stay.0 (form1.numbered.spelled ∙ record-numbered (name_number names) d ∙ ap (λ ks. record_bytes 1 ts ks []) (sym stay.1)) form1.numbered.short
 
 pub one_record : (d e : Document) (whole other bytes : List ℕ) (names : List Name) → IsRecordOf d whole → IsCompactedRecordOf names d bytes → IsRecordOf e other → IsCompactedRecordOf names e bytes → whole ≡ other
 one_record d e whole other bytes names is form1 is_e form1_e =

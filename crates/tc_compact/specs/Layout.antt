@@ -2,7 +2,7 @@
 -- behind the values.
 use Rattle.std.specs.Prelude.{ℕ, ◌+◌, ◌-◌, ◌*◌, List, ◌∷◌, ◌++◌, length, map, take, drop, slice_index}
 use Rattle.std.specs.Int.{w32, to_be_bytes}
-use Rattle.tc_record.specs.Record.{header_size, width, numbers, joined}
+use Rattle.tc_record.specs.Record.{header_size, named_form, numbered_form, width, numbers, joined}
 
 -- where the counts of a header begin, and where the width of a slot stands, which is the last byte of a header
 abbrev pub counts_place : ℕ
@@ -37,7 +37,7 @@ named_slots names = let lengths = map length names in numbers (width lengths) le
 
 -- with these names, and with these numbers
 abbrev pub named_record : List ℕ → List ℕ → List (List ℕ) → List ℕ
-named_record counts values names = whole 0 counts (width (map length names)) values (named_slots names)
+named_record counts values names = whole named_form counts (width (map length names)) values (named_slots names)
 
 abbrev pub numbered_record : List ℕ → List ℕ → List ℕ → List ℕ
-numbered_record counts values ns = whole 1 counts (width ns) values (numbers (width ns) ns)
+numbered_record counts values ns = whole numbered_form counts (width ns) values (numbers (width ns) ns)

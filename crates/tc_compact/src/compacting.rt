@@ -13,7 +13,7 @@ use crate::learning::learn_names;
 use std::alloc::Global;
 use tc_bytes::{Bytes, Memory};
 use tc_names::Names;
-use tc_record::{HEADER_SIZE, RecordRef};
+use tc_record::{HEADER_SIZE, NUMBERED_FORM, RecordRef};
 
 /// The record of form 1 of a record of form 0 that has fewer than 1,073,741,824 bytes. New names are learned from the
 /// front of the record: the name of a member, and then those within its value. Errs only for want of memory, with some
@@ -41,7 +41,7 @@ fn with_numbers(alloc: Global, shared: Shared<'_>, numbers: &[usize]) -> Result<
 {
     let width = width_of_slots(numbers);
     let len = HEADER_SIZE + shared.values.len() + numbers.len() * usize::from(width.bytes());
-    let mut out = begin(alloc, len as u32, 1, shared, width)?;
+    let mut out = begin(alloc, len as u32, NUMBERED_FORM, shared, width)?;
     put_slots(width, numbers, &mut out)?;
     Ok(Bytes::of(out))
 }

@@ -12,7 +12,7 @@ use crate::layout::{Shared, begin, put_names, put_slots, shared_in, width_of_slo
 use std::alloc::Global;
 use tc_bytes::Bytes;
 use tc_names::Names;
-use tc_record::{HEADER_SIZE, Label, RecordFault, RecordRef};
+use tc_record::{HEADER_SIZE, Label, NAMED_FORM, RecordFault, RecordRef};
 
 /// The record of form 0 whose form 1 under a dictionary these bytes are. `NotARecord` comes exactly where there is none:
 /// the bytes are no record of form 1, a number has no name, the names of an object do not ascend, or the record of
@@ -87,7 +87,7 @@ fn with_names(alloc: Global, shared: Shared<'_>, found: &Found<'_>) -> Result<Ve
     if len >= 0x1_0000_0000 {
         return Err(RecordFault::NotARecord);
     }
-    let mut out = begin(alloc, len as u32, 0, shared, width)?;
+    let mut out = begin(alloc, len as u32, NAMED_FORM, shared, width)?;
     put_slots(width, lengths, &mut out)?;
     put_names(found.names.as_slice(), &mut out)?;
     Ok(out)

@@ -1,9 +1,8 @@
 //! The names of a record, learned.
 
 ghost use Rattle.std.specs.Prelude.{◌≡◌, ◌<◌, ◌^◌, IfOk, OnOk, length, map};
-ghost use Rattle.tc_model.specs.Dictionary.{Extends, IsDictionary, all_learned};
+ghost use Rattle.tc_model.specs.Dictionary.{Extends, IsDictionary, all_learned, number as name_number};
 ghost use Rattle.tc_record.specs.Record.{joined};
-ghost use Rattle.tc_schema_model.specs.Added as counts;
 ghost use Rattle.tc_compact.specs.Slots.{names_in};
 
 use crate::dictionary::is_dictionary;
@@ -27,7 +26,7 @@ pub(crate) fn learn_names(
 ) -> Result<Learned, Memory>
     requires room { length (all_learned names.old (names_in from.now.tokens)) < 2 ^ 32 }
     requires short { length (joined (names_in from.now.tokens)) < 2 ^ 32 }
-    ensures numbers { IfOk result (λ l. l.numbers.items ≡ map (counts.number names.new) (names_in from.now.tokens)) }
+    ensures numbers { IfOk result (λ l. l.numbers.items ≡ map (name_number names.new) (names_in from.now.tokens)) }
     ensures bytes { IfOk result (λ l. l.name_bytes ≡ length (joined (names_in from.now.tokens))) }
     ensures learned { OnOk result (names.new ≡ all_learned names.old (names_in from.now.tokens)) }
     ensures extends { Extends names.new names.old }

@@ -2,9 +2,9 @@
 
 ghost use Rattle.std.specs.Prelude.{◌≡◌, ◌<◌, IfOk, OnOk, IsTrue, is_some, length, map, slice_get, slice_set, Some};
 ghost use Rattle.tc_model.specs.Tree.{items_of, members_of};
-ghost use Rattle.tc_model.specs.Dictionary.{number_of};
+ghost use Rattle.tc_model.specs.Dictionary.{number_of, number};
 ghost use Rattle.tc_schema_model.specs.Counted.{Counted, held, an_item, field_at, IsCanonical, IsBelowCanonical, AreFieldsCanonical, AreFieldsOrdered};
-ghost use Rattle.tc_schema_model.specs.Added.{added, items_added, members_added, put_field, number, IsNamed, AreItemsNamed, AreMembersNamed, member_added};
+ghost use Rattle.tc_schema_model.specs.Added.{added, items_added, members_added, put_field, IsNamed, AreItemsNamed, AreMembersNamed, member_added};
 ghost use Rattle.tc_value.specs.ShapeMeaning.{shape_tree, shape_member};
 ghost use Rattle.tc_schema_model.specs.Room.{DoesFit, DoFieldsFit};
 ghost use Rattle.tc_schema.specs.Places.{place_counted, below_counted, fields_counted, field_counted, listed};

@@ -1,12 +1,13 @@
 -- The number of a name is its place: how it stands to the list, and that it stays.
-use Rattle.std.proofs.Common.{◌≡◌, ◌<◌, ℕ, zero, suc, Bool, true, false, if◌then◌else◌, List, [], ◌∷◌, ◌++◌, Option, None, Some, option_map, is_some, ◌||◌, length, slice_get, refl, sym, ap, ◌∙◌, arith}
+use Rattle.std.proofs.Common.{◌≡◌, ◌<◌, ℕ, zero, suc, Bool, true, false, if◌then◌else◌, List, [], ◌∷◌, ◌++◌, Option, None, Some, option_map, IsTrue, is_some, unwrap_or, ◌||◌, length, slice_get, refl, sym, ap, ◌∙◌, arith}
 use Rattle.std.specs.List.{AllByRecursion, IsDistinct, list_any}
 use Rattle.std.specs.Str.{bytes_eq}
 use Rattle.std.specs.Cmp.Lexicographic.{nat_list_eq_equiv}
+use Rattle.std.proofs.lemmas.Bool.{false≢true}
 use Rattle.std.proofs.lemmas.Map.Keys.{IsDistinct-head, IsDistinct-tail}
 use Rattle.std.proofs.lemmas.Option.{same_Some}
 use Rattle.std.proofs.lemmas.Slice.Eq.{bytes_eq-Decides}
-use Rattle.tc_model.specs.Dictionary.{number_of}
+use Rattle.tc_model.specs.Dictionary.{number_of, number}
 
 -- a name equals itself
 bytes_eq-self : (name : List ℕ) → bytes_eq name name ≡ true
@@ -65,6 +66,14 @@ number_of-below (first ∷ names) name id known = cases (bytes_eq name first) (n
     cases true rest ih known = let at : 0 ≡ id = same_Some 0 id known in omega arith
     cases false None ih known = cc
     cases false (Some n) ih known = let at : suc n ≡ id = same_Some (suc n) id known in let below = ih n refl in omega arith
+
+-- the number of a name that has one
+pub numbered : (names : List (List ℕ)) (name : List ℕ) → IsTrue (is_some (number_of names name)) → number_of names name ≡ Some (number names name)
+numbered names name named = at (number_of names name) named
+  where
+    at : (o : Option ℕ) → IsTrue (is_some o) → o ≡ Some (unwrap_or o 0)
+    at None named = absurd (false≢true named)
+    at (Some n) named = refl
 
 -- no name before it equals it
 pub number_of-new : (names : List (List ℕ)) (name : List ℕ) (more : List (List ℕ)) → IsDistinct bytes_eq (names ++ name ∷ more) → number_of names name ≡ None

@@ -1,5 +1,5 @@
 -- A dictionary is a list of distinct names. The number of a name is its place in the list, from 0 on.
-use Rattle.std.specs.Prelude.{◌≡◌, ◌<◌, ◌^◌, ℕ, suc, List, [], ◌∷◌, ◌++◌, Option, None, Some, option_map, is_some, bytes_eq, IsUtf8, length, if◌then◌else◌}
+use Rattle.std.specs.Prelude.{◌≡◌, ◌<◌, ◌^◌, ℕ, suc, List, [], ◌∷◌, ◌++◌, Option, None, Some, option_map, is_some, unwrap_or, bytes_eq, IsUtf8, length, if◌then◌else◌}
 use Rattle.std.specs.List.{AllByRecursion, IsDistinct}
 use Rattle.tc_model.specs.Document.{Name}
 
@@ -7,6 +7,10 @@ use Rattle.tc_model.specs.Document.{Name}
 abbrev pub number_of : List Name → Name → Option ℕ
 number_of [] name = None
 number_of (first ∷ names) name = if bytes_eq name first then Some 0 else option_map suc (number_of names name)
+
+-- the number of a name that has one
+abbrev pub number : List Name → Name → ℕ
+number names name = unwrap_or (number_of names name) 0
 
 -- the names after this one is learned: a new one stands at the end, and a known one changes nothing
 abbrev pub learned : List Name → Name → List Name

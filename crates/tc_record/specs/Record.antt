@@ -78,6 +78,13 @@ numbers w ns = flat_map (bytes_high_first w) ns
 abbrev pub joined : List (List ℕ) → List ℕ
 joined ts = flat_map (λ t. t) ts
 
+-- the forms of a record: its members carry names, or the numbers of names
+abbrev pub named_form : ℕ
+named_form = 0
+
+abbrev pub numbered_form : ℕ
+numbered_form = 1
+
 -- how many bytes the header has
 abbrev pub header_size : ℕ
 header_size = 23
@@ -96,7 +103,7 @@ record_bytes form ts slots names =
 
 -- form 0: a slot is the length of a name, and the names follow
 abbrev pub record_of : Document → List ℕ
-record_of d = let ts = tokens_of d in record_bytes 0 ts (map length (labels ts)) (joined (labels ts))
+record_of d = let ts = tokens_of d in record_bytes named_form ts (map length (labels ts)) (joined (labels ts))
 
 -- a document whose members carry numbers in place of names
 abbrev pub NumberedTree : Type 0
@@ -104,7 +111,7 @@ NumberedTree = Tree ℕ Scalar
 
 -- form 1: a slot is the number of a name
 abbrev pub numbered_record_of : NumberedTree → List ℕ
-numbered_record_of n = let ts = tokens_of n in record_bytes 1 ts (labels ts) []
+numbered_record_of n = let ts = tokens_of n in record_bytes numbered_form ts (labels ts) []
 
 -- ---- which bytes are a record
 

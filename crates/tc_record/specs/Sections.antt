@@ -7,7 +7,7 @@ use Rattle.tc_record.specs.Preorder.{Token}
 use Rattle.tc_record.specs.declared.widths.Width.{Width}
 use Rattle.tc_record.specs.declared.widths.Width.TheVariants.{Zero, One, Two, Four}
 use Rattle.tc_record.specs.Widths.{width_bytes}
-use Rattle.tc_record.specs.Record.{width_of}
+use Rattle.tc_record.specs.Record.{width_of, named_form, numbered_form}
 use Rattle.tc_record.specs.Walk.{Key, Format, Columns, sized_number_at, tokens_read}
 
 -- the fields of a header
@@ -29,7 +29,7 @@ abbrev pub width_from : ℕ → Option Width
 width_from n = if n == 0 then Some Zero else (if n == 1 then Some One else (if n == 2 then Some Two else (if n == 4 then Some Four else None)))
 
 abbrev pub form_from : ℕ → Option Bool
-form_from n = if n == 0 then Some true else (if n == 1 then Some false else None)
+form_from n = if n == named_form then Some true else (if n == numbered_form then Some false else None)
 
 -- the greatest of so many numbers, and their sum, which stands still at the end of 32 bits
 abbrev pub scan_at : Width → ℕ → ℕ → ℕ → List ℕ → Option (ℕ × ℕ)

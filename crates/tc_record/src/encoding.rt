@@ -6,12 +6,13 @@ ghost use Rattle.tc_model.specs.Tree.{items_of, members_of, depth};
 ghost use Rattle.tc_model.specs.Document.{null, boolean, integer, text, IsDocument};
 ghost use Rattle.tc_record.specs.Preorder.{scalar, array_opened, object_opened, closed, preorder, items_preorder, members_preorder};
 ghost use Rattle.tc_value.specs.Meaning.{tree_of, member_of};
-ghost use Rattle.tc_record.specs.Record.{record_of, IsRecordOf};
+ghost use Rattle.tc_record.specs.Record.{record_of, named_form, IsRecordOf};
 ghost use Rattle.tc_model.specs.Limits.{max_depth};
 ghost use Rattle.tc_model.specs.Stored.{IsObject};
 ghost use Rattle.tc_record.specs.ColumnBytes.{column_label, column_piece, column_bytes, value_bytes};
 ghost use Rattle.tc_record.specs.Measured.{column_width};
 
+use crate::header::NAMED_FORM;
 use crate::measure::{Measure, measure_document};
 use crate::sizing::{len_of_record, width_of_column};
 use crate::tags::{ARRAY_TAG, BOOLEAN_TAG, CLOSE_TAG, INTEGER_TAG, NULL_TAG, OBJECT_TAG, TEXT_TAG};
@@ -60,10 +61,10 @@ fn put_header(len: u64, measure: Measure, out: &mut Vec<u8>) -> Result<(), Alloc
     requires fixed { measure.fixed < 2 ^ 32 }
     requires texts { measure.texts.count < 2 ^ 32 }
     requires names { measure.names.count < 2 ^ 32 }
-    ensures { OnOk result (out.new.items ≡ out.old.items ++ (to_be_bytes w32 len ++ (0 ∷ (to_be_bytes w32 measure.tags ++ (to_be_bytes w32 measure.fixed ++ (to_be_bytes w32 measure.texts.count ++ (column_width measure.texts ∷ (to_be_bytes w32 measure.names.count ++ column_width measure.names ∷ [])))))))) }
+    ensures { OnOk result (out.new.items ≡ out.old.items ++ (to_be_bytes w32 len ++ (named_form ∷ (to_be_bytes w32 measure.tags ++ (to_be_bytes w32 measure.fixed ++ (to_be_bytes w32 measure.texts.count ++ (column_width measure.texts ∷ (to_be_bytes w32 measure.names.count ++ column_width measure.names ∷ [])))))))) }
 {
     put_u32(out, len as u32)?;
-    out.push(0)?;
+    out.push(NAMED_FORM)?;
     put_u32(out, measure.tags as u32)?;
     put_u32(out, measure.fixed as u32)?;
     put_u32(out, measure.texts.count as u32)?;

@@ -7,6 +7,12 @@ ghost use Rattle.tc_record.specs.SectionsView.{header_of};
 use crate::widths::Width;
 use tc_bytes::{u8_at, u32_at};
 
+/// The form of a record whose members carry names.
+pub const NAMED_FORM: u8 = 0;
+
+/// The form of a record whose members carry the numbers of names.
+pub const NUMBERED_FORM: u8 = 1;
+
 /// The fields of a header, in their order.
 #[derive(Clone, Copy)]
 pub(crate) struct Header {
@@ -60,9 +66,11 @@ pub(crate) fn width_told(byte: u8) -> Option<Width>
 pub(crate) fn form_told(byte: u8) -> Option<bool>
     ensures { result ≡ form_from byte }
 {
-    match byte {
-        0 => Some(true),
-        1 => Some(false),
-        _ => None,
+    if byte == NAMED_FORM {
+        Some(true)
+    } else if byte == NUMBERED_FORM {
+        Some(false)
+    } else {
+        None
     }
 }

@@ -23,6 +23,7 @@ pub use cursor::Cursor;
 pub use decoding::decode;
 pub use encoding::encode;
 pub use fault::RecordFault;
+pub use header::{NAMED_FORM, NUMBERED_FORM};
 pub use law::one_document;
 pub use record_ref::RecordRef;
 pub use sizing::{HEADER_SIZE, size};

@@ -1,8 +1,6 @@
 //! The columns of a record, read value by value.
 
 ghost use Rattle.std.specs.Prelude.{◌≡◌, option_map};
-ghost use Rattle.std.specs.Int.{w16};
-ghost use Rattle.tc_bytes.specs.Reading.{number_at};
 ghost use Rattle.tc_record.specs.Walk.{sized_number_at, utf8_at, text_at, name_at, bool_at, integer_at, piece_at, in_object, is_above as stands_above, label_at, value_at};
 ghost use Rattle.tc_record.specs.WalkView.{key_of, piece_of, token_of, columns_of, level_of, format_of};
 
@@ -10,7 +8,7 @@ use crate::tags::{ARRAY_TAG, BOOLEAN_TAG, INTEGER_TAG, NULL_TAG, OBJECT_TAG, TEX
 use crate::token::{Label, Piece, Token};
 use crate::widths::Width;
 use std::str;
-use tc_bytes::{slice_at, u8_at, u32_at, u64_at};
+use tc_bytes::{slice_at, u8_at, u16_at, u32_at, u64_at};
 
 /// What is left of the columns beside the tags.
 #[derive(Clone, Copy)]
@@ -35,17 +33,6 @@ pub(crate) struct Format {
 pub(crate) enum Level<'a> {
     Array,
     Object(Option<&'a str>),
-}
-
-/// A big-endian number of two bytes.
-fn u16_at(bytes: &[u8]) -> Option<(u16, &[u8])>
-    ensures { option_map (λ x. (x.0, x.1.now)) result ≡ number_at w16 bytes.now }
-{
-    if bytes.len() < 2 {
-        return None;
-    }
-    let (front, rest) = bytes.split_at(2);
-    Some((u16::from_be_bytes([front[0], front[1]]), rest))
 }
 
 /// One number of a column.

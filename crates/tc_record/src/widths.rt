@@ -30,6 +30,7 @@ impl Width {
         }
     }
 
+    /// How many bytes a number of the column takes.
     pub fn bytes(self) -> u8
         ensures { result ≡ width_bytes self }
     {

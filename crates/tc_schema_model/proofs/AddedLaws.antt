@@ -5,14 +5,15 @@ use Rattle.std.proofs.lemmas.Bool.{false≢true}
 use Rattle.std.proofs.lemmas.Slice.Eq.{bytes_eq-Decides}
 use Rattle.tc_model.specs.Tree.{leaf, array, object, Items, no_items, item, Members, no_members, member}
 use Rattle.tc_model.specs.Document.{Name, ShapeTree, ScalarKind, null_kind, boolean_kind, integer_kind, text_kind}
-use Rattle.tc_model.specs.Dictionary.{number_of}
+use Rattle.tc_model.specs.Dictionary.{number_of, number}
 use Rattle.tc_schema_model.specs.Occurrences.{field, each_item, Path, occurrences, items_occurrences, members_occurrences}
 use Rattle.tc_model.specs.Kinds.{Kind, scalar, arrays, objects}
 use Rattle.tc_schema_model.specs.Counted.{Counters, Counted, counted, Below, an_item, Fields, no_fields, a_field, nothing, held, field_at, numbered_field, documents_of, shows, IsCanonical, IsBelowCanonical, AreFieldsCanonical}
-use Rattle.tc_schema_model.specs.Added.{raised, put_field, number, added, items_added, members_added, IsNamed, AreItemsNamed, AreMembersNamed}
+use Rattle.tc_schema_model.specs.Added.{raised, put_field, added, items_added, members_added, IsNamed, AreItemsNamed, AreMembersNamed}
 use Rattle.tc_schema_model.proofs.CounterLaws.{counter-raised, total-raised}
 use Rattle.tc_schema_model.proofs.FieldLaws.{field_at-put_field_here, field_at-put_field_elsewhere, held_canonical}
-use Rattle.tc_schema_model.proofs.NumberLaws.{numbered, one_name, name_stands}
+use Rattle.tc_model.proofs.NameNumbers.{numbered}
+use Rattle.tc_schema_model.proofs.NumberLaws.{one_name, name_stands}
 
 -- ---- what is shown
 

@@ -4,18 +4,19 @@ use Rattle.std.specs.List.{IsDistinct}
 use Rattle.std.proofs.lemmas.Slice.Eq.{bytes_eq-Decides}
 use Rattle.tc_model.specs.Tree.{leaf, array, object, Items, no_items, item, Members, no_members, member}
 use Rattle.tc_model.specs.Document.{Name, Document, ShapeTree, ScalarKind, null_kind, boolean_kind, integer_kind, text_kind, document_shape}
-use Rattle.tc_model.specs.Dictionary.{number_of}
+use Rattle.tc_model.specs.Dictionary.{number_of, number}
 use Rattle.tc_schema_model.specs.Occurrences.{field, each_item, Path, occurrences, items_occurrences, members_occurrences, count}
 use Rattle.tc_model.specs.Kinds.{Kind, scalar, arrays, objects, kind_of}
 use Rattle.tc_schema_model.specs.Counted.{Counted, counted, Below, no_item, an_item, Fields, no_fields, a_field, counter, held, field_at, numbered_field, shows, IsCanonical, IsBelowCanonical, AreFieldsCanonical}
-use Rattle.tc_schema_model.specs.Added.{number, removed, items_removed, members_removed, kept_item, kept_field}
+use Rattle.tc_schema_model.specs.Added.{removed, items_removed, members_removed, kept_item, kept_field}
 use Rattle.tc_schema_model.specs.SchemaText.{name_at}
 use Rattle.tc_schema_model.specs.Stands.{StandsFor}
 use Rattle.tc_schema_model.specs.Fits.{Fits, ItemsFit, MembersFit, FitsByPath}
 use Rattle.tc_schema_model.proofs.AddedLaws.{field_canonical}
 use Rattle.tc_schema_model.proofs.CountingLaws.{shows_nothing, at_first}
 use Rattle.tc_schema_model.proofs.FieldLaws.{held_canonical}
-use Rattle.tc_schema_model.proofs.NumberLaws.{numbered, number_of_name_at}
+use Rattle.tc_model.proofs.NameNumbers.{numbered}
+use Rattle.tc_schema_model.proofs.NumberLaws.{number_of_name_at}
 use Rattle.tc_schema_model.proofs.RemovedLaws.{shows-removed, shows-items_removed, shows-members_removed, canonical-items_removed, canonical-members_removed}
 use Rattle.tc_schema_model.proofs.Vanishing.{Vanishes, items_vanish, members_vanish, documents_vanish}
 

@@ -1,7 +1,6 @@
 pub mod SchemaRows
 pub mod FieldLaws
 pub mod NumberLaws
-pub mod LastingNumbers
 pub mod CounterLaws
 pub mod AddedLaws
 pub mod RemovedLaws

@@ -1,13 +1,11 @@
 -- The numbers of names.
-use Rattle.std.proofs.Common.{◌≡◌, ℕ, zero, suc, ◌<◌, Bool, true, false, List, [], ◌∷◌, Option, Some, None, option_map, length, bytes_eq, slice_get, if◌then◌else◌, refl, sym, ap, ◌∙◌, subst, arith, IsTrue, is_some, unwrap_or}
-use Rattle.std.proofs.lemmas.Bool.{false≢true}
+use Rattle.std.proofs.Common.{◌≡◌, ℕ, zero, suc, ◌<◌, Bool, true, false, List, [], ◌∷◌, Option, Some, None, option_map, length, bytes_eq, slice_get, if◌then◌else◌, refl, sym, ap, ◌∙◌, subst, arith}
 use Rattle.std.proofs.lemmas.Slice.Eq.{bytes_eq-Decides}
 use Rattle.std.proofs.lemmas.Cmp.{nat_list_eq_equiv}
 use Rattle.std.specs.List.{IsDistinct, AllByRecursion}
 use Rattle.tc_schema_model.specs.SchemaText.{name_at}
 use Rattle.tc_model.specs.Document.{Name}
 use Rattle.tc_model.specs.Dictionary.{number_of}
-use Rattle.tc_schema_model.specs.Added.{number}
 
 -- at a number of a name stands the name
 pub name_stands : (names : List Name) (name : Name) (n : ℕ) → number_of names name ≡ Some n → (n < length names) × (slice_get names n ≡ Some name)
@@ -38,14 +36,6 @@ pub one_name : (names : List Name) (a b : Name) (n : ℕ) → number_of names a 
 one_name names a b n first second =
     let there = (name_stands names a n first).1 in
     let same = (name_stands names b n second).1 in cc
-
--- a name that has a number
-pub numbered : (names : List Name) (name : Name) → IsTrue (is_some (number_of names name)) → number_of names name ≡ Some (number names name)
-numbered names name named = at (number_of names name) named
-  where
-    at : (o : Option ℕ) → IsTrue (is_some o) → o ≡ Some (unwrap_or o 0)
-    at None named = absurd (false≢true named)
-    at (Some n) named = refl
 
 -- a name has the number of its place, where the names are distinct
 pub number_of_name_at : (names : List Name) (n : ℕ) → IsDistinct bytes_eq names → n < length names → number_of names (name_at names n) ≡ Some n

@@ -5,15 +5,16 @@ use Rattle.std.proofs.lemmas.Bool.Decides.{Decides-eqb, nat_tests}
 use Rattle.std.proofs.lemmas.Slice.Eq.{bytes_eq-Decides}
 use Rattle.tc_model.specs.Tree.{leaf, array, object, Items, no_items, item, Members, no_members, member}
 use Rattle.tc_model.specs.Document.{Name, ShapeTree, ScalarKind, null_kind, boolean_kind, integer_kind, text_kind}
-use Rattle.tc_model.specs.Dictionary.{number_of}
+use Rattle.tc_model.specs.Dictionary.{number_of, number}
 use Rattle.tc_schema_model.specs.Occurrences.{field, each_item, Path, occurrences, items_occurrences, members_occurrences}
 use Rattle.tc_model.specs.Kinds.{Kind, scalar, arrays, objects}
 use Rattle.tc_schema_model.specs.Counted.{Counters, total, Counted, counted, Below, no_item, an_item, Fields, no_fields, a_field, nothing, held, field_at, numbered_field, counters_of, documents_of, shows, IsCanonical, IsBelowCanonical, AreFieldsCanonical}
-use Rattle.tc_schema_model.specs.Added.{lowered, put_field, without_field, number, removed, items_removed, members_removed, kept_item, kept_field}
+use Rattle.tc_schema_model.specs.Added.{lowered, put_field, without_field, removed, items_removed, members_removed, kept_item, kept_field}
 use Rattle.tc_schema_model.specs.Fits.{Fits, ItemsFit, MembersFit}
 use Rattle.tc_schema_model.proofs.CounterLaws.{counter-lowered}
 use Rattle.tc_schema_model.proofs.FieldLaws.{field_at-put_field_here, field_at-put_field_elsewhere, field_at-without_field, fields_ordered, held_canonical}
-use Rattle.tc_schema_model.proofs.NumberLaws.{numbered, one_name, name_stands}
+use Rattle.tc_model.proofs.NameNumbers.{numbered}
+use Rattle.tc_schema_model.proofs.NumberLaws.{one_name, name_stands}
 use Rattle.tc_schema_model.proofs.AddedLaws.{field_canonical, canonical-put_field}
 
 -- ---- the one form

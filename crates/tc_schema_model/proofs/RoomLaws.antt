@@ -2,14 +2,14 @@
 use Rattle.std.proofs.Common.{◌≡◌, ◌+◌, ◌≤◌, List, ap, ◌∙◌, arith}
 use Rattle.tc_model.specs.Tree.{Items, item, Members, member}
 use Rattle.tc_model.specs.Document.{Name, ShapeTree, ScalarKind, null_kind, boolean_kind, integer_kind, text_kind}
-use Rattle.tc_model.specs.Dictionary.{number_of}
+use Rattle.tc_model.specs.Dictionary.{number_of, number}
 use Rattle.tc_schema_model.specs.Occurrences.{Path}
 use Rattle.tc_model.specs.Kinds.{Kind, scalar, arrays, objects}
 use Rattle.tc_schema_model.specs.Counted.{Counted, Below, an_item, Fields, held, field_at, numbered_field, shows, total_at}
-use Rattle.tc_schema_model.specs.Added.{put_field, number, added, items_added, members_added, IsNamed, AreItemsNamed, AreMembersNamed}
+use Rattle.tc_schema_model.specs.Added.{put_field, added, items_added, members_added, IsNamed, AreItemsNamed, AreMembersNamed}
 use Rattle.tc_schema_model.proofs.AddedLaws.{shows-added, shows-items_added, shows-members_added}
 use Rattle.tc_schema_model.proofs.FieldLaws.{field_at-put_field_here}
-use Rattle.tc_schema_model.proofs.NumberLaws.{numbered}
+use Rattle.tc_model.proofs.NameNumbers.{numbered}
 use Rattle.tc_schema_model.specs.Room.{DoesFit, DoFieldsFit}
 use Rattle.tc_schema_model.specs.Values.{values_at}
 

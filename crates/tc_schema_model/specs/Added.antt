@@ -1,8 +1,8 @@
 -- One shape more, or less, in what is counted. Where a place counts nothing any more it leaves.
-use Rattle.std.specs.Prelude.{ℕ, ◌+◌, ◌-◌, ◌==◌, nat_lt, List, is_some, unwrap_or, IsTrue, if◌then◌else◌}
+use Rattle.std.specs.Prelude.{ℕ, ◌+◌, ◌-◌, ◌==◌, nat_lt, List, is_some, IsTrue, if◌then◌else◌}
 use Rattle.tc_model.specs.Tree.{leaf, array, object, Items, no_items, item, Members, no_members, member}
 use Rattle.tc_model.specs.Document.{Name, ShapeTree, ScalarKind, null_kind, boolean_kind, integer_kind, text_kind}
-use Rattle.tc_model.specs.Dictionary.{number_of}
+use Rattle.tc_model.specs.Dictionary.{number_of, number}
 use Rattle.tc_model.specs.Kinds.{Kind, scalar, arrays, objects}
 use Rattle.tc_schema_model.specs.Counted.{Counters, Counted, counted, Below, no_item, an_item, Fields, no_fields, a_field, held, field_at, documents_of}
 
@@ -27,10 +27,6 @@ lowered objects n c = record c { objects = c.objects - n }
 abbrev pub put_field : ℕ → Counted → Fields → Fields
 put_field n d no_fields = a_field n d no_fields
 put_field n d (a_field m e fs) = if nat_lt n m then a_field n d (a_field m e fs) else (if m == n then a_field n d fs else a_field m e (put_field n d fs))
-
--- the number of a name that has one
-abbrev pub number : List Name → Name → ℕ
-number names name = unwrap_or (number_of names name) 0
 
 -- one shape more
 abbrev mutual

@@ -3,11 +3,11 @@
 use Rattle.std.specs.Prelude.{◌≡◌, ℕ, ◌≤◌, ◌-◌, ◌++◌, ◌∷◌, List, length, is_some, IsTrue}
 use Rattle.tc_model.specs.Tree.{leaf, array, object, Items, no_items, item, Members, no_members, member}
 use Rattle.tc_model.specs.Document.{Name, ShapeTree, ScalarKind}
-use Rattle.tc_model.specs.Dictionary.{number_of}
+use Rattle.tc_model.specs.Dictionary.{number_of, number}
 use Rattle.tc_schema_model.specs.Occurrences.{field, each_item, Path, occurrences}
 use Rattle.tc_model.specs.Kinds.{Kind, scalar, arrays, objects}
 use Rattle.tc_schema_model.specs.Counted.{Counted, counted, counter, Below, no_item, Fields, no_fields, held, field_at, shows, IsCanonical}
-use Rattle.tc_schema_model.specs.Added.{number, removed, items_removed, members_removed, kept_item, kept_field}
+use Rattle.tc_schema_model.specs.Added.{removed, items_removed, members_removed, kept_item, kept_field}
 
 -- place by place, each value after those before it were taken off
 abbrev mutual

@@ -1,12 +1,12 @@
 use Rattle.std.proofs.Common.{◌≡◌, ◌+◌, Some, length, map, drop, refl, sym, ap, ◌∙◌, subst, arith, rules}
 use Rattle.tc_model.specs.Tree.{array, object, item, no_items, member, no_members, items_of, members_of}
-use Rattle.tc_model.specs.Dictionary.{number_of}
+use Rattle.tc_model.specs.Dictionary.{number_of, number}
 use Rattle.tc_schema_model.specs.Counted.{field_at, IsCanonical, IsBelowCanonical, AreFieldsCanonical, AreFieldsOrdered, total}
-use Rattle.tc_schema_model.specs.Added.{removed, items_removed, members_removed, number}
+use Rattle.tc_schema_model.specs.Added.{removed, items_removed, members_removed}
 use Rattle.tc_schema_model.specs.Fits.{Fits, ItemsFit, MembersFit}
 use Rattle.tc_schema_model.proofs.AddedLaws.{field_canonical}
 use Rattle.tc_schema_model.proofs.FieldLaws.{fields_ordered}
-use Rattle.tc_schema_model.proofs.NumberLaws.{numbered}
+use Rattle.tc_model.proofs.NameNumbers.{numbered}
 use Rattle.tc_schema_model.proofs.RemovedLaws.{canonical-items_removed, canonical-members_removed}
 use Rattle.tc_value.specs.ShapeMeaning.{shape_tree, shape_member}
 use Rattle.tc_model.specs.TreeSize.{tree_size}

@@ -1,11 +1,10 @@
 use Rattle.std.proofs.Common.{rules, ◌≡◌, ◌∙◌, ◌∷◌, [], ◌++◌, length, map, sym, ap, arith, subst, append_assoc, length-append}
-use Rattle.tc_model.specs.Dictionary.{learned, Extends, all_learned}
+use Rattle.tc_model.specs.Dictionary.{learned, Extends, all_learned, number as name_number}
 use Rattle.tc_model.proofs.DictionaryGrowth.{Extends-trans, Extends-learned}
 use Rattle.tc_record.specs.Record.{joined}
-use Rattle.tc_schema_model.specs.Added as counts
 use Rattle.tc_compact.specs.Slots.{names_in}
 use Rattle.tc_model.proofs.LearnedNames.{length-all_learned}
-use Rattle.tc_schema_model.proofs.LastingNumbers.{number-all_learned}
+use Rattle.tc_model.proofs.LastingNumbers.{number-all_learned}
 use Rattle.tc_compact.proofs.learning.learn_names.Goals as goal
 
 pub learn-requires-clause-room : goal.learn-requires-clause-room
@@ -25,14 +24,14 @@ loop-token-preserved-in-Name c =
     let here : names_in l.cursor ≡ n ∷ rest = search rules in
     let known : c.learn.new.self ≡ learned l.names n = c.in_ok-number.ensures.ok in
     let left : all_learned c.learn.new.self rest ≡ after = ap (λ names. all_learned names rest) known ∙ ap (all_learned l.names) (sym here) ∙ l.invariant.left in
-    let number : counts.number after n ≡ c.in_ok-number.number = ap (λ names. counts.number names n) (sym left) ∙ number-all_learned c.learn.new.self n rest c.in_ok-number.number c.in_ok-number.ensures.number in
+    let number : name_number after n ≡ c.in_ok-number.number = ap (λ names. name_number names n) (sym left) ∙ number-all_learned c.learn.new.self n rest c.in_ok-number.number c.in_ok-number.ensures.number in
     record {
       left = left;
       numbers =
-          ap (λ ns. ns ++ map (counts.number after) rest) c.in_ok-push.ensures.items
-          ∙ append_assoc l.numbers.items (c.in_ok-number.number ∷ []) (map (counts.number after) rest)
-          ∙ ap (λ k. l.numbers.items ++ k ∷ map (counts.number after) rest) (sym number)
-          ∙ ap (λ ns. l.numbers.items ++ map (counts.number after) ns) (sym here)
+          ap (λ ns. ns ++ map (name_number after) rest) c.in_ok-push.ensures.items
+          ∙ append_assoc l.numbers.items (c.in_ok-number.number ∷ []) (map (name_number after) rest)
+          ∙ ap (λ k. l.numbers.items ++ k ∷ map (name_number after) rest) (sym number)
+          ∙ ap (λ ns. l.numbers.items ++ map (name_number after) ns) (sym here)
           ∙ l.invariant.numbers;
       bytes = omega (arith, l.invariant.bytes, ap (λ ns. length (joined ns)) here, length-append n (joined rest));
       extends = Extends-trans c.learn.new.self l.names c.args.names.now (subst (λ names. Extends names l.names) (sym known) (Extends-learned l.names n)) l.invariant.extends;

@@ -1,7 +1,6 @@
 use Rattle.std.proofs.Common.{◌≡◌, ◌+◌, ◌++◌, length, map}
-use Rattle.tc_model.specs.Dictionary.{Extends, IsDictionary, all_learned}
+use Rattle.tc_model.specs.Dictionary.{Extends, IsDictionary, all_learned, number as name_number}
 use Rattle.tc_record.specs.Record.{joined}
-use Rattle.tc_schema_model.specs.Added as counts
 use Rattle.tc_compact.specs.Slots.{names_in}
 use Rattle.tc_compact.proofs.learning.learn_names.Given as goal
 
@@ -11,7 +10,7 @@ invariant-loop-token l =
     let after = all_learned l.fn.names all in
     record {
       left : all_learned l.names (names_in l.cursor) ≡ after;
-      numbers : l.numbers.items ++ map (counts.number after) (names_in l.cursor) ≡ map (counts.number after) all;
+      numbers : l.numbers.items ++ map (name_number after) (names_in l.cursor) ≡ map (name_number after) all;
       bytes : l.name_bytes + length (joined (names_in l.cursor)) ≡ length (joined all);
       extends : Extends l.names l.fn.names;
       dictionary : IsDictionary l.names;

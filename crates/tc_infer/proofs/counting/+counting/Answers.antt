@@ -2,12 +2,12 @@ use Rattle.std.proofs.Common.{◌≡◌, ◌+◌, Some, length, map, drop, set, 
 use Rattle.std.proofs.lemmas.Option.{same_Some}
 use Rattle.std.proofs.lemmas.Result.{IfOk-weaker}
 use Rattle.tc_model.specs.Tree.{array, object, item, no_items, member, no_members, items_of, members_of}
-use Rattle.tc_model.specs.Dictionary.{number_of}
+use Rattle.tc_model.specs.Dictionary.{number_of, number}
 use Rattle.tc_schema_model.specs.Counted.{held, field_at, IsCanonical, IsBelowCanonical, AreFieldsCanonical}
-use Rattle.tc_schema_model.specs.Added.{added, items_added, members_added, put_field, number, IsNamed, AreItemsNamed, AreMembersNamed, member_added}
+use Rattle.tc_schema_model.specs.Added.{added, items_added, members_added, put_field, IsNamed, AreItemsNamed, AreMembersNamed, member_added}
 use Rattle.tc_schema_model.proofs.AddedLaws.{canonical-items_added, canonical-members_added, field_canonical}
 use Rattle.tc_schema_model.proofs.FieldLaws.{fields_ordered}
-use Rattle.tc_schema_model.proofs.NumberLaws.{numbered}
+use Rattle.tc_model.proofs.NameNumbers.{numbered}
 use Rattle.tc_value.specs.ShapeMeaning.{shape_tree, shape_member}
 use Rattle.tc_model.specs.TreeSize.{tree_size}
 use Rattle.tc_schema.specs.Places.{place_counted, below_counted, fields_counted}

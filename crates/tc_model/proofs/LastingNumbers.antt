@@ -1,12 +1,11 @@
 -- A name keeps its number in each dictionary that goes on.
 use Rattle.std.proofs.Common.{◌≡◌, ◌∙◌, ℕ, List, [], ◌∷◌, Some, is_some, unwrap_or, map, refl, ap}
 use Rattle.tc_model.specs.Document.{Name}
-use Rattle.tc_model.specs.Dictionary.{number_of, Extends, all_learned}
+use Rattle.tc_model.specs.Dictionary.{number_of, Extends, all_learned, number}
 use Rattle.tc_model.specs.KnownNames.{HasEach}
+use Rattle.tc_model.proofs.NameNumbers.{numbered}
 use Rattle.tc_model.proofs.DictionaryGrowth.{number_of-Extends}
 use Rattle.tc_model.proofs.LearnedNames.{Extends-all_learned}
-use Rattle.tc_schema_model.specs.Added.{number}
-use Rattle.tc_schema_model.proofs.NumberLaws.{numbered}
 
 pub numbers-Extends : (newer older names : List Name) → Extends newer older → HasEach older names → HasEach newer names × (map (number newer) names ≡ map (number older) names)
 numbers-Extends newer older [] extends has = (tt, refl)
