@@ -1,0 +1,4 @@
+mod ListLaws
+mod MergedEntries
+mod TableLaws
+mod TableCounts

@@ -1,7 +1,9 @@
 -- Memory tables: the newest writes by key, each with the shape of the document that its key has below the table.
-use Rattle.std.specs.Prelude.{◌≡◌, ℕ, List, [], map, flat_map, fold, option_to_list, Option, Some, None, option_map, IfSome, IsSome}
+use Rattle.std.specs.Prelude.{◌≡◌, ℕ, ◌+◌, List, [], ◌∷◌, map, flat_map, fold, option_to_list, Option, Some, None, option_map, IfSome, IsSome}
 use Rattle.tc_model.specs.Document.{Document, ShapeTree, document_shape}
 use Rattle.tc_model.specs.Keyed.{Keyed, value_of, with_value, without_key, on_value}
+use Rattle.tc_model.specs.Kinds.{Kind}
+use Rattle.tc_schema_model.specs.Occurrences.{Path, occurrences}
 use Rattle.tc_plain_model.specs.Writes.{Pairs, Write, after_writes}
 
 -- what a key has, a document or that it is gone, and the shape of what it has below the table, if there is something
@@ -40,6 +42,11 @@ shapes_held t = flat_map (λ e. option_to_list (option_map document_shape e.1.he
 
 abbrev pub shapes_below : Table → List ShapeTree
 shapes_below t = flat_map (λ e. option_to_list e.1.below) t
+
+-- how often a kind of value stands at a path of shapes, in all of them together
+abbrev pub occurring : List ShapeTree → Path → Kind → ℕ
+occurring [] path t = 0
+occurring (s ∷ shapes) path t = occurrences s path t + occurring shapes path t
 
 -- ---- the table that writes make
 
