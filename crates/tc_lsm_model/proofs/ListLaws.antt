@@ -17,9 +17,9 @@ pub held_over-append : (p : Pairs) (xs ys : List Content) → held_over p (xs ++
 held_over-append p [] ys = refl
 held_over-append p (c ∷ xs) ys = held_over-append (after_writes p c.entries) xs ys
 
-pub last_after_writes-append : (g : ℕ) (xs ys : List Content) → last_after g (xs ++ ys) ≡ last_after (last_after g xs) ys
-last_after_writes-append g [] ys = refl
-last_after_writes-append g (c ∷ xs) ys = last_after_writes-append c.to xs ys
+pub last_after-append : (g : ℕ) (xs ys : List Content) → last_after g (xs ++ ys) ≡ last_after (last_after g xs) ys
+last_after-append g [] ys = refl
+last_after-append g (c ∷ xs) ys = last_after-append c.to xs ys
 
 pub newest_names-append : (ns : List Name) (xs ys : List Content) → newest_names ns (xs ++ ys) ≡ newest_names (newest_names ns xs) ys
 newest_names-append ns [] ys = refl

@@ -1,0 +1,69 @@
+-- The names of a list know all that is live in it.
+use Rattle.std.proofs.Common.{ℕ, List, [], ◌∷◌, Option, Some, None}
+use Rattle.std.specs.Prelude.{IfSome, All}
+use Rattle.std.proofs.lemmas.List.Elements.{All-nil, All-head, All-tail, All-append, All-weaker}
+use Rattle.tc_model.specs.Document.{Name, Document, document_shape}
+use Rattle.tc_model.specs.Dictionary.{Extends, IsDictionary}
+use Rattle.tc_model.specs.ShapeNames.{names_within}
+use Rattle.tc_model.proofs.DictionaryGrowth.{IsDictionary-nil, Extends-same, Extends-trans}
+use Rattle.tc_model.proofs.KeyedOrder.{All-with_value, All-without_key}
+use Rattle.tc_model.proofs.LastingNumbers.{numbers-Extends}
+use Rattle.tc_plain_model.specs.Writes.{Pairs, Write, after_write, after_writes}
+use Rattle.tc_lsm_model.specs.Contents.{Partition, Content, IsNamedIn, IsEntry}
+use Rattle.tc_lsm_model.specs.Lists.{held_over, live, newest_names, names_of, GoOn, IsList}
+use Rattle.tc_lsm_model.specs.Merges.{entries_of}
+
+-- the names of a document of a key
+abbrev pub AreNamesIn : List Name → ℕ × Document → Type 0
+AreNamesIn names p = IsNamedIn names p.1
+
+IsNamedIn-Extends : (newer older : List Name) (d : Document) → Extends newer older → IsNamedIn older d → IsNamedIn newer d
+IsNamedIn-Extends newer older d extends named = (numbers-Extends newer older (names_within (document_shape d)) extends named).0
+
+IsEntry-Extends : (newer older : List Name) (w : Write) → Extends newer older → IsEntry older w → IsEntry newer w
+IsEntry-Extends newer older (key, v) extends is = record { key = is.key; document = is.document; storable = is.storable; named = named v is.named }
+  where
+    named : (v : Option Document) → IfSome v (IsNamedIn older) → IfSome v (IsNamedIn newer)
+    named None has = tt
+    named (Some d) has = IsNamedIn-Extends newer older d extends has
+
+-- ---- the newest names
+
+pub Extends-newest : (part : Partition) (g : ℕ) (p : Pairs) (ns : List Name) (cs : List Content) → GoOn part g p ns cs → Extends (newest_names ns cs) ns
+Extends-newest part g p ns [] all = Extends-same ns
+Extends-newest part g p ns (c ∷ cs) all = Extends-trans (newest_names c.names cs) c.names ns (Extends-newest part c.to (after_writes p c.entries) c.names cs all.1) all.0.extends
+
+IsDictionary-newest : (part : Partition) (g : ℕ) (p : Pairs) (ns : List Name) (cs : List Content) → IsDictionary ns → GoOn part g p ns cs → IsDictionary (newest_names ns cs)
+IsDictionary-newest part g p ns [] dictionary all = dictionary
+IsDictionary-newest part g p ns (c ∷ cs) dictionary all = IsDictionary-newest part c.to (after_writes p c.entries) c.names cs all.0.content.dictionary all.1
+
+pub IsDictionary-names_of : (part : Partition) (cs : List Content) → IsList part cs → IsDictionary (names_of cs)
+IsDictionary-names_of part cs all = IsDictionary-newest part 0 [] [] cs IsDictionary-nil all
+
+-- ---- what they know
+
+-- each entry of the list
+pub entries_in : (part : Partition) (g : ℕ) (p : Pairs) (ns : List Name) (cs : List Content) → GoOn part g p ns cs → All (IsEntry (newest_names ns cs)) (entries_of cs)
+entries_in part g p ns [] all = All-nil (IsEntry ns)
+entries_in part g p ns (c ∷ cs) all =
+    All-append (IsEntry (newest_names c.names cs)) c.entries (entries_of cs)
+    (All-weaker (IsEntry c.names) (IsEntry (newest_names c.names cs)) (λ w is. IsEntry-Extends (newest_names c.names cs) c.names w (Extends-newest part c.to (after_writes p c.entries) c.names cs all.1) is) c.entries all.0.content.entries)
+    (entries_in part c.to (after_writes p c.entries) c.names cs all.1)
+
+named-after_write : (names : List Name) (p : Pairs) (w : Write) → IsEntry names w → All (AreNamesIn names) p → All (AreNamesIn names) (after_write p w)
+named-after_write names p (key, Some d) is all = All-with_value (AreNamesIn names) key d p is.named all
+named-after_write names p (key, None) is all = All-without_key (AreNamesIn names) key p all
+
+named-after_writes : (names : List Name) (p : Pairs) (ws : List Write) → All (IsEntry names) ws → All (AreNamesIn names) p → All (AreNamesIn names) (after_writes p ws)
+named-after_writes names p [] each all = all
+named-after_writes names p (w ∷ ws) each all = named-after_writes names (after_write p w) ws (All-tail (IsEntry names) w ws each) (named-after_write names p w (All-head (IsEntry names) w ws each) all)
+
+named-held : (part : Partition) (g : ℕ) (p : Pairs) (ns : List Name) (cs : List Content) → GoOn part g p ns cs → All (AreNamesIn ns) p → All (AreNamesIn (newest_names ns cs)) (held_over p cs)
+named-held part g p ns [] all named = named
+named-held part g p ns (c ∷ cs) all named =
+    named-held part c.to (after_writes p c.entries) c.names cs all.1
+    (named-after_writes c.names p c.entries all.0.content.entries (All-weaker (AreNamesIn ns) (AreNamesIn c.names) (λ q is. IsNamedIn-Extends c.names ns q.1 all.0.extends is) p named))
+
+-- each document that is live
+pub named-live : (part : Partition) (cs : List Content) → IsList part cs → All (AreNamesIn (names_of cs)) (live cs)
+named-live part cs all = named-held part 0 [] [] cs all (All-nil (AreNamesIn []))
