@@ -1,10 +1,9 @@
 -- What a list is once a table is flushed behind it.
 use Rattle.std.proofs.Common.{◌≡◌, ℕ, List, [], ◌∷◌, ◌++◌, refl, sym, ap, ◌∙◌, subst}
-use Rattle.tc_model.specs.Document.{Name}
 use Rattle.tc_model.specs.Keyed.{values_in}
 use Rattle.tc_model.specs.ShapeNames.{names_of_documents}
 use Rattle.tc_model.specs.Dictionary.{all_learned}
-use Rattle.tc_schema_model.specs.Counted.{Counted, nothing}
+use Rattle.tc_schema_model.specs.Counted.{nothing}
 use Rattle.tc_schema_model.specs.Stands.{StandsFor}
 use Rattle.tc_schema_model.proofs.CountingLaws.{one_schema}
 use Rattle.tc_plain_model.specs.Writes.{Write, after_writes}
@@ -13,7 +12,7 @@ use Rattle.tc_lsm_model.specs.Contents.{Partition, Content}
 use Rattle.tc_lsm_model.specs.Lists.{live, names_of, schema_of, last_of, IsList}
 use Rattle.tc_lsm_model.specs.Tables.{Table, over, table_over}
 use Rattle.tc_lsm_model.specs.Flushes.{IsFlush}
-use Rattle.tc_lsm_model.proofs.ListLaws.{held_over-append, last_after-append, newest_names-append, newest_schema-append, GoOn-append, Ascends-live}
+use Rattle.tc_lsm_model.proofs.ListLaws.{held_over-append, last_after-append, newest_names-append, newest_schema-append, GoOn-append, Ascends-live, one_content}
 use Rattle.tc_lsm_model.proofs.TableLaws.{over-table_over, alone-table_over}
 
 pub flushed_list : (part : Partition) (cs : List Content) (t : Table) (n : ℕ) (c : Content) → IsList part cs → IsFlush part cs t n c → IsList part (cs ++ c ∷ [])
@@ -33,19 +32,7 @@ schema_of-push cs c = newest_schema-append nothing cs (c ∷ [])
 pub last_of-push : (cs : List Content) (c : Content) → last_of (cs ++ c ∷ []) ≡ c.to
 last_of-push cs c = last_after-append 0 cs (c ∷ [])
 
--- ---- contents with the same parts
-
-abbrev content : Partition → ℕ → ℕ → List Write → List Name → Counted → Content
-content part from to entries names schema = record { part = part; from = from; to = to; entries = entries; names = names; schema = schema }
-
-pub one_content : (c d : Content) → c.part ≡ d.part → c.from ≡ d.from → c.to ≡ d.to → c.entries ≡ d.entries → c.names ≡ d.names → c.schema ≡ d.schema → c ≡ d
-one_content c d part from to entries names schema =
-    ap (λ x. content x c.from c.to c.entries c.names c.schema) part
-    ∙ ap (λ x. content d.part x c.to c.entries c.names c.schema) from
-    ∙ ap (λ x. content d.part d.from x c.entries c.names c.schema) to
-    ∙ ap (λ x. content d.part d.from d.to x c.names c.schema) entries
-    ∙ ap (λ x. content d.part d.from d.to d.entries x c.schema) names
-    ∙ ap (λ x. content d.part d.from d.to d.entries d.names x) schema
+-- ---- it is one
 
 -- a table behind a list has one flush
 pub one_flush : (part : Partition) (cs : List Content) (t : Table) (n : ℕ) (c d : Content) → IsFlush part cs t n c → IsFlush part cs t n d → c ≡ d
@@ -53,7 +40,7 @@ one_flush part cs t n c d is are =
     let entries : c.entries ≡ d.entries = is.entries ∙ sym are.entries in
     let names : c.names ≡ d.names = is.names ∙ sym are.names in
     let stands : StandsFor d.names c.schema (values_in (after_writes (live cs) d.entries)) =
-        subst (λ es. StandsFor d.names c.schema (values_in (after_writes (live cs) es))) entries (subst (λ ns. StandsFor ns c.schema (values_in (after_writes (live cs) c.entries))) names is.goes_on.stands) in
+    subst (λ es. StandsFor d.names c.schema (values_in (after_writes (live cs) es))) entries (subst (λ ns. StandsFor ns c.schema (values_in (after_writes (live cs) c.entries))) names is.goes_on.stands) in
     one_content c d (is.goes_on.here ∙ sym are.goes_on.here) (is.goes_on.next ∙ sym are.goes_on.next) (is.to ∙ sym are.to) entries names
     (one_schema d.names c.schema d.schema (values_in (after_writes (live cs) d.entries)) stands are.goes_on.stands)
 

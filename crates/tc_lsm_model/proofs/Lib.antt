@@ -6,3 +6,4 @@ mod MergeLaws
 mod TableLaws
 mod TableCounts
 mod FlushLaws
+mod FlushNames

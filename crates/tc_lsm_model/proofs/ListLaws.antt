@@ -1,10 +1,10 @@
 -- What lists of contents are, one behind the other.
-use Rattle.std.proofs.Common.{◌≡◌, ◌≤◌, ℕ, List, [], ◌∷◌, ◌++◌, refl, sym, ◌∙◌, arith}
+use Rattle.std.proofs.Common.{◌≡◌, ◌≤◌, ℕ, List, [], ◌∷◌, ◌++◌, refl, sym, ap, ◌∙◌, arith}
 use Rattle.tc_model.specs.Document.{Name}
 use Rattle.tc_model.specs.Keyed.{Ascends}
 use Rattle.tc_model.proofs.KeyedOrder.{sorted_nil}
 use Rattle.tc_schema_model.specs.Counted.{Counted}
-use Rattle.tc_plain_model.specs.Writes.{Pairs, after_writes}
+use Rattle.tc_plain_model.specs.Writes.{Pairs, Write, after_writes}
 use Rattle.tc_plain_model.proofs.WriteLaws.{after_writes-append}
 use Rattle.tc_plain_model.proofs.WriteLookups.{Ascends-after_writes}
 use Rattle.tc_lsm_model.specs.Contents.{Partition, Content}
@@ -62,3 +62,17 @@ Ascends-held_over p (c ∷ cs) up = Ascends-held_over (after_writes p c.entries)
 
 pub Ascends-live : (cs : List Content) → Ascends (live cs)
 Ascends-live cs = Ascends-held_over [] cs sorted_nil
+
+-- ---- contents with the same parts
+
+abbrev content : Partition → ℕ → ℕ → List Write → List Name → Counted → Content
+content part from to entries names schema = record { part = part; from = from; to = to; entries = entries; names = names; schema = schema }
+
+pub one_content : (c d : Content) → c.part ≡ d.part → c.from ≡ d.from → c.to ≡ d.to → c.entries ≡ d.entries → c.names ≡ d.names → c.schema ≡ d.schema → c ≡ d
+one_content c d part from to entries names schema =
+    ap (λ x. content x c.from c.to c.entries c.names c.schema) part
+    ∙ ap (λ x. content d.part x c.to c.entries c.names c.schema) from
+    ∙ ap (λ x. content d.part d.from x c.entries c.names c.schema) to
+    ∙ ap (λ x. content d.part d.from d.to x c.names c.schema) entries
+    ∙ ap (λ x. content d.part d.from d.to d.entries x c.schema) names
+    ∙ ap (λ x. content d.part d.from d.to d.entries d.names x) schema

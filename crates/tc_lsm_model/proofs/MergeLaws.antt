@@ -14,7 +14,7 @@ use Rattle.tc_plain_model.specs.Writes.{Pairs, Write, after_writes}
 use Rattle.tc_lsm_model.specs.Contents.{Partition, Content, IsEntry, IsContent}
 use Rattle.tc_lsm_model.specs.Lists.{held_over, live, newest_names, names_of, newest_schema, schema_of, last_after, last_of, GoesOn, GoOn, IsList}
 use Rattle.tc_lsm_model.specs.Merges.{Run, before_run, in_run, behind_run, swapped, entries_of, last_entries, merged_entries, IsMerge}
-use Rattle.tc_lsm_model.proofs.ListLaws.{held_over-append, last_after-append, newest_names-append, newest_schema-append, GoOn-append, GoOn-front, GoOn-back, last_after-grows, nothing_before, Ascends-live}
+use Rattle.tc_lsm_model.proofs.ListLaws.{held_over-append, last_after-append, newest_names-append, newest_schema-append, GoOn-append, GoOn-front, GoOn-back, last_after-grows, nothing_before, Ascends-live, one_content}
 use Rattle.tc_lsm_model.proofs.ListNames.{Extends-newest, entries_in}
 use Rattle.tc_lsm_model.proofs.MergedEntries.{is_live, Ascends-merged, after-merged}
 
@@ -117,3 +117,13 @@ pub swapped_replaces : (part : Partition) (run : Run) (cs : List Content) (c : C
 swapped_replaces part run cs c all is =
     subst (λ old. Replaces part old (swapped run c cs)) (split_at_run run cs)
     (replaced part (before_run run cs) (in_run run cs) (behind_run run cs) c (subst (IsList part) (sym (split_at_run run cs)) all) is)
+
+-- a run has one merge
+pub one_merge : (run : List Content) (c d : Content) → IsMerge run c → IsMerge run d → c ≡ d
+one_merge run c d is are =
+    let first : is.first ≡ are.first = first_is (is.first) are.first is.others are.others (sym is.is ∙ are.is) in
+    one_content c d (is.part ∙ ap (λ f. f.part) first ∙ sym are.part) (is.from ∙ ap (λ f. f.from) first ∙ sym are.from) (is.to ∙ sym are.to)
+    (is.entries ∙ ap (λ f. merged_entries f.from run) first ∙ sym are.entries) (is.names ∙ sym are.names) (is.schema ∙ sym are.schema)
+  where
+    first_is : (x y : Content) (xs ys : List Content) → x ∷ xs ≡ y ∷ ys → x ≡ y
+    first_is x y xs ys same = cc

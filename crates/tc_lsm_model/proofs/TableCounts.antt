@@ -26,7 +26,7 @@ count-after_write ps (key, None) path t up = omega (arith, count_taken_out key p
 -- ---- the other entries
 
 -- behind the first entry all keys are others, so that its write leaves what they have below
-pub keeps_behind : (ps : Pairs) (e : ℕ × Slot) (es : Table) → Ascends ps → Ascends (e ∷ es) → KeepsShapes ps (e ∷ es) → KeepsShapes (after_write ps (e.0, e.1.held)) es
+keeps_behind : (ps : Pairs) (e : ℕ × Slot) (es : Table) → Ascends ps → Ascends (e ∷ es) → KeepsShapes ps (e ∷ es) → KeepsShapes (after_write ps (e.0, e.1.held)) es
 keeps_behind ps e es up ascends keeps = record {
   shapes = λ k. shape_at k (k == e.0) refl;
   gone = λ k. gone_at k (k == e.0) refl;
@@ -44,6 +44,13 @@ keeps_behind ps e es up ascends keeps = record {
     gone_at : (k : ℕ) (b : Bool) → (k == e.0) ≡ b → IfSome (value_of k es) (λ s. s.held ≡ None → IsSome s.below)
     gone_at k true same = rw (not_there k same) tt
     gone_at k false other = subst (λ o. IfSome o (λ s. s.held ≡ None → IsSome s.below)) (value_of-other k e.0 e.1 es other) (keeps.gone k)
+
+-- so entries keep what is below them once those before them lie over it
+pub keeps_rest : (ps : Pairs) (before behind : Table) → Ascends ps → Ascends (before ++ behind) → KeepsShapes ps (before ++ behind) → KeepsShapes (over ps before) behind
+keeps_rest ps [] behind up ascends keeps = keeps
+keeps_rest ps (e ∷ before) behind up ascends keeps =
+    keeps_rest (after_write ps (e.0, e.1.held)) before behind (Ascends-after_write ps (e.0, e.1.held) up) (sorted_tail nat_cmp e.0 (keys_of (before ++ behind)) ascends)
+    (keeps_behind ps e (before ++ behind) up ascends keeps)
 
 -- ---- all entries
 

@@ -39,8 +39,14 @@ value_of-writes_of k (e ∷ t) = step (k == e.0) (value_of-writes_of k t)
     step false is = is
 
 -- what is stored at a key with a table over it: what the table holds, or else what is below
-pub value_of-over : (k : ℕ) (p : Pairs) (t : Table) → Ascends p → Ascends t → value_of k (over p t) ≡ unwrap_or (held_of (value_of k t)) (value_of k p)
+value_of-over : (k : ℕ) (p : Pairs) (t : Table) → Ascends p → Ascends t → value_of k (over p t) ≡ unwrap_or (held_of (value_of k t)) (value_of k p)
 value_of-over k p t up table = value_of-after_ascending k p (writes_of t) up (Ascends-writes_of t table) ∙ ap (λ o. unwrap_or o (value_of k p)) (value_of-writes_of k t)
+
+pub held_in_table : (p : Pairs) (t : Table) (k : ℕ) (s : Slot) → Ascends p → Ascends t → value_of k t ≡ Some s → value_of k (over p t) ≡ s.held
+held_in_table p t k s up table there = value_of-over k p t up table ∙ ap (λ o. unwrap_or (held_of o) (value_of k p)) there
+
+pub held_below : (p : Pairs) (t : Table) (k : ℕ) → Ascends p → Ascends t → value_of k t ≡ None → value_of k (over p t) ≡ value_of k p
+held_below p t k up table none = value_of-over k p t up table ∙ ap (λ o. unwrap_or (held_of o) (value_of k p)) none
 
 -- ---- one write
 

@@ -1,9 +1,10 @@
 -- Lists of keys and values in ascending key are told apart by their look-ups.
 use Rattle.std.proofs.Common.{◌≡◌, ◌<◌, ℕ, Bool, true, false, [], ◌∷◌, refl, sym, ap, ◌∙◌, subst, arith, inl, inr, Option, Some, None, Less, eq-eqb}
-use Rattle.std.specs.Prelude.{◌==◌}
+use Rattle.std.specs.Prelude.{◌==◌, All, if◌then◌else◌}
 use Rattle.std.specs.Ordering.{nat_cmp}
 use Rattle.std.specs.Map.{keys_of}
 use Rattle.std.proofs.lemmas.Bool.{cases_lt, eqb-true, lt-ltb}
+use Rattle.std.proofs.lemmas.List.Elements.{All-nil, All-cons, All-head, All-tail}
 use Rattle.std.proofs.lemmas.Map.Keys.{sorted_head, sorted_tail}
 use Rattle.std.proofs.lemmas.Option.{same_Some}
 use Rattle.tc_model.specs.Keyed.{Keyed, Ascends, value_of}
@@ -57,3 +58,23 @@ same_keyed [] ((j, w) ∷ ys) up down same = absurd (none_some w (same j ∙ val
 same_keyed ((k, v) ∷ xs) [] up down same = absurd (none_some v (sym (same k) ∙ value_of-here k v xs))
 same_keyed ((k, v) ∷ xs) ((j, w) ∷ ys) up down same =
     same_cons k j v w xs ys (heads k j v w xs ys up down same) up down same (λ up' down' same'. same_keyed xs ys up' down' same')
+
+-- what holds of each key's value holds of each entry
+pub each_found : {V : Type 0} (P : ℕ × V → Type 0) (es : Keyed V) → Ascends es → ((k : ℕ) (v : V) → value_of k es ≡ Some v → P (k, v)) → All P es
+each_found P [] up has = All-nil P
+each_found {V} P ((k, v) ∷ es) up has =
+    All-cons P (k, v) es (has k v (value_of-here k v es))
+    (each_found P es (sorted_tail nat_cmp k (keys_of es) up) (λ j w there. has j w (step j w (j == k) refl there)))
+  where
+    step : (j : ℕ) (w : V) (b : Bool) → (j == k) ≡ b → value_of j es ≡ Some w → (if b then Some v else value_of j es) ≡ Some w
+    step j w true same there = absurd (none_some w (sym (value_of-above k es (sorted_head nat_cmp k (keys_of es) up)) ∙ ap (λ n. value_of n es) (sym (eqb-true j k same)) ∙ there))
+    step j w false other there = there
+
+-- and of an entry that is found
+pub of_found : {V : Type 0} (P : ℕ × V → Type 0) (es : Keyed V) (k : ℕ) (v : V) → All P es → value_of k es ≡ Some v → P (k, v)
+of_found P [] k v all there = absurd (none_some v there)
+of_found P (e ∷ es) k v all there = step (k == e.0) refl (of_found P es k v (All-tail P e es all)) there
+  where
+    step : (b : Bool) → (k == e.0) ≡ b → (value_of k es ≡ Some v → P (k, v)) → (if b then Some e.1 else value_of k es) ≡ Some v → P (k, v)
+    step true same more there = subst (λ n. P (n, v)) (sym (eqb-true k e.0 same)) (subst (λ w. P (e.0, w)) (same_Some e.1 v there) (All-head P e es all))
+    step false other more there = more there

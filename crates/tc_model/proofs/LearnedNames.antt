@@ -1,8 +1,12 @@
--- Names learned one after the other.
-use Rattle.std.proofs.Common.{◌≡◌, ◌∙◌, ℕ, ◌+◌, ◌<◌, ◌≤◌, ◌^◌, Bool, true, false, List, [], ◌∷◌, ◌++◌, Option, Some, None, is_some, IsTrue, length, bytes_eq, if◌then◌else◌, refl, ap, arith, length-append}
+-- Names learned one after the other, and how many they become.
+use Rattle.std.proofs.Common.{◌≡◌, ◌∙◌, ℕ, ◌+◌, ◌<◌, ◌≤◌, ◌^◌, Bool, true, false, List, [], ◌∷◌, ◌++◌, Option, Some, None, is_some, IsTrue, length, bytes_eq, if◌then◌else◌, refl, sym, ap, subst, arith, length-append, ◌||◌, ◌⊎◌, inl, inr}
 use Rattle.std.specs.List.{AllByRecursion, IsDistinct, list_any}
 use Rattle.std.specs.Cmp.Lexicographic.{nat_list_eq_equiv}
 use Rattle.std.proofs.lemmas.Map.Keys.{IsDistinct-push}
+use Rattle.std.proofs.lemmas.Map.Made.{length-le_from_is_member}
+use Rattle.std.proofs.lemmas.Bool.{or_left, true≢false}
+use Rattle.std.proofs.lemmas.List.Folds.{list_any-append}
+use Rattle.std.proofs.lemmas.Slice.Eq.{bytes_eq-Decides}
 use Rattle.tc_model.specs.Document.{Name}
 use Rattle.tc_model.specs.Dictionary.{number_of, learned, Extends, all_learned}
 use Rattle.tc_model.specs.KnownNames.{HasNumber, HasEach}
@@ -76,3 +80,40 @@ all_numbered known (x ∷ xs) = (number-stays (learned known x) xs x (number-lea
 pub all_learned-known : (known names : List Name) → HasEach known names → all_learned known names ≡ known
 all_learned-known known [] has = refl
 all_learned-known known (name ∷ names) has = ap (λ after. all_learned after names) (ap (λ there. if there then known else known ++ name ∷ []) has.0) ∙ all_learned-known known names has.1
+
+-- ---- how many they become
+
+-- each of these names is among those
+abbrev AreAmong : List Name → List Name → Type 0
+AreAmong names known = (q : Name) → list_any (bytes_eq q) known ≡ true → list_any (bytes_eq q) names ≡ true
+
+either : (a b : Bool) → (a || b) ≡ true → (a ≡ true) ⊎ (b ≡ true)
+either true b is = inl refl
+either false b is = inr is
+
+among-learned : (names known : List Name) (x : Name) → HasNumber names x → AreAmong names known → AreAmong names (learned known x)
+among-learned names known x has among q there = cases (is_some (number_of known x)) there
+  where
+    is_x : (bytes_eq q x || false) ≡ true → list_any (bytes_eq q) names ≡ true
+    is_x one = elim (either (bytes_eq q x) false one) [
+      | inl same ↦ subst (λ y. list_any (bytes_eq y) names ≡ true) (sym ((bytes_eq-Decides q x).0 same)) (list_any-number_of names x ∙ has)
+      | inr never ↦ absurd (true≢false (sym never))
+    ]
+
+    cases : (b : Bool) → list_any (bytes_eq q) (if b then known else known ++ x ∷ []) ≡ true → list_any (bytes_eq q) names ≡ true
+    cases true there = among q there
+    cases false there = elim (either (list_any (bytes_eq q) known) (list_any (bytes_eq q) (x ∷ [])) (sym (list_any-append (bytes_eq q) known (x ∷ [])) ∙ there)) [
+      | inl old ↦ among q old
+      | inr new ↦ is_x new
+    ]
+
+among-all_learned : (names known xs : List Name) → HasEach names xs → AreAmong names known → AreAmong names (all_learned known xs)
+among-all_learned names known [] has among = among
+among-all_learned names known (x ∷ xs) has among = among-all_learned names (learned known x) xs has.1 (among-learned names known x has.0 among)
+
+-- they become no more than those of a dictionary that goes on and has them all
+pub length-all_learned-among : (names known xs : List Name) → IsDistinct bytes_eq known → Extends names known → HasEach names xs → length (all_learned known xs) ≤ length names
+length-all_learned-among names known xs distinct extends has =
+    length-le_from_is_member nat_list_eq_equiv (all_learned known xs) names (distinct-all_learned known xs distinct)
+    (among-all_learned names known xs has (λ q there. subst (λ ns. list_any (bytes_eq q) ns ≡ true) (sym extends.1)
+    (list_any-append (bytes_eq q) known extends.0 ∙ or_left (list_any (bytes_eq q) known) (list_any (bytes_eq q) extends.0) there)))
