@@ -7,3 +7,5 @@ mod TableLaws
 mod TableCounts
 mod FlushLaws
 mod FlushNames
+mod MergeRows
+mod FlushRows
