@@ -1,7 +1,7 @@
 -- A run of a list may be replaced by its merge.
-use Rattle.std.proofs.Common.{◌≡◌, ◌<◌, ◌^◌, ℕ, Bool, true, false, List, [], ◌∷◌, ◌++◌, length, take, drop, sym, ap, ◌∙◌, subst, arith, filter}
+use Rattle.std.proofs.Common.{◌≡◌, ◌<◌, ◌^◌, ℕ, Bool, true, false, List, [], ◌∷◌, ◌++◌, length, take, drop, sym, ap, ◌∙◌, subst, arith, append_assoc, filter, ◌+◌, ◌≤◌}
 use Rattle.std.specs.Prelude.{◌==◌, if◌then◌else◌, All, fold, Option}
-use Rattle.std.proofs.lemmas.List.{take-append-drop}
+use Rattle.std.proofs.lemmas.List.{take-append-drop, take-append-le, drop-append-le, length-drop}
 use Rattle.std.proofs.lemmas.List.Elements.{All-nil, All-head, All-tail, All-filter}
 use Rattle.tc_model.specs.Document.{Name, Document}
 use Rattle.tc_model.specs.Dictionary.{IsDictionary}
@@ -13,6 +13,8 @@ use Rattle.tc_schema_model.specs.Stands.{StandsFor}
 use Rattle.tc_plain_model.specs.Writes.{Pairs, Write, after_writes}
 use Rattle.tc_lsm_model.specs.Contents.{Partition, Content, IsEntry, IsContent}
 use Rattle.tc_lsm_model.specs.Lists.{held_over, live, newest_names, names_of, newest_schema, schema_of, last_after, last_of, GoesOn, GoOn, IsList}
+use Rattle.tc_lsm_model.specs.Tables.{Table}
+use Rattle.tc_lsm_model.specs.Flushes.{IsFlush}
 use Rattle.tc_lsm_model.specs.Merges.{Run, before_run, in_run, behind_run, swapped, entries_of, last_entries, merged_entries, IsMerge}
 use Rattle.tc_lsm_model.proofs.ListLaws.{held_over-append, last_after-append, newest_names-append, newest_schema-append, GoOn-append, GoOn-front, GoOn-back, last_after-grows, nothing_before, Ascends-live, one_content}
 use Rattle.tc_lsm_model.proofs.ListNames.{Extends-newest, entries_in}
@@ -117,6 +119,28 @@ pub swapped_replaces : (part : Partition) (run : Run) (cs : List Content) (c : C
 swapped_replaces part run cs c all is =
     subst (λ old. Replaces part old (swapped run c cs)) (split_at_run run cs)
     (replaced part (before_run run cs) (in_run run cs) (behind_run run cs) c (subst (IsList part) (sym (split_at_run run cs)) all) is)
+
+-- a flush behind the list is one behind it then
+pub flush_stays : (part : Partition) (run : Run) (cs : List Content) (m : Content) (t : Table) (n : ℕ) (c : Content) → IsList part cs → IsMerge (in_run run cs) m → IsFlush part cs t n c → IsFlush part (swapped run m cs) t n c
+flush_stays part run cs m t n c all is flush =
+    let same = swapped_replaces part run cs m all is in
+    record { entries = flush.entries; names = rw same.names flush.names; to = rw same.last flush.to; goes_on = rw (same.last, same.live, same.names) flush.goes_on }
+
+-- a run stays where contents are added behind the list
+within_first : (run : Run) (cs : List Content) → run.first + run.length ≤ length cs → run.first ≤ length cs
+within_first run cs within = omega (arith, within)
+
+pub in_run-append : (run : Run) (cs more : List Content) → run.first + run.length ≤ length cs → in_run run (cs ++ more) ≡ in_run run cs
+in_run-append run cs more within =
+    let rest : run.length ≤ length (drop run.first cs) = omega (arith, within, length-drop run.first cs) in
+    ap (take run.length) (drop-append-le run.first cs more (within_first run cs within)) ∙ take-append-le run.length (drop run.first cs) more rest
+
+pub swapped-append : (run : Run) (c : Content) (cs more : List Content) → run.first + run.length ≤ length cs → swapped run c (cs ++ more) ≡ swapped run c cs ++ more
+swapped-append run c cs more within =
+    let rest : run.length ≤ length (drop run.first cs) = omega (arith, within, length-drop run.first cs) in
+    let before : before_run run (cs ++ more) ≡ before_run run cs = take-append-le run.first cs more (within_first run cs within) in
+    let behind : behind_run run (cs ++ more) ≡ behind_run run cs ++ more = ap (drop run.length) (drop-append-le run.first cs more (within_first run cs within)) ∙ drop-append-le run.length (drop run.first cs) more rest in
+    ap (λ front. front ++ c ∷ behind_run run (cs ++ more)) before ∙ ap (λ back. before_run run cs ++ c ∷ back) behind ∙ sym (append_assoc (before_run run cs) (c ∷ behind_run run cs) more)
 
 -- a run has one merge
 pub one_merge : (run : List Content) (c d : Content) → IsMerge run c → IsMerge run d → c ≡ d

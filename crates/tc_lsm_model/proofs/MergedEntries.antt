@@ -1,10 +1,11 @@
 -- What the entries of a merge leave: what those of its run leave, one after the other.
 use Rattle.std.proofs.Common.{◌≡◌, ℕ, Bool, true, false, List, [], ◌∷◌, refl, sym, ap, ◌∙◌, Option, Some, None, filter}
-use Rattle.std.specs.Prelude.{◌==◌, if◌then◌else◌, cond, is_some, unwrap_or, fold}
+use Rattle.std.specs.Prelude.{◌==◌, if◌then◌else◌, cond, is_some, unwrap_or, fold, All}
 use Rattle.std.specs.Option.{option_or}
 use Rattle.std.specs.Ordering.{nat_cmp}
 use Rattle.std.specs.Map.{keys_of}
 use Rattle.std.proofs.lemmas.Bool.{eqb-true}
+use Rattle.std.proofs.lemmas.List.Elements.{All-head, All-tail}
 use Rattle.std.proofs.lemmas.Map.Keys.{sorted_head, sorted_tail}
 use Rattle.tc_model.specs.Document.{Document}
 use Rattle.tc_model.specs.Keyed.{Keyed, Ascends, value_of, with_value}
@@ -12,9 +13,9 @@ use Rattle.tc_model.proofs.KeyedOrder.{AreAbove, sorted_nil, sorted_cons, sorted
 use Rattle.tc_model.proofs.KeyedLookups.{value_of-with_value, value_of-above}
 use Rattle.tc_model.proofs.KeyedEquality.{same_keyed}
 use Rattle.tc_plain_model.specs.Writes.{Pairs, Write, after_writes}
-use Rattle.tc_plain_model.proofs.WriteLookups.{last_write, or_none, Ascends-after_writes, value_of-after_writes, value_of-after_ascending}
+use Rattle.tc_plain_model.proofs.WriteLookups.{last_write, last_write-append, last_write-ascending, or_none, Ascends-after_writes, value_of-after_writes, value_of-after_ascending}
 use Rattle.tc_lsm_model.specs.Contents.{Content}
-use Rattle.tc_lsm_model.specs.Lists.{held_over}
+use Rattle.tc_lsm_model.specs.Lists.{held_over, newest_entry}
 use Rattle.tc_lsm_model.specs.Merges.{entries_of, last_entries, merged_entries}
 use Rattle.tc_lsm_model.proofs.ListLaws.{held_over-entries}
 
@@ -45,6 +46,19 @@ value_of-put_all k es (w ∷ ws) =
 
 pub value_of-last_entries : (k : ℕ) (ws : List Write) → value_of k (last_entries ws) ≡ last_write k ws
 value_of-last_entries k ws = value_of-put_all k [] ws ∙ or_none (last_write k ws)
+
+-- which of contents is the newest entry of the key
+newest-last_write : (k : ℕ) (cs : List Content) → All (λ c. Ascends c.entries) cs → last_write k (entries_of cs) ≡ newest_entry k cs
+newest-last_write k [] up = refl
+newest-last_write k (c ∷ cs) up =
+    last_write-append k c.entries (entries_of cs)
+    ∙ ap (λ newer. option_or newer (last_write k c.entries)) (newest-last_write k cs (All-tail (λ c. Ascends c.entries) c cs up))
+    ∙ ap (option_or (newest_entry k cs)) (last_write-ascending k c.entries (All-head (λ c. Ascends c.entries) c cs up))
+
+-- entries in ascending key that are the newest of their keys are these
+pub newest_are_last : (cs : List Content) (entries : List Write) → All (λ c. Ascends c.entries) cs → Ascends entries → ((k : ℕ) → value_of k entries ≡ newest_entry k cs) → entries ≡ last_entries (entries_of cs)
+newest_are_last cs entries up ascends newest =
+    same_keyed entries (last_entries (entries_of cs)) ascends (Ascends-last_entries (entries_of cs)) (λ k. newest k ∙ sym (value_of-last_entries k (entries_of cs) ∙ newest-last_write k cs up))
 
 -- the last entries leave what all leave
 after-last_entries : (p : Pairs) (ws : List Write) → Ascends p → after_writes p (last_entries ws) ≡ after_writes p ws

@@ -1,8 +1,9 @@
 -- The components of a partition as a list, of which the oldest comes first: what it holds, and which lists are lawful.
-use Rattle.std.specs.Prelude.{◌≡◌, ◌<◌, ◌^◌, ◌+◌, ℕ, List, [], ◌∷◌, length}
-use Rattle.tc_model.specs.Document.{Name}
+use Rattle.std.specs.Prelude.{◌≡◌, ◌<◌, ◌^◌, ◌+◌, ℕ, List, [], ◌∷◌, length, Option, None}
+use Rattle.std.specs.Option.{option_or}
+use Rattle.tc_model.specs.Document.{Name, Document}
 use Rattle.tc_model.specs.Dictionary.{Extends}
-use Rattle.tc_model.specs.Keyed.{values_in}
+use Rattle.tc_model.specs.Keyed.{value_of, values_in}
 use Rattle.tc_schema_model.specs.Counted.{Counted, nothing}
 use Rattle.tc_schema_model.specs.Stands.{StandsFor}
 use Rattle.tc_plain_model.specs.Writes.{Pairs, after_writes}
@@ -18,6 +19,11 @@ held_over pairs (c ∷ cs) = held_over (after_writes pairs c.entries) cs
 -- the live documents: of each key the newest entry, where that is a document
 abbrev pub live : List Content → Pairs
 live cs = held_over [] cs
+
+-- the newest entry of a key, if there is one
+abbrev pub newest_entry : ℕ → List Content → Option (Option Document)
+newest_entry key [] = None
+newest_entry key (c ∷ cs) = option_or (newest_entry key cs) (value_of key c.entries)
 
 -- The names, the schema and the last generation are those of the newest, or else what stands before the list.
 abbrev pub newest_names : List Name → List Content → List Name

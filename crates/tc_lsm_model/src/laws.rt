@@ -1,6 +1,6 @@
 //! Laws of components, memory tables, flushes and merges, which the contracts of the crates above rely on.
 
-ghost use Rattle.std.specs.Prelude.{◌≡◌, ◌+◌, ◌≤◌, ℕ, List, [], ◌∷◌, ◌++◌, Option, Some, None, All, IfSome, length, bytes_eq};
+ghost use Rattle.std.specs.Prelude.{◌≡◌, ◌+◌, ◌≤◌, ℕ, List, [], ◌∷◌, ◌++◌, Option, Some, None, All, IfSome, length, bytes_eq, unwrap_or};
 ghost use Rattle.std.specs.List.{IsDistinct};
 ghost use Rattle.tc_model.specs.Document.{Name, Document};
 ghost use Rattle.tc_model.specs.Dictionary.{Extends, IsDictionary};
@@ -10,10 +10,10 @@ ghost use Rattle.tc_schema_model.specs.Occurrences.{Path, count};
 ghost use Rattle.tc_plain_model.specs.Writes.{Pairs, Write, after_writes};
 ghost use Rattle.tc_plain_model.specs.Store.{names_after, reopened};
 ghost use Rattle.tc_lsm_model.specs.Contents.{Partition, Content, IsNamedIn};
-ghost use Rattle.tc_lsm_model.specs.Lists.{live, names_of, schema_of, last_of, IsList};
+ghost use Rattle.tc_lsm_model.specs.Lists.{live, newest_entry, names_of, schema_of, last_of, IsList};
 ghost use Rattle.tc_lsm_model.specs.Tables.{Slot, Table, writes_of, over, KeepsShapes, shapes_held, shapes_below, occurring, table_over};
 ghost use Rattle.tc_lsm_model.specs.Flushes.{IsFlush};
-ghost use Rattle.tc_lsm_model.specs.Merges.{Run, in_run, swapped, IsMerge};
+ghost use Rattle.tc_lsm_model.specs.Merges.{Run, in_run, swapped, entries_of, last_entries, IsMerge};
 
 /// A law, and no work. A table that writes make over what is stored shows what they leave of it, keeps the shapes of what
 /// is below, and ascends.
@@ -38,12 +38,13 @@ pub fn tables_count()
     ensures rest { (pairs : Pairs) (before behind : Table) → Ascends pairs → Ascends (before ++ behind) → KeepsShapes pairs (before ++ behind) → KeepsShapes (over pairs before) behind }
 {}
 
-/// A law, and no work. In a list the newest content that has an entry of a key says what is live there, and where none
-/// has one, nothing is.
+/// A law, and no work. What is live at a key is what the newest entry of the key says, if there is one. That is the entry
+/// of a content where all newer ones have none.
 pub fn newest_entries_count()
-    ensures found { (part : Partition) (older newer : List Content) (c : Content) (key : ℕ) (held : Option Document) → IsList part (older ++ c ∷ newer)
-        → value_of key c.entries ≡ Some held → All (λ d. value_of key d.entries ≡ None) newer → value_of key (live (older ++ c ∷ newer)) ≡ held }
-    ensures nowhere { (part : Partition) (cs : List Content) (key : ℕ) → IsList part cs → All (λ c. value_of key c.entries ≡ None) cs → value_of key (live cs) ≡ None }
+    ensures live { (part : Partition) (cs : List Content) (key : ℕ) → IsList part cs → value_of key (live cs) ≡ unwrap_or (newest_entry key cs) None }
+    ensures found { (older newer : List Content) (c : Content) (key : ℕ) (held : Option Document) → value_of key c.entries ≡ Some held → All (λ d. value_of key d.entries ≡ None) newer
+        → newest_entry key (older ++ c ∷ newer) ≡ Some held }
+    ensures none { (cs : List Content) (key : ℕ) → All (λ c. value_of key c.entries ≡ None) cs → newest_entry key cs ≡ None }
     ensures ascends { (cs : List Content) → Ascends (live cs) }
 {}
 
@@ -83,12 +84,27 @@ pub fn flushes_hold_logs()
 {}
 
 /// A law, and no work. With a merge in place of its run, a list is one still, and what it holds, its names, its schema and
-/// its last generation stay. A run has one merge.
+/// its last generation stay; so a flush behind it stays one. A run has one merge.
 pub fn merges_keep_lists()
     ensures list { (part : Partition) (run : Run) (cs : List Content) (c : Content) → IsList part cs → IsMerge (in_run run cs) c → IsList part (swapped run c cs) }
     ensures live { (part : Partition) (run : Run) (cs : List Content) (c : Content) → IsList part cs → IsMerge (in_run run cs) c → live (swapped run c cs) ≡ live cs }
     ensures names { (part : Partition) (run : Run) (cs : List Content) (c : Content) → IsList part cs → IsMerge (in_run run cs) c → names_of (swapped run c cs) ≡ names_of cs }
     ensures schema { (part : Partition) (run : Run) (cs : List Content) (c : Content) → IsList part cs → IsMerge (in_run run cs) c → schema_of (swapped run c cs) ≡ schema_of cs }
     ensures last { (part : Partition) (run : Run) (cs : List Content) (c : Content) → IsList part cs → IsMerge (in_run run cs) c → last_of (swapped run c cs) ≡ last_of cs }
+    ensures flush { (part : Partition) (run : Run) (cs : List Content) (c : Content) (t : Table) (generations : ℕ) (flushed : Content) → IsList part cs → IsMerge (in_run run cs) c
+        → IsFlush part cs t generations flushed → IsFlush part (swapped run c cs) t generations flushed }
     ensures one { (run : List Content) (c d : Content) → IsMerge run c → IsMerge run d → c ≡ d }
+{}
+
+/// A law, and no work. The last entries of contents are the newest of their keys, and no other entries in ascending key
+/// are.
+pub fn merges_take_newest()
+    ensures { (run : List Content) (entries : List Write) → All (λ c. Ascends c.entries) run → Ascends entries → ((key : ℕ) → value_of key entries ≡ newest_entry key run) → entries ≡ last_entries (entries_of run) }
+{}
+
+/// A law, and no work. A run of a list stays where contents are added behind the list, and so do they where its merge is
+/// put in place of it.
+pub fn runs_stay()
+    ensures run { (run : Run) (cs more : List Content) → run.first + run.length ≤ length cs → in_run run (cs ++ more) ≡ in_run run cs }
+    ensures swapped { (run : Run) (c : Content) (cs more : List Content) → run.first + run.length ≤ length cs → swapped run c (cs ++ more) ≡ swapped run c cs ++ more }
 {}

@@ -1,5 +1,5 @@
 -- What writes leave of a key: what the last of them to it says, or else what was there.
-use Rattle.std.proofs.Common.{◌≡◌, ℕ, Bool, true, false, List, [], ◌∷◌, refl, ap, ◌∙◌, Option, Some, None}
+use Rattle.std.proofs.Common.{◌≡◌, ℕ, Bool, true, false, List, [], ◌∷◌, ◌++◌, refl, sym, ap, ◌∙◌, Option, Some, None}
 use Rattle.std.specs.Prelude.{◌==◌, if◌then◌else◌, unwrap_or}
 use Rattle.std.specs.Option.{option_or}
 use Rattle.std.specs.Ordering.{nat_cmp}
@@ -41,11 +41,20 @@ value_of-after_writes k p (w ∷ ws) up =
     step false None now is = is
     step false (Some x) now is = refl
 
--- ---- writes in ascending key
-
 pub or_none : (last : Option (Option Document)) → option_or last None ≡ last
 or_none None = refl
 or_none (Some x) = refl
+
+-- of writes behind others the last counts
+pub last_write-append : (k : ℕ) (us vs : List Write) → last_write k (us ++ vs) ≡ option_or (last_write k vs) (last_write k us)
+last_write-append k [] vs = sym (or_none (last_write k vs))
+last_write-append k (w ∷ us) vs = ap (λ last. option_or last (if k == w.0 then Some w.1 else None)) (last_write-append k us vs) ∙ assoc (last_write k vs)
+  where
+    assoc : (last : Option (Option Document)) → option_or (option_or last (last_write k us)) (if k == w.0 then Some w.1 else None) ≡ option_or last (option_or (last_write k us) (if k == w.0 then Some w.1 else None))
+    assoc None = refl
+    assoc (Some v) = refl
+
+-- ---- writes in ascending key
 
 -- each is the last of its key
 pub last_write-ascending : (k : ℕ) (es : Keyed (Option Document)) → Ascends es → last_write k es ≡ value_of k es

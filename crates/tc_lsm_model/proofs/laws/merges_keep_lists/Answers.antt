@@ -1,4 +1,4 @@
-use Rattle.tc_lsm_model.proofs.MergeLaws.{swapped_replaces, one_merge}
+use Rattle.tc_lsm_model.proofs.MergeLaws.{swapped_replaces, flush_stays, one_merge}
 use Rattle.tc_lsm_model.proofs.laws.merges_keep_lists.Goals as goal
 
 pub returns-clause-list : goal.returns-clause-list
@@ -15,6 +15,9 @@ returns-clause-schema c = λ part run cs merge all is. (swapped_replaces part ru
 
 pub returns-clause-last : goal.returns-clause-last
 returns-clause-last c = λ part run cs merge all is. (swapped_replaces part run cs merge all is).last
+
+pub returns-clause-flush : goal.returns-clause-flush
+returns-clause-flush c = flush_stays
 
 pub returns-clause-one : goal.returns-clause-one
 returns-clause-one c = one_merge
