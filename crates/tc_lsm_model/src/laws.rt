@@ -1,6 +1,6 @@
 //! Laws of components, memory tables, flushes and merges, which the contracts of the crates above rely on.
 
-ghost use Rattle.std.specs.Prelude.{◌≡◌, ◌+◌, ◌≤◌, ℕ, List, [], ◌∷◌, ◌++◌, Option, Some, None, All, IfSome, length, bytes_eq, unwrap_or};
+ghost use Rattle.std.specs.Prelude.{◌≡◌, ◌+◌, ◌≤◌, ℕ, List, [], ◌∷◌, ◌++◌, Option, Some, None, All, IfSome, length, bytes_eq, unwrap_or, option_to_list, flat_map};
 ghost use Rattle.std.specs.List.{IsDistinct};
 ghost use Rattle.tc_model.specs.Document.{Name, Document};
 ghost use Rattle.tc_model.specs.Dictionary.{Extends, IsDictionary};
@@ -57,11 +57,13 @@ pub fn lists_know_names()
 {}
 
 /// A law, and no work. The names that a flush gives its content go on from those of the list, stay distinct, and have each
-/// name of what is then live. They are no more than those of any dictionary that does so.
+/// name of what is then live. They are no more than those of any dictionary that does so. The documents whose names they
+/// learn are those that the entries set, one after the other.
 pub fn flushes_learn_names()
     ensures extends { (names : List Name) (ws : List Write) → Extends (names_after names ws) names }
     ensures distinct { (names : List Name) (ws : List Write) → IsDistinct bytes_eq names → IsDistinct bytes_eq (names_after names ws) }
     ensures written { (names : List Name) (ws : List Write) → Ascends ws → All (λ w. IfSome w.1 (IsNamedIn (names_after names ws))) ws }
+    ensures documents { (ws : List Write) → Ascends ws → values_in (after_writes [] ws) ≡ flat_map (λ w. option_to_list w.1) ws }
     ensures live { (part : Partition) (cs : List Content) (t : Table) → IsList part cs → Ascends t → All (λ p. IsNamedIn (names_after (names_of cs) (writes_of t)) p.1) (over (live cs) t) }
     ensures few { (names more : List Name) (ws : List Write) → IsDistinct bytes_eq names → Extends more names → All (λ w. IfSome w.1 (IsNamedIn more)) ws → length (names_after names ws) ≤ length more }
 {}

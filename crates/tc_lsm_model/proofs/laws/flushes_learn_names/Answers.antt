@@ -1,3 +1,4 @@
+use Rattle.tc_plain_model.proofs.AscendingWrites.{documents_in_order}
 use Rattle.tc_lsm_model.proofs.FlushNames.{Extends-names_after, distinct-names_after, known-names_after, live-names_after, few-names_after}
 use Rattle.tc_lsm_model.proofs.laws.flushes_learn_names.Goals as goal
 
@@ -15,3 +16,6 @@ returns-clause-live c = live-names_after
 
 pub returns-clause-few : goal.returns-clause-few
 returns-clause-few c = few-names_after
+
+pub returns-clause-documents : goal.returns-clause-documents
+returns-clause-documents c = documents_in_order
