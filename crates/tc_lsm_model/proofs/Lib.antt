@@ -1,11 +1,11 @@
-mod ListLaws
-mod ListNames
-mod ListLookups
-mod MergedEntries
-mod MergeLaws
-mod TableLaws
-mod TableCounts
-mod FlushLaws
-mod FlushNames
+pub mod ListLaws
+pub mod ListNames
+pub mod ListLookups
+pub mod MergedEntries
+pub mod MergeLaws
+pub mod TableLaws
+pub mod TableCounts
+pub mod FlushLaws
+pub mod FlushNames
 mod MergeRows
 mod FlushRows

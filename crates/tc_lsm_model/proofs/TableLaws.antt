@@ -2,45 +2,29 @@
 use Rattle.std.proofs.Common.{◌≡◌, ℕ, Bool, true, false, List, [], ◌∷◌, refl, sym, ap, ◌∙◌, subst, Option, Some, None}
 use Rattle.std.specs.Prelude.{◌==◌, if◌then◌else◌, option_map, unwrap_or, IfSome, IsSome, fold}
 use Rattle.std.specs.Option.{option_or}
-use Rattle.std.specs.Ordering.{nat_cmp}
-use Rattle.std.specs.Map.{keys_of}
 use Rattle.std.proofs.lemmas.Bool.{eqb-true}
-use Rattle.std.proofs.lemmas.Map.Keys.{sorted_head, sorted_tail}
 use Rattle.tc_model.specs.Document.{Document, ShapeTree, document_shape}
 use Rattle.tc_model.specs.Keyed.{Ascends, value_of}
-use Rattle.tc_model.proofs.KeyedOrder.{AreAbove, sorted_cons, sorted_nil, sorted-with_value, sorted-without_key}
+use Rattle.tc_model.proofs.KeyedOrder.{sorted_nil, sorted-with_value, sorted-without_key}
 use Rattle.tc_model.proofs.KeyedLookups.{value_of-with_value, value_of-without_key}
 use Rattle.tc_model.proofs.KeyedEquality.{same_keyed}
+use Rattle.tc_model.proofs.ReadValues.{value_of-read, Ascends-read}
 use Rattle.tc_plain_model.specs.Writes.{Pairs, Write, after_write, after_writes}
 use Rattle.tc_plain_model.proofs.WriteLookups.{last_write, or_none, Ascends-after_write, Ascends-after_writes, value_of-after_write, value_of-after_writes, value_of-after_ascending}
 use Rattle.tc_lsm_model.specs.Tables.{Slot, slot, Table, writes_of, over, shape_in, KeepsShapes, shape_kept, gone_at, table_with, table_over}
 
 -- ---- the writes of a table
 
-above-writes_of : (n : ℕ) (t : Table) → AreAbove n (keys_of t) → AreAbove n (keys_of (writes_of t))
-above-writes_of n [] above = tt
-above-writes_of n (e ∷ t) above = (above.0, above-writes_of n t above.1)
-
 pub Ascends-writes_of : (t : Table) → Ascends t → Ascends (writes_of t)
-Ascends-writes_of [] up = sorted_nil
-Ascends-writes_of (e ∷ t) up =
-    sorted_cons e.0 (keys_of (writes_of t)) (above-writes_of e.0 t (sorted_head nat_cmp e.0 (keys_of t) up)) (Ascends-writes_of t (sorted_tail nat_cmp e.0 (keys_of t) up))
+Ascends-writes_of t up = Ascends-read (λ s. s.held) t up
 
 -- what a slot holds, if there is one
 abbrev held_of : Option Slot → Option (Option Document)
 held_of o = option_map (λ s. s.held) o
 
-value_of-writes_of : (k : ℕ) (t : Table) → value_of k (writes_of t) ≡ held_of (value_of k t)
-value_of-writes_of k [] = refl
-value_of-writes_of k (e ∷ t) = step (k == e.0) (value_of-writes_of k t)
-  where
-    step : (b : Bool) → value_of k (writes_of t) ≡ held_of (value_of k t) → (if b then Some e.1.held else value_of k (writes_of t)) ≡ held_of (if b then Some e.1 else value_of k t)
-    step true is = refl
-    step false is = is
-
 -- what is stored at a key with a table over it: what the table holds, or else what is below
 value_of-over : (k : ℕ) (p : Pairs) (t : Table) → Ascends p → Ascends t → value_of k (over p t) ≡ unwrap_or (held_of (value_of k t)) (value_of k p)
-value_of-over k p t up table = value_of-after_ascending k p (writes_of t) up (Ascends-writes_of t table) ∙ ap (λ o. unwrap_or o (value_of k p)) (value_of-writes_of k t)
+value_of-over k p t up table = value_of-after_ascending k p (writes_of t) up (Ascends-writes_of t table) ∙ ap (λ o. unwrap_or o (value_of k p)) (value_of-read (λ s. s.held) k t)
 
 pub held_in_table : (p : Pairs) (t : Table) (k : ℕ) (s : Slot) → Ascends p → Ascends t → value_of k t ≡ Some s → value_of k (over p t) ≡ s.held
 held_in_table p t k s up table there = value_of-over k p t up table ∙ ap (λ o. unwrap_or (held_of o) (value_of k p)) there
