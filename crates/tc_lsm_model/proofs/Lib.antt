@@ -1,4 +1,5 @@
 pub mod ListLaws
+pub mod ListNewest
 pub mod ListNames
 pub mod ListLookups
 pub mod MergedEntries

@@ -3,9 +3,9 @@ use Rattle.std.proofs.Common.{ℕ, List, [], ◌∷◌, ◌++◌, Option, Some, 
 use Rattle.std.specs.Prelude.{IfSome, All}
 use Rattle.std.proofs.lemmas.List.Elements.{All-nil, All-head, All-tail, All-append, All-weaker}
 use Rattle.tc_model.specs.Document.{Name, Document, document_shape}
-use Rattle.tc_model.specs.Dictionary.{Extends, IsDictionary}
+use Rattle.tc_model.specs.Dictionary.{Extends}
 use Rattle.tc_model.specs.ShapeNames.{names_within}
-use Rattle.tc_model.proofs.DictionaryGrowth.{IsDictionary-nil, Extends-same, Extends-trans}
+use Rattle.tc_model.proofs.DictionaryGrowth.{Extends-same, Extends-trans}
 use Rattle.tc_model.proofs.KeyedOrder.{All-with_value, All-without_key}
 use Rattle.tc_model.proofs.LastingNumbers.{numbers-Extends}
 use Rattle.tc_plain_model.specs.Writes.{Pairs, Write, after_write, after_writes}
@@ -42,13 +42,6 @@ pub Extends-front : (part : Partition) (older newer : List Content) → IsList p
 Extends-front part older newer all =
     subst (λ ns. Extends ns (names_of older)) (sym (newest_names-append [] older newer))
     (Extends-newest part (last_of older) (live older) (names_of older) newer (GoOn-back part 0 [] [] older newer all))
-
-IsDictionary-newest : (part : Partition) (g : ℕ) (p : Pairs) (ns : List Name) (cs : List Content) → IsDictionary ns → GoOn part g p ns cs → IsDictionary (newest_names ns cs)
-IsDictionary-newest part g p ns [] dictionary all = dictionary
-IsDictionary-newest part g p ns (c ∷ cs) dictionary all = IsDictionary-newest part c.to (after_writes p c.entries) c.names cs all.0.content.dictionary all.1
-
-pub IsDictionary-names_of : (part : Partition) (cs : List Content) → IsList part cs → IsDictionary (names_of cs)
-IsDictionary-names_of part cs all = IsDictionary-newest part 0 [] [] cs IsDictionary-nil all
 
 -- ---- what they know
 

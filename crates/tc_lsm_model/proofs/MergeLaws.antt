@@ -1,15 +1,12 @@
 -- A run of a list may be replaced by its merge.
-use Rattle.std.proofs.Common.{◌≡◌, ◌<◌, ◌^◌, ℕ, Bool, true, false, List, [], ◌∷◌, ◌++◌, length, take, drop, sym, ap, ◌∙◌, subst, arith, append_assoc, filter, ◌+◌, ◌≤◌}
+use Rattle.std.proofs.Common.{◌≡◌, ℕ, Bool, true, false, List, [], ◌∷◌, ◌++◌, length, take, drop, sym, ap, ◌∙◌, subst, arith, append_assoc, filter, ◌+◌, ◌≤◌}
 use Rattle.std.specs.Prelude.{◌==◌, if◌then◌else◌, All, fold, Option}
 use Rattle.std.proofs.lemmas.List.{take-append-drop, take-append-le, drop-append-le, length-drop}
 use Rattle.std.proofs.lemmas.List.Elements.{All-nil, All-head, All-tail, All-filter}
 use Rattle.tc_model.specs.Document.{Name, Document}
-use Rattle.tc_model.specs.Dictionary.{IsDictionary}
-use Rattle.tc_model.specs.Keyed.{Keyed, Ascends, with_value, values_in}
+use Rattle.tc_model.specs.Keyed.{Keyed, Ascends, with_value}
 use Rattle.tc_model.proofs.KeyedOrder.{All-with_value}
-use Rattle.tc_schema_model.specs.Counted.{Counted, nothing}
-use Rattle.tc_schema_model.specs.SchemaBytes.{IsSchema}
-use Rattle.tc_schema_model.specs.Stands.{StandsFor}
+use Rattle.tc_schema_model.specs.Counted.{nothing}
 use Rattle.tc_plain_model.specs.Writes.{Pairs, Write, after_writes}
 use Rattle.tc_lsm_model.specs.Contents.{Partition, Content, IsEntry, IsContent}
 use Rattle.tc_lsm_model.specs.Lists.{held_over, live, newest_names, names_of, newest_schema, schema_of, last_after, last_of, GoesOn, GoOn, IsList}
@@ -17,6 +14,7 @@ use Rattle.tc_lsm_model.specs.Tables.{Table}
 use Rattle.tc_lsm_model.specs.Flushes.{IsFlush}
 use Rattle.tc_lsm_model.specs.Merges.{Run, before_run, in_run, behind_run, swapped, entries_of, last_entries, merged_entries, IsMerge}
 use Rattle.tc_lsm_model.proofs.ListLaws.{held_over-append, last_after-append, newest_names-append, newest_schema-append, GoOn-append, GoOn-front, GoOn-back, last_after-grows, nothing_before, Ascends-live, one_content}
+use Rattle.tc_lsm_model.proofs.ListNewest.{newest_here, newest_after}
 use Rattle.tc_lsm_model.proofs.ListNames.{Extends-newest, entries_in}
 use Rattle.tc_lsm_model.proofs.MergedEntries.{is_live, Ascends-merged, after-merged}
 
@@ -33,20 +31,6 @@ all_merged P from cs all = cases (from == 1) (All-put_all P [] (entries_of cs) (
     cases true last = All-filter is_live P (last_entries (entries_of cs)) last
     cases false last = last
 
--- ---- the newest of a list
-
-record IsNewest (ns : List Name) (d : Counted) (g : ℕ) (p : Pairs) : Type 0 where
-  stands : StandsFor ns d (values_in p)
-  room : length p < 2 ^ 32
-  dictionary : IsDictionary ns
-  schema : IsSchema (length ns) d
-  last : g < 2 ^ 63
-
-newest_is : (part : Partition) (g : ℕ) (p : Pairs) (ns : List Name) (c : Content) (cs : List Content) → GoOn part g p ns (c ∷ cs)
-    → IsNewest (newest_names c.names cs) (newest_schema c.schema cs) (last_after c.to cs) (held_over (after_writes p c.entries) cs)
-newest_is part g p ns c [] all = record { stands = all.0.stands; room = all.0.room; dictionary = all.0.content.dictionary; schema = all.0.content.schema; last = all.0.content.last }
-newest_is part g p ns c (next ∷ cs) all = newest_is part c.to (after_writes p c.entries) c.names next cs all.1
-
 -- ---- the merge behind what is older
 
 -- it goes on where its run did, and leaves what the run leaves
@@ -54,7 +38,7 @@ merged_goes_on : (part : Partition) (g : ℕ) (p : Pairs) (ns : List Name) (run 
     → GoesOn part g p ns c × (after_writes p c.entries ≡ held_over p run)
 merged_goes_on part g p ns run c all up none is =
     let all' : GoOn part g p ns (is.first ∷ is.others) = subst (λ cs. GoOn part g p ns cs) is.is all in
-    let newest = newest_is part g p ns is.first is.others all' in
+    let newest = newest_after part is.first.to (after_writes p is.first.entries) is.first.names is.first.schema is.others (newest_here part g p ns is.first all'.0) all'.1 in
     let names : c.names ≡ newest_names is.first.names is.others = is.names ∙ ap names_of is.is in
     let schema : c.schema ≡ newest_schema is.first.schema is.others = is.schema ∙ ap schema_of is.is in
     let to : c.to ≡ last_after is.first.to is.others = is.to ∙ ap last_of is.is in

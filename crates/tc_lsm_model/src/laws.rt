@@ -1,12 +1,14 @@
 //! Laws of components, memory tables, flushes and merges, which the contracts of the crates above rely on.
 
-ghost use Rattle.std.specs.Prelude.{◌≡◌, ◌+◌, ◌≤◌, ℕ, List, [], ◌∷◌, ◌++◌, Option, Some, None, All, IfSome, length, bytes_eq, unwrap_or, option_to_list, flat_map};
+ghost use Rattle.std.specs.Prelude.{◌≡◌, ◌+◌, ◌<◌, ◌≤◌, ◌^◌, ℕ, List, [], ◌∷◌, ◌++◌, Option, Some, None, All, IfSome, length, bytes_eq, unwrap_or, option_to_list, flat_map};
 ghost use Rattle.std.specs.List.{IsDistinct};
 ghost use Rattle.tc_model.specs.Document.{Name, Document};
 ghost use Rattle.tc_model.specs.Dictionary.{Extends, IsDictionary};
 ghost use Rattle.tc_model.specs.Kinds.{Kind};
 ghost use Rattle.tc_model.specs.Keyed.{Ascends, value_of, values_in};
 ghost use Rattle.tc_schema_model.specs.Occurrences.{Path, count};
+ghost use Rattle.tc_schema_model.specs.SchemaBytes.{IsSchema};
+ghost use Rattle.tc_schema_model.specs.Stands.{StandsFor};
 ghost use Rattle.tc_plain_model.specs.Writes.{Pairs, Write, after_writes};
 ghost use Rattle.tc_plain_model.specs.Store.{names_after, reopened};
 ghost use Rattle.tc_lsm_model.specs.Contents.{Partition, Content, IsNamedIn};
@@ -54,6 +56,15 @@ pub fn lists_know_names()
     ensures dictionary { (part : Partition) (cs : List Content) → IsList part cs → IsDictionary (names_of cs) }
     ensures live { (part : Partition) (cs : List Content) → IsList part cs → All (λ p. IsNamedIn (names_of cs) p.1) (live cs) }
     ensures extends { (part : Partition) (older newer : List Content) → IsList part (older ++ newer) → Extends (names_of (older ++ newer)) (names_of older) }
+{}
+
+/// A law, and no work. The schema of a list, under the names of the list, stands for what is live in it, and can be
+/// written; so many documents and generations as a list has have numbers.
+pub fn lists_have_schemas()
+    ensures stands { (part : Partition) (cs : List Content) → IsList part cs → StandsFor (names_of cs) (schema_of cs) (values_in (live cs)) }
+    ensures lawful { (part : Partition) (cs : List Content) → IsList part cs → IsSchema (length (names_of cs)) (schema_of cs) }
+    ensures room { (part : Partition) (cs : List Content) → IsList part cs → length (live cs) < 2 ^ 32 }
+    ensures last { (part : Partition) (cs : List Content) → IsList part cs → last_of cs < 2 ^ 63 }
 {}
 
 /// A law, and no work. The names that a flush gives its content go on from those of the list, stay distinct, and have each
