@@ -1,1 +1,4 @@
 pub mod PlaceRoom
+mod LevelLaws
+mod LevelSteps
+mod RecordShape

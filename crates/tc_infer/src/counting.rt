@@ -1,9 +1,9 @@
 //! A shape counted at a place, by names that are all known. Each call errs only for want of memory.
 
-ghost use Rattle.std.specs.Prelude.{◌≡◌, ◌<◌, IfOk, OnOk, IsTrue, is_some, length, map, slice_get, slice_set, Some};
+ghost use Rattle.std.specs.Prelude.{◌≡◌, ◌≢◌, ◌<◌, IfOk, IsOk, OnOk, IsTrue, is_some, length, map, slice_get, slice_set, Some};
 ghost use Rattle.tc_model.specs.Tree.{items_of, members_of};
 ghost use Rattle.tc_model.specs.Dictionary.{number_of, number};
-ghost use Rattle.tc_schema_model.specs.Counted.{Counted, held, an_item, field_at, IsCanonical, IsBelowCanonical, AreFieldsCanonical, AreFieldsOrdered};
+ghost use Rattle.tc_schema_model.specs.Counted.{Counted, nothing, held, an_item, field_at, IsCanonical, IsBelowCanonical, AreFieldsCanonical, AreFieldsOrdered};
 ghost use Rattle.tc_schema_model.specs.Added.{added, items_added, members_added, put_field, IsNamed, AreItemsNamed, AreMembersNamed, member_added};
 ghost use Rattle.tc_value.specs.ShapeMeaning.{shape_tree, shape_member};
 ghost use Rattle.tc_schema_model.specs.Room.{DoesFit, DoFieldsFit};
@@ -121,10 +121,11 @@ fn count_member(
 }
 
 /// Where the field of a number stands. One where nothing is counted is made where there is none.
-fn place_of(number: u32, fields: &mut Vec<Field>, alloc: Global) -> Result<usize, AllocError>
+pub fn place_of(number: u32, fields: &mut Vec<Field>, alloc: Global) -> Result<usize, AllocError>
     requires ordered { AreFieldsOrdered 0 (fields_counted fields.old.items) }
     ensures inside { IfOk result (λ i. i < length fields.new.items) }
     ensures here { IfOk result (λ i. slice_get (map field_counted fields.new.items) i ≡ Some (number, field_at number (fields_counted fields.old.items))) }
+    ensures sure { field_at number (fields_counted fields.old.items) ≢ nothing → IsOk result }
     ensures written { IfOk result (λ i. (d : Counted) → listed (slice_set (map field_counted fields.new.items) i (number, d)) ≡ put_field number d (fields_counted fields.old.items)) }
 {
     match search_fields(fields, number) {

@@ -4,5 +4,12 @@
 mod adding;
 mod counting;
 mod learning;
+mod looking;
+mod recording;
+mod tallying;
+mod tokens;
+mod walking;
 
 pub use adding::add;
+pub use recording::add_record;
+pub use tallying::tally;

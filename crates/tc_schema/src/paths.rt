@@ -43,7 +43,8 @@ fn inside<'a>(place: &'a Node, names: &Names, step: &Step) -> Option<&'a Node>
     }
 }
 
-fn field_named<'a>(fields: &'a [Field], names: &Names, name: &str) -> Option<&'a Node>
+/// The place of the members of a name, or `None` where there is none. Takes no memory.
+pub fn field_named<'a>(fields: &'a [Field], names: &Names, name: &str) -> Option<&'a Node>
     requires { AreFieldsOrdered 0 (fields_counted fields.now) }
     ensures there { IfSome result (λ next. place_counted next.now ≡ numbered_field (number_of names.now name.now) (fields_counted fields.now)) }
     ensures ordered { IfSome result (λ next. IsOrdered (place_counted next.now)) }

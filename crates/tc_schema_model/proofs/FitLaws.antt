@@ -100,7 +100,7 @@ scalar_here boolean_kind = refl
 scalar_here integer_kind = refl
 scalar_here text_kind = refl
 
-kind_here : (s : ShapeTree) → occurrences s [] (kind_of s) ≡ 1
+pub kind_here : (s : ShapeTree) → occurrences s [] (kind_of s) ≡ 1
 kind_here (leaf k) = scalar_here k
 kind_here (array xs) = refl
 kind_here (object ms) = refl
@@ -109,7 +109,7 @@ same_name : (name : Name) → bytes_eq name name ≡ true
 same_name name = (bytes_eq-Decides name name).1 refl
 
 -- of a member and those behind it, the values at the member's name
-at_label : (label : Name) (s : ShapeTree) (ms : Members Name ScalarKind) (path : Path) (t : Kind) → members_occurrences (member label s ms) label path t ≡ occurrences s path t + members_occurrences ms label path t
+pub at_label : (label : Name) (s : ShapeTree) (ms : Members Name ScalarKind) (path : Path) (t : Kind) → members_occurrences (member label s ms) label path t ≡ occurrences s path t + members_occurrences ms label path t
 at_label label s ms path t = ap (λ same. (if same then occurrences s path t else 0) + members_occurrences ms label path t) (same_name label)
 
 -- a member whose values are there has a number

@@ -4,7 +4,7 @@ use Rattle.tc_model.specs.Document.{Name, Document, ShapeTree, document_shape}
 use Rattle.tc_schema_model.specs.Occurrences.{Path, occurrences}
 use Rattle.tc_model.specs.Kinds.{Kind}
 use Rattle.tc_schema_model.specs.Counted.{Counted, shows, total_at, IsCanonical}
-use Rattle.tc_schema_model.specs.Added.{added}
+use Rattle.tc_schema_model.specs.Added.{added, IsNamed}
 use Rattle.tc_schema_model.specs.Stands.{StandsFor}
 use Rattle.tc_schema_model.proofs.AddedLaws.{shows-added, canonical-added}
 use Rattle.tc_model.specs.Dictionary.{Extends, all_learned}
@@ -14,6 +14,14 @@ use Rattle.tc_schema_model.specs.Values.{values_at}
 use Rattle.tc_model.proofs.LearnedNames.{Extends-all_learned, distinct-all_learned}
 use Rattle.tc_schema_model.proofs.NamedShapes.{named-all_learned}
 use Rattle.tc_schema_model.proofs.MoreNames.{canonical_newer, same_shown, added_fits}
+
+-- under a dictionary that has the names
+pub stands-added : (names : List Name) (s : ShapeTree) (d : Counted) → IsNamed names s → (docs : List Document) (doc : Document) → document_shape doc ≡ s → StandsFor names d docs → StandsFor names (added names s d) (doc ∷ docs)
+stands-added names s d named docs doc is stands = record {
+  canonical = canonical-added names s d named stands.canonical;
+  distinct = stands.distinct;
+  counts = λ path t. omega (arith, shows-added names s d named path t, stands.counts path t, ap (λ shape. occurrences shape path t) is);
+}
 
 module _ (known : List Name) (s : ShapeTree) where
   abbrev grown : List Name
@@ -41,8 +49,4 @@ module _ (known : List Name) (s : ShapeTree) where
         distinct = distinct-all_learned known (names_within s) stands.distinct;
         counts = λ path t. same_shown grown known d path t extends stands.canonical ∙ stands.counts path t;
       } in
-      record {
-        canonical = added_canonical d stands.canonical;
-        distinct = before.distinct;
-        counts = λ path t. omega (arith, shows-added grown s d (named-all_learned known s) path t, before.counts path t, ap (λ shape. occurrences shape path t) is);
-      }
+      stands-added grown s d (named-all_learned known s) docs doc is before

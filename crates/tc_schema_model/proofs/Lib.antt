@@ -19,5 +19,6 @@ pub mod CanonicalTrees
 pub mod TreesMade
 pub mod Vanishing
 pub mod FitLaws
+pub mod CountersThere
 pub mod Readable
 pub mod DocumentsTogether

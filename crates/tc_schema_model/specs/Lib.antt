@@ -9,3 +9,4 @@ pub mod CountedCode
 pub mod Fits
 pub mod Values
 pub mod Room
+pub mod HasCounters
