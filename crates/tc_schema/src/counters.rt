@@ -157,6 +157,7 @@ impl Counts {
     }
 }
 
+/// One where a counter is not 0.
 pub fn one_if_some(count: u64) -> u8
     ensures counted { result ≡ one_if_some count }
     ensures small { result ≤ 1 }

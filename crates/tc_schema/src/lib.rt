@@ -1,6 +1,7 @@
 //! Layer 2, schema: how many values of each kind stand at each place of documents.
 #![tactic(auto)]
 
+mod bounds;
 mod counters;
 mod fault;
 mod laws;

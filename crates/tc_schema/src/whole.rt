@@ -1,9 +1,11 @@
 //! A whole schema.
 
-ghost use Rattle.std.specs.Prelude.{◌≡◌, ◌≢◌, List, IfOk, IsErrOf};
-ghost use Rattle.tc_schema_model.specs.Counted.{Counted, nothing, shows, IsCanonical, documents_of};
+ghost use Rattle.std.specs.Prelude.{◌≡◌, ◌≢◌, ◌↔◌, ◌≤◌, List, IfOk, IsErrOf, IsTrue};
+ghost use Rattle.tc_schema_model.specs.Counted.{Counted, nothing, shows, total_at, IsCanonical, documents_of};
+ghost use Rattle.tc_schema_model.specs.Bounds.{greatest_total};
+ghost use Rattle.tc_schema_model.specs.Occurrences.{Path};
 ghost use Rattle.tc_schema_model.specs.SchemaText.{tree_text, schema_text};
-ghost use Rattle.tc_model.specs.Document.{Document};
+ghost use Rattle.tc_model.specs.Document.{Name, Document};
 ghost use Rattle.tc_schema_model.specs.Stands.{StandsFor};
 ghost use Rattle.serde_json.specs.View.{view};
 ghost use Rattle.tc_schema.specs.Paths.{path_meant};
@@ -12,6 +14,7 @@ ghost use Rattle.tc_schema_model.specs.SchemaTree.{schema_tree};
 ghost use Rattle.tc_schema_model.specs.SchemaBytes.{schema_bytes, IsSchema};
 ghost use Rattle.tc_schema.specs.Places.{place_counted, most_names};
 
+use crate::bounds::{greatest_count, is_below};
 use crate::fault::SchemaFault;
 use crate::paths::count_from;
 use crate::place::Node;
@@ -85,6 +88,21 @@ impl Schema {
         ensures { result ≡ documents_of self.now }
     {
         self.root.counts.total()
+    }
+
+    /// The most values that any one place counts, so that no path has more. Takes no memory.
+    pub fn greatest(&self) -> u64
+        ensures exact { result ≡ greatest_total self.now }
+        ensures bound { (names : List Name) (path : Path) → total_at names self.now path ≤ result }
+    {
+        greatest_count(self.root())
+    }
+
+    /// Whether the schema is in the one form with all numbers of names below a limit. Takes no memory.
+    pub fn numbers_below(&self, limit: u32) -> bool
+        ensures canonical { IsTrue result ↔ IsCanonical limit self.now }
+    {
+        is_below(self.root(), limit)
     }
 
     /// The counter for a kind at a path, or 0 where nothing is counted there. Takes no memory.

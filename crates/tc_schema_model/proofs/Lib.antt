@@ -20,5 +20,6 @@ pub mod TreesMade
 pub mod Vanishing
 pub mod FitLaws
 pub mod CountersThere
+pub mod BoundLaws
 pub mod Readable
 pub mod DocumentsTogether

@@ -10,3 +10,4 @@ pub mod Fits
 pub mod Values
 pub mod Room
 pub mod HasCounters
+pub mod Bounds
