@@ -31,7 +31,7 @@ abbrev pub sum_from : ℕ → List ℕ → ℕ
 sum_from t [] = t
 sum_from t (n ∷ ns) = sum_from (min (t + n) (2 ^ 32 - 1)) ns
 
-greatest_from-is : (ns : List ℕ) (g : ℕ) → greatest_from g ns ≡ max g (greatest ns)
+pub greatest_from-is : (ns : List ℕ) (g : ℕ) → greatest_from g ns ≡ max g (greatest ns)
 greatest_from-is [] g = omega arith
 greatest_from-is (n ∷ ns) g = omega (arith, greatest_from-is ns (max g n))
 
@@ -39,7 +39,7 @@ pub sum_from-joined : (xs : List (List ℕ)) (t : ℕ) → t < 2 ^ 32 → sum_fr
 sum_from-joined [] t fits = omega arith
 sum_from-joined (x ∷ xs) t fits = omega (arith, length-append x (joined xs), sum_from-joined xs (min (t + length x) (2 ^ 32 - 1)) (omega arith))
 
-scan_again : (ns : List ℕ) (w : Width) (rest : List ℕ) (g t : ℕ) → AreFit w ns → scan_at w (length ns) g t (numbers (width_bytes w) ns ++ rest) ≡ Some (greatest_from g ns, sum_from t ns)
+pub scan_again : (ns : List ℕ) (w : Width) (rest : List ℕ) (g t : ℕ) → AreFit w ns → scan_at w (length ns) g t (numbers (width_bytes w) ns ++ rest) ≡ Some (greatest_from g ns, sum_from t ns)
 scan_again [] w rest g t fits = refl
 scan_again (n ∷ ns) w rest g t fits =
     rw (append_assoc (bytes_high_first (width_bytes w) n) (numbers (width_bytes w) ns) rest, (sized_codec w).again n (numbers (width_bytes w) ns ++ rest) fits.0) (scan_again ns w rest (max g n) (min (t + n) (2 ^ 32 - 1)) fits.1)

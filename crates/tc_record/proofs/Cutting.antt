@@ -34,7 +34,7 @@ pub record HeaderFits (h : Header) : Type 0 where
   pub texts : h.texts < 2 ^ 32
   pub names : h.names < 2 ^ 32
 
-header_again : (h : Header) (rest : List ℕ) → HeaderFits h → header_at (spelled_header h rest) ≡ Some (h, rest)
+pub header_again : (h : Header) (rest : List ℕ) → HeaderFits h → header_at (spelled_header h rest) ≡ Some (h, rest)
 header_again h rest fits =
     let r6 = h.slot_width ∷ rest in
     let r5 = h.text_width ∷ (to_be_bytes w32 h.names ++ r6) in
@@ -188,7 +188,7 @@ body_length ts =
     let text_columns = numbers (width lengths) lengths ++ text_part in
     omega (arith, length-append (tags ts) (fixed ts ++ text_columns), length-append (fixed ts) text_columns, length-append (numbers (width lengths) lengths) text_part, length-append (joined (texts ts)) last, length-append (numbers (width (slots ts)) (slots ts)) (names ts))
 
-header_fits : (form : ℕ) (ts : List (Token Key Scalar)) → header_size + length (body ts (slots ts) (names ts)) < 2 ^ 32 → HeaderFits (header_of_tokens form ts)
+pub header_fits : (form : ℕ) (ts : List (Token Key Scalar)) → header_size + length (body ts (slots ts) (names ts)) < 2 ^ 32 → HeaderFits (header_of_tokens form ts)
 header_fits form ts short =
     let sum = body_length ts in
     record {

@@ -81,7 +81,7 @@ names-named : (ls : List Name) → flat_map name_of (map name ls) ≡ flat_map (
 names-named [] = refl
 names-named (l ∷ ls) = ap (λ ns. l ++ ns) (names-named ls)
 
-slots-numbered : (ls : List ℕ) → map slot_of (map number ls) ≡ ls
+pub slots-numbered : (ls : List ℕ) → map slot_of (map number ls) ≡ ls
 slots-numbered [] = refl
 slots-numbered (l ∷ ls) = ap (λ ns. l ∷ ns) (slots-numbered ls)
 

@@ -24,3 +24,4 @@ pub mod Built
 pub mod RecordRows
 pub mod OneDocument
 pub mod StoredRecords
+mod Told

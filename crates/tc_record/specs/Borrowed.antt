@@ -1,5 +1,5 @@
 -- A record of either form, borrowed, and the tokens that it spells.
-use Rattle.std.specs.Prelude.{◌≡◌, ◌⊎◌, ℕ, Bool, true, false, List}
+use Rattle.std.specs.Prelude.{◌≡◌, ◌<◌, ◌⊎◌, ℕ, Bool, true, false, List}
 use Rattle.tc_model.specs.Tree.{relabel}
 use Rattle.tc_model.specs.Document.{Document, Scalar}
 use Rattle.tc_record.specs.Preorder.{Token, tokens_of}
@@ -27,3 +27,8 @@ IsRecord bytes = ((d : Document) × IsRecordOf d bytes) ⊎ ((n : NumberedTree) 
 abbrev pub Spells : Record → Type 0
 Spells r =
     ((d : Document) × ((r.named ≡ true) × IsRecordOf d r.bytes × (r.tokens ≡ named_tokens d))) ⊎ ((n : NumberedTree) × ((r.named ≡ false) × IsNumberedRecordOf n r.bytes × (r.tokens ≡ numbered_tokens n)))
+
+-- the number that a member carries, if it carries one, is below a limit
+abbrev pub IsBelow : ℕ → Key → Type 0
+IsBelow limit (name n) = Unit {0}
+IsBelow limit (number k) = k < limit

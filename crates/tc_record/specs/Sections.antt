@@ -1,5 +1,5 @@
 -- How the bytes of a record are cut into its columns.
-use Rattle.std.specs.Prelude.{ℕ, zero, suc, ◌+◌, ◌-◌, ◌*◌, ◌^◌, max, min, ◌==◌, Bool, true, false, if◌then◌else◌, List, length, Option, None, Some}
+use Rattle.std.specs.Prelude.{ℕ, zero, suc, ◌+◌, ◌-◌, ◌*◌, ◌^◌, max, min, ◌==◌, ◌||◌, nat_lt, Bool, true, false, if◌then◌else◌, List, length, Option, None, Some}
 use Rattle.std.specs.Int.{w32}
 use Rattle.tc_bytes.specs.Reading.{Reader, ◌>>=◌, byte_at, number_at, bytes_at}
 use Rattle.tc_model.specs.Document.{Scalar}
@@ -36,6 +36,11 @@ abbrev pub scan_at : Width → ℕ → ℕ → ℕ → List ℕ → Option (ℕ 
 scan_at w zero greatest total bytes = Some (greatest, total)
 scan_at w (suc n) greatest total bytes =
     sized_number_at w bytes >>= λ x. scan_at w n (max greatest x.0) (min (total + x.0) (2 ^ 32 - 1)) x.1
+
+-- whether each of so many numbers that were scanned is below a limit
+abbrev pub is_scan_below : ℕ → ℕ → Option (ℕ × ℕ) → Bool
+is_scan_below limit count None = false
+is_scan_below limit count (Some s) = (count == 0) || nat_lt s.0 limit
 
 -- numbers of the width that is told, where it is the least
 pub record Numbers : Type 0 where

@@ -1,18 +1,22 @@
 //! A record of either form, borrowed.
 
-ghost use Rattle.std.specs.Prelude.{◌≡◌, IfSome, IfNone, is_some, true, false};
+ghost use Rattle.std.specs.Prelude.{◌≡◌, ◌↔◌, IfSome, IfNone, IsTrue, is_some, true, false, length};
+ghost use Rattle.std.specs.List.{AllByRecursion};
 ghost use Rattle.tc_model.specs.Document.{Document};
-ghost use Rattle.tc_record.specs.Record.{NumberedTree, IsRecordOf, IsNumberedRecordOf};
+ghost use Rattle.tc_record.specs.Record.{labels, NumberedTree, IsRecordOf, IsNumberedRecordOf};
+ghost use Rattle.tc_record.specs.Sections.{scan_at, is_scan_below};
 ghost use Rattle.tc_record.specs.Walk.{walk, tokens_read, is_used_up as used_up};
 ghost use Rattle.tc_record.specs.WalkView.{columns_of, format_of};
 ghost use Rattle.tc_record.specs.Stack.{stack_of};
-ghost use Rattle.tc_record.specs.Borrowed.{Spells, IsRecord, named_tokens, numbered_tokens};
+ghost use Rattle.tc_record.specs.Borrowed.{Spells, IsRecord, IsBelow, named_tokens, numbered_tokens};
 
 use crate::cursor::Cursor;
+use crate::header::header_in;
 use crate::reader::Columns;
-use crate::sections::{Sections, sections_of_record};
+use crate::sections::{Sections, scanned, sections_of_record};
 use crate::tags::OBJECT_TAG;
 use crate::walking::Walk;
+use crate::widths::Width;
 use std::marker::Model;
 
 /// A record that is borrowed. Contracts see its bytes, whether members carry names, and its tokens.
@@ -86,6 +90,41 @@ impl<'a> RecordRef<'a> {
         self.bytes
     }
 
+    /// How many tokens there are, as the header says. Takes no memory.
+    pub fn token_count(&self) -> u32
+        ensures { result ≡ length self.now.tokens }
+    {
+        match header_in(self.bytes) {
+            Some((header, _)) => header.tags,
+            None => unreachable!(),
+        }
+    }
+
+    /// How many members the objects have together, as the header says. Takes no memory.
+    pub fn member_count(&self) -> u32
+        ensures { result ≡ length (labels self.now.tokens) }
+    {
+        match header_in(self.bytes) {
+            Some((header, _)) => header.names,
+            None => unreachable!(),
+        }
+    }
+
+    /// Whether each number that a member carries in place of its name is below a limit. Takes no memory, and looks at
+    /// the column of slots alone.
+    pub fn numbers_below(&self, limit: u32) -> bool
+        ensures { IsTrue result ↔ AllByRecursion (IsBelow limit) (labels self.now.tokens) }
+    {
+        let sections = self.sections;
+        self.named()
+            || slots_below(
+                limit,
+                self.member_count(),
+                sections.format.slot_width,
+                sections.columns.slots,
+            )
+    }
+
     /// The same record, borrowed once more. Takes no memory.
     pub fn again(&self) -> RecordRef<'a>
         ensures { result ≡ self.now }
@@ -105,6 +144,16 @@ impl<'a> RecordRef<'a> {
             sections.tags,
             Walk::in_object(sections.format, sections.columns),
         )
+    }
+}
+
+/// Whether so many slots are below a limit.
+fn slots_below(limit: u32, count: u32, width: Width, slots: &[u8]) -> bool
+    ensures { result ≡ is_scan_below limit count (scan_at width count 0 0 slots.now) }
+{
+    match scanned(width, count, slots) {
+        Some((greatest, _)) => count == 0 || greatest < limit,
+        None => false,
     }
 }
 

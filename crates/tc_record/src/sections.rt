@@ -92,7 +92,7 @@ fn least(count: u32, greatest: u32) -> u8
 }
 
 /// The greatest of so many numbers, and their sum, which stands still at the end of its type.
-fn scanned(width: Width, count: u32, numbers: &[u8]) -> Option<(u32, u32)>
+pub(crate) fn scanned(width: Width, count: u32, numbers: &[u8]) -> Option<(u32, u32)>
     ensures { result ≡ scan_at width count 0 0 numbers.now }
 {
     let mut left = count;
