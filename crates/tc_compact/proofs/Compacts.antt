@@ -26,7 +26,7 @@ use Rattle.tc_compact.proofs.Laid.{counts, values, record_laid, Cut, whole_cut, 
 abbrev Tokens : Type 0
 Tokens = List (Token Key Scalar)
 
-two_forms : (ts us : Tokens) → ◌≡◌ {A = Option (Bool × Tokens)} (Some (true, ts)) (Some (false, us)) → ⊥
+pub two_forms : (ts us : Tokens) → ◌≡◌ {A = Option (Bool × Tokens)} (Some (true, ts)) (Some (false, us)) → ⊥
 two_forms ts us e = true≢false (ap (λ (p : Bool × Tokens). p.0) (same_Some (true, ts) (false, us) e))
 
 -- a record that spells something has the tokens of its document

@@ -1,5 +1,5 @@
 -- The record of form 0 of a record of form 1, part by part.
-use Rattle.std.proofs.Common.{◌≡◌, ◌∙◌, ℕ, ◌+◌, ◌*◌, ◌<◌, ◌≤◌, ◌^◌, true, false, List, [], ◌∷◌, ◌++◌, Option, None, Some, length, map, inl, inr, refl, sym, ap, subst, arith, length-append, append-nil, slice_index}
+use Rattle.std.proofs.Common.{◌≡◌, ◌∙◌, ℕ, ◌+◌, ◌*◌, ◌<◌, ◌≤◌, ◌^◌, Bool, true, false, List, [], ◌∷◌, ◌++◌, Option, None, Some, length, map, inl, inr, refl, sym, ap, subst, arith, length-append, append-nil, slice_index}
 use Rattle.std.proofs.lemmas.Bool.{both_ways}
 use Rattle.std.proofs.lemmas.List.{length-map}
 use Rattle.std.proofs.lemmas.Option.{same_Some}
@@ -11,7 +11,7 @@ use Rattle.tc_record.specs.Preorder.{Token, tokens_of}
 use Rattle.tc_record.specs.Record.{NumberedTree, tags, fixed, texts, labels, width, numbers, joined, record_bytes, IsRecordOf, IsNumberedRecordOf}
 use Rattle.tc_record.specs.Sections.{Sections, sections_in}
 use Rattle.tc_record.specs.Walk.{Key, name, number, Columns}
-use Rattle.tc_record.specs.Borrowed.{Record, Spells, numbered_tokens}
+use Rattle.tc_record.specs.Borrowed.{Record, Spells, named_tokens, numbered_tokens}
 use Rattle.tc_record.proofs.ColumnLaws.{no_columns}
 use Rattle.tc_record.proofs.Walks.{with_tokens}
 use Rattle.tc_record.proofs.Spelled.{slots, names as record_names, spelled_fixed, spelled_lengths, spelled_texts, spelled_slots, spelled_names}
@@ -19,16 +19,17 @@ use Rattle.tc_record.proofs.Keyed.{keyed, retoken, preorder-relabel, record-reto
 use Rattle.tc_record.proofs.Fitting.{AreFit, TokensFit}
 use Rattle.tc_record.proofs.Counted.{same_numbers}
 use Rattle.tc_record.proofs.Cutting.{sections_again}
-use Rattle.tc_record.proofs.Reading.{holding_bytes, holding_fits, lengths_small, small_texts, format_for}
+use Rattle.tc_record.proofs.Reading.{document_again, numbered_again, holding_bytes, holding_fits, lengths_small, small_texts, format_for}
 use Rattle.tc_record.proofs.NumberLengths.{length-numbers}
 use Rattle.tc_compact.specs.Compacted.{compacted, IsCompactedRecordOf}
 use Rattle.tc_model.specs.KnownNames.{HasEach}
 use Rattle.tc_compact.specs.Slots.{numbers_in, names_of}
+use Rattle.tc_compact.specs.Meant.{name_at}
 use Rattle.tc_compact.specs.Layout.{slot_bytes, counts_in, values_in, named_slots, named_record}
 use Rattle.tc_compact.proofs.Relabelled.{slots-to_names, names-to_names, numbers_in-to_numbers, tokens-numbered, record-numbered}
 use Rattle.tc_compact.proofs.Laid.{counts, values, record_laid, Cut, whole_cut}
-use Rattle.tc_compact.proofs.Named.{name_at, names_of-known, names_found, same_names}
-use Rattle.tc_compact.proofs.Compacts.{document_cut, compacted_record}
+use Rattle.tc_compact.proofs.Named.{names_of-known, names_found, same_names}
+use Rattle.tc_compact.proofs.Compacts.{two_forms, document_cut, compacted_record}
 
 -- ---- the parts of a record of form 1
 
@@ -65,15 +66,27 @@ module _ {L : Type 0} where
       let behind = numbers (width ks) ks ++ names in
       omega (arith, ap length (record_laid form ts ks names), (whole_cut form ts (length ks) (width ks) (values ts) behind).len, length-append (numbers (width ks) ks) names)
 
--- a record of form 1 has a numbered tree
-pub numbered_tree : (r : Record) → Spells r → r.named ≡ false → (n : NumberedTree) × IsNumberedRecordOf n r.bytes × (numbers_in r.tokens ≡ labels (tokens_of n))
-numbered_tree r (inl one) unnamed = absurd (both_ways r.named unnamed one.1.0)
-numbered_tree r (inr one) unnamed =
-    (one.0, one.1.1, ap numbers_in (one.1.2 ∙ preorder-relabel number one.0 None) ∙ numbers_in-to_numbers (λ k. k) (tokens_of one.0) ∙ same (labels (tokens_of one.0)))
+-- the numbers of a numbered tree's tokens
+tree_numbers : (n : NumberedTree) → numbers_in (numbered_tokens n) ≡ labels (tokens_of n)
+tree_numbers n = ap numbers_in (preorder-relabel number n None) ∙ numbers_in-to_numbers (λ k. k) (tokens_of n) ∙ same (labels (tokens_of n))
   where
     same : (ks : List ℕ) → map (λ k. k) ks ≡ ks
     same [] = refl
     same (k ∷ ks) = ap (λ ns. k ∷ ns) (same ks)
+
+-- a record of form 1 has a numbered tree
+pub numbered_tree : (r : Record) → Spells r → r.named ≡ false → (n : NumberedTree) × IsNumberedRecordOf n r.bytes × (numbers_in r.tokens ≡ labels (tokens_of n))
+numbered_tree r (inl one) unnamed = absurd (both_ways r.named unnamed one.1.0)
+numbered_tree r (inr one) unnamed = (one.0, one.1.1, ap numbers_in one.1.2 ∙ tree_numbers one.0)
+
+-- and its tokens and numbers are those of each tree that its bytes spell
+pub tree_tokens : (r : Record) (n : NumberedTree) → Spells r → IsNumberedRecordOf n r.bytes → r.tokens ≡ numbered_tokens n
+tree_tokens r n (inl one) is = absurd (two_forms (named_tokens one.0) (numbered_tokens n) (sym (document_again one.0 r.bytes one.1.1) ∙ numbered_again n r.bytes is))
+tree_tokens r n (inr one) is =
+    one.1.2 ∙ ap (λ (p : Bool × List (Token Key Scalar)). p.1) (same_Some (false, numbered_tokens one.0) (false, numbered_tokens n) (sym (numbered_again one.0 r.bytes one.1.1) ∙ numbered_again n r.bytes is))
+
+pub numbers_are : (r : Record) (n : NumberedTree) → Spells r → IsNumberedRecordOf n r.bytes → numbers_in r.tokens ≡ labels (tokens_of n)
+numbers_are r n spells is = ap numbers_in (tree_tokens r n spells is) ∙ tree_numbers n
 
 pub names_count : (names : List Name) (ks : List ℕ) (ns : List Name) → IsDictionary names → names_of names ks ≡ Some ns → length ns ≡ length ks
 names_count names ks ns dictionary gives = let found = names_found names ks ns dictionary.distinct gives in ap length found.at ∙ length-map ks (name_at names)

@@ -7,3 +7,7 @@ pub mod Expands
 pub mod Room
 pub mod RoundTrip
 pub mod Agreeing
+mod Sizes
+mod NamedSizes
+mod Orders
+mod Meanings

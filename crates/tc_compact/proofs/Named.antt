@@ -11,10 +11,7 @@ use Rattle.tc_model.proofs.NameNumbers.{slice_get-number_of, number_of-slice_get
 use Rattle.tc_record.specs.Record.{joined}
 use Rattle.tc_model.specs.KnownNames.{HasEach}
 use Rattle.tc_compact.specs.Slots.{names_of}
-
--- the name of a number, or none of its bytes
-abbrev pub name_at : List Name → ℕ → Name
-name_at names k = unwrap_or (slice_get names k) []
+use Rattle.tc_compact.specs.Meant.{name_at}
 
 -- the numbers of known names have these names
 pub names_of-known : (names ls : List Name) → HasEach names ls → names_of names (map (name_number names) ls) ≡ Some ls

@@ -3,12 +3,12 @@ use Rattle.std.proofs.Common.{◌≡◌, ◌∙◌, ℕ, ◌<◌, ◌^◌, List,
 use Rattle.tc_model.specs.Tree.{Tree, leaf, array, object, Items, no_items, item, Members, no_members, member, depth, relabel, items_relabel, members_relabel}
 use Rattle.tc_model.specs.Document.{Name, Document, Scalar, IsScalar, IsTreeOf, AreItemsOf, AreMembersOf}
 use Rattle.tc_record.specs.Preorder.{Token, tokens_of}
-use Rattle.tc_record.specs.Record.{labels, joined, record_bytes, numbered_record_of, IsNumberedTree, AreNumberedItems, AreNumberedMembers}
+use Rattle.tc_record.specs.Record.{NumberedTree, labels, joined, record_bytes, record_of, numbered_record_of, IsNumberedTree, AreNumberedItems, AreNumberedMembers}
 use Rattle.tc_model.specs.Stored.{IsObject}
 use Rattle.tc_record.specs.Walk.{name, number}
 use Rattle.tc_record.specs.Borrowed.{numbered_tokens}
 use Rattle.tc_record.proofs.Spelled.{slot_of, name_of, slots, names}
-use Rattle.tc_record.proofs.Keyed.{retoken, preorder-relabel, depth-relabel, labels-retoken, record-retoken, record_of-numbered}
+use Rattle.tc_record.proofs.Keyed.{retoken, preorder-relabel, depth-relabel, labels-retoken, record-retoken, record_of-keyed, record_of-numbered}
 use Rattle.tc_compact.specs.Slots.{key_names, names_in, key_numbers, numbers_in}
 
 module _ {L M N : Type 0} (g : M → N) (f : L → M) where
@@ -116,3 +116,15 @@ record-numbered f d =
     ∙ ap (λ ns. record_bytes 1 us ns (names us)) (slots-to_numbers f ts)
     ∙ ap (record_bytes 1 us (map f (labels ts))) (names-to_numbers f ts)
     ∙ record-retoken (λ n. number (f n)) 1 ts (map f (labels ts)) []
+
+-- the record of form 0 of a numbered tree with names in it has the columns of its tokens too
+pub record-named : (g : ℕ → Name) (n : NumberedTree) → record_of (relabel g (λ s. s) n) ≡ record_bytes 0 (tokens_of n) (map length (map g (labels (tokens_of n)))) (joined (map g (labels (tokens_of n))))
+record-named g n =
+    let ts = tokens_of n in
+    let ns = map g (labels ts) in
+    let us = map (retoken (λ k. name (g k))) ts in
+    record_of-keyed (relabel g (λ s. s) n)
+    ∙ ap (λ vs. record_bytes 0 vs (slots vs) (names vs)) (ap tokens_of (relabel-relabel name g n) ∙ preorder-relabel (λ k. name (g k)) n None)
+    ∙ ap (λ ss. record_bytes 0 us ss (names us)) (slots-to_names g ts)
+    ∙ ap (record_bytes 0 us (map length ns)) (names-to_names g ts)
+    ∙ record-retoken (λ k. name (g k)) 0 ts (map length ns) (joined ns)

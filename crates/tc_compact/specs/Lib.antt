@@ -1,3 +1,4 @@
 pub mod Compacted
 pub mod Slots
 pub mod Layout
+pub mod Meant

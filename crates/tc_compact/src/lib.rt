@@ -2,12 +2,22 @@
 #![tactic(auto)]
 
 mod compacting;
+mod decoding;
 mod dictionary;
 mod expanding;
+mod filling;
 mod law;
 mod layout;
 mod learning;
+mod meaning;
+mod order;
+mod shaping;
+mod sizing;
+mod slot_sum;
 
 pub use compacting::compact;
+pub use decoding::document_of;
 pub use expanding::expand;
 pub use law::{names_agree, round_trip};
+pub use shaping::shape_of;
+pub use sizing::{compact_into, compacted_size, expanded_size};

@@ -68,7 +68,7 @@ all_above : (m n : Name) (ns : List Name) → name_cmp m n ≡ Less → AllByRec
 all_above m n [] below each = tt
 all_above m n (x ∷ ns) below each = (nat_list_cmp_total.trans m n x below each.0, all_above m n ns below each.1)
 
-follows_before : (last : Option Name) (n : Name) (ns : List Name) → is_above last n ≡ true → Follows (Some n) ns → Follows last (n ∷ ns)
+pub follows_before : (last : Option Name) (n : Name) (ns : List Name) → is_above last n ≡ true → Follows (Some n) ns → Follows last (n ∷ ns)
 unfolding IsStrictlySortedBy
 follows_before None n ns above follows = follows
 follows_before (Some m) n ns above follows = let below = less (name_cmp m n) above in ((below, all_above m n ns below follows.0), follows)
@@ -81,7 +81,7 @@ sorted_nil : Follows None []
 unfolding IsStrictlySortedBy
 sorted_nil = tt
 
-follows_nil : (last : Option Name) → Follows last []
+pub follows_nil : (last : Option Name) → Follows last []
 unfolding IsStrictlySortedBy
 follows_nil None = tt
 follows_nil (Some m) = (tt, tt)

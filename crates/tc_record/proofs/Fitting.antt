@@ -63,12 +63,12 @@ abbrev pub Follows : Option Name → List Name → Type 0
 Follows None ns = IsStrictlySortedBy name_cmp ns
 Follows (Some m) ns = IsStrictlySortedBy name_cmp (m ∷ ns)
 
-above_next : (last : Option Name) (n : Name) (ns : List Name) → Follows last (n ∷ ns) → is_above last n ≡ true
+pub above_next : (last : Option Name) (n : Name) (ns : List Name) → Follows last (n ∷ ns) → is_above last n ≡ true
 unfolding IsStrictlySortedBy
 above_next None n ns follows = refl
 above_next (Some m) n ns follows = ap is_lt follows.0.0
 
-follows_next : (last : Option Name) (n : Name) (ns : List Name) → Follows last (n ∷ ns) → Follows (Some n) ns
+pub follows_next : (last : Option Name) (n : Name) (ns : List Name) → Follows last (n ∷ ns) → Follows (Some n) ns
 unfolding IsStrictlySortedBy
 follows_next None n ns follows = follows
 follows_next (Some m) n ns follows = follows.1

@@ -1,0 +1,86 @@
+-- How long the record of form 0 of a record of form 1 is.
+use Rattle.std.proofs.Common.{◌≡◌, ◌∙◌, ℕ, zero, suc, ◌+◌, ◌*◌, ◌-◌, ◌<◌, ◌≤◌, ◌^◌, nat_lt, if◌then◌else◌, Bool, true, false, List, [], ◌∷◌, ◌++◌, Option, None, Some, IfSome, IfNone, length, map, refl, sym, ap, subst, arith, length-append}
+use Rattle.std.proofs.lemmas.Bool.Decides.{nat_tests}
+use Rattle.std.proofs.lemmas.List.{length-map}
+use Rattle.std.specs.List.{AllByRecursion}
+use Rattle.tc_model.specs.Document.{Name}
+use Rattle.tc_model.specs.Dictionary.{IsName, IsDictionary}
+use Rattle.tc_record.specs.Preorder.{tokens_of}
+use Rattle.tc_record.specs.Record.{labels, greatest, width, numbers, joined, record_of, NumberedTree, IsNumberedRecordOf}
+use Rattle.tc_record.specs.Sections.{least_width}
+use Rattle.tc_record.specs.Borrowed.{Record, Spells}
+use Rattle.tc_record.proofs.NumberLengths.{length-numbers}
+use Rattle.tc_compact.specs.Slots.{numbers_in}
+use Rattle.tc_compact.specs.Meant.{name_at, expanded}
+use Rattle.tc_compact.specs.Layout.{slot_bytes, values_in}
+use Rattle.tc_compact.proofs.Relabelled.{record-named}
+use Rattle.tc_compact.proofs.Laid.{values, record_laid, whole_cut, slots_between}
+use Rattle.tc_compact.proofs.Sizes.{least_width-is}
+use Rattle.tc_compact.proofs.Expands.{numbered_cut, numbered_tree, numbers_are}
+
+-- ---- how long names are
+
+short_at : (names : List Name) (k : ℕ) → AllByRecursion IsName names → length (name_at names k) < 2 ^ 32
+short_at [] k each = omega arith
+short_at (n ∷ names) zero each = each.0.short
+short_at (n ∷ names) (suc k) each = short_at names k each.1
+
+joined_few : (names : List Name) (ks : List ℕ) → AllByRecursion IsName names → length (joined (map (name_at names) ks)) ≤ length ks * (2 ^ 32 - 1)
+joined_few names [] each = omega arith
+joined_few names (k ∷ ks) each = omega (arith, length-append (name_at names k) (joined (map (name_at names) ks)), short_at names k each, joined_few names ks each)
+
+-- the bytes of the names of fewer than 2^32 numbers
+pub joined_short : (names : List Name) (ks : List ℕ) → IsDictionary names → length ks < 2 ^ 32 → length (joined (map (name_at names) ks)) < 2 ^ 64
+joined_short names ks dictionary few = omega (arith, joined_few names ks dictionary.each, few)
+
+-- ---- how the numbers of a record lie in its bytes
+
+pub record NumbersLie (bytes : List ℕ) (ks : List ℕ) : Type 0 where
+  pub few : length ks < 2 ^ 32
+  pub behind : 23 + (slot_bytes bytes (length ks) + 0) ≤ length bytes
+  pub small : 23 + length (values_in bytes (slot_bytes bytes (length ks) + 0)) + length ks * 4 < 2 ^ 63
+
+pub numbers_lie : (r : Record) → Spells r → r.named ≡ false → NumbersLie r.bytes (numbers_in r.tokens)
+numbers_lie r spells unnamed =
+    let tree = numbered_tree r spells unnamed in
+    let tn = tokens_of tree.0 in
+    let ks = labels tn in
+    let cut = numbered_cut tn ks r.bytes tree.1.spelled in
+    let slots : slot_bytes r.bytes (length ks) ≡ length (numbers (width ks) ks) = ap (λ k. length ks * k) cut.slot_width_is ∙ sym (length-numbers (width ks) ks) in
+    subst (NumbersLie r.bytes) (sym tree.2)
+    (record {
+      few = omega (arith, cut.len, slots, (slots_between ks).0, tree.1.short);
+      behind = omega (arith, cut.len);
+      small = omega (arith, cut.len, slots, (slots_between ks).0, tree.1.short, ap length cut.values_are);
+    })
+
+-- ---- the length
+
+pub named_length : (names : List Name) (r : Record) (n : NumberedTree) (count longest name_bytes len : ℕ) → Spells r → r.named ≡ false → IsNumberedRecordOf n r.bytes
+    → count ≡ length (numbers_in r.tokens) → longest ≡ greatest (map length (map (name_at names) (numbers_in r.tokens))) → name_bytes ≡ length (joined (map (name_at names) (numbers_in r.tokens)))
+    → len ≡ length (values_in r.bytes (slot_bytes r.bytes (length (numbers_in r.tokens)) + 0))
+    → 23 + len + count * least_width count longest + name_bytes ≡ length (record_of (expanded names n))
+named_length names r n count longest name_bytes len spells unnamed is many most bytes values_len =
+    let tn = tokens_of n in
+    let ks = labels tn in
+    let ns = map (name_at names) ks in
+    let ls = map length ns in
+    let same = numbers_are r n spells is in
+    let cut = numbered_cut tn ks r.bytes is.spelled in
+    let behind = numbers (width ls) ls ++ joined ns in
+    let len_is : len ≡ length (values tn) = values_len ∙ ap length (ap (λ k. values_in r.bytes (slot_bytes r.bytes (length k) + 0)) same ∙ cut.values_are) in
+    let all : count ≡ length ls = many ∙ ap length same ∙ sym (length-map ks (name_at names)) ∙ sym (length-map ns length) in
+    let most_is : longest ≡ greatest ls = most ∙ ap (λ k. greatest (map length (map (name_at names) k))) same in
+    let slots : count * least_width count longest ≡ length (numbers (width ls) ls) =
+    ap (λ k. count * least_width k longest) all ∙ ap (λ g. count * least_width (length ls) g) most_is ∙ ap (λ k. count * k) (least_width-is ls) ∙ ap (λ k. k * width ls) all ∙ sym (length-numbers (width ls) ls) in
+    let bytes_is : name_bytes ≡ length (joined ns) = bytes ∙ ap (λ k. length (joined (map (name_at names) k))) same in
+    let whole_len = ap length (record-named (name_at names) n ∙ record_laid 0 tn ls (joined ns)) in
+    omega (arith, len_is, slots, bytes_is, whole_len, (whole_cut 0 tn (length ls) (width ls) (values tn) behind).len, length-append (numbers (width ls) ls) (joined ns))
+
+-- what has 32 bits
+pub within : (total : ℕ) (o : Option ℕ) → o ≡ (if nat_lt total (2 ^ 32) then Some total else None) → IfSome o (λ len. len ≡ total) × IfNone o (2 ^ 32 ≤ total)
+within total o is = rw is (by_test (nat_lt total (2 ^ 32)) refl)
+  where
+    by_test : (b : Bool) → nat_lt total (2 ^ 32) ≡ b → IfSome (if b then Some total else None) (λ len. len ≡ total) × IfNone (if b then Some total else None) (2 ^ 32 ≤ total)
+    by_test true e = (refl, tt)
+    by_test false e = (tt, grind (arith, nat_tests))
