@@ -5,3 +5,4 @@ pub mod Kept
 pub mod Created
 pub mod Torn
 pub mod Appended
+mod LogRows

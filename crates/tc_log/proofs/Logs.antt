@@ -1,9 +1,9 @@
 -- The laws of whole logs: what is spelled is read, and what is read is spelled so.
-use Rattle.std.proofs.Common.{◌≡◌, ◌∙◌, ◌<◌, ◌≤◌, ◌^◌, ◌==◌, ℕ, suc, true, List, [], ◌∷◌, ◌++◌, Option, None, Some, Result, Ok, Err, length, drop, take, flat_map, refl, sym, ap, subst, arith, append_assoc, append-nil, length-append, min, ◌-◌, Vec}
+use Rattle.std.proofs.Common.{◌≡◌, ◌∙◌, ◌<◌, ◌≤◌, ◌^◌, ◌==◌, ℕ, suc, true, List, [], ◌∷◌, ◌++◌, Option, None, Some, Result, Ok, Err, length, drop, take, flat_map, refl, sym, ap, subst, arith, append_assoc, append-nil, length-append, min, ◌-◌, Vec, zero, replicate, ◌+◌}
 use Rattle.std.proofs.lemmas.Bool.{eqb-true}
 use Rattle.std.specs.Int.{w32, w64, to_be_bytes}
 use Rattle.std.proofs.lemmas.Bool.Decides.{nat_tests}
-use Rattle.std.proofs.lemmas.List.{nil_from_length, places}
+use Rattle.std.proofs.lemmas.List.{nil_from_length, places, length-replicate}
 use Rattle.std.proofs.lemmas.Option.{same_Some}
 use Rattle.std.specs.declared.alloc.Global.{Global}
 use Rattle.tc_bytes.specs.Codec.{IsBytes, IsCodec}
@@ -13,8 +13,9 @@ use Rattle.tc_bytes.proofs.Fields.{number_codec_32, number_codec_64}
 use Rattle.std.specs.Prelude.{IfSome, IfOk}
 use Rattle.tc_store.specs.Gate.{is_open_file}
 use Rattle.tc_store.specs.declared.damage.ReadFault.{ReadFault}
+use Rattle.tc_store.specs.declared.damage.ReadFault.TheVariants.{Disk, Damaged, Memory}
 use Rattle.tc_log.specs.Judging.{read_of, same_head}
-use Rattle.tc_store.specs.Judging.{Judges, Damage, damage, or_damage}
+use Rattle.tc_store.specs.Judging.{Judges, IfDamaged, Damage, damage, or_damage}
 use Rattle.tc_log.specs.declared.head.LogHead.{LogHead}
 use Rattle.tc_log.specs.declared.reading.LogRead.{LogRead}
 use Rattle.tc_log.specs.declared.write.Write.{Write}
@@ -194,6 +195,33 @@ pub front_answers : (r : Result (Vec ℕ Global) ReadFault) (content : Option (L
     → IfOk r (λ read. IfSome content (λ bytes. read.items ≡ take count (drop at bytes))) → IfOk r (λ read. IfSome content (λ bytes. read.items ≡ front_of bytes))
 front_answers (Ok read) content size at count sized at_is count_is reads = front_read content read.items size sized (rw (count_is, at_is) at reads)
 front_answers (Err fault) content size at count sized at_is count_is reads = tt
+
+-- some content of this length has such a front
+front_within : (size : ℕ) (front : List ℕ) → length front ≡ min (size - min size 1) 20 → (whole : List ℕ) × (length whole ≡ size) × (front_of whole ≡ front)
+front_within zero front long = ([], refl, sym (nil_from_length front long))
+front_within (suc n) front long =
+    let pad : List ℕ = replicate (n - length front) 0 in
+    (0 ∷ (front ++ pad), omega (arith, long, length-append front pad, length-replicate {A = ℕ} (n - length front) 0), in_front front 20 (n - length front) (omega (arith, long)))
+  where
+    in_front : (front : List ℕ) (k m : ℕ) → length front ≡ min (m + length front) k → take k (front ++ replicate m 0) ≡ front
+    in_front [] zero m long = refl
+    in_front [] (suc k) zero long = refl
+    in_front [] (suc k) (suc m) long = absurd (omega (arith, long))
+    in_front (x ∷ xs) zero m long = absurd (omega (arith, long))
+    in_front (x ∷ xs) (suc k) m long = ap (λ (ys : List ℕ). x ∷ ys) (in_front xs k m (omega (arith, long)))
+
+pub front_possible : (r : Result (Vec ℕ Global) ReadFault) (size at count : ℕ) → at ≡ min size 1 → count ≡ min (size - at) 20 → IfOk r (λ read. length read.items ≡ count)
+    → IfOk r (λ read. (whole : List ℕ) × (length whole ≡ size) × (front_of whole ≡ read.items))
+front_possible (Ok read) size at count at_is count_is long = front_within size read.items (rw (count_is, at_is) at long)
+front_possible (Err fault) size at count at_is count_is long = tt
+
+-- a front that is judged damaged is that of such a content
+pub damaged_front : (generation : ℕ) (r : Result LogHead ReadFault) (size : ℕ) (front : List ℕ) → (whole : List ℕ) × (length whole ≡ size) × (front_of whole ≡ front)
+    → Judges same_head r (front_judged generation front) → IfDamaged r (λ place bytes. (whole : List ℕ) × (length whole ≡ size) × (front_judged generation (front_of whole) ≡ Err (damage place bytes)))
+damaged_front generation (Ok head) size front some judged = tt
+damaged_front generation (Err (Damaged place bytes)) size front some judged = (some.0, some.1, ap (front_judged generation) some.2 ∙ judged)
+damaged_front generation (Err Disk) size front some judged = tt
+damaged_front generation (Err Memory) size front some judged = tt
 
 -- the front that was read is a header of the generation
 pub named_answers : (generation : ℕ) (r : Result LogHead ReadFault) (content : Option (List ℕ)) (items : List ℕ) → IfSome content (λ bytes. items ≡ front_of bytes)

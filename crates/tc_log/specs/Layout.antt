@@ -1,5 +1,6 @@
--- The tags and the sizes in the bytes of a log.
-use Rattle.std.specs.Prelude.{ℕ, ◌^◌}
+-- The tags, the sizes and the limit of numbers in the bytes of a log.
+use Rattle.std.specs.Prelude.{ℕ, ◌+◌}
+use Rattle.tc_model.specs.Limits.{max_key}
 
 -- an entry with a record
 abbrev pub upsert_tag : ℕ
@@ -11,7 +12,7 @@ delete_tag = 2
 
 -- keys and generations are below this
 abbrev pub number_end : ℕ
-number_end = 2 ^ 63
+number_end = max_key + 1
 
 -- the header stands behind the gate of the log
 abbrev pub head_place : ℕ

@@ -5,4 +5,3 @@ pub mod Reading
 pub mod Judging
 pub mod Frame
 pub mod Appending
-pub mod Rows

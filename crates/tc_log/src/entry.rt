@@ -6,13 +6,11 @@ ghost use Rattle.std.specs.Int.{w64};
 ghost use Rattle.tc_bytes.specs.Reading.{number_at, passing_at};
 ghost use Rattle.tc_log.specs.Writes.{write_of};
 
-use crate::layout::{DELETE, UPSERT};
+use crate::layout::{DELETE, MAX_NUMBER, UPSERT};
 use crate::write::Write;
 use std::alloc::Global;
 use tc_bytes::{Bytes, Memory, slice_at, u8_at, u32_at, u64_at};
 use tc_record::is_stored_record;
-
-const MAX_KEY: u64 = 0x7fff_ffff_ffff_ffff;
 
 /// So many writes more, if they are spelled by the body and nothing is left of it.
 pub(crate) fn body_in(
@@ -59,7 +57,7 @@ fn key_in(bytes: &[u8]) -> Option<(u64, &[u8])>
     ensures { option_map (λ x. (x.0, x.1.now)) result ≡ passing_at is_key (number_at w64) bytes.now }
 {
     let (key, rest) = u64_at(bytes)?;
-    if key <= MAX_KEY {
+    if key <= MAX_NUMBER {
         Some((key, rest))
     } else {
         None

@@ -6,11 +6,10 @@ ghost use Rattle.tc_bytes.specs.Reading.{number_at, passing_at};
 ghost use Rattle.tc_log.specs.Reading.{head_at, is_magic, is_generation};
 ghost use Rattle.tc_log.specs.Spelling.{head_bytes};
 
+use crate::layout::MAX_NUMBER;
 use tc_bytes::{u32_at, u64_at};
 
 const MAGIC: u32 = 0x5443_4c31;
-
-const MAX_GENERATION: u64 = 0x7fff_ffff_ffff_ffff;
 
 /// Which log a file is: the number of its partition, how many partitions there are, and the generation, which is from
 /// 1 to 2^63 - 1.
@@ -52,7 +51,7 @@ fn generation_in(bytes: &[u8]) -> Option<(u64, &[u8])>
     ensures { option_map (λ x. (x.0, x.1.now)) result ≡ passing_at is_generation (number_at w64) bytes.now }
 {
     let (generation, rest) = u64_at(bytes)?;
-    if generation > 0 && generation <= MAX_GENERATION {
+    if generation > 0 && generation <= MAX_NUMBER {
         Some((generation, rest))
     } else {
         None

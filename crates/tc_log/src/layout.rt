@@ -1,4 +1,7 @@
-//! The tags and the sizes in the bytes of a log.
+//! The tags, the sizes and the limit of numbers in the bytes of a log.
+
+/// The greatest key, and the greatest generation.
+pub const MAX_NUMBER: u64 = 0x7fff_ffff_ffff_ffff;
 
 /// An entry with a record.
 pub(crate) const UPSERT: u8 = 1;

@@ -11,16 +11,8 @@ mod reserving;
 mod write;
 
 pub use head::LogHead;
+pub use layout::MAX_NUMBER;
 pub use log::Log;
 pub use reading::{LogRead, logs_mean_one, read_frames, read_log_head};
 pub use reserving::Frame;
 pub use write::{Write, Writes};
-
-#[cfg(test)]
-mod samples;
-#[cfg(test)]
-mod stop_tests;
-#[cfg(test)]
-mod store_tests;
-#[cfg(test)]
-mod tests;

@@ -74,7 +74,7 @@ pub fn read_log_head<F: Frozen>(
 
     // Also of a file that does not tell its content.
     ensures lawful { IfOk result (λ head. IsHead head × (head.generation ≡ generation)) }
-    ensures damaged { IfDamaged result (λ place bytes. front_judged generation bytes ≡ Err (a_damage place bytes)) }
+    ensures damaged { IfDamaged result (λ place bytes. (whole : List ℕ) × (length whole ≡ F.size file.now) × (front_judged generation (front_of whole) ≡ Err (a_damage place bytes))) }
 
     ensures counted { IsCountedOnce (IsErrOf result ReadFault.Disk) (IsOk result) (F.Watch.counts watch.old) (F.Watch.counts watch.new) }
 {
@@ -82,9 +82,10 @@ pub fn read_log_head<F: Frozen>(
     named_head_in(alloc, generation, &front)
 }
 
-/// The bytes that stand where the header has its place.
+/// The bytes that stand where the header has its place: those of some content of the file's length.
 fn front_in<F: Frozen>(alloc: Global, file: &F, watch: &mut F::Watch) -> Result<Vec<u8>, ReadFault>
     ensures read { IfOk result (λ read. IfSome (F.content file.now) (λ bytes. read.items ≡ front_of bytes)) }
+    ensures possible { IfOk result (λ read. (whole : List ℕ) × (length whole ≡ F.size file.now) × (front_of whole ≡ read.items)) }
     ensures no_damage { IsNoDamage result }
     ensures counted { IsCountedOnce (IsErrOf result ReadFault.Disk) (IsOk result) (F.Watch.counts watch.old) (F.Watch.counts watch.new) }
 {
@@ -97,7 +98,6 @@ fn named_head_in(alloc: Global, generation: u64, front: &[u8]) -> Result<LogHead
     ensures judged { Judges same_head result (front_judged generation front.now) }
     ensures found { length front.now ≤ head_size → IfOk result (IsNamedHead generation front.now) }
     ensures lawful { IfOk result (λ head. IsHead head × (head.generation ≡ generation)) }
-    ensures damaged { IfDamaged result (λ place kept. front_judged generation kept ≡ Err (a_damage place kept)) }
     ensures no_disk { IsNoDisk result }
 {
     match head_in(front) {

@@ -1,5 +1,5 @@
 use Rattle.std.proofs.Common.{◌∙◌, ◌-◌, min, ap}
-use Rattle.tc_log.proofs.Logs.{front_answers}
+use Rattle.tc_log.proofs.Logs.{front_answers, front_possible}
 use Rattle.tc_log.proofs.reading.front_in.Goals as goal
 
 pub returns-clause-read : goal.returns-clause-read
@@ -8,3 +8,8 @@ returns-clause-read g c =
     let size = g.F.Frozen.size c.args.file.now in
     front_answers c.bytes_of.result (g.F.Frozen.content c.args.file.now) size c.min-at.result c.min-count.result (laws.told_size c.args.file.now) (c.min-at.ensures ∙ ap (λ n. min n 1) c.len.ensures.exact)
     (c.min-count.ensures ∙ ap (λ n. min (n - c.min-at.result) 20) c.len-2.ensures.exact) c.bytes_of.ensures.read
+
+pub returns-clause-possible : goal.returns-clause-possible
+returns-clause-possible g c =
+    front_possible c.bytes_of.result (g.F.Frozen.size c.args.file.now) c.min-at.result c.min-count.result (c.min-at.ensures ∙ ap (λ n. min n 1) c.len.ensures.exact)
+    (c.min-count.ensures ∙ ap (λ n. min (n - c.min-at.result) 20) c.len-2.ensures.exact) c.bytes_of.ensures.length
