@@ -1,12 +1,12 @@
 -- What occurs in values that were gathered occurs in those that they were gathered from, and they are fewer.
-use Rattle.std.proofs.Common.{◌≡◌, ◌+◌, ◌≤◌, Bool, true, false, List, [], ◌∷◌, ◌++◌, length, bytes_eq, if◌then◌else◌, refl, ap, arith}
+use Rattle.std.proofs.Common.{◌≡◌, ◌+◌, ◌≤◌, Bool, true, false, List, [], ◌∷◌, ◌++◌, length, bytes_eq, if◌then◌else◌, map, filter, refl, ap, arith}
 use Rattle.tc_model.specs.Tree.{leaf, array, object, Items, no_items, item, Members, no_members, member, items_of, members_of, listed_items, listed_members}
 use Rattle.tc_model.specs.Document.{Name, ShapeTree, ScalarKind}
 use Rattle.tc_model.specs.Kinds.{Kind, kind_of, is_kind}
 use Rattle.tc_model.specs.TreeSize.{tree_size, items_size, members_size, trees_size, labelled_size}
 use Rattle.tc_schema_model.specs.Occurrences.{field, each_item, Path, occurrences, items_occurrences, members_occurrences}
-use Rattle.tc_count.specs.Gathered.{items_among, members_among, values_named}
-use Rattle.tc_schema_model.specs.SchemaText.{items_in, members_in}
+use Rattle.tc_count.specs.Gathered.{items_among, members_among}
+use Rattle.tc_schema_model.specs.SchemaText.{items_in, members_in, values_of}
 
 -- ---- what occurs
 
@@ -52,12 +52,12 @@ members_among_occur [] name path t = refl
 members_among_occur (s ∷ ss) name path t =
     omega (arith, members_occur-append (members_in s) (members_among ss) name path t, members_held_occur s name path t, members_among_occur ss name path t)
 
-pub values_named_occur : (name : Name) (ms : List (Name × ShapeTree)) (path : Path) (t : Kind) → items_occurrences (items_of (values_named name ms)) path t ≡ members_occurrences (members_of ms) name path t
-values_named_occur name [] path t = refl
-values_named_occur name (m ∷ ms) path t = cases (bytes_eq m.0 name) (values_named_occur name ms path t)
+pub values_of_occur : (name : Name) (ms : List (Name × ShapeTree)) (path : Path) (t : Kind) → items_occurrences (items_of (values_of name ms)) path t ≡ members_occurrences (members_of ms) name path t
+values_of_occur name [] path t = refl
+values_of_occur name (m ∷ ms) path t = cases (bytes_eq m.0 name) (values_of_occur name ms path t)
   where
-    cases : (same : Bool) → items_occurrences (items_of (values_named name ms)) path t ≡ members_occurrences (members_of ms) name path t
-        → items_occurrences (items_of (if same then m.1 ∷ values_named name ms else values_named name ms)) path t ≡ (if same then occurrences m.1 path t else 0) + members_occurrences (members_of ms) name path t
+    cases : (same : Bool) → items_occurrences (items_of (values_of name ms)) path t ≡ members_occurrences (members_of ms) name path t
+        → items_occurrences (items_of (map (λ m. m.1) (if same then m ∷ filter (λ m. bytes_eq m.0 name) ms else filter (λ m. bytes_eq m.0 name) ms))) path t ≡ (if same then occurrences m.1 path t else 0) + members_occurrences (members_of ms) name path t
     cases true rest = omega (arith, rest)
     cases false rest = omega (arith, rest)
 
@@ -82,10 +82,10 @@ size-among [] = refl
 size-among (s ∷ ss) =
     omega (arith, size-append (items_in s) (items_among ss), size-append_members (members_in s) (members_among ss), size-held s, size-among ss)
 
-pub size-named : (name : Name) (ms : List (Name × ShapeTree)) → trees_size (values_named name ms) ≤ labelled_size ms
+pub size-named : (name : Name) (ms : List (Name × ShapeTree)) → trees_size (values_of name ms) ≤ labelled_size ms
 size-named name [] = omega arith
 size-named name (m ∷ ms) = cases (bytes_eq m.0 name) (size-named name ms)
   where
-    cases : (same : Bool) → trees_size (values_named name ms) ≤ labelled_size ms → trees_size (if same then m.1 ∷ values_named name ms else values_named name ms) ≤ tree_size m.1 + labelled_size ms
+    cases : (same : Bool) → trees_size (values_of name ms) ≤ labelled_size ms → trees_size (map (λ m. m.1) (if same then m ∷ filter (λ m. bytes_eq m.0 name) ms else filter (λ m. bytes_eq m.0 name) ms)) ≤ tree_size m.1 + labelled_size ms
     cases true rest = omega (arith, rest)
     cases false rest = omega (arith, rest)

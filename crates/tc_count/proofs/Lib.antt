@@ -1,6 +1,4 @@
-pub mod AscendingMembers
 pub mod GatheredValues
 pub mod Grouping
 pub mod PlaceMade
-pub mod SplitLists
 pub mod Walks

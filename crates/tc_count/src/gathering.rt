@@ -6,8 +6,8 @@ ghost use Rattle.tc_schema_model.specs.Counted.{total};
 ghost use Rattle.tc_value.specs.ShapeMeaning.{shape_tree, shape_member};
 ghost use Rattle.tc_value.specs.Kinds.{kind_meant};
 ghost use Rattle.tc_count.specs.Counting.{CountKinds};
-ghost use Rattle.tc_count.specs.Gathered.{items_among, members_among, values_named};
-ghost use Rattle.tc_schema_model.specs.SchemaText.{items_in, members_in};
+ghost use Rattle.tc_count.specs.Gathered.{items_among, members_among};
+ghost use Rattle.tc_schema_model.specs.SchemaText.{items_in, members_in, values_of};
 
 use std::alloc::{AllocError, Global};
 use tc_schema::Counts;
@@ -113,7 +113,7 @@ pub fn values_named(
     members: &[ShapeMember],
     alloc: Global,
 ) -> Result<Vec<Shape>, AllocError>
-    ensures { IfOk result (λ values. map shape_tree values.items ≡ values_named name.now (map shape_member members.now)) }
+    ensures { IfOk result (λ values. map shape_tree values.items ≡ values_of name.now (map shape_member members.now)) }
 {
     let mut values = Vec::new(alloc);
     for member in members {

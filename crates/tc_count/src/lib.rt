@@ -6,9 +6,4 @@ mod gathering;
 mod inferring;
 mod naming;
 
-pub use inferring::{Inferred, infer};
-
-#[cfg(test)]
-mod layer_tests;
-#[cfg(test)]
-mod tests;
+pub use inferring::{Inferred, infer, shapes_of};

@@ -9,8 +9,9 @@ use Rattle.tc_schema_model.proofs.CountingLaws.{shows_nothing}
 use Rattle.tc_value.specs.ShapeMeaning.{shape_tree, shape_member}
 use Rattle.tc_schema.specs.Places.{place_counted, below_counted, fields_counted}
 use Rattle.tc_schema.proofs.PlaceViews.{field_made}
-use Rattle.tc_count.specs.Gathered.{items_among, members_among, values_named}
-use Rattle.tc_count.proofs.GatheredValues.{size-among, size-named, values_named_occur}
+use Rattle.tc_count.specs.Gathered.{items_among, members_among}
+use Rattle.tc_schema_model.specs.SchemaText.{values_of}
+use Rattle.tc_count.proofs.GatheredValues.{size-among, size-named, values_of_occur}
 use Rattle.tc_count.proofs.Grouping.{zero_items, zero_members, grouped_shows, grouped_canonical, further_canonical, first_shows, none_shows, no_fields_show}
 use Rattle.tc_count.proofs.PlaceMade.{place_made}
 use Rattle.tc_count.proofs.Walks.{none_there, some_there}
@@ -82,12 +83,12 @@ pub put_first-place_of-requires : goal.put_first-place_of-requires
 put_first-place_of-requires t c =
     let first = c.unwrap-name.result.now in
     let ms = map shape_member c.args.members.now in
-    let here : map shape_tree c.as_slice-2.result.now ≡ values_named first ms = ap (map shape_tree) c.as_slice-2.ensures.value ∙ c.in_ok-values.ensures in (
+    let here : map shape_tree c.as_slice-2.result.now ≡ values_of first ms = ap (map shape_tree) c.as_slice-2.ensures.value ∙ c.in_ok-values.ensures in (
       omega (arith, c.decreases, ap trees_size here, size-named first ms),
       (
         subst (λ values. 0 < length values) (c.as_slice.ensures.value ∙ sym c.as_slice-2.ensures.value) (some_there c.as_slice.result.now c.is_empty.result c.is_empty.ensures c.if-is_empty.false),
         λ path more name t none.
-            ap (λ values. items_occurrences (items_of values) (path ++ field name ∷ more) t) here ∙ values_named_occur first ms (path ++ field name ∷ more) t ∙ c.requires.numbered first path more name t none,
+            ap (λ values. items_occurrences (items_of values) (path ++ field name ∷ more) t) here ∙ values_of_occur first ms (path ++ field name ∷ more) t ∙ c.requires.numbered first path more name t none,
       ),
     )
 
@@ -101,7 +102,7 @@ put_first-returns-then-is_empty-clause-shown t c =
     let stands : slice_get names c.args.number ≡ Some first = sym c.name_of.ensures.name ∙ ap (option_map (λ name. name.now)) c.unwrap-name.ensures in
     let none = none_there c.as_slice.result.now c.is_empty.result c.is_empty.ensures c.if-is_empty.true in
     none_shows names (members_occurrences (members_of ms)) (length names) c.args.number first fields stands c.requires.canonical c.requires.shown (λ path t.
-    sym (values_named_occur first ms path t) ∙ ap (λ values. items_occurrences (items_of values) path t) (sym c.in_ok-values.ensures ∙ ap (map shape_tree) (sym c.as_slice.ensures.value ∙ none)))
+    sym (values_of_occur first ms path t) ∙ ap (λ values. items_occurrences (items_of values) path t) (sym c.in_ok-values.ensures ∙ ap (map shape_tree) (sym c.as_slice.ensures.value ∙ none)))
 
 pub put_first-returns-then-is_empty-clause-canonical : goal.put_first-returns-then-is_empty-clause-canonical
 put_first-returns-then-is_empty-clause-canonical t c = further_canonical (length c.args.names.now) c.args.number (fields_counted c.args.fields.now.items) c.requires.canonical
@@ -115,10 +116,10 @@ put_first-returns-clause-shown t c =
     let ms = map shape_member c.args.members.now in
     let fields = fields_counted c.args.fields.now.items in
     let d = place_counted c.in_ok-place.place in
-    let here : map shape_tree c.as_slice-2.result.now ≡ values_named first ms = ap (map shape_tree) c.as_slice-2.ensures.value ∙ c.in_ok-values.ensures in
+    let here : map shape_tree c.as_slice-2.result.now ≡ values_of first ms = ap (map shape_tree) c.as_slice-2.ensures.value ∙ c.in_ok-values.ensures in
     let stands : slice_get names n ≡ Some first = sym c.name_of.ensures.name ∙ ap (option_map (λ name. name.now)) c.unwrap-name.ensures in
     let written : fields_counted c.insert.new.self.items ≡ a_field n d fields =
     ap fields_counted c.in_ok-insert.ensures.items
     ∙ ap (λ f. a_field f.0 f.1 fields) (field_made n c.in_ok-node.node ∙ ap (λ e. let pair : ℕ × Counted = (n, place_counted e) in pair) c.in_ok-node.ensures.ok) in
     rw (written) (first_shows names (members_occurrences (members_of ms)) n first d fields stands c.requires.shown (λ path t.
-    c.in_ok-place.ensures.shown path t ∙ ap (λ values. items_occurrences (items_of values) path t) here ∙ values_named_occur first ms path t))
+    c.in_ok-place.ensures.shown path t ∙ ap (λ values. items_occurrences (items_of values) path t) here ∙ values_of_occur first ms path t))

@@ -11,12 +11,11 @@ ghost use Rattle.tc_value.specs.Meaning.{tree_of};
 ghost use Rattle.tc_value.specs.ShapeMeaning.{shape_tree, shape_member};
 ghost use Rattle.tc_model.specs.TreeSize.{tree_size, trees_size, labelled_size};
 
-use crate::infer;
-use crate::inferring::shapes_of;
+use crate::no_answer::NoAnswer;
 use std::alloc::Global;
 use std::marker::Model;
-use std::test::Fail;
 use tc_anti::{shapes_fit, subtract};
+use tc_count::{infer, shapes_of};
 use tc_infer::add;
 use tc_names::Names;
 use tc_schema::Schema;
@@ -24,9 +23,9 @@ use tc_value::{Doc, Shape, ShapeItems, ShapeMember};
 
 /// A schema, and the documents that it stands for, the newest first. Contracts see how many documents there are.
 #[derive(Drop)]
-pub struct Kept {
-    names: Names,
-    schema: Schema,
+pub(crate) struct Kept {
+    pub(crate) names: Names,
+    pub(crate) schema: Schema,
     docs: Vec<Doc>,
 }
 
@@ -43,7 +42,7 @@ impl Model for Kept {
 }
 
 impl Kept {
-    pub fn none(alloc: Global) -> Kept {
+    pub(crate) fn none(alloc: Global) -> Kept {
         Kept {
             names: Names::new(alloc),
             schema: Schema::empty(alloc),
@@ -52,7 +51,7 @@ impl Kept {
     }
 
     /// One document more.
-    pub fn with(self, alloc: Global, doc: Doc) -> Result<Kept, Fail> {
+    pub(crate) fn with(self, alloc: Global, doc: Doc) -> Result<Kept, NoAnswer> {
         let Kept {
             mut names,
             mut schema,
@@ -61,7 +60,7 @@ impl Kept {
         let _size = size_of_all(docs.as_slice(), alloc)?;
         let shape = doc.shape(alloc)?;
         let Some(_more) = bound_with(&shape, &names) else {
-            return Err(Fail::new("too large a document"));
+            return Err(NoAnswer);
         };
         add(&mut schema, &mut names, &shape)?;
         docs.insert(0, doc)?;
@@ -73,14 +72,14 @@ impl Kept {
     }
 
     /// The document at a place less.
-    pub fn without(self, alloc: Global, at: usize) -> Result<Kept, Fail> {
+    pub(crate) fn without(self, alloc: Global, at: usize) -> Result<Kept, NoAnswer> {
         let Kept {
             names,
             mut schema,
             mut docs,
         } = self;
         if at >= docs.len() {
-            return Err(Fail::new("no such document"));
+            return Err(NoAnswer);
         }
         let shape = docs[at].shape(alloc)?;
         shapes_fit(&schema, &names, &shape);
@@ -93,26 +92,26 @@ impl Kept {
         })
     }
 
-    pub fn text(&self, alloc: Global) -> Result<String, Fail> {
+    pub(crate) fn text(&self, alloc: Global) -> Result<String, NoAnswer> {
         let value = self.schema.value(alloc, &self.names)?;
         Ok(value.to_string(alloc)?)
     }
 
     /// The text of the schema that is inferred from the documents.
-    pub fn text_anew(&self, alloc: Global) -> Result<String, Fail> {
+    pub(crate) fn text_anew(&self, alloc: Global) -> Result<String, NoAnswer> {
         let _size = size_of_all(self.docs.as_slice(), alloc)?;
         let fresh = infer(alloc, self.docs.as_slice())?;
         let value = fresh.schema.value(alloc, &fresh.names)?;
         Ok(value.to_string(alloc)?)
     }
 
-    pub fn len(&self) -> usize {
+    pub(crate) fn len(&self) -> usize {
         self.docs.len()
     }
 }
 
 /// How many values documents have, if they and the bytes of their names are fewer than 2^32.
-fn size_of_all(docs: &[Doc], alloc: Global) -> Result<u32, Fail>
+fn size_of_all(docs: &[Doc], alloc: Global) -> Result<u32, NoAnswer>
     ensures values { IfOk result (λ size. (path : Path) → values_in (map tree_of docs.now) path ≤ size) }
     ensures room { IfOk result (λ _. length (all_learned [] (names_of_documents (map tree_of docs.now))) < 2 ^ 32) }
     ensures short { IfOk result (λ _. All (λ name. length name < 2 ^ 32) (names_of_documents (map tree_of docs.now))) }
@@ -120,7 +119,7 @@ fn size_of_all(docs: &[Doc], alloc: Global) -> Result<u32, Fail>
     let shapes = shapes_of(docs, alloc)?;
     let together = Shape::Array(ShapeItems::of(shapes));
     let Some(size) = size_of(&together) else {
-        return Err(Fail::new("too large documents"));
+        return Err(NoAnswer);
     };
     Ok(size)
 }

@@ -1,8 +1,8 @@
 use Rattle.std.proofs.Common.{◌<◌, suc, length, map, take, drop, sym, ap, ◌∙◌, subst, arith}
 use Rattle.tc_schema_model.specs.Stands.{StandsFor}
 use Rattle.tc_value.specs.Meaning.{tree_of}
-use Rattle.tc_count.proofs.SplitLists.{split_at, removed_at}
-use Rattle.tc_count.proofs.tests.kept.Kept.without.Goals as goal
+use Rattle.schema_rows.proofs.SplitLists.{split_at, removed_at}
+use Rattle.schema_rows.proofs.kept.Kept.without.Goals as goal
 
 pub subtract-requires : goal.subtract-requires
 subtract-requires c =

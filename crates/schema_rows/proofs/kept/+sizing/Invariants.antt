@@ -4,7 +4,7 @@ use Rattle.tc_model.specs.Tree.{items_of, members_of}
 use Rattle.tc_model.specs.ShapeNames.{names_of_items, names_of_members}
 use Rattle.tc_value.specs.ShapeMeaning.{shape_tree, shape_member}
 use Rattle.tc_model.specs.TreeSize.{tree_size, trees_size, labelled_size}
-use Rattle.tc_count.proofs.tests.kept.+sizing.Given as goal
+use Rattle.schema_rows.proofs.kept.+sizing.Given as goal
 
 abbrev pub decreases-size_of : goal.decreases-size_of
 decreases-size_of l = 2 * tree_size (shape_tree l.shape.now)

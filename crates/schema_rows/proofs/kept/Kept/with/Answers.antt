@@ -3,7 +3,7 @@ use Rattle.tc_schema_model.specs.Stands.{StandsFor}
 use Rattle.tc_schema_model.specs.Values.{values_in}
 use Rattle.tc_schema_model.proofs.ValueBounds.{total-stands}
 use Rattle.tc_value.specs.Meaning.{tree_of}
-use Rattle.tc_count.proofs.tests.kept.Kept.with.Goals as goal
+use Rattle.schema_rows.proofs.kept.Kept.with.Goals as goal
 
 pub add-requires-clause-counters : goal.add-requires-clause-counters
 add-requires-clause-counters c = λ path.

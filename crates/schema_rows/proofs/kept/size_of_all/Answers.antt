@@ -8,7 +8,7 @@ use Rattle.tc_model.specs.TreeSize.{tree_size}
 use Rattle.tc_value.specs.Meaning.{tree_of}
 use Rattle.tc_model.proofs.NamesOfShapes.{room_within, names_of_shapes}
 use Rattle.tc_schema_model.proofs.DocumentsTogether.{values_in-size}
-use Rattle.tc_count.proofs.tests.kept.size_of_all.Goals as goal
+use Rattle.schema_rows.proofs.kept.size_of_all.Goals as goal
 
 pub returns-clause-values : goal.returns-clause-values
 returns-clause-values c = λ path.
