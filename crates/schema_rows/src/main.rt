@@ -57,7 +57,6 @@ fn answer_of(alloc: Global, kept: Kept, row: &str) -> Result<(Kept, String), NoA
         "less" => shown(alloc, kept.without(alloc, place(argument)?)?),
         "random" => shown(alloc, at_random(alloc, argument)?),
         "bytes" => bytes::shown(alloc, kept),
-        "read" => bytes::read(alloc, kept, argument),
         _ => Err(NoAnswer),
     }
 }
