@@ -5,3 +5,4 @@ pub mod Holding
 pub mod Answering
 pub mod SessionLemmas
 pub mod RunLemmas
+pub mod ExitLemmas

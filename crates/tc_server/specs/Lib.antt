@@ -7,3 +7,4 @@ pub mod Window
 pub mod Stage
 pub mod Ending
 pub mod Progress
+pub mod Program

@@ -4,10 +4,12 @@
 mod answer;
 mod fresh;
 mod outcome;
+mod program;
 mod server;
 mod session;
 mod store;
 mod window;
 
 pub use outcome::{Outcome, RunFault, fault_text};
+pub use program::{run_program, words};
 pub use server::serve;

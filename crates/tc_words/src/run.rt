@@ -25,7 +25,7 @@ pub struct Options {
     pub limit: u64,
 }
 
-// The options that the matches of `run` give.
+/// The options that the matches of `run` give; none where a number is out of form or out of its range.
 pub fn options_in(run: &ArgMatches<'_>) -> Option<Options>
     ensures { result ≡ options_in (rows_of (found_of run.now)) }
 {

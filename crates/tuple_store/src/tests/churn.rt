@@ -1,8 +1,10 @@
 //! The schema after many writes is that of a store which got the live documents alone.
 
-use crate::tests::{PLAIN, SOUND, run};
+use crate::tests::words_of;
 use std::alloc::{AllocError, Global};
 use std::test::Fail;
+use tc_edge::{MemSink, MemSource};
+use tc_server::serve;
 
 const KEYS: u64 = 24;
 
@@ -45,8 +47,11 @@ fn upsert(alloc: Global, key: u64, number: u64) -> Result<String, AllocError> {
 // The last line of a run that ends with a schema.
 fn schema_behind(alloc: Global, mut input: Vec<u8>) -> Result<Vec<u8>, AllocError> {
     input.extend_from_slice(b"{\"op\":\"schema\"}\n")?;
-    let (_, taken) = run(alloc, PLAIN, input.as_slice(), SOUND)?;
-    let text = taken.as_slice();
+    let words = words_of(alloc, "run --partitions 1")?;
+    let mut source = MemSource::new(input, 1_048_576, Vec::new(alloc));
+    let mut sink = MemSink::new(alloc, 1_048_576, Vec::new(alloc));
+    serve(alloc, words.as_slice(), &mut source, &mut sink);
+    let text = sink.taken();
     let mut start = 0;
     for (place, byte) in text.iter().enumerate() {
         if *byte == b'\n' && place + 1 < text.len() {

@@ -3,6 +3,7 @@ use Rattle.std.proofs.lemmas.Bool.{and_parts}
 use Rattle.std.proofs.lemmas.Option.{same_Some}
 use Rattle.std.proofs.lemmas.Result.{IfOk-weaker}
 use Rattle.tc_model.specs.Tree.{array, object, item, no_items, member, no_members}
+use Rattle.tc_model.specs.Dictionary.{number}
 use Rattle.tc_schema_model.specs.Counted.{held, field_at, IsCanonical, IsBelowCanonical, AreFieldsCanonical}
 use Rattle.tc_schema_model.specs.Added.{added, items_added, members_added, put_field, IsNamed, AreItemsNamed, AreMembersNamed, member_added}
 use Rattle.tc_schema_model.specs.HasCounters.{has_counters, items_have_counters, members_have_counters}

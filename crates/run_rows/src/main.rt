@@ -1,0 +1,42 @@
+//! Layer 6, programs: runs the server over streams in memory, as the rows of standard input say, and prints how each run
+//! ends. A row is a word and its argument, between them a space. `words` are those of the command line; `reads` and
+//! `writes` say how many bytes a call takes at most and, behind that, the number of the call that fails; `text`, `line`,
+//! `lines`, `padded` and `repeated` make the input; `serve` runs, and `faults` prints the texts of all faults. A row that
+//! begins with `#` is a note, and is printed as it is; `no answer` stands for a row out of form.
+#![tactic(auto)]
+
+mod run;
+mod shown;
+
+use run::Run;
+use std::io;
+
+fn main(rt: HostRuntime) -> io::Result<()> {
+    let mut run = Run::new(rt.alloc());
+    for row in rt.lines(rt.alloc()) {
+        answer(&rt, &mut run, row?.as_str())?;
+    }
+    Ok(())
+}
+
+fn answer(rt: &(impl Print + AllocGlobal), run: &mut Run, row: &str) -> io::Result<()> {
+    match answer_of(rt, run, row) {
+        Some(answer) => print!(rt; "{}", answer.as_str()),
+        None => println!(rt; "no answer"),
+    }
+}
+
+// The lines that answer a row.
+fn answer_of(rt: &(impl Print + AllocGlobal), run: &mut Run, row: &str) -> Option<String> {
+    let alloc = rt.alloc();
+    let (call, argument) = row.split_once(' ').unwrap_or((row, ""));
+    match call {
+        "#" => format!(in alloc; "{row}\n").ok(),
+        "serve" => run.serve(rt),
+        "faults" => shown::faults(alloc),
+        _ => {
+            run.prepare(alloc, call, argument)?;
+            Some(String::new(alloc))
+        }
+    }
+}

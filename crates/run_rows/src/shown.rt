@@ -1,0 +1,82 @@
+//! What is printed of a run.
+
+use std::alloc::Global;
+use std::fmt::{Display, Write};
+use std::io::Eprint;
+use std::process::ExitCode;
+use std::{io, str};
+use tc_server::{RunFault, fault_text};
+
+/// Says on standard output what a program says on standard error.
+#[derive(Clone, Copy)]
+pub(crate) struct OnOutput<'a, R> {
+    pub(crate) rt: &'a R,
+}
+
+impl<R: Print> Eprint for OnOutput<'_, R> {
+    fn eprint<D: Display + Drop>(&self, value: D) -> io::Result<()> {
+        self.rt.print(value)
+    }
+
+    fn eprintln<D: Display + Drop>(&self, value: D) -> io::Result<()> {
+        self.rt.println(value)
+    }
+}
+
+impl<R: AllocGlobal> Alloc for OnOutput<'_, R> {
+    type A = Global;
+
+    fn alloc(&self) -> Global {
+        self.rt.alloc()
+    }
+}
+
+/// The exit, and then the lines that were accepted, and how many times each came behind itself.
+pub(crate) fn shown(alloc: Global, exit: ExitCode, accepted: &[u8]) -> Option<String> {
+    let mut text = format!(in alloc; "{exit:?}\n").ok()?;
+    push_lines(&mut text, str::from_utf8(accepted).ok()?)?;
+    Some(text)
+}
+
+fn push_lines(text: &mut String, accepted: &str) -> Option<()> {
+    let mut times = 0u64;
+    let mut last = "";
+    for line in accepted.split_inclusive('\n') {
+        if line != last {
+            push_times(text, times, last)?;
+            times = 0;
+            last = line;
+        }
+        times = times.saturating_add(1);
+    }
+    push_times(text, times, last)
+}
+
+// A line that came so many times, or the part of one that was accepted.
+fn push_times(text: &mut String, times: u64, line: &str) -> Option<()> {
+    if times == 0 {
+        return Some(());
+    }
+    match line.strip_suffix('\n') {
+        Some(line) => write!(text, "{times} of {line}\n").ok(),
+        None => write!(text, "part {line}\n").ok(),
+    }
+}
+
+/// The texts of all faults.
+pub(crate) fn faults(alloc: Global) -> Option<String> {
+    let mut text = String::new(alloc);
+    let write = RunFault::Write { taken: 12 };
+    for fault in [
+        RunFault::Usage,
+        RunFault::Read,
+        write,
+        RunFault::Spent,
+        RunFault::Memory,
+    ] {
+        text.push_str(fault_text(alloc, &fault).ok()?.as_str())
+            .ok()?;
+        text.push('\n').ok()?;
+    }
+    Some(text)
+}
