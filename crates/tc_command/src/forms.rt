@@ -4,7 +4,7 @@ ghost use Rattle.std.specs.Prelude.{◌≡◌, ◌∷◌, [], codes, map, Option
 ghost use Rattle.serde_json.specs.Data.{Data, Items};
 ghost use Rattle.serde_json.specs.Find.{get_member};
 ghost use Rattle.serde_json.specs.View.{view, items_view, members_view};
-ghost use Rattle.tc_model.specs.Request.{Form as FormMeant, names_are, value_at, if_object, if_path, is_hop, are_hops, ask_form, form_named, form_of};
+ghost use Rattle.tc_model.specs.Request.{Form as FormMeant, names_are, value_at, if_object, if_path, is_hop, are_hops, ask_form, bare_form, form_named, form_of, upsert_form, delete_form, get_form, query_form, scan_form};
 ghost use Rattle.tc_command.specs.Forms.{form_meant, ask_meant};
 
 use serde_json::{Map, Value};
@@ -46,33 +46,66 @@ fn form_named<'v>(op: &str, members: &'v Map<String, Value>) -> Option<Form<'v>>
     ensures { option_map form_meant result ≡ form_named op.now (members_view members.now.entries) }
 {
     if op == "upsert" {
-        Some(Form::Upsert(doc_in(members)?))
+        upsert_in(members)
     } else if op == "delete" {
-        Some(Form::Delete(value_at("id", &["id", "op"], members)?))
+        delete_in(members)
     } else if op == "get" {
-        Some(Form::Get(value_at("id", &["id", "op"], members)?))
+        get_in(members)
     } else if op == "query" {
-        Some(Form::Query(ask_in(members)?))
+        query_in(members)
     } else if op == "flush" {
-        if names_are(&["op"], members) {
-            Some(Form::Flush)
-        } else {
-            None
-        }
+        bare_in(Form::Flush, members)
     } else if op == "schema" {
-        if names_are(&["op"], members) {
-            Some(Form::Schema)
-        } else {
-            None
-        }
+        bare_in(Form::Schema, members)
     } else if op == "scan" {
-        Some(Form::Scan(ask_in(members)?))
+        scan_in(members)
     } else if op == "collect" {
-        if names_are(&["op"], members) {
-            Some(Form::Collect)
-        } else {
-            None
-        }
+        bare_in(Form::Collect, members)
+    } else {
+        None
+    }
+}
+
+fn upsert_in(members: &Map<String, Value>) -> Option<Form<'_>>
+    ensures { option_map form_meant result
+        ≡ option_map upsert_form (option_and_then if_object (value_at (codes "doc") (codes "doc" ∷ codes "op" ∷ [])
+        (members_view members.now.entries))) }
+{
+    Some(Form::Upsert(doc_in(members)?))
+}
+
+fn delete_in(members: &Map<String, Value>) -> Option<Form<'_>>
+    ensures { option_map form_meant result
+        ≡ option_map delete_form (value_at (codes "id") (codes "id" ∷ codes "op" ∷ []) (members_view members.now.entries)) }
+{
+    Some(Form::Delete(value_at("id", &["id", "op"], members)?))
+}
+
+fn get_in(members: &Map<String, Value>) -> Option<Form<'_>>
+    ensures { option_map form_meant result
+        ≡ option_map get_form (value_at (codes "id") (codes "id" ∷ codes "op" ∷ []) (members_view members.now.entries)) }
+{
+    Some(Form::Get(value_at("id", &["id", "op"], members)?))
+}
+
+fn query_in(members: &Map<String, Value>) -> Option<Form<'_>>
+    ensures { option_map form_meant result ≡ ask_form query_form (members_view members.now.entries) }
+{
+    Some(Form::Query(ask_in(members)?))
+}
+
+fn scan_in(members: &Map<String, Value>) -> Option<Form<'_>>
+    ensures { option_map form_meant result ≡ ask_form scan_form (members_view members.now.entries) }
+{
+    Some(Form::Scan(ask_in(members)?))
+}
+
+// A command that has its `op` alone.
+fn bare_in<'v>(form: Form<'v>, members: &Map<String, Value>) -> Option<Form<'v>>
+    ensures { option_map form_meant result ≡ bare_form (form_meant form.entry) (members_view members.now.entries) }
+{
+    if names_are(&["op"], members) {
+        Some(form)
     } else {
         None
     }
