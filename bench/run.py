@@ -5,7 +5,7 @@
 
 The program is crates/tuple_store/out/tuple_store, which `rt run` in crates/tuple_store builds. Each figure is the CPU
 time of the whole program, its start included, over the lines of the run; times of reading the feed from a file and of
-writing the replies to one are in it. A `schema` is measured by the difference of two runs.
+writing the replies to one are in it. A `schema` is measured by the difference of runs.
 """
 
 import os
@@ -50,11 +50,12 @@ def both(first, second):
     yield from second
 
 
-def show_schema(name, lines, schemas=5000):
-    """Shows what a `schema` costs behind these lines: the difference of a run with so many of them and one without."""
+def show_schema(name, lines, schemas=20_000):
+    """Shows what a `schema` costs behind these lines: the difference of runs with so many of them and runs without, of which
+    the least of five counts, since one run differs from the next by more than that."""
     lines = list(lines)
-    _, _, without = run(lines)
-    _, _, whole = run(both(lines, feeds.schemas(schemas)))
+    without = min(run(lines)[2] for _ in range(5))
+    whole = min(run(both(lines, feeds.schemas(schemas)))[2] for _ in range(5))
     print(f"{name:44} {schemas:9} schemas {(whole - without) * 1e6 / schemas:14.2f} us", flush=True)
 
 
