@@ -2,9 +2,12 @@
 
 use std::alloc::Global;
 use tc_bytes::{Bytes, Memory};
-use tc_compact::{compact, expand, names_agree};
+use tc_compact::{
+    compact, compact_into, compacted_size, document_of, expand, expanded_size, names_agree,
+    shape_of,
+};
 use tc_names::Names;
-use tc_record::{RecordFault, RecordRef};
+use tc_record::{RecordFault, RecordRef, decode};
 
 /// The record of form 1, or nothing where the bytes are no short record of form 0.
 fn form_of_numbers(
@@ -49,4 +52,83 @@ pub(crate) fn expanded(alloc: Global, bytes: &[u8]) -> Result<u64, RecordFault> 
     } else {
         Ok(0)
     }
+}
+
+/// Whether `compact_into` and both sizes agree with `compact`.
+pub(crate) fn fills_the_same(alloc: Global, bytes: &[u8]) -> Result<bool, Memory> {
+    let mut names = Names::new(alloc);
+    let Some(numbered) = form_of_numbers(alloc, bytes, &mut names)? else {
+        return Ok(false);
+    };
+    let Some(filled) = filled(alloc, bytes, &names)? else {
+        return Ok(false);
+    };
+    let Some(record) = RecordRef::of(filled.as_slice()) else {
+        return Ok(false);
+    };
+    if record.named() {
+        return Ok(false);
+    }
+    let expands = match expanded_size(record.again(), &names) {
+        Some(len) => len as usize == bytes.len(),
+        None => false,
+    };
+    Ok(expands && record.numbers_below(names.len()) && filled.as_slice() == numbered.as_slice())
+}
+
+/// The record of form 1 in bytes that were there before, or nothing where the bytes are no short record of form 0 or a
+/// name has no number.
+fn filled(alloc: Global, bytes: &[u8], names: &Names) -> Result<Option<Vec<u8>>, Memory> {
+    if bytes.len() >= 1_000_000 {
+        return Ok(None);
+    }
+    let Some(record) = RecordRef::of(bytes) else {
+        return Ok(None);
+    };
+    if !record.named() {
+        return Ok(None);
+    }
+    let Some(len) = compacted_size(record.again(), names) else {
+        return Ok(None);
+    };
+    let mut into = vec![in alloc; 0u8; len as usize]?;
+    compact_into(record, names, into.as_mut_slice());
+    Ok(Some(into))
+}
+
+/// Whether a record of form 1 has the document that it has when it is expanded, and the counts of the record of form 0.
+pub(crate) fn means_the_same(alloc: Global, bytes: &[u8]) -> Result<bool, RecordFault> {
+    let mut names = Names::new(alloc);
+    let Some(numbered) = form_of_numbers(alloc, bytes, &mut names)? else {
+        return Ok(false);
+    };
+    let Some(record) = RecordRef::of(numbered.as_slice()) else {
+        return Ok(false);
+    };
+    let Some(named) = RecordRef::of(bytes) else {
+        return Ok(false);
+    };
+    let counts = record.token_count() == named.token_count()
+        && record.member_count() == named.member_count();
+    let expanded = expand(alloc, numbered.as_slice(), &names)?;
+    let doc = decode(alloc, expanded.as_slice())?;
+    Ok(counts && document_of(alloc, record, &names)?.same(&doc))
+}
+
+/// Whether records of both forms have the shape of the decoded document.
+pub(crate) fn shapes_are_the_same(alloc: Global, bytes: &[u8]) -> Result<bool, RecordFault> {
+    let mut names = Names::new(alloc);
+    let Some(numbered) = form_of_numbers(alloc, bytes, &mut names)? else {
+        return Ok(false);
+    };
+    let Some(record) = RecordRef::of(numbered.as_slice()) else {
+        return Ok(false);
+    };
+    let Some(named) = RecordRef::of(bytes) else {
+        return Ok(false);
+    };
+    let wanted = format!(in alloc; "{:?}", decode(alloc, bytes)?.shape(alloc)?)?;
+    let of_named = format!(in alloc; "{:?}", shape_of(alloc, named, &names)?)?;
+    let of_numbered = format!(in alloc; "{:?}", shape_of(alloc, record, &names)?)?;
+    Ok(of_named == wanted && of_numbered == wanted)
 }

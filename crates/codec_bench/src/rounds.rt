@@ -1,6 +1,6 @@
 //! Calls of the codec, each done so many times. A sum of what they answer keeps them from being left out.
 
-use crate::forms::{compacted, expanded};
+use crate::forms::{compacted, expanded, fills_the_same, means_the_same, shapes_are_the_same};
 use anyhow::{Result, bail};
 use std::alloc::{AllocError, Global};
 use tc_bytes::Bytes;
@@ -33,7 +33,19 @@ pub(crate) fn sum_of(
         "compact" => Ok(compacted(alloc, bytes, rounds)?),
         "expand" => Ok(expanded(alloc, bytes)?),
         "same" => Ok(u64::from(decode(alloc, bytes)?.same(doc))),
+        "fill" => agreed(call, fills_the_same(alloc, bytes)?),
+        "document" => agreed(call, means_the_same(alloc, bytes)?),
+        "shape" => agreed(call, shapes_are_the_same(alloc, bytes)?),
         other => bail!("no call {other}"),
+    }
+}
+
+/// 1, where two ways to one answer agree.
+fn agreed(call: &str, same: bool) -> Result<u64> {
+    if same {
+        Ok(1)
+    } else {
+        bail!("{call}: the answers differ")
     }
 }
 
