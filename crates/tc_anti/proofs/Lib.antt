@@ -1,2 +1,2 @@
-pub mod RoomToTake
 pub mod TakenFields
+mod LastObject

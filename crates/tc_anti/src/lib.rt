@@ -4,4 +4,4 @@
 mod subtracting;
 mod taking;
 
-pub use subtracting::{shapes_fit, subtract};
+pub use subtracting::{shapes_fit, subtract, subtract_if_fits};

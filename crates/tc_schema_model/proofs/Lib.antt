@@ -21,5 +21,6 @@ pub mod Vanishing
 pub mod FitLaws
 pub mod CountersThere
 pub mod BoundLaws
+pub mod FitTests
 pub mod Readable
 pub mod DocumentsTogether

@@ -2,7 +2,7 @@ use Rattle.std.proofs.Common.{◌≡◌, ◌+◌, ◌*◌, length, map, drop}
 use Rattle.tc_model.specs.Tree.{items_of, members_of}
 use Rattle.tc_schema_model.specs.Counted.{IsBelowCanonical, AreFieldsCanonical}
 use Rattle.tc_schema_model.specs.Added.{items_removed, members_removed}
-use Rattle.tc_schema_model.specs.Fits.{ItemsFit, MembersFit}
+use Rattle.tc_schema_model.specs.Fits.{are_items_fit, are_members_fit}
 use Rattle.tc_value.specs.ShapeMeaning.{shape_tree, shape_member}
 use Rattle.tc_model.specs.TreeSize.{tree_size, trees_size, labelled_size}
 use Rattle.tc_schema.specs.Places.{below_counted, fields_counted}
@@ -23,18 +23,18 @@ decreases-take_members l = 3 * labelled_size (map shape_member l.members.now) + 
 abbrev pub decreases-take_member : goal.decreases-take_member
 decreases-take_member l = 3 * tree_size (shape_tree l.member.now.value) + 1
 
--- the items that are left, taken off from here on, are all items taken off
+-- the items that are left, taken off from here on, are all items taken off, and fit where all do
 abbrev pub invariant-take_items-loop-item : goal.invariant-take_items-loop-item
 invariant-take_items-loop-item l = record {
   left : items_removed l.names (items_of (map shape_tree (drop l.item-index l.items))) (below_counted l.below) ≡ items_removed l.names (items_of (map shape_tree l.items)) (below_counted l.initial.below);
+  fits : are_items_fit l.names (items_of (map shape_tree (drop l.item-index l.items))) (below_counted l.below) ≡ are_items_fit l.names (items_of (map shape_tree l.items)) (below_counted l.initial.below);
   canonical : IsBelowCanonical (length l.names) (below_counted l.below);
-  fits : ItemsFit l.names (items_of (map shape_tree (drop l.item-index l.items))) (below_counted l.below);
 }
 
 -- and the members
 abbrev pub invariant-take_members-loop-member : goal.invariant-take_members-loop-member
 invariant-take_members-loop-member l = record {
   left : members_removed l.names (members_of (map shape_member (drop l.member-index l.members))) (fields_counted l.fields.items) ≡ members_removed l.names (members_of (map shape_member l.members)) (fields_counted l.initial.fields.items);
+  fits : are_members_fit l.names (members_of (map shape_member (drop l.member-index l.members))) (fields_counted l.fields.items) ≡ are_members_fit l.names (members_of (map shape_member l.members)) (fields_counted l.initial.fields.items);
   canonical : AreFieldsCanonical (length l.names) 0 (fields_counted l.fields.items);
-  fits : MembersFit l.names (members_of (map shape_member (drop l.member-index l.members))) (fields_counted l.fields.items);
 }
