@@ -1,21 +1,14 @@
 -- A record that was written part by part.
-use Rattle.std.proofs.Common.{◌≡◌, ◌∙◌, ℕ, ◌+◌, ◌-◌, ◌*◌, ◌^◌, min, List, ◌++◌, length, map, ap, arith, append_assoc, length-append}
+use Rattle.std.proofs.Common.{◌≡◌, ◌∙◌, ℕ, ◌+◌, ◌*◌, List, ◌++◌, length, map, ap, arith, append_assoc, length-append}
 use Rattle.tc_record.specs.Record.{width, numbers, joined}
 use Rattle.tc_record.proofs.NumberLengths.{length-numbers}
 use Rattle.tc_compact.specs.Layout.{front, named_slots, named_record, numbered_record}
 
 -- the bytes of the slots of form 0 and of the names
-named_slots-length : (names : List (List ℕ)) → length (named_slots names) ≡ length (map length names) * width (map length names) + length (joined names)
+pub named_slots-length : (names : List (List ℕ)) → length (named_slots names) ≡ length (map length names) * width (map length names) + length (joined names)
 named_slots-length names =
     let lengths = map length names in
     length-append (numbers (width lengths) lengths) (joined names) ∙ ap (λ n. n + length (joined names)) (length-numbers (width lengths) lengths)
-
--- what is added up, where each sum stands still at the end of 64 bits
-pub named_length : (names : List (List ℕ)) (lengths : List ℕ) (w v behind_slots all name_bytes : ℕ) → lengths ≡ map length names → w ≡ width lengths → name_bytes ≡ min (length (joined names)) (2 ^ 64 - 1)
-    → behind_slots ≡ min (23 + v + length lengths * w) (2 ^ 64 - 1) → all ≡ min (behind_slots + name_bytes) (2 ^ 64 - 1) → all ≡ min (23 + (v + length (named_slots names))) (2 ^ 64 - 1)
-named_length names lengths w v behind_slots all name_bytes lens is some first sum =
-    let slots : length lengths * w ≡ length (map length names) * width (map length names) = ap (λ k. length lengths * k) is ∙ ap (λ ls. length ls * width ls) lens in
-    omega (arith, slots, named_slots-length names, some, first, sum)
 
 -- slots behind the front
 pub numbered_whole : (out before counts values ns : List ℕ) (len w : ℕ) → w ≡ width ns → len ≡ 23 + length values + length ns * w → before ≡ front len 1 counts w values → out ≡ before ++ numbers w ns

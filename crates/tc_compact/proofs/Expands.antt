@@ -1,5 +1,5 @@
 -- The record of form 0 of a record of form 1, part by part.
-use Rattle.std.proofs.Common.{◌≡◌, ◌∙◌, ℕ, ◌+◌, ◌*◌, ◌<◌, ◌≤◌, ◌^◌, Bool, true, false, List, [], ◌∷◌, ◌++◌, Option, None, Some, length, map, inl, inr, refl, sym, ap, subst, arith, length-append, append-nil, slice_index}
+use Rattle.std.proofs.Common.{◌≡◌, ◌∙◌, ℕ, ◌+◌, ◌*◌, ◌<◌, ◌≤◌, ◌^◌, Bool, true, false, List, [], ◌∷◌, ◌++◌, None, Some, length, map, inl, inr, refl, sym, ap, subst, arith, length-append, append-nil, slice_index}
 use Rattle.std.proofs.lemmas.Bool.{both_ways}
 use Rattle.std.proofs.lemmas.List.{length-map}
 use Rattle.std.proofs.lemmas.Option.{same_Some}
@@ -25,21 +25,17 @@ use Rattle.tc_compact.specs.Compacted.{compacted, IsCompactedRecordOf}
 use Rattle.tc_model.specs.KnownNames.{HasEach}
 use Rattle.tc_compact.specs.Slots.{numbers_in, names_of}
 use Rattle.tc_compact.specs.Meant.{name_at}
-use Rattle.tc_compact.specs.Layout.{slot_bytes, counts_in, values_in, named_slots, named_record}
+use Rattle.tc_compact.specs.Layout.{slot_bytes, counts_in, values_in, named_record}
 use Rattle.tc_compact.proofs.Relabelled.{slots-to_names, names-to_names, numbers_in-to_numbers, tokens-numbered, record-numbered}
 use Rattle.tc_compact.proofs.Laid.{counts, values, record_laid, Cut, whole_cut}
 use Rattle.tc_compact.proofs.Named.{names_of-known, names_found, same_names}
-use Rattle.tc_compact.proofs.Compacts.{two_forms, document_cut, compacted_record}
+use Rattle.tc_compact.proofs.Compacts.{two_forms, compacted_record}
 
 -- ---- the parts of a record of form 1
 
 -- what is built of a record of form 1 and the names of its numbers
 abbrev pub built_record : List ℕ → List Name → List ℕ
 built_record bytes ns = named_record (counts_in bytes) (values_in bytes (slot_bytes bytes (length ns) + 0)) ns
-
-pub built_of : (bytes out counts values : List ℕ) (ns : List Name) (members : ℕ) → members ≡ length ns → counts ≡ counts_in bytes → values ≡ values_in bytes (slot_bytes bytes members + 0) → out ≡ named_record counts values ns → out ≡ built_record bytes ns
-built_of bytes out counts values ns members is counts_are values_are built =
-    built ∙ ap (λ k. named_record k values ns) counts_are ∙ ap (λ v. named_record (counts_in bytes) v ns) (values_are ∙ ap (λ m. values_in bytes (slot_bytes bytes m + 0)) is)
 
 module _ {L : Type 0} where
   pub numbered_cut : (ts : List (Token L Scalar)) (ks : List ℕ) (bytes : List ℕ) → bytes ≡ record_bytes 1 ts ks [] → Cut bytes (counts ts (length ks)) (values ts) (width ks) (slot_bytes bytes (length ks) + 0)
@@ -87,9 +83,6 @@ tree_tokens r n (inr one) is =
 
 pub numbers_are : (r : Record) (n : NumberedTree) → Spells r → IsNumberedRecordOf n r.bytes → numbers_in r.tokens ≡ labels (tokens_of n)
 numbers_are r n spells is = ap numbers_in (tree_tokens r n spells is) ∙ tree_numbers n
-
-pub names_count : (names : List Name) (ks : List ℕ) (ns : List Name) → IsDictionary names → names_of names ks ≡ Some ns → length ns ≡ length ks
-names_count names ks ns dictionary gives = let found = names_found names ks ns dictionary.distinct gives in ap length found.at ∙ length-map ks (name_at names)
 
 -- ---- what a document's form 1 gives
 
@@ -182,35 +175,6 @@ expanded_found names from built ns dictionary spells unnamed gives laid (inl one
     tree.1.spelled ∙ sym (record-retoken g 1 tn ks []) ∙ same.numbered ks ∙ ap (λ vs. record_bytes 1 vs ks []) (preorder-relabel name d None) ∙ record-retoken name 1 (tokens_of d) ks [] ∙ ap (λ ns. record_bytes 1 (tokens_of d) ns []) (sym (ap (map (name_number names)) names_are ∙ found.numbers)) in
     (d, is, compacted_record names d built.bytes from.bytes dictionary is (subst (HasEach names) (sym names_are) found.known) form1 tree.1.short)
 
--- ---- what the parts have
-
--- as many numbers as there are names
-pub members_lie : (names : List Name) (r : Record) (bytes : List ℕ) (ns : List Name) (members : ℕ) → IsDictionary names → Spells r → r.named ≡ false → r.bytes ≡ bytes → names_of names (numbers_in r.tokens) ≡ Some ns
-    → members ≡ length ns → 23 + (slot_bytes bytes members + 0) ≤ length bytes
-members_lie names r bytes ns members dictionary spells unnamed same gives is =
-    let tree = numbered_tree r spells unnamed in
-    let ks = labels (tokens_of tree.0) in
-    let count : members ≡ length ks = is ∙ names_count names (numbers_in r.tokens) ns dictionary gives ∙ ap length tree.2 in
-    let cut = numbered_cut (tokens_of tree.0) ks bytes (sym same ∙ tree.1.spelled) in
-    omega (arith, ap (λ m. slot_bytes bytes m) count, cut.len)
-
--- the record of a document is not too long
-pub not_too_long : (names : List Name) (d : Document) (bytes named_bytes : List ℕ) (ns : List Name) (v : ℕ) → IsRecordOf d named_bytes → IsCompactedRecordOf names d bytes → ns ≡ labels (tokens_of d)
-    → v ≡ length (values_in bytes (slot_bytes bytes (length ns) + 0)) → 2 ^ 32 ≤ 23 + (v + length (named_slots ns)) → ⊥
-not_too_long names d bytes named_bytes ns v is form1 are len long =
-    let ts = tokens_of d in
-    let ks = map (name_number names) (labels ts) in
-    let members : length ns ≡ length ks = ap length are ∙ sym (length-map (labels ts) (name_number names)) in
-    let cut = numbered_cut ts ks bytes (form1.numbered.spelled ∙ record-numbered (name_number names) d) in
-    let values_len : v ≡ length (values ts) = len ∙ ap length (ap (λ m. values_in bytes (slot_bytes bytes m + 0)) members ∙ cut.values_are) in
-    absurd (omega (arith, values_len, long, ap (λ ls. length (named_slots ls)) are, (document_cut d named_bytes is.spelled).len, is.short))
-
--- a dictionary that has a document's names gives them
-pub names_missing : (names : List Name) (d : Document) (r : Record) → HasEach names (labels (tokens_of d)) → r.tokens ≡ numbered_tokens (compacted names d) → names_of names (numbers_in r.tokens) ≡ None → ⊥
-names_missing names d r known tokens none = none_some (labels (tokens_of d)) (sym none ∙ compacted_names names d r known tokens)
-  where
-    none_some : (ls : List Name) → ◌≡◌ {A = Option (List Name)} None (Some ls) → ⊥
-    none_some ls e = cc
-
+-- the names that are found are those of the document
 pub names_are : (names : List Name) (d : Document) (r : Record) (ns : List Name) → HasEach names (labels (tokens_of d)) → r.tokens ≡ numbered_tokens (compacted names d) → names_of names (numbers_in r.tokens) ≡ Some ns → ns ≡ labels (tokens_of d)
 names_are names d r ns known tokens gives = same_Some ns (labels (tokens_of d)) (sym gives ∙ compacted_names names d r known tokens)

@@ -24,7 +24,7 @@ use Rattle.tc_compact.proofs.Relabelled.{relabel-relabel, tokens-numbered, names
 use Rattle.tc_compact.proofs.Orders.{ordered_by_shape}
 use Rattle.tc_compact.proofs.Named.{names_found}
 use Rattle.tc_compact.proofs.Compacts.{document_tokens, document_names, compacted_record}
-use Rattle.tc_compact.proofs.Expands.{built_record, named_laid, tree_tokens, numbers_are, expands}
+use Rattle.tc_compact.proofs.Expands.{numbered_tree, built_record, named_laid, tree_tokens, numbers_are, expands}
 
 -- ---- the tokens that are meant
 
@@ -151,6 +151,14 @@ module _ (names : List Name) where
       members-expanded : (ms : Members ℕ Scalar) → AreNumberedMembers ms → AreMembersOrdered (members_relabel (name_at names) (λ s. s) ms) → AreMembersOf IsScalar (members_relabel (name_at names) (λ s. s) ms)
       members-expanded no_members is ordered = tt
       members-expanded (member k t ms) is ordered = (utf8_at names k each, lawful-expanded t is.1 ordered.0, members-expanded ms is.2 ordered.1)
+
+-- the names of a record that has room
+pub room_gives : (names : List Name) (r : Record) → Spells r → r.named ≡ false → HasRoom names r → names_of names (numbers_in r.tokens) ≡ Some (map (name_at names) (numbers_in r.tokens))
+room_gives names r spells unnamed room =
+    let tree = numbered_tree r spells unnamed in
+    let ks = labels (tokens_of tree.0) in
+    let labels_are : labels r.tokens ≡ map number ks = ap labels (tree_tokens r tree.0 spells tree.1 ∙ preorder-relabel number tree.0 None) ∙ labels-retoken number (tokens_of tree.0) in
+    subst (λ ns. names_of names ns ≡ Some (map (name_at names) ns)) (sym tree.2) (all_named names ks (subst (AllByRecursion (IsBelow (length names))) labels_are room.known))
 
 object-expanded : (names : List Name) (n : NumberedTree) → IsObject n → IsObject (expanded names n)
 object-expanded names (leaf s) is = absurd is

@@ -11,7 +11,7 @@ use Rattle.tc_record.specs.Sections.{least_width}
 use Rattle.tc_record.specs.Borrowed.{Record, Spells}
 use Rattle.tc_record.proofs.NumberLengths.{length-numbers}
 use Rattle.tc_compact.specs.Slots.{numbers_in}
-use Rattle.tc_compact.specs.Meant.{name_at, expanded}
+use Rattle.tc_compact.specs.Meant.{name_at, expanded, HasRoom}
 use Rattle.tc_compact.specs.Layout.{slot_bytes, values_in}
 use Rattle.tc_compact.proofs.Relabelled.{record-named}
 use Rattle.tc_compact.proofs.Laid.{values, record_laid, whole_cut, slots_between}
@@ -76,6 +76,23 @@ named_length names r n count longest name_bytes len spells unnamed is many most 
     let bytes_is : name_bytes ≡ length (joined ns) = bytes ∙ ap (λ k. length (joined (map (name_at names) k))) same in
     let whole_len = ap length (record-named (name_at names) n ∙ record_laid 0 tn ls (joined ns)) in
     omega (arith, len_is, slots, bytes_is, whole_len, (whole_cut 0 tn (length ls) (width ls) (values tn) behind).len, length-append (numbers (width ls) ls) (joined ns))
+
+-- what slots tell of the names that they measure
+pub slots_told : (ns : List Name) (count longest : ℕ) → count ≡ length ns → longest ≡ greatest (map length ns) → (least_width count longest ≡ width (map length ns)) × (count * least_width count longest ≡ length (map length ns) * width (map length ns))
+slots_told ns count longest many most =
+    let ls = map length ns in
+    let all : count ≡ length ls = many ∙ sym (length-map ns length) in
+    let told : least_width count longest ≡ width ls = ap (λ k. least_width k longest) all ∙ ap (least_width (length ls)) most ∙ least_width-is ls in
+    (told, ap (λ k. count * k) told ∙ ap (λ k. k * width ls) all)
+
+-- a record that has room is short enough
+pub short_with_names : (names : List Name) (r : Record) (count longest name_bytes len : ℕ) → Spells r → r.named ≡ false → HasRoom names r
+    → count ≡ length (numbers_in r.tokens) → longest ≡ greatest (map length (map (name_at names) (numbers_in r.tokens))) → name_bytes ≡ length (joined (map (name_at names) (numbers_in r.tokens)))
+    → len ≡ length (values_in r.bytes (slot_bytes r.bytes (length (numbers_in r.tokens)) + 0))
+    → 23 + len + count * least_width count longest + name_bytes < 2 ^ 32
+short_with_names names r count longest name_bytes len spells unnamed room many most bytes values_len =
+    let tree = numbered_tree r spells unnamed in
+    subst (λ k. k < 2 ^ 32) (sym (named_length names r tree.0 count longest name_bytes len spells unnamed tree.1 many most bytes values_len)) (room.short tree.0 tree.1)
 
 -- what has 32 bits
 pub within : (total : ℕ) (o : Option ℕ) → o ≡ (if nat_lt total (2 ^ 32) then Some total else None) → IfSome o (λ len. len ≡ total) × IfNone o (2 ^ 32 ≤ total)

@@ -1,18 +1,23 @@
 //! Numbers become names.
 
-ghost use Rattle.std.specs.Prelude.{◌≡◌, ◌≤◌, ◌+◌, ◌^◌, ◌-◌, ℕ, List, Some, None, IfOk, IsErrOf, length, map, min};
+ghost use Rattle.std.specs.Prelude.{◌≡◌, ◌+◌, ◌++◌, ℕ, List, false, IfOk, OnOk, IsErrOf, length, map};
 ghost use Rattle.tc_model.specs.Document.{Document};
-ghost use Rattle.tc_record.specs.Record.{header_size, IsRecordOf, joined};
+ghost use Rattle.tc_record.specs.Record.{numbers, joined, IsRecordOf};
+ghost use Rattle.tc_record.specs.Widths.{width_bytes};
 ghost use Rattle.tc_compact.specs.Compacted.{IsCompactedRecordOf};
-ghost use Rattle.tc_compact.specs.Slots.{numbers_in, names_of};
-ghost use Rattle.tc_compact.specs.Layout.{named_slots, named_record};
+ghost use Rattle.tc_compact.specs.Slots.{numbers_in};
+ghost use Rattle.tc_compact.specs.Meant.{name_at, HasRoom};
+ghost use Rattle.tc_compact.specs.Layout.{slot_bytes, counts_in, values_in, named_record};
 
 use crate::dictionary::is_dictionary;
-use crate::layout::{Shared, begin, put_names, put_slots, shared_in, width_of_slots};
+use crate::layout::{begin, shared_in};
+use crate::meaning::name_meant;
+use crate::sizing::{has_room, len_with_names};
+use crate::slot_sum::sum_of_names;
 use std::alloc::Global;
-use tc_bytes::Bytes;
+use tc_bytes::{Bytes, Memory};
 use tc_names::Names;
-use tc_record::{HEADER_SIZE, Label, NAMED_FORM, RecordFault, RecordRef};
+use tc_record::{Label, NAMED_FORM, RecordFault, RecordRef, Width, put_number};
 
 /// The record of form 0 whose form 1 under a dictionary these bytes are. `NotARecord` comes exactly where there is none:
 /// the bytes are no record of form 1, a number has no name, the names of an object do not ascend, or the record of
@@ -27,68 +32,64 @@ pub fn expand(alloc: Global, bytes: &[u8], names: &Names) -> Result<Bytes, Recor
     if record.named() {
         return Err(RecordFault::NotARecord);
     }
-    let found = find_names(alloc, &record, names)?;
-    let shared = shared_in(bytes, found.names.as_slice().len(), 0);
-    let expanded = with_names(alloc, shared, &found)?;
+    let _bytes = record.bytes();
+    if !has_room(&record, names) {
+        return Err(RecordFault::NotARecord);
+    }
+    let expanded = with_names(alloc, &record, names)?;
     match RecordRef::of(expanded.as_slice()) {
         Some(_) => Ok(Bytes::of(expanded)),
         None => Err(RecordFault::NotARecord),
     }
 }
 
-/// The names of a record's members, the length of each, and how many bytes they have together, or 2^64 - 1 if more.
-#[derive(Drop)]
-struct Found<'a> {
-    names: Vec<&'a str>,
-    lengths: Vec<usize>,
-    name_bytes: u64,
+/// The bytes of a record of form 1 that has room, with names in place of numbers. Errs only for want of memory.
+fn with_names(alloc: Global, from: &RecordRef<'_>, names: &Names) -> Result<Vec<u8>, Memory>
+    requires numbered { from.now.named ≡ false }
+    requires room { HasRoom names.now from.now }
+    ensures { IfOk result (λ out. out.items ≡ named_record (counts_in from.now.bytes) (values_in from.now.bytes (slot_bytes from.now.bytes (length (numbers_in from.now.tokens)) + 0)) (map (name_at names.now) (numbers_in from.now.tokens))) }
+{
+    is_dictionary(names);
+    let bytes = from.bytes();
+    let sum = sum_of_names(from, names);
+    let shared = shared_in(bytes, sum.count, 0);
+    let width = sum.width();
+    let Some(len) = len_with_names(shared.values.len(), sum) else {
+        unreachable!()
+    };
+    let mut out = begin(alloc, len, NAMED_FORM, shared, width)?;
+    put_name_lengths(from, names, width, &mut out)?;
+    put_names(from, names, &mut out)?;
+    Ok(out)
 }
 
-/// The names of a record's numbers. `NotARecord` comes exactly where a number has none.
-fn find_names<'a>(
-    alloc: Global,
+/// Appends the lengths of the names of a record's numbers. Errs only for want of memory.
+fn put_name_lengths(
     from: &RecordRef<'_>,
-    names: &'a Names,
-) -> Result<Found<'a>, RecordFault>
-    ensures names { IfOk result (λ f. names_of names.now (numbers_in from.now.tokens) ≡ Some (map (λ n. n.now) f.names.items)) }
-    ensures lengths { IfOk result (λ f. f.lengths.items ≡ map length (map (λ n. n.now) f.names.items)) }
-    ensures bytes { IfOk result (λ f. f.name_bytes ≡ min (length (joined (map (λ n. n.now) f.names.items))) (2 ^ 64 - 1)) }
-    ensures refused { IsErrOf result RecordFault.NotARecord → names_of names.now (numbers_in from.now.tokens) ≡ None }
+    names: &Names,
+    width: Width,
+    out: &mut Vec<u8>,
+) -> Result<(), Memory>
+    ensures { OnOk result (out.new.items ≡ out.old.items ++ numbers (width_bytes width) (map length (map (name_at names.now) (numbers_in from.now.tokens)))) }
 {
     let mut cursor = from.cursor();
-    let mut found = Found {
-        names: Vec::new(alloc),
-        lengths: Vec::new(alloc),
-        name_bytes: 0,
-    };
     while let Some(token) = cursor.next() {
         if let Label::Number(number) = token.label {
-            let name = names.name_of(number).ok_or(RecordFault::NotARecord)?;
-            found.names.push(name)?;
-            found.lengths.push(name.len())?;
-            found.name_bytes = found.name_bytes.saturating_add(name.len() as u64);
+            put_number(width, name_meant(names, number).len(), out)?;
         }
     }
-    Ok(found)
+    Ok(())
 }
 
-/// A record of form 0 with these names. `NotARecord` comes exactly where it would have 2^32 bytes or more.
-fn with_names(alloc: Global, shared: Shared<'_>, found: &Found<'_>) -> Result<Vec<u8>, RecordFault>
-    requires lengths { found.now.lengths.items ≡ map length (map (λ n. n.now) found.now.names.items) }
-    requires bytes { found.now.name_bytes ≡ min (length (joined (map (λ n. n.now) found.now.names.items))) (2 ^ 64 - 1) }
-    ensures spelled { IfOk result (λ out. out.items ≡ named_record shared.entry.counts.now shared.entry.values.now (map (λ n. n.now) found.now.names.items)) }
-    ensures refused { IsErrOf result RecordFault.NotARecord → 2 ^ 32 ≤ header_size + (length shared.entry.values.now + length (named_slots (map (λ n. n.now) found.now.names.items))) }
+/// Appends the names of a record's numbers. Errs only for want of memory.
+fn put_names(from: &RecordRef<'_>, names: &Names, out: &mut Vec<u8>) -> Result<(), Memory>
+    ensures { OnOk result (out.new.items ≡ out.old.items ++ joined (map (name_at names.now) (numbers_in from.now.tokens))) }
 {
-    let lengths = found.lengths.as_slice();
-    let width = width_of_slots(lengths);
-    let len = (HEADER_SIZE as u64 + shared.values.len() as u64)
-        .saturating_add((lengths.len() * usize::from(width.bytes())) as u64)
-        .saturating_add(found.name_bytes);
-    if len >= 0x1_0000_0000 {
-        return Err(RecordFault::NotARecord);
+    let mut cursor = from.cursor();
+    while let Some(token) = cursor.next() {
+        if let Label::Number(number) = token.label {
+            out.extend_from_slice(name_meant(names, number).as_bytes())?;
+        }
     }
-    let mut out = begin(alloc, len as u32, NAMED_FORM, shared, width)?;
-    put_slots(width, lengths, &mut out)?;
-    put_names(found.names.as_slice(), &mut out)?;
-    Ok(out)
+    Ok(())
 }

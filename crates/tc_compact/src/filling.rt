@@ -1,13 +1,13 @@
 //! A record of form 1, written into bytes that are there.
 
-ghost use Rattle.std.specs.Prelude.{◌≡◌, ◌≤◌, ◌<◌, ◌+◌, ◌^◌, ◌++◌, length, map, take};
+ghost use Rattle.std.specs.Prelude.{◌≡◌, ◌≤◌, ◌<◌, ◌+◌, ◌-◌, ◌^◌, ◌++◌, length, map, take};
 ghost use Rattle.std.specs.Int.{bytes_high_first};
 ghost use Rattle.tc_model.specs.Dictionary.{number as name_number};
 ghost use Rattle.tc_model.specs.KnownNames.{HasNumber, HasEach};
 ghost use Rattle.tc_record.specs.Record.{header_size, numbered_form, numbers};
 ghost use Rattle.tc_record.specs.Widths.{width_bytes};
 ghost use Rattle.tc_compact.specs.Slots.{names_in};
-ghost use Rattle.tc_compact.specs.Layout.{front};
+ghost use Rattle.tc_compact.specs.Layout.{front, counts_place, slot_width_place};
 
 use crate::layout::Shared;
 use tc_names::Names;
@@ -27,7 +27,7 @@ fn put_at(bytes: &[u8], at: usize, into: &mut [u8]) -> usize
 
 /// Writes all of a record of form 1 that stands before its slots, and answers the place behind it.
 pub(crate) fn put_front(shared: Shared<'_>, width: Width, into: &mut [u8]) -> usize
-    requires counts { length shared.counts.now ≡ 17 }
+    requires counts { length shared.counts.now ≡ slot_width_place - counts_place }
     requires room { header_size + length shared.values.now ≤ length into.old }
     requires short { length into.old < 2 ^ 32 }
     ensures place { result ≡ header_size + length shared.entry.values.now }

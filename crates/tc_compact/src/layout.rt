@@ -1,7 +1,7 @@
 //! The parts of a record that both of its forms share, and the parts that differ.
 
-ghost use Rattle.std.specs.Prelude.{◌≡◌, ◌≤◌, ◌+◌, ◌++◌, IfOk, OnOk, length, map};
-ghost use Rattle.tc_record.specs.Record.{header_size, greatest as greatest_of, width as least_width, numbers, joined};
+ghost use Rattle.std.specs.Prelude.{◌≡◌, ◌≤◌, ◌+◌, ◌++◌, IfOk, OnOk, length};
+ghost use Rattle.tc_record.specs.Record.{header_size, greatest as greatest_of, width as least_width, numbers};
 ghost use Rattle.tc_record.specs.Widths.{width_bytes};
 ghost use Rattle.tc_compact.specs.Layout.{front, slot_bytes, counts_in, values_in};
 
@@ -81,16 +81,6 @@ pub(crate) fn put_slots(width: Width, slots: &[usize], out: &mut Vec<u8>) -> Res
 {
     for slot in slots {
         put_number(width, *slot, out)?;
-    }
-    Ok(())
-}
-
-/// Appends names. Errs only for want of memory.
-pub(crate) fn put_names(names: &[&str], out: &mut Vec<u8>) -> Result<(), Memory>
-    ensures { OnOk result (out.new.items ≡ out.old.items ++ joined (map (λ n. n.now) names.now)) }
-{
-    for name in names {
-        out.extend_from_slice(name.as_bytes())?;
     }
     Ok(())
 }

@@ -76,7 +76,7 @@ pub(crate) fn has_room(of: &RecordRef<'_>, names: &Names) -> bool
 }
 
 /// The length of a record of form 0 whose columns before the slots have so many bytes, if it has 32 bits.
-fn len_with_names(values: usize, sum: SlotSum) -> Option<u32>
+pub(crate) fn len_with_names(values: usize, sum: SlotSum) -> Option<u32>
     requires { header_size + values + sum.count * 4 < 2 ^ 63 }
     ensures { result ≡ (if nat_lt (header_size + values + sum.count * least_width sum.count sum.greatest + sum.name_bytes) (2 ^ 32) then Some (header_size + values + sum.count * least_width sum.count sum.greatest + sum.name_bytes) else None) }
 {
