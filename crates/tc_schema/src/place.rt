@@ -7,7 +7,20 @@ ghost use Rattle.tc_schema.specs.Places.{place_counted, below_counted, field_cou
 use crate::counters::Counts;
 use std::alloc::{AllocError, Global};
 
-/// The tag of a union in the format, beside those of the kinds.
+/// The tags of the kinds in the format, which are their numbers.
+pub const NULL_TAG: u8 = 1;
+
+pub const BOOLEAN_TAG: u8 = 2;
+
+pub const INTEGER_TAG: u8 = 3;
+
+pub const TEXT_TAG: u8 = 4;
+
+pub const ARRAY_TAG: u8 = 5;
+
+pub const OBJECT_TAG: u8 = 6;
+
+/// The tag of a union, beside those of the kinds.
 pub const UNION_TAG: u8 = 8;
 
 /// One place of a schema. Where values of several kinds stand there it is a union.

@@ -8,7 +8,9 @@ ghost use Rattle.tc_schema.specs.Reading.{starts, counter_at, scalar_at, item_at
 
 use crate::counters::{Counts, one_if_some};
 use crate::fault::SchemaFault;
-use crate::place::{Field, Node, UNION_TAG};
+use crate::place::{
+    ARRAY_TAG, BOOLEAN_TAG, Field, INTEGER_TAG, NULL_TAG, Node, OBJECT_TAG, TEXT_TAG, UNION_TAG,
+};
 use std::alloc::Global;
 use tc_bytes::{u8_at, u32_at, u64_at};
 use tc_value::Kind;
@@ -101,13 +103,13 @@ fn read_kinds(
 ) -> Result<(Node, &[u8]), SchemaFault>
     ensures { Gives (λ x. (place_counted x.0, x.1.now)) SchemaFault.NotASchema result (kinds_at (place_at names levels) names left bytes.now) }
 {
-    let (nulls, rest) = read_scalar(1, left, bytes).ok_or(SchemaFault::NotASchema)?;
+    let (nulls, rest) = read_scalar(NULL_TAG, left, bytes).ok_or(SchemaFault::NotASchema)?;
     let left = left - one_if_some(nulls);
-    let (booleans, rest) = read_scalar(2, left, rest).ok_or(SchemaFault::NotASchema)?;
+    let (booleans, rest) = read_scalar(BOOLEAN_TAG, left, rest).ok_or(SchemaFault::NotASchema)?;
     let left = left - one_if_some(booleans);
-    let (integers, rest) = read_scalar(3, left, rest).ok_or(SchemaFault::NotASchema)?;
+    let (integers, rest) = read_scalar(INTEGER_TAG, left, rest).ok_or(SchemaFault::NotASchema)?;
     let left = left - one_if_some(integers);
-    let (texts, rest) = read_scalar(4, left, rest).ok_or(SchemaFault::NotASchema)?;
+    let (texts, rest) = read_scalar(TEXT_TAG, left, rest).ok_or(SchemaFault::NotASchema)?;
     let left = left - one_if_some(texts);
     let (arrays, item, rest) = read_array(left, rest, levels, names, alloc)?;
     let left = left - one_if_some(arrays);
@@ -140,7 +142,7 @@ fn read_array(
     ensures gives { Gives (λ x. ((x.0, below_counted x.1), x.2.now)) SchemaFault.NotASchema result (array_at (place_at names levels) left bytes.now) }
     ensures counted { IfOk result (λ x. one_if_some x.0 ≤ left) }
 {
-    if !starts(5, left, bytes) {
+    if !starts(ARRAY_TAG, left, bytes) {
         return Ok((0, None, bytes));
     }
     let (count, rest) = read_counter(&bytes[1..]).ok_or(SchemaFault::NotASchema)?;
@@ -181,7 +183,7 @@ fn read_object(
     ensures gives { Gives (λ x. ((x.0, fields_counted x.1.items), x.2.now)) SchemaFault.NotASchema result (object_at (place_at names levels) names left bytes.now) }
     ensures counted { IfOk result (λ x. one_if_some x.0 ≤ left) }
 {
-    if !starts(6, left, bytes) {
+    if !starts(OBJECT_TAG, left, bytes) {
         return Ok((0, Vec::new(alloc), bytes));
     }
     let (count, rest) = read_counter(&bytes[1..]).ok_or(SchemaFault::NotASchema)?;
