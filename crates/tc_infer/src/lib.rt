@@ -1,8 +1,9 @@
-//! Layer 2, schema: one document more in a schema that was inferred.
+//! Layer 2, schema: one document more in a schema that was inferred, and the names that are new in it.
 #![tactic(auto)]
 
 mod adding;
 mod counting;
+mod fresh;
 mod learning;
 mod looking;
 mod recording;
@@ -11,5 +12,6 @@ mod tokens;
 mod walking;
 
 pub use adding::add;
+pub use fresh::count_fresh;
 pub use recording::add_record;
 pub use tallying::tally;

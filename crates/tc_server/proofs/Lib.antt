@@ -1,5 +1,4 @@
 pub mod SchemaFloats
-pub mod FreshNames
 pub mod StoreLemmas
 pub mod Holding
 pub mod Answering

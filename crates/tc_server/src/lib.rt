@@ -2,7 +2,6 @@
 #![tactic(auto)]
 
 mod answer;
-mod fresh;
 mod outcome;
 mod program;
 mod server;

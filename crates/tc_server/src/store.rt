@@ -18,14 +18,13 @@ ghost use Rattle.tc_plain_model.specs.Part.{lacks_names};
 ghost use Rattle.tc_server.specs.Limited.{empty_under, left_by, reply_by};
 ghost use Rattle.tc_server.specs.Sound.{IsKeptOrEmpty};
 
-use crate::fresh::count_fresh;
 use serde_json::Value;
 use std::alloc::{AllocError, Global};
 use std::collections::BTreeMap;
 use std::marker::Model;
 use tc_anti::{shapes_fit, subtract};
 use tc_command::{Refusal, Reply};
-use tc_infer::add;
+use tc_infer::{add, count_fresh};
 use tc_names::Names;
 use tc_schema::Schema;
 use tc_value::{Doc, Shape};

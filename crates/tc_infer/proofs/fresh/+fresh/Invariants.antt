@@ -5,7 +5,7 @@ use Rattle.tc_value.specs.ShapeMeaning.{shape_tree, shape_member}
 use Rattle.tc_model.specs.TreeSize.{tree_size, trees_size, labelled_size}
 use Rattle.tc_model.specs.ShapeNames.{names_of_items, names_of_members}
 use Rattle.tc_model.specs.Dictionary.{all_learned}
-use Rattle.tc_server.proofs.fresh.+fresh.Given as goal
+use Rattle.tc_infer.proofs.fresh.+fresh.Given as goal
 
 abbrev pub decreases-learn_fresh : goal.decreases-learn_fresh
 decreases-learn_fresh l = 2 * tree_size (shape_tree l.shape.now)

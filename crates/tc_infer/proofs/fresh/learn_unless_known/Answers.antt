@@ -1,6 +1,6 @@
 use Rattle.std.proofs.Common.{◌++◌, ◌∙◌, sym, ap}
-use Rattle.tc_server.proofs.FreshNames.{learned_behind, nothing_learned}
-use Rattle.tc_server.proofs.fresh.learn_unless_known.Goals as goal
+use Rattle.tc_infer.proofs.FreshNames.{learned_behind, nothing_learned}
+use Rattle.tc_infer.proofs.fresh.learn_unless_known.Goals as goal
 
 pub returns-in-Some : goal.returns-in-Some
 returns-in-Some c =
