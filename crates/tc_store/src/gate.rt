@@ -1,6 +1,6 @@
 //! The gate: byte 0 of a file, which is synced as 0 before anything else is written, and becomes 1 once all else is synced.
 
-ghost use Rattle.std.specs.Prelude.{◌≡◌, ◌<◌, ◌≤◌, ◌+◌, [], ◌∷◌, length, max, false, Ok, OnOk, IfOk, IfErr, IfSome, IsErr, IsErrOf};
+ghost use Rattle.std.specs.Prelude.{◌≡◌, ◌<◌, ◌≤◌, ◌+◌, ◌^◌, [], ◌∷◌, length, max, false, Ok, OnOk, IfOk, IfErr, IfSome, IsErr, IsErrOf};
 ghost use Rattle.std.specs.Result.{IsErrAnd};
 ghost use Rattle.tc_store.specs.Counted.{IsCounted, IsCountedRead};
 ghost use Rattle.tc_store.specs.DiskFile.{written, synced_file};
@@ -76,6 +76,7 @@ impl<D: Device> Gated<D> {
         ensures failed { IsErrOf result DeviceFault.Fault → FailsWriting at (length bytes.now) (D.history self.old) (D.history self.new) }
         ensures no_memory { IsErrOf result DeviceFault.Memory → D.history self.new ≡ D.history self.old }
         ensures same_size { IsErrOf result DeviceFault.Memory → D.size self.new ≡ D.size self.old }
+        ensures too_far { 2 ^ 63 ≤ at + length bytes.now → IsErr result }
         ensures name { D.name self.new ≡ D.name self.old }
 
         // At each moment of the call the file is there, and closed.

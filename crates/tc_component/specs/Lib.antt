@@ -1,0 +1,4 @@
+pub mod Layout
+pub mod Spelling
+pub mod Reading
+pub mod Building

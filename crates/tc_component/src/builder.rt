@@ -1,0 +1,230 @@
+//! The component that is written.
+
+ghost use Rattle.std.specs.Prelude.{◌≡◌, ◌<◌, ◌≤◌, ◌+◌, ◌^◌, ◌++◌, ◌∷◌, [], List, true, false, length, option_map, IfSome, IfOk, IfErr, OnOk, OnErr, IsErrOf};
+ghost use Rattle.std.specs.Result.{IsErrAnd};
+ghost use Rattle.tc_store.specs.Counted.{IsCounted};
+ghost use Rattle.tc_store.specs.DiskFile.{settled_file};
+ghost use Rattle.tc_store.specs.Gate.{opened, IsShutOr, IsClosed, IsClosedOrWhole};
+ghost use Rattle.tc_store.specs.Images.{Image};
+ghost use Rattle.tc_store.specs.Moments.{IfTold, LeavesAt, LeavesOnly};
+ghost use Rattle.tc_component.specs.Building.{HasRows, Spools, unheaded, sizes_written as written_sizes};
+ghost use Rattle.tc_component.specs.Layout.{records_place};
+ghost use Rattle.tc_component.specs.Spelling.{Row, held_bytes, records, slots_of, directory as directory_of, file_bytes};
+
+use crate::head::{Head, Sizes, bytes_of_head};
+use crate::layout::{HEAD_LEN, HEAD_PLACE, RECORDS_PLACE, SLOT_LEN};
+use crate::spool::Spool;
+use std::alloc::Global;
+use std::marker::Model;
+use tc_bytes::{put_u32, put_u64};
+use tc_names::Names;
+use tc_schema::Schema;
+use tc_store::{Broken, Device, DeviceFault, Gated};
+
+/// A component that is being written, entry by entry. Contracts see its device, its header, its directory so far, the
+/// bytes that wait to be written, and whether a call failed. Whatever a stop leaves of it is closed.
+#[derive(Drop)]
+pub struct Builder<D: Device> {
+    spool: Spool<D>,
+    head: Head,
+    directory: Vec<u8>,
+    failed: bool,
+    alloc: Global,
+}
+
+impl<D: Device> Model for Builder<D> {
+    ghost use Rattle.std.specs.Prelude.{◌≡◌, ◌≤◌, ◌<◌, ◌^◌, false};
+    ghost use Rattle.tc_component.specs.Building.{BuilderState};
+    ghost use Rattle.tc_component.specs.Layout.{records_place};
+
+    ghost Value = { BuilderState D };
+
+    ghost view = { λ b. record { device = b.spool.gated; head = b.head; directory = b.directory.items; waiting = b.spool.waiting.items; failed = b.failed } };
+
+    ghost invariant = { λ b. b.failed ≡ false → (records_place ≤ b.spool.end) × (b.spool.end < 2 ^ 63) × (b.spool.end ≡ D.size b.spool.gated) };
+}
+
+impl<D: Device> Builder<D> {
+    /// Begins the file of a component: its gate, which is synced, and room for its header.
+    pub fn begin(
+        alloc: Global,
+        device: D,
+        head: Head,
+        watch: &mut D::Watch,
+    ) -> Result<Builder<D>, Broken<D>>
+        requires empty { D.size device ≡ 0 }
+
+        ensures begun { IfOk result (λ builder. HasRows (D.history builder.device) builder []) }
+        ensures head { IfOk result (λ builder. builder.head ≡ head) }
+        ensures not_failed { IfOk result (λ builder. builder.failed ≡ false) }
+        ensures name { IfOk result (λ builder. D.name builder.device ≡ D.name device) }
+        ensures broken_name { IfErr result (λ broken. D.name broken.device ≡ D.name device) }
+
+        // At each moment of the call the file is absent, closed, or the one before.
+        ensures moments { (before : Image) → IfTold (D.history device) (LeavesAt (IsShutOr before))
+            → IfOk result (λ builder. LeavesOnly (IsShutOr before) (D.history device) (D.history builder.device)) }
+        ensures broken_moments { (before : Image) → IfTold (D.history device) (LeavesAt (IsShutOr before))
+            → IfErr result (λ broken. LeavesOnly (IsShutOr before) (D.history device) (D.history broken.device)) }
+
+        ensures counted { IsCounted (IsErrAnd result (λ broken. broken.cause ≡ DeviceFault.Fault)) (D.Watch.counts watch.old) (D.Watch.counts watch.new) }
+    {
+        let mut gated = match Gated::begin(device, watch) {
+            Ok(gated) => gated,
+            Err(broken) => return Err(broken),
+        };
+        match gated.write(HEAD_PLACE as u64, &[0; HEAD_LEN], watch) {
+            Ok(()) => Ok(Builder {
+                spool: Spool {
+                    gated,
+                    end: RECORDS_PLACE,
+                    waiting: Vec::new(alloc),
+                },
+                head,
+                directory: Vec::new(alloc),
+                failed: false,
+                alloc,
+            }),
+            Err(cause) => Err(Broken {
+                device: gated.give_back(),
+                cause,
+            }),
+        }
+    }
+
+    /// Takes an entry behind those before it: a key with its compacted record, or one that is gone. After an `Err` the
+    /// builder has failed, and only its device may be taken back.
+    pub fn push(
+        &mut self,
+        key: u64,
+        record_bytes: Option<&[u8]>,
+        watch: &mut D::Watch,
+    ) -> Result<(), DeviceFault>
+        requires going_on { self.old.failed ≡ false }
+        requires short { IfSome record_bytes (λ bytes. length bytes.now < 2 ^ 32) }
+
+        ensures pushed { OnOk result ((rows : List Row) → HasRows (D.history self.old.device) self.old rows
+            → HasRows (D.history self.new.device) self.new (rows ++ (key, option_map (λ bytes. bytes.now) record_bytes.entry) ∷ [])) }
+        ensures head { self.new.head ≡ self.old.head }
+        ensures not_failed { OnOk result (self.new.failed ≡ false) }
+        ensures failed { OnErr result (self.new.failed ≡ true) }
+        ensures name { D.name self.new.device ≡ D.name self.old.device }
+
+        // At each moment of the call the file is there, and closed.
+        ensures moments { LeavesOnly IsClosed (D.history self.old.device) (D.history self.new.device) }
+
+        ensures counted { IsCounted (IsErrOf result DeviceFault.Fault) (D.Watch.counts watch.old) (D.Watch.counts watch.new) }
+    {
+        let bytes = bytes_held(record_bytes);
+        self.failed = true;
+        put_u64(&mut self.directory, key)?;
+        put_u32(&mut self.directory, bytes.len() as u32)?;
+        self.spool.put(bytes, watch)?;
+        self.failed = false;
+        Ok(())
+    }
+
+    /// Writes what is left, the directory, the names, the schema and the header, and opens the gate.
+    pub fn finish(
+        self,
+        names: &Names,
+        schema: &Schema,
+        watch: &mut D::Watch,
+    ) -> Result<D, Broken<D>>
+        requires { self.failed ≡ false }
+
+        // On Ok the file is whole, and nothing is pending.
+        ensures whole { IfOk result (λ device. (rows : List Row) → HasRows (D.history self.device) self rows
+            → IfTold (D.history device) (λ f. f ≡ settled_file (file_bytes self.head rows names.now schema.now))) }
+        ensures size { IfOk result (λ device. D.size device < 2 ^ 63) }
+        ensures name { IfOk result (λ device. D.name device ≡ D.name self.device) }
+        ensures broken_name { IfErr result (λ broken. D.name broken.device ≡ D.name self.device) }
+
+        // At each moment of the call the file is there, and closed, or whole behind an open gate.
+        ensures moments { (rows : List Row) → HasRows (D.history self.device) self rows
+            → IfOk result (λ device. LeavesOnly (IsClosedOrWhole (file_bytes self.head rows names.now schema.now)) (D.history self.device) (D.history device)) }
+        ensures broken_moments { (rows : List Row) → HasRows (D.history self.device) self rows
+            → IfErr result (λ broken. LeavesOnly (IsClosedOrWhole (file_bytes self.head rows names.now schema.now)) (D.history self.device) (D.history broken.device)) }
+        ensures untold { IfErr result (λ broken. D.history self.device ≡ [] → D.history broken.device ≡ []) }
+
+        ensures counted { IsCounted (IsErrAnd result (λ broken. broken.cause ≡ DeviceFault.Fault)) (D.Watch.counts watch.old) (D.Watch.counts watch.new) }
+    {
+        let Builder {
+            spool,
+            head,
+            directory,
+            failed: _,
+            alloc,
+        } = self;
+        let mut spool = spool;
+        match put_rest(alloc, &mut spool, head, &directory, names, schema, watch) {
+            Ok(()) => spool.gated.open_gate(watch),
+            Err(cause) => Err(Broken {
+                device: spool.gated.give_back(),
+                cause,
+            }),
+        }
+    }
+
+    /// The device, as it is. A stop leaves its file there, and closed.
+    pub fn give_back(self) -> D
+        ensures same { result ≡ self.device }
+        ensures closed { IfTold (D.history result) (LeavesAt IsClosed) }
+    {
+        self.spool.gated.give_back()
+    }
+}
+
+/// The bytes of the record of an entry, which are none where it is gone.
+fn bytes_held(record_bytes: Option<&[u8]>) -> &[u8]
+    ensures { result.now ≡ held_bytes (option_map (λ bytes. bytes.now) record_bytes.entry) }
+{
+    match record_bytes {
+        Some(bytes) => bytes,
+        None => &[],
+    }
+}
+
+/// Writes all but the gate: the records that wait, the directory, the names, the schema, and then the header.
+fn put_rest<D: Device>(
+    alloc: Global,
+    spool: &mut Spool<D>,
+    head: Head,
+    directory: &[u8],
+    names: &Names,
+    schema: &Schema,
+    watch: &mut D::Watch,
+) -> Result<(), DeviceFault>
+    requires begun { records_place ≤ spool.old.end }
+    requires short { spool.old.end < 2 ^ 63 }
+    requires sized { spool.old.end ≡ D.size spool.old.gated }
+
+    ensures whole { OnOk result ((rows : List Row) → directory.now ≡ directory_of (slots_of rows) → Spools (D.history spool.old.gated) spool.old.waiting.items (unheaded (records rows))
+        → IfTold (D.history spool.new.gated) (λ f. opened f.content ≡ file_bytes head rows names.now schema.now)) }
+    ensures size { OnOk result (D.size spool.new.gated < 2 ^ 63) }
+    ensures name { D.name spool.new.gated ≡ D.name spool.old.gated }
+    ensures moments { LeavesOnly IsClosed (D.history spool.old.gated) (D.history spool.new.gated) }
+    ensures counted { IsCounted (IsErrOf result DeviceFault.Fault) (D.Watch.counts watch.old) (D.Watch.counts watch.new) }
+{
+    let section = names.to_bytes(alloc)?;
+    let schema_bytes = schema.to_bytes(alloc)?;
+    let named = section.as_slice();
+    let counted = schema_bytes.as_slice();
+    let sizes = sizes_written(spool.len() - RECORDS_PLACE, directory, named, counted);
+    let front = bytes_of_head(alloc, head, sizes)?;
+    spool.put(directory, watch)?;
+    spool.put(named, watch)?;
+    spool.put(counted, watch)?;
+    spool.flush(watch)?;
+    spool.gated.write(HEAD_PLACE as u64, &front, watch)
+}
+
+fn sizes_written(records: u64, directory: &[u8], named: &[u8], counted: &[u8]) -> Sizes
+    ensures { result ≡ written_sizes records directory.now named.now counted.now }
+{
+    Sizes {
+        records,
+        entries: (directory.len() / SLOT_LEN) as u64,
+        names: named.len() as u64,
+        schema: counted.len() as u64,
+    }
+}

@@ -1,0 +1,47 @@
+//! The slots of a directory.
+
+ghost use Rattle.std.specs.Prelude.{◌≡◌, option_map};
+ghost use Rattle.std.specs.Int.{w32, w64};
+ghost use Rattle.tc_bytes.specs.Reading.{number_at, passing_at};
+ghost use Rattle.tc_component.specs.Reading.{is_key, is_length, slot_at};
+
+use crate::layout::{LEAST_RECORD, MAX_NUMBER};
+use tc_bytes::{u32_at, u64_at};
+
+/// What a directory has of an entry: its key, and how many bytes its record has, which are none where it is gone.
+#[derive(Clone, Copy, Debug, PartialEq, Eq)]
+pub struct Slot {
+    pub key: u64,
+    pub length: u32,
+}
+
+/// A slot from the front of the bytes.
+pub(crate) fn slot_in(bytes: &[u8]) -> Option<(Slot, &[u8])>
+    ensures { option_map (λ x. (x.0, x.1.now)) result ≡ slot_at bytes.now }
+{
+    let (key, rest) = key_in(bytes)?;
+    let (length, rest) = length_in(rest)?;
+    Some((Slot { key, length }, rest))
+}
+
+fn key_in(bytes: &[u8]) -> Option<(u64, &[u8])>
+    ensures { option_map (λ x. (x.0, x.1.now)) result ≡ passing_at is_key (number_at w64) bytes.now }
+{
+    let (key, rest) = u64_at(bytes)?;
+    if key <= MAX_NUMBER {
+        Some((key, rest))
+    } else {
+        None
+    }
+}
+
+fn length_in(bytes: &[u8]) -> Option<(u32, &[u8])>
+    ensures { option_map (λ x. (x.0, x.1.now)) result ≡ passing_at is_length (number_at w32) bytes.now }
+{
+    let (length, rest) = u32_at(bytes)?;
+    if length == 0 || length >= LEAST_RECORD {
+        Some((length, rest))
+    } else {
+        None
+    }
+}
