@@ -1,3 +1,9 @@
 mod Written
 mod Closing
 mod FileRows
+mod Heads
+mod Directories
+mod ColumnLaws
+mod Sections
+mod Fronts
+mod Files

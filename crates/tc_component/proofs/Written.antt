@@ -35,7 +35,7 @@ pushed_records rows key held =
 
 -- ---- the whole file
 
-directory_length : (slots : List Slot) → length (directory slots) ≡ length slots * 12
+pub directory_length : (slots : List Slot) → length (directory slots) ≡ length slots * 12
 directory_length [] = refl
 directory_length (s ∷ slots) =
     let one : length (slot_bytes s) ≡ 12 = refl in omega (arith, length-append (slot_bytes s) (directory slots), one, directory_length slots)

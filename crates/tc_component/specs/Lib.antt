@@ -2,3 +2,5 @@ pub mod Layout
 pub mod Spelling
 pub mod Reading
 pub mod Building
+pub mod Columns
+pub mod Loading

@@ -2,8 +2,10 @@
 #![tactic(auto)]
 
 mod builder;
+mod directory;
 mod head;
 mod layout;
+mod reading;
 mod slot;
 mod spool;
 

@@ -1,8 +1,9 @@
 //! The slots of a directory.
 
-ghost use Rattle.std.specs.Prelude.{◌≡◌, option_map};
+ghost use Rattle.std.specs.Prelude.{◌≡◌, ◌<◌, option_map, IfSome};
 ghost use Rattle.std.specs.Int.{w32, w64};
 ghost use Rattle.tc_bytes.specs.Reading.{number_at, passing_at};
+ghost use Rattle.tc_component.specs.Layout.{number_end};
 ghost use Rattle.tc_component.specs.Reading.{is_key, is_length, slot_at};
 
 use crate::layout::{LEAST_RECORD, MAX_NUMBER};
@@ -17,7 +18,8 @@ pub struct Slot {
 
 /// A slot from the front of the bytes.
 pub(crate) fn slot_in(bytes: &[u8]) -> Option<(Slot, &[u8])>
-    ensures { option_map (λ x. (x.0, x.1.now)) result ≡ slot_at bytes.now }
+    ensures slot { option_map (λ x. (x.0, x.1.now)) result ≡ slot_at bytes.now }
+    ensures small { IfSome result (λ x. x.0.key < number_end) }
 {
     let (key, rest) = key_in(bytes)?;
     let (length, rest) = length_in(rest)?;
@@ -25,7 +27,8 @@ pub(crate) fn slot_in(bytes: &[u8]) -> Option<(Slot, &[u8])>
 }
 
 fn key_in(bytes: &[u8]) -> Option<(u64, &[u8])>
-    ensures { option_map (λ x. (x.0, x.1.now)) result ≡ passing_at is_key (number_at w64) bytes.now }
+    ensures key { option_map (λ x. (x.0, x.1.now)) result ≡ passing_at is_key (number_at w64) bytes.now }
+    ensures small { IfSome result (λ x. x.0 < number_end) }
 {
     let (key, rest) = u64_at(bytes)?;
     if key <= MAX_NUMBER {

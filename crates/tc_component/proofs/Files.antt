@@ -1,0 +1,188 @@
+-- The laws of whole components: what is spelled is read, and what is read is spelled so.
+use Rattle.std.proofs.Common.{◌≡◌, ◌∙◌, ◌<◌, ◌≤◌, ◌+◌, ◌*◌, ◌==◌, ◌&&◌, ℕ, Bool, true, false, List, [], ◌∷◌, ◌++◌, Some, Result, Ok, length, take, drop, refl, sym, ap, subst, arith, append_assoc, append-nil, length-append}
+use Rattle.std.proofs.lemmas.Bool.{eqb-true}
+use Rattle.std.proofs.lemmas.Bool.Decides.{nat_tests}
+use Rattle.std.proofs.lemmas.List.{nil_from_length, take_at, drop_at}
+use Rattle.tc_bytes.specs.Codec.{IsBytes, IsCodec}
+use Rattle.tc_bytes.specs.Reading.{passing_at}
+use Rattle.tc_bytes.proofs.Codecs.{passing_codec}
+use Rattle.tc_bytes.proofs.Fields.{IsBytes-drop, IsBytes-take}
+use Rattle.tc_bytes.proofs.Whole.{whole_found}
+use Rattle.tc_model.specs.Document.{Name}
+use Rattle.tc_model.specs.Dictionary.{IsDictionary}
+use Rattle.tc_names.specs.Section.{section, read_section}
+use Rattle.tc_names.proofs.Spelling.{dictionary_codec}
+use Rattle.tc_schema_model.specs.Counted.{Counted}
+use Rattle.tc_schema_model.specs.SchemaTree.{schema_tree}
+use Rattle.tc_schema_model.specs.SchemaBytes.{schema_bytes, IsSchema}
+use Rattle.tc_schema.specs.Reading.{read_schema}
+use Rattle.tc_schema.proofs.SchemaCodec.{schema_found}
+use Rattle.tc_store.specs.Judging.{Damage, damage, or_damage, judged_then}
+use Rattle.tc_store.specs.declared.file_name.FileName.{FileName}
+use Rattle.tc_store.specs.declared.file_name.FileName.TheVariants.{Component, Log}
+use Rattle.tc_store.proofs.Judged.{judged_parts, or_damage_parts, same_Ok}
+use Rattle.tc_component.specs.declared.head.Head.{Head}
+use Rattle.tc_component.specs.declared.head.Sizes.{Sizes}
+use Rattle.tc_component.specs.declared.slot.Slot.{Slot}
+use Rattle.tc_component.specs.Layout.{number_end, directory_place, names_place, schema_place, file_size}
+use Rattle.tc_component.specs.Spelling.{head_bytes, IsHead, directory, lengths_of, Content, sizes_of, content_bytes, IsContent, name_of, Holds}
+use Rattle.tc_component.specs.Reading.{head_at, is_named, is_header_of, front_of, front_judged, directory_read, rest_judged, file_judged}
+use Rattle.tc_component.proofs.Written.{directory_length}
+use Rattle.tc_component.proofs.Sections.{names_read, schema_read}
+use Rattle.tc_component.proofs.Heads.{AreSizes, head_codec}
+use Rattle.tc_component.proofs.Directories.{DirectoryFound, directory_found, directory_again}
+
+-- ---- headers
+
+named_codec : (name : FileName) (size : ℕ) → IsCodec (passing_at (is_header_of name size) head_at) (λ h. head_bytes h.0 h.1) (λ h. (IsHead h.0 × AreSizes h.1) × (is_header_of name size h ≡ true))
+named_codec name size = passing_codec (is_header_of name size) head_codec
+
+-- a header that is one of a file of this name and this length
+pub record FrontFound (name : FileName) (size : ℕ) (front : List ℕ) (h : Head × Sizes) : Type 0 where
+  pub head : IsHead h.0
+  pub sizes : AreSizes h.1
+  pub named : name ≡ name_of h.0
+  pub sized : file_size h.1 ≡ size
+  pub spelled : front ≡ head_bytes h.0 h.1
+
+both_true : (a b : Bool) → (a && b) ≡ true → (a ≡ true) × (b ≡ true)
+both_true true b is = (refl, is)
+both_true false b is = absurd (cc)
+
+true_both : (a b : Bool) → a ≡ true → b ≡ true → (a && b) ≡ true
+true_both a b one two = rw (one, two) refl
+
+eqb-same : (a b : ℕ) → a ≡ b → (a == b) ≡ true
+eqb-same a b same = grind (arith, nat_tests)
+
+name_is : (name : FileName) (head : Head) → is_named name head ≡ true → name ≡ name_of head
+name_is (Component from to) head is =
+    let both = both_true (head.from == from) (head.to == to) is in
+    rw (eqb-true head.from from both.0, eqb-true head.to to both.1) refl
+name_is (Log generation) head is = absurd (cc)
+
+name_test : (head : Head) → is_named (name_of head) head ≡ true
+name_test head = true_both (head.from == head.from) (head.to == head.to) (eqb-same head.from head.from refl) (eqb-same head.to head.to refl)
+
+head_length : (head : Head) (sizes : Sizes) → length (head_bytes head sizes) ≡ 60
+head_length head sizes = refl
+
+pub front_found : (name : FileName) (size : ℕ) (front : List ℕ) (h : Head × Sizes) → IsBytes front → length front ≤ 60 → front_judged name size front ≡ Ok h → FrontFound name size front h
+front_found name size front h each short judged =
+    let parts = judged_parts (or_damage (passing_at (is_header_of name size) head_at front) (damage 1 front)) _ h judged in
+    let here = (named_codec name size).found front parts.0.0 parts.0.1 each (or_damage_parts (passing_at (is_header_of name size) head_at front) (damage 1 front) parts.0 parts.1) in
+    let none : parts.0.1 ≡ [] = nil_from_length parts.0.1 (omega (arith, ap length here.0, length-append (head_bytes parts.0.0.0 parts.0.0.1) parts.0.1, head_length parts.0.0.0 parts.0.0.1, short)) in
+    let tests = both_true (is_named name parts.0.0.0) (file_size parts.0.0.1 == size) here.2.1 in
+    subst (FrontFound name size front) (same_Ok _ h parts.2) (record {
+      head = here.2.0.0;
+      sizes = here.2.0.1;
+      named = name_is name parts.0.0.0 tests.0;
+      sized = eqb-true (file_size parts.0.0.1) size tests.1;
+      spelled = here.0 ∙ ap (λ (rest : List ℕ). head_bytes parts.0.0.0 parts.0.0.1 ++ rest) none ∙ append-nil (head_bytes parts.0.0.0 parts.0.0.1);
+    })
+
+pub front_again : (name : FileName) (size : ℕ) (front : List ℕ) (h : Head × Sizes) → FrontFound name size front h → front_judged name size front ≡ Ok h
+front_again name size front h is =
+    let test : is_header_of name size h ≡ true = true_both (is_named name h.0) (file_size h.1 == size) (rw is.named (name_test h.0)) (eqb-same (file_size h.1) size is.sized) in
+    let read : passing_at (is_header_of name size) head_at (head_bytes h.0 h.1 ++ []) ≡ Some (h, []) = (named_codec name size).again h [] ((is.head, is.sizes), test) in
+    rw (is.spelled ∙ sym (append-nil (head_bytes h.0 h.1)), read) refl
+
+-- ---- what stands behind the records
+
+pub record RestFound (h : Head × Sizes) (rest : List ℕ) (c : Content) : Type 0 where
+  pub head : c.head ≡ h.0
+  pub slots : DirectoryFound h.1.entries h.1.records (take (h.1.entries * 12) rest) c.slots
+  pub names_are : IsDictionary c.names
+  pub names : take h.1.names (drop (h.1.entries * 12) rest) ≡ section c.names
+  pub schema_is : IsSchema (length c.names) c.schema
+  pub schema : drop (h.1.entries * 12 + h.1.names) rest ≡ schema_bytes (schema_tree c.schema)
+
+pub rest_found : (h : Head × Sizes) (rest : List ℕ) (c : Content) → IsBytes rest → rest_judged h rest ≡ Ok c → RestFound h rest c
+rest_found h rest c each judged =
+    let own = take (h.1.entries * 12) rest in
+    let named = take h.1.names (drop (h.1.entries * 12) rest) in
+    let counted = drop (h.1.entries * 12 + h.1.names) rest in
+    let one = judged_parts (or_damage (directory_read h.1.entries h.1.records [] own) (damage (directory_place h.1) own)) _ c judged in
+    let two = judged_parts (or_damage (read_section named) (damage (names_place h.1) named)) _ c one.2 in
+    let three = judged_parts (or_damage (read_schema (length two.0) counted) (damage (schema_place h.1) counted)) _ c two.2 in
+    let slots = directory_found h.1.entries h.1.records own one.0 (IsBytes-take (h.1.entries * 12) rest each) (or_damage_parts (directory_read h.1.entries h.1.records [] own) _ one.0 one.1) in
+    let names = whole_found dictionary_codec named two.0 (IsBytes-take h.1.names (drop (h.1.entries * 12) rest) (IsBytes-drop (h.1.entries * 12) rest each)) (or_damage_parts (read_section named) _ two.0 two.1) in
+    let schema = schema_found (length two.0) counted three.0 names.1.few (IsBytes-drop (h.1.entries * 12 + h.1.names) rest each) (or_damage_parts (read_schema (length two.0) counted) _ three.0 three.1) in
+    subst (RestFound h rest) (same_Ok _ c three.2) (record { head = refl; slots = slots; names_are = names.1; names = names.0; schema_is = schema.1; schema = schema.0 })
+
+rest_read : (h : Head × Sizes) (rest : List ℕ) (slots : List Slot) (names : List Name) (schema : Counted) → directory_read h.1.entries h.1.records [] (take (h.1.entries * 12) rest) ≡ Some slots
+    → read_section (take h.1.names (drop (h.1.entries * 12) rest)) ≡ Some names → read_schema (length names) (drop (h.1.entries * 12 + h.1.names) rest) ≡ Some schema
+    → rest_judged h rest ≡ Ok (record { head = h.0; slots = slots; names = names; schema = schema })
+rest_read h rest slots names schema one two three = rw (one, two, three) refl
+
+pub rest_again : (h : Head × Sizes) (rest : List ℕ) (c : Content) → RestFound h rest c → rest_judged h rest ≡ Ok c
+rest_again h rest c is =
+    let one : directory_read h.1.entries h.1.records [] (take (h.1.entries * 12) rest) ≡ Some c.slots =
+    subst (λ (count : ℕ). directory_read count h.1.records [] (take (h.1.entries * 12) rest) ≡ Some c.slots) is.slots.count_is
+    (ap (directory_read (length c.slots) h.1.records []) is.slots.spelled ∙ directory_again h.1.records c.slots is.slots.each is.slots.ascend is.slots.sum) in
+    let two : read_section (take h.1.names (drop (h.1.entries * 12) rest)) ≡ Some c.names = names_read (take h.1.names (drop (h.1.entries * 12) rest)) c.names is.names is.names_are in
+    let three : read_schema (length c.names) (drop (h.1.entries * 12 + h.1.names) rest) ≡ Some c.schema = ap (read_schema (length c.names)) is.schema ∙ schema_read (length c.names) (schema_bytes (schema_tree c.schema)) c.schema is.names_are.few refl is.schema_is in
+    rest_read h rest c.slots c.names c.schema one two three ∙ ap (λ (head : Head). Ok (record { head = head; slots = c.slots; names = c.names; schema = c.schema })) (sym is.head)
+
+-- ---- whole files
+
+sizes_in : Content → Sizes
+sizes_in c = sizes_of c.slots c.names c.schema
+
+-- a content's parts behind its records
+behind : Content → List ℕ
+behind c = directory c.slots ++ (section c.names ++ schema_bytes (schema_tree c.schema))
+
+content_length : (c : Content) (rs : List ℕ) → length rs ≡ lengths_of c.slots → length (content_bytes c rs) ≡ file_size (sizes_in c)
+unfolding sizes_in
+content_length c rs sized =
+    let ds = directory c.slots in
+    let ns = section c.names in
+    let ss = schema_bytes (schema_tree c.schema) in
+    let hs = head_bytes c.head (sizes_of c.slots c.names c.schema) in
+    omega (arith, sized, head_length c.head (sizes_of c.slots c.names c.schema), directory_length c.slots, length-append hs (rs ++ (ds ++ (ns ++ ss))), length-append rs (ds ++ (ns ++ ss)), length-append ds (ns ++ ss), length-append ns ss)
+
+front_spelled : (c : Content) (rs : List ℕ) → front_of (content_bytes c rs) ≡ head_bytes c.head (sizes_in c)
+unfolding sizes_in
+front_spelled c rs = take_at (head_bytes c.head (sizes_of c.slots c.names c.schema)) (rs ++ (directory c.slots ++ (section c.names ++ schema_bytes (schema_tree c.schema)))) 60 (head_length c.head (sizes_of c.slots c.names c.schema))
+
+rest_spelled : (c : Content) (rs : List ℕ) → length rs ≡ lengths_of c.slots → drop (directory_place (sizes_in c)) (content_bytes c rs) ≡ behind c
+unfolding sizes_in behind
+rest_spelled c rs sized =
+    let hs = head_bytes c.head (sizes_of c.slots c.names c.schema) in
+    let front = (1 ∷ hs) ++ rs in
+    let all : content_bytes c rs ≡ front ++ (directory c.slots ++ (section c.names ++ schema_bytes (schema_tree c.schema))) = sym (append_assoc (1 ∷ hs) rs (directory c.slots ++ (section c.names ++ schema_bytes (schema_tree c.schema)))) in
+    ap (drop (61 + lengths_of c.slots)) all ∙ drop_at front (directory c.slots ++ (section c.names ++ schema_bytes (schema_tree c.schema))) (61 + lengths_of c.slots)
+    (omega (arith, sized, length-append (1 ∷ hs) rs, head_length c.head (sizes_of c.slots c.names c.schema)))
+
+rest_of_content : (c : Content) → IsContent c → RestFound (c.head, sizes_in c) (behind c) c
+unfolding sizes_in behind
+rest_of_content c is =
+    let ds = directory c.slots in
+    let ns = section c.names in
+    let ss = schema_bytes (schema_tree c.schema) in
+    let long : length ds ≡ length c.slots * 12 = directory_length c.slots in
+    record {
+      head = refl;
+      slots = record { spelled = take_at ds (ns ++ ss) (length c.slots * 12) long; count_is = refl; each = is.each; ascend = is.ascend; sum = refl };
+      names_are = is.names;
+      names = ap (take (length ns)) (drop_at ds (ns ++ ss) (length c.slots * 12) long) ∙ take_at ns ss (length ns) refl;
+      schema_is = is.schema;
+      schema = ap (drop (length c.slots * 12 + length ns)) (sym (append_assoc ds ns ss)) ∙ drop_at (ds ++ ns) ss (length c.slots * 12 + length ns) (omega (arith, long, length-append ds ns));
+    }
+
+-- what is spelled is read
+pub judged_spelled : (name : FileName) (bytes : List ℕ) (c : Content) → Holds bytes c → name ≡ name_of c.head → file_judged name bytes ≡ Ok c
+judged_spelled name bytes c holds named =
+    let rs = holds.records in
+    let long : length bytes ≡ file_size (sizes_in c) = ap length holds.spelled ∙ content_length c rs holds.sized in
+    let front : front_of bytes ≡ head_bytes c.head (sizes_in c) = ap front_of holds.spelled ∙ front_spelled c rs in
+    let small : AreSizes (sizes_in c) = small_sizes (sizes_in c) (length bytes) long holds.short in
+    let one : front_judged name (length bytes) (front_of bytes) ≡ Ok (c.head, sizes_in c) =
+    front_again name (length bytes) (front_of bytes) (c.head, sizes_in c) (record { head = holds.is.head; sizes = small; named = named; sized = sym long; spelled = front }) in
+    let rest : drop (directory_place (sizes_in c)) bytes ≡ behind c = ap (drop (directory_place (sizes_in c))) holds.spelled ∙ rest_spelled c rs holds.sized in
+    let two : rest_judged (c.head, sizes_in c) (drop (directory_place (sizes_in c)) bytes) ≡ Ok c = ap (rest_judged (c.head, sizes_in c)) rest ∙ rest_again (c.head, sizes_in c) (behind c) c (rest_of_content c holds.is) in
+    ap (λ (r : Result (Head × Sizes) Damage). judged_then r (λ h. rest_judged h (drop (directory_place h.1) bytes))) one ∙ two
+  where
+    small_sizes : (sizes : Sizes) (size : ℕ) → size ≡ file_size sizes → size < number_end → AreSizes sizes
+    small_sizes sizes size is short = record { records = omega (arith, is, short); entries = omega (arith, is, short); names = omega (arith, is, short); schema = omega (arith, is, short) }
