@@ -12,6 +12,7 @@ use Rattle.tc_bytes.proofs.Codecs.{then_parts, restated_codec, mapped_codec, pas
 use Rattle.tc_bytes.proofs.Fields.{number_codec_32, number_codec_64}
 use Rattle.tc_bytes.proofs.Lists.{elements_codec}
 use Rattle.tc_bytes.proofs.Whole.{whole_found, whole_again}
+use Rattle.tc_component.specs.Found.{DirectoryFound}
 use Rattle.tc_component.specs.declared.slot.Slot.{Slot}
 use Rattle.tc_component.specs.Layout.{number_end, least_record}
 use Rattle.tc_component.specs.Spelling.{slot, slot_bytes, directory, lengths_of, IsSlot, Ascend}
@@ -108,13 +109,6 @@ ascends_from low (s ∷ slots) starts sorted = (starts, ascends_from (s.key + 1)
     next (t ∷ slots) less = let below = nat_cmp_less s.key t.key less.0 in omega arith
 
 -- ---- whole directories
-
-pub record DirectoryFound (count records : ℕ) (bytes : List ℕ) (slots : List Slot) : Type 0 where
-  pub spelled : bytes ≡ directory slots
-  pub count_is : length slots ≡ count
-  pub each : AllByRecursion IsSlot slots
-  pub ascend : Ascend slots
-  pub sum : lengths_of slots ≡ records
 
 total_parts : (records : ℕ) (read slots : List Slot) → (if is_total records read then Some read else None) ≡ Some slots → (read ≡ slots) × (lengths_of read ≡ records)
 total_parts records read slots gives = grind (arith, nat_tests)

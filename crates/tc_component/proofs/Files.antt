@@ -9,41 +9,33 @@ use Rattle.tc_bytes.proofs.Codecs.{passing_codec}
 use Rattle.tc_bytes.proofs.Fields.{IsBytes-drop, IsBytes-take}
 use Rattle.tc_bytes.proofs.Whole.{whole_found}
 use Rattle.tc_model.specs.Document.{Name}
-use Rattle.tc_model.specs.Dictionary.{IsDictionary}
 use Rattle.tc_names.specs.Section.{section, read_section}
 use Rattle.tc_names.proofs.Spelling.{dictionary_codec}
 use Rattle.tc_schema_model.specs.Counted.{Counted}
 use Rattle.tc_schema_model.specs.SchemaTree.{schema_tree}
-use Rattle.tc_schema_model.specs.SchemaBytes.{schema_bytes, IsSchema}
+use Rattle.tc_schema_model.specs.SchemaBytes.{schema_bytes}
 use Rattle.tc_schema.specs.Reading.{read_schema}
 use Rattle.tc_schema.proofs.SchemaCodec.{schema_found}
 use Rattle.tc_store.specs.Judging.{Damage, damage, or_damage, judged_then}
 use Rattle.tc_store.specs.declared.file_name.FileName.{FileName}
 use Rattle.tc_store.specs.declared.file_name.FileName.TheVariants.{Component, Log}
 use Rattle.tc_store.proofs.Judged.{judged_parts, or_damage_parts, same_Ok}
+use Rattle.tc_component.specs.Found.{AreSizes, FrontFound, RestFound}
 use Rattle.tc_component.specs.declared.head.Head.{Head}
 use Rattle.tc_component.specs.declared.head.Sizes.{Sizes}
 use Rattle.tc_component.specs.declared.slot.Slot.{Slot}
 use Rattle.tc_component.specs.Layout.{number_end, directory_place, names_place, schema_place, file_size}
-use Rattle.tc_component.specs.Spelling.{head_bytes, IsHead, directory, lengths_of, Content, sizes_of, content_bytes, IsContent, name_of, Holds}
+use Rattle.tc_component.specs.Spelling.{head_bytes, IsHead, directory, lengths_of, Content, sizes_of, sizes_in, content_bytes, IsContent, name_of, Holds}
 use Rattle.tc_component.specs.Reading.{head_at, is_named, is_header_of, front_of, front_judged, directory_read, rest_judged, file_judged}
 use Rattle.tc_component.proofs.Written.{directory_length}
 use Rattle.tc_component.proofs.Sections.{names_read, schema_read}
-use Rattle.tc_component.proofs.Heads.{AreSizes, head_codec}
-use Rattle.tc_component.proofs.Directories.{DirectoryFound, directory_found, directory_again}
+use Rattle.tc_component.proofs.Heads.{head_codec}
+use Rattle.tc_component.proofs.Directories.{directory_found, directory_again}
 
 -- ---- headers
 
 named_codec : (name : FileName) (size : ℕ) → IsCodec (passing_at (is_header_of name size) head_at) (λ h. head_bytes h.0 h.1) (λ h. (IsHead h.0 × AreSizes h.1) × (is_header_of name size h ≡ true))
 named_codec name size = passing_codec (is_header_of name size) head_codec
-
--- a header that is one of a file of this name and this length
-pub record FrontFound (name : FileName) (size : ℕ) (front : List ℕ) (h : Head × Sizes) : Type 0 where
-  pub head : IsHead h.0
-  pub sizes : AreSizes h.1
-  pub named : name ≡ name_of h.0
-  pub sized : file_size h.1 ≡ size
-  pub spelled : front ≡ head_bytes h.0 h.1
 
 both_true : (a b : Bool) → (a && b) ≡ true → (a ≡ true) × (b ≡ true)
 both_true true b is = (refl, is)
@@ -64,7 +56,7 @@ name_is (Log generation) head is = absurd (cc)
 name_test : (head : Head) → is_named (name_of head) head ≡ true
 name_test head = true_both (head.from == head.from) (head.to == head.to) (eqb-same head.from head.from refl) (eqb-same head.to head.to refl)
 
-head_length : (head : Head) (sizes : Sizes) → length (head_bytes head sizes) ≡ 60
+pub head_length : (head : Head) (sizes : Sizes) → length (head_bytes head sizes) ≡ 60
 head_length head sizes = refl
 
 pub front_found : (name : FileName) (size : ℕ) (front : List ℕ) (h : Head × Sizes) → IsBytes front → length front ≤ 60 → front_judged name size front ≡ Ok h → FrontFound name size front h
@@ -88,14 +80,6 @@ front_again name size front h is =
     rw (is.spelled ∙ sym (append-nil (head_bytes h.0 h.1)), read) refl
 
 -- ---- what stands behind the records
-
-pub record RestFound (h : Head × Sizes) (rest : List ℕ) (c : Content) : Type 0 where
-  pub head : c.head ≡ h.0
-  pub slots : DirectoryFound h.1.entries h.1.records (take (h.1.entries * 12) rest) c.slots
-  pub names_are : IsDictionary c.names
-  pub names : take h.1.names (drop (h.1.entries * 12) rest) ≡ section c.names
-  pub schema_is : IsSchema (length c.names) c.schema
-  pub schema : drop (h.1.entries * 12 + h.1.names) rest ≡ schema_bytes (schema_tree c.schema)
 
 pub rest_found : (h : Head × Sizes) (rest : List ℕ) (c : Content) → IsBytes rest → rest_judged h rest ≡ Ok c → RestFound h rest c
 rest_found h rest c each judged =
@@ -126,15 +110,11 @@ rest_again h rest c is =
 
 -- ---- whole files
 
-sizes_in : Content → Sizes
-sizes_in c = sizes_of c.slots c.names c.schema
-
 -- a content's parts behind its records
 behind : Content → List ℕ
 behind c = directory c.slots ++ (section c.names ++ schema_bytes (schema_tree c.schema))
 
 content_length : (c : Content) (rs : List ℕ) → length rs ≡ lengths_of c.slots → length (content_bytes c rs) ≡ file_size (sizes_in c)
-unfolding sizes_in
 content_length c rs sized =
     let ds = directory c.slots in
     let ns = section c.names in
@@ -143,11 +123,10 @@ content_length c rs sized =
     omega (arith, sized, head_length c.head (sizes_of c.slots c.names c.schema), directory_length c.slots, length-append hs (rs ++ (ds ++ (ns ++ ss))), length-append rs (ds ++ (ns ++ ss)), length-append ds (ns ++ ss), length-append ns ss)
 
 front_spelled : (c : Content) (rs : List ℕ) → front_of (content_bytes c rs) ≡ head_bytes c.head (sizes_in c)
-unfolding sizes_in
 front_spelled c rs = take_at (head_bytes c.head (sizes_of c.slots c.names c.schema)) (rs ++ (directory c.slots ++ (section c.names ++ schema_bytes (schema_tree c.schema)))) 60 (head_length c.head (sizes_of c.slots c.names c.schema))
 
 rest_spelled : (c : Content) (rs : List ℕ) → length rs ≡ lengths_of c.slots → drop (directory_place (sizes_in c)) (content_bytes c rs) ≡ behind c
-unfolding sizes_in behind
+unfolding behind
 rest_spelled c rs sized =
     let hs = head_bytes c.head (sizes_of c.slots c.names c.schema) in
     let front = (1 ∷ hs) ++ rs in
@@ -156,7 +135,7 @@ rest_spelled c rs sized =
     (omega (arith, sized, length-append (1 ∷ hs) rs, head_length c.head (sizes_of c.slots c.names c.schema)))
 
 rest_of_content : (c : Content) → IsContent c → RestFound (c.head, sizes_in c) (behind c) c
-unfolding sizes_in behind
+unfolding behind
 rest_of_content c is =
     let ds = directory c.slots in
     let ns = section c.names in

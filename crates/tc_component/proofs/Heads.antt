@@ -7,6 +7,7 @@ use Rattle.tc_bytes.specs.Codec.{IsBytes, IsCodec}
 use Rattle.tc_bytes.specs.Reading.{number_at, passing_at}
 use Rattle.tc_bytes.proofs.Codecs.{then_parts, passing_codec, pair_codec}
 use Rattle.tc_bytes.proofs.Fields.{number_codec_32, number_codec_64}
+use Rattle.tc_component.specs.Found.{AreSizes}
 use Rattle.tc_component.specs.declared.head.Head.{Head}
 use Rattle.tc_component.specs.declared.head.Sizes.{Sizes}
 use Rattle.tc_component.specs.Layout.{number_end}
@@ -14,13 +15,6 @@ use Rattle.tc_component.specs.Spelling.{magic, sizes_bytes, head_bytes, IsHead}
 use Rattle.tc_component.specs.Reading.{is_magic, is_interval, interval_at, sizes_at, head_at}
 
 -- ---- sizes
-
--- each has 64 bits
-pub record AreSizes (sizes : Sizes) : Type 0 where
-  pub records : sizes.records < 2 ^ 64
-  pub entries : sizes.entries < 2 ^ 64
-  pub names : sizes.names < 2 ^ 64
-  pub schema : sizes.schema < 2 ^ 64
 
 four_parts : (a b c d rest : List ℕ) → (a ++ (b ++ (c ++ d))) ++ rest ≡ a ++ (b ++ (c ++ (d ++ rest)))
 four_parts a b c d rest =

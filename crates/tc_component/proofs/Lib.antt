@@ -7,3 +7,5 @@ mod ColumnLaws
 mod Sections
 mod Fronts
 mod Files
+mod Loaded
+mod Lookups

@@ -1,15 +1,36 @@
 -- What is loaded of a component.
+use Rattle.std.specs.Prelude.{◌≡◌, ◌≤◌}
+use Rattle.tc_bytes.specs.Counts.{Rose, next_count}
+use Rattle.tc_store.specs.Counted.{Counts}
 use Rattle.tc_component.specs.declared.head.Head.{Head}
 use Rattle.tc_component.specs.declared.head.Sizes.{Sizes}
 use Rattle.tc_component.specs.declared.reading.Parts.{Parts}
+use Rattle.tc_component.specs.declared.loading.Loaded.{Loaded}
 use Rattle.tc_component.specs.Spelling.{Content}
 
 abbrev pub same_pair : Head × Sizes → Head × Sizes
 same_pair h = h
 
-abbrev pub same_head : Head → Head
-same_head head = head
-
 -- a header, and what stands behind the records
 abbrev pub parts_of : Head → Parts → Content
 parts_of head parts = record { head = head; slots = parts.directory; names = parts.names; schema = parts.schema }
+
+abbrev pub loaded_content : Loaded → Content
+loaded_content loaded = parts_of loaded.head loaded.parts
+
+-- A call of two reads where it is done, and of no more where it is not.
+pub record IsCountedTwice (Failed Done : Type 0) (old new : Counts) : Type 0 where
+  pub faults : old.faults ≤ new.faults
+  pub cause : Failed → Rose old.faults new.faults
+  pub done : Done → new.reads ≡ next_count (next_count old.reads)
+
+-- a component, as contracts see it: its file, and what it has beside its records
+pub record ComponentState (F : Type 0) : Type 0 where
+  pub file : F
+  pub content : Content
+
+abbrev pub content_in : {F : Type 0} → ComponentState F → Content
+content_in c = c.content
+
+abbrev pub same_head : Head → Head
+same_head head = head

@@ -96,10 +96,13 @@ sizes_of slots names schema = record {
   schema = length (schema_bytes (schema_tree schema));
 }
 
+abbrev pub sizes_in : Content → Sizes
+sizes_in c = sizes_of c.slots c.names c.schema
+
 -- the file of these records
 abbrev pub content_bytes : Content → List ℕ → List ℕ
 content_bytes c records =
-    1 ∷ (head_bytes c.head (sizes_of c.slots c.names c.schema) ++ (records ++ (directory c.slots ++ (section c.names ++ schema_bytes (schema_tree c.schema)))))
+    1 ∷ (head_bytes c.head (sizes_in c) ++ (records ++ (directory c.slots ++ (section c.names ++ schema_bytes (schema_tree c.schema)))))
 
 -- what the file of these rows has beside its records
 abbrev pub content_of : Head → List Row → List Name → Counted → Content

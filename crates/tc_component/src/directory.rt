@@ -1,9 +1,13 @@
 //! The directory of a component, in memory: two plain columns.
 
-ghost use Rattle.std.specs.Prelude.{◌≡◌, ◌<◌, ◌≤◌, ◌+◌, ◌&&◌, nat_le, [], option_map, IfOk};
+ghost use Rattle.std.specs.Prelude.{◌≡◌, ◌<◌, ◌≤◌, ◌+◌, ◌&&◌, nat_le, [], length, take, slice_get, slice_index, Some, option_map, IfOk};
+ghost use Rattle.tc_component.specs.declared.slot.Slot.{Slot as OneSlot};
+ghost use Rattle.tc_component.specs.Columns.{IsFound};
 ghost use Rattle.tc_component.specs.Layout.{number_end};
+ghost use Rattle.tc_component.specs.Spelling.{lengths_of};
 ghost use Rattle.tc_component.specs.Reading.{directory_read};
 
+use crate::found::{Found, Place};
 use crate::slot::{Slot, slot_in};
 use std::alloc::Global;
 use std::marker::Model;
@@ -26,6 +30,66 @@ impl Model for Directory {
     ghost view = { λ d. slots_from 0 d.keys.items d.ends.items };
 
     ghost invariant = { λ d. AreColumns d.keys.items d.ends.items (slots_from 0 d.keys.items d.ends.items) };
+}
+
+impl Directory {
+    /// How many slots there are.
+    pub(crate) fn len(&self) -> usize
+        ensures { result ≡ length self.now }
+    {
+        self.keys.len()
+    }
+
+    /// What is found of a key.
+    pub(crate) fn find(&self, key: u64) -> Found
+        ensures { IsFound self.now key result }
+    {
+        match self.keys.binary_search(&key) {
+            Ok(at) => self.found_at(at),
+            Err(_) => Found::Absent,
+        }
+    }
+
+    fn found_at(&self, at: usize) -> Found
+        requires { at < length self.now }
+        ensures { (s : OneSlot) → slice_get self.now at ≡ Some s → IsFound self.now s.key result }
+    {
+        if self.slot(at).length == 0 {
+            Found::Gone
+        } else {
+            Found::At(Place { at })
+        }
+    }
+
+    /// The slot at a place.
+    pub(crate) fn slot(&self, at: usize) -> Slot
+        requires { at < length self.now }
+        ensures { slice_get self.now at ≡ Some result }
+    {
+        let keys = self.keys.as_slice();
+        let ends = self.ends.as_slice();
+        let length = ends[at] - self.start(at);
+        Slot {
+            key: keys[at],
+            length: length as u32,
+        }
+    }
+
+    /// How many bytes the records before a place have.
+    pub(crate) fn start(&self, at: usize) -> u64
+        requires { at < length self.now }
+        ensures { result ≡ lengths_of (take at self.now) }
+    {
+        let ends = self.ends.as_slice();
+        if at == 0 { 0 } else { end_at(ends, at - 1) }
+    }
+}
+
+fn end_at(ends: &[u64], at: usize) -> u64
+    requires { at < length ends.now }
+    ensures { result ≡ slice_index ends.now at }
+{
+    ends[at]
 }
 
 /// So many slots that all of the bytes spell, whose records have so many bytes together.

@@ -2,13 +2,18 @@
 #![tactic(auto)]
 
 mod builder;
+mod component;
 mod directory;
+mod found;
 mod head;
 mod layout;
+mod loading;
 mod reading;
 mod slot;
 mod spool;
 
 pub use builder::Builder;
+pub use component::{Component, read_head};
+pub use found::{DirEntry, Found, Place};
 pub use head::Head;
 pub use slot::Slot;

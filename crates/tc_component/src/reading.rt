@@ -1,12 +1,13 @@
 //! What the bytes of a component are judged to be.
 
-ghost use Rattle.std.specs.Prelude.{◌≡◌, ◌≤◌, ◌<◌, ◌+◌, ◌*◌, ◌&&◌, ◌==◌, [], length, take, drop, IfOk, IfSome, IsErrOf};
+ghost use Rattle.std.specs.Prelude.{◌≡◌, ◌≤◌, ◌<◌, ◌+◌, ◌-◌, ◌*◌, min, ◌&&◌, ◌==◌, [], length, take, drop, IfOk, IfSome, IsErrOf};
 ghost use Rattle.std.specs.Result.{IsOk};
 ghost use Rattle.tc_store.specs.Counted.{IsCountedOnce};
 ghost use Rattle.tc_store.specs.Judging.{Judges, IsNoDisk, IsNoDamage, or_damage, damage as a_damage};
 ghost use Rattle.tc_names.specs.Section.{read_section};
 ghost use Rattle.tc_schema.specs.Reading.{read_schema};
-ghost use Rattle.tc_component.specs.Layout.{slot_size, number_end, file_size, directory_place};
+ghost use Rattle.tc_component.specs.Found.{FrontFound, RestFound};
+ghost use Rattle.tc_component.specs.Layout.{head_place, head_size, slot_size, number_end, file_size, directory_place};
 ghost use Rattle.tc_component.specs.Loading.{parts_of, same_pair};
 ghost use Rattle.tc_component.specs.Reading.{is_named, directory_read, front_of, front_judged, rest_judged};
 
@@ -33,6 +34,7 @@ pub(crate) fn front_in<F: Frozen>(
     watch: &mut F::Watch,
 ) -> Result<Vec<u8>, ReadFault>
     ensures read { IfOk result (λ read. IfSome (F.content file.now) (λ bytes. read.items ≡ front_of bytes)) }
+    ensures length { IfOk result (λ read. length read.items ≡ min (F.size file.now - min (F.size file.now) head_place) head_size) }
     ensures no_damage { IsNoDamage result }
     ensures counted { IsCountedOnce (IsErrOf result ReadFault.Disk) (IsOk result) (F.Watch.counts watch.old) (F.Watch.counts watch.new) }
 {
@@ -49,6 +51,7 @@ pub(crate) fn named_head_in(
     front: &[u8],
 ) -> Result<(Head, Sizes), ReadFault>
     ensures judged { Judges same_pair result (front_judged name size front.now) }
+    ensures found { length front.now ≤ head_size → IfOk result (λ h. FrontFound name size front.now (h.0, h.1)) }
     ensures sized { IfOk result (λ h. file_size h.1 ≡ size) }
     ensures no_disk { IsNoDisk result }
 {
@@ -74,6 +77,19 @@ pub(crate) fn parts_in(
     requires short { file_size sizes < number_end }
     requires sized { length rest.now ≡ sizes.entries * slot_size + sizes.names + sizes.schema }
     ensures judged { Judges (parts_of head) result (rest_judged (head, sizes) rest.now) }
+    ensures found { IfOk result (λ parts. RestFound (head, sizes) rest.now (parts_of head parts)) }
+    ensures no_disk { IsNoDisk result }
+{
+    match judged_parts_in(alloc, head, sizes, rest) {
+        Ok(parts) => Ok(parts),
+        Err(fault) => Err(fault),
+    }
+}
+
+fn judged_parts_in(alloc: Global, head: Head, sizes: Sizes, rest: &[u8]) -> Result<Parts, ReadFault>
+    requires short { file_size sizes < number_end }
+    requires sized { length rest.now ≡ sizes.entries * slot_size + sizes.names + sizes.schema }
+    ensures judged { Judges (parts_of head) result (rest_judged (head, sizes) rest.now) }
     ensures no_disk { IsNoDisk result }
 {
     let (own, behind) = rest.split_at(sizes.entries as usize * SLOT_LEN);
@@ -96,11 +112,7 @@ fn judged_directory_in(alloc: Global, sizes: Sizes, own: &[u8]) -> Result<Direct
 {
     match directory_in(alloc, sizes.entries, sizes.records, own)? {
         Some(directory) => Ok(directory),
-        None => Err(damaged(
-            alloc,
-            (RECORDS_PLACE + sizes.records) as usize,
-            own,
-        )),
+        None => Err(damaged(alloc, (RECORDS_PLACE + sizes.records) as usize, own)),
     }
 }
 

@@ -1,0 +1,184 @@
+//! The component that is searched.
+
+ghost use Rattle.std.specs.Prelude.{◌≡◌, ◌<◌, ℕ, List, Err, Some, slice_get, length, IfOk, IfSome, IsErrOf};
+ghost use Rattle.std.specs.Result.{IsOk};
+ghost use Rattle.tc_store.specs.Counted.{IsCountedOnce};
+ghost use Rattle.tc_store.specs.Judging.{Judges, IfDamaged, damage as a_damage};
+ghost use Rattle.tc_component.specs.declared.slot.Slot.{Slot as OneSlot};
+ghost use Rattle.tc_component.specs.Columns.{IsFound, IsEntry};
+ghost use Rattle.tc_component.specs.Layout.{names_place, schema_place, file_size};
+ghost use Rattle.tc_component.specs.Loading.{content_in, same_head, IsCountedTwice};
+ghost use Rattle.tc_component.specs.Reading.{head_judged, file_judged};
+ghost use Rattle.tc_component.specs.Spelling.{sizes_in, name_of, IsHead, IsContent};
+
+use crate::found::{DirEntry, Found, Place};
+use crate::head::Head;
+use crate::layout::{RECORDS_PLACE, SLOT_LEN};
+use crate::loading::{Loaded, loaded_of};
+use crate::reading::{front_in, named_head_in};
+use crate::slot::Slot;
+use std::alloc::Global;
+use std::marker::Model;
+use tc_names::Names;
+use tc_schema::Schema;
+use tc_store::{FileName, Frozen, ReadFault};
+
+/// A component whose file is still. Its directory, its names and its schema are in memory, and its records are not.
+/// Contracts see the file, and what it has beside its records.
+#[derive(Drop)]
+pub struct Component<F: Frozen> {
+    file: F,
+    loaded: Loaded,
+}
+
+impl<F: Frozen> Model for Component<F> {
+    ghost use Rattle.std.specs.Coded.{codes};
+    ghost use Rattle.std.specs.Prelude.{◌≡◌, ◌<◌};
+    ghost use Rattle.tc_schema_model.specs.CountedCode.{coded_counted};
+    ghost use Rattle.tc_component.specs.Layout.{file_size, number_end};
+    ghost use Rattle.tc_component.specs.Loading.{ComponentState, loaded_content};
+    ghost use Rattle.tc_component.specs.Spelling.{IsContent, sizes_of};
+
+    ghost Value = { ComponentState F };
+
+    ghost coded = { Prim.hlevel (codes, coded_counted) };
+
+    ghost view = { λ c. record { file = c.file; content = loaded_content c.loaded } };
+
+    ghost invariant = { λ c. IsContent (loaded_content c.loaded) × (c.loaded.sizes ≡ sizes_of c.loaded.parts.directory c.loaded.parts.names c.loaded.parts.schema) × (file_size c.loaded.sizes ≡ F.size c.file) × (file_size c.loaded.sizes < number_end) };
+}
+
+impl<F: Frozen> Component<F> {
+    /// Loads the component of this name, by two reads, of which none is of a record. `Damaged` has the place of the
+    /// header, of the directory, of the names or of the schema, and the bytes there. `Disk` comes only where a read failed.
+    pub fn load(
+        alloc: Global,
+        file: F,
+        name: FileName,
+        watch: &mut F::Watch,
+    ) -> Result<Component<F>, ReadFault>
+        ensures judged { IfSome (F.content file) (λ bytes. Judges content_in result (file_judged name bytes)) }
+        ensures file { IfOk result (λ c. c.file ≡ file) }
+
+        // Also of a file that does not tell its content.
+        ensures lawful { IfOk result (λ c. IsContent c.content × (name ≡ name_of c.content.head)) }
+        ensures damaged { IfDamaged result (λ place bytes. (whole : List ℕ) × (length whole ≡ F.size file) × (file_judged name whole ≡ Err (a_damage place bytes))) }
+
+        ensures counted { IsCountedTwice (IsErrOf result ReadFault.Disk) (IsOk result) (F.Watch.counts watch.old) (F.Watch.counts watch.new) }
+    {
+        let loaded = loaded_of(alloc, &file, name, watch)?;
+        Ok(Component { file, loaded })
+    }
+
+    /// Which component it is.
+    pub fn head(&self) -> Head
+        ensures { result ≡ self.now.content.head }
+    {
+        self.loaded.head
+    }
+
+    /// How many entries it has.
+    pub fn len(&self) -> usize
+        ensures { result ≡ length self.now.content.slots }
+    {
+        self.loaded.parts.directory.len()
+    }
+
+    /// What it has of a key. Makes no read and takes no memory.
+    pub fn find(&self, key: u64) -> Found
+        ensures { IsFound self.now.content.slots key result }
+    {
+        self.loaded.parts.directory.find(key)
+    }
+
+    /// The entry at a position of the directory. Makes no read and takes no memory.
+    pub fn entry(&self, at: usize) -> DirEntry
+        requires { at < length self.now.content.slots }
+        ensures { IsEntry self.now.content.slots at result }
+    {
+        entry_of(at, self.loaded.parts.directory.slot(at))
+    }
+
+    /// Its dictionary, borrowed.
+    pub fn names(&self) -> &Names
+        ensures { result.now ≡ self.now.content.names }
+    {
+        &self.loaded.parts.names
+    }
+
+    /// Its schema, borrowed.
+    pub fn schema(&self) -> &Schema
+        ensures { result.now ≡ self.now.content.schema }
+    {
+        &self.loaded.parts.schema
+    }
+
+    /// Where the names begin.
+    pub fn names_at(&self) -> u64
+        ensures { result ≡ names_place (sizes_in self.now.content) }
+    {
+        let sizes = self.loaded.sizes;
+        RECORDS_PLACE + sizes.records + sizes.entries * SLOT_LEN as u64
+    }
+
+    /// Where the schema begins.
+    pub fn schema_at(&self) -> u64
+        ensures { result ≡ schema_place (sizes_in self.now.content) }
+    {
+        self.names_at() + self.loaded.sizes.names
+    }
+
+    /// The length of the file in bytes.
+    pub fn file_len(&self) -> u64
+        ensures length { result ≡ F.size self.now.file }
+        ensures sized { result ≡ file_size (sizes_in self.now.content) }
+        ensures content { IsContent self.now.content }
+    {
+        self.file.len()
+    }
+
+    /// The file. Takes no memory.
+    pub fn into_file(self) -> F
+        ensures { result ≡ self.file }
+    {
+        let Component { file, loaded: _ } = self;
+        file
+    }
+}
+
+fn entry_of(at: usize, slot: Slot) -> DirEntry
+    ensures { (slots : List OneSlot) → slice_get slots at ≡ Some slot → IsEntry slots at result }
+{
+    let place = if slot.length == 0 {
+        None
+    } else {
+        Some(Place { at })
+    };
+    DirEntry {
+        key: slot.key,
+        place,
+    }
+}
+
+/// Reads the header of the component of this name, by one read. `Damaged` has the place 1 and the 60 bytes there, or as
+/// many as the file has: it comes where they are no header, or that of another interval, or where the lengths do not
+/// add up to that of the file. `Disk` comes only where the read failed.
+pub fn read_head<F: Frozen>(
+    alloc: Global,
+    file: &F,
+    name: FileName,
+    watch: &mut F::Watch,
+) -> Result<Head, ReadFault>
+    ensures judged { IfSome (F.content file.now) (λ bytes. Judges same_head result (head_judged name bytes)) }
+
+    // Also of a file that does not tell its content.
+    ensures lawful { IfOk result (λ head. IsHead head × (name ≡ name_of head)) }
+    ensures damaged { IfDamaged result (λ place bytes. (whole : List ℕ) × (length whole ≡ F.size file.now) × (head_judged name whole ≡ Err (a_damage place bytes))) }
+
+    ensures counted { IsCountedOnce (IsErrOf result ReadFault.Disk) (IsOk result) (F.Watch.counts watch.old) (F.Watch.counts watch.new) }
+{
+    let size = file.len();
+    let front = front_in(alloc, file, watch)?;
+    let (head, _) = named_head_in(alloc, name, size, &front)?;
+    Ok(head)
+}
