@@ -1,20 +1,30 @@
 -- What is loaded of a component, by what was read of its file.
-use Rattle.std.proofs.Common.{◌≡◌, ◌∙◌, ◌+◌, ◌*◌, ◌-◌, ℕ, zero, suc, List, [], ◌∷◌, ◌++◌, Option, None, Some, Result, Ok, Err, length, take, drop, min, replicate, refl, sym, ap, subst, arith, inl, inr, append_assoc, append-nil, length-append}
+use Rattle.std.proofs.Common.{◌≡◌, ◌∙◌, ◌<◌, ◌≤◌, ◌+◌, ◌*◌, ◌-◌, ℕ, zero, suc, true, List, [], ◌∷◌, ◌++◌, Option, None, Some, Result, Ok, Err, length, take, drop, min, replicate, refl, sym, ap, subst, arith, inl, inr, append_assoc, append-nil, length-append}
 use Rattle.std.specs.Prelude.{IfSome}
-use Rattle.std.proofs.lemmas.Bool.{cases_lt}
-use Rattle.std.proofs.lemmas.List.{take_at, take_all, drop_at, length-take-le, length-drop, length-replicate, nil_from_length}
+use Rattle.std.proofs.lemmas.Bool.{cases_lt, eqb-true}
+use Rattle.std.proofs.lemmas.List.{take-append-drop, take_at, take_all, drop_at, drop-drop, length-take-le, length-take, length-drop, length-replicate, nil_from_length}
+use Rattle.tc_bytes.specs.Codec.{IsBytes}
+use Rattle.tc_bytes.proofs.Fields.{IsBytes-drop, IsBytes-take}
+use Rattle.tc_model.specs.Document.{Name}
+use Rattle.tc_names.specs.Section.{section}
+use Rattle.tc_schema_model.specs.Counted.{Counted}
+use Rattle.tc_schema_model.specs.SchemaTree.{schema_tree}
+use Rattle.tc_schema_model.specs.SchemaBytes.{schema_bytes}
+use Rattle.tc_store.specs.Gate.{is_open_file}
 use Rattle.tc_store.specs.Judging.{Damage, damage, judged_then, Judges, IfDamaged}
+use Rattle.tc_store.proofs.Judged.{judged_parts}
 use Rattle.tc_store.specs.declared.damage.ReadFault.{ReadFault}
 use Rattle.tc_store.specs.declared.damage.ReadFault.TheVariants.{Disk, Damaged, Memory}
 use Rattle.tc_store.specs.declared.file_name.FileName.{FileName}
-use Rattle.tc_component.specs.Found.{FrontFound, RestFound}
 use Rattle.tc_component.specs.declared.head.Head.{Head}
 use Rattle.tc_component.specs.declared.head.Sizes.{Sizes}
-use Rattle.tc_component.specs.Layout.{directory_place}
+use Rattle.tc_component.specs.Found.{FrontFound, RestFound}
+use Rattle.tc_component.specs.Layout.{number_end, directory_place}
 use Rattle.tc_component.specs.Loading.{same_pair}
-use Rattle.tc_component.specs.Spelling.{IsHead, Content, sizes_of, IsContent, name_of}
+use Rattle.tc_component.specs.Spelling.{Row, records, head_bytes, IsHead, directory, Content, content_of, file_bytes, sizes_of, IsContent, name_of, Holds}
 use Rattle.tc_component.specs.Reading.{front_of, front_judged, rest_judged, file_judged, head_judged}
-use Rattle.tc_component.proofs.Files.{head_length}
+use Rattle.tc_component.proofs.Written.{records_length}
+use Rattle.tc_component.proofs.Files.{front_found, rest_found, head_length}
 
 -- ---- what is read of a file that tells
 
@@ -131,3 +141,60 @@ loaded_lawful name size front h rest c front_is found = (
   record { head = subst IsHead (sym found.head) front_is.head; each = found.slots.each; ascend = found.slots.ascend; names = found.names_are; schema = found.schema_is },
   front_is.named ∙ ap name_of (sym found.head),
 )
+
+-- ---- what a file holds
+
+pub written_holds : (head : Head) (rows : List Row) (names : List Name) (schema : Counted) → IsContent (content_of head rows names schema) → length (file_bytes head rows names schema) < number_end
+    → Holds (file_bytes head rows names schema) (content_of head rows names schema)
+written_holds head rows names schema is short = record { is = is; records = records rows; sized = sym (records_length rows); spelled = refl; short = short }
+
+-- the parts of a file that was judged right
+record Judged (name : FileName) (bytes : List ℕ) (c : Content) : Type 0 where
+  h : Head × Sizes
+  front : FrontFound name (length bytes) (front_of bytes) h
+  rest : RestFound h (drop (directory_place h.1) bytes) c
+
+judged : (name : FileName) (bytes : List ℕ) (c : Content) → IsBytes bytes → file_judged name bytes ≡ Ok c → Judged name bytes c
+judged name bytes c each is =
+    let parts = judged_parts (front_judged name (length bytes) (front_of bytes)) (λ h. rest_judged h (drop (directory_place h.1) bytes)) c is in
+    let short : length (front_of bytes) ≤ 60 = omega (arith, length-take 60 (drop 1 bytes)) in
+    record {
+      h = parts.0;
+      front = front_found name (length bytes) (front_of bytes) parts.0 (IsBytes-take 60 (drop 1 bytes) (IsBytes-drop 1 bytes each)) short parts.1;
+      rest = rest_found parts.0 (drop (directory_place parts.0.1) bytes) c (IsBytes-drop (directory_place parts.0.1) bytes each) parts.2;
+    }
+
+pub judged_named : (name : FileName) (bytes : List ℕ) (c : Content) → IsBytes bytes → file_judged name bytes ≡ Ok c → name ≡ name_of c.head
+judged_named name bytes c each is =
+    let j = judged name bytes c each is in (loaded_lawful name (length bytes) (front_of bytes) j.h (drop (directory_place j.h.1) bytes) c j.front j.rest).1
+
+rest_joined : (h : Head × Sizes) (tail : List ℕ) (c : Content) → RestFound h tail c → tail ≡ directory c.slots ++ (section c.names ++ schema_bytes (schema_tree c.schema))
+rest_joined h tail c found =
+    let n = h.1.entries * 12 in
+    let behind : drop n tail ≡ section c.names ++ schema_bytes (schema_tree c.schema) =
+    sym (take-append-drop h.1.names (drop n tail)) ∙ ap (λ (bytes : List ℕ). bytes ++ drop h.1.names (drop n tail)) found.names ∙ ap (λ (bytes : List ℕ). section c.names ++ bytes) (drop-drop h.1.names n tail ∙ found.schema) in
+    sym (take-append-drop n tail) ∙ ap (λ (bytes : List ℕ). bytes ++ drop n tail) found.slots.spelled ∙ ap (λ (bytes : List ℕ). directory c.slots ++ bytes) behind
+
+opened_parts : (bytes : List ℕ) → is_open_file bytes ≡ true → bytes ≡ 1 ∷ (front_of bytes ++ drop 61 bytes)
+opened_parts [] opened = absurd (cc)
+opened_parts (gate ∷ []) opened = absurd (cc)
+opened_parts (gate ∷ next ∷ more) opened = ap (λ (g : ℕ). g ∷ next ∷ more) (eqb-true gate 1 opened) ∙ ap (λ (bytes : List ℕ). 1 ∷ bytes) (sym (take-append-drop 60 (next ∷ more)))
+
+pub judged_holds : (name : FileName) (bytes : List ℕ) (c : Content) → IsBytes bytes → is_open_file bytes ≡ true → length bytes < number_end → file_judged name bytes ≡ Ok c → Holds bytes c
+judged_holds name bytes c each opened short is =
+    let j = judged name bytes c each is in
+    let h = j.h in
+    let tail = drop (directory_place h.1) bytes in
+    let rs = take h.1.records (drop 61 bytes) in
+    let long : length tail ≡ h.1.entries * 12 + h.1.names + h.1.schema = omega (arith, length-drop (directory_place h.1) bytes, j.front.sized) in
+    let sizes : h.1 ≡ sizes_of c.slots c.names c.schema = loaded_sizes h tail c j.rest long in
+    let behind : drop 61 bytes ≡ rs ++ tail = sym (take-append-drop h.1.records (drop 61 bytes)) ∙ ap (λ (more : List ℕ). rs ++ more) (drop-drop h.1.records 61 bytes) in
+    let head : front_of bytes ≡ head_bytes c.head (sizes_of c.slots c.names c.schema) = j.front.spelled ∙ ap (λ (q : Head). head_bytes q h.1) (sym j.rest.head) ∙ ap (head_bytes c.head) sizes in
+    record {
+      is = (loaded_lawful name (length bytes) (front_of bytes) h tail c j.front j.rest).0;
+      records = rs;
+      sized = length-take-le h.1.records (drop 61 bytes) (omega (arith, length-drop 61 bytes, j.front.sized)) ∙ sym j.rest.slots.sum;
+      spelled = opened_parts bytes opened ∙ ap (λ (bytes' : List ℕ). 1 ∷ bytes') (ap (λ (front : List ℕ). front ++ drop 61 bytes) head
+          ∙ ap (λ (more : List ℕ). head_bytes c.head (sizes_of c.slots c.names c.schema) ++ more) (behind ∙ ap (λ (more : List ℕ). rs ++ more) (rest_joined h tail c j.rest)));
+      short = short;
+    }

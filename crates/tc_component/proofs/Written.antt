@@ -40,7 +40,7 @@ directory_length [] = refl
 directory_length (s ∷ slots) =
     let one : length (slot_bytes s) ≡ 12 = refl in omega (arith, length-append (slot_bytes s) (directory slots), one, directory_length slots)
 
-records_length : (rows : List Row) → lengths_of (slots_of rows) ≡ length (records rows)
+pub records_length : (rows : List Row) → lengths_of (slots_of rows) ≡ length (records rows)
 records_length [] = refl
 records_length (row ∷ rows) =
     let first : Slot = record { key = row.0; length = length (held_bytes row.1) } in
