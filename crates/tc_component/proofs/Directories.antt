@@ -6,6 +6,7 @@ use Rattle.std.specs.Ordering.{nat_cmp}
 use Rattle.std.specs.Cmp.{nat_cmp_is}
 use Rattle.std.proofs.lemmas.Bool.Decides.{nat_tests}
 use Rattle.std.proofs.lemmas.List.Sums.{sum_by-append, sum_by_push}
+use Rattle.std.proofs.lemmas.Map.Keys.{below_from_sorted}
 use Rattle.tc_bytes.specs.Codec.{IsBytes, IsCodec, MayFollow}
 use Rattle.tc_bytes.specs.Reading.{◌>>=◌, elements_at, whole}
 use Rattle.tc_bytes.proofs.Codecs.{then_parts, restated_codec, mapped_codec, passing_codec, pair_codec}
@@ -91,9 +92,6 @@ unfolding AscendFrom IsStrictlySortedBy
 ascend low [] each = tt
 ascend low (s ∷ slots) each = (all_above s.key (s.key + 1) slots (omega arith) each.1, ascend (s.key + 1) slots each.1)
 
-nat_cmp_less : (n m : ℕ) → nat_cmp n m ≡ Less → n < m
-nat_cmp_less n m less = grind (arith, nat_tests)
-
 -- the first key is no lower
 StartsFrom : ℕ → List Slot → Type 0
 StartsFrom low [] = Unit {0}
@@ -102,11 +100,11 @@ StartsFrom low (s ∷ slots) = low ≤ s.key
 ascends_from : (low : ℕ) (slots : List Slot) → StartsFrom low slots → Ascend slots → AscendFrom low slots
 unfolding AscendFrom StartsFrom IsStrictlySortedBy
 ascends_from low [] starts sorted = tt
-ascends_from low (s ∷ slots) starts sorted = (starts, ascends_from (s.key + 1) slots (next slots sorted.0) sorted.1)
+ascends_from low (s ∷ slots) starts sorted = (starts, ascends_from (s.key + 1) slots (next slots sorted) sorted.1)
   where
-    next : (slots : List Slot) → AllByRecursion (λ y. nat_cmp s.key y ≡ Less) (map (λ (t : Slot). t.key) slots) → StartsFrom (s.key + 1) slots
-    next [] less = tt
-    next (t ∷ slots) less = let below = nat_cmp_less s.key t.key less.0 in omega arith
+    next : (slots : List Slot) → Ascend (s ∷ slots) → StartsFrom (s.key + 1) slots
+    next [] sorted = tt
+    next (t ∷ slots) sorted = let below = below_from_sorted (map (λ (u : Slot). u.key) (s ∷ t ∷ slots)) 0 1 0 sorted (omega arith) (omega arith) in omega (arith, below)
 
 -- ---- whole directories
 

@@ -44,9 +44,6 @@ both_true false b is = absurd (cc)
 true_both : (a b : Bool) → a ≡ true → b ≡ true → (a && b) ≡ true
 true_both a b one two = rw (one, two) refl
 
-eqb-same : (a b : ℕ) → a ≡ b → (a == b) ≡ true
-eqb-same a b same = grind (arith, nat_tests)
-
 name_is : (name : FileName) (head : Head) → is_named name head ≡ true → name ≡ name_of head
 name_is (Component from to) head is =
     let both = both_true (head.from == from) (head.to == to) is in
@@ -54,7 +51,10 @@ name_is (Component from to) head is =
 name_is (Log generation) head is = absurd (cc)
 
 name_test : (head : Head) → is_named (name_of head) head ≡ true
-name_test head = true_both (head.from == head.from) (head.to == head.to) (eqb-same head.from head.from refl) (eqb-same head.to head.to refl)
+name_test head =
+    let from : (head.from == head.from) ≡ true = grind (arith, nat_tests) in
+    let to : (head.to == head.to) ≡ true = grind (arith, nat_tests) in
+    true_both (head.from == head.from) (head.to == head.to) from to
 
 pub head_length : (head : Head) (sizes : Sizes) → length (head_bytes head sizes) ≡ 60
 head_length head sizes = refl
@@ -75,7 +75,8 @@ front_found name size front h each short judged =
 
 pub front_again : (name : FileName) (size : ℕ) (front : List ℕ) (h : Head × Sizes) → FrontFound name size front h → front_judged name size front ≡ Ok h
 front_again name size front h is =
-    let test : is_header_of name size h ≡ true = true_both (is_named name h.0) (file_size h.1 == size) (rw is.named (name_test h.0)) (eqb-same (file_size h.1) size is.sized) in
+    let sized : (file_size h.1 == size) ≡ true = let same = is.sized in grind (arith, nat_tests) in
+    let test : is_header_of name size h ≡ true = true_both (is_named name h.0) (file_size h.1 == size) (rw is.named (name_test h.0)) sized in
     let read : passing_at (is_header_of name size) head_at (head_bytes h.0 h.1 ++ []) ≡ Some (h, []) = (named_codec name size).again h [] ((is.head, is.sizes), test) in
     rw (is.spelled ∙ sym (append-nil (head_bytes h.0 h.1)), read) refl
 

@@ -1,6 +1,7 @@
 -- The laws of headers: what is spelled is read, and what is read is spelled so.
 use Rattle.std.proofs.Common.{◌≡◌, ◌∙◌, ◌<◌, ◌≤◌, ◌^◌, ℕ, true, List, ◌++◌, Some, refl, sym, ap, subst, arith, append_assoc}
 use Rattle.std.specs.Int.{w32, w64, to_be_bytes}
+use Rattle.std.proofs.lemmas.Bool.{eqb-true}
 use Rattle.std.proofs.lemmas.Bool.Decides.{nat_tests}
 use Rattle.std.proofs.lemmas.Option.{same_Some}
 use Rattle.tc_bytes.specs.Codec.{IsBytes, IsCodec}
@@ -16,9 +17,18 @@ use Rattle.tc_component.specs.Reading.{is_magic, is_interval, interval_at, sizes
 
 -- ---- sizes
 
-four_parts : (a b c d rest : List ℕ) → (a ++ (b ++ (c ++ d))) ++ rest ≡ a ++ (b ++ (c ++ (d ++ rest)))
-four_parts a b c d rest =
-    append_assoc a (b ++ (c ++ d)) rest ∙ ap (λ (bytes : List ℕ). a ++ bytes) (append_assoc b (c ++ d) rest ∙ ap (λ (bytes : List ℕ). b ++ bytes) (append_assoc c d rest))
+-- the fields of a header, one behind the other
+sizes_parts : (sizes : Sizes) (rest : List ℕ) → sizes_bytes sizes ++ rest ≡ to_be_bytes w64 sizes.records ++ (to_be_bytes w64 sizes.entries ++ (to_be_bytes w64 sizes.names ++ (to_be_bytes w64 sizes.schema ++ rest)))
+sizes_parts sizes rest =
+    let r = to_be_bytes w64 sizes.records in let e = to_be_bytes w64 sizes.entries in let n = to_be_bytes w64 sizes.names in let s = to_be_bytes w64 sizes.schema in
+    append_assoc r (e ++ (n ++ s)) rest ∙ ap (λ (bytes : List ℕ). r ++ bytes) (append_assoc e (n ++ s) rest ∙ ap (λ (bytes : List ℕ). e ++ bytes) (append_assoc n s rest))
+
+head_parts : (head : Head) (sizes : Sizes) (rest : List ℕ)
+    → head_bytes head sizes ++ rest ≡ to_be_bytes w32 magic ++ (to_be_bytes w32 head.number ++ (to_be_bytes w32 head.count ++ (to_be_bytes w64 head.from ++ (to_be_bytes w64 head.to ++ (sizes_bytes sizes ++ rest)))))
+head_parts head sizes rest =
+    let m = to_be_bytes w32 magic in let n = to_be_bytes w32 head.number in let c = to_be_bytes w32 head.count in let f = to_be_bytes w64 head.from in let t = to_be_bytes w64 head.to in let s = sizes_bytes sizes in
+    append_assoc m (n ++ (c ++ (f ++ (t ++ s)))) rest ∙ ap (λ (bytes : List ℕ). m ++ bytes) (append_assoc n (c ++ (f ++ (t ++ s))) rest ∙ ap (λ (bytes : List ℕ). n ++ bytes) (append_assoc c (f ++ (t ++ s)) rest
+    ∙ ap (λ (bytes : List ℕ). c ++ bytes) (append_assoc f (t ++ s) rest ∙ ap (λ (bytes : List ℕ). f ++ bytes) (append_assoc t s rest))))
 
 SizesFound : List ℕ → Sizes × List ℕ → Type 0
 SizesFound bytes q = (bytes ≡ sizes_bytes q.0 ++ q.1) × IsBytes q.1 × AreSizes q.0
@@ -34,9 +44,10 @@ sizes_found bytes q each gives =
     let n_is = number_codec_64.found e.0.1 n.0.0 n.0.1 e_is.1 n.1 in
     let s = then_parts (number_at w64 n.0.1) _ q n.2 in
     let s_is = number_codec_64.found n.0.1 s.0.0 s.0.1 n_is.1 s.1 in
+    let sizes : Sizes = record { records = r.0.0; entries = e.0.0; names = n.0.0; schema = s.0.0 } in
     subst (SizesFound bytes) (same_Some _ q s.2) (
       r_is.0 ∙ ap (λ (more : List ℕ). to_be_bytes w64 r.0.0 ++ more) (e_is.0 ∙ ap (λ (more : List ℕ). to_be_bytes w64 e.0.0 ++ more) (n_is.0 ∙ ap (λ (more : List ℕ). to_be_bytes w64 n.0.0 ++ more) s_is.0))
-          ∙ sym (four_parts (to_be_bytes w64 r.0.0) (to_be_bytes w64 e.0.0) (to_be_bytes w64 n.0.0) (to_be_bytes w64 s.0.0) s.0.1),
+          ∙ sym (sizes_parts sizes s.0.1),
       s_is.1,
       record { records = r_is.2; entries = e_is.2; names = n_is.2; schema = s_is.2 },
     )
@@ -50,29 +61,20 @@ sizes_again sizes rest is =
     let t = to_be_bytes w64 sizes.schema ++ rest in
     let s = to_be_bytes w64 sizes.names ++ t in
     let r = to_be_bytes w64 sizes.entries ++ s in
-    ap sizes_at (four_parts (to_be_bytes w64 sizes.records) (to_be_bytes w64 sizes.entries) (to_be_bytes w64 sizes.names) (to_be_bytes w64 sizes.schema) rest)
+    ap sizes_at (sizes_parts sizes rest)
     ∙ sizes_read (to_be_bytes w64 sizes.records ++ r) r s t rest sizes (number_codec_64.again sizes.records r is.records) (number_codec_64.again sizes.entries s is.entries)
     (number_codec_64.again sizes.names t is.names) (number_codec_64.again sizes.schema rest is.schema)
 
 -- ---- headers
 
-magic_codec : IsCodec (passing_at is_magic (number_at w32)) (to_be_bytes w32) (λ n. (n < 2 ^ 32) × (is_magic n ≡ true))
-magic_codec = passing_codec is_magic number_codec_32
-
 interval_codec : IsCodec interval_at (λ i. to_be_bytes w64 i.0 ++ to_be_bytes w64 i.1) (λ i. ((i.0 < 2 ^ 64) × (i.1 < 2 ^ 64)) × (is_interval i ≡ true))
 interval_codec = passing_codec is_interval (pair_codec number_codec_64 (λ from fits. number_codec_64))
-
-magic_is : (n : ℕ) → is_magic n ≡ true → n ≡ magic
-magic_is n is = grind (arith, nat_tests)
 
 interval_is : (from to : ℕ) → is_interval (from, to) ≡ true → (0 < from) × (from ≤ to) × (to < number_end)
 interval_is from to is = grind (arith, nat_tests)
 
 interval_test : (from to : ℕ) → 0 < from → from ≤ to → to < number_end → is_interval (from, to) ≡ true
 interval_test from to first order last = grind (arith, nat_tests)
-
-five_parts : (a b c d e rest : List ℕ) → (a ++ (b ++ (c ++ (d ++ e)))) ++ rest ≡ a ++ (b ++ (c ++ (d ++ (e ++ rest))))
-five_parts a b c d e rest = append_assoc a (b ++ (c ++ (d ++ e))) rest ∙ ap (λ (bytes : List ℕ). a ++ bytes) (four_parts b c d e rest)
 
 HeadFound : List ℕ → (Head × Sizes) × List ℕ → Type 0
 HeadFound bytes q = (bytes ≡ head_bytes q.0.0 q.0.1 ++ q.1) × IsBytes q.1 × (IsHead q.0.0 × AreSizes q.0.1)
@@ -81,7 +83,7 @@ head_found : (bytes : List ℕ) (q : (Head × Sizes) × List ℕ) → IsBytes by
 unfolding HeadFound SizesFound
 head_found bytes q each gives =
     let m = then_parts (passing_at is_magic (number_at w32) bytes) _ q gives in
-    let m_is = magic_codec.found bytes m.0.0 m.0.1 each m.1 in
+    let m_is = (passing_codec is_magic number_codec_32).found bytes m.0.0 m.0.1 each m.1 in
     let n = then_parts (number_at w32 m.0.1) _ q m.2 in
     let n_is = number_codec_32.found m.0.1 n.0.0 n.0.1 m_is.1 n.1 in
     let c = then_parts (number_at w32 n.0.1) _ q n.2 in
@@ -94,15 +96,13 @@ head_found bytes q each gives =
     let behind : c.0.1 ≡ to_be_bytes w64 i.0.0.0 ++ (to_be_bytes w64 i.0.0.1 ++ (sizes_bytes s.0.0 ++ s.0.1)) =
     i_is.0 ∙ ap (λ (more : List ℕ). (to_be_bytes w64 i.0.0.0 ++ to_be_bytes w64 i.0.0.1) ++ more) s_is.0 ∙ append_assoc (to_be_bytes w64 i.0.0.0) (to_be_bytes w64 i.0.0.1) (sizes_bytes s.0.0 ++ s.0.1) in
     let all : bytes ≡ to_be_bytes w32 magic ++ (to_be_bytes w32 n.0.0 ++ (to_be_bytes w32 c.0.0 ++ (to_be_bytes w64 i.0.0.0 ++ (to_be_bytes w64 i.0.0.1 ++ (sizes_bytes s.0.0 ++ s.0.1))))) =
-    m_is.0 ∙ ap (λ (k : ℕ). to_be_bytes w32 k ++ m.0.1) (magic_is m.0.0 m_is.2.1) ∙ ap (λ (more : List ℕ). to_be_bytes w32 magic ++ more) (n_is.0 ∙ ap (λ (more : List ℕ). to_be_bytes w32 n.0.0 ++ more) (c_is.0 ∙ ap (λ (more : List ℕ). to_be_bytes w32 c.0.0 ++ more) behind)) in
+    m_is.0 ∙ ap (λ (k : ℕ). to_be_bytes w32 k ++ m.0.1) (eqb-true m.0.0 magic m_is.2.1) ∙ ap (λ (more : List ℕ). to_be_bytes w32 magic ++ more) (n_is.0 ∙ ap (λ (more : List ℕ). to_be_bytes w32 n.0.0 ++ more) (c_is.0 ∙ ap (λ (more : List ℕ). to_be_bytes w32 c.0.0 ++ more) behind)) in
+    let head : Head = record { number = n.0.0; count = c.0.0; from = i.0.0.0; to = i.0.0.1 } in
     subst (HeadFound bytes) (same_Some _ q s.2) (
-      all ∙ sym (six_parts (to_be_bytes w32 magic) (to_be_bytes w32 n.0.0) (to_be_bytes w32 c.0.0) (to_be_bytes w64 i.0.0.0) (to_be_bytes w64 i.0.0.1) (sizes_bytes s.0.0) s.0.1),
+      all ∙ sym (head_parts head s.0.0 s.0.1),
       s_is.1,
       (record { number = n_is.2; count = c_is.2; first = within.0; order = within.1; last = within.2 }, s_is.2),
     )
-  where
-    six_parts : (a b c d e f rest : List ℕ) → (a ++ (b ++ (c ++ (d ++ (e ++ f))))) ++ rest ≡ a ++ (b ++ (c ++ (d ++ (e ++ (f ++ rest)))))
-    six_parts a b c d e f rest = append_assoc a (b ++ (c ++ (d ++ (e ++ f)))) rest ∙ ap (λ (bytes : List ℕ). a ++ bytes) (five_parts b c d e f rest)
 
 head_read : (bytes r s t u rest : List ℕ) (head : Head) (sizes : Sizes) → passing_at is_magic (number_at w32) bytes ≡ Some (magic, r) → number_at w32 r ≡ Some (head.number, s)
     → number_at w32 s ≡ Some (head.count, t) → interval_at t ≡ Some ((head.from, head.to), u) → sizes_at u ≡ Some (sizes, rest) → head_at bytes ≡ Some ((head, sizes), rest)
@@ -116,12 +116,10 @@ head_again (head, sizes) rest is =
     let t = (to_be_bytes w64 head.from ++ to_be_bytes w64 head.to) ++ u in
     let s = to_be_bytes w32 head.count ++ t in
     let r = to_be_bytes w32 head.number ++ s in
-    let behind : (to_be_bytes w64 head.from ++ (to_be_bytes w64 head.to ++ sizes_bytes sizes)) ++ rest ≡ t =
-    append_assoc (to_be_bytes w64 head.from) (to_be_bytes w64 head.to ++ sizes_bytes sizes) rest ∙ ap (λ (bytes : List ℕ). to_be_bytes w64 head.from ++ bytes) (append_assoc (to_be_bytes w64 head.to) (sizes_bytes sizes) rest)
-    ∙ sym (append_assoc (to_be_bytes w64 head.from) (to_be_bytes w64 head.to) u) in
-    ap head_at (four_parts (to_be_bytes w32 magic) (to_be_bytes w32 head.number) (to_be_bytes w32 head.count) (to_be_bytes w64 head.from ++ (to_be_bytes w64 head.to ++ sizes_bytes sizes)) rest
-    ∙ ap (λ (more : List ℕ). to_be_bytes w32 magic ++ (to_be_bytes w32 head.number ++ (to_be_bytes w32 head.count ++ more))) behind)
-    ∙ head_read (to_be_bytes w32 magic ++ r) r s t u rest head sizes (magic_codec.again magic r (omega arith, refl)) (number_codec_32.again head.number s is.0.number) (number_codec_32.again head.count t is.0.count)
+    let joined : head_bytes head sizes ++ rest ≡ to_be_bytes w32 magic ++ r =
+    head_parts head sizes rest ∙ ap (λ (bytes : List ℕ). to_be_bytes w32 magic ++ (to_be_bytes w32 head.number ++ (to_be_bytes w32 head.count ++ bytes))) (sym (append_assoc (to_be_bytes w64 head.from) (to_be_bytes w64 head.to) u)) in
+    ap head_at joined
+    ∙ head_read (to_be_bytes w32 magic ++ r) r s t u rest head sizes ((passing_codec is_magic number_codec_32).again magic r (omega arith, refl)) (number_codec_32.again head.number s is.0.number) (number_codec_32.again head.count t is.0.count)
     (interval_codec.again (head.from, head.to) u ((omega arith, omega arith), interval_test head.from head.to is.0.first order last)) (sizes_again sizes rest is.1)
 
 pub head_codec : IsCodec head_at (λ h. head_bytes h.0 h.1) (λ h. IsHead h.0 × AreSizes h.1)

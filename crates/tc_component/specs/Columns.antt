@@ -33,10 +33,6 @@ IsFound slots key Absent = (at : ℕ) (s : Slot) → slice_get slots at ≡ Some
 IsFound slots key Gone = (at : ℕ) × (slice_get slots at ≡ Some (slot key 0))
 IsFound slots key (At place) = (bytes : ℕ) × (slice_get slots place.at ≡ Some (slot key bytes)) × (0 < bytes)
 
--- the record of an entry that is not gone has this place
-abbrev pub IsLive : List Slot → ℕ → Type 0
-IsLive slots at = (s : Slot) × (slice_get slots at ≡ Some s) × (0 < s.length)
-
 -- an entry of the directory: its key, and its place where it is not gone
 pub record IsEntry (slots : List Slot) (at : ℕ) (e : DirEntry) : Type 0 where
   pub bytes : ℕ

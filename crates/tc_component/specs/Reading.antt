@@ -1,6 +1,6 @@
 -- How the bytes of a component are judged: what it has beside its records, or a place and the bytes there that break the
 -- rules.
-use Rattle.std.specs.Prelude.{ℕ, ◌+◌, ◌*◌, ◌==◌, ◌&&◌, ◌||◌, nat_lt, nat_le, Bool, false, if◌then◌else◌, List, [], ◌∷◌, length, take, drop, Option, None, Some, Result, Ok}
+use Rattle.std.specs.Prelude.{ℕ, ◌+◌, ◌-◌, ◌*◌, ◌==◌, ◌&&◌, ◌||◌, nat_lt, nat_le, Bool, false, if◌then◌else◌, List, [], ◌∷◌, length, take, drop, Option, None, Some, Result, Ok}
 use Rattle.std.specs.Int.{w32, w64}
 use Rattle.tc_bytes.specs.Reading.{Reader, ◌>>=◌, number_at, mapped_at, passing_at, pair_at, elements_at, ended}
 use Rattle.tc_names.specs.Section.{read_section}
@@ -11,7 +11,7 @@ use Rattle.tc_store.specs.declared.file_name.FileName.TheVariants.{Component, Lo
 use Rattle.tc_component.specs.declared.head.Head.{Head}
 use Rattle.tc_component.specs.declared.head.Sizes.{Sizes}
 use Rattle.tc_component.specs.declared.slot.Slot.{Slot}
-use Rattle.tc_component.specs.Layout.{number_end, head_place, head_size, slot_size, least_record, directory_place, names_place, schema_place, file_size}
+use Rattle.tc_component.specs.Layout.{number_end, head_place, records_place, slot_size, least_record, directory_place, names_place, schema_place, file_size}
 use Rattle.tc_component.specs.Spelling.{magic, slot, lengths_of, Content}
 
 -- ---- the header
@@ -43,9 +43,9 @@ is_named (Log generation) head = false
 abbrev pub is_header_of : FileName → ℕ → Head × Sizes → Bool
 is_header_of name size h = is_named name h.0 && file_size h.1 == size
 
--- what stands where the header of a file has its place: as many bytes, or as many as there are
+-- what stands between the gate and the records: as many bytes, or as many as there are
 abbrev pub front_of : List ℕ → List ℕ
-front_of bytes = take head_size (drop head_place bytes)
+front_of bytes = take (records_place - head_place) (drop head_place bytes)
 
 -- these bytes as the header of a component of this name, in a file of this length
 abbrev pub front_judged : FileName → ℕ → List ℕ → Result (Head × Sizes) Damage
