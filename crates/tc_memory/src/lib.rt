@@ -13,6 +13,9 @@ mod tests;
 
 pub use entries::Entries;
 pub use held::{Entry, Held};
-pub use laws::{calls_change_one_key, calls_keep_first_shapes, calls_keep_shapes_below};
+pub use laws::{
+    calls_are_writes, calls_change_one_key, calls_keep_first_shapes, calls_keep_shapes_below,
+    tables_keep_documents,
+};
 pub use memtable::Memtable;
 pub use sealed::Sealed;
