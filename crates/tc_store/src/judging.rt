@@ -2,7 +2,7 @@
 
 ghost use Rattle.std.specs.Prelude.{◌≡◌, ◌≤◌, ◌+◌, length, take, drop, IfOk, IfSome, IsErrOf};
 ghost use Rattle.std.specs.Result.{IsOk};
-ghost use Rattle.tc_store.specs.Counted.{IsCountedOnce};
+ghost use Rattle.tc_store.specs.Counted.{IsCountedOnce, IsCountedRead};
 ghost use Rattle.tc_store.specs.Judging.{IsNoDamage, IsDamageOr};
 
 use crate::damage::ReadFault;
@@ -11,7 +11,7 @@ use crate::watch::Watch;
 use std::alloc::Global;
 use tc_bytes::Bytes;
 
-/// So many bytes of a file, from a place on, by at most one read.
+/// So many bytes of a file, from a place on, by one read, and by none where memory was wanting.
 pub fn bytes_of<F: Frozen>(
     alloc: Global,
     file: &F,
@@ -24,6 +24,7 @@ pub fn bytes_of<F: Frozen>(
     ensures length { IfOk result (λ read. length read.items ≡ count) }
     ensures no_damage { IsNoDamage result }
     ensures counted { IsCountedOnce (IsErrOf result ReadFault.Disk) (IsOk result) (F.Watch.counts watch.old) (F.Watch.counts watch.new) }
+    ensures tried { IsErrOf result ReadFault.Disk → IsCountedRead (IsErrOf result ReadFault.Disk) (F.Watch.counts watch.old) (F.Watch.counts watch.new) }
 {
     let mut bytes = vec![in alloc; 0u8; count]?;
     match file.read(at, &mut bytes, watch) {
