@@ -1,0 +1,4 @@
+pub mod Intervals
+pub mod Runs
+pub mod Lookups
+pub mod Contents

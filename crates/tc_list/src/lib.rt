@@ -1,0 +1,12 @@
+//! Layer 3, files: the components of a partition as a list, and where the newest entry of a key stands in it.
+#![tactic(auto)]
+
+mod laws;
+mod list;
+mod run;
+mod whereabouts;
+
+pub use laws::runs_show_contents;
+pub use list::ComponentList;
+pub use run::Run;
+pub use whereabouts::Whereabouts;
