@@ -1,0 +1,12 @@
+pub mod RecountedLaws
+pub mod TableDocuments
+pub mod ValuesAtRoot
+pub mod KeptEntries
+pub mod DocumentNames
+pub mod FlushedContents
+pub mod CountingSteps
+pub mod Progressing
+pub mod EntrySteps
+pub mod Outcomes
+pub mod WrittenMoments
+pub mod FlushedBytes

@@ -1,0 +1,116 @@
+use Rattle.std.proofs.Common.{◌≡◌, ◌<◌, ◌^◌, ◌++◌, length, sym, ap, ◌∙◌, subst}
+use Rattle.tc_model.specs.Document.{Document}
+use Rattle.tc_record.specs.Record.{IsRecordOf}
+use Rattle.tc_compact.specs.Compacted.{IsCompactedRecordOf}
+use Rattle.tc_component.specs.Building.{HasRows}
+use Rattle.tc_memory.specs.Meaning.{IsLawfulHeld, entry_of, held_of}
+use Rattle.tc_flush.specs.Recounting.{names_with, all_added}
+use Rattle.tc_flush.proofs.EntrySteps.{no_shapes, gone_row, canonical_of, short_of, counters_of, room_of, names_are, schema_is, row_is}
+use Rattle.tc_flush.proofs.Outcomes.{ok_always, ok_then}
+use Rattle.tc_flush.proofs.entry.put_entry.Goals as goal
+
+-- ---- an entry with a document
+
+pub count_record-requires-clause-short : goal.count_record-requires-clause-short
+count_record-requires-clause-short g c =
+    let held = ap held_of c.in-Live.is in
+    let stored = subst IsLawfulHeld c.in-Live.is c.requires.lawful in
+    let e = entry_of c.args.entry in
+    let bytes = c.in-Live.bytes.now in
+    let same : c.known-of.result.bytes ≡ bytes = c.known-of.ensures.bytes ∙ c.as_slice.ensures.same in
+    subst (λ b. length b < 2 ^ 30) (sym same) (short_of c.one_document.ensures e bytes held stored c.args.names.now c.args.schema.now c.requires.can)
+
+pub compact-requires-clause-short : goal.compact-requires-clause-short
+compact-requires-clause-short g c =
+    let held = ap held_of c.in-Live.is in
+    let stored = subst IsLawfulHeld c.in-Live.is c.requires.lawful in
+    let e = entry_of c.args.entry in
+    let bytes = c.in-Live.bytes.now in
+    let same : c.known-of.result.bytes ≡ bytes = c.known-of.ensures.bytes ∙ c.as_slice.ensures.same in
+    subst (λ b. length b < 2 ^ 30) (sym same) (short_of c.one_document.ensures e bytes held stored c.args.names.now c.args.schema.now c.requires.can)
+
+pub count_record-requires-clause-canonical : goal.count_record-requires-clause-canonical
+count_record-requires-clause-canonical g c =
+    let held = ap held_of c.in-Live.is in
+    let stored = subst IsLawfulHeld c.in-Live.is c.requires.lawful in
+    let e = entry_of c.args.entry in
+    let bytes = c.in-Live.bytes.now in
+    let same : c.known-of.result.bytes ≡ bytes = c.known-of.ensures.bytes ∙ c.as_slice.ensures.same in
+    canonical_of c.one_document.ensures e bytes held stored c.args.names.now c.args.schema.now c.requires.can
+
+pub count_record-requires-clause-counters : goal.count_record-requires-clause-counters
+count_record-requires-clause-counters g c =
+    let held = ap held_of c.in-Live.is in
+    let stored = subst IsLawfulHeld c.in-Live.is c.requires.lawful in
+    let e = entry_of c.args.entry in
+    let bytes = c.in-Live.bytes.now in
+    let same : c.known-of.result.bytes ≡ bytes = c.known-of.ensures.bytes ∙ c.as_slice.ensures.same in
+    λ d is path. counters_of c.one_document.ensures e bytes held stored c.args.names.now c.args.schema.now c.requires.can d (subst (IsRecordOf d) same is) path
+
+pub count_record-requires-clause-room : goal.count_record-requires-clause-room
+count_record-requires-clause-room g c =
+    let held = ap held_of c.in-Live.is in
+    let stored = subst IsLawfulHeld c.in-Live.is c.requires.lawful in
+    let e = entry_of c.args.entry in
+    let bytes = c.in-Live.bytes.now in
+    let same : c.known-of.result.bytes ≡ bytes = c.known-of.ensures.bytes ∙ c.as_slice.ensures.same in
+    λ d is. room_of c.one_document.ensures e bytes held stored c.args.names.now c.args.schema.now c.requires.can d (subst (IsRecordOf d) same is)
+
+pub push-requires-in-Live-clause-short : goal.push-requires-in-Live-clause-short
+push-requires-in-Live-clause-short g c κs within =
+    let held = ap held_of c.in-Live.is in
+    let stored = subst IsLawfulHeld c.in-Live.is c.requires.lawful in
+    let e = entry_of c.args.entry in
+    let bytes = c.in-Live.bytes.now in
+    let same : c.known-of.result.bytes ≡ bytes = c.known-of.ensures.bytes ∙ c.as_slice.ensures.same in
+    let made = c.in_ok-compact-in-Live.ensures stored.document (subst (IsRecordOf stored.document) (sym same) stored.is_record) in
+    subst (λ b. length b < 2 ^ 32) (sym c.as_slice-in-Live.ensures.value) made.numbered.short
+
+pub returns-in_ok-compact-in-Live-clause-learned : goal.returns-in_ok-compact-in-Live-clause-learned
+returns-in_ok-compact-in-Live-clause-learned g c =
+    let held = ap held_of c.in-Live.is in
+    let stored = subst IsLawfulHeld c.in-Live.is c.requires.lawful in
+    let e = entry_of c.args.entry in
+    let bytes = c.in-Live.bytes.now in
+    let same : c.known-of.result.bytes ≡ bytes = c.known-of.ensures.bytes ∙ c.as_slice.ensures.same in
+    ok_always c.push-in-Live.result _ (names_are c.one_document.ensures e bytes held stored c.args.names.now c.count_record.new.names (λ d is. c.in_ok-len-in-Live.ensures.learned d (subst (IsRecordOf d) (sym same) is)))
+
+pub returns-in_ok-compact-in-Live-clause-counted : goal.returns-in_ok-compact-in-Live-clause-counted
+returns-in_ok-compact-in-Live-clause-counted g c =
+    let held = ap held_of c.in-Live.is in
+    let stored = subst IsLawfulHeld c.in-Live.is c.requires.lawful in
+    let e = entry_of c.args.entry in
+    let bytes = c.in-Live.bytes.now in
+    let same : c.known-of.result.bytes ≡ bytes = c.known-of.ensures.bytes ∙ c.as_slice.ensures.same in
+    ok_always c.push-in-Live.result _ (schema_is c.one_document.ensures e bytes held stored c.args.names.now c.count_record.new.names c.args.schema.now c.count_record.new.schema (λ d is. c.in_ok-len-in-Live.ensures.learned d (subst (IsRecordOf d) (sym same) is)) (λ d is. c.in_ok-len-in-Live.ensures.counted d (subst (IsRecordOf d) (sym same) is)))
+
+pub returns-in_ok-compact-in-Live-clause-pushed : goal.returns-in_ok-compact-in-Live-clause-pushed
+returns-in_ok-compact-in-Live-clause-pushed g c =
+    let held = ap held_of c.in-Live.is in
+    let stored = subst IsLawfulHeld c.in-Live.is c.requires.lawful in
+    let e = entry_of c.args.entry in
+    let bytes = c.in-Live.bytes.now in
+    let same : c.known-of.result.bytes ≡ bytes = c.known-of.ensures.bytes ∙ c.as_slice.ensures.same in
+    let compacts : (d : Document) → IsRecordOf d bytes → IsCompactedRecordOf c.count_record.new.names d c.as_slice-in-Live.result.now = λ d is. subst (IsCompactedRecordOf c.count_record.new.names d) (sym c.as_slice-in-Live.ensures.value) (c.in_ok-compact-in-Live.ensures d (subst (IsRecordOf d) (sym same) is)) in
+    ok_then c.push-in-Live.result _ _
+    (λ pushed t newer rows of dictionary extends has.
+    subst (λ rs. HasRows (g.D.Device.history c.push-in-Live.new.self.device) c.push-in-Live.new.self (rows ++ rs))
+    (sym (row_is c.one_document.ensures e bytes held stored c.count_record.new.names newer c.as_slice-in-Live.result.now c.round_trip.ensures.stays compacts dictionary extends t of)) (pushed rows has))
+    c.push-in-Live.ensures.pushed
+
+-- ---- an entry whose document is gone
+
+pub returns-in-Gone-clause-learned : goal.returns-in-Gone-clause-learned
+returns-in-Gone-clause-learned g c =
+    ok_always c.push.result _ (λ t of. ap (names_with c.args.names.now) (sym (no_shapes (entry_of c.args.entry) (ap held_of c.in-Gone.is) t of)))
+
+pub returns-in-Gone-clause-counted : goal.returns-in-Gone-clause-counted
+returns-in-Gone-clause-counted g c =
+    ok_always c.push.result _ (λ t of. ap (λ shapes. all_added c.args.names.now shapes c.args.schema.now) (sym (no_shapes (entry_of c.args.entry) (ap held_of c.in-Gone.is) t of)))
+
+pub returns-in-Gone-clause-pushed : goal.returns-in-Gone-clause-pushed
+returns-in-Gone-clause-pushed g c =
+    ok_then c.push.result _ _
+    (λ pushed t newer rows of dictionary extends has.
+    subst (λ rs. HasRows (g.D.Device.history c.push.new.self.device) c.push.new.self (rows ++ rs)) (sym (gone_row newer (entry_of c.args.entry) (ap held_of c.in-Gone.is) t of)) (pushed rows has))
+    c.push.ensures.pushed

@@ -1,0 +1,34 @@
+//! Laws of what a flush makes.
+
+ghost use Rattle.std.specs.Prelude.{◌<◌, ◌^◌, ℕ, List};
+ghost use Rattle.tc_model.specs.Document.{Name};
+ghost use Rattle.tc_schema_model.specs.Counted.{Counted};
+ghost use Rattle.tc_lsm_model.specs.Contents.{Content};
+ghost use Rattle.tc_lsm_model.specs.Flushes.{IsFlush};
+ghost use Rattle.tc_lsm_model.specs.Tables.{Table};
+ghost use Rattle.tc_memory.specs.Table as memory;
+ghost use Rattle.tc_component.specs.declared.head.Head.{Head as Header};
+ghost use Rattle.tc_flush.specs.Flushable.{CanFlush};
+ghost use Rattle.tc_flush.specs.Flushing.{IsBehind, flush_of};
+ghost use Rattle.tc_flush.specs.Rows.{part_of};
+
+use tc_compact::names_agree;
+use tc_lsm_model::{
+    flushes_learn_names, lists_have_schemas, lists_know_names, newest_entries_count, tables_count,
+};
+use tc_memory::tables_keep_documents;
+
+/// A law, and no work. Over the newest schema and names of a list, where the table keeps the shapes of what is live there,
+/// what a flush makes is the content of the table behind the list.
+pub fn flushes_are_made()
+    ensures { (head : Header) (cs : List Content) (t : Table) (generations : ℕ) (names : List Name) (schema : Counted) (kept : memory.Table) → IsBehind cs t generations head names schema kept
+        → memory.IsTable kept → CanFlush names schema t → head.number < 2 ^ 32 → head.count < 2 ^ 32 → IsFlush (part_of head) cs t generations (flush_of head names schema t) }
+{
+    names_agree();
+    tables_keep_documents();
+    lists_know_names();
+    lists_have_schemas();
+    newest_entries_count();
+    tables_count();
+    flushes_learn_names();
+}

@@ -1,0 +1,11 @@
+//! Layer 3, files: the job that makes the component of a sealed memory table.
+#![tactic(auto)]
+
+mod entry;
+mod job;
+mod laws;
+mod record;
+mod writing;
+
+pub use job::{FlushJob, FlushOut, FlushParts};
+pub use laws::flushes_are_made;
