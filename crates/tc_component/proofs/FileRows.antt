@@ -7,7 +7,7 @@ use Rattle.tc_schema_model.specs.Counted.{Counters, Counted, counted, nothing, n
 use Rattle.tc_store.specs.declared.file_name.FileName.TheVariants.{Component}
 use Rattle.tc_record.specs.Rows.{numbered_flag_record}
 use Rattle.tc_component.specs.declared.head.Head.{Head}
-use Rattle.tc_component.specs.Spelling.{Row, content_of, file_bytes}
+use Rattle.tc_component.specs.Spelling.{Row, index_of, file_bytes}
 use Rattle.tc_component.specs.Reading.{file_judged}
 
 -- the first component of partition 0 of 1
@@ -54,10 +54,10 @@ empty_spelled = refl
 
 -- ---- what is read
 
-flag_read : file_judged (Component 1 1) flag_bytes ≡ Ok (content_of first_head flag_rows flag_names flag_schema)
+flag_read : file_judged (Component 1 1) flag_bytes ≡ Ok (index_of first_head flag_rows flag_names flag_schema)
 unfolding first_head flag_rows flag_names one_object flag_schema flag_bytes is_utf8 chars encode
 flag_read = refl
 
-empty_read : file_judged (Component 1 1) empty_bytes ≡ Ok (content_of first_head [] [] nothing)
+empty_read : file_judged (Component 1 1) empty_bytes ≡ Ok (index_of first_head [] [] nothing)
 unfolding first_head empty_bytes
 empty_read = refl

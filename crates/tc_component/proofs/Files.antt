@@ -25,7 +25,7 @@ use Rattle.tc_component.specs.declared.head.Head.{Head}
 use Rattle.tc_component.specs.declared.head.Sizes.{Sizes}
 use Rattle.tc_component.specs.declared.slot.Slot.{Slot}
 use Rattle.tc_component.specs.Layout.{number_end, directory_place, names_place, schema_place, file_size}
-use Rattle.tc_component.specs.Spelling.{head_bytes, IsHead, directory, lengths_of, Content, sizes_of, sizes_in, content_bytes, IsContent, name_of, Holds}
+use Rattle.tc_component.specs.Spelling.{head_bytes, IsHead, directory, lengths_of, Index, sizes_of, sizes_in, file_with, IsIndex, name_of, Holds}
 use Rattle.tc_component.specs.Reading.{head_at, is_named, is_header_of, front_of, front_judged, directory_read, rest_judged, file_judged}
 use Rattle.tc_component.proofs.Written.{directory_length}
 use Rattle.tc_component.proofs.Sections.{names_read, schema_read}
@@ -82,7 +82,7 @@ front_again name size front h is =
 
 -- ---- what stands behind the records
 
-pub rest_found : (h : Head × Sizes) (rest : List ℕ) (c : Content) → IsBytes rest → rest_judged h rest ≡ Ok c → RestFound h rest c
+pub rest_found : (h : Head × Sizes) (rest : List ℕ) (c : Index) → IsBytes rest → rest_judged h rest ≡ Ok c → RestFound h rest c
 rest_found h rest c each judged =
     let own = take (h.1.entries * 12) rest in
     let named = take h.1.names (drop (h.1.entries * 12) rest) in
@@ -100,7 +100,7 @@ rest_read : (h : Head × Sizes) (rest : List ℕ) (slots : List Slot) (names : L
     → rest_judged h rest ≡ Ok (record { head = h.0; slots = slots; names = names; schema = schema })
 rest_read h rest slots names schema one two three = rw (one, two, three) refl
 
-pub rest_again : (h : Head × Sizes) (rest : List ℕ) (c : Content) → RestFound h rest c → rest_judged h rest ≡ Ok c
+pub rest_again : (h : Head × Sizes) (rest : List ℕ) (c : Index) → RestFound h rest c → rest_judged h rest ≡ Ok c
 rest_again h rest c is =
     let one : directory_read h.1.entries h.1.records [] (take (h.1.entries * 12) rest) ≡ Some c.slots =
     subst (λ (count : ℕ). directory_read count h.1.records [] (take (h.1.entries * 12) rest) ≡ Some c.slots) is.slots.count_is
@@ -111,31 +111,31 @@ rest_again h rest c is =
 
 -- ---- whole files
 
--- a content's parts behind its records
-behind : Content → List ℕ
+-- what stands behind the records
+behind : Index → List ℕ
 behind c = directory c.slots ++ (section c.names ++ schema_bytes (schema_tree c.schema))
 
-content_length : (c : Content) (rs : List ℕ) → length rs ≡ lengths_of c.slots → length (content_bytes c rs) ≡ file_size (sizes_in c)
-content_length c rs sized =
+file_length : (c : Index) (rs : List ℕ) → length rs ≡ lengths_of c.slots → length (file_with c rs) ≡ file_size (sizes_in c)
+file_length c rs sized =
     let ds = directory c.slots in
     let ns = section c.names in
     let ss = schema_bytes (schema_tree c.schema) in
     let hs = head_bytes c.head (sizes_of c.slots c.names c.schema) in
     omega (arith, sized, head_length c.head (sizes_of c.slots c.names c.schema), directory_length c.slots, length-append hs (rs ++ (ds ++ (ns ++ ss))), length-append rs (ds ++ (ns ++ ss)), length-append ds (ns ++ ss), length-append ns ss)
 
-front_spelled : (c : Content) (rs : List ℕ) → front_of (content_bytes c rs) ≡ head_bytes c.head (sizes_in c)
+front_spelled : (c : Index) (rs : List ℕ) → front_of (file_with c rs) ≡ head_bytes c.head (sizes_in c)
 front_spelled c rs = take_at (head_bytes c.head (sizes_of c.slots c.names c.schema)) (rs ++ (directory c.slots ++ (section c.names ++ schema_bytes (schema_tree c.schema)))) 60 (head_length c.head (sizes_of c.slots c.names c.schema))
 
-rest_spelled : (c : Content) (rs : List ℕ) → length rs ≡ lengths_of c.slots → drop (directory_place (sizes_in c)) (content_bytes c rs) ≡ behind c
+rest_spelled : (c : Index) (rs : List ℕ) → length rs ≡ lengths_of c.slots → drop (directory_place (sizes_in c)) (file_with c rs) ≡ behind c
 unfolding behind
 rest_spelled c rs sized =
     let hs = head_bytes c.head (sizes_of c.slots c.names c.schema) in
     let front = (1 ∷ hs) ++ rs in
-    let all : content_bytes c rs ≡ front ++ (directory c.slots ++ (section c.names ++ schema_bytes (schema_tree c.schema))) = sym (append_assoc (1 ∷ hs) rs (directory c.slots ++ (section c.names ++ schema_bytes (schema_tree c.schema)))) in
+    let all : file_with c rs ≡ front ++ (directory c.slots ++ (section c.names ++ schema_bytes (schema_tree c.schema))) = sym (append_assoc (1 ∷ hs) rs (directory c.slots ++ (section c.names ++ schema_bytes (schema_tree c.schema)))) in
     ap (drop (61 + lengths_of c.slots)) all ∙ drop_at front (directory c.slots ++ (section c.names ++ schema_bytes (schema_tree c.schema))) (61 + lengths_of c.slots)
     (omega (arith, sized, length-append (1 ∷ hs) rs, head_length c.head (sizes_of c.slots c.names c.schema)))
 
-rest_of_content : (c : Content) → IsContent c → RestFound (c.head, sizes_in c) (behind c) c
+rest_of_content : (c : Index) → IsIndex c → RestFound (c.head, sizes_in c) (behind c) c
 unfolding behind
 rest_of_content c is =
     let ds = directory c.slots in
@@ -152,10 +152,10 @@ rest_of_content c is =
     }
 
 -- what is spelled is read
-pub judged_spelled : (name : FileName) (bytes : List ℕ) (c : Content) → Holds bytes c → name ≡ name_of c.head → file_judged name bytes ≡ Ok c
+pub judged_spelled : (name : FileName) (bytes : List ℕ) (c : Index) → Holds bytes c → name ≡ name_of c.head → file_judged name bytes ≡ Ok c
 judged_spelled name bytes c holds named =
     let rs = holds.records in
-    let long : length bytes ≡ file_size (sizes_in c) = ap length holds.spelled ∙ content_length c rs holds.sized in
+    let long : length bytes ≡ file_size (sizes_in c) = ap length holds.spelled ∙ file_length c rs holds.sized in
     let front : front_of bytes ≡ head_bytes c.head (sizes_in c) = ap front_of holds.spelled ∙ front_spelled c rs in
     let small : AreSizes (sizes_in c) = small_sizes (sizes_in c) (length bytes) long holds.short in
     let one : front_judged name (length bytes) (front_of bytes) ≡ Ok (c.head, sizes_in c) =

@@ -9,3 +9,4 @@ mod Fronts
 mod Files
 mod Loaded
 mod Lookups
+mod Fetched

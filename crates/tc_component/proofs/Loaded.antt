@@ -21,7 +21,7 @@ use Rattle.tc_component.specs.declared.head.Sizes.{Sizes}
 use Rattle.tc_component.specs.Found.{FrontFound, RestFound}
 use Rattle.tc_component.specs.Layout.{number_end, directory_place}
 use Rattle.tc_component.specs.Loading.{same_pair}
-use Rattle.tc_component.specs.Spelling.{Row, records, head_bytes, IsHead, directory, Content, content_of, file_bytes, sizes_of, IsContent, name_of, Holds}
+use Rattle.tc_component.specs.Spelling.{Row, records, head_bytes, IsHead, directory, Index, index_of, file_bytes, sizes_of, IsIndex, name_of, Holds}
 use Rattle.tc_component.specs.Reading.{front_of, front_judged, rest_judged, file_judged, head_judged}
 use Rattle.tc_component.proofs.Written.{records_length}
 use Rattle.tc_component.proofs.Files.{front_found, rest_found, head_length}
@@ -54,7 +54,7 @@ head_told name size front h (Some bytes) sized front_is judged =
     ap (λ (r : Result (Head × Sizes) Damage). judged_then r (λ h. Ok h.0)) (ap (λ (n : ℕ). front_judged name n (front_of bytes)) (sym sized) ∙ ap (front_judged name size) (sym front_is) ∙ judged)
 
 -- what stands behind the records, refused or not
-pub rest_answers : {X Z : Type 0} (view : X → Content) (other : Z → Content) (name : FileName) (size : ℕ) (front : List ℕ) (h : Head × Sizes) (rest : List ℕ) (content : Option (List ℕ)) (fault : ReadFault)
+pub rest_answers : {X Z : Type 0} (view : X → Index) (other : Z → Index) (name : FileName) (size : ℕ) (front : List ℕ) (h : Head × Sizes) (rest : List ℕ) (content : Option (List ℕ)) (fault : ReadFault)
     → IfSome content (λ bytes. size ≡ length bytes) → IfSome content (λ bytes. front ≡ front_of bytes) → front_judged name size front ≡ Ok h
     → IfSome content (λ bytes. rest ≡ take (size - directory_place h.1) (drop (directory_place h.1) bytes)) → Judges view (Err fault) (rest_judged h rest) → IfSome content (λ bytes. Judges other (Err fault) (file_judged name bytes))
 rest_answers view other name size front h rest None fault sized front_is first rest_is judged = tt
@@ -62,7 +62,7 @@ rest_answers view other name size front h rest (Some bytes) Disk sized front_is 
 rest_answers view other name size front h rest (Some bytes) Memory sized front_is first rest_is judged = tt
 rest_answers view other name size front h rest (Some bytes) (Damaged place kept) sized front_is first rest_is judged = told_file name size front h rest bytes sized front_is first rest_is ∙ judged
 
-pub all_answers : (name : FileName) (size : ℕ) (front : List ℕ) (h : Head × Sizes) (rest : List ℕ) (c : Content) (content : Option (List ℕ)) → IfSome content (λ bytes. size ≡ length bytes) → IfSome content (λ bytes. front ≡ front_of bytes)
+pub all_answers : (name : FileName) (size : ℕ) (front : List ℕ) (h : Head × Sizes) (rest : List ℕ) (c : Index) (content : Option (List ℕ)) → IfSome content (λ bytes. size ≡ length bytes) → IfSome content (λ bytes. front ≡ front_of bytes)
     → front_judged name size front ≡ Ok h → IfSome content (λ bytes. rest ≡ take (size - directory_place h.1) (drop (directory_place h.1) bytes)) → rest_judged h rest ≡ Ok c → IfSome content (λ bytes. file_judged name bytes ≡ Ok c)
 all_answers name size front h rest c None sized front_is first rest_is judged = tt
 all_answers name size front h rest c (Some bytes) sized front_is first rest_is judged = told_file name size front h rest bytes sized front_is first rest_is ∙ judged
@@ -98,7 +98,7 @@ head_damaged X next name size front (Damaged place kept) long judged =
           (ap (λ (n : ℕ). front_judged name n (front_of some.0)) some.1 ∙ ap (front_judged name size) some.2 ∙ judged),
     )
 
-pub rest_damaged : {X : Type 0} (Z : Type 0) (view : X → Content) (name : FileName) (size : ℕ) (front : List ℕ) (h : Head × Sizes) (rest : List ℕ) (fault : ReadFault) → FrontFound name size front h → front_judged name size front ≡ Ok h
+pub rest_damaged : {X : Type 0} (Z : Type 0) (view : X → Index) (name : FileName) (size : ℕ) (front : List ℕ) (h : Head × Sizes) (rest : List ℕ) (fault : ReadFault) → FrontFound name size front h → front_judged name size front ≡ Ok h
     → length rest ≡ size - directory_place h.1 → Judges view (Err fault) (rest_judged h rest)
     → IfDamaged {X = Z} (Err fault) (λ place kept. (whole : List ℕ) × (length whole ≡ size) × (file_judged name whole ≡ Err (damage place kept)))
 rest_damaged Z view name size front h rest Disk found first long judged = tt
@@ -129,14 +129,14 @@ same_sizes one two records entries names schema =
     sizes : ℕ → ℕ → ℕ → ℕ → Sizes
     sizes r e n s = record { records = r; entries = e; names = n; schema = s }
 
-pub loaded_sizes : (h : Head × Sizes) (rest : List ℕ) (c : Content) → RestFound h rest c → length rest ≡ h.1.entries * 12 + h.1.names + h.1.schema → h.1 ≡ sizes_of c.slots c.names c.schema
+pub loaded_sizes : (h : Head × Sizes) (rest : List ℕ) (c : Index) → RestFound h rest c → length rest ≡ h.1.entries * 12 + h.1.names + h.1.schema → h.1 ≡ sizes_of c.slots c.names c.schema
 loaded_sizes h rest c found long =
     let n = h.1.entries * 12 in
     let names : length (take h.1.names (drop n rest)) ≡ h.1.names = length-take-le h.1.names (drop n rest) (omega (arith, long, length-drop n rest)) in
     let schema : length (drop (n + h.1.names) rest) ≡ h.1.schema = omega (arith, long, length-drop (n + h.1.names) rest) in
     same_sizes h.1 (sizes_of c.slots c.names c.schema) (sym found.slots.sum) (sym found.slots.count_is) (sym names ∙ ap length found.names) (sym schema ∙ ap length found.schema)
 
-pub loaded_lawful : (name : FileName) (size : ℕ) (front : List ℕ) (h : Head × Sizes) (rest : List ℕ) (c : Content) → FrontFound name size front h → RestFound h rest c → IsContent c × (name ≡ name_of c.head)
+pub loaded_lawful : (name : FileName) (size : ℕ) (front : List ℕ) (h : Head × Sizes) (rest : List ℕ) (c : Index) → FrontFound name size front h → RestFound h rest c → IsIndex c × (name ≡ name_of c.head)
 loaded_lawful name size front h rest c front_is found = (
   record { head = subst IsHead (sym found.head) front_is.head; each = found.slots.each; ascend = found.slots.ascend; names = found.names_are; schema = found.schema_is },
   front_is.named ∙ ap name_of (sym found.head),
@@ -144,17 +144,17 @@ loaded_lawful name size front h rest c front_is found = (
 
 -- ---- what a file holds
 
-pub written_holds : (head : Head) (rows : List Row) (names : List Name) (schema : Counted) → IsContent (content_of head rows names schema) → length (file_bytes head rows names schema) < number_end
-    → Holds (file_bytes head rows names schema) (content_of head rows names schema)
+pub written_holds : (head : Head) (rows : List Row) (names : List Name) (schema : Counted) → IsIndex (index_of head rows names schema) → length (file_bytes head rows names schema) < number_end
+    → Holds (file_bytes head rows names schema) (index_of head rows names schema)
 written_holds head rows names schema is short = record { is = is; records = records rows; sized = sym (records_length rows); spelled = refl; short = short }
 
 -- the parts of a file that was judged right
-record Judged (name : FileName) (bytes : List ℕ) (c : Content) : Type 0 where
+record Judged (name : FileName) (bytes : List ℕ) (c : Index) : Type 0 where
   h : Head × Sizes
   front : FrontFound name (length bytes) (front_of bytes) h
   rest : RestFound h (drop (directory_place h.1) bytes) c
 
-judged : (name : FileName) (bytes : List ℕ) (c : Content) → IsBytes bytes → file_judged name bytes ≡ Ok c → Judged name bytes c
+judged : (name : FileName) (bytes : List ℕ) (c : Index) → IsBytes bytes → file_judged name bytes ≡ Ok c → Judged name bytes c
 judged name bytes c each is =
     let parts = judged_parts (front_judged name (length bytes) (front_of bytes)) (λ h. rest_judged h (drop (directory_place h.1) bytes)) c is in
     let short : length (front_of bytes) ≤ 60 = omega (arith, length-take 60 (drop 1 bytes)) in
@@ -164,11 +164,11 @@ judged name bytes c each is =
       rest = rest_found parts.0 (drop (directory_place parts.0.1) bytes) c (IsBytes-drop (directory_place parts.0.1) bytes each) parts.2;
     }
 
-pub judged_named : (name : FileName) (bytes : List ℕ) (c : Content) → IsBytes bytes → file_judged name bytes ≡ Ok c → name ≡ name_of c.head
+pub judged_named : (name : FileName) (bytes : List ℕ) (c : Index) → IsBytes bytes → file_judged name bytes ≡ Ok c → name ≡ name_of c.head
 judged_named name bytes c each is =
     let j = judged name bytes c each is in (loaded_lawful name (length bytes) (front_of bytes) j.h (drop (directory_place j.h.1) bytes) c j.front j.rest).1
 
-rest_joined : (h : Head × Sizes) (tail : List ℕ) (c : Content) → RestFound h tail c → tail ≡ directory c.slots ++ (section c.names ++ schema_bytes (schema_tree c.schema))
+rest_joined : (h : Head × Sizes) (tail : List ℕ) (c : Index) → RestFound h tail c → tail ≡ directory c.slots ++ (section c.names ++ schema_bytes (schema_tree c.schema))
 rest_joined h tail c found =
     let n = h.1.entries * 12 in
     let behind : drop n tail ≡ section c.names ++ schema_bytes (schema_tree c.schema) =
@@ -180,7 +180,7 @@ opened_parts [] opened = absurd (cc)
 opened_parts (gate ∷ []) opened = absurd (cc)
 opened_parts (gate ∷ next ∷ more) opened = ap (λ (g : ℕ). g ∷ next ∷ more) (eqb-true gate 1 opened) ∙ ap (λ (bytes : List ℕ). 1 ∷ bytes) (sym (take-append-drop 60 (next ∷ more)))
 
-pub judged_holds : (name : FileName) (bytes : List ℕ) (c : Content) → IsBytes bytes → is_open_file bytes ≡ true → length bytes < number_end → file_judged name bytes ≡ Ok c → Holds bytes c
+pub judged_holds : (name : FileName) (bytes : List ℕ) (c : Index) → IsBytes bytes → is_open_file bytes ≡ true → length bytes < number_end → file_judged name bytes ≡ Ok c → Holds bytes c
 judged_holds name bytes c each opened short is =
     let j = judged name bytes c each is in
     let h = j.h in

@@ -59,3 +59,9 @@ none_there slots key i less greater at s here same =
       | inl before ↦ absurd (omega (arith, less at before, found.1, same))
       | inr behind ↦ absurd (omega (arith, greater at behind (omega (arith, found.0, length-map slots (λ (t : Slot). t.key))), found.1, same))
     ]
+
+-- a record ends no later than all of them
+pub within_all : (slots : List Slot) (i : ℕ) (s : Slot) → slice_get slots i ≡ Some s → lengths_of (take i slots) + s.length ≤ lengths_of slots
+within_all [] i s at = absurd (cc)
+within_all (t ∷ slots) zero s at = let same : t ≡ s = cc in omega (arith, one_more t slots, ap (λ (u : Slot). u.length) same)
+within_all (t ∷ slots) (suc i) s at = omega (arith, one_more t (take i slots), one_more t slots, within_all slots i s at)

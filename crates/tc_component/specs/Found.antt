@@ -10,7 +10,7 @@ use Rattle.tc_component.specs.declared.head.Head.{Head}
 use Rattle.tc_component.specs.declared.head.Sizes.{Sizes}
 use Rattle.tc_component.specs.declared.slot.Slot.{Slot}
 use Rattle.tc_component.specs.Layout.{file_size, slot_size}
-use Rattle.tc_component.specs.Spelling.{head_bytes, IsHead, directory, lengths_of, IsSlot, Ascend, Content, name_of}
+use Rattle.tc_component.specs.Spelling.{head_bytes, IsHead, directory, lengths_of, IsSlot, Ascend, Index, name_of}
 
 -- each has 64 bits
 pub record AreSizes (sizes : Sizes) : Type 0 where
@@ -36,7 +36,7 @@ pub record DirectoryFound (count records : ℕ) (bytes : List ℕ) (slots : List
   pub sum : lengths_of slots ≡ records
 
 -- what stands behind the records is the directory, the names and the schema
-pub record RestFound (h : Head × Sizes) (rest : List ℕ) (c : Content) : Type 0 where
+pub record RestFound (h : Head × Sizes) (rest : List ℕ) (c : Index) : Type 0 where
   pub head : c.head ≡ h.0
   pub slots : DirectoryFound h.1.entries h.1.records (take (h.1.entries * slot_size) rest) c.slots
   pub names_are : IsDictionary c.names

@@ -5,3 +5,4 @@ pub mod Found
 pub mod Building
 pub mod Columns
 pub mod Loading
+pub mod Fetching

@@ -6,17 +6,17 @@ use Rattle.tc_component.specs.declared.head.Head.{Head}
 use Rattle.tc_component.specs.declared.head.Sizes.{Sizes}
 use Rattle.tc_component.specs.declared.reading.Parts.{Parts}
 use Rattle.tc_component.specs.declared.loading.Loaded.{Loaded}
-use Rattle.tc_component.specs.Spelling.{Content}
+use Rattle.tc_component.specs.Spelling.{Index}
 
 abbrev pub same_pair : Head × Sizes → Head × Sizes
 same_pair h = h
 
 -- a header, and what stands behind the records
-abbrev pub parts_of : Head → Parts → Content
+abbrev pub parts_of : Head → Parts → Index
 parts_of head parts = record { head = head; slots = parts.directory; names = parts.names; schema = parts.schema }
 
-abbrev pub loaded_content : Loaded → Content
-loaded_content loaded = parts_of loaded.head loaded.parts
+abbrev pub loaded_index : Loaded → Index
+loaded_index loaded = parts_of loaded.head loaded.parts
 
 -- A call of two reads where it is done, and of no more where it is not.
 pub record IsCountedTwice (Failed Done : Type 0) (old new : Counts) : Type 0 where
@@ -27,10 +27,10 @@ pub record IsCountedTwice (Failed Done : Type 0) (old new : Counts) : Type 0 whe
 -- a component, as contracts see it: its file, and what it has beside its records
 pub record ComponentState (F : Type 0) : Type 0 where
   pub file : F
-  pub content : Content
+  pub index : Index
 
-abbrev pub content_in : {F : Type 0} → ComponentState F → Content
-content_in c = c.content
+abbrev pub index_in : {F : Type 0} → ComponentState F → Index
+index_in c = c.index
 
 abbrev pub same_head : Head → Head
 same_head head = head

@@ -12,7 +12,7 @@ use Rattle.tc_component.specs.declared.head.Head.{Head}
 use Rattle.tc_component.specs.declared.head.Sizes.{Sizes}
 use Rattle.tc_component.specs.declared.slot.Slot.{Slot}
 use Rattle.tc_component.specs.Layout.{number_end, head_place, records_place, slot_size, least_record, directory_place, names_place, schema_place, file_size}
-use Rattle.tc_component.specs.Spelling.{magic, slot, lengths_of, Content}
+use Rattle.tc_component.specs.Spelling.{magic, slot, lengths_of, Index}
 
 -- ---- the header
 
@@ -83,7 +83,7 @@ directory_read count records before bytes =
 -- ---- judging
 
 -- what stands behind the records
-abbrev pub rest_judged : Head × Sizes → List ℕ → Result Content Damage
+abbrev pub rest_judged : Head × Sizes → List ℕ → Result Index Damage
 rest_judged h rest =
     let slots_end = h.1.entries * slot_size in
     let own = take slots_end rest in
@@ -95,7 +95,7 @@ rest_judged h rest =
     Ok (record { head = h.0; slots = slots; names = names; schema = schema })
 
 -- a whole file of this name, of which the gate is open
-abbrev pub file_judged : FileName → List ℕ → Result Content Damage
+abbrev pub file_judged : FileName → List ℕ → Result Index Damage
 file_judged name bytes = judged_then (front_judged name (length bytes) (front_of bytes)) λ h. rest_judged h (drop (directory_place h.1) bytes)
 
 -- the header alone

@@ -81,8 +81,8 @@ Ascend slots = IsStrictlySortedBy nat_cmp (map (λ s. s.key) slots)
 
 -- ---- the file
 
--- what a component has beside its records
-pub record Content : Type 0 where
+-- what a component has beside its records: how they are found, and what they are read by
+pub record Index : Type 0 where
   pub head : Head
   pub slots : List Slot
   pub names : List Name
@@ -96,23 +96,23 @@ sizes_of slots names schema = record {
   schema = length (schema_bytes (schema_tree schema));
 }
 
-abbrev pub sizes_in : Content → Sizes
+abbrev pub sizes_in : Index → Sizes
 sizes_in c = sizes_of c.slots c.names c.schema
 
 -- the file of these records
-abbrev pub content_bytes : Content → List ℕ → List ℕ
-content_bytes c records =
+abbrev pub file_with : Index → List ℕ → List ℕ
+file_with c records =
     1 ∷ (head_bytes c.head (sizes_in c) ++ (records ++ (directory c.slots ++ (section c.names ++ schema_bytes (schema_tree c.schema)))))
 
 -- what the file of these rows has beside its records
-abbrev pub content_of : Head → List Row → List Name → Counted → Content
-content_of head rows names schema = record { head = head; slots = slots_of rows; names = names; schema = schema }
+abbrev pub index_of : Head → List Row → List Name → Counted → Index
+index_of head rows names schema = record { head = head; slots = slots_of rows; names = names; schema = schema }
 
 abbrev pub file_bytes : Head → List Row → List Name → Counted → List ℕ
-file_bytes head rows names schema = content_bytes (content_of head rows names schema) (records rows)
+file_bytes head rows names schema = file_with (index_of head rows names schema) (records rows)
 
 -- what a component may have
-pub record IsContent (c : Content) : Type 0 where
+pub record IsIndex (c : Index) : Type 0 where
   pub head : IsHead c.head
   pub each : AllByRecursion IsSlot c.slots
   pub ascend : Ascend c.slots
@@ -123,10 +123,10 @@ pub record IsContent (c : Content) : Type 0 where
 abbrev pub name_of : Head → FileName
 name_of head = Component head.from head.to
 
--- Bytes that are a component with this content, whatever stands where the records have their place.
-pub record Holds (bytes : List ℕ) (c : Content) : Type 0 where
-  pub is : IsContent c
+-- Bytes that are a component with this index, whatever stands where the records have their place.
+pub record Holds (bytes : List ℕ) (c : Index) : Type 0 where
+  pub is : IsIndex c
   pub records : List ℕ
   pub sized : length records ≡ lengths_of c.slots
-  pub spelled : bytes ≡ content_bytes c records
+  pub spelled : bytes ≡ file_with c records
   pub short : length bytes < number_end

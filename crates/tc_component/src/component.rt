@@ -6,11 +6,13 @@ ghost use Rattle.tc_store.specs.Counted.{IsCountedOnce};
 ghost use Rattle.tc_store.specs.Judging.{Judges, IfDamaged, damage as a_damage};
 ghost use Rattle.tc_component.specs.declared.slot.Slot.{Slot as OneSlot};
 ghost use Rattle.tc_component.specs.Columns.{IsFound, IsEntry};
+ghost use Rattle.tc_component.specs.Fetching.{IsPlace, record_place, length_at, record_at, IsRecordWithin};
 ghost use Rattle.tc_component.specs.Layout.{names_place, schema_place, file_size};
-ghost use Rattle.tc_component.specs.Loading.{content_in, same_head, IsCountedTwice};
+ghost use Rattle.tc_component.specs.Loading.{index_in, same_head, IsCountedTwice};
 ghost use Rattle.tc_component.specs.Reading.{head_judged, file_judged};
-ghost use Rattle.tc_component.specs.Spelling.{sizes_in, name_of, IsHead, IsContent};
+ghost use Rattle.tc_component.specs.Spelling.{sizes_in, name_of, IsHead, IsIndex};
 
+use crate::fetching::record_of;
 use crate::found::{DirEntry, Found, Place};
 use crate::head::Head;
 use crate::layout::{RECORDS_PLACE, SLOT_LEN};
@@ -19,9 +21,10 @@ use crate::reading::{front_in, named_head_in};
 use crate::slot::Slot;
 use std::alloc::Global;
 use std::marker::Model;
+use tc_bytes::Bytes;
 use tc_names::Names;
 use tc_schema::Schema;
-use tc_store::{FileName, Frozen, ReadFault};
+use tc_store::{FileName, Frozen, ReadFault, bytes_of};
 
 /// A component whose file is still. Its directory, its names and its schema are in memory, and its records are not.
 /// Contracts see the file, and what it has beside its records.
@@ -36,16 +39,16 @@ impl<F: Frozen> Model for Component<F> {
     ghost use Rattle.std.specs.Prelude.{◌≡◌, ◌<◌};
     ghost use Rattle.tc_schema_model.specs.CountedCode.{coded_counted};
     ghost use Rattle.tc_component.specs.Layout.{file_size, number_end};
-    ghost use Rattle.tc_component.specs.Loading.{ComponentState, loaded_content};
-    ghost use Rattle.tc_component.specs.Spelling.{IsContent, sizes_of};
+    ghost use Rattle.tc_component.specs.Loading.{ComponentState, loaded_index};
+    ghost use Rattle.tc_component.specs.Spelling.{IsIndex, sizes_of};
 
     ghost Value = { ComponentState F };
 
     ghost coded = { Prim.hlevel (codes, coded_counted) };
 
-    ghost view = { λ c. record { file = c.file; content = loaded_content c.loaded } };
+    ghost view = { λ c. record { file = c.file; index = loaded_index c.loaded } };
 
-    ghost invariant = { λ c. IsContent (loaded_content c.loaded) × (c.loaded.sizes ≡ sizes_of c.loaded.parts.directory c.loaded.parts.names c.loaded.parts.schema) × (file_size c.loaded.sizes ≡ F.size c.file) × (file_size c.loaded.sizes < number_end) };
+    ghost invariant = { λ c. IsIndex (loaded_index c.loaded) × (c.loaded.sizes ≡ sizes_of c.loaded.parts.directory c.loaded.parts.names c.loaded.parts.schema) × (file_size c.loaded.sizes ≡ F.size c.file) × (file_size c.loaded.sizes < number_end) };
 }
 
 impl<F: Frozen> Component<F> {
@@ -57,11 +60,11 @@ impl<F: Frozen> Component<F> {
         name: FileName,
         watch: &mut F::Watch,
     ) -> Result<Component<F>, ReadFault>
-        ensures judged { IfSome (F.content file) (λ bytes. Judges content_in result (file_judged name bytes)) }
+        ensures judged { IfSome (F.content file) (λ bytes. Judges index_in result (file_judged name bytes)) }
         ensures file { IfOk result (λ c. c.file ≡ file) }
 
         // Also of a file that does not tell its content.
-        ensures lawful { IfOk result (λ c. IsContent c.content × (name ≡ name_of c.content.head)) }
+        ensures lawful { IfOk result (λ c. IsIndex c.index × (name ≡ name_of c.index.head)) }
         ensures damaged { IfDamaged result (λ place bytes. (whole : List ℕ) × (length whole ≡ F.size file) × (file_judged name whole ≡ Err (a_damage place bytes))) }
 
         ensures counted { IsCountedTwice (IsErrOf result ReadFault.Disk) (IsOk result) (F.Watch.counts watch.old) (F.Watch.counts watch.new) }
@@ -72,50 +75,76 @@ impl<F: Frozen> Component<F> {
 
     /// Which component it is.
     pub fn head(&self) -> Head
-        ensures { result ≡ self.now.content.head }
+        ensures { result ≡ self.now.index.head }
     {
         self.loaded.head
     }
 
     /// How many entries it has.
     pub fn len(&self) -> usize
-        ensures { result ≡ length self.now.content.slots }
+        ensures { result ≡ length self.now.index.slots }
     {
         self.loaded.parts.directory.len()
     }
 
     /// What it has of a key. Makes no read and takes no memory.
     pub fn find(&self, key: u64) -> Found
-        ensures { IsFound self.now.content.slots key result }
+        ensures { IsFound self.now.index.slots key result }
     {
         self.loaded.parts.directory.find(key)
     }
 
     /// The entry at a position of the directory. Makes no read and takes no memory.
     pub fn entry(&self, at: usize) -> DirEntry
-        requires { at < length self.now.content.slots }
-        ensures { IsEntry self.now.content.slots at result }
+        requires { at < length self.now.index.slots }
+        ensures { IsEntry self.now.index.slots at result }
     {
         entry_of(at, self.loaded.parts.directory.slot(at))
     }
 
+    /// Fetches the record of the entry at a place, by one read, which is left out where memory is wanting. It is of form
+    /// 1, and each of its numbers is one of a name of the component; else it is `Damaged`, with its place and its bytes.
+    /// `Disk` comes only where the read failed. What the record says is not looked at further.
+    pub fn fetch(
+        &self,
+        alloc: Global,
+        place: Place,
+        watch: &mut F::Watch,
+    ) -> Result<Bytes, ReadFault>
+        requires { IsPlace self.now.index.slots place }
+        ensures read { IfOk result (λ read. IfSome (F.content self.now.file) (λ bytes. read ≡ record_at self.now.index.slots place.at bytes)) }
+        ensures told { IfDamaged result (λ at kept. IfSome (F.content self.now.file) (λ bytes. kept ≡ record_at self.now.index.slots place.at bytes)) }
+
+        // Also of a file that does not tell its content.
+        ensures found { IfOk result (λ read. (length read ≡ length_at self.now.index.slots place.at) × IsRecordWithin (length self.now.index.names) read) }
+        ensures damaged { IfDamaged result (λ at kept. (at ≡ record_place self.now.index.slots place.at) × (length kept ≡ length_at self.now.index.slots place.at) × (IsRecordWithin (length self.now.index.names) kept → ⊥)) }
+
+        ensures counted { IsCountedOnce (IsErrOf result ReadFault.Disk) (IsErrOf result ReadFault.Memory → ⊥) (F.Watch.counts watch.old) (F.Watch.counts watch.new) }
+    {
+        let directory = &self.loaded.parts.directory;
+        let at = RECORDS_PLACE + directory.start(place.at);
+        let count = directory.slot(place.at).length as usize;
+        let bytes = bytes_of(alloc, &self.file, at, count, watch)?;
+        record_of(self.loaded.parts.names.len(), at, bytes)
+    }
+
     /// Its dictionary, borrowed.
     pub fn names(&self) -> &Names
-        ensures { result.now ≡ self.now.content.names }
+        ensures { result.now ≡ self.now.index.names }
     {
         &self.loaded.parts.names
     }
 
     /// Its schema, borrowed.
     pub fn schema(&self) -> &Schema
-        ensures { result.now ≡ self.now.content.schema }
+        ensures { result.now ≡ self.now.index.schema }
     {
         &self.loaded.parts.schema
     }
 
     /// Where the names begin.
     pub fn names_at(&self) -> u64
-        ensures { result ≡ names_place (sizes_in self.now.content) }
+        ensures { result ≡ names_place (sizes_in self.now.index) }
     {
         let sizes = self.loaded.sizes;
         RECORDS_PLACE + sizes.records + sizes.entries * SLOT_LEN as u64
@@ -123,7 +152,7 @@ impl<F: Frozen> Component<F> {
 
     /// Where the schema begins.
     pub fn schema_at(&self) -> u64
-        ensures { result ≡ schema_place (sizes_in self.now.content) }
+        ensures { result ≡ schema_place (sizes_in self.now.index) }
     {
         self.names_at() + self.loaded.sizes.names
     }
@@ -131,8 +160,8 @@ impl<F: Frozen> Component<F> {
     /// The length of the file in bytes.
     pub fn file_len(&self) -> u64
         ensures length { result ≡ F.size self.now.file }
-        ensures sized { result ≡ file_size (sizes_in self.now.content) }
-        ensures content { IsContent self.now.content }
+        ensures sized { result ≡ file_size (sizes_in self.now.index) }
+        ensures lawful { IsIndex self.now.index }
     {
         self.file.len()
     }

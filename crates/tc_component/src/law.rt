@@ -9,14 +9,14 @@ ghost use Rattle.tc_store.specs.declared.file_name.FileName.{FileName};
 ghost use Rattle.tc_component.specs.declared.head.Head.{Head as OneHead};
 ghost use Rattle.tc_component.specs.Layout.{number_end};
 ghost use Rattle.tc_component.specs.Reading.{file_judged};
-ghost use Rattle.tc_component.specs.Spelling.{Row, Content, IsContent, Holds, name_of, content_of, file_bytes};
+ghost use Rattle.tc_component.specs.Spelling.{Row, Index, IsIndex, Holds, name_of, index_of, file_bytes};
 
 /// A law, and no work. The file of rows holds them, what an open file holds is what it is judged to be under its name,
-/// and it is judged to be nothing else; so a file holds one content, and a content that is written is loaded again.
+/// and it is judged to be nothing else; so a file holds one index, and what is written is loaded again.
 pub fn written_is_read()
-    ensures written { (head : OneHead) (rows : List Row) (names : List Name) (schema : Counted) → IsContent (content_of head rows names schema) → length (file_bytes head rows names schema) < number_end → Holds (file_bytes head rows names schema) (content_of head rows names schema) }
-    ensures open { (bytes : List ℕ) (c : Content) → Holds bytes c → is_open_file bytes ≡ true }
-    ensures judged { (bytes : List ℕ) (c : Content) → Holds bytes c → file_judged (name_of c.head) bytes ≡ Ok c }
-    ensures found { (name : FileName) (bytes : List ℕ) (c : Content) → IsBytes bytes → is_open_file bytes ≡ true → length bytes < number_end → file_judged name bytes ≡ Ok c → Holds bytes c }
-    ensures named { (name : FileName) (bytes : List ℕ) (c : Content) → IsBytes bytes → file_judged name bytes ≡ Ok c → name ≡ name_of c.head }
+    ensures written { (head : OneHead) (rows : List Row) (names : List Name) (schema : Counted) → IsIndex (index_of head rows names schema) → length (file_bytes head rows names schema) < number_end → Holds (file_bytes head rows names schema) (index_of head rows names schema) }
+    ensures open { (bytes : List ℕ) (c : Index) → Holds bytes c → is_open_file bytes ≡ true }
+    ensures judged { (bytes : List ℕ) (c : Index) → Holds bytes c → file_judged (name_of c.head) bytes ≡ Ok c }
+    ensures found { (name : FileName) (bytes : List ℕ) (c : Index) → IsBytes bytes → is_open_file bytes ≡ true → length bytes < number_end → file_judged name bytes ≡ Ok c → Holds bytes c }
+    ensures named { (name : FileName) (bytes : List ℕ) (c : Index) → IsBytes bytes → file_judged name bytes ≡ Ok c → name ≡ name_of c.head }
 {}

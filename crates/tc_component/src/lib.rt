@@ -4,6 +4,7 @@
 mod builder;
 mod component;
 mod directory;
+mod fetching;
 mod found;
 mod head;
 mod law;

@@ -5,9 +5,9 @@ ghost use Rattle.std.specs.Result.{IsOk};
 ghost use Rattle.tc_store.specs.Counted.{IsCountedOnce};
 ghost use Rattle.tc_store.specs.Judging.{Judges, IfDamaged, IsNoDamage, damage as a_damage};
 ghost use Rattle.tc_component.specs.Layout.{file_size, number_end, directory_place};
-ghost use Rattle.tc_component.specs.Loading.{loaded_content, IsCountedTwice};
+ghost use Rattle.tc_component.specs.Loading.{loaded_index, IsCountedTwice};
 ghost use Rattle.tc_component.specs.Reading.{file_judged};
-ghost use Rattle.tc_component.specs.Spelling.{sizes_of, name_of, IsContent};
+ghost use Rattle.tc_component.specs.Spelling.{sizes_of, name_of, IsIndex};
 
 use crate::head::{Head, Sizes};
 use crate::layout::RECORDS_PLACE;
@@ -30,8 +30,8 @@ pub(crate) fn loaded_of<F: Frozen>(
     name: FileName,
     watch: &mut F::Watch,
 ) -> Result<Loaded, ReadFault>
-    ensures judged { IfSome (F.content file.now) (λ bytes. Judges loaded_content result (file_judged name bytes)) }
-    ensures lawful { IfOk result (λ l. IsContent (loaded_content l) × (name ≡ name_of l.head)) }
+    ensures judged { IfSome (F.content file.now) (λ bytes. Judges loaded_index result (file_judged name bytes)) }
+    ensures lawful { IfOk result (λ l. IsIndex (loaded_index l) × (name ≡ name_of l.head)) }
     ensures sizes { IfOk result (λ l. l.sizes ≡ sizes_of l.parts.directory l.parts.names l.parts.schema) }
     ensures sized { IfOk result (λ l. file_size l.sizes ≡ F.size file.now) }
     ensures short { IfOk result (λ l. file_size l.sizes < number_end) }

@@ -9,10 +9,10 @@ pub returns-clause-written : goal.returns-clause-written
 returns-clause-written c = written_holds
 
 pub returns-clause-open : goal.returns-clause-open
-returns-clause-open c = λ bytes content holds. ap is_open_file holds.spelled
+returns-clause-open c = λ bytes index holds. ap is_open_file holds.spelled
 
 pub returns-clause-judged : goal.returns-clause-judged
-returns-clause-judged c = λ bytes content holds. judged_spelled (name_of content.head) bytes content holds refl
+returns-clause-judged c = λ bytes index holds. judged_spelled (name_of index.head) bytes index holds refl
 
 pub returns-clause-found : goal.returns-clause-found
 returns-clause-found c = judged_holds

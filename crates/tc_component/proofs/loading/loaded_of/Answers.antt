@@ -7,7 +7,7 @@ use Rattle.tc_component.specs.declared.head.Sizes.{Sizes}
 use Rattle.tc_component.specs.declared.loading.Loaded.{Loaded}
 use Rattle.tc_component.specs.Found.{FrontFound, RestFound}
 use Rattle.tc_component.specs.Layout.{directory_place}
-use Rattle.tc_component.specs.Loading.{same_pair, parts_of, loaded_content}
+use Rattle.tc_component.specs.Loading.{same_pair, parts_of, loaded_index}
 use Rattle.tc_component.specs.Reading.{front_judged, rest_judged, file_judged}
 use Rattle.tc_component.proofs.Loaded.{head_answers, rest_answers, all_answers, head_damaged, rest_damaged, damaged_out, loaded_sizes, loaded_lawful}
 use Rattle.tc_component.proofs.loading.loaded_of.Goals as goal
@@ -22,8 +22,8 @@ returns-in_err-head-clause-judged g c =
     let p = err_from_is_err_and r c.from_residual-in_err-head.ensures.1 in
     let judged = subst (λ q. Judges same_pair q (front_judged c.args.name size front)) c.in_err-head.was (subst (λ n. Judges same_pair c.named_head_in.result (front_judged c.args.name n front)) c.len-size.ensures.exact
     (subst (λ bytes. Judges same_pair c.named_head_in.result (front_judged c.args.name c.len-size.result bytes)) c.deref.ensures.value c.named_head_in.ensures.judged)) in
-    subst (λ s. IfSome content (λ bytes. Judges loaded_content s (file_judged c.args.name bytes))) (sym (p.1 ∙ ap Err p.2))
-    (head_answers loaded_content (λ bytes h. rest_judged h (drop (directory_place h.1) bytes)) c.args.name size front content c.in_err-head.field-0.0 (laws.told_size c.args.file.now) c.in_ok-front.ensures.read judged)
+    subst (λ s. IfSome content (λ bytes. Judges loaded_index s (file_judged c.args.name bytes))) (sym (p.1 ∙ ap Err p.2))
+    (head_answers loaded_index (λ bytes h. rest_judged h (drop (directory_place h.1) bytes)) c.args.name size front content c.in_err-head.field-0.0 (laws.told_size c.args.file.now) c.in_ok-front.ensures.read judged)
 
 pub returns-in_err-head-clause-damaged : goal.returns-in_err-head-clause-damaged
 returns-in_err-head-clause-damaged g c =
@@ -48,8 +48,8 @@ returns-in_err-parts-clause-judged g c =
     let judged = subst (λ q. Judges (parts_of c.in_ok-head.head) q (rest_judged h rest)) c.in_err-parts.was (subst (λ bytes. Judges (parts_of c.in_ok-head.head) c.parts_in.result (rest_judged h bytes)) c.deref-2.ensures.value c.parts_in.ensures.judged) in
     let r = c.from_residual-in_err-parts.result in
     let p = err_from_is_err_and r c.from_residual-in_err-parts.ensures.1 in
-    subst (λ s. IfSome content (λ bytes. Judges loaded_content s (file_judged c.args.name bytes))) (sym (p.1 ∙ ap Err p.2))
-    (rest_answers (parts_of c.in_ok-head.head) loaded_content c.args.name size front h rest content c.in_err-parts.field-0.0 (laws.told_size c.args.file.now) c.in_ok-front.ensures.read first c.in_ok-rest.ensures.read judged)
+    subst (λ s. IfSome content (λ bytes. Judges loaded_index s (file_judged c.args.name bytes))) (sym (p.1 ∙ ap Err p.2))
+    (rest_answers (parts_of c.in_ok-head.head) loaded_index c.args.name size front h rest content c.in_err-parts.field-0.0 (laws.told_size c.args.file.now) c.in_ok-front.ensures.read first c.in_ok-rest.ensures.read judged)
 
 pub returns-in_err-parts-clause-damaged : goal.returns-in_err-parts-clause-damaged
 returns-in_err-parts-clause-damaged g c =
