@@ -1,7 +1,8 @@
 -- The laws of whole components: what is spelled is read, and what is read is spelled so.
-use Rattle.std.proofs.Common.{◌≡◌, ◌∙◌, ◌<◌, ◌≤◌, ◌+◌, ◌*◌, ◌==◌, ◌&&◌, ℕ, Bool, true, false, List, [], ◌∷◌, ◌++◌, Some, Result, Ok, length, take, drop, refl, sym, ap, subst, arith, append_assoc, append-nil, length-append}
+use Rattle.std.proofs.Common.{◌≡◌, ◌∙◌, ◌<◌, ◌≤◌, ◌+◌, ◌*◌, ◌==◌, ◌&&◌, ℕ, suc, Bool, true, false, List, [], ◌∷◌, ◌++◌, Some, Result, Ok, length, take, drop, refl, sym, ap, subst, arith, append_assoc, append-nil, length-append}
 use Rattle.std.proofs.lemmas.Bool.{eqb-true}
 use Rattle.std.proofs.lemmas.Bool.Decides.{nat_tests}
+use Rattle.std.proofs.lemmas.Option.{same_Some}
 use Rattle.std.proofs.lemmas.List.{nil_from_length, take_at, drop_at}
 use Rattle.tc_bytes.specs.Codec.{IsBytes, IsCodec}
 use Rattle.tc_bytes.specs.Reading.{passing_at}
@@ -151,6 +152,9 @@ rest_of_content c is =
       schema = ap (drop (length c.slots * 12 + length ns)) (sym (append_assoc ds ns ss)) ∙ drop_at (ds ++ ns) ss (length c.slots * 12 + length ns) (omega (arith, long, length-append ds ns));
     }
 
+small_sizes : (sizes : Sizes) (size : ℕ) → size ≡ file_size sizes → size < number_end → AreSizes sizes
+small_sizes sizes size is short = record { records = omega (arith, is, short); entries = omega (arith, is, short); names = omega (arith, is, short); schema = omega (arith, is, short) }
+
 -- what is spelled is read
 pub judged_spelled : (name : FileName) (bytes : List ℕ) (c : Index) → Holds bytes c → name ≡ name_of c.head → file_judged name bytes ≡ Ok c
 judged_spelled name bytes c holds named =
@@ -163,6 +167,26 @@ judged_spelled name bytes c holds named =
     let rest : drop (directory_place (sizes_in c)) bytes ≡ behind c = ap (drop (directory_place (sizes_in c))) holds.spelled ∙ rest_spelled c rs holds.sized in
     let two : rest_judged (c.head, sizes_in c) (drop (directory_place (sizes_in c)) bytes) ≡ Ok c = ap (rest_judged (c.head, sizes_in c)) rest ∙ rest_again (c.head, sizes_in c) (behind c) c (rest_of_content c holds.is) in
     ap (λ (r : Result (Head × Sizes) Damage). judged_then r (λ h. rest_judged h (drop (directory_place h.1) bytes))) one ∙ two
-  where
-    small_sizes : (sizes : Sizes) (size : ℕ) → size ≡ file_size sizes → size < number_end → AreSizes sizes
-    small_sizes sizes size is short = record { records = omega (arith, is, short); entries = omega (arith, is, short); names = omega (arith, is, short); schema = omega (arith, is, short) }
+
+-- ---- the parts of a file that holds something
+
+header_read : (bytes : List ℕ) (c : Index) → Holds bytes c → head_at (front_of bytes) ≡ Some ((c.head, sizes_in c), [])
+header_read bytes c holds =
+    let long : length bytes ≡ file_size (sizes_in c) = ap length holds.spelled ∙ file_length c holds.records holds.sized in
+    let front : front_of bytes ≡ head_bytes c.head (sizes_in c) = ap front_of holds.spelled ∙ front_spelled c holds.records in
+    ap head_at (front ∙ sym (append-nil (head_bytes c.head (sizes_in c)))) ∙ head_codec.again (c.head, sizes_in c) [] (holds.is.head, small_sizes (sizes_in c) (length bytes) long holds.short)
+
+-- a file has one header
+pub one_head : (bytes : List ℕ) (c d : Index) → Holds bytes c → Holds bytes d → c.head ≡ d.head
+one_head bytes c d one two =
+    ap (λ (read : (Head × Sizes) × List ℕ). read.0.0) (same_Some ((c.head, sizes_in c), []) ((d.head, sizes_in d), []) (sym (header_read bytes c one) ∙ header_read bytes d two))
+
+pub records_spelled : (c : Index) (rs : List ℕ) → drop 61 (file_with c rs) ≡ rs ++ (directory c.slots ++ (section c.names ++ schema_bytes (schema_tree c.schema)))
+records_spelled c rs =
+    let hs = head_bytes c.head (sizes_of c.slots c.names c.schema) in
+    drop_at (1 ∷ hs) (rs ++ (directory c.slots ++ (section c.names ++ schema_bytes (schema_tree c.schema)))) 61 (ap suc (head_length c.head (sizes_of c.slots c.names c.schema)))
+
+pub records_read : (c : Index) (rs bytes : List ℕ) → bytes ≡ file_with c rs → length rs ≡ lengths_of c.slots → take (lengths_of c.slots) (drop 61 bytes) ≡ rs
+records_read c rs bytes spelled sized =
+    ap (λ (all : List ℕ). take (lengths_of c.slots) (drop 61 all)) spelled ∙ ap (take (lengths_of c.slots)) (records_spelled c rs)
+    ∙ take_at rs (directory c.slots ++ (section c.names ++ schema_bytes (schema_tree c.schema))) (lengths_of c.slots) sized

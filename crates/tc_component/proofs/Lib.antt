@@ -10,3 +10,6 @@ mod Files
 mod Loaded
 mod Lookups
 mod Fetched
+mod EntryRecords
+mod EntryPlaces
+mod SpelledContents

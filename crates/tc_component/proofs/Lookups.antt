@@ -1,7 +1,11 @@
 -- What stands at a place of a directory, and what is found in it.
-use Rattle.std.proofs.Common.{◌≡◌, ◌≢◌, ◌∙◌, ◌<◌, ◌≤◌, ◌+◌, ℕ, zero, suc, List, [], ◌∷◌, Some, length, map, take, get_or, slice_get, refl, ap, arith, inl, inr}
+use Rattle.std.proofs.Common.{◌≡◌, ◌≢◌, ◌∙◌, ◌<◌, ◌≤◌, ◌+◌, ◌-◌, ◌==◌, ◌||◌, ◌⊎◌, nat_lt, true, ℕ, zero, suc, List, [], ◌∷◌, Some, length, map, take, get_or, slice_get, refl, sym, ap, subst, arith, inl, inr}
 use Rattle.std.specs.List.{AllByRecursion}
+use Rattle.std.specs.List.Sorted.{IsStrictlySortedBy}
+use Rattle.std.specs.Ordering.{nat_cmp}
 use Rattle.std.proofs.lemmas.Bool.{cases_lt}
+use Rattle.std.proofs.lemmas.Bool.Decides.{nat_tests}
+use Rattle.std.proofs.lemmas.Map.Keys.{non_decreasing_from_sorted}
 use Rattle.std.proofs.lemmas.List.{length-map}
 use Rattle.std.proofs.lemmas.List.Sums.{sum_by-append}
 use Rattle.tc_component.specs.declared.slot.Slot.{Slot}
@@ -12,7 +16,7 @@ pub ends_length : (start : ℕ) (slots : List Slot) → length (ends_from start 
 ends_length start [] = refl
 ends_length start (s ∷ slots) = ap suc (ends_length (start + s.length) slots)
 
-one_more : (s : Slot) (slots : List Slot) → lengths_of (s ∷ slots) ≡ s.length + lengths_of slots
+pub one_more : (s : Slot) (slots : List Slot) → lengths_of (s ∷ slots) ≡ s.length + lengths_of slots
 one_more s slots = let one : lengths_of (s ∷ []) ≡ 0 + s.length = refl in omega (arith, one, sum_by-append (λ (t : Slot). t.length) (s ∷ []) slots)
 
 -- where the record at a place ends
@@ -65,3 +69,22 @@ pub within_all : (slots : List Slot) (i : ℕ) (s : Slot) → slice_get slots i 
 within_all [] i s at = absurd (cc)
 within_all (t ∷ slots) zero s at = let same : t ≡ s = cc in omega (arith, one_more t slots, ap (λ (u : Slot). u.length) same)
 within_all (t ∷ slots) (suc i) s at = omega (arith, one_more t (take i slots), one_more t slots, within_all slots i s at)
+
+-- no key is one that is less than the first of them, or greater than the last
+outside_parts : (n first last key : ℕ) → (n == 0 || (nat_lt key first || nat_lt last key)) ≡ true → (n ≡ 0) ⊎ ((key < first) ⊎ (last < key))
+outside_parts n first last key test = grind (arith, nat_tests)
+
+outside_all : (keys : List ℕ) (key : ℕ) → IsStrictlySortedBy nat_cmp keys → (length keys == 0 || (nat_lt key (get_or keys 0 0) || nat_lt (get_or keys (length keys - 1) 0) key)) ≡ true
+    → (k : ℕ) → k < length keys → get_or keys k 0 ≢ key
+outside_all keys key sorted test k within same = elim (outside_parts (length keys) (get_or keys 0 0) (get_or keys (length keys - 1) 0) key test) [
+  | inl none ↦ absurd (omega (arith, none, within))
+  | inr (inl less) ↦ absurd (omega (arith, less, same, non_decreasing_from_sorted keys sorted 0 k 0 (omega arith) within))
+  | inr (inr greater) ↦ absurd (omega (arith, greater, same, non_decreasing_from_sorted keys sorted k (length keys - 1) 0 (omega (arith, within)) (omega (arith, within))))
+]
+
+pub outside : (slots : List Slot) (keys : List ℕ) (key : ℕ) → keys ≡ map (λ (t : Slot). t.key) slots → IsStrictlySortedBy nat_cmp (map (λ (t : Slot). t.key) slots)
+    → (length keys == 0 || (nat_lt key (get_or keys 0 0) || nat_lt (get_or keys (length keys - 1) 0) key)) ≡ true → (at : ℕ) (s : Slot) → slice_get slots at ≡ Some s → s.key ≢ key
+outside slots keys key are sorted test at s here same =
+    let found = key_there slots at s here in
+    let within : at < length keys = omega (arith, found.0, length-map slots (λ (t : Slot). t.key), ap length are) in
+    outside_all keys key (subst (IsStrictlySortedBy nat_cmp) (sym are) sorted) test at within (ap (λ (ks : List ℕ). get_or ks at 0) are ∙ found.1 ∙ same)

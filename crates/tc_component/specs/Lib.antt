@@ -6,3 +6,5 @@ pub mod Building
 pub mod Columns
 pub mod Loading
 pub mod Fetching
+pub mod Rows
+pub mod Meaning

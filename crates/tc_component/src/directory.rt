@@ -1,6 +1,6 @@
 //! The directory of a component, in memory: two plain columns.
 
-ghost use Rattle.std.specs.Prelude.{◌≡◌, ◌<◌, ◌≤◌, ◌+◌, ◌&&◌, nat_le, [], length, take, slice_get, slice_index, Some, option_map, IfOk};
+ghost use Rattle.std.specs.Prelude.{◌≡◌, ◌<◌, ◌≤◌, ◌+◌, ◌-◌, ◌==◌, ◌&&◌, ◌||◌, nat_le, nat_lt, [], length, take, slice_get, slice_index, Some, option_map, IfOk};
 ghost use Rattle.tc_component.specs.declared.slot.Slot.{Slot as OneSlot};
 ghost use Rattle.tc_component.specs.Columns.{IsFound};
 ghost use Rattle.tc_component.specs.Layout.{number_end};
@@ -8,6 +8,7 @@ ghost use Rattle.tc_component.specs.Spelling.{lengths_of};
 ghost use Rattle.tc_component.specs.Reading.{directory_read};
 
 use crate::found::{Found, Place};
+use crate::layout::SLOT_LEN;
 use crate::slot::{Slot, slot_in};
 use std::alloc::Global;
 use std::marker::Model;
@@ -44,6 +45,9 @@ impl Directory {
     pub(crate) fn find(&self, key: u64) -> Found
         ensures { IsFound self.now key result }
     {
+        if is_outside(self.keys.as_slice(), key) {
+            return Found::Absent;
+        }
         match self.keys.binary_search(&key) {
             Ok(at) => self.found_at(at),
             Err(_) => Found::Absent,
@@ -85,6 +89,14 @@ impl Directory {
     }
 }
 
+/// Whether a key is less than the least of the keys, or greater than the greatest.
+fn is_outside(keys: &[u64], key: u64) -> bool
+    ensures { result ≡ (length keys.now == 0 || (nat_lt key (slice_index keys.now 0) || nat_lt (slice_index keys.now (length keys.now - 1)) key)) }
+{
+    let count = keys.len();
+    count == 0 || key < keys[0] || keys[count - 1] < key
+}
+
 fn end_at(ends: &[u64], at: usize) -> u64
     requires { at < length ends.now }
     ensures { result ≡ slice_index ends.now at }
@@ -102,8 +114,9 @@ pub(crate) fn directory_in(
     requires { records < number_end }
     ensures { IfOk result (λ found. option_map (λ directory. directory) found ≡ directory_read count records [] bytes.now) }
 {
-    let mut keys = Vec::new(alloc);
-    let mut ends = Vec::new(alloc);
+    let most = bytes.len() / SLOT_LEN;
+    let mut keys = Vec::with_capacity(alloc, most)?;
+    let mut ends = Vec::with_capacity(alloc, most)?;
     let mut low = 0;
     let mut end = 0;
     let mut rest = bytes;

@@ -18,5 +18,5 @@ pub use builder::Builder;
 pub use component::{Component, read_head};
 pub use found::{DirEntry, Found, Place};
 pub use head::Head;
-pub use law::written_is_read;
+pub use law::{components_are_contents, written_is_read};
 pub use slot::Slot;

@@ -20,7 +20,7 @@ use Rattle.tc_memory.specs.declared.held.Held.TheVariants as variant
 use Rattle.tc_memory.specs.DocumentTables.{IsTableOf}
 use Rattle.tc_flush.specs.Flushable.{CanCount, IsShortRecord}
 use Rattle.tc_flush.specs.Recounting.{names_with, all_added}
-use Rattle.tc_flush.specs.Rows.{rows_of}
+use Rattle.tc_component.specs.Rows.{rows_of}
 use Rattle.tc_flush.proofs.KeptEntries.{OneDocument, IsLive, live_entry, gone_entry, IsTableOf-live, recorded}
 
 -- what is lent of a lawful entry

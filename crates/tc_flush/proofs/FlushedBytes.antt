@@ -15,7 +15,7 @@ use Rattle.tc_memory.specs.Table as memory
 use Rattle.tc_flush.specs.Flushable.{CanCount, CanFlush, values_of}
 use Rattle.tc_flush.specs.Flushing.{flush_bytes}
 use Rattle.tc_flush.specs.Recounting.{FitsEach, all_removed, all_added, names_with, shapes_kept}
-use Rattle.tc_flush.specs.Rows.{rows_of}
+use Rattle.tc_component.specs.Rows.{rows_of}
 use Rattle.tc_flush.proofs.RecountedLaws.{canonical-all_removed, shows-all_removed}
 use Rattle.tc_flush.proofs.TableDocuments.{SetDocuments, names_with-held}
 

@@ -29,7 +29,7 @@ use Rattle.tc_memory.specs.Table.{IsLawfulEntry}
 use Rattle.tc_component.specs.declared.head.Head.{Head}
 use Rattle.tc_flush.specs.Flushable.{CanFlush, values_of}
 use Rattle.tc_flush.specs.Flushing.{flush_of, recounted}
-use Rattle.tc_flush.specs.Rows.{part_of}
+use Rattle.tc_component.specs.Rows.{part_of}
 use Rattle.tc_flush.specs.Recounting.{all_removed, names_with}
 use Rattle.tc_flush.proofs.RecountedLaws.{canonical-all_removed, shows-all_removed, canonical-all_added, shows-all_added}
 use Rattle.tc_flush.proofs.TableDocuments.{keys_of-writes_of}

@@ -10,7 +10,7 @@ use Rattle.tc_lsm_model.specs.Contents.{Content}
 use Rattle.tc_lsm_model.specs.Lists.{live, names_of, schema_of, last_of, IsList}
 use Rattle.tc_lsm_model.specs.Tables.{Table, writes_of, shapes_held, shapes_below, KeepsShapes}
 use Rattle.tc_flush.specs.Recounting.{all_removed, all_added}
-use Rattle.tc_flush.specs.Rows.{part_of, component_bytes}
+use Rattle.tc_component.specs.Rows.{part_of, component_bytes}
 
 -- the shapes of what went are taken off, and those of the table's documents are counted
 abbrev pub recounted : List Name → Counted → Table → Counted

@@ -1,6 +1,5 @@
 pub mod Recounting
 pub mod Flushable
-pub mod Rows
 pub mod Flushing
 pub mod Progress
 pub mod Jobs

@@ -17,7 +17,7 @@ ghost use Rattle.tc_memory.specs.Meaning.{IsLawfulHeld, entry_of};
 ghost use Rattle.tc_lsm_model.specs.Tables.{Table, writes_of, shapes_held};
 ghost use Rattle.tc_flush.specs.Flushable.{CanCount};
 ghost use Rattle.tc_flush.specs.Recounting.{names_with, all_added};
-ghost use Rattle.tc_flush.specs.Rows.{record_in, rows_of};
+ghost use Rattle.tc_component.specs.Rows.{record_in, rows_of};
 
 use crate::record::count_record;
 use tc_bytes::Memory;

@@ -13,7 +13,7 @@ ghost use Rattle.tc_lsm_model.specs.Flushes.{IsFlush};
 ghost use Rattle.tc_lsm_model.specs.Tables.{Table};
 ghost use Rattle.tc_flush.specs.Flushable.{CanFlush};
 ghost use Rattle.tc_flush.specs.Flushing.{IsBehind, flush_bytes};
-ghost use Rattle.tc_flush.specs.Rows.{part_of, component_bytes};
+ghost use Rattle.tc_component.specs.Rows.{part_of, component_bytes};
 
 use crate::laws::flushes_are_made;
 use crate::writing::write;

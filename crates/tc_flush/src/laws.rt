@@ -10,7 +10,7 @@ ghost use Rattle.tc_memory.specs.Table as memory;
 ghost use Rattle.tc_component.specs.declared.head.Head.{Head as Header};
 ghost use Rattle.tc_flush.specs.Flushable.{CanFlush};
 ghost use Rattle.tc_flush.specs.Flushing.{IsBehind, flush_of};
-ghost use Rattle.tc_flush.specs.Rows.{part_of};
+ghost use Rattle.tc_component.specs.Rows.{part_of};
 
 use tc_compact::names_agree;
 use tc_lsm_model::{

@@ -11,7 +11,7 @@ ghost use Rattle.tc_schema_model.specs.Occurrences.{Path};
 ghost use Rattle.tc_schema_model.specs.Values.{values_at};
 ghost use Rattle.tc_record.specs.Record.{IsRecordOf};
 ghost use Rattle.tc_compact.specs.Slots.{names_in};
-ghost use Rattle.tc_flush.specs.Rows.{record_in};
+ghost use Rattle.tc_component.specs.Rows.{record_in};
 
 use tc_bytes::Memory;
 use tc_compact::{compacted_size, names_agree};

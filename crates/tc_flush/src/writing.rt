@@ -14,7 +14,7 @@ ghost use Rattle.tc_lsm_model.specs.Tables.{Table, writes_of, shapes_held};
 ghost use Rattle.tc_flush.specs.Flushable.{CanCount, CanFlush};
 ghost use Rattle.tc_flush.specs.Flushing.{flush_bytes};
 ghost use Rattle.tc_flush.specs.Recounting.{FitsEach, all_removed, all_added, names_with, shapes_kept};
-ghost use Rattle.tc_flush.specs.Rows.{rows_of};
+ghost use Rattle.tc_component.specs.Rows.{rows_of};
 
 use crate::entry::put_entry;
 use std::alloc::Global;

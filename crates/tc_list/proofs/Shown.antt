@@ -38,9 +38,9 @@ no_mark : (o : Option (Option Document)) → option_map is_some o ≡ None → o
 no_mark None is = refl
 no_mark (Some held) is = cc
 
-shown_none : {F : Type 0} (m : ComponentState F) (c : Content) (key : ℕ) → Shows m c → IsFound m.content.slots key NotFound → value_of key c.entries ≡ None
+shown_none : {F : Type 0} (m : ComponentState F) (c : Content) (key : ℕ) → Shows m c → IsFound m.index.slots key NotFound → value_of key c.entries ≡ None
 shown_none m c key shows none =
-    no_mark (value_of key c.entries) (sym (value_of-read is_some key c.entries) ∙ ap (value_of key) (sym shows) ∙ none_marked m.content.slots key none)
+    no_mark (value_of key c.entries) (sym (value_of-read is_some key c.entries) ∙ ap (value_of key) (sym shows) ∙ none_marked m.index.slots key none)
 
 -- the entry that a slot shows
 record Shown (entries : List Write) (at : ℕ) (s : Slot) : Type 0 where
@@ -69,9 +69,9 @@ is_there : {X : Type 0} (o : Option X) → is_some o ≡ true → (x : X) × (o 
 is_there None is = absurd (cc)
 is_there (Some x) is = (x, refl)
 
-shown_gone : {F : Type 0} (m : ComponentState F) (c : Content) (key : ℕ) → Shows m c → Ascends c.entries → IsFound m.content.slots key Gone → value_of key c.entries ≡ Some None
+shown_gone : {F : Type 0} (m : ComponentState F) (c : Content) (key : ℕ) → Shows m c → Ascends c.entries → IsFound m.index.slots key Gone → value_of key c.entries ≡ Some None
 shown_gone m c key shows up (at, here) =
-    let e = shown_at m.content.slots c.entries at (record { key = key; length = 0 }) shows here in
+    let e = shown_at m.index.slots c.entries at (record { key = key; length = 0 }) shows here in
     subst (λ k. value_of k c.entries ≡ Some None) e.key (value_of-at c.entries at e.entry up e.here ∙ ap Some (is_none e.entry.1 e.mark))
 
 -- the document that a slot shows
@@ -80,9 +80,9 @@ record ShownDocument (entries : List Write) (key at : ℕ) : Type 0 where
   here : slice_get entries at ≡ Some (key, Some document)
   value : value_of key entries ≡ Some (Some document)
 
-shown_document : {F : Type 0} (m : ComponentState F) (c : Content) (key : ℕ) (place : Place) → Shows m c → Ascends c.entries → IsFound m.content.slots key (FoundAt place) → ShownDocument c.entries key place.at
+shown_document : {F : Type 0} (m : ComponentState F) (c : Content) (key : ℕ) (place : Place) → Shows m c → Ascends c.entries → IsFound m.index.slots key (FoundAt place) → ShownDocument c.entries key place.at
 shown_document m c key place shows up (bytes, here, some) =
-    let e = shown_at m.content.slots c.entries place.at (record { key = key; length = bytes }) shows here in
+    let e = shown_at m.index.slots c.entries place.at (record { key = key; length = bytes }) shows here in
     let d = is_there e.entry.1 (e.mark ∙ lt-ltb 0 bytes some) in
     let whole : e.entry ≡ (key, Some d.0) = ap (λ k. (k, e.entry.1)) e.key ∙ ap (λ held. (key, held)) d.1 in
     record {
@@ -126,8 +126,8 @@ all_none [] (c ∷ cs) key all none = absurd all
 all_none (m ∷ ms) [] key all none = absurd all
 all_none (m ∷ ms) (c ∷ cs) key all none =
     All-cons (λ (d : Content). value_of key d.entries ≡ None) c cs
-    (shown_none m c key all.0 (All-head (λ n. IsFound n.content.slots key NotFound) m ms none))
-    (all_none ms cs key all.1 (All-tail (λ n. IsFound n.content.slots key NotFound) m ms none))
+    (shown_none m c key all.0 (All-head (λ n. IsFound n.index.slots key NotFound) m ms none))
+    (all_none ms cs key all.1 (All-tail (λ n. IsFound n.index.slots key NotFound) m ms none))
 
 content_ascends : (part : Partition) (older : List Content) (c : Content) (newer : List Content) → IsList part (older ++ c ∷ newer) → Ascends c.entries
 content_ascends part older c newer is = (GoOn-back part 0 [] [] older (c ∷ newer) is).0.content.ascends

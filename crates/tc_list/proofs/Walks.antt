@@ -19,7 +19,7 @@ slice_get_at (first ∷ older) x newer = slice_get_at older x newer
 drop_behind : {X : Type 0} (older : List X) (x : X) (newer : List X) → drop (length older + 1) (older ++ x ∷ newer) ≡ newer
 drop_behind older x newer = ap (drop (length older + 1)) (sym (append_assoc older (x ∷ []) newer)) ∙ drop_at (older ++ x ∷ []) newer (length older + 1) (length_push older x)
 
-newest_between : {F : Type 0} (older newer : List (ComponentState F)) (c : ComponentState F) (key : ℕ) (found : Found) → IsFound c.content.slots key found → HaveNone newer key
+newest_between : {F : Type 0} (older newer : List (ComponentState F)) (c : ComponentState F) (key : ℕ) (found : Found) → IsFound c.index.slots key found → HaveNone newer key
     → IsNewest (older ++ c ∷ newer) key (length older) found
 newest_between older newer c key found has none = record {
   component = c;
@@ -30,7 +30,7 @@ newest_between older newer c key found has none = record {
 
 -- the last of what is left has an entry
 pub walked_newest : {A F : Type 0} (f : A → ComponentState F) (all left older : List A) (newest : A) (key : ℕ) (found : Found) → Walked f all left key → left ≡ older ++ newest ∷ []
-    → IsFound (f newest).content.slots key found → IsNewest (map f all) key (length older) found
+    → IsFound (f newest).index.slots key found → IsNewest (map f all) key (length older) found
 walked_newest f all left older newest key found walked last has =
     let parts : all ≡ older ++ newest ∷ walked.passed = walked.is ∙ ap (λ xs. xs ++ walked.passed) last ∙ append_assoc older (newest ∷ []) walked.passed in
     let mapped : map f all ≡ map f older ++ f newest ∷ map f walked.passed = ap (map f) parts ∙ map-append f older (newest ∷ walked.passed) in

@@ -15,7 +15,7 @@ marks slots = map (λ s. (s.key, nat_lt 0 s.length)) slots
 
 -- a component has an entry for each one of a content, and a record where that is a document
 abbrev pub Shows : {F : Type 0} → ComponentState F → Content → Type 0
-Shows component c = marks component.content.slots ≡ map (on_value is_some) c.entries
+Shows component c = marks component.index.slots ≡ map (on_value is_some) c.entries
 
 -- the live document of a key is nowhere, or is the entry at a place of a content
 abbrev pub IsLiveAt : List Content → ℕ → Whereabouts → Type 0

@@ -9,13 +9,13 @@ use Rattle.tc_list.specs.declared.whereabouts.Whereabouts.TheVariants.{Absent, A
 
 -- none of these components has an entry of a key
 abbrev pub HaveNone : {F : Type 0} → List (ComponentState F) → ℕ → Type 0
-HaveNone cs key = All (λ c. IsFound c.content.slots key NotFound) cs
+HaveNone cs key = All (λ c. IsFound c.index.slots key NotFound) cs
 
 -- the component at a position has this of a key, and all newer ones have no entry of it
 pub record IsNewest {F : Type 0} (cs : List (ComponentState F)) (key at : ℕ) (found : Found) : Type 0 where
   pub component : ComponentState F
   pub here : slice_get cs at ≡ Some component
-  pub has : IsFound component.content.slots key found
+  pub has : IsFound component.index.slots key found
   pub newer : HaveNone (drop (at + 1) cs) key
 
 -- It is nowhere where no component has an entry of the key, or the newest one that has says that it is gone; else it is

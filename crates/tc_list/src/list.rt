@@ -88,7 +88,7 @@ impl<F: Frozen> ComponentList<F> {
     /// memory.
     #[tactic(auto, using(crate::proofs::Following::pushed_follow))]
     pub fn push(&mut self, newest: Arc<Component<F>>) -> Result<(), Memory>
-        requires { (arc_value newest).content.head.from ≡ last_of self.old + 1 }
+        requires { (arc_value newest).index.head.from ≡ last_of self.old + 1 }
         ensures ok { OnOk result (self.new ≡ self.old ++ arc_value newest ∷ []) }
         ensures err { OnErr result (self.new ≡ self.old) }
     {
@@ -105,8 +105,8 @@ impl<F: Frozen> ComponentList<F> {
     ) -> Result<Vec<Arc<Component<F>>>, Memory>
         requires order { run.first ≤ run.last }
         requires within { run.last < length self.old }
-        requires begins { (arc_value merged).content.head.from ≡ first_of (in_run run self.old) }
-        requires ends { (arc_value merged).content.head.to ≡ last_of (in_run run self.old) }
+        requires begins { (arc_value merged).index.head.from ≡ first_of (in_run run self.old) }
+        requires ends { (arc_value merged).index.head.to ≡ last_of (in_run run self.old) }
         ensures ok { OnOk result (self.new ≡ swapped run (arc_value merged) self.old) }
         ensures left { IfOk result (λ left. map arc_value left.items ≡ in_run run self.old) }
         ensures err { OnErr result (self.new ≡ self.old) }

@@ -7,7 +7,7 @@ use Rattle.tc_component.proofs.directory.directory_in.Goals as goal
 use Rattle.tc_component.proofs.directory.directory_in.Goals.{then-not-is_empty-via-then-not-is_empty, then-not-is_empty-via-else-not-is_empty+then-end-records}
 
 pub loop-init : goal.loop-init
-loop-init c = rw (c.new-keys.ensures.items, c.new-ends.ensures.items) (none_read c.args.count c.args.records c.args.bytes.now)
+loop-init c = rw (c.in_ok-keys.ensures.items, c.in_ok-ends.ensures.items) (none_read c.args.count c.args.records c.args.bytes.now)
 
 pub follows-requires : goal.follows-requires
 follows-requires c = c.loop.invariant.within

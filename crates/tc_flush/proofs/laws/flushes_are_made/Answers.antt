@@ -8,7 +8,7 @@ use Rattle.std.specs.List.Sorted.{IsStrictlySortedBy}
 use Rattle.std.specs.Ordering.{nat_cmp}
 use Rattle.std.specs.Prelude.{All}
 use Rattle.tc_flush.specs.Flushable.{CanFlush}
-use Rattle.tc_flush.specs.Rows.{part_of}
+use Rattle.tc_component.specs.Rows.{part_of}
 use Rattle.tc_flush.proofs.DocumentNames.{dictionary_held}
 use Rattle.tc_flush.proofs.FlushedContents.{IsFlushable, flushed, range_of}
 use Rattle.tc_flush.proofs.TableDocuments.{keys_of-writes_of, names_with-held}

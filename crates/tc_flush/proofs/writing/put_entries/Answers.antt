@@ -14,7 +14,7 @@ use Rattle.tc_memory.specs.DocumentTables.{IsTableOf}
 use Rattle.tc_lsm_model.specs.Tables.{writes_of, shapes_held}
 use Rattle.tc_flush.specs.Progress.{IsUpTo}
 use Rattle.tc_flush.specs.Recounting.{names_with}
-use Rattle.tc_flush.specs.Rows.{row_of, rows_of}
+use Rattle.tc_component.specs.Rows.{row_of, rows_of}
 use Rattle.tc_flush.proofs.DocumentNames.{dictionary_held}
 use Rattle.tc_flush.proofs.EntrySteps.{lawful_held}
 use Rattle.tc_flush.proofs.Progressing.{begins, can_first, goes_on, ends}

@@ -10,7 +10,7 @@ use Rattle.tc_memory.specs.Table.{IsLawfulEntry}
 use Rattle.tc_lsm_model.specs.Tables.{Table, shapes_held}
 use Rattle.tc_flush.specs.Progress.{IsUpTo}
 use Rattle.tc_flush.specs.Recounting.{names_with}
-use Rattle.tc_flush.specs.Rows.{rows_of}
+use Rattle.tc_component.specs.Rows.{rows_of}
 use Rattle.tc_flush.proofs.writing.put_entries.Given as goal
 
 abbrev pub invariant-loop-entry : goal.invariant-loop-entry

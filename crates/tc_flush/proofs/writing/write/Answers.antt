@@ -6,7 +6,7 @@ use Rattle.tc_lsm_model.specs.Tables.{writes_of, shapes_held}
 use Rattle.tc_flush.specs.Flushable.{CanCount}
 use Rattle.tc_flush.specs.Flushing.{flush_bytes}
 use Rattle.tc_flush.specs.Recounting.{FitsEach, all_removed, names_with}
-use Rattle.tc_flush.specs.Rows.{rows_of}
+use Rattle.tc_component.specs.Rows.{rows_of}
 use Rattle.tc_flush.proofs.FlushedBytes.{shapes_are, can_count, flush_is}
 use Rattle.tc_flush.proofs.Outcomes.{if_ok, if_err}
 use Rattle.tc_flush.proofs.WrittenMoments.{begun_moments, filled_moments, finished_moments}

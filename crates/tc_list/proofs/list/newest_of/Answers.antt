@@ -8,12 +8,12 @@ use Rattle.tc_list.proofs.list.newest_of.Goals as goal
 
 pub returns-in-Gone : goal.returns-in-Gone
 returns-in-Gone g c =
-    let has = subst (λ m. IsFound m.content.slots c.args.key Gone) c.deref.ensures c.in-Gone.ensures in
+    let has = subst (λ m. IsFound m.index.slots c.args.key Gone) c.deref.ensures c.in-Gone.ensures in
     inr (length c.in-Some.older.now, walked_newest arc_value c.args.components.now c.loop-newest.rest.now c.in-Some.older.now c.in-Some.newest.now c.args.key Gone c.loop-newest.invariant c.in-Some.ensures.cases.0 has)
 
 pub returns-in-At : goal.returns-in-At
 returns-in-At g c =
-    let has = subst (λ m. IsFound m.content.slots c.args.key (At c.in-At.place)) c.deref.ensures c.in-At.ensures in
+    let has = subst (λ m. IsFound m.index.slots c.args.key (At c.in-At.place)) c.deref.ensures c.in-At.ensures in
     walked_newest arc_value c.args.components.now c.loop-newest.rest.now c.in-Some.older.now c.in-Some.newest.now c.args.key (At c.in-At.place) c.loop-newest.invariant c.in-Some.ensures.cases.0 has
 
 pub returns : goal.returns

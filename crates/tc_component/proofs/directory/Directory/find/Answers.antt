@@ -7,7 +7,7 @@ use Rattle.std.proofs.lemmas.List.Sorted.{searched}
 use Rattle.std.proofs.lemmas.Map.Keys.{non_decreasing_from_sorted}
 use Rattle.tc_component.specs.declared.slot.Slot.{Slot}
 use Rattle.tc_component.specs.Columns.{slots_from, IsFound}
-use Rattle.tc_component.proofs.Lookups.{there, none_there}
+use Rattle.tc_component.proofs.Lookups.{there, none_there, outside}
 use Rattle.tc_component.proofs.directory.Directory.find.Goals as goal
 
 pub returns-in-Ok : goal.returns-in-Ok
@@ -28,3 +28,8 @@ returns-in-Err c =
     (λ i j before within. non_decreasing_from_sorted keys c.self.invariant.ascend i j 0 before within) in
     let found = subst (λ r. MatchResult r (λ i. (i < length keys) × (get_or keys i 0 ≡ c.args.key)) (λ i. (i ≤ length keys) × ((k : ℕ) → k < i → get_or keys k 0 < c.args.key) × ((k : ℕ) → i ≤ k → k < length keys → c.args.key < get_or keys k 0))) c.in-Err.is facts in
     rw (← c.self.view_is) (none_there slots c.args.key c.in-Err.field-0 found.1 found.2)
+
+pub returns-then-is_outside : goal.returns-then-is_outside
+returns-then-is_outside c =
+    let slots = slots_from 0 c.self.inside.keys.items c.self.inside.ends.items in
+    rw (← c.self.view_is) (outside slots c.as_slice.result.now c.args.key (c.as_slice.ensures.value ∙ c.self.invariant.keys_are) c.self.invariant.ascend (sym c.is_outside.ensures ∙ c.if-is_outside.true))

@@ -1,0 +1,112 @@
+-- The records of the entries of a content.
+use Rattle.std.proofs.Common.{◌≡◌, ◌∙◌, ◌<◌, ◌≤◌, ◌+◌, ◌^◌, ℕ, List, [], ◌∷◌, ◌++◌, None, Some, length, map, refl, sym, ap, subst, arith, inl, inr, length-append, append-nil}
+use Rattle.std.specs.Prelude.{All}
+use Rattle.std.specs.Int.{w32, to_be_bytes}
+use Rattle.std.specs.List.{AllByRecursion}
+use Rattle.std.proofs.lemmas.List.{length-map}
+use Rattle.std.proofs.lemmas.List.Elements.{All-head, All-tail}
+use Rattle.tc_model.specs.Dictionary.{IsDictionary, number as name_number}
+use Rattle.tc_model.specs.Document.{Name, Document, Scalar}
+use Rattle.tc_model.specs.KnownNames.{HasEach}
+use Rattle.tc_model.specs.Stored.{IsObject, IsKeyless}
+use Rattle.tc_model.specs.Tree.{leaf, array, object}
+use Rattle.tc_record.specs.Preorder.{closed, Token, token, tokens_of, members_preorder}
+use Rattle.tc_record.specs.Record.{labels, piece_tag, tags, fixed, texts, numbers, width, joined, body, record_bytes, record_of, NumberedTree, IsRecordOf}
+use Rattle.tc_compact.specs.Compacted.{compacted, IsCompactedRecordOf}
+use Rattle.tc_compact.specs.Layout.{slot_bytes, counts_in, values_in, numbered_record}
+use Rattle.tc_compact.proofs.Agreeing.{same_order}
+use Rattle.tc_compact.proofs.Compacts.{compacts, document_names}
+use Rattle.tc_compact.proofs.Relabelled.{tokens-numbered}
+use Rattle.tc_compact.proofs.RoundTrip.{one_record}
+use Rattle.tc_record.specs.Walk.{number}
+use Rattle.tc_record.specs.Borrowed.{IsBelow}
+use Rattle.tc_record.proofs.Keyed.{labels-retoken}
+use Rattle.tc_model.proofs.NameNumbers.{number_of-below, numbered}
+use Rattle.tc_component.specs.Fetching.{IsRecordWithin}
+use Rattle.tc_record.proofs.OneDocument.{documents_are_one}
+use Rattle.tc_plain_model.specs.Writes.{Write}
+use Rattle.tc_lsm_model.specs.Contents as contents
+use Rattle.tc_component.specs.Meaning.{IsRecordOfOne}
+use Rattle.tc_component.specs.Rows.{record_in, rows_of, row_of, IsShortWrite}
+use Rattle.tc_component.specs.Spelling.{held_bytes, slots_of, IsSlot}
+
+-- a document that an entry may have
+pub record IsKept (names : List Name) (d : Document) : Type 0 where
+  pub whole : IsRecordOf d (record_of d)
+  pub compact : IsCompactedRecordOf names d (record_in names d)
+
+keyless_object : (d : Document) → IsKeyless d → IsObject d
+keyless_object (leaf s) is = absurd is
+keyless_object (array xs) is = absurd is
+keyless_object (object ms) is = tt
+
+pub kept : (names : List Name) (key : ℕ) (d : Document) → IsDictionary names → contents.IsEntry names (key, Some d) → length (record_of d) < 2 ^ 30 → IsKept names d
+kept names key d dictionary is short =
+    let whole : IsRecordOf d (record_of d) = record { document = is.document; is_object = keyless_object d is.storable.1; shallow = is.storable.0; spelled = refl; short = omega (arith, short) } in
+    let ls = labels (tokens_of d) in
+    let known : HasEach names ls = subst (HasEach names) (sym (same_order d) ∙ document_names d) is.named in
+    let behind = slot_bytes (record_of d) (length ls) + length (joined ls) in
+    let made : IsCompactedRecordOf names d (numbered_record (counts_in (record_of d)) (values_in (record_of d) behind) (map (name_number names) ls)) =
+    compacts names names d (record_of d) (map (name_number names) ls) _ behind dictionary ([], sym (append-nil names)) whole short known refl refl refl in
+    record { whole = whole; compact = subst (IsCompactedRecordOf names d) made.numbered.spelled made }
+
+pub only : (names : List Name) (d : Document) → IsKept names d → IsRecordOfOne names d (record_in names d)
+only names d is = record {
+  record_is = is.compact;
+  one = λ e whole other form1.
+      let same : whole ≡ record_of d = one_record e d whole (record_of d) (record_in names d) names other form1 is.whole is.compact in
+      documents_are_one e d (record_of d) (subst (IsRecordOf e) same other) is.whole;
+}
+
+-- ---- its numbers
+
+numbers_within : (names ls : List Name) → HasEach names ls → AllByRecursion (IsBelow (length names)) (map (λ l. number (name_number names l)) ls)
+numbers_within names [] known = tt
+numbers_within names (l ∷ ls) known = (number_of-below names l (name_number names l) (numbered names l known.0), numbers_within names ls known.1)
+
+pub within_names : (names : List Name) (d : Document) → IsKept names d → IsRecordWithin (length names) (record_in names d)
+within_names names d is = record {
+  tree = compacted names d;
+  is_record = is.compact.numbered;
+  below =
+      let labels_are = ap labels (tokens-numbered (name_number names) d) ∙ labels-retoken (λ l. number (name_number names l)) (tokens_of d) in
+      subst (AllByRecursion (IsBelow (length names))) (sym labels_are) (numbers_within names (labels (tokens_of d)) is.compact.known);
+}
+
+-- ---- how long a record is
+
+bytes_behind : (form : ℕ) (n : NumberedTree) (slots : List ℕ) → length (record_bytes form (tokens_of n) slots []) ≡ 23 + length (body (tokens_of n) slots [])
+bytes_behind form n slots =
+    let ts = tokens_of n in
+    let lengths = map length (texts ts) in
+    let last = to_be_bytes w32 (length slots) ++ (width slots ∷ []) in
+    let front = to_be_bytes w32 (23 + length (body ts slots [])) ++ (form ∷ (to_be_bytes w32 (length (tags ts)) ++ (to_be_bytes w32 (length (fixed ts)) ++ (to_be_bytes w32 (length lengths) ++ (width lengths ∷ last))))) in
+    length-append front (body ts slots [])
+
+object_tags : (n : NumberedTree) → IsObject n → 2 ≤ length (tags (tokens_of n))
+object_tags (leaf s) is = absurd is
+object_tags (array xs) is = absurd is
+object_tags (object ms) is =
+    omega (arith, length-map (tokens_of (object ms)) (λ (t : Token ℕ Scalar). piece_tag t.piece), length-append (members_preorder ms) (token None closed ∷ []))
+
+pub long_record : (names : List Name) (d : Document) → IsKept names d → 25 ≤ length (record_in names d)
+long_record names d is =
+    let n = compacted names d in
+    let ts = tokens_of n in
+    let slots = labels ts in
+    let lengths = map length (texts ts) in
+    let rest = fixed ts ++ (numbers (width lengths) lengths ++ (joined (texts ts) ++ (numbers (width slots) slots ++ []))) in
+    omega (arith, bytes_behind 1 n slots, object_tags n is.compact.numbered.is_object, length-append (tags ts) rest)
+
+-- ---- slots
+
+one_slot : (names : List Name) (w : Write) → IsDictionary names → contents.IsEntry names w → IsShortWrite w → IsSlot (record { key = w.0; length = length (held_bytes (row_of names w).1) })
+one_slot names (key, None) dictionary is short = record { key = is.key; fits = omega arith; length = inl refl }
+one_slot names (key, Some d) dictionary is short =
+    let k = kept names key d dictionary is short in
+    record { key = is.key; fits = k.compact.numbered.short; length = inr (long_record names d k) }
+
+pub each_slot : (names : List Name) (ws : List Write) → IsDictionary names → All (contents.IsEntry names) ws → All IsShortWrite ws → AllByRecursion IsSlot (slots_of (rows_of names ws))
+each_slot names [] dictionary is short = tt
+each_slot names (w ∷ ws) dictionary is short =
+    (one_slot names w dictionary (All-head (contents.IsEntry names) w ws is) (All-head IsShortWrite w ws short), each_slot names ws dictionary (All-tail (contents.IsEntry names) w ws is) (All-tail IsShortWrite w ws short))
