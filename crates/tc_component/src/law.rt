@@ -30,7 +30,8 @@ pub fn written_is_read()
 
 /// A law, and no work. The component of a content is open, and is judged to have the content's header, directory, names
 /// and schema, so it is loaded again; and it is the component of no other content. What is found of a key is what the
-/// content has of it, and at the place stands the record of that document under the names, which is damage nowhere, and the record of no other document.
+/// content has of it. At the place of a document stands its record under the names, which is no damage to `fetch`, and
+/// under these names the record of no other document.
 pub fn components_are_contents()
     ensures holds { (c : Content) (bytes : List ℕ) → IsComponent c bytes → Holds bytes (component_index c) }
     ensures open { (c : Content) (bytes : List ℕ) → IsComponent c bytes → is_open_file bytes ≡ true }
