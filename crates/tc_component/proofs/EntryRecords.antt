@@ -1,6 +1,6 @@
 -- The records of the entries of a content.
-use Rattle.std.proofs.Common.{◌≡◌, ◌∙◌, ◌<◌, ◌≤◌, ◌+◌, ◌^◌, ℕ, List, [], ◌∷◌, ◌++◌, None, Some, length, map, refl, sym, ap, subst, arith, inl, inr, length-append, append-nil}
-use Rattle.std.specs.Prelude.{All}
+use Rattle.std.proofs.Common.{◌≡◌, ◌∙◌, ◌<◌, ◌≤◌, ◌+◌, ◌^◌, ℕ, List, [], ◌∷◌, ◌++◌, None, Some, length, map, refl, sym, subst, arith, inl, inr, length-append, append-nil, Option}
+use Rattle.std.specs.Prelude.{All, option_map, option_to_list}
 use Rattle.std.specs.Int.{w32, to_be_bytes}
 use Rattle.std.specs.List.{AllByRecursion}
 use Rattle.std.proofs.lemmas.List.{length-map}
@@ -18,9 +18,9 @@ use Rattle.tc_compact.proofs.Agreeing.{same_order}
 use Rattle.tc_compact.proofs.Compacts.{compacts, document_names}
 use Rattle.tc_compact.proofs.Relabelled.{tokens-numbered}
 use Rattle.tc_compact.proofs.RoundTrip.{one_record}
-use Rattle.tc_record.specs.Walk.{number}
+use Rattle.tc_record.specs.Walk.{Key, number}
 use Rattle.tc_record.specs.Borrowed.{IsBelow}
-use Rattle.tc_record.proofs.Keyed.{labels-retoken}
+use Rattle.tc_record.proofs.Keyed.{retoken}
 use Rattle.tc_model.proofs.NameNumbers.{number_of-below, numbered}
 use Rattle.tc_component.specs.Fetching.{IsRecordWithin}
 use Rattle.tc_record.proofs.OneDocument.{documents_are_one}
@@ -60,17 +60,20 @@ only names d is = record {
 
 -- ---- its numbers
 
-numbers_within : (names ls : List Name) → HasEach names ls → AllByRecursion (IsBelow (length names)) (map (λ l. number (name_number names l)) ls)
-numbers_within names [] known = tt
-numbers_within names (l ∷ ls) known = (number_of-below names l (name_number names l) (numbered names l known.0), numbers_within names ls known.1)
+label_within : (names : List Name) (label : Option Name) (ls : List Name) (rest : List Key) → HasEach names (option_to_list label ++ ls) → (HasEach names ls → AllByRecursion (IsBelow (length names)) rest)
+    → AllByRecursion (IsBelow (length names)) (option_to_list (option_map (λ l. number (name_number names l)) label) ++ rest)
+label_within names None ls rest known more = more known
+label_within names (Some l) ls rest known more = (number_of-below names l (name_number names l) (numbered names l known.0), more known.1)
+
+tokens_within : (names : List Name) (ts : List (Token Name Scalar)) → HasEach names (labels ts) → AllByRecursion (IsBelow (length names)) (labels (map (retoken (λ l. number (name_number names l))) ts))
+tokens_within names [] known = tt
+tokens_within names (t ∷ ts) known = label_within names t.label (labels ts) (labels (map (retoken (λ l. number (name_number names l))) ts)) known (tokens_within names ts)
 
 pub within_names : (names : List Name) (d : Document) → IsKept names d → IsRecordWithin (length names) (record_in names d)
 within_names names d is = record {
   tree = compacted names d;
   is_record = is.compact.numbered;
-  below =
-      let labels_are = ap labels (tokens-numbered (name_number names) d) ∙ labels-retoken (λ l. number (name_number names l)) (tokens_of d) in
-      subst (AllByRecursion (IsBelow (length names))) (sym labels_are) (numbers_within names (labels (tokens_of d)) is.compact.known);
+  below = subst (λ ts. AllByRecursion (IsBelow (length names)) (labels ts)) (sym (tokens-numbered (name_number names) d)) (tokens_within names (tokens_of d) is.compact.known);
 }
 
 -- ---- how long a record is
