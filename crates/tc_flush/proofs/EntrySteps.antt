@@ -1,5 +1,5 @@
 -- One entry counted and pushed.
-use Rattle.std.proofs.Common.{◌≡◌, ◌+◌, ◌<◌, ◌^◌, ℕ, List, [], ◌∷◌, length, sym, ap, ◌∙◌, subst, arith, Some, None, Option}
+use Rattle.std.proofs.Common.{◌≡◌, ◌+◌, ◌<◌, ◌^◌, ℕ, List, [], ◌∷◌, length, append-nil, sym, ap, ◌∙◌, subst, arith, Some, None, Option}
 use Rattle.std.proofs.lemmas.List.Elements.{All-head}
 use Rattle.tc_model.specs.Dictionary.{Extends, IsDictionary, all_learned}
 use Rattle.tc_model.specs.Document.{Name, Document, ShapeTree, document_shape}
@@ -18,6 +18,7 @@ use Rattle.tc_memory.specs.Table.{Kept, IsLawfulKept, gone, live}
 use Rattle.tc_memory.specs.declared.held.Held as held
 use Rattle.tc_memory.specs.declared.held.Held.TheVariants as variant
 use Rattle.tc_memory.specs.DocumentTables.{IsTableOf}
+use Rattle.tc_flush.specs.Counting.{names_held}
 use Rattle.tc_flush.specs.Flushable.{CanCount, IsShortRecord}
 use Rattle.tc_flush.specs.Recounting.{names_with, all_added}
 use Rattle.tc_component.specs.Rows.{rows_of}
@@ -88,3 +89,8 @@ module _ (one : OneDocument) (e : ℕ × Kept) (bytes : List ℕ) (held : e.1.he
       let d = (live_is t of).document in
       let is : IsCompactedRecordOf newer d into = stays d bytes into names newer (record_is t of) (compacts d (record_is t of)) dictionary extends in
       ap (λ x. rows_of newer (writes_of x)) (live_is t of).is ∙ ap (λ b. (e.0, Some b) ∷ []) (sym is.numbered.spelled)
+
+  pub members_are : (count : ℕ) → ((d : Document) → IsRecordOf d bytes → count ≡ length (names_within (document_shape d))) → (t : Table) → IsTableOf t (e ∷ []) → count ≡ length (names_held t)
+  members_are count counts t of =
+      let d = (live_is t of).document in
+      counts d (record_is t of) ∙ ap length (sym (append-nil (names_within (document_shape d)))) ∙ ap (λ x. length (names_held x)) (sym (live_is t of).is)

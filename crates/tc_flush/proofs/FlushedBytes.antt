@@ -27,7 +27,7 @@ shapes-kept_table (e ∷ t) = ap (λ shapes. option_to_list e.1.below ++ shapes)
 pub shapes_are : (t : Table) (kept : memory.Table) → IsTableOf t kept → shapes_kept kept ≡ shapes_below t
 shapes_are t kept of = ap shapes_kept of.is ∙ shapes-kept_table t
 
-total-all_removed : (names : List Name) → IsDistinct bytes_eq names → (shapes : List ShapeTree) (d : Counted) → FitsEach names shapes d → (path : Path) → total_at names (all_removed names shapes d) path + values_of shapes path ≡ total_at names d path
+pub total-all_removed : (names : List Name) → IsDistinct bytes_eq names → (shapes : List ShapeTree) (d : Counted) → FitsEach names shapes d → (path : Path) → total_at names (all_removed names shapes d) path + values_of shapes path ≡ total_at names d path
 total-all_removed names distinct shapes d fits path =
     let one : (t : Kind) → _ = λ t. shows-all_removed names distinct shapes d fits path t in
     omega (arith, one (scalar null_kind), one (scalar boolean_kind), one (scalar integer_kind), one (scalar text_kind), one arrays, one objects)

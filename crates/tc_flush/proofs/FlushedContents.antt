@@ -19,7 +19,6 @@ use Rattle.tc_schema_model.specs.Stands.{StandsFor}
 use Rattle.tc_schema_model.proofs.SmallCounters.{small_from_paths}
 use Rattle.tc_schema_model.proofs.ValueBounds.{total-stands}
 use Rattle.tc_plain_model.specs.Store.{names_after}
-use Rattle.tc_plain_model.specs.Writes.{Write}
 use Rattle.tc_lsm_model.specs.Contents.{Partition, Content, IsNamedIn, IsEntry}
 use Rattle.tc_lsm_model.specs.Flushes.{IsFlush}
 use Rattle.tc_lsm_model.specs.Lists.{live, names_of, schema_of, last_of}

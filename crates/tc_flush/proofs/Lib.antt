@@ -10,3 +10,4 @@ pub mod EntrySteps
 pub mod Outcomes
 pub mod WrittenMoments
 pub mod FlushedBytes
+pub mod CountedTables

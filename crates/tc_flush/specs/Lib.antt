@@ -3,3 +3,4 @@ pub mod Flushable
 pub mod Flushing
 pub mod Progress
 pub mod Jobs
+pub mod Counting

@@ -1,0 +1,22 @@
+use Rattle.std.proofs.Common.{sym, ◌∙◌, subst, rules}
+use Rattle.std.proofs.lemmas.Bool.{false≢true}
+use Rattle.tc_schema_model.specs.Counted.{IsCanonical}
+use Rattle.tc_schema_model.proofs.BoundLaws.{total_bound}
+use Rattle.tc_flush.specs.Counting.{IsCounted}
+use Rattle.tc_flush.specs.Recounting.{all_removed, shapes_kept}
+use Rattle.tc_flush.proofs.CountedTables.{first_canonical, can_flush}
+use Rattle.tc_flush.proofs.counting.counted.Goals as goal
+
+pub returns-then-not-numbers_below-clause-exact : goal.returns-then-not-numbers_below-clause-exact
+returns-then-not-numbers_below-clause-exact c = (
+  (λ no. absurd (false≢true no)),
+  λ counted. sym c.if-not-numbers_below.true
+      ∙ c.numbers_below.ensures.canonical.1 (subst (λ n. IsCanonical n c.args.schema.now) (sym c.len-known.ensures.count) (first_canonical c.args.names.now (shapes_kept c.args.sealed.now) c.args.schema.now counted.fits)),
+)
+
+pub returns-clause-can : goal.returns-clause-can
+returns-clause-can c = λ yes t of.
+    let names = c.args.names.now in
+    let kept = c.args.sealed.now in
+    let counted : IsCounted names c.args.schema.now kept = search rules in
+    can_flush c.names_agree.ensures.values names c.len-known.ensures.dictionary.distinct c.args.schema.now t kept of (total_bound names (all_removed names (shapes_kept kept) c.args.schema.now)) counted

@@ -1,0 +1,133 @@
+//! The test whether a table can be flushed.
+
+ghost use Rattle.std.specs.Prelude.{◌≡◌, ◌↔◌, ◌<◌, ◌^◌, ◌-◌, ◌∷◌, [], All, IfNone, IfOk, IfSome, IsTrue, length, min};
+ghost use Rattle.std.specs.Bool.{OnTrue};
+ghost use Rattle.tc_schema_model.specs.Counted.{IsCanonical};
+ghost use Rattle.tc_memory.specs.DocumentTables.{IsTableOf};
+ghost use Rattle.tc_memory.specs.Meaning.{IsLawfulHeld, entry_of};
+ghost use Rattle.tc_lsm_model.specs.Tables.{Table};
+ghost use Rattle.tc_flush.specs.Counting.{HasRoom, IsCounted as CountsOf, IsShort, names_held, records_kept};
+ghost use Rattle.tc_flush.specs.Flushable.{CanFlush};
+ghost use Rattle.tc_flush.specs.Recounting.{FitsEach, all_removed, shapes_kept};
+
+use std::alloc::Global;
+use tc_anti::subtract_if_fits;
+use tc_bytes::Memory;
+use tc_compact::names_agree;
+use tc_memory::{Entry, Held, Sealed, tables_keep_documents};
+use tc_names::Names;
+use tc_record::{RecordRef, one_document};
+use tc_schema::Schema;
+
+/// Documents and names are fewer than this.
+const MOST: u64 = 0x1_0000_0000;
+
+/// A record that can be compacted has fewer bytes.
+const LONG: usize = 0x4000_0000;
+
+/// So many values at one place leave no room.
+const HIGH: u64 = 0x8000_0000_0000_0000;
+
+/// Whether a table can be flushed over a schema and its names. Errs only for want of memory.
+pub fn counted(
+    alloc: Global,
+    sealed: &Sealed,
+    schema: &Schema,
+    names: &Names,
+) -> Result<bool, Memory>
+    ensures exact { IfOk result (λ yes. IsTrue yes ↔ CountsOf names.now schema.now sealed.now) }
+    ensures can { IfOk result (λ yes. IsTrue yes → (t : Table) → IsTableOf t sealed.now → CanFlush names.now schema.now t) }
+{
+    let known = names.len();
+    if !schema.numbers_below(known) {
+        return Ok(false);
+    }
+    let mut left = schema.copy(alloc)?;
+    if !take_if_fits(sealed, names, &mut left) {
+        return Ok(false);
+    }
+    names_agree();
+    Ok(has_room(sealed, &left, known))
+}
+
+/// Takes off the shapes that a table keeps, each once, and answers whether the schema fitted each. Takes no memory.
+fn take_if_fits(sealed: &Sealed, names: &Names, left: &mut Schema) -> bool
+    requires canonical { IsCanonical (length names.now) left.old }
+    ensures fits { IsTrue result ↔ FitsEach names.now (shapes_kept sealed.now) left.old }
+    ensures removed { OnTrue result (left.new ≡ all_removed names.now (shapes_kept sealed.now) left.old) }
+{
+    let _known = names.len();
+    let mut entries = sealed.entries();
+    while let Some(entry) = entries.next() {
+        if let Some(shape) = entry.below {
+            if !subtract_if_fits(left, names, shape) {
+                return false;
+            }
+        }
+    }
+    true
+}
+
+/// Whether there is room for the documents of a table and their names. Takes no memory.
+fn has_room(sealed: &Sealed, left: &Schema, known: u32) -> bool
+    ensures { IsTrue result ↔ HasRoom sealed.now left.now known }
+{
+    tables_keep_documents();
+    let _entries = sealed.len();
+    let Some(held) = short_records(sealed) else {
+        return false;
+    };
+    if left.documents().saturating_add(held) >= MOST {
+        return false;
+    }
+    if left.greatest() >= HIGH {
+        return false;
+    }
+    member_count(sealed).saturating_add(u64::from(known)) < MOST
+}
+
+/// How many records a table keeps, if all are short.
+fn short_records(sealed: &Sealed) -> Option<u64>
+    ensures count { IfSome result (λ held. held ≡ length (records_kept sealed.now)) }
+    ensures short { IfSome result (λ held. All IsShort (records_kept sealed.now)) }
+    ensures long { IfNone result (All IsShort (records_kept sealed.now) → ⊥) }
+{
+    let _entries = sealed.len();
+    let mut held = 0;
+    let mut entries = sealed.entries();
+    while let Some(entry) = entries.next() {
+        if let Held::Live(bytes) = entry.held {
+            if bytes.as_slice().len() >= LONG {
+                return None;
+            }
+            held += 1;
+        }
+    }
+    Some(held)
+}
+
+/// How many members the documents of a table have together, or 2^64 - 1 where they have more.
+fn member_count(sealed: &Sealed) -> u64
+    ensures { (t : Table) → IsTableOf t sealed.now → result ≡ min (length (names_held t)) (2 ^ 64 - 1) }
+{
+    names_agree();
+    let mut members: u64 = 0;
+    let mut entries = sealed.entries();
+    while let Some(entry) = entries.next() {
+        members = members.saturating_add(members_of(entry));
+    }
+    members
+}
+
+/// How many members the document of an entry has, if there is one.
+fn members_of(entry: Entry<'_>) -> u64
+    requires { IsLawfulHeld entry.held }
+    ensures { (t : Table) → IsTableOf t (entry_of entry.entry ∷ []) → result ≡ length (names_held t) }
+{
+    names_agree();
+    one_document();
+    match entry.held {
+        Held::Gone => 0,
+        Held::Live(bytes) => u64::from(RecordRef::known(bytes.as_slice()).member_count()),
+    }
+}
