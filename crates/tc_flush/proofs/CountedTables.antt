@@ -89,7 +89,7 @@ few_values few (e ∷ t) stored short path =
     step (Some d) stored short rest =
         omega (arith, rest, short, document_values_at-size d path, few d (record_of d) (recorded d (record_of d) stored.0 stored.1 refl (omega (arith, short))))
 
-pub few_names : (names : List Name) (shapes : List ShapeTree) → length (names_with names shapes) ≤ length names + length (flat_map names_within shapes)
+few_names : (names : List Name) (shapes : List ShapeTree) → length (names_with names shapes) ≤ length names + length (flat_map names_within shapes)
 few_names names [] = omega arith
 few_names names (s ∷ shapes) =
     omega (arith, few_names (all_learned names (names_within s)) shapes, length-all_learned-most names (names_within s), length-append (names_within s) (flat_map names_within shapes))
@@ -110,6 +110,10 @@ members_count d order =
 pub saturated : (a k m s : ℕ) → s ≡ min (a + k) 18446744073709551615 → min (a + (k + m)) 18446744073709551615 ≡ min (s + m) 18446744073709551615
 saturated a k m s is = omega (arith, is)
 
+-- few members have few names
+pub few_members : (names : List Name) (t : documents.Table) (members sum : ℕ) → members ≡ min (length (names_held t)) 18446744073709551615 → sum ≡ min (members + length names) 18446744073709551615 → sum < 2 ^ 32 → length (names_with names (shapes_held t)) < 2 ^ 32
+few_members names t members sum members_is sum_is below = omega (arith, few_names names (shapes_held t), members_is, sum_is, below)
+
 -- ---- the whole
 
 pub can_flush : FewValues → (names : List Name) → IsDistinct bytes_eq names → (schema : Counted) (t : documents.Table) (kept : Table) → IsTableOf t kept
@@ -126,7 +130,7 @@ can_flush few names distinct schema t kept of greatest counted =
     record {
       fits = fits;
       documents = omega (arith, room.documents, count, total [], values_of-root (shapes_below t));
-      known = omega (arith, few_names names (shapes_held t), room.names t of);
+      known = room.names t of;
       counters = λ path. omega (arith, total path, greatest path, room.counters, room.documents, count, few_values few t of.stored short path);
       short = short;
     }

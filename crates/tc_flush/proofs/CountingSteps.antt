@@ -41,6 +41,9 @@ total-all_added names shapes d canonical path =
 pub shapes_held-first : (x : ℕ × Slot) (t : Table) → shapes_held (x ∷ t) ≡ shapes_held (x ∷ []) ++ shapes_held t
 shapes_held-first x t = ap (λ xs. xs ++ shapes_held t) (sym (append-nil (option_to_list (option_map document_shape x.1.held))))
 
+pub names_with-first : (names : List Name) (x : ℕ × Slot) (t : Table) → names_with names (shapes_held (x ∷ t)) ≡ names_with (names_with names (shapes_held (x ∷ []))) (shapes_held t)
+names_with-first names x t = ap (names_with names) (shapes_held-first x t) ∙ names_with-append names (shapes_held (x ∷ [])) (shapes_held t)
+
 pub first_can : (names : List Name) (schema : Counted) (x : ℕ × Slot) (t : Table) → CanCount names schema (x ∷ t) → CanCount names schema (x ∷ [])
 first_can names schema x t can = record {
   canonical = can.canonical;

@@ -7,7 +7,7 @@ use Rattle.tc_schema_model.specs.Counted.{Counted, documents_of}
 use Rattle.tc_memory.specs.DocumentTables.{IsTableOf}
 use Rattle.tc_memory.specs.Table as memory
 use Rattle.tc_lsm_model.specs.Tables.{Table, shapes_held}
-use Rattle.tc_flush.specs.Recounting.{FitsEach, all_removed, shapes_kept}
+use Rattle.tc_flush.specs.Recounting.{FitsEach, all_removed, names_with, shapes_kept}
 
 -- the records that a memory table keeps, in ascending key
 abbrev pub held_record : memory.Held → List (List ℕ)
@@ -24,15 +24,15 @@ IsShort bytes = length bytes < 2 ^ 30
 abbrev pub names_held : Table → List Name
 names_held t = flat_map names_within (shapes_held t)
 
--- Records are short, and with their documents there are fewer than 2^32 documents. No place counts 2^63 values, which
--- leaves room for theirs. And were all their names new, there would still be fewer than 2^32.
-pub record HasRoom (kept : memory.Table) (left : Counted) (known : ℕ) : Type 0 where
+-- Records are short, and with their documents there are fewer than 2^32 documents and names. No place counts 2^63 values,
+-- which leaves room for theirs.
+pub record HasRoom (kept : memory.Table) (left : Counted) (known : List Name) : Type 0 where
   pub short : All IsShort (records_kept kept)
   pub documents : documents_of left + length (records_kept kept) < 2 ^ 32
   pub counters : greatest_total left < 2 ^ 63
-  pub names : (t : Table) → IsTableOf t kept → known + length (names_held t) < 2 ^ 32
+  pub names : (t : Table) → IsTableOf t kept → length (names_with known (shapes_held t)) < 2 ^ 32
 
 -- the schema fits the kept shapes, and has room once they are taken off
 pub record IsCounted (names : List Name) (schema : Counted) (kept : memory.Table) : Type 0 where
   pub fits : FitsEach names (shapes_kept kept) schema
-  pub room : HasRoom kept (all_removed names (shapes_kept kept) schema) (length names)
+  pub room : HasRoom kept (all_removed names (shapes_kept kept) schema) names

@@ -10,6 +10,7 @@ ghost use Rattle.tc_flush.specs.Counting.{HasRoom, IsCounted as CountsOf, IsShor
 ghost use Rattle.tc_flush.specs.Flushable.{CanFlush};
 ghost use Rattle.tc_flush.specs.Recounting.{FitsEach, all_removed, shapes_kept};
 
+use crate::learning::names_fit;
 use std::alloc::Global;
 use tc_anti::subtract_if_fits;
 use tc_bytes::Memory;
@@ -47,7 +48,7 @@ pub fn counted(
         return Ok(false);
     }
     names_agree();
-    Ok(has_room(sealed, &left, known))
+    has_room(sealed, &left, names)
 }
 
 /// Takes off the shapes that a table keeps, each once, and answers whether the schema fitted each. Takes no memory.
@@ -68,22 +69,26 @@ fn take_if_fits(sealed: &Sealed, names: &Names, left: &mut Schema) -> bool
     true
 }
 
-/// Whether there is room for the documents of a table and their names. Takes no memory.
-fn has_room(sealed: &Sealed, left: &Schema, known: u32) -> bool
-    ensures { IsTrue result ↔ HasRoom sealed.now left.now known }
+/// Whether there is room for the documents of a table and their names. Where all members together are few, so are the
+/// new names; else they are learned by a copy. Errs only for want of memory.
+fn has_room(sealed: &Sealed, left: &Schema, names: &Names) -> Result<bool, Memory>
+    ensures { IfOk result (λ yes. IsTrue yes ↔ HasRoom sealed.now left.now names.now) }
 {
     tables_keep_documents();
     let _entries = sealed.len();
     let Some(held) = short_records(sealed) else {
-        return false;
+        return Ok(false);
     };
     if left.documents().saturating_add(held) >= MOST {
-        return false;
+        return Ok(false);
     }
     if left.greatest() >= HIGH {
-        return false;
+        return Ok(false);
     }
-    member_count(sealed).saturating_add(u64::from(known)) < MOST
+    if member_count(sealed).saturating_add(u64::from(names.len())) < MOST {
+        return Ok(true);
+    }
+    names_fit(sealed, names)
 }
 
 /// How many records a table keeps, if all are short.

@@ -5,6 +5,7 @@ mod counting;
 mod entry;
 mod job;
 mod laws;
+mod learning;
 mod record;
 mod writing;
 

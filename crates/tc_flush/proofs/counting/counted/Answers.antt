@@ -1,10 +1,11 @@
-use Rattle.std.proofs.Common.{sym, ◌∙◌, subst, rules}
+use Rattle.std.proofs.Common.{◌≡◌, sym, ◌∙◌, subst, rules}
 use Rattle.std.proofs.lemmas.Bool.{false≢true}
 use Rattle.tc_schema_model.specs.Counted.{IsCanonical}
 use Rattle.tc_schema_model.proofs.BoundLaws.{total_bound}
-use Rattle.tc_flush.specs.Counting.{IsCounted}
-use Rattle.tc_flush.specs.Recounting.{all_removed, shapes_kept}
+use Rattle.tc_flush.specs.Counting.{HasRoom}
+use Rattle.tc_flush.specs.Recounting.{FitsEach, all_removed, shapes_kept}
 use Rattle.tc_flush.proofs.CountedTables.{first_canonical, can_flush}
+use Rattle.tc_flush.proofs.Outcomes.{if_ok}
 use Rattle.tc_flush.proofs.counting.counted.Goals as goal
 
 pub returns-then-not-numbers_below-clause-exact : goal.returns-then-not-numbers_below-clause-exact
@@ -15,8 +16,14 @@ returns-then-not-numbers_below-clause-exact c = (
 )
 
 pub returns-clause-can : goal.returns-clause-can
-returns-clause-can c = λ yes t of.
+returns-clause-can c =
     let names = c.args.names.now in
     let kept = c.args.sealed.now in
-    let counted : IsCounted names c.args.schema.now kept = search rules in
-    can_flush c.names_agree.ensures.values names c.len-known.ensures.dictionary.distinct c.args.schema.now t kept of (total_bound names (all_removed names (shapes_kept kept) c.args.schema.now)) counted
+    let schema = c.args.schema.now in
+    let fits : FitsEach names (shapes_kept kept) schema = search rules in
+    let left : c.take_if_fits.new.left ≡ all_removed names (shapes_kept kept) schema = search rules in
+    if_ok c.has_room.result _ _
+    (λ yes room all t of.
+    can_flush c.names_agree.ensures.values names c.len-known.ensures.dictionary.distinct schema t kept of (total_bound names (all_removed names (shapes_kept kept) schema))
+    (record { fits = fits; room = subst (λ d. HasRoom kept d names) left (room.0 all) }))
+    c.has_room.ensures
