@@ -11,3 +11,4 @@ pub mod Outcomes
 pub mod WrittenMoments
 pub mod FlushedBytes
 pub mod CountedTables
+pub mod KeptShapesFit

@@ -1,15 +1,18 @@
 //! Laws of what a flush makes.
 
-ghost use Rattle.std.specs.Prelude.{◌<◌, ◌^◌, ℕ, List};
+ghost use Rattle.std.specs.Prelude.{◌≡◌, ◌<◌, ◌^◌, ◌+◌, ℕ, List, length};
 ghost use Rattle.tc_model.specs.Document.{Name};
-ghost use Rattle.tc_schema_model.specs.Counted.{Counted};
-ghost use Rattle.tc_lsm_model.specs.Contents.{Content};
+ghost use Rattle.tc_model.specs.Keyed.{Ascends};
+ghost use Rattle.tc_schema_model.specs.Counted.{Counted, documents_of};
+ghost use Rattle.tc_lsm_model.specs.Contents.{Content, Partition};
 ghost use Rattle.tc_lsm_model.specs.Flushes.{IsFlush};
-ghost use Rattle.tc_lsm_model.specs.Tables.{Table};
+ghost use Rattle.tc_lsm_model.specs.Lists.{live, names_of, schema_of, IsList};
+ghost use Rattle.tc_lsm_model.specs.Tables.{Table, over, shapes_held, shapes_below, KeepsShapes};
 ghost use Rattle.tc_memory.specs.Table as memory;
 ghost use Rattle.tc_component.specs.declared.head.Head.{Head as Header};
 ghost use Rattle.tc_flush.specs.Flushable.{CanFlush};
 ghost use Rattle.tc_flush.specs.Flushing.{IsBehind, flush_of};
+ghost use Rattle.tc_flush.specs.Recounting.{FitsEach, all_removed};
 ghost use Rattle.tc_component.specs.Rows.{part_of};
 
 use tc_compact::names_agree;
@@ -31,4 +34,16 @@ pub fn flushes_are_made()
     newest_entries_count();
     tables_count();
     flushes_learn_names();
+}
+
+/// A law, and no work. The newest schema of a list fits the shapes that a table behind it keeps, one after the other, and
+/// once they are taken off and the table's documents are counted, so many documents are counted as are live with it.
+pub fn kept_shapes_fit()
+    ensures fits { (part : Partition) (cs : List Content) (t : Table) → IsList part cs → Ascends t → KeepsShapes (live cs) t → FitsEach (names_of cs) (shapes_below t) (schema_of cs) }
+    ensures documents { (part : Partition) (cs : List Content) (t : Table) → IsList part cs → Ascends t → KeepsShapes (live cs) t
+        → documents_of (all_removed (names_of cs) (shapes_below t) (schema_of cs)) + length (shapes_held t) ≡ length (over (live cs) t) }
+{
+    lists_have_schemas();
+    newest_entries_count();
+    tables_count();
 }
