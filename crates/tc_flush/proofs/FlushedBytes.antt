@@ -1,7 +1,8 @@
 -- A table that can be flushed, and the bytes once its entries are counted and pushed.
 use Rattle.std.proofs.Common.{◌≡◌, ◌+◌, ◌++◌, List, [], ◌∷◌, bytes_eq, refl, ap, ◌∙◌, arith}
 use Rattle.std.specs.List.{IsDistinct}
-use Rattle.std.specs.Prelude.{option_to_list}
+use Rattle.std.specs.Prelude.{All, option_to_list}
+use Rattle.std.proofs.lemmas.List.Elements.{All-nil, All-cons, All-head, All-tail}
 use Rattle.tc_model.specs.Document.{Name, ShapeTree, null_kind, boolean_kind, integer_kind, text_kind}
 use Rattle.tc_model.specs.Keyed.{Ascends}
 use Rattle.tc_model.specs.Kinds.{Kind, scalar, arrays, objects}
@@ -12,10 +13,10 @@ use Rattle.tc_component.specs.declared.head.Head.{Head}
 use Rattle.tc_lsm_model.specs.Tables.{Table, writes_of, shapes_held, shapes_below}
 use Rattle.tc_memory.specs.DocumentTables.{IsTableOf, kept_table}
 use Rattle.tc_memory.specs.Table as memory
-use Rattle.tc_flush.specs.Flushable.{CanCount, CanFlush, values_of}
+use Rattle.tc_flush.specs.Flushable.{CanCount, CanFlush, IsShortRecord, values_of}
 use Rattle.tc_flush.specs.Flushing.{flush_bytes}
 use Rattle.tc_flush.specs.Recounting.{FitsEach, all_removed, all_added, names_with, shapes_kept}
-use Rattle.tc_component.specs.Rows.{rows_of}
+use Rattle.tc_component.specs.Rows.{IsShortWrite, rows_of}
 use Rattle.tc_flush.proofs.RecountedLaws.{canonical-all_removed, shows-all_removed}
 use Rattle.tc_flush.proofs.TableDocuments.{SetDocuments, names_with-held}
 
@@ -48,3 +49,8 @@ pub flush_is : SetDocuments → (head : Head) (names : List Name) (schema : Coun
 flush_is set head names schema t kept up of there newer left grown head_is newer_is left_is grown_is =
     rw (head_is, newer_is, grown_is, left_is, shapes_are t kept of)
     (ap (λ ns. file_bytes head (rows_of ns (writes_of t)) ns (all_added names (shapes_held t) (all_removed names (shapes_below t) schema))) (names_with-held set names t up))
+
+-- the entries' records are as short as those of the table
+pub short_writes : (t : Table) → All IsShortRecord t → All IsShortWrite (writes_of t)
+short_writes [] all = All-nil IsShortWrite
+short_writes (e ∷ t) all = All-cons IsShortWrite (e.0, e.1.held) (writes_of t) (All-head IsShortRecord e t all) (short_writes t (All-tail IsShortRecord e t all))

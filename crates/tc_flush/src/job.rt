@@ -1,7 +1,7 @@
 //! The job that flushes a sealed table.
 
 ghost use Rattle.std.specs.Arc.{arc_value};
-ghost use Rattle.std.specs.Prelude.{◌≡◌, ◌<◌, ◌^◌, ℕ, List, IsErrOf, IsOk};
+ghost use Rattle.std.specs.Prelude.{◌≡◌, ◌<◌, ◌^◌, ℕ, All, List, IsErrOf, IsOk};
 ghost use Rattle.tc_store.specs.Counted.{IsCounted};
 ghost use Rattle.tc_store.specs.DiskFile.{settled_file};
 ghost use Rattle.tc_store.specs.Gate.{IsShutOr, IsShutOrWhole};
@@ -13,7 +13,7 @@ ghost use Rattle.tc_lsm_model.specs.Flushes.{IsFlush};
 ghost use Rattle.tc_lsm_model.specs.Tables.{Table};
 ghost use Rattle.tc_flush.specs.Flushable.{CanFlush};
 ghost use Rattle.tc_flush.specs.Flushing.{IsBehind, flush_bytes};
-ghost use Rattle.tc_component.specs.Rows.{part_of, component_bytes};
+ghost use Rattle.tc_component.specs.Rows.{part_of, component_bytes, IsShortWrite};
 
 use crate::laws::flushes_are_made;
 use crate::writing::write;
@@ -89,12 +89,13 @@ impl<S: Store> FlushJob<S> {
 
         // Behind a list of components these are the bytes of the one content that the flush of the table makes there.
         ensures flushed { (cs : List Content) (t : Table) (generations : ℕ) → IsBehind cs t generations self.head self.names self.schema self.kept
-            → (c : Content) × IsFlush (part_of self.head) cs t generations c × (component_bytes c ≡ flush_bytes self.head self.names self.schema t) }
+            → (c : Content) × IsFlush (part_of self.head) cs t generations c × All IsShortWrite c.entries × (component_bytes c ≡ flush_bytes self.head self.names self.schema t) }
 
         // At each moment the file is absent, closed, the one before, or this one.
         ensures moments { (before : Image) (t : Table) → IsTableOf t self.kept → IfTold (S.Device.history self.device) (LeavesAt (IsShutOr before))
             → LeavesOnly (IsShutOrWhole before (flush_bytes self.head self.names self.schema t)) (S.Device.history self.device) (S.Device.history result.device) }
 
+        ensures size { IsOk result.outcome → S.Device.size result.device < 2 ^ 63 }
         ensures name { S.Device.name result.device ≡ S.Device.name self.device }
         ensures watched { IsCounted (IsErrOf result.outcome DeviceFault.Fault) (S.Watch.counts self.watch) (S.Watch.counts result.watch) }
     {

@@ -1,6 +1,6 @@
 //! The component of a table, written.
 
-ghost use Rattle.std.specs.Prelude.{◌≡◌, ◌++◌, [], List, IfErr, IfOk, IsErrOf, OnOk, false};
+ghost use Rattle.std.specs.Prelude.{◌≡◌, ◌<◌, ◌^◌, ◌++◌, [], List, IfErr, IfOk, IsErrOf, OnOk, false};
 ghost use Rattle.std.specs.Result.{IsErrAnd};
 ghost use Rattle.tc_store.specs.Counted.{IsCounted};
 ghost use Rattle.tc_store.specs.DiskFile.{settled_file};
@@ -89,6 +89,7 @@ pub(crate) fn write<D: Device>(
     requires empty { D.size device ≡ 0 }
 
     ensures whole { IfOk result (λ written. (t : Table) → IsTableOf t sealed.now → IfTold (D.history written) (λ f. f ≡ settled_file (flush_bytes head names schema t))) }
+    ensures size { IfOk result (λ written. D.size written < 2 ^ 63) }
     ensures name { IfOk result (λ written. D.name written ≡ D.name device) }
     ensures broken_name { IfErr result (λ broken. D.name broken.device ≡ D.name device) }
     ensures moments { (before : Image) (t : Table) → IsTableOf t sealed.now → IfTold (D.history device) (LeavesAt (IsShutOr before))

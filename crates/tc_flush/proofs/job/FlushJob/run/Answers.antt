@@ -2,6 +2,7 @@ use Rattle.std.proofs.Common.{refl, sym, subst}
 use Rattle.tc_memory.specs.DocumentTables.{IsTableOf}
 use Rattle.tc_memory.specs.Table.{IsTable}
 use Rattle.tc_flush.specs.Flushing.{flush_of}
+use Rattle.tc_flush.proofs.FlushedBytes.{short_writes}
 use Rattle.tc_flush.proofs.job.FlushJob.run.Goals as goal
 
 pub returns-in-Ok-clause-flushed : goal.returns-in-Ok-clause-flushed
@@ -10,6 +11,7 @@ returns-in-Ok-clause-flushed g c =
     rw (← c.self.view_is) (λ cs t generations behind. (
       flush_of parts.head parts.names parts.schema t,
       c.flushes_are_made.ensures parts.head cs t generations parts.names parts.schema _ behind (subst IsTable c.deref-table.ensures c.len-entries.ensures.table) (c.self.invariant.1 t behind.of) c.header_fits.ensures.number c.header_fits.ensures.count,
+      short_writes t (c.self.invariant.1 t behind.of).short,
       refl,
     ))
 
@@ -23,6 +25,7 @@ returns-clause-flushed g c =
     rw (← c.self.view_is) (λ cs t generations behind. (
       flush_of parts.head parts.names parts.schema t,
       c.flushes_are_made.ensures parts.head cs t generations parts.names parts.schema _ behind (subst IsTable c.deref-table.ensures c.len-entries.ensures.table) (c.self.invariant.1 t behind.of) c.header_fits.ensures.number c.header_fits.ensures.count,
+      short_writes t (c.self.invariant.1 t behind.of).short,
       refl,
     ))
 
