@@ -12,3 +12,4 @@ pub mod WrittenMoments
 pub mod FlushedBytes
 pub mod CountedTables
 pub mod KeptShapesFit
+pub mod ListsCounted

@@ -1,9 +1,10 @@
 -- Which tables a test that takes little time finds to be flushable.
 use Rattle.std.specs.Prelude.{◌<◌, ◌^◌, ◌+◌, ℕ, List, [], ◌∷◌, All, flat_map, length}
-use Rattle.tc_model.specs.Document.{Name}
+use Rattle.tc_model.specs.Document.{Name, Document}
 use Rattle.tc_model.specs.ShapeNames.{names_within}
 use Rattle.tc_schema_model.specs.Bounds.{greatest_total}
 use Rattle.tc_schema_model.specs.Counted.{Counted, documents_of}
+use Rattle.tc_record.specs.Record.{record_of, IsRecordOf}
 use Rattle.tc_memory.specs.DocumentTables.{IsTableOf}
 use Rattle.tc_memory.specs.Table as memory
 use Rattle.tc_lsm_model.specs.Tables.{Table, shapes_held}
@@ -36,3 +37,8 @@ pub record HasRoom (kept : memory.Table) (left : Counted) (known : List Name) : 
 pub record IsCounted (names : List Name) (schema : Counted) (kept : memory.Table) : Type 0 where
   pub fits : FitsEach names (shapes_kept kept) schema
   pub room : HasRoom kept (all_removed names (shapes_kept kept) schema) names
+
+-- a document has a record that can be compacted
+pub record IsShortDocument (d : Document) : Type 0 where
+  pub recorded : IsRecordOf d (record_of d)
+  pub short : length (record_of d) < 2 ^ 30

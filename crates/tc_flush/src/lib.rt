@@ -11,4 +11,4 @@ mod writing;
 
 pub use counting::counted;
 pub use job::{FlushJob, FlushOut, FlushParts};
-pub use laws::{flushes_are_made, kept_shapes_fit};
+pub use laws::{flushes_are_made, kept_shapes_fit, lists_are_counted};
