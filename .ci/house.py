@@ -24,7 +24,6 @@ ANSWERS = ("Answers.antt", "Invariants.antt", "Proof.antt")
 ROWS = "Rows.antt"
 # Definitions, and laws that no clause can state, which crates to come stand on. A name leaves this list once it is used.
 AWAITED = {
-    "tc_model": ("map-with_value", "map-without_key"),
     "tc_plain_model": ("part_left_all-writes", "part_replies"),
     "tc_run_model": ("AreReplies-replies_to", "after_all_stands", "built_replies", "first_stands", "lines_in-windows", "windows_are_cut", "worlds_left"),
     "tc_store": ("LeavesPictures", "now_since", "picture_before", "picture_weaker"),

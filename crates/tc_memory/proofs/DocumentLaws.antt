@@ -1,6 +1,6 @@
 -- A write to a table of documents is the call of the memory table with the record.
-use Rattle.std.proofs.Common.{◌≡◌, ℕ, Bool, true, false, [], ◌∷◌, refl, sym, ap, ◌∙◌, subst, Option, Some, None}
-use Rattle.std.specs.Prelude.{◌==◌, nat_lt, if◌then◌else◌, option_map, is_some, All}
+use Rattle.std.proofs.Common.{◌≡◌, ℕ, [], ◌∷◌, refl, sym, ap, ◌∙◌, subst, Option, Some, None}
+use Rattle.std.specs.Prelude.{if◌then◌else◌, option_map, is_some, All}
 use Rattle.std.specs.List.Sorted.{IsStrictlySortedBy}
 use Rattle.std.specs.Map.{keys_of}
 use Rattle.std.specs.Ordering.{nat_cmp}
@@ -8,44 +8,18 @@ use Rattle.std.proofs.lemmas.List.Elements.{All-nil, All-cons, All-head, All-tai
 use Rattle.tc_model.specs.Document.{Document, IsDocument, ShapeTree}
 use Rattle.tc_model.specs.Keyed.{Ascends, value_of, with_value, without_key}
 use Rattle.tc_model.specs.Stored.{IsStorable}
+use Rattle.tc_model.proofs.ReadValues.{value_of-read, map-with_value, map-without_key}
 use Rattle.tc_model.proofs.KeyedOrder.{All-with_value, All-without_key}
 use Rattle.tc_record.specs.Record.{record_of}
 use Rattle.tc_lsm_model.specs.Tables as documents
-use Rattle.tc_memory.specs.Table.{Held, gone, live, Kept, Table, IsTable, IsLawfulKept, IsLawfulEntry, shape_kept, below_at, upserted, deleted}
+use Rattle.tc_memory.specs.Table.{Held, gone, live, Table, IsTable, IsLawfulKept, IsLawfulEntry, shape_kept, below_at, upserted, deleted}
 use Rattle.tc_memory.specs.DocumentTables.{kept_slot, kept_table, IsStoredAt, IsTableOf, OfDocuments}
 
 -- ---- entry by entry
 
-value_of-kept_table : (k : ℕ) (t : documents.Table) → value_of k (kept_table t) ≡ option_map kept_slot (value_of k t)
-value_of-kept_table k [] = refl
-value_of-kept_table k (e ∷ t) = step (k == e.0) (value_of k t) (value_of k (kept_table t)) (value_of-kept_table k t)
-  where
-    step : (b : Bool) (found : Option documents.Slot) (kept : Option Kept) → kept ≡ option_map kept_slot found → (if b then Some (kept_slot e.1) else kept) ≡ option_map kept_slot (if b then Some e.1 else found)
-    step true found kept is = refl
-    step false found kept is = is
-
 keys_of-kept_table : (t : documents.Table) → keys_of (kept_table t) ≡ keys_of t
 keys_of-kept_table [] = refl
 keys_of-kept_table (e ∷ t) = ap (λ ks. e.0 ∷ ks) (keys_of-kept_table t)
-
-kept-with_value : (k : ℕ) (s : documents.Slot) (t : documents.Table) → kept_table (with_value k s t) ≡ with_value k (kept_slot s) (kept_table t)
-kept-with_value k s [] = refl
-kept-with_value k s (e ∷ t) = step (nat_lt k e.0) (k == e.0) (with_value k s t) (with_value k (kept_slot s) (kept_table t)) (kept-with_value k s t)
-  where
-    step : (less same : Bool) (more : documents.Table) (kept : Table) → kept_table more ≡ kept
-        → kept_table (if less then (k, s) ∷ e ∷ t else (if same then (e.0, s) ∷ t else e ∷ more))
-        ≡ (if less then (k, kept_slot s) ∷ (e.0, kept_slot e.1) ∷ kept_table t else (if same then (e.0, kept_slot s) ∷ kept_table t else (e.0, kept_slot e.1) ∷ kept))
-    step true same more kept is = refl
-    step false true more kept is = refl
-    step false false more kept is = ap (λ rest. (e.0, kept_slot e.1) ∷ rest) is
-
-kept-without_key : (k : ℕ) (t : documents.Table) → kept_table (without_key k t) ≡ without_key k (kept_table t)
-kept-without_key k [] = refl
-kept-without_key k (e ∷ t) = step (k == e.0) (without_key k t) (without_key k (kept_table t)) (kept-without_key k t)
-  where
-    step : (same : Bool) (more : documents.Table) (kept : Table) → kept_table more ≡ kept → kept_table (if same then t else e ∷ more) ≡ (if same then kept_table t else (e.0, kept_slot e.1) ∷ kept)
-    step true more kept is = refl
-    step false more kept is = ap (λ rest. (e.0, kept_slot e.1) ∷ rest) is
 
 -- ---- the two calls
 
@@ -54,16 +28,16 @@ shape_kept-kept_slot handed None = refl
 shape_kept-kept_slot handed (Some s) = refl
 
 below_at-kept_table : (key : ℕ) (handed : Option ShapeTree) (t : documents.Table) → documents.shape_kept handed (value_of key t) ≡ below_at key handed (kept_table t)
-below_at-kept_table key handed t = shape_kept-kept_slot handed (value_of key t) ∙ ap (shape_kept handed) (sym (value_of-kept_table key t))
+below_at-kept_table key handed t = shape_kept-kept_slot handed (value_of key t) ∙ ap (shape_kept handed) (sym (value_of-read kept_slot key t))
 
 kept-upserted : (below : ℕ → Option ShapeTree) (key : ℕ) (d : Document) (t : documents.Table) → kept_table (documents.table_with below t (key, Some d)) ≡ upserted key (record_of d) (below key) (kept_table t)
 kept-upserted below key d t =
-    kept-with_value key (documents.slot (Some d) (documents.shape_kept (below key) (value_of key t))) t
+    map-with_value kept_slot key (documents.slot (Some d) (documents.shape_kept (below key) (value_of key t))) t
     ∙ ap (λ b. with_value key (record { held = live (record_of d); below = b }) (kept_table t)) (below_at-kept_table key (below key) t)
 
 kept-gone_at : (key : ℕ) (o : Option ShapeTree) (t : documents.Table) → kept_table (documents.gone_at key o t) ≡ (if is_some o then with_value key (record { held = gone; below = o }) (kept_table t) else without_key key (kept_table t))
-kept-gone_at key None t = kept-without_key key t
-kept-gone_at key (Some shape) t = kept-with_value key (documents.slot None (Some shape)) t
+kept-gone_at key None t = map-without_key kept_slot key t
+kept-gone_at key (Some shape) t = map-with_value kept_slot key (documents.slot None (Some shape)) t
 
 kept-deleted : (below : ℕ → Option ShapeTree) (key : ℕ) (t : documents.Table) → kept_table (documents.table_with below t (key, None)) ≡ deleted key (below key) (kept_table t)
 kept-deleted below key t =
@@ -114,7 +88,7 @@ documents_of (e ∷ kept) all =
     one_document e.1.held e.1.below (All-head IsLawfulEntry e kept all).lawful e.0 kept (documents_of kept (All-tail IsLawfulEntry e kept all))
 
 pub found_kept : (t : documents.Table) (kept : Table) (k : ℕ) → IsTableOf t kept → value_of k kept ≡ option_map kept_slot (value_of k t)
-found_kept t kept k of = ap (value_of k) of.is ∙ value_of-kept_table k t
+found_kept t kept k of = ap (value_of k) of.is ∙ value_of-read kept_slot k t
 
 pub ascends_kept : (t : documents.Table) (kept : Table) → IsTableOf t kept → IsTable kept → Ascends t
 ascends_kept t kept of table = subst (λ ks. IsStrictlySortedBy nat_cmp ks) (ap keys_of of.is ∙ keys_of-kept_table t) table.ascending
