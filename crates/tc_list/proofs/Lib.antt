@@ -4,3 +4,5 @@ pub mod RunPairs
 pub mod Walks
 pub mod KeyedPlaces
 pub mod Shown
+pub mod Suffixes
+mod PolicyRows

@@ -2,3 +2,4 @@ pub mod Intervals
 pub mod Runs
 pub mod Lookups
 pub mod Contents
+pub mod Policies

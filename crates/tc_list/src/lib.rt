@@ -3,10 +3,12 @@
 
 mod laws;
 mod list;
+mod policy;
 mod run;
 mod whereabouts;
 
 pub use laws::runs_show_contents;
 pub use list::ComponentList;
+pub use policy::Policy;
 pub use run::Run;
 pub use whereabouts::Whereabouts;
