@@ -5,4 +5,5 @@ pub mod Walks
 pub mod KeyedPlaces
 pub mod Shown
 pub mod Suffixes
+pub mod LoadedContents
 mod PolicyRows

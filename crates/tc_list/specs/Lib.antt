@@ -3,3 +3,4 @@ pub mod Runs
 pub mod Lookups
 pub mod Contents
 pub mod Policies
+pub mod Loaded

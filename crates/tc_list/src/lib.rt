@@ -7,7 +7,7 @@ mod policy;
 mod run;
 mod whereabouts;
 
-pub use laws::runs_show_contents;
+pub use laws::{loaded_components_show_contents, runs_show_contents};
 pub use list::ComponentList;
 pub use policy::Policy;
 pub use run::Run;
