@@ -37,7 +37,7 @@ pub struct MemDevice {
 }
 
 impl MemDevice {
-    ghost use Rattle.tc_store.specs.Memory.Device.{device_name, device_files};
+    ghost use Rattle.tc_store.specs.Memory.Device.{device_name, device_size, device_files};
 
     /// An empty file of this name, where a removed one had these bytes. Takes no memory.
     pub(crate) fn new(alloc: Global, name: FileName, before: Option<Arc<Vec<u8>>>) -> MemDevice
@@ -60,7 +60,8 @@ impl MemDevice {
 
     /// What a read would give.
     pub(crate) fn bytes(&self) -> &[u8]
-        ensures { IfTold (device_files self.now) (λ f. result.now ≡ f.content) }
+        ensures content { IfTold (device_files self.now) (λ f. result.now ≡ f.content) }
+        ensures length { length result.now ≡ device_size self.now }
     {
         &self.content
     }

@@ -119,7 +119,7 @@ impl Store for MemStore {
     type Frozen = MemFrozen;
 
     ghost use Rattle.tc_store.specs.Memory.Device.{device_name, device_files, device_size};
-    ghost use Rattle.tc_store.specs.Memory.Frozen.{frozen_name, frozen_content};
+    ghost use Rattle.tc_store.specs.Memory.Frozen.{frozen_name, frozen_size, frozen_content};
     ghost use Rattle.tc_store.specs.Memory.Store.{store_disks};
     ghost use Rattle.tc_store.specs.Memory.StoreLaws.{disk_may_stay};
 
@@ -205,6 +205,7 @@ impl Store for MemStore {
 
         ensures frozen { OnOk result (store_disks self.new ≡ comes_home (device_name device) frozen_entry (device_files device) (store_disks self.old)) }
         ensures content { IfOk result (λ file. frozen_content file ≡ content_now (device_files device)) }
+        ensures size { IfOk result (λ file. frozen_size file ≡ device_size device) }
         ensures name { IfOk result (λ file. frozen_name file ≡ device_name device) }
         ensures abandoned { OnErr result (store_disks self.new ≡ comes_home (device_name device) home (device_files device) (store_disks self.old)) }
         ensures counted { IsCounted (IsErrOf result StoreFault.Fault) (counts_of watch.old) (counts_of watch.new) }
