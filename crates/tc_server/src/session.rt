@@ -22,7 +22,11 @@ use tc_command::Refusal;
 use tc_edge::{Sink, write_all};
 use tc_words::Options;
 
-/// The store, the window that is open, and room for the replies to a window, which is kept from one to the next.
+/// Bytes of room for replies, up to which it is kept from window to window.
+const KEPT_ROOM: usize = 65_536;
+
+/// The store, the window that is open, and room for the replies to a window, which is kept for the next one where it is
+/// not large.
 #[derive(Drop)]
 pub struct Session {
     pub store: Store,
@@ -59,6 +63,7 @@ impl Session {
         self.window
             .answer(alloc, &mut self.store, &mut self.replies)?;
         write_all(sink, self.replies.as_slice())?;
+        give_back_large(alloc, &mut self.replies);
         Ok(())
     }
 
@@ -184,5 +189,13 @@ impl Session {
         ensures cause { HasWriteCause (O.faults sink.old) (O.faults sink.new) result }
     {
         self.take(alloc, Asked::refused(Refusal::Oversized), 0, sink)
+    }
+}
+
+/// Gives back the room for replies where it is large. Kept room saves a request of memory a window, which counts where
+/// windows are small; behind one window of long replies it would be held to the end of the run.
+fn give_back_large(alloc: Global, replies: &mut Vec<u8>) {
+    if KEPT_ROOM < replies.capacity() {
+        *replies = Vec::new(alloc);
     }
 }
