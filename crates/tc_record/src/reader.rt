@@ -10,7 +10,8 @@ use crate::widths::Width;
 use std::str;
 use tc_bytes::{slice_at, u8_at, u16_at, u32_at, u64_at};
 
-/// What is left of the columns beside the tags.
+/// What is left of the columns beside the tags. Readers move it on in place: it is five slices wide, and each token
+/// would copy it several times.
 #[derive(Clone, Copy)]
 pub(crate) struct Columns<'a> {
     pub(crate) fixed: &'a [u8],
@@ -65,79 +66,72 @@ fn str_at(bytes: &[u8], count: u32) -> Option<(&str, &[u8])>
     }
 }
 
-fn text_in(width: Width, columns: Columns<'_>) -> Option<(&str, Columns<'_>)>
-    ensures { option_map (λ x. (x.0.now, columns_of x.1)) result ≡ text_at width (columns_of columns.entry) }
+/// The next text, by its length.
+fn text_in<'a>(width: Width, columns: &mut Columns<'a>) -> Option<&'a str>
+    ensures { option_map (λ t. (t.now, columns_of columns.new)) result ≡ text_at width (columns_of columns.old) }
 {
     let (len, lengths) = column_number_at(width, columns.lengths)?;
     let (text, texts) = str_at(columns.texts, len)?;
-    let mut behind = columns;
-    behind.lengths = lengths;
-    behind.texts = texts;
-    Some((text, behind))
+    columns.lengths = lengths;
+    columns.texts = texts;
+    Some(text)
 }
 
-fn bool_in(columns: Columns<'_>) -> Option<(bool, Columns<'_>)>
-    ensures { option_map (λ x. (x.0, columns_of x.1)) result ≡ bool_at (columns_of columns.entry) }
+fn bool_in(columns: &mut Columns<'_>) -> Option<bool>
+    ensures { option_map (λ b. (b, columns_of columns.new)) result ≡ bool_at (columns_of columns.old) }
 {
     let (byte, fixed) = u8_at(columns.fixed)?;
-    let mut behind = columns;
-    behind.fixed = fixed;
+    columns.fixed = fixed;
     match byte {
-        0 => Some((false, behind)),
-        1 => Some((true, behind)),
+        0 => Some(false),
+        1 => Some(true),
         _ => None,
     }
 }
 
-fn integer_in(columns: Columns<'_>) -> Option<(Piece<'_>, Columns<'_>)>
-    ensures { option_map (λ x. (piece_of x.0, columns_of x.1)) result ≡ integer_at (columns_of columns.entry) }
+fn integer_in<'a>(columns: &mut Columns<'a>) -> Option<Piece<'a>>
+    ensures { option_map (λ p. (piece_of p, columns_of columns.new)) result ≡ integer_at (columns_of columns.old) }
 {
     let (bits, fixed) = u64_at(columns.fixed)?;
-    let mut behind = columns;
-    behind.fixed = fixed;
-    Some((Piece::Int(bits.cast_signed()), behind))
+    columns.fixed = fixed;
+    Some(Piece::Int(bits.cast_signed()))
 }
 
 /// A value, or the opening of one, by its tag.
-fn piece_in(width: Width, tag: u8, columns: Columns<'_>) -> Option<(Piece<'_>, Columns<'_>)>
-    ensures { option_map (λ x. (piece_of x.0, columns_of x.1)) result ≡ piece_at width tag (columns_of columns.entry) }
+fn piece_in<'a>(width: Width, tag: u8, columns: &mut Columns<'a>) -> Option<Piece<'a>>
+    ensures { option_map (λ p. (piece_of p, columns_of columns.new)) result ≡ piece_at width tag (columns_of columns.old) }
 {
     if tag == NULL_TAG {
-        Some((Piece::Null, columns))
+        Some(Piece::Null)
     } else if tag == BOOLEAN_TAG {
-        let (value, behind) = bool_in(columns)?;
-        Some((Piece::Bool(value), behind))
+        let value = bool_in(columns)?;
+        Some(Piece::Bool(value))
     } else if tag == INTEGER_TAG {
         integer_in(columns)
     } else if tag == TEXT_TAG {
-        let (text, behind) = text_in(width, columns)?;
-        Some((Piece::Text(text), behind))
+        let text = text_in(width, columns)?;
+        Some(Piece::Text(text))
     } else if tag == ARRAY_TAG {
-        Some((Piece::Array, columns))
+        Some(Piece::Array)
     } else if tag == OBJECT_TAG {
-        Some((Piece::Object, columns))
+        Some(Piece::Object)
     } else {
         None
     }
 }
 
 /// A name by its length, if it stands above the name before it.
-fn name_in<'a>(
-    width: Width,
-    last: Option<&'a str>,
-    columns: Columns<'a>,
-) -> Option<(&'a str, Columns<'a>)>
-    ensures { option_map (λ x. (x.0.now, columns_of x.1)) result ≡ name_at width (option_map (λ n. n.now) last.entry) (columns_of columns.entry) }
+fn name_in<'a>(width: Width, last: Option<&'a str>, columns: &mut Columns<'a>) -> Option<&'a str>
+    ensures { option_map (λ n. (n.now, columns_of columns.new)) result ≡ name_at width (option_map (λ n. n.now) last.entry) (columns_of columns.old) }
 {
     let (len, slots) = column_number_at(width, columns.slots)?;
     let (name, names) = str_at(columns.names, len)?;
     if !is_above(last, name) {
         return None;
     }
-    let mut behind = columns;
-    behind.slots = slots;
-    behind.names = names;
-    Some((name, behind))
+    columns.slots = slots;
+    columns.names = names;
+    Some(name)
 }
 
 /// Whether a name stands above the one before it, if there is one.
@@ -154,12 +148,12 @@ fn is_above(last: Option<&str>, name: &str) -> bool
 fn label_in<'a>(
     format: Format,
     level: Level<'a>,
-    columns: Columns<'a>,
-) -> Option<(Label<'a>, Level<'a>, Columns<'a>)>
-    ensures { option_map (λ x. (key_of x.0, level_of x.1, columns_of x.2)) result ≡ label_at (format_of format) (level_of level.entry) (columns_of columns.entry) }
+    columns: &mut Columns<'a>,
+) -> Option<(Label<'a>, Level<'a>)>
+    ensures { option_map (λ x. (key_of x.0, level_of x.1, columns_of columns.new)) result ≡ label_at (format_of format) (level_of level.entry) (columns_of columns.old) }
 {
     match level {
-        Level::Array => Some((Label::Bare, level, columns)),
+        Level::Array => Some((Label::Bare, level)),
         Level::Object(last) => member_label_in(format, last, columns),
     }
 }
@@ -167,30 +161,29 @@ fn label_in<'a>(
 fn member_label_in<'a>(
     format: Format,
     last: Option<&'a str>,
-    columns: Columns<'a>,
-) -> Option<(Label<'a>, Level<'a>, Columns<'a>)>
-    ensures { option_map (λ x. (key_of x.0, level_of x.1, columns_of x.2)) result ≡ label_at (format_of format) (in_object (option_map (λ n. n.now) last.entry)) (columns_of columns.entry) }
+    columns: &mut Columns<'a>,
+) -> Option<(Label<'a>, Level<'a>)>
+    ensures { option_map (λ x. (key_of x.0, level_of x.1, columns_of columns.new)) result ≡ label_at (format_of format) (in_object (option_map (λ n. n.now) last.entry)) (columns_of columns.old) }
 {
     if format.named {
-        let (name, behind) = name_in(format.slot_width, last, columns)?;
-        return Some((Label::Name(name), Level::Object(Some(name)), behind));
+        let name = name_in(format.slot_width, last, columns)?;
+        return Some((Label::Name(name), Level::Object(Some(name))));
     }
     let (number, slots) = column_number_at(format.slot_width, columns.slots)?;
-    let mut behind = columns;
-    behind.slots = slots;
-    Some((Label::Number(number), Level::Object(None), behind))
+    columns.slots = slots;
+    Some((Label::Number(number), Level::Object(None)))
 }
 
-/// A value that stands in a level, as a token, with the level and the columns behind it.
+/// A value that stands in a level, as a token, with the level behind it.
 pub(crate) fn value_in<'a>(
     format: Format,
     level: Level<'a>,
     tag: u8,
-    columns: Columns<'a>,
-) -> Option<(Token<'a>, Level<'a>, Columns<'a>)>
-    ensures { option_map (λ x. (token_of x.0, level_of x.1, columns_of x.2)) result ≡ value_at (format_of format) (level_of level.entry) tag (columns_of columns.entry) }
+    columns: &mut Columns<'a>,
+) -> Option<(Token<'a>, Level<'a>)>
+    ensures { option_map (λ x. (token_of x.0, level_of x.1, columns_of columns.new)) result ≡ value_at (format_of format) (level_of level.entry) tag (columns_of columns.old) }
 {
-    let (label, behind, labelled) = label_in(format, level, columns)?;
-    let (value, rest) = piece_in(format.text_width, tag, labelled)?;
-    Some((Token { label, value }, behind, rest))
+    let (label, behind) = label_in(format, level, columns)?;
+    let value = piece_in(format.text_width, tag, columns)?;
+    Some((Token { label, value }, behind))
 }

@@ -1,18 +1,17 @@
 //! A record of either form, borrowed.
 
-ghost use Rattle.std.specs.Prelude.{◌≡◌, ◌↔◌, IfSome, IfNone, IsTrue, is_some, true, false, length};
+ghost use Rattle.std.specs.Prelude.{◌≡◌, ◌↔◌, ◌∷◌, [], None, IfSome, IfNone, IsTrue, is_some, true, false, length};
 ghost use Rattle.std.specs.List.{AllByRecursion};
 ghost use Rattle.tc_model.specs.Document.{Document};
 ghost use Rattle.tc_record.specs.Record.{labels, NumberedTree, IsRecordOf, IsNumberedRecordOf};
 ghost use Rattle.tc_record.specs.Sections.{scan_at, is_scan_below};
-ghost use Rattle.tc_record.specs.Walk.{walk, tokens_read, is_used_up as used_up};
+ghost use Rattle.tc_record.specs.Walk.{walk, in_object, tokens_read, is_used_up as used_up};
 ghost use Rattle.tc_record.specs.WalkView.{columns_of, format_of};
-ghost use Rattle.tc_record.specs.Stack.{stack_of};
 ghost use Rattle.tc_record.specs.Borrowed.{Spells, IsRecord, IsBelow, named_tokens, numbered_tokens};
 
 use crate::cursor::Cursor;
 use crate::header::header_in;
-use crate::reader::Columns;
+use crate::reader::{Columns, Format};
 use crate::sections::{Sections, scanned, sections_of_record};
 use crate::tags::OBJECT_TAG;
 use crate::walking::Walk;
@@ -163,15 +162,16 @@ fn has_tokens(sections: Sections<'_>) -> bool
     match sections.tags {
         [] => false,
         [first, rest @ ..] => {
-            *first == OBJECT_TAG && walks(rest, Walk::in_object(sections.format, sections.columns))
+            *first == OBJECT_TAG && walks(rest, sections.format, sections.columns)
         }
     }
 }
 
-fn walks(tags: &[u8], start: Walk<'_>) -> bool
-    ensures { result ≡ is_some (walk (format_of start.entry.format) tags.now (stack_of start.entry.levels start.entry.depth) (columns_of start.entry.columns)) }
+/// Whether these are the tags behind the first one. The walk is made where it is used: moved, it is copied whole.
+fn walks(tags: &[u8], format: Format, columns: Columns<'_>) -> bool
+    ensures { result ≡ is_some (walk (format_of format) tags.now (in_object None ∷ []) (columns_of columns.entry)) }
 {
-    let mut walk = start;
+    let mut walk = Walk::in_object(format, columns);
     for tag in tags {
         if walk.step(*tag).is_none() {
             return false;

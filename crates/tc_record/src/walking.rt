@@ -57,7 +57,8 @@ impl<'a> Walk<'a> {
         }
         let place = self.depth - 1;
         let level = self.levels[place];
-        let (token, behind, columns) = value_in(self.format, level, tag, self.columns)?;
+        let mut columns = self.columns;
+        let (token, behind) = value_in(self.format, level, tag, &mut columns)?;
         self.levels[place] = behind;
         self.columns = columns;
         if self.open(token.value) {

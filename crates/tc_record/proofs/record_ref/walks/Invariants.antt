@@ -1,11 +1,11 @@
-use Rattle.std.proofs.Common.{◌≡◌, drop, is_some}
-use Rattle.tc_record.specs.Walk.{walk}
+use Rattle.std.proofs.Common.{◌≡◌, ◌∷◌, [], None, drop, is_some}
+use Rattle.tc_record.specs.Walk.{walk, in_object}
 use Rattle.tc_record.specs.WalkView.{columns_of, format_of}
 use Rattle.tc_record.specs.Stack.{stack_of}
 use Rattle.tc_record.proofs.record_ref.walks.Given as goal
 
 abbrev pub invariant-loop-tag : goal.invariant-loop-tag
 invariant-loop-tag l = record {
-  format : format_of l.walk.format ≡ format_of l.fn.start.format;
-  walked : is_some (walk (format_of l.walk.format) (drop l.tag-index l.tags) (stack_of l.walk.levels l.walk.depth) (columns_of l.walk.columns)) ≡ is_some (walk (format_of l.fn.start.format) l.tags (stack_of l.fn.start.levels l.fn.start.depth) (columns_of l.fn.start.columns));
+  format : format_of l.walk.format ≡ format_of l.fn.format;
+  walked : is_some (walk (format_of l.walk.format) (drop l.tag-index l.tags) (stack_of l.walk.levels l.walk.depth) (columns_of l.walk.columns)) ≡ is_some (walk (format_of l.fn.format) l.tags (in_object None ∷ []) (columns_of l.fn.columns));
 }

@@ -14,12 +14,12 @@ returns-in_err-token-clause-step c =
 pub returns-then-open-clause-step : goal.returns-then-open-clause-step
 returns-then-open-clause-step c =
     let s = c.args.self.now in
-    let read : value_at (format_of s.format) (level_of (get_or s.levels (s.depth - 1) level.Array)) c.args.tag (columns_of s.columns) ≡ Some (token_of c.in_ok-token.token, level_of c.in_ok-token.behind, columns_of c.in_ok-token.columns) = sym c.value_in.ensures ∙ rw c.in_ok-token.was refl in
+    let read : value_at (format_of s.format) (level_of (get_or s.levels (s.depth - 1) level.Array)) c.args.tag (columns_of s.columns) ≡ Some (token_of c.in_ok-token.token, level_of c.in_ok-token.behind, columns_of c.value_in.new.columns) = sym c.value_in.ensures ∙ rw c.in_ok-token.was refl in
     rw c.open.ensures.columns
-    (sym (stepped_some (format_of s.format) c.args.tag s.levels s.depth (columns_of s.columns) (token_of c.in_ok-token.token) c.in_ok-token.behind (columns_of c.in_ok-token.columns) (omega arith) (omega arith) (omega arith) read ∙ opened_some _ _ _ _ _ c.open.ensures.opened c.if-open.true))
+    (sym (stepped_some (format_of s.format) c.args.tag s.levels s.depth (columns_of s.columns) (token_of c.in_ok-token.token) c.in_ok-token.behind (columns_of c.value_in.new.columns) (omega arith) (omega arith) (omega arith) read ∙ opened_some _ _ _ _ _ c.open.ensures.opened c.if-open.true))
 
 pub returns-else-open-clause-step : goal.returns-else-open-clause-step
 returns-else-open-clause-step c =
     let s = c.args.self.now in
-    let read : value_at (format_of s.format) (level_of (get_or s.levels (s.depth - 1) level.Array)) c.args.tag (columns_of s.columns) ≡ Some (token_of c.in_ok-token.token, level_of c.in_ok-token.behind, columns_of c.in_ok-token.columns) = sym c.value_in.ensures ∙ rw c.in_ok-token.was refl in
-    sym (stepped_some (format_of s.format) c.args.tag s.levels s.depth (columns_of s.columns) (token_of c.in_ok-token.token) c.in_ok-token.behind (columns_of c.in_ok-token.columns) (omega arith) (omega arith) (omega arith) read ∙ opened_none _ _ _ _ _ c.open.ensures.opened c.if-open.false)
+    let read : value_at (format_of s.format) (level_of (get_or s.levels (s.depth - 1) level.Array)) c.args.tag (columns_of s.columns) ≡ Some (token_of c.in_ok-token.token, level_of c.in_ok-token.behind, columns_of c.value_in.new.columns) = sym c.value_in.ensures ∙ rw c.in_ok-token.was refl in
+    sym (stepped_some (format_of s.format) c.args.tag s.levels s.depth (columns_of s.columns) (token_of c.in_ok-token.token) c.in_ok-token.behind (columns_of c.value_in.new.columns) (omega arith) (omega arith) (omega arith) read ∙ opened_none _ _ _ _ _ c.open.ensures.opened c.if-open.false)
