@@ -16,7 +16,7 @@ tokens_held s = walk.tokens_read (format_of s.format) s.tags.now (columns_of s.c
 
 -- the tokens that are left, where the first one was taken, and where it was not
 abbrev pub tokens_left : Bool → List ℕ → Walk → Option (List (Token walk.Key Scalar))
-tokens_left true tags w = walk.walk (format_of w.format) tags (stack_of w.levels w.depth) (columns_of w.columns)
+tokens_left true tags w = walk.walk (format_of w.format) tags (stack_of w.nesting.levels w.nesting.depth) (columns_of w.columns)
 tokens_left false [] w = None
 tokens_left false (tag ∷ tags) w =
-    if tag == kind_tag objects then (walk.walk (format_of w.format) tags (stack_of w.levels w.depth) (columns_of w.columns) >>= λ ts. Some (token None object_opened ∷ ts)) else None
+    if tag == kind_tag objects then (walk.walk (format_of w.format) tags (stack_of w.nesting.levels w.nesting.depth) (columns_of w.columns) >>= λ ts. Some (token None object_opened ∷ ts)) else None

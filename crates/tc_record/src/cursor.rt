@@ -75,7 +75,7 @@ impl<'a> Cursor<'a> {
 
 /// The token of a tag, where the first tag of a record opens an object.
 fn advance<'a>(walk: &mut Walk<'a>, started: bool, tag: u8) -> Option<Token<'a>>
-    ensures step { option_map (λ t. (token_of t, stack_of walk.new.levels walk.new.depth, columns_of walk.new.columns)) result ≡ (if started then step (format_of walk.old.format) tag (stack_of walk.old.levels walk.old.depth) (columns_of walk.old.columns) else Some (token None object_opened, stack_of walk.old.levels walk.old.depth, columns_of walk.old.columns)) }
+    ensures step { option_map (λ t. (token_of t, stack_of walk.new.nesting.levels walk.new.nesting.depth, columns_of walk.new.columns)) result ≡ (if started then step (format_of walk.old.format) tag (stack_of walk.old.nesting.levels walk.old.nesting.depth) (columns_of walk.old.columns) else Some (token None object_opened, stack_of walk.old.nesting.levels walk.old.nesting.depth, columns_of walk.old.columns)) }
     ensures format { format_of walk.new.format ≡ format_of walk.old.format }
 {
     if started {

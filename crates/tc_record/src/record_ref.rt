@@ -177,7 +177,7 @@ fn walks(tags: &[u8], format: Format, columns: Columns<'_>) -> bool
             return false;
         }
     }
-    walk.depth == 0 && is_used_up(walk.columns)
+    walk.nesting.depth == 0 && is_used_up(walk.columns)
 }
 
 fn is_used_up(columns: Columns<'_>) -> bool

@@ -14,15 +14,21 @@ use tc_value::MAX_DEPTH;
 /// How many arrays and objects may be open at once.
 const MAX_LEVELS: usize = MAX_DEPTH as usize;
 
-/// What is open, innermost last, and what is left of the columns beside the tags.
+/// The arrays and objects that are open, innermost last.
 #[derive(Clone, Copy)]
-pub(crate) struct Walk<'a> {
-    pub(crate) format: Format,
-    pub(crate) columns: Columns<'a>,
+pub(crate) struct Nesting<'a> {
     pub(crate) levels: [Level<'a>; MAX_LEVELS],
     pub(crate) depth: usize,
     ghost room: { length levels ≡ max_depth },
     ghost shallow: { depth ≤ max_depth },
+}
+
+/// What is open, and what is left of the columns beside the tags.
+#[derive(Clone, Copy)]
+pub(crate) struct Walk<'a> {
+    pub(crate) format: Format,
+    pub(crate) columns: Columns<'a>,
+    pub(crate) nesting: Nesting<'a>,
 }
 
 impl<'a> Walk<'a> {
@@ -30,49 +36,61 @@ impl<'a> Walk<'a> {
     pub(crate) fn in_object(format: Format, columns: Columns<'a>) -> Walk<'a>
         ensures format { result.format ≡ format }
         ensures columns { columns_of result.columns ≡ columns_of columns.entry }
-        ensures levels { stack_of result.levels result.depth ≡ in_object None ∷ [] }
+        ensures levels { stack_of result.nesting.levels result.nesting.depth ≡ in_object None ∷ [] }
     {
         Walk {
             format,
             columns,
-            levels: [Level::Object(None); MAX_LEVELS],
-            depth: 1,
+            nesting: Nesting {
+                levels: [Level::Object(None); MAX_LEVELS],
+                depth: 1,
+            },
         }
     }
 
     /// The token of a tag, or `None` where no token can stand there.
     pub(crate) fn step(&mut self, tag: u8) -> Option<Token<'a>>
-        ensures step { option_map (λ t. (token_of t, stack_of self.new.levels self.new.depth, columns_of self.new.columns)) result ≡ step (format_of self.old.format) tag (stack_of self.old.levels self.old.depth) (columns_of self.old.columns) }
+        ensures step { option_map (λ t. (token_of t, stack_of self.new.nesting.levels self.new.nesting.depth, columns_of self.new.columns)) result ≡ step (format_of self.old.format) tag (stack_of self.old.nesting.levels self.old.nesting.depth) (columns_of self.old.columns) }
         ensures format { self.new.format ≡ self.old.format }
     {
-        if self.depth == 0 {
-            return None;
-        }
-        if tag == CLOSE_TAG {
-            self.depth -= 1;
-            return Some(Token {
-                label: Label::Bare,
-                value: Piece::Close,
-            });
-        }
-        let place = self.depth - 1;
-        let level = self.levels[place];
-        let mut columns = self.columns;
-        let (token, behind) = value_in(self.format, level, tag, &mut columns)?;
-        self.levels[place] = behind;
-        self.columns = columns;
-        if self.open(token.value) {
-            Some(token)
-        } else {
-            None
-        }
+        token_in(self.format, tag, &mut self.nesting, &mut self.columns)
     }
+}
 
+/// The token of a tag, with what is open and the columns moved on.
+fn token_in<'a>(
+    format: Format,
+    tag: u8,
+    nesting: &mut Nesting<'a>,
+    columns: &mut Columns<'a>,
+) -> Option<Token<'a>>
+    ensures { option_map (λ t. (token_of t, stack_of nesting.new.levels nesting.new.depth, columns_of columns.new)) result ≡ step (format_of format) tag (stack_of nesting.old.levels nesting.old.depth) (columns_of columns.old) }
+{
+    if nesting.depth == 0 {
+        return None;
+    }
+    if tag == CLOSE_TAG {
+        nesting.depth -= 1;
+        return Some(Token {
+            label: Label::Bare,
+            value: Piece::Close,
+        });
+    }
+    let place = nesting.depth - 1;
+    let level = nesting.levels[place];
+    let (token, behind) = value_in(format, level, tag, columns)?;
+    nesting.levels[place] = behind;
+    if nesting.open(token.value) {
+        Some(token)
+    } else {
+        None
+    }
+}
+
+impl<'a> Nesting<'a> {
     /// Opens what a value opens, or answers `false` where that would nest too deep.
     fn open(&mut self, value: Piece<'a>) -> bool
-        ensures opened { (if result then Some (stack_of self.new.levels self.new.depth) else None) ≡ opened (piece_of value.entry) (stack_of self.old.levels self.old.depth) }
-        ensures format { self.new.format ≡ self.old.format }
-        ensures columns { columns_of self.new.columns ≡ columns_of self.old.columns }
+        ensures { (if result then Some (stack_of self.new.levels self.new.depth) else None) ≡ opened (piece_of value.entry) (stack_of self.old.levels self.old.depth) }
     {
         match value {
             Piece::Null => true,
@@ -86,9 +104,7 @@ impl<'a> Walk<'a> {
     }
 
     fn push(&mut self, level: Level<'a>) -> bool
-        ensures pushed { (if result then Some (stack_of self.new.levels self.new.depth) else None) ≡ (if nat_lt (length (stack_of self.old.levels self.old.depth)) max_depth then Some (level_of level.entry ∷ stack_of self.old.levels self.old.depth) else None) }
-        ensures format { self.new.format ≡ self.old.format }
-        ensures columns { columns_of self.new.columns ≡ columns_of self.old.columns }
+        ensures { (if result then Some (stack_of self.new.levels self.new.depth) else None) ≡ (if nat_lt (length (stack_of self.old.levels self.old.depth)) max_depth then Some (level_of level.entry ∷ stack_of self.old.levels self.old.depth) else None) }
     {
         if self.depth >= MAX_LEVELS {
             return false;

@@ -14,5 +14,5 @@ pub returns-else-walk-eq0 : goal.returns-else-walk-eq0
 returns-else-walk-eq0 c =
     let w = c.loop-tag.walk in
     let ended : drop c.loop-tag.tag-index c.args.tags.now ≡ [] = drop_all c.loop-tag.tag-index c.args.tags.now c.loop-tag-test.false in
-    let none : is_some (walk.walk (format_of w.format) (drop c.loop-tag.tag-index c.args.tags.now) (stack_of w.levels w.depth) (columns_of w.columns)) ≡ false = rw ended (ap is_some (walk_open (format_of w.format) w.levels w.depth (columns_of w.columns) (omega arith))) in
-    unequal w.depth c.if-walk-eq0.false ∙ sym none ∙ c.loop-tag.invariant.walked
+    let none : is_some (walk.walk (format_of w.format) (drop c.loop-tag.tag-index c.args.tags.now) (stack_of w.nesting.levels w.nesting.depth) (columns_of w.columns)) ≡ false = rw ended (ap is_some (walk_open (format_of w.format) w.nesting.levels w.nesting.depth (columns_of w.columns) (omega arith))) in
+    unequal w.nesting.depth c.if-walk-eq0.false ∙ sym none ∙ c.loop-tag.invariant.walked

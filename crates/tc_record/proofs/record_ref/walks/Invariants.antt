@@ -7,5 +7,5 @@ use Rattle.tc_record.proofs.record_ref.walks.Given as goal
 abbrev pub invariant-loop-tag : goal.invariant-loop-tag
 invariant-loop-tag l = record {
   format : format_of l.walk.format ≡ format_of l.fn.format;
-  walked : is_some (walk (format_of l.walk.format) (drop l.tag-index l.tags) (stack_of l.walk.levels l.walk.depth) (columns_of l.walk.columns)) ≡ is_some (walk (format_of l.fn.format) l.tags (in_object None ∷ []) (columns_of l.fn.columns));
+  walked : is_some (walk (format_of l.walk.format) (drop l.tag-index l.tags) (stack_of l.walk.nesting.levels l.walk.nesting.depth) (columns_of l.walk.columns)) ≡ is_some (walk (format_of l.fn.format) l.tags (in_object None ∷ []) (columns_of l.fn.columns));
 }
