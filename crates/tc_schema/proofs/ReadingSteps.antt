@@ -1,12 +1,12 @@
 -- One step of reading after another.
-use Rattle.std.proofs.Common.{◌≡◌, ◌≢◌, ℕ, zero, suc, ◌+◌, ◌-◌, ◌<◌, ◌≤◌, ◌==◌, nat_lt, Bool, true, false, List, [], ◌∷◌, ◌++◌, drop, Option, Some, None, option_map, ◌⊎◌, inl, inr, if◌then◌else◌, refl, sym, ap, ◌∙◌, arith}
+use Rattle.std.proofs.Common.{◌≡◌, ◌≢◌, ℕ, zero, suc, ◌+◌, ◌-◌, ◌<◌, ◌≤◌, ◌==◌, nat_lt, Bool, true, false, List, [], ◌∷◌, ◌++◌, drop, Option, Some, None, option_map, ◌⊎◌, inl, inr, if◌then◌else◌, refl, ap, arith}
 use Rattle.std.specs.Int.{w32}
 use Rattle.std.proofs.lemmas.Bool.Decides.{Decides-ltb, nat_tests}
 use Rattle.std.proofs.lemmas.Bool.{false≢true, le-ltb, lt-ltb}
 use Rattle.tc_bytes.specs.Reading.{Reader, ◌>>=◌, number_at}
-use Rattle.tc_schema_model.specs.Counted.{Counted, Below, Fields, no_fields, a_field}
+use Rattle.tc_schema_model.specs.Counted.{Counters, Counted, Below, Fields, no_fields, a_field}
 use Rattle.tc_schema.specs.Places.{listed}
-use Rattle.tc_schema.specs.Reading.{starts, scalar_at, array_at, object_at, fields_at, union_at, kinds_at, place_at}
+use Rattle.tc_schema.specs.Reading.{starts, array_at, object_at, fields_at, place_ended, arrays_at, union_at, kinds_at, place_at}
 use Rattle.tc_schema.specs.Writing.{one_if_some}
 
 -- a place, where a level is left
@@ -69,13 +69,21 @@ module _ (read : Reader Counted) (limit : ℕ) where
   all_read left low bytes done none = rw none (ap (λ fs. let pair : Fields × List ℕ = (fs, bytes) in Some pair) (before_none done))
 
 -- more kinds were to come than there are
-pub kinds_missing : (read : Reader Counted) (limit : ℕ) (l0 l1 l2 l3 l4 l5 k : ℕ) (bytes r1 r2 r3 r4 r5 r6 : List ℕ) (a b c d n m : ℕ) (below : Below) (fs : Fields)
-    → l1 ≡ l0 - one_if_some a → l2 ≡ l1 - one_if_some b → l3 ≡ l2 - one_if_some c → l4 ≡ l3 - one_if_some d → l5 ≡ l4 - one_if_some n → k ≡ one_if_some m
-    → scalar_at 1 l0 bytes ≡ Some (a, r1) → scalar_at 2 l1 r1 ≡ Some (b, r2) → scalar_at 3 l2 r2 ≡ Some (c, r3) → scalar_at 4 l3 r3 ≡ Some (d, r4)
-    → array_at read l4 r4 ≡ Some ((n, below), r5) → object_at read limit l5 r5 ≡ Some ((m, fs), r6) → l5 ≢ k → one_if_some m ≤ l5 → kinds_at read limit l0 bytes ≡ None
-kinds_missing read limit l0 l1 l2 l3 l4 l5 k bytes r1 r2 r3 r4 r5 r6 a b c d n m below fs i1 i2 i3 i4 i5 i6 e1 e2 e3 e4 e5 e6 other le =
-    let no : (l5 - one_if_some m == 0) ≡ false = not_equal l5 (one_if_some m) (λ same. other (same ∙ sym i6)) le in
-    rw (e1, ← i1, e2, ← i2, e3, ← i3, e4, ← i4, e5, ← i5, e6, no) refl
+pub kind_missing : (left n : ℕ) (c : Counters) (b : Below) (fs : Fields) (bytes : List ℕ) → left ≢ one_if_some n → one_if_some n ≤ left → place_ended left n c b fs bytes ≡ None
+kind_missing left n c b fs bytes other le = rw (not_equal left (one_if_some n) other le) refl
   where
     not_equal : (l k : ℕ) → (l ≡ k → ⊥) → k ≤ l → (l - k == 0) ≡ false
     not_equal l k other le = grind (arith, nat_tests)
+
+-- the kinds behind the scalar kinds: no array, no object, or both
+module _ (read : Reader Counted) (limit left : ℕ) (c : Counters) (bytes : List ℕ) where
+  pub no_array : array_at read left bytes ≡ None → arrays_at read limit left c bytes ≡ None
+  no_array none = rw none refl
+
+  pub no_object : (n : ℕ) (b : Below) (r : List ℕ) (l : ℕ) → l ≡ left - one_if_some n → array_at read left bytes ≡ Some ((n, b), r) → object_at read limit l r ≡ None
+      → arrays_at read limit left c bytes ≡ None
+  no_object n b r l is array none = rw (array, ← is, none) refl
+
+  pub both_read : (n : ℕ) (b : Below) (r : List ℕ) (l : ℕ) (m : ℕ) (fs : Fields) (rest : List ℕ) → l ≡ left - one_if_some n → array_at read left bytes ≡ Some ((n, b), r)
+      → object_at read limit l r ≡ Some ((m, fs), rest) → arrays_at read limit left c bytes ≡ place_ended l m (record c { arrays = n; objects = m }) b fs rest
+  both_read n b r l m fs rest is array object = rw (array, ← is, object) refl

@@ -42,10 +42,13 @@ abbrev pub object_at : Reader Counted → ℕ → ℕ → Reader (ℕ × Fields)
 object_at read limit left bytes =
     if starts (tag objects) left bytes then (counter_at (drop 1 bytes) >>= λ n. number_at w32 n.1 >>= λ many. fields_at read limit many.0 0 many.1 >>= λ fs. Some ((n.0, fs.0), fs.1)) else Some ((0, no_fields), bytes)
 
+-- what was read of a place, where no further kind is to come and its values are fewer than 2^64
+abbrev pub place_ended : ℕ → ℕ → Counters → Below → Fields → List ℕ → Option (Counted × List ℕ)
+place_ended left n c b fs bytes = if left - one_if_some n == 0 && nat_lt (total c) (2 ^ 64) then Some (counted c b fs, bytes) else None
+
 -- So many kinds by ascending tag, which together are fewer than 2^64: each kind after those before it.
 abbrev pub objects_at : Reader Counted → ℕ → ℕ → Counters → Below → Reader Counted
-objects_at read limit left c b bytes =
-    object_at read limit left bytes >>= λ f. if left - one_if_some f.0.0 == 0 && nat_lt (total (record c { objects = f.0.0 })) (2 ^ 64) then Some (counted (record c { objects = f.0.0 }) b f.0.1, f.1) else None
+objects_at read limit left c b bytes = object_at read limit left bytes >>= λ f. place_ended left f.0.0 (record c { objects = f.0.0 }) b f.0.1 f.1
 
 abbrev pub arrays_at : Reader Counted → ℕ → ℕ → Counters → Reader Counted
 arrays_at read limit left c bytes = array_at read left bytes >>= λ e. objects_at read limit (left - one_if_some e.0.0) (record c { arrays = e.0.0 }) e.0.1 e.1

@@ -1,10 +1,12 @@
 //! Places read from bytes, where no more than so many levels nest.
 
-ghost use Rattle.std.specs.Prelude.{◌≡◌, ◌≤◌, option_map, length, IfOk, IfSome};
+ghost use Rattle.std.specs.Prelude.{◌≡◌, ◌≤◌, ℕ, option_map, option_and_then, length, IfOk, IfSome};
 ghost use Rattle.tc_bytes.specs.Codec.{Gives};
+ghost use Rattle.tc_bytes.specs.Reading.{Reader};
+ghost use Rattle.tc_schema_model.specs.Counted.{Counted};
 ghost use Rattle.tc_schema.specs.Places.{place_counted, below_counted, fields_counted};
 ghost use Rattle.tc_schema.specs.Writing.{one_if_some};
-ghost use Rattle.tc_schema.specs.Reading.{starts, counter_at, scalar_at, item_at, array_at, fields_at, object_at, kinds_at, union_at, place_at, root_at, read_schema};
+ghost use Rattle.tc_schema.specs.Reading.{starts, counter_at, scalar_at, item_at, array_at, fields_at, object_at, place_ended, arrays_at, kinds_at, union_at, place_at, root_at, read_schema};
 
 use crate::counters::{Counts, one_if_some};
 use crate::fault::SchemaFault;
@@ -103,31 +105,11 @@ fn read_kinds(
 ) -> Result<(Node, &[u8]), SchemaFault>
     ensures { Gives (λ x. (place_counted x.0, x.1.now)) SchemaFault.NotASchema result (kinds_at (place_at names levels) names left bytes.now) }
 {
-    let (nulls, rest) = read_scalar(NULL_TAG, left, bytes).ok_or(SchemaFault::NotASchema)?;
-    let left = left - one_if_some(nulls);
-    let (booleans, rest) = read_scalar(BOOLEAN_TAG, left, rest).ok_or(SchemaFault::NotASchema)?;
-    let left = left - one_if_some(booleans);
-    let (integers, rest) = read_scalar(INTEGER_TAG, left, rest).ok_or(SchemaFault::NotASchema)?;
-    let left = left - one_if_some(integers);
-    let (texts, rest) = read_scalar(TEXT_TAG, left, rest).ok_or(SchemaFault::NotASchema)?;
-    let left = left - one_if_some(texts);
+    let (scalars, left, rest) = read_scalars(left, bytes).ok_or(SchemaFault::NotASchema)?;
     let (arrays, item, rest) = read_array(left, rest, levels, names, alloc)?;
     let left = left - one_if_some(arrays);
     let (objects, fields, rest) = read_object(left, rest, levels, names, alloc)?;
-    if left != one_if_some(objects) {
-        return Err(SchemaFault::NotASchema);
-    }
-    let counts = Counts::of(nulls, booleans, integers, texts, arrays, objects).ok_or(
-        SchemaFault::NotASchema,
-    )?;
-    Ok((
-        Node {
-            counts,
-            item,
-            fields,
-        },
-        rest,
-    ))
+    place_of(left, scalars, arrays, item, objects, fields, rest)
 }
 
 /// The counter of arrays with their items, or 0.
@@ -220,6 +202,78 @@ fn read_fields(
         rest = after;
     }
     Ok((fields, rest))
+}
+
+/// The place with what was read of it, where no further kind is to come, and what stands behind.
+fn place_of(
+    left: u8,
+    scalars: Scalars,
+    arrays: u64,
+    item: Option<Box<Node>>,
+    objects: u64,
+    fields: Vec<Field>,
+    rest: &[u8],
+) -> Result<(Node, &[u8]), SchemaFault>
+    requires { one_if_some objects ≤ left }
+    ensures { Gives (λ x. (place_counted x.0, x.1.now)) SchemaFault.NotASchema result
+        (place_ended left objects (record { nulls = scalars.nulls; booleans = scalars.booleans; integers = scalars.integers; texts = scalars.texts; arrays = arrays; objects = objects })
+        (below_counted item) (fields_counted fields.items) rest.now) }
+{
+    if left != one_if_some(objects) {
+        return Err(SchemaFault::NotASchema);
+    }
+    let counts = Counts::of(
+        scalars.nulls,
+        scalars.booleans,
+        scalars.integers,
+        scalars.texts,
+        arrays,
+        objects,
+    )
+    .ok_or(SchemaFault::NotASchema)?;
+    Ok((
+        Node {
+            counts,
+            item,
+            fields,
+        },
+        rest,
+    ))
+}
+
+/// The counters of the scalar kinds of a place. A kind that does not stand there has 0.
+#[derive(Clone, Copy)]
+struct Scalars {
+    nulls: u64,
+    booleans: u64,
+    integers: u64,
+    texts: u64,
+}
+
+/// The counters of the scalar kinds, how many kinds are to come behind them, and what stands there.
+fn read_scalars(left: u8, bytes: &[u8]) -> Option<(Scalars, u8, &[u8])>
+    ensures { (read : Reader Counted) (limit : ℕ) → option_and_then (λ x. arrays_at read limit x.1
+        (record { nulls = x.0.nulls; booleans = x.0.booleans; integers = x.0.integers; texts = x.0.texts; arrays = 0; objects = 0 }) x.2.now) result
+        ≡ kinds_at read limit left bytes.now }
+{
+    let (nulls, rest) = read_scalar(NULL_TAG, left, bytes)?;
+    let left = left - one_if_some(nulls);
+    let (booleans, rest) = read_scalar(BOOLEAN_TAG, left, rest)?;
+    let left = left - one_if_some(booleans);
+    let (integers, rest) = read_scalar(INTEGER_TAG, left, rest)?;
+    let left = left - one_if_some(integers);
+    let (texts, rest) = read_scalar(TEXT_TAG, left, rest)?;
+    let left = left - one_if_some(texts);
+    Some((
+        Scalars {
+            nulls,
+            booleans,
+            integers,
+            texts,
+        },
+        left,
+        rest,
+    ))
 }
 
 /// A counter, which is not 0.

@@ -1,13 +1,19 @@
-use Rattle.std.proofs.Common.{◌≡◌, ℕ, ◌<◌, ◌≤◌, ◌+◌, ◌-◌, ◌∙◌, [], ◌∷◌, ◌++◌, Some, None, sym, ap, arith, inl, inr, ⊎_elim, map, option_map}
+use Rattle.std.proofs.Common.{◌≡◌, ◌<◌, ◌≤◌, ◌+◌, ◌-◌, ◌∙◌, [], ◌∷◌, ◌++◌, Some, None, sym, ap, arith, inl, inr, ⊎_elim, map, option_map}
 use Rattle.std.specs.Int.{w32}
 use Rattle.std.proofs.lemmas.Result.{err_from_is_err_and}
 use Rattle.tc_bytes.specs.Reading.{number_at}
+use Rattle.tc_schema_model.specs.Counted.{Counters}
+use Rattle.tc_schema.specs.declared.reading.Scalars.{Scalars}
 use Rattle.tc_schema.specs.Places.{field_counted, place_counted}
 use Rattle.std.proofs.lemmas.List.{map_push, take_rest}
 use Rattle.tc_schema.proofs.FieldWrites.{made_field}
 use Rattle.tc_schema.specs.Reading.{place_at}
-use Rattle.tc_schema.proofs.ReadingSteps.{onto, place_step, no_number, number_refused, no_place, next_field, all_read, kinds_missing}
+use Rattle.tc_schema.proofs.ReadingSteps.{onto, place_step, no_number, number_refused, no_place, next_field, all_read, no_array, no_object, both_read}
 use Rattle.tc_schema.proofs.reading.+read_place.Goals as goal
+
+-- the scalar kinds, and no other
+abbrev alone : Scalars → Counters
+alone s = record { nulls = s.nulls; booleans = s.booleans; integers = s.integers; texts = s.texts; arrays = 0; objects = 0 }
 
 pub read_fields-returns-in_err-number : goal.read_fields-returns-in_err-number
 read_fields-returns-in_err-number t c =
@@ -55,13 +61,31 @@ read_fields-returns t c =
     let none : c.args.many - c.loop-done.done ≡ 0 = let h = c.loop-done-test.false in omega arith in
     sym c.loop-done.invariant ∙ all_read (place_at c.args.names c.args.levels) c.args.names (c.args.many - c.loop-done.done) c.loop-done.low c.loop-done.rest.now (map field_counted c.loop-done.fields.items) none
 
-pub read_kinds-returns-then-left-one_if_some : goal.read_kinds-returns-then-left-one_if_some
-read_kinds-returns-then-left-one_if_some t c = λ refused.
-    let fewer = λ (l : ℕ) (x y : ℕ) (same : x ≡ y). ap (λ n. l - n) same in
-    kinds_missing (place_at c.args.names c.args.levels) c.args.names c.args.left _ _ _ _ _ _ c.args.bytes.now _ _ _ _ _ _ c.in_ok-nulls.nulls c.in_ok-booleans.booleans c.in_ok-integers.integers c.in_ok-texts.texts c.in_ok-arrays.arrays c.in_ok-objects.objects _ _
-    (fewer _ _ _ c.one_if_some.ensures.counted) (fewer _ _ _ c.one_if_some-2.ensures.counted) (fewer _ _ _ c.one_if_some-3.ensures.counted) (fewer _ _ _ c.one_if_some-4.ensures.counted) (fewer _ _ _ c.one_if_some-5.ensures.counted) c.one_if_some-6.ensures.counted
-    (sym (rw c.in_ok-nulls.ensures.ok_part at c.read_scalar.ensures.gives)) (sym (rw c.in_ok-booleans.ensures.ok_part at c.read_scalar-2.ensures.gives)) (sym (rw c.in_ok-integers.ensures.ok_part at c.read_scalar-3.ensures.gives))
-    (sym (rw c.in_ok-texts.ensures.ok_part at c.read_scalar-4.ensures.gives)) c.in_ok-arrays.ensures.gives c.in_ok-objects.ensures.gives c.if-left-one_if_some.true c.in_ok-objects.ensures.counted
+pub read_kinds-returns-in_err-scalars : goal.read_kinds-returns-in_err-scalars
+read_kinds-returns-in_err-scalars t c =
+    let gone = c.in_err-scalars.ensures.ok_part in
+    let p = err_from_is_err_and c.from_residual.result c.from_residual.ensures.1 in
+    rw p.1 (λ refused. sym (rw gone at (c.read_scalars.ensures (place_at c.args.names c.args.levels) c.args.names)))
+
+pub read_kinds-returns-in_err-arrays : goal.read_kinds-returns-in_err-arrays
+read_kinds-returns-in_err-arrays t c =
+    let kinds = rw c.in_ok-scalars.ensures.ok_part at (c.read_scalars.ensures (place_at c.args.names c.args.levels) c.args.names) in
+    let p = err_from_is_err_and c.from_residual-in_err-arrays.result c.from_residual-in_err-arrays.ensures.1 in
+    rw p.1 (λ refused. sym kinds ∙ no_array (place_at c.args.names c.args.levels) c.args.names c.in_ok-scalars.left (alone c.in_ok-scalars.scalars) c.in_ok-scalars.rest.now (c.in_err-arrays.ensures.gives (sym p.2 ∙ refused)))
+
+pub read_kinds-returns-in_err-objects : goal.read_kinds-returns-in_err-objects
+read_kinds-returns-in_err-objects t c =
+    let kinds = rw c.in_ok-scalars.ensures.ok_part at (c.read_scalars.ensures (place_at c.args.names c.args.levels) c.args.names) in
+    let p = err_from_is_err_and c.from_residual-in_err-objects.result c.from_residual-in_err-objects.ensures.1 in
+    rw p.1 (λ refused. sym kinds ∙ no_object (place_at c.args.names c.args.levels) c.args.names c.in_ok-scalars.left (alone c.in_ok-scalars.scalars) c.in_ok-scalars.rest.now c.in_ok-arrays.arrays _ _ _
+    (ap (λ n. c.in_ok-scalars.left - n) c.one_if_some.ensures.counted) c.in_ok-arrays.ensures.gives (c.in_err-objects.ensures.gives (sym p.2 ∙ refused)))
+
+pub read_kinds-returns : goal.read_kinds-returns
+read_kinds-returns t c =
+    let kinds = rw c.in_ok-scalars.ensures.ok_part at (c.read_scalars.ensures (place_at c.args.names c.args.levels) c.args.names) in
+    let both = both_read (place_at c.args.names c.args.levels) c.args.names c.in_ok-scalars.left (alone c.in_ok-scalars.scalars) c.in_ok-scalars.rest.now c.in_ok-arrays.arrays _ _ _ c.in_ok-objects.objects _ _
+    (ap (λ n. c.in_ok-scalars.left - n) c.one_if_some.ensures.counted) c.in_ok-arrays.ensures.gives c.in_ok-objects.ensures.gives in
+    rw (sym kinds ∙ both) c.place_of.ensures
 
 pub read_place-returns-then-starts : goal.read_place-returns-then-starts
 read_place-returns-then-starts t c =
