@@ -1,3 +1,2 @@
 mod GrammarLemmas
-mod NumberLemmas
 mod OptionsLemmas

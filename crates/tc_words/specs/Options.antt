@@ -3,7 +3,7 @@ use Rattle.std.specs.Prelude.{ℕ, List, Option, Some, None, is_some, unwrap_or,
 use Rattle.std.specs.List.{list_all}
 use Rattle.std.specs.Option.{option_map_or}
 use Rattle.clap.specs.Words.{Row, Text, first_of}
-use Rattle.tc_words.specs.Number.{number_between}
+use Rattle.tc_number.specs.Number.{number_between}
 use Rattle.tc_words.specs.Grammar as line
 use Rattle.tc_words.specs.Grammar.{Setting}
 use Rattle.tc_words.specs.declared.run.Options.{Options}

@@ -3,7 +3,6 @@
 
 mod fault;
 mod grammar;
-mod number;
 mod run;
 mod words;
 

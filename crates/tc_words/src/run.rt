@@ -3,8 +3,8 @@ ghost use Rattle.std.specs.Prelude.{◌≡◌};
 ghost use Rattle.clap.specs.Words.{found_of, rows_of};
 ghost use Rattle.tc_words.specs.Options.{number_in, options_in};
 
-use crate::number::number_between;
 use clap::ArgMatches;
+use tc_number::number_between;
 
 /// The numbers of a run.
 #[derive(Clone, Copy, Debug, PartialEq, Eq)]

@@ -2,7 +2,7 @@ use Rattle.std.proofs.Common.{◌∙◌, ap}
 use Rattle.std.specs.Option.{option_map_or}
 use Rattle.clap.proofs.WalkLemmas.{first_value-rows}
 use Rattle.clap.specs.Words.{found_of}
-use Rattle.tc_words.specs.Number.{number_between}
+use Rattle.tc_number.specs.Number.{number_between}
 use Rattle.tc_words.proofs.run.number_in.Goals as goal
 
 pub returns-in-Some : goal.returns-in-Some

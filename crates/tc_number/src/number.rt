@@ -1,8 +1,8 @@
-//! Numbers as words write them.
+//! Reads numbers.
 ghost use Rattle.std.specs.Prelude.{◌≡◌};
 ghost use Rattle.std.specs.Char.{is_ascii_digit};
 ghost use Rattle.std.specs.List.{list_all};
-ghost use Rattle.tc_words.specs.Number.{has_leading_zero, number_between};
+ghost use Rattle.tc_number.specs.Number.{has_leading_zero, number_between};
 
 /// The number from `least` to `most` that the text writes.
 pub fn number_between(text: &str, least: u64, most: u64) -> Option<u64>

@@ -7,17 +7,17 @@ use Rattle.std.specs.Str.Parse.{ParsesUnsigned}
 use Rattle.std.proofs.lemmas.Bool.{cases_lt, lt-ltb}
 use Rattle.std.proofs.lemmas.Bool.Decides.{nat_tests}
 use Rattle.std.proofs.lemmas.Str.Parse.{IsNumeralModel, numerals_by_fold, parse_digits}
-use Rattle.tc_words.specs.Number.{has_leading_zero, number_after, number_between, number_of}
+use Rattle.tc_number.specs.Number.{has_leading_zero, number_after, number_between, number_of}
 
-own : IsNumeralModel (λ ds. list_all is_ascii_digit ds ≡ true) (number_after 0)
+pub own : IsNumeralModel (λ ds. list_all is_ascii_digit ds ≡ true) (number_after 0)
 own = numerals_by_fold _ (search rules) number_after (search rules)
 
 digits_of : (d : ℕ) (ds : List ℕ) → list_all is_ascii_digit (d ∷ ds) ≡ true → has_leading_zero (d ∷ ds) ≡ false
     → number_of (d ∷ ds) ≡ Some (number_after 0 (d ∷ ds))
 digits_of d ds digits plain = rw (digits, plain) (rw (lt-ltb 0 (suc (length ds)) (omega arith)) refl)
 
-in_range : (n most : ℕ) → n ≤ most → cond (nat_le 0 n && nat_le n most) (Some n) None ≡ Some n
-in_range n most le = grind (arith, nat_tests)
+pub in_range : (least most n : ℕ) → least ≤ n → n ≤ most → cond (nat_le least n && nat_le n most) (Some n) None ≡ Some n
+in_range least most n above below = grind (arith, nat_tests)
 
 past : (n most : ℕ) → most < n → cond (nat_le 0 n && nat_le n most) (Some n) None ≡ None
 past n most lt = grind (arith, nat_tests)
@@ -28,7 +28,7 @@ reads : {E : Type 0} (text : List ℕ) (r : Result ℕ E) (most : ℕ) → list_
     → result_ok r ≡ number_between 0 most text
 reads [] (Ok x) most digits plain h = absurd (omega arith)
 reads [] (Err e) most digits plain h = refl
-reads (d ∷ ds) (Ok x) most digits plain h = ap Some h.1 ∙ sym (rw (digits_of d ds digits plain) (in_range _ most (omega (arith, h.0.1))))
+reads (d ∷ ds) (Ok x) most digits plain h = ap Some h.1 ∙ sym (rw (digits_of d ds digits plain) (in_range 0 most _ (omega arith) (omega (arith, h.0.1))))
 reads (d ∷ ds) (Err e) most digits plain h = elim (cases_lt (number_after 0 (d ∷ ds)) (most + 1)) [
   | inl under ↦ absurd (h (omega arith, under))
   | inr over ↦ sym (rw (digits_of d ds digits plain) (past (number_after 0 (d ∷ ds)) most (omega (arith, over))))

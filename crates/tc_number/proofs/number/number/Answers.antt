@@ -1,6 +1,6 @@
 use Rattle.std.proofs.Common.{rules, ◌∙◌, refl}
-use Rattle.tc_words.proofs.NumberLemmas.{parsed}
-use Rattle.tc_words.proofs.number.number.Goals as goal
+use Rattle.tc_number.proofs.NumberLemmas.{parsed}
+use Rattle.tc_number.proofs.number.number.Goals as goal
 
 pub returns-then-not-has_leading_zero : goal.returns-then-not-has_leading_zero
 returns-then-not-has_leading_zero c =
