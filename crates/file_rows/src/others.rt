@@ -1,0 +1,43 @@
+//! Names of files, and calls of std on files and folders.
+
+use crate::answers::word;
+use std::alloc::Global;
+use std::fs;
+use std::os::unix::fs::symlink;
+use tc_files::{file_text, name_in};
+
+/// Which file is called so, and how that file is called.
+pub(crate) fn called(alloc: Global, text: &str) -> Option<String> {
+    match name_in(text) {
+        Some(name) => {
+            let text = file_text(alloc, name).ok()?;
+            format!(in alloc; "{name:?} {}", text.as_str()).ok()
+        }
+        None => word(alloc, "none"),
+    }
+}
+
+/// A file with this content: its path, a space, and the content.
+pub(crate) fn put(rt: HostRuntime, argument: &str) -> Option<String> {
+    let (path, content) = argument.split_once(' ')?;
+    fs::write(&rt, path, content).ok()?;
+    word(rt.alloc(), "ok")
+}
+
+/// What a file holds.
+pub(crate) fn show(rt: HostRuntime, path: &str) -> Option<String> {
+    fs::read_to_string(&rt, path).ok()
+}
+
+/// A folder, and those above it.
+pub(crate) fn folder(rt: HostRuntime, path: &str) -> Option<String> {
+    fs::create_dir_all(&rt, path).ok()?;
+    word(rt.alloc(), "ok")
+}
+
+/// A link: what it leads to, a space, and its path.
+pub(crate) fn link(rt: HostRuntime, argument: &str) -> Option<String> {
+    let (original, path) = argument.split_once(' ')?;
+    symlink(&rt, original, path).ok()?;
+    word(rt.alloc(), "ok")
+}

@@ -1,0 +1,5 @@
+pub mod Names
+pub mod Errors
+pub mod Watch
+pub mod Device
+pub mod Shelf

@@ -1,0 +1,67 @@
+//! Folders of the system, made durable and held alone.
+
+use crate::calls::{above_standard, uninterrupted};
+use std::fs::File;
+use std::io::ErrorKind;
+use std::path::Path;
+use std::{fs, io};
+
+/// Makes a folder and those above it that are missing, and makes their names durable.
+pub(crate) fn make_folder(rt: &HostRuntime, path: &str) -> io::Result<()> {
+    match make_one(rt, path) {
+        Err(error) if error.kind() == ErrorKind::NotFound => {
+            for end in 1..path.len() {
+                make_above(rt, path, end)?;
+            }
+            make_one(rt, path)?;
+        }
+        other => other?,
+    }
+    sync_above(rt, path)
+}
+
+/// Where a slash stands at `end`, makes the folder that the path in front of it names.
+fn make_above(rt: &HostRuntime, path: &str, end: usize) -> io::Result<()> {
+    match path.split_at_checked(end) {
+        Some((above, rest)) if rest.starts_with('/') => make_one(rt, above),
+        _ => Ok(()),
+    }
+}
+
+/// Makes a folder if it is missing, and its name durable. The name of one that was there is synced as far as that can be
+/// done: an earlier run that made it may have been stopped before it did so.
+fn make_one(rt: &HostRuntime, path: &str) -> io::Result<()> {
+    match uninterrupted(&|| fs::create_dir(rt, path)) {
+        Ok(()) => sync_above(rt, path),
+        Err(_) if is_folder(rt, path) => {
+            let _ = sync_above(rt, path);
+            Ok(())
+        }
+        Err(error) => Err(error),
+    }
+}
+
+fn is_folder(rt: &HostRuntime, path: &str) -> bool {
+    match uninterrupted(&|| fs::metadata(rt, path)) {
+        Ok(found) => found.is_dir(),
+        Err(_) => false,
+    }
+}
+
+/// Syncs the folder that the last name of a path stands in.
+fn sync_above(rt: &HostRuntime, path: &str) -> io::Result<()> {
+    match Path::new(path).parent() {
+        Some(above) if above.as_str().is_empty() => File::open(rt, ".")?.sync_all(),
+        Some(above) => File::open(rt, above)?.sync_all(),
+        None => Ok(()),
+    }
+}
+
+/// A folder that no other handle holds, with the names in it made durable. It is held until its last handle is gone, also
+/// where the program is killed; there is no lock file.
+pub(crate) fn hold_folder(rt: &HostRuntime, path: &str) -> io::Result<File> {
+    let folder = above_standard(File::open(rt, path)?)?;
+    folder.try_lock()?;
+    folder.sync_all()?;
+    Ok(folder)
+}
