@@ -1,0 +1,11 @@
+pub mod Writes
+pub mod Logs
+pub mod Components
+pub mod Pictures
+pub mod State
+pub mod Events
+pub mod Steps
+pub mod Runs
+pub mod Sound
+pub mod Beside
+pub mod Kept
