@@ -18,7 +18,7 @@ use Rattle.tc_memory.specs.DocumentTables.{kept_held, kept_slot, kept_table, IsS
 use Rattle.tc_flush.specs.Recounting.{names_with}
 use Rattle.tc_flush.proofs.KeptEntries.{recorded}
 
-append : (P : Name → Type 0) (xs ys : List Name) → AllByRecursion P xs → AllByRecursion P ys → AllByRecursion P (xs ++ ys)
+pub append : (P : Name → Type 0) (xs ys : List Name) → AllByRecursion P xs → AllByRecursion P ys → AllByRecursion P (xs ++ ys)
 append P [] ys first rest = rest
 append P (x ∷ xs) ys first rest = (first.0, append P xs ys first.1 rest)
 

@@ -67,10 +67,9 @@ pub(crate) fn put_entries<D: Device>(
     names_agree();
     tables_keep_documents();
     let _known = names.len();
-    let mut buffer = Vec::new(alloc);
     let mut entries = sealed.entries();
     while let Some(entry) = entries.next() {
-        put_entry(entry, schema, names, &mut buffer, builder, watch)?;
+        put_entry(alloc, entry, schema, names, builder, watch)?;
     }
     Ok(())
 }

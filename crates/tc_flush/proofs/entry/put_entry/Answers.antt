@@ -11,8 +11,8 @@ use Rattle.tc_flush.proofs.entry.put_entry.Goals as goal
 
 -- ---- an entry with a document
 
-pub count_record-requires-clause-short : goal.count_record-requires-clause-short
-count_record-requires-clause-short g c =
+pub compact_counted-requires-clause-short : goal.compact_counted-requires-clause-short
+compact_counted-requires-clause-short g c =
     let held = ap held_of c.in-Live.is in
     let stored = subst IsLawfulHeld c.in-Live.is c.requires.lawful in
     let e = entry_of c.args.entry in
@@ -20,17 +20,8 @@ count_record-requires-clause-short g c =
     let same : c.known-of.result.bytes ≡ bytes = c.known-of.ensures.bytes ∙ c.as_slice.ensures.same in
     subst (λ b. length b < 2 ^ 30) (sym same) (short_of c.one_document.ensures e bytes held stored c.args.names.now c.args.schema.now c.requires.can)
 
-pub compact-requires-clause-short : goal.compact-requires-clause-short
-compact-requires-clause-short g c =
-    let held = ap held_of c.in-Live.is in
-    let stored = subst IsLawfulHeld c.in-Live.is c.requires.lawful in
-    let e = entry_of c.args.entry in
-    let bytes = c.in-Live.bytes.now in
-    let same : c.known-of.result.bytes ≡ bytes = c.known-of.ensures.bytes ∙ c.as_slice.ensures.same in
-    subst (λ b. length b < 2 ^ 30) (sym same) (short_of c.one_document.ensures e bytes held stored c.args.names.now c.args.schema.now c.requires.can)
-
-pub count_record-requires-clause-canonical : goal.count_record-requires-clause-canonical
-count_record-requires-clause-canonical g c =
+pub compact_counted-requires-clause-canonical : goal.compact_counted-requires-clause-canonical
+compact_counted-requires-clause-canonical g c =
     let held = ap held_of c.in-Live.is in
     let stored = subst IsLawfulHeld c.in-Live.is c.requires.lawful in
     let e = entry_of c.args.entry in
@@ -38,8 +29,8 @@ count_record-requires-clause-canonical g c =
     let same : c.known-of.result.bytes ≡ bytes = c.known-of.ensures.bytes ∙ c.as_slice.ensures.same in
     canonical_of c.one_document.ensures e bytes held stored c.args.names.now c.args.schema.now c.requires.can
 
-pub count_record-requires-clause-counters : goal.count_record-requires-clause-counters
-count_record-requires-clause-counters g c =
+pub compact_counted-requires-clause-counters : goal.compact_counted-requires-clause-counters
+compact_counted-requires-clause-counters g c =
     let held = ap held_of c.in-Live.is in
     let stored = subst IsLawfulHeld c.in-Live.is c.requires.lawful in
     let e = entry_of c.args.entry in
@@ -47,8 +38,8 @@ count_record-requires-clause-counters g c =
     let same : c.known-of.result.bytes ≡ bytes = c.known-of.ensures.bytes ∙ c.as_slice.ensures.same in
     λ d is path. counters_of c.one_document.ensures e bytes held stored c.args.names.now c.args.schema.now c.requires.can d (subst (IsRecordOf d) same is) path
 
-pub count_record-requires-clause-room : goal.count_record-requires-clause-room
-count_record-requires-clause-room g c =
+pub compact_counted-requires-clause-room : goal.compact_counted-requires-clause-room
+compact_counted-requires-clause-room g c =
     let held = ap held_of c.in-Live.is in
     let stored = subst IsLawfulHeld c.in-Live.is c.requires.lawful in
     let e = entry_of c.args.entry in
@@ -63,39 +54,39 @@ push-requires-in-Live-clause-short g c κs within =
     let e = entry_of c.args.entry in
     let bytes = c.in-Live.bytes.now in
     let same : c.known-of.result.bytes ≡ bytes = c.known-of.ensures.bytes ∙ c.as_slice.ensures.same in
-    let made = c.in_ok-compact-in-Live.ensures stored.document (subst (IsRecordOf stored.document) (sym same) stored.is_record) in
-    subst (λ b. length b < 2 ^ 32) (sym c.as_slice-in-Live.ensures.value) made.numbered.short
+    let made = c.in_ok-record-in-Live.ensures.compacted stored.document (subst (IsRecordOf stored.document) (sym same) stored.is_record) in
+    subst (λ b. length b < 2 ^ 32) (sym c.as_slice-in-Live.ensures.same) made.numbered.short
 
-pub returns-in_ok-compact-in-Live-clause-learned : goal.returns-in_ok-compact-in-Live-clause-learned
-returns-in_ok-compact-in-Live-clause-learned g c =
+pub returns-in_ok-record-in-Live-clause-learned : goal.returns-in_ok-record-in-Live-clause-learned
+returns-in_ok-record-in-Live-clause-learned g c =
     let held = ap held_of c.in-Live.is in
     let stored = subst IsLawfulHeld c.in-Live.is c.requires.lawful in
     let e = entry_of c.args.entry in
     let bytes = c.in-Live.bytes.now in
     let same : c.known-of.result.bytes ≡ bytes = c.known-of.ensures.bytes ∙ c.as_slice.ensures.same in
-    ok_always c.push-in-Live.result _ (names_are c.one_document.ensures e bytes held stored c.args.names.now c.count_record.new.names (λ d is. c.in_ok-len-in-Live.ensures.learned d (subst (IsRecordOf d) (sym same) is)))
+    ok_always c.push-in-Live.result _ (names_are c.one_document.ensures e bytes held stored c.args.names.now c.compact_counted.new.names (λ d is. c.in_ok-record-in-Live.ensures.learned d (subst (IsRecordOf d) (sym same) is)))
 
-pub returns-in_ok-compact-in-Live-clause-counted : goal.returns-in_ok-compact-in-Live-clause-counted
-returns-in_ok-compact-in-Live-clause-counted g c =
+pub returns-in_ok-record-in-Live-clause-counted : goal.returns-in_ok-record-in-Live-clause-counted
+returns-in_ok-record-in-Live-clause-counted g c =
     let held = ap held_of c.in-Live.is in
     let stored = subst IsLawfulHeld c.in-Live.is c.requires.lawful in
     let e = entry_of c.args.entry in
     let bytes = c.in-Live.bytes.now in
     let same : c.known-of.result.bytes ≡ bytes = c.known-of.ensures.bytes ∙ c.as_slice.ensures.same in
-    ok_always c.push-in-Live.result _ (schema_is c.one_document.ensures e bytes held stored c.args.names.now c.count_record.new.names c.args.schema.now c.count_record.new.schema (λ d is. c.in_ok-len-in-Live.ensures.learned d (subst (IsRecordOf d) (sym same) is)) (λ d is. c.in_ok-len-in-Live.ensures.counted d (subst (IsRecordOf d) (sym same) is)))
+    ok_always c.push-in-Live.result _ (schema_is c.one_document.ensures e bytes held stored c.args.names.now c.compact_counted.new.names c.args.schema.now c.compact_counted.new.schema (λ d is. c.in_ok-record-in-Live.ensures.learned d (subst (IsRecordOf d) (sym same) is)) (λ d is. c.in_ok-record-in-Live.ensures.counted d (subst (IsRecordOf d) (sym same) is)))
 
-pub returns-in_ok-compact-in-Live-clause-pushed : goal.returns-in_ok-compact-in-Live-clause-pushed
-returns-in_ok-compact-in-Live-clause-pushed g c =
+pub returns-in_ok-record-in-Live-clause-pushed : goal.returns-in_ok-record-in-Live-clause-pushed
+returns-in_ok-record-in-Live-clause-pushed g c =
     let held = ap held_of c.in-Live.is in
     let stored = subst IsLawfulHeld c.in-Live.is c.requires.lawful in
     let e = entry_of c.args.entry in
     let bytes = c.in-Live.bytes.now in
     let same : c.known-of.result.bytes ≡ bytes = c.known-of.ensures.bytes ∙ c.as_slice.ensures.same in
-    let compacts : (d : Document) → IsRecordOf d bytes → IsCompactedRecordOf c.count_record.new.names d c.as_slice-in-Live.result.now = λ d is. subst (IsCompactedRecordOf c.count_record.new.names d) (sym c.as_slice-in-Live.ensures.value) (c.in_ok-compact-in-Live.ensures d (subst (IsRecordOf d) (sym same) is)) in
+    let compacts : (d : Document) → IsRecordOf d bytes → IsCompactedRecordOf c.compact_counted.new.names d c.as_slice-in-Live.result.now = λ d is. subst (IsCompactedRecordOf c.compact_counted.new.names d) (sym c.as_slice-in-Live.ensures.same) (c.in_ok-record-in-Live.ensures.compacted d (subst (IsRecordOf d) (sym same) is)) in
     ok_then c.push-in-Live.result _ _
     (λ pushed t newer rows of dictionary extends has.
     subst (λ rs. HasRows (g.D.Device.history c.push-in-Live.new.self.device) c.push-in-Live.new.self (rows ++ rs))
-    (sym (row_is c.one_document.ensures e bytes held stored c.count_record.new.names newer c.as_slice-in-Live.result.now c.round_trip.ensures.stays compacts dictionary extends t of)) (pushed rows has))
+    (sym (row_is c.one_document.ensures e bytes held stored c.compact_counted.new.names newer c.as_slice-in-Live.result.now c.round_trip.ensures.stays compacts dictionary extends t of)) (pushed rows has))
     c.push-in-Live.ensures.pushed
 
 -- ---- an entry whose document is gone

@@ -99,3 +99,19 @@ returns-clause-pushed g c = λ t rows of has.
     let none : l.entries ≡ [] = search rules in
     let Pushed : List Write → Type 0 = λ ws. (rows : List Row) → HasRows (h c.args.builder.now.device) c.args.builder.now rows → HasRows (h l.builder.device) l.builder (rows ++ rows_of (names_with c.args.names.now (shapes_held t)) ws) in
     (ends Pushed t c.args.names.now c.args.schema.now l.names l.schema (subst (λ es. IsUpTo Pushed t c.args.names.now c.args.schema.now es l.names l.schema) none (l.invariant.up t of))).pushed rows has
+
+pub returns-clause-learned : goal.returns-clause-learned
+returns-clause-learned g c = λ t of.
+    let h = g.D.Device.history in
+    let l = c.loop-entry in
+    let none : l.entries ≡ [] = search rules in
+    let Pushed : List Write → Type 0 = λ ws. (rows : List Row) → HasRows (h c.args.builder.now.device) c.args.builder.now rows → HasRows (h l.builder.device) l.builder (rows ++ rows_of (names_with c.args.names.now (shapes_held t)) ws) in
+    (ends Pushed t c.args.names.now c.args.schema.now l.names l.schema (subst (λ es. IsUpTo Pushed t c.args.names.now c.args.schema.now es l.names l.schema) none (l.invariant.up t of))).learned
+
+pub returns-clause-counted : goal.returns-clause-counted
+returns-clause-counted g c = λ t of.
+    let h = g.D.Device.history in
+    let l = c.loop-entry in
+    let none : l.entries ≡ [] = search rules in
+    let Pushed : List Write → Type 0 = λ ws. (rows : List Row) → HasRows (h c.args.builder.now.device) c.args.builder.now rows → HasRows (h l.builder.device) l.builder (rows ++ rows_of (names_with c.args.names.now (shapes_held t)) ws) in
+    (ends Pushed t c.args.names.now c.args.schema.now l.names l.schema (subst (λ es. IsUpTo Pushed t c.args.names.now c.args.schema.now es l.names l.schema) none (l.invariant.up t of))).counted
