@@ -1,0 +1,98 @@
+//! Calls on a still file that is in hand.
+
+use crate::arguments::{digits, read_fault, word};
+use crate::components::shown;
+use crate::desk::{Desk, Hand};
+use std::alloc::Global;
+use tc_component::{Component, read_head};
+use tc_store::{FileName, Frozen, MemFrozen, MemWatch, bytes_of, is_open, whole_of};
+
+/// What a call answers.
+pub(crate) fn answer_of(
+    alloc: Global,
+    desk: &mut Desk,
+    file: MemFrozen,
+    name: &str,
+    argument: &str,
+) -> Option<String> {
+    if name == "load" {
+        return load(alloc, desk, file, file_name(argument));
+    }
+    let answer = asked(alloc, &mut desk.reader, &file, name, argument);
+    desk.hold(Hand::Still(file));
+    answer
+}
+
+fn asked(
+    alloc: Global,
+    watch: &mut MemWatch,
+    file: &MemFrozen,
+    name: &str,
+    argument: &str,
+) -> Option<String> {
+    match name {
+        "head" => head(alloc, watch, file, file_name(argument)?),
+        "gate" => gate(alloc, watch, file),
+        "read" => read(alloc, watch, file, argument),
+        "show" => show(alloc, file),
+        _ => None,
+    }
+}
+
+// The name of a component of these two generations, or of a log of this one.
+fn file_name(argument: &str) -> Option<FileName> {
+    match argument.split_once(' ') {
+        Some((from, to)) => Some(FileName::Component {
+            from: from.parse::<u64>().ok()?,
+            to: to.parse::<u64>().ok()?,
+        }),
+        None => Some(FileName::Log {
+            generation: argument.parse::<u64>().ok()?,
+        }),
+    }
+}
+
+fn load(alloc: Global, desk: &mut Desk, file: MemFrozen, name: Option<FileName>) -> Option<String> {
+    match Component::load(alloc, file, name?, &mut desk.reader) {
+        Ok(component) => {
+            let answer = shown(alloc, &component);
+            desk.hold(Hand::Loaded(component));
+            answer
+        }
+        Err(fault) => read_fault(alloc, fault),
+    }
+}
+
+fn head(alloc: Global, watch: &mut MemWatch, file: &MemFrozen, name: FileName) -> Option<String> {
+    match read_head(alloc, file, name, watch) {
+        Ok(head) => format!(in alloc; "{head:?}").ok(),
+        Err(fault) => read_fault(alloc, fault),
+    }
+}
+
+fn gate(alloc: Global, watch: &mut MemWatch, file: &MemFrozen) -> Option<String> {
+    match is_open(file, watch) {
+        Ok(is_open) => format!(in alloc; "{is_open}").ok(),
+        Err(_) => word(alloc, "fault"),
+    }
+}
+
+// So many bytes from a place on.
+fn read(alloc: Global, watch: &mut MemWatch, file: &MemFrozen, argument: &str) -> Option<String> {
+    let (at, count) = argument.split_once(' ')?;
+    let (at, count) = (at.parse::<u32>().ok()?, count.parse::<u32>().ok()?);
+    if u64::from(at) + u64::from(count) > file.len() {
+        return None;
+    }
+    match bytes_of(alloc, file, u64::from(at), count as usize, watch) {
+        Ok(bytes) => digits(alloc, &bytes),
+        Err(fault) => read_fault(alloc, fault),
+    }
+}
+
+// All bytes, by a watch that nobody sees.
+fn show(alloc: Global, file: &MemFrozen) -> Option<String> {
+    let mut watch = MemWatch::new(Vec::new(alloc));
+    let bytes = whole_of(alloc, file, &mut watch).ok()?;
+    digits(alloc, &bytes)
+}

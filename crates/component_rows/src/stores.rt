@@ -1,0 +1,131 @@
+//! Calls on a store, with nothing or a device in hand.
+
+ghost use Rattle.tc_store.specs.Disk.{IsAtRest};
+ghost use Rattle.tc_store.specs.Memory.Store.{store_disks};
+ghost use Rattle.tc_store.specs.Moments.{IfTold};
+
+use crate::arguments::{bytes, numbers, word};
+use crate::builders::begin;
+use crate::desk::{Desk, Hand, NAME};
+use crate::samples::{EMPTY, WORKED};
+use std::alloc::Global;
+use std::mem;
+use tc_bytes::Bytes;
+use tc_store::{MemDevice, MemFile, MemFrozen, MemStore, MemWatch, Store};
+
+/// What a call answers, with nothing in hand.
+pub(crate) fn answer_of(
+    alloc: Global,
+    desk: &mut Desk,
+    name: &str,
+    argument: &str,
+) -> Option<String> {
+    match name {
+        "fails" => {
+            desk.writer = failing(alloc, argument)?;
+            word(alloc, "ok")
+        }
+        "misses" => {
+            desk.reader = failing(alloc, argument)?;
+            word(alloc, "ok")
+        }
+        "home" => home(alloc, desk, sample(alloc, argument)?),
+        "cut" => home(alloc, desk, cut(alloc, argument)?),
+        "turn" => home(alloc, desk, turned(alloc, argument)?),
+        "begin" => begin(alloc, desk, argument),
+        "stop" => stop(alloc, desk, argument),
+        _ => None,
+    }
+}
+
+/// What a stop answers, with a device in hand, which comes home.
+pub(crate) fn left_of(
+    alloc: Global,
+    desk: &mut Desk,
+    device: MemDevice,
+    name: &str,
+    argument: &str,
+) -> Option<String> {
+    if name != "stop" {
+        return None;
+    }
+    desk.store.abandon(device);
+    stop(alloc, desk, argument)
+}
+
+// A watch that fails the calls of these numbers.
+fn failing(alloc: Global, argument: &str) -> Option<MemWatch> {
+    Some(MemWatch::new(numbers(alloc, argument)?))
+}
+
+// The bytes of a worked component, or of these digits.
+fn sample(alloc: Global, argument: &str) -> Option<Vec<u8>> {
+    match argument {
+        "worked" => bytes(alloc, WORKED),
+        "empty" => bytes(alloc, EMPTY),
+        _ => bytes(alloc, argument),
+    }
+}
+
+// So many bytes of a sample.
+fn cut(alloc: Global, argument: &str) -> Option<Vec<u8>> {
+    let (name, length) = argument.split_once(' ')?;
+    let mut bytes = sample(alloc, name)?;
+    bytes.truncate(length.parse::<usize>().ok()?);
+    Some(bytes)
+}
+
+// A sample with other bytes from a place on.
+fn turned(alloc: Global, argument: &str) -> Option<Vec<u8>> {
+    let (name, behind) = argument.split_once(' ')?;
+    let (at, digits) = behind.split_once(' ')?;
+    let (bytes, others) = (sample(alloc, name)?, bytes(alloc, digits)?);
+    let front = bytes.get(..at.parse::<usize>().ok()?)?;
+    let rest = bytes.get(front.len().checked_add(others.len())?..)?;
+    let mut turned = Vec::from_slice(alloc, front).ok()?;
+    turned.extend_from_slice(&others).ok()?;
+    turned.extend_from_slice(rest).ok()?;
+    Some(turned)
+}
+
+// A file at home, durable as it is, which is taken.
+fn home(alloc: Global, desk: &mut Desk, bytes: Vec<u8>) -> Option<String> {
+    let bytes = Bytes::of(bytes);
+    let mut files = Vec::new(alloc);
+    files.push(MemFile { name: NAME, bytes }).ok()?;
+    held(alloc, desk, MemStore::with(files))
+}
+
+// A stop, and then the file is taken if it is there.
+fn stop(alloc: Global, desk: &mut Desk, argument: &str) -> Option<String> {
+    let choice = argument.parse::<u64>().ok()?;
+    let store = mem::replace(&mut desk.store, MemStore::new(alloc));
+    let left = store.stop(choice).ok()?;
+    held(alloc, desk, left)
+}
+
+// The file of a store at rest is in hand, if it is there.
+fn held(alloc: Global, desk: &mut Desk, store: MemStore) -> Option<String>
+    requires { IfTold (store_disks store) IsAtRest }
+{
+    match file_of(alloc, store)? {
+        Some(file) => {
+            desk.hold(Hand::Still(file));
+            word(alloc, "ok")
+        }
+        None => word(alloc, "absent"),
+    }
+}
+
+// The file of a store at rest, if it is there, by a watch that nobody sees.
+fn file_of(alloc: Global, store: MemStore) -> Option<Option<MemFrozen>>
+    requires { IfTold (store_disks store) IsAtRest }
+{
+    let mut store = store;
+    let mut watch = MemWatch::new(Vec::new(alloc));
+    let names = store.names(alloc, &mut watch).ok()?;
+    if !names.contains(&NAME) {
+        return Some(None);
+    }
+    Some(Some(store.take(alloc, NAME, &mut watch).ok()?))
+}
