@@ -1,0 +1,64 @@
+//! What a row works on: a table, the names and the schema below it, the calls that are to fail, and components.
+
+use crate::arguments::{numbers, word};
+use std::alloc::Global;
+use std::mem;
+use std::sync::Arc;
+use tc_component::Component;
+use tc_memory::Memtable;
+use tc_names::Names;
+use tc_schema::Schema;
+use tc_store::{MemFrozen, MemWatch};
+
+pub(crate) struct Desk {
+    pub(crate) names: Names,
+    pub(crate) schema: Schema,
+    pub(crate) table: Memtable,
+    pub(crate) loaded: Vec<Arc<Component<MemFrozen>>>,
+    watch: MemWatch,
+}
+
+impl Drop for Desk {
+    /// One call, so that whoever drops a desk sees nothing of what is on it.
+    fn drop(self) {
+        let Desk {
+            names,
+            schema,
+            table,
+            loaded,
+            watch,
+        } = self;
+        drop(names);
+        drop(schema);
+        drop(table);
+        drop(loaded);
+        drop(watch);
+    }
+}
+
+impl Desk {
+    pub(crate) fn empty(alloc: Global) -> Desk {
+        Desk {
+            names: Names::new(alloc),
+            schema: Schema::empty(alloc),
+            table: Memtable::new(alloc),
+            loaded: Vec::new(alloc),
+            watch: MemWatch::new(Vec::new(alloc)),
+        }
+    }
+
+    /// The device calls of these numbers are to fail.
+    pub(crate) fn fails(&mut self, alloc: Global, argument: &str) -> Option<String> {
+        let failing = numbers(alloc, argument)?;
+        self.watch = MemWatch::new(failing);
+        word(alloc, "ok")
+    }
+
+    pub(crate) fn take_table(&mut self, alloc: Global) -> Memtable {
+        mem::replace(&mut self.table, Memtable::new(alloc))
+    }
+
+    pub(crate) fn take_watch(&mut self, alloc: Global) -> MemWatch {
+        mem::replace(&mut self.watch, MemWatch::new(Vec::new(alloc)))
+    }
+}
