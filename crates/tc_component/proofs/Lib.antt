@@ -10,6 +10,7 @@ mod Files
 mod Loaded
 mod Lookups
 mod Fetched
-mod EntryRecords
+pub mod EntryRecords
 mod EntryPlaces
 mod SpelledContents
+mod Windows

@@ -38,3 +38,7 @@ schema_place sizes = names_place sizes + sizes.names
 
 abbrev pub file_size : Sizes → ℕ
 file_size sizes = schema_place sizes + sizes.schema
+
+-- a cursor reads so many bytes at once, or one record where that is longer
+abbrev pub window_size : ℕ
+window_size = 65536

@@ -6,5 +6,6 @@ pub mod Building
 pub mod Columns
 pub mod Loading
 pub mod Fetching
+pub mod Cursors
 pub mod Rows
 pub mod Meaning

@@ -1,13 +1,13 @@
 //! The component that is searched.
 
-ghost use Rattle.std.specs.Prelude.{◌≡◌, ◌<◌, ℕ, List, Err, Some, slice_get, length, IfOk, IfSome, IsErrOf};
+ghost use Rattle.std.specs.Prelude.{◌≡◌, ◌<◌, ◌≤◌, ◌+◌, ℕ, List, Err, Some, slice_get, length, IfOk, IfSome, IsErrOf};
 ghost use Rattle.std.specs.Result.{IsOk};
 ghost use Rattle.tc_store.specs.Counted.{IsCountedOnce};
 ghost use Rattle.tc_store.specs.Judging.{Judges, IfDamaged, damage as a_damage};
 ghost use Rattle.tc_component.specs.declared.slot.Slot.{Slot as OneSlot};
 ghost use Rattle.tc_component.specs.Columns.{IsFound, IsEntry};
 ghost use Rattle.tc_component.specs.Fetching.{IsPlace, record_place, length_at, record_at, IsRecordWithin};
-ghost use Rattle.tc_component.specs.Layout.{names_place, schema_place, file_size};
+ghost use Rattle.tc_component.specs.Layout.{directory_place, names_place, schema_place, file_size};
 ghost use Rattle.tc_component.specs.Loading.{index_in, same_head, IsCountedTwice};
 ghost use Rattle.tc_component.specs.Reading.{head_judged, file_judged};
 ghost use Rattle.tc_component.specs.Spelling.{sizes_in, name_of, IsHead, IsIndex};
@@ -126,6 +126,27 @@ impl<F: Frozen> Component<F> {
         let count = directory.slot(place.at).length as usize;
         let bytes = bytes_of(alloc, &self.file, at, count, watch)?;
         record_of(self.loaded.parts.names.len(), at, bytes)
+    }
+
+    /// Where the record of an entry begins in the file, and how many bytes it has.
+    pub(crate) fn record_range(&self, place: Place) -> (u64, u32)
+        requires { IsPlace self.now.index.slots place }
+        ensures begin { result.0 ≡ record_place self.now.index.slots place.at }
+        ensures length { result.1 ≡ length_at self.now.index.slots place.at }
+        ensures within { result.0 + result.1 ≤ directory_place (sizes_in self.now.index) }
+    {
+        let directory = &self.loaded.parts.directory;
+        let at = RECORDS_PLACE + directory.start(place.at);
+        (at, directory.slot(place.at).length)
+    }
+
+    /// The file, borrowed, and where the records end in it.
+    pub(crate) fn records_in(&self) -> (&F, u64)
+        ensures file { result.0.now ≡ self.now.file }
+        ensures end { result.1 ≡ directory_place (sizes_in self.now.index) }
+        ensures within { result.1 ≤ F.size self.now.file }
+    {
+        (&self.file, RECORDS_PLACE + self.loaded.sizes.records)
     }
 
     /// Its dictionary, borrowed.

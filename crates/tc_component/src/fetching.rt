@@ -1,12 +1,13 @@
 //! The record that is read at the place of an entry.
 
-ghost use Rattle.std.specs.Prelude.{◌≡◌, ◌↔◌, IfOk, IsTrue};
+ghost use Rattle.std.specs.Prelude.{◌≡◌, ◌↔◌, IfOk, OnOk, IsTrue};
 ghost use Rattle.tc_store.specs.Judging.{IfDamaged, IsNoDisk};
 ghost use Rattle.tc_component.specs.Fetching.{IsRecordWithin};
 
+use std::alloc::Global;
 use tc_bytes::Bytes;
 use tc_record::RecordRef;
-use tc_store::ReadFault;
+use tc_store::{ReadFault, damaged};
 
 /// These bytes as a record of form 1 whose numbers are below a limit, or as the damage at the place that they stand at.
 /// Takes no memory.
@@ -22,6 +23,20 @@ pub(crate) fn record_of(limit: u32, place: u64, bytes: Vec<u8>) -> Result<Bytes,
             place,
             bytes: Bytes::of(bytes),
         })
+    }
+}
+
+/// That these bytes, which stand at a place, are a record of form 1 whose numbers are below a limit. Takes memory where they
+/// are not.
+pub(crate) fn judge(alloc: Global, limit: u32, place: u64, bytes: &[u8]) -> Result<(), ReadFault>
+    ensures found { OnOk result (IsRecordWithin limit bytes.now) }
+    ensures damaged { IfDamaged result (λ at kept. (at ≡ place) × (kept ≡ bytes.now) × (IsRecordWithin limit kept → ⊥)) }
+    ensures no_disk { IsNoDisk result }
+{
+    if is_record_within(limit, bytes) {
+        Ok(())
+    } else {
+        Err(damaged(alloc, place as usize, bytes))
     }
 }
 

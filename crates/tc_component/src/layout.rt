@@ -19,3 +19,6 @@ pub(crate) const SLOT_LEN: usize = 12;
 
 /// Records are written in pieces of at least so many bytes, but for the last.
 pub(crate) const PIECE_LEN: usize = 65_536;
+
+/// A cursor reads so many bytes at once, or one record where that is longer.
+pub(crate) const WINDOW_LEN: usize = 65_536;

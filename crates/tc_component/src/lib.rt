@@ -3,6 +3,7 @@
 
 mod builder;
 mod component;
+mod cursor;
 mod directory;
 mod fetching;
 mod found;
@@ -16,6 +17,7 @@ mod spool;
 
 pub use builder::Builder;
 pub use component::{Component, read_head};
+pub use cursor::RecordCursor;
 pub use found::{DirEntry, Found, Place};
 pub use head::Head;
 pub use law::{components_are_contents, written_is_read};
