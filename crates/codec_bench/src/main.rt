@@ -1,13 +1,19 @@
-//! Layer 6, programs: does calls of the record codec again and again on documents, so that their time can be taken from
-//! outside.
-//! `codec_bench ROUNDS CALL ..` reads documents as JSON from standard input, one a line, and prints for each call and
-//! each document the length of the record and a checksum.
+//! Layer 6, programs: does calls of the record codec and of the files of a partition again and again, so that their time
+//! can be taken from outside.
+//! `codec_bench ROUNDS CALL ..` reads documents as JSON from standard input, one a line. A call of the codec is done on
+//! each of them, and prints the length of the record and a checksum. One of files is done on all of them at once, as
+//! memory tables, between two of which stands an empty line.
 #![tactic(auto)]
 
+mod calls;
+mod flushes;
 mod forms;
 mod rounds;
+mod silent;
+mod tables;
 
 use anyhow::{Context, Result};
+use calls::{answer_of, is_of_tables};
 use rounds::{record_of_document, sum_of};
 use serde_json::Value;
 use std::{env, io};
@@ -19,12 +25,23 @@ fn main(rt: HostRuntime) -> Result<()> {
     let mut words = env::args(&rt)?.skip(1);
     let rounds = words.next().context("no rounds")?.parse::<u32>()?;
     for call in words {
-        for line in text.as_str().lines() {
-            let doc = doc_of(alloc, &Value::from_str(alloc, line)?)?;
-            let record = record_of_document(alloc, &doc)?.context("no record spells the document")?;
-            let sum = sum_of(alloc, call.as_str(), &doc, record.as_slice(), rounds)?;
-            println!(rt; "{call} {} {sum}", record.as_slice().len())?;
+        if is_of_tables(call.as_str()) {
+            let answer = answer_of(alloc, call.as_str(), text.as_str(), rounds)?;
+            println!(rt; "{call} {}", answer.as_str())?;
+        } else {
+            print_each(&rt, call.as_str(), text.as_str(), rounds)?;
         }
+    }
+    Ok(())
+}
+
+fn print_each(rt: &(impl Print + AllocGlobal), call: &str, text: &str, rounds: u32) -> Result<()> {
+    let alloc = rt.alloc();
+    for line in text.lines() {
+        let doc = doc_of(alloc, &Value::from_str(alloc, line)?)?;
+        let record = record_of_document(alloc, &doc)?.context("no record spells the document")?;
+        let sum = sum_of(alloc, call, &doc, record.as_slice(), rounds)?;
+        println!(rt; "{call} {} {sum}", record.as_slice().len())?;
     }
     Ok(())
 }
