@@ -3,7 +3,7 @@ use Rattle.std.specs.Prelude.{IfOk}
 use Rattle.std.specs.Result.{result_ok}
 use Rattle.std.proofs.lemmas.Option.{same_Some}
 use Rattle.tc_memory.specs.DocumentTables.{IsTableOf}
-use Rattle.flush_rows.proofs.flushes.job_of.Goals as goal
+use Rattle.job_rows.proofs.flushes.job_of.Goals as goal
 
 at_ok : {A E : Type 0} (P : A → Type 0) (r : Result A E) (a : A) → Some a ≡ result_ok r → IfOk r P → P a
 at_ok P (Ok x) a is holds = subst P (same_Some x a (sym is)) holds

@@ -1,13 +1,15 @@
-//! Layer 6, programs: makes flushes of memory tables, and lists of components, one row of standard input at a time, and
-//! prints what they answer. A row is a list of calls, each of a name and its argument, and a `; ` between two; its
-//! answers stand in the same order. It begins with a table of no entry, over no name and no document, and with no
-//! component. `no answer` stands for a row out of form. A row that begins with `#` is a note, and is printed as it is.
+//! Layer 6, programs: makes flushes of memory tables, lists of components and picks of policies, one row of standard
+//! input at a time, and prints what they answer. A row is a list of calls, each of a name and its argument, and a `; `
+//! between two; its answers stand in the same order. It begins with a table of no entry, over no name and no document,
+//! and with no component. `no answer` stands for a row out of form. A row that begins with `#` is a note, and is printed
+//! as it is.
 #![tactic(auto)]
 
 mod arguments;
 mod desk;
 mod flushes;
 mod lists;
+mod policies;
 mod stores;
 mod tables;
 
@@ -55,6 +57,8 @@ fn answer_of(alloc: Global, desk: &mut Desk, call: &str) -> Option<String> {
         "flush" => flushes::flush(alloc, desk, argument),
         "load" => lists::load(alloc, &mut desk.loaded, argument),
         "list" => lists::list(alloc, &desk.loaded, argument),
+        "constant" => policies::constant(alloc, argument),
+        "sized" => policies::sized(alloc, argument),
         _ => None,
     }
 }

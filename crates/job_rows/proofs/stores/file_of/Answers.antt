@@ -5,7 +5,7 @@ use Rattle.tc_store.specs.declared.file_name.FileName.TheVariants.{Component}
 use Rattle.tc_store.specs.Disk.{Disk, IsAtRest, IsThere, IsSettledHome, ListsNames}
 use Rattle.tc_store.specs.Memory.Store.{store_disks}
 use Rattle.tc_store.specs.Moments.{IfTold}
-use Rattle.flush_rows.proofs.stores.file_of.Goals as goal
+use Rattle.job_rows.proofs.stores.file_of.Goals as goal
 
 -- a file that a store at rest lists is settled
 listed : (disks : List Disk) (names : List FileName) → IfTold disks IsAtRest → IfTold disks (ListsNames names) → Contains names (Component 1 1) → IfTold disks (λ disk. IsSettledHome (disk (Component 1 1)))
