@@ -1,0 +1,44 @@
+-- What is said of damage.
+use Rattle.std.proofs.Common.{◌≡◌, ◌∙◌, ℕ, List, length, Option, Some, slice_get, subst}
+use Rattle.std.specs.Prelude.{IfSome, Err}
+use Rattle.tc_store.specs.declared.file_name.FileName.{FileName}
+use Rattle.tc_store.specs.Judging.{IfDamaged}
+use Rattle.tc_store.specs.declared.damage.ReadFault.{ReadFault}
+use Rattle.tc_store.specs.declared.damage.ReadFault.TheVariants.{Damaged as damage_read}
+use Rattle.tc_component.specs.declared.found.Place.{Place}
+use Rattle.tc_component.specs.Fetching.{IsPlace, record_place, length_at, record_at, IsRecordWithin}
+use Rattle.tc_component.specs.Loading.{ComponentState}
+use Rattle.tc_component.specs.Spelling.{name_of}
+use Rattle.tc_merge.specs.declared.fault.MergeFault.{MergeFault}
+use Rattle.tc_merge.specs.declared.fault.MergeFault.TheVariants.{Disk, Damaged, Memory}
+use Rattle.tc_merge.specs.Faults.{IfHarmed, IsHarmOf, IsHarmIn}
+
+pub harmed_then : (fault : MergeFault) (P Q : FileName → ℕ → List ℕ → Type 0) → ((file : FileName) (place : ℕ) (bytes : List ℕ) → P file place bytes → Q file place bytes) → IfHarmed fault P → IfHarmed fault Q
+harmed_then Disk P Q f is = tt
+harmed_then (Damaged file place bytes) P Q f is = f file place bytes is
+harmed_then Memory P Q f is = tt
+
+-- damage of one of a run is damage in the run
+pub harm_in : {F : Type 0} (content : F → Option (List ℕ)) (run : List (ComponentState F)) (at : ℕ) (c : ComponentState F) (fault : MergeFault) → slice_get run at ≡ Some c
+    → IfHarmed fault (λ file place bytes. IsHarmOf content c file place bytes) → IfHarmed fault (λ file place bytes. IsHarmIn content run file place bytes)
+harm_in content run at c fault here is = harmed_then fault (λ file place bytes. IsHarmOf content c file place bytes) (λ file place bytes. IsHarmIn content run file place bytes) (λ file place bytes harm. record { at = at; component = c; here = here; harm = harm }) is
+
+-- what a read found damaged is damage of the component
+pub read_harm : {F : Type 0} (content : F → Option (List ℕ)) (c : ComponentState F) (entry : Place) (fault : ReadFault) (made : MergeFault) (name : FileName) → IsPlace c.index.slots entry → name ≡ name_of c.index.head
+    → IfDamaged {X = Unit {0}} (Err fault) (λ at kept. IfSome (content c.file) (λ bytes. kept ≡ record_at c.index.slots entry.at bytes))
+    → IfDamaged {X = Unit {0}} (Err fault) (λ at kept. (at ≡ record_place c.index.slots entry.at) × (length kept ≡ length_at c.index.slots entry.at) × (IsRecordWithin (length c.index.names) kept → ⊥))
+    → IfHarmed made (λ of at bytes. (of ≡ name) × (fault ≡ damage_read at bytes)) → IfHarmed made (λ file at bytes. IsHarmOf content c file at bytes)
+read_harm {F} content c entry fault made name there named told damaged is = harmed_then made (λ of at bytes. (of ≡ name) × (fault ≡ damage_read at bytes)) (λ file at bytes. IsHarmOf content c file at bytes) harm is
+  where
+    harm : (of : FileName) (at : ℕ) (bytes : List ℕ) → (of ≡ name) × (fault ≡ damage_read at bytes) → IsHarmOf content c of at bytes
+    harm of at bytes found =
+        let broken = subst (λ f. IfDamaged {X = Unit {0}} (Err f) (λ at kept. (at ≡ record_place c.index.slots entry.at) × (length kept ≡ length_at c.index.slots entry.at) × (IsRecordWithin (length c.index.names) kept → ⊥))) found.1 damaged in
+        record {
+          entry = entry;
+          there = there;
+          file_is = found.0 ∙ named;
+          place_is = broken.0;
+          long = broken.1;
+          broken = broken.2;
+          told = subst (λ f. IfDamaged {X = Unit {0}} (Err f) (λ at kept. IfSome (content c.file) (λ bytes. kept ≡ record_at c.index.slots entry.at bytes))) found.1 told;
+        }

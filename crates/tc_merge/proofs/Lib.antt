@@ -1,0 +1,14 @@
+mod NewestValues
+mod NewestSteps
+mod RowsAhead
+mod InputSteps
+mod UpTo
+mod SetBack
+mod Harms
+mod EntryRows
+mod NextInputs
+mod ToldRows
+mod MergedContents
+mod LastOfRun
+mod WrittenMoments
+mod ReadsCounted

@@ -1,0 +1,51 @@
+-- Why a merge failed, and how its calls are counted.
+use Rattle.std.specs.Prelude.{◌≡◌, ◌≤◌, ℕ, List, length, slice_get, Option, Some, IfSome}
+use Rattle.tc_bytes.specs.Counts.{Rose}
+use Rattle.tc_store.specs.Counted.{Counts}
+use Rattle.tc_store.specs.declared.file_name.FileName.{FileName}
+use Rattle.tc_component.specs.declared.found.Place.{Place}
+use Rattle.tc_component.specs.Fetching.{IsPlace, record_place, length_at, record_at, IsRecordWithin}
+use Rattle.tc_component.specs.Loading.{ComponentState}
+use Rattle.tc_component.specs.Spelling.{Row, name_of}
+use Rattle.tc_merge.specs.declared.fault.MergeFault.{MergeFault}
+use Rattle.tc_merge.specs.declared.fault.MergeFault.TheVariants.{Disk, Damaged, Memory}
+
+-- of damage this holds, by the file, the place and the bytes there
+abbrev pub IfHarmed : MergeFault → (FileName → ℕ → List ℕ → Type 0) → Type 0
+IfHarmed Disk P = Unit {0}
+IfHarmed (Damaged file place bytes) P = P file place bytes
+IfHarmed Memory P = Unit {0}
+
+-- nothing was found damaged
+abbrev pub IsHarmless : MergeFault → Type 0
+IsHarmless fault = IfHarmed fault (λ file place bytes. ⊥)
+
+-- The bytes stand at the place of an entry of a component, and are not what has to stand there; and they are the file's, if
+-- it tells.
+pub record IsHarmOf {F : Type 0} (content : F → Option (List ℕ)) (c : ComponentState F) (file : FileName) (place : ℕ) (bytes : List ℕ) : Type 0 where
+  pub entry : Place
+  pub there : IsPlace c.index.slots entry
+  pub file_is : file ≡ name_of c.index.head
+  pub place_is : place ≡ record_place c.index.slots entry.at
+  pub long : length bytes ≡ length_at c.index.slots entry.at
+  pub broken : IsRecordWithin (length c.index.names) bytes → ⊥
+  pub told : IfSome (content c.file) (λ whole. bytes ≡ record_at c.index.slots entry.at whole)
+
+-- so of a component of a run
+pub record IsHarmIn {F : Type 0} (content : F → Option (List ℕ)) (run : List (ComponentState F)) (file : FileName) (place : ℕ) (bytes : List ℕ) : Type 0 where
+  pub at : ℕ
+  pub component : ComponentState F
+  pub here : slice_get run at ≡ Some component
+  pub harm : IsHarmOf content component file place bytes
+
+-- the record of a row, if it has one, is one of form 1 whose numbers a component of the run has
+pub record IsJudged {F : Type 0} (run : List (ComponentState F)) (row : Row) : Type 0 where
+  pub at : ℕ
+  pub component : ComponentState F
+  pub here : slice_get run at ≡ Some component
+  pub form : IfSome row.1 (λ bytes. IsRecordWithin (length component.index.names) bytes)
+
+-- Calls, some of which may be reads. Where one failed for a fault, one was counted.
+pub record IsWatched (Failed : Type 0) (old new : Counts) : Type 0 where
+  pub faults : old.faults ≤ new.faults
+  pub cause : Failed → Rose old.faults new.faults

@@ -1,0 +1,6 @@
+pub mod Newest
+pub mod Merging
+pub mod Merged
+pub mod Jobs
+pub mod Inputs
+pub mod Faults

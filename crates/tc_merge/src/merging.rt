@@ -1,0 +1,117 @@
+//! Entries are merged, one after the other.
+
+ghost use Rattle.std.specs.Prelude.{◌≡◌, ◌<◌, ◌≤◌, ◌+◌, ◌++◌, ◌∷◌, [], List, All, length, map, IfErr, IsErrOf, OnOk, false};
+ghost use Rattle.tc_store.specs.Gate.{IsClosed};
+ghost use Rattle.tc_store.specs.Moments.{LeavesOnly};
+ghost use Rattle.tc_component.specs.Building.{HasRows};
+ghost use Rattle.tc_component.specs.Spelling.{Row, IsIndex};
+ghost use Rattle.tc_merge.specs.Faults.{IfHarmed, IsHarmIn, IsJudged, IsWatched};
+ghost use Rattle.tc_merge.specs.Inputs.{InputState, rows_left, passed, left_of, IsNext, IsNextOf, IsUpTo};
+ghost use Rattle.tc_merge.specs.Merging.{AreTold, kept, live_rows};
+ghost use Rattle.tc_merge.specs.Newest.{newest};
+
+use crate::fault::MergeFault;
+use crate::input::{Input, Next, put_next};
+use tc_component::Builder;
+use tc_store::{Frozen, Store};
+
+/// Pushes what is left of the inputs: of each key the entry of the newest that has one, in ascending key.
+pub(crate) fn merge<S: Store>(
+    inputs: &mut [Input<S::Frozen>],
+    from: u64,
+    builder: &mut Builder<S::Device>,
+    watch: &mut S::Watch,
+) -> Result<(), MergeFault>
+    requires lawful { All (λ c. IsIndex c.index) (map (λ i. i.component) inputs.old) }
+    requires going_on { builder.old.failed ≡ false }
+
+    ensures same { map (λ i. i.component) inputs.new ≡ map (λ i. i.component) inputs.old }
+    ensures pushed { OnOk result ((rows : List Row) → AreTold (λ file. S.Frozen.content file) (map (λ i. i.component) inputs.old) → HasRows (S.Device.history builder.old.device) builder.old rows
+        → HasRows (S.Device.history builder.new.device) builder.new (rows ++ kept from (newest (map (rows_left (λ file. S.Frozen.content file)) inputs.old)))) }
+    ensures judged { OnOk result (AreTold (λ file. S.Frozen.content file) (map (λ i. i.component) inputs.old) → All (IsJudged (map (λ i. i.component) inputs.old)) (kept from (newest (map (rows_left (λ file. S.Frozen.content file)) inputs.old)))) }
+    ensures more { OnOk result ((rows : List Row) → HasRows (S.Device.history builder.old.device) builder.old rows → (all : List Row) × HasRows (S.Device.history builder.new.device) builder.new all) }
+    ensures harmed { IfErr result (λ fault. IfHarmed fault (λ file place bytes. IsHarmIn (λ f. S.Frozen.content f) (map (λ i. i.component) inputs.old) file place bytes)) }
+    ensures head { builder.new.head ≡ builder.old.head }
+    ensures not_failed { OnOk result (builder.new.failed ≡ false) }
+    ensures name { S.Device.name builder.new.device ≡ S.Device.name builder.old.device }
+    ensures moments { LeavesOnly IsClosed (S.Device.history builder.old.device) (S.Device.history builder.new.device) }
+    ensures reads { OnOk result ((S.Watch.counts watch.new).reads ≤ (S.Watch.counts watch.old).reads + live_rows (kept from (newest (map (rows_left (λ file. S.Frozen.content file)) inputs.old)))) }
+    ensures watched { IsWatched (IsErrOf result MergeFault.Disk) (S.Watch.counts watch.old) (S.Watch.counts watch.new) }
+{
+    while let Some(next) = next_of(inputs) {
+        if let Err(fault) = put_entry::<S>(inputs, next, from, builder, watch) {
+            return Err(fault);
+        }
+    }
+    Ok(())
+}
+
+/// Pushes the next entry, and passes all entries of its key.
+fn put_entry<S: Store>(
+    inputs: &mut [Input<S::Frozen>],
+    next: Next,
+    from: u64,
+    builder: &mut Builder<S::Device>,
+    watch: &mut S::Watch,
+) -> Result<(), MergeFault>
+    requires next { IsNext inputs.old next }
+    requires lawful { All (λ c. IsIndex c.index) (map (λ i. i.component) inputs.old) }
+    requires going_on { builder.old.failed ≡ false }
+
+    ensures same { map (λ i. i.component) inputs.new ≡ map (λ i. i.component) inputs.old }
+    ensures fewer { OnOk result (left_of inputs.new < left_of inputs.old) }
+    ensures pushed { OnOk result ((rows : List Row) → AreTold (λ file. S.Frozen.content file) (map (λ i. i.component) inputs.old) → HasRows (S.Device.history builder.old.device) builder.old rows
+        → IsUpTo (λ file. S.Frozen.content file) from inputs.old inputs.new (λ done. HasRows (S.Device.history builder.new.device) builder.new (rows ++ done))) }
+    ensures judged { OnOk result (AreTold (λ file. S.Frozen.content file) (map (λ i. i.component) inputs.old) → IsUpTo (λ file. S.Frozen.content file) from inputs.old inputs.new (λ done. All (IsJudged (map (λ i. i.component) inputs.old)) done)) }
+    ensures more { OnOk result ((rows : List Row) → HasRows (S.Device.history builder.old.device) builder.old rows → (all : List Row) × HasRows (S.Device.history builder.new.device) builder.new all) }
+    ensures harmed { IfErr result (λ fault. IfHarmed fault (λ file place bytes. IsHarmIn (λ f. S.Frozen.content f) (map (λ i. i.component) inputs.old) file place bytes)) }
+    ensures head { builder.new.head ≡ builder.old.head }
+    ensures not_failed { OnOk result (builder.new.failed ≡ false) }
+    ensures name { S.Device.name builder.new.device ≡ S.Device.name builder.old.device }
+    ensures moments { LeavesOnly IsClosed (S.Device.history builder.old.device) (S.Device.history builder.new.device) }
+    ensures reads { OnOk result (IsUpTo (λ file. S.Frozen.content file) from inputs.old inputs.new (λ done. (S.Watch.counts watch.new).reads ≤ (S.Watch.counts watch.old).reads + live_rows done)) }
+    ensures watched { IsWatched (IsErrOf result MergeFault.Disk) (S.Watch.counts watch.old) (S.Watch.counts watch.new) }
+{
+    match put_next::<S>(&mut inputs[next.input], from, builder, watch) {
+        Ok(()) => {
+            pass_all(inputs, next.key);
+            Ok(())
+        }
+        Err(fault) => Err(fault),
+    }
+}
+
+/// Passes all entries of a key that are ahead.
+fn pass_all<F: Frozen>(inputs: &mut [Input<F>], key: u64)
+    ensures { inputs.new ≡ map (passed key) inputs.old }
+{
+    for input in inputs.iter_mut() {
+        input.pass(key);
+    }
+}
+
+/// The newest of the inputs that have the least key ahead, and that key.
+fn next_of<F: Frozen>(inputs: &[Input<F>]) -> Option<Next>
+    ensures { IsNextOf inputs.now result }
+{
+    let mut next = None;
+    let mut place = 0;
+    for input in inputs {
+        next = newer_of(next, place, input);
+        place += 1;
+    }
+    next
+}
+
+/// The next of inputs and of one more, which has this place behind them.
+fn newer_of<F: Frozen>(next: Option<Next>, place: usize, input: &Input<F>) -> Option<Next>
+    ensures { (inputs : List (InputState F)) → length inputs ≡ place → IsNextOf inputs next → IsNextOf (inputs ++ input.now ∷ []) result }
+{
+    let Some(key) = input.key() else {
+        return next;
+    };
+    match next {
+        Some(least) if least.key < key => next,
+        _ => Some(Next { input: place, key }),
+    }
+}
