@@ -1,20 +1,19 @@
 //! What a row works on: a table, the names and the schema below it, the calls that are to fail, and components.
 
 use crate::arguments::{numbers, word};
+use crate::lists::Shared;
 use std::alloc::Global;
 use std::mem;
-use std::sync::Arc;
-use tc_component::Component;
 use tc_memory::Memtable;
 use tc_names::Names;
 use tc_schema::Schema;
-use tc_store::{MemFrozen, MemWatch};
+use tc_store::MemWatch;
 
 pub(crate) struct Desk {
     pub(crate) names: Names,
     pub(crate) schema: Schema,
     pub(crate) table: Memtable,
-    pub(crate) loaded: Vec<Arc<Component<MemFrozen>>>,
+    pub(crate) loaded: Vec<Shared>,
     watch: MemWatch,
 }
 

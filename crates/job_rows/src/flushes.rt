@@ -5,30 +5,24 @@ ghost use Rattle.tc_store.specs.Memory.Device.{device_size};
 
 use crate::arguments::{numbers, word};
 use crate::desk::Desk;
-use crate::stores::left_of;
+use crate::stores::{begun, left_of};
 use std::alloc::Global;
 use std::sync::Arc;
 use tc_component::Head;
 use tc_flush::{FlushJob, FlushOut, FlushParts, counted};
 use tc_memory::Sealed;
-use tc_store::{DeviceFault, FileName, MemDevice, MemStore, MemWatch, Store, StoreFault, Watch};
-
-/// The name of the only file.
-pub(crate) const NAME: FileName = FileName::Component { from: 1, to: 1 };
+use tc_store::{DeviceFault, MemDevice, MemStore, MemWatch, Store, StoreFault, Watch};
 
 /// The flush of the table: the number of its partition, how many there are, its generations, and what a stop behind it
 /// chooses.
 pub(crate) fn flush(alloc: Global, desk: &mut Desk, argument: &str) -> Option<String> {
     let (head, choice) = asked(alloc, argument)?;
-    let mut store = MemStore::new(alloc);
-    let made = store.fresh(alloc, NAME, &mut MemWatch::new(Vec::new(alloc)));
-    match made {
-        Ok(device) => flushed(alloc, desk, store, device, head, choice),
-        Err(_) => None,
-    }
+    let (store, device) = begun(alloc)?;
+    flushed(alloc, desk, store, device, head, choice)
 }
 
-fn asked(alloc: Global, argument: &str) -> Option<(Head, u64)> {
+/// The header and the choice of a stop that are asked for.
+pub(crate) fn asked(alloc: Global, argument: &str) -> Option<(Head, u64)> {
     let numbers = numbers(alloc, argument)?;
     let [number, count, from, to, choice] = numbers.as_slice() else {
         return None;
@@ -111,8 +105,12 @@ fn outcome_word(outcome: Result<(), DeviceFault>) -> Option<&'static str> {
     }
 }
 
-// How many calls failed, and what one more answers.
-fn counts(alloc: Global, store: &mut MemStore, watch: MemWatch) -> Option<(u64, &'static str)> {
+/// How many calls failed, and what one more answers.
+pub(crate) fn counts(
+    alloc: Global,
+    store: &mut MemStore,
+    watch: MemWatch,
+) -> Option<(u64, &'static str)> {
     let mut watch = watch;
     let faults = watch.faults();
     match store.names(alloc, &mut watch) {

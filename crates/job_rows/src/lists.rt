@@ -12,7 +12,8 @@ use tc_component::Component;
 use tc_list::{ComponentList, Run, Whereabouts};
 use tc_store::MemFrozen;
 
-type Shared = Arc<Component<MemFrozen>>;
+/// A component that several hold.
+pub(crate) type Shared = Arc<Component<MemFrozen>>;
 
 /// A component more: its generations, and its bytes.
 pub(crate) fn load(alloc: Global, loaded: &mut Vec<Shared>, argument: &str) -> Option<String> {

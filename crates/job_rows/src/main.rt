@@ -1,15 +1,17 @@
-//! Layer 6, programs: makes flushes of memory tables, lists of components and picks of policies, one row of standard
-//! input at a time, and prints what they answer. A row is a list of calls, each of a name and its argument, and a `; `
-//! between two; its answers stand in the same order. It begins with a table of no entry, over no name and no document,
-//! and with no component. `no answer` stands for a row out of form. A row that begins with `#` is a note, and is printed
-//! as it is.
+//! Layer 6, programs: makes flushes of memory tables, merges of components, lists of them and picks of policies, one row
+//! of standard input at a time, and prints what they answer. A row is a list of calls, each of a name and its argument,
+//! and a `; ` between two; its answers stand in the same order. It begins with a table of no entry, over no name and no
+//! document, and with no component. `no answer` stands for a row out of form. A row that begins with `#` is a note, and
+//! is printed as it is.
 #![tactic(auto)]
 
 mod arguments;
 mod desk;
 mod flushes;
 mod lists;
+mod merges;
 mod policies;
+mod runs;
 mod stores;
 mod tables;
 
@@ -57,6 +59,7 @@ fn answer_of(alloc: Global, desk: &mut Desk, call: &str) -> Option<String> {
         "flush" => flushes::flush(alloc, desk, argument),
         "load" => lists::load(alloc, &mut desk.loaded, argument),
         "list" => lists::list(alloc, &desk.loaded, argument),
+        "merge" => merges::merge(alloc, desk, argument),
         "constant" => policies::constant(alloc, argument),
         "sized" => policies::sized(alloc, argument),
         _ => None,

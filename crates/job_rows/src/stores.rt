@@ -1,15 +1,31 @@
-//! The file of a store, as a stop leaves it, and components that are loaded from bytes.
+//! A store of one file, what a stop leaves of it, and components that are loaded from bytes.
 
+ghost use Rattle.std.specs.Prelude.{◌≡◌, IfSome};
 ghost use Rattle.tc_store.specs.Disk.{IsAtRest};
+ghost use Rattle.tc_store.specs.Memory.Device.{device_size};
 ghost use Rattle.tc_store.specs.Memory.Store.{store_disks};
 ghost use Rattle.tc_store.specs.Moments.{IfTold};
 
 use crate::arguments::{shown, word};
-use crate::flushes::NAME;
 use std::alloc::Global;
 use tc_bytes::Bytes;
 use tc_component::Component;
-use tc_store::{FileName, MemFile, MemFrozen, MemStore, MemWatch, Store, whole_of};
+use tc_store::{FileName, MemDevice, MemFile, MemFrozen, MemStore, MemWatch, Store, whole_of};
+
+/// The name of the only file.
+const NAME: FileName = FileName::Component { from: 1, to: 1 };
+
+/// A store, and an empty device for its file.
+pub(crate) fn begun(alloc: Global) -> Option<(MemStore, MemDevice)>
+    ensures { IfSome result (λ made. device_size made.1 ≡ 0) }
+{
+    let mut store = MemStore::new(alloc);
+    let made = store.fresh(alloc, NAME, &mut MemWatch::new(Vec::new(alloc)));
+    match made {
+        Ok(device) => Some((store, device)),
+        Err(_) => None,
+    }
+}
 
 /// The bytes of the file that a stop leaves, or that there is none.
 pub(crate) fn left_of(alloc: Global, store: MemStore, choice: u64) -> Option<String> {
