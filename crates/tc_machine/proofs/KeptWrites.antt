@@ -2,9 +2,8 @@
 use Rattle.std.proofs.Common.{◌≡◌, ℕ, List, [], ◌∷◌, refl, sym, ap, ◌∙◌, subst, arith, Some, None}
 use Rattle.std.specs.Prelude.{All, map}
 use Rattle.std.proofs.lemmas.List.Elements.{All-head, All-tail}
-use Rattle.tc_model.specs.Tree.{leaf, array, object}
 use Rattle.tc_model.specs.Document.{Document}
-use Rattle.tc_model.specs.Stored.{IsObject, IsKeyless}
+use Rattle.tc_model.proofs.StoredDocuments.{keyless_object}
 use Rattle.tc_plain_model.specs.Writes.{Write}
 use Rattle.tc_lsm_model.specs.Contents.{Partition}
 use Rattle.tc_record.specs.Record.{record_of, IsRecordOf}
@@ -14,11 +13,6 @@ use Rattle.tc_log.specs.declared.write.Write.TheVariants.{Upsert, Delete}
 use Rattle.tc_log.proofs.Appended.{means_same}
 use Rattle.tc_machine.specs.Writes.{IsStorableWrite}
 use Rattle.tc_machine.specs.Logs.{log_head, kept_write, IsLog}
-
-keyless_object : (d : Document) → IsKeyless d → IsObject d
-keyless_object (leaf s) keyless = absurd keyless
-keyless_object (array xs) keyless = absurd keyless
-keyless_object (object ms) keyless = tt
 
 is_record : (key : ℕ) (d : Document) → IsStorableWrite (key, Some d) → IsRecordOf d (record_of d)
 is_record key d is = record { document = is.document; is_object = keyless_object d is.storable.1; shallow = is.storable.0; spelled = refl; short = omega (arith, is.short) }
