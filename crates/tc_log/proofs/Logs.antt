@@ -3,7 +3,7 @@ use Rattle.std.proofs.Common.{◌≡◌, ◌∙◌, ◌<◌, ◌≤◌, ◌^◌,
 use Rattle.std.proofs.lemmas.Bool.{eqb-true}
 use Rattle.std.specs.Int.{w32, w64, to_be_bytes}
 use Rattle.std.proofs.lemmas.Bool.Decides.{nat_tests}
-use Rattle.std.proofs.lemmas.List.{nil_from_length, places, length-replicate}
+use Rattle.std.proofs.lemmas.List.{nil_from_length, places, length-replicate, take_at}
 use Rattle.std.proofs.lemmas.Option.{same_Some}
 use Rattle.std.specs.declared.alloc.Global.{Global}
 use Rattle.tc_bytes.specs.Codec.{IsBytes, IsCodec}
@@ -166,8 +166,17 @@ named_lawful generation front head each judged =
     let here = (named_codec generation).found front parts.0.0 parts.0.1 each (or_damage_parts (passing_at (is_of generation) head_at front) (damage 1 front) parts.0 parts.1) in
     subst (λ (h : LogHead). IsHead h × (h.generation ≡ generation)) (same_Ok _ head parts.2) (here.2.0, eqb-true parts.0.0.generation generation here.2.1)
 
+-- what stands in front of the frames of a log is the header of its generation
+pub named_front : (bytes : List ℕ) (head : LogHead) (frames : List (List Write)) → Spells bytes head frames → IsNamedHead head.generation (front_of bytes) head
+named_front bytes head frames spells = record {
+  is_head = spells.head_is;
+  named = refl;
+  spelled = ap front_of (spells.spelled ∙ ap (λ (rest : List ℕ). 1 ∷ rest) (append_assoc (head_bytes head) (flat_map frame_bytes frames) spells.rest))
+      ∙ take_at (head_bytes head) (flat_map frame_bytes frames ++ spells.rest) 20 (head_length head);
+}
+
 -- the header of a generation is read as one
-named_judged : (generation : ℕ) (front : List ℕ) (head : LogHead) → IsNamedHead generation front head → front_judged generation front ≡ Ok head
+pub named_judged : (generation : ℕ) (front : List ℕ) (head : LogHead) → IsNamedHead generation front head → front_judged generation front ≡ Ok head
 named_judged generation front head is =
     let read : passing_at (is_of generation) head_at (head_bytes head ++ []) ≡ Some (head, []) = (named_codec generation).again head [] (is.is_head, same_test head.generation generation is.named) in
     rw (is.spelled ∙ sym (append-nil (head_bytes head)), read) refl
