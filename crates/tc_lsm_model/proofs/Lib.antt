@@ -8,5 +8,6 @@ pub mod TableLaws
 pub mod TableCounts
 pub mod FlushLaws
 pub mod FlushNames
+pub mod WrittenNames
 mod MergeRows
 mod FlushRows

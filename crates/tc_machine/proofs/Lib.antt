@@ -1,6 +1,5 @@
 pub mod Options
 pub mod Covering
-pub mod KnownNames
 pub mod Holding
 pub mod Targets
 pub mod LogHeads

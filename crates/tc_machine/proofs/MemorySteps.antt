@@ -29,7 +29,7 @@ use Rattle.tc_machine.specs.Steps.{StartsFrame}
 use Rattle.tc_machine.specs.Writes.{AreFew, HasRoom, IsStorableWrite}
 use Rattle.tc_machine.proofs.Covering.{Replaces, merge_not_covered, swapped_replaces, uncovered_apart}
 use Rattle.tc_machine.proofs.Holding.{all_writes-append, all_writes-one, holds, sealed_holds}
-use Rattle.tc_machine.proofs.KnownNames.{names_after-table}
+use Rattle.tc_lsm_model.proofs.WrittenNames.{names_after-table}
 use Rattle.tc_machine.proofs.Options.{All-back, if_some_at, if_some_map}
 use Rattle.tc_machine.proofs.Targets.{MergeTarget, file_from, merge_target}
 

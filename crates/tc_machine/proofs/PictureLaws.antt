@@ -34,7 +34,7 @@ use Rattle.tc_machine.proofs.Covering.{Covers-back, Covers-front, Replaces, swap
 use Rattle.tc_machine.proofs.FilesMade.{closed_or_open, log_there}
 use Rattle.tc_machine.proofs.Holding.{all_writes-append, all_writes-one, sealed_is}
 use Rattle.tc_machine.proofs.InstallSteps.{All-swapped, IsFlush-same, flushed_head}
-use Rattle.tc_machine.proofs.KnownNames.{few_together, names_after-table, names_of_table}
+use Rattle.tc_lsm_model.proofs.WrittenNames.{names_after-table, names_of_table, no_more_together}
 use Rattle.tc_machine.proofs.LogHeads.{log_has_head}
 use Rattle.tc_machine.proofs.Options.{All-back, All-front, if_some_at}
 
@@ -141,6 +141,10 @@ module _ (part : Partition) (s : State) (k : IsKept part s) (picture : Picture) 
   sealed_names_are None is = refl
   sealed_names_are (Some d) is = names_of_table (names_of s.list) (live s.list) d.table (all_writes d.logs) is
 
+  -- names are few together where they are few one lot after the other
+  few_together : (us vs : List Write) → AreFew (names_after (names_after (names_of s.list) us) vs) → AreFew (names_after (names_of s.list) (us ++ vs))
+  few_together us vs few = omega (arith, few, no_more_together (names_of s.list) us vs (newest_of_list part s.list k.memory.list).dictionary.distinct)
+
   unflushed : (cs : List Content) → Merged cs → ((from to : ℕ) (b : List ℕ) → IsFlushTarget part s.list s.sealed s.flush from to b → bytes_at picture (Component from to) ≡ Some b → is_open_file b ≡ true → Covers cs from to) → Flushed cs (sealed_logs s.sealed)
   unflushed cs m flushed = record {
     list = m.list;
@@ -150,8 +154,7 @@ module _ (part : Partition) (s : State) (k : IsKept part s) (picture : Picture) 
     merged = m.merged;
     flushed = flushed;
     few = λ rest few. subst (λ ns. AreFew (names_after ns (all_writes (sealed_logs s.sealed) ++ rest))) (sym m.names)
-        (few_together (names_of s.list) (all_writes (sealed_logs s.sealed)) rest (newest_of_list part s.list k.memory.list).dictionary.distinct
-        (subst (λ ns. AreFew (names_after ns rest)) (sealed_names_are s.sealed k.memory.sealed) few));
+        (few_together (all_writes (sealed_logs s.sealed)) rest (subst (λ ns. AreFew (names_after ns rest)) (sealed_names_are s.sealed k.memory.sealed) few));
     logs = subst (λ g. LeavesLogs part s.files (g + 1) (sealed_logs s.sealed)) (sym m.last) k.files.sealed_logs;
     generation = ap (λ g. g + length (sealed_logs s.sealed)) m.last;
     writes = sealed_writes;

@@ -19,10 +19,9 @@ use Rattle.tc_lsm_model.specs.Tables.{Table, table_over, writes_of}
 use Rattle.tc_lsm_model.proofs.FlushNames.{Extends-names_after, few-names_after, known-names_after}
 use Rattle.tc_lsm_model.proofs.ListNames.{AreNamesIn, KnowsWritten, named-Extends, named-after_writes}
 use Rattle.tc_lsm_model.proofs.TableLaws.{Ascends-writes_of, IsTableOver-table_over, alone-table_over}
-use Rattle.tc_machine.specs.Writes.{AreFew}
 
 -- a dictionary knows each document that writes leave of nothing
-abbrev pub KnowsLeft : List Name → List Write → Type 0
+abbrev KnowsLeft : List Name → List Write → Type 0
 KnowsLeft names ws = All (AreNamesIn names) (after_writes [] ws)
 
 -- ---- what is left of a table is what is left of its writes
@@ -48,9 +47,9 @@ ascends ws = Ascends-writes_of (table_over [] ws) (IsTableOver-table_over [] ws)
 
 -- they learn the same names
 same_names : (names : List Name) (ws : List Write) → names_after names (last_of_each ws) ≡ names_after names ws
-same_names names ws = ap (λ (left : Pairs). all_learned names (names_of_documents (values_in left))) (alone-table_over [] ws)
+same_names names ws = names_of_table names [] (table_over [] ws) ws refl
 
-pub knows-left : (names : List Name) (ws : List Write) → KnowsLeft (names_after names ws) ws
+knows-left : (names : List Name) (ws : List Write) → KnowsLeft (names_after names ws) ws
 knows-left names ws =
     subst (λ left. All (AreNamesIn (names_after names ws)) left) (alone-table_over [] ws)
     (named-after_writes (names_after names ws) [] (last_of_each ws)
@@ -69,10 +68,10 @@ knows-written names ws knows = each_found (KnowsWritten names) (last_of_each ws)
         of_found (AreNamesIn names) (after_writes [] (last_of_each ws)) k d left
         (value_of-after_ascending k [] (last_of_each ws) sorted_nil (ascends ws) ∙ ap (λ o. unwrap_or o None) there)
 
-pub KnowsLeft-Extends : (newer older : List Name) (ws : List Write) → Extends newer older → KnowsLeft older ws → KnowsLeft newer ws
+KnowsLeft-Extends : (newer older : List Name) (ws : List Write) → Extends newer older → KnowsLeft older ws → KnowsLeft newer ws
 KnowsLeft-Extends newer older ws extends knows = named-Extends newer older (after_writes [] ws) extends knows
 
-pub KnowsLeft-append : (names : List Name) (us vs : List Write) → KnowsLeft names us → KnowsLeft names vs → KnowsLeft names (us ++ vs)
+KnowsLeft-append : (names : List Name) (us vs : List Write) → KnowsLeft names us → KnowsLeft names vs → KnowsLeft names (us ++ vs)
 KnowsLeft-append names us vs one two =
     each_found (AreNamesIn names) (after_writes [] (us ++ vs)) (Ascends-after_writes [] (us ++ vs) sorted_nil)
     (λ k d is. step k d (last_write k vs) refl (sym (value_of-after_writes k [] (us ++ vs) sorted_nil ∙ ap (λ o. unwrap_or o None) (last_write-append k us vs)) ∙ is))
@@ -84,17 +83,14 @@ KnowsLeft-append names us vs one two =
         (value_of-after_writes k [] vs sorted_nil ∙ ap (λ o. unwrap_or o None) some ∙ ap (λ o. unwrap_or (option_or o (last_write k us)) None) (sym some) ∙ is)
 
 -- it has no fewer names
-pub no_more_names : (names more : List Name) (ws : List Write) → IsDistinct bytes_eq names → Extends more names → KnowsLeft more ws → length (names_after names ws) ≤ length more
+no_more_names : (names more : List Name) (ws : List Write) → IsDistinct bytes_eq names → Extends more names → KnowsLeft more ws → length (names_after names ws) ≤ length more
 no_more_names names more ws distinct extends knows =
     subst (λ ns. length ns ≤ length more) (same_names names ws) (few-names_after names more (last_of_each ws) distinct extends (knows-written more ws knows))
 
-pub few_names : (names more : List Name) (ws : List Write) → IsDistinct bytes_eq names → Extends more names → KnowsLeft more ws → AreFew more → AreFew (names_after names ws)
-few_names names more ws distinct extends knows few = omega (arith, few, no_more_names names more ws distinct extends knows)
-
--- The names after two lots of writes are known to the dictionary that learns the one and then the other.
-pub few_together : (names : List Name) (us vs : List Write) → IsDistinct bytes_eq names → AreFew (names_after (names_after names us) vs) → AreFew (names_after names (us ++ vs))
-few_together names us vs distinct few =
+-- the names after two lots of writes are known to the dictionary that learns the one and then the other
+pub no_more_together : (names : List Name) (us vs : List Write) → IsDistinct bytes_eq names → length (names_after names (us ++ vs)) ≤ length (names_after (names_after names us) vs)
+no_more_together names us vs distinct =
     let first = names_after names us in
     let all = names_after first vs in
-    few_names names all (us ++ vs) distinct (Extends-trans all first names (Extends-names_after first vs) (Extends-names_after names us))
-    (KnowsLeft-append all us vs (KnowsLeft-Extends all first us (Extends-names_after first vs) (knows-left names us)) (knows-left first vs)) few
+    no_more_names names all (us ++ vs) distinct (Extends-trans all first names (Extends-names_after first vs) (Extends-names_after names us))
+    (KnowsLeft-append all us vs (KnowsLeft-Extends all first us (Extends-names_after first vs) (knows-left names us)) (knows-left first vs))
