@@ -1,5 +1,5 @@
 -- A run of a list may be replaced by its merge.
-use Rattle.std.proofs.Common.{◌≡◌, ℕ, Bool, true, false, List, [], ◌∷◌, ◌++◌, length, take, drop, sym, ap, ◌∙◌, subst, arith, append_assoc, filter, ◌+◌, ◌≤◌}
+use Rattle.std.proofs.Common.{◌≡◌, ℕ, Bool, true, false, List, [], ◌∷◌, ◌++◌, length, take, drop, sym, ap, ◌∙◌, subst, arith, append_assoc, filter, ◌+◌, ◌≤◌, inl, inr}
 use Rattle.std.specs.Prelude.{◌==◌, if◌then◌else◌, All, fold, Option}
 use Rattle.std.proofs.lemmas.List.{take-append-drop, take-append-le, drop-append-le, length-drop}
 use Rattle.std.proofs.lemmas.List.Elements.{All-nil, All-head, All-tail, All-filter}
@@ -9,11 +9,12 @@ use Rattle.tc_model.proofs.KeyedOrder.{All-with_value}
 use Rattle.tc_schema_model.specs.Counted.{nothing}
 use Rattle.tc_plain_model.specs.Writes.{Pairs, Write, after_writes}
 use Rattle.tc_lsm_model.specs.Contents.{Partition, Content, IsEntry, IsContent}
-use Rattle.tc_lsm_model.specs.Lists.{held_over, live, newest_names, names_of, newest_schema, schema_of, last_after, last_of, GoesOn, GoOn, IsList}
+use Rattle.tc_lsm_model.specs.Lists.{Covers, held_over, live, newest_names, names_of, newest_schema, schema_of, last_after, last_of, GoesOn, GoOn, IsList}
 use Rattle.tc_lsm_model.specs.Tables.{Table}
 use Rattle.tc_lsm_model.specs.Flushes.{IsFlush}
 use Rattle.tc_lsm_model.specs.Merges.{Run, before_run, in_run, behind_run, swapped, entries_of, last_entries, merged_entries, IsMerge}
 use Rattle.tc_lsm_model.proofs.ListLaws.{held_over-append, last_after-append, newest_names-append, newest_schema-append, GoOn-append, GoOn-front, GoOn-back, last_after-grows, nothing_before, Ascends-live, one_content}
+use Rattle.tc_lsm_model.proofs.Covering.{Covers-back, Covers-either, Covers-front, covered_within}
 use Rattle.tc_lsm_model.proofs.ListNewest.{newest_here, newest_after}
 use Rattle.tc_lsm_model.proofs.ListNames.{Extends-newest, entries_in}
 use Rattle.tc_lsm_model.proofs.MergedEntries.{is_live, Ascends-merged, after-merged}
@@ -69,15 +70,38 @@ merged_goes_on part g p ns run c all up none is =
 
 -- ---- the merge in a list
 
--- a list that stands for another
-pub record Replaces (part : Partition) (old new : List Content) : Type 0 where
+-- a list that stands for another, with a merge in place of its run
+pub record Replaces (part : Partition) (old new : List Content) (c : Content) : Type 0 where
   pub list : IsList part new
   pub live : live new ≡ live old
   pub names : names_of new ≡ names_of old
   pub schema : schema_of new ≡ schema_of old
   pub last : last_of new ≡ last_of old
+  pub covers : (from to : ℕ) → Covers old from to → Covers new from to
+  pub covered : Covers new c.from c.to
+  pub content : IsContent c
+  pub here : c.part ≡ part
 
-replaced : (part : Partition) (xs run ys : List Content) (c : Content) → IsList part (xs ++ (run ++ ys)) → IsMerge run c → Replaces part (xs ++ (run ++ ys)) (xs ++ c ∷ ys)
+-- the merge covers what its run did
+covers_run : (part : Partition) (xs run ys : List Content) (c : Content) → IsList part (xs ++ (run ++ ys)) → IsMerge run c → (from to : ℕ) → Covers (xs ++ (run ++ ys)) from to → Covers (xs ++ c ∷ ys) from to
+covers_run part xs run ys c all is from to covered = elim (Covers-either xs (run ++ ys) from to covered) [
+  | inl in_front ↦ Covers-front xs (c ∷ ys) from to in_front
+  | inr further ↦ elim (Covers-either run ys from to further) [
+    | inl inside ↦ Covers-back xs (c ∷ ys) from to (inl (merged (subst (λ r. GoOn part (last_of xs) (live xs) (names_of xs) r) is.is mid) (subst (λ r. Covers r from to) is.is inside)))
+    | inr behind ↦ Covers-back xs (c ∷ ys) from to (inr behind)
+  ]
+]
+  where
+    mid : GoOn part (last_of xs) (live xs) (names_of xs) run
+    mid = GoOn-front part (last_of xs) (live xs) (names_of xs) run ys (GoOn-back part 0 [] [] xs (run ++ ys) all)
+
+    merged : GoOn part (last_of xs) (live xs) (names_of xs) (is.first ∷ is.others) → Covers (is.first ∷ is.others) from to → (c.from ≤ from) × (to ≤ c.to)
+    merged goes inside =
+        let within = covered_within part (last_of xs) (live xs) (names_of xs) (is.first ∷ is.others) from to goes inside in
+        let ends : c.to ≡ last_after is.first.to is.others = is.to ∙ ap last_of is.is in
+        (omega (arith, is.from, goes.0.next, within.0), omega (arith, ends, within.1))
+
+replaced : (part : Partition) (xs run ys : List Content) (c : Content) → IsList part (xs ++ (run ++ ys)) → IsMerge run c → Replaces part (xs ++ (run ++ ys)) (xs ++ c ∷ ys) c
 replaced part xs run ys c all is =
     let front : IsList part xs = GoOn-front part 0 [] [] xs (run ++ ys) all in
     let rest : GoOn part (last_of xs) (live xs) (names_of xs) (run ++ ys) = GoOn-back part 0 [] [] xs (run ++ ys) all in
@@ -94,14 +118,18 @@ replaced part xs run ys c all is =
       names = newest_names-append [] xs (c ∷ ys) ∙ ap (λ ns. newest_names ns ys) names ∙ sym (newest_names-append (names_of xs) run ys) ∙ sym (newest_names-append [] xs (run ++ ys));
       schema = newest_schema-append nothing xs (c ∷ ys) ∙ ap (λ d. newest_schema d ys) schema ∙ sym (newest_schema-append (schema_of xs) run ys) ∙ sym (newest_schema-append nothing xs (run ++ ys));
       last = last_after-append 0 xs (c ∷ ys) ∙ ap (λ g. last_after g ys) to ∙ sym (last_after-append (last_of xs) run ys) ∙ sym (last_after-append 0 xs (run ++ ys));
+      covers = covers_run part xs run ys c all is;
+      covered = Covers-back xs (c ∷ ys) c.from c.to (inl (omega arith, omega arith));
+      content = goes.0.content;
+      here = goes.0.here;
     }
 
-split_at_run : (run : Run) (cs : List Content) → before_run run cs ++ (in_run run cs ++ behind_run run cs) ≡ cs
+pub split_at_run : (run : Run) (cs : List Content) → before_run run cs ++ (in_run run cs ++ behind_run run cs) ≡ cs
 split_at_run run cs = ap (λ rest. take run.first cs ++ rest) (take-append-drop run.length (drop run.first cs)) ∙ take-append-drop run.first cs
 
-pub swapped_replaces : (part : Partition) (run : Run) (cs : List Content) (c : Content) → IsList part cs → IsMerge (in_run run cs) c → Replaces part cs (swapped run c cs)
+pub swapped_replaces : (part : Partition) (run : Run) (cs : List Content) (c : Content) → IsList part cs → IsMerge (in_run run cs) c → Replaces part cs (swapped run c cs) c
 swapped_replaces part run cs c all is =
-    subst (λ old. Replaces part old (swapped run c cs)) (split_at_run run cs)
+    subst (λ old. Replaces part old (swapped run c cs) c) (split_at_run run cs)
     (replaced part (before_run run cs) (in_run run cs) (behind_run run cs) c (subst (IsList part) (sym (split_at_run run cs)) all) is)
 
 -- a flush behind the list is one behind it then

@@ -1,5 +1,5 @@
 -- The components of a partition as a list, of which the oldest comes first: what it holds, and which lists are lawful.
-use Rattle.std.specs.Prelude.{◌≡◌, ◌<◌, ◌^◌, ◌+◌, ℕ, List, [], ◌∷◌, length, Option, None}
+use Rattle.std.specs.Prelude.{◌≡◌, ◌<◌, ◌≤◌, ◌^◌, ◌+◌, ◌⊎◌, ℕ, List, [], ◌∷◌, length, Option, None}
 use Rattle.std.specs.Option.{option_or}
 use Rattle.tc_model.specs.Document.{Name, Document}
 use Rattle.tc_model.specs.Dictionary.{Extends}
@@ -47,6 +47,11 @@ schema_of cs = newest_schema nothing cs
 
 abbrev pub last_of : List Content → ℕ
 last_of cs = last_after 0 cs
+
+-- the generations lie within those of one of these contents
+abbrev pub Covers : List Content → ℕ → ℕ → Type 0
+Covers [] from to = ⊥
+Covers (c ∷ cs) from to = ((c.from ≤ from) × (to ≤ c.to)) ⊎ Covers cs from to
 
 -- ---- lawful lists
 

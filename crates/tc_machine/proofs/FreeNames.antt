@@ -11,8 +11,9 @@ use Rattle.tc_machine.specs.Components.{file_of}
 use Rattle.tc_machine.specs.Kept.{IsKept, MergeFits}
 use Rattle.tc_machine.specs.State.{Flushing, Merging, Sealed, State, flush_name, flushing_of, next_generation, sealed_logs}
 use Rattle.tc_machine.specs.Steps.{IsExpected, IsOfFlush, IsOfMerge}
-use Rattle.tc_machine.proofs.Covering.{covered_within, merge_not_covered, uncovered_apart}
-use Rattle.tc_machine.proofs.Targets.{FlushTarget, MergeTarget, flush_target, merge_target}
+use Rattle.tc_lsm_model.proofs.Covering.{covered_within}
+use Rattle.tc_lsm_model.proofs.MergedGenerations.{merge_not_covered}
+use Rattle.tc_machine.proofs.Targets.{FlushTarget, MergeTarget, flush_target, merge_target, uncovered_apart}
 
 -- what is not there is none
 pub none_there : (e : Entry) → (IsThere e → ⊥) → (before : Option (List ℕ)) × (e ≡ none before)

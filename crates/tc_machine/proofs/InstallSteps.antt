@@ -6,7 +6,7 @@ use Rattle.std.proofs.lemmas.List.Elements.{All-nil, All-cons, All-append}
 use Rattle.tc_plain_model.specs.Store.{names_after}
 use Rattle.tc_lsm_model.specs.Contents.{Content, Partition}
 use Rattle.tc_lsm_model.specs.Flushes.{IsFlush}
-use Rattle.tc_lsm_model.specs.Lists.{last_of, live, names_of}
+use Rattle.tc_lsm_model.specs.Lists.{Covers, last_of, live, names_of}
 use Rattle.tc_lsm_model.specs.Merges.{Run, before_run, behind_run, in_run, swapped}
 use Rattle.tc_lsm_model.specs.Tables.{Table, writes_of}
 use Rattle.tc_store.specs.Disk.{Disk, MayLeaveAt}
@@ -14,14 +14,15 @@ use Rattle.tc_store.specs.Gate.{is_open_file}
 use Rattle.tc_store.specs.Images.{Image}
 use Rattle.tc_store.specs.declared.file_name.FileName.{FileName}
 use Rattle.tc_store.specs.declared.file_name.FileName.TheVariants.{Component, Log}
-use Rattle.tc_machine.specs.Components.{Covers, HasComponentHead, IsStillComponent, LeavesComponent, file_of}
+use Rattle.tc_machine.specs.Components.{HasComponentHead, IsStillComponent, LeavesComponent, file_of}
 use Rattle.tc_machine.specs.Events.{flush_installed, merge_installed, step}
 use Rattle.tc_machine.specs.Kept.{IsKept}
 use Rattle.tc_machine.specs.Sound.{Flushes, IsExplained, LeavesActive, LeavesLogs, LeavesOf}
 use Rattle.tc_machine.specs.State.{Flushing, Merging, Sealed, State, active_generation, active_logs, flush_name, next_generation, sealed_logs}
 use Rattle.tc_machine.specs.Steps.{InstallsFlush, InstallsMerge, IsExpected, IsFlushed, IsShutOrHas, nothing_held}
 use Rattle.tc_machine.proofs.ComponentHeads.{component_has_head}
-use Rattle.tc_machine.proofs.Covering.{Covers-back, Covers-front, Replaces, cut_at_run, swapped_replaces}
+use Rattle.tc_lsm_model.proofs.Covering.{Covers-back, Covers-front}
+use Rattle.tc_lsm_model.proofs.MergeLaws.{Replaces, split_at_run, swapped_replaces}
 use Rattle.tc_machine.proofs.FilesMade.{log_there}
 use Rattle.tc_machine.proofs.MemorySteps.{flush_installed_memory, flushing, flushing_is, installed_last, merge_installed_memory, merging}
 use Rattle.tc_machine.proofs.Options.{All-back, All-front, if_some_map}
@@ -105,7 +106,7 @@ flush_installed_keeps part s c k m =
 
 pub All-swapped : (P : Content → Type 0) (run : Run) (c : Content) (cs : List Content) → All P cs → P c → All P (swapped run c cs)
 All-swapped P run c cs all one =
-    let split : All P (before_run run cs ++ (in_run run cs ++ behind_run run cs)) = subst (λ l. All P l) (cut_at_run run cs) all in
+    let split : All P (before_run run cs ++ (in_run run cs ++ behind_run run cs)) = subst (λ l. All P l) (sym (split_at_run run cs)) all in
     All-append P (before_run run cs) (c ∷ behind_run run cs) (All-front P (before_run run cs) (in_run run cs ++ behind_run run cs) split)
     (All-cons P c (behind_run run cs) one (All-back P (in_run run cs) (behind_run run cs) (All-back P (before_run run cs) (in_run run cs ++ behind_run run cs) split)))
 

@@ -1,5 +1,4 @@
 pub mod Options
-pub mod Covering
 pub mod Holding
 pub mod Targets
 pub mod LogHeads

@@ -16,7 +16,8 @@ use Rattle.tc_lsm_model.specs.Merges.{IsMerge, Run, in_run, swapped}
 use Rattle.tc_lsm_model.specs.Tables.{over, shape_in, table_over, table_with, writes_of}
 use Rattle.tc_lsm_model.proofs.FlushLaws.{flushed_list, flushed_live, last_of-push, names_of-push}
 use Rattle.tc_lsm_model.proofs.ListLaws.{Ascends-live}
-use Rattle.tc_lsm_model.proofs.MergeLaws.{in_run-append}
+use Rattle.tc_lsm_model.proofs.MergeLaws.{Replaces, in_run-append, swapped_replaces}
+use Rattle.tc_lsm_model.proofs.MergedGenerations.{merge_not_covered}
 use Rattle.tc_store.specs.Disk.{Disk, Picture}
 use Rattle.tc_machine.specs.Components.{file_of}
 use Rattle.tc_machine.specs.Events.{committed, flush_installed, frame_committed, frame_started, merge_installed, opened, part_started, rebased, replayed, sealed_by, snapshot_taken, step, table_sealed}
@@ -27,11 +28,10 @@ use Rattle.tc_machine.specs.Sound.{IsFlushOf}
 use Rattle.tc_machine.specs.State.{Active, Flushing, Merging, Sealed, State, active_logs, active_table, below_active, flushing_of, frame_writes, history, logs, names_held, no_writes, sealed_logs, sealed_table, table_after}
 use Rattle.tc_machine.specs.Steps.{StartsFrame}
 use Rattle.tc_machine.specs.Writes.{AreFew, HasRoom, IsStorableWrite}
-use Rattle.tc_machine.proofs.Covering.{Replaces, merge_not_covered, swapped_replaces, uncovered_apart}
 use Rattle.tc_machine.proofs.Holding.{all_writes-append, all_writes-one, holds, sealed_holds}
 use Rattle.tc_lsm_model.proofs.WrittenNames.{names_after-table}
 use Rattle.tc_machine.proofs.Options.{All-back, if_some_at, if_some_map}
-use Rattle.tc_machine.proofs.Targets.{MergeTarget, file_from, merge_target}
+use Rattle.tc_machine.proofs.Targets.{MergeTarget, file_from, merge_target, uncovered_apart}
 
 -- the files, and whether something failed, make no difference
 pub same_memory : (part : Partition) (s : State) (files : Disk) (making failed : Bool) → IsMemoryKept part s → IsMemoryKept part (record s { files = files; making = making; failed = failed })

@@ -6,11 +6,11 @@ use Rattle.std.proofs.lemmas.List.Elements.{All-nil, All-cons, All-head, All-tai
 use Rattle.tc_model.specs.Document.{Name}
 use Rattle.tc_plain_model.specs.Writes.{Pairs, Write, after_writes}
 use Rattle.tc_lsm_model.specs.Contents.{Content, Partition}
-use Rattle.tc_lsm_model.specs.Lists.{GoOn, last_of}
+use Rattle.tc_lsm_model.specs.Lists.{Covers, GoOn, last_of}
 use Rattle.tc_store.specs.Disk.{Picture, bytes_at}
 use Rattle.tc_store.specs.Images.{Image}
 use Rattle.tc_component.specs.Rows.{IsComponent}
-use Rattle.tc_machine.specs.Components.{Covers, LeavesComponent, file_of}
+use Rattle.tc_machine.specs.Components.{LeavesComponent, file_of}
 use Rattle.tc_machine.specs.Kept.{IsKept}
 use Rattle.tc_machine.specs.Logs.{IsLog, all_writes}
 use Rattle.tc_machine.specs.Pictures.{HasLogs, Opens, recovered}
@@ -19,7 +19,7 @@ use Rattle.tc_machine.specs.State.{State, stored_in}
 use Rattle.tc_machine.specs.Steps.{Stops}
 use Rattle.tc_machine.specs.Writes.{IsStorableWrite}
 use Rattle.tc_machine.proofs.ComponentHeads.{component_is_open}
-use Rattle.tc_machine.proofs.Covering.{covered_within}
+use Rattle.tc_lsm_model.proofs.Covering.{covered_within}
 use Rattle.tc_machine.proofs.KeptWrites.{logs_mean_one}
 use Rattle.tc_machine.proofs.LogHeads.{log_is_open}
 use Rattle.tc_machine.proofs.Options.{All-back, All-front}

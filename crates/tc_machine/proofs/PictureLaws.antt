@@ -9,7 +9,7 @@ use Rattle.tc_plain_model.specs.Writes.{Pairs, Write, after_writes}
 use Rattle.tc_plain_model.proofs.WriteLaws.{after_writes-append}
 use Rattle.tc_lsm_model.specs.Contents.{Content, Partition}
 use Rattle.tc_lsm_model.specs.Flushes.{IsFlush}
-use Rattle.tc_lsm_model.specs.Lists.{IsList, last_of, live, names_of}
+use Rattle.tc_lsm_model.specs.Lists.{Covers, IsList, last_of, live, names_of}
 use Rattle.tc_lsm_model.specs.Merges.{swapped}
 use Rattle.tc_lsm_model.specs.Tables.{over, table_over, writes_of}
 use Rattle.tc_lsm_model.proofs.FlushLaws.{flushed_list}
@@ -21,7 +21,7 @@ use Rattle.tc_store.specs.Images.{Image}
 use Rattle.tc_store.specs.declared.file_name.FileName.{FileName}
 use Rattle.tc_store.specs.declared.file_name.FileName.TheVariants.{Component, Log}
 use Rattle.tc_component.specs.Rows.{IsComponent}
-use Rattle.tc_machine.specs.Components.{Covers, HasComponentHead, LeavesComponent, file_of}
+use Rattle.tc_machine.specs.Components.{HasComponentHead, LeavesComponent, file_of}
 use Rattle.tc_machine.specs.Kept.{IsKept, MergeFits}
 use Rattle.tc_machine.specs.Logs.{HasLogHead, IsLog, LeavesLog, all_writes}
 use Rattle.tc_machine.specs.Pictures.{HasLogs, IfOpen, Recovers, recovered}
@@ -30,7 +30,8 @@ use Rattle.tc_machine.specs.State.{Active, Flushing, Merging, Sealed, State, act
 use Rattle.tc_machine.specs.Steps.{IsFlushed, IsShutOrHas, nothing_held}
 use Rattle.tc_machine.specs.Writes.{AreFew, HasRoom, IsStorableWrite}
 use Rattle.tc_machine.proofs.ComponentHeads.{component_has_head}
-use Rattle.tc_machine.proofs.Covering.{Covers-back, Covers-front, Replaces, swapped_replaces}
+use Rattle.tc_lsm_model.proofs.Covering.{Covers-back, Covers-front}
+use Rattle.tc_lsm_model.proofs.MergeLaws.{Replaces, swapped_replaces}
 use Rattle.tc_machine.proofs.FilesMade.{closed_or_open, log_there}
 use Rattle.tc_machine.proofs.Holding.{all_writes-append, all_writes-one, sealed_is}
 use Rattle.tc_machine.proofs.InstallSteps.{All-swapped, IsFlush-same, flushed_head}

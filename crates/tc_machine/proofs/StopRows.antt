@@ -9,7 +9,7 @@ use Rattle.tc_schema_model.specs.Counted.{nothing}
 use Rattle.tc_schema_model.proofs.ValueBounds.{nothing_stands}
 use Rattle.tc_plain_model.specs.Writes.{Write, set}
 use Rattle.tc_lsm_model.specs.Contents.{Content, IsEntry, IsContent}
-use Rattle.tc_lsm_model.specs.Lists.{IsList}
+use Rattle.tc_lsm_model.specs.Lists.{Covers, IsList}
 use Rattle.tc_lsm_model.specs.Rows.{one_of_one, flag, flag_content}
 use Rattle.tc_store.specs.declared.file_name.FileName.{FileName}
 use Rattle.tc_store.specs.declared.file_name.FileName.TheVariants.{Component, Log}
@@ -23,7 +23,7 @@ use Rattle.tc_log.specs.Spelling.{frame_fields, log_bytes}
 use Rattle.tc_component.specs.Rows.{component_bytes, IsShortWrite, IsComponent}
 use Rattle.tc_machine.specs.Writes.{IsStorableWrite}
 use Rattle.tc_machine.specs.Logs.{log_head, IsLog, HasLogHead}
-use Rattle.tc_machine.specs.Components.{file_of, Covers, LeavesComponent, HasComponentHead}
+use Rattle.tc_machine.specs.Components.{file_of, LeavesComponent, HasComponentHead}
 use Rattle.tc_machine.specs.Pictures.{IfOpen, Opens, recovered}
 use Rattle.tc_machine.proofs.ComponentHeads.{component_has_head}
 use Rattle.tc_machine.proofs.LogHeads.{log_has_head, new_log}

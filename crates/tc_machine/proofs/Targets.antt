@@ -1,16 +1,17 @@
 -- The generations of logs, and of what jobs make.
-use Rattle.std.proofs.Common.{◌≡◌, ◌≢◌, ◌<◌, ◌≤◌, ◌+◌, ℕ, List, [], length, refl, subst, arith, Option, Some, None, length-append}
+use Rattle.std.proofs.Common.{◌≡◌, ◌≢◌, ◌<◌, ◌≤◌, ◌+◌, ℕ, List, [], ◌∷◌, length, refl, subst, arith, inl, inr, Option, Some, None, length-append}
 use Rattle.std.specs.Prelude.{All}
-use Rattle.std.proofs.lemmas.List.Elements.{All-weaker}
+use Rattle.std.proofs.lemmas.List.Elements.{All-nil, All-cons, All-weaker}
 use Rattle.tc_lsm_model.specs.Contents.{Content, Partition}
-use Rattle.tc_lsm_model.specs.Lists.{IsList, last_of}
+use Rattle.tc_lsm_model.specs.Lists.{Covers, IsList, last_of}
 use Rattle.tc_lsm_model.specs.Merges.{swapped}
 use Rattle.tc_store.specs.declared.file_name.FileName.TheVariants.{Component, Log}
 use Rattle.tc_machine.specs.Components.{file_of}
 use Rattle.tc_machine.specs.Kept.{MergeFits}
 use Rattle.tc_machine.specs.Sound.{IsFlushOf}
 use Rattle.tc_machine.specs.State.{Active, Flushing, Merging, Sealed, State, active_generation, active_logs, next_generation, sealed_logs}
-use Rattle.tc_machine.proofs.Covering.{Replaces, covered_within, ends_within, swapped_replaces}
+use Rattle.tc_lsm_model.proofs.Covering.{covered_within, ends_within}
+use Rattle.tc_lsm_model.proofs.MergeLaws.{Replaces, swapped_replaces}
 
 pub length-active : (active : Option Active) (d : Active) → active ≡ Some d → length (active_logs active) ≡ 1
 length-active active d is = rw is refl
@@ -34,6 +35,18 @@ beyond_list part cs from to all beyond =
   where
     first_of : (x : Content) → file_of x ≡ Component from to → x.from ≡ from
     first_of x e = cc
+
+-- where the generations of a name are not covered, no content has the name
+pub uncovered_apart : (cs : List Content) (from to : ℕ) → (Covers cs from to → ⊥) → All (λ c. file_of c ≢ Component from to) cs
+uncovered_apart [] from to never = All-nil (λ c. file_of c ≢ Component from to)
+uncovered_apart (c ∷ cs) from to never =
+    All-cons (λ c. file_of c ≢ Component from to) c cs (λ same. never (inl (omega (arith, first same), omega (arith, last same)))) (uncovered_apart cs from to (λ further. never (inr further)))
+  where
+    first : file_of c ≡ Component from to → c.from ≡ from
+    first e = cc
+
+    last : file_of c ≡ Component from to → c.to ≡ to
+    last e = cc
 
 pub record FlushTarget (cs : List Content) (sealed : Option Sealed) (j : Flushing) : Type 0 where
   pub table : Sealed

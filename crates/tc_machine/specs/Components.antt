@@ -1,5 +1,5 @@
--- The component files of a partition: their names, and which intervals of generations they cover.
-use Rattle.std.specs.Prelude.{◌≡◌, ◌≤◌, ◌<◌, ◌⊎◌, ℕ, List, [], ◌∷◌, ◌++◌, length, Some, None}
+-- The component files of a partition: their names, and what they hold.
+use Rattle.std.specs.Prelude.{◌≡◌, ◌<◌, ℕ, List, ◌∷◌, ◌++◌, length, Some, None}
 use Rattle.tc_store.specs.declared.file_name.FileName.{FileName}
 use Rattle.tc_store.specs.declared.file_name.FileName.TheVariants.{Component}
 use Rattle.tc_store.specs.Disk.{Entry, still}
@@ -13,11 +13,6 @@ use Rattle.tc_component.specs.Rows.{IsComponent}
 
 abbrev pub file_of : Content → FileName
 file_of c = Component c.from c.to
-
--- the generations lie within those of one of these contents
-abbrev pub Covers : List Content → ℕ → ℕ → Type 0
-Covers [] from to = ⊥
-Covers (c ∷ cs) from to = ((c.from ≤ from) × (to ≤ c.to)) ⊎ Covers cs from to
 
 -- there is the component of this content
 abbrev pub LeavesComponent : Content → Image → Type 0

@@ -7,10 +7,10 @@ use Rattle.tc_store.specs.Gate.{is_open_file}
 use Rattle.tc_plain_model.specs.Writes.{Pairs, Write}
 use Rattle.tc_plain_model.specs.Store.{Store, reopened}
 use Rattle.tc_lsm_model.specs.Contents.{Partition, Content}
-use Rattle.tc_lsm_model.specs.Lists.{live, names_of, last_of, IsList}
+use Rattle.tc_lsm_model.specs.Lists.{Covers, live, names_of, last_of, IsList}
 use Rattle.tc_machine.specs.Writes.{IsStorableWrite, HasRoom, AreFew}
 use Rattle.tc_machine.specs.Logs.{IsLog, HasLogHead, all_writes}
-use Rattle.tc_machine.specs.Components.{file_of, Covers, LeavesComponent, HasComponentHead}
+use Rattle.tc_machine.specs.Components.{file_of, LeavesComponent, HasComponentHead}
 
 -- what is stored in components and in the logs above them
 abbrev pub recovered : List Content → List (List Write) → Store

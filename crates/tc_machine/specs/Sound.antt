@@ -7,12 +7,12 @@ use Rattle.tc_store.specs.Gate.{is_open_file}
 use Rattle.tc_store.specs.Images.{Image}
 use Rattle.tc_plain_model.specs.Writes.{Pairs, Write, after_writes}
 use Rattle.tc_lsm_model.specs.Contents.{Partition, Content}
-use Rattle.tc_lsm_model.specs.Lists.{live, last_of, IsList}
+use Rattle.tc_lsm_model.specs.Lists.{Covers, live, last_of, IsList}
 use Rattle.tc_lsm_model.specs.Tables.{KeepsShapes}
 use Rattle.tc_lsm_model.specs.Merges.{in_run, IsMerge}
 use Rattle.tc_component.specs.Rows.{IsComponent}
 use Rattle.tc_machine.specs.Logs.{IsLog, LeavesLog, HasLogHead, all_writes}
-use Rattle.tc_machine.specs.Components.{file_of, Covers, LeavesComponent, IsStillComponent, HasComponentHead}
+use Rattle.tc_machine.specs.Components.{file_of, LeavesComponent, IsStillComponent, HasComponentHead}
 use Rattle.tc_machine.specs.Pictures.{Opens, Recovers}
 use Rattle.tc_machine.specs.State.{Sealed, Flushing, flush_name, Merging, State, sealed_table, sealed_logs, active_table, history, stored_in, below_active, held, held_in, active_generation, next_generation}
 use Rattle.tc_machine.specs.Events.{Event, opened}

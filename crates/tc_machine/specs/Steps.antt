@@ -9,13 +9,13 @@ use Rattle.tc_store.specs.Images.{Image}
 use Rattle.tc_store.specs.Moments.{LeavesAt}
 use Rattle.tc_plain_model.specs.Writes.{Write, after_writes}
 use Rattle.tc_lsm_model.specs.Contents.{Partition, Content}
-use Rattle.tc_lsm_model.specs.Lists.{last_of}
+use Rattle.tc_lsm_model.specs.Lists.{Covers, last_of}
 use Rattle.tc_lsm_model.specs.Flushes.{IsFlush}
 use Rattle.tc_lsm_model.specs.Merges.{Run, in_run, IsMerge}
 use Rattle.tc_component.specs.Rows.{IsComponent}
 use Rattle.tc_machine.specs.Writes.{IsStorableWrite, HasRoom, AreFew}
 use Rattle.tc_machine.specs.Logs.{IsLog, LeavesLog}
-use Rattle.tc_machine.specs.Components.{file_of, Covers, IsStillComponent}
+use Rattle.tc_machine.specs.Components.{file_of, IsStillComponent}
 use Rattle.tc_machine.specs.Pictures.{Opens}
 use Rattle.tc_machine.specs.State.{Sealed, Active, Flushing, flush_name, Merging, State, held, names_held, active_generation, next_generation, flushing_of}
 use Rattle.tc_machine.specs.Events.{Event, frame_started, frame_committed, table_sealed, part_started, flush_begun, flush_installed, merge_begun, merge_installed, part_failed, log_made, file_wasted, device_called, file_frozen, file_removed, snapshot_taken, stopped}
