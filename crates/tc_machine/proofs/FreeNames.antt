@@ -5,14 +5,14 @@ use Rattle.std.proofs.lemmas.Bool.{true≢false}
 use Rattle.tc_lsm_model.specs.Contents.{Content, Partition}
 use Rattle.tc_lsm_model.specs.Lists.{last_of}
 use Rattle.tc_lsm_model.specs.Merges.{IsMerge, Run, in_run}
+use Rattle.tc_lsm_model.proofs.Covering.{covered_within}
+use Rattle.tc_lsm_model.proofs.MergedGenerations.{merge_not_covered}
 use Rattle.tc_store.specs.Disk.{Entry, IsThere, home, none, out, still}
 use Rattle.tc_store.specs.declared.file_name.FileName.TheVariants.{Log}
 use Rattle.tc_machine.specs.Components.{file_of}
 use Rattle.tc_machine.specs.Kept.{IsKept, MergeFits}
 use Rattle.tc_machine.specs.State.{Flushing, Merging, Sealed, State, flush_name, flushing_of, next_generation, sealed_logs}
 use Rattle.tc_machine.specs.Steps.{IsExpected, IsOfFlush, IsOfMerge}
-use Rattle.tc_lsm_model.proofs.Covering.{covered_within}
-use Rattle.tc_lsm_model.proofs.MergedGenerations.{merge_not_covered}
 use Rattle.tc_machine.proofs.Targets.{FlushTarget, MergeTarget, flush_target, merge_target, uncovered_apart}
 
 -- what is not there is none

@@ -9,6 +9,8 @@ use Rattle.tc_lsm_model.specs.Flushes.{IsFlush}
 use Rattle.tc_lsm_model.specs.Lists.{Covers, last_of, live, names_of}
 use Rattle.tc_lsm_model.specs.Merges.{Run, before_run, behind_run, in_run, swapped}
 use Rattle.tc_lsm_model.specs.Tables.{Table, writes_of}
+use Rattle.tc_lsm_model.proofs.Covering.{Covers-back, Covers-front}
+use Rattle.tc_lsm_model.proofs.MergeLaws.{Replaces, split_at_run, swapped_replaces}
 use Rattle.tc_store.specs.Disk.{Disk, MayLeaveAt}
 use Rattle.tc_store.specs.Gate.{is_open_file}
 use Rattle.tc_store.specs.Images.{Image}
@@ -21,8 +23,6 @@ use Rattle.tc_machine.specs.Sound.{Flushes, IsExplained, LeavesActive, LeavesLog
 use Rattle.tc_machine.specs.State.{Flushing, Merging, Sealed, State, active_generation, active_logs, flush_name, next_generation, sealed_logs}
 use Rattle.tc_machine.specs.Steps.{InstallsFlush, InstallsMerge, IsExpected, IsFlushed, IsShutOrHas, nothing_held}
 use Rattle.tc_machine.proofs.ComponentHeads.{component_has_head}
-use Rattle.tc_lsm_model.proofs.Covering.{Covers-back, Covers-front}
-use Rattle.tc_lsm_model.proofs.MergeLaws.{Replaces, split_at_run, swapped_replaces}
 use Rattle.tc_machine.proofs.FilesMade.{log_there}
 use Rattle.tc_machine.proofs.MemorySteps.{flush_installed_memory, flushing, flushing_is, installed_last, merge_installed_memory, merging}
 use Rattle.tc_machine.proofs.Options.{All-back, All-front, if_some_map}

@@ -4,6 +4,8 @@ use Rattle.std.specs.Prelude.{IfSome, IsSome}
 use Rattle.tc_lsm_model.specs.Contents.{Content, Partition}
 use Rattle.tc_lsm_model.specs.Lists.{Covers}
 use Rattle.tc_lsm_model.specs.Merges.{Run}
+use Rattle.tc_lsm_model.proofs.Covering.{covered_within}
+use Rattle.tc_lsm_model.proofs.MergedGenerations.{merge_not_covered}
 use Rattle.tc_store.specs.Disk.{IsThere, MayLeaveAt, none, put}
 use Rattle.tc_store.specs.Gate.{is_open_file}
 use Rattle.tc_store.specs.declared.file_name.FileName.{FileName}
@@ -15,8 +17,6 @@ use Rattle.tc_machine.specs.Kept.{IsKept, IsMemoryKept, MergeFits}
 use Rattle.tc_machine.specs.Sound.{AreFilesSound, IsExplained, IsFlushTarget, IsMergeTarget, LeavesOf}
 use Rattle.tc_machine.specs.State.{Flushing, Merging, Sealed, State, flush_name, flushing_of, sealed_logs}
 use Rattle.tc_machine.specs.Steps.{BeginsFlush, BeginsMerge, IsExpected, IsFlushed, IsOfFlush, IsOfMerge, IsShutOrHas, nothing_held}
-use Rattle.tc_lsm_model.proofs.Covering.{covered_within}
-use Rattle.tc_lsm_model.proofs.MergedGenerations.{merge_not_covered}
 use Rattle.tc_machine.proofs.FilesLeft.{at_name}
 use Rattle.tc_machine.proofs.FilesMade.{file_made_keeps, made_at}
 use Rattle.tc_machine.proofs.MemorySteps.{flush_begun_memory, merge_begun_memory, no_flush, same_memory}

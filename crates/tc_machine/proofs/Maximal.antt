@@ -6,13 +6,13 @@ use Rattle.tc_model.specs.Document.{Name}
 use Rattle.tc_plain_model.specs.Writes.{Pairs, Write, after_writes}
 use Rattle.tc_lsm_model.specs.Contents.{Content, Partition}
 use Rattle.tc_lsm_model.specs.Lists.{Covers, GoOn}
+use Rattle.tc_lsm_model.proofs.Covering.{covered_within}
 use Rattle.tc_store.specs.Disk.{Picture, bytes_at}
 use Rattle.tc_store.specs.Gate.{is_open_file}
 use Rattle.tc_store.specs.declared.file_name.FileName.TheVariants.{Component}
 use Rattle.tc_machine.specs.Components.{LeavesComponent, file_of}
 use Rattle.tc_machine.specs.Pictures.{IsListed, IsMaximal, Opens}
 use Rattle.tc_machine.proofs.ComponentHeads.{component_is_open}
-use Rattle.tc_lsm_model.proofs.Covering.{covered_within}
 use Rattle.tc_machine.proofs.OneWay.{component_at}
 
 maximal_listed : (picture : Picture) (cs : List Content) (from to : ℕ) → All (λ c. LeavesComponent c (bytes_at picture (file_of c))) cs → IsMaximal picture from to → Covers cs from to → IsListed cs from to

@@ -18,6 +18,7 @@ use Rattle.tc_lsm_model.proofs.FlushLaws.{flushed_list, flushed_live, last_of-pu
 use Rattle.tc_lsm_model.proofs.ListLaws.{Ascends-live}
 use Rattle.tc_lsm_model.proofs.MergeLaws.{Replaces, in_run-append, swapped_replaces}
 use Rattle.tc_lsm_model.proofs.MergedGenerations.{merge_not_covered}
+use Rattle.tc_lsm_model.proofs.WrittenNames.{names_after-table}
 use Rattle.tc_store.specs.Disk.{Disk, Picture}
 use Rattle.tc_machine.specs.Components.{file_of}
 use Rattle.tc_machine.specs.Events.{committed, flush_installed, frame_committed, frame_started, merge_installed, opened, part_started, rebased, replayed, sealed_by, snapshot_taken, step, table_sealed}
@@ -29,7 +30,6 @@ use Rattle.tc_machine.specs.State.{Active, Flushing, Merging, Sealed, State, act
 use Rattle.tc_machine.specs.Steps.{StartsFrame}
 use Rattle.tc_machine.specs.Writes.{AreFew, HasRoom, IsStorableWrite}
 use Rattle.tc_machine.proofs.Holding.{all_writes-append, all_writes-one, holds, sealed_holds}
-use Rattle.tc_lsm_model.proofs.WrittenNames.{names_after-table}
 use Rattle.tc_machine.proofs.Options.{All-back, if_some_at, if_some_map}
 use Rattle.tc_machine.proofs.Targets.{MergeTarget, file_from, merge_target, uncovered_apart}
 

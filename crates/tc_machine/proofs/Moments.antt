@@ -6,6 +6,7 @@ use Rattle.std.proofs.lemmas.Bool.{cases_Bool}
 use Rattle.std.proofs.lemmas.List.Elements.{All-head, All-tail}
 use Rattle.tc_plain_model.specs.Writes.{Write}
 use Rattle.tc_lsm_model.specs.Contents.{Content, Partition}
+use Rattle.tc_lsm_model.specs.Flushes.{IsFlush}
 use Rattle.tc_store.specs.Disk.{Disk, Entry, home, put, same_name}
 use Rattle.tc_store.specs.DiskFile.{DiskFile}
 use Rattle.tc_store.specs.Gate.{IsShutOrWhole}
@@ -22,7 +23,6 @@ use Rattle.tc_machine.specs.Runs.{Runs, after_moments, calls}
 use Rattle.tc_machine.specs.State.{State, Sealed}
 use Rattle.tc_machine.specs.Steps.{IsShutOrHas, LeavesWithOrWithout, MayCall, IsFlushed}
 use Rattle.tc_machine.proofs.LogHeads.{new_log}
-use Rattle.tc_lsm_model.specs.Flushes.{IsFlush}
 
 pub Runs-append : (part : Partition) (xs ys : List Event) (s t u : State) → Runs part s xs t → Runs part t ys u → Runs part s (xs ++ ys) u
 Runs-append part [] ys s t u one two = subst (λ x. Runs part x ys u) (sym one) two

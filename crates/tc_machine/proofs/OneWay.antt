@@ -7,6 +7,7 @@ use Rattle.tc_model.specs.Document.{Name}
 use Rattle.tc_plain_model.specs.Writes.{Pairs, Write, after_writes}
 use Rattle.tc_lsm_model.specs.Contents.{Content, Partition}
 use Rattle.tc_lsm_model.specs.Lists.{Covers, GoOn, last_of}
+use Rattle.tc_lsm_model.proofs.Covering.{covered_within}
 use Rattle.tc_store.specs.Disk.{Picture, bytes_at}
 use Rattle.tc_store.specs.Images.{Image}
 use Rattle.tc_component.specs.Rows.{IsComponent}
@@ -19,7 +20,6 @@ use Rattle.tc_machine.specs.State.{State, stored_in}
 use Rattle.tc_machine.specs.Steps.{Stops}
 use Rattle.tc_machine.specs.Writes.{IsStorableWrite}
 use Rattle.tc_machine.proofs.ComponentHeads.{component_is_open}
-use Rattle.tc_lsm_model.proofs.Covering.{covered_within}
 use Rattle.tc_machine.proofs.KeptWrites.{logs_mean_one}
 use Rattle.tc_machine.proofs.LogHeads.{log_is_open}
 use Rattle.tc_machine.proofs.Options.{All-back, All-front}

@@ -15,6 +15,9 @@ use Rattle.tc_lsm_model.specs.Tables.{over, table_over, writes_of}
 use Rattle.tc_lsm_model.proofs.FlushLaws.{flushed_list}
 use Rattle.tc_lsm_model.proofs.ListLaws.{Ascends-live, held_over-append, last_after-append, newest_names-append}
 use Rattle.tc_lsm_model.proofs.ListNewest.{newest_of_list}
+use Rattle.tc_lsm_model.proofs.Covering.{Covers-back, Covers-front}
+use Rattle.tc_lsm_model.proofs.MergeLaws.{Replaces, swapped_replaces}
+use Rattle.tc_lsm_model.proofs.WrittenNames.{names_after-table, names_of_table, no_more_together}
 use Rattle.tc_store.specs.Disk.{IsPictureOf, MayLeaveAt, Picture, bytes_at}
 use Rattle.tc_store.specs.Gate.{is_open_file}
 use Rattle.tc_store.specs.Images.{Image}
@@ -30,12 +33,9 @@ use Rattle.tc_machine.specs.State.{Active, Flushing, Merging, Sealed, State, act
 use Rattle.tc_machine.specs.Steps.{IsFlushed, IsShutOrHas, nothing_held}
 use Rattle.tc_machine.specs.Writes.{AreFew, HasRoom, IsStorableWrite}
 use Rattle.tc_machine.proofs.ComponentHeads.{component_has_head}
-use Rattle.tc_lsm_model.proofs.Covering.{Covers-back, Covers-front}
-use Rattle.tc_lsm_model.proofs.MergeLaws.{Replaces, swapped_replaces}
 use Rattle.tc_machine.proofs.FilesMade.{closed_or_open, log_there}
 use Rattle.tc_machine.proofs.Holding.{all_writes-append, all_writes-one, sealed_is}
 use Rattle.tc_machine.proofs.InstallSteps.{All-swapped, IsFlush-same, flushed_head}
-use Rattle.tc_lsm_model.proofs.WrittenNames.{names_after-table, names_of_table, no_more_together}
 use Rattle.tc_machine.proofs.LogHeads.{log_has_head}
 use Rattle.tc_machine.proofs.Options.{All-back, All-front, if_some_at}
 

@@ -5,13 +5,13 @@ use Rattle.std.proofs.lemmas.List.Elements.{All-nil, All-cons, All-weaker}
 use Rattle.tc_lsm_model.specs.Contents.{Content, Partition}
 use Rattle.tc_lsm_model.specs.Lists.{Covers, IsList, last_of}
 use Rattle.tc_lsm_model.specs.Merges.{swapped}
+use Rattle.tc_lsm_model.proofs.Covering.{covered_within, ends_within}
+use Rattle.tc_lsm_model.proofs.MergeLaws.{Replaces, swapped_replaces}
 use Rattle.tc_store.specs.declared.file_name.FileName.TheVariants.{Component, Log}
 use Rattle.tc_machine.specs.Components.{file_of}
 use Rattle.tc_machine.specs.Kept.{MergeFits}
 use Rattle.tc_machine.specs.Sound.{IsFlushOf}
 use Rattle.tc_machine.specs.State.{Active, Flushing, Merging, Sealed, State, active_generation, active_logs, next_generation, sealed_logs}
-use Rattle.tc_lsm_model.proofs.Covering.{covered_within, ends_within}
-use Rattle.tc_lsm_model.proofs.MergeLaws.{Replaces, swapped_replaces}
 
 pub length-active : (active : Option Active) (d : Active) → active ≡ Some d → length (active_logs active) ≡ 1
 length-active active d is = rw is refl
