@@ -1,7 +1,7 @@
 -- The events that freeze and remove a file, and the calls of a device.
 use Rattle.std.proofs.Common.{◌≡◌, ◌≢◌, ◌+◌, ℕ, true, List, [], ◌∷◌, refl, sym, ap, ◌∙◌, subst, arith, inl, inr, Option, Some, None}
 use Rattle.std.specs.Prelude.{All, IfSome}
-use Rattle.std.proofs.lemmas.Option.{same_Some}
+use Rattle.std.proofs.lemmas.Option.{same_Some, MatchOption-at_some}
 use Rattle.std.proofs.lemmas.List.Elements.{All-nil, All-cons, All-weaker}
 use Rattle.tc_plain_model.specs.Writes.{Write}
 use Rattle.tc_lsm_model.specs.Contents.{Content, Partition}
@@ -23,7 +23,7 @@ use Rattle.tc_machine.specs.Steps.{CallsDevice, FreezesFile, IsFlushed, IsShutOr
 use Rattle.tc_machine.proofs.FilesLeft.{LeavesLogs-put, LeavesOf-here, LeavesOf-other, at_name, put_other}
 use Rattle.tc_machine.proofs.FilesMade.{closed_or_open, log_there, put_fewer}
 use Rattle.tc_machine.proofs.OneFile.{IsUnneeded, put_unneeded}
-use Rattle.tc_machine.proofs.Options.{if_some_at, if_some_from, if_some_map}
+use Rattle.tc_machine.proofs.Options.{if_some_from, if_some_map}
 use Rattle.tc_machine.proofs.Targets.{FlushTarget, MergeTarget, active_below_next, beyond_list, file_not_log, flush_target, log_generation, merge_target}
 
 -- ---- frozen
@@ -77,10 +77,10 @@ file_removed_keeps part s name k m =
     (put_unneeded part s name (none (Some m.bytes)) k (spare_unneeded part s name m.bytes k m.still m.spare) (record {
       explained = λ b left is_open. k.others name b (subst (λ x. MayLeaveAt (nothing_held name) (s.files name) (Some x)) (same_Some m.bytes b left) (still_there part s name m.bytes m.still)) is_open;
       flush = λ j is same. removed_at name m.bytes (IsShutOrHas (IsFlushed part s.list s.sealed)) tt
-          (if_some_at (λ j. LeavesOf s.files (flush_name j) (IsShutOrHas (IsFlushed part s.list s.sealed))) s.flush j is k.flush_file (Some m.bytes)
+          (MatchOption-at_some _ (λ j. LeavesOf s.files (flush_name j) (IsShutOrHas (IsFlushed part s.list s.sealed))) j is k.flush_file (Some m.bytes)
           (subst (λ n. MayLeaveAt (nothing_held n) (s.files n) (Some m.bytes)) same (still_there part s name m.bytes m.still)));
       merge = λ j is same. removed_at name m.bytes (IsShutOrHas (IsComponent j.target)) tt
-          (if_some_at (λ m. LeavesOf s.files (file_of m.target) (IsShutOrHas (IsComponent m.target))) s.merge j is k.merge_file (Some m.bytes)
+          (MatchOption-at_some _ (λ m. LeavesOf s.files (file_of m.target) (IsShutOrHas (IsComponent m.target))) j is k.merge_file (Some m.bytes)
           (subst (λ n. MayLeaveAt (nothing_held n) (s.files n) (Some m.bytes)) same (still_there part s name m.bytes m.still)));
     }))
 
@@ -147,7 +147,7 @@ flush_called part s f j list is_flush fits merges k leaves =
     (record {
       explained = λ b left is_open. reason b is_open (leaves (Some b) left);
       flush = λ i is same image left. leaves image left;
-      merge = λ m is same. absurd (let e : MergeTarget s.list m = merge_target part s.list m list (if_some_at (MergeFits s.list) s.merge m is merges) in
+      merge = λ m is same. absurd (let e : MergeTarget s.list m = merge_target part s.list m list (MatchOption-at_some _ (MergeFits s.list) m is merges) in
           omega (arith, t.from, t.order, e.to, e.order, first_of j.from j.to m.target same));
     })
   where
@@ -165,7 +165,7 @@ pub merge_called : (part : Partition) (s : State) (f : DiskFile) (m : Merging) �
     → LeavesAt (IsShutOrHas (IsComponent m.target)) f
     → AreFilesSound part (record s { files = put (file_of m.target) (home f) s.files })
 merge_called part s f m list is_merge fits merges k leaves =
-    let fit : MergeFits s.list m = if_some_at (MergeFits s.list) s.merge m is_merge merges in
+    let fit : MergeFits s.list m = MatchOption-at_some _ (MergeFits s.list) m is_merge merges in
     let e : MergeTarget s.list m = merge_target part s.list m list fit in
     put_unneeded part s (file_of m.target) (home f) k
     (record { listed = fit.apart; logs = λ g low high same. file_not_log m.target.from m.target.to g same })

@@ -3,7 +3,7 @@ use Rattle.std.proofs.Common.{◌≡◌, ◌≢◌, ◌<◌, ◌≤◌, ◌+◌,
 use Rattle.std.specs.Prelude.{IfSome}
 use Rattle.std.proofs.lemmas.List.Elements.{All-weaker}
 use Rattle.std.proofs.lemmas.Bool.{cases_lt, true≢false}
-use Rattle.std.proofs.lemmas.Option.{same_Some}
+use Rattle.std.proofs.lemmas.Option.{same_Some, MatchOption-at_some}
 use Rattle.std.proofs.lemmas.List.{nil_from_length}
 use Rattle.tc_plain_model.specs.Writes.{Write}
 use Rattle.tc_lsm_model.specs.Contents.{Partition}
@@ -24,7 +24,7 @@ use Rattle.tc_machine.specs.Steps.{IsFlushed, IsShutOrHas, MakesFile, nothing_he
 use Rattle.tc_machine.proofs.FilesLeft.{LeavesOf-weaker, at_name, log_file, put_other}
 use Rattle.tc_machine.proofs.LogHeads.{log_has_head, log_is_open}
 use Rattle.tc_machine.proofs.OneFile.{IsUnneeded, put_unneeded}
-use Rattle.tc_machine.proofs.Options.{if_some_at, if_some_map}
+use Rattle.tc_machine.proofs.Options.{if_some_map}
 
 pub closed_or_open : (b : List ℕ) (X : Type 0) → is_open_file b ≡ false → is_open_file b ≡ true → X
 closed_or_open b X closed is_open = absurd (true≢false (sym is_open ∙ closed))
@@ -99,9 +99,9 @@ file_made_keeps part s name k m =
           (λ b' is e. k.others name b (subst (λ e. MayLeaveAt (nothing_held name) e (Some b)) (sym m.absent) (is ∙ e)) is_open)
           (Some b) left refl;
       flush = λ j is same. made_at name m.before (IsShutOrHas (IsFlushed part s.list s.sealed)) tt (λ b closed. inl closed)
-          (λ b before. if_some_at (λ j. LeavesOf s.files (flush_name j) (IsShutOrHas (IsFlushed part s.list s.sealed))) s.flush j is k.flush_file (Some b) (old same b before));
+          (λ b before. MatchOption-at_some _ (λ j. LeavesOf s.files (flush_name j) (IsShutOrHas (IsFlushed part s.list s.sealed))) j is k.flush_file (Some b) (old same b before));
       merge = λ j is same. made_at name m.before (IsShutOrHas (IsComponent j.target)) tt (λ b closed. inl closed)
-          (λ b before. if_some_at (λ m. LeavesOf s.files (file_of m.target) (IsShutOrHas (IsComponent m.target))) s.merge j is k.merge_file (Some b) (old same b before));
+          (λ b before. MatchOption-at_some _ (λ m. LeavesOf s.files (file_of m.target) (IsShutOrHas (IsComponent m.target))) j is k.merge_file (Some b) (old same b before));
     }))
   where
     old : {other : FileName} → name ≡ other → (b : List ℕ) → m.before ≡ Some b → MayLeaveAt (nothing_held other) (s.files other) (Some b)

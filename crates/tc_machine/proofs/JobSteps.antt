@@ -1,6 +1,7 @@
 -- The events of jobs: begun with a fresh device.
 use Rattle.std.proofs.Common.{◌<◌, ◌≡◌, ℕ, Bool, true, false, List, [], length, refl, sym, ap, subst, arith, inl, inr, Option, Some, None}
 use Rattle.std.specs.Prelude.{IfSome, IsSome}
+use Rattle.std.proofs.lemmas.Option.{MatchOption-at_some}
 use Rattle.tc_lsm_model.specs.Contents.{Content, Partition}
 use Rattle.tc_lsm_model.specs.Lists.{Covers}
 use Rattle.tc_lsm_model.specs.Merges.{Run}
@@ -20,7 +21,6 @@ use Rattle.tc_machine.specs.Steps.{BeginsFlush, BeginsMerge, IsExpected, IsFlush
 use Rattle.tc_machine.proofs.FilesLeft.{at_name}
 use Rattle.tc_machine.proofs.FilesMade.{file_made_keeps, made_at}
 use Rattle.tc_machine.proofs.MemorySteps.{flush_begun_memory, merge_begun_memory, no_flush, same_memory}
-use Rattle.tc_machine.proofs.Options.{if_some_at, some_is}
 use Rattle.tc_machine.proofs.Targets.{FlushTarget, MergeTarget, flush_target, merge_target}
 
 -- ---- a fresh device
@@ -54,7 +54,7 @@ fresh_shut part s from to P before k absent not_covered no_flush no_merge image 
 flush_begins : (part : Partition) (s : State) (d : Sealed) → s.sealed ≡ Some d → s.flush ≡ None → (before : Option (List ℕ)) → s.files (flush_name (flushing_of s)) ≡ none before → IsKept part s → IsKept part (step flush_begun s)
 flush_begins part s d is_sealed none_out before absent k = record {
   memory = same_memory part (record s { flush = Some (flushing_of s) }) (put (flush_name (flushing_of s)) (made (s.files (flush_name (flushing_of s)))) s.files) s.making s.failed
-      (flush_begun_memory part s k.memory (subst (λ o. IsSome o) (sym is_sealed) (some_is d)));
+      (flush_begun_memory part s k.memory (subst (λ o. IsSome o) (sym is_sealed) refl));
   files = record {
     listed = files.listed;
     still = files.still;
@@ -78,7 +78,7 @@ flush_begins part s d is_sealed none_out before absent k = record {
     logs_are = ap (λ o. length (sealed_logs o)) is_sealed
 
     some : 0 < length d.logs
-    some = if_some_at (λ d. 0 < length d.logs) s.sealed d is_sealed k.memory.some_log
+    some = MatchOption-at_some _ (λ d. 0 < length d.logs) d is_sealed k.memory.some_log
 
     not_covered : Covers s.list (flushing_of s).from (flushing_of s).to → ⊥
     not_covered covered =

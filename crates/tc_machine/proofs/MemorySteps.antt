@@ -5,6 +5,7 @@ use Rattle.std.proofs.lemmas.Bool.{false≢true}
 use Rattle.std.proofs.lemmas.List.{take-append-le, take_all}
 use Rattle.std.proofs.lemmas.List.Elements.{All-nil, All-cons, All-append, All-weaker}
 use Rattle.std.proofs.lemmas.List.Sums.{fold-append}
+use Rattle.std.proofs.lemmas.Option.{MatchOption-at_some}
 use Rattle.tc_plain_model.specs.Store.{names_after}
 use Rattle.tc_plain_model.specs.Writes.{Write, after_writes}
 use Rattle.tc_plain_model.proofs.WriteLaws.{after_writes-append}
@@ -30,7 +31,7 @@ use Rattle.tc_machine.specs.State.{Active, Flushing, Merging, Sealed, State, act
 use Rattle.tc_machine.specs.Steps.{StartsFrame}
 use Rattle.tc_machine.specs.Writes.{AreFew, HasRoom, IsStorableWrite}
 use Rattle.tc_machine.proofs.Holding.{all_writes-append, all_writes-one, holds, sealed_holds}
-use Rattle.tc_machine.proofs.Options.{All-back, if_some_at, if_some_map}
+use Rattle.tc_machine.proofs.Options.{All-back, if_some_map}
 use Rattle.tc_machine.proofs.Targets.{MergeTarget, file_from, merge_target, uncovered_apart}
 
 -- the files, and whether something failed, make no difference
@@ -130,7 +131,7 @@ frame_committed_memory part s d ws is_active is_frame k = record {
 }
   where
     old : d.table ≡ table_over (below_active s) d.writes
-    old = if_some_at (λ d. d.table ≡ table_over (below_active s) d.writes) s.active d is_active k.active
+    old = MatchOption-at_some _ (λ d. d.table ≡ table_over (below_active s) d.writes) d is_active k.active
 
     table : table_after (below_active s) d.table ws ≡ table_over (below_active s) (d.writes ++ ws)
     table = ap (λ t. table_after (below_active s) t ws) old ∙ sym (fold-append (table_with (shape_in (below_active s))) [] d.writes ws)

@@ -1,17 +1,11 @@
 -- What holds of what is there, where something is, and of the elements of a list together.
-use Rattle.std.proofs.Common.{◌≡◌, List, [], ◌∷◌, ◌++◌, refl, subst, Option, Some, None}
-use Rattle.std.specs.Prelude.{All, IfSome, IsSome}
+use Rattle.std.proofs.Common.{◌≡◌, List, [], ◌∷◌, ◌++◌, refl, Option, Some, None}
+use Rattle.std.specs.Prelude.{All, IfSome}
 use Rattle.std.proofs.lemmas.List.Elements.{All-nil, All-cons, All-head, All-tail}
-
-pub some_is : {A : Type 0} (a : A) → IsSome (Some a)
-some_is a = refl
 
 pub if_some_map : {A : Type 0} (P Q : A → Type 0) (o : Option A) → ((a : A) → o ≡ Some a → P a → Q a) → IfSome o P → IfSome o Q
 if_some_map P Q None go p = tt
 if_some_map P Q (Some a) go p = go a refl p
-
-pub if_some_at : {A : Type 0} (P : A → Type 0) (o : Option A) (a : A) → o ≡ Some a → IfSome o P → P a
-if_some_at P o a is p = subst (λ o. IfSome o P) is p
 
 pub if_some_from : {A : Type 0} (P : A → Type 0) (o : Option A) → ((a : A) → o ≡ Some a → P a) → IfSome o P
 if_some_from P None go = tt

@@ -3,6 +3,7 @@ use Rattle.std.proofs.Common.{◌≡◌, ◌⊎◌, ◌<◌, ◌+◌, ℕ, Bool,
 use Rattle.std.specs.Prelude.{All, IfSome}
 use Rattle.std.proofs.lemmas.Bool.{false≢true, cases_lt, cases_Bool}
 use Rattle.std.proofs.lemmas.List.Elements.{All-nil, All-cons, All-append, All-weaker}
+use Rattle.std.proofs.lemmas.Option.{MatchOption-at_some}
 use Rattle.tc_model.specs.Document.{Name}
 use Rattle.tc_plain_model.specs.Store.{names_after}
 use Rattle.tc_plain_model.specs.Writes.{Pairs, Write, after_writes}
@@ -37,7 +38,7 @@ use Rattle.tc_machine.proofs.FilesMade.{closed_or_open, log_there}
 use Rattle.tc_machine.proofs.Holding.{all_writes-append, all_writes-one, sealed_is}
 use Rattle.tc_machine.proofs.InstallSteps.{All-swapped, IsFlush-same, flushed_head}
 use Rattle.tc_machine.proofs.LogHeads.{log_has_head}
-use Rattle.tc_machine.proofs.Options.{All-back, All-front, if_some_at}
+use Rattle.tc_machine.proofs.Options.{All-back, All-front}
 
 -- the file of a name is there and open
 abbrev open_image : Image → Bool
@@ -194,7 +195,7 @@ module _ (part : Partition) (s : State) (k : IsKept part s) (picture : Picture) 
   flushed_there d j is is_sealed t = found t.bytes t.is t.is_open (subst (λ o. IsShutOrHas (IsFlushed part s.list s.sealed) o) t.is (device (bytes_at picture (flush_name j)) (left.each (flush_name j))))
     where
       device : LeavesOf s.files (flush_name j) (IsShutOrHas (IsFlushed part s.list s.sealed))
-      device = if_some_at (λ j. LeavesOf s.files (flush_name j) (IsShutOrHas (IsFlushed part s.list s.sealed))) s.flush j is k.files.flush_file
+      device = MatchOption-at_some _ (λ j. LeavesOf s.files (flush_name j) (IsShutOrHas (IsFlushed part s.list s.sealed))) j is k.files.flush_file
 
       fits : Flushes s.list d j
       fits = subst (λ o. IsFlushOf s.list o (Some j)) is_sealed (subst (λ o. IsFlushOf s.list s.sealed o) is k.memory.flush)

@@ -19,7 +19,7 @@ use Rattle.tc_machine.specs.State.{Active, Flushing, State, active_generation, a
 use Rattle.tc_machine.specs.Steps.{AreExpected, CommitsFrame, IsExpected, IsFlushed, IsShutOrHas, IsWritten, SealsTable, StartsFrame, StartsPart, nothing_held}
 use Rattle.tc_machine.proofs.FilesLeft.{LeavesOf-weaker, LeavesOf-written, at_name}
 use Rattle.tc_machine.proofs.MemorySteps.{after_commit, after_seal, committed_is, frame_committed_memory, frame_started_memory, no_flush, same_memory, sealed_step, sealing_memory, snapshot_taken_memory, starting_memory, unsealed, unsealed_is, unstarted, unstarted_is}
-use Rattle.tc_machine.proofs.Options.{if_some_map, some_is}
+use Rattle.tc_machine.proofs.Options.{if_some_map}
 
 -- ---- files that stay explained
 
@@ -78,14 +78,14 @@ committing part s d ws k is_active is_frame durable = record {
   memory = frame_committed_memory part s d ws is_active is_frame k.memory;
   files = record {
     listed = k.files.listed;
-    still = λ is. k.files.still (subst (λ a. IsSome a) (sym is_active) (some_is d));
+    still = λ is. k.files.still (subst (λ a. IsSome a) (sym is_active) refl);
     sealed_logs = k.files.sealed_logs;
     active_log = LeavesOf-written (Log (active_generation s)) s.files (LeavesLog part (active_generation s) (d.writes ++ ws)) durable;
     others = λ name b left is_open. explained_same part s (after_commit s d ws) refl refl refl refl next name b (k.files.others name b left is_open);
     flush_file = k.files.flush_file;
     merge_file = k.files.merge_file;
   };
-  expected = λ running sound name there. expected_same s (after_commit s d ws) refl refl refl next (λ is. is) name (k.expected (subst (λ a. IsSome a) (sym is_active) (some_is d)) sound name there);
+  expected = λ running sound name there. expected_same s (after_commit s d ws) refl refl refl next (λ is. is) name (k.expected (subst (λ a. IsSome a) (sym is_active) refl) sound name there);
 }
   where
     next : next_generation (after_commit s d ws) ≡ next_generation s
@@ -102,14 +102,14 @@ sealing part s d k ready = record {
   memory = sealing_memory part s d k.memory;
   files = record {
     listed = k.files.listed;
-    still = λ is. k.files.still (some_is d);
+    still = λ is. k.files.still refl;
     sealed_logs = (subst (λ g. LeavesOf s.files (Log g) (LeavesLog part g d.writes)) first k.files.active_log, tt);
     active_log = subst (λ g. LeavesOf s.files (Log g) (LeavesLog part g [])) second (LeavesOf-written (Log (next_generation (unsealed s d))) s.files (LeavesLog part (next_generation (unsealed s d)) []) ready);
     others = explained;
     flush_file = no_file s.flush (no_flush s.list s.flush k.memory.flush);
     merge_file = k.files.merge_file;
   };
-  expected = λ running sound name there. expected name (k.expected (some_is d) sound name there);
+  expected = λ running sound name there. expected name (k.expected refl sound name there);
 }
   where
     expected : (name : FileName) → IsExpected (unsealed s d) name → IsExpected (after_seal (unsealed s d) d) name
@@ -190,7 +190,7 @@ starting part s k ready all_still all_expected = record {
 
 pub no_frame : (frame : Option (List Write)) (active : Option Active) → (IsSome frame → IsSome active) → active ≡ None → frame ≡ None
 no_frame None active running none = refl
-no_frame (Some ws) active running none = absurd (false≢true (subst (λ a. IsSome a) none (running (some_is ws))))
+no_frame (Some ws) active running none = absurd (false≢true (subst (λ a. IsSome a) none (running refl)))
 
 pub part_started_keeps : (part : Partition) (s : State) → IsKept part s → StartsPart part s → IsKept part (step part_started s)
 part_started_keeps part s k m =
