@@ -5,7 +5,7 @@ use Rattle.std.proofs.Math.Path.{fun_ext}
 use Rattle.std.proofs.lemmas.Bool.{cases_Bool}
 use Rattle.std.proofs.lemmas.List.Elements.{All-head, All-tail}
 use Rattle.tc_plain_model.specs.Writes.{Write}
-use Rattle.tc_lsm_model.specs.Contents.{Content, Partition}
+use Rattle.tc_lsm_model.specs.Contents.{Content, IsContent, Partition}
 use Rattle.tc_lsm_model.specs.Flushes.{IsFlush}
 use Rattle.tc_store.specs.Disk.{Disk, Entry, home, put, same_name}
 use Rattle.tc_store.specs.DiskFile.{DiskFile}
@@ -16,7 +16,7 @@ use Rattle.tc_store.specs.declared.file_name.FileName.{FileName}
 use Rattle.tc_store.proofs.NameLemmas.{put_there}
 use Rattle.tc_log.specs.Appending.{MeansWithOrWithout}
 use Rattle.tc_log.specs.Spelling.{IsHead, Means, log_at_rest}
-use Rattle.tc_component.specs.Rows.{IsComponent, component_bytes}
+use Rattle.tc_component.specs.Rows.{IsComponent, IsShortWrite, component_bytes}
 use Rattle.tc_machine.specs.Events.{Event, device_called, step, with_entry}
 use Rattle.tc_machine.specs.Logs.{IsLog, kept_write, log_head}
 use Rattle.tc_machine.specs.Runs.{Runs, after_moments, calls}
@@ -77,22 +77,22 @@ creating part g f is leaves image left = at image (leaves image left)
     at None h = tt
     at (Some b) (inl closed) = inl closed
     at (Some b) (inr (inl before)) = absurd (cc)
-    at (Some b) (inr (inr whole)) = inr (subst (λ x. IsLog part g [] x) (sym whole) (new_log part g is))
+    at (Some b) (inr (inr whole)) = inr (subst (λ x. IsLog part g [] x) (sym whole.same) (new_log part g is))
 
 -- what a builder says of a component's file
-pub making : (c : Content) (f : DiskFile) → IsComponent c (component_bytes c) → LeavesAt (IsShutOrWhole None (component_bytes c)) f → LeavesAt (IsShutOrHas (IsComponent c)) f
-making c f is leaves image left = at image (leaves image left)
+pub making : (c : Content) (f : DiskFile) → IsContent c → All IsShortWrite c.entries → LeavesAt (IsShutOrWhole None (component_bytes c)) f → LeavesAt (IsShutOrHas (IsComponent c)) f
+making c f content records leaves image left = at image (leaves image left)
   where
     at : (image : Image) → IsShutOrWhole None (component_bytes c) image → IsShutOrHas (IsComponent c) image
     at None h = tt
     at (Some b) (inl closed) = inl closed
     at (Some b) (inr (inl before)) = absurd (cc)
-    at (Some b) (inr (inr whole)) = inr (subst (λ x. IsComponent c x) (sym whole) is)
+    at (Some b) (inr (inr whole)) = inr (record { content = content; records = records; spelled = whole.same; short = whole.short })
 
 -- where it is the component of a flush
-pub making_flush : (part : Partition) (cs : List Content) (d : Sealed) (c : Content) (f : DiskFile) → IsFlush part cs d.table (length d.logs) c → IsComponent c (component_bytes c) → LeavesAt (IsShutOrWhole None (component_bytes c)) f
+pub making_flush : (part : Partition) (cs : List Content) (d : Sealed) (c : Content) (f : DiskFile) → IsFlush part cs d.table (length d.logs) c → IsContent c → All IsShortWrite c.entries → LeavesAt (IsShutOrWhole None (component_bytes c)) f
     → LeavesAt (IsShutOrHas (IsFlushed part cs (Some d))) f
-making_flush part cs d c f is_flush is leaves image left = at image (making c f is leaves image left)
+making_flush part cs d c f is_flush content records leaves image left = at image (making c f content records leaves image left)
   where
     at : (image : Image) → IsShutOrHas (IsComponent c) image → IsShutOrHas (IsFlushed part cs (Some d)) image
     at None h = tt

@@ -10,10 +10,10 @@ ghost use Rattle.tc_store.specs.declared.file_name.FileName.TheVariants.{Log};
 ghost use Rattle.tc_log.specs.Appending.{MeansWithOrWithout};
 ghost use Rattle.tc_log.specs.Spelling.{IsHead, log_at_rest};
 ghost use Rattle.tc_plain_model.specs.Writes.{Write};
-ghost use Rattle.tc_lsm_model.specs.Contents.{Partition, Content};
+ghost use Rattle.tc_lsm_model.specs.Contents.{Partition, Content, IsContent};
 ghost use Rattle.tc_lsm_model.specs.Flushes.{IsFlush};
 ghost use Rattle.tc_lsm_model.specs.Merges.{Run, in_run, IsMerge};
-ghost use Rattle.tc_component.specs.Rows.{IsComponent, component_bytes};
+ghost use Rattle.tc_component.specs.Rows.{IsComponent, IsShortWrite, component_bytes};
 ghost use Rattle.tc_machine.specs.Logs.{log_head, kept_write, IsLog};
 ghost use Rattle.tc_machine.specs.Components.{file_of};
 ghost use Rattle.tc_machine.specs.State.{State, Sealed, flush_name, flushing_of, next_generation};
@@ -28,8 +28,8 @@ pub fn calls_are_moments()
     ensures appended { (part : Partition) (g : ℕ) (ws frame : List Write) (f : DiskFile) → LeavesAt (MeansWithOrWithout (log_head part g) (map kept_write ws) (map kept_write frame)) f → LeavesAt (LeavesWithOrWithout part g ws frame) f }
     ensures created { (part : Partition) (g : ℕ) (f : DiskFile) → IsHead (log_head part g) → LeavesAt (IsShutOrWhole None (log_at_rest (log_head part g) [])) f → LeavesAt (IsShutOrHas (IsLog part g [])) f }
     ensures new_log { (part : Partition) (g : ℕ) → IsHead (log_head part g) → IsLog part g [] (log_at_rest (log_head part g) []) }
-    ensures made { (c : Content) (f : DiskFile) → IsComponent c (component_bytes c) → LeavesAt (IsShutOrWhole None (component_bytes c)) f → LeavesAt (IsShutOrHas (IsComponent c)) f }
-    ensures flushed { (part : Partition) (cs : List Content) (d : Sealed) (c : Content) (f : DiskFile) → IsFlush part cs d.table (length d.logs) c → IsComponent c (component_bytes c) → LeavesAt (IsShutOrWhole None (component_bytes c)) f
+    ensures made { (c : Content) (f : DiskFile) → IsContent c → All IsShortWrite c.entries → LeavesAt (IsShutOrWhole None (component_bytes c)) f → LeavesAt (IsShutOrHas (IsComponent c)) f }
+    ensures flushed { (part : Partition) (cs : List Content) (d : Sealed) (c : Content) (f : DiskFile) → IsFlush part cs d.table (length d.logs) c → IsContent c → All IsShortWrite c.entries → LeavesAt (IsShutOrWhole None (component_bytes c)) f
         → LeavesAt (IsShutOrHas (IsFlushed part cs (Some d))) f }
 {}
 

@@ -1,5 +1,5 @@
 -- What a stop may leave of a file while its gate is made, stays shut, and is opened.
-use Rattle.std.proofs.Common.{◌≡◌, ◌≢◌, Result, ◌<◌, ◌≤◌, ℕ, zero, suc, ◌+◌, max, List, [], ◌∷◌, ◌++◌, length, false, slice_index, refl, inl, inr, ◌∙◌, sym, ap, subst, arith, take, drop}
+use Rattle.std.proofs.Common.{◌≡◌, ◌≢◌, Result, ◌<◌, ◌≤◌, ◌^◌, ℕ, zero, suc, ◌+◌, max, List, [], ◌∷◌, ◌++◌, length, false, slice_index, refl, inl, inr, ◌∙◌, sym, ap, subst, arith, take, drop}
 use Rattle.std.specs.Prelude.{◌==◌, Option, None, Some, unwrap_or, OnOk, IsErrOf}
 use Rattle.std.proofs.lemmas.List.{ext_get_or, length-drop, nil_from_length}
 use Rattle.std.proofs.lemmas.List.Elements.{All-nil, All-cons, All-weaker}
@@ -8,7 +8,7 @@ use Rattle.tc_store.specs.declared.fault.DeviceFault.{DeviceFault}
 use Rattle.tc_store.specs.declared.fault.DeviceFault.TheVariants.{Fault, Memory}
 use Rattle.tc_store.specs.DiskFile.{DiskFile, synced_file, Range, FailsWrite, settled_file, overlaid, written}
 use Rattle.tc_store.specs.Images.{Image, IsImageOf, IsUntouched, IsWithin, furthest_end}
-use Rattle.tc_store.specs.Gate.{is_open_file, opened, IsShutOr, IsClosed, IsClosedOrWhole, IsGateShut}
+use Rattle.tc_store.specs.Gate.{is_open_file, opened, IsShutOr, IsClosed, IsWhole, IsClosedOrWhole, IsGateShut}
 use Rattle.tc_store.specs.Moments.{LeavesAt, LeavesOnly, IfTold, goes_on, FailsWriting}
 use Rattle.tc_store.proofs.MomentLemmas.{EachSince-one, EachSince-trans, EachSince-failed, EachSince-write, FailedWrite, told_map, told-goes_on, told-write}
 
@@ -207,12 +207,15 @@ other_gate : (x : ℕ) (xs : List ℕ) → x ≢ 1 → is_open_file (x ∷ xs) �
 other_gate x [] other = refl
 other_gate x (y ∷ rest) other = ne_eqb x 1 other
 
-open_leaves : (rest : List ℕ) (new : DiskFile) → OpenTried (0 ∷ rest) new → LeavesAt (IsClosedOrWhole (1 ∷ rest)) new
-open_leaves rest new turning None absent = let has = turning.synced in absurd (cc)
-open_leaves rest new turning (Some image) (inr before) = let has = turning.before in absurd (cc)
-open_leaves rest new turning (Some []) (inl is) = inl refl
-open_leaves rest new turning (Some (x ∷ xs)) (inl is) = elim (cases_eq x 1) [
-  | inl gate ↦ inr (ap (λ (byte : ℕ). byte ∷ xs) gate ∙ ap (λ (others : List ℕ). 1 ∷ others) (behind_gate x xs rest new turning is))
+is_whole : (image whole : List ℕ) → image ≡ whole → length whole < 2 ^ 63 → IsWhole whole image
+is_whole image whole same short = record { same = same; short = subst (λ (bytes : List ℕ). length bytes < 2 ^ 63) (sym same) short }
+
+open_leaves : (rest : List ℕ) (new : DiskFile) → length (1 ∷ rest) < 2 ^ 63 → OpenTried (0 ∷ rest) new → LeavesAt (IsClosedOrWhole (1 ∷ rest)) new
+open_leaves rest new short turning None absent = let has = turning.synced in absurd (cc)
+open_leaves rest new short turning (Some image) (inr before) = let has = turning.before in absurd (cc)
+open_leaves rest new short turning (Some []) (inl is) = inl refl
+open_leaves rest new short turning (Some (x ∷ xs)) (inl is) = elim (cases_eq x 1) [
+  | inl gate ↦ inr (is_whole (x ∷ xs) (1 ∷ rest) (ap (λ (byte : ℕ). byte ∷ xs) gate ∙ ap (λ (others : List ℕ). 1 ∷ others) (behind_gate x xs rest new turning is)) short)
   | inr other ↦ inl (other_gate x xs other)
 ]
 
@@ -223,12 +226,13 @@ pub record Opening (f : DiskFile) : Type 0 where
   pub failed : (after : DiskFile) → FailsWrite 0 1 (synced_file f) after → LeavesAt (IsClosedOrWhole (opened f.content)) after
   pub second_sync : LeavesAt (IsClosedOrWhole (opened f.content)) (synced_file (written 0 (1 ∷ []) (synced_file f)))
 
-pub opening : (f : DiskFile) → IsGateShut f → Opening f
-opening f shut =
+opening : (f : DiskFile) → IsGateShut f → length f.content < 2 ^ 63 → Opening f
+opening f shut short =
     let whole : opened f.content ≡ 1 ∷ shut.rest = ap opened shut.content in
+    let as_long : length (1 ∷ shut.rest) < 2 ^ 63 = subst (λ (bytes : List ℕ). length bytes < 2 ^ 63) shut.content short in
     let durable : Some f.content ≡ Some (0 ∷ shut.rest) = ap Some shut.content in
     let tried : (new : DiskFile) → OpenTried (0 ∷ shut.rest) new → LeavesAt (IsClosedOrWhole (opened f.content)) new =
-    λ new turning. rw whole (open_leaves shut.rest new turning) in
+    λ new turning. rw whole (open_leaves shut.rest new as_long turning) in
     record {
       first_sync = settled_leaves f.content (IsClosedOrWhole (opened f.content)) (inl (zero_is_closed f.content (ap (λ (bytes : List ℕ). slice_index bytes 0) shut.content)));
       gate = tried (written 0 (1 ∷ []) (synced_file f)) (record {
@@ -243,7 +247,7 @@ opening f shut =
         tried = fails.tried;
         before = fails.before;
       });
-      second_sync = settled_leaves (opened f.content) (IsClosedOrWhole (opened f.content)) (inr refl);
+      second_sync = settled_leaves (opened f.content) (IsClosedOrWhole (opened f.content)) (inr (is_whole (opened f.content) (opened f.content) refl (subst (λ (bytes : List ℕ). length bytes < 2 ^ 63) (sym whole) as_long)));
     }
 
 -- what holds of each file that is told now
@@ -254,22 +258,30 @@ told_from (now ∷ past) Q give = give now past refl
 told_at : {X : Type 0} (moments past : List X) (now : X) (P : X → Type 0) → moments ≡ now ∷ past → IfTold moments P → P now
 told_at moments past now P is told = rw is at told
 
+-- a file is no longer than a file may be, as its device says
+abbrev pub IsShort : DiskFile → Type 0
+IsShort f = length f.content < 2 ^ 63
+
+pub short_told : (moments : List DiskFile) (size : ℕ) → size < 2 ^ 63 → IfTold moments (λ f. size ≡ length f.content) → IfTold moments IsShort
+short_told [] size short told = tt
+short_told (f ∷ past) size short told = subst (λ n. n < 2 ^ 63) told short
+
 -- the gate could not be written
-pub open_failed : (f : DiskFile) (moments past first new : List DiskFile) (cause : DeviceFault) → IfTold moments IsGateShut → moments ≡ f ∷ past
+pub open_failed : (f : DiskFile) (moments past first new : List DiskFile) (cause : DeviceFault) → IfTold moments IsGateShut → IfTold moments IsShort → moments ≡ f ∷ past
     → first ≡ goes_on synced_file moments → FailedWrite 0 1 first new cause → LeavesOnly (IsClosedOrWhole (opened f.content)) moments new
-open_failed f moments past first new cause shut is synced failed =
-    let steps = opening f (told_at moments past f IsGateShut is shut) in
+open_failed f moments past first new cause shut short is synced failed =
+    let steps = opening f (told_at moments past f IsGateShut is shut) (told_at moments past f IsShort is short) in
     let start : first ≡ synced_file f ∷ f ∷ past = synced ∙ ap (goes_on synced_file) is in
     EachSince-trans (LeavesAt (IsClosedOrWhole (opened f.content))) moments first new
     (record { added = synced_file f ∷ []; goes_on = start ∙ ap (λ (others : List DiskFile). synced_file f ∷ others) (sym is); each = All-cons (LeavesAt (IsClosedOrWhole (opened f.content))) (synced_file f) [] steps.first_sync (All-nil (LeavesAt (IsClosedOrWhole (opened f.content)))); untold = λ none. absurd (cc) })
     (EachSince-failed (LeavesAt (IsClosedOrWhole (opened f.content))) 0 1 first new cause failed (rw start steps.failed))
 
 -- the gate was written, and is not yet synced
-pub open_unsynced : (f : DiskFile) (moments past first second new : List DiskFile) → IfTold moments IsGateShut → moments ≡ f ∷ past
+pub open_unsynced : (f : DiskFile) (moments past first second new : List DiskFile) → IfTold moments IsGateShut → IfTold moments IsShort → moments ≡ f ∷ past
     → first ≡ goes_on synced_file moments → second ≡ goes_on (written 0 (1 ∷ [])) first → new ≡ second
     → LeavesOnly (IsClosedOrWhole (opened f.content)) moments new
-open_unsynced f moments past first second new shut is synced wrote same =
-    let steps = opening f (told_at moments past f IsGateShut is shut) in
+open_unsynced f moments past first second new shut short is synced wrote same =
+    let steps = opening f (told_at moments past f IsGateShut is shut) (told_at moments past f IsShort is short) in
     let P : DiskFile → Type 0 = LeavesAt (IsClosedOrWhole (opened f.content)) in
     rw (same, wrote, synced, is) (record {
       added = written 0 (1 ∷ []) (synced_file f) ∷ synced_file f ∷ [];
@@ -279,11 +291,11 @@ open_unsynced f moments past first second new shut is synced wrote same =
     })
 
 -- the gate was written and synced
-pub open_whole : (f : DiskFile) (moments past first second new : List DiskFile) → IfTold moments IsGateShut → moments ≡ f ∷ past
+pub open_whole : (f : DiskFile) (moments past first second new : List DiskFile) → IfTold moments IsGateShut → IfTold moments IsShort → moments ≡ f ∷ past
     → first ≡ goes_on synced_file moments → second ≡ goes_on (written 0 (1 ∷ [])) first → new ≡ goes_on synced_file second
     → LeavesOnly (IsClosedOrWhole (opened f.content)) moments new
-open_whole f moments past first second new shut is synced wrote last =
-    let steps = opening f (told_at moments past f IsGateShut is shut) in
+open_whole f moments past first second new shut short is synced wrote last =
+    let steps = opening f (told_at moments past f IsGateShut is shut) (told_at moments past f IsShort is short) in
     let P : DiskFile → Type 0 = LeavesAt (IsClosedOrWhole (opened f.content)) in
     rw (last, wrote, synced, is) (record {
       added = synced_file (written 0 (1 ∷ []) (synced_file f)) ∷ written 0 (1 ∷ []) (synced_file f) ∷ synced_file f ∷ [];

@@ -104,6 +104,8 @@ impl<D: Device> Gated<D> {
         ensures counted { IsCounted (IsErrAnd result (λ broken. broken.cause ≡ DeviceFault.Fault)) (D.Watch.counts watch.old) (D.Watch.counts watch.new) }
     {
         let mut device = self.device;
+        // that the file is no longer than a file may be
+        let _size = device.len();
         if let Err(cause) = device.sync(watch) {
             return Err(Broken { device, cause });
         }
