@@ -24,7 +24,7 @@ empty (x ∷ xs) none = absurd (some (length xs) none)
     some : (n : ℕ) → (suc n == 0) ≡ true → ⊥
     some n e = grind (arith, nat_tests)
 
-used_up : (c : Columns) → is_used_up c ≡ true → c ≡ no_columns
+pub used_up : (c : Columns) → is_used_up c ≡ true → c ≡ no_columns
 used_up c ended =
     let fixed = and_parts (length c.fixed == 0) _ ended in
     let lengths = and_parts (length c.lengths == 0) _ fixed.1 in

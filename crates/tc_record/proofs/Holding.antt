@@ -9,7 +9,8 @@ use Rattle.tc_record.specs.Record.{NumberedTree, IsRecordOf, IsNumberedRecordOf}
 use Rattle.tc_record.specs.Walk as walk
 use Rattle.tc_record.specs.Held.{tokens_held}
 use Rattle.tc_record.specs.Sections as cut
-use Rattle.tc_record.specs.SectionsView.{sections_of}
+use Rattle.tc_record.specs.SectionsView.{cut_columns_of, sections_of}
+use Rattle.tc_record.specs.WalkView.{format_of}
 use Rattle.tc_record.specs.Borrowed.{Record, Spells, IsRecord, named_tokens, numbered_tokens}
 use Rattle.tc_record.specs.declared.sections.Sections.{Sections}
 use Rattle.tc_record.proofs.Reading.{document_again, numbered_again, read_found}
@@ -72,6 +73,10 @@ no_tokens bytes s cut_is none = read_held bytes s None cut_is (is_none (tokens_h
 pub spelled_record : (r : Record) → Spells r → IsRecord r.bytes
 spelled_record r (inl d) = inl (d.0, d.1.1)
 spelled_record r (inr n) = inr (n.0, n.1.1)
+
+-- what was asked of the columns to be read tells whether there are tokens
+pub held_test : (s : Sections) (c : walk.Columns) (r : Bool) → c ≡ cut_columns_of s.columns → r ≡ is_some (walk.tokens_read (format_of s.format) s.tags.now c) → r ≡ is_some (tokens_held s)
+held_test s c r same asked = asked ∙ ap (λ d. is_some (walk.tokens_read (format_of s.format) s.tags.now d)) same
 
 -- bytes that are known to be a record are cut, and have tokens
 pub known_cut : (bytes : List ℕ) → cut.sections_in bytes ≡ None → IsRecord bytes → ⊥

@@ -4,6 +4,7 @@ pub mod Lengths
 pub mod Encoded
 pub mod Utf8
 pub mod Stacks
+mod Judged
 pub mod Scans
 pub mod Sized
 pub mod ColumnLaws
@@ -25,3 +26,4 @@ pub mod RecordRows
 pub mod OneDocument
 pub mod StoredRecords
 mod Told
+mod WholeTexts

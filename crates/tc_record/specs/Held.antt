@@ -6,13 +6,14 @@ use Rattle.tc_model.specs.Kinds.{tag as kind_tag, objects}
 use Rattle.tc_record.specs.Preorder.{Token, token, object_opened}
 use Rattle.tc_record.specs.Walk as walk
 use Rattle.tc_record.specs.WalkView.{columns_of, format_of}
+use Rattle.tc_record.specs.SectionsView.{cut_columns_of}
 use Rattle.tc_record.specs.Stack.{stack_of}
 use Rattle.tc_record.specs.declared.sections.Sections.{Sections}
 use Rattle.tc_record.specs.declared.walking.Walk.{Walk}
 
 -- the tokens that the columns spell
 abbrev pub tokens_held : Sections → Option (List (Token walk.Key Scalar))
-tokens_held s = walk.tokens_read (format_of s.format) s.tags.now (columns_of s.columns)
+tokens_held s = walk.tokens_read (format_of s.format) s.tags.now (cut_columns_of s.columns)
 
 -- the tokens that are left, where the first one was taken, and where it was not
 abbrev pub tokens_left : Bool → List ℕ → Walk → Option (List (Token walk.Key Scalar))

@@ -8,6 +8,7 @@ pub mod Widths
 pub mod ColumnBytes
 pub mod Walk
 pub mod WalkView
+pub mod Moves
 pub mod Stack
 pub mod Sections
 pub mod SectionsView

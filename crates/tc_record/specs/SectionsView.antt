@@ -1,7 +1,9 @@
 -- What the reader of a header and of columns shows.
 use Rattle.tc_record.specs.Sections as cut
-use Rattle.tc_record.specs.WalkView.{columns_of, format_of}
+use Rattle.tc_record.specs.Walk as walk
+use Rattle.tc_record.specs.WalkView.{format_of}
 use Rattle.tc_record.specs.declared.header.Header.{Header}
+use Rattle.tc_record.specs.declared.sections.ColumnBytes.{ColumnBytes}
 use Rattle.tc_record.specs.declared.sections.Numbers.{Numbers}
 use Rattle.tc_record.specs.declared.sections.Sections.{Sections}
 
@@ -12,5 +14,8 @@ header_of h =
 abbrev pub numbers_of : Numbers → cut.Numbers
 numbers_of n = record { width = n.width; bytes = n.bytes.now; total = n.total }
 
+abbrev pub cut_columns_of : ColumnBytes → walk.Columns
+cut_columns_of c = record { fixed = c.fixed.now; lengths = c.lengths.now; texts = c.texts.now; slots = c.slots.now; names = c.names.now }
+
 abbrev pub sections_of : Sections → cut.Sections
-sections_of s = record { format = format_of s.format; tags = s.tags.now; columns = columns_of s.columns }
+sections_of s = record { format = format_of s.format; tags = s.tags.now; columns = cut_columns_of s.columns }

@@ -7,6 +7,7 @@ mod decoding;
 mod encoding;
 mod fault;
 mod header;
+mod judging;
 mod law;
 mod measure;
 mod reader;

@@ -7,18 +7,17 @@ ghost use Rattle.tc_record.specs.WalkView.{key_of, piece_of, token_of, columns_o
 use crate::tags::{ARRAY_TAG, BOOLEAN_TAG, INTEGER_TAG, NULL_TAG, OBJECT_TAG, TEXT_TAG};
 use crate::token::{Label, Piece, Token};
 use crate::widths::Width;
-use std::str;
-use tc_bytes::{slice_at, u8_at, u16_at, u32_at, u64_at};
+use tc_bytes::{u8_at, u16_at, u32_at, u64_at};
 
-/// What is left of the columns beside the tags. Readers move it on in place: it is five slices wide, and each token
-/// would copy it several times.
+/// What is left of the columns beside the tags, where texts and names are UTF-8. Readers move it on in place: it is
+/// five slices wide, and each token would copy it several times.
 #[derive(Clone, Copy)]
 pub(crate) struct Columns<'a> {
     pub(crate) fixed: &'a [u8],
     pub(crate) lengths: &'a [u8],
-    pub(crate) texts: &'a [u8],
+    pub(crate) texts: &'a str,
     pub(crate) slots: &'a [u8],
-    pub(crate) names: &'a [u8],
+    pub(crate) names: &'a str,
 }
 
 /// The form, and the bytes of a text length and of a slot.
@@ -37,6 +36,7 @@ pub(crate) enum Level<'a> {
 }
 
 /// One number of a column.
+#[inline(always)]
 pub(crate) fn column_number_at(width: Width, column: &[u8]) -> Option<(u32, &[u8])>
     ensures { option_map (λ x. (x.0, x.1.now)) result ≡ sized_number_at width column.now }
 {
@@ -54,19 +54,19 @@ pub(crate) fn column_number_at(width: Width, column: &[u8]) -> Option<(u32, &[u8
     }
 }
 
-/// So many bytes, if they are UTF-8.
-#[tactic(auto, using(crate::proofs::Utf8::utf8_tests))]
-fn str_at(bytes: &[u8], count: u32) -> Option<(&str, &[u8])>
-    ensures { option_map (λ x. (x.0.now, x.1.now)) result ≡ utf8_at count bytes.now }
+/// So many bytes of a text, if a character ends there: just then they are UTF-8.
+#[inline(always)]
+fn str_at(text: &str, count: u32) -> Option<(&str, &str)>
+    ensures { option_map (λ x. (x.0.now, x.1.now)) result ≡ utf8_at count text.now }
 {
-    let (front, rest) = slice_at(bytes, count as usize)?;
-    match str::from_utf8(front) {
-        Ok(text) => Some((text, rest)),
-        Err(_) => None,
+    match text.split_at_checked(count as usize) {
+        Some((front, rest)) => Some((front, rest)),
+        None => None,
     }
 }
 
 /// The next text, by its length.
+#[inline(always)]
 fn text_in<'a>(width: Width, columns: &mut Columns<'a>) -> Option<&'a str>
     ensures { option_map (λ t. (t.now, columns_of columns.new)) result ≡ text_at width (columns_of columns.old) }
 {
@@ -77,6 +77,7 @@ fn text_in<'a>(width: Width, columns: &mut Columns<'a>) -> Option<&'a str>
     Some(text)
 }
 
+#[inline(always)]
 fn bool_in(columns: &mut Columns<'_>) -> Option<bool>
     ensures { option_map (λ b. (b, columns_of columns.new)) result ≡ bool_at (columns_of columns.old) }
 {
@@ -89,6 +90,7 @@ fn bool_in(columns: &mut Columns<'_>) -> Option<bool>
     }
 }
 
+#[inline(always)]
 fn integer_in<'a>(columns: &mut Columns<'a>) -> Option<Piece<'a>>
     ensures { option_map (λ p. (piece_of p, columns_of columns.new)) result ≡ integer_at (columns_of columns.old) }
 {
@@ -98,7 +100,8 @@ fn integer_in<'a>(columns: &mut Columns<'a>) -> Option<Piece<'a>>
 }
 
 /// A value, or the opening of one, by its tag.
-fn piece_in<'a>(width: Width, tag: u8, columns: &mut Columns<'a>) -> Option<Piece<'a>>
+#[inline(always)]
+pub(crate) fn piece_in<'a>(width: Width, tag: u8, columns: &mut Columns<'a>) -> Option<Piece<'a>>
     ensures { option_map (λ p. (piece_of p, columns_of columns.new)) result ≡ piece_at width tag (columns_of columns.old) }
 {
     if tag == NULL_TAG {
@@ -121,7 +124,12 @@ fn piece_in<'a>(width: Width, tag: u8, columns: &mut Columns<'a>) -> Option<Piec
 }
 
 /// A name by its length, if it stands above the name before it.
-fn name_in<'a>(width: Width, last: Option<&'a str>, columns: &mut Columns<'a>) -> Option<&'a str>
+#[inline(always)]
+pub(crate) fn name_in<'a>(
+    width: Width,
+    last: Option<&'a str>,
+    columns: &mut Columns<'a>,
+) -> Option<&'a str>
     ensures { option_map (λ n. (n.now, columns_of columns.new)) result ≡ name_at width (option_map (λ n. n.now) last.entry) (columns_of columns.old) }
 {
     let (len, slots) = column_number_at(width, columns.slots)?;
@@ -135,6 +143,7 @@ fn name_in<'a>(width: Width, last: Option<&'a str>, columns: &mut Columns<'a>) -
 }
 
 /// Whether a name stands above the one before it, if there is one.
+#[inline(always)]
 fn is_above(last: Option<&str>, name: &str) -> bool
     ensures { result ≡ stands_above (option_map (λ n. n.now) last.entry) name.now }
 {

@@ -5,15 +5,12 @@ ghost use Rattle.std.specs.List.{AllByRecursion};
 ghost use Rattle.tc_model.specs.Document.{Document};
 ghost use Rattle.tc_record.specs.Record.{labels, NumberedTree, IsRecordOf, IsNumberedRecordOf};
 ghost use Rattle.tc_record.specs.Sections.{scan_at, is_scan_below};
-ghost use Rattle.tc_record.specs.Walk.{walk, in_object, tokens_read, is_used_up as used_up};
-ghost use Rattle.tc_record.specs.WalkView.{columns_of, format_of};
 ghost use Rattle.tc_record.specs.Borrowed.{Spells, IsRecord, IsBelow, named_tokens, numbered_tokens};
 
 use crate::cursor::Cursor;
 use crate::header::header_in;
-use crate::reader::{Columns, Format};
+use crate::judging::has_tokens;
 use crate::sections::{Sections, scanned, sections_of_record};
-use crate::tags::OBJECT_TAG;
 use crate::walking::Walk;
 use crate::widths::Width;
 use std::marker::Model;
@@ -52,7 +49,8 @@ impl<'a> RecordRef<'a> {
         ensures none { IfNone result (IsRecord bytes.now → ⊥) }
     {
         let sections = sections_of_record(bytes)?;
-        if has_tokens(sections) {
+        let columns = sections.columns.checked()?;
+        if has_tokens(sections.tags, sections.format, columns) {
             Some(RecordRef { bytes, sections })
         } else {
             None
@@ -141,7 +139,7 @@ impl<'a> RecordRef<'a> {
         let sections = self.sections;
         Cursor::start(
             sections.tags,
-            Walk::in_object(sections.format, sections.columns),
+            Walk::in_object(sections.format, sections.columns.known()),
         )
     }
 }
@@ -154,38 +152,4 @@ fn slots_below(limit: u32, count: u32, width: Width, slots: &[u8]) -> bool
         Some((greatest, _)) => count == 0 || greatest < limit,
         None => false,
     }
-}
-
-fn has_tokens(sections: Sections<'_>) -> bool
-    ensures { result ≡ is_some (tokens_read (format_of sections.entry.format) sections.entry.tags.now (columns_of sections.entry.columns)) }
-{
-    match sections.tags {
-        [] => false,
-        [first, rest @ ..] => {
-            *first == OBJECT_TAG && walks(rest, sections.format, sections.columns)
-        }
-    }
-}
-
-/// Whether these are the tags behind the first one. The walk is made where it is used: moved, it is copied whole.
-fn walks(tags: &[u8], format: Format, columns: Columns<'_>) -> bool
-    ensures { result ≡ is_some (walk (format_of format) tags.now (in_object None ∷ []) (columns_of columns.entry)) }
-{
-    let mut walk = Walk::in_object(format, columns);
-    for tag in tags {
-        if walk.step(*tag).is_none() {
-            return false;
-        }
-    }
-    walk.nesting.depth == 0 && is_used_up(walk.columns)
-}
-
-fn is_used_up(columns: Columns<'_>) -> bool
-    ensures { result ≡ used_up (columns_of columns.entry) }
-{
-    columns.fixed.is_empty()
-        && columns.lengths.is_empty()
-        && columns.texts.is_empty()
-        && columns.slots.is_empty()
-        && columns.names.is_empty()
 }

@@ -1,12 +1,15 @@
 //! The bytes of a record, cut into its columns.
 
-ghost use Rattle.std.specs.Prelude.{◌≡◌, max, option_map, length};
+ghost use Rattle.std.specs.Prelude.{◌≡◌, max, option_map, length, IfSome, IfNone};
+ghost use Rattle.std.specs.Str.{IsUtf8};
 ghost use Rattle.tc_record.specs.Sections.{scan_at, least_width, numbers_at, columns_behind, sections_in};
-ghost use Rattle.tc_record.specs.SectionsView.{header_of, numbers_of, sections_of};
+ghost use Rattle.tc_record.specs.SectionsView.{header_of, numbers_of, cut_columns_of, sections_of};
+ghost use Rattle.tc_record.specs.WalkView.{columns_of};
 
 use crate::header::{Header, form_told, header_in, width_told};
 use crate::reader::{Columns, Format, column_number_at};
 use crate::widths::Width;
+use std::str;
 use tc_bytes::slice_at;
 
 /// Numbers of one width, which is the least, and their sum.
@@ -17,11 +20,21 @@ pub(crate) struct Numbers<'a> {
     pub(crate) total: u32,
 }
 
+/// The columns beside the tags, as they were cut.
+#[derive(Clone, Copy)]
+pub(crate) struct ColumnBytes<'a> {
+    pub(crate) fixed: &'a [u8],
+    pub(crate) lengths: &'a [u8],
+    pub(crate) texts: &'a [u8],
+    pub(crate) slots: &'a [u8],
+    pub(crate) names: &'a [u8],
+}
+
 #[derive(Clone, Copy)]
 pub(crate) struct Sections<'a> {
     pub(crate) format: Format,
     pub(crate) tags: &'a [u8],
-    pub(crate) columns: Columns<'a>,
+    pub(crate) columns: ColumnBytes<'a>,
 }
 
 /// The parts of a record, or `None` where the header and the bytes do not fit together.
@@ -49,7 +62,7 @@ fn columns_in(header: Header, named: bool, bytes: &[u8]) -> Option<Sections<'_>>
         text_width: lengths.width,
         slot_width: slots.width,
     };
-    let columns = Columns {
+    let columns = ColumnBytes {
         fixed,
         lengths: lengths.bytes,
         texts,
@@ -61,6 +74,46 @@ fn columns_in(header: Header, named: bool, bytes: &[u8]) -> Option<Sections<'_>>
         tags,
         columns,
     })
+}
+
+impl<'a> ColumnBytes<'a> {
+    /// The columns to be read, if the texts together are UTF-8, and the names too: so are all texts and names of a
+    /// record, and what joins them.
+    pub(crate) fn checked(self) -> Option<Columns<'a>>
+        ensures same { IfSome result (λ c. columns_of c ≡ cut_columns_of self.entry) }
+        ensures refused { IfNone result (IsUtf8 self.entry.texts.now → IsUtf8 self.entry.names.now → ⊥) }
+    {
+        match (str::from_utf8(self.texts), str::from_utf8(self.names)) {
+            (Ok(texts), Ok(names)) => Some(self.with(texts, names)),
+            _ => None,
+        }
+    }
+
+    /// The columns to be read, whose texts and names are known to be UTF-8.
+    pub(crate) fn known(self) -> Columns<'a>
+        requires texts { IsUtf8 self.texts.now }
+        requires names { IsUtf8 self.names.now }
+        ensures { columns_of result ≡ cut_columns_of self.entry }
+    {
+        let texts = unsafe { str::from_utf8_unchecked(self.texts) };
+        let names = unsafe { str::from_utf8_unchecked(self.names) };
+        self.with(texts, names)
+    }
+
+    /// The columns to be read, with these texts and names.
+    fn with(self, texts: &'a str, names: &'a str) -> Columns<'a>
+        requires texts { texts.now ≡ self.texts.now }
+        requires names { names.now ≡ self.names.now }
+        ensures { columns_of result ≡ cut_columns_of self.entry }
+    {
+        Columns {
+            fixed: self.fixed,
+            lengths: self.lengths,
+            texts,
+            slots: self.slots,
+            names,
+        }
+    }
 }
 
 /// So many numbers, if the width that is told is the least one.

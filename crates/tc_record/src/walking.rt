@@ -41,10 +41,7 @@ impl<'a> Walk<'a> {
         Walk {
             format,
             columns,
-            nesting: Nesting {
-                levels: [Level::Object(None); MAX_LEVELS],
-                depth: 1,
-            },
+            nesting: Nesting::in_object(),
         }
     }
 
@@ -88,8 +85,20 @@ fn token_in<'a>(
 }
 
 impl<'a> Nesting<'a> {
+    /// An object that is open, and nothing else.
+    #[inline(always)]
+    pub(crate) fn in_object() -> Nesting<'a>
+        ensures { stack_of result.levels result.depth ≡ in_object None ∷ [] }
+    {
+        Nesting {
+            levels: [Level::Object(None); MAX_LEVELS],
+            depth: 1,
+        }
+    }
+
     /// Opens what a value opens, or answers `false` where that would nest too deep.
-    fn open(&mut self, value: Piece<'a>) -> bool
+    #[inline(always)]
+    pub(crate) fn open(&mut self, value: Piece<'a>) -> bool
         ensures { (if result then Some (stack_of self.new.levels self.new.depth) else None) ≡ opened (piece_of value.entry) (stack_of self.old.levels self.old.depth) }
     {
         match value {
@@ -103,6 +112,7 @@ impl<'a> Nesting<'a> {
         }
     }
 
+    #[inline(always)]
     fn push(&mut self, level: Level<'a>) -> bool
         ensures { (if result then Some (stack_of self.new.levels self.new.depth) else None) ≡ (if nat_lt (length (stack_of self.old.levels self.old.depth)) max_depth then Some (level_of level.entry ∷ stack_of self.old.levels self.old.depth) else None) }
     {

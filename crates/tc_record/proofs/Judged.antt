@@ -1,0 +1,113 @@
+-- What a step of a walk leaves, and what a walk is by its first step.
+use Rattle.std.proofs.Common.{◌≡◌, ◌≢◌, ◌<◌, ◌≤◌, ◌-◌, ℕ, Bool, true, false, if◌then◌else◌, List, ◌∷◌, Option, None, Some, option_map, is_some, length, get_or, set, refl, ap, subst}
+use Rattle.std.proofs.lemmas.Option.{same_Some}
+use Rattle.tc_bytes.specs.Reading.{◌>>=◌}
+use Rattle.tc_model.specs.Document.{Scalar}
+use Rattle.tc_record.specs.Preorder.{Piece, Token, token}
+use Rattle.tc_record.specs.Walk as walk
+use Rattle.tc_record.specs.WalkView.{level_of}
+use Rattle.tc_record.specs.Moves.{behind_label, label_moves, behind_token, token_moves}
+use Rattle.tc_record.specs.Stack.{stack_of}
+use Rattle.tc_record.specs.declared.reader.Level.{Level}
+use Rattle.tc_record.specs.declared.reader.Level.TheVariants as level
+use Rattle.tc_record.proofs.Stacks.{stepped_none, stepped_some}
+
+-- ---- a walk by its first step
+
+abbrev Stepped : Type 0
+Stepped = Token walk.Key Scalar × List walk.Level × walk.Columns
+
+abbrev and_further : walk.Format → List ℕ → Stepped → Option (List (Token walk.Key Scalar))
+and_further f tags q = walk.walk f tags q.1 q.2 >>= λ ts. Some (q.0 ∷ ts)
+
+pub walk_on : (f : walk.Format) (tag : ℕ) (tags : List ℕ) (levels behind : List walk.Level) (c rest : walk.Columns) → token_moves f tag levels c ≡ Some (behind, rest)
+    → is_some (walk.walk f tags behind rest) ≡ is_some (walk.walk f (tag ∷ tags) levels c)
+walk_on f tag tags levels behind c rest gives = by_step (walk.step f tag levels c) gives
+  where
+    kept : (ts : Option (List (Token walk.Key Scalar))) (t : Token walk.Key Scalar) → is_some ts ≡ is_some (ts >>= λ us. Some (t ∷ us))
+    kept None t = refl
+    kept (Some us) t = refl
+
+    by_step : (s : Option Stepped) → option_map behind_token s ≡ Some (behind, rest) → is_some (walk.walk f tags behind rest) ≡ is_some (s >>= and_further f tags)
+    by_step None e = cc
+    by_step (Some q) e =
+        let P : List walk.Level × walk.Columns → Type 0 = λ x. is_some (walk.walk f tags x.0 x.1) ≡ is_some (and_further f tags q) in
+        subst P (same_Some (behind_token q) (behind, rest) e) (kept (walk.walk f tags q.1 q.2) q.0)
+
+pub walk_ends : (f : walk.Format) (tag : ℕ) (tags : List ℕ) (levels : List walk.Level) (c : walk.Columns) → token_moves f tag levels c ≡ None → false ≡ is_some (walk.walk f (tag ∷ tags) levels c)
+walk_ends f tag tags levels c gives = by_step (walk.step f tag levels c) gives
+  where
+    by_step : (s : Option Stepped) → option_map behind_token s ≡ None → false ≡ is_some (s >>= and_further f tags)
+    by_step None e = refl
+    by_step (Some q) e = cc
+
+-- ---- a value by its parts: its label, with the level and the columns behind it, and then its piece
+
+abbrev Labelled : Type 0
+Labelled = Option walk.Key × walk.Level × walk.Columns
+
+abbrev Valued : Type 0
+Valued = Token walk.Key Scalar × walk.Level × walk.Columns
+
+abbrev with_piece : Labelled → Piece Scalar × walk.Columns → Option Valued
+with_piece x p = Some (token x.0 p.0, x.1, p.1)
+
+abbrev valued : walk.Format → ℕ → Labelled → Option Valued
+valued f tag x = walk.piece_at f.text_width tag x.2 >>= with_piece x
+
+no_label : (f : walk.Format) (level : walk.Level) (tag : ℕ) (c : walk.Columns) → label_moves f level c ≡ None → walk.value_at f level tag c ≡ None
+no_label f level tag c gives = by_label (walk.label_at f level c) gives
+  where
+    by_label : (l : Option Labelled) → option_map behind_label l ≡ None → (l >>= valued f tag) ≡ None
+    by_label None e = refl
+    by_label (Some x) e = cc
+
+no_piece : (f : walk.Format) (level behind : walk.Level) (tag : ℕ) (c rest : walk.Columns) → label_moves f level c ≡ Some (behind, rest) → walk.piece_at f.text_width tag rest ≡ None → walk.value_at f level tag c ≡ None
+no_piece f level behind tag c rest gives none = by_label (walk.label_at f level c) gives
+  where
+    stuck : (x : Labelled) → behind_label x ≡ (behind, rest) → valued f tag x ≡ None
+    stuck x e = let columns : x.2 ≡ rest = ap (λ (q : walk.Level × walk.Columns). q.1) e in rw (columns, none) refl
+
+    by_label : (l : Option Labelled) → option_map behind_label l ≡ Some (behind, rest) → (l >>= valued f tag) ≡ None
+    by_label None e = refl
+    by_label (Some x) e = stuck x (same_Some (behind_label x) (behind, rest) e)
+
+a_value : (f : walk.Format) (level behind : walk.Level) (tag : ℕ) (c rest after : walk.Columns) (p : Piece Scalar) → label_moves f level c ≡ Some (behind, rest) → walk.piece_at f.text_width tag rest ≡ Some (p, after)
+    → (l : Option walk.Key) × (walk.value_at f level tag c ≡ Some (token l p, behind, after))
+a_value f level behind tag c rest after p gives read = by_label (walk.label_at f level c) gives
+  where
+    there : (x : Labelled) → behind_label x ≡ (behind, rest) → valued f tag x ≡ Some (token x.0 p, behind, after)
+    there x e =
+        let columns : x.2 ≡ rest = ap (λ (q : walk.Level × walk.Columns). q.1) e in
+        let level_is : x.1 ≡ behind = ap (λ (q : walk.Level × walk.Columns). q.0) e in
+        rw (columns, read, level_is) refl
+
+    by_label : (l : Option Labelled) → option_map behind_label l ≡ Some (behind, rest) → (k : Option walk.Key) × ((l >>= valued f tag) ≡ Some (token k p, behind, after))
+    by_label None e = cc
+    by_label (Some x) e = (x.0, there x (same_Some (behind_label x) (behind, rest) e))
+
+-- ---- a step, by what stands in the innermost level
+
+abbrev innermost : List Level → ℕ → walk.Level
+innermost ls n = level_of (get_or ls (n - 1) level.Array)
+
+pub stuck_label : (f : walk.Format) (tag : ℕ) (ls : List Level) (n : ℕ) (c : walk.Columns) → 0 < n → tag ≢ 7 → label_moves f (innermost ls n) c ≡ None → token_moves f tag (stack_of ls n) c ≡ None
+stuck_label f tag ls n c some goes none = rw (stepped_none f tag ls n c some goes (no_label f (innermost ls n) tag c none)) refl
+
+pub stuck_piece : (f : walk.Format) (tag : ℕ) (ls : List Level) (n : ℕ) (c rest : walk.Columns) (behind : Level) → 0 < n → tag ≢ 7
+    → label_moves f (innermost ls n) c ≡ Some (level_of behind, rest) → walk.piece_at f.text_width tag rest ≡ None → token_moves f tag (stack_of ls n) c ≡ None
+stuck_piece f tag ls n c rest behind some goes labelled none = rw (stepped_none f tag ls n c some goes (no_piece f (innermost ls n) (level_of behind) tag c rest labelled none)) refl
+
+pub moved_on : (f : walk.Format) (tag : ℕ) (ls : List Level) (n : ℕ) (c rest after : walk.Columns) (behind : Level) (p : Piece Scalar) (r : Bool) (inner : List walk.Level) → 0 < n → n ≤ length ls → tag ≢ 7
+    → label_moves f (innermost ls n) c ≡ Some (level_of behind, rest) → walk.piece_at f.text_width tag rest ≡ Some (p, after)
+    → (if r then Some inner else None) ≡ walk.opened p (stack_of (set ls (n - 1) behind) n) → token_moves f tag (stack_of ls n) c ≡ (if r then Some (inner, after) else None)
+moved_on f tag ls n c rest after behind p r inner some inside goes labelled read opens =
+    let value = a_value f (innermost ls n) (level_of behind) tag c rest after p labelled read in
+    rw (stepped_some f tag ls n c (token value.0 p) behind after some inside goes value.1, ← opens) (by_test (token value.0 p) r)
+  where
+    with_token : Token walk.Key Scalar → List walk.Level → Option Stepped
+    with_token t i = Some (t, i, after)
+
+    by_test : (t : Token walk.Key Scalar) (r : Bool) → option_map behind_token ((if r then Some inner else None) >>= with_token t) ≡ (if r then Some (inner, after) else None)
+    by_test t true = refl
+    by_test t false = refl
