@@ -1,5 +1,5 @@
 -- What the reader of a record shows.
-use Rattle.std.specs.Prelude.{Option, None, Some, option_map}
+use Rattle.std.specs.Prelude.{Option, None, Some}
 use Rattle.tc_model.specs.Document.{Scalar, null, boolean, integer, text}
 use Rattle.tc_record.specs.Preorder as model
 use Rattle.tc_record.specs.Walk as walk
@@ -36,7 +36,8 @@ columns_of c = record { fixed = c.fixed.now; lengths = c.lengths.now; texts = c.
 
 abbrev pub level_of : Level → walk.Level
 level_of level.Array = walk.in_array
-level_of (level.Object last) = walk.in_object (option_map (λ n. n.now) last)
+level_of level.Object = walk.in_object None
+level_of (level.Behind n) = walk.in_object (Some n.now)
 
 abbrev pub format_of : Format → walk.Format
 format_of f = record { named = f.named; text_width = f.text_width; slot_width = f.slot_width }

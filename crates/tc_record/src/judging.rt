@@ -71,7 +71,8 @@ fn level_behind<'a>(
 {
     match level {
         Level::Array => Some(level),
-        Level::Object(last) => member_behind(format, last, columns),
+        Level::Object => member_behind(format, None, columns),
+        Level::Behind(last) => member_behind(format, Some(last), columns),
     }
 }
 
@@ -86,11 +87,11 @@ fn member_behind<'a>(
 {
     if format.named {
         let name = name_in(format.slot_width, last, columns)?;
-        return Some(Level::Object(Some(name)));
+        return Some(Level::Behind(name));
     }
     let (_number, slots) = column_number_at(format.slot_width, columns.slots)?;
     columns.slots = slots;
-    Some(Level::Object(None))
+    Some(Level::Object)
 }
 
 fn is_used_up(columns: Columns<'_>) -> bool

@@ -2,6 +2,8 @@
 
 ghost use Rattle.std.specs.Prelude.{◌≡◌, option_map};
 ghost use Rattle.tc_record.specs.Walk.{sized_number_at, utf8_at, text_at, name_at, bool_at, integer_at, piece_at, in_object, is_above as stands_above, label_at, value_at};
+ghost use Rattle.std.specs.Ordering.{is_lt};
+ghost use Rattle.tc_model.specs.Document.{name_cmp};
 ghost use Rattle.tc_record.specs.WalkView.{key_of, piece_of, token_of, columns_of, level_of, format_of};
 
 use crate::tags::{ARRAY_TAG, BOOLEAN_TAG, INTEGER_TAG, NULL_TAG, OBJECT_TAG, TEXT_TAG};
@@ -28,11 +30,12 @@ pub(crate) struct Format {
     pub(crate) slot_width: Width,
 }
 
-/// An array or an object that is open, with the name of the object's member before.
+/// An array or an object that is open, of an object also with the name of the member before, if names are to ascend.
 #[derive(Clone, Copy)]
 pub(crate) enum Level<'a> {
     Array,
-    Object(Option<&'a str>),
+    Object,
+    Behind(&'a str),
 }
 
 /// One number of a column.
@@ -149,8 +152,20 @@ fn is_above(last: Option<&str>, name: &str) -> bool
 {
     match last {
         None => true,
-        Some(before) => before < name,
+        Some(before) => precedes(before, name),
     }
+}
+
+/// Whether a name stands before another one. Most differ at their first byte, which costs less than a call.
+#[inline(always)]
+fn precedes(name: &str, other: &str) -> bool
+    ensures { result ≡ is_lt (name_cmp name.now other.now) }
+{
+    let (front, back) = (name.as_bytes(), other.as_bytes());
+    if !front.is_empty() && !back.is_empty() && front[0] != back[0] {
+        return front[0] < back[0];
+    }
+    name < other
 }
 
 /// The label of a value that stands in a level, and the level behind it.
@@ -163,10 +178,12 @@ fn label_in<'a>(
 {
     match level {
         Level::Array => Some((Label::Bare, level)),
-        Level::Object(last) => member_label_in(format, last, columns),
+        Level::Object => member_label_in(format, None, columns),
+        Level::Behind(last) => member_label_in(format, Some(last), columns),
     }
 }
 
+#[inline(always)]
 fn member_label_in<'a>(
     format: Format,
     last: Option<&'a str>,
@@ -176,11 +193,11 @@ fn member_label_in<'a>(
 {
     if format.named {
         let name = name_in(format.slot_width, last, columns)?;
-        return Some((Label::Name(name), Level::Object(Some(name))));
+        return Some((Label::Name(name), Level::Behind(name)));
     }
     let (number, slots) = column_number_at(format.slot_width, columns.slots)?;
     columns.slots = slots;
-    Some((Label::Number(number), Level::Object(None)))
+    Some((Label::Number(number), Level::Object))
 }
 
 /// A value that stands in a level, as a token, with the level behind it.

@@ -90,10 +90,9 @@ impl<'a> Nesting<'a> {
     pub(crate) fn in_object() -> Nesting<'a>
         ensures { stack_of result.levels result.depth ≡ in_object None ∷ [] }
     {
-        Nesting {
-            levels: [Level::Object(None); MAX_LEVELS],
-            depth: 1,
-        }
+        let mut levels = [Level::Array; MAX_LEVELS];
+        levels[0] = Level::Object;
+        Nesting { levels, depth: 1 }
     }
 
     /// Opens what a value opens, or answers `false` where that would nest too deep.
@@ -107,7 +106,7 @@ impl<'a> Nesting<'a> {
             Piece::Int(_) => true,
             Piece::Text(_) => true,
             Piece::Array => self.push(Level::Array),
-            Piece::Object => self.push(Level::Object(None)),
+            Piece::Object => self.push(Level::Object),
             Piece::Close => false,
         }
     }
