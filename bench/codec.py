@@ -4,7 +4,8 @@
     bench/codec.py [RUNS]      the least of so many runs, 5 by default
 
 First, nanoseconds a call and a byte of the record, for three documents; then, for four tables of documents, nanoseconds
-a document of a flush, beside those of serde_json's parse of the same documents.
+a document of a flush, beside those of serde_json's parse of the same documents; then, for four runs of components,
+nanoseconds a record of their merge, beside those of looking whether it is a record.
 
 The program is crates/codec_bench/out/codec_bench, which `rt run` in crates/codec_bench builds. A figure is the CPU time
 of N calls: that of a run with 2N calls less that of a run with N, so starting and reading the document are not in it.
@@ -16,6 +17,10 @@ A table is flushed over files that tell nothing and keep their bytes in memory: 
 JSON, `counted` asks whether the table can be flushed, and `flush` makes its component, for which the schema and the names
 below the table are copied. The writes and bytes are those of one flush; a table of churn stands over a component whose
 documents most of its entries replace or take out.
+
+Components are merged over such files too: `judge` looks whether the bytes of each record of the merge are a record, as
+`check` does, and `merge` makes the component. Four components have a quarter of the documents each, every fourth key; the
+two of churn are those of its table and of what the table stands over.
 """
 
 import os
@@ -64,6 +69,19 @@ TABLES = {
 }
 
 
+def spread(count, document):
+    """Four tables, each of every fourth key."""
+    return "\n\n".join("\n".join(document(1_000_000 + key, key) for key in range(first, count, 4)) for first in range(4))
+
+
+RUNS = {
+    "2,000 messages": spread(2_000, feeds.message),
+    "200 readings": spread(200, feeds.readings),
+    "2,000 profiles": spread(2_000, feeds.profile),
+    "churn of 2,000 keys": churn(2_000),
+}
+
+
 def run(text, call, rounds):
     """The CPU seconds of a run, and the number that stands first in its answer."""
     before = resource.getrusage(resource.RUSAGE_CHILDREN)
@@ -103,10 +121,23 @@ def flushes(runs):
         print(f"| {name} | {entries:,} | {parse:,.0f} | {counted:,.0f} | {flush:,.0f} | {flush / parse:.2f} | {writes} | {length // PIECE + 8} |", flush=True)
 
 
+def merges(runs):
+    print("| components of | records | judge | merge | merge / judge | reads | bytes / 32,768 + components |")
+    print("|---|--:|--:|--:|--:|--:|--:|")
+    for name, text in RUNS.items():
+        answer = subprocess.run([PROGRAM, "1", "merge"], input=text.encode(), stdout=subprocess.PIPE, check=True).stdout.split()
+        reads, length = int(answer[1]), int(answer[3])
+        seconds, records = least(text, "judge", runs, 10)
+        judge, merge = seconds / records * 1e9, least(text, "merge", runs, 10)[0] / records * 1e9
+        bound = length // (PIECE // 2) + text.count("\n\n") + 1
+        print(f"| {name} | {records:,} | {judge:,.0f} | {merge:,.0f} | {merge / judge:.2f} | {reads} | {bound} |", flush=True)
+
+
 def main():
     runs = int(sys.argv[1]) if len(sys.argv) > 1 else 5
     codec(runs)
     flushes(runs)
+    merges(runs)
 
 
 main()

@@ -1,13 +1,14 @@
 //! Layer 6, programs: does calls of the record codec and of the files of a partition again and again, so that their time
 //! can be taken from outside.
-//! `codec_bench ROUNDS CALL ..` reads documents as JSON from standard input, one a line. A call of the codec is done on
-//! each of them, and prints the length of the record and a checksum. One of files is done on all of them at once, as
-//! memory tables, between two of which stands an empty line.
+//! `codec_bench ROUNDS CALL ..` reads documents as JSON from standard input, one a line, as memory tables, between two of
+//! which stands an empty line. A call of the codec is done on each document of the last table, and prints the length of its
+//! record and a checksum. One of files is done on the tables.
 #![tactic(auto)]
 
 mod calls;
 mod flushes;
 mod forms;
+mod merges;
 mod rounds;
 mod silent;
 mod tables;
@@ -37,7 +38,8 @@ fn main(rt: HostRuntime) -> Result<()> {
 
 fn print_each(rt: &(impl Print + AllocGlobal), call: &str, text: &str, rounds: u32) -> Result<()> {
     let alloc = rt.alloc();
-    for line in text.lines() {
+    let newest = text.split("\n\n").last().context("no table")?;
+    for line in newest.lines() {
         let doc = doc_of(alloc, &Value::from_str(alloc, line)?)?;
         let record = record_of_document(alloc, &doc)?.context("no record spells the document")?;
         let sum = sum_of(alloc, call, &doc, record.as_slice(), rounds)?;

@@ -11,7 +11,6 @@ mod flushes;
 mod lists;
 mod merges;
 mod policies;
-mod runs;
 mod stores;
 mod tables;
 

@@ -7,13 +7,12 @@ use crate::arguments::{shown, word};
 use crate::desk::Desk;
 use crate::flushes::{asked, counts};
 use crate::lists::Shared;
-use crate::runs::can_merge;
 use crate::stores::{begun, left_of};
 use std::alloc::Global;
 use std::sync::Arc;
 use tc_bytes::Bytes;
 use tc_component::Head;
-use tc_merge::{MergeFault, MergeJob, MergeOut, MergeParts};
+use tc_merge::{MergeFault, MergeJob, MergeOut, MergeParts, can_merge};
 use tc_store::{FileName, MemDevice, MemStore, Store, Watch};
 
 /// The merge of the loaded components: the number of their partition, how many there are, the generations of the merged
@@ -34,7 +33,7 @@ fn job_of(
     requires { device_size device ≡ 0 }
 {
     let run = copies(alloc, &desk.loaded)?;
-    if !can_merge(alloc, head, &run) {
+    if !can_merge(head, &run) {
         return None;
     }
     Some(MergeJob::new(MergeParts {

@@ -5,9 +5,11 @@ mod fault;
 mod input;
 mod job;
 mod laws;
+mod mergeable;
 mod merging;
 mod writing;
 
 pub use fault::MergeFault;
 pub use job::{MergeJob, MergeOut, MergeParts};
 pub use laws::merges_are_made;
+pub use mergeable::can_merge;

@@ -1,0 +1,114 @@
+//! Calls that merge the components of memory tables.
+
+use crate::flushes::{Below, flushed};
+use crate::silent::{SilentDevice, SilentFile, SilentStore, Tally};
+use anyhow::{Result, bail};
+use std::alloc::Global;
+use std::sync::Arc;
+use tc_bytes::Bytes;
+use tc_component::{Component, Head};
+use tc_memory::Sealed;
+use tc_merge::{MergeJob, MergeParts, can_merge};
+use tc_record::RecordRef;
+use tc_store::{Device, FileName, Store};
+
+/// A component that jobs share.
+pub(crate) type Shared = Arc<Component<SilentFile>>;
+
+/// How many reads were made, and how many bytes the files have.
+#[derive(Drop)]
+pub(crate) struct Merged {
+    pub reads: u64,
+    pub bytes: u64,
+}
+
+/// The components of tables, the oldest first, each flushed over those before it.
+pub(crate) fn components_of(alloc: Global, tables: &[Arc<Sealed>]) -> Result<Vec<Shared>> {
+    let mut run = Vec::new(alloc);
+    let mut below = Below::none(alloc);
+    for table in tables {
+        let component = flushed(alloc, table, &below)?;
+        below = Below::behind(alloc, &component)?;
+        run.push(Arc::new(alloc, component)?)?;
+    }
+    Ok(run)
+}
+
+/// Merges components into one so often.
+pub(crate) fn merged_again(alloc: Global, run: &[Shared], rounds: u32) -> Result<Merged> {
+    let mut watch = Tally::none();
+    let mut bytes = 0u64;
+    for _ in 0..rounds {
+        let (device, _name) = merge(alloc, run, &mut watch)?;
+        bytes = bytes.wrapping_add(device.len());
+    }
+    let reads = watch.reads;
+    Ok(Merged { reads, bytes })
+}
+
+/// Judges each record of the merge of components so often, and answers how many there are.
+pub(crate) fn judged_again(alloc: Global, run: &[Shared], rounds: u32) -> Result<u64> {
+    let records = records_of(alloc, run)?;
+    let mut lawful = 0u64;
+    for _ in 0..rounds {
+        for record in &records {
+            if RecordRef::of(record.as_slice()).is_some() {
+                lawful = lawful.wrapping_add(1);
+            }
+        }
+    }
+    if lawful != u64::from(rounds).wrapping_mul(records.len() as u64) {
+        bail!("a merged record is none");
+    }
+    Ok(records.len() as u64)
+}
+
+/// The file of their merge, which is whole.
+fn merge(alloc: Global, run: &[Shared], watch: &mut Tally) -> Result<(SilentDevice, FileName)> {
+    let (from, to) = (1, run.len() as u64);
+    let name = FileName::Component { from, to };
+    let head = Head {
+        number: 0,
+        count: 1,
+        from,
+        to,
+    };
+    let run = shares_of(alloc, run)?;
+    if !can_merge(head, &run) {
+        bail!("the components cannot be merged");
+    }
+    let device = SilentStore {}.fresh(alloc, name, watch)?;
+    let job: MergeJob<SilentStore> = MergeJob::new(MergeParts {
+        run,
+        device,
+        head,
+        watch: Tally::none(),
+    });
+    let out = job.run(alloc);
+    out.outcome?;
+    watch.add(&out.watch);
+    Ok((out.device, name))
+}
+
+fn shares_of(alloc: Global, run: &[Shared]) -> Result<Vec<Shared>> {
+    let mut shares = Vec::new(alloc);
+    for component in run {
+        shares.push(Arc::try_clone(component)?)?;
+    }
+    Ok(shares)
+}
+
+/// The records of their merge.
+fn records_of(alloc: Global, run: &[Shared]) -> Result<Vec<Bytes>> {
+    let mut watch = Tally::none();
+    let (device, name) = merge(alloc, run, &mut watch)?;
+    let file = SilentStore {}.freeze(alloc, device, &mut watch)?;
+    let whole = Component::load(alloc, file, name, &mut watch)?;
+    let mut records = Vec::new(alloc);
+    for at in 0..whole.len() {
+        if let Some(place) = whole.entry(at).place {
+            records.push(whole.fetch(alloc, place, &mut watch)?)?;
+        }
+    }
+    Ok(records)
+}
