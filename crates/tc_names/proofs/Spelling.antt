@@ -52,9 +52,6 @@ dictionary_codec = restated_codec
     (λ names dictionary. (dictionary.few, read_from_names names dictionary.each, new_from_distinct [] names dictionary.distinct))
     (counted_list_codec is_new (passing_codec is_utf8 counted_bytes_codec))
 
--- for `from_utf8`: the test, and what it tests
-pub ruleset utf8_tests = (IsUtf8-from_is_utf8, is_utf8-from_IsUtf8)
-
 -- what reading a section returned is a dictionary with these bytes
 pub section-found : (result : Result (List (List ℕ)) NamesFault) (bytes : List ℕ) → IsBytes bytes → Gives (λ names. names) NotNames result (read_section bytes)
     → IfOk result (λ names. bytes ≡ section names)
