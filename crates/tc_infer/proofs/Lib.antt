@@ -3,3 +3,4 @@ mod LevelLaws
 mod LevelSteps
 mod RecordShape
 mod FreshNames
+mod TogetherLaws

@@ -8,6 +8,7 @@ mod learning;
 mod looking;
 mod recording;
 mod tallying;
+mod together;
 mod tokens;
 mod walking;
 
@@ -15,3 +16,4 @@ pub use adding::add;
 pub use fresh::count_fresh;
 pub use recording::add_record;
 pub use tallying::tally;
+pub use together::fit_together;
