@@ -63,7 +63,7 @@ same_shown newer older d path t extends canonical = ap (λ names. shows names d 
 pub canonical_newer : (newer older : List Name) (d : Counted) → Extends newer older → IsCanonical (length older) d → IsCanonical (length newer) d
 canonical_newer newer older d extends canonical = canonical_below (length older) (length newer) d (omega (arith, ap length extends.1, length-append older extends.0)) canonical
 
-same_total : (newer older : List Name) (d : Counted) (path : Path) → Extends newer older → IsCanonical (length older) d → total_at newer d path ≡ total_at older d path
+pub same_total : (newer older : List Name) (d : Counted) (path : Path) → Extends newer older → IsCanonical (length older) d → total_at newer d path ≡ total_at older d path
 same_total newer older d path extends canonical =
     let shown : (t : Kind) → shows newer d path t ≡ shows older d path t = λ t. same_shown newer older d path t extends canonical in
     omega (arith, shown (scalar null_kind), shown (scalar boolean_kind), shown (scalar integer_kind), shown (scalar text_kind), shown arrays, shown objects)
