@@ -7,7 +7,7 @@ use Rattle.tc_model.specs.Document.{Name, Document, null_kind, boolean_kind, int
 use Rattle.tc_model.specs.Dictionary.{number_of}
 use Rattle.tc_schema_model.specs.Occurrences.{field, each_item, Path}
 use Rattle.tc_model.specs.Kinds.{Kind, scalar, arrays, objects}
-use Rattle.tc_schema_model.specs.Counted.{Counters, no_counters, counter, total, Counted, counted, Below, no_item, an_item, Fields, no_fields, a_field, nothing, held, field_at, numbered_field, counters_of, documents_of, shows, IsCanonical, IsBelowCanonical, AreFieldsCanonical}
+use Rattle.tc_schema_model.specs.Counted.{Counters, no_counters, counter, total, Counted, counted, Below, no_item, an_item, Fields, no_fields, a_field, nothing, held, field_at, numbered_field, counters_of, documents_of, shows, total_at, IsCanonical, IsBelowCanonical, AreFieldsCanonical}
 use Rattle.tc_schema_model.specs.SchemaText.{name_at}
 use Rattle.tc_schema_model.specs.Stands.{StandsFor}
 use Rattle.tc_schema_model.proofs.CounterLaws.{each_kind}
@@ -21,6 +21,12 @@ shows_nothing names (field name ∷ path) t = ap (λ d. shows names d path t) (a
     at : (o : Option ℕ) → numbered_field o no_fields ≡ nothing
     at None = refl
     at (Some n) = refl
+
+-- and has no value at any path
+pub total_nothing : (names : List Name) (path : Path) → total_at names nothing path ≡ 0
+total_nothing names path =
+    let one : (t : Kind) → shows names nothing path t ≡ 0 = λ t. shows_nothing names path t in
+    omega (arith, one (scalar null_kind), one (scalar boolean_kind), one (scalar integer_kind), one (scalar text_kind), one arrays, one objects)
 
 -- two places show the same at every path
 abbrev ShowTheSame : List Name → Counted → Counted → Type 0
