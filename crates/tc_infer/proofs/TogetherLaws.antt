@@ -9,7 +9,7 @@ use Rattle.tc_schema_model.specs.Occurrences.{field, each_item, Path}
 use Rattle.tc_schema_model.specs.Counted.{Counters, Counted, counted, Below, no_item, an_item, Fields, no_fields, a_field, nothing, below_of, documents_of, fields_of, held, field_at, numbered_field, total, total_at, IsCanonical, IsBelowCanonical, AreFieldsCanonical, HasSmallCounters, BelowHasSmallCounters, FieldsHaveSmallCounters}
 use Rattle.tc_schema_model.specs.SchemaText.{name_at}
 use Rattle.tc_schema_model.proofs.AddedLaws.{field_canonical}
-use Rattle.tc_schema_model.proofs.CountingLaws.{at_first, after_first}
+use Rattle.tc_schema_model.proofs.CountingLaws.{at_first, after_first, total_nothing}
 use Rattle.tc_schema_model.proofs.FieldLaws.{held_canonical}
 use Rattle.tc_schema_model.proofs.NumberLaws.{number_of_name_at}
 use Rattle.tc_schema_model.proofs.RemovedLaws.{nothing_counted}
@@ -20,22 +20,13 @@ use Rattle.tc_infer.specs.Together.{do_fit, do_items_fit, do_all_fit}
 abbrev pub FitAt : List Name → Counted → Counted → Path → Type 0
 FitAt names e d path = total_at names e path + total_at names d path < 2 ^ 64
 
-none_at : (names : List Name) (path : Path) → total_at names nothing path ≡ 0
-none_at names [] = refl
-none_at names (each_item ∷ path) = none_at names path
-none_at names (field name ∷ path) = at (number_of names name) (none_at names path)
-  where
-    at : (o : Option ℕ) → total_at names nothing path ≡ 0 → total_at names (numbered_field o no_fields) path ≡ 0
-    at None none = none
-    at (Some n) none = none
-
 -- ---- from the test
 
 beside_nothing : (names : List Name) (e d : Counted) (path : Path) → d ≡ nothing → total_at names e path < 2 ^ 64 → FitAt names e d path
-beside_nothing names e d path none small = omega (arith, small, ap (λ x. total_at names x path) none, none_at names path)
+beside_nothing names e d path none small = omega (arith, small, ap (λ x. total_at names x path) none, total_nothing names path)
 
 nothing_beside : (names : List Name) (d : Counted) (path : Path) → total_at names d path < 2 ^ 64 → FitAt names nothing d path
-nothing_beside names d path small = omega (arith, small, none_at names path)
+nothing_beside names d path small = omega (arith, small, total_nothing names path)
 
 -- one that counts nothing, or the rest of the test
 by_either : {P : Type 0} (none rest : Bool) → (none || rest) ≡ true → (none ≡ true → P) → (rest ≡ true → P) → P
