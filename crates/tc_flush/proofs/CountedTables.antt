@@ -11,8 +11,7 @@ use Rattle.tc_model.specs.ShapeNames.{names_within}
 use Rattle.tc_model.specs.Stored.{IsStorable}
 use Rattle.tc_model.specs.TreeSize.{tree_size}
 use Rattle.tc_model.proofs.LearnedNames.{length-all_learned-most}
-use Rattle.tc_schema_model.specs.Bounds.{greatest_total}
-use Rattle.tc_schema_model.specs.Counted.{Counted, IsCanonical, total_at}
+use Rattle.tc_schema_model.specs.Counted.{Counted, nothing, IsCanonical, total_at}
 use Rattle.tc_schema_model.specs.Occurrences.{Path}
 use Rattle.tc_schema_model.proofs.ValueBounds.{document_values_at-size}
 use Rattle.tc_record.specs.Record.{record_of, IsRecordOf}
@@ -23,14 +22,17 @@ use Rattle.tc_record.specs.Walk.{name}
 use Rattle.tc_record.proofs.Keyed.{preorder-relabel, labels-retoken}
 use Rattle.tc_compact.specs.Slots.{names_in}
 use Rattle.tc_compact.proofs.Compacts.{document_names}
-use Rattle.tc_flush.proofs.CountingSteps.{shapes_held-first}
+use Rattle.tc_schema_model.proofs.CountingLaws.{total_nothing}
+use Rattle.tc_schema_model.proofs.MoreNames.{same_total}
+use Rattle.tc_flush.proofs.CountingSteps.{shapes_held-first, total-all_added}
+use Rattle.tc_flush.proofs.DocumentNames.{Extends-names_with}
 use Rattle.tc_lsm_model.specs.Tables as documents
 use Rattle.tc_lsm_model.specs.Tables.{Slot, shapes_held, shapes_below}
 use Rattle.tc_memory.specs.DocumentTables.{kept_held, kept_table, IsStoredAt, IsTableOf}
 use Rattle.tc_memory.specs.Table.{Held, Table, gone, live}
 use Rattle.tc_flush.specs.Counting.{held_record, records_kept, IsShort, names_held, IsCounted}
-use Rattle.tc_flush.specs.Flushable.{CanFlush, IsShortRecord, values_of}
-use Rattle.tc_flush.specs.Recounting.{FitsEach, all_removed, names_with, shapes_kept}
+use Rattle.tc_flush.specs.Flushable.{CanCount, CanFlush, IsShortRecord, values_of}
+use Rattle.tc_flush.specs.Recounting.{FitsEach, all_added, all_removed, names_with, shapes_kept}
 use Rattle.tc_flush.proofs.FlushedBytes.{shapes_are, total-all_removed}
 use Rattle.tc_flush.proofs.KeptEntries.{recorded}
 use Rattle.tc_flush.proofs.ValuesAtRoot.{values_of-root}
@@ -116,21 +118,49 @@ few_members names t members sum members_is sum_is below = omega (arith, few_name
 
 -- ---- the whole
 
-pub can_flush : FewValues → (names : List Name) → IsDistinct bytes_eq names → (schema : Counted) (t : documents.Table) (kept : Table) → IsTableOf t kept
-    → ((path : Path) → total_at names (all_removed names (shapes_kept kept) schema) path ≤ greatest_total (all_removed names (shapes_kept kept) schema)) → IsCounted names schema kept → CanFlush names schema t
-can_flush few names distinct schema t kept of greatest counted =
+pub can_flush : (names : List Name) → IsDistinct bytes_eq names → (schema : Counted) (t : documents.Table) (kept : Table) → IsTableOf t kept → IsCounted names schema kept → CanFlush names schema t
+can_flush names distinct schema t kept of counted =
     let room = counted.room in
     let shapes = shapes_are t kept of in
     let fits : FitsEach names (shapes_below t) schema = subst (λ ss. FitsEach names ss schema) shapes counted.fits in
     let left : all_removed names (shapes_kept kept) schema ≡ all_removed names (shapes_below t) schema = ap (λ ss. all_removed names ss schema) shapes in
     let total : (path : Path) → total_at names (all_removed names (shapes_kept kept) schema) path + values_of (shapes_below t) path ≡ total_at names schema path =
     λ path. ap (λ d. total_at names d path + values_of (shapes_below t) path) left ∙ total-all_removed names distinct (shapes_below t) schema fits path in
-    let count : length (records_kept kept) ≡ length (shapes_held t) = ap (λ k. length (records_kept k)) of.is ∙ count-records t in
-    let short : All IsShortRecord t = short-records t (subst (λ k. All IsShort (records_kept k)) of.is room.short) in
     record {
       fits = fits;
-      documents = omega (arith, room.documents, count, total [], values_of-root (shapes_below t));
+      documents = omega (arith, room.documents, ap (λ k. length (records_kept k)) of.is ∙ count-records t, total [], values_of-root (shapes_below t));
       known = room.names t of;
-      counters = λ path. omega (arith, total path, greatest path, room.counters, room.documents, count, few_values few t of.stored short path);
-      short = short;
+      counters = λ path. omega (arith, total path, room.counters t of path);
+      short = short-records t (subst (λ k. All IsShort (records_kept k)) of.is room.short);
     }
+
+-- ---- the values of few documents with short records
+
+module _ (few : FewValues) (t : documents.Table) (kept : Table) (of : IsTableOf t kept) (short : All IsShort (records_kept kept)) (count : length (records_kept kept) < 2 ^ 32) where
+  short_t : All IsShortRecord t
+  short_t = short-records t (subst (λ k. All IsShort (records_kept k)) of.is short)
+
+  pub values_few : (path : Path) → values_of (shapes_held t) path < 2 ^ 63
+  values_few path = omega (arith, few_values few t of.stored short_t path, ap (λ k. length (records_kept k)) of.is ∙ count-records t, count)
+
+  -- so that they can be counted apart
+  pub can_apart : (names : List Name) → length (names_with names (shapes_held t)) < 2 ^ 32 → CanCount names nothing t
+  can_apart names known = record {
+    canonical = (λ _. refl, λ _. refl, tt, tt);
+    known = known;
+    counters = λ path. omega (arith, values_few path, total_nothing names path);
+    short = short_t;
+  }
+
+-- a path has room for both where it has room for the documents counted apart
+pub apart_decides : (names : List Name) (left apart : Counted) (known : List Name) (t : documents.Table) → IsCanonical (length names) left → known ≡ names_with names (shapes_held t) → apart ≡ all_added names (shapes_held t) nothing
+    → (path : Path) → total_at known apart path + total_at known left path ≡ total_at names left path + values_of (shapes_held t) path
+apart_decides names left apart known t canonical known_is apart_is path =
+    ap (λ ns. total_at ns apart path + total_at ns left path) known_is
+    ∙ ap (λ d. total_at (names_with names (shapes_held t)) d path + total_at (names_with names (shapes_held t)) left path) apart_is
+    ∙ omega (
+      arith,
+      total-all_added names (shapes_held t) nothing (λ _. refl, λ _. refl, tt, tt) path,
+      total_nothing names path,
+      same_total (names_with names (shapes_held t)) names left path (Extends-names_with names (shapes_held t)) canonical,
+    )

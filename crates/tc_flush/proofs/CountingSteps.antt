@@ -32,7 +32,7 @@ values_of-append xs ys path =
     let one : (t : Kind) → _ = λ t. occurring-append xs ys path t in
     omega (arith, one (scalar null_kind), one (scalar boolean_kind), one (scalar integer_kind), one (scalar text_kind), one arrays, one objects)
 
-total-all_added : (names : List Name) (shapes : List ShapeTree) (d : Counted) → IsCanonical (length names) d → (path : Path) → total_at (names_with names shapes) (all_added names shapes d) path ≡ total_at names d path + values_of shapes path
+pub total-all_added : (names : List Name) (shapes : List ShapeTree) (d : Counted) → IsCanonical (length names) d → (path : Path) → total_at (names_with names shapes) (all_added names shapes d) path ≡ total_at names d path + values_of shapes path
 total-all_added names shapes d canonical path =
     let one : (t : Kind) → _ = λ t. shows-all_added names shapes d canonical path t in
     omega (arith, one (scalar null_kind), one (scalar boolean_kind), one (scalar integer_kind), one (scalar text_kind), one arrays, one objects)

@@ -1,16 +1,10 @@
 -- A table behind a list passes the test, where its numbers keep the bounds.
-use Rattle.std.proofs.Common.{◌≡◌, ◌+◌, ◌*◌, ◌<◌, ◌≤◌, ◌^◌, ℕ, List, [], ◌∷◌, ◌++◌, length, bytes_eq, sym, ap, ◌∙◌, subst, arith, Option, Some, None}
-use Rattle.std.specs.List.{IsDistinct}
+use Rattle.std.proofs.Common.{◌≡◌, ◌*◌, ◌<◌, ◌≤◌, ◌^◌, List, [], ◌∷◌, ◌++◌, length, sym, ap, ◌∙◌, arith, Option, Some, None}
 use Rattle.std.specs.Prelude.{All, IfSome}
 use Rattle.std.proofs.lemmas.List.Elements.{All-nil, All-cons, All-head, All-tail}
-use Rattle.tc_model.specs.Document.{Name, Document}
-use Rattle.tc_schema_model.specs.Bounds.{greatest_total, greatest_below, greatest_of_fields}
-use Rattle.tc_schema_model.specs.Counted.{Counted, counted, Below, no_item, an_item, Fields, no_fields, a_field, held, field_at, numbered_field, total_at, IsCanonical, IsBelowCanonical, AreFieldsCanonical}
-use Rattle.tc_schema_model.specs.Occurrences.{field, each_item, Path}
-use Rattle.tc_schema_model.specs.SchemaText.{name_at}
+use Rattle.tc_model.specs.Document.{Document}
+use Rattle.tc_schema_model.specs.Occurrences.{Path}
 use Rattle.tc_schema_model.specs.Values.{values_in}
-use Rattle.tc_schema_model.proofs.CountingLaws.{at_first, after_first}
-use Rattle.tc_schema_model.proofs.NumberLaws.{number_of_name_at}
 use Rattle.tc_schema_model.proofs.ValueBounds.{document_values_at-size}
 use Rattle.tc_record.specs.Record.{record_of}
 use Rattle.tc_lsm_model.specs.Tables as documents
@@ -20,32 +14,6 @@ use Rattle.tc_flush.specs.Counting.{held_record, records_kept, IsShort, IsShortD
 use Rattle.tc_flush.specs.Flushable.{IsShortRecord}
 use Rattle.tc_flush.proofs.CountedTables.{FewValues}
 use Rattle.tc_flush.proofs.KeptEntries.{OneDocument, cut, none_left, one_table}
-
--- ---- the greatest count, by paths
-
-module _ (names : List Name) (distinct : IsDistinct bytes_eq names) (limit : ℕ) (some : 0 < limit) where
-  mutual
-    pub greatest_from_paths : (d : Counted) → IsCanonical (length names) d → ((path : Path) → total_at names d path < limit) → greatest_total d < limit
-    greatest_from_paths (counted c b fs) canonical fits =
-        omega (
-          arith,
-          fits [],
-          greatest_item b canonical.2 (λ path. fits (each_item ∷ path)),
-          greatest_fields 0 fs canonical.3 (λ n least below path. subst (λ o. total_at names (numbered_field o fs) path < limit) (number_of_name_at names n distinct below) (fits (field (name_at names n) ∷ path))),
-        )
-
-    greatest_item : (b : Below) → IsBelowCanonical (length names) b → ((path : Path) → total_at names (held b) path < limit) → greatest_below b < limit
-    greatest_item no_item canonical fits = some
-    greatest_item (an_item d) canonical fits = greatest_from_paths d canonical.1 fits
-
-    greatest_fields : (low : ℕ) (fs : Fields) → AreFieldsCanonical (length names) low fs → ((n : ℕ) → low ≤ n → n < length names → (path : Path) → total_at names (field_at n fs) path < limit) → greatest_of_fields fs < limit
-    greatest_fields low no_fields canonical fits = some
-    greatest_fields low (a_field n d fs) canonical fits =
-        omega (
-          arith,
-          greatest_from_paths d canonical.3 (λ path. subst (λ e. total_at names e path < limit) (at_first n d fs) (fits n canonical.0 canonical.1 path)),
-          greatest_fields (n + 1) fs canonical.4 (λ k least below path. subst (λ e. total_at names e path < limit) (after_first k n d fs (omega arith)) (fits k (omega (arith, canonical.0)) below path)),
-        )
 
 -- ---- documents with short records
 

@@ -9,6 +9,10 @@ pub ok_then : {X E : Type 0} (r : Result X E) (P Q : Type 0) → (P → Q) → O
 ok_then (Ok x) P Q f p = f p
 ok_then (Err e) P Q f p = tt
 
+pub ok_both : {X E : Type 0} (r : Result X E) (P Q R : Type 0) → (P → Q → R) → OnOk r P → OnOk r Q → OnOk r R
+ok_both (Ok x) P Q R f p q = f p q
+ok_both (Err e) P Q R f p q = tt
+
 pub if_ok : {X E : Type 0} (r : Result X E) (P Q : X → Type 0) → ((x : X) → P x → Q x) → IfOk r P → IfOk r Q
 if_ok (Ok x) P Q f p = f x p
 if_ok (Err e) P Q f p = tt

@@ -1,20 +1,23 @@
 //! The test whether a table can be flushed.
 
-ghost use Rattle.std.specs.Prelude.{◌≡◌, ◌↔◌, ◌<◌, ◌^◌, ◌-◌, ◌∷◌, [], All, IfNone, IfOk, IfSome, IsTrue, length, min};
+ghost use Rattle.std.specs.Prelude.{◌≡◌, ◌↔◌, ◌+◌, ◌<◌, ◌^◌, ◌-◌, ◌∷◌, [], All, IfNone, IfOk, IfSome, IsTrue, length, min};
 ghost use Rattle.std.specs.Bool.{OnTrue};
-ghost use Rattle.tc_schema_model.specs.Counted.{IsCanonical};
+ghost use Rattle.tc_schema_model.specs.Counted.{nothing, total_at, IsCanonical};
+ghost use Rattle.tc_schema_model.specs.Occurrences.{Path};
 ghost use Rattle.tc_memory.specs.DocumentTables.{IsTableOf};
 ghost use Rattle.tc_memory.specs.Meaning.{IsLawfulHeld, entry_of};
-ghost use Rattle.tc_lsm_model.specs.Tables.{Table};
+ghost use Rattle.tc_lsm_model.specs.Tables.{Table, shapes_held};
 ghost use Rattle.tc_flush.specs.Counting.{HasRoom, IsCounted as CountsOf, IsShort, names_held, records_kept};
-ghost use Rattle.tc_flush.specs.Flushable.{CanFlush};
-ghost use Rattle.tc_flush.specs.Recounting.{FitsEach, all_removed, shapes_kept};
+ghost use Rattle.tc_flush.specs.Flushable.{CanCount, CanFlush, values_of};
+ghost use Rattle.tc_flush.specs.Recounting.{FitsEach, all_removed, names_with, shapes_kept};
 
 use crate::learning::names_fit;
+use crate::tallying::count_entries;
 use std::alloc::Global;
 use tc_anti::subtract_if_fits;
 use tc_bytes::Memory;
 use tc_compact::names_agree;
+use tc_infer::fit_together;
 use tc_memory::{Entry, Held, Sealed, tables_keep_documents};
 use tc_names::Names;
 use tc_record::{RecordRef, one_document};
@@ -26,7 +29,7 @@ const MOST: u64 = 0x1_0000_0000;
 /// A record that can be compacted has fewer bytes.
 const LONG: usize = 0x4000_0000;
 
-/// So many values at one place leave no room.
+/// Where no place counts so many values there is room for those of few documents with short records.
 const HIGH: u64 = 0x8000_0000_0000_0000;
 
 /// Whether a table can be flushed over a schema and its names. Errs only for want of memory.
@@ -47,8 +50,7 @@ pub fn counted(
     if !take_if_fits(sealed, names, &mut left) {
         return Ok(false);
     }
-    names_agree();
-    has_room(sealed, &left, names)
+    has_room(alloc, sealed, &left, names)
 }
 
 /// Takes off the shapes that a table keeps, each once, and answers whether the schema fitted each. Takes no memory.
@@ -69,12 +71,14 @@ fn take_if_fits(sealed: &Sealed, names: &Names, left: &mut Schema) -> bool
     true
 }
 
-/// Whether there is room for the documents of a table and their names. Where all members together are few, so are the
-/// new names; else they are learned by a copy. Errs only for want of memory.
-fn has_room(sealed: &Sealed, left: &Schema, names: &Names) -> Result<bool, Memory>
+/// Whether there is room for the documents of a table, their names and their values. Where no place counts many values
+/// there is room for those of few documents; else they are counted apart. Errs only for want of memory.
+fn has_room(alloc: Global, sealed: &Sealed, left: &Schema, names: &Names) -> Result<bool, Memory>
+    requires { IsCanonical (length names.now) left.now }
     ensures { IfOk result (λ yes. IsTrue yes ↔ HasRoom sealed.now left.now names.now) }
 {
     tables_keep_documents();
+    names_agree();
     let _entries = sealed.len();
     let Some(held) = short_records(sealed) else {
         return Ok(false);
@@ -82,13 +86,43 @@ fn has_room(sealed: &Sealed, left: &Schema, names: &Names) -> Result<bool, Memor
     if left.documents().saturating_add(held) >= MOST {
         return Ok(false);
     }
-    if left.greatest() >= HIGH {
+    if !have_names_room(sealed, names)? {
         return Ok(false);
     }
+    if left.greatest() < HIGH {
+        return Ok(true);
+    }
+    have_values_room(alloc, sealed, left, names)
+}
+
+/// Whether there are fewer than 2^32 names with those of a table's documents. Where all members together are few, so are
+/// the new names; else they are learned by a copy. Errs only for want of memory.
+fn have_names_room(sealed: &Sealed, names: &Names) -> Result<bool, Memory>
+    ensures { IfOk result (λ yes. (t : Table) → IsTableOf t sealed.now → IsTrue yes ↔ length (names_with names.now (shapes_held t)) < 2 ^ 32) }
+{
     if member_count(sealed).saturating_add(u64::from(names.len())) < MOST {
         return Ok(true);
     }
     names_fit(sealed, names)
+}
+
+/// Whether each path has fewer than 2^64 values with those of a table's documents. Errs only for want of memory.
+fn have_values_room(
+    alloc: Global,
+    sealed: &Sealed,
+    left: &Schema,
+    names: &Names,
+) -> Result<bool, Memory>
+    requires canonical { IsCanonical (length names.now) left.now }
+    requires can { (t : Table) → IsTableOf t sealed.now → CanCount names.now nothing t }
+    ensures { IfOk result (λ yes. (t : Table) → IsTableOf t sealed.now → IsTrue yes ↔ ((path : Path) → total_at names.now left.now path + values_of (shapes_held t) path < 2 ^ 64)) }
+{
+    let mut known = names.copy()?;
+    let mut apart = Schema::empty(alloc);
+    count_entries(sealed, &mut apart, &mut known)?;
+    // that the names are a dictionary
+    let _known = known.len();
+    Ok(fit_together(&apart, left))
 }
 
 /// How many records a table keeps, if all are short.

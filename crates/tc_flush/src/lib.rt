@@ -7,6 +7,7 @@ mod job;
 mod laws;
 mod learning;
 mod record;
+mod tallying;
 mod writing;
 
 pub use counting::counted;

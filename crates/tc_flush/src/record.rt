@@ -44,7 +44,11 @@ pub(crate) fn compact_counted(
 }
 
 /// Counts the document of a record once more, and learns its new names. Errs only for want of memory.
-fn count(of: &RecordRef<'_>, schema: &mut Schema, names: &mut Names) -> Result<(), Memory>
+pub(crate) fn count(
+    of: &RecordRef<'_>,
+    schema: &mut Schema,
+    names: &mut Names,
+) -> Result<(), Memory>
     requires named { of.now.named ≡ true }
     requires canonical { IsCanonical (length names.old) schema.old }
     requires counters { (d : Document) → IsRecordOf d of.now.bytes → (path : Path) → total_at names.old schema.old path + values_at (document_shape d) path < 2 ^ 64 }
