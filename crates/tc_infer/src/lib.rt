@@ -4,6 +4,7 @@
 mod adding;
 mod counting;
 mod fresh;
+mod known;
 mod learning;
 mod looking;
 mod recording;
@@ -14,6 +15,7 @@ mod walking;
 
 pub use adding::add;
 pub use fresh::count_fresh;
+pub use known::add_known;
 pub use recording::add_record;
 pub use tallying::tally;
 pub use together::fit_together;
