@@ -6,7 +6,6 @@ pub mod DocumentNames
 pub mod FlushedContents
 pub mod CountingSteps
 pub mod Progressing
-pub mod NumberedNames
 pub mod RecordNames
 pub mod EntrySteps
 pub mod Outcomes

@@ -14,13 +14,13 @@ ghost use Rattle.tc_compact.specs.Compacted.{IsCompactedRecordOf};
 use std::alloc::Global;
 use tc_bytes::{Bytes, Memory};
 use tc_compact::{compact, names_agree};
-use tc_infer::{add_record, tally};
+use tc_infer::add_known;
 use tc_names::Names;
 use tc_record::RecordRef;
 use tc_schema::Schema;
 
-/// Counts the document of a record once more, learns its new names, and answers its compacted record. No tree is made of
-/// it. Errs only for want of memory.
+/// Learns the new names of a record's document, counts it once more, and answers its compacted record. No tree is made of
+/// it: one walk learns and compacts, and one counts. Errs only for want of memory.
 pub(crate) fn compact_counted(
     alloc: Global,
     of: RecordRef<'_>,
@@ -39,26 +39,7 @@ pub(crate) fn compact_counted(
     names_agree();
     // that the bytes spell a document
     let _bytes = of.bytes();
-    count(&of, schema, names)?;
-    compact(alloc, of, names)
-}
-
-/// Counts the document of a record once more, and learns its new names. Errs only for want of memory.
-pub(crate) fn count(
-    of: &RecordRef<'_>,
-    schema: &mut Schema,
-    names: &mut Names,
-) -> Result<(), Memory>
-    requires named { of.now.named ≡ true }
-    requires canonical { IsCanonical (length names.old) schema.old }
-    requires counters { (d : Document) → IsRecordOf d of.now.bytes → (path : Path) → total_at names.old schema.old path + values_at (document_shape d) path < 2 ^ 64 }
-    requires room { (d : Document) → IsRecordOf d of.now.bytes → length (all_learned names.old (names_within (document_shape d))) < 2 ^ 32 }
-    ensures learned { OnOk result ((d : Document) → IsRecordOf d of.now.bytes → names.new ≡ all_learned names.old (names_within (document_shape d))) }
-    ensures counted { OnOk result ((d : Document) → IsRecordOf d of.now.bytes → schema.new ≡ added names.new (document_shape d) schema.old) }
-{
-    names_agree();
-    if tally(schema, names, of.again()) {
-        return Ok(());
-    }
-    add_record(schema, names, of.again())
+    let record = compact(alloc, of.again(), names)?;
+    add_known(schema, names, of)?;
+    Ok(record)
 }

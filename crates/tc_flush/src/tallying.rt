@@ -7,8 +7,9 @@ ghost use Rattle.tc_lsm_model.specs.Tables.{Table, shapes_held};
 ghost use Rattle.tc_flush.specs.Flushable.{CanCount};
 ghost use Rattle.tc_flush.specs.Recounting.{names_with, all_added};
 
-use crate::record::count;
 use tc_bytes::Memory;
+use tc_compact::names_agree;
+use tc_infer::add_record;
 use tc_memory::{Entry, Held, Sealed, tables_keep_documents};
 use tc_names::Names;
 use tc_record::{RecordRef, one_document};
@@ -40,9 +41,10 @@ fn count_entry(entry: Entry<'_>, schema: &mut Schema, names: &mut Names) -> Resu
     ensures learned { OnOk result ((t : Table) → IsTableOf t (entry_of entry.entry ∷ []) → names.new ≡ names_with names.old (shapes_held t)) }
     ensures counted { OnOk result ((t : Table) → IsTableOf t (entry_of entry.entry ∷ []) → schema.new ≡ all_added names.old (shapes_held t) schema.old) }
 {
+    names_agree();
     one_document();
     match entry.held {
         Held::Gone => Ok(()),
-        Held::Live(bytes) => count(&RecordRef::known(bytes.as_slice()), schema, names),
+        Held::Live(bytes) => add_record(schema, names, RecordRef::known(bytes.as_slice())),
     }
 }

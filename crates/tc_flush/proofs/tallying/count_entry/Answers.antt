@@ -8,36 +8,36 @@ use Rattle.tc_flush.proofs.tallying.count_entry.Goals as goal
 
 -- ---- an entry with a document
 
-pub count-requires-clause-canonical : goal.count-requires-clause-canonical
-count-requires-clause-canonical c =
+pub add_record-requires-clause-canonical : goal.add_record-requires-clause-canonical
+add_record-requires-clause-canonical c =
     canonical_of c.one_document.ensures (entry_of c.args.entry) c.in-Live.bytes.now (ap held_of c.in-Live.is) (subst IsLawfulHeld c.in-Live.is c.requires.lawful) c.args.names.now c.args.schema.now c.requires.can
 
-pub count-requires-clause-counters : goal.count-requires-clause-counters
-count-requires-clause-counters c = λ d is path.
+pub add_record-requires-clause-counters : goal.add_record-requires-clause-counters
+add_record-requires-clause-counters c = λ d is path.
     counters_of c.one_document.ensures (entry_of c.args.entry) c.in-Live.bytes.now (ap held_of c.in-Live.is) (subst IsLawfulHeld c.in-Live.is c.requires.lawful) c.args.names.now c.args.schema.now c.requires.can d
     (subst (IsRecordOf d) (c.known.ensures.bytes ∙ c.as_slice.ensures.same) is) path
 
-pub count-requires-clause-room : goal.count-requires-clause-room
-count-requires-clause-room c = λ d is.
+pub add_record-requires-clause-room : goal.add_record-requires-clause-room
+add_record-requires-clause-room c = λ d is.
     room_of c.one_document.ensures (entry_of c.args.entry) c.in-Live.bytes.now (ap held_of c.in-Live.is) (subst IsLawfulHeld c.in-Live.is c.requires.lawful) c.args.names.now c.args.schema.now c.requires.can d
     (subst (IsRecordOf d) (c.known.ensures.bytes ∙ c.as_slice.ensures.same) is)
 
 pub returns-in-Live-clause-learned : goal.returns-in-Live-clause-learned
 returns-in-Live-clause-learned c =
-    ok_then c.count.result _ _
+    ok_then c.add_record.result _ _
     (λ learned.
-    names_are c.one_document.ensures (entry_of c.args.entry) c.in-Live.bytes.now (ap held_of c.in-Live.is) (subst IsLawfulHeld c.in-Live.is c.requires.lawful) c.args.names.now c.count.new.names
+    names_are c.one_document.ensures (entry_of c.args.entry) c.in-Live.bytes.now (ap held_of c.in-Live.is) (subst IsLawfulHeld c.in-Live.is c.requires.lawful) c.args.names.now c.add_record.new.names
     (λ d is. learned d (subst (IsRecordOf d) (sym (c.known.ensures.bytes ∙ c.as_slice.ensures.same)) is)))
-    c.count.ensures.learned
+    c.add_record.ensures.names
 
 pub returns-in-Live-clause-counted : goal.returns-in-Live-clause-counted
 returns-in-Live-clause-counted c =
     let same = sym (c.known.ensures.bytes ∙ c.as_slice.ensures.same) in
-    ok_both c.count.result _ _ _
+    ok_both c.add_record.result _ _ _
     (λ learned counted.
-    schema_is c.one_document.ensures (entry_of c.args.entry) c.in-Live.bytes.now (ap held_of c.in-Live.is) (subst IsLawfulHeld c.in-Live.is c.requires.lawful) c.args.names.now c.count.new.names c.args.schema.now c.count.new.schema
+    schema_is c.one_document.ensures (entry_of c.args.entry) c.in-Live.bytes.now (ap held_of c.in-Live.is) (subst IsLawfulHeld c.in-Live.is c.requires.lawful) c.args.names.now c.add_record.new.names c.args.schema.now c.add_record.new.schema
     (λ d is. learned d (subst (IsRecordOf d) same is)) (λ d is. counted d (subst (IsRecordOf d) same is)))
-    c.count.ensures.learned c.count.ensures.counted
+    c.add_record.ensures.names c.add_record.ensures.added
 
 -- ---- an entry whose document is gone
 
