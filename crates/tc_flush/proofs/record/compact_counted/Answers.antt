@@ -1,7 +1,7 @@
 use Rattle.std.proofs.Common.{◌≡◌, sym, ap, ◌∙◌, subst, arith}
 use Rattle.tc_model.proofs.DictionaryGrowth.{Extends-same}
 use Rattle.tc_model.specs.Dictionary.{all_learned}
-use Rattle.tc_model.specs.Document.{Document, document_shape}
+use Rattle.tc_model.specs.Document.{document_shape}
 use Rattle.tc_model.specs.ShapeNames.{names_within}
 use Rattle.tc_record.specs.Record.{IsRecordOf}
 use Rattle.tc_schema_model.specs.Added.{IsNamed}
@@ -13,7 +13,6 @@ use Rattle.tc_flush.proofs.record.compact_counted.Goals as goal
 
 pub compact-requires-clause-room : goal.compact-requires-clause-room
 compact-requires-clause-room c = rw (c.again.ensures) (room_is c.names_agree.ensures.order c.args.of c.bytes-bytes.ensures.spells c.args.names.now c.requires.named c.requires.room)
-
 
 pub add_known-requires-clause-known : goal.add_known-requires-clause-known
 add_known-requires-clause-known c = λ d is.

@@ -1,7 +1,5 @@
 use Rattle.std.proofs.Common.{◌≡◌, ◌+◌, ◌<◌, ◌^◌, length, sym, ap, ◌∙◌, subst, arith}
-use Rattle.tc_model.specs.Document.{Document, document_shape}
 use Rattle.tc_model.proofs.DictionaryGrowth.{Extends-same}
-use Rattle.tc_record.specs.Record.{IsRecordOf}
 use Rattle.tc_schema_model.specs.Added.{added, IsNamed}
 use Rattle.tc_schema_model.specs.Counted.{total_at}
 use Rattle.tc_schema_model.specs.Occurrences.{Path}
