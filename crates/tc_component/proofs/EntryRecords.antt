@@ -7,9 +7,9 @@ use Rattle.std.proofs.lemmas.List.{length-map}
 use Rattle.std.proofs.lemmas.List.Elements.{All-head, All-tail}
 use Rattle.tc_model.specs.Dictionary.{IsDictionary, number as name_number}
 use Rattle.tc_model.specs.Document.{Name, Document, Scalar}
-use Rattle.tc_model.specs.KnownNames.{HasEach}
-use Rattle.tc_model.specs.Stored.{IsObject, IsKeyless}
 use Rattle.tc_model.specs.Tree.{leaf, array, object}
+use Rattle.tc_model.specs.KnownNames.{HasEach}
+use Rattle.tc_model.specs.Stored.{IsObject}
 use Rattle.tc_record.specs.Preorder.{closed, Token, token, tokens_of, members_preorder}
 use Rattle.tc_record.specs.Record.{labels, piece_tag, tags, fixed, texts, numbers, width, joined, body, record_bytes, record_of, NumberedTree, IsRecordOf}
 use Rattle.tc_compact.specs.Compacted.{compacted, IsCompactedRecordOf}
@@ -22,6 +22,7 @@ use Rattle.tc_record.specs.Walk.{Key, number}
 use Rattle.tc_record.specs.Borrowed.{IsBelow}
 use Rattle.tc_record.proofs.Keyed.{retoken}
 use Rattle.tc_model.proofs.NameNumbers.{number_of-below, numbered}
+use Rattle.tc_model.proofs.StoredDocuments.{keyless_object}
 use Rattle.tc_component.specs.Fetching.{IsRecordWithin}
 use Rattle.tc_record.proofs.OneDocument.{documents_are_one}
 use Rattle.tc_plain_model.specs.Writes.{Write}
@@ -34,11 +35,6 @@ use Rattle.tc_component.specs.Spelling.{held_bytes, slots_of, IsSlot}
 pub record IsKept (names : List Name) (d : Document) : Type 0 where
   pub whole : IsRecordOf d (record_of d)
   pub compact : IsCompactedRecordOf names d (record_in names d)
-
-keyless_object : (d : Document) → IsKeyless d → IsObject d
-keyless_object (leaf s) is = absurd is
-keyless_object (array xs) is = absurd is
-keyless_object (object ms) is = tt
 
 pub kept : (names : List Name) (key : ℕ) (d : Document) → IsDictionary names → contents.IsEntry names (key, Some d) → length (record_of d) < 2 ^ 30 → IsKept names d
 kept names key d dictionary is short =

@@ -1,4 +1,4 @@
-mod Written
+pub mod Written
 mod Closing
 mod FileRows
 mod Heads

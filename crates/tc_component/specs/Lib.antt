@@ -9,3 +9,4 @@ pub mod Fetching
 pub mod Cursors
 pub mod Rows
 pub mod Meaning
+pub mod Loaded

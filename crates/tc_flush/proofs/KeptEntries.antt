@@ -3,8 +3,8 @@ use Rattle.std.proofs.Common.{◌≡◌, ◌<◌, ◌^◌, ℕ, List, [], ◌∷
 use Rattle.std.specs.Prelude.{IfSome}
 use Rattle.std.proofs.lemmas.List.Elements.{All-nil, All-cons, All-head, All-tail}
 use Rattle.tc_model.specs.Document.{Document, ShapeTree, IsDocument}
-use Rattle.tc_model.specs.Stored.{IsStorable, IsKeyless, IsObject}
-use Rattle.tc_model.specs.Tree.{leaf, array, object}
+use Rattle.tc_model.specs.Stored.{IsStorable}
+use Rattle.tc_model.proofs.StoredDocuments.{keyless_object}
 use Rattle.tc_record.specs.Record.{record_of, IsRecordOf}
 use Rattle.tc_lsm_model.specs.Tables as documents
 use Rattle.tc_memory.specs.Table.{Held, Kept, Table, gone, live, IsLawfulKept, IsLawfulEntry}
@@ -89,10 +89,6 @@ gone_entry key below ((k, s) ∷ []) of =
     rw (ap (λ e. e.0) same, ap (λ e. e.1.below) same) (ap (λ h. (k, documents.slot h s.below) ∷ []) (held_gone s.held (ap (λ e. e.1.held) same)))
 
 -- the table of one live entry
-object_keyless : (d : Document) → IsKeyless d → IsObject d
-object_keyless (leaf s) is = is
-object_keyless (array xs) is = is
-object_keyless (object ms) is = tt
 
 pub IsTableOf-live : (key : ℕ) (bytes : List ℕ) (below : Option ShapeTree) (d : Document) → IsRecordOf d bytes → IsKeyless d → IsTableOf ((key, documents.slot (Some d) below) ∷ []) ((key, record { held = live bytes; below = below }) ∷ [])
 IsTableOf-live key bytes below d is keyless = record {
@@ -101,7 +97,7 @@ IsTableOf-live key bytes below d is keyless = record {
 }
 
 pub recorded : (d : Document) (bytes : List ℕ) → IsDocument d → IsStorable d → bytes ≡ record_of d → length bytes < 2 ^ 32 → IsRecordOf d bytes
-recorded d bytes document storable spelled short = record { document = document; is_object = object_keyless d storable.1; shallow = storable.0; spelled = spelled; short = short }
+recorded d bytes document storable spelled short = record { document = document; is_object = keyless_object d storable.1; shallow = storable.0; spelled = spelled; short = short }
 
 -- a lawful entry is that of one table
 abbrev pub OneDocument : Type 0

@@ -20,7 +20,8 @@ use Rattle.tc_component.specs.Rows.{record_in, row_of, rows_of, component_index,
 use Rattle.tc_component.specs.Spelling.{Index, slot, slots_of, held_bytes}
 use Rattle.tc_list.specs.declared.whereabouts.Whereabouts.TheVariants.{At}
 use Rattle.tc_list.specs.Contents.{marks, Shows}
-use Rattle.tc_list.specs.Loaded.{IsLoadedOf, HoldsLive}
+use Rattle.tc_component.specs.Loaded.{IsLoadedOf}
+use Rattle.tc_list.specs.Loaded.{HoldsLive}
 use Rattle.tc_list.specs.Lookups.{IsWhere}
 use Rattle.tc_list.proofs.KeyedPlaces.{value_of-at}
 use Rattle.tc_list.proofs.Shown.{where_live}

@@ -1,4 +1,4 @@
--- Components that were loaded of the bytes of contents, and what stands at their places.
+-- What stands at the places of components that were loaded of the bytes of contents.
 use Rattle.std.specs.Prelude.{◌≡◌, ℕ, List, length, slice_get, Option, Some}
 use Rattle.tc_model.specs.Document.{Document}
 use Rattle.tc_model.specs.Keyed.{value_of}
@@ -8,14 +8,6 @@ use Rattle.tc_component.specs.declared.found.Place.{Place}
 use Rattle.tc_component.specs.Fetching.{IsPlace, record_at, IsRecordWithin}
 use Rattle.tc_component.specs.Loading.{ComponentState}
 use Rattle.tc_component.specs.Meaning.{IsRecordOfOne}
-use Rattle.tc_component.specs.Rows.{component_index, IsComponent}
-
--- the file tells the bytes of a content, and the component has beside its records what that content's has
-pub record IsLoadedOf {F : Type 0} (told : F → Option (List ℕ)) (component : ComponentState F) (c : Content) : Type 0 where
-  pub bytes : List ℕ
-  pub tells : told component.file ≡ Some bytes
-  pub is : IsComponent c bytes
-  pub index : component.index ≡ component_index c
 
 -- at a place of the component at a position stands the record of the live document of a key, and of no other document
 pub record HoldsLive {F : Type 0} (told : F → Option (List ℕ)) (components : List (ComponentState F)) (cs : List Content) (key at : ℕ) (place : Place) : Type 0 where

@@ -13,7 +13,8 @@ ghost use Rattle.tc_component.specs.Spelling.{name_of};
 ghost use Rattle.tc_list.specs.declared.run.Run.{Run as OneRun};
 ghost use Rattle.tc_list.specs.declared.whereabouts.Whereabouts.TheVariants.{At};
 ghost use Rattle.tc_list.specs.Contents.{Shows};
-ghost use Rattle.tc_list.specs.Loaded.{IsLoadedOf, HoldsLive};
+ghost use Rattle.tc_component.specs.Loaded.{IsLoadedOf};
+ghost use Rattle.tc_list.specs.Loaded.{HoldsLive};
 ghost use Rattle.tc_list.specs.Lookups.{IsWhere};
 ghost use Rattle.tc_list.specs.Runs.{in_run, swapped, neighbours};
 

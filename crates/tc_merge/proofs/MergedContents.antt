@@ -18,7 +18,7 @@ use Rattle.tc_component.specs.declared.head.Head.{Head}
 use Rattle.tc_component.specs.Loading.{ComponentState}
 use Rattle.tc_component.specs.Rows.{record_in, row_of, rows_of, part_of, component_bytes, IsShortWrite}
 use Rattle.tc_component.specs.Spelling.{Index, file_bytes}
-use Rattle.tc_merge.specs.Merged.{Tells}
+use Rattle.tc_component.specs.Loaded.{IsLoadedOf}
 use Rattle.tc_merge.specs.Merging.{rows_told, kept, newest_names, newest_schema, merge_bytes, Tile, GrowNames, IsRun}
 use Rattle.tc_merge.specs.Newest.{newest}
 use Rattle.tc_merge.proofs.NewestValues.{put_all, All-put_all}
@@ -69,51 +69,51 @@ short_merged from cs all = cases (from == 1) (All-put_all IsShortWrite [] (entri
 -- ---- the components and their contents
 
 module _ {F : Type 0} (content : F → Option (List ℕ)) where
-  names_are : (names : List Name) (run : List (ComponentState F)) (cs : List Content) → AllZip (Tells content) run cs → newest_names names run ≡ lists.newest_names names cs
+  names_are : (names : List Name) (run : List (ComponentState F)) (cs : List Content) → AllZip (IsLoadedOf content) run cs → newest_names names run ≡ lists.newest_names names cs
   names_are names [] [] all = refl
   names_are names [] (c ∷ cs) all = absurd all
   names_are names (m ∷ run) [] all = absurd all
-  names_are names (m ∷ run) (c ∷ cs) all = ap (λ (i : Index). newest_names i.names run) all.0.loaded ∙ names_are c.names run cs all.1
+  names_are names (m ∷ run) (c ∷ cs) all = ap (λ (i : Index). newest_names i.names run) all.0.index ∙ names_are c.names run cs all.1
 
-  schema_is : (schema : Counted) (run : List (ComponentState F)) (cs : List Content) → AllZip (Tells content) run cs → newest_schema schema run ≡ lists.newest_schema schema cs
+  schema_is : (schema : Counted) (run : List (ComponentState F)) (cs : List Content) → AllZip (IsLoadedOf content) run cs → newest_schema schema run ≡ lists.newest_schema schema cs
   schema_is schema [] [] all = refl
   schema_is schema [] (c ∷ cs) all = absurd all
   schema_is schema (m ∷ run) [] all = absurd all
-  schema_is schema (m ∷ run) (c ∷ cs) all = ap (λ (i : Index). newest_schema i.schema run) all.0.loaded ∙ schema_is c.schema run cs all.1
+  schema_is schema (m ∷ run) (c ∷ cs) all = ap (λ (i : Index). newest_schema i.schema run) all.0.index ∙ schema_is c.schema run cs all.1
 
   grown : (names : List Name) (run : List (ComponentState F)) → GrowNames names run → Extends (newest_names names run) names
   grown names [] grow = Extends-same names
   grown names (m ∷ run) grow = Extends-trans (newest_names m.index.names run) m.index.names names (grown m.index.names run grow.1) grow.0
 
-  known : (names : List Name) (run : List (ComponentState F)) (cs : List Content) → AllZip (Tells content) run cs → IsDictionary names → IsDictionary (newest_names names run)
+  known : (names : List Name) (run : List (ComponentState F)) (cs : List Content) → AllZip (IsLoadedOf content) run cs → IsDictionary names → IsDictionary (newest_names names run)
   known names [] [] all is = is
   known names [] (c ∷ cs) all is = absurd all
   known names (m ∷ run) [] all is = absurd all
-  known names (m ∷ run) (c ∷ cs) all is = known m.index.names run cs all.1 (subst (λ (i : Index). IsDictionary i.names) (sym all.0.loaded) all.0.is.content.dictionary)
+  known names (m ∷ run) (c ∷ cs) all is = known m.index.names run cs all.1 (subst (λ (i : Index). IsDictionary i.names) (sym all.0.index) all.0.is.content.dictionary)
 
-  rows_are : RecordsStay → (names final : List Name) (run : List (ComponentState F)) (cs : List Content) → AllZip (Tells content) run cs → GrowNames names run → newest_names names run ≡ final → IsDictionary final
+  rows_are : RecordsStay → (names final : List Name) (run : List (ComponentState F)) (cs : List Content) → AllZip (IsLoadedOf content) run cs → GrowNames names run → newest_names names run ≡ final → IsDictionary final
       → map (rows_told content) run ≡ map (λ c. rows_of final c.entries) cs
   rows_are stay names final [] [] all grow is dictionary = refl
   rows_are stay names final [] (c ∷ cs) all grow is dictionary = absurd all
   rows_are stay names final (m ∷ run) [] all grow is dictionary = absurd all
   rows_are stay names final (m ∷ run) (c ∷ cs) all grow is dictionary =
       let component = all.0.is in
-      let own : m.index.names ≡ c.names = ap (λ (i : Index). i.names) all.0.loaded in
+      let own : m.index.names ≡ c.names = ap (λ (i : Index). i.names) all.0.index in
       let extends : Extends final c.names = subst (λ ns. Extends final ns) own (subst (λ ns. Extends ns m.index.names) is (grown m.index.names run grow.1)) in
       ap (λ rows. rows ∷ map (rows_told content) run) (told_rows content m c all.0 ∙ same_rows stay c.names final c.entries component.content.dictionary component.content.entries component.records dictionary extends)
       ∙ ap (λ rest. rows_of final c.entries ∷ rest) (rows_are stay m.index.names final run cs all.1 grow.1 is dictionary)
 
-  all_short : (run : List (ComponentState F)) (cs : List Content) → AllZip (Tells content) run cs → All (λ c. All IsShortWrite c.entries) cs
+  all_short : (run : List (ComponentState F)) (cs : List Content) → AllZip (IsLoadedOf content) run cs → All (λ c. All IsShortWrite c.entries) cs
   all_short [] [] all = All-nil (λ (c : Content). All IsShortWrite c.entries)
   all_short [] (c ∷ cs) all = absurd all
   all_short (m ∷ run) [] all = absurd all
   all_short (m ∷ run) (c ∷ cs) all = All-cons (λ (d : Content). All IsShortWrite d.entries) c cs all.0.is.records (all_short run cs all.1)
 
-  tiled : (g to : ℕ) (run : List (ComponentState F)) (cs : List Content) → AllZip (Tells content) run cs → Tile (g + 1) to run → lists.last_after g cs ≡ to
+  tiled : (g to : ℕ) (run : List (ComponentState F)) (cs : List Content) → AllZip (IsLoadedOf content) run cs → Tile (g + 1) to run → lists.last_after g cs ≡ to
   tiled g to [] [] all tile = omega (arith, tile)
   tiled g to [] (c ∷ cs) all tile = absurd all
   tiled g to (m ∷ run) [] all tile = absurd all
-  tiled g to (m ∷ run) (c ∷ cs) all tile = tiled c.to to run cs all.1 (subst (λ (i : Index). Tile (i.head.to + 1) to run) all.0.loaded tile.1)
+  tiled g to (m ∷ run) (c ∷ cs) all tile = tiled c.to to run cs all.1 (subst (λ (i : Index). Tile (i.head.to + 1) to run) all.0.index tile.1)
 
 -- ---- the merge
 
@@ -128,18 +128,18 @@ merge_of head cs = record { part = part_of head; from = head.from; to = head.to;
 same_part : (number count : ℕ) (p : Partition) → p.number ≡ number → p.count ≡ count → (record { number = number; count = count }) ≡ p
 same_part number count p one two = ap (λ n. record { number = n; count = count }) (sym one) ∙ ap (λ n. record { number = p.number; count = n }) (sym two)
 
-pub made : {F : Type 0} (content : F → Option (List ℕ)) → RecordsStay → (head : Head) (run : List (ComponentState F)) (cs : List Content) → IsRun head run → AllZip (Tells content) run cs → IsMade content head run cs (merge_of head cs)
+pub made : {F : Type 0} (content : F → Option (List ℕ)) → RecordsStay → (head : Head) (run : List (ComponentState F)) (cs : List Content) → IsRun head run → AllZip (IsLoadedOf content) run cs → IsMade content head run cs (merge_of head cs)
 made content stay head [] cs is all = absurd (omega (arith, is.several))
 made content stay head (m ∷ run) [] is all = absurd all
 made {F} content stay head (m ∷ run) (c ∷ cs) is all =
-    let first : m.index.head.from ≡ c.from = ap (λ (i : Index). i.head.from) all.0.loaded in
+    let first : m.index.head.from ≡ c.from = ap (λ (i : Index). i.head.from) all.0.index in
     let from : head.from ≡ c.from = sym is.tile.0 ∙ first in
-    let number : c.part.number ≡ head.number = sym (ap (λ (i : Index). i.head.number) all.0.loaded) ∙ All-head (λ (n : ComponentState F). n.index.head.number ≡ head.number) m run is.number in
-    let count : c.part.count ≡ head.count = sym (ap (λ (i : Index). i.head.count) all.0.loaded) ∙ All-head (λ (n : ComponentState F). n.index.head.count ≡ head.count) m run is.count in
+    let number : c.part.number ≡ head.number = sym (ap (λ (i : Index). i.head.number) all.0.index) ∙ All-head (λ (n : ComponentState F). n.index.head.number ≡ head.number) m run is.number in
+    let count : c.part.count ≡ head.count = sym (ap (λ (i : Index). i.head.count) all.0.index) ∙ All-head (λ (n : ComponentState F). n.index.head.count ≡ head.count) m run is.count in
     let names = names_are content [] (m ∷ run) (c ∷ cs) all in
     let schema = schema_is content nothing (m ∷ run) (c ∷ cs) all in
     let final = lists.names_of (c ∷ cs) in
-    let dictionary : IsDictionary final = subst IsDictionary names (known content m.index.names run cs all.1 (subst (λ (i : Index). IsDictionary i.names) (sym all.0.loaded) all.0.is.content.dictionary)) in
+    let dictionary : IsDictionary final = subst IsDictionary names (known content m.index.names run cs all.1 (subst (λ (i : Index). IsDictionary i.names) (sym all.0.index) all.0.is.content.dictionary)) in
     let rows : map (rows_told content) (m ∷ run) ≡ map (λ d. rows_of final d.entries) (c ∷ cs) = rows_are content stay [] final (m ∷ run) (c ∷ cs) all is.names names dictionary in
     record {
       merge = record {
@@ -148,7 +148,7 @@ made {F} content stay head (m ∷ run) (c ∷ cs) is all =
         is = refl;
         part = same_part head.number head.count c.part number count;
         from = from;
-        to = sym (tiled content c.to head.to run cs all.1 (subst (λ (i : Index). Tile (i.head.to + 1) head.to run) all.0.loaded is.tile.1));
+        to = sym (tiled content c.to head.to run cs all.1 (subst (λ (i : Index). Tile (i.head.to + 1) head.to run) all.0.index is.tile.1));
         entries = ap (λ g. merged_entries g (c ∷ cs)) from;
         names = refl;
         schema = refl;

@@ -18,7 +18,7 @@ use Rattle.tc_component.specs.Loading.{ComponentState}
 use Rattle.tc_component.specs.Rows.{record_in, row_of, rows_of, component_index, IsShortWrite}
 use Rattle.tc_component.specs.Spelling.{records, slots_of, directory, head_bytes, sizes_in, Index}
 use Rattle.tc_component.proofs.EntryRecords.{kept, long_record}
-use Rattle.tc_merge.specs.Merged.{Tells}
+use Rattle.tc_component.specs.Loaded.{IsLoadedOf}
 use Rattle.tc_merge.specs.Merging.{held_in, rows_in, rows_told}
 
 -- that a record that is there has a byte
@@ -53,13 +53,13 @@ rows_again names ((key, Some d) ∷ ws) more all =
     ∙ ap (λ bytes. (key, Some own) ∷ rows_in (slots_of (rows_of names ws)) bytes) (drop_at own (rest ++ more) (length own) refl)
     ∙ ap (λ rows. (key, Some own) ∷ rows) (rows_again names ws more (All-tail (IsThere names) (key, Some d) ws all))
 
-pub told_rows : {F : Type 0} (content : F → Option (List ℕ)) (m : ComponentState F) (c : Content) → Tells content m c → rows_told content m ≡ rows_of c.names c.entries
-told_rows content m c tells =
+pub told_rows : {F : Type 0} (content : F → Option (List ℕ)) (m : ComponentState F) (c : Content) → IsLoadedOf content m c → rows_told content m ≡ rows_of c.names c.entries
+told_rows content m c loaded =
     let index = component_index c in
     let rows = rows_of c.names c.entries in
-    let is = tells.is in
-    ap (λ (i : Index). rows_in i.slots (drop 61 (unwrap_or (content m.file) []))) tells.loaded
-    ∙ ap (λ o. rows_in index.slots (drop 61 (unwrap_or o []))) tells.told
+    let is = loaded.is in
+    ap (λ (i : Index). rows_in i.slots (drop 61 (unwrap_or (content m.file) []))) loaded.index
+    ∙ ap (λ o. rows_in index.slots (drop 61 (unwrap_or o []))) loaded.tells
     ∙ ap (λ bytes. rows_in index.slots (drop 61 bytes)) is.spelled
     ∙ ap (rows_in index.slots) (drop_at (1 ∷ head_bytes index.head (sizes_in index)) (records rows ++ (directory index.slots ++ (section index.names ++ schema_bytes (schema_tree index.schema)))) 61 refl)
     ∙ rows_again c.names c.entries _ (all_there c.names c.entries is.content.dictionary is.content.entries is.records)

@@ -1,6 +1,5 @@
 pub mod Newest
 pub mod Merging
-pub mod Merged
 pub mod Jobs
 pub mod Inputs
 pub mod Faults

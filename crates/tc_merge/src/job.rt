@@ -11,7 +11,7 @@ ghost use Rattle.tc_lsm_model.specs.Contents.{Content};
 ghost use Rattle.tc_lsm_model.specs.Merges.{IsMerge};
 ghost use Rattle.tc_component.specs.Rows.{component_bytes, IsShortWrite};
 ghost use Rattle.tc_merge.specs.Faults.{IfHarmed, IsHarmIn, IsJudged, IsWatched};
-ghost use Rattle.tc_merge.specs.Merged.{Tells};
+ghost use Rattle.tc_component.specs.Loaded.{IsLoadedOf};
 ghost use Rattle.tc_merge.specs.Merging.{AreTold, IsRun, live_rows, merged_rows, merge_bytes};
 
 use crate::fault::MergeFault;
@@ -83,7 +83,7 @@ impl<S: Store> MergeJob<S> {
         ensures whole { IsOk result.outcome → AreTold (λ file. S.Frozen.content file) self.run → IfTold (S.Device.history result.device) (λ f. f ≡ settled_file (merge_bytes (λ file. S.Frozen.content file) self.head self.run)) }
 
         // Where the files are the components of contents, these are the bytes of the one content that merges them.
-        ensures merged { (cs : List Content) → AllZip (Tells (λ file. S.Frozen.content file)) self.run cs
+        ensures merged { (cs : List Content) → AllZip (IsLoadedOf (λ file. S.Frozen.content file)) self.run cs
             → (c : Content) × IsMerge cs c × All IsShortWrite c.entries × (component_bytes c ≡ merge_bytes (λ file. S.Frozen.content file) self.head self.run) }
 
         // Each record of the merge was judged as one of a component of the run.

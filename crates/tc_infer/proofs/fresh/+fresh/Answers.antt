@@ -8,7 +8,7 @@ use Rattle.tc_model.specs.TreeSize.{tree_size}
 use Rattle.tc_model.specs.ShapeNames.{names_within, names_of_items, names_of_members}
 use Rattle.tc_model.proofs.LearnedNames.{all_learned-append, all_of_first, all_of_rest}
 use Rattle.tc_value.proofs.ShapeWalks.{items_from, members_from, item_size, member_size}
-use Rattle.tc_infer.proofs.FreshNames.{grown, one_grown}
+use Rattle.tc_model.proofs.FreshNames.{grown, one_grown}
 use Rattle.tc_infer.proofs.fresh.+fresh.Goals as goal
 
 abbrev IsShort : Name → Type 0

@@ -1,5 +1,5 @@
 use Rattle.std.proofs.Common.{◌++◌, ◌∙◌, sym, ap}
-use Rattle.tc_infer.proofs.FreshNames.{learned_behind, nothing_learned}
+use Rattle.tc_model.proofs.FreshNames.{learned_behind, nothing_learned}
 use Rattle.tc_infer.proofs.fresh.learn_unless_known.Goals as goal
 
 pub returns-in-Some : goal.returns-in-Some
