@@ -1,14 +1,17 @@
-//! That nothing is lost when names become numbers, and that records and shapes have the same names.
+//! That nothing is lost when names become numbers, that records and shapes have the same names, and what the tokens of
+//! a record mean.
 
-ghost use Rattle.std.specs.Prelude.{◌≡◌, ◌<◌, ◌≤◌, ◌+◌, ◌^◌, ℕ, List, true, All, length};
+ghost use Rattle.std.specs.Prelude.{◌≡◌, ◌<◌, ◌≤◌, ◌+◌, ◌^◌, ℕ, List, Some, true, All, length};
 ghost use Rattle.tc_model.specs.Document.{Name, Document, document_shape};
 ghost use Rattle.tc_model.specs.Dictionary.{Extends, IsDictionary, all_learned};
 ghost use Rattle.tc_model.specs.KnownNames.{HasEach};
 ghost use Rattle.tc_model.specs.ShapeNames.{names_within};
 ghost use Rattle.tc_model.specs.TreeSize.{tree_size};
 ghost use Rattle.tc_record.specs.Borrowed.{Record, Spells, named_tokens};
+ghost use Rattle.tc_record.specs.Building.{document_read};
 ghost use Rattle.tc_record.specs.Record.{IsRecordOf};
 ghost use Rattle.tc_compact.specs.Compacted.{IsCompactedRecordOf};
+ghost use Rattle.tc_compact.specs.Meant.{tokens_meant, IsRecordUnder};
 ghost use Rattle.tc_compact.specs.Slots.{names_in};
 
 /// A law, and no work. The form 1 of a record under a dictionary is its form 1 under each dictionary that extends that
@@ -28,4 +31,10 @@ pub fn names_agree()
     ensures short { (d : Document) (whole : List ℕ) → IsRecordOf d whole → All (λ name. length name < 2 ^ 32) (names_within (document_shape d)) }
     ensures few { (r : Record) (known : List Name) → Spells r → r.named ≡ true → length (all_learned known (names_in r.tokens)) ≤ length known + length r.bytes }
     ensures values { (d : Document) (whole : List ℕ) → IsRecordOf d whole → tree_size d ≤ length whole }
+{}
+
+/// A law, and no work. The tokens of a record of either form, with the names that numbers mean, are read as the document
+/// that the record spells.
+pub fn document_meant()
+    ensures { (r : Record) (names : List Name) (d : Document) → Spells r → IsRecordUnder names d r.bytes → document_read (tokens_meant names r.tokens) ≡ Some d }
 {}

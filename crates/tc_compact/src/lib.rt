@@ -18,6 +18,6 @@ mod slot_sum;
 pub use compacting::compact;
 pub use decoding::document_of;
 pub use expanding::expand;
-pub use law::{names_agree, round_trip};
+pub use law::{document_meant, names_agree, round_trip};
 pub use shaping::shape_of;
 pub use sizing::{compact_into, compacted_size, expanded_size};
