@@ -1,0 +1,11 @@
+//! Layer 3, files: the values that a path reaches in a record, without making its document.
+#![tactic(auto)]
+
+mod comparing;
+mod finding;
+mod labels;
+mod skipping;
+mod value;
+
+pub use finding::first;
+pub use value::ValueRef;
