@@ -1,5 +1,5 @@
 -- The values of a record, and the first of those that hops reach.
-use Rattle.std.specs.Prelude.{List, [], ◌∷◌, flat_map, Option, None, Some}
+use Rattle.std.specs.Prelude.{List, [], ◌∷◌, map, flat_map, Option, None, Some}
 use Rattle.tc_model.specs.Document.{Name, Document, Scalar}
 use Rattle.tc_model.specs.Request.{Hop}
 use Rattle.tc_plain_model.specs.Paths.{reached}
@@ -19,3 +19,7 @@ first_in (x ∷ xs) = Some x
 -- the first value that hops reach in documents, one document after the other
 abbrev pub first_reached : List Hop → List Document → Option Document
 first_reached hops ds = first_in (flat_map (reached hops) ds)
+
+-- the values of several tokens, each the first of a value
+abbrev pub values_at : List Name → List (List (Token Key Scalar)) → List (Option Document)
+values_at names vs = map (value_at names) vs

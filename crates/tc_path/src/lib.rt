@@ -4,8 +4,10 @@
 mod comparing;
 mod finding;
 mod labels;
+mod selecting;
 mod skipping;
 mod value;
 
 pub use finding::first;
+pub use selecting::select;
 pub use value::ValueRef;
