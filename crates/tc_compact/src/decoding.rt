@@ -55,8 +55,9 @@ fn document_of_tokens(
 }
 
 /// The value that a token is or opens, with what it holds taken from the cursor; `None` where the token closes one.
+/// `NotARecord` comes only where the token and those behind it are those of no document.
 #[cycle(document)]
-fn value_behind(
+pub fn value_behind(
     cursor: &mut Cursor<'_>,
     token: Token<'_>,
     names: &Names,

@@ -8,10 +8,10 @@ ghost use Rattle.tc_model.specs.KnownNames.{HasEach};
 ghost use Rattle.tc_model.specs.ShapeNames.{names_within};
 ghost use Rattle.tc_model.specs.TreeSize.{tree_size};
 ghost use Rattle.tc_record.specs.Borrowed.{Record, Spells, named_tokens};
-ghost use Rattle.tc_record.specs.Building.{document_read};
+ghost use Rattle.tc_record.specs.Building.{document_read, HoldDocuments};
 ghost use Rattle.tc_record.specs.Record.{IsRecordOf};
 ghost use Rattle.tc_compact.specs.Compacted.{IsCompactedRecordOf};
-ghost use Rattle.tc_compact.specs.Meant.{tokens_meant, IsRecordUnder};
+ghost use Rattle.tc_compact.specs.Meant.{tokens_meant, levels_meant, IsRecordUnder};
 ghost use Rattle.tc_compact.specs.Slots.{names_in};
 
 /// A law, and no work. The form 1 of a record under a dictionary is its form 1 under each dictionary that extends that
@@ -34,7 +34,8 @@ pub fn names_agree()
 {}
 
 /// A law, and no work. The tokens of a record of either form, with the names that numbers mean, are read as the document
-/// that the record spells.
+/// that the record spells, and what they hold is lawful.
 pub fn document_meant()
-    ensures { (r : Record) (names : List Name) (d : Document) → Spells r → IsRecordUnder names d r.bytes → document_read (tokens_meant names r.tokens) ≡ Some d }
+    ensures read { (r : Record) (names : List Name) (d : Document) → Spells r → IsRecordUnder names d r.bytes → document_read (tokens_meant names r.tokens) ≡ Some d }
+    ensures lawful { (r : Record) (names : List Name) (d : Document) → Spells r → IsRecordUnder names d r.bytes → HoldDocuments (levels_meant names r.tokens) }
 {}

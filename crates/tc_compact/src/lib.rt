@@ -16,7 +16,7 @@ mod sizing;
 mod slot_sum;
 
 pub use compacting::compact;
-pub use decoding::document_of;
+pub use decoding::{document_of, value_behind};
 pub use expanding::expand;
 pub use law::{document_meant, names_agree, round_trip};
 pub use shaping::shape_of;
