@@ -1,5 +1,5 @@
 -- The first of the values that are reached.
-use Rattle.std.proofs.Common.{◌≡◌, ◌∙◌, [], ◌∷◌, ◌++◌, List, Option, None, Some, flat_map, option_to_list, refl, sym, ap, append-nil}
+use Rattle.std.proofs.Common.{◌≡◌, ◌∙◌, [], ◌∷◌, List, Option, Some, flat_map, option_to_list, ap, append-nil}
 use Rattle.tc_model.specs.Document.{Document}
 use Rattle.tc_model.specs.Request.{Hop}
 use Rattle.tc_plain_model.specs.Paths.{reached, hopped}

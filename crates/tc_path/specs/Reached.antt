@@ -5,12 +5,16 @@ use Rattle.tc_model.specs.Request.{Hop}
 use Rattle.tc_plain_model.specs.Paths.{reached}
 use Rattle.tc_record.specs.Preorder.{Token}
 use Rattle.tc_record.specs.Walk.{Key}
-use Rattle.tc_record.specs.Building.{document_read}
-use Rattle.tc_compact.specs.Meant.{tokens_meant}
+use Rattle.tc_record.specs.Building.{document_read, HoldDocuments}
+use Rattle.tc_compact.specs.Meant.{tokens_meant, levels_meant}
 
 -- the value that the first token is or opens, where numbers mean names
 abbrev pub value_at : List Name → List (Token Key Scalar) → Option Document
 value_at names ts = document_read (tokens_meant names ts)
+
+-- what is held from the first token on is lawful, where numbers mean names
+abbrev pub IsLawful : List Name → List (Token Key Scalar) → Type 0
+IsLawful names ts = HoldDocuments (levels_meant names ts)
 
 abbrev pub first_in : {A : Type 0} → List A → Option A
 first_in [] = None

@@ -1,13 +1,13 @@
 //! The first value that a path reaches in a record.
 
-ghost use Rattle.std.specs.Prelude.{◌≡◌, ◌≤◌, ◌∷◌, Some, false, IfNone, length, map, slice_get, option_map, option_to_list};
+ghost use Rattle.std.specs.Prelude.{◌≡◌, ◌≤◌, ◌∷◌, Some, false, IfSome, IfNone, length, map, slice_get, option_map, option_to_list};
 ghost use Rattle.tc_model.specs.Document.{Document, member_at};
 ghost use Rattle.tc_command.specs.Asks.{hop_of};
-ghost use Rattle.tc_record.specs.WalkView.{piece_of};
+ghost use Rattle.tc_record.specs.WalkView.{token_of, piece_of};
 ghost use Rattle.tc_record.specs.Building.{outer, value_read};
 ghost use Rattle.tc_compact.specs.Meant.{levels_meant, IsRecordUnder};
 ghost use Rattle.tc_plain_model.specs.Paths.{reached, hopped};
-ghost use Rattle.tc_path.specs.Reached.{value_at, first_in, first_reached};
+ghost use Rattle.tc_path.specs.Reached.{value_at, first_in, first_reached, IsLawful};
 ghost use Rattle.tc_path.specs.Left.{array_left, object_left, items_left, members_left};
 ghost use Rattle.tc_path.specs.Skipped.{is_close};
 
@@ -22,7 +22,8 @@ use tc_record::{Cursor, Piece, RecordRef, Token};
 /// The first value, in preorder, that a path reaches in the document that a record of either form spells under a
 /// dictionary; `None` where it reaches none. The dictionary is read for records of form 1 alone. Takes no memory.
 pub fn first<'a>(of: RecordRef<'a>, names: &Names, path: &PathExpr) -> Option<ValueRef<'a>>
-    ensures { (d : Document) → IsRecordUnder names.now d of.entry.bytes → option_map (value_at names.now) result ≡ option_map Some (first_in (reached path.now d)) }
+    ensures first { (d : Document) → IsRecordUnder names.now d of.entry.bytes → option_map (value_at names.now) result ≡ option_map Some (first_in (reached path.now d)) }
+    ensures lawful { (d : Document) → IsRecordUnder names.now d of.entry.bytes → IfSome result (IsLawful names.now) }
 {
     document_meant();
     let _bytes = of.bytes();
@@ -31,7 +32,8 @@ pub fn first<'a>(of: RecordRef<'a>, names: &Names, path: &PathExpr) -> Option<Va
 
 /// The first value that hops reach from the one whose tokens these are.
 fn first_of_tokens<'a>(tokens: Cursor<'a>, names: &Names, hops: &[Hop]) -> Option<ValueRef<'a>>
-    ensures { option_map (value_at names.now) result ≡ option_map Some (first_reached (map hop_of hops.now) (option_to_list (value_at names.now tokens.entry))) }
+    ensures first { option_map (value_at names.now) result ≡ option_map Some (first_reached (map hop_of hops.now) (option_to_list (value_at names.now tokens.entry))) }
+    ensures lawful { IsLawful names.now tokens.entry → IfSome result (IsLawful names.now) }
 {
     let mut cursor = tokens;
     match cursor.next() {
@@ -55,6 +57,7 @@ fn first_from<'a>(
 ) -> Option<ValueRef<'a>>
     requires { is_close (piece_of token.value) ≡ false }
     ensures found { option_map (value_at names.now) result ≡ option_map Some (first_reached (map hop_of hops.now) (option_to_list (value_read (piece_of token.entry.value) (levels_meant names.now cursor.old)).0)) }
+    ensures lawful { IsLawful names.now (token_of token.entry ∷ cursor.old) → IfSome result (IsLawful names.now) }
     ensures behind { IfNone result (levels_meant names.now cursor.new ≡ (value_read (piece_of token.entry.value) (levels_meant names.now cursor.old)).1) }
     ensures shorter { length cursor.new ≤ length cursor.old }
 {
@@ -74,6 +77,7 @@ fn first_hopped<'a>(
     rest: &[Hop],
 ) -> Option<ValueRef<'a>>
     ensures found { option_map (value_at names.now) result ≡ option_map Some (first_reached (hop_of hop.now ∷ map hop_of rest.now) (option_to_list (value_read (piece_of piece.entry) (levels_meant names.now cursor.old)).0)) }
+    ensures lawful { IsLawful names.now cursor.old → IfSome result (IsLawful names.now) }
     ensures behind { IfNone result (levels_meant names.now cursor.new ≡ (value_read (piece_of piece.entry) (levels_meant names.now cursor.old)).1) }
     ensures shorter { length cursor.new ≤ length cursor.old }
 {
@@ -93,6 +97,7 @@ fn first_in_array<'a>(
     rest: &[Hop],
 ) -> Option<ValueRef<'a>>
     ensures found { option_map (value_at names.now) result ≡ option_map Some (first_reached (map hop_of rest.now) (hopped (hop_of hop.now) (array_left (levels_meant names.now cursor.old)))) }
+    ensures lawful { IsLawful names.now cursor.old → IfSome result (IsLawful names.now) }
     ensures behind { IfNone result (levels_meant names.now cursor.new ≡ outer (levels_meant names.now cursor.old)) }
     ensures shorter { length cursor.new ≤ length cursor.old }
 {
@@ -120,6 +125,7 @@ fn first_in_object<'a>(
     rest: &[Hop],
 ) -> Option<ValueRef<'a>>
     ensures found { option_map (value_at names.now) result ≡ option_map Some (first_reached (map hop_of rest.now) (hopped (hop_of hop.now) (object_left (levels_meant names.now cursor.old)))) }
+    ensures lawful { IsLawful names.now cursor.old → IfSome result (IsLawful names.now) }
     ensures behind { IfNone result (levels_meant names.now cursor.new ≡ outer (levels_meant names.now cursor.old)) }
     ensures shorter { length cursor.new ≤ length cursor.old }
 {
@@ -145,6 +151,7 @@ fn first_in_item<'a>(
     hops: &[Hop],
 ) -> Option<ValueRef<'a>>
     ensures found { option_map (value_at names.now) result ≡ option_map Some (first_reached (map hop_of hops.now) (option_to_list (slice_get (items_left (levels_meant names.now cursor.old)) place))) }
+    ensures lawful { IsLawful names.now cursor.old → IfSome result (IsLawful names.now) }
     ensures behind { IfNone result (levels_meant names.now cursor.new ≡ outer (levels_meant names.now cursor.old)) }
     ensures shorter { length cursor.new ≤ length cursor.old }
 {
@@ -164,12 +171,9 @@ fn first_in_item<'a>(
 
 /// The first value that hops reach from an item, one item after the other.
 #[cycle(finding)]
-fn first_in_each<'a>(
-    cursor: &mut Cursor<'a>,
-    names: &Names,
-    hops: &[Hop],
-) -> Option<ValueRef<'a>>
+fn first_in_each<'a>(cursor: &mut Cursor<'a>, names: &Names, hops: &[Hop]) -> Option<ValueRef<'a>>
     ensures found { option_map (value_at names.now) result ≡ option_map Some (first_reached (map hop_of hops.now) (items_left (levels_meant names.now cursor.old))) }
+    ensures lawful { IsLawful names.now cursor.old → IfSome result (IsLawful names.now) }
     ensures behind { IfNone result (levels_meant names.now cursor.new ≡ outer (levels_meant names.now cursor.old)) }
     ensures shorter { length cursor.new ≤ length cursor.old }
 {
@@ -193,6 +197,7 @@ fn first_in_member<'a>(
     hops: &[Hop],
 ) -> Option<ValueRef<'a>>
     ensures found { option_map (value_at names.now) result ≡ option_map Some (first_reached (map hop_of hops.now) (option_to_list (member_at name.now (members_left (levels_meant names.now cursor.old))))) }
+    ensures lawful { IsLawful names.now cursor.old → IfSome result (IsLawful names.now) }
     ensures behind { IfNone result (levels_meant names.now cursor.new ≡ outer (levels_meant names.now cursor.old)) }
     ensures shorter { length cursor.new ≤ length cursor.old }
 {
@@ -219,6 +224,7 @@ fn first_and_close<'a>(
 ) -> Option<ValueRef<'a>>
     requires { is_close (piece_of token.value) ≡ false }
     ensures found { option_map (value_at names.now) result ≡ option_map Some (first_reached (map hop_of hops.now) (option_to_list (value_read (piece_of token.entry.value) (levels_meant names.now cursor.old)).0)) }
+    ensures lawful { IsLawful names.now (token_of token.entry ∷ cursor.old) → IfSome result (IsLawful names.now) }
     ensures behind { IfNone result (levels_meant names.now cursor.new ≡ outer (value_read (piece_of token.entry.value) (levels_meant names.now cursor.old)).1) }
     ensures shorter { length cursor.new ≤ length cursor.old }
 {

@@ -1,13 +1,14 @@
 //! All values that a path reaches in a record.
 
 ghost use Rattle.std.specs.Prelude.{◌≡◌, ◌≤◌, ◌∷◌, ◌++◌, Some, false, IfOk, length, map, flat_map, slice_get, option_to_list};
+ghost use Rattle.std.specs.List.{AllByRecursion};
 ghost use Rattle.tc_model.specs.Document.{Document, member_at};
 ghost use Rattle.tc_command.specs.Asks.{hop_of};
-ghost use Rattle.tc_record.specs.WalkView.{piece_of};
+ghost use Rattle.tc_record.specs.WalkView.{token_of, piece_of};
 ghost use Rattle.tc_record.specs.Building.{outer, value_read};
 ghost use Rattle.tc_compact.specs.Meant.{levels_meant, IsRecordUnder};
 ghost use Rattle.tc_plain_model.specs.Paths.{reached, hopped};
-ghost use Rattle.tc_path.specs.Reached.{value_at, values_at};
+ghost use Rattle.tc_path.specs.Reached.{value_at, values_at, IsLawful};
 ghost use Rattle.tc_path.specs.Left.{array_left, object_left, items_left, members_left};
 ghost use Rattle.tc_path.specs.Skipped.{is_close};
 
@@ -28,7 +29,8 @@ pub fn select<'a>(
     names: &Names,
     path: &PathExpr,
 ) -> Result<Vec<ValueRef<'a>>, AllocError>
-    ensures { (d : Document) → IsRecordUnder names.now d of.entry.bytes → IfOk result (λ values. map (value_at names.now) values.items ≡ map Some (reached path.now d)) }
+    ensures all { (d : Document) → IsRecordUnder names.now d of.entry.bytes → IfOk result (λ values. values_at names.now values.items ≡ map Some (reached path.now d)) }
+    ensures lawful { (d : Document) → IsRecordUnder names.now d of.entry.bytes → IfOk result (λ values. AllByRecursion (IsLawful names.now) values.items) }
 {
     document_meant();
     let _bytes = of.bytes();
@@ -42,7 +44,8 @@ fn all_of_tokens<'a>(
     names: &Names,
     hops: &[Hop],
 ) -> Result<Vec<ValueRef<'a>>, AllocError>
-    ensures { IfOk result (λ values. map (value_at names.now) values.items ≡ map Some (flat_map (reached (map hop_of hops.now)) (option_to_list (value_at names.now tokens.entry)))) }
+    ensures lawful { IsLawful names.now tokens.entry → IfOk result (λ values. AllByRecursion (IsLawful names.now) values.items) }
+    ensures all { IfOk result (λ values. values_at names.now values.items ≡ map Some (flat_map (reached (map hop_of hops.now)) (option_to_list (value_at names.now tokens.entry)))) }
 {
     let mut values = Vec::new(alloc);
     let mut cursor = tokens;
@@ -65,6 +68,7 @@ fn all_from<'a>(
 ) -> Result<(), AllocError>
     requires { is_close (piece_of token.value) ≡ false }
     ensures all { IfOk result (λ done. values_at names.now values.new.items ≡ values_at names.now values.old.items ++ map Some (flat_map (reached (map hop_of hops.now)) (option_to_list (value_read (piece_of token.entry.value) (levels_meant names.now cursor.old)).0))) }
+    ensures lawful { IsLawful names.now (token_of token.entry ∷ cursor.old) → AllByRecursion (IsLawful names.now) values.old.items → IfOk result (λ done. AllByRecursion (IsLawful names.now) values.new.items) }
     ensures behind { IfOk result (λ done. levels_meant names.now cursor.new ≡ (value_read (piece_of token.entry.value) (levels_meant names.now cursor.old)).1) }
     ensures shorter { length cursor.new ≤ length cursor.old }
 {
@@ -89,6 +93,7 @@ fn all_hopped<'a>(
     values: &mut Vec<ValueRef<'a>>,
 ) -> Result<(), AllocError>
     ensures all { IfOk result (λ done. values_at names.now values.new.items ≡ values_at names.now values.old.items ++ map Some (flat_map (reached (hop_of hop.now ∷ map hop_of rest.now)) (option_to_list (value_read (piece_of piece.entry) (levels_meant names.now cursor.old)).0))) }
+    ensures lawful { IsLawful names.now cursor.old → AllByRecursion (IsLawful names.now) values.old.items → IfOk result (λ done. AllByRecursion (IsLawful names.now) values.new.items) }
     ensures behind { IfOk result (λ done. levels_meant names.now cursor.new ≡ (value_read (piece_of piece.entry) (levels_meant names.now cursor.old)).1) }
     ensures shorter { length cursor.new ≤ length cursor.old }
 {
@@ -109,6 +114,7 @@ fn all_in_array<'a>(
     values: &mut Vec<ValueRef<'a>>,
 ) -> Result<(), AllocError>
     ensures all { IfOk result (λ done. values_at names.now values.new.items ≡ values_at names.now values.old.items ++ map Some (flat_map (reached (map hop_of rest.now)) (hopped (hop_of hop.now) (array_left (levels_meant names.now cursor.old))))) }
+    ensures lawful { IsLawful names.now cursor.old → AllByRecursion (IsLawful names.now) values.old.items → IfOk result (λ done. AllByRecursion (IsLawful names.now) values.new.items) }
     ensures behind { IfOk result (λ done. levels_meant names.now cursor.new ≡ outer (levels_meant names.now cursor.old)) }
     ensures shorter { length cursor.new ≤ length cursor.old }
 {
@@ -137,6 +143,7 @@ fn all_in_object<'a>(
     values: &mut Vec<ValueRef<'a>>,
 ) -> Result<(), AllocError>
     ensures all { IfOk result (λ done. values_at names.now values.new.items ≡ values_at names.now values.old.items ++ map Some (flat_map (reached (map hop_of rest.now)) (hopped (hop_of hop.now) (object_left (levels_meant names.now cursor.old))))) }
+    ensures lawful { IsLawful names.now cursor.old → AllByRecursion (IsLawful names.now) values.old.items → IfOk result (λ done. AllByRecursion (IsLawful names.now) values.new.items) }
     ensures behind { IfOk result (λ done. levels_meant names.now cursor.new ≡ outer (levels_meant names.now cursor.old)) }
     ensures shorter { length cursor.new ≤ length cursor.old }
 {
@@ -163,6 +170,7 @@ fn all_in_item<'a>(
     values: &mut Vec<ValueRef<'a>>,
 ) -> Result<(), AllocError>
     ensures all { IfOk result (λ done. values_at names.now values.new.items ≡ values_at names.now values.old.items ++ map Some (flat_map (reached (map hop_of hops.now)) (option_to_list (slice_get (items_left (levels_meant names.now cursor.old)) place)))) }
+    ensures lawful { IsLawful names.now cursor.old → AllByRecursion (IsLawful names.now) values.old.items → IfOk result (λ done. AllByRecursion (IsLawful names.now) values.new.items) }
     ensures behind { IfOk result (λ done. levels_meant names.now cursor.new ≡ outer (levels_meant names.now cursor.old)) }
     ensures shorter { length cursor.new ≤ length cursor.old }
 {
@@ -191,6 +199,7 @@ fn all_in_each<'a>(
     values: &mut Vec<ValueRef<'a>>,
 ) -> Result<(), AllocError>
     ensures all { IfOk result (λ done. values_at names.now values.new.items ≡ values_at names.now values.old.items ++ map Some (flat_map (reached (map hop_of hops.now)) (items_left (levels_meant names.now cursor.old)))) }
+    ensures lawful { IsLawful names.now cursor.old → AllByRecursion (IsLawful names.now) values.old.items → IfOk result (λ done. AllByRecursion (IsLawful names.now) values.new.items) }
     ensures behind { IfOk result (λ done. levels_meant names.now cursor.new ≡ outer (levels_meant names.now cursor.old)) }
     ensures shorter { length cursor.new ≤ length cursor.old }
 {
@@ -213,6 +222,7 @@ fn all_in_member<'a>(
     values: &mut Vec<ValueRef<'a>>,
 ) -> Result<(), AllocError>
     ensures all { IfOk result (λ done. values_at names.now values.new.items ≡ values_at names.now values.old.items ++ map Some (flat_map (reached (map hop_of hops.now)) (option_to_list (member_at name.now (members_left (levels_meant names.now cursor.old)))))) }
+    ensures lawful { IsLawful names.now cursor.old → AllByRecursion (IsLawful names.now) values.old.items → IfOk result (λ done. AllByRecursion (IsLawful names.now) values.new.items) }
     ensures behind { IfOk result (λ done. levels_meant names.now cursor.new ≡ outer (levels_meant names.now cursor.old)) }
     ensures shorter { length cursor.new ≤ length cursor.old }
 {

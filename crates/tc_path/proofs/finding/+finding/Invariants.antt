@@ -3,7 +3,7 @@ use Rattle.tc_model.specs.Document.{member_at}
 use Rattle.tc_command.specs.Asks.{hop_of}
 use Rattle.tc_record.specs.Building.{outer}
 use Rattle.tc_compact.specs.Meant.{levels_meant}
-use Rattle.tc_path.specs.Reached.{first_reached}
+use Rattle.tc_path.specs.Reached.{first_reached, IsLawful}
 use Rattle.tc_path.specs.Left.{items_left, members_left}
 use Rattle.tc_path.proofs.finding.+finding.Given as goal
 
@@ -35,6 +35,7 @@ abbrev pub invariant-first_in_each-loop-token : goal.invariant-first_in_each-loo
 invariant-first_in_each-loop-token l = record {
   found : first_reached (map hop_of l.hops) (items_left (levels_meant l.names l.cursor)) ≡ first_reached (map hop_of l.hops) (items_left (levels_meant l.names l.fn.cursor));
   behind : outer (levels_meant l.names l.cursor) ≡ outer (levels_meant l.names l.fn.cursor);
+  lawful : IsLawful l.names l.fn.cursor → IsLawful l.names l.cursor;
   shorter : length l.cursor ≤ length l.fn.cursor;
 }
 
@@ -45,6 +46,7 @@ abbrev pub invariant-first_in_item-loop-token : goal.invariant-first_in_item-loo
 invariant-first_in_item-loop-token l = record {
   at : slice_get (items_left (levels_meant l.names l.cursor)) l.left ≡ slice_get (items_left (levels_meant l.names l.fn.cursor)) l.place;
   behind : outer (levels_meant l.names l.cursor) ≡ outer (levels_meant l.names l.fn.cursor);
+  lawful : IsLawful l.names l.fn.cursor → IsLawful l.names l.cursor;
   shorter : length l.cursor ≤ length l.fn.cursor;
 }
 
@@ -55,6 +57,7 @@ abbrev pub invariant-first_in_member-loop-token : goal.invariant-first_in_member
 invariant-first_in_member-loop-token l = record {
   at : member_at l.name (members_left (levels_meant l.names l.cursor)) ≡ member_at l.name (members_left (levels_meant l.names l.fn.cursor));
   behind : outer (levels_meant l.names l.cursor) ≡ outer (levels_meant l.names l.fn.cursor);
+  lawful : IsLawful l.names l.fn.cursor → IsLawful l.names l.cursor;
   shorter : length l.cursor ≤ length l.fn.cursor;
 }
 

@@ -1,10 +1,11 @@
 use Rattle.std.proofs.Common.{◌≡◌, ◌≤◌, ◌++◌, Some, length, map, flat_map, slice_get, ◌+◌, ◌*◌}
+use Rattle.std.specs.List.{AllByRecursion}
 use Rattle.tc_model.specs.Document.{member_at}
 use Rattle.tc_command.specs.Asks.{hop_of}
 use Rattle.tc_record.specs.Building.{outer}
 use Rattle.tc_compact.specs.Meant.{levels_meant}
 use Rattle.tc_plain_model.specs.Paths.{reached}
-use Rattle.tc_path.specs.Reached.{values_at}
+use Rattle.tc_path.specs.Reached.{values_at, IsLawful}
 use Rattle.tc_path.specs.Left.{items_left, members_left}
 use Rattle.tc_path.proofs.selecting.+selecting.Given as goal
 
@@ -33,6 +34,8 @@ abbrev pub invariant-all_in_each-loop-token : goal.invariant-all_in_each-loop-to
 invariant-all_in_each-loop-token l = record {
   at : values_at l.names l.values.items ++ map Some (flat_map (reached (map hop_of l.hops)) (items_left (levels_meant l.names l.cursor))) ≡ values_at l.names l.fn.values.items ++ map Some (flat_map (reached (map hop_of l.hops)) (items_left (levels_meant l.names l.fn.cursor)));
   behind : outer (levels_meant l.names l.cursor) ≡ outer (levels_meant l.names l.fn.cursor);
+  all : AllByRecursion (IsLawful l.names) l.fn.values.items → IsLawful l.names l.fn.cursor → AllByRecursion (IsLawful l.names) l.values.items;
+  lawful : IsLawful l.names l.fn.cursor → IsLawful l.names l.cursor;
   shorter : length l.cursor ≤ length l.fn.cursor;
 }
 
@@ -44,6 +47,7 @@ invariant-all_in_item-loop-token l = record {
   at : slice_get (items_left (levels_meant l.names l.cursor)) l.left ≡ slice_get (items_left (levels_meant l.names l.fn.cursor)) l.place;
   same : l.values ≡ l.fn.values;
   behind : outer (levels_meant l.names l.cursor) ≡ outer (levels_meant l.names l.fn.cursor);
+  lawful : IsLawful l.names l.fn.cursor → IsLawful l.names l.cursor;
   shorter : length l.cursor ≤ length l.fn.cursor;
 }
 
@@ -55,9 +59,9 @@ invariant-all_in_member-loop-token l = record {
   at : member_at l.name (members_left (levels_meant l.names l.cursor)) ≡ member_at l.name (members_left (levels_meant l.names l.fn.cursor));
   same : l.values ≡ l.fn.values;
   behind : outer (levels_meant l.names l.cursor) ≡ outer (levels_meant l.names l.fn.cursor);
+  lawful : IsLawful l.names l.fn.cursor → IsLawful l.names l.cursor;
   shorter : length l.cursor ≤ length l.fn.cursor;
 }
 
 abbrev pub decreases-all_in_member-loop-token : goal.decreases-all_in_member-loop-token
 decreases-all_in_member-loop-token l = length l.cursor
-

@@ -1,4 +1,4 @@
-use Rattle.std.proofs.Common.{◌≡◌, ◌≤◌, List, length, ℕ, ◌+◌, ◌*◌}
+use Rattle.std.proofs.Common.{◌≡◌, ◌≤◌, List, length, ◌+◌, ◌*◌}
 use Rattle.tc_model.specs.Document.{Name}
 use Rattle.tc_record.specs.Building.{outer}
 use Rattle.tc_compact.specs.Meant.{levels_meant}
