@@ -72,7 +72,7 @@ members_hold : (es : List Entry) → AreMembersOf IsScalar (members_of (map memb
 members_hold [] are = tt
 members_hold (e ∷ es) are = (are.1, members_hold es are.2)
 
-levels_hold : (levels : Levels) → AreDocuments (innermost levels) → HoldDocuments (outer levels) → HoldDocuments levels
+pub levels_hold : (levels : Levels) → AreDocuments (innermost levels) → HoldDocuments (outer levels) → HoldDocuments levels
 levels_hold [] here further = tt
 levels_hold (es ∷ levels) here further = (here, further)
 
