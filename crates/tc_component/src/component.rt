@@ -129,7 +129,7 @@ impl<F: Frozen> Component<F> {
     }
 
     /// Where the record of an entry begins in the file, and how many bytes it has.
-    pub(crate) fn record_range(&self, place: Place) -> (u64, u32)
+    pub fn record_range(&self, place: Place) -> (u64, u32)
         requires { IsPlace self.now.index.slots place }
         ensures begin { result.0 ≡ record_place self.now.index.slots place.at }
         ensures length { result.1 ≡ length_at self.now.index.slots place.at }
