@@ -48,7 +48,7 @@ some_bytes finds c bytes at key d is here = cases (length (record_in c.names d))
         absurd (cc)
     cases (suc n) some = omega (arith, some)
 
-marks_are : (names : List Name) (ws : List Write) → ((at key : ℕ) (d : Document) → slice_get ws at ≡ Some (key, Some d) → 0 < length (record_in names d)) → marks (slots_of (rows_of names ws)) ≡ map (on_value is_some) ws
+pub marks_are : (names : List Name) (ws : List Write) → ((at key : ℕ) (d : Document) → slice_get ws at ≡ Some (key, Some d) → 0 < length (record_in names d)) → marks (slots_of (rows_of names ws)) ≡ map (on_value is_some) ws
 marks_are names [] some = refl
 marks_are names ((key, None) ∷ ws) some = ap (λ rest. (key, false) ∷ rest) (marks_are names ws (λ at. some (suc at)))
 marks_are names ((key, Some d) ∷ ws) some =
