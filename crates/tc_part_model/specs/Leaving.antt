@@ -1,0 +1,56 @@
+-- What a stop at the moments of a call leaves: the store, or the store with the frame that is appended.
+use Rattle.std.specs.Prelude.{◌⊎◌, List, [], Option, Some, None, All, false}
+use Rattle.tc_store.specs.declared.file_name.FileName.{FileName}
+use Rattle.tc_store.specs.declared.file_name.FileName.TheVariants.{Log}
+use Rattle.tc_store.specs.Disk.{Disk, Picture}
+use Rattle.tc_store.specs.Pictures.{LeavesPictures}
+use Rattle.tc_store.specs.DiskFile.{DiskFile}
+use Rattle.tc_store.specs.Moments.{IfTold, EachSince, LeavesAt}
+use Rattle.tc_plain_model.specs.Writes.{Pairs, Write}
+use Rattle.tc_lsm_model.specs.Contents.{Partition}
+use Rattle.tc_machine.specs.Logs.{IsLog}
+use Rattle.tc_machine.specs.Pictures.{Recovers}
+use Rattle.tc_machine.specs.Steps.{IsShutOrHas, nothing_held}
+use Rattle.tc_machine.specs.Sound.{IsWithOrWithout}
+use Rattle.tc_machine.specs.Beside.{IsPictureBeside}
+use Rattle.tc_part_model.specs.PartState.{Told}
+use Rattle.tc_part_model.specs.PartView.{PartView, state_with, store_of, next_of}
+use Rattle.tc_part_model.specs.PartFiles.{files_at, no_job, IsSealedFile}
+
+-- ---- one moment
+
+-- A stop leaves what is stored, without the frame or with it, whatever the jobs that are out had done by then.
+abbrev pub LeavesStore : PartView → Option (List Write) → (FileName → DiskFile) → Disk → DiskFile → DiskFile → Type 0
+LeavesStore p frame other disk sealed_log log =
+    (picture : Picture) → IsPictureBeside p.part (state_with p false frame (files_at p disk log sealed_log other)) picture
+    → Recovers p.part picture (IsWithOrWithout (store_of p) frame)
+
+-- the file of the next log is absent, closed, or without a frame
+abbrev pub NextLogLeaves : PartView → (FileName → DiskFile) → Type 0
+NextLogLeaves p other = LeavesAt (IsShutOrHas (IsLog p.part (next_of p) [])) (other (Log (next_of p)))
+
+-- So it is at this moment of the store, whatever was done by then to the next log, if that is out.
+abbrev pub LeavesStoreAt : PartView → Option (List Write) → DiskFile → DiskFile → Disk → Type 0
+LeavesStoreAt p frame sealed_log log disk = (other : FileName → DiskFile) → NextLogLeaves p other → LeavesStore p frame other disk sealed_log log
+
+-- ---- all moments of a call
+
+-- each moment of the log from the one on to the other, while the staged writes are appended as a frame
+abbrev pub LogMomentsLeaveStore : PartView → Told → List DiskFile → Type 0
+LogMomentsLeaveStore p old log =
+    IfTold old.disks λ disk. (g : DiskFile) → IsSealedFile old.sealed_log g → IfTold old.log λ f. EachSince (LeavesStore p (Some p.staged) no_job disk g) old.log log
+
+-- Each moment of the store leaves what is stored, by what the part was before the call, or by what it becomes.
+abbrev pub StoreMomentsLeaveStore : PartView → PartView → Told → List Disk → Type 0
+StoreMomentsLeaveStore p q old disks =
+    IfTold old.log λ f. (g : DiskFile) → IsSealedFile old.sealed_log g → EachSince (λ disk. LeavesStoreAt p None g f disk ⊎ LeavesStoreAt q None g f disk) old.disks disks
+
+-- each moment of a log that the call made, as the next one of the part
+abbrev pub NextLogMoments : PartView → List DiskFile → Type 0
+NextLogMoments p log = All (λ f. LeavesAt (IsShutOrHas (IsLog p.part (next_of p) [])) f) log
+
+-- ---- where everything is at home
+
+-- each picture of these files holds these documents, without the frame or with it
+abbrev pub KeepsStore : Partition → Pairs → Option (List Write) → Disk → Type 0
+KeepsStore part pairs frame disk = LeavesPictures nothing_held (λ picture. Recovers part picture (IsWithOrWithout pairs frame)) disk

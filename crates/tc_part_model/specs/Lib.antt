@@ -1,0 +1,6 @@
+pub mod PartState
+pub mod PartView
+pub mod PartFiles
+pub mod Meaning
+pub mod Changes
+pub mod Leaving

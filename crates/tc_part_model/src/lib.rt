@@ -1,0 +1,3 @@
+//! Layer 4, partition: what a part means, which is a state of the machine, and that each of its calls keeps it. There is no
+//! code here but laws, which are functions that do nothing.
+#![tactic(auto)]
