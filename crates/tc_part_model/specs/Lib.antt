@@ -4,3 +4,4 @@ pub mod PartFiles
 pub mod Meaning
 pub mod Changes
 pub mod Leaving
+pub mod Calls

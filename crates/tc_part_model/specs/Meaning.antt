@@ -3,6 +3,7 @@ use Rattle.std.specs.Prelude.{◌≡◌, Bool, true, false, List, Option, Some, 
 use Rattle.std.specs.List.{AllZip}
 use Rattle.tc_model.specs.Keyed.{Keyed, on_value}
 use Rattle.tc_model.specs.KnownNames.{HasEach}
+use Rattle.tc_store.specs.Moments.{IfTold}
 use Rattle.tc_memory.specs.Table as memory
 use Rattle.tc_memory.specs.DocumentTables.{kept_table, IsTableOf}
 use Rattle.tc_component.specs.Rows.{component_index, IsComponent}
@@ -65,7 +66,7 @@ plain_of t p = record { pairs = stored_with p; taken = t.taken }
 -- what the files keep, where they are told
 pub record HasFiles (t : Told) (p : PartView) : Type 0 where
   pub kept : IfFilesTold t (AreKeptAt p false None)
-  pub jobs : IfFilesTold t (λ disk log sealed_log. AreJobsOut p disk)
+  pub jobs : IfTold t.disks (AreJobsOut p.flush p.merge)
 
 -- It has not failed, it means this, and it keeps what the machine keeps: of what it has in memory over every store, and of the
 -- files where they are told.

@@ -73,9 +73,9 @@ pub record AreKeptAt (p : PartView) (failed : Bool) (frame : Option (List Write)
   pub kept : (job : FileName → DiskFile) → JobsLeave p job → IsKept p.part (state_with p failed frame (files_at p disk log sealed_log job))
 
 -- the files of the jobs are out
-pub record AreJobsOut (p : PartView) (disk : Disk) : Type 0 where
-  pub flush : IfSome p.flush (λ f. disk (flush_name f) ≡ out)
-  pub merge : IfSome p.merge (λ m. disk (file_of m.target) ≡ out)
+pub record AreJobsOut (flush : Option Flushing) (merge : Option Merging) (disk : Disk) : Type 0 where
+  pub flush_out : IfSome flush (λ f. disk (flush_name f) ≡ out)
+  pub merge_out : IfSome merge (λ m. disk (file_of m.target) ≡ out)
 
 -- ---- where they are told
 

@@ -1,3 +1,7 @@
 //! Layer 4, partition: what a part means, which is a state of the machine, and that each of its calls keeps it. There is no
 //! code here but laws, which are functions that do nothing.
 #![tactic(auto)]
+
+mod commit;
+
+pub use commit::commits_are_kept;

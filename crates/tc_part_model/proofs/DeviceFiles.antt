@@ -1,0 +1,83 @@
+-- The files of a part, where its store or one of its devices changes.
+use Rattle.std.proofs.Common.{◌≡◌, ℕ, List, [], ◌∷◌, refl, sym, ap, ◌∙◌, subst, inl, inr, Option, Some, None, false}
+use Rattle.std.specs.Prelude.{if◌then◌else◌}
+use Rattle.std.proofs.Math.Path.{fun_ext}
+use Rattle.std.proofs.lemmas.Bool.{cases_Bool, true≢false}
+use Rattle.tc_store.specs.declared.file_name.FileName.{FileName}
+use Rattle.tc_store.specs.Disk.{Disk, Entry, IsThere, none, home, still, out, put, same_name}
+use Rattle.tc_store.specs.DiskFile.{DiskFile, empty_file}
+use Rattle.tc_store.specs.Moments.{LeavesAt}
+use Rattle.tc_store.proofs.NameLemmas.{same_name-refl, same_name-is}
+use Rattle.tc_machine.specs.State.{Flushing, Merging}
+use Rattle.tc_machine.specs.Steps.{IsShutOrHas}
+use Rattle.tc_machine.proofs.FilesMade.{empty_image}
+use Rattle.tc_part_model.specs.PartView.{PartView}
+use Rattle.tc_part_model.specs.PartFiles.{seen_entry, active_name, sealed_name, device_at, files_at, no_job, FlushLeaves, MergeLeaves, JobsLeave, IsSealedFile}
+
+pub not_same : (a b : FileName) → same_name a b ≡ false → same_name b a ≡ false
+not_same a b differ = elim (cases_Bool (same_name b a)) [
+  | inl same ↦ absurd (true≢false (sym (ap (λ m. same_name a m) (same_name-is b a same) ∙ same_name-refl a) ∙ differ))
+  | inr apart ↦ apart
+]
+
+pub there_seen : (f : DiskFile) (e : Entry) → IsThere e → IsThere (seen_entry f e)
+there_seen f (none before) there = there
+there_seen f (home g) there = tt
+there_seen f (still bytes) there = tt
+there_seen f out there = tt
+
+-- ---- the store changes
+
+-- what is seen of another entry
+pub put_seen : (p : PartView) (name : FileName) (e : Entry) (disk : Disk) (f g : DiskFile) (job : FileName → DiskFile)
+    → files_at p (put name e disk) f g job ≡ put name (seen_entry (device_at p f g job name) e) (files_at p disk f g job)
+put_seen p name e disk f g job = fun_ext λ n. elim (cases_Bool (same_name name n)) [
+  | inl same ↦ rw same (ap (λ m. seen_entry (device_at p f g job m) e) (sym (same_name-is name n same)))
+  | inr apart ↦ rw apart refl
+]
+
+-- ---- the active log
+
+if_same : (name : FileName) (f other : DiskFile) → (if same_name name name then f else other) ≡ f
+if_same name f other = rw (same_name-refl name) refl
+
+pub active_device : (p : PartView) (f g : DiskFile) (job : FileName → DiskFile) → device_at p f g job (active_name p) ≡ f
+active_device p f g job = if_same (active_name p) f (if same_name (active_name p) (sealed_name p) then g else job (active_name p))
+
+pub seen_active : (p : PartView) (disk : Disk) (f g : DiskFile) (job : FileName → DiskFile) → disk (active_name p) ≡ out → files_at p disk f g job (active_name p) ≡ home f
+seen_active p disk f g job is =
+    ap (λ e. seen_entry (device_at p f g job (active_name p)) e) is ∙ ap (λ x. home x) (active_device p f g job)
+
+-- a call of its device
+pub put_active : (p : PartView) (disk : Disk) (f new g : DiskFile) (job : FileName → DiskFile) → disk (active_name p) ≡ out
+    → put (active_name p) (home new) (files_at p disk f g job) ≡ files_at p disk new g job
+put_active p disk f new g job is = fun_ext λ n. elim (cases_Bool (same_name (active_name p) n)) [
+  | inl same ↦ rw same (subst (λ m. home new ≡ files_at p disk new g job m) (same_name-is (active_name p) n same) (sym (seen_active p disk new g job is)))
+  | inr apart ↦ rw (apart, not_same (active_name p) n apart) refl
+]
+
+-- ---- jobs that have done nothing
+
+empty_leaves : (P : List ℕ → Type 0) → LeavesAt (IsShutOrHas P) (empty_file None)
+empty_leaves P None left = tt
+empty_leaves P (Some b) (inl is) = inl (empty_image None b is)
+empty_leaves P (Some b) (inr before) = absurd (cc)
+
+pub no_job_leaves : (p : PartView) → JobsLeave p no_job
+no_job_leaves p = (flush p.flush, merge p.merge)
+  where
+    flush : (o : Option Flushing) → FlushLeaves p o no_job
+    flush None = tt
+    flush (Some f) = empty_leaves _
+
+    merge : (o : Option Merging) → MergeLeaves o no_job
+    merge None = tt
+    merge (Some m) = empty_leaves _
+
+-- ---- the sealed log
+
+-- a file that it may have
+pub some_sealed : (o : Option (List DiskFile)) → (g : DiskFile) × IsSealedFile o g
+some_sealed None = (empty_file None, tt)
+some_sealed (Some []) = (empty_file None, tt)
+some_sealed (Some (now ∷ past)) = (now, refl)

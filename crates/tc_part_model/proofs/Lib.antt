@@ -1,0 +1,4 @@
+pub mod DeviceFiles
+pub mod ViewLaws
+pub mod Commits
+pub mod ToldCommits
