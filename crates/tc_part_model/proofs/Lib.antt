@@ -2,3 +2,8 @@ pub mod DeviceFiles
 pub mod ViewLaws
 pub mod Commits
 pub mod ToldCommits
+pub mod TakenNames
+pub mod TableViews
+pub mod Stagings
+pub mod StoredCounts
+pub mod HeldKeys

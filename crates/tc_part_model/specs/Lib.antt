@@ -5,3 +5,4 @@ pub mod Meaning
 pub mod Changes
 pub mod Leaving
 pub mod Calls
+pub mod Staging

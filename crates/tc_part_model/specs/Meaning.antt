@@ -1,11 +1,11 @@
 -- What a part means, and what holds of it between two calls.
-use Rattle.std.specs.Prelude.{◌≡◌, Bool, true, false, List, Option, Some, None, length, map, option_map, is_some, IfSome}
+use Rattle.std.specs.Prelude.{◌≡◌, Bool, true, false, List, Option, Some, None, length, map, option_map, is_some, All, IfSome}
 use Rattle.std.specs.List.{AllZip}
 use Rattle.tc_model.specs.Keyed.{Keyed, on_value}
 use Rattle.tc_model.specs.KnownNames.{HasEach}
 use Rattle.tc_store.specs.Moments.{IfTold}
 use Rattle.tc_memory.specs.Table as memory
-use Rattle.tc_memory.specs.DocumentTables.{kept_table, IsTableOf}
+use Rattle.tc_memory.specs.DocumentTables.{kept_table, IsStoredAt}
 use Rattle.tc_component.specs.Rows.{component_index, IsComponent}
 use Rattle.tc_plain_model.specs.Store.{Store}
 use Rattle.tc_plain_model.specs.Writes.{Pairs, Write}
@@ -34,8 +34,9 @@ all_shown t = map (on_value shown) t
 
 -- A table keeps these documents. The shapes below come from the files, so that they are known where the files are told.
 pub record KeepsTable (are_told : Type 0) (t : Table) (kept : memory.Table) : Type 0 where
+  pub stored : All IsStoredAt t
   pub holds : all_shown kept ≡ all_shown (kept_table t)
-  pub of : are_told → IsTableOf t kept
+  pub shapes : are_told → kept ≡ kept_table t
 
 abbrev pub KeepsSealed : Type 0 → Option Sealed → Option memory.Table → Type 0
 KeepsSealed are_told None None = Unit {0}

@@ -3,5 +3,7 @@
 #![tactic(auto)]
 
 mod commit;
+mod staging;
 
 pub use commit::commits_are_kept;
+pub use staging::{staged_is_kept, tables_hold_keys};
