@@ -1,18 +1,21 @@
 -- The files of a part, where its store or one of its devices changes.
 use Rattle.std.proofs.Common.{◌≡◌, ℕ, List, [], ◌∷◌, refl, sym, ap, ◌∙◌, subst, inl, inr, Option, Some, None, false}
-use Rattle.std.specs.Prelude.{if◌then◌else◌}
+use Rattle.std.specs.Prelude.{if◌then◌else◌, IfSome}
 use Rattle.std.proofs.Math.Path.{fun_ext}
 use Rattle.std.proofs.lemmas.Bool.{cases_Bool, true≢false}
 use Rattle.tc_store.specs.declared.file_name.FileName.{FileName}
 use Rattle.tc_store.specs.Disk.{Disk, Entry, IsThere, none, home, still, out, put, same_name}
 use Rattle.tc_store.specs.DiskFile.{DiskFile, empty_file}
-use Rattle.tc_store.specs.Moments.{LeavesAt}
+use Rattle.tc_store.specs.Moments.{IfTold, LeavesAt}
+use Rattle.tc_store.specs.StoreCalls.{comes_home}
 use Rattle.tc_store.proofs.NameLemmas.{same_name-refl, same_name-is}
 use Rattle.tc_machine.specs.State.{Flushing, Merging}
 use Rattle.tc_machine.specs.Steps.{IsShutOrHas}
 use Rattle.tc_machine.proofs.FilesMade.{empty_image}
 use Rattle.tc_part_model.specs.PartView.{PartView}
-use Rattle.tc_part_model.specs.PartFiles.{seen_entry, active_name, sealed_name, device_at, files_at, no_job, FlushLeaves, MergeLeaves, JobsLeave, IsSealedFile, IfFiles}
+use Rattle.tc_part_model.specs.Leaving.{with_next_log}
+use Rattle.tc_part_model.specs.PartFiles.{seen_entry, active_name, sealed_name, device_at, files_at, no_job, FlushLeaves, MergeLeaves, JobsLeave, IsSealedFile, IfFiles, LogsTell}
+use Rattle.tc_part_model.specs.PartState.{IsTold}
 
 pub not_same : (a b : FileName) → same_name a b ≡ false → same_name b a ≡ false
 not_same a b differ = elim (cases_Bool (same_name b a)) [
@@ -56,9 +59,16 @@ put_active p disk f new g job is = fun_ext λ n. elim (cases_Bool (same_name (ac
   | inr apart ↦ rw (apart, not_same (active_name p) n apart) refl
 ]
 
+-- a change takes the place of the one before
+pub put_over : (name : FileName) (x y : Entry) (files : Disk) → put name y (put name x files) ≡ put name y files
+put_over name x y files = fun_ext λ n. elim (cases_Bool (same_name name n)) [
+  | inl same ↦ rw same refl
+  | inr apart ↦ rw apart refl
+]
+
 -- ---- jobs that have done nothing
 
-empty_leaves : (P : List ℕ → Type 0) → LeavesAt (IsShutOrHas P) (empty_file None)
+pub empty_leaves : (P : List ℕ → Type 0) → LeavesAt (IsShutOrHas P) (empty_file None)
 empty_leaves P None left = tt
 empty_leaves P (Some b) (inl is) = inl (empty_image None b is)
 empty_leaves P (Some b) (inr before) = absurd (cc)
@@ -71,6 +81,18 @@ no_job_leaves p = (flush p.flush, merge p.merge)
     flush (Some f) = empty_leaves _
 
     merge : (o : Option Merging) → MergeLeaves o no_job
+    merge None = tt
+    merge (Some m) = empty_leaves _
+
+-- and of those of a part whose next log is out
+pub next_log_jobs : (p : PartView) (x : DiskFile) → JobsLeave p (with_next_log p x)
+next_log_jobs p x = (flush p.flush, merge p.merge)
+  where
+    flush : (o : Option Flushing) → FlushLeaves p o (with_next_log p x)
+    flush None = tt
+    flush (Some f) = empty_leaves _
+
+    merge : (o : Option Merging) → MergeLeaves o (with_next_log p x)
     merge None = tt
     merge (Some m) = empty_leaves _
 
@@ -89,3 +111,19 @@ pub if_files_map : (P Q : Disk → DiskFile → DiskFile → Type 0) (disks : Li
 if_files_map P Q [] log sealed go all = tt
 if_files_map P Q (disk ∷ before) [] sealed go all = tt
 if_files_map P Q (disk ∷ before) (f ∷ past) sealed go all = λ g is. go disk f g (all g is)
+
+-- a store that tells nothing goes on so, and so its logs need tell nothing
+pub told_again : (X : Type 0) (disks new : List Disk) → (disks ≡ [] → new ≡ []) → IfTold disks (λ disk. X) → IfTold new (λ disk. X)
+told_again X [] new untold tells = subst (λ ds. IfTold ds (λ disk. X)) (sym (untold refl)) tt
+told_again X (disk ∷ before) [] untold tells = tt
+told_again X (disk ∷ before) (d ∷ ds) untold tells = tells
+
+pub logs_tell : (disks new : List Disk) (log : List DiskFile) (sealed : Option (List DiskFile)) → (disks ≡ [] → new ≡ []) → LogsTell disks log sealed → LogsTell new log sealed
+logs_tell disks new log sealed untold tells = record {
+  active = told_again (IsTold log) disks new untold tells.active;
+  sealed = told_again (IfSome sealed (λ moments. IsTold moments)) disks new untold tells.sealed;
+}
+
+pub comes_untold : (name : FileName) (entry : DiskFile → Entry) (moments : List DiskFile) → comes_home name entry moments [] ≡ []
+comes_untold name entry [] = refl
+comes_untold name entry (f ∷ past) = refl

@@ -7,3 +7,7 @@ pub mod TableViews
 pub mod Stagings
 pub mod StoredCounts
 pub mod HeldKeys
+pub mod Seals
+pub mod Failures
+pub mod ToldSeals
+pub mod SealedParts

@@ -27,6 +27,7 @@ use Rattle.tc_part_model.specs.PartView.{PartView, state_of, stored_with, below_
 use Rattle.tc_part_model.specs.Staging.{called, taken_with, HandsShape}
 use Rattle.tc_part_model.proofs.DeviceFiles.{if_files_map}
 use Rattle.tc_part_model.proofs.TableViews.{called_below, same_below, same_called}
+use Rattle.tc_part_model.proofs.ViewLaws.{kept-append}
 use Rattle.tc_part_model.proofs.TakenNames.{HasEach-known, HasEach-taken, HasEach-write, KnowsWritten-taken, no_more}
 
 -- ---- the table
@@ -73,10 +74,6 @@ staged_starts p w taken memory start storable each few room = record {
   few = omega (arith, few, no_more (taken_with w taken) (names_in (with_staged w p)) (distinct_names (with_staged w p) memory) (staged_names p w taken each));
 }
 
-map-push : (ws : List Write) (w : Write) → map kept_write (ws ++ w ∷ []) ≡ map kept_write ws ++ kept_write w ∷ []
-map-push [] w = refl
-map-push (v ∷ ws) w = ap (λ r. kept_write v ∷ r) (map-push ws w)
-
 module _ (t : Told) (p : PartView) (w : Write) (handed : Option ShapeTree) (is : IsPart t p) (storable : IsStorableWrite w) (hands : HandsShape t p w.0 handed) where
   staged_told : length (taken_with w t.taken) < 2 ^ 32 → length (stored_with (with_staged w p)) < 2 ^ 32
       → IsPart (record t { active = called w handed t.active; staged = t.staged ++ kept_write w ∷ []; taken = taken_with w t.taken; live = length (stored_with (with_staged w p)) }) (with_staged w p)
@@ -89,7 +86,7 @@ module _ (t : Told) (p : PartView) (w : Write) (handed : Option ShapeTree) (is :
       sealed = is.view.sealed;
       sealed_log = is.view.sealed_log;
       active = staged_table t p w handed storable hands is.view.active;
-      staged = ap (λ ws. ws ++ kept_write w ∷ []) is.view.staged ∙ sym (map-push p.staged w);
+      staged = ap (λ ws. ws ++ kept_write w ∷ []) is.view.staged ∙ sym (kept-append p.staged (w ∷ []));
       taken = staged_names p w t.taken is.view.taken;
       live = refl;
       flushing = is.view.flushing;

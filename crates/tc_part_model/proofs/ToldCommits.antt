@@ -23,14 +23,10 @@ use Rattle.tc_part_model.specs.PartState.{Told, IsTold}
 use Rattle.tc_part_model.specs.PartView.{PartView, generation_of, store_of, stored_with, MayStart}
 use Rattle.tc_part_model.proofs.Commits.{commit_keeps, failed_keeps, means_now, moment_leaves, uncalled_keeps}
 use Rattle.tc_part_model.proofs.DeviceFiles.{some_sealed}
-use Rattle.tc_part_model.proofs.ViewLaws.{commit_adds, commit_of_none, committed_memory, committed_names, nothing_starts}
+use Rattle.tc_part_model.proofs.ViewLaws.{kept-append, none_kept, commit_adds, commit_of_none, committed_memory, committed_names, nothing_starts}
 
 abbrev kept_writes : List Write → List log.Write
 kept_writes ws = map kept_write ws
-
-map-append : (xs ys : List Write) → kept_writes (xs ++ ys) ≡ kept_writes xs ++ kept_writes ys
-map-append [] ys = refl
-map-append (x ∷ xs) ys = ap (λ r. kept_write x ∷ r) (map-append xs ys)
 
 abbrev head_of : PartView → LogHead
 head_of p = log_head p.part (generation_of p)
@@ -61,7 +57,7 @@ committed_files p (disk ∷ before) [] new sealed start kept tells has = absurd 
 committed_files p (disk ∷ before) (f ∷ past) [] sealed start kept tells has = tt
 committed_files p (disk ∷ before) (f ∷ past) (x ∷ more) sealed start kept tells has = λ g is.
     let now = has.durable (head_of p) (kept_writes p.active.writes) (means_now p disk f g (kept g is) has.appends.stays) in
-    commit_keeps p disk f g (kept g is) start x now.0 (subst (λ ws. Means x.content (head_of p) ws) (sym (map-append p.active.writes p.staged)) now.1)
+    commit_keeps p disk f g (kept g is) start x now.0 (subst (λ ws. Means x.content (head_of p) ws) (sym (kept-append p.active.writes p.staged)) now.1)
 
 failed_files : (p : PartView) (disks : List Disk) (old new : List DiskFile) (sealed : Option (List DiskFile)) → MayStart p → Kept p disks old sealed → IfTold disks (λ disk. IsTold old)
     → Appends (kept_writes p.staged) old new → IfFiles disks new sealed (AreKeptAt p true (Some p.staged))
@@ -158,10 +154,6 @@ module _ (t : Told) (p : PartView) (is : IsPart t p) where
     tells = rw (disks, sealed, log) is.tells;
     files = rw (disks, sealed, log) (uncalled_files p t.disks t.log t.sealed_log is.staged is.files.kept);
   }
-
-  none_kept : (ws : List Write) → [] ≡ kept_writes ws → ws ≡ []
-  none_kept [] none = refl
-  none_kept (w ∷ ws) none = absurd (cc)
 
   pub commit_nothing : t.staged ≡ [] → committed_part p ≡ p
   commit_nothing none = commit_of_none p (none_kept p.staged (sym none ∙ is.view.staged))

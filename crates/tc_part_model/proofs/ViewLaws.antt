@@ -1,14 +1,15 @@
 -- What follows of the memory of a part: what it holds, and what may be staged where nothing is.
-use Rattle.std.proofs.Common.{◌≡◌, [], ◌++◌, refl, sym, ap, ◌∙◌, subst, append-nil, Some, false}
-use Rattle.std.specs.Prelude.{All}
+use Rattle.std.proofs.Common.{◌≡◌, List, [], ◌∷◌, ◌++◌, refl, sym, ap, ◌∙◌, subst, append-nil, Some, false}
+use Rattle.std.specs.Prelude.{All, map}
 use Rattle.std.proofs.lemmas.List.Elements.{All-nil}
 use Rattle.std.proofs.lemmas.List.Sums.{fold-append}
 use Rattle.tc_plain_model.specs.Store.{names_after}
-use Rattle.tc_plain_model.specs.Writes.{after_writes}
+use Rattle.tc_plain_model.specs.Writes.{Write, after_writes}
 use Rattle.tc_plain_model.proofs.WriteLaws.{after_writes-append}
 use Rattle.tc_lsm_model.specs.Lists.{live, names_of}
 use Rattle.tc_lsm_model.specs.Tables.{shape_in, table_over, table_with, writes_of}
 use Rattle.tc_machine.specs.Kept.{IsMemoryKept}
+use Rattle.tc_machine.specs.Logs.{kept_write}
 use Rattle.tc_machine.specs.State.{held, history, sealed_table, table_after}
 use Rattle.tc_machine.specs.Writes.{IsStorableWrite, HasRoom, AreFew}
 use Rattle.tc_machine.proofs.Holding.{holds}
@@ -59,3 +60,13 @@ commit_of_none p is =
     ap (λ ws. record p { active = record { table = table_after (below_of p) p.active.table ws; writes = p.active.writes ++ ws }; staged = [] }) is
     ∙ ap (λ ws. record p { active = record { table = p.active.table; writes = ws }; staged = [] }) (append-nil p.active.writes)
     ∙ ap (λ ws. record p { staged = ws }) (sym is)
+
+-- ---- what is staged, as a log keeps it
+
+pub kept-append : (xs ys : List Write) → map kept_write (xs ++ ys) ≡ map kept_write xs ++ map kept_write ys
+kept-append [] ys = refl
+kept-append (x ∷ xs) ys = ap (λ r. kept_write x ∷ r) (kept-append xs ys)
+
+pub none_kept : (ws : List Write) → [] ≡ map kept_write ws → ws ≡ []
+none_kept [] none = refl
+none_kept (w ∷ ws) none = absurd (cc)

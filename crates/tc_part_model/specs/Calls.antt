@@ -1,12 +1,13 @@
 -- What the calls of logs and stores promise that the calls of a part make: the premises of the laws of a part.
-use Rattle.std.specs.Prelude.{List, ◌++◌}
-use Rattle.tc_store.specs.DiskFile.{DiskFile, IsSettled}
-use Rattle.tc_store.specs.Images.{IsImageOf}
+use Rattle.std.specs.Prelude.{◌≡◌, List, [], ◌++◌}
+use Rattle.tc_store.specs.DiskFile.{DiskFile, IsSettled, settled_file}
+use Rattle.tc_store.specs.Gate.{IsShutOr, IsShutOrWhole}
+use Rattle.tc_store.specs.Images.{Image, IsImageOf}
 use Rattle.tc_store.specs.Moments.{IfTold, LeavesAt, LeavesOnly}
 use Rattle.tc_log.specs.declared.head.LogHead.{LogHead}
 use Rattle.tc_log.specs.declared.write.Write.{Write}
 use Rattle.tc_log.specs.Appending.{MeansWithOrWithout}
-use Rattle.tc_log.specs.Spelling.{Means}
+use Rattle.tc_log.specs.Spelling.{Means, log_at_rest}
 
 -- an append of these writes, done or not: of the log as it was, a stop leaves its content
 pub record Appends (ws : List Write) (old new : List DiskFile) : Type 0 where
@@ -18,3 +19,13 @@ pub record Appends (ws : List Write) (old new : List DiskFile) : Type 0 where
 pub record HasAppended (ws : List Write) (old new : List DiskFile) : Type 0 where
   pub appends : Appends ws old new
   pub durable : (head : LogHead) (writes : List Write) → IfTold old (λ f. Means f.content head writes) → IfTold new (λ f. IsSettled f × Means f.content head (writes ++ ws))
+
+-- the creation of a log on a device that was just made, done or not: each of its moments leaves what was there before, or the
+-- whole log without a frame
+pub record Creates (head : LogHead) (device new : List DiskFile) : Type 0 where
+  pub moments : (before : Image) → IfTold device (LeavesAt (IsShutOr before)) → LeavesOnly (IsShutOrWhole before (log_at_rest head [])) device new
+
+-- done
+pub record HasCreated (head : LogHead) (device new : List DiskFile) : Type 0 where
+  pub creates : Creates head device new
+  pub content : IfTold new (λ f. f ≡ settled_file (log_at_rest head []))

@@ -1,10 +1,10 @@
 -- What a stop at the moments of a call leaves: the store, or the store with the frame that is appended.
-use Rattle.std.specs.Prelude.{◌⊎◌, List, [], Option, Some, None, All, false}
+use Rattle.std.specs.Prelude.{◌⊎◌, List, [], Option, Some, None, All, false, if◌then◌else◌}
 use Rattle.tc_store.specs.declared.file_name.FileName.{FileName}
 use Rattle.tc_store.specs.declared.file_name.FileName.TheVariants.{Log}
-use Rattle.tc_store.specs.Disk.{Disk, Picture}
+use Rattle.tc_store.specs.Disk.{Disk, Picture, same_name}
 use Rattle.tc_store.specs.Pictures.{LeavesPictures}
-use Rattle.tc_store.specs.DiskFile.{DiskFile}
+use Rattle.tc_store.specs.DiskFile.{DiskFile, empty_file}
 use Rattle.tc_store.specs.Moments.{IfTold, EachSince, LeavesAt}
 use Rattle.tc_plain_model.specs.Writes.{Pairs, Write}
 use Rattle.tc_lsm_model.specs.Contents.{Partition}
@@ -25,13 +25,17 @@ LeavesStore p frame other disk sealed_log log =
     (picture : Picture) → IsPictureBeside p.part (state_with p false frame (files_at p disk log sealed_log other)) picture
     → Recovers p.part picture (IsWithOrWithout (store_of p) frame)
 
+-- the next log, where that is out, has this file
+abbrev pub with_next_log : PartView → DiskFile → FileName → DiskFile
+with_next_log p x name = if same_name name (Log (next_of p)) then x else empty_file None
+
 -- the file of the next log is absent, closed, or without a frame
-abbrev pub NextLogLeaves : PartView → (FileName → DiskFile) → Type 0
-NextLogLeaves p other = LeavesAt (IsShutOrHas (IsLog p.part (next_of p) [])) (other (Log (next_of p)))
+abbrev pub NextLogLeaves : PartView → DiskFile → Type 0
+NextLogLeaves p x = LeavesAt (IsShutOrHas (IsLog p.part (next_of p) [])) x
 
 -- So it is at this moment of the store, whatever was done by then to the next log, if that is out.
 abbrev pub LeavesStoreAt : PartView → Option (List Write) → DiskFile → DiskFile → Disk → Type 0
-LeavesStoreAt p frame sealed_log log disk = (other : FileName → DiskFile) → NextLogLeaves p other → LeavesStore p frame other disk sealed_log log
+LeavesStoreAt p frame sealed_log log disk = (x : DiskFile) → NextLogLeaves p x → LeavesStore p frame (with_next_log p x) disk sealed_log log
 
 -- ---- all moments of a call
 
@@ -47,7 +51,7 @@ StoreMomentsLeaveStore p q old disks =
 
 -- each moment of a log that the call made, as the next one of the part
 abbrev pub NextLogMoments : PartView → List DiskFile → Type 0
-NextLogMoments p log = All (λ f. LeavesAt (IsShutOrHas (IsLog p.part (next_of p) [])) f) log
+NextLogMoments p log = All (NextLogLeaves p) log
 
 -- ---- where everything is at home
 

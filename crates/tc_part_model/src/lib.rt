@@ -3,7 +3,11 @@
 #![tactic(auto)]
 
 mod commit;
+mod failing;
+mod sealing;
 mod staging;
 
 pub use commit::commits_are_kept;
+pub use failing::failures_are_kept;
+pub use sealing::{failed_seals_are_kept, seals_are_kept, seals_leave_store};
 pub use staging::{staged_is_kept, tables_hold_keys};
