@@ -14,7 +14,7 @@ use Rattle.tc_machine.specs.Steps.{IsShutOrHas}
 use Rattle.tc_machine.proofs.FilesMade.{empty_image}
 use Rattle.tc_part_model.specs.PartView.{PartView}
 use Rattle.tc_part_model.specs.Leaving.{with_next_log}
-use Rattle.tc_part_model.specs.PartFiles.{seen_entry, active_name, sealed_name, device_at, files_at, no_job, FlushLeaves, MergeLeaves, JobsLeave, IsSealedFile, IfFiles, LogsTell}
+use Rattle.tc_part_model.specs.PartFiles.{seen_entry, active_name, sealed_name, device_at, files_at, no_job, FlushLeaves, MergeLeaves, JobsLeave, IsSealedFile, LogsTell}
 use Rattle.tc_part_model.specs.PartState.{IsTold}
 
 pub not_same : (a b : FileName) → same_name a b ≡ false → same_name b a ≡ false
@@ -105,12 +105,6 @@ some_sealed (Some []) = (empty_file None, tt)
 some_sealed (Some (now ∷ past)) = (now, refl)
 
 -- ---- where they are told
-
-pub if_files_map : (P Q : Disk → DiskFile → DiskFile → Type 0) (disks : List Disk) (log : List DiskFile) (sealed : Option (List DiskFile)) → ((disk : Disk) (f g : DiskFile) → P disk f g → Q disk f g)
-    → IfFiles disks log sealed P → IfFiles disks log sealed Q
-if_files_map P Q [] log sealed go all = tt
-if_files_map P Q (disk ∷ before) [] sealed go all = tt
-if_files_map P Q (disk ∷ before) (f ∷ past) sealed go all = λ g is. go disk f g (all g is)
 
 -- a store that tells nothing goes on so, and so its logs need tell nothing
 pub told_again : (X : Type 0) (disks new : List Disk) → (disks ≡ [] → new ≡ []) → IfTold disks (λ disk. X) → IfTold new (λ disk. X)

@@ -1,14 +1,13 @@
 -- A part that fails keeps its files, where the call changed none.
-use Rattle.std.proofs.Common.{List, Option, None, Some, false, true, ◌≡◌, refl, sym, subst}
+use Rattle.std.proofs.Common.{None, false, true, ◌≡◌, refl}
 use Rattle.tc_store.specs.Disk.{Disk}
 use Rattle.tc_store.specs.DiskFile.{DiskFile}
-use Rattle.tc_plain_model.specs.Writes.{Write}
 use Rattle.tc_machine.proofs.RunSteps.{part_failed_keeps}
 use Rattle.tc_part_model.specs.Meaning.{IsPart, HasFailed}
 use Rattle.tc_part_model.specs.PartFiles.{AreKeptAt, files_at}
 use Rattle.tc_part_model.specs.PartState.{Told}
 use Rattle.tc_part_model.specs.PartView.{PartView, state_with, store_of}
-use Rattle.tc_part_model.proofs.DeviceFiles.{if_files_map}
+use Rattle.tc_part_model.proofs.ToldFiles.{if_files_map}
 
 pub failing_keeps : (p : PartView) (disk : Disk) (f g : DiskFile) → AreKeptAt p false None disk f g → AreKeptAt p true None disk f g
 failing_keeps p disk f g k = record {

@@ -1,4 +1,5 @@
 pub mod DeviceFiles
+pub mod ToldFiles
 pub mod ViewLaws
 pub mod Commits
 pub mod ToldCommits
@@ -7,7 +8,10 @@ pub mod TableViews
 pub mod Stagings
 pub mod StoredCounts
 pub mod HeldKeys
+pub mod Pictures
 pub mod Seals
 pub mod Failures
 pub mod ToldSeals
 pub mod SealedParts
+pub mod Beginnings
+pub mod BegunParts

@@ -1,6 +1,5 @@
 -- A seal of a part: done, at each moment, and where it failed.
-use Rattle.std.proofs.Common.{◌≡◌, ◌++◌, ◌+◌, ◌<◌, ◌^◌, ◌⊎◌, ℕ, List, [], ◌∷◌, length, refl, sym, ap, ◌∙◌, subst, inl, inr, Option, Some, None, false, true, arith, append-nil}
-use Rattle.std.specs.Prelude.{All, IfSome, map}
+use Rattle.std.proofs.Common.{◌≡◌, ◌+◌, ℕ, List, [], refl, sym, ap, ◌∙◌, subst, Option, Some, None, false, true, arith, append-nil}
 use Rattle.std.proofs.lemmas.List.Elements.{All-nil}
 use Rattle.tc_model.specs.KnownNames.{HasEach}
 use Rattle.tc_store.specs.declared.file_name.FileName.TheVariants.{Log}
@@ -11,17 +10,14 @@ use Rattle.tc_store.specs.StoreCalls.{FailsMaking, comes_home, fresh_file_at, ma
 use Rattle.tc_store.proofs.MomentLemmas.{told-goes_on, told_map}
 use Rattle.tc_log.specs.declared.head.LogHead.{LogHead}
 use Rattle.tc_log.specs.Spelling.{IsHead, log_at_rest}
-use Rattle.tc_log.specs.declared.write.Write as log
-use Rattle.tc_memory.specs.Table as memory
 use Rattle.tc_memory.specs.DocumentTables.{IsStoredAt}
 use Rattle.tc_plain_model.specs.Store.{names_after}
-use Rattle.tc_plain_model.specs.Writes.{Write}
 use Rattle.tc_lsm_model.specs.Lists.{names_of}
 use Rattle.tc_lsm_model.specs.Tables.{writes_of}
 use Rattle.tc_machine.specs.Kept.{IsMemoryKept}
-use Rattle.tc_machine.specs.Logs.{kept_write, log_head}
+use Rattle.tc_machine.specs.Logs.{log_head}
 use Rattle.tc_machine.specs.Sound.{IsFlushOf}
-use Rattle.tc_machine.specs.State.{Flushing, Sealed}
+use Rattle.tc_machine.specs.State.{Sealed}
 use Rattle.tc_machine.proofs.MemorySteps.{no_flush, sealing_memory}
 use Rattle.tc_part_model.specs.Calls.{Creates, HasCreated}
 use Rattle.tc_part_model.specs.Changes.{sealed_part}
@@ -32,7 +28,8 @@ use Rattle.tc_part_model.specs.PartState.{Told, AreTold, IsTold}
 use Rattle.tc_part_model.specs.PartView.{PartView, state_of, generation_of, next_of, names_in, store_of}
 use Rattle.tc_part_model.proofs.DeviceFiles.{comes_untold, logs_tell}
 use Rattle.tc_part_model.proofs.Seals.{bare, next_name}
-use Rattle.tc_part_model.proofs.ToldSeals.{broken_failed, broken_moments, created_moments, created_tells, made_moments, sealed_told, told_free, unmade_failed, unmade_moments, unmade_untold}
+use Rattle.tc_part_model.proofs.ToldFiles.{unmade_untold}
+use Rattle.tc_part_model.proofs.ToldSeals.{broken_failed, broken_moments, created_moments, created_tells, made_moments, sealed_told, told_free, unmade_failed, unmade_moments}
 use Rattle.tc_part_model.proofs.ViewLaws.{none_kept, nothing_starts}
 
 -- ---- what may seal is bare
@@ -153,7 +150,7 @@ module _ (t : Told) (p : PartView) (is : IsPart t (bare p)) where
         view = bare p;
         here = refl;
         holds = refl;
-        tells = rw (log, sealed) (logs_tell t.disks u.disks t.log t.sealed_log (unmade_untold p t.disks u.disks fails') is.tells);
+        tells = rw (log, sealed) (logs_tell t.disks u.disks t.log t.sealed_log (unmade_untold (next_name p) t.disks u.disks fails') is.tells);
         files = rw (log, sealed) (unmade_failed p t.disks u.disks t.log t.sealed_log is.files.kept fails');
       }
 

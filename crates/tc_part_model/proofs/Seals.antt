@@ -8,7 +8,7 @@ use Rattle.tc_store.specs.declared.file_name.FileName.{FileName}
 use Rattle.tc_store.specs.declared.file_name.FileName.TheVariants.{Component, Log}
 use Rattle.tc_store.specs.Disk.{Disk, Entry, IsThere, MayLeaveAt, Picture, home, is_out, none, out, put, removed_of, same_name}
 use Rattle.tc_store.specs.DiskFile.{DiskFile, empty_file, settled_file}
-use Rattle.tc_store.specs.Gate.{IsShutOr, IsShutOrWhole, is_open_file}
+use Rattle.tc_store.specs.Gate.{IsShutOrWhole, is_open_file}
 use Rattle.tc_store.specs.Images.{Image}
 use Rattle.tc_store.specs.Moments.{LeavesAt}
 use Rattle.tc_store.proofs.GateLemmas.{settled_leaves}
@@ -21,7 +21,6 @@ use Rattle.tc_machine.specs.Kept.{IsKept}
 use Rattle.tc_machine.specs.Logs.{IsLog, LeavesLog, log_head}
 use Rattle.tc_machine.specs.Pictures.{Recovers}
 use Rattle.tc_machine.specs.Sound.{IsExplained, IsWithOrWithout}
-use Rattle.tc_machine.specs.State.{State}
 use Rattle.tc_machine.specs.Steps.{IsShutOrHas, nothing_held}
 use Rattle.tc_machine.proofs.Beside.{picture_beside_recovers}
 use Rattle.tc_machine.proofs.Events.{event_keeps}
@@ -33,6 +32,7 @@ use Rattle.tc_part_model.specs.Changes.{sealed_part}
 use Rattle.tc_part_model.specs.Leaving.{LeavesStoreAt, NextLogLeaves, with_next_log}
 use Rattle.tc_part_model.specs.PartFiles.{AreKeptAt, IsDevice, JobsLeave, active_name, device_at, files_at, no_job, seen_entry}
 use Rattle.tc_part_model.specs.PartView.{PartView, generation_of, next_of, state_with, store_of}
+use Rattle.tc_part_model.proofs.Pictures.{same_beside}
 use Rattle.tc_part_model.proofs.DeviceFiles.{next_log_jobs, no_job_leaves, not_same, put_over, put_seen, seen_active, there_seen}
 
 -- a part that may seal
@@ -60,12 +60,6 @@ next_apart p same = absurd (no (one_name (next_of (bare p)) (generation_of (bare
   where
     no : next_of (bare p) ≡ generation_of (bare p) → ⊥
     no same = omega (arith, same)
-
--- ---- pictures beside the jobs look at no more than these
-
-same_beside : (p : PartView) (failed : Bool) (files other : Disk) (picture : Picture) → files ≡ other → IsPictureBeside p.part (state_with p false None files) picture → IsPictureBeside p.part (state_with p failed None other) picture
-same_beside p failed files other picture same b =
-    subst (λ fs. IsPictureBeside p.part (state_with p failed None fs) picture) same (record { once = b.once; flush = b.flush; merge = b.merge; others = b.others })
 
 module _ (p : PartView) (disk : Disk) (f g : DiskFile) (k : AreKeptAt (bare p) false None disk f g) where
   pub free : IsThere (disk (next_name p)) → ⊥

@@ -1,6 +1,6 @@
 -- Staging: the memory table, the staged writes and the taken names go on together, and the files are as they were.
 use Rattle.std.proofs.Common.{◌≡◌, ◌<◌, ◌^◌, ◌++◌, ℕ, List, [], ◌∷◌, length, refl, sym, ap, ◌∙◌, subst, arith, Option, Some, None, append_assoc, bytes_eq, false}
-use Rattle.std.specs.Prelude.{All, map}
+use Rattle.std.specs.Prelude.{All}
 use Rattle.std.specs.List.{IsDistinct}
 use Rattle.std.proofs.lemmas.List.Elements.{All-nil, All-cons, All-append}
 use Rattle.std.proofs.lemmas.List.Sums.{fold-append}
@@ -25,7 +25,7 @@ use Rattle.tc_part_model.specs.PartFiles.{AreKeptAt}
 use Rattle.tc_part_model.specs.PartState.{Told, AreTold}
 use Rattle.tc_part_model.specs.PartView.{PartView, state_of, stored_with, below_of, table_of, names_in, MayStart}
 use Rattle.tc_part_model.specs.Staging.{called, taken_with, HandsShape}
-use Rattle.tc_part_model.proofs.DeviceFiles.{if_files_map}
+use Rattle.tc_part_model.proofs.ToldFiles.{if_files_map}
 use Rattle.tc_part_model.proofs.TableViews.{called_below, same_below, same_called}
 use Rattle.tc_part_model.proofs.ViewLaws.{kept-append}
 use Rattle.tc_part_model.proofs.TakenNames.{HasEach-known, HasEach-taken, HasEach-write, KnowsWritten-taken, no_more}

@@ -1,13 +1,12 @@
 -- A seal, for the moments that are told.
-use Rattle.std.proofs.Common.{◌≡◌, ◌++◌, ◌+◌, ◌<◌, ◌^◌, ◌⊎◌, ℕ, List, [], ◌∷◌, length, refl, sym, ap, ◌∙◌, subst, inl, inr, Option, Some, None, false, true, arith, append-nil, is_some, if◌then◌else◌}
-use Rattle.std.specs.Prelude.{All, IfSome, map}
+use Rattle.std.proofs.Common.{◌≡◌, ◌++◌, ◌<◌, ◌^◌, ◌⊎◌, List, [], ◌∷◌, refl, sym, ap, ◌∙◌, subst, inl, inr, Option, Some, None, false, true, if◌then◌else◌}
+use Rattle.std.specs.Prelude.{All}
 use Rattle.std.proofs.lemmas.List.Elements.{All-nil, All-cons, All-append, All-weaker}
-use Rattle.tc_store.specs.declared.file_name.FileName.TheVariants.{Log}
 use Rattle.tc_store.specs.Disk.{Disk, IsThere, home, is_out, out, put, removed_of}
 use Rattle.tc_store.specs.DiskFile.{DiskFile, empty_file, settled_file}
 use Rattle.tc_store.specs.Gate.{IsShutOr, IsShutOrWhole}
 use Rattle.tc_store.specs.Images.{Image}
-use Rattle.tc_store.specs.Moments.{IfTold, EachSince, LeavesAt, goes_on}
+use Rattle.tc_store.specs.Moments.{IfTold, EachSince, LeavesAt}
 use Rattle.tc_store.specs.StoreCalls.{FailsMaking, comes_home, fresh_file_at, makes, returns_as}
 use Rattle.tc_store.proofs.MomentLemmas.{EachSince-none, EachSince-one, EachSince-trans}
 use Rattle.tc_store.proofs.NameLemmas.{put_there}
@@ -15,13 +14,14 @@ use Rattle.tc_store.proofs.StopLaws.{now_since, since_weaker}
 use Rattle.tc_log.specs.Spelling.{IsHead, log_at_rest}
 use Rattle.tc_machine.specs.Logs.{log_head}
 use Rattle.tc_machine.proofs.FilesMade.{empty_image}
-use Rattle.tc_part_model.specs.Calls.{Creates, HasCreated}
+use Rattle.tc_part_model.specs.Calls.{Creates}
 use Rattle.tc_part_model.specs.Changes.{sealed_part}
 use Rattle.tc_part_model.specs.Leaving.{LeavesStoreAt, NextLogLeaves, NextLogMoments}
 use Rattle.tc_part_model.specs.PartFiles.{AreKeptAt, IfFiles, IsSealedFile}
 use Rattle.tc_part_model.specs.PartState.{IsTold}
 use Rattle.tc_part_model.specs.PartView.{PartView, next_of}
-use Rattle.tc_part_model.proofs.DeviceFiles.{comes_untold, if_files_map, put_over, some_sealed}
+use Rattle.tc_part_model.proofs.DeviceFiles.{comes_untold, put_over, some_sealed}
+use Rattle.tc_part_model.proofs.ToldFiles.{MomentsSince, if_files_unmade, moments_goes_on, moments_unmade, wasted}
 use Rattle.tc_part_model.proofs.Failures.{failing_keeps}
 use Rattle.tc_part_model.proofs.Seals.{bare, created_next, empty_next, free, home_kept, home_leaves, next_name, out_leaves, seal_keeps}
 
@@ -43,11 +43,11 @@ module _ (p : PartView) where
   Tells disks log = IfTold disks (λ disk. IsTold log)
 
   -- a moment of the store
-  abbrev Leaves : DiskFile → DiskFile → Disk → Type 0
-  Leaves g f disk = LeavesStoreAt (bare p) None g f disk ⊎ LeavesStoreAt (bare p) None g f disk
+  abbrev Leaves : Disk → DiskFile → DiskFile → Type 0
+  Leaves disk f g = LeavesStoreAt (bare p) None g f disk ⊎ LeavesStoreAt (bare p) None g f disk
 
   abbrev Moments : List Disk → List DiskFile → Option (List DiskFile) → List Disk → Type 0
-  Moments disks log sealed new = IfTold log λ f. (g : DiskFile) → IsSealedFile sealed g → EachSince (Leaves g f) disks new
+  Moments disks log sealed new = MomentsSince Leaves disks log sealed new
 
   -- ---- before the call
 
@@ -59,25 +59,13 @@ module _ (p : PartView) where
   -- ---- moments of the store
 
   pub made_moments : (disks : List Disk) (log : List DiskFile) (sealed : Option (List DiskFile)) → Kept disks log sealed → Moments disks log sealed (makes (next_name p) disks)
-  made_moments disks [] sealed kept = tt
-  made_moments [] (f ∷ past) sealed kept = λ g is. EachSince-none (Leaves g f) [] [] refl
-  made_moments (disk ∷ before) (f ∷ past) sealed kept = λ g is. EachSince-one (Leaves g f) (put (next_name p) out) (disk ∷ before) (inl (out_leaves p disk f g (kept g is)))
+  made_moments disks log sealed kept = moments_goes_on (put (next_name p) out) (AreKeptAt (bare p) false None) Leaves disks log sealed (λ disk f g k. inl (out_leaves p disk f g k)) kept
 
-  pub no_store_moments : (disks : List Disk) (log : List DiskFile) (sealed : Option (List DiskFile)) → Moments disks log sealed disks
-  no_store_moments disks [] sealed = tt
-  no_store_moments disks (f ∷ past) sealed = λ g is. EachSince-none (Leaves g f) disks disks refl
-
-  wasted_moments : (disks : List Disk) (log : List DiskFile) (sealed : Option (List DiskFile)) → Kept disks log sealed
-      → Moments disks log sealed (goes_on (λ disk. put (next_name p) (home (empty_file (removed_of (disk (next_name p))))) disk) disks)
-  wasted_moments disks [] sealed kept = tt
-  wasted_moments [] (f ∷ past) sealed kept = λ g is. EachSince-none (Leaves g f) [] [] refl
-  wasted_moments (disk ∷ before) (f ∷ past) sealed kept = λ g is.
-      EachSince-one (Leaves g f) (λ disk. put (next_name p) (home (empty_file (removed_of (disk (next_name p))))) disk) (disk ∷ before)
-      (inl (home_leaves p disk f g (kept g is) (empty_file (removed_of (disk (next_name p)))) (empty_next p disk f g (kept g is))))
+  wasted_leaves : (disk : Disk) (f g : DiskFile) → AreKeptAt (bare p) false None disk f g → Leaves (wasted (next_name p) disk) f g
+  wasted_leaves disk f g k = inl (home_leaves p disk f g k (empty_file (removed_of (disk (next_name p)))) (empty_next p disk f g k))
 
   pub unmade_moments : (disks new : List Disk) (log : List DiskFile) (sealed : Option (List DiskFile)) → Kept disks log sealed → FailsMaking (next_name p) disks new → Moments disks log sealed new
-  unmade_moments disks new log sealed kept (inl same) = subst (λ ds. Moments disks log sealed ds) (sym same) (no_store_moments disks log sealed)
-  unmade_moments disks new log sealed kept (inr wasted) = subst (λ ds. Moments disks log sealed ds) (sym wasted) (wasted_moments disks log sealed kept)
+  unmade_moments disks new log sealed kept fails = moments_unmade (next_name p) (AreKeptAt (bare p) false None) Leaves disks new log sealed wasted_leaves kept fails
 
   -- ---- the new log
 
@@ -132,18 +120,18 @@ module _ (p : PartView) where
         (λ x leaves. created_next p disk f g k x head leaves) (made_creates disk before broken creates))
 
     back_moments : (disk : Disk) (f g : DiskFile) (k : AreKeptAt (bare p) false None disk f g) (before : List Disk) (broken : List DiskFile) → IfTold broken (NextLogLeaves (bare p))
-        → EachSince (Leaves g f) (disk ∷ before) (comes_home (next_name p) (λ x. home x) broken (put (next_name p) out disk ∷ disk ∷ before))
-    back_moments disk f g k before [] now = EachSince-one (Leaves g f) (put (next_name p) out) (disk ∷ before) (inl (out_leaves p disk f g k))
+        → EachSince (λ d. Leaves d f g) (disk ∷ before) (comes_home (next_name p) (λ x. home x) broken (put (next_name p) out disk ∷ disk ∷ before))
+    back_moments disk f g k before [] now = EachSince-one (λ d. Leaves d f g) (put (next_name p) out) (disk ∷ before) (inl (out_leaves p disk f g k))
     back_moments disk f g k before (x ∷ more) now =
-        subst (λ ds. EachSince (Leaves g f) (disk ∷ before) ds) (sym (returned disk before x))
-        (EachSince-trans (Leaves g f) (disk ∷ before) (put (next_name p) out disk ∷ disk ∷ before) (put (next_name p) (home x) disk ∷ put (next_name p) out disk ∷ disk ∷ before)
-        (EachSince-one (Leaves g f) (put (next_name p) out) (disk ∷ before) (inl (out_leaves p disk f g k)))
-        (EachSince-one (Leaves g f) (λ d. put (next_name p) (home x) disk) (put (next_name p) out disk ∷ disk ∷ before) (inl (home_leaves p disk f g k x now))))
+        subst (λ ds. EachSince (λ d. Leaves d f g) (disk ∷ before) ds) (sym (returned disk before x))
+        (EachSince-trans (λ d. Leaves d f g) (disk ∷ before) (put (next_name p) out disk ∷ disk ∷ before) (put (next_name p) (home x) disk ∷ put (next_name p) out disk ∷ disk ∷ before)
+        (EachSince-one (λ d. Leaves d f g) (put (next_name p) out) (disk ∷ before) (inl (out_leaves p disk f g k)))
+        (EachSince-one (λ d. Leaves d f g) (λ d. put (next_name p) (home x) disk) (put (next_name p) out disk ∷ disk ∷ before) (inl (home_leaves p disk f g k x now))))
 
     pub broken_moments : (disks : List Disk) (log broken : List DiskFile) (sealed : Option (List DiskFile)) → Kept disks log sealed → Creates (log_head p.part (next_of (bare p))) (fresh_file_at (next_name p) disks) broken
         → Moments disks log sealed (comes_home (next_name p) (λ x. home x) broken (makes (next_name p) disks))
     broken_moments disks [] broken sealed kept creates = tt
-    broken_moments [] (f ∷ past) broken sealed kept creates = λ g is. EachSince-none (Leaves g f) [] (comes_home (next_name p) (λ x. home x) broken []) (comes_untold (next_name p) (λ x. home x) broken)
+    broken_moments [] (f ∷ past) broken sealed kept creates = λ g is. EachSince-none (λ d. Leaves d f g) [] (comes_home (next_name p) (λ x. home x) broken []) (comes_untold (next_name p) (λ x. home x) broken)
     broken_moments (disk ∷ before) (f ∷ past) broken sealed kept creates = λ g is.
         back_moments disk f g (kept g is) before broken (broken_now disk f g (kept g is) before broken creates)
 
@@ -164,17 +152,7 @@ module _ (p : PartView) where
 
   -- ---- no file was made
 
-  wasted_failed : (disks : List Disk) (log : List DiskFile) (sealed : Option (List DiskFile)) → Kept disks log sealed
-      → IfFiles (goes_on (λ disk. put (next_name p) (home (empty_file (removed_of (disk (next_name p))))) disk) disks) log sealed (AreKeptAt (bare p) true None)
-  wasted_failed [] log sealed kept = tt
-  wasted_failed (disk ∷ before) [] sealed kept = tt
-  wasted_failed (disk ∷ before) (f ∷ past) sealed kept = λ g is. home_kept p disk f g (kept g is) (empty_file (removed_of (disk (next_name p)))) (empty_next p disk f g (kept g is))
-
   pub unmade_failed : (disks new : List Disk) (log : List DiskFile) (sealed : Option (List DiskFile)) → Kept disks log sealed → FailsMaking (next_name p) disks new → IfFiles new log sealed (AreKeptAt (bare p) true None)
-  unmade_failed disks new log sealed kept (inl same) =
-      subst (λ ds. IfFiles ds log sealed (AreKeptAt (bare p) true None)) (sym same) (if_files_map (AreKeptAt (bare p) false None) (AreKeptAt (bare p) true None) disks log sealed (failing_keeps (bare p)) kept)
-  unmade_failed disks new log sealed kept (inr wasted) = subst (λ ds. IfFiles ds log sealed (AreKeptAt (bare p) true None)) (sym wasted) (wasted_failed disks log sealed kept)
-
-pub unmade_untold : (p : PartView) (disks new : List Disk) → FailsMaking (next_name p) disks new → disks ≡ [] → new ≡ []
-unmade_untold p disks new (inl same) none = same ∙ none
-unmade_untold p disks new (inr wasted) none = wasted ∙ ap (goes_on (λ disk. put (next_name p) (home (empty_file (removed_of (disk (next_name p))))) disk)) none
+  unmade_failed disks new log sealed kept fails =
+      if_files_unmade (next_name p) (AreKeptAt (bare p) false None) (AreKeptAt (bare p) true None) disks new log sealed (failing_keeps (bare p))
+      (λ disk f g k. home_kept p disk f g k (empty_file (removed_of (disk (next_name p)))) (empty_next p disk f g k)) kept fails

@@ -4,10 +4,14 @@
 
 mod commit;
 mod failing;
+mod flushing;
+mod merging;
 mod sealing;
 mod staging;
 
 pub use commit::commits_are_kept;
 pub use failing::failures_are_kept;
+pub use flushing::flushes_begin;
+pub use merging::merges_begin;
 pub use sealing::{failed_seals_are_kept, seals_are_kept, seals_leave_store};
 pub use staging::{staged_is_kept, tables_hold_keys};

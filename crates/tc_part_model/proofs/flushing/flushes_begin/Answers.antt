@@ -1,0 +1,17 @@
+use Rattle.tc_part_model.proofs.BegunParts.{flush_is_part, flush_moments, flush_name_free, flush_unmade, flush_unmade_moments}
+use Rattle.tc_part_model.proofs.flushing.flushes_begin.Goals as goal
+
+pub returns-clause-free : goal.returns-clause-free
+returns-clause-free c = λ t p table is. flush_name_free t p is table
+
+pub returns-clause-begun : goal.returns-clause-begun
+returns-clause-begun c = λ t u p table is some none. flush_is_part t p is table some none u
+
+pub returns-clause-moments : goal.returns-clause-moments
+returns-clause-moments c = λ t p table is. flush_moments t p is table
+
+pub returns-clause-not_made : goal.returns-clause-not_made
+returns-clause-not_made c = λ t u p table is some none. flush_unmade t p is table some none u
+
+pub returns-clause-not_made_moments : goal.returns-clause-not_made_moments
+returns-clause-not_made_moments c = λ t p table disks is some none. flush_unmade_moments t p is table some none disks

@@ -1,0 +1,30 @@
+//! Laws of a merge: it begins, and what it made is listed in place of its run.
+
+ghost use Rattle.std.specs.Prelude.{◌≡◌, ◌≤◌, ◌+◌, true, List, length, Some, None};
+ghost use Rattle.tc_store.specs.Disk.{Disk, IsThere};
+ghost use Rattle.tc_store.specs.Moments.{IfTold};
+ghost use Rattle.tc_store.specs.StoreCalls.{FailsMaking, makes};
+ghost use Rattle.tc_lsm_model.specs.Contents.{Content};
+ghost use Rattle.tc_lsm_model.specs.Merges.{IsMerge, Run, in_run};
+ghost use Rattle.tc_machine.specs.Components.{file_of};
+ghost use Rattle.tc_part_model.specs.Changes.{merging_part};
+ghost use Rattle.tc_part_model.specs.Leaving.{StoreMomentsLeaveStore};
+ghost use Rattle.tc_part_model.specs.Meaning.{IsPart, HasFailed};
+ghost use Rattle.tc_part_model.specs.PartState.{Told};
+ghost use Rattle.tc_part_model.specs.PartView.{PartView, store_of};
+
+/// A law, and no work. Where no merge is out, the name of the component that a run of two or more makes is free. Once that is
+/// out, the part is the one whose merge is out. At each moment, and where the file was not made, a stop leaves what was stored.
+pub fn merges_begin()
+    ensures free { (t : Told) (p : PartView) (run : Run) (c : Content) → IsPart t p → 2 ≤ run.length → run.first + run.length ≤ length p.list → IsMerge (in_run run p.list) c → t.merging ≡ None
+        → IfTold t.disks (λ disk. IsThere (disk (file_of c)) → ⊥) }
+    ensures begun { (t u : Told) (p : PartView) (run : Run) (c : Content) → IsPart t p → 2 ≤ run.length → run.first + run.length ≤ length p.list → IsMerge (in_run run p.list) c → t.merging ≡ None
+        → u ≡ record t { disks = makes (file_of c) t.disks; merging = Some run } → IsPart u (merging_part run c p) }
+    ensures moments { (t : Told) (p : PartView) (run : Run) (c : Content) → IsPart t p → 2 ≤ run.length → run.first + run.length ≤ length p.list → IsMerge (in_run run p.list) c → t.merging ≡ None
+        → StoreMomentsLeaveStore (merging_part run c p) (merging_part run c p) t (makes (file_of c) t.disks) }
+    ensures not_made { (t u : Told) (p : PartView) (run : Run) (c : Content) → IsPart t p → 2 ≤ run.length → run.first + run.length ≤ length p.list → IsMerge (in_run run p.list) c → t.merging ≡ None
+        → u.failed ≡ true → u.log ≡ t.log → u.sealed_log ≡ t.sealed_log → FailsMaking (file_of c) t.disks u.disks → HasFailed u p.part (store_of p) None }
+    ensures not_made_moments { (t : Told) (p : PartView) (run : Run) (c : Content) (disks : List Disk) → IsPart t p → 2 ≤ run.length → run.first + run.length ≤ length p.list → IsMerge (in_run run p.list) c → t.merging ≡ None
+        → FailsMaking (file_of c) t.disks disks → StoreMomentsLeaveStore p p t disks }
+    ensures stored { (p : PartView) (run : Run) (c : Content) → store_of (merging_part run c p) ≡ store_of p }
+{}
