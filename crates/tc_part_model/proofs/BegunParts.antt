@@ -1,5 +1,5 @@
 -- A part of which a flush or a merge begins: done, at each moment, and where its file was not made.
-use Rattle.std.proofs.Common.{◌≡◌, ◌≢◌, ◌≤◌, ◌+◌, ◌-◌, ◌⊎◌, ℕ, List, [], ◌∷◌, length, refl, sym, ap, ◌∙◌, subst, inl, inr, arith, Option, Some, None, false, true, is_some}
+use Rattle.std.proofs.Common.{◌≡◌, ◌≤◌, ◌+◌, ◌-◌, ◌⊎◌, ℕ, List, [], ◌∷◌, length, refl, sym, ap, ◌∙◌, subst, inl, arith, Option, Some, None, false, true, is_some}
 use Rattle.std.specs.Prelude.{IfSome, IsSome, option_map}
 use Rattle.tc_store.specs.declared.file_name.FileName.{FileName}
 use Rattle.tc_store.specs.declared.file_name.FileName.TheVariants.{Component}
@@ -23,7 +23,7 @@ use Rattle.tc_part_model.specs.Leaving.{LeavesStoreAt, StoreMomentsLeaveStore}
 use Rattle.tc_part_model.specs.Meaning.{HasFailed, IsPart, KeepsSealed}
 use Rattle.tc_part_model.specs.PartFiles.{AreJobsOut, AreKeptAt, IfFiles}
 use Rattle.tc_part_model.specs.PartState.{AreTold, IsTold, Told}
-use Rattle.tc_part_model.specs.PartView.{PartView, state_of, store_of, generation_of}
+use Rattle.tc_part_model.specs.PartView.{PartView, state_of, store_of}
 use Rattle.tc_part_model.proofs.Beginnings.{flush_begins, flush_free, kept_leaves, merge_begins, merge_free, waste_keeps}
 use Rattle.tc_part_model.proofs.DeviceFiles.{logs_tell, some_sealed}
 use Rattle.tc_part_model.proofs.Failures.{failing_keeps}

@@ -15,3 +15,5 @@ pub mod ToldSeals
 pub mod SealedParts
 pub mod Beginnings
 pub mod BegunParts
+pub mod Returns
+pub mod FlushInstalls
