@@ -63,7 +63,7 @@ module _ (p : PartView) (table : Table) (ws : List Write) (c : Content) (is_flus
   file_is : file_of c ≡ made_name p
   file_is = ap (λ n. Component n c.to) is_flush.goes_on.next ∙ ap (λ n. Component (last_of p.list + 1) n) is_flush.to
 
-  active_is : generation_of after ≡ generation_of (flushed_soon p table ws)
+  pub active_is : generation_of after ≡ generation_of (flushed_soon p table ws)
   active_is = omega (arith, last_is)
 
   module _ (disk : Disk) (f g : DiskFile) (bytes : List ℕ) (k : AreKeptAt (flushed_soon p table ws) false None disk f g) (there : disk (made_name p) ≡ still bytes) (whole : IsComponent c bytes) where

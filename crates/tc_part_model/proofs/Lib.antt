@@ -17,3 +17,8 @@ pub mod Beginnings
 pub mod BegunParts
 pub mod Returns
 pub mod FlushInstalls
+pub mod FlushedViews
+pub mod ToldReturns
+pub mod ToldFlushes
+pub mod FlushedParts
+pub mod FailedParts

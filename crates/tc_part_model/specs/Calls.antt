@@ -1,5 +1,6 @@
 -- What the calls of logs and stores promise that the calls of a part make: the premises of the laws of a part.
-use Rattle.std.specs.Prelude.{◌≡◌, List, [], ◌++◌}
+use Rattle.std.specs.Prelude.{◌≡◌, List, [], ◌++◌, length, IfSome}
+use Rattle.tc_store.specs.Disk.{Disk}
 use Rattle.tc_store.specs.DiskFile.{DiskFile, IsSettled, settled_file}
 use Rattle.tc_store.specs.Gate.{IsShutOr, IsShutOrWhole}
 use Rattle.tc_store.specs.Images.{Image, IsImageOf}
@@ -8,6 +9,11 @@ use Rattle.tc_log.specs.declared.head.LogHead.{LogHead}
 use Rattle.tc_log.specs.declared.write.Write.{Write}
 use Rattle.tc_log.specs.Appending.{MeansWithOrWithout}
 use Rattle.tc_log.specs.Spelling.{Means, log_at_rest}
+use Rattle.tc_component.specs.Rows.{IsComponent, component_bytes}
+use Rattle.tc_lsm_model.specs.Contents.{Content}
+use Rattle.tc_lsm_model.specs.Flushes.{IsFlush}
+use Rattle.tc_part_model.specs.PartState.{IsTold}
+use Rattle.tc_part_model.specs.PartView.{PartView}
 
 -- an append of these writes, done or not: of the log as it was, a stop leaves its content
 pub record Appends (ws : List Write) (old new : List DiskFile) : Type 0 where
@@ -29,3 +35,15 @@ pub record Creates (head : LogHead) (device new : List DiskFile) : Type 0 where
 pub record HasCreated (head : LogHead) (device new : List DiskFile) : Type 0 where
   pub creates : Creates head device new
   pub content : IfTold new (λ f. f ≡ settled_file (log_at_rest head []))
+
+-- ---- jobs
+
+-- what the flush of the sealed table makes
+abbrev pub MakesFlush : PartView → Content → Type 0
+MakesFlush p c = IfSome p.sealed (λ d. IsFlush p.part p.list d.table (length d.logs) c)
+
+-- a job's device has the whole component of a content, and nothing is pending; where the store tells, it does
+pub record HasMade (c : Content) (disks : List Disk) (device : List DiskFile) : Type 0 where
+  pub whole : IsComponent c (component_bytes c)
+  pub tells : IfTold disks (λ disk. IsTold device)
+  pub content : IfTold device (λ f. f ≡ settled_file (component_bytes c))

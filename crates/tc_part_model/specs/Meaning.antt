@@ -88,3 +88,9 @@ pub record HasFailed (t : Told) (part : Partition) (pairs : Pairs) (frame : Opti
   pub holds : store_of view ≡ pairs
   pub tells : LogsTell t.disks t.log t.sealed_log
   pub files : IfFilesTold t (AreKeptAt view true frame)
+
+-- It has failed, and its files keep what they kept of this.
+pub record HasFailedAs (t : Told) (p : PartView) (frame : Option (List Write)) : Type 0 where
+  pub failed : t.failed ≡ true
+  pub tells : LogsTell t.disks t.log t.sealed_log
+  pub files : IfFilesTold t (AreKeptAt p true frame)

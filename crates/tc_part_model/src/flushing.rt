@@ -1,15 +1,18 @@
 //! Laws of a flush: it begins, and what it made is listed.
 
-ghost use Rattle.std.specs.Prelude.{◌≡◌, ◌-◌, true, false, List, Some, None};
-ghost use Rattle.tc_store.specs.declared.file_name.FileName.TheVariants.{Component};
-ghost use Rattle.tc_store.specs.Disk.{Disk, IsThere};
+ghost use Rattle.std.specs.Prelude.{◌≡◌, ◌-◌, ◌++◌, ◌∷◌, true, false, List, [], Some, None};
+ghost use Rattle.tc_store.specs.declared.file_name.FileName.TheVariants.{Component, Log};
+ghost use Rattle.tc_store.specs.Disk.{Disk, IsThere, home};
+ghost use Rattle.tc_store.specs.DiskFile.{DiskFile, IsSettled};
 ghost use Rattle.tc_store.specs.Moments.{IfTold};
-ghost use Rattle.tc_store.specs.StoreCalls.{FailsMaking, makes};
+ghost use Rattle.tc_store.specs.StoreCalls.{FailsMaking, comes_home, frozen_entry, makes, removes};
 ghost use Rattle.tc_memory.specs.Table.{Table};
-ghost use Rattle.tc_part_model.specs.Changes.{flushing_part};
+ghost use Rattle.tc_lsm_model.specs.Contents.{Content};
+ghost use Rattle.tc_part_model.specs.Calls.{HasMade, MakesFlush};
+ghost use Rattle.tc_part_model.specs.Changes.{flushed_part, flushing_part};
 ghost use Rattle.tc_part_model.specs.Leaving.{StoreMomentsLeaveStore};
-ghost use Rattle.tc_part_model.specs.Meaning.{IsPart, HasFailed};
-ghost use Rattle.tc_part_model.specs.PartState.{Told};
+ghost use Rattle.tc_part_model.specs.Meaning.{IsPart, IsOfContent, HasFailed, HasFailedAs};
+ghost use Rattle.tc_part_model.specs.PartState.{Told, ToldComponent};
 ghost use Rattle.tc_part_model.specs.PartView.{PartView, store_of};
 
 /// A law, and no work. Where a table is sealed and no flush is out, the name of its component is free. Once that is out, the
@@ -25,4 +28,25 @@ pub fn flushes_begin()
     ensures not_made_moments { (t : Told) (p : PartView) (table : Table) (disks : List Disk) → IsPart t p → t.sealed ≡ Some table → t.flushing ≡ false
         → FailsMaking (Component (t.generation - 1) (t.generation - 1)) t.disks disks → StoreMomentsLeaveStore p p t disks }
     ensures stored { (p : PartView) → store_of (flushing_part p) ≡ store_of p }
+{}
+
+/// A law, and no work. Once the component of the flush is still and listed, and the log that it covers is gone, the part is the
+/// one whose flush is listed, and stores what it stored. At each moment a stop leaves that.
+pub fn flushes_are_listed()
+    ensures listed { (t u : Told) (p : PartView) (c : Content) (component : ToldComponent) (device covered : List DiskFile) → IsPart t p → t.flushing ≡ true → t.sealed_log ≡ Some covered → MakesFlush p c → IsOfContent component c → HasMade c t.disks device
+        → IfTold covered IsSettled
+        → u ≡ record t { disks = removes (Log (t.generation - 1)) (comes_home (Log (t.generation - 1)) frozen_entry covered (comes_home (Component (t.generation - 1) (t.generation - 1)) frozen_entry device t.disks)); sealed = None; sealed_log = None; components = t.components ++ component ∷ []; flushing = false }
+        → IsPart u (flushed_part c p) }
+    ensures stored { (t : Told) (p : PartView) (c : Content) (covered : List DiskFile) → IsPart t p → t.flushing ≡ true → t.sealed_log ≡ Some covered → MakesFlush p c → store_of (flushed_part c p) ≡ store_of p }
+    ensures moments { (t : Told) (p : PartView) (c : Content) (device covered : List DiskFile) → IsPart t p → t.flushing ≡ true → t.sealed_log ≡ Some covered → MakesFlush p c → HasMade c t.disks device → IfTold covered IsSettled
+        → StoreMomentsLeaveStore p (flushed_part c p) t (removes (Log (t.generation - 1)) (comes_home (Log (t.generation - 1)) frozen_entry covered (comes_home (Component (t.generation - 1) (t.generation - 1)) frozen_entry device t.disks))) }
+{}
+
+/// A law, and no work. Where the component is still and was not listed, or was listed and the log that it covers came home, the
+/// files keep what was stored.
+pub fn failed_flushes_are_kept()
+    ensures not_listed { (t u : Told) (p : PartView) (c : Content) (device covered : List DiskFile) → IsPart t p → t.flushing ≡ true → t.sealed_log ≡ Some covered → MakesFlush p c → HasMade c t.disks device → u.failed ≡ true → u.log ≡ t.log
+        → u.sealed_log ≡ t.sealed_log → u.disks ≡ comes_home (Component (t.generation - 1) (t.generation - 1)) frozen_entry device t.disks → HasFailedAs u p None }
+    ensures log_home { (t u : Told) (p : PartView) (c : Content) (device covered : List DiskFile) → IsPart t p → t.flushing ≡ true → t.sealed_log ≡ Some covered → MakesFlush p c → HasMade c t.disks device → u.failed ≡ true → u.log ≡ t.log
+        → u.sealed_log ≡ None → u.disks ≡ comes_home (Log (t.generation - 1)) (λ f. home f) covered (comes_home (Component (t.generation - 1) (t.generation - 1)) frozen_entry device t.disks) → HasFailedAs u (flushed_part c p) None }
 {}
