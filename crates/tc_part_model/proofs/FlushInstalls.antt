@@ -25,6 +25,7 @@ use Rattle.tc_machine.specs.Steps.{IsFlushed, IsShutOrHas}
 use Rattle.tc_machine.proofs.Events.{event_keeps}
 use Rattle.tc_machine.proofs.FilesLeft.{at_name}
 use Rattle.tc_machine.proofs.Rebasing.{rebased_is_kept}
+use Rattle.tc_machine.proofs.Targets.{log_generation}
 use Rattle.tc_part_model.specs.Changes.{flushed_part}
 use Rattle.tc_part_model.specs.PartFiles.{AreKeptAt, IsDevice, MergeLeaves, active_name, device_at, files_at, seen_entry}
 use Rattle.tc_part_model.specs.PartView.{PartView, generation_of, state_with}
@@ -143,11 +144,8 @@ module _ (p : PartView) (table : Table) (ws : List Write) (c : Content) (is_flus
 
     -- ---- the part without it
 
-    one_name : (a b : ℕ) → Log a ≡ Log b → a ≡ b
-    one_name a b same = cc
-
     covered_apart : covered_name p ≢ active_name (flushed_soon p table ws)
-    covered_apart same = absurd (no (one_name (last_of p.list + 1) (generation_of (flushed_soon p table ws)) same))
+    covered_apart same = absurd (no (log_generation (last_of p.list + 1) (generation_of (flushed_soon p table ws)) same))
       where
         no : last_of p.list + 1 ≡ generation_of (flushed_soon p table ws) → ⊥
         no same = omega (arith, same)

@@ -1,27 +1,26 @@
 -- A part whose flush is listed: done, at each moment, and where it failed.
-use Rattle.std.proofs.Common.{◌≡◌, ◌≢◌, ◌≤◌, ◌<◌, ◌+◌, ◌-◌, ◌++◌, ◌⊎◌, ℕ, List, [], ◌∷◌, length, refl, sym, ap, ◌∙◌, subst, inl, inr, arith, Option, Some, None, false, true, is_some}
-use Rattle.std.specs.Prelude.{All, IfSome, IsSome, option_map}
+use Rattle.std.proofs.Common.{◌≡◌, ◌≢◌, ◌+◌, ◌-◌, ◌++◌, ◌⊎◌, List, [], ◌∷◌, length, refl, sym, ap, ◌∙◌, subst, arith, Option, Some, None, false, true, is_some}
+use Rattle.std.specs.Prelude.{IfSome, IsSome}
 use Rattle.std.specs.List.{AllZip}
 use Rattle.tc_model.specs.KnownNames.{HasEach}
-use Rattle.tc_store.specs.declared.file_name.FileName.{FileName}
 use Rattle.tc_store.specs.declared.file_name.FileName.TheVariants.{Component, Log}
-use Rattle.tc_store.specs.Disk.{Disk, home, none, out, put, still}
-use Rattle.tc_store.specs.DiskFile.{DiskFile, IsSettled, settled_file}
-use Rattle.tc_store.specs.Moments.{IfTold, goes_on}
+use Rattle.tc_store.specs.Disk.{home, out}
+use Rattle.tc_store.specs.DiskFile.{DiskFile, IsSettled}
+use Rattle.tc_store.specs.Moments.{IfTold}
 use Rattle.tc_store.specs.StoreCalls.{comes_home, frozen_entry, removes}
 use Rattle.tc_store.proofs.MomentLemmas.{told_map}
 use Rattle.tc_memory.specs.Table as memory
 use Rattle.tc_plain_model.specs.Writes.{Pairs, Write}
-use Rattle.tc_component.specs.Rows.{IsComponent, component_bytes}
+use Rattle.tc_component.specs.Rows.{component_bytes}
 use Rattle.tc_lsm_model.specs.Contents.{Content}
 use Rattle.tc_lsm_model.specs.Flushes.{IsFlush}
 use Rattle.tc_lsm_model.specs.Lists.{last_of}
 use Rattle.tc_lsm_model.specs.Tables.{Table}
 use Rattle.tc_machine.specs.Components.{file_of}
-use Rattle.tc_machine.specs.Kept.{IsMemoryKept, MergeFits}
+use Rattle.tc_machine.specs.Kept.{MergeFits}
 use Rattle.tc_machine.specs.Sound.{IsFlushOf}
 use Rattle.tc_machine.specs.State.{Flushing, Merging, Sealed}
-use Rattle.tc_machine.proofs.Options.{All-front, if_some_at, if_some_map}
+use Rattle.tc_machine.proofs.Options.{All-front, if_some_map}
 use Rattle.tc_machine.proofs.Targets.{MergeTarget, merge_target}
 use Rattle.tc_part_model.specs.Calls.{HasMade, MakesFlush}
 use Rattle.tc_part_model.specs.Changes.{flushed_part}
@@ -29,7 +28,7 @@ use Rattle.tc_part_model.specs.Leaving.{LeavesStoreAt, StoreMomentsLeaveStore}
 use Rattle.tc_part_model.specs.Meaning.{HasFailedAs, IsOfContent, IsPart, KeepsSealed, KeepsTable}
 use Rattle.tc_part_model.specs.PartFiles.{AreJobsOut, AreKeptAt, IfFiles}
 use Rattle.tc_part_model.specs.PartState.{AreTold, IsTold, Told, ToldComponent}
-use Rattle.tc_part_model.specs.PartView.{PartView, generation_of, names_in, state_of, store_of, stored_with, table_of}
+use Rattle.tc_part_model.specs.PartView.{PartView, store_of}
 use Rattle.tc_part_model.proofs.DeviceFiles.{comes_untold, logs_tell, told_again}
 use Rattle.tc_part_model.proofs.ToldFiles.{MomentsSince}
 use Rattle.tc_part_model.proofs.FlushInstalls.{active_is, after, covered_name, flushed_soon, made_name}

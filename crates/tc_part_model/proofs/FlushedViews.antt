@@ -1,16 +1,14 @@
 -- What a part has in memory once its flush is listed: what it stores, its tables and its names are as they were.
-use Rattle.std.proofs.Common.{◌≡◌, ◌++◌, List, [], ◌∷◌, length, refl, sym, ap, ◌∙◌, subst, append-nil, Some, None, false}
-use Rattle.std.specs.Prelude.{All}
+use Rattle.std.proofs.Common.{◌≡◌, ◌++◌, List, [], ◌∷◌, sym, ap, ◌∙◌, subst, append-nil}
 use Rattle.tc_plain_model.specs.Store.{names_after}
-use Rattle.tc_plain_model.specs.Writes.{Pairs, Write, after_writes}
+use Rattle.tc_plain_model.specs.Writes.{Write, after_writes}
 use Rattle.tc_lsm_model.specs.Contents.{Content}
 use Rattle.tc_lsm_model.specs.Flushes.{IsFlush}
-use Rattle.tc_lsm_model.specs.Lists.{live, names_of}
+use Rattle.tc_lsm_model.specs.Lists.{live}
 use Rattle.tc_lsm_model.specs.Tables.{Table, over, writes_of}
 use Rattle.tc_lsm_model.proofs.FlushLaws.{flushed_live, names_of-push}
 use Rattle.tc_machine.specs.Events.{flush_installed, step}
 use Rattle.tc_machine.specs.Kept.{IsMemoryKept}
-use Rattle.tc_machine.specs.Logs.{all_writes}
 use Rattle.tc_machine.specs.State.{table_after}
 use Rattle.tc_machine.specs.Writes.{AreFew, HasRoom}
 use Rattle.tc_machine.proofs.MemorySteps.{flush_installed_memory, rebased_memory, same_store}

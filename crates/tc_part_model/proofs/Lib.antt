@@ -22,3 +22,4 @@ pub mod ToldReturns
 pub mod ToldFlushes
 pub mod FlushedParts
 pub mod FailedParts
+pub mod Closes

@@ -28,6 +28,7 @@ use Rattle.tc_machine.proofs.FilesLeft.{at_name}
 use Rattle.tc_machine.proofs.FilesMade.{empty_image}
 use Rattle.tc_machine.proofs.FreeNames.{next_log_is_free, none_there}
 use Rattle.tc_machine.proofs.LogHeads.{new_log}
+use Rattle.tc_machine.proofs.Targets.{log_generation}
 use Rattle.tc_part_model.specs.Changes.{sealed_part}
 use Rattle.tc_part_model.specs.Leaving.{LeavesStoreAt, NextLogLeaves, with_next_log}
 use Rattle.tc_part_model.specs.PartFiles.{AreKeptAt, IsDevice, JobsLeave, active_name, device_at, files_at, no_job, seen_entry}
@@ -52,11 +53,8 @@ next_device p f g job = rw (differ (next_of (bare p)) (generation_of (bare p)) (
 log_is : (p : PartView) → generation_of (bare p) ≡ last_of p.list + 1
 log_is p = omega arith
 
-one_name : (a b : ℕ) → Log a ≡ Log b → a ≡ b
-one_name a b same = cc
-
 next_apart : (p : PartView) → next_name p ≢ active_name (bare p)
-next_apart p same = absurd (no (one_name (next_of (bare p)) (generation_of (bare p)) same))
+next_apart p same = absurd (no (log_generation (next_of (bare p)) (generation_of (bare p)) same))
   where
     no : next_of (bare p) ≡ generation_of (bare p) → ⊥
     no same = omega (arith, same)

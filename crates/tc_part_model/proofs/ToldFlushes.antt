@@ -1,11 +1,10 @@
 -- A flush is installed, for the moments that are told.
-use Rattle.std.proofs.Common.{◌≡◌, ◌≢◌, ◌+◌, ◌∙◌, ℕ, Bool, List, [], ◌∷◌, ◌⊎◌, refl, sym, ap, subst, inl, inr, Option, Some, None, false, true, if◌then◌else◌}
+use Rattle.std.proofs.Common.{◌≡◌, ◌≢◌, ◌+◌, ◌∙◌, ℕ, List, [], ◌∷◌, ◌⊎◌, refl, sym, ap, subst, inl, inr, Option, Some, None, false, true, if◌then◌else◌}
 use Rattle.std.specs.Prelude.{IfSome}
 use Rattle.std.proofs.lemmas.List.Elements.{All-nil, All-cons}
-use Rattle.tc_store.specs.declared.file_name.FileName.{FileName}
 use Rattle.tc_store.specs.Disk.{Disk, content_of, home, is_still, none, out, put, still}
 use Rattle.tc_store.specs.DiskFile.{DiskFile, IsSettled, settled_file}
-use Rattle.tc_store.specs.Moments.{EachSince, IfTold, LeavesAt}
+use Rattle.tc_store.specs.Moments.{IfTold, LeavesAt}
 use Rattle.tc_store.specs.StoreCalls.{comes_home, frozen_entry, removes}
 use Rattle.tc_store.proofs.GateLemmas.{settled_leaves}
 use Rattle.tc_store.proofs.MomentLemmas.{EachSince-none}

@@ -2,6 +2,7 @@
 //! code here but laws, which are functions that do nothing.
 #![tactic(auto)]
 
+mod closing;
 mod commit;
 mod failing;
 mod flushing;
@@ -9,6 +10,7 @@ mod merging;
 mod sealing;
 mod staging;
 
+pub use closing::closed_parts_keep_store;
 pub use commit::commits_are_kept;
 pub use failing::{failed_parts_keep_files, failures_are_kept};
 pub use flushing::{failed_flushes_are_kept, flushes_are_listed, flushes_begin};
