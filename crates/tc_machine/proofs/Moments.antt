@@ -28,7 +28,7 @@ pub Runs-append : (part : Partition) (xs ys : List Event) (s t u : State) → Ru
 Runs-append part [] ys s t u one two = subst (λ x. Runs part x ys u) (sym one) two
 Runs-append part (e ∷ xs) ys s t u one two = (one.0, Runs-append part xs ys (step e s) t u one.1 two)
 
-put_twice : (name : FileName) (x y : Entry) (files : Disk) → put name y (put name x files) ≡ put name y files
+pub put_twice : (name : FileName) (x y : Entry) (files : Disk) → put name y (put name x files) ≡ put name y files
 put_twice name x y files = fun_ext λ n. elim (cases_Bool (same_name name n)) [
   | inl same ↦ rw same refl
   | inr other ↦ rw other refl
