@@ -26,7 +26,8 @@ ROWS = "Rows.antt"
 AWAITED = {
     "tc_plain_model": ("part_left_all-writes", "part_replies"),
     "tc_run_model": ("AreReplies-replies_to", "after_all_stands", "built_replies", "first_stands", "lines_in-windows", "windows_are_cut", "worlds_left"),
-    "tc_store": ("LeavesPictures", "now_since", "picture_before", "picture_weaker"),
+    "tc_store": ("picture_before", "picture_weaker"),
+    "tc_part_model": ("merged_part",),
 }
 
 

@@ -18,11 +18,12 @@ use Rattle.tc_machine.proofs.Beside.{picture_beside_recovers}
 use Rattle.tc_machine.proofs.Events.{event_keeps}
 use Rattle.tc_machine.proofs.FilesLeft.{at_name}
 use Rattle.tc_machine.proofs.FreeNames.{flush_is_free, merge_is_free, none_there}
+use Rattle.tc_machine.proofs.Moments.{put_twice}
 use Rattle.tc_part_model.specs.Changes.{flushing_part, merging_part}
 use Rattle.tc_part_model.specs.Leaving.{LeavesStoreAt, with_next_log}
 use Rattle.tc_part_model.specs.PartFiles.{AreKeptAt, FlushLeaves, IsDevice, JobsLeave, MergeLeaves, device_at, files_at, no_job, seen_entry}
 use Rattle.tc_part_model.specs.PartView.{PartView, state_of, state_with}
-use Rattle.tc_part_model.proofs.DeviceFiles.{next_log_jobs, no_job_leaves, put_over, put_seen, there_seen}
+use Rattle.tc_part_model.proofs.DeviceFiles.{next_log_jobs, no_job_leaves, put_seen, there_seen}
 use Rattle.tc_part_model.proofs.Pictures.{same_beside}
 
 -- what the files keep is left at each moment at which they do
@@ -77,9 +78,9 @@ module _ (p : PartView) (disk : Disk) (f g : DiskFile) (k : AreKeptAt p false No
         let files = files_at p disk f g job in
         let s = state_with p false None files in
         let k1 = event_keeps p.part s flush_begun (k.kept job (subst (λ o. FlushLeaves p o job) (sym none_out) tt, leave.1))
-            (record { sealed = d; is_sealed = sealed; none_out = none_out; sound = refl; before = free_is.0; absent = ap (seen_entry (device_at p f g job flush_file)) free_is.1 }) in
+        (record { sealed = d; is_sealed = sealed; none_out = none_out; sound = refl; before = free_is.0; absent = ap (seen_entry (device_at p f g job flush_file)) free_is.1 }) in
         subst (λ fs. IsKept p.part (state_with (flushing_part p) false None fs))
-        (put_over flush_file (made (files flush_file)) (home (job flush_file)) files ∙ sym (put_seen (flushing_part p) flush_file out disk f g job))
+        (put_twice flush_file (made (files flush_file)) (home (job flush_file)) files ∙ sym (put_seen (flushing_part p) flush_file out disk f g job))
         (event_keeps p.part (step flush_begun s) (device_called flush_file (job flush_file)) k1 (record {
           old = empty_file (removed_of (files flush_file));
           home = put_there flush_file (made (files flush_file)) files;
@@ -114,9 +115,9 @@ module _ (p : PartView) (disk : Disk) (f g : DiskFile) (k : AreKeptAt p false No
         let files = files_at p disk f g job in
         let s = state_with p false None files in
         let k1 = event_keeps p.part s (merge_begun run c) (k.kept job (leave.0, subst (λ o. MergeLeaves o job) (sym none_out) tt))
-            (record { none_out = none_out; sound = refl; two = two; within = within; is_merge = is_merge; before = merge_free_is.0; absent = ap (seen_entry (device_at p f g job (file_of c))) merge_free_is.1 }) in
+        (record { none_out = none_out; sound = refl; two = two; within = within; is_merge = is_merge; before = merge_free_is.0; absent = ap (seen_entry (device_at p f g job (file_of c))) merge_free_is.1 }) in
         subst (λ fs. IsKept p.part (state_with (merging_part run c p) false None fs))
-        (put_over (file_of c) (made (files (file_of c))) (home (job (file_of c))) files ∙ sym (put_seen (merging_part run c p) (file_of c) out disk f g job))
+        (put_twice (file_of c) (made (files (file_of c))) (home (job (file_of c))) files ∙ sym (put_seen (merging_part run c p) (file_of c) out disk f g job))
         (event_keeps p.part (step (merge_begun run c) s) (device_called (file_of c) (job (file_of c))) k1 (record {
           old = empty_file (removed_of (files (file_of c)));
           home = put_there (file_of c) (made (files (file_of c))) files;

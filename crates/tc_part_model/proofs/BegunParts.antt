@@ -103,8 +103,17 @@ module _ (t : Told) (p : PartView) (is : IsPart t p) where
         record {
           sound = is.sound;
           view = record {
-            part = is.view.part; generation = is.view.generation; components = is.view.components; sealed = is.view.sealed; sealed_log = is.view.sealed_log;
-            active = is.view.active; staged = is.view.staged; taken = is.view.taken; live = is.view.live; flushing = refl; merging = is.view.merging;
+            part = is.view.part;
+            generation = is.view.generation;
+            components = is.view.components;
+            sealed = is.view.sealed;
+            sealed_log = is.view.sealed_log;
+            active = is.view.active;
+            staged = is.view.staged;
+            taken = is.view.taken;
+            live = is.view.live;
+            flushing = refl;
+            merging = is.view.merging;
           };
           memory = flush_begun_memory p.part (state_of p) is.memory (subst (λ o. IsSome o) (sym table.1) refl);
           staged = record { each = is.staged.each; room = is.staged.room; few = is.staged.few };
@@ -150,8 +159,17 @@ module _ (t : Told) (p : PartView) (is : IsPart t p) where
     merge_told = record {
       sound = is.sound;
       view = record {
-        part = is.view.part; generation = is.view.generation; components = is.view.components; sealed = is.view.sealed; sealed_log = is.view.sealed_log;
-        active = is.view.active; staged = is.view.staged; taken = is.view.taken; live = is.view.live; flushing = is.view.flushing; merging = refl;
+        part = is.view.part;
+        generation = is.view.generation;
+        components = is.view.components;
+        sealed = is.view.sealed;
+        sealed_log = is.view.sealed_log;
+        active = is.view.active;
+        staged = is.view.staged;
+        taken = is.view.taken;
+        live = is.view.live;
+        flushing = is.view.flushing;
+        merging = refl;
       };
       memory = merge_begun_memory p.part (state_of p) run c is.memory two within is_merge;
       staged = record { each = is.staged.each; room = is.staged.room; few = is.staged.few };

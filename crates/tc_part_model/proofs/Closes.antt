@@ -8,7 +8,7 @@ use Rattle.tc_store.specs.DiskFile.{DiskFile}
 use Rattle.tc_store.specs.Images.{Image}
 use Rattle.tc_store.specs.Moments.{IfTold}
 use Rattle.tc_store.specs.StoreCalls.{comes_home}
-use Rattle.tc_store.proofs.NameLemmas.{put_there, same_name-is, same_name-refl}
+use Rattle.tc_store.proofs.NameLemmas.{put_there, same_name-is}
 use Rattle.tc_plain_model.specs.Writes.{Write}
 use Rattle.tc_lsm_model.specs.Lists.{last_of}
 use Rattle.tc_machine.specs.State.{sealed_logs}
@@ -21,7 +21,7 @@ use Rattle.tc_part_model.specs.Meaning.{HasFailedAs}
 use Rattle.tc_part_model.specs.PartFiles.{AreKeptAt, IfFiles, active_name, device_at, files_at, no_job, sealed_name, seen_entry}
 use Rattle.tc_part_model.specs.PartState.{IsTold, Told}
 use Rattle.tc_part_model.specs.PartView.{PartView, generation_of, state_with, store_of}
-use Rattle.tc_part_model.proofs.DeviceFiles.{comes_untold, no_job_leaves, seen_active, some_sealed}
+use Rattle.tc_part_model.proofs.DeviceFiles.{comes_untold, no_job_leaves, sealed_device, seen_active, some_sealed}
 use Rattle.tc_part_model.proofs.ToldReturns.{returned}
 
 -- a stop leaves nothing of a file that is out where nobody holds it
@@ -82,10 +82,7 @@ module _ (p : PartView) (failed : Bool) (frame : Option (List Write)) where
     apart same = later (log_generation (generation_of p) (last_of p.list + 1) same)
 
     own : (f g : DiskFile) → device_at p f g no_job (sealed_name p) ≡ g
-    own f g = elim (cases_Bool (same_name (sealed_name p) (active_name p))) [
-      | inl same ↦ absurd (later (sym (log_generation (last_of p.list + 1) (generation_of p) (same_name-is (sealed_name p) (active_name p) same))))
-      | inr differ ↦ rw (differ, same_name-refl (sealed_name p)) refl
-    ]
+    own f g = sealed_device p later f g no_job
 
     pub closed_both : (disks : List Disk) (log covered : List DiskFile) → IfTold disks (λ disk. IsTold log) → IfTold disks (λ disk. IsTold covered) → IfFiles disks log (Some covered) (AreKeptAt p failed frame)
         → IfTold (comes_home (sealed_name p) (λ x. home x) covered (comes_home (active_name p) (λ x. home x) log disks)) (KeepsStore p.part (store_of p) frame)
@@ -98,7 +95,7 @@ module _ (p : PartView) (failed : Bool) (frame : Option (List Write)) where
         subst (λ ds. IfTold ds (KeepsStore p.part (store_of p) frame))
         (sym (ap (comes_home (sealed_name p) (λ x. home x) (g ∷ gs)) (returned (active_name p) (home f) disk past k.log_out)
         ∙ returned (sealed_name p) (home g) (put (active_name p) (home f) disk) (disk ∷ past)
-            (at_name (active_name p) (sealed_name p) (home f) disk (λ e. e ≡ out) (λ same. absurd (apart same)) (λ differ. k.sealed_out some))))
+        (at_name (active_name p) (sealed_name p) (home f) disk (λ e. e ≡ out) (λ same. absurd (apart same)) (λ differ. k.sealed_out some))))
         (both_store p failed frame disk f g k some (own f g))
 
 -- ---- a part

@@ -43,8 +43,8 @@ module _ (p : PartView) (disk : Disk) (f g : DiskFile) (k : AreKeptAt p false No
         → IsKept p.part (state_with p false (Some p.staged) (files_at p disk new g job))
     called new leaves job leave =
         let started : IsKept p.part (state_with p false (Some p.staged) (files_at p disk f g job)) =
-            event_keeps p.part (state_with p false None (files_at p disk f g job)) (frame_started p.staged) (k.kept job leave)
-            (record { running = refl; none = refl; each = start.each; room = start.room; few = start.few }) in
+        event_keeps p.part (state_with p false None (files_at p disk f g job)) (frame_started p.staged) (k.kept job leave)
+        (record { running = refl; none = refl; each = start.each; room = start.room; few = start.few }) in
         subst (λ fs. IsKept p.part (state_with p false (Some p.staged) fs)) (put_active p disk f new g job k.log_out)
         (event_keeps p.part (state_with p false (Some p.staged) (files_at p disk f g job)) (device_called (active_name p) new) started (record {
           old = f;

@@ -1,5 +1,5 @@
 -- The files of a part, where its store or one of its devices changes.
-use Rattle.std.proofs.Common.{◌≡◌, ℕ, List, [], ◌∷◌, refl, sym, ap, ◌∙◌, subst, inl, inr, Option, Some, None, false}
+use Rattle.std.proofs.Common.{◌≡◌, ◌≢◌, ◌+◌, ℕ, List, [], ◌∷◌, refl, sym, ap, ◌∙◌, subst, inl, inr, Option, Some, None, false}
 use Rattle.std.specs.Prelude.{if◌then◌else◌, IfSome}
 use Rattle.std.proofs.Math.Path.{fun_ext}
 use Rattle.std.proofs.lemmas.Bool.{cases_Bool, true≢false}
@@ -12,7 +12,9 @@ use Rattle.tc_store.proofs.NameLemmas.{same_name-refl, same_name-is}
 use Rattle.tc_machine.specs.State.{Flushing, Merging}
 use Rattle.tc_machine.specs.Steps.{IsShutOrHas}
 use Rattle.tc_machine.proofs.FilesMade.{empty_image}
-use Rattle.tc_part_model.specs.PartView.{PartView}
+use Rattle.tc_part_model.specs.PartView.{PartView, generation_of}
+use Rattle.tc_lsm_model.specs.Lists.{last_of}
+use Rattle.tc_machine.proofs.Targets.{log_generation}
 use Rattle.tc_part_model.specs.Leaving.{with_next_log}
 use Rattle.tc_part_model.specs.PartFiles.{seen_entry, active_name, sealed_name, device_at, files_at, no_job, FlushLeaves, MergeLeaves, JobsLeave, IsSealedFile, LogsTell}
 use Rattle.tc_part_model.specs.PartState.{IsTold}
@@ -59,11 +61,11 @@ put_active p disk f new g job is = fun_ext λ n. elim (cases_Bool (same_name (ac
   | inr apart ↦ rw (apart, not_same (active_name p) n apart) refl
 ]
 
--- a change takes the place of the one before
-pub put_over : (name : FileName) (x y : Entry) (files : Disk) → put name y (put name x files) ≡ put name y files
-put_over name x y files = fun_ext λ n. elim (cases_Bool (same_name name n)) [
-  | inl same ↦ rw same refl
-  | inr apart ↦ rw apart refl
+-- the log of the sealed table is another one
+pub sealed_device : (p : PartView) → generation_of p ≢ last_of p.list + 1 → (f g : DiskFile) (job : FileName → DiskFile) → device_at p f g job (sealed_name p) ≡ g
+sealed_device p later f g job = elim (cases_Bool (same_name (sealed_name p) (active_name p))) [
+  | inl same ↦ absurd (later (sym (log_generation (last_of p.list + 1) (generation_of p) (same_name-is (sealed_name p) (active_name p) same))))
+  | inr differ ↦ rw (differ, same_name-refl (sealed_name p)) refl
 ]
 
 -- ---- jobs that have done nothing

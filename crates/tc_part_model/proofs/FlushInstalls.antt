@@ -1,9 +1,7 @@
 -- A flush is installed, over one disk and one file of each log: its component is listed, and the sealed log goes.
-use Rattle.std.proofs.Common.{◌≡◌, ◌≢◌, ◌<◌, ◌+◌, ◌++◌, ℕ, Bool, List, [], ◌∷◌, refl, sym, ap, ◌∙◌, subst, arith, inl, inr, Option, Some, None, false, true, if◌then◌else◌}
-use Rattle.std.specs.Prelude.{◌==◌}
+use Rattle.std.proofs.Common.{◌≡◌, ◌≢◌, ◌+◌, ◌++◌, ℕ, Bool, List, [], ◌∷◌, refl, sym, ap, ◌∙◌, subst, arith, inl, inr, Option, Some, None, false, true, if◌then◌else◌}
 use Rattle.std.proofs.Math.Path.{fun_ext}
 use Rattle.std.proofs.lemmas.Bool.{cases_Bool, false≢true}
-use Rattle.std.proofs.lemmas.Bool.Decides.{nat_tests}
 use Rattle.tc_store.specs.declared.file_name.FileName.{FileName}
 use Rattle.tc_store.specs.declared.file_name.FileName.TheVariants.{Component, Log}
 use Rattle.tc_store.specs.Disk.{Disk, Entry, content_of, home, is_out, none, out, put, same_name, still, taken}
@@ -26,10 +24,11 @@ use Rattle.tc_machine.proofs.Events.{event_keeps}
 use Rattle.tc_machine.proofs.FilesLeft.{at_name}
 use Rattle.tc_machine.proofs.Rebasing.{rebased_is_kept}
 use Rattle.tc_machine.proofs.Targets.{log_generation}
+use Rattle.tc_machine.proofs.Moments.{put_twice}
 use Rattle.tc_part_model.specs.Changes.{flushed_part}
-use Rattle.tc_part_model.specs.PartFiles.{AreKeptAt, IsDevice, MergeLeaves, active_name, device_at, files_at, seen_entry}
+use Rattle.tc_part_model.specs.PartFiles.{AreKeptAt, IsDevice, MergeLeaves, active_name, device_at, files_at, sealed_name, seen_entry}
 use Rattle.tc_part_model.specs.PartView.{PartView, generation_of, state_with}
-use Rattle.tc_part_model.proofs.DeviceFiles.{empty_leaves, not_same, put_over}
+use Rattle.tc_part_model.proofs.DeviceFiles.{empty_leaves, not_same, sealed_device}
 
 -- a part whose flush of one log is out
 abbrev pub flushed_soon : PartView → Table → List Write → PartView
@@ -38,21 +37,15 @@ flushed_soon p table ws = record p {
   flush = Some (record { from = last_of p.list + 1; to = last_of p.list + 1 });
 }
 
--- the component that it makes, and the log that this covers
+-- the component that it makes
 abbrev pub made_name : PartView → FileName
 made_name p = Component (last_of p.list + 1) (last_of p.list + 1)
-
-abbrev pub covered_name : PartView → FileName
-covered_name p = Log (last_of p.list + 1)
 
 put_same : (name : FileName) (e : Entry) (files : Disk) → files name ≡ e → put name e files ≡ files
 put_same name e files is = fun_ext λ n. elim (cases_Bool (same_name name n)) [
   | inl same ↦ rw same (sym is ∙ ap files (same_name-is name n same))
   | inr apart ↦ rw apart refl
 ]
-
-below : (a b : ℕ) → a < b → (a == b) ≡ false
-below a b h = grind (arith, nat_tests)
 
 module _ (p : PartView) (table : Table) (ws : List Write) (c : Content) (is_flush : IsFlush p.part p.list table 1 c) where
   abbrev pub after : PartView
@@ -116,41 +109,47 @@ module _ (p : PartView) (table : Table) (ws : List Write) (c : Content) (is_flus
 
     -- ---- the log that it covers
 
-    covered_device : (job : FileName → DiskFile) → device_at (flushed_soon p table ws) f g job (covered_name p) ≡ g
-    covered_device job = rw (below (last_of p.list + 1) (generation_of (flushed_soon p table ws)) (omega arith), same_name-refl (covered_name p)) refl
+    later : generation_of (flushed_soon p table ws) ≢ last_of p.list + 1
+    later same = absurd (no same)
+      where
+        no : generation_of (flushed_soon p table ws) ≡ last_of p.list + 1 → ⊥
+        no same = omega (arith, same)
 
-    covered_out : disk (covered_name p) ≡ out
+    covered_device : (job : FileName → DiskFile) → device_at (flushed_soon p table ws) f g job (sealed_name p) ≡ g
+    covered_device job = sealed_device (flushed_soon p table ws) later f g job
+
+    covered_out : disk (sealed_name p) ≡ out
     covered_out = k.sealed_out refl
 
-    seen_covered : (job : FileName → DiskFile) → files job (covered_name p) ≡ home g
-    seen_covered job = ap (seen_entry (device_at (flushed_soon p table ws) f g job (covered_name p))) covered_out ∙ ap (λ d. home d) (covered_device job)
+    seen_covered : (job : FileName → DiskFile) → files job (sealed_name p) ≡ home g
+    seen_covered job = ap (seen_entry (device_at (flushed_soon p table ws) f g job (sealed_name p))) covered_out ∙ ap (λ d. home d) (covered_device job)
 
-    home_kept : (job : FileName → DiskFile) → MergeLeaves p.merge job → IsKept p.part (state_with after false None (put (covered_name p) (home g) (files job)))
-    home_kept job leaves = subst (λ fs. IsKept p.part (state_with after false None fs)) (sym (put_same (covered_name p) (home g) (files job) (seen_covered job))) (installed job leaves)
+    home_kept : (job : FileName → DiskFile) → MergeLeaves p.merge job → IsKept p.part (state_with after false None (put (sealed_name p) (home g) (files job)))
+    home_kept job leaves = subst (λ fs. IsKept p.part (state_with after false None fs)) (sym (put_same (sealed_name p) (home g) (files job) (seen_covered job))) (installed job leaves)
 
     module _ (settled : IsSettled g) where
-      still_kept : (job : FileName → DiskFile) → MergeLeaves p.merge job → IsKept p.part (state_with after false None (put (covered_name p) (still g.content) (files job)))
+      still_kept : (job : FileName → DiskFile) → MergeLeaves p.merge job → IsKept p.part (state_with after false None (put (sealed_name p) (still g.content) (files job)))
       still_kept job leaves =
-          subst (λ fs. IsKept p.part (state_with after false None fs)) (ap (λ e. put (covered_name p) (taken e) (files job)) (seen_covered job))
-          (event_keeps p.part (state_with after false None (files job)) (file_frozen (covered_name p)) (installed job leaves) (record { file = g; home = seen_covered job; settled = settled }))
+          subst (λ fs. IsKept p.part (state_with after false None fs)) (ap (λ e. put (sealed_name p) (taken e) (files job)) (seen_covered job))
+          (event_keeps p.part (state_with after false None (files job)) (file_frozen (sealed_name p)) (installed job leaves) (record { file = g; home = seen_covered job; settled = settled }))
 
-      none_kept : (job : FileName → DiskFile) → MergeLeaves p.merge job → IsKept p.part (state_with after false None (put (covered_name p) (none (Some g.content)) (files job)))
+      none_kept : (job : FileName → DiskFile) → MergeLeaves p.merge job → IsKept p.part (state_with after false None (put (sealed_name p) (none (Some g.content)) (files job)))
       none_kept job leaves =
-          let now = put (covered_name p) (still g.content) (files job) in
+          let now = put (sealed_name p) (still g.content) (files job) in
           subst (λ fs. IsKept p.part (state_with after false None fs))
-          (ap (λ e. put (covered_name p) (none (content_of e)) now) (put_there (covered_name p) (still g.content) (files job)) ∙ put_over (covered_name p) (still g.content) (none (Some g.content)) (files job))
-          (event_keeps p.part (state_with after false None now) (file_removed (covered_name p)) (still_kept job leaves)
-          (record { bytes = g.content; still = put_there (covered_name p) (still g.content) (files job); spare = inl (omega (arith, last_is)) }))
+          (ap (λ e. put (sealed_name p) (none (content_of e)) now) (put_there (sealed_name p) (still g.content) (files job)) ∙ put_twice (sealed_name p) (still g.content) (none (Some g.content)) (files job))
+          (event_keeps p.part (state_with after false None now) (file_removed (sealed_name p)) (still_kept job leaves)
+          (record { bytes = g.content; still = put_there (sealed_name p) (still g.content) (files job); spare = inl (omega (arith, last_is)) }))
 
     -- ---- the part without it
 
-    covered_apart : covered_name p ≢ active_name (flushed_soon p table ws)
+    covered_apart : sealed_name p ≢ active_name (flushed_soon p table ws)
     covered_apart same = absurd (no (log_generation (last_of p.list + 1) (generation_of (flushed_soon p table ws)) same))
       where
         no : last_of p.list + 1 ≡ generation_of (flushed_soon p table ws) → ⊥
         no same = omega (arith, same)
 
-    after_devices : (name : FileName) → covered_name p ≢ name → made_name p ≢ name → IsDevice (flushed_soon p table ws) name → IsDevice after name
+    after_devices : (name : FileName) → sealed_name p ≢ name → made_name p ≢ name → IsDevice (flushed_soon p table ws) name → IsDevice after name
     after_devices (Log n) covered made (inl active) = inl (active ∙ sym active_is)
     after_devices (Log n) covered made (inr sealed) = absurd (covered (ap (λ m. Log m) (sym sealed.1)))
     after_devices (Component from to) covered made (inl job) = absurd (made (ap (λ m. Component m (last_of p.list + 1)) (sym job.0) ∙ ap (λ m. Component from m) (sym job.1)))
@@ -159,32 +158,32 @@ module _ (p : PartView) (table : Table) (ws : List Write) (c : Content) (is_flus
     not_out : (name : FileName) → is_out (disk name) ≡ true → made_name p ≢ name
     not_out name held same = absurd (false≢true (ap is_out (sym there) ∙ ap (λ n. is_out (disk n)) same ∙ held))
 
-    after_files : (e : Entry) (other : DiskFile) (job : FileName → DiskFile) → ((h : DiskFile) → seen_entry h e ≡ e) → put (covered_name p) e (files job) ≡ files_at after (put (covered_name p) e disk) f other job
-    after_files e other job seen = fun_ext λ n. elim (cases_Bool (same_name (covered_name p) n)) [
+    after_files : (e : Entry) (other : DiskFile) (job : FileName → DiskFile) → ((h : DiskFile) → seen_entry h e ≡ e) → put (sealed_name p) e (files job) ≡ files_at after (put (sealed_name p) e disk) f other job
+    after_files e other job seen = fun_ext λ n. elim (cases_Bool (same_name (sealed_name p) n)) [
       | inl same ↦ rw same (sym (seen (device_at after f other job n)))
-      | inr apart ↦ rw (apart, not_same (covered_name p) n apart, active_is, last_is) (either (same_name n (active_name (flushed_soon p table ws))) n)
+      | inr apart ↦ rw (apart, not_same (sealed_name p) n apart, active_is, last_is) (either (same_name n (active_name (flushed_soon p table ws))) n)
     ]
       where
         either : (b : Bool) (n : FileName) → seen_entry (if b then f else job n) (disk n) ≡ seen_entry (if b then f else (if b then other else job n)) (disk n)
         either true n = refl
         either false n = refl
 
-    after_keeps : (e : Entry) (other : DiskFile) → is_out e ≡ false → ((h : DiskFile) → seen_entry h e ≡ e) → ((job : FileName → DiskFile) → MergeLeaves p.merge job → IsKept p.part (state_with after false None (put (covered_name p) e (files job))))
-        → AreKeptAt after false None (put (covered_name p) e disk) f other
+    after_keeps : (e : Entry) (other : DiskFile) → is_out e ≡ false → ((h : DiskFile) → seen_entry h e ≡ e) → ((job : FileName → DiskFile) → MergeLeaves p.merge job → IsKept p.part (state_with after false None (put (sealed_name p) e (files job))))
+        → AreKeptAt after false None (put (sealed_name p) e disk) f other
     after_keeps e other at_home seen kept = record {
-      log_out = subst (λ n. put (covered_name p) e disk (Log n) ≡ out) (sym active_is) (at_name (covered_name p) (active_name (flushed_soon p table ws)) e disk (λ d. d ≡ out) (λ same. absurd (covered_apart same)) (λ apart. k.log_out));
+      log_out = subst (λ n. put (sealed_name p) e disk (Log n) ≡ out) (sym active_is) (at_name (sealed_name p) (active_name (flushed_soon p table ws)) e disk (λ d. d ≡ out) (λ same. absurd (covered_apart same)) (λ apart. k.log_out));
       sealed_out = λ some. absurd (false≢true some);
-      devices = λ name held. at_name (covered_name p) name e disk (λ d. is_out d ≡ true → IsDevice after name) (λ same out_now. absurd (false≢true (sym at_home ∙ out_now)))
+      devices = λ name held. at_name (sealed_name p) name e disk (λ d. is_out d ≡ true → IsDevice after name) (λ same out_now. absurd (false≢true (sym at_home ∙ out_now)))
           (λ apart out_now. after_devices name apart (not_out name out_now) (k.devices name out_now)) held;
       kept = λ job leave. subst (λ fs. IsKept p.part (state_with after false None fs)) (after_files e other job seen) (kept job leave.1);
     }
 
     -- the log is at home again, is frozen, or is gone
-    pub home_after : (other : DiskFile) → AreKeptAt after false None (put (covered_name p) (home g) disk) f other
+    pub home_after : (other : DiskFile) → AreKeptAt after false None (put (sealed_name p) (home g) disk) f other
     home_after other = after_keeps (home g) other refl (λ h. refl) home_kept
 
-    pub still_after : IsSettled g → (other : DiskFile) → AreKeptAt after false None (put (covered_name p) (still g.content) disk) f other
+    pub still_after : IsSettled g → (other : DiskFile) → AreKeptAt after false None (put (sealed_name p) (still g.content) disk) f other
     still_after settled other = after_keeps (still g.content) other refl (λ h. refl) (still_kept settled)
 
-    pub none_after : IsSettled g → (other : DiskFile) → AreKeptAt after false None (put (covered_name p) (none (Some g.content)) disk) f other
+    pub none_after : IsSettled g → (other : DiskFile) → AreKeptAt after false None (put (sealed_name p) (none (Some g.content)) disk) f other
     none_after settled other = after_keeps (none (Some g.content)) other refl (λ h. refl) (none_kept settled)

@@ -26,12 +26,12 @@ use Rattle.tc_part_model.specs.Calls.{HasMade, MakesFlush}
 use Rattle.tc_part_model.specs.Changes.{flushed_part}
 use Rattle.tc_part_model.specs.Leaving.{LeavesStoreAt, StoreMomentsLeaveStore}
 use Rattle.tc_part_model.specs.Meaning.{HasFailedAs, IsOfContent, IsPart, KeepsSealed, KeepsTable}
-use Rattle.tc_part_model.specs.PartFiles.{AreJobsOut, AreKeptAt, IfFiles}
+use Rattle.tc_part_model.specs.PartFiles.{AreJobsOut, AreKeptAt, IfFiles, sealed_name}
 use Rattle.tc_part_model.specs.PartState.{AreTold, IsTold, Told, ToldComponent}
 use Rattle.tc_part_model.specs.PartView.{PartView, store_of}
 use Rattle.tc_part_model.proofs.DeviceFiles.{comes_untold, logs_tell, told_again}
 use Rattle.tc_part_model.proofs.ToldFiles.{MomentsSince}
-use Rattle.tc_part_model.proofs.FlushInstalls.{active_is, after, covered_name, flushed_soon, made_name}
+use Rattle.tc_part_model.proofs.FlushInstalls.{active_is, after, flushed_soon, made_name}
 use Rattle.tc_part_model.proofs.FlushedViews.{flushed_memory, flushed_starts, names_stay, store_stays, stored_stays, table_stays}
 use Rattle.tc_part_model.proofs.ToldFlushes.{flush_moments_since, frozen, frozen_files, home_files, uncovered, uncovered_files, uncovered_jobs, uncovered_untold}
 
@@ -153,12 +153,12 @@ module _ (t : Told) (p : PartView) (table : Table) (ws : List Write) (is : IsPar
   }
 
   -- it is listed, and the log came home as it was
-  told_home : (u : Told) → u.failed ≡ true → u.log ≡ t.log → u.sealed_log ≡ None → u.disks ≡ comes_home (covered_name p) (λ x. home x) covered (frozen p table ws c is_flush (component_bytes c) made.whole dev t.disks)
+  told_home : (u : Told) → u.failed ≡ true → u.log ≡ t.log → u.sealed_log ≡ None → u.disks ≡ comes_home (sealed_name p) (λ x. home x) covered (frozen p table ws c is_flush (component_bytes c) made.whole dev t.disks)
       → HasFailedAs u (after p table ws c is_flush) None
   told_home u failed log sealed disks =
-      let new = comes_home (covered_name p) (λ x. home x) covered (frozen p table ws c is_flush (component_bytes c) made.whole dev t.disks) in
-      let untold : t.disks ≡ [] → new ≡ [] = λ none. ap (λ ds. comes_home (covered_name p) (λ x. home x) covered (frozen p table ws c is_flush (component_bytes c) made.whole dev ds)) none
-          ∙ ap (comes_home (covered_name p) (λ x. home x) covered) (comes_untold (made_name p) frozen_entry dev) ∙ comes_untold (covered_name p) (λ x. home x) covered in
+      let new = comes_home (sealed_name p) (λ x. home x) covered (frozen p table ws c is_flush (component_bytes c) made.whole dev t.disks) in
+      let untold : t.disks ≡ [] → new ≡ [] = λ none. ap (λ ds. comes_home (sealed_name p) (λ x. home x) covered (frozen p table ws c is_flush (component_bytes c) made.whole dev ds)) none
+      ∙ ap (comes_home (sealed_name p) (λ x. home x) covered) (comes_untold (made_name p) frozen_entry dev) ∙ comes_untold (sealed_name p) (λ x. home x) covered in
       record {
         failed = failed;
         tells = rw (disks, log, sealed) (record { active = told_again (IsTold t.log) t.disks new untold is.tells.active; sealed = told_again (Unit {0}) t.disks new untold (told_map (λ disk. IsTold t.log) (λ disk. Unit {0}) t.disks (λ disk any. tt) is.tells.active) });

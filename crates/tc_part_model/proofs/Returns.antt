@@ -16,9 +16,10 @@ use Rattle.tc_machine.specs.State.{Flushing, Merging, flush_name}
 use Rattle.tc_machine.specs.Steps.{IsFlushed, IsShutOrHas, MayCall}
 use Rattle.tc_machine.proofs.Events.{event_keeps}
 use Rattle.tc_machine.proofs.FilesLeft.{at_name}
+use Rattle.tc_machine.proofs.Moments.{put_twice}
 use Rattle.tc_part_model.specs.PartFiles.{AreKeptAt, IsDevice, JobsLeave, device_at, files_at, seen_entry}
 use Rattle.tc_part_model.specs.PartView.{PartView, state_with}
-use Rattle.tc_part_model.proofs.DeviceFiles.{put_over, put_seen}
+use Rattle.tc_part_model.proofs.DeviceFiles.{put_seen}
 
 -- a call of a job's device
 abbrev pub JobCalls : PartView → FileName → DiskFile → Type 0
@@ -64,7 +65,7 @@ module _ (p : PartView) (failed : Bool) (frame : Option (List Write)) (disk : Di
         let files = files_at p disk f g job in
         subst (λ fs. IsKept p.part (state_with p failed frame fs))
         (ap (λ e. put (Component from to) (taken e) (put (Component from to) (home x) files)) (put_there (Component from to) (home x) files)
-        ∙ put_over (Component from to) (home x) (still bytes) files ∙ sym (put_seen p (Component from to) (still bytes) disk f g job))
+        ∙ put_twice (Component from to) (home x) (still bytes) files ∙ sym (put_seen p (Component from to) (still bytes) disk f g job))
         (event_keeps p.part (state_with p failed frame (put (Component from to) (home x) files)) (file_frozen (Component from to)) (called x calls job leave)
         (record { file = x; home = put_there (Component from to) (home x) files; settled = refl }));
   }

@@ -1,5 +1,5 @@
 -- A seal of a part: done, at each moment, and where it failed.
-use Rattle.std.proofs.Common.{◌≡◌, ◌+◌, ℕ, List, [], refl, sym, ap, ◌∙◌, subst, Option, Some, None, false, true, arith, append-nil}
+use Rattle.std.proofs.Common.{◌≡◌, ◌+◌, List, [], refl, sym, ap, ◌∙◌, subst, Option, Some, None, false, true, arith, append-nil}
 use Rattle.std.proofs.lemmas.List.Elements.{All-nil}
 use Rattle.tc_model.specs.KnownNames.{HasEach}
 use Rattle.tc_store.specs.declared.file_name.FileName.TheVariants.{Log}
@@ -60,10 +60,6 @@ sealed_names p = ap (names_after (names_of p.list)) (sym (append-nil (writes_of 
 module _ (t : Told) (p : PartView) (is : IsPart t (bare p)) where
   next : t.generation + 1 ≡ next_of (bare p)
   next = ap (λ n. n + 1) is.view.generation ∙ sym (next_is p)
-
-  -- the same of the part, in other words
-  in_part : (P : ℕ → Type 0) → P (t.generation + 1) → P (next_of (bare p))
-  in_part P = subst P next
 
   of_head : (P : LogHead → Type 0) → P (log_head t.part (t.generation + 1)) → P (log_head p.part (next_of (bare p)))
   of_head P h = subst (λ n. P (log_head p.part n)) next (subst (λ part. P (log_head part (t.generation + 1))) is.view.part h)

@@ -29,12 +29,13 @@ use Rattle.tc_machine.proofs.FilesMade.{empty_image}
 use Rattle.tc_machine.proofs.FreeNames.{next_log_is_free, none_there}
 use Rattle.tc_machine.proofs.LogHeads.{new_log}
 use Rattle.tc_machine.proofs.Targets.{log_generation}
+use Rattle.tc_machine.proofs.Moments.{put_twice}
 use Rattle.tc_part_model.specs.Changes.{sealed_part}
 use Rattle.tc_part_model.specs.Leaving.{LeavesStoreAt, NextLogLeaves, with_next_log}
 use Rattle.tc_part_model.specs.PartFiles.{AreKeptAt, IsDevice, JobsLeave, active_name, device_at, files_at, no_job, seen_entry}
 use Rattle.tc_part_model.specs.PartView.{PartView, generation_of, next_of, state_with, store_of}
 use Rattle.tc_part_model.proofs.Pictures.{same_beside}
-use Rattle.tc_part_model.proofs.DeviceFiles.{next_log_jobs, no_job_leaves, not_same, put_over, put_seen, seen_active, there_seen}
+use Rattle.tc_part_model.proofs.DeviceFiles.{next_log_jobs, no_job_leaves, not_same, put_seen, seen_active, there_seen}
 
 -- a part that may seal
 abbrev pub bare : PartView → PartView
@@ -113,7 +114,7 @@ module _ (p : PartView) (disk : Disk) (f g : DiskFile) (k : AreKeptAt (bare p) f
       let files = files_at (bare p) disk f g job in
       let s = state_with (bare p) false None files in
       let wasted : IsKept p.part (step (file_wasted (next_name p)) s) = event_keeps p.part s (file_wasted (next_name p)) (k.kept job leave) (record { before = absent.0; absent = seen_absent job }) in
-      subst (λ fs. IsKept p.part (state_with (bare p) true None fs)) (put_over (next_name p) (made (files (next_name p))) (home x) files)
+      subst (λ fs. IsKept p.part (state_with (bare p) true None fs)) (put_twice (next_name p) (made (files (next_name p))) (home x) files)
       (event_keeps p.part (step (file_wasted (next_name p)) s) (device_called (next_name p) x) wasted (record {
         old = empty_file (removed_of (files (next_name p)));
         home = put_there (next_name p) (made (files (next_name p))) files;
@@ -197,7 +198,10 @@ module _ (p : PartView) (disk : Disk) (f g : DiskFile) (k : AreKeptAt (bare p) f
           may = inr (inl (record { named = refl; leaves = λ image may. shut_or image (whole image may) }));
         }) in
         let is_sealed = event_keeps p.part (step (device_called (next_name p) new) (step log_made s)) table_sealed is_called (record {
-          running = refl; no_frame = refl; none_sealed = refl; sound = refl;
+          running = refl;
+          no_frame = refl;
+          none_sealed = refl;
+          sound = refl;
           next_log = (bound, (new, put_there (next_name p) (home new) (put (next_name p) entry files), whole));
         }) in
         subst (λ fs. IsKept p.part (state_with (sealed_part (bare p)) false None fs)) (sealed_files new job entry) is_sealed

@@ -1,5 +1,5 @@
 -- How many documents are stored with one more write.
-use Rattle.std.proofs.Common.{◌≡◌, ◌<◌, ◌+◌, ℕ, Bool, true, false, [], ◌∷◌, length, refl, sym, ap, ◌∙◌, arith, Option, Some, None, is_some, if◌then◌else◌, inl, inr}
+use Rattle.std.proofs.Common.{◌≡◌, ◌<◌, ◌+◌, ℕ, Bool, true, false, [], ◌∷◌, length, refl, ap, arith, Option, Some, None, is_some, if◌then◌else◌, inl, inr}
 use Rattle.std.specs.Prelude.{◌==◌, nat_lt}
 use Rattle.std.proofs.lemmas.Bool.{cases_Bool}
 use Rattle.std.proofs.lemmas.Bool.Decides.{nat_tests}
@@ -26,13 +26,13 @@ new_counted n v (p ∷ ps) none = cases (nat_lt n p.0) (n == p.0) none (new_coun
 is_less : (a b : ℕ) → nat_lt a b ≡ true → a < b
 is_less a b h = grind (arith, nat_tests)
 
-none_some : {V : Type 0} (v : V) → ◌≡◌ {A = Option V} None (Some v) → ⊥
-none_some v e = cc
+never : {V : Type 0} (X : Type 0) (o : Option V) (w : V) → o ≡ None → o ≡ Some w → X
+never X o w none some = absurd (cc)
 
 there_counted : {V : Type 0} (n : ℕ) (v w : V) (ps : Keyed V) → Ascends ps → value_of n ps ≡ Some w → length (with_value n v ps) ≡ length ps
 there_counted n v w [] up there = absurd (cc)
 there_counted n v w (p ∷ ps) up there = elim (cases_Bool (nat_lt n p.0)) [
-  | inl less ↦ absurd (none_some w (sym (value_of-below n p.0 p.1 ps (is_less n p.0 less) up) ∙ there))
+  | inl less ↦ never (length (with_value n v (p ∷ ps)) ≡ length (p ∷ ps)) (value_of n (p ∷ ps)) w (value_of-below n p.0 p.1 ps (is_less n p.0 less) up) there
   | inr more ↦ rw more (cases (n == p.0) there (there_counted n v w ps (sorted_tail nat_cmp p.0 (keys_of ps) up)))
 ]
   where

@@ -1,9 +1,9 @@
 -- The names that are taken have all that are held, also with one more write, and those that are held are no more.
-use Rattle.std.proofs.Common.{◌≡◌, ◌≤◌, ◌++◌, ◌||◌, ◌⊎◌, Bool, true, false, List, [], ◌∷◌, length, bytes_eq, refl, sym, ◌∙◌, subst, inl, inr, Some, None, is_some, if◌then◌else◌}
+use Rattle.std.proofs.Common.{◌≡◌, ◌≤◌, ◌++◌, ◌||◌, Bool, true, false, List, [], ◌∷◌, length, bytes_eq, sym, ◌∙◌, subst, inl, inr, Some, None, is_some, if◌then◌else◌}
 use Rattle.std.specs.Prelude.{All}
 use Rattle.std.specs.List.{AllByRecursion, IsDistinct, list_any}
 use Rattle.std.specs.Cmp.Lexicographic.{nat_list_eq_equiv}
-use Rattle.std.proofs.lemmas.Bool.{true≢false}
+use Rattle.std.proofs.lemmas.Bool.{cases_Bool, true≢false}
 use Rattle.std.proofs.lemmas.List.Elements.{All-nil, All-cons, All-head, All-tail, All-weaker}
 use Rattle.std.proofs.lemmas.Map.Made.{length-le_from_is_member}
 use Rattle.std.proofs.lemmas.Slice.Eq.{bytes_eq-Decides}
@@ -12,7 +12,7 @@ use Rattle.tc_model.specs.Dictionary.{number_of, learned, all_learned}
 use Rattle.tc_model.specs.Keyed.{values_in}
 use Rattle.tc_model.specs.KnownNames.{HasNumber, HasEach}
 use Rattle.tc_model.specs.ShapeNames.{names_within, names_of_documents}
-use Rattle.tc_model.proofs.LearnedNames.{all_numbered, all_of_first, number-stays}
+use Rattle.tc_model.proofs.LearnedNames.{all_learned-append, all_numbered, all_of_first, number-stays}
 use Rattle.tc_model.proofs.NameNumbers.{list_any-number_of}
 use Rattle.tc_plain_model.specs.Store.{names_after}
 use Rattle.tc_plain_model.specs.Writes.{Pairs, Write, after_writes}
@@ -24,15 +24,11 @@ use Rattle.tc_part_model.specs.Staging.{taken_with}
 
 -- ---- lists of names
 
-either : (a b : Bool) → (a || b) ≡ true → (a ≡ true) ⊎ (b ≡ true)
-either true b is = inl refl
-either false b is = inr is
-
 each_of : (P : Name → Type 0) (xs : List Name) (x : Name) → AllByRecursion P xs → list_any (bytes_eq x) xs ≡ true → P x
 each_of P [] x all there = absurd (true≢false (sym there))
-each_of P (y ∷ ys) x all there = elim (either (bytes_eq x y) (list_any (bytes_eq x) ys) there) [
+each_of P (y ∷ ys) x all there = elim (cases_Bool (bytes_eq x y)) [
   | inl same ↦ subst P (sym ((bytes_eq-Decides x y).0 same)) all.0
-  | inr later ↦ each_of P ys x all.1 later
+  | inr other ↦ each_of P ys x all.1 (subst (λ b. (b || list_any (bytes_eq x) ys) ≡ true) other there)
 ]
 
 has : (names : List Name) (x : Name) → HasNumber names x → list_any (bytes_eq x) names ≡ true
@@ -46,16 +42,16 @@ HasEach-trans : (more names xs : List Name) → HasEach more names → HasEach n
 HasEach-trans more names [] each all = tt
 HasEach-trans more names (x ∷ xs) each all = (HasNumber-trans more names x each all.0, HasEach-trans more names xs each all.1)
 
-HasEach-both : (names xs ys : List Name) → HasEach names xs → HasEach names ys → HasEach names (xs ++ ys)
-HasEach-both names [] ys first rest = rest
-HasEach-both names (x ∷ xs) ys first rest = (first.0, HasEach-both names xs ys first.1 rest)
+each_and : {X : Type 0} (P : X → Type 0) (xs : List X) (x : X) → AllByRecursion P xs → P x → AllByRecursion P (xs ++ x ∷ [])
+each_and P [] x all last = (last, tt)
+each_and P (y ∷ xs) x all last = (all.0, each_and P xs x all.1 last)
 
 HasEach-learned : (more names : List Name) (x : Name) → HasEach more names → HasNumber more x → HasEach more (learned names x)
 HasEach-learned more names x each is = cases (is_some (number_of names x))
   where
     cases : (b : Bool) → HasEach more (if b then names else names ++ x ∷ [])
     cases true = each
-    cases false = HasEach-both more names (x ∷ []) each (is, tt)
+    cases false = each_and (HasNumber more) names x each is
 
 HasEach-all_learned : (more names xs : List Name) → HasEach more names → HasEach more xs → HasEach more (all_learned names xs)
 HasEach-all_learned more names [] each all = each
@@ -73,10 +69,13 @@ no_more more names distinct each =
 
 -- ---- the names behind writes
 
-named : (names : List Name) (pairs : Pairs) → All (AreNamesIn names) pairs → HasEach names (names_of_documents (values_in pairs))
-named names [] all = tt
-named names (e ∷ pairs) all =
-    HasEach-both names (names_within (document_shape e.1)) (names_of_documents (values_in pairs)) (All-head (AreNamesIn names) e pairs all) (named names pairs (All-tail (AreNamesIn names) e pairs all))
+-- those of documents come to what is known
+named : (taken known : List Name) (pairs : Pairs) → HasEach taken known → All (AreNamesIn taken) pairs → HasEach taken (all_learned known (names_of_documents (values_in pairs)))
+named taken known [] older all = older
+named taken known (e ∷ pairs) older all =
+    subst (λ ns. HasEach taken ns) (sym (all_learned-append known (names_within (document_shape e.1)) (names_of_documents (values_in pairs))))
+    (named taken (all_learned known (names_within (document_shape e.1))) pairs
+    (HasEach-all_learned taken known (names_within (document_shape e.1)) older (All-head (AreNamesIn taken) e pairs all)) (All-tail (AreNamesIn taken) e pairs all))
 
 -- those that are had already
 left_named : (taken known : List Name) (ws : List Write) → HasEach taken (names_after known ws) → All (AreNamesIn taken) (after_writes [] ws)
@@ -86,10 +85,9 @@ left_named taken known ws each =
 -- with one more write, of which the names are had too
 pub HasEach-write : (taken known : List Name) (ws : List Write) (w : Write) → HasEach taken known → HasEach taken (names_after known ws) → KnowsWritten taken w → HasEach taken (names_after known (ws ++ w ∷ []))
 HasEach-write taken known ws w older each knows =
-    HasEach-all_learned taken known (names_of_documents (values_in (after_writes [] (ws ++ w ∷ [])))) older
-    (named taken (after_writes [] (ws ++ w ∷ []))
+    named taken known (after_writes [] (ws ++ w ∷ [])) older
     (subst (λ ps. All (AreNamesIn taken) ps) (sym (after_writes-append [] ws (w ∷ [])))
-    (named-after_writes taken (after_writes [] ws) (w ∷ []) (All-cons (KnowsWritten taken) w [] knows (All-nil (KnowsWritten taken))) (left_named taken known ws each))))
+    (named-after_writes taken (after_writes [] ws) (w ∷ []) (All-cons (KnowsWritten taken) w [] knows (All-nil (KnowsWritten taken))) (left_named taken known ws each)))
 
 -- what is had stays so, and the names of what is written come to it
 pub HasEach-taken : (w : Write) (taken xs : List Name) → HasEach taken xs → HasEach (taken_with w taken) xs

@@ -93,10 +93,6 @@ no_moments p (disk ∷ before) (f ∷ past) sealed = λ g is. EachSince-none (Le
 -- ---- a part
 
 module _ (t : Told) (p : PartView) (is : IsPart t p) where
-  -- what is staged, as documents
-  as_documents : {X : Type 0} (P : List log.Write → X) → P t.staged ≡ P (kept_writes p.staged)
-  as_documents P = ap P is.view.staged
-
   committed_told : (log : List DiskFile) → HasAppended (kept_writes p.staged) t.log log → IsPart (record t { staged = []; log = log }) (committed_part p)
   committed_told log has =
       let memory = committed_memory p is.memory is.staged in

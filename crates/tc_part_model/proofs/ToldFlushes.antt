@@ -19,14 +19,15 @@ use Rattle.tc_machine.specs.Components.{file_of}
 use Rattle.tc_machine.specs.State.{Merging}
 use Rattle.tc_machine.proofs.FilesLeft.{at_name}
 use Rattle.tc_machine.specs.Steps.{IsFlushed, IsShutOrHas}
+use Rattle.tc_machine.proofs.Moments.{put_twice}
 use Rattle.tc_part_model.specs.Leaving.{LeavesStoreAt}
-use Rattle.tc_part_model.specs.PartFiles.{AreJobsOut, AreKeptAt, IfFiles}
+use Rattle.tc_part_model.specs.PartFiles.{AreJobsOut, AreKeptAt, IfFiles, sealed_name}
 use Rattle.tc_part_model.specs.PartState.{IsTold}
 use Rattle.tc_part_model.specs.PartView.{PartView}
 use Rattle.tc_part_model.proofs.Beginnings.{kept_leaves}
-use Rattle.tc_part_model.proofs.DeviceFiles.{comes_untold, put_over}
+use Rattle.tc_part_model.proofs.DeviceFiles.{comes_untold}
 use Rattle.tc_part_model.proofs.Failures.{failing_keeps}
-use Rattle.tc_part_model.proofs.FlushInstalls.{after, covered_name, flushed_soon, home_after, made_name, none_after, still_after}
+use Rattle.tc_part_model.proofs.FlushInstalls.{after, flushed_soon, home_after, made_name, none_after, still_after}
 use Rattle.tc_part_model.proofs.Returns.{flush_calls, still_keeps}
 use Rattle.tc_part_model.proofs.ToldFiles.{MomentsSince}
 use Rattle.tc_part_model.proofs.ToldReturns.{returned}
@@ -48,10 +49,10 @@ module _ (p : PartView) (table : Table) (ws : List Write) (c : Content) (is_flus
   frozen dev disks = comes_home (made_name p) frozen_entry dev disks
 
   abbrev pub uncovered : List DiskFile → List DiskFile → List Disk → List Disk
-  uncovered dev covered disks = removes (covered_name p) (comes_home (covered_name p) frozen_entry covered (frozen dev disks))
+  uncovered dev covered disks = removes (sealed_name p) (comes_home (sealed_name p) frozen_entry covered (frozen dev disks))
 
   pub uncovered_untold : (dev covered : List DiskFile) → uncovered dev covered [] ≡ []
-  uncovered_untold dev covered = ap (λ ds. removes (covered_name p) (comes_home (covered_name p) frozen_entry covered ds)) (comes_untold (made_name p) frozen_entry dev) ∙ ap (removes (covered_name p)) (comes_untold (covered_name p) frozen_entry covered)
+  uncovered_untold dev covered = ap (λ ds. removes (sealed_name p) (comes_home (sealed_name p) frozen_entry covered ds)) (comes_untold (made_name p) frozen_entry dev) ∙ ap (removes (sealed_name p)) (comes_untold (sealed_name p) frozen_entry covered)
 
   abbrev with_made : Disk → Disk
   with_made disk = put (made_name p) (still bytes) disk
@@ -59,14 +60,14 @@ module _ (p : PartView) (table : Table) (ws : List Write) (c : Content) (is_flus
   frozen_is : (disk : Disk) (past : List Disk) (x : DiskFile) (xs : List DiskFile) → disk (made_name p) ≡ out → x ≡ settled_file bytes → frozen (x ∷ xs) (disk ∷ past) ≡ with_made disk ∷ disk ∷ past
   frozen_is disk past x xs held is = returned (made_name p) (frozen_entry x) disk past held ∙ ap (λ (y : DiskFile). put (made_name p) (still y.content) disk ∷ disk ∷ past) is
 
-  uncovered_is : (disk : Disk) (past : List Disk) (x : DiskFile) (xs : List DiskFile) (g : DiskFile) (gs : List DiskFile) → disk (made_name p) ≡ out → disk (covered_name p) ≡ out → x ≡ settled_file bytes
-      → uncovered (x ∷ xs) (g ∷ gs) (disk ∷ past) ≡ put (covered_name p) (none (Some g.content)) (with_made disk) ∷ put (covered_name p) (still g.content) (with_made disk) ∷ with_made disk ∷ disk ∷ past
+  uncovered_is : (disk : Disk) (past : List Disk) (x : DiskFile) (xs : List DiskFile) (g : DiskFile) (gs : List DiskFile) → disk (made_name p) ≡ out → disk (sealed_name p) ≡ out → x ≡ settled_file bytes
+      → uncovered (x ∷ xs) (g ∷ gs) (disk ∷ past) ≡ put (sealed_name p) (none (Some g.content)) (with_made disk) ∷ put (sealed_name p) (still g.content) (with_made disk) ∷ with_made disk ∷ disk ∷ past
   uncovered_is disk past x xs g gs held log_held is =
-      let two = put (covered_name p) (still g.content) (with_made disk) in
-      ap (λ ds. removes (covered_name p) (comes_home (covered_name p) frozen_entry (g ∷ gs) ds)) (frozen_is disk past x xs held is)
-      ∙ ap (removes (covered_name p)) (returned (covered_name p) (still g.content) (with_made disk) (disk ∷ past) log_held)
-      ∙ ap (λ e. if is_still e then put (covered_name p) (none (content_of e)) two ∷ two ∷ with_made disk ∷ disk ∷ past else two ∷ with_made disk ∷ disk ∷ past) (put_there (covered_name p) (still g.content) (with_made disk))
-      ∙ ap (λ d. d ∷ two ∷ with_made disk ∷ disk ∷ past) (put_over (covered_name p) (still g.content) (none (Some g.content)) (with_made disk))
+      let two = put (sealed_name p) (still g.content) (with_made disk) in
+      ap (λ ds. removes (sealed_name p) (comes_home (sealed_name p) frozen_entry (g ∷ gs) ds)) (frozen_is disk past x xs held is)
+      ∙ ap (removes (sealed_name p)) (returned (sealed_name p) (still g.content) (with_made disk) (disk ∷ past) log_held)
+      ∙ ap (λ e. if is_still e then put (sealed_name p) (none (content_of e)) two ∷ two ∷ with_made disk ∷ disk ∷ past else two ∷ with_made disk ∷ disk ∷ past) (put_there (sealed_name p) (still g.content) (with_made disk))
+      ∙ ap (λ d. d ∷ two ∷ with_made disk ∷ disk ∷ past) (put_twice (sealed_name p) (still g.content) (none (Some g.content)) (with_made disk))
 
   -- ---- one disk
 
@@ -78,13 +79,13 @@ module _ (p : PartView) (table : Table) (ws : List Write) (c : Content) (is_flus
     made_kept = still_keeps (flushed_soon p table ws) false None disk f g k (last_of p.list + 1) (last_of p.list + 1) held bytes
         (flush_calls (flushed_soon p table ws) (record { from = last_of p.list + 1; to = last_of p.list + 1 }) (settled_file bytes) refl whole_leaves)
 
-    home_left : (other : DiskFile) → AreKeptAt (after p table ws c is_flush) false None (put (covered_name p) (home g) (with_made disk)) f other
+    home_left : (other : DiskFile) → AreKeptAt (after p table ws c is_flush) false None (put (sealed_name p) (home g) (with_made disk)) f other
     home_left other = home_after p table ws c is_flush (with_made disk) f g bytes made_kept (put_there (made_name p) (still bytes) disk) whole other
 
-    still_left : IsSettled g → (other : DiskFile) → AreKeptAt (after p table ws c is_flush) false None (put (covered_name p) (still g.content) (with_made disk)) f other
+    still_left : IsSettled g → (other : DiskFile) → AreKeptAt (after p table ws c is_flush) false None (put (sealed_name p) (still g.content) (with_made disk)) f other
     still_left settled other = still_after p table ws c is_flush (with_made disk) f g bytes made_kept (put_there (made_name p) (still bytes) disk) whole settled other
 
-    none_left : IsSettled g → (other : DiskFile) → AreKeptAt (after p table ws c is_flush) false None (put (covered_name p) (none (Some g.content)) (with_made disk)) f other
+    none_left : IsSettled g → (other : DiskFile) → AreKeptAt (after p table ws c is_flush) false None (put (sealed_name p) (none (Some g.content)) (with_made disk)) f other
     none_left settled other = none_after p table ws c is_flush (with_made disk) f g bytes made_kept (put_there (made_name p) (still bytes) disk) whole settled other
 
   -- ---- all that is told
@@ -128,13 +129,13 @@ module _ (p : PartView) (table : Table) (ws : List Write) (c : Content) (is_flus
         disks log dev covered log_tells dev_tells covered_tells
 
     -- the log is at home
-    pub home_files : Kept disks log covered → Jobs disks → Whole dev → IfFiles (comes_home (covered_name p) (λ x. home x) covered (frozen dev disks)) log None (AreKeptAt (after p table ws c is_flush) true None)
-    home_files = all_told (λ disks log dev covered. Kept disks log covered → Jobs disks → Whole dev → IfFiles (comes_home (covered_name p) (λ x. home x) covered (frozen dev disks)) log None (AreKeptAt (after p table ws c is_flush) true None))
+    pub home_files : Kept disks log covered → Jobs disks → Whole dev → IfFiles (comes_home (sealed_name p) (λ x. home x) covered (frozen dev disks)) log None (AreKeptAt (after p table ws c is_flush) true None)
+    home_files = all_told (λ disks log dev covered. Kept disks log covered → Jobs disks → Whole dev → IfFiles (comes_home (sealed_name p) (λ x. home x) covered (frozen dev disks)) log None (AreKeptAt (after p table ws c is_flush) true None))
         (λ log dev covered kept jobs is. subst (λ ds. IfFiles ds log None (AreKeptAt (after p table ws c is_flush) true None))
-        (sym (ap (comes_home (covered_name p) (λ x. home x) covered) (comes_untold (made_name p) frozen_entry dev) ∙ comes_untold (covered_name p) (λ x. home x) covered)) tt)
+        (sym (ap (comes_home (sealed_name p) (λ x. home x) covered) (comes_untold (made_name p) frozen_entry dev) ∙ comes_untold (sealed_name p) (λ x. home x) covered)) tt)
         (λ disk past f fs x xs g gs kept jobs is. subst (λ ds. IfFiles ds (f ∷ fs) None (AreKeptAt (after p table ws c is_flush) true None))
-        (sym (ap (comes_home (covered_name p) (λ x. home x) (g ∷ gs)) (frozen_is disk past x xs jobs.flush_out is) ∙ returned (covered_name p) (home g) (with_made disk) (disk ∷ past) ((kept g refl).sealed_out refl)))
-        (λ other any. failing_keeps (after p table ws c is_flush) (put (covered_name p) (home g) (with_made disk)) f other (home_left disk f g (kept g refl) jobs.flush_out other)))
+        (sym (ap (comes_home (sealed_name p) (λ x. home x) (g ∷ gs)) (frozen_is disk past x xs jobs.flush_out is) ∙ returned (sealed_name p) (home g) (with_made disk) (disk ∷ past) ((kept g refl).sealed_out refl)))
+        (λ other any. failing_keeps (after p table ws c is_flush) (put (sealed_name p) (home g) (with_made disk)) f other (home_left disk f g (kept g refl) jobs.flush_out other)))
         disks log dev covered log_tells dev_tells covered_tells
 
     -- ---- moments
@@ -146,12 +147,12 @@ module _ (p : PartView) (table : Table) (ws : List Write) (c : Content) (is_flus
     flush_moments_since = all_told (λ disks log dev covered. Kept disks log covered → Jobs disks → Whole dev → IfTold covered IsSettled → MomentsSince Leaves disks log (Some covered) (uncovered dev covered disks))
         (λ log dev covered kept jobs is settled. untold log dev covered)
         (λ disk past f fs x xs g gs kept jobs is settled. λ h same. record {
-          added = put (covered_name p) (none (Some g.content)) (with_made disk) ∷ put (covered_name p) (still g.content) (with_made disk) ∷ with_made disk ∷ [];
+          added = put (sealed_name p) (none (Some g.content)) (with_made disk) ∷ put (sealed_name p) (still g.content) (with_made disk) ∷ with_made disk ∷ [];
           goes_on = uncovered_is disk past x xs g gs jobs.flush_out ((kept g refl).sealed_out refl) is;
-          each = All-cons (λ d. Leaves d f h) (put (covered_name p) (none (Some g.content)) (with_made disk)) (put (covered_name p) (still g.content) (with_made disk) ∷ with_made disk ∷ [])
-              (inr (kept_leaves (after p table ws c is_flush) false (put (covered_name p) (none (Some g.content)) (with_made disk)) f h (none_left disk f g (kept g refl) jobs.flush_out settled h)))
-              (All-cons (λ d. Leaves d f h) (put (covered_name p) (still g.content) (with_made disk)) (with_made disk ∷ [])
-              (inr (kept_leaves (after p table ws c is_flush) false (put (covered_name p) (still g.content) (with_made disk)) f h (still_left disk f g (kept g refl) jobs.flush_out settled h)))
+          each = All-cons (λ d. Leaves d f h) (put (sealed_name p) (none (Some g.content)) (with_made disk)) (put (sealed_name p) (still g.content) (with_made disk) ∷ with_made disk ∷ [])
+              (inr (kept_leaves (after p table ws c is_flush) false (put (sealed_name p) (none (Some g.content)) (with_made disk)) f h (none_left disk f g (kept g refl) jobs.flush_out settled h)))
+              (All-cons (λ d. Leaves d f h) (put (sealed_name p) (still g.content) (with_made disk)) (with_made disk ∷ [])
+              (inr (kept_leaves (after p table ws c is_flush) false (put (sealed_name p) (still g.content) (with_made disk)) f h (still_left disk f g (kept g refl) jobs.flush_out settled h)))
               (All-cons (λ d. Leaves d f h) (with_made disk) [] (inl (kept_leaves (flushed_soon p table ws) false (with_made disk) f h (made_kept disk f h (kept h same) jobs.flush_out))) (All-nil (λ d. Leaves d f h))));
           untold = λ none. absurd (cc);
         })

@@ -14,13 +14,14 @@ use Rattle.tc_store.proofs.StopLaws.{now_since, since_weaker}
 use Rattle.tc_log.specs.Spelling.{IsHead, log_at_rest}
 use Rattle.tc_machine.specs.Logs.{log_head}
 use Rattle.tc_machine.proofs.FilesMade.{empty_image}
+use Rattle.tc_machine.proofs.Moments.{put_twice}
 use Rattle.tc_part_model.specs.Calls.{Creates}
 use Rattle.tc_part_model.specs.Changes.{sealed_part}
 use Rattle.tc_part_model.specs.Leaving.{LeavesStoreAt, NextLogLeaves, NextLogMoments}
 use Rattle.tc_part_model.specs.PartFiles.{AreKeptAt, IfFiles, IsSealedFile}
 use Rattle.tc_part_model.specs.PartState.{IsTold}
 use Rattle.tc_part_model.specs.PartView.{PartView, next_of}
-use Rattle.tc_part_model.proofs.DeviceFiles.{comes_untold, put_over, some_sealed}
+use Rattle.tc_part_model.proofs.DeviceFiles.{comes_untold, some_sealed}
 use Rattle.tc_part_model.proofs.ToldFiles.{MomentsSince, if_files_unmade, moments_goes_on, moments_unmade, wasted}
 use Rattle.tc_part_model.proofs.Failures.{failing_keeps}
 use Rattle.tc_part_model.proofs.Seals.{bare, created_next, empty_next, free, home_kept, home_leaves, next_name, out_leaves, seal_keeps}
@@ -109,7 +110,7 @@ module _ (p : PartView) where
     returned : (disk : Disk) (before : List Disk) (x : DiskFile) → returns_as (next_name p) (home x) (put (next_name p) out disk ∷ disk ∷ before) ≡ put (next_name p) (home x) disk ∷ put (next_name p) out disk ∷ disk ∷ before
     returned disk before x =
         ap (λ e. if is_out e then put (next_name p) (home x) (put (next_name p) out disk) ∷ put (next_name p) out disk ∷ disk ∷ before else put (next_name p) out disk ∷ disk ∷ before) (put_there (next_name p) out disk)
-        ∙ ap (λ d. d ∷ put (next_name p) out disk ∷ disk ∷ before) (put_over (next_name p) out (home x) disk)
+        ∙ ap (λ d. d ∷ put (next_name p) out disk ∷ disk ∷ before) (put_twice (next_name p) out (home x) disk)
 
     broken_now : (disk : Disk) (f g : DiskFile) (k : AreKeptAt (bare p) false None disk f g) (before : List Disk) (broken : List DiskFile)
         → Creates (log_head p.part (next_of (bare p))) (fresh_file_at (next_name p) (disk ∷ before)) broken → IfTold broken (NextLogLeaves (bare p))
