@@ -1,9 +1,11 @@
 -- What is found of a key in the tables of a part is what is stored of it.
 use Rattle.std.proofs.Common.{◌≡◌, ◌++◌, ℕ, [], ◌∷◌, length, is_some, refl, sym, ap, ◌∙◌, subst, Option, Some, None}
-use Rattle.std.specs.Prelude.{option_map, IfSome}
+use Rattle.std.specs.Prelude.{All, option_map, IfSome}
 use Rattle.std.proofs.lemmas.Option.{same_Some}
-use Rattle.tc_model.specs.Document.{Document}
+use Rattle.tc_model.specs.Document.{Document, IsDocument}
+use Rattle.tc_model.specs.Stored.{IsStorable}
 use Rattle.tc_model.specs.Keyed.{Ascends, value_of}
+use Rattle.tc_model.proofs.KeyedEquality.{of_found}
 use Rattle.tc_model.proofs.ReadValues.{value_of-read}
 use Rattle.tc_plain_model.specs.Writes.{Pairs, Write, after_write, after_writes}
 use Rattle.tc_plain_model.proofs.WriteLaws.{after_writes-append}
@@ -13,7 +15,7 @@ use Rattle.tc_lsm_model.specs.Tables.{Slot, Table, over, table_over}
 use Rattle.tc_lsm_model.proofs.ListLaws.{Ascends-live}
 use Rattle.tc_lsm_model.proofs.TableLaws.{IsTableOver-table_over, held_below, held_in_table, over-table_over}
 use Rattle.tc_memory.specs.Table as memory
-use Rattle.tc_memory.specs.DocumentTables.{kept_slot, kept_table}
+use Rattle.tc_memory.specs.DocumentTables.{kept_slot, kept_table, IsStoredAt}
 use Rattle.tc_machine.specs.Kept.{IsMemoryKept}
 use Rattle.tc_machine.specs.Logs.{all_writes}
 use Rattle.tc_machine.specs.State.{Sealed, history, sealed_table}
@@ -56,6 +58,14 @@ found_held key p t kept k up ascends same there =
 pub absent_below : (key : ℕ) (p : Pairs) (t : Table) (kept : memory.Table) → Ascends p → Ascends t → all_shown kept ≡ all_shown (kept_table t) → value_of key kept ≡ None → value_of key (over p t) ≡ value_of key p
 absent_below key p t kept up ascends same none = held_below p t key up ascends (absent_as (value_of key t) (ap (option_map shown) (sym none) ∙ same_shown key t kept same))
 
+-- what a table holds may be stored
+found_stored : (key : ℕ) (p : Pairs) (t : Table) (kept : memory.Table) (k : memory.Kept) (d : Document) → Ascends p → Ascends t → All IsStoredAt t → all_shown kept ≡ all_shown (kept_table t) → value_of key kept ≡ Some k
+    → value_of key (over p t) ≡ Some d → IsDocument d × IsStorable d
+found_stored key p t kept k d up ascends stored same there is =
+    let found = found_as k (value_of key t) (ap (option_map shown) (sym there) ∙ same_shown key t kept same) in
+    let held : found.0.held ≡ Some d = sym (held_in_table p t key found.0 up ascends found.1) ∙ is in
+    subst (λ o. IfSome o (λ d. IsDocument d × IsStorable d)) held (of_found IsStoredAt t key found.0 stored found.1)
+
 -- ---- the tables of a part
 
 -- the active table with what is staged
@@ -80,6 +90,10 @@ module _ (t : Told) (p : PartView) (is : IsPart t p) where
       ap (value_of key) (sym (over_table p is.memory))
       ∙ absent_below key (below_of p) (table_of p) t.active (Ascends-below is.memory) (Ascends-table p is.memory) is.view.active.holds none
 
+  pub active_stored : (key : ℕ) (k : memory.Kept) (d : Document) → value_of key t.active ≡ Some k → value_of key (stored_with p) ≡ Some d → IsDocument d × IsStorable d
+  active_stored key k d there some =
+      found_stored key (below_of p) (table_of p) t.active k d (Ascends-below is.memory) (Ascends-table p is.memory) is.view.active.stored is.view.active.holds there (ap (value_of key) (over_table p is.memory) ∙ some)
+
   -- the sealed table, if there is one
   pub sealed_held : (key : ℕ) (kept : memory.Table) (k : memory.Kept) → t.sealed ≡ Some kept → value_of key kept ≡ Some k → IsHeldAs k.held (value_of key (below_of p))
   sealed_held key kept k some there = at p.sealed (subst (λ o. KeepsSealed (AreTold t.components) p.sealed o) some is.view.sealed) is.memory.sealed
@@ -88,6 +102,14 @@ module _ (t : Told) (p : PartView) (is : IsPart t p) where
       at None keeps made = absurd keeps
       at (Some d) keeps made =
           found_held key (live p.list) d.table kept k (Ascends-live p.list) (subst (λ (t : Table). Ascends t) (sym made) (IsTableOver-table_over (live p.list) (all_writes d.logs)).ascends) keeps.1.holds there
+
+  pub sealed_stored : (key : ℕ) (kept : memory.Table) (k : memory.Kept) (e : Document) → t.sealed ≡ Some kept → value_of key kept ≡ Some k → value_of key (below_of p) ≡ Some e → IsDocument e × IsStorable e
+  sealed_stored key kept k e some there = at p.sealed (subst (λ o. KeepsSealed (AreTold t.components) p.sealed o) some is.view.sealed) is.memory.sealed
+    where
+      at : (o : Option Sealed) → KeepsSealed (AreTold t.components) o (Some kept) → IfSome o (λ d. d.table ≡ table_over (live p.list) (all_writes d.logs)) → value_of key (over (live p.list) (sealed_table o)) ≡ Some e → IsDocument e × IsStorable e
+      at None keeps made is = absurd keeps
+      at (Some d) keeps made is =
+          found_stored key (live p.list) d.table kept k e (Ascends-live p.list) (subst (λ (t : Table). Ascends t) (sym made) (IsTableOver-table_over (live p.list) (all_writes d.logs)).ascends) keeps.1.stored keeps.1.holds there is
 
   pub sealed_absent : (key : ℕ) (kept : memory.Table) → t.sealed ≡ Some kept → value_of key kept ≡ None → value_of key (below_of p) ≡ value_of key (live p.list)
   sealed_absent key kept some none = at p.sealed (subst (λ o. KeepsSealed (AreTold t.components) p.sealed o) some is.view.sealed) is.memory.sealed

@@ -1,7 +1,8 @@
 //! Laws of staging, and of what is found of a key.
 
 ghost use Rattle.std.specs.Prelude.{◌≡◌, ◌<◌, ◌^◌, ◌++◌, ◌∷◌, ◌&&◌, ℕ, Bool, not, nat_le, [], length, is_some, Option, Some, None, if◌then◌else◌};
-ghost use Rattle.tc_model.specs.Document.{Document, ShapeTree};
+ghost use Rattle.tc_model.specs.Document.{Document, ShapeTree, IsDocument};
+ghost use Rattle.tc_model.specs.Stored.{IsStorable};
 ghost use Rattle.tc_model.specs.Keyed.{value_of};
 ghost use Rattle.tc_model.specs.Request.{full, names_full};
 ghost use Rattle.tc_memory.specs.Table.{Kept, Table};
@@ -29,11 +30,13 @@ pub fn staged_is_kept()
 {}
 
 /// A law, and no work. What is stored of a key, with what is staged, is what the active table holds of it; where that has no
-/// entry, what the sealed table holds; and else what is live in the list.
+/// entry, what the sealed table holds; and else what is live in the list. A document that a table holds may be stored.
 pub fn tables_hold_keys()
     ensures active { (t : Told) (p : PartView) (key : ℕ) (k : Kept) → IsPart t p → value_of key t.active ≡ Some k → IsHeldAs k.held (value_of key (stored_with p)) }
+    ensures active_stored { (t : Told) (p : PartView) (key : ℕ) (k : Kept) (d : Document) → IsPart t p → value_of key t.active ≡ Some k → value_of key (stored_with p) ≡ Some d → IsDocument d × IsStorable d }
     ensures below { (t : Told) (p : PartView) (key : ℕ) → IsPart t p → value_of key t.active ≡ None → value_of key (stored_with p) ≡ value_of key (below_of p) }
     ensures sealed { (t : Told) (p : PartView) (key : ℕ) (table : Table) (k : Kept) → IsPart t p → t.sealed ≡ Some table → value_of key table ≡ Some k → IsHeldAs k.held (value_of key (below_of p)) }
+    ensures sealed_stored { (t : Told) (p : PartView) (key : ℕ) (table : Table) (k : Kept) (d : Document) → IsPart t p → t.sealed ≡ Some table → value_of key table ≡ Some k → value_of key (below_of p) ≡ Some d → IsDocument d × IsStorable d }
     ensures list { (t : Told) (p : PartView) (key : ℕ) (table : Table) → IsPart t p → t.sealed ≡ Some table → value_of key table ≡ None → value_of key (below_of p) ≡ value_of key (live p.list) }
     ensures unsealed { (t : Told) (p : PartView) → IsPart t p → t.sealed ≡ None → below_of p ≡ live p.list }
     ensures is_list { (t : Told) (p : PartView) → IsPart t p → IsList p.part p.list }
