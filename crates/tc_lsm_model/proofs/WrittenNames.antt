@@ -21,7 +21,7 @@ use Rattle.tc_lsm_model.proofs.ListNames.{AreNamesIn, KnowsWritten, named-Extend
 use Rattle.tc_lsm_model.proofs.TableLaws.{Ascends-writes_of, IsTableOver-table_over, alone-table_over}
 
 -- a dictionary knows each document that writes leave of nothing
-abbrev KnowsLeft : List Name → List Write → Type 0
+abbrev pub KnowsLeft : List Name → List Write → Type 0
 KnowsLeft names ws = All (AreNamesIn names) (after_writes [] ws)
 
 -- ---- what is left of a table is what is left of its writes
@@ -49,7 +49,7 @@ ascends ws = Ascends-writes_of (table_over [] ws) (IsTableOver-table_over [] ws)
 same_names : (names : List Name) (ws : List Write) → names_after names (last_of_each ws) ≡ names_after names ws
 same_names names ws = names_of_table names [] (table_over [] ws) ws refl
 
-knows-left : (names : List Name) (ws : List Write) → KnowsLeft (names_after names ws) ws
+pub knows-left : (names : List Name) (ws : List Write) → KnowsLeft (names_after names ws) ws
 knows-left names ws =
     subst (λ left. All (AreNamesIn (names_after names ws)) left) (alone-table_over [] ws)
     (named-after_writes (names_after names ws) [] (last_of_each ws)

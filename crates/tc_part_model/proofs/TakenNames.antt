@@ -19,7 +19,7 @@ use Rattle.tc_plain_model.specs.Writes.{Pairs, Write, after_writes}
 use Rattle.tc_plain_model.proofs.WriteLaws.{after_writes-append}
 use Rattle.tc_lsm_model.proofs.ListNames.{AreNamesIn, KnowsWritten, named-after_writes}
 use Rattle.tc_lsm_model.proofs.FlushNames.{Extends-names_after}
-use Rattle.tc_machine.proofs.KnownNames.{knows-left}
+use Rattle.tc_lsm_model.proofs.WrittenNames.{knows-left}
 use Rattle.tc_part_model.specs.Staging.{taken_with}
 
 -- ---- lists of names

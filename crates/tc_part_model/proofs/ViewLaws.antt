@@ -13,7 +13,7 @@ use Rattle.tc_machine.specs.Logs.{kept_write}
 use Rattle.tc_machine.specs.State.{held, history, sealed_table, table_after}
 use Rattle.tc_machine.specs.Writes.{IsStorableWrite, HasRoom, AreFew}
 use Rattle.tc_machine.proofs.Holding.{holds}
-use Rattle.tc_machine.proofs.KnownNames.{names_after-table}
+use Rattle.tc_lsm_model.proofs.WrittenNames.{names_after-table}
 use Rattle.tc_machine.proofs.MemorySteps.{frame_committed_memory, frame_started_memory, history_after}
 use Rattle.tc_part_model.specs.PartView.{PartView, state_of, state_with, no_files, store_of, stored_with, below_of, table_of, names_in, MayStart}
 use Rattle.tc_part_model.specs.Changes.{committed_part}
