@@ -3,7 +3,7 @@ use Rattle.std.proofs.Common.{◌≡◌, ◌<◌, ◌^◌, ℕ, List, [], ◌∷
 use Rattle.std.specs.Prelude.{IfSome}
 use Rattle.std.proofs.lemmas.List.Elements.{All-nil, All-cons, All-head, All-tail}
 use Rattle.tc_model.specs.Document.{Document, ShapeTree, IsDocument}
-use Rattle.tc_model.specs.Stored.{IsStorable}
+use Rattle.tc_model.specs.Stored.{IsStorable, IsKeyless}
 use Rattle.tc_model.proofs.StoredDocuments.{keyless_object}
 use Rattle.tc_record.specs.Record.{record_of, IsRecordOf}
 use Rattle.tc_lsm_model.specs.Tables as documents
