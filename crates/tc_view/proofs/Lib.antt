@@ -1,0 +1,5 @@
+pub mod Adding
+pub mod Prefixes
+pub mod ShareLemmas
+pub mod ViewLemmas
+pub mod RuleKept

@@ -1,0 +1,6 @@
+pub mod History
+pub mod Changes
+pub mod Holding
+pub mod Rules
+pub mod Views
+pub mod Places
