@@ -12,7 +12,7 @@ use Rattle.tc_memory.specs.Table.{Table}
 use Rattle.tc_memory.specs.DocumentTables.{IsTableOf}
 use Rattle.tc_component.specs.Loading.{ComponentState}
 use Rattle.tc_list.specs.Intervals.{Follow}
-use Rattle.tc_list.specs.Loaded.{IsLoadedOf}
+use Rattle.tc_component.specs.Loaded.{IsLoadedOf}
 use Rattle.tc_machine.specs.Logs.{kept_write}
 use Rattle.tc_machine.specs.Writes.{IsStorableWrite}
 use Rattle.tc_view.specs.declared.content.Content.{Content}

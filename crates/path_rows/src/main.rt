@@ -1,0 +1,36 @@
+//! Layer 6, programs: does the public calls on values by path, one a row of standard input, and prints what they answer.
+//! A row is a document, a tab, and the line of a query with a path and a document under `eq`. The answer is how many
+//! values the path reaches, the first one and all of them, with `=` before each that equals the document. `no answer`
+//! stands for a row out of form, and `the forms differ` where the record with numbers answers otherwise than the one with
+//! names. A row that begins with `#` is a note, and is printed as it is.
+#![tactic(auto)]
+
+mod records;
+mod values;
+
+use crate::values::answer_of;
+use std::alloc::Global;
+use std::io;
+
+fn main(rt: HostRuntime) -> io::Result<()> {
+    for row in rt.lines(rt.alloc()) {
+        answer(&rt, row?.as_str())?;
+    }
+    Ok(())
+}
+
+fn answer(rt: &(impl Print + AllocGlobal), row: &str) -> io::Result<()> {
+    match line_of(rt.alloc(), row) {
+        Some(line) => println!(rt; "{}", line.as_str()),
+        None => println!(rt; "no answer"),
+    }
+}
+
+// The line that answers a row.
+fn line_of(alloc: Global, row: &str) -> Option<String> {
+    if row.starts_with('#') {
+        return String::from_str(alloc, row).ok();
+    }
+    let (document, query) = row.split_once('\t')?;
+    answer_of(alloc, document, query)
+}

@@ -1,0 +1,97 @@
+use Rattle.std.proofs.Common.{rules, ◌≡◌, ◌∙◌, ◌+◌, ◌<◌, ◌^◌, false, [], List, None, Some, inl, refl, sym, ap, subst, arith}
+use Rattle.std.proofs.lemmas.Grind.{common_steps}
+use Rattle.std.specs.Arc.{arc_value}
+use Rattle.tc_store.specs.Disk.{IsThere}
+use Rattle.tc_store.specs.DiskFile.{DiskFile}
+use Rattle.tc_store.specs.Moments.{IfTold}
+use Rattle.tc_store.specs.declared.file_name.FileName.TheVariants.{Log}
+use Rattle.tc_log.specs.declared.head.LogHead.{LogHead}
+use Rattle.tc_log.specs.Appending.{created}
+use Rattle.tc_log.specs.Spelling.{IsHead}
+use Rattle.tc_part_model.specs.Calls.{Creates, HasCreated}
+use Rattle.tc_part_model.specs.PartState.{told}
+use Rattle.tc_part.proofs.Creations.{creates}
+use Rattle.tc_part.proofs.Outcomes.{err_always}
+use Rattle.tc_part.proofs.part.Part.seal.Goals as goal
+
+pub returns-then-self-eq-MAX_NUMBER-clause-failed : goal.returns-then-self-eq-MAX_NUMBER-clause-failed
+returns-then-self-eq-MAX_NUMBER-clause-failed g c =
+    let none = ap (λ s. s.sealed) c.self.view_is ∙ c.requires.none_sealed in
+    let nothing = ap (λ s. s.staged) c.self.view_is ∙ c.requires.nothing_staged in
+    rw (← c.self.view_is) λ p is. c.failed_seals_are_kept.ensures.not_made _ _ p is none nothing refl refl refl (inl refl)
+
+pub returns-in_err-new-clause-failed : goal.returns-in_err-new-clause-failed
+returns-in_err-new-clause-failed g c =
+    let none = ap (λ s. s.sealed) c.self.view_is ∙ c.requires.none_sealed in
+    let nothing = ap (λ s. s.staged) c.self.view_is ∙ c.requires.nothing_staged in
+    rw (← c.self.view_is) (err_always c.from_residual.result _ (λ p is. c.failed_seals_are_kept.ensures.not_made _ _ p is none nothing refl refl refl (inl refl)))
+
+pub fresh-requires : goal.fresh-requires
+fresh-requires g c =
+    let t = told g.S.Store.history g.S.Device.Device.history g.S.Frozen.Frozen.content c.args.self.now in
+    let free = c.seals_are_kept.ensures.free t c.requires.stands.0 c.requires.stands.1 c.requires.none_sealed c.requires.nothing_staged in
+    subst (λ s. IfTold (g.S.Store.history s.store) (λ disk. IsThere (disk (Log (s.generation + 1))) → ⊥)) (sym c.self.view_is) free
+
+pub returns-in_err-device-clause-failed : goal.returns-in_err-device-clause-failed
+returns-in_err-device-clause-failed g c =
+    let none = ap (λ s. s.sealed) c.self.view_is ∙ c.requires.none_sealed in
+    let nothing = ap (λ s. s.staged) c.self.view_is ∙ c.requires.nothing_staged in
+    rw (← c.self.view_is)
+    (err_always c.from_residual-in_err-device.result _ (λ p is. c.failed_seals_are_kept.ensures.not_made _ _ p is none nothing refl refl refl c.in_err-device.ensures.failed))
+
+pub returns-in-Ok-clause-sealed : goal.returns-in-Ok-clause-sealed
+returns-in-Ok-clause-sealed g c =
+    let none = ap (λ s. s.sealed) c.self.view_is ∙ c.requires.none_sealed in
+    let nothing = ap (λ s. s.staged) c.self.view_is ∙ c.requires.nothing_staged in
+    let head : LogHead = record { number = c.self.inside.number; count = c.self.inside.count; generation = c.self.inside.generation + 1 } in
+    let lawful : IsHead head = record { number = omega (arith, c.self.ranges); count = omega (arith, c.self.ranges); first = omega arith; last = grind (arith, common_steps) } in
+    let device = g.S.Device.Device.history c.in_ok-device.device in
+    let log = g.S.Device.Device.history c.in-Ok.log.device in
+    let made : HasCreated head device log = record { creates = creates head device log c.in-Ok.ensures.moments (λ untold. c.in-Ok.ensures.created ∙ ap (created head) untold); content = c.in-Ok.ensures.content } in
+    let arc : arc_value c.in_ok-new.field-0 ≡ c.self.inside.active = search rules in
+    let empty : c.replace-table.new.dest ≡ [] = search rules in
+    let sound : c.self.inside.failed ≡ false = ap (λ s. s.failed) c.self.view_is ∙ c.requires.sound in
+    rw (← c.self.view_is, c.put_behind.ensures) λ p is.
+    (c.seals_are_kept.ensures.sealed _ _ p device is none nothing c.in_ok-device.ensures.file lawful made (rw (c.in_ok-device.ensures.made, arc, empty, sound) refl), c.seals_are_kept.ensures.stored _ p is none nothing)
+
+pub returns-in-Ok-clause-moments : goal.returns-in-Ok-clause-moments
+returns-in-Ok-clause-moments g c =
+    let none = ap (λ s. s.sealed) c.self.view_is ∙ c.requires.none_sealed in
+    let nothing = ap (λ s. s.staged) c.self.view_is ∙ c.requires.nothing_staged in
+    rw (← c.self.view_is, c.put_behind.ensures, c.in_ok-device.ensures.made) λ p is. c.seals_leave_store.ensures.store _ p is none nothing
+
+pub returns-in-Ok-clause-next_log : goal.returns-in-Ok-clause-next_log
+returns-in-Ok-clause-next_log g c =
+    let none = ap (λ s. s.sealed) c.self.view_is ∙ c.requires.none_sealed in
+    let nothing = ap (λ s. s.staged) c.self.view_is ∙ c.requires.nothing_staged in
+    let head : LogHead = record { number = c.self.inside.number; count = c.self.inside.count; generation = c.self.inside.generation + 1 } in
+    let lawful : IsHead head = record { number = omega (arith, c.self.ranges); count = omega (arith, c.self.ranges); first = omega arith; last = grind (arith, common_steps) } in
+    let device = g.S.Device.Device.history c.in_ok-device.device in
+    let log = g.S.Device.Device.history c.in-Ok.log.device in
+    rw (← c.self.view_is, c.put_behind.ensures) λ p is.
+    c.seals_leave_store.ensures.next_log _ p device log is none nothing c.in_ok-device.ensures.file lawful (creates head device log c.in-Ok.ensures.moments (λ untold. c.in-Ok.ensures.created ∙ ap (created head) untold))
+
+pub returns-in-Err-clause-moments : goal.returns-in-Err-clause-moments
+returns-in-Err-clause-moments g c =
+    let none = ap (λ s. s.sealed) c.self.view_is ∙ c.requires.none_sealed in
+    let nothing = ap (λ s. s.staged) c.self.view_is ∙ c.requires.nothing_staged in
+    let head : LogHead = record { number = c.self.inside.number; count = c.self.inside.count; generation = c.self.inside.generation + 1 } in
+    let lawful : IsHead head = record { number = omega (arith, c.self.ranges); count = omega (arith, c.self.ranges); first = omega arith; last = grind (arith, common_steps) } in
+    let device = g.S.Device.Device.history c.in_ok-device.device in
+    let broken = g.S.Device.Device.history c.in-Err.broken.device in
+    let named = c.in-Err.ensures.broken_name ∙ c.in_ok-device.ensures.name in
+    rw (← c.self.view_is, c.abandon.ensures.home, named, c.in_ok-device.ensures.made) λ p is.
+    c.seals_leave_store.ensures.broken _ p device broken is none nothing c.in_ok-device.ensures.file lawful (creates head device broken c.in-Err.ensures.broken_moments c.in-Err.ensures.untold)
+
+pub returns-in-Err-clause-failed : goal.returns-in-Err-clause-failed
+returns-in-Err-clause-failed g c =
+    let none = ap (λ s. s.sealed) c.self.view_is ∙ c.requires.none_sealed in
+    let nothing = ap (λ s. s.staged) c.self.view_is ∙ c.requires.nothing_staged in
+    let head : LogHead = record { number = c.self.inside.number; count = c.self.inside.count; generation = c.self.inside.generation + 1 } in
+    let lawful : IsHead head = record { number = omega (arith, c.self.ranges); count = omega (arith, c.self.ranges); first = omega arith; last = grind (arith, common_steps) } in
+    let device = g.S.Device.Device.history c.in_ok-device.device in
+    let broken = g.S.Device.Device.history c.in-Err.broken.device in
+    let named = c.in-Err.ensures.broken_name ∙ c.in_ok-device.ensures.name in
+    rw (← c.self.view_is) λ p is.
+    c.failed_seals_are_kept.ensures.broken _ _ p device broken is none nothing c.in_ok-device.ensures.file lawful (creates head device broken c.in-Err.ensures.broken_moments c.in-Err.ensures.untold) refl refl refl
+    (rw (c.abandon.ensures.home, named, c.in_ok-device.ensures.made) refl)

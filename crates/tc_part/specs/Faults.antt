@@ -1,0 +1,15 @@
+-- Why a call of a part failed, by what a call below it answered.
+use Rattle.tc_store.specs.declared.fault.DeviceFault.{DeviceFault}
+use Rattle.tc_store.specs.declared.fault.DeviceFault.TheVariants as device
+use Rattle.tc_store.specs.declared.fault.StoreFault.{StoreFault}
+use Rattle.tc_store.specs.declared.fault.StoreFault.TheVariants as store
+use Rattle.tc_part.specs.declared.fault.PartFault.{PartFault}
+use Rattle.tc_part.specs.declared.fault.PartFault.TheVariants as part
+
+abbrev pub of_device : DeviceFault → PartFault
+of_device device.Fault = part.Disk
+of_device device.Memory = part.Memory
+
+abbrev pub of_store : StoreFault → PartFault
+of_store store.Fault = part.Disk
+of_store store.Memory = part.Memory

@@ -1,0 +1,59 @@
+//! What is staged is committed.
+
+ghost use Rattle.std.specs.Prelude.{◌≡◌, ◌≤◌, ◌+◌, ◌^◌, ◌↔◌, Some, true, false, length, OnOk, OnErr, IsErrOf};
+ghost use Rattle.tc_store.specs.Counted.{IsCounted};
+ghost use Rattle.tc_plain_model.specs.Writes.{after_writes};
+ghost use Rattle.tc_part_model.specs.PartState.{told};
+ghost use Rattle.tc_part_model.specs.PartView.{PartView, store_of};
+ghost use Rattle.tc_part_model.specs.Meaning.{IsPart, HasFailed};
+ghost use Rattle.tc_part_model.specs.Changes.{committed_part};
+ghost use Rattle.tc_part_model.specs.Leaving.{LogMomentsLeaveStore};
+
+use crate::fault::PartFault;
+use crate::part::Part;
+use std::alloc::Global;
+use tc_part_model::commits_are_kept;
+use tc_store::Store;
+
+/// The most writes of one run.
+const MAX_WRITES: u64 = 0x7fff_ffff_ffff_ffff;
+
+impl<S: Store> Part<S> {
+    /// Writes what is staged as one frame. With nothing staged it does nothing. `Spent` comes where there would be more
+    /// than 2^63 - 1 writes of this run; then nothing is written.
+    pub fn commit(&mut self, alloc: Global) -> Result<(), PartFault>
+        requires sound { self.old.failed ≡ false }
+
+        // On Ok the part means what the frame makes of it.
+        ensures committed { OnOk result ((p : PartView) → IsPart (told S.history S.Device.history S.Frozen.content self.old) p
+            → IsPart (told S.history S.Device.history S.Frozen.content self.new) (committed_part p) × (store_of (committed_part p) ≡ after_writes (store_of p) p.staged)) }
+        ensures same { OnOk result (self.new ≡ record self.old { main = self.new.main; log = self.new.log; staged = self.new.staged; writes = self.old.writes + length self.old.staged }) }
+
+        // At each moment of the call a stop leaves what is stored, without the frame or with it, and so it does behind a fault.
+        ensures moments { (p : PartView) → IsPart (told S.history S.Device.history S.Frozen.content self.old) p
+            → LogMomentsLeaveStore p (told S.history S.Device.history S.Frozen.content self.old) (S.Device.history self.new.log.device) }
+        ensures failed { OnErr result ((p : PartView) → IsPart (told S.history S.Device.history S.Frozen.content self.old) p
+            → HasFailed (told S.history S.Device.history S.Frozen.content self.new) p.part (store_of p) (Some p.staged)) }
+        ensures left { OnErr result (self.new ≡ record self.old { main = self.new.main; log = self.new.log; failed = true }) }
+
+        ensures spent { IsErrOf result PartFault.Spent ↔ 2 ^ 63 ≤ self.old.writes + length self.old.staged }
+        ensures unspent { IsErrOf result PartFault.Spent → self.new.log ≡ self.old.log }
+        ensures counted { IsCounted (IsErrOf result PartFault.Disk) (S.Watch.counts self.old.main) (S.Watch.counts self.new.main) }
+    {
+        commits_are_kept();
+        if self.staged.as_slice().is_empty() {
+            return Ok(());
+        }
+        self.failed = true;
+        let count = self.staged.len() as u64;
+        if count > MAX_WRITES - self.writes {
+            return Err(PartFault::Spent);
+        }
+        let frame = self.log.reserve(alloc, &self.staged)?;
+        self.log.append(frame, &mut self.main)?;
+        self.staged.clear();
+        self.writes += count;
+        self.failed = false;
+        Ok(())
+    }
+}

@@ -1,0 +1,119 @@
+//! The partition: what it has in memory, and its files.
+
+use crate::limits::Limits;
+use std::alloc::Global;
+use std::marker::Model;
+use std::sync::Arc;
+use tc_list::{ComponentList, Run};
+use tc_log::{Log, Write};
+use tc_memory::{Memtable, Sealed};
+use tc_names::Names;
+use tc_store::Store;
+
+/// One partition. The memory table that writes go into stands over the one that is being flushed, and that over the
+/// listed components. Each table has a write-ahead log. After a call that answers a fault the partition has failed, and
+/// takes no more writes.
+#[derive(Drop)]
+pub struct Part<S: Store> {
+    pub(crate) number: u32,
+    pub(crate) count: u32,
+    pub(crate) limits: Limits,
+    pub(crate) store: S,
+    pub(crate) main: S::Watch,
+    /// None while a flush is out, which has it.
+    pub(crate) flusher: Option<S::Watch>,
+    /// None while a merge is out, which has it.
+    pub(crate) merger: Option<S::Watch>,
+    pub(crate) reader: S::Watch,
+    pub(crate) list: ComponentList<S::Frozen>,
+    pub(crate) sealed: Option<Arc<Sealed>>,
+    pub(crate) sealed_log: Option<Log<S::Device>>,
+    pub(crate) active: Memtable,
+    pub(crate) log: Log<S::Device>,
+    /// The generation of the active table and of its log.
+    pub(crate) generation: u64,
+    pub(crate) staged: Vec<Write>,
+    /// The names of all documents that were accepted.
+    pub(crate) taken: Names,
+    /// How many documents are live, with those that are staged.
+    pub(crate) live: u32,
+    /// How many writes were committed.
+    pub(crate) writes: u64,
+    /// What the merge that is out merges.
+    pub(crate) merging: Option<Run>,
+    pub(crate) failed: bool,
+}
+
+impl<S: Store> Model for Part<S> {
+    ghost use Rattle.std.specs.Arc.{arc_value};
+    ghost use Rattle.std.specs.Coded.{codes};
+    ghost use Rattle.std.specs.Prelude.{Some, is_some, not, option_map};
+    ghost use Rattle.tc_list.specs.Runs.{neighbours};
+    ghost use Rattle.tc_memory.specs.Table.{coded_table};
+    ghost use Rattle.tc_schema_model.specs.CountedCode.{coded_counted};
+    ghost use Rattle.tc_part_model.specs.PartState.{PartState};
+    ghost use Rattle.tc_part.specs.Ready.{IsReady};
+
+    ghost Value = { PartState S S.Device S.Frozen S.Watch };
+
+    ghost coded = { Prim.hlevel (codes, coded_table, coded_counted) };
+
+    ghost view = { λ p. record {
+        number = p.number;
+        count = p.count;
+        limits = record { names = p.limits.names; docs = p.limits.docs };
+        memory = p.limits.memory;
+        store = p.store;
+        main = p.main;
+        flusher = p.flusher;
+        merger = p.merger;
+        reader = Some p.reader;
+        list = p.list;
+        sealed = option_map arc_value p.sealed;
+        sealed_log = p.sealed_log;
+        active = p.active;
+        log = p.log;
+        generation = p.generation;
+        staged = p.staged.items;
+        taken = p.taken;
+        live = p.live;
+        writes = p.writes;
+        flushing = not (is_some p.flusher);
+        merging = option_map neighbours p.merging;
+        failed = p.failed;
+    } };
+
+    ghost invariant = { λ p. IsReady p.staged.items p.writes p.generation p.failed p.log p.sealed_log p.merger p.merging };
+}
+
+impl<S: Store> Part<S> {
+    ghost use Rattle.std.specs.Prelude.{◌≡◌, length, is_some};
+
+    /// Whether a call answered a fault.
+    pub fn failed(&self) -> bool
+        ensures { result ≡ self.now.failed }
+    {
+        self.failed
+    }
+
+    /// The length of the active log in bytes. It is 22 exactly where the log has no frame.
+    pub fn log_len(&self) -> u64
+        ensures { result ≡ S.Device.size self.now.log.device }
+    {
+        self.log.len()
+    }
+
+    /// How many components are listed.
+    pub fn listed(&self) -> usize
+        ensures { result ≡ length self.now.list }
+    {
+        self.list.len()
+    }
+
+    /// Whether there is a table that is to be flushed.
+    pub fn has_sealed(&self) -> bool
+        ensures { result ≡ is_some self.now.sealed }
+    {
+        self.sealed.is_some()
+    }
+}

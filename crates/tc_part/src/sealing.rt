@@ -1,0 +1,88 @@
+//! The active table is sealed, and the next log begins.
+
+ghost use Rattle.std.specs.Prelude.{◌≡◌, ◌<◌, ◌+◌, ◌^◌, ◌↔◌, [], Some, None, false, true, OnOk, OnErr, IsErrOf};
+ghost use Rattle.tc_store.specs.Counted.{IsCounted};
+ghost use Rattle.tc_part_model.specs.PartState.{told};
+ghost use Rattle.tc_part_model.specs.PartView.{PartView, store_of};
+ghost use Rattle.tc_part_model.specs.Meaning.{IsPart, HasFailed};
+ghost use Rattle.tc_part_model.specs.Changes.{sealed_part};
+ghost use Rattle.tc_part_model.specs.Leaving.{StoreMomentsLeaveStore, NextLogMoments};
+
+use crate::fault::PartFault;
+use crate::part::Part;
+use std::alloc::Global;
+use std::mem;
+use std::sync::Arc;
+use tc_log::{Log, LogHead, MAX_NUMBER};
+use tc_memory::Memtable;
+use tc_part_model::{failed_seals_are_kept, seals_are_kept, seals_leave_store};
+use tc_store::{FileName, Store};
+
+impl<S: Store> Part<S> {
+    /// Seals the active table and its log, and makes the next log. `Spent` comes where the active log has the generation
+    /// 2^63 - 1; then nothing is written.
+    pub fn seal(&mut self, alloc: Global) -> Result<(), PartFault>
+        requires sound { self.old.failed ≡ false }
+        requires nothing_staged { self.old.staged ≡ [] }
+        requires none_sealed { self.old.sealed ≡ None }
+        requires stands { (p : PartView) × IsPart (told S.history S.Device.history S.Frozen.content self.old) p }
+
+        // On Ok the part is the one whose active table is sealed, which stores what it stored.
+        ensures sealed { OnOk result ((p : PartView) → IsPart (told S.history S.Device.history S.Frozen.content self.old) p
+            → IsPart (told S.history S.Device.history S.Frozen.content self.new) (sealed_part p) × (store_of (sealed_part p) ≡ store_of p)) }
+        ensures same { OnOk result (self.new ≡ record self.old { store = self.new.store; main = self.new.main; sealed = Some self.old.active; sealed_log = Some self.old.log; active = []; log = self.new.log; generation = self.old.generation + 1 }) }
+
+        // At each moment of the call a stop leaves what is stored, and so it does behind a fault.
+        ensures moments { (p : PartView) → IsPart (told S.history S.Device.history S.Frozen.content self.old) p
+            → StoreMomentsLeaveStore p p (told S.history S.Device.history S.Frozen.content self.old) (S.history self.new.store) }
+        ensures next_log { OnOk result ((p : PartView) → IsPart (told S.history S.Device.history S.Frozen.content self.old) p → NextLogMoments p (S.Device.history self.new.log.device)) }
+        ensures failed { OnErr result ((p : PartView) → IsPart (told S.history S.Device.history S.Frozen.content self.old) p
+            → HasFailed (told S.history S.Device.history S.Frozen.content self.new) p.part (store_of p) None) }
+        ensures left { OnErr result (self.new ≡ record self.old { store = self.new.store; main = self.new.main; sealed = self.new.sealed; active = self.new.active; failed = true }) }
+
+        ensures spent { IsErrOf result PartFault.Spent ↔ self.old.generation + 1 ≡ 2 ^ 63 }
+        ensures unspent { IsErrOf result PartFault.Spent → self.new.store ≡ self.old.store }
+        ensures counted { IsCounted (IsErrOf result PartFault.Disk) (S.Watch.counts self.old.main) (S.Watch.counts self.new.main) }
+    {
+        seals_are_kept();
+        seals_leave_store();
+        failed_seals_are_kept();
+        self.failed = true;
+        if self.generation == MAX_NUMBER {
+            return Err(PartFault::Spent);
+        }
+        // What takes memory stands before the device, which would be lost behind it.
+        let table = mem::replace(&mut self.active, Memtable::new(alloc));
+        self.sealed = Some(Arc::new(alloc, table.seal())?);
+        let generation = self.generation + 1;
+        let name = FileName::Log { generation };
+        let device = self.store.fresh(alloc, name, &mut self.main)?;
+        let head = LogHead {
+            number: self.number,
+            count: self.count,
+            generation,
+        };
+        match Log::create(device, &mut self.main, head) {
+            Ok(log) => {
+                self.put_behind(log);
+                Ok(())
+            }
+            Err(broken) => {
+                self.store.abandon(broken.device);
+                Err(broken.cause.into())
+            }
+        }
+    }
+
+    /// Puts the next log in the place of the active one.
+    fn put_behind(&mut self, log: Log<S::Device>)
+        requires sound { log.failed ≡ false }
+        requires old_sound { self.old.log.failed ≡ false }
+        requires next { self.old.generation + 1 < 2 ^ 63 }
+        ensures { self.new ≡ record self.old { sealed_log = Some self.old.log; log = log; generation = self.old.generation + 1; failed = false } }
+    {
+        self.sealed_log = Some(mem::replace(&mut self.log, log));
+        self.generation += 1;
+        self.failed = false;
+    }
+}
