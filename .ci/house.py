@@ -27,7 +27,6 @@ AWAITED = {
     "tc_plain_model": ("part_left_all-writes", "part_replies"),
     "tc_run_model": ("AreReplies-replies_to", "after_all_stands", "built_replies", "first_stands", "lines_in-windows", "windows_are_cut", "worlds_left"),
     "tc_store": ("picture_before", "picture_weaker"),
-    "tc_part_model": ("merged_part",),
 }
 
 

@@ -23,3 +23,5 @@ pub mod ToldFlushes
 pub mod FlushedParts
 pub mod FailedParts
 pub mod Closes
+pub mod MergeInstalls
+pub mod MergedParts

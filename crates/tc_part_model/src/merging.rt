@@ -1,16 +1,20 @@
 //! Laws of a merge: it begins, and what it made is listed in place of its run.
 
 ghost use Rattle.std.specs.Prelude.{◌≡◌, ◌≤◌, ◌+◌, true, List, length, Some, None};
+ghost use Rattle.std.specs.List.{AllZip};
 ghost use Rattle.tc_store.specs.Disk.{Disk, IsThere};
+ghost use Rattle.tc_store.specs.DiskFile.{DiskFile};
 ghost use Rattle.tc_store.specs.Moments.{IfTold};
-ghost use Rattle.tc_store.specs.StoreCalls.{FailsMaking, makes};
+ghost use Rattle.tc_store.specs.StoreCalls.{FailsMaking, comes_home, frozen_entry, makes};
 ghost use Rattle.tc_lsm_model.specs.Contents.{Content};
 ghost use Rattle.tc_lsm_model.specs.Merges.{IsMerge, Run, in_run};
 ghost use Rattle.tc_machine.specs.Components.{file_of};
-ghost use Rattle.tc_part_model.specs.Changes.{merging_part};
+ghost use Rattle.tc_machine.specs.State.{Merging};
+ghost use Rattle.tc_part_model.specs.Calls.{HasMade};
+ghost use Rattle.tc_part_model.specs.Changes.{merged_part, merging_part};
 ghost use Rattle.tc_part_model.specs.Leaving.{StoreMomentsLeaveStore};
-ghost use Rattle.tc_part_model.specs.Meaning.{IsPart, HasFailed};
-ghost use Rattle.tc_part_model.specs.PartState.{Told};
+ghost use Rattle.tc_part_model.specs.Meaning.{IsPart, IsOfContent, HasFailed};
+ghost use Rattle.tc_part_model.specs.PartState.{Told, AreTold};
 ghost use Rattle.tc_part_model.specs.PartView.{PartView, store_of};
 
 /// A law, and no work. Where no merge is out, the name of the component that a run of two or more makes is free. Once that is
@@ -27,4 +31,13 @@ pub fn merges_begin()
     ensures not_made_moments { (t : Told) (p : PartView) (run : Run) (c : Content) (disks : List Disk) → IsPart t p → 2 ≤ run.length → run.first + run.length ≤ length p.list → IsMerge (in_run run p.list) c → t.merging ≡ None
         → FailsMaking (file_of c) t.disks disks → StoreMomentsLeaveStore p p t disks }
     ensures stored { (p : PartView) (run : Run) (c : Content) → store_of (merging_part run c p) ≡ store_of p }
+{}
+
+/// A law, and no work. Once the component of the merge is still and listed in place of its run, the part is the one whose merge
+/// is listed, and stores what it stored. At each moment a stop leaves that.
+pub fn merges_are_listed()
+    ensures listed { (t u : Told) (p : PartView) (m : Merging) (device : List DiskFile) → IsPart t p → p.merge ≡ Some m → HasMade m.target t.disks device → AreTold t.components → AllZip IsOfContent u.components (merged_part p).list
+        → u ≡ record t { disks = comes_home (file_of m.target) frozen_entry device t.disks; components = u.components; merging = None } → IsPart u (merged_part p) }
+    ensures stored { (t : Told) (p : PartView) (m : Merging) → IsPart t p → p.merge ≡ Some m → store_of (merged_part p) ≡ store_of p }
+    ensures moments { (t : Told) (p : PartView) (m : Merging) (device : List DiskFile) → IsPart t p → p.merge ≡ Some m → HasMade m.target t.disks device → StoreMomentsLeaveStore p (merged_part p) t (comes_home (file_of m.target) frozen_entry device t.disks) }
 {}
