@@ -16,7 +16,7 @@ use Rattle.tc_machine.specs.Events.{merge_installed, step}
 use Rattle.tc_machine.specs.Kept.{IsKept, IsMemoryKept}
 use Rattle.tc_machine.specs.State.{Flushing, Merging, Sealed, flush_name}
 use Rattle.tc_machine.specs.Steps.{IsFlushed, IsShutOrHas}
-use Rattle.tc_machine.proofs.Covering.{Replaces, swapped_replaces}
+use Rattle.tc_lsm_model.proofs.MergeLaws.{Replaces, swapped_replaces}
 use Rattle.tc_machine.proofs.Events.{event_keeps}
 use Rattle.tc_machine.proofs.InstallSteps.{IsFlush-same}
 use Rattle.tc_machine.proofs.Rebasing.{rebased_is_kept}
