@@ -1,7 +1,9 @@
 //! The values that a path reaches in the records of a document.
 
 ghost use Rattle.std.specs.List.{AllByRecursion};
+ghost use Rattle.tc_compact.specs.Meant.{IsRecordUnder};
 ghost use Rattle.tc_path.specs.Reached.{IsLawful};
+ghost use Rattle.tc_value.specs.Meaning.{tree_of};
 
 use crate::records::{named, numbered};
 use std::alloc::Global;
@@ -36,7 +38,7 @@ fn ask_in(alloc: Global, query: &str) -> Option<Ask> {
     }
 }
 
-// How many values a path reaches, whether the first one equals a document, and each with its text and whether it does.
+// What a path reaches in a record, if that spells a document.
 fn reached(
     alloc: Global,
     bytes: &[u8],
@@ -45,38 +47,69 @@ fn reached(
     equal_to: &Doc,
 ) -> Option<String> {
     let record = RecordRef::of(bytes)?;
-    let _document = document_of(alloc, record.again(), names).ok()?;
-    let values = select(alloc, record.again(), names, path).ok()?;
-    let each = texts(alloc, values.as_slice(), names, equal_to)?;
-    let first = match first(record, names, path) {
-        Some(value) => told(alloc, &value, names, equal_to)?,
-        None => String::from_str(alloc, " none").ok()?,
-    };
-    format!(in alloc; "{} first{} all{}", values.len(), first.as_str(), each.as_str()).ok()
+    match document_of(alloc, record.again(), names) {
+        Ok(doc) => reached_in(alloc, record, names, path, equal_to, &doc),
+        Err(_) => None,
+    }
 }
 
-fn texts(
+// How many values a path reaches, the first one and all of them, with their texts and whether they equal a document.
+fn reached_in(
     alloc: Global,
-    values: &[ValueRef<'_>],
+    record: RecordRef<'_>,
     names: &Names,
+    path: &PathExpr,
     equal_to: &Doc,
+    doc: &Doc,
 ) -> Option<String>
+    requires { IsRecordUnder names.now (tree_of doc.now) record.bytes }
+{
+    match select(alloc, record.again(), names, path) {
+        Ok(values) => {
+            let each = texts(alloc, values.as_slice(), names, equal_to)?;
+            let first = first_text(alloc, record, names, path, equal_to, doc)?;
+            format!(in alloc;
+                "{} first{} all{}",
+                values.len(),
+                first.as_str(),
+                each.as_str()
+            )
+            .ok()
+        }
+        Err(_) => None,
+    }
+}
+
+// The text of the first one. The document is what the record spells, and is not looked at.
+fn first_text(
+    alloc: Global,
+    record: RecordRef<'_>,
+    names: &Names,
+    path: &PathExpr,
+    equal_to: &Doc,
+    _doc: &Doc,
+) -> Option<String>
+    requires { IsRecordUnder names.now (tree_of _doc.now) record.bytes }
+{
+    match first(record, names, path) {
+        Some(value) => told(alloc, &value, names, equal_to),
+        None => String::from_str(alloc, " none").ok(),
+    }
+}
+
+fn texts(alloc: Global, values: &[ValueRef<'_>], names: &Names, equal_to: &Doc) -> Option<String>
     requires { AllByRecursion (IsLawful names.now) values.now }
 {
     let mut out = String::new(alloc);
     for value in values {
-        out.push_str(told(alloc, value, names, equal_to)?.as_str()).ok()?;
+        out.push_str(told(alloc, value, names, equal_to)?.as_str())
+            .ok()?;
     }
     Some(out)
 }
 
 // The text of a value, and whether it equals a document.
-fn told(
-    alloc: Global,
-    value: &ValueRef<'_>,
-    names: &Names,
-    equal_to: &Doc,
-) -> Option<String>
+fn told(alloc: Global, value: &ValueRef<'_>, names: &Names, equal_to: &Doc) -> Option<String>
     requires { IsLawful names.now value.now }
 {
     let doc = value.to_doc(alloc, names).ok()?;
