@@ -105,7 +105,7 @@ module _ (p : PartView) (disk : Disk) (f g : DiskFile) (k : AreKeptAt (bare p) f
       at None is = tt
       at (Some b) (inl shut) = inl shut
       at (Some b) (inr (inl was)) = shut_before b was
-      at (Some b) (inr (inr whole)) = inr (subst (λ bytes. IsLog p.part (next_of (bare p)) [] bytes) (sym whole) (new_log p.part (next_of (bare p)) is_head))
+      at (Some b) (inr (inr whole)) = inr (subst (λ bytes. IsLog p.part (next_of (bare p)) [] bytes) (sym whole.same) (new_log p.part (next_of (bare p)) is_head))
 
   -- ---- a log that is made, and not used yet
 

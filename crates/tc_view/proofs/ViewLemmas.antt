@@ -80,9 +80,9 @@ module _ {F W : Type 0} (told : F → Option (List ℕ)) where
         book = book ∙ v.book;
         begins = λ none. absurd (no_snoc c.history kept (sym history ∙ none));
         holds = λ start writes at storable same.
-          let two : Cut (writes_of c.history) kept writes = cut (writes_of c.history) kept writes storable (sym all ∙ same) in
-          subst (Holds told d) (sym (ap (after_writes start) two.whole ∙ fold-append after_write start two.before two.behind))
-          (leave (after_writes start two.before) two.behind two.storable_behind two.newer_is (v.holds start two.before at two.storable_before two.older_is));
+            let two : Cut (writes_of c.history) kept writes = cut (writes_of c.history) kept writes storable (sym all ∙ same) in
+            subst (Holds told d) (sym (ap (after_writes start) two.whole ∙ fold-append after_write start two.before two.behind))
+            (leave (after_writes start two.before) two.behind two.storable_behind two.newer_is (v.holds start two.before at two.storable_before two.older_is));
         listed = listed;
         upto = upto ∙ (ap (λ n. n + length kept) v.upto ∙ (sym (length-append (writes_of c.history) kept) ∙ ap length (sym all)));
         changes = changes ∙ (ap (λ n. n + 1) v.changes ∙ (sym (length-append c.history (kept ∷ [])) ∙ ap length (sym history)));

@@ -20,10 +20,7 @@ pub enum Change<F: Frozen> {
     /// The sealed table was written as this component, which is the newest now.
     Flushed(Arc<Component<F>>),
     /// The components of a run were merged to this one.
-    Merged {
-        run: Run,
-        merged: Arc<Component<F>>,
-    },
+    Merged { run: Run, merged: Arc<Component<F>> },
 }
 
 impl<F: Frozen> Change<F> {

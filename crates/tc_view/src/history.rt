@@ -104,11 +104,7 @@ impl History {
                 &mut offer,
                 &mut pen,
             );
-        self.changes = if found == changes {
-            changes + 1
-        } else {
-            found
-        };
+        self.changes = if found == changes { changes + 1 } else { found };
         found == changes
     }
 }
