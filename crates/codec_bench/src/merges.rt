@@ -6,7 +6,7 @@ use anyhow::{Result, bail};
 use std::alloc::Global;
 use std::sync::Arc;
 use tc_bytes::Bytes;
-use tc_component::{Component, Head};
+use tc_component::{Component, Found, Head};
 use tc_memory::Sealed;
 use tc_merge::{MergeJob, MergeParts, can_merge};
 use tc_record::RecordRef;
@@ -106,7 +106,7 @@ fn records_of(alloc: Global, run: &[Shared]) -> Result<Vec<Bytes>> {
     let whole = Component::load(alloc, file, name, &mut watch)?;
     let mut records = Vec::new(alloc);
     for at in 0..whole.len() {
-        if let Some(place) = whole.entry(at).place {
+        if let Found::At(place) = whole.find(whole.entry(at).key) {
             records.push(whole.fetch(alloc, place, &mut watch)?)?;
         }
     }
