@@ -1,5 +1,0 @@
-pub mod Adding
-pub mod Prefixes
-pub mod ShareLemmas
-pub mod ViewLemmas
-pub mod RuleKept

@@ -1,6 +1,0 @@
-pub mod History
-pub mod Changes
-pub mod Holding
-pub mod Rules
-pub mod Views
-pub mod Places
