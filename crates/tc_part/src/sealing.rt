@@ -4,7 +4,7 @@ ghost use Rattle.std.specs.Prelude.{◌≡◌, ◌<◌, ◌+◌, ◌^◌, ◌↔
 ghost use Rattle.tc_store.specs.Counted.{IsCounted};
 ghost use Rattle.tc_part_model.specs.PartState.{told};
 ghost use Rattle.tc_part_model.specs.PartView.{PartView, store_of};
-ghost use Rattle.tc_part_model.specs.Meaning.{IsPart, HasFailed};
+ghost use Rattle.tc_part_model.specs.Meaning.{IsPart, HasFailed, Stands};
 ghost use Rattle.tc_part_model.specs.Changes.{sealed_part};
 ghost use Rattle.tc_part_model.specs.Leaving.{StoreMomentsLeaveStore, NextLogMoments};
 
@@ -25,7 +25,7 @@ impl<S: Store> Part<S> {
         requires sound { self.old.failed ≡ false }
         requires nothing_staged { self.old.staged ≡ [] }
         requires none_sealed { self.old.sealed ≡ None }
-        requires stands { (p : PartView) × IsPart (told S.history S.Device.history S.Frozen.content self.old) p }
+        requires stands { Stands (told S.history S.Device.history S.Frozen.content self.old) }
 
         // On Ok the part is the one whose active table is sealed, which stores what it stored.
         ensures sealed { OnOk result ((p : PartView) → IsPart (told S.history S.Device.history S.Frozen.content self.old) p
