@@ -6,6 +6,7 @@ ghost use Rattle.tc_record.specs.Record.{joined};
 ghost use Rattle.tc_compact.specs.Slots.{names_in};
 
 use crate::dictionary::is_dictionary;
+use crate::guessing::learn_by_guess;
 use std::alloc::Global;
 use tc_bytes::Memory;
 use tc_names::Names;
@@ -34,13 +35,16 @@ pub(crate) fn learn_names(
 {
     is_dictionary(names);
     let mut cursor = from.cursor();
-    let mut numbers = Vec::new(alloc);
+    let mut numbers = Vec::with_capacity(alloc, from.member_count() as usize)?;
     let mut name_bytes = 0;
+    let mut guess = 0;
     while let Some(token) = cursor.next() {
         if let Label::Name(name) = token.label {
-            let number = names.learn(name)?;
+            let number = learn_by_guess(names, name, guess)?;
             numbers.push(number as usize)?;
             name_bytes += name.len();
+            // names that were learned one after the other mostly stand so again
+            guess = number.wrapping_add(1);
         }
     }
     Ok(Learned {

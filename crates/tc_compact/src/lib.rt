@@ -6,6 +6,7 @@ mod decoding;
 mod dictionary;
 mod expanding;
 mod filling;
+mod guessing;
 mod law;
 mod layout;
 mod learning;

@@ -7,8 +7,8 @@ use Rattle.tc_model.proofs.LearnedNames.{length-all_learned}
 use Rattle.tc_model.proofs.LastingNumbers.{number-all_learned}
 use Rattle.tc_compact.proofs.learning.learn_names.Goals as goal
 
-pub learn-requires-clause-room : goal.learn-requires-clause-room
-learn-requires-clause-room c =
+pub learn_by_guess-requires-clause-room : goal.learn_by_guess-requires-clause-room
+learn_by_guess-requires-clause-room c =
     let l = c.loop-token in
     let n = c.in-Name.name.now in
     let here : names_in l.cursor ≡ n ∷ names_in c.next.new.self = search rules in
@@ -22,9 +22,9 @@ loop-token-preserved-in-Name c =
     let rest = names_in c.next.new.self in
     let after = all_learned c.args.names.now (names_in c.args.from.now.tokens) in
     let here : names_in l.cursor ≡ n ∷ rest = search rules in
-    let known : c.learn.new.self ≡ learned l.names n = c.in_ok-number.ensures.ok in
-    let left : all_learned c.learn.new.self rest ≡ after = ap (λ names. all_learned names rest) known ∙ ap (all_learned l.names) (sym here) ∙ l.invariant.left in
-    let number : name_number after n ≡ c.in_ok-number.number = ap (λ names. name_number names n) (sym left) ∙ number-all_learned c.learn.new.self n rest c.in_ok-number.number c.in_ok-number.ensures.number in
+    let known : c.learn_by_guess.new.names ≡ learned l.names n = c.in_ok-number.ensures.ok in
+    let left : all_learned c.learn_by_guess.new.names rest ≡ after = ap (λ names. all_learned names rest) known ∙ ap (all_learned l.names) (sym here) ∙ l.invariant.left in
+    let number : name_number after n ≡ c.in_ok-number.number = ap (λ names. name_number names n) (sym left) ∙ number-all_learned c.learn_by_guess.new.names n rest c.in_ok-number.number c.in_ok-number.ensures.number in
     record {
       left = left;
       numbers =
@@ -34,6 +34,6 @@ loop-token-preserved-in-Name c =
           ∙ ap (λ ns. l.numbers.items ++ map (name_number after) ns) (sym here)
           ∙ l.invariant.numbers;
       bytes = omega (arith, l.invariant.bytes, ap (λ ns. length (joined ns)) here, length-append n (joined rest));
-      extends = Extends-trans c.learn.new.self l.names c.args.names.now (subst (λ names. Extends names l.names) (sym known) (Extends-learned l.names n)) l.invariant.extends;
+      extends = Extends-trans c.learn_by_guess.new.names l.names c.args.names.now (subst (λ names. Extends names l.names) (sym known) (Extends-learned l.names n)) l.invariant.extends;
       dictionary = c.in_ok-number.ensures.dictionary;
     }
