@@ -4,6 +4,7 @@
 mod adding;
 mod counting;
 mod fresh;
+mod guessing;
 mod known;
 mod learning;
 mod looking;

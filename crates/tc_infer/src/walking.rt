@@ -11,7 +11,7 @@ ghost use Rattle.tc_value.specs.Kinds.{kind_meant};
 ghost use Rattle.tc_schema.specs.Places.{place_counted, below_counted, fields_counted};
 ghost use Rattle.tc_infer.specs.Levels.{begun, behind, innermost, outside, without_names, levels};
 
-use crate::counting::place_of;
+use crate::guessing::place_by_guess;
 use crate::tokens::{kind_begun, name_in};
 use std::alloc::{AllocError, Global};
 use tc_names::Names;
@@ -110,26 +110,32 @@ fn count_members(
     ensures shorter { length cursor.new ≤ length cursor.old }
     ensures sure { members_have_counters names.now (innermost (levels cursor.old)) (fields_counted fields.old.items) ≡ true → IsOk result }
 {
+    let mut guess = 0;
     while let Some(token) = cursor.next() {
         match kind_begun(token.value) {
             None => return Ok(()),
             Some(kind) => {
-                count_member(cursor, name_in(token.label), kind, names, fields, alloc)?
+                let name = name_in(token.label);
+                let at = count_member(cursor, name, guess, kind, names, fields, alloc)?;
+                // the fields of documents of one kind mostly follow each other
+                guess = at.wrapping_add(1);
             }
         }
     }
     Ok(())
 }
 
+/// Counts a member whose name was taken, and answers where its field stands, by a guess at that.
 #[cycle(walking)]
 fn count_member(
     cursor: &mut Cursor<'_>,
     name: &str,
+    guess: usize,
     kind: Kind,
     names: &Names,
     fields: &mut Vec<Field>,
     alloc: Global,
-) -> Result<(), AllocError>
+) -> Result<usize, AllocError>
     requires known { IsTrue (is_some (number_of names.now name.now)) }
     requires named { IsNamed names.now (begun (kind_meant kind) (levels cursor.old)) }
     requires canonical { AreFieldsCanonical (length names.now) 0 (fields_counted fields.old.items) }
@@ -139,7 +145,7 @@ fn count_member(
     ensures shorter { length cursor.new ≤ length cursor.old }
     ensures sure { has_counters names.now (begun (kind_meant kind) (levels cursor.old)) (field_at (number names.now name.now) (fields_counted fields.old.items)) ≡ true → IsOk result }
 {
-    let number = names.id_of(name).unwrap();
-    let at = place_of(number, fields, alloc)?;
-    count_value(cursor, kind, names, &mut fields[at].node, alloc)
+    let at = place_by_guess(name, guess, names, fields, alloc)?;
+    count_value(cursor, kind, names, &mut fields[at].node, alloc)?;
+    Ok(at)
 }

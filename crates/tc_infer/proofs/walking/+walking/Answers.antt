@@ -1,21 +1,19 @@
-use Rattle.std.proofs.Common.{◌≡◌, true, length, set, refl, sym, ap, ◌∙◌, subst, arith}
-use Rattle.std.proofs.lemmas.Bool.{and_parts}
-use Rattle.std.proofs.lemmas.Option.{same_Some}
+use Rattle.std.proofs.Common.{◌≡◌, true, length, refl, sym, ap, ◌∙◌, subst, arith}
+use Rattle.std.proofs.lemmas.Bool.{and_parts, false≢true}
 use Rattle.std.proofs.lemmas.Result.{IfOk-weaker}
 use Rattle.tc_model.specs.Tree.{array, object, item, no_items, member, no_members}
 use Rattle.tc_model.specs.Dictionary.{number}
 use Rattle.tc_schema_model.specs.Counted.{held, field_at, IsCanonical, IsBelowCanonical, AreFieldsCanonical}
-use Rattle.tc_schema_model.specs.Added.{added, items_added, members_added, put_field, IsNamed, AreItemsNamed, AreMembersNamed, member_added}
+use Rattle.tc_schema_model.specs.Added.{added, items_added, members_added, IsNamed, AreItemsNamed, AreMembersNamed}
 use Rattle.tc_schema_model.specs.HasCounters.{has_counters, items_have_counters, members_have_counters}
 use Rattle.tc_schema_model.specs.Room.{DoesFit, DoFieldsFit}
 use Rattle.tc_schema_model.proofs.AddedLaws.{canonical-items_added, canonical-members_added, field_canonical}
 use Rattle.tc_schema_model.proofs.CountersThere.{items_still_there, members_still_there}
 use Rattle.tc_schema_model.proofs.FieldLaws.{fields_ordered}
-use Rattle.tc_model.proofs.NameNumbers.{numbered}
 use Rattle.tc_schema_model.proofs.RoomLaws.{item_fits, member_fits}
 use Rattle.tc_value.specs.Kinds.{kind_meant}
 use Rattle.tc_schema.specs.Places.{place_counted, below_counted, fields_counted}
-use Rattle.tc_schema.specs.declared.place.Field.TheViews.{out-Node, roll-Node, out-roll-Node, out-Field, roll-Field}
+use Rattle.tc_schema.specs.declared.place.Field.TheViews.{out-Node, roll-Node, out-roll-Node, out-Field}
 use Rattle.tc_schema.proofs.PlaceViews.{place_parts}
 use Rattle.tc_schema.proofs.FieldViews.{counted_at}
 use Rattle.tc_schema.proofs.FieldWrites.{number_at, written_field}
@@ -109,8 +107,8 @@ count_items-loop-token-preserved t c =
 
 -- ---- members
 
-pub count_member-place_of-requires : goal.count_member-place_of-requires
-count_member-place_of-requires t c = record { ordered = fields_ordered (length c.args.names.now) 0 (fields_counted c.args.fields.now.items) c.requires.1.1.1.1.0 }
+pub count_member-place_by_guess-requires : goal.count_member-place_by_guess-requires
+count_member-place_by_guess-requires t c = record { known = c.requires.1.1.0; ordered = fields_ordered (length c.args.names.now) 0 (fields_counted c.args.fields.now.items) c.requires.1.1.1.1.0 }
 
 pub count_member-count_value-requires : goal.count_member-count_value-requires
 count_member-count_value-requires t c =
@@ -119,10 +117,9 @@ count_member-count_value-requires t c =
     let s = begun (kind_meant c.args.kind) (levels c.args.cursor.now) in
     let fields = fields_counted c.args.fields.now.items in
     let here = c.index_mut.result.now in
-    let number_is : c.unwrap-number.result ≡ number names name = same_Some _ _ (sym c.unwrap-number.ensures ∙ c.id_of.ensures.number ∙ numbered names name c.requires.1.1.0) in
-    let stands = counted_at c.place_of.new.fields.items c.in_ok-at.at here c.unwrap-number.result (field_at c.unwrap-number.result fields) c.in_ok-at.ensures.here in
+    let stands = counted_at c.place_by_guess.new.fields.items c.in_ok-at.at here (number names name) (field_at (number names name) fields) c.in_ok-at.ensures.here in
     let counted : place_counted c.deref_mut.result.now ≡ field_at (number names name) fields =
-    ap place_counted c.deref_mut.ensures.value ∙ ap (λ f. place_counted (out-Field f).node.value) c.index_mut.ensures.value ∙ stands ∙ ap (λ n. field_at n fields) number_is in (
+    ap place_counted c.deref_mut.ensures.value ∙ ap (λ f. place_counted (out-Field f).node.value) c.index_mut.ensures.value ∙ stands in (
       omega (arith, c.requires.1.0),
       (
         c.requires.1.1.1.0,
@@ -138,35 +135,28 @@ count_member-returns-clause-counted t c =
     let names = c.args.names.now in
     let name = c.args.name.now in
     let s = begun (kind_meant c.args.kind) (levels c.args.cursor.now) in
-    let n = c.unwrap-number.result in
-    let all = c.place_of.new.fields.items in
+    let n = number names name in
+    let all = c.place_by_guess.new.fields.items in
     let fields = fields_counted c.args.fields.now.items in
     let here = c.index_mut.result.now in
     let d = added names s (field_at (number names name) fields) in
-    let number_is : n ≡ number names name = same_Some _ _ (sym c.unwrap-number.ensures ∙ c.id_of.ensures.number ∙ numbered names name c.requires.1.1.0) in
     let stands = counted_at all c.in_ok-at.at here n (field_at n fields) c.in_ok-at.ensures.here in
     let counted : place_counted c.deref_mut.result.now ≡ field_at (number names name) fields =
-    ap place_counted c.deref_mut.ensures.value ∙ ap (λ f. place_counted (out-Field f).node.value) c.index_mut.ensures.value ∙ stands ∙ ap (λ n. field_at n fields) number_is in
+    ap place_counted c.deref_mut.ensures.value ∙ ap (λ f. place_counted (out-Field f).node.value) c.index_mut.ensures.value ∙ stands in
     let own : (out-Field here).number ≡ n = ap (λ f. (out-Field f).number) c.index_mut.ensures.value ∙ number_at all c.in_ok-at.at here n (field_at n fields) c.in_ok-at.ensures.here in
-    IfOk-weaker c.count_value.result
-    (λ _. place_counted c.count_value.new.place ≡ added names s (place_counted c.deref_mut.result.now))
-    (λ _. fields_counted (set all c.in_ok-at.at (roll-Field record { number = (out-Field here).number; node = record (out-Field here).node { value = c.count_value.new.place } })) ≡ member_added names (name, s) fields)
-    (λ _ is.
-    written_field all c.in_ok-at.at n (out-Field here).number _ d own (is ∙ ap (added names s) counted)
-    ∙ c.in_ok-at.ensures.written d ∙ ap (λ k. put_field k d fields) number_is)
-    c.count_value.ensures.counted
+    written_field all c.in_ok-at.at n (out-Field here).number _ d own (c.in_ok-count_value.ensures.counted ∙ ap (added names s) counted)
+    ∙ c.in_ok-at.ensures.written d
 
-pub count_member-returns-clause-sure : goal.count_member-returns-clause-sure
-count_member-returns-clause-sure t c = λ there.
+pub count_member-returns-in_err-count_value-clause-sure : goal.count_member-returns-in_err-count_value-clause-sure
+count_member-returns-in_err-count_value-clause-sure t c = λ there.
     let names = c.args.names.now in
     let name = c.args.name.now in
     let s = begun (kind_meant c.args.kind) (levels c.args.cursor.now) in
     let fields = fields_counted c.args.fields.now.items in
-    let number_is : c.unwrap-number.result ≡ number names name = same_Some _ _ (sym c.unwrap-number.ensures ∙ c.id_of.ensures.number ∙ numbered names name c.requires.1.1.0) in
-    let stands = counted_at c.place_of.new.fields.items c.in_ok-at.at c.index_mut.result.now c.unwrap-number.result (field_at c.unwrap-number.result fields) c.in_ok-at.ensures.here in
+    let stands = counted_at c.place_by_guess.new.fields.items c.in_ok-at.at c.index_mut.result.now (number names name) (field_at (number names name) fields) c.in_ok-at.ensures.here in
     let counted : place_counted c.deref_mut.result.now ≡ field_at (number names name) fields =
-    ap place_counted c.deref_mut.ensures.value ∙ ap (λ f. place_counted (out-Field f).node.value) c.index_mut.ensures.value ∙ stands ∙ ap (λ n. field_at n fields) number_is in
-    c.count_value.ensures.sure (ap (has_counters names s) counted ∙ there)
+    ap place_counted c.deref_mut.ensures.value ∙ ap (λ f. place_counted (out-Field f).node.value) c.index_mut.ensures.value ∙ stands in
+    absurd (false≢true (c.in_err-count_value.ensures.sure (ap (has_counters names s) counted ∙ there)))
 
 pub count_members-count_member-requires : goal.count_members-count_member-requires
 count_members-count_member-requires t c =
@@ -175,10 +165,10 @@ count_members-count_member-requires t c =
     let fields = fields_counted l.fields.items in
     let k = kind_meant c.in-Some-kind_begun.kind in
     let rest = levels c.next.new.self in
-    let name = c.name_in.result.now in
+    let name = c.name_in-name.result.now in
     let here =
     value_next l.cursor c.next.new.self c.in-Some.token c.in-Some.ensures.taken c.kind_begun.result c.in-Some-kind_begun.kind c.kind_begun.ensures c.in-Some-kind_begun.is
-    ∙ ap (λ n. with_shape n (begun k rest) (behind k rest)) (sym c.name_in.ensures) in
+    ∙ ap (λ n. with_shape n (begun k rest) (behind k rest)) (sym c.name_in-name.ensures) in
     let less = one_less l.cursor c.next.new.self c.in-Some.token c.in-Some.ensures.taken in
     let named = subst (λ ls. AreMembersNamed names (innermost ls)) here l.invariant.named in
     let whole = ap (λ ls. members_added names (innermost ls) fields) (sym here) ∙ l.invariant.left in
@@ -192,17 +182,17 @@ count_members-loop-token-preserved t c =
     let fields = fields_counted l.fields.items in
     let k = kind_meant c.in-Some-kind_begun.kind in
     let rest = levels c.next.new.self in
-    let name = c.name_in.result.now in
+    let name = c.name_in-name.result.now in
     let s = begun k rest in
     let ms = innermost (behind k rest) in
     let here =
     value_next l.cursor c.next.new.self c.in-Some.token c.in-Some.ensures.taken c.kind_begun.result c.in-Some-kind_begun.kind c.kind_begun.ensures c.in-Some-kind_begun.is
-    ∙ ap (λ n. with_shape n (begun k rest) (behind k rest)) (sym c.name_in.ensures) in
+    ∙ ap (λ n. with_shape n (begun k rest) (behind k rest)) (sym c.name_in-name.ensures) in
     let less = one_less l.cursor c.next.new.self c.in-Some.token c.in-Some.ensures.taken in
     let named = subst (λ ls. AreMembersNamed names (innermost ls)) here l.invariant.named in
     let whole = ap (λ ls. members_added names (innermost ls) fields) (sym here) ∙ l.invariant.left in
-    let counted = c.in_ok-count_member-in-Some-kind_begun.ensures.counted in
-    let after = c.in_ok-count_member-in-Some-kind_begun.ensures.behind in
+    let counted = c.in_ok-at-in-Some-kind_begun.ensures.counted in
+    let after = c.in_ok-at-in-Some-kind_begun.ensures.behind in
     record {
       left = ap (λ ls. members_added names (innermost ls) (fields_counted c.count_member.new.fields.items)) after ∙ ap (members_added names ms) counted ∙ whole;
       outer = ap outside after ∙ sym (ap outside here) ∙ l.invariant.outer;
