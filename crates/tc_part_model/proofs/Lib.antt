@@ -25,3 +25,8 @@ pub mod FailedParts
 pub mod Closes
 pub mod MergeInstalls
 pub mod MergedParts
+pub mod CountedDocuments
+pub mod StartedParts
+pub mod Removals
+pub mod RunsUnlisted
+pub mod RemovedParts

@@ -1,6 +1,7 @@
 -- What the calls of logs and stores promise that the calls of a part make: the premises of the laws of a part.
-use Rattle.std.specs.Prelude.{◌≡◌, ◌⊎◌, List, [], ◌∷◌, ◌++◌, length, IfSome}
+use Rattle.std.specs.Prelude.{◌≡◌, ◌≢◌, ◌⊎◌, List, [], ◌∷◌, ◌++◌, length, All, IfSome}
 use Rattle.tc_store.specs.declared.file_name.FileName.{FileName}
+use Rattle.tc_store.specs.declared.file_name.FileName.TheVariants.{Component, Log}
 use Rattle.tc_store.specs.Disk.{Disk}
 use Rattle.tc_store.specs.DiskFile.{DiskFile, IsSettled, settled_file}
 use Rattle.tc_store.specs.Gate.{IsShutOr, IsShutOrWhole}
@@ -14,6 +15,7 @@ use Rattle.tc_log.specs.Spelling.{Means, log_at_rest}
 use Rattle.tc_component.specs.Rows.{IsComponent, component_bytes}
 use Rattle.tc_lsm_model.specs.Contents.{Content}
 use Rattle.tc_lsm_model.specs.Flushes.{IsFlush}
+use Rattle.tc_machine.specs.Components.{file_of}
 use Rattle.tc_part_model.specs.PartState.{IsTold}
 use Rattle.tc_part_model.specs.PartView.{PartView}
 
@@ -55,3 +57,8 @@ pub record HasMade (c : Content) (disks : List Disk) (device : List DiskFile) : 
 abbrev pub RemovesSome : List FileName → List Disk → List Disk → Type 0
 RemovesSome [] old new = new ≡ old
 RemovesSome (name ∷ names) old new = RemovesSome names old new ⊎ RemovesSome names (removes name old) new
+
+-- the name is that of a component that is not listed
+abbrev pub IsUnlisted : List Content → FileName → Type 0
+IsUnlisted cs (Component from to) = All (λ c. file_of c ≢ Component from to) cs
+IsUnlisted cs (Log generation) = ⊥

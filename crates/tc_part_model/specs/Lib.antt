@@ -6,3 +6,4 @@ pub mod Changes
 pub mod Leaving
 pub mod Calls
 pub mod Staging
+pub mod Starting

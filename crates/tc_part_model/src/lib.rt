@@ -7,13 +7,17 @@ mod commit;
 mod failing;
 mod flushing;
 mod merging;
+mod removing;
 mod sealing;
 mod staging;
+mod starting;
 
 pub use closing::closed_parts_keep_store;
 pub use commit::commits_are_kept;
 pub use failing::{failed_parts_keep_files, failures_are_kept};
 pub use flushing::{failed_flushes_are_kept, flushes_are_listed, flushes_begin};
 pub use merging::{merges_are_listed, merges_begin};
+pub use removing::unlisted_files_go;
 pub use sealing::{failed_seals_are_kept, seals_are_kept, seals_leave_store};
 pub use staging::{staged_is_kept, tables_hold_keys};
+pub use starting::{openings_end, parts_start};
