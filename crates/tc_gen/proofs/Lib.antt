@@ -1,0 +1,2 @@
+mod GeneratedRows
+mod LinesLeft
