@@ -1,6 +1,8 @@
 -- How far a merge is.
 use Rattle.std.proofs.Common.{◌≡◌, ◌∙◌, ◌<◌, ◌≤◌, ◌+◌, ℕ, zero, suc, Bool, true, false, List, [], ◌∷◌, ◌++◌, Option, None, Some, length, map, drop, slice_get, refl, sym, ap, subst, arith, append_assoc, append-nil, eq-eqb, filter}
 use Rattle.std.specs.Prelude.{◌==◌, if◌then◌else◌, is_some, option_map}
+use Rattle.std.specs.Option.{option_eq}
+use Rattle.std.proofs.lemmas.Bool.{eqb-true}
 use Rattle.std.proofs.lemmas.List.{length-drop}
 use Rattle.std.proofs.lemmas.List.Sums.{sum_by-cons}
 use Rattle.std.proofs.lemmas.Option.{same_Some}
@@ -66,6 +68,11 @@ some_slot (s ∷ slots) zero key is = omega arith
 some_slot (s ∷ slots) (suc at) key is = let rest = some_slot slots at key is in omega (arith, rest)
 
 -- an input with a key ahead has an entry left
+-- a key that is found to be the one ahead
+pub same_key : (o : Option ℕ) (key : ℕ) → option_eq (λ x y. x == y) o (Some key) ≡ true → o ≡ Some key
+same_key None key is = cc
+same_key (Some k) key is = ap Some (eqb-true k key is)
+
 pub entry_left : {F : Type 0} (i : InputState F) (key : ℕ) → key_ahead i ≡ Some key → i.at < length i.component.index.slots
 entry_left i key is = some_slot i.component.index.slots i.at key is
 

@@ -1,7 +1,7 @@
 //! The components that are merged, each with the place of its next entry.
 
 ghost use Rattle.std.specs.Arc.{arc_value};
-ghost use Rattle.std.specs.Prelude.{◌≡◌, ◌<◌, ◌≤◌, ◌+◌, ◌^◌, ◌∷◌, [], ◌++◌, List, length, option_map, Some, None, false, IfSome, IfErr, IsErrOf, OnOk, IsSome};
+ghost use Rattle.std.specs.Prelude.{◌≡◌, ◌<◌, ◌≤◌, ◌+◌, ◌^◌, ◌∷◌, [], ◌++◌, List, length, option_map, slice_get, Some, None, false, IfSome, IfErr, IsErrOf, OnOk, IsSome};
 ghost use Rattle.tc_store.specs.Gate.{IsClosed};
 ghost use Rattle.tc_store.specs.Moments.{LeavesOnly};
 ghost use Rattle.tc_component.specs.Building.{HasRows};
@@ -24,16 +24,18 @@ use tc_store::{Device, FileName, Frozen, Store};
 pub(crate) struct Input<F: Frozen> {
     component: Arc<Component<F>>,
     at: usize,
+    /// The key of the entry there, for which each step of a merge asks.
+    key: Option<u64>,
     cursor: RecordCursor,
 }
 
 impl<F: Frozen> Model for Input<F> {
     ghost use Rattle.std.specs.Arc.{arc_value};
     ghost use Rattle.std.specs.Coded.{codes};
-    ghost use Rattle.std.specs.Prelude.{◌≤◌, length};
+    ghost use Rattle.std.specs.Prelude.{◌≡◌, ◌≤◌, length};
     ghost use Rattle.tc_schema_model.specs.CountedCode.{coded_counted};
     ghost use Rattle.tc_component.specs.Cursors.{HoldsPart};
-    ghost use Rattle.tc_merge.specs.Inputs.{InputState};
+    ghost use Rattle.tc_merge.specs.Inputs.{InputState, key_ahead};
 
     ghost Value = { InputState F };
 
@@ -41,7 +43,7 @@ impl<F: Frozen> Model for Input<F> {
 
     ghost view = { λ i. record { component = arc_value i.component; at = i.at } };
 
-    ghost invariant = { λ i. (i.at ≤ length (arc_value i.component).index.slots) × HoldsPart (F.content (arc_value i.component).file) i.cursor };
+    ghost invariant = { λ i. (i.at ≤ length (arc_value i.component).index.slots) × (i.key ≡ key_ahead (record { component = arc_value i.component; at = i.at })) × HoldsPart (F.content (arc_value i.component).file) i.cursor };
 }
 
 /// Which of the inputs has the next entry, and the key of that.
@@ -56,9 +58,11 @@ impl<F: Frozen> Input<F> {
     pub(crate) fn of(alloc: Global, component: Arc<Component<F>>) -> Input<F>
         ensures { result ≡ record { component = arc_value component; at = 0 } }
     {
+        let key = key_at(&component, 0);
         Input {
             component,
             at: 0,
+            key,
             cursor: RecordCursor::new(alloc),
         }
     }
@@ -67,20 +71,30 @@ impl<F: Frozen> Input<F> {
     pub(crate) fn key(&self) -> Option<u64>
         ensures { result ≡ key_ahead self.now }
     {
-        if self.at < self.component.len() {
-            Some(self.component.entry(self.at).key)
-        } else {
-            None
-        }
+        self.key
     }
 
     /// Passes the next entry, where it has this key.
     pub(crate) fn pass(&mut self, key: u64)
         ensures { self.new ≡ passed key self.old }
     {
-        if self.at < self.component.len() && key == self.component.entry(self.at).key {
+        if self.key == Some(key) {
+            // that a place behind it is a number
+            let _fits = self.component.len();
             self.at += 1;
+            self.key = key_at(&self.component, self.at);
         }
+    }
+}
+
+/// The key of the entry at a position of the directory, or `None` behind the last.
+fn key_at<F: Frozen>(component: &Component<F>, at: usize) -> Option<u64>
+    ensures { result ≡ option_map (λ s. s.key) (slice_get component.now.index.slots at) }
+{
+    if at < component.len() {
+        Some(component.entry(at).key)
+    } else {
+        None
     }
 }
 

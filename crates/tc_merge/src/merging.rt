@@ -1,6 +1,6 @@
 //! Entries are merged, one after the other.
 
-ghost use Rattle.std.specs.Prelude.{◌≡◌, ◌<◌, ◌≤◌, ◌+◌, ◌++◌, ◌∷◌, [], List, All, length, map, IfErr, IsErrOf, OnOk, false};
+ghost use Rattle.std.specs.Prelude.{◌≡◌, ◌<◌, ◌≤◌, ◌+◌, ◌++◌, ◌∷◌, [], List, All, length, map, IfOk, IfErr, IsErrOf, OnOk, false};
 ghost use Rattle.tc_store.specs.Gate.{IsClosed};
 ghost use Rattle.tc_store.specs.Moments.{LeavesOnly};
 ghost use Rattle.tc_component.specs.Building.{HasRows};
@@ -38,27 +38,30 @@ pub(crate) fn merge<S: Store>(
     ensures reads { OnOk result ((S.Watch.counts watch.new).reads ≤ (S.Watch.counts watch.old).reads + live_rows (kept from (newest (map (rows_left (λ file. S.Frozen.content file)) inputs.old)))) }
     ensures watched { IsWatched (IsErrOf result MergeFault.Disk) (S.Watch.counts watch.old) (S.Watch.counts watch.new) }
 {
-    while let Some(next) = next_of(inputs) {
-        if let Err(fault) = put_entry::<S>(inputs, next, from, builder, watch) {
-            return Err(fault);
+    let mut next = next_of(inputs);
+    while let Some(least) = next {
+        match put_entry::<S>(inputs, least, from, builder, watch) {
+            Ok(behind) => next = behind,
+            Err(fault) => return Err(fault),
         }
     }
     Ok(())
 }
 
-/// Pushes the next entry, and passes all entries of its key.
+/// Pushes the next entry, and passes all entries of its key. Answers the next one behind it.
 fn put_entry<S: Store>(
     inputs: &mut [Input<S::Frozen>],
     next: Next,
     from: u64,
     builder: &mut Builder<S::Device>,
     watch: &mut S::Watch,
-) -> Result<(), MergeFault>
+) -> Result<Option<Next>, MergeFault>
     requires next { IsNext inputs.old next }
     requires lawful { All (λ c. IsIndex c.index) (map (λ i. i.component) inputs.old) }
     requires going_on { builder.old.failed ≡ false }
 
     ensures same { map (λ i. i.component) inputs.new ≡ map (λ i. i.component) inputs.old }
+    ensures next { IfOk result (λ behind. IsNextOf inputs.new behind) }
     ensures fewer { OnOk result (left_of inputs.new < left_of inputs.old) }
     ensures pushed { OnOk result ((rows : List Row) → AreTold (λ file. S.Frozen.content file) (map (λ i. i.component) inputs.old) → HasRows (S.Device.history builder.old.device) builder.old rows
         → IsUpTo (λ file. S.Frozen.content file) from inputs.old inputs.new (λ done. HasRows (S.Device.history builder.new.device) builder.new (rows ++ done))) }
@@ -73,21 +76,24 @@ fn put_entry<S: Store>(
     ensures watched { IsWatched (IsErrOf result MergeFault.Disk) (S.Watch.counts watch.old) (S.Watch.counts watch.new) }
 {
     match put_next::<S>(&mut inputs[next.input], from, builder, watch) {
-        Ok(()) => {
-            pass_all(inputs, next.key);
-            Ok(())
-        }
+        Ok(()) => Ok(pass_all(inputs, next.key)),
         Err(fault) => Err(fault),
     }
 }
 
-/// Passes all entries of a key that are ahead.
-fn pass_all<F: Frozen>(inputs: &mut [Input<F>], key: u64)
-    ensures { inputs.new ≡ map (passed key) inputs.old }
+/// Passes all entries of a key that are ahead, and answers the next one behind them, so that one step looks at each input once.
+fn pass_all<F: Frozen>(inputs: &mut [Input<F>], key: u64) -> Option<Next>
+    ensures passed { inputs.new ≡ map (passed key) inputs.old }
+    ensures next { IsNextOf inputs.new result }
 {
+    let mut next = None;
+    let mut place = 0;
     for input in inputs.iter_mut() {
         input.pass(key);
+        next = newer_of(next, place, input);
+        place += 1;
     }
+    next
 }
 
 /// The newest of the inputs that have the least key ahead, and that key.

@@ -7,7 +7,7 @@ use Rattle.tc_store.proofs.MomentLemmas.{EachSince-none, EachSince-trans}
 use Rattle.tc_component.specs.Building.{HasRows}
 use Rattle.tc_component.specs.Spelling.{IsIndex}
 use Rattle.tc_merge.specs.Faults.{IfHarmed, IsHarmIn, IsJudged}
-use Rattle.tc_merge.specs.Inputs.{IsUpTo}
+use Rattle.tc_merge.specs.Inputs.{IsNextOf, IsUpTo}
 use Rattle.tc_merge.specs.Merging.{AreTold, live_rows}
 use Rattle.tc_merge.proofs.ReadsCounted.{more_reads, no_read}
 use Rattle.tc_merge.proofs.UpTo.{adds_to, begins, goes_on, ends}
@@ -18,6 +18,7 @@ loop-next-init g c =
     let h = g.S.Device.Device.history in
     let b = c.args.builder.now in
     record {
+      next = c.next_of-next.ensures;
       up = λ rows told has. begins (λ file. g.S.Frozen.Frozen.content file) c.args.from c.args.inputs.now (λ done. HasRows (h b.device) b (rows ++ done)) (subst (HasRows (h b.device) b) (sym (append-nil rows)) has);
       judged = λ told. begins (λ file. g.S.Frozen.Frozen.content file) c.args.from c.args.inputs.now (λ done. All (IsJudged (map (λ i. i.component) c.args.inputs.now)) done) (All-nil (IsJudged (map (λ i. i.component) c.args.inputs.now)));
       more = λ rows has. (rows, has);
@@ -41,10 +42,11 @@ loop-next-preserved g c =
     let b = c.args.builder.now in
     let new = c.put_entry.new in
     record {
+      next = c.in-Ok.ensures.next;
       up = λ rows told has.
           goes_on (λ file. content file) c.args.from c.args.inputs.now l.inputs new.inputs (λ done. HasRows (h l.builder.device) l.builder (rows ++ done)) (λ done. HasRows (h new.builder.device) new.builder (rows ++ done))
           (λ done more. HasRows (h new.builder.device) new.builder ((rows ++ done) ++ more)) (l.invariant.up rows told has)
-          (λ done pushed. c.in_default-put_entry.ensures.pushed (rows ++ done) (subst (AreTold (λ file. content file)) (sym l.invariant.same) told) pushed)
+          (λ done pushed. c.in-Ok.ensures.pushed (rows ++ done) (subst (AreTold (λ file. content file)) (sym l.invariant.same) told) pushed)
           (λ done more pushed. subst (HasRows (h new.builder.device) new.builder) (append_assoc rows done more) pushed);
       judged = λ told.
           let components = map (λ i. i.component) c.args.inputs.now in
@@ -52,12 +54,12 @@ loop-next-preserved g c =
           (λ done more. All (IsJudged components) done × All (IsJudged components) more) (l.invariant.judged told)
           (λ done judged. adds_to (λ file. content file) c.args.from l.inputs new.inputs (All (IsJudged components) done) (λ more. All (IsJudged components) more) judged
           (subst (λ cs. IsUpTo (λ file. content file) c.args.from l.inputs new.inputs (λ more. All (IsJudged cs) more)) l.invariant.same
-          (c.in_default-put_entry.ensures.judged (subst (AreTold (λ file. content file)) (sym l.invariant.same) told))))
+          (c.in-Ok.ensures.judged (subst (AreTold (λ file. content file)) (sym l.invariant.same) told))))
           (λ done more judged. All-append (IsJudged components) done more judged.0 judged.1);
-      more = λ rows has. let before = l.invariant.more rows has in c.in_default-put_entry.ensures.more before.0 before.1;
+      more = λ rows has. let before = l.invariant.more rows has in c.in-Ok.ensures.more before.0 before.1;
       same = c.put_entry.ensures.same ∙ l.invariant.same;
       head = c.put_entry.ensures.head ∙ l.invariant.head;
-      going_on = c.in_default-put_entry.ensures.not_failed;
+      going_on = c.in-Ok.ensures.not_failed;
       name = c.put_entry.ensures.name ∙ l.invariant.name;
       moments = EachSince-trans (LeavesAt IsClosed) (h b.device) (h l.builder.device) (h new.builder.device) l.invariant.moments c.put_entry.ensures.moments;
       reads =
@@ -66,7 +68,7 @@ loop-next-preserved g c =
           let now = (g.S.Watch.Watch.counts new.watch).reads in
           goes_on (λ file. content file) c.args.from c.args.inputs.now l.inputs new.inputs (λ done. middle ≤ old + live_rows done) (λ done. now ≤ old + live_rows done)
           (λ done more. (middle ≤ old + live_rows done) × (now ≤ middle + live_rows more)) l.invariant.reads
-          (λ done few. adds_to (λ file. content file) c.args.from l.inputs new.inputs (middle ≤ old + live_rows done) (λ more. now ≤ middle + live_rows more) few c.in_default-put_entry.ensures.reads)
+          (λ done few. adds_to (λ file. content file) c.args.from l.inputs new.inputs (middle ≤ old + live_rows done) (λ more. now ≤ middle + live_rows more) few c.in-Ok.ensures.reads)
           (λ done more both. more_reads old middle now done more both.0 both.1);
       faults = omega (arith, l.invariant.faults, c.put_entry.ensures.watched.faults);
     }
@@ -81,7 +83,7 @@ pub returns-clause-pushed : goal.returns-clause-pushed
 returns-clause-pushed g c = λ rows told has.
     let h = g.S.Device.Device.history in
     let l = c.loop-next in
-    ends (λ file. g.S.Frozen.Frozen.content file) c.args.from c.args.inputs.now l.inputs (λ done. HasRows (h l.builder.device) l.builder (rows ++ done)) (l.invariant.up rows told has) c.in_default.ensures
+    ends (λ file. g.S.Frozen.Frozen.content file) c.args.from c.args.inputs.now l.inputs (λ done. HasRows (h l.builder.device) l.builder (rows ++ done)) (l.invariant.up rows told has) (subst (IsNextOf c.loop-next.inputs) c.in_default.is c.loop-next.invariant.next)
 
 pub returns-in-Err-clause-harmed : goal.returns-in-Err-clause-harmed
 returns-in-Err-clause-harmed g c =
@@ -89,8 +91,8 @@ returns-in-Err-clause-harmed g c =
 
 pub returns-clause-judged : goal.returns-clause-judged
 returns-clause-judged g c = λ told.
-    ends (λ file. g.S.Frozen.Frozen.content file) c.args.from c.args.inputs.now c.loop-next.inputs (λ done. All (IsJudged (map (λ i. i.component) c.args.inputs.now)) done) (c.loop-next.invariant.judged told) c.in_default.ensures
+    ends (λ file. g.S.Frozen.Frozen.content file) c.args.from c.args.inputs.now c.loop-next.inputs (λ done. All (IsJudged (map (λ i. i.component) c.args.inputs.now)) done) (c.loop-next.invariant.judged told) (subst (IsNextOf c.loop-next.inputs) c.in_default.is c.loop-next.invariant.next)
 
 pub returns-clause-reads : goal.returns-clause-reads
 returns-clause-reads g c =
-    ends (λ file. g.S.Frozen.Frozen.content file) c.args.from c.args.inputs.now c.loop-next.inputs (λ done. (g.S.Watch.Watch.counts c.loop-next.watch).reads ≤ (g.S.Watch.Watch.counts c.args.watch.now).reads + live_rows done) c.loop-next.invariant.reads c.in_default.ensures
+    ends (λ file. g.S.Frozen.Frozen.content file) c.args.from c.args.inputs.now c.loop-next.inputs (λ done. (g.S.Watch.Watch.counts c.loop-next.watch).reads ≤ (g.S.Watch.Watch.counts c.args.watch.now).reads + live_rows done) c.loop-next.invariant.reads (subst (IsNextOf c.loop-next.inputs) c.in_default.is c.loop-next.invariant.next)

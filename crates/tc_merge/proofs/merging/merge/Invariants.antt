@@ -5,7 +5,7 @@ use Rattle.tc_store.specs.Moments.{LeavesOnly}
 use Rattle.tc_component.specs.Building.{HasRows}
 use Rattle.tc_component.specs.Spelling.{Row}
 use Rattle.tc_merge.specs.Faults.{IsJudged}
-use Rattle.tc_merge.specs.Inputs.{left_of, IsUpTo}
+use Rattle.tc_merge.specs.Inputs.{left_of, IsNextOf, IsUpTo}
 use Rattle.tc_merge.specs.Merging.{AreTold, live_rows}
 use Rattle.tc_merge.proofs.merging.merge.Given as goal
 
@@ -14,6 +14,7 @@ invariant-loop-next g l =
     let h = g.S.Device.Device.history in
     let content = g.S.Frozen.Frozen.content in
     record {
+      next : IsNextOf l.inputs l.next;
       up : (rows : List Row) → AreTold (λ file. content file) (map (λ i. i.component) l.fn.inputs) → HasRows (h l.fn.builder.device) l.fn.builder rows
           → IsUpTo (λ file. content file) l.from l.fn.inputs l.inputs (λ done. HasRows (h l.builder.device) l.builder (rows ++ done));
       judged : AreTold (λ file. content file) (map (λ i. i.component) l.fn.inputs) → IsUpTo (λ file. content file) l.from l.fn.inputs l.inputs (λ done. All (IsJudged (map (λ i. i.component) l.fn.inputs)) done);

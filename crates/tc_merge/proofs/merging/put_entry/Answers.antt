@@ -20,7 +20,7 @@ returns-in-Ok-clause-same g c =
     let one : c.index-inputs-next.result ≡ c.requires.next.input = c.index-inputs-next.is ∙ get_or_from_slice_get c.args.inputs.now c.args.next.input c.requires.next.input c.index-inputs-next.result c.requires.next.here in
     let there : slice_get c.args.inputs.now c.args.next.input ≡ Some c.index-inputs-next.result = c.requires.next.here ∙ ap Some (sym one) in
     let back : set inputs c.args.next.input c.put_next.new.input ≡ inputs = ap (set inputs c.args.next.input) c.put_next.ensures.same ∙ ap (set inputs c.args.next.input) (sym c.index-inputs-next.is) ∙ set_back inputs c.args.next.input c.index-inputs-next.result there in
-    let all : c.pass_all.new.inputs ≡ map (passed key) inputs = c.pass_all.ensures ∙ ap (map (passed key)) back in
+    let all : c.pass_all.new.inputs ≡ map (passed key) inputs = c.pass_all.ensures.passed ∙ ap (map (passed key)) back in
     ap (map (λ i. i.component)) all ∙ passed_components key inputs
 
 pub returns-in-Ok-clause-fewer : goal.returns-in-Ok-clause-fewer
@@ -31,7 +31,7 @@ returns-in-Ok-clause-fewer g c =
     let one : c.index-inputs-next.result ≡ c.requires.next.input = c.index-inputs-next.is ∙ get_or_from_slice_get c.args.inputs.now c.args.next.input c.requires.next.input c.index-inputs-next.result c.requires.next.here in
     let there : slice_get c.args.inputs.now c.args.next.input ≡ Some c.index-inputs-next.result = c.requires.next.here ∙ ap Some (sym one) in
     let back : set inputs c.args.next.input c.put_next.new.input ≡ inputs = ap (set inputs c.args.next.input) c.put_next.ensures.same ∙ ap (set inputs c.args.next.input) (sym c.index-inputs-next.is) ∙ set_back inputs c.args.next.input c.index-inputs-next.result there in
-    let all : c.pass_all.new.inputs ≡ map (passed key) inputs = c.pass_all.ensures ∙ ap (map (passed key)) back in
+    let all : c.pass_all.new.inputs ≡ map (passed key) inputs = c.pass_all.ensures.passed ∙ ap (map (passed key)) back in
     subst (λ new. left_of new < left_of inputs) (sym all) (fewer key inputs c.args.next.input is.input is.here is.ahead)
 
 pub returns-in-Ok-clause-pushed : goal.returns-in-Ok-clause-pushed
@@ -45,7 +45,7 @@ returns-in-Ok-clause-pushed g c = λ rows told has.
     let one : c.index-inputs-next.result ≡ c.requires.next.input = c.index-inputs-next.is ∙ get_or_from_slice_get c.args.inputs.now c.args.next.input c.requires.next.input c.index-inputs-next.result c.requires.next.here in
     let there : slice_get c.args.inputs.now c.args.next.input ≡ Some c.index-inputs-next.result = c.requires.next.here ∙ ap Some (sym one) in
     let back : set inputs c.args.next.input c.put_next.new.input ≡ inputs = ap (set inputs c.args.next.input) c.put_next.ensures.same ∙ ap (set inputs c.args.next.input) (sym c.index-inputs-next.is) ∙ set_back inputs c.args.next.input c.index-inputs-next.result there in
-    let all : c.pass_all.new.inputs ≡ map (passed key) inputs = c.pass_all.ensures ∙ ap (map (passed key)) back in
+    let all : c.pass_all.new.inputs ≡ map (passed key) inputs = c.pass_all.ensures.passed ∙ ap (map (passed key)) back in
     let row = row_ahead content inputs c.args.next is c.requires.lawful in
     let rest = (ahead content is.input key is.ahead).rest in
     subst (λ last. IsUpTo content c.args.from inputs last (λ done. HasRows (h new.device) new (rows ++ done))) (sym all)
@@ -72,7 +72,7 @@ returns-in-Ok-clause-judged g c = λ told.
     let one : c.index-inputs-next.result ≡ c.requires.next.input = c.index-inputs-next.is ∙ get_or_from_slice_get c.args.inputs.now c.args.next.input c.requires.next.input c.index-inputs-next.result c.requires.next.here in
     let there : slice_get c.args.inputs.now c.args.next.input ≡ Some c.index-inputs-next.result = c.requires.next.here ∙ ap Some (sym one) in
     let back : set inputs c.args.next.input c.put_next.new.input ≡ inputs = ap (set inputs c.args.next.input) c.put_next.ensures.same ∙ ap (set inputs c.args.next.input) (sym c.index-inputs-next.is) ∙ set_back inputs c.args.next.input c.index-inputs-next.result there in
-    let all : c.pass_all.new.inputs ≡ map (passed key) inputs = c.pass_all.ensures ∙ ap (map (passed key)) back in
+    let all : c.pass_all.new.inputs ≡ map (passed key) inputs = c.pass_all.ensures.passed ∙ ap (map (passed key)) back in
     let row = row_ahead content inputs c.args.next is c.requires.lawful in
     let rest = (ahead content is.input key is.ahead).rest in
     let components = map (λ i. i.component) inputs in
@@ -97,7 +97,7 @@ returns-in-Ok-clause-reads g c =
     let one : c.index-inputs-next.result ≡ c.requires.next.input = c.index-inputs-next.is ∙ get_or_from_slice_get c.args.inputs.now c.args.next.input c.requires.next.input c.index-inputs-next.result c.requires.next.here in
     let there : slice_get c.args.inputs.now c.args.next.input ≡ Some c.index-inputs-next.result = c.requires.next.here ∙ ap Some (sym one) in
     let back : set inputs c.args.next.input c.put_next.new.input ≡ inputs = ap (set inputs c.args.next.input) c.put_next.ensures.same ∙ ap (set inputs c.args.next.input) (sym c.index-inputs-next.is) ∙ set_back inputs c.args.next.input c.index-inputs-next.result there in
-    let all : c.pass_all.new.inputs ≡ map (passed key) inputs = c.pass_all.ensures ∙ ap (map (passed key)) back in
+    let all : c.pass_all.new.inputs ≡ map (passed key) inputs = c.pass_all.ensures.passed ∙ ap (map (passed key)) back in
     let row = row_ahead content inputs c.args.next is c.requires.lawful in
     let rest = (ahead content is.input key is.ahead).rest in
     let old = (g.S.Watch.Watch.counts c.args.watch.now).reads in
