@@ -1,4 +1,4 @@
-use Rattle.std.proofs.Common.{◌≡◌, ◌∙◌, ◌≤◌, ◌<◌, ◌+◌, Some, length, sym, ap, subst, arith}
+use Rattle.std.proofs.Common.{◌≡◌, ◌∙◌, ◌≤◌, ◌<◌, ◌+◌, length, sym, ap, arith}
 use Rattle.std.specs.Arc.{arc_value}
 use Rattle.tc_merge.specs.Inputs.{key_ahead}
 use Rattle.tc_merge.proofs.UpTo.{entry_left, same_key}
