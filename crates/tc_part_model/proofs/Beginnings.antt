@@ -7,6 +7,7 @@ use Rattle.tc_store.specs.declared.file_name.FileName.TheVariants.{Component, Lo
 use Rattle.tc_store.specs.Disk.{Disk, IsThere, home, is_out, none, out, put, removed_of}
 use Rattle.tc_store.specs.DiskFile.{DiskFile, empty_file}
 use Rattle.tc_store.proofs.NameLemmas.{put_there}
+use Rattle.tc_plain_model.specs.Writes.{Write}
 use Rattle.tc_lsm_model.specs.Contents.{Content}
 use Rattle.tc_lsm_model.specs.Merges.{IsMerge, Run, in_run}
 use Rattle.tc_machine.specs.Components.{file_of}
@@ -27,10 +28,17 @@ use Rattle.tc_part_model.proofs.DeviceFiles.{next_log_jobs, no_job_leaves, put_s
 use Rattle.tc_part_model.proofs.Pictures.{same_beside}
 
 -- what the files keep is left at each moment at which they do
+pub same_leaves : (p : PartView) (failed : Bool) (frame : Option (List Write)) (disk other : Disk) (f g : DiskFile) → AreKeptAt p failed frame disk f g → ((job : FileName → DiskFile) → files_at p other f g job ≡ files_at p disk f g job)
+    → LeavesStoreAt p frame g f other
+same_leaves p failed frame disk other f g k same x leaves picture beside =
+    picture_beside_recovers p.part (state_with p failed frame (files_at p disk f g (with_next_log p x))) picture (k.kept (with_next_log p x) (next_log_jobs p x))
+    (same_beside p failed frame (files_at p other f g (with_next_log p x)) (files_at p disk f g (with_next_log p x)) picture (same (with_next_log p x)) beside)
+
+pub frame_leaves : (p : PartView) (failed : Bool) (frame : Option (List Write)) (disk : Disk) (f g : DiskFile) → AreKeptAt p failed frame disk f g → LeavesStoreAt p frame g f disk
+frame_leaves p failed frame disk f g k = same_leaves p failed frame disk disk f g k (λ job. refl)
+
 pub kept_leaves : (p : PartView) (failed : Bool) (disk : Disk) (f g : DiskFile) → AreKeptAt p failed None disk f g → LeavesStoreAt p None g f disk
-kept_leaves p failed disk f g k x leaves picture beside =
-    picture_beside_recovers p.part (state_with p failed None (files_at p disk f g (with_next_log p x))) picture (k.kept (with_next_log p x) (next_log_jobs p x))
-    (same_beside p failed (files_at p disk f g (with_next_log p x)) (files_at p disk f g (with_next_log p x)) picture refl beside)
+kept_leaves p failed = frame_leaves p failed None
 
 module _ (p : PartView) (disk : Disk) (f g : DiskFile) (k : AreKeptAt p false None disk f g) where
   -- ---- a file that nobody will use

@@ -72,13 +72,13 @@ module _ (p : PartView) (failed : Bool) (frame : Option (List Write)) where
       subst (λ ds. IfTold ds (KeepsStore p.part (store_of p) frame)) (sym (returned (active_name p) (home f) disk past (kept any.0 any.1).log_out)) (home_stores p failed frame disk f any.0 (kept any.0 any.1))
 
   module _ (some : IsSome p.sealed) (logs : 0 < length (sealed_logs p.sealed)) where
-    later : generation_of p ≢ last_of p.list + 1
+    pub later : generation_of p ≢ last_of p.list + 1
     later same = absurd (no same)
       where
         no : generation_of p ≡ last_of p.list + 1 → ⊥
         no same = omega (arith, same, logs)
 
-    apart : active_name p ≢ sealed_name p
+    pub apart : active_name p ≢ sealed_name p
     apart same = later (log_generation (generation_of p) (last_of p.list + 1) same)
 
     own : (f g : DiskFile) → device_at p f g no_job (sealed_name p) ≡ g

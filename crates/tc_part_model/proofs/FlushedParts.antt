@@ -1,13 +1,14 @@
 -- A part whose flush is listed: done, at each moment, and where it failed.
-use Rattle.std.proofs.Common.{◌≡◌, ◌≢◌, ◌+◌, ◌-◌, ◌++◌, ◌⊎◌, List, [], ◌∷◌, length, refl, sym, ap, ◌∙◌, subst, arith, Option, Some, None, false, true, is_some}
+use Rattle.std.proofs.Common.{◌≡◌, ◌≢◌, ◌+◌, ◌-◌, ◌++◌, ◌⊎◌, List, [], ◌∷◌, length, refl, sym, ap, ◌∙◌, subst, arith, inr, Option, Some, None, false, true, is_some}
 use Rattle.std.specs.Prelude.{IfSome, IsSome}
 use Rattle.std.specs.List.{AllZip}
 use Rattle.tc_model.specs.KnownNames.{HasEach}
 use Rattle.tc_store.specs.declared.file_name.FileName.TheVariants.{Component, Log}
 use Rattle.tc_store.specs.Disk.{home, out}
-use Rattle.tc_store.specs.DiskFile.{DiskFile, IsSettled}
-use Rattle.tc_store.specs.Moments.{IfTold}
+use Rattle.tc_store.specs.DiskFile.{DiskFile, IsSettled, settled_file}
+use Rattle.tc_store.specs.Moments.{IfTold, LeavesAt}
 use Rattle.tc_store.specs.StoreCalls.{comes_home, frozen_entry, removes}
+use Rattle.tc_store.proofs.GateLemmas.{settled_leaves}
 use Rattle.tc_store.proofs.MomentLemmas.{told_map}
 use Rattle.tc_memory.specs.Table as memory
 use Rattle.tc_plain_model.specs.Writes.{Pairs, Write}
@@ -20,6 +21,7 @@ use Rattle.tc_machine.specs.Components.{file_of}
 use Rattle.tc_machine.specs.Kept.{MergeFits}
 use Rattle.tc_machine.specs.Sound.{IsFlushOf}
 use Rattle.tc_machine.specs.State.{Flushing, Merging, Sealed}
+use Rattle.tc_machine.specs.Steps.{IsFlushed, IsShutOrHas}
 use Rattle.tc_machine.proofs.Options.{All-front, if_some_map}
 use Rattle.tc_machine.proofs.Targets.{MergeTarget, merge_target}
 use Rattle.tc_part_model.specs.Calls.{HasMade, MakesFlush}
@@ -33,7 +35,7 @@ use Rattle.tc_part_model.proofs.DeviceFiles.{comes_untold, logs_tell, told_again
 use Rattle.tc_part_model.proofs.ToldFiles.{MomentsSince}
 use Rattle.tc_part_model.proofs.FlushInstalls.{active_is, after, flushed_soon, made_name}
 use Rattle.tc_part_model.proofs.FlushedViews.{flushed_memory, flushed_starts, names_stay, store_stays, stored_stays, table_stays}
-use Rattle.tc_part_model.proofs.ToldFlushes.{flush_moments_since, frozen, frozen_files, home_files, uncovered, uncovered_files, uncovered_jobs, uncovered_untold}
+use Rattle.tc_part_model.proofs.ToldFlushes.{flush_moments_since, frozen, frozen_files, frozen_moments_since, home_files, home_moments_since, uncovered, uncovered_files, uncovered_jobs, uncovered_untold}
 
 AllZip-last : {A B : Type 0} (R : A → B → Type 0) (xs : List A) (ys : List B) (x : A) (y : B) → AllZip R xs ys → R x y → AllZip R (xs ++ x ∷ []) (ys ++ y ∷ [])
 AllZip-last R [] [] x y all last = (last, tt)
@@ -170,6 +172,22 @@ module _ (t : Told) (p : PartView) (table : Table) (ws : List Write) (is : IsPar
       subst (λ o. MomentsSince (λ disk f g. LeavesStoreAt (flushed_soon p table ws) None g f disk ⊎ LeavesStoreAt (after p table ws c is_flush) None g f disk) t.disks t.log o (uncovered p table ws c is_flush (component_bytes c) made.whole dev covered t.disks)) (sym some)
       (flush_moments_since p table ws c is_flush (component_bytes c) made.whole t.disks t.log dev covered is.tells.active made.tells covered_tells kept is.files.jobs made.content settled)
 
+  told_frozen_moments : StoreMomentsLeaveStore (flushed_soon p table ws) (flushed_soon p table ws) t (frozen p table ws c is_flush (component_bytes c) made.whole dev t.disks)
+  told_frozen_moments =
+      subst (λ o. MomentsSince (λ disk f g. LeavesStoreAt (flushed_soon p table ws) None g f disk ⊎ LeavesStoreAt (flushed_soon p table ws) None g f disk) t.disks t.log o (frozen p table ws c is_flush (component_bytes c) made.whole dev t.disks)) (sym some)
+      (frozen_moments_since p table ws c is_flush (component_bytes c) made.whole t.disks t.log dev covered is.tells.active made.tells covered_tells kept is.files.jobs made.content)
+
+  told_home_moments : StoreMomentsLeaveStore (flushed_soon p table ws) (after p table ws c is_flush) t (comes_home (sealed_name p) (λ x. home x) covered (frozen p table ws c is_flush (component_bytes c) made.whole dev t.disks))
+  told_home_moments =
+      subst (λ o. MomentsSince (λ disk f g. LeavesStoreAt (flushed_soon p table ws) None g f disk ⊎ LeavesStoreAt (after p table ws c is_flush) None g f disk) t.disks t.log o (comes_home (sealed_name p) (λ x. home x) covered (frozen p table ws c is_flush (component_bytes c) made.whole dev t.disks))) (sym some)
+      (home_moments_since p table ws c is_flush (component_bytes c) made.whole t.disks t.log dev covered is.tells.active made.tells covered_tells kept is.files.jobs made.content)
+
+  -- the device of the flush has what a flush makes
+  told_made : IfTold dev (LeavesAt (IsShutOrHas (IsFlushed p.part p.list (flushed_soon p table ws).sealed)))
+  told_made = told_map (λ x. x ≡ settled_file (component_bytes c)) (LeavesAt (IsShutOrHas (IsFlushed p.part p.list (flushed_soon p table ws).sealed))) dev
+      (λ x whole. subst (λ y. LeavesAt (IsShutOrHas (IsFlushed p.part p.list (flushed_soon p table ws).sealed)) y) (sym whole)
+      (settled_leaves (component_bytes c) (IsShutOrHas (IsFlushed p.part p.list (flushed_soon p table ws).sealed)) (inr (c, is_flush, made.whole)))) made.content
+
 -- ---- of any part whose flush is out
 
 -- a fact of the part as one whose flush is out
@@ -211,3 +229,24 @@ flush_log_home t u p c dev covered is flushing some makes made failed log sealed
     as_soon (λ q. MakesFlush q c → HasFailedAs u (flushed_part c q) None) t p is flushing covered some
     (λ table ws soon eq is_flush. told_home t p table ws soon covered some c is_flush dev made u failed log sealed
     (disks ∙ ap (λ n. comes_home (Log n) (λ x. home x) covered (comes_home (Component n n) frozen_entry dev t.disks)) (last t p table ws soon covered some c is_flush dev made))) makes
+
+pub flush_not_listed_moments : (t : Told) (p : PartView) (c : Content) (dev covered : List DiskFile) → IsPart t p → t.flushing ≡ true → t.sealed_log ≡ Some covered → MakesFlush p c → HasMade c t.disks dev
+    → StoreMomentsLeaveStore p p t (comes_home (Component (t.generation - 1) (t.generation - 1)) frozen_entry dev t.disks)
+flush_not_listed_moments t p c dev covered is flushing some makes made =
+    as_soon (λ q. MakesFlush q c → StoreMomentsLeaveStore q q t (comes_home (Component (t.generation - 1) (t.generation - 1)) frozen_entry dev t.disks)) t p is flushing covered some
+    (λ table ws soon eq is_flush. subst (λ ds. StoreMomentsLeaveStore (flushed_soon p table ws) (flushed_soon p table ws) t ds) (sym (frozen_is t p table ws soon covered some c is_flush dev made))
+    (told_frozen_moments t p table ws soon covered some c is_flush dev made)) makes
+
+pub flush_log_home_moments : (t : Told) (p : PartView) (c : Content) (dev covered : List DiskFile) → IsPart t p → t.flushing ≡ true → t.sealed_log ≡ Some covered → MakesFlush p c → HasMade c t.disks dev
+    → StoreMomentsLeaveStore p (flushed_part c p) t (comes_home (Log (t.generation - 1)) (λ x. home x) covered (comes_home (Component (t.generation - 1) (t.generation - 1)) frozen_entry dev t.disks))
+flush_log_home_moments t p c dev covered is flushing some makes made =
+    as_soon (λ q. MakesFlush q c → StoreMomentsLeaveStore q (flushed_part c q) t (comes_home (Log (t.generation - 1)) (λ x. home x) covered (comes_home (Component (t.generation - 1) (t.generation - 1)) frozen_entry dev t.disks))) t p is flushing covered some
+    (λ table ws soon eq is_flush. subst (λ ds. StoreMomentsLeaveStore (flushed_soon p table ws) (flushed_part c (flushed_soon p table ws)) t ds)
+    (sym (ap (λ n. comes_home (Log n) (λ x. home x) covered (comes_home (Component n n) frozen_entry dev t.disks)) (last t p table ws soon covered some c is_flush dev made)))
+    (told_home_moments t p table ws soon covered some c is_flush dev made)) makes
+
+pub flush_made_leaves : (t : Told) (p : PartView) (c : Content) (dev covered : List DiskFile) → IsPart t p → t.flushing ≡ true → t.sealed_log ≡ Some covered → MakesFlush p c → HasMade c t.disks dev
+    → IfTold dev (LeavesAt (IsShutOrHas (IsFlushed p.part p.list p.sealed)))
+flush_made_leaves t p c dev covered is flushing some makes made =
+    as_soon (λ q. MakesFlush q c → IfTold dev (LeavesAt (IsShutOrHas (IsFlushed q.part q.list q.sealed)))) t p is flushing covered some
+    (λ table ws soon eq is_flush. told_made t p table ws soon covered some c is_flush dev made) makes

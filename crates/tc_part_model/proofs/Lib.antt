@@ -30,3 +30,5 @@ pub mod StartedParts
 pub mod Removals
 pub mod RunsUnlisted
 pub mod RemovedParts
+pub mod HomeMoments
+pub mod FollowingMoments

@@ -1,14 +1,14 @@
 -- A part whose merge is listed: done, at each moment, and where its component is still and was not listed.
-use Rattle.std.proofs.Common.{◌≡◌, ◌≢◌, ◌⊎◌, ◌++◌, ℕ, arith, List, [], ◌∷◌, length, refl, sym, ap, ◌∙◌, subst, inl, inr, Option, Some, None, false}
+use Rattle.std.proofs.Common.{◌≡◌, ◌≢◌, ◌⊎◌, ◌++◌, ℕ, arith, List, [], ◌∷◌, length, refl, sym, ap, ◌∙◌, subst, inl, inr, Option, Some, None, false, true}
 use Rattle.std.specs.Prelude.{IfSome}
 use Rattle.std.specs.List.{AllZip}
 use Rattle.tc_model.specs.KnownNames.{HasEach}
 use Rattle.tc_store.specs.Disk.{Disk, out, put, still}
 use Rattle.tc_store.specs.DiskFile.{DiskFile, settled_file}
-use Rattle.tc_store.specs.Moments.{EachSince, IfTold}
+use Rattle.tc_store.specs.Moments.{EachSince, IfTold, LeavesAt}
 use Rattle.tc_store.specs.StoreCalls.{comes_home, frozen_entry}
 use Rattle.tc_store.proofs.GateLemmas.{settled_leaves}
-use Rattle.tc_store.proofs.MomentLemmas.{EachSince-none, EachSince-one}
+use Rattle.tc_store.proofs.MomentLemmas.{EachSince-none, EachSince-one, told_map}
 use Rattle.tc_store.proofs.NameLemmas.{put_there}
 use Rattle.tc_plain_model.specs.Store.{names_after}
 use Rattle.tc_plain_model.specs.Writes.{Pairs, after_writes}
@@ -28,11 +28,12 @@ use Rattle.tc_part_model.specs.Calls.{HasMade}
 use Rattle.tc_part_model.specs.Changes.{merged_part}
 use Rattle.tc_part_model.specs.Leaving.{LeavesStoreAt, StoreMomentsLeaveStore}
 use Rattle.tc_part_model.specs.PartFiles.{AreJobsOut, AreKeptAt, IfFiles}
-use Rattle.tc_part_model.specs.Meaning.{IsOfContent, IsPart, KeepsSealed, KeepsTable}
+use Rattle.tc_part_model.specs.Meaning.{HasFailedAs, IsOfContent, IsPart, KeepsSealed, KeepsTable}
 use Rattle.tc_part_model.specs.PartState.{AreTold, IsTold, Told, ToldComponent}
 use Rattle.tc_part_model.specs.PartView.{MayStart, PartView, below_of, names_in, state_of, store_of, table_of}
 use Rattle.tc_part_model.proofs.Beginnings.{kept_leaves}
 use Rattle.tc_part_model.proofs.DeviceFiles.{comes_untold, logs_tell}
+use Rattle.tc_part_model.proofs.Failures.{failing_keeps}
 use Rattle.tc_part_model.proofs.Returns.{merge_calls, still_keeps}
 use Rattle.tc_part_model.proofs.ToldFiles.{MomentsSince}
 use Rattle.tc_part_model.proofs.ToldReturns.{returned}
@@ -80,6 +81,17 @@ module _ (p : PartView) (m : Merging) (memory : IsMemoryKept p.part (state_of (m
     merged_files (disk ∷ past) (f ∷ fs) (x ∷ xs) sealed a b kept jobs is =
         subst (λ ds. IfFiles ds (f ∷ fs) sealed (AreKeptAt (merged p m memory) false None)) (sym (frozen_is disk past x xs jobs.merge_out is))
         (λ g same. merged_keeps p m memory (put (file_of m.target) (still bytes) disk) f g bytes (kept_after disk f g (kept g same) jobs.merge_out) (put_there (file_of m.target) (still bytes) disk) whole)
+
+    frozen_files : (disks : List Disk) (log dev : List DiskFile) (sealed : Option (List DiskFile)) → IfTold disks (λ disk. IsTold dev) → IfFiles disks log sealed (AreKeptAt (merged_soon p m) false None)
+        → IfTold disks (AreJobsOut p.flush (Some m)) → IfTold dev (λ x. x ≡ settled_file bytes) → IfFiles (comes_home (file_of m.target) frozen_entry dev disks) log sealed (AreKeptAt (merged_soon p m) true None)
+    frozen_files [] log dev sealed b kept jobs is = subst (λ ds. IfFiles ds log sealed (AreKeptAt (merged_soon p m) true None)) (sym (comes_untold (file_of m.target) frozen_entry dev)) tt
+    frozen_files (disk ∷ past) log [] sealed b kept jobs is = absurd b
+    frozen_files (disk ∷ past) log (x ∷ xs) sealed b kept jobs is =
+        subst (λ ds. IfFiles ds log sealed (AreKeptAt (merged_soon p m) true None)) (sym (frozen_is disk past x xs jobs.merge_out is)) (at log kept)
+      where
+        at : (log : List DiskFile) → IfFiles (disk ∷ past) log sealed (AreKeptAt (merged_soon p m) false None) → IfFiles (put (file_of m.target) (still bytes) disk ∷ disk ∷ past) log sealed (AreKeptAt (merged_soon p m) true None)
+        at [] kept = tt
+        at (f ∷ fs) kept = λ g same. failing_keeps (merged_soon p m) (put (file_of m.target) (still bytes) disk) f g (kept_after disk f g (kept g same) jobs.merge_out)
 
     merged_jobs : (disks : List Disk) (dev : List DiskFile) → IfTold disks (λ disk. IsTold dev) → IfSome p.flush (λ j. file_of m.target ≢ flush_name j) → IfTold disks (AreJobsOut p.flush (Some m)) → IfTold dev (λ x. x ≡ settled_file bytes)
         → IfTold (comes_home (file_of m.target) frozen_entry dev disks) (AreJobsOut p.flush None)
@@ -171,3 +183,17 @@ pub merge_listed_moments : (t : Told) (p : PartView) (m : Merging) (dev : List D
 merge_listed_moments t p m dev is some made =
     subst (λ q. IsPart t q → StoreMomentsLeaveStore q (merged_part q) t (comes_home (file_of m.target) frozen_entry dev t.disks)) (ap (λ o. record p { merge = o }) (sym some))
     (λ soon. merged_moments p m soon.memory (component_bytes m.target) made.whole t.disks t.log dev t.sealed_log made.tells soon.files.kept soon.files.jobs made.content) is
+
+pub merge_not_listed : (t u : Told) (p : PartView) (m : Merging) (dev : List DiskFile) → IsPart t p → p.merge ≡ Some m → HasMade m.target t.disks dev → u.failed ≡ true → u.log ≡ t.log → u.sealed_log ≡ t.sealed_log
+    → u.disks ≡ comes_home (file_of m.target) frozen_entry dev t.disks → HasFailedAs u p None
+merge_not_listed t u p m dev is some made failed log sealed disks =
+    subst (λ q. IsPart t q → HasFailedAs u q None) (ap (λ o. record p { merge = o }) (sym some))
+    (λ soon. record {
+      failed = failed;
+      tells = rw (disks, log, sealed) (logs_tell t.disks (comes_home (file_of m.target) frozen_entry dev t.disks) t.log t.sealed_log (λ none. ap (comes_home (file_of m.target) frozen_entry dev) none ∙ comes_untold (file_of m.target) frozen_entry dev) soon.tells);
+      files = rw (disks, log, sealed) (frozen_files p m soon.memory (component_bytes m.target) made.whole t.disks t.log dev t.sealed_log made.tells soon.files.kept soon.files.jobs made.content);
+    }) is
+
+pub merge_made_leaves : (m : Merging) (disks : List Disk) (dev : List DiskFile) → HasMade m.target disks dev → IfTold dev (LeavesAt (IsShutOrHas (IsComponent m.target)))
+merge_made_leaves m disks dev made = told_map (λ x. x ≡ settled_file (component_bytes m.target)) (LeavesAt (IsShutOrHas (IsComponent m.target))) dev
+    (λ x whole. subst (λ y. LeavesAt (IsShutOrHas (IsComponent m.target)) y) (sym whole) (settled_leaves (component_bytes m.target) (IsShutOrHas (IsComponent m.target)) (inr made.whole))) made.content

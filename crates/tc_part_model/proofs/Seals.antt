@@ -130,7 +130,7 @@ module _ (p : PartView) (disk : Disk) (f g : DiskFile) (k : AreKeptAt (bare p) f
   -- while it is out, and once it is at home
   pub out_leaves : LeavesStoreAt (bare p) None g f (put (next_name p) out disk)
   out_leaves x leaves picture beside =
-      recovers x x leaves picture (same_beside (bare p) true (files_at (bare p) (put (next_name p) out disk) f g (with_next_log (bare p) x)) (put (next_name p) (home x) (files_at (bare p) disk f g (with_next_log (bare p) x))) picture
+      recovers x x leaves picture (same_beside (bare p) true None (files_at (bare p) (put (next_name p) out disk) f g (with_next_log (bare p) x)) (put (next_name p) (home x) (files_at (bare p) disk f g (with_next_log (bare p) x))) picture
       (put_seen (bare p) (next_name p) out disk f g (with_next_log (bare p) x)
       ∙ ap (λ d. put (next_name p) (home d) (files_at (bare p) disk f g (with_next_log (bare p) x))) (next_device p f g (with_next_log (bare p) x) ∙ own x)) beside)
     where
@@ -139,7 +139,7 @@ module _ (p : PartView) (disk : Disk) (f g : DiskFile) (k : AreKeptAt (bare p) f
 
   pub home_leaves : (x : DiskFile) → NextLogLeaves (bare p) x → LeavesStoreAt (bare p) None g f (put (next_name p) (home x) disk)
   home_leaves x leaves y any picture beside =
-      recovers x y leaves picture (same_beside (bare p) true (files_at (bare p) (put (next_name p) (home x) disk) f g (with_next_log (bare p) y)) (put (next_name p) (home x) (files_at (bare p) disk f g (with_next_log (bare p) y))) picture
+      recovers x y leaves picture (same_beside (bare p) true None (files_at (bare p) (put (next_name p) (home x) disk) f g (with_next_log (bare p) y)) (put (next_name p) (home x) (files_at (bare p) disk f g (with_next_log (bare p) y))) picture
       (put_seen (bare p) (next_name p) (home x) disk f g (with_next_log (bare p) y)) beside)
 
   -- ---- the seal failed

@@ -49,11 +49,10 @@ use Rattle.tc_part_model.proofs.ViewLaws.{nothing_starts}
 -- ---- a dictionary has its own names
 
 HasNumber-more : (x y : Name) (names : List Name) → HasNumber names y → HasNumber (x ∷ names) y
-HasNumber-more x y names is = sym (list_any-number_of (x ∷ names) y) ∙ either (bytes_eq y x) (list_any (bytes_eq y) names) (list_any-number_of names y ∙ is)
-  where
-    either : (a b : Bool) → b ≡ true → (a || b) ≡ true
-    either true b is = refl
-    either false b is = is
+HasNumber-more x y names is = sym (list_any-number_of (x ∷ names) y) ∙ elim (cases_Bool (bytes_eq y x)) [
+  | inl same ↦ rw same refl
+  | inr apart ↦ rw apart (list_any-number_of names y ∙ is)
+]
 
 HasNumber-first : (x : Name) (names : List Name) → HasNumber (x ∷ names) x
 HasNumber-first x names = sym (list_any-number_of (x ∷ names) x) ∙ ap (λ b. b || list_any (bytes_eq x) names) ((bytes_eq-Decides x x).1 refl)

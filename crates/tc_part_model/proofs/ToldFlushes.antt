@@ -7,7 +7,6 @@ use Rattle.tc_store.specs.DiskFile.{DiskFile, IsSettled, settled_file}
 use Rattle.tc_store.specs.Moments.{IfTold, LeavesAt}
 use Rattle.tc_store.specs.StoreCalls.{comes_home, frozen_entry, removes}
 use Rattle.tc_store.proofs.GateLemmas.{settled_leaves}
-use Rattle.tc_store.proofs.MomentLemmas.{EachSince-none}
 use Rattle.tc_store.proofs.NameLemmas.{put_there}
 use Rattle.tc_plain_model.specs.Writes.{Write}
 use Rattle.tc_component.specs.Rows.{IsComponent}
@@ -29,7 +28,7 @@ use Rattle.tc_part_model.proofs.DeviceFiles.{comes_untold}
 use Rattle.tc_part_model.proofs.Failures.{failing_keeps}
 use Rattle.tc_part_model.proofs.FlushInstalls.{after, flushed_soon, home_after, made_name, none_after, still_after}
 use Rattle.tc_part_model.proofs.Returns.{flush_calls, still_keeps}
-use Rattle.tc_part_model.proofs.ToldFiles.{MomentsSince}
+use Rattle.tc_part_model.proofs.ToldFiles.{MomentsSince, no_moments_since}
 use Rattle.tc_part_model.proofs.ToldReturns.{returned}
 
 -- where the store tells, so do its devices
@@ -140,12 +139,40 @@ module _ (p : PartView) (table : Table) (ws : List Write) (c : Content) (is_flus
 
     -- ---- moments
 
+    abbrev Stays : Disk → DiskFile → DiskFile → Type 0
+    Stays disk f g = LeavesStoreAt (flushed_soon p table ws) None g f disk ⊎ LeavesStoreAt (flushed_soon p table ws) None g f disk
+
+    pub frozen_moments_since : Kept disks log covered → Jobs disks → Whole dev → MomentsSince Stays disks log (Some covered) (frozen dev disks)
+    frozen_moments_since = all_told (λ disks log dev covered. Kept disks log covered → Jobs disks → Whole dev → MomentsSince Stays disks log (Some covered) (frozen dev disks))
+        (λ log dev covered kept jobs is. subst (λ ds. MomentsSince Stays [] log (Some covered) ds) (sym (comes_untold (made_name p) frozen_entry dev)) (no_moments_since Stays [] log (Some covered)))
+        (λ disk past f fs x xs g gs kept jobs is. λ h same. record {
+          added = with_made disk ∷ [];
+          goes_on = frozen_is disk past x xs jobs.flush_out is;
+          each = All-cons (λ d. Stays d f h) (with_made disk) [] (inl (kept_leaves (flushed_soon p table ws) false (with_made disk) f h (made_kept disk f h (kept h same) jobs.flush_out))) (All-nil (λ d. Stays d f h));
+          untold = λ none. absurd (cc);
+        })
+        disks log dev covered log_tells dev_tells covered_tells
+
     abbrev Leaves : Disk → DiskFile → DiskFile → Type 0
     Leaves disk f g = LeavesStoreAt (flushed_soon p table ws) None g f disk ⊎ LeavesStoreAt (after p table ws c is_flush) None g f disk
 
+    pub home_moments_since : Kept disks log covered → Jobs disks → Whole dev → MomentsSince Leaves disks log (Some covered) (comes_home (sealed_name p) (λ x. home x) covered (frozen dev disks))
+    home_moments_since = all_told (λ disks log dev covered. Kept disks log covered → Jobs disks → Whole dev → MomentsSince Leaves disks log (Some covered) (comes_home (sealed_name p) (λ x. home x) covered (frozen dev disks)))
+        (λ log dev covered kept jobs is. subst (λ ds. MomentsSince Leaves [] log (Some covered) ds)
+        (sym (ap (comes_home (sealed_name p) (λ x. home x) covered) (comes_untold (made_name p) frozen_entry dev) ∙ comes_untold (sealed_name p) (λ x. home x) covered)) (no_moments_since Leaves [] log (Some covered)))
+        (λ disk past f fs x xs g gs kept jobs is. λ h same. record {
+          added = put (sealed_name p) (home g) (with_made disk) ∷ with_made disk ∷ [];
+          goes_on = ap (comes_home (sealed_name p) (λ x. home x) (g ∷ gs)) (frozen_is disk past x xs jobs.flush_out is) ∙ returned (sealed_name p) (home g) (with_made disk) (disk ∷ past) ((kept g refl).sealed_out refl);
+          each = All-cons (λ d. Leaves d f h) (put (sealed_name p) (home g) (with_made disk)) (with_made disk ∷ [])
+              (inr (kept_leaves (after p table ws c is_flush) false (put (sealed_name p) (home g) (with_made disk)) f h (home_left disk f g (kept g refl) jobs.flush_out h)))
+              (All-cons (λ d. Leaves d f h) (with_made disk) [] (inl (kept_leaves (flushed_soon p table ws) false (with_made disk) f h (made_kept disk f h (kept h same) jobs.flush_out))) (All-nil (λ d. Leaves d f h)));
+          untold = λ none. absurd (cc);
+        })
+        disks log dev covered log_tells dev_tells covered_tells
+
     pub flush_moments_since : Kept disks log covered → Jobs disks → Whole dev → IfTold covered IsSettled → MomentsSince Leaves disks log (Some covered) (uncovered dev covered disks)
     flush_moments_since = all_told (λ disks log dev covered. Kept disks log covered → Jobs disks → Whole dev → IfTold covered IsSettled → MomentsSince Leaves disks log (Some covered) (uncovered dev covered disks))
-        (λ log dev covered kept jobs is settled. untold log dev covered)
+        (λ log dev covered kept jobs is settled. subst (λ ds. MomentsSince Leaves [] log (Some covered) ds) (sym (uncovered_untold dev covered)) (no_moments_since Leaves [] log (Some covered)))
         (λ disk past f fs x xs g gs kept jobs is settled. λ h same. record {
           added = put (sealed_name p) (none (Some g.content)) (with_made disk) ∷ put (sealed_name p) (still g.content) (with_made disk) ∷ with_made disk ∷ [];
           goes_on = uncovered_is disk past x xs g gs jobs.flush_out ((kept g refl).sealed_out refl) is;
@@ -157,7 +184,3 @@ module _ (p : PartView) (table : Table) (ws : List Write) (c : Content) (is_flus
           untold = λ none. absurd (cc);
         })
         disks log dev covered log_tells dev_tells covered_tells
-      where
-        untold : (log dev covered : List DiskFile) → MomentsSince Leaves [] log (Some covered) (uncovered dev covered [])
-        untold [] dev covered = tt
-        untold (f ∷ fs) dev covered = λ h same. EachSince-none (λ d. Leaves d f h) [] (uncovered dev covered []) (uncovered_untold dev covered)

@@ -15,7 +15,7 @@ use Rattle.tc_part_model.specs.PartView.{PartView}
 use Rattle.tc_part_model.proofs.DeviceFiles.{comes_untold, logs_tell}
 use Rattle.tc_part_model.proofs.Returns.{JobCalls, home_keeps}
 
-out_is : (e : Entry) → is_out e ≡ true → e ≡ out
+pub out_is : (e : Entry) → is_out e ≡ true → e ≡ out
 out_is (none before) is = absurd (false≢true is)
 out_is (home f) is = absurd (false≢true is)
 out_is (still bytes) is = absurd (false≢true is)

@@ -49,6 +49,11 @@ abbrev pub StoreMomentsLeaveStore : PartView → PartView → Told → List Disk
 StoreMomentsLeaveStore p q old disks =
     IfTold old.log λ f. (g : DiskFile) → IsSealedFile old.sealed_log g → EachSince (λ disk. LeavesStoreAt p None g f disk ⊎ LeavesStoreAt q None g f disk) old.disks disks
 
+-- So it is of a part that has failed: without the frame of a commit that failed, or with it.
+abbrev pub FailedMomentsLeaveStore : PartView → Option (List Write) → Told → List Disk → Type 0
+FailedMomentsLeaveStore p frame old disks =
+    IfTold old.log λ f. (g : DiskFile) → IsSealedFile old.sealed_log g → EachSince (LeavesStoreAt p frame g f) old.disks disks
+
 -- each moment of a log that the call made, as the next one of the part
 abbrev pub NextLogMoments : PartView → List DiskFile → Type 0
 NextLogMoments p log = All (NextLogLeaves p) log

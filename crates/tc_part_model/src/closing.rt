@@ -7,7 +7,7 @@ ghost use Rattle.tc_store.specs.Moments.{IfTold};
 ghost use Rattle.tc_store.specs.StoreCalls.{comes_home};
 ghost use Rattle.tc_plain_model.specs.Writes.{Write};
 ghost use Rattle.tc_machine.specs.State.{sealed_logs};
-ghost use Rattle.tc_part_model.specs.Leaving.{KeepsStore};
+ghost use Rattle.tc_part_model.specs.Leaving.{FailedMomentsLeaveStore, KeepsStore};
 ghost use Rattle.tc_part_model.specs.Meaning.{HasFailedAs};
 ghost use Rattle.tc_part_model.specs.PartFiles.{active_name, sealed_name};
 ghost use Rattle.tc_part_model.specs.PartState.{Told};
@@ -19,4 +19,12 @@ pub fn closed_parts_keep_store()
     ensures one { (t : Told) (p : PartView) (frame : Option (List Write)) → HasFailedAs t p frame → IfTold (comes_home (active_name p) (λ f. home f) t.log t.disks) (KeepsStore p.part (store_of p) frame) }
     ensures both { (t : Told) (p : PartView) (frame : Option (List Write)) (covered : List DiskFile) → HasFailedAs t p frame → t.sealed_log ≡ Some covered → IsSome p.sealed → 0 < length (sealed_logs p.sealed)
         → IfTold (comes_home (sealed_name p) (λ f. home f) covered (comes_home (active_name p) (λ f. home f) t.log t.disks)) (KeepsStore p.part (store_of p) frame) }
+{}
+
+/// A law, and no work. At each moment at which the devices of its logs come home a stop leaves what was stored, whatever its jobs
+/// had done by then.
+pub fn closings_leave_store()
+    ensures one { (t : Told) (p : PartView) (frame : Option (List Write)) → HasFailedAs t p frame → FailedMomentsLeaveStore p frame t (comes_home (active_name p) (λ f. home f) t.log t.disks) }
+    ensures both { (t : Told) (p : PartView) (frame : Option (List Write)) (covered : List DiskFile) → HasFailedAs t p frame → t.sealed_log ≡ Some covered → IsSome p.sealed → 0 < length (sealed_logs p.sealed)
+        → FailedMomentsLeaveStore p frame t (comes_home (sealed_name p) (λ f. home f) covered (comes_home (active_name p) (λ f. home f) t.log t.disks)) }
 {}

@@ -50,3 +50,11 @@ pub fn failed_flushes_are_kept()
     ensures log_home { (t u : Told) (p : PartView) (c : Content) (device covered : List DiskFile) → IsPart t p → t.flushing ≡ true → t.sealed_log ≡ Some covered → MakesFlush p c → HasMade c t.disks device → u.failed ≡ true → u.log ≡ t.log
         → u.sealed_log ≡ None → u.disks ≡ comes_home (Log (t.generation - 1)) (λ f. home f) covered (comes_home (Component (t.generation - 1) (t.generation - 1)) frozen_entry device t.disks) → HasFailedAs u (flushed_part c p) None }
 {}
+
+/// A law, and no work. So it is at each moment: a stop leaves what was stored.
+pub fn failed_flushes_leave_store()
+    ensures not_listed { (t : Told) (p : PartView) (c : Content) (device covered : List DiskFile) → IsPart t p → t.flushing ≡ true → t.sealed_log ≡ Some covered → MakesFlush p c → HasMade c t.disks device
+        → StoreMomentsLeaveStore p p t (comes_home (Component (t.generation - 1) (t.generation - 1)) frozen_entry device t.disks) }
+    ensures log_home { (t : Told) (p : PartView) (c : Content) (device covered : List DiskFile) → IsPart t p → t.flushing ≡ true → t.sealed_log ≡ Some covered → MakesFlush p c → HasMade c t.disks device
+        → StoreMomentsLeaveStore p (flushed_part c p) t (comes_home (Log (t.generation - 1)) (λ f. home f) covered (comes_home (Component (t.generation - 1) (t.generation - 1)) frozen_entry device t.disks)) }
+{}

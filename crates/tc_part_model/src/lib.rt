@@ -7,16 +7,20 @@ mod commit;
 mod failing;
 mod flushing;
 mod merging;
+mod moments;
 mod removing;
 mod sealing;
 mod staging;
 mod starting;
 
-pub use closing::closed_parts_keep_store;
+pub use closing::{closed_parts_keep_store, closings_leave_store};
 pub use commit::commits_are_kept;
-pub use failing::{failed_parts_keep_files, failures_are_kept};
-pub use flushing::{failed_flushes_are_kept, flushes_are_listed, flushes_begin};
-pub use merging::{merges_are_listed, merges_begin};
+pub use failing::{failed_devices_leave_store, failed_parts_keep_files, failures_are_kept};
+pub use flushing::{
+    failed_flushes_are_kept, failed_flushes_leave_store, flushes_are_listed, flushes_begin,
+};
+pub use merging::{failed_merges_are_kept, merges_are_listed, merges_begin};
+pub use moments::moments_follow;
 pub use removing::unlisted_files_go;
 pub use sealing::{failed_seals_are_kept, seals_are_kept, seals_leave_store};
 pub use staging::{staged_is_kept, tables_hold_keys};

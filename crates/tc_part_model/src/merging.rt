@@ -13,7 +13,7 @@ ghost use Rattle.tc_machine.specs.State.{Merging};
 ghost use Rattle.tc_part_model.specs.Calls.{HasMade};
 ghost use Rattle.tc_part_model.specs.Changes.{merged_part, merging_part};
 ghost use Rattle.tc_part_model.specs.Leaving.{StoreMomentsLeaveStore};
-ghost use Rattle.tc_part_model.specs.Meaning.{IsPart, IsOfContent, HasFailed};
+ghost use Rattle.tc_part_model.specs.Meaning.{IsPart, IsOfContent, HasFailed, HasFailedAs};
 ghost use Rattle.tc_part_model.specs.PartState.{Told, AreTold};
 ghost use Rattle.tc_part_model.specs.PartView.{PartView, store_of};
 
@@ -40,4 +40,10 @@ pub fn merges_are_listed()
         → u ≡ record t { disks = comes_home (file_of m.target) frozen_entry device t.disks; components = u.components; merging = None } → IsPart u (merged_part p) }
     ensures stored { (t : Told) (p : PartView) (m : Merging) → IsPart t p → p.merge ≡ Some m → store_of (merged_part p) ≡ store_of p }
     ensures moments { (t : Told) (p : PartView) (m : Merging) (device : List DiskFile) → IsPart t p → p.merge ≡ Some m → HasMade m.target t.disks device → StoreMomentsLeaveStore p (merged_part p) t (comes_home (file_of m.target) frozen_entry device t.disks) }
+{}
+
+/// A law, and no work. Where the component is still and was not listed, the files keep what was stored.
+pub fn failed_merges_are_kept()
+    ensures { (t u : Told) (p : PartView) (m : Merging) (device : List DiskFile) → IsPart t p → p.merge ≡ Some m → HasMade m.target t.disks device → u.failed ≡ true → u.log ≡ t.log → u.sealed_log ≡ t.sealed_log
+        → u.disks ≡ comes_home (file_of m.target) frozen_entry device t.disks → HasFailedAs u p None }
 {}
