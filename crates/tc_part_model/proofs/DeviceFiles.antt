@@ -1,5 +1,5 @@
 -- The files of a part, where its store or one of its devices changes.
-use Rattle.std.proofs.Common.{◌≡◌, ◌≢◌, ◌+◌, ℕ, List, [], ◌∷◌, refl, sym, ap, ◌∙◌, subst, inl, inr, Option, Some, None, false}
+use Rattle.std.proofs.Common.{◌≡◌, ◌≢◌, ◌+◌, ℕ, Bool, List, [], ◌∷◌, refl, sym, ap, ◌∙◌, subst, inl, inr, Option, Some, None, false, true}
 use Rattle.std.specs.Prelude.{if◌then◌else◌, IfSome}
 use Rattle.std.proofs.Math.Path.{fun_ext}
 use Rattle.std.proofs.lemmas.Bool.{cases_Bool, true≢false}
@@ -85,6 +85,29 @@ no_job_leaves p = (flush p.flush, merge p.merge)
     merge : (o : Option Merging) → MergeLeaves o no_job
     merge None = tt
     merge (Some m) = empty_leaves _
+
+-- The jobs with nothing done in place of one. Where the file of that one is still in the store, this is not seen.
+abbrev pub without_job : FileName → (FileName → DiskFile) → FileName → DiskFile
+without_job name job n = if same_name name n then empty_file None else job n
+
+pub same_without : (p : PartView) (disk : Disk) (f g : DiskFile) (name : FileName) (bytes : List ℕ) → disk name ≡ still bytes → (job : FileName → DiskFile) → files_at p disk f g (without_job name job) ≡ files_at p disk f g job
+same_without p disk f g name bytes there job = fun_ext λ n. elim (cases_Bool (same_name name n)) [
+  | inl same ↦ subst (λ m. files_at p disk f g (without_job name job) m ≡ files_at p disk f g job m) (same_name-is name n same) (seen (without_job name job) ∙ sym (seen job))
+  | inr apart ↦ rw apart refl
+]
+  where
+    seen : (jobs : FileName → DiskFile) → files_at p disk f g jobs name ≡ still bytes
+    seen jobs = ap (seen_entry (device_at p f g jobs name)) there
+
+pub job_empty : (P : List ℕ → Type 0) (name : FileName) (job : FileName → DiskFile) → LeavesAt (IsShutOrHas P) (without_job name job name)
+job_empty P name job = rw (same_name-refl name) (empty_leaves P)
+
+pub other_leaves : (P : List ℕ → Type 0) (name other : FileName) (job : FileName → DiskFile) → LeavesAt (IsShutOrHas P) (job other) → LeavesAt (IsShutOrHas P) (without_job name job other)
+other_leaves P name other job leaves = at (same_name name other)
+  where
+    at : (b : Bool) → LeavesAt (IsShutOrHas P) (if b then empty_file None else job other)
+    at true = empty_leaves P
+    at false = leaves
 
 -- and of those of a part whose next log is out
 pub next_log_jobs : (p : PartView) (x : DiskFile) → JobsLeave p (with_next_log p x)

@@ -5,9 +5,8 @@ use Rattle.std.proofs.lemmas.Bool.{cases_Bool, false≢true}
 use Rattle.tc_store.specs.declared.file_name.FileName.{FileName}
 use Rattle.tc_store.specs.declared.file_name.FileName.TheVariants.{Component, Log}
 use Rattle.tc_store.specs.Disk.{Disk, Entry, content_of, home, is_out, none, out, put, same_name, still, taken}
-use Rattle.tc_store.specs.DiskFile.{DiskFile, IsSettled, empty_file}
-use Rattle.tc_store.specs.Moments.{LeavesAt}
-use Rattle.tc_store.proofs.NameLemmas.{put_there, same_name-is, same_name-refl}
+use Rattle.tc_store.specs.DiskFile.{DiskFile, IsSettled}
+use Rattle.tc_store.proofs.NameLemmas.{put_there, same_name-is}
 use Rattle.tc_plain_model.specs.Writes.{Write}
 use Rattle.tc_component.specs.Rows.{IsComponent}
 use Rattle.tc_lsm_model.specs.Contents.{Content}
@@ -19,7 +18,7 @@ use Rattle.tc_machine.specs.Components.{file_of}
 use Rattle.tc_machine.specs.Events.{file_frozen, file_removed, flush_installed, step}
 use Rattle.tc_machine.specs.Kept.{IsKept}
 use Rattle.tc_machine.specs.State.{Merging}
-use Rattle.tc_machine.specs.Steps.{IsFlushed, IsShutOrHas}
+use Rattle.tc_machine.specs.Steps.{IsFlushed}
 use Rattle.tc_machine.proofs.Events.{event_keeps}
 use Rattle.tc_machine.proofs.FilesLeft.{at_name}
 use Rattle.tc_machine.proofs.Rebasing.{rebased_is_kept}
@@ -28,7 +27,7 @@ use Rattle.tc_machine.proofs.Moments.{put_twice}
 use Rattle.tc_part_model.specs.Changes.{flushed_part}
 use Rattle.tc_part_model.specs.PartFiles.{AreKeptAt, IsDevice, MergeLeaves, active_name, device_at, files_at, sealed_name, seen_entry}
 use Rattle.tc_part_model.specs.PartView.{PartView, generation_of, state_with}
-use Rattle.tc_part_model.proofs.DeviceFiles.{empty_leaves, not_same, sealed_device}
+use Rattle.tc_part_model.proofs.DeviceFiles.{job_empty, not_same, other_leaves, same_without, sealed_device, without_job}
 
 -- a part whose flush of one log is out
 abbrev pub flushed_soon : PartView → Table → List Write → PartView
@@ -66,32 +65,14 @@ module _ (p : PartView) (table : Table) (ws : List Write) (c : Content) (is_flus
 
     -- ---- whatever the file of the flush had as a device
 
-    abbrev without_flush : (FileName → DiskFile) → FileName → DiskFile
-    without_flush job n = if same_name (made_name p) n then empty_file None else job n
-
-    same_files : (job : FileName → DiskFile) → files (without_flush job) ≡ files job
-    same_files job = fun_ext λ n. elim (cases_Bool (same_name (made_name p) n)) [
-      | inl same ↦ subst (λ m. files (without_flush job) m ≡ files job m) (same_name-is (made_name p) n same) (seen_still (without_flush job) ∙ sym (seen_still job))
-      | inr apart ↦ rw apart refl
-    ]
-      where
-        seen_still : (job : FileName → DiskFile) → files job (made_name p) ≡ still bytes
-        seen_still job = ap (seen_entry (device_at (flushed_soon p table ws) f g job (made_name p))) there
-
-    merge_leaves : (job : FileName → DiskFile) (o : Option Merging) → MergeLeaves o job → MergeLeaves o (without_flush job)
+    merge_leaves : (job : FileName → DiskFile) (o : Option Merging) → MergeLeaves o job → MergeLeaves o (without_job (made_name p) job)
     merge_leaves job None leaves = tt
-    merge_leaves job (Some m) leaves = at (same_name (made_name p) (file_of m.target))
-      where
-        at : (b : Bool) → LeavesAt (IsShutOrHas (IsComponent m.target)) (if b then empty_file None else job (file_of m.target))
-        at true = empty_leaves _
-        at false = leaves
+    merge_leaves job (Some m) leaves = other_leaves (IsComponent m.target) (made_name p) (file_of m.target) job leaves
 
     kept_soon : (job : FileName → DiskFile) → MergeLeaves p.merge job → IsKept p.part (state_with (flushed_soon p table ws) false None (files job))
     kept_soon job leaves =
-        subst (λ fs. IsKept p.part (state_with (flushed_soon p table ws) false None fs)) (same_files job) (k.kept (without_flush job) (flush_empty, merge_leaves job p.merge leaves))
-      where
-        flush_empty : LeavesAt (IsShutOrHas (IsFlushed p.part p.list (flushed_soon p table ws).sealed)) (without_flush job (made_name p))
-        flush_empty = rw (same_name-refl (made_name p)) (empty_leaves _)
+        subst (λ fs. IsKept p.part (state_with (flushed_soon p table ws) false None fs)) (same_without (flushed_soon p table ws) disk f g (made_name p) bytes there job)
+        (k.kept (without_job (made_name p) job) (job_empty (IsFlushed p.part p.list (flushed_soon p table ws).sealed) (made_name p) job, merge_leaves job p.merge leaves))
 
     -- ---- the component is listed
 

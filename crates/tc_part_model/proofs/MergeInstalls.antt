@@ -1,14 +1,12 @@
 -- A merge is installed, over one disk and one file of each log: its component is listed in place of its run.
-use Rattle.std.proofs.Common.{◌≡◌, ◌≢◌, ◌+◌, ℕ, Bool, List, length, refl, sym, ap, ◌∙◌, subst, arith, inl, inr, Option, Some, None, false, true, if◌then◌else◌}
+use Rattle.std.proofs.Common.{◌≡◌, ◌≢◌, ◌+◌, ℕ, List, length, refl, sym, ap, ◌∙◌, subst, arith, inl, inr, Option, Some, None, false, true}
 use Rattle.std.proofs.Math.Path.{fun_ext}
-use Rattle.std.proofs.lemmas.Bool.{cases_Bool, false≢true}
+use Rattle.std.proofs.lemmas.Bool.{false≢true}
 use Rattle.tc_store.specs.declared.file_name.FileName.{FileName}
 use Rattle.tc_store.specs.declared.file_name.FileName.TheVariants.{Component, Log}
-use Rattle.tc_store.specs.Disk.{Disk, is_out, out, same_name, still}
-use Rattle.tc_store.specs.DiskFile.{DiskFile, empty_file}
+use Rattle.tc_store.specs.Disk.{Disk, is_out, out, still}
+use Rattle.tc_store.specs.DiskFile.{DiskFile}
 use Rattle.tc_store.specs.Images.{Image}
-use Rattle.tc_store.specs.Moments.{LeavesAt}
-use Rattle.tc_store.proofs.NameLemmas.{same_name-is, same_name-refl}
 use Rattle.tc_component.specs.Rows.{IsComponent}
 use Rattle.tc_lsm_model.specs.Merges.{swapped}
 use Rattle.tc_machine.specs.Components.{file_of}
@@ -23,7 +21,7 @@ use Rattle.tc_machine.proofs.Rebasing.{rebased_is_kept}
 use Rattle.tc_part_model.specs.Changes.{merged_part}
 use Rattle.tc_part_model.specs.PartFiles.{AreKeptAt, FlushLeaves, IsDevice, device_at, files_at, seen_entry}
 use Rattle.tc_part_model.specs.PartView.{PartView, generation_of, state_of, state_with}
-use Rattle.tc_part_model.proofs.DeviceFiles.{empty_leaves}
+use Rattle.tc_part_model.proofs.DeviceFiles.{job_empty, other_leaves, same_without, without_job}
 
 -- a part whose merge is out
 abbrev pub merged_soon : PartView → Merging → PartView
@@ -51,35 +49,17 @@ module _ (p : PartView) (m : Merging) (memory : IsMemoryKept p.part (state_of (m
     abbrev files : (FileName → DiskFile) → Disk
     files job = files_at (merged_soon p m) disk f g job
 
-    abbrev without_merge : (FileName → DiskFile) → FileName → DiskFile
-    without_merge job n = if same_name (file_of m.target) n then empty_file None else job n
-
-    same_files : (job : FileName → DiskFile) → files (without_merge job) ≡ files job
-    same_files job = fun_ext λ n. elim (cases_Bool (same_name (file_of m.target) n)) [
-      | inl same ↦ subst (λ l. files (without_merge job) l ≡ files job l) (same_name-is (file_of m.target) n same) (seen (without_merge job) ∙ sym (seen job))
-      | inr apart ↦ rw apart refl
-    ]
-      where
-        seen : (job : FileName → DiskFile) → files job (file_of m.target) ≡ still bytes
-        seen job = ap (seen_entry (device_at (merged_soon p m) f g job (file_of m.target))) there
-
-    flush_leaves : (job : FileName → DiskFile) (o : Option Flushing) → FlushLeaves merged o job → FlushLeaves (merged_soon p m) o (without_merge job)
+    flush_leaves : (job : FileName → DiskFile) (o : Option Flushing) → FlushLeaves merged o job → FlushLeaves (merged_soon p m) o (without_job (file_of m.target) job)
     flush_leaves job None leaves = tt
-    flush_leaves job (Some j) leaves = at (same_name (file_of m.target) (flush_name j))
-      where
-        at : (b : Bool) → LeavesAt (IsShutOrHas (IsFlushed p.part p.list p.sealed)) (if b then empty_file None else job (flush_name j))
-        at true = empty_leaves _
-        at false = λ image left. flushed_behind p.sealed image (leaves image left)
+    flush_leaves job (Some j) leaves = other_leaves (IsFlushed p.part p.list p.sealed) (file_of m.target) (flush_name j) job (λ image left. flushed_behind p.sealed image (leaves image left))
 
     installed : (job : FileName → DiskFile) → FlushLeaves merged p.flush job → IsKept p.part (state_with merged false None (files job))
     installed job leaves =
         let s = state_with (merged_soon p m) false None (files job) in
         rebased_is_kept p.part (step merge_installed s) (event_keeps p.part s merge_installed
-        (subst (λ fs. IsKept p.part (state_with (merged_soon p m) false None fs)) (same_files job) (k.kept (without_merge job) (flush_leaves job p.flush leaves, merge_empty)))
+        (subst (λ fs. IsKept p.part (state_with (merged_soon p m) false None fs)) (same_without (merged_soon p m) disk f g (file_of m.target) bytes there job)
+        (k.kept (without_job (file_of m.target) job) (flush_leaves job p.flush leaves, job_empty (IsComponent m.target) (file_of m.target) job)))
         (record { merging = m; is_out = refl; still = (bytes, ap (seen_entry (device_at (merged_soon p m) f g job (file_of m.target))) there, whole) }))
-      where
-        merge_empty : LeavesAt (IsShutOrHas (IsComponent m.target)) (without_merge job (file_of m.target))
-        merge_empty = rw (same_name-refl (file_of m.target)) (empty_leaves _)
 
     after_devices : (name : FileName) → file_of m.target ≢ name → IsDevice (merged_soon p m) name → IsDevice merged name
     after_devices (Log n) apart (inl active) = inl (active ∙ sym merged_active)
