@@ -117,6 +117,7 @@ module _ (t : Told) (p : PartView) (is : IsPart t p) where
           };
           memory = flush_begun_memory p.part (state_of p) is.memory (subst (λ o. IsSome o) (sym table.1) refl);
           staged = record { each = is.staged.each; room = is.staged.room; few = is.staged.few };
+          room = is.room;
           tells = logs_tell t.disks (makes name t.disks) t.log t.sealed_log (λ untold. ap (makes name) untold) is.tells;
           files = record {
             kept = if_files_goes_on (put name out) (AreKeptAt p false None) (AreKeptAt (flushing_part p) false None) t.disks t.log t.sealed_log (λ disk f g k. flush_begins p disk f g k table.0 table.1 none_out) is.files.kept;
@@ -173,6 +174,7 @@ module _ (t : Told) (p : PartView) (is : IsPart t p) where
       };
       memory = merge_begun_memory p.part (state_of p) run c is.memory two within is_merge;
       staged = record { each = is.staged.each; room = is.staged.room; few = is.staged.few };
+      room = is.room;
       tells = logs_tell t.disks (makes (file_of c) t.disks) t.log t.sealed_log (λ untold. ap (makes (file_of c)) untold) is.tells;
       files = record {
         kept = if_files_goes_on (put (file_of c) out) (AreKeptAt p false None) (AreKeptAt (merging_part run c p) false None) t.disks t.log t.sealed_log (λ disk f g k. merge_begins p disk f g k run c two within is_merge none_merging) is.files.kept;

@@ -22,6 +22,7 @@ use Rattle.tc_machine.specs.Kept.{MergeFits}
 use Rattle.tc_machine.specs.Sound.{IsFlushOf}
 use Rattle.tc_machine.specs.State.{Flushing, Merging, Sealed}
 use Rattle.tc_machine.specs.Steps.{IsFlushed, IsShutOrHas}
+use Rattle.tc_machine.specs.Writes.{HasRoom}
 use Rattle.tc_machine.proofs.Options.{All-front, if_some_map}
 use Rattle.tc_machine.proofs.Targets.{MergeTarget, merge_target}
 use Rattle.tc_part_model.specs.Calls.{HasMade, MakesFlush}
@@ -34,7 +35,7 @@ use Rattle.tc_part_model.specs.PartView.{PartView, store_of}
 use Rattle.tc_part_model.proofs.DeviceFiles.{comes_untold, logs_tell, told_again}
 use Rattle.tc_part_model.proofs.ToldFiles.{MomentsSince}
 use Rattle.tc_part_model.proofs.FlushInstalls.{active_is, after, flushed_soon, made_name}
-use Rattle.tc_part_model.proofs.FlushedViews.{flushed_memory, flushed_starts, names_stay, store_stays, stored_stays, table_stays}
+use Rattle.tc_part_model.proofs.FlushedViews.{below_stays, flushed_memory, flushed_starts, names_stay, store_stays, stored_stays, table_stays}
 use Rattle.tc_part_model.proofs.ToldFlushes.{flush_moments_since, frozen, frozen_files, frozen_moments_since, home_files, home_moments_since, uncovered, uncovered_files, uncovered_jobs, uncovered_untold}
 
 AllZip-last : {A B : Type 0} (R : A → B → Type 0) (xs : List A) (ys : List B) (x : A) (y : B) → AllZip R xs ys → R x y → AllZip R (xs ++ x ∷ []) (ys ++ y ∷ [])
@@ -135,6 +136,7 @@ module _ (t : Told) (p : PartView) (table : Table) (ws : List Write) (is : IsPar
           };
           memory = flushed_memory p table ws c is_flush is.memory;
           staged = flushed_starts p table ws c is_flush is.memory is.staged;
+          room = subst (λ pairs. HasRoom pairs) (sym (below_stays p table ws c is_flush)) is.room;
           tells = record { active = told_again (IsTold t.log) t.disks disks untold is.tells.active; sealed = told_again (Unit {0}) t.disks disks untold (told_map (λ disk. IsTold t.log) (λ disk. Unit {0}) t.disks (λ disk any. tt) is.tells.active) };
           files = record {
             kept = uncovered_files p table ws c is_flush (component_bytes c) made.whole t.disks t.log dev covered is.tells.active made.tells covered_tells kept is.files.jobs made.content settled;

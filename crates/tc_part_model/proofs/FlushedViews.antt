@@ -16,11 +16,11 @@ use Rattle.tc_part_model.specs.PartView.{PartView, MayStart, below_of, names_in,
 use Rattle.tc_part_model.proofs.FlushInstalls.{after, flushed_soon}
 
 module _ (p : PartView) (table : Table) (ws : List Write) (c : Content) (is_flush : IsFlush p.part p.list table 1 c) where
-  below_is : below_of (after p table ws c is_flush) ≡ below_of (flushed_soon p table ws)
-  below_is = flushed_live p.part p.list table 1 c is_flush
+  pub below_stays : below_of (after p table ws c is_flush) ≡ below_of (flushed_soon p table ws)
+  below_stays = flushed_live p.part p.list table 1 c is_flush
 
   pub table_stays : table_of (after p table ws c is_flush) ≡ table_of (flushed_soon p table ws)
-  table_stays = ap (λ below. table_after below p.active.table p.staged) below_is
+  table_stays = ap (λ below. table_after below p.active.table p.staged) below_stays
 
   pub names_stay : names_in (after p table ws c is_flush) ≡ names_in (flushed_soon p table ws)
   names_stay = ap (λ ns. names_after ns (writes_of p.active.table ++ p.staged)) (names_of-push p.list c ∙ is_flush.names)
@@ -43,6 +43,6 @@ module _ (p : PartView) (table : Table) (ws : List Write) (c : Content) (is_flus
     pub flushed_starts : MayStart (flushed_soon p table ws) → MayStart (after p table ws c is_flush)
     flushed_starts start = record {
       each = start.each;
-      room = subst (λ below. HasRoom (after_writes (over below p.active.table) p.staged)) (sym below_is) start.room;
+      room = subst (λ below. HasRoom (after_writes (over below p.active.table) p.staged)) (sym below_stays) start.room;
       few = subst (λ ns. AreFew ns) (sym names_stay) start.few;
     }

@@ -26,6 +26,7 @@ pub mod Closes
 pub mod MergeInstalls
 pub mod MergedParts
 pub mod CountedDocuments
+pub mod NewestComponents
 pub mod StartedParts
 pub mod Removals
 pub mod RunsUnlisted

@@ -152,6 +152,7 @@ module _ (t : Told) (p : PartView) (m : Merging) (is : IsPart t (merged_soon p m
         };
         memory = merged_memory p m is.memory;
         staged = merged_starts p m is.memory is.staged;
+        room = subst (λ pairs. HasRoom pairs) (sym (below_is p m is.memory)) is.room;
         tells = logs_tell t.disks (comes_home (file_of m.target) frozen_entry dev t.disks) t.log t.sealed_log untold is.tells;
         files = record {
           kept = merged_files p m is.memory (component_bytes m.target) made.whole t.disks t.log dev t.sealed_log is.tells.active made.tells is.files.kept is.files.jobs made.content;

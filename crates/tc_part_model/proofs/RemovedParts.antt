@@ -42,6 +42,7 @@ module _ (t : Told) (p : PartView) (names : List FileName) (unlisted : All (IsUn
     };
     memory = is.memory;
     staged = is.staged;
+    room = is.room;
     tells = logs_tell t.disks disks t.log t.sealed_log (removal_untold names t.disks disks removed) is.tells;
     files = record {
       kept = some_removed p false None names unlisted t.disks disks t.log t.sealed_log removed is.files.kept;

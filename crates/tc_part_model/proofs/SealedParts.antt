@@ -19,6 +19,8 @@ use Rattle.tc_machine.specs.Logs.{log_head}
 use Rattle.tc_machine.specs.Sound.{IsFlushOf}
 use Rattle.tc_machine.specs.State.{Sealed}
 use Rattle.tc_machine.proofs.MemorySteps.{no_flush, sealing_memory}
+use Rattle.tc_machine.specs.Writes.{HasRoom}
+use Rattle.tc_machine.proofs.Holding.{holds}
 use Rattle.tc_part_model.specs.Calls.{Creates, HasCreated}
 use Rattle.tc_part_model.specs.Changes.{sealed_part}
 use Rattle.tc_part_model.specs.Leaving.{NextLogMoments, StoreMomentsLeaveStore}
@@ -97,6 +99,7 @@ module _ (t : Told) (p : PartView) (is : IsPart t (bare p)) where
           };
           memory = memory;
           staged = nothing_starts (sealed_part (bare p)) refl memory;
+          room = subst (λ pairs. HasRoom pairs) (sym (holds is.memory)) is.memory.room;
           tells = record {
             active = subst (λ n. IfTold (makes (Log n) t.disks) (λ disk. IsTold log)) (sym next) (created_tells p head' t.disks log creates);
             sealed = subst (λ n. IfTold (makes (Log n) t.disks) (λ disk. IsTold t.log)) (sym next) (told-goes_on (λ disk. IsTold t.log) (put (next_name p) out) t.disks is.tells.active);

@@ -94,6 +94,7 @@ module _ (t : Told) (p : PartView) (w : Write) (handed : Option ShapeTree) (is :
     };
     memory = is.memory;
     staged = staged_starts p w t.taken is.memory is.staged storable is.view.taken few room;
+    room = is.room;
     tells = is.tells;
     files = record {
       kept = if_files_map (AreKeptAt p false None) (AreKeptAt (with_staged w p) false None) t.disks t.log t.sealed_log (λ disk f g k. record { log_out = k.log_out; sealed_out = k.sealed_out; devices = k.devices; kept = k.kept }) is.files.kept;

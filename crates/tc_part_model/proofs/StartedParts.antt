@@ -39,11 +39,13 @@ use Rattle.tc_part_model.specs.Meaning.{IsOfContent, IsPart, plain_of}
 use Rattle.tc_part_model.specs.PartFiles.{AreJobsOut, AreKeptAt, IfFiles, IsDevice, active_name, device_at, files_at, seen_entry}
 use Rattle.tc_part_model.specs.PartState.{IsTold, Told, ToldComponent}
 use Rattle.tc_part_model.specs.PartView.{generation_of, state_of, state_with}
-use Rattle.tc_part_model.specs.Starting.{IsOpened, IsOpenedAt, ToldOpening, documents_by, first_log, names_by, newest_index, next_by, started, started_part}
+use Rattle.tc_part_model.specs.Newest.{documents_by, names_by, newest_index, next_by, schema_by}
+use Rattle.tc_part_model.specs.Starting.{IsOpened, IsOpenedAt, ToldOpening, first_log, started, started_part}
 use Rattle.tc_part_model.proofs.Closes.{close_stores}
 use Rattle.tc_part_model.proofs.CountedDocuments.{counts_documents}
 use Rattle.tc_part_model.proofs.DeviceFiles.{seen_active}
 use Rattle.tc_part_model.proofs.FailedParts.{fails_so}
+use Rattle.tc_part_model.proofs.NewestComponents.{names_are, next_is, schema_is}
 use Rattle.tc_part_model.proofs.ViewLaws.{nothing_starts}
 
 -- ---- a dictionary has its own names
@@ -64,30 +66,6 @@ HasEach-more x names (y ∷ xs) all = (HasNumber-more x y names all.0, HasEach-m
 HasEach-own : (names : List Name) → HasEach names names
 HasEach-own [] = tt
 HasEach-own (x ∷ names) = (HasNumber-first x names, HasEach-more x names names (HasEach-own names))
-
--- ---- what is counted by the newest component
-
-pub newest_last : (before : Option Index) (older : List ToldComponent) (c : ToldComponent) → newest_index before (older ++ c ∷ []) ≡ Some c.index
-newest_last before [] c = refl
-newest_last before (d ∷ older) c = newest_last (Some d.index) older c
-
-names_are : (o : Option Index) (names : List Name) (cs : List ToldComponent) (list : List Content) → names_by o ≡ names → AllZip IsOfContent cs list → names_by (newest_index o cs) ≡ newest_names names list
-names_are o names [] [] is all = is
-names_are o names [] (c ∷ list) is all = absurd all
-names_are o names (t ∷ cs) [] is all = absurd all
-names_are o names (t ∷ cs) (c ∷ list) is all = names_are (Some t.index) c.names cs list (ap (λ (i : Index). i.names) all.0.index) all.1
-
-documents_are : (o : Option Index) (d : Counted) (cs : List ToldComponent) (list : List Content) → documents_by o ≡ documents_of d → AllZip IsOfContent cs list → documents_by (newest_index o cs) ≡ documents_of (newest_schema d list)
-documents_are o d [] [] is all = is
-documents_are o d [] (c ∷ list) is all = absurd all
-documents_are o d (t ∷ cs) [] is all = absurd all
-documents_are o d (t ∷ cs) (c ∷ list) is all = documents_are (Some t.index) c.schema cs list (ap (λ (i : Index). documents_of i.schema) all.0.index) all.1
-
-next_is : (o : Option Index) (g : ℕ) (cs : List ToldComponent) (list : List Content) → next_by o ≡ g + 1 → AllZip IsOfContent cs list → next_by (newest_index o cs) ≡ last_after g list + 1
-next_is o g [] [] is all = is
-next_is o g [] (c ∷ list) is all = absurd all
-next_is o g (t ∷ cs) [] is all = absurd all
-next_is o g (t ∷ cs) (c ∷ list) is all = next_is (Some t.index) c.to cs list (ap (λ (i : Index). i.head.to + 1) all.0.index) all.1
 
 -- ---- its memory
 
@@ -166,7 +144,7 @@ module _ (o : ToldOpening) (list : List Content) (opened : IsOpened o list) wher
 
   documents : documents_by (newest_index None o.components) ≡ length (live list)
   documents =
-      documents_are None nothing o.components list refl opened.components
+      ap documents_of (schema_is None nothing o.components list refl opened.components)
       ∙ counts_documents (names_of list) (schema_of list) (values_in (live list)) (newest_of_list o.part list opened.lawful).stands
       ∙ length-values (live list)
 
@@ -193,6 +171,7 @@ module _ (o : ToldOpening) (list : List Content) (opened : IsOpened o list) wher
     };
     memory = started_memory o.part list opened.lawful;
     staged = nothing_starts (started_part o.part list) refl (started_memory o.part list opened.lawful);
+    room = (newest_of_list o.part list opened.lawful).room;
     tells = record { active = opened.tells; sealed = told_map (λ disk. IsTold o.log) (λ disk. Unit {0}) o.disks (λ disk any. tt) opened.tells };
     files = record {
       kept = kept_told o.disks o.log opened.files;

@@ -113,6 +113,7 @@ module _ (t : Told) (p : PartView) (is : IsPart t p) where
         };
         memory = memory;
         staged = nothing_starts (committed_part p) refl memory;
+        room = is.room;
         tells = record { active = appended_tells p t.disks t.log log t.sealed_log is.files.kept has.appends is.tells.active; sealed = is.tells.sealed };
         files = record { kept = committed_files p t.disks t.log log t.sealed_log is.staged is.files.kept is.tells.active has; jobs = is.files.jobs };
       }

@@ -1,4 +1,5 @@
 pub mod PartState
+pub mod Newest
 pub mod PartView
 pub mod PartFiles
 pub mod Meaning

@@ -12,10 +12,11 @@ use Rattle.tc_plain_model.specs.Writes.{Pairs, Write}
 use Rattle.tc_lsm_model.specs.Contents.{Partition, Content}
 use Rattle.tc_lsm_model.specs.Tables.{Table}
 use Rattle.tc_machine.specs.Logs.{kept_write}
+use Rattle.tc_machine.specs.Writes.{HasRoom}
 use Rattle.tc_machine.specs.State.{Sealed}
 use Rattle.tc_machine.specs.Kept.{IsMemoryKept}
 use Rattle.tc_part_model.specs.PartState.{ToldComponent, Told, AreTold}
-use Rattle.tc_part_model.specs.PartView.{PartView, state_of, store_of, stored_with, generation_of, table_of, names_in, MayStart}
+use Rattle.tc_part_model.specs.PartView.{PartView, state_of, store_of, stored_with, generation_of, below_of, table_of, names_in, MayStart}
 use Rattle.tc_part_model.specs.PartFiles.{AreKeptAt, AreJobsOut, IfFilesTold, LogsTell}
 
 -- ---- what is told is this
@@ -76,6 +77,8 @@ pub record IsPart (t : Told) (p : PartView) : Type 0 where
   pub view : IsViewOf t p
   pub memory : IsMemoryKept p.part (state_of p)
   pub staged : MayStart p
+  -- what lies below the active table has room by itself, so that the sealed table can be flushed
+  pub room : HasRoom (below_of p)
   pub tells : LogsTell t.disks t.log t.sealed_log
   pub files : HasFiles t p
 

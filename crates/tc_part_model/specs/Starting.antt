@@ -1,18 +1,16 @@
 -- What a part begins with, and which part it is then.
-use Rattle.std.specs.Prelude.{◌≡◌, ◌+◌, ℕ, true, false, List, [], ◌∷◌, Option, Some, None}
+use Rattle.std.specs.Prelude.{◌≡◌, ◌+◌, true, false, List, [], None}
 use Rattle.std.specs.List.{AllZip}
-use Rattle.tc_model.specs.Document.{Name}
-use Rattle.tc_schema_model.specs.Counted.{documents_of}
 use Rattle.tc_store.specs.declared.file_name.FileName.{FileName}
 use Rattle.tc_store.specs.declared.file_name.FileName.TheVariants.{Log}
 use Rattle.tc_store.specs.Disk.{Disk, home, out, put, is_out}
 use Rattle.tc_store.specs.DiskFile.{DiskFile}
 use Rattle.tc_store.specs.Moments.{IfTold}
-use Rattle.tc_component.specs.Spelling.{Index}
 use Rattle.tc_lsm_model.specs.Contents.{Partition, Content}
 use Rattle.tc_lsm_model.specs.Lists.{last_of, IsList}
 use Rattle.tc_machine.specs.Kept.{IsKept}
 use Rattle.tc_machine.specs.State.{no_writes}
+use Rattle.tc_part_model.specs.Newest.{newest_index, names_by, documents_by, next_by}
 use Rattle.tc_part_model.specs.PartState.{ToldComponent, Told, IsTold}
 use Rattle.tc_part_model.specs.PartView.{PartView, state_with}
 use Rattle.tc_part_model.specs.Meaning.{IsOfContent}
@@ -47,24 +45,6 @@ pub record IsOpened (o : ToldOpening) (list : List Content) : Type 0 where
   pub lawful : IsList o.part list
   pub tells : IfTold o.disks (λ disk. IsTold o.log)
   pub files : IfTold o.disks (λ disk. IfTold o.log (λ f. IsOpenedAt o.part list disk f))
-
--- ---- what is counted by the newest component that was loaded, if there is one
-
-abbrev pub newest_index : Option Index → List ToldComponent → Option Index
-newest_index before [] = before
-newest_index before (c ∷ cs) = newest_index (Some c.index) cs
-
-abbrev pub names_by : Option Index → List Name
-names_by None = []
-names_by (Some i) = i.names
-
-abbrev pub documents_by : Option Index → ℕ
-documents_by None = 0
-documents_by (Some i) = documents_of i.schema
-
-abbrev pub next_by : Option Index → ℕ
-next_by None = 1
-next_by (Some i) = i.head.to + 1
 
 -- ---- the part that begins
 

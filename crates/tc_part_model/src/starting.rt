@@ -15,7 +15,8 @@ ghost use Rattle.tc_machine.specs.Steps.{StartsPart};
 ghost use Rattle.tc_part_model.specs.Leaving.{KeepsStore};
 ghost use Rattle.tc_part_model.specs.Meaning.{IsPart, plain_of};
 ghost use Rattle.tc_part_model.specs.PartState.{ToldComponent};
-ghost use Rattle.tc_part_model.specs.Starting.{ToldOpening, IsOpened, IsOpenedAt, first_log, newest_index, started, started_part};
+ghost use Rattle.tc_part_model.specs.Newest.{newest_index};
+ghost use Rattle.tc_part_model.specs.Starting.{ToldOpening, IsOpened, IsOpenedAt, first_log, started, started_part};
 
 /// A law, and no work. What an opening hands in makes up a part, whose names, documents and generation are counted by the newest
 /// component. As a plain store it has what is live in the list, and the names of the list. Where it is not begun and the device

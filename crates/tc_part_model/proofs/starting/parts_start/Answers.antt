@@ -1,4 +1,5 @@
-use Rattle.tc_part_model.proofs.StartedParts.{newest_last, not_started, start_is_part, start_plain}
+use Rattle.tc_part_model.proofs.NewestComponents.{newest_last}
+use Rattle.tc_part_model.proofs.StartedParts.{not_started, start_is_part, start_plain}
 use Rattle.tc_part_model.proofs.starting.parts_start.Goals as goal
 
 pub returns-clause-started : goal.returns-clause-started
