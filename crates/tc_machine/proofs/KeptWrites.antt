@@ -47,7 +47,7 @@ head_same x y xs ys e = cc
 tail_same : (x y : log.Write) (xs ys : List log.Write) → x ∷ xs ≡ y ∷ ys → xs ≡ ys
 tail_same x y xs ys e = cc
 
-all_kept : (ws vs : List Write) → All IsStorableWrite ws → All IsStorableWrite vs → map kept_write ws ≡ map kept_write vs → ws ≡ vs
+pub all_kept : (ws vs : List Write) → All IsStorableWrite ws → All IsStorableWrite vs → map kept_write ws ≡ map kept_write vs → ws ≡ vs
 all_kept [] [] a b same = refl
 all_kept [] (v ∷ vs) a b same = absurd (cc)
 all_kept (w ∷ ws) [] a b same = absurd (cc)
