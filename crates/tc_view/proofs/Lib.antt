@@ -1,0 +1,6 @@
+pub mod Adding
+pub mod Prefixes
+pub mod ShareLemmas
+pub mod ViewLemmas
+pub mod OneMeaning
+pub mod RuleKept

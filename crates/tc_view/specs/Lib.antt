@@ -1,0 +1,7 @@
+pub mod StartCode
+pub mod History
+pub mod Changes
+pub mod Holding
+pub mod Rules
+pub mod Views
+pub mod Places

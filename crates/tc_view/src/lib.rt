@@ -1,0 +1,29 @@
+//! Layer 4, partition: what a partition publishes to its readers. One publisher writes it, lenses read it, and all that is
+//! read begins one history of writes.
+#![tactic(auto)]
+
+mod change;
+mod chunk;
+mod content;
+mod history;
+mod law;
+mod lens;
+mod mark;
+mod publisher;
+mod rule;
+mod snapshot;
+mod step;
+#[cfg(test)]
+mod tests;
+mod view;
+
+pub use change::Change;
+pub use chunk::Chunk;
+pub use content::Content;
+pub use law::views_hold_one;
+pub use lens::Lens;
+pub use publisher::Publisher;
+pub use rule::{Agrees, Key};
+pub use snapshot::{Note, Snapshot};
+pub use step::Step;
+pub use view::View;
