@@ -1,7 +1,6 @@
 -- Which documents a view holds, and which changes leave them.
 use Rattle.std.specs.Prelude.{◌≡◌, ◌+◌, ◌<◌, ◌≤◌, ◌^◌, ℕ, List, [], ◌∷◌, length, map, All, Option, None, Some, IsSome}
 use Rattle.std.specs.List.{AllZip}
-use Rattle.std.specs.Arc.{arc_value}
 use Rattle.tc_model.specs.Document.{Name}
 use Rattle.tc_model.specs.Dictionary.{Extends}
 use Rattle.tc_plain_model.specs.Writes.{Pairs, Write, after_writes}

@@ -1,4 +1,4 @@
-use Rattle.std.proofs.Common.{sym, subst, ap, ◌∙◌, ◌≡◌, ◌≤◌, ◌<◌, List, ℕ, length, arith}
+use Rattle.std.proofs.Common.{sym, subst, ap, ◌∙◌, ◌≤◌, ◌<◌, List, length, arith}
 use Rattle.std.proofs.lemmas.Bool.Decides.{nat_tests}
 use mathlib.Core.List.{IsPrefix}
 use Rattle.tc_log.specs.declared.write.Write.{Write}
