@@ -1,6 +1,7 @@
 //! The parts of a record that both of its forms share, and the parts that differ.
 
 ghost use Rattle.std.specs.Prelude.{◌≡◌, ◌≤◌, ◌+◌, ◌++◌, IfOk, OnOk, length};
+ghost use Rattle.std.specs.Int.{bytes_high_first};
 ghost use Rattle.tc_record.specs.Record.{header_size, greatest as greatest_of, width as least_width, numbers};
 ghost use Rattle.tc_record.specs.Widths.{width_bytes};
 ghost use Rattle.tc_compact.specs.Layout.{front, slot_bytes, counts_in, values_in};
@@ -80,7 +81,19 @@ pub(crate) fn put_slots(width: Width, slots: &[usize], out: &mut Vec<u8>) -> Res
     ensures { OnOk result (out.new.items ≡ out.old.items ++ numbers (width_bytes width) slots.now) }
 {
     for slot in slots {
-        put_number(width, *slot, out)?;
+        put_slot(width, *slot, out)?;
+    }
+    Ok(())
+}
+
+/// Appends a slot. Most have one byte, and one that is pushed costs less than a slice of one.
+#[inline(always)]
+fn put_slot(width: Width, slot: usize, out: &mut Vec<u8>) -> Result<(), Memory>
+    ensures { OnOk result (out.new.items ≡ out.old.items ++ bytes_high_first (width_bytes width) slot) }
+{
+    match width {
+        Width::One => out.push(slot.to_be_bytes()[7])?,
+        other => put_number(other, slot, out)?,
     }
     Ok(())
 }
