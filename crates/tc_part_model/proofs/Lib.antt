@@ -33,3 +33,6 @@ pub mod RunsUnlisted
 pub mod RemovedParts
 pub mod HomeMoments
 pub mod FollowingMoments
+pub mod LoadedComponents
+pub mod ShortDocuments
+pub mod SealedInputs

@@ -1,6 +1,6 @@
 -- A part begins with what an opening hands in.
-use Rattle.std.proofs.Common.{◌≡◌, ◌+◌, ◌++◌, ◌||◌, ℕ, Bool, List, [], ◌∷◌, length, bytes_eq, refl, sym, ap, ◌∙◌, subst, arith, inl, inr, Option, Some, None, false, true}
-use Rattle.std.specs.List.{AllZip, list_any}
+use Rattle.std.proofs.Common.{◌≡◌, ◌+◌, ◌||◌, ℕ, Bool, List, [], ◌∷◌, length, bytes_eq, refl, sym, ap, ◌∙◌, subst, arith, inl, inr, None, false, true}
+use Rattle.std.specs.List.{list_any}
 use Rattle.std.proofs.Math.Path.{fun_ext}
 use Rattle.std.proofs.lemmas.Bool.{cases_Bool, false≢true, true≢false}
 use Rattle.std.proofs.lemmas.List.Elements.{All-nil}
@@ -9,7 +9,7 @@ use Rattle.tc_model.specs.Document.{Document, Name}
 use Rattle.tc_model.specs.Keyed.{values_in}
 use Rattle.tc_model.specs.KnownNames.{HasEach, HasNumber}
 use Rattle.tc_model.proofs.NameNumbers.{list_any-number_of}
-use Rattle.tc_schema_model.specs.Counted.{Counted, documents_of, nothing}
+use Rattle.tc_schema_model.specs.Counted.{documents_of, nothing}
 use Rattle.tc_store.specs.declared.file_name.FileName.{FileName}
 use Rattle.tc_store.specs.declared.file_name.FileName.TheVariants.{Log}
 use Rattle.tc_store.specs.Disk.{Disk, Entry, home, is_out, none, out, put, same_name, still}
@@ -18,10 +18,9 @@ use Rattle.tc_store.specs.Moments.{IfTold}
 use Rattle.tc_store.specs.StoreCalls.{comes_home}
 use Rattle.tc_store.proofs.MomentLemmas.{told_map}
 use Rattle.tc_store.proofs.NameLemmas.{same_name-is, same_name-refl}
-use Rattle.tc_component.specs.Spelling.{Index}
 use Rattle.tc_memory.specs.DocumentTables.{IsStoredAt}
 use Rattle.tc_lsm_model.specs.Contents.{Content, Partition}
-use Rattle.tc_lsm_model.specs.Lists.{IsList, last_after, last_of, live, names_of, newest_names, newest_schema, schema_of}
+use Rattle.tc_lsm_model.specs.Lists.{IsList, last_of, live, names_of, schema_of}
 use Rattle.tc_lsm_model.proofs.ListLaws.{Ascends-live}
 use Rattle.tc_lsm_model.proofs.ListNewest.{newest_of_list}
 use Rattle.tc_machine.specs.Events.{part_started, rebased, step}
@@ -35,11 +34,11 @@ use Rattle.tc_machine.proofs.MemorySteps.{no_flush}
 use Rattle.tc_machine.proofs.Rebasing.{rebased_is_kept}
 use Rattle.tc_machine.proofs.RunSteps.{no_frame}
 use Rattle.tc_part_model.specs.Leaving.{KeepsStore}
-use Rattle.tc_part_model.specs.Meaning.{IsOfContent, IsPart, plain_of}
+use Rattle.tc_part_model.specs.Meaning.{IsPart, plain_of}
 use Rattle.tc_part_model.specs.PartFiles.{AreJobsOut, AreKeptAt, IfFiles, IsDevice, active_name, device_at, files_at, seen_entry}
-use Rattle.tc_part_model.specs.PartState.{IsTold, Told, ToldComponent}
+use Rattle.tc_part_model.specs.PartState.{IsTold, Told}
 use Rattle.tc_part_model.specs.PartView.{generation_of, state_of, state_with}
-use Rattle.tc_part_model.specs.Newest.{documents_by, names_by, newest_index, next_by, schema_by}
+use Rattle.tc_part_model.specs.Newest.{documents_by, names_by, newest_index}
 use Rattle.tc_part_model.specs.Starting.{IsOpened, IsOpenedAt, ToldOpening, first_log, started, started_part}
 use Rattle.tc_part_model.proofs.Closes.{close_stores}
 use Rattle.tc_part_model.proofs.CountedDocuments.{counts_documents}

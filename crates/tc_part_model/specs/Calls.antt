@@ -1,5 +1,7 @@
 -- What the calls of logs and stores promise that the calls of a part make: the premises of the laws of a part.
-use Rattle.std.specs.Prelude.{◌≡◌, ◌≢◌, ◌⊎◌, List, [], ◌∷◌, ◌++◌, length, All, IfSome}
+use Rattle.std.specs.Prelude.{◌≡◌, ◌≢◌, ◌⊎◌, List, [], ◌∷◌, ◌++◌, length, All, Some, IfSome}
+use Rattle.tc_model.specs.Document.{Name}
+use Rattle.tc_schema_model.specs.Counted.{Counted}
 use Rattle.tc_store.specs.declared.file_name.FileName.{FileName}
 use Rattle.tc_store.specs.declared.file_name.FileName.TheVariants.{Component, Log}
 use Rattle.tc_store.specs.Disk.{Disk}
@@ -12,10 +14,14 @@ use Rattle.tc_log.specs.declared.head.LogHead.{LogHead}
 use Rattle.tc_log.specs.declared.write.Write.{Write}
 use Rattle.tc_log.specs.Appending.{MeansWithOrWithout}
 use Rattle.tc_log.specs.Spelling.{Means, log_at_rest}
-use Rattle.tc_component.specs.Rows.{IsComponent, component_bytes}
+use Rattle.tc_component.specs.declared.head.Head.{Head}
+use Rattle.tc_component.specs.Rows.{IsComponent, component_bytes, part_of}
+use Rattle.tc_memory.specs.Table.{Table}
+use Rattle.tc_flush.specs.Flushing.{IsBehind}
 use Rattle.tc_lsm_model.specs.Contents.{Content}
 use Rattle.tc_lsm_model.specs.Flushes.{IsFlush}
 use Rattle.tc_machine.specs.Components.{file_of}
+use Rattle.tc_machine.specs.State.{Sealed}
 use Rattle.tc_part_model.specs.PartState.{IsTold}
 use Rattle.tc_part_model.specs.PartView.{PartView}
 
@@ -45,6 +51,15 @@ pub record HasCreated (head : LogHead) (device new : List DiskFile) : Type 0 whe
 -- what the flush of the sealed table makes
 abbrev pub MakesFlush : PartView → Content → Type 0
 MakesFlush p c = IfSome p.sealed (λ d. IsFlush p.part p.list d.table (length d.logs) c)
+
+-- The sealed table, as the memory table of its one log, lies behind the list, so that it can be flushed under this header, over
+-- these names and this schema.
+pub record FlushesBehind (p : PartView) (head : Head) (names : List Name) (schema : Counted) (kept : Table) : Type 0 where
+  pub sealed : Sealed
+  pub is_sealed : p.sealed ≡ Some sealed
+  pub one_log : length sealed.logs ≡ 1
+  pub here : part_of head ≡ p.part
+  pub behind : IsBehind p.list sealed.table 1 head names schema kept
 
 -- a job's device has the whole component of a content, and nothing is pending; where the store tells, it does
 pub record HasMade (c : Content) (disks : List Disk) (device : List DiskFile) : Type 0 where

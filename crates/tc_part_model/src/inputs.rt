@@ -1,0 +1,52 @@
+//! Laws of what the jobs of a part need.
+
+ghost use Rattle.std.specs.Prelude.{◌≡◌, ◌-◌, ◌<◌, ◌≤◌, ◌^◌, List, map, Some, None, IsSome};
+ghost use Rattle.std.specs.List.{AllZip};
+ghost use Rattle.tc_model.specs.Document.{Name};
+ghost use Rattle.tc_schema_model.specs.Counted.{Counted};
+ghost use Rattle.tc_memory.specs.Table.{Table, IsTable};
+ghost use Rattle.tc_component.specs.declared.head.Head.{Head};
+ghost use Rattle.tc_component.specs.Loaded.{IsLoadedOf};
+ghost use Rattle.tc_component.specs.Loading.{ComponentState};
+ghost use Rattle.tc_component.specs.Rows.{part_of};
+ghost use Rattle.tc_lsm_model.specs.Contents.{Content};
+ghost use Rattle.tc_lsm_model.specs.Flushes.{IsFlush};
+ghost use Rattle.tc_lsm_model.specs.Lists.{names_of, schema_of};
+ghost use Rattle.tc_lsm_model.specs.Merges.{in_run as contents_in_run, swapped as contents_swapped};
+ghost use Rattle.tc_flush.specs.Counting.{IsCounted};
+ghost use Rattle.tc_list.specs.declared.run.Run.{Run};
+ghost use Rattle.tc_list.specs.Runs.{in_run, swapped, neighbours};
+ghost use Rattle.tc_part_model.specs.Calls.{FlushesBehind, MakesFlush};
+ghost use Rattle.tc_part_model.specs.Meaning.{IsPart, IsOfContent};
+ghost use Rattle.tc_part_model.specs.Newest.{newest_index, names_by, schema_by};
+ghost use Rattle.tc_part_model.specs.PartState.{Told, AreTold, told_component};
+ghost use Rattle.tc_part_model.specs.PartView.{PartView};
+
+use tc_flush::lists_are_counted;
+use tc_store::Frozen;
+
+/// A law, and no work. A component of a part whose file is told was loaded of the file of its content, and so are those of a
+/// run; and a component that was loaded of a content is one of it, also in place of a run.
+pub fn told_components_are_loaded<F: Frozen>()
+    ensures loaded { (component : ComponentState F) (c : Content) → IsOfContent (told_component F.content component) c → IsSome (F.content component.file) → IsLoadedOf F.content component c }
+    ensures all_loaded { (components : List (ComponentState F)) (cs : List Content) → AllZip IsOfContent (map (told_component F.content) components) cs → AreTold (map (told_component F.content) components)
+        → AllZip (IsLoadedOf F.content) components cs }
+    ensures run { (run : Run) (components : List (ComponentState F)) (cs : List Content) → AllZip (IsLoadedOf F.content) components cs → AllZip (IsLoadedOf F.content) (in_run run components) (contents_in_run (neighbours run) cs) }
+    ensures of_content { (component : ComponentState F) (c : Content) → IsLoadedOf F.content component c → IsOfContent (told_component F.content component) c }
+    ensures swapped { (run : Run) (components : List (ComponentState F)) (cs : List Content) (merged : ComponentState F) (c : Content) → run.first ≤ run.last → AllZip IsOfContent (map (told_component F.content) components) cs
+        → IsOfContent (told_component F.content merged) c → AllZip IsOfContent (map (told_component F.content) (swapped run merged components)) (contents_swapped (neighbours run) c cs) }
+{}
+
+/// A law, and no work. The newest component that a part has loaded has the names and the schema of its list. Over them the
+/// sealed table lies behind the list, where the files are told, and passes the test `counted`; and what a flush makes of it
+/// there is what the flush of the part makes.
+pub fn sealed_tables_can_flush()
+    ensures names { (t : Told) (p : PartView) → IsPart t p → names_by (newest_index None t.components) ≡ names_of p.list }
+    ensures schema { (t : Told) (p : PartView) → IsPart t p → schema_by (newest_index None t.components) ≡ schema_of p.list }
+    ensures behind { (t : Told) (p : PartView) (head : Head) (kept : Table) → IsPart t p → AreTold t.components → t.sealed ≡ Some kept → t.generation < 2 ^ 63
+        → head ≡ record { number = t.part.number; count = t.part.count; from = t.generation - 1; to = t.generation - 1 } → FlushesBehind p head (names_of p.list) (schema_of p.list) kept }
+    ensures counted { (t : Told) (p : PartView) (kept : Table) → IsPart t p → AreTold t.components → t.sealed ≡ Some kept → IsTable kept → IsCounted (names_of p.list) (schema_of p.list) kept }
+    ensures makes { (p : PartView) (head : Head) (names : List Name) (schema : Counted) (kept : Table) (c : Content) (b : FlushesBehind p head names schema kept) → IsFlush (part_of head) p.list b.sealed.table 1 c → MakesFlush p c }
+{
+    lists_are_counted();
+}
