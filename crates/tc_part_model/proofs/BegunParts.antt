@@ -30,7 +30,7 @@ use Rattle.tc_part_model.proofs.Failures.{failing_keeps}
 use Rattle.tc_part_model.proofs.ToldFiles.{if_files_goes_on, if_files_unmade, moments_goes_on, moments_unmade, unmade_untold, wasted}
 
 -- the sealed table that is told
-pub told_sealed : (T : Type 0) (o : Option Sealed) (kept : memory.Table) → KeepsSealed T o (Some kept) → (d : Sealed) × (o ≡ Some d) × (length d.logs ≡ 1)
+told_sealed : (T : Type 0) (o : Option Sealed) (kept : memory.Table) → KeepsSealed T o (Some kept) → (d : Sealed) × (o ≡ Some d) × (length d.logs ≡ 1)
 told_sealed T None kept keeps = absurd keeps
 told_sealed T (Some d) kept keeps = (d, refl, keeps.0)
 
@@ -81,21 +81,21 @@ module _ (t : Told) (p : PartView) (is : IsPart t p) where
 
   -- ---- a flush
 
-  module _ (kept : memory.Table) (some : t.sealed ≡ Some kept) (none : t.flushing ≡ false) where
-    table : (d : Sealed) × (p.sealed ≡ Some d) × (length d.logs ≡ 1)
-    table = told_sealed (AreTold t.components) p.sealed kept (subst (λ o. KeepsSealed (AreTold t.components) p.sealed o) some is.view.sealed)
+  pub sealed_found : (kept : memory.Table) → t.sealed ≡ Some kept → (d : Sealed) × (p.sealed ≡ Some d) × (length d.logs ≡ 1)
+  sealed_found kept some = told_sealed (AreTold t.components) p.sealed kept (subst (λ o. KeepsSealed (AreTold t.components) p.sealed o) some is.view.sealed)
 
+  module _ (kept : memory.Table) (some : t.sealed ≡ Some kept) (none : t.flushing ≡ false) where
     none_out : p.flush ≡ None
     none_out = no_flush_out p.flush (sym none ∙ is.view.flushing)
 
     one_log : length (sealed_logs p.sealed) ≡ 1
-    one_log = ap (λ o. length (sealed_logs o)) table.1 ∙ table.2
+    one_log = ap (λ o. length (sealed_logs o)) (sealed_found kept some).1 ∙ (sealed_found kept some).2
 
     named : Component (t.generation - 1) (t.generation - 1) ≡ flush_name (flushing_of (state_of p))
     named = ap (λ n. Component n (t.generation - 1)) (omega (arith, is.view.generation, one_log)) ∙ ap (λ n. Component (last_of p.list + 1) n) (omega (arith, is.view.generation, one_log))
 
     pub flush_name_free : IfTold t.disks (λ disk. IsThere (disk (Component (t.generation - 1) (t.generation - 1))) → ⊥)
-    flush_name_free = subst (λ n. IfTold t.disks (λ disk. IsThere (disk n) → ⊥)) (sym named) (free_told (flush_name (flushing_of (state_of p))) (λ disk f g k. flush_free p disk f g k table.0 table.1 none_out))
+    flush_name_free = subst (λ n. IfTold t.disks (λ disk. IsThere (disk n) → ⊥)) (sym named) (free_told (flush_name (flushing_of (state_of p))) (λ disk f g k. flush_free p disk f g k (sealed_found kept some).0 (sealed_found kept some).1 none_out))
 
     flush_told : IsPart (record t { disks = makes (flush_name (flushing_of (state_of p))) t.disks; flushing = true }) (flushing_part p)
     flush_told =
@@ -115,12 +115,12 @@ module _ (t : Told) (p : PartView) (is : IsPart t p) where
             flushing = refl;
             merging = is.view.merging;
           };
-          memory = flush_begun_memory p.part (state_of p) is.memory (subst (λ o. IsSome o) (sym table.1) refl);
+          memory = flush_begun_memory p.part (state_of p) is.memory (subst (λ o. IsSome o) (sym (sealed_found kept some).1) refl);
           staged = record { each = is.staged.each; room = is.staged.room; few = is.staged.few };
           room = is.room;
           tells = logs_tell t.disks (makes name t.disks) t.log t.sealed_log (λ untold. ap (makes name) untold) is.tells;
           files = record {
-            kept = if_files_goes_on (put name out) (AreKeptAt p false None) (AreKeptAt (flushing_part p) false None) t.disks t.log t.sealed_log (λ disk f g k. flush_begins p disk f g k table.0 table.1 none_out) is.files.kept;
+            kept = if_files_goes_on (put name out) (AreKeptAt p false None) (AreKeptAt (flushing_part p) false None) t.disks t.log t.sealed_log (λ disk f g k. flush_begins p disk f g k (sealed_found kept some).0 (sealed_found kept some).1 none_out) is.files.kept;
             jobs = told-goes_on (AreJobsOut (Some (flushing_of (state_of p))) p.merge) (put name out) t.disks
                 (told_map (AreJobsOut p.flush p.merge) (λ disk. AreJobsOut (Some (flushing_of (state_of p))) p.merge (put name out disk)) t.disks
                 (λ disk jobs. record { flush_out = put_there name out disk; merge_out = merge_still name disk p.merge jobs.merge_out }) is.files.jobs);
@@ -133,10 +133,10 @@ module _ (t : Told) (p : PartView) (is : IsPart t p) where
     pub flush_moments : StoreMomentsLeaveStore (flushing_part p) (flushing_part p) t (makes (Component (t.generation - 1) (t.generation - 1)) t.disks)
     flush_moments = subst (λ n. StoreMomentsLeaveStore (flushing_part p) (flushing_part p) t (makes n t.disks)) (sym named)
         (moments_goes_on (put (flush_name (flushing_of (state_of p))) out) (AreKeptAt p false None) (λ disk f g. LeavesStoreAt (flushing_part p) None g f disk ⊎ LeavesStoreAt (flushing_part p) None g f disk) t.disks t.log t.sealed_log
-        (λ disk f g k. inl (kept_leaves (flushing_part p) false (put (flush_name (flushing_of (state_of p))) out disk) f g (flush_begins p disk f g k table.0 table.1 none_out))) is.files.kept)
+        (λ disk f g k. inl (kept_leaves (flushing_part p) false (put (flush_name (flushing_of (state_of p))) out disk) f g (flush_begins p disk f g k (sealed_found kept some).0 (sealed_found kept some).1 none_out))) is.files.kept)
 
     flush_free_at : (disk : Disk) (f g : DiskFile) → AreKeptAt p false None disk f g → IsThere (disk (Component (t.generation - 1) (t.generation - 1))) → ⊥
-    flush_free_at disk f g k = subst (λ n. IsThere (disk n) → ⊥) (sym named) (flush_free p disk f g k table.0 table.1 none_out)
+    flush_free_at disk f g k = subst (λ n. IsThere (disk n) → ⊥) (sym named) (flush_free p disk f g k (sealed_found kept some).0 (sealed_found kept some).1 none_out)
 
     pub flush_unmade : (u : Told) → u.failed ≡ true → u.log ≡ t.log → u.sealed_log ≡ t.sealed_log → FailsMaking (Component (t.generation - 1) (t.generation - 1)) t.disks u.disks → HasFailed u p.part (store_of p) None
     flush_unmade = unmade (t.generation - 1) (t.generation - 1) flush_free_at

@@ -36,3 +36,4 @@ pub mod FollowingMoments
 pub mod LoadedComponents
 pub mod ShortDocuments
 pub mod SealedInputs
+pub mod RunInputs

@@ -36,10 +36,10 @@ module _ {F : Type 0} (content : F → Option (List ℕ)) where
 
   -- ---- lists of what is told
 
-  abbrev ToldOf : ComponentState F → Content → Type 0
+  abbrev pub ToldOf : ComponentState F → Content → Type 0
   ToldOf component c = IsOfContent (told_component content component) c
 
-  of_told : (components : List (ComponentState F)) (cs : List Content) → AllZip IsOfContent (map (told_component content) components) cs → AllZip ToldOf components cs
+  pub of_told : (components : List (ComponentState F)) (cs : List Content) → AllZip IsOfContent (map (told_component content) components) cs → AllZip ToldOf components cs
   of_told [] [] all = tt
   of_told [] (c ∷ cs) all = absurd all
   of_told (m ∷ components) [] all = absurd all

@@ -28,7 +28,7 @@ use Rattle.tc_part_model.specs.Meaning.{IsPart, KeepsSealed, KeepsTable}
 use Rattle.tc_part_model.specs.Newest.{names_by, newest_index, schema_by}
 use Rattle.tc_part_model.specs.PartState.{AreTold, Told}
 use Rattle.tc_part_model.specs.PartView.{PartView}
-use Rattle.tc_part_model.proofs.BegunParts.{told_sealed}
+use Rattle.tc_part_model.proofs.BegunParts.{sealed_found}
 use Rattle.tc_part_model.proofs.NewestComponents.{names_are, schema_is}
 use Rattle.tc_part_model.proofs.ShortDocuments.{live_short, table_short}
 
@@ -48,9 +48,6 @@ Counts = (part : Partition) (cs : List Content) (t : Table) (kept : memory.Table
     → IsCounted (names_of cs) (schema_of cs) kept
 
 module _ (t : Told) (p : PartView) (is : IsPart t p) (told : AreTold t.components) (kept : memory.Table) (some : t.sealed ≡ Some kept) where
-  found : (d : Sealed) × (p.sealed ≡ Some d) × (length d.logs ≡ 1)
-  found = told_sealed (AreTold t.components) p.sealed kept (subst (λ o. KeepsSealed (AreTold t.components) p.sealed o) some is.view.sealed)
-
   module _ (d : Sealed) (is_sealed : p.sealed ≡ Some d) (one : length d.logs ≡ 1) where
     keeps : KeepsTable (AreTold t.components) d.table kept
     keeps = (subst (λ o. KeepsSealed (AreTold t.components) o (Some kept)) is_sealed (subst (λ o. KeepsSealed (AreTold t.components) p.sealed o) some is.view.sealed)).1
@@ -108,10 +105,10 @@ module _ (t : Told) (p : PartView) (is : IsPart t p) (told : AreTold t.component
         (subst (λ o. HasRoom (over (live p.list) (sealed_table o))) is_sealed is.room) few_names
 
   pub sealed_behind : (head : Head) → t.generation < 2 ^ 63 → head ≡ record { number = t.part.number; count = t.part.count; from = t.generation - 1; to = t.generation - 1 } → FlushesBehind p head (names_of p.list) (schema_of p.list) kept
-  sealed_behind = is_behind found.0 found.1 found.2
+  sealed_behind = is_behind (sealed_found t p is kept some).0 (sealed_found t p is kept some).1 (sealed_found t p is kept some).2
 
   pub sealed_counted : Counts → memory.IsTable kept → IsCounted (names_of p.list) (schema_of p.list) kept
-  sealed_counted = is_counted found.0 found.1 found.2
+  sealed_counted = is_counted (sealed_found t p is kept some).0 (sealed_found t p is kept some).1 (sealed_found t p is kept some).2
 
 pub makes_flush : (p : PartView) (head : Head) (names : List Name) (schema : Counted) (kept : memory.Table) (c : Content) (b : FlushesBehind p head names schema kept) → IsFlush (part_of head) p.list b.sealed.table 1 c → MakesFlush p c
 makes_flush p head names schema kept c b is =

@@ -1,6 +1,6 @@
 //! Laws of what the jobs of a part need.
 
-ghost use Rattle.std.specs.Prelude.{◌≡◌, ◌-◌, ◌<◌, ◌≤◌, ◌^◌, List, map, Some, None, IsSome};
+ghost use Rattle.std.specs.Prelude.{◌≡◌, ◌+◌, ◌-◌, ◌<◌, ◌≤◌, ◌^◌, List, length, map, slice_get, Some, None, IsSome};
 ghost use Rattle.std.specs.List.{AllZip};
 ghost use Rattle.tc_model.specs.Document.{Name};
 ghost use Rattle.tc_schema_model.specs.Counted.{Counted};
@@ -9,13 +9,16 @@ ghost use Rattle.tc_component.specs.declared.head.Head.{Head};
 ghost use Rattle.tc_component.specs.Loaded.{IsLoadedOf};
 ghost use Rattle.tc_component.specs.Loading.{ComponentState};
 ghost use Rattle.tc_component.specs.Rows.{part_of};
+ghost use Rattle.tc_component.specs.Spelling.{name_of};
 ghost use Rattle.tc_lsm_model.specs.Contents.{Content};
 ghost use Rattle.tc_lsm_model.specs.Flushes.{IsFlush};
 ghost use Rattle.tc_lsm_model.specs.Lists.{names_of, schema_of};
-ghost use Rattle.tc_lsm_model.specs.Merges.{in_run as contents_in_run, swapped as contents_swapped};
+ghost use Rattle.tc_lsm_model.specs.Merges.{IsMerge, in_run as contents_in_run, swapped as contents_swapped};
 ghost use Rattle.tc_flush.specs.Counting.{IsCounted};
 ghost use Rattle.tc_list.specs.declared.run.Run.{Run};
 ghost use Rattle.tc_list.specs.Runs.{in_run, swapped, neighbours};
+ghost use Rattle.tc_machine.specs.Components.{file_of};
+ghost use Rattle.tc_merge.specs.Merging.{IsRun};
 ghost use Rattle.tc_part_model.specs.Calls.{FlushesBehind, MakesFlush};
 ghost use Rattle.tc_part_model.specs.Meaning.{IsPart, IsOfContent};
 ghost use Rattle.tc_part_model.specs.Newest.{newest_index, names_by, schema_by};
@@ -50,3 +53,17 @@ pub fn sealed_tables_can_flush()
 {
     lists_are_counted();
 }
+
+/// A law, and no work. Two neighbours or more of a part, over every store, are a run under the header that has the interval from
+/// the first of them to the last; what merges their contents has the name of that header.
+pub fn runs_can_merge<F: Frozen>()
+    ensures run { (t : Told) (p : PartView) (components : List (ComponentState F)) (run : Run) (head : Head) (first last : ComponentState F) → IsPart t p → t.components ≡ map (told_component F.content) components → run.first < run.last
+        → slice_get components run.first ≡ Some first → slice_get components run.last ≡ Some last → head ≡ record { number = t.part.number; count = t.part.count; from = first.index.head.from; to = last.index.head.to }
+        → IsRun head (in_run run components) }
+    ensures within { (t : Told) (p : PartView) (components : List (ComponentState F)) (run : Run) (head : Head) (first last : ComponentState F) → IsPart t p → t.components ≡ map (told_component F.content) components → run.first < run.last
+        → slice_get components run.first ≡ Some first → slice_get components run.last ≡ Some last → head ≡ record { number = t.part.number; count = t.part.count; from = first.index.head.from; to = last.index.head.to }
+        → (2 ≤ (neighbours run).length) × ((neighbours run).first + (neighbours run).length ≤ length p.list) }
+    ensures named { (t : Told) (p : PartView) (components : List (ComponentState F)) (run : Run) (head : Head) (first last : ComponentState F) → IsPart t p → t.components ≡ map (told_component F.content) components → run.first < run.last
+        → slice_get components run.first ≡ Some first → slice_get components run.last ≡ Some last → head ≡ record { number = t.part.number; count = t.part.count; from = first.index.head.from; to = last.index.head.to }
+        → (c : Content) → IsMerge (contents_in_run (neighbours run) p.list) c → file_of c ≡ name_of head }
+{}
