@@ -1,3 +1,6 @@
 pub mod Members
 pub mod Tiles
 pub mod Places
+mod NameOrders
+mod Taking
+mod HeadSteps

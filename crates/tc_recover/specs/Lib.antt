@@ -1,2 +1,6 @@
 pub mod Tilings
 pub mod Placing
+pub mod Causes
+pub mod Files
+pub mod Reads
+pub mod Refusals
