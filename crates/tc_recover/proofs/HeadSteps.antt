@@ -1,7 +1,8 @@
 -- The headers of open files are read one after the other.
 use Rattle.std.proofs.Common.{◌≡◌, ◌≤◌, ℕ, zero, suc, Bool, List, [], ◌∷◌, filter, length, refl, sym, subst, ap, cond, arith}
-use Rattle.std.specs.Prelude.{Option, Some, None, unwrap_or, All, IsSome, IfSome, true, false, Result, Ok, Err}
+use Rattle.std.specs.Prelude.{Option, Some, None, unwrap_or, All, IsSome, IfSome, true, false, Err}
 use Rattle.std.specs.Option.{option_or}
+use Rattle.std.proofs.lemmas.List.Elements.{All-cons}
 use Rattle.tc_bytes.specs.Counts.{next_count}
 use Rattle.tc_lsm_model.specs.Contents.{Partition}
 use Rattle.tc_store.specs.declared.file_name.FileName.{FileName}
@@ -11,7 +12,7 @@ use Rattle.tc_store.specs.Gate.{is_open_file}
 use Rattle.tc_recover.specs.declared.cause.OpenCause.{OpenCause}
 use Rattle.tc_recover.specs.declared.cause.OpenCause.TheVariants.{Disk, Damaged, Layout, Memory}
 use Rattle.tc_recover.specs.declared.taken.Taken.{Taken}
-use Rattle.tc_recover.specs.Files.{entry_in, picture_in, AreTold, AreGates}
+use Rattle.tc_recover.specs.Files.{entry_in, picture_in, AreTold, AreGates, IsLawfulName, AreLawful}
 use Rattle.tc_recover.specs.Reads.{count_after}
 use Rattle.tc_recover.specs.Refusals.{Refusal, head_refused, file_refused, heads_refused, Refuses}
 
@@ -54,10 +55,11 @@ pub record AreHeadsLeft {F W : Type 0} (tells : F → Option (List ℕ)) (part :
   pub told : AreTold tells all → AreTold tells rest
   pub judged : AreTold tells all → heads_refused part (picture_in tells all) ≡ heads_refused part (picture_in tells rest)
   pub faults : before.faults ≤ now.faults
+  pub lawful : AreLawful rest → AreLawful all
   pub reads : count_after (length (filter (λ t. t.open) rest)) now.reads ≡ count_after (length (filter (λ t. t.open) all)) before.reads
 
 pub heads_begin : {F W : Type 0} (tells : F → Option (List ℕ)) (part : Partition) (all : List (Taken F W)) (counts : Counts) → AreGates tells all → AreHeadsLeft tells part all all counts counts
-heads_begin tells part all counts gates = record { gates = gates; told = λ told. told; judged = λ told. refl; faults = omega arith; reads = refl }
+heads_begin tells part all counts gates = record { gates = gates; told = λ told. told; judged = λ told. refl; lawful = λ lawful. lawful; faults = omega arith; reads = refl }
 
 gate_first : {F W : Type 0} (tells : F → Option (List ℕ)) (t : Taken F W) (ts : List (Taken F W)) → AreGates tells (t ∷ ts) → IfSome (tells t.file) (λ bytes. t.open ≡ is_open_file bytes)
 gate_first tells t ts gates = all_first (λ u. IfSome (tells u.file) (λ bytes. u.open ≡ is_open_file bytes)) t ts gates
@@ -82,14 +84,15 @@ head_skipped tells part all rest ts t before now p rests closed = skipped (subst
       judged = λ told.
           let passes = closed_passes part t.name t.open (tells t.file) (told_first tells t ts (q.told told)) (gate_first tells t ts q.gates) closed in
           subst (λ first. heads_refused part (picture_in tells all) ≡ option_or first (heads_refused part (picture_in tells ts))) passes (q.judged told);
+      lawful = λ lawful. q.lawful (All-cons (λ u. u.open ≡ true → IsLawfulName u.name) t ts (λ is_open. absurd (cc)) lawful);
       faults = q.faults;
       reads = subst (λ is. count_after (length (cond is (t ∷ filter (λ u. u.open) ts) (filter (λ u. u.open) ts))) now.reads ≡ count_after (length (filter (λ u. u.open) all)) before.reads) closed q.reads;
     }
 
 pub head_read : {F W : Type 0} (tells : F → Option (List ℕ)) (part : Partition) (all rest ts : List (Taken F W)) (t : Taken F W) (before now after : Counts) → AreHeadsLeft tells part all rest before now
-    → rest ≡ t ∷ ts → t.open ≡ true → IfSome (tells t.file) (λ bytes. head_refused part t.name bytes ≡ None) → now.faults ≤ after.faults → after.reads ≡ count_after 1 now.reads
+    → rest ≡ t ∷ ts → t.open ≡ true → IfSome (tells t.file) (λ bytes. head_refused part t.name bytes ≡ None) → IsLawfulName t.name → now.faults ≤ after.faults → after.reads ≡ count_after 1 now.reads
     → AreHeadsLeft tells part all ts before after
-head_read tells part all rest ts t before now after p rests is_open passes risen read = done (subst (λ left. AreHeadsLeft tells part all left before now) rests p)
+head_read tells part all rest ts t before now after p rests is_open passes name risen read = done (subst (λ left. AreHeadsLeft tells part all left before now) rests p)
   where
     done : AreHeadsLeft tells part all (t ∷ ts) before now → AreHeadsLeft tells part all ts before after
     done q = record {
@@ -101,6 +104,7 @@ head_read tells part all rest ts t before now after p rests is_open passes risen
           let nothing = told_holds (λ bytes. head_refused part t.name bytes ≡ None) (tells t.file) some passes in
           let first : file_refused part (entry_in tells t) ≡ None = cc in
           subst (λ first. heads_refused part (picture_in tells all) ≡ option_or first (heads_refused part (picture_in tells ts))) first (q.judged told);
+      lawful = λ lawful. q.lawful (All-cons (λ u. u.open ≡ true → IsLawfulName u.name) t ts (λ is_open. name) lawful);
       faults = omega (arith, q.faults, risen);
       reads =
           let was = subst (λ is. count_after (length (cond is (t ∷ filter (λ u. u.open) ts) (filter (λ u. u.open) ts))) now.reads ≡ count_after (length (filter (λ u. u.open) all)) before.reads) is_open q.reads in
@@ -120,10 +124,6 @@ head_refuses X Y tells part all rest ts t before now cause p rests is_open refus
         let judged = open_judged part t.name t.open (tells t.file) some (gate_first tells t ts q.gates) is_open in
         let first = subst (λ r. Refuses {X = X} (Err cause) r) (sym judged) (told_holds (λ bytes. Refuses {X = X} (Err cause) (head_refused part t.name bytes)) (tells t.file) some refuses) in
         subst (λ r. Refuses {X = Y} (Err cause) r) (sym (q.judged told)) (refused_first X Y cause (file_refused part (entry_in tells t)) (heads_refused part (picture_in tells ts)) first)
-
-pub heads_pass : {F W : Type 0} (tells : F → Option (List ℕ)) (part : Partition) (all rest : List (Taken F W)) (before now : Counts) → AreHeadsLeft tells part all rest before now → rest ≡ []
-    → AreTold tells all → heads_refused part (picture_in tells all) ≡ None
-heads_pass tells part all rest before now p done told = subst (λ left. heads_refused part (picture_in tells all) ≡ heads_refused part (picture_in tells left)) done (p.judged told)
 
 pub heads_counted : {F W : Type 0} (tells : F → Option (List ℕ)) (part : Partition) (all rest : List (Taken F W)) (before now : Counts) → AreHeadsLeft tells part all rest before now → rest ≡ []
     → now.reads ≡ count_after (length (filter (λ t. t.open) all)) before.reads

@@ -4,3 +4,4 @@ pub mod Places
 mod NameOrders
 mod Taking
 mod HeadSteps
+mod SortedNames

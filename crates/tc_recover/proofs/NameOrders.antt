@@ -1,19 +1,19 @@
 -- The names of files are ordered totally; sorted, and each kept once, they ascend.
-use Rattle.std.proofs.Common.{◌≡◌, ℕ, suc, Bool, List, [], ◌∷◌, refl, subst, sym, arith, inl, inr}
+use Rattle.std.proofs.Common.{◌≡◌, ℕ, suc, List, [], ◌∷◌, refl, subst, sym, arith, inl, inr}
 use Rattle.std.proofs.Math.Path.{fun_ext}
 use Rattle.std.proofs.lemmas.Cmp.{nat_cmp_total, then_total, on_total, eq_by_cmp_equiv}
 use Rattle.std.proofs.lemmas.List.Filters.{dedup_is}
 use Rattle.std.proofs.lemmas.List.Kept.{IsStrictlySortedBy-dedup, Contains-dedup, Contains-from_dedup}
 use Rattle.std.proofs.lemmas.List.Sorted.{Contains-permutation, IsPermutation-sym}
 use Rattle.std.specs.Ordering.{nat_cmp, then_cmp, on, ordering_then, eq_by_cmp, is_eq, ordering_reverse}
-use Rattle.std.specs.Prelude.{◌↔◌, ◌==◌, ◌&&◌, true, false}
+use Rattle.std.specs.Prelude.{◌↔◌, ◌==◌, ◌&&◌, false}
 use Rattle.std.proofs.lemmas.Grind.{common_steps}
 use Rattle.std.proofs.lemmas.Bool.{cases_Bool}
 use Rattle.std.proofs.lemmas.Map.Keys.{Less-from_sorted}
 use Rattle.std.specs.declared.cmp.Ordering.{Ordering}
 use Rattle.std.specs.declared.cmp.Ordering.TheVariants.{Less, Equal, Greater}
 use Rattle.std.specs.Cmp.{IsTotalOrder, IsEquivalence}
-use Rattle.std.specs.List.{Contains, dedup}
+use Rattle.std.specs.List.{Contains}
 use Rattle.std.specs.List.Retain.{IsFiltered, DiffersFromLast}
 use Rattle.std.specs.List.Sorted.{IsSorted, IsStrictlySortedBy, IsPermutation}
 use Rattle.tc_store.specs.declared.file_name.FileName.{FileName}
@@ -114,7 +114,7 @@ all_listed (disk ∷ past) ws xs ys lists moved filtered = λ name. (
 )
 
 -- names that ascend are apart
-pub less_apart : (a b : FileName) → name_cmp a b ≡ Less → same_name a b ≡ false
+less_apart : (a b : FileName) → name_cmp a b ≡ Less → same_name a b ≡ false
 less_apart a b less = elim (cases_Bool (same_name a b)) [
   | inl same ↦ let one = subst (λ n. name_cmp a n ≡ Less) (sym (same_name-is a b same)) less in let back = name_total.antisymm a a in absurd (no_less (name_cmp a a) one back)
   | inr other ↦ other
@@ -125,5 +125,8 @@ less_apart a b less = elim (cases_Bool (same_name a b)) [
     no_less Equal less back = cc
     no_less Greater less back = cc
 
+pub first_less : (n : FileName) (names : List FileName) (m : FileName) → IsStrictlySortedBy name_cmp (n ∷ names) → Contains names m → name_cmp n m ≡ Less
+first_less n names m sorted (k, low, is) = subst (λ x. name_cmp n x ≡ Less) is (Less-from_sorted name_cmp (n ∷ names) 0 (suc k) m sorted (omega arith) (omega (arith, low)))
+
 pub first_apart : (n : FileName) (names : List FileName) (m : FileName) → IsStrictlySortedBy name_cmp (n ∷ names) → Contains names m → same_name n m ≡ false
-first_apart n names m sorted (k, low, is) = less_apart n m (subst (λ x. name_cmp n x ≡ Less) is (Less-from_sorted name_cmp (n ∷ names) 0 (suc k) m sorted (omega arith) (omega (arith, low))))
+first_apart n names m sorted member = less_apart n m (first_less n names m sorted member)

@@ -4,10 +4,10 @@ use Rattle.std.specs.Prelude.{Contains, All}
 use Rattle.std.proofs.lemmas.List.Elements.{All-contains, Contains-push, Contains-push_cases, Contains-append_left}
 use Rattle.std.proofs.lemmas.Bool.{cases_lt}
 use Rattle.tc_recover.specs.declared.interval.Interval.{Interval}
-use Rattle.tc_recover.specs.Tilings.{Tile, IsUpTo, Ascend, LiesWithin, AreAround, IsTiling}
+use Rattle.tc_recover.specs.Tilings.{Tile, IsUpTo, Ascend, LiesWithin, AreAround, IsTiling, end_of}
 use Rattle.tc_recover.specs.Placing.{IsPlaced}
 use Rattle.tc_recover.proofs.Members.{member_cases, member_first, member_further, no_member}
-use Rattle.tc_recover.proofs.Tiles.{end_of, stands_at, one_before, stand_apart, one_holds, tile_pushed, without_last, end_pushed}
+use Rattle.tc_recover.proofs.Tiles.{stands_at, one_before, stand_apart, one_holds, tile_pushed, without_last, end_pushed}
 
 within_itself : (i : Interval) → LiesWithin i i
 within_itself i = record { begins = omega arith; ends = omega arith }

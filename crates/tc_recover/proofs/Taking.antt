@@ -1,6 +1,6 @@
 -- Files are taken one after the other.
-use Rattle.std.proofs.Common.{◌≡◌, ◌≤◌, ◌⊎◌, ◌+◌, ℕ, suc, Bool, List, [], ◌∷◌, ◌++◌, map, filter, length, length-append, inl, inr, refl, sym, subst, ap, append_assoc, append-nil, arith}
-use Rattle.std.specs.Prelude.{OnErr, Result, Ok, Err, Contains, Option, Some, None, unwrap_or, All, IsSome, IfSome, true, false, nat_lt, if◌then◌else◌}
+use Rattle.std.proofs.Common.{◌≡◌, ◌≤◌, ◌⊎◌, ◌+◌, ℕ, suc, Bool, List, [], ◌∷◌, ◌++◌, filter, length, length-append, inl, inr, refl, sym, subst, ap, append_assoc, append-nil, arith}
+use Rattle.std.specs.Prelude.{OnErr, Result, Ok, Err, Contains, Option, unwrap_or, IsSome, IfSome, true, false, nat_lt, if◌then◌else◌}
 use Rattle.std.specs.List.Sorted.{IsStrictlySortedBy}
 use Rattle.std.proofs.lemmas.List.{map-append}
 use Rattle.std.proofs.lemmas.List.Elements.{All-push, filter-append}
@@ -15,8 +15,8 @@ use Rattle.tc_store.specs.Moments.{IfTold}
 use Rattle.tc_store.specs.NameOrder.{name_cmp}
 use Rattle.tc_store.specs.StoreCalls.{takes, content_at}
 use Rattle.tc_recover.specs.declared.taken.Taken.{Taken}
-use Rattle.tc_recover.specs.Files.{entry_in, picture_in, AreTold, AreGates, AreNamed, is_long, names_in, picture_at, takes_all, TakesFirst}
-use Rattle.tc_recover.proofs.Members.{member_first, member_further, no_member}
+use Rattle.tc_recover.specs.Files.{picture_in, AreTold, AreGates, AreNamed, is_long, names_in, picture_at, takes_all, TakesFirst}
+use Rattle.tc_recover.proofs.Members.{member_first, member_further}
 use Rattle.tc_recover.proofs.NameOrders.{first_apart}
 
 -- the files of the names before these were taken
@@ -27,18 +27,6 @@ pub record IsTaking {F W : Type 0} (tells : F → Option (List ℕ)) (all rest :
   pub at_home : IfTold new (λ disk. (n : FileName) → Contains rest n → IsSettledHome (disk n))
   pub same : IfTold old (λ before. IfTold new (λ disk. (n : FileName) → Contains rest n → disk n ≡ before n))
   pub told : IfTold old (λ before. AreTold tells ts × (picture_in tells ts ≡ picture_at before (names_in ts)))
-
-pub begins_taking : {F W : Type 0} (tells : F → Option (List ℕ)) (all : List FileName) (old : List Disk) → IsStrictlySortedBy name_cmp all
-    → IfTold old (λ disk. (n : FileName) → Contains all n → IsSettledHome (disk n)) → IsTaking {W = W} tells all all old old []
-begins_taking tells all [] ascend settled = record { names = refl; history = refl; ascend = ascend; at_home = tt; same = tt; told = tt }
-begins_taking tells all (disk ∷ past) ascend settled = record {
-  names = refl;
-  history = refl;
-  ascend = ascend;
-  at_home = settled;
-  same = λ n member. refl;
-  told = (λ k d low. absurd (omega (arith, low)), refl);
-}
 
 pub takes_one_more : (names : List FileName) (n : FileName) (disks : List Disk) → takes_all (names ++ n ∷ []) disks ≡ takes n (takes_all names disks)
 takes_one_more [] n disks = refl
@@ -122,17 +110,6 @@ pub record IsTakingFiles {F W : Type 0} (tells : F → Option (List ℕ)) (named
   pub faults : before.faults ≤ now.faults
   pub reads : now.reads ≡ count_after (length (filter (is_long size) ts)) before.reads
 
-pub begins_files : {F W : Type 0} (tells : F → Option (List ℕ)) (named : F → FileName) (size : F → ℕ) (all : List FileName) (old : List Disk) (ts : List (Taken F W)) (counts : Counts)
-    → ts ≡ [] → IsStrictlySortedBy name_cmp all → IfTold old (λ disk. (n : FileName) → Contains all n → IsSettledHome (disk n))
-    → IsTakingFiles tells named size all all old old ts counts counts
-begins_files tells named size all old ts counts no_file ascend settled = subst (λ us. IsTakingFiles tells named size all all old old us counts counts) (sym no_file) record {
-  taking = begins_taking tells all old ascend settled;
-  names_are = λ k d low. absurd (omega (arith, low));
-  gates = λ k d low. absurd (omega (arith, low));
-  faults = omega arith;
-  reads = refl;
-}
-
 pub one_file : {F W : Type 0} (tells : F → Option (List ℕ)) (named : F → FileName) (size : F → ℕ) (all rest names : List FileName) (n : FileName) (old new later : List Disk)
     (ts us : List (Taken F W)) (t : Taken F W) (before now after : Counts) → IsTakingFiles tells named size all rest old new ts before now
     → rest ≡ n ∷ names → later ≡ takes n new → us ≡ ts ++ t ∷ [] → t.name ≡ n → named t.file ≡ t.name → tells t.file ≡ content_at n new
@@ -161,10 +138,11 @@ one_file tells named size all rest names n old new later ts us t before now afte
         subst (λ m. after.reads ≡ count_after m before.reads) more (subst (λ m. after.reads ≡ m) p.reads once)
 
 -- what was taken where the next one failed, before it was taken or behind that
-pub taken_first : {F W : Type 0} (tells : F → Option (List ℕ)) (all rest names : List FileName) (n : FileName) (old new later : List Disk) (ts : List (Taken F W)) → IsTaking tells all rest old new ts
-    → rest ≡ n ∷ names → (later ≡ new) ⊎ (later ≡ takes n new) → TakesFirst all old later
-taken_first tells all rest names n old new later ts p rests (inl same) = (names_in ts, rest, p.names, (let was = p.history in cc))
-taken_first tells all rest names n old new later ts p rests (inr taken) = (
+pub taken_first : {T E F W : Type 0} (result : Result T E) (tells : F → Option (List ℕ)) (all rest names : List FileName) (n : FileName) (old new later : List Disk) (ts : List (Taken F W))
+    → IsTaking tells all rest old new ts → rest ≡ n ∷ names → (later ≡ new) ⊎ (later ≡ takes n new) → OnErr result (TakesFirst all old later)
+taken_first (Ok x) tells all rest names n old new later ts p rests failed = tt
+taken_first (Err e) tells all rest names n old new later ts p rests (inl same) = (names_in ts, rest, p.names, (let was = p.history in cc))
+taken_first (Err e) tells all rest names n old new later ts p rests (inr taken) = (
   names_in ts ++ n ∷ [],
   names,
   subst (λ ns. all ≡ ns) (sym (append_assoc (names_in ts) (n ∷ []) names)) (subst (λ left. all ≡ names_in ts ++ left) rests p.names),
@@ -182,12 +160,3 @@ pub all_told : {F W : Type 0} (tells : F → Option (List ℕ)) (all rest : List
     → IfTold old (λ disk. AreTold tells ts)
 all_told tells all rest [] new ts p = tt
 all_told tells all rest (disk ∷ past) new ts p = p.told.0
-
-pub picture_told : {F W : Type 0} (tells : F → Option (List ℕ)) (all rest : List FileName) (old new : List Disk) (ts : List (Taken F W)) → IsTaking tells all rest old new ts → rest ≡ []
-    → IfTold old (λ disk. picture_in tells ts ≡ picture_at disk all)
-picture_told tells all rest [] new ts p done = tt
-picture_told tells all rest (disk ∷ past) new ts p done = subst (λ ns. picture_in tells ts ≡ picture_at disk ns) (all_names tells all rest (disk ∷ past) new ts p done) p.told.1
-
-pub on_any_err : {T E : Type 0} (result : Result T E) (P : Type 0) → P → OnErr result P
-on_any_err (Ok x) P holds = tt
-on_any_err (Err e) P holds = holds

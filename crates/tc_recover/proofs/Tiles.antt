@@ -3,13 +3,8 @@ use Rattle.std.proofs.Common.{◌≡◌, ◌<◌, ◌≤◌, ◌⊎◌, ◌+◌,
 use Rattle.std.specs.Prelude.{Contains}
 use Rattle.std.proofs.lemmas.Bool.{cases_lt}
 use Rattle.tc_recover.specs.declared.interval.Interval.{Interval}
-use Rattle.tc_recover.specs.Tilings.{Tile}
+use Rattle.tc_recover.specs.Tilings.{Tile, end_of}
 use Rattle.tc_recover.proofs.Members.{member_cases, member_first, member_further, no_member}
-
--- the last generation
-abbrev pub end_of : ℕ → List Interval → ℕ
-end_of g [] = g
-end_of g (t ∷ ts) = end_of t.to ts
 
 pub ends_behind : (g : ℕ) (ts : List Interval) → Tile g ts → g ≤ end_of g ts
 ends_behind g [] tile = omega arith

@@ -1,6 +1,7 @@
 -- Files that were taken: what they tell, and what taking them does to a store.
-use Rattle.std.specs.Prelude.{◌≡◌, ℕ, nat_lt, Bool, List, [], ◌∷◌, ◌++◌, map, Option, unwrap_or, All, IfSome, IsSome}
+use Rattle.std.specs.Prelude.{◌≡◌, ◌<◌, ◌≤◌, ◌^◌, ℕ, nat_lt, Bool, true, List, [], ◌∷◌, ◌++◌, map, Option, unwrap_or, All, IfSome, IsSome}
 use Rattle.tc_store.specs.declared.file_name.FileName.{FileName}
+use Rattle.tc_store.specs.declared.file_name.FileName.TheVariants.{Component, Log}
 use Rattle.tc_store.specs.Disk.{Disk, Picture, content_of}
 use Rattle.tc_store.specs.Gate.{is_open_file}
 use Rattle.tc_store.specs.StoreCalls.{takes}
@@ -45,3 +46,12 @@ TakesFirst names old new = (first rest : List FileName) × (names ≡ first ++ r
 -- the file has more than one byte
 abbrev pub is_long : {F W : Type 0} → (F → ℕ) → Taken F W → Bool
 is_long size t = nat_lt 1 (size t.file)
+
+-- generations that a name may have: from 1 to 2^63 - 1, and the first no later than the last
+abbrev pub IsLawfulName : FileName → Type 0
+IsLawfulName (Component from to) = (0 < from) × (from ≤ to) × (to < 2 ^ 63)
+IsLawfulName (Log generation) = (0 < generation) × (generation < 2 ^ 63)
+
+-- the names of the open files are such
+abbrev pub AreLawful : {F W : Type 0} → List (Taken F W) → Type 0
+AreLawful ts = All (λ t. t.open ≡ true → IsLawfulName t.name) ts

@@ -4,3 +4,4 @@ pub mod Causes
 pub mod Files
 pub mod Reads
 pub mod Refusals
+pub mod Sorting

@@ -21,6 +21,11 @@ abbrev pub Tile : ℕ → List Interval → Type 0
 Tile generation [] = Unit {0}
 Tile generation (t ∷ ts) = (t.from ≡ generation + 1) × (t.from ≤ t.to) × Tile t.to ts
 
+-- the last generation of the tiles behind one
+abbrev pub end_of : ℕ → List Interval → ℕ
+end_of generation [] = generation
+end_of generation (t ∷ ts) = end_of t.to ts
+
 -- one of these is around an interval
 abbrev pub AreAround : List Interval → Interval → Type 0
 AreAround tiles interval = (t : Interval) × Contains tiles t × LiesWithin t interval

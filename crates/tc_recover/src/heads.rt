@@ -1,8 +1,8 @@
 //! The headers of the open files of a partition.
 
-ghost use Rattle.std.specs.Prelude.{◌≡◌, length, filter, IfSome, IsErrOf};
+ghost use Rattle.std.specs.Prelude.{◌≡◌, length, filter, IfSome, OnOk, IsErrOf};
 ghost use Rattle.std.specs.Result.{IsOk};
-ghost use Rattle.tc_recover.specs.Files.{picture_in, AreTold, AreGates};
+ghost use Rattle.tc_recover.specs.Files.{picture_in, AreTold, AreGates, IsLawfulName, AreLawful};
 ghost use Rattle.tc_recover.specs.Reads.{IsCountedTimes};
 ghost use Rattle.tc_recover.specs.Refusals.{Refuses, asked, head_refused, heads_refused, stray};
 
@@ -31,6 +31,7 @@ pub fn judge_heads<F: Frozen>(
 ) -> Result<(), OpenCause>
     requires gates { AreGates F.content files.now }
     ensures judged { AreTold F.content files.now → Refuses result (heads_refused (asked part) (picture_in F.content files.now)) }
+    ensures lawful { OnOk result (AreLawful files.now) }
     ensures counted { IsCountedTimes (IsErrOf result OpenCause.Disk) (IsOk result) (length (filter (λ t. t.open) files.now)) (F.Watch.counts watch.old) (F.Watch.counts watch.new) }
 {
     let mut rest = files;
@@ -51,6 +52,7 @@ fn judge_head<F: Frozen>(
     watch: &mut F::Watch,
 ) -> Result<(), OpenCause>
     ensures judged { IfSome (F.content file.now.file) (λ bytes. Refuses result (head_refused (asked part) file.now.name bytes)) }
+    ensures lawful { OnOk result (IsLawfulName file.now.name) }
     ensures counted { IsCountedTimes (IsErrOf result OpenCause.Disk) (IsOk result) 1 (F.Watch.counts watch.old) (F.Watch.counts watch.new) }
 {
     match file.name {

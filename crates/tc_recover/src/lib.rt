@@ -6,6 +6,7 @@ mod gates;
 mod heads;
 mod interval;
 mod listing;
+mod sorting;
 mod taken;
 mod tiling;
 
@@ -14,5 +15,6 @@ pub use gates::take_files;
 pub use heads::{Partition, judge_heads};
 pub use interval::Interval;
 pub use listing::listed;
+pub use sorting::components_that_count;
 pub use taken::Taken;
 pub use tiling::tiling_of;

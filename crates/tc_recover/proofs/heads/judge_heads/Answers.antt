@@ -1,9 +1,9 @@
-use Rattle.std.proofs.Common.{◌≡◌, ◌∙◌, Err, ap, sym, subst, refl}
+use Rattle.std.proofs.Common.{◌∙◌, Err, ap, sym, subst, refl}
 use Rattle.std.proofs.lemmas.List.{nil_from_length}
 use Rattle.std.proofs.lemmas.Result.{err_from_is_err_and}
 use Rattle.tc_recover.specs.Files.{picture_in}
 use Rattle.tc_recover.specs.Refusals.{asked, heads_refused, Refuses}
-use Rattle.tc_recover.proofs.HeadSteps.{heads_begin, head_skipped, head_read, head_refuses, heads_pass, heads_counted}
+use Rattle.tc_recover.proofs.HeadSteps.{heads_begin, head_skipped, head_read, head_refuses, heads_counted}
 use Rattle.tc_recover.proofs.heads.judge_heads.Goals as goal
 
 pub loop-file-init : goal.loop-file-init
@@ -15,7 +15,7 @@ loop-file-preserved g c = head_skipped _ (asked c.args.part) c.args.files.now c.
 pub loop-file-preserved-in_ok-judge_head : goal.loop-file-preserved-in_ok-judge_head
 loop-file-preserved-in_ok-judge_head g c =
     head_read _ (asked c.args.part) c.args.files.now c.loop-file.rest.now c.in-Some.behind.now c.in-Some.file.now _ _ _ c.loop-file.invariant c.in-Some.ensures.cases.0 c.if-file.true
-    c.in_ok-judge_head.ensures.judged c.in_ok-judge_head.ensures.counted.faults (c.in_ok-judge_head.ensures.counted.done refl)
+    c.in_ok-judge_head.ensures.judged c.in_ok-judge_head.ensures.lawful c.in_ok-judge_head.ensures.counted.faults (c.in_ok-judge_head.ensures.counted.done refl)
 
 pub returns-in_err-judge_head-clause-judged : goal.returns-in_err-judge_head-clause-judged
 returns-in_err-judge_head-clause-judged g c = λ told.
