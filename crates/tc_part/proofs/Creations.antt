@@ -1,6 +1,5 @@
 -- What the creation of a log says of its moments, where the device tells and where it does not.
 use Rattle.std.proofs.Common.{◌≡◌, List, [], ◌∷◌, refl}
-use Rattle.std.specs.Prelude.{All}
 use Rattle.std.proofs.lemmas.List.Elements.{All-nil}
 use Rattle.tc_store.specs.DiskFile.{DiskFile}
 use Rattle.tc_store.specs.Gate.{IsShutOr, IsShutOrWhole}

@@ -13,3 +13,10 @@ of_device device.Memory = part.Memory
 abbrev pub of_store : StoreFault → PartFault
 of_store store.Fault = part.Disk
 of_store store.Memory = part.Memory
+
+-- that of a call that reads no file, so that it finds none damaged
+abbrev pub IsUndamaged : PartFault → Type 0
+IsUndamaged part.Disk = Unit {0}
+IsUndamaged (part.Damaged damage) = ⊥
+IsUndamaged part.Spent = Unit {0}
+IsUndamaged part.Memory = Unit {0}

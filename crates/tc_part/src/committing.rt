@@ -1,6 +1,6 @@
 //! What is staged is committed.
 
-ghost use Rattle.std.specs.Prelude.{◌≡◌, ◌≤◌, ◌+◌, ◌^◌, ◌↔◌, Some, true, false, length, OnOk, OnErr, IsErrOf};
+ghost use Rattle.std.specs.Prelude.{◌≡◌, ◌≤◌, ◌+◌, ◌^◌, ◌↔◌, Some, true, false, length, OnOk, OnErr, IfErr, IsErrOf};
 ghost use Rattle.tc_store.specs.Counted.{IsCounted};
 ghost use Rattle.tc_plain_model.specs.Writes.{after_writes};
 ghost use Rattle.tc_part_model.specs.PartState.{told};
@@ -8,6 +8,7 @@ ghost use Rattle.tc_part_model.specs.PartView.{PartView, store_of};
 ghost use Rattle.tc_part_model.specs.Meaning.{IsPart, HasFailed};
 ghost use Rattle.tc_part_model.specs.Changes.{committed_part};
 ghost use Rattle.tc_part_model.specs.Leaving.{LogMomentsLeaveStore};
+ghost use Rattle.tc_part.specs.Faults.{IsUndamaged};
 
 use crate::fault::PartFault;
 use crate::part::Part;
@@ -38,6 +39,7 @@ impl<S: Store> Part<S> {
 
         ensures spent { IsErrOf result PartFault.Spent ↔ 2 ^ 63 ≤ self.old.writes + length self.old.staged }
         ensures unspent { IsErrOf result PartFault.Spent → self.new.log ≡ self.old.log }
+        ensures undamaged { IfErr result (λ fault. IsUndamaged fault) }
         ensures counted { IsCounted (IsErrOf result PartFault.Disk) (S.Watch.counts self.old.main) (S.Watch.counts self.new.main) }
     {
         commits_are_kept();

@@ -1,12 +1,13 @@
 //! The active table is sealed, and the next log begins.
 
-ghost use Rattle.std.specs.Prelude.{◌≡◌, ◌<◌, ◌+◌, ◌^◌, ◌↔◌, [], Some, None, false, true, OnOk, OnErr, IsErrOf};
+ghost use Rattle.std.specs.Prelude.{◌≡◌, ◌<◌, ◌+◌, ◌^◌, ◌↔◌, [], Some, None, false, true, OnOk, OnErr, IfErr, IsErrOf};
 ghost use Rattle.tc_store.specs.Counted.{IsCounted};
 ghost use Rattle.tc_part_model.specs.PartState.{told};
 ghost use Rattle.tc_part_model.specs.PartView.{PartView, store_of};
 ghost use Rattle.tc_part_model.specs.Meaning.{IsPart, HasFailed, Stands};
 ghost use Rattle.tc_part_model.specs.Changes.{sealed_part};
 ghost use Rattle.tc_part_model.specs.Leaving.{StoreMomentsLeaveStore, NextLogMoments};
+ghost use Rattle.tc_part.specs.Faults.{IsUndamaged};
 
 use crate::fault::PartFault;
 use crate::part::Part;
@@ -42,6 +43,7 @@ impl<S: Store> Part<S> {
 
         ensures spent { IsErrOf result PartFault.Spent ↔ self.old.generation + 1 ≡ 2 ^ 63 }
         ensures unspent { IsErrOf result PartFault.Spent → self.new.store ≡ self.old.store }
+        ensures undamaged { IfErr result (λ fault. IsUndamaged fault) }
         ensures counted { IsCounted (IsErrOf result PartFault.Disk) (S.Watch.counts self.old.main) (S.Watch.counts self.new.main) }
     {
         seals_are_kept();

@@ -1,17 +1,17 @@
-use Rattle.std.proofs.Common.{rules, ◌≡◌, ◌∙◌, ◌+◌, ◌<◌, ◌^◌, false, [], List, None, Some, inl, refl, sym, ap, subst, arith}
+use Rattle.std.proofs.Common.{rules, ◌≡◌, ◌∙◌, ◌+◌, false, [], inl, refl, sym, ap, subst, arith}
 use Rattle.std.proofs.lemmas.Grind.{common_steps}
 use Rattle.std.specs.Arc.{arc_value}
 use Rattle.tc_store.specs.Disk.{IsThere}
-use Rattle.tc_store.specs.DiskFile.{DiskFile}
 use Rattle.tc_store.specs.Moments.{IfTold}
 use Rattle.tc_store.specs.declared.file_name.FileName.TheVariants.{Log}
 use Rattle.tc_log.specs.declared.head.LogHead.{LogHead}
 use Rattle.tc_log.specs.Appending.{created}
 use Rattle.tc_log.specs.Spelling.{IsHead}
-use Rattle.tc_part_model.specs.Calls.{Creates, HasCreated}
+use Rattle.tc_part_model.specs.Calls.{HasCreated}
 use Rattle.tc_part_model.specs.PartState.{told}
 use Rattle.tc_part.proofs.Creations.{creates}
 use Rattle.tc_part.proofs.Outcomes.{err_always}
+use Rattle.tc_part.proofs.Standing.{where_it_stands}
 use Rattle.tc_part.proofs.part.Part.seal.Goals as goal
 
 pub returns-then-self-eq-MAX_NUMBER-clause-failed : goal.returns-then-self-eq-MAX_NUMBER-clause-failed
@@ -29,7 +29,7 @@ returns-in_err-new-clause-failed g c =
 pub fresh-requires : goal.fresh-requires
 fresh-requires g c =
     let t = told g.S.Store.history g.S.Device.Device.history g.S.Frozen.Frozen.content c.args.self.now in
-    let free = c.seals_are_kept.ensures.free t c.requires.stands.0 c.requires.stands.1 c.requires.none_sealed c.requires.nothing_staged in
+    let free = where_it_stands t t.disks (λ disk. IsThere (disk (Log (t.generation + 1))) → ⊥) c.requires.stands (λ p is. c.seals_are_kept.ensures.free t p is c.requires.none_sealed c.requires.nothing_staged) in
     subst (λ s. IfTold (g.S.Store.history s.store) (λ disk. IsThere (disk (Log (s.generation + 1))) → ⊥)) (sym c.self.view_is) free
 
 pub returns-in_err-device-clause-failed : goal.returns-in_err-device-clause-failed
