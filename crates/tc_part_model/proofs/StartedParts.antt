@@ -33,7 +33,7 @@ use Rattle.tc_machine.proofs.Events.{event_keeps}
 use Rattle.tc_machine.proofs.MemorySteps.{no_flush}
 use Rattle.tc_machine.proofs.Rebasing.{rebased_is_kept}
 use Rattle.tc_machine.proofs.RunSteps.{no_frame}
-use Rattle.tc_part_model.specs.Leaving.{KeepsStore}
+use Rattle.tc_part_model.specs.Leaving.{FailedMomentsLeaveStore, KeepsStore}
 use Rattle.tc_part_model.specs.Meaning.{IsPart, plain_of}
 use Rattle.tc_part_model.specs.PartFiles.{AreJobsOut, AreKeptAt, IfFiles, IsDevice, active_name, device_at, files_at, seen_entry}
 use Rattle.tc_part_model.specs.PartState.{IsTold, Told}
@@ -44,6 +44,7 @@ use Rattle.tc_part_model.proofs.Closes.{close_stores}
 use Rattle.tc_part_model.proofs.CountedDocuments.{counts_documents}
 use Rattle.tc_part_model.proofs.DeviceFiles.{seen_active}
 use Rattle.tc_part_model.proofs.FailedParts.{fails_so}
+use Rattle.tc_part_model.proofs.HomeMoments.{close_moments}
 use Rattle.tc_part_model.proofs.NewestComponents.{names_are, next_is, schema_is}
 use Rattle.tc_part_model.proofs.ViewLaws.{nothing_starts}
 
@@ -193,6 +194,11 @@ module _ (o : ToldOpening) (list : List Content) (opened : IsOpened o list) wher
   not_started =
       subst (λ n. IfTold (comes_home n (λ f. home f) o.log o.disks) (KeepsStore o.part (live list) None)) (first_is o.part list opened.lawful)
       (close_stores failed (started_part o.part list) None (fails_so (started o) failed (started_part o.part list) start_is_part refl refl refl refl))
+
+  pub not_started_moments : FailedMomentsLeaveStore (started_part o.part list) None (started o) (comes_home (first_log list) (λ f. home f) o.log o.disks)
+  not_started_moments =
+      subst (λ n. FailedMomentsLeaveStore (started_part o.part list) None (started o) (comes_home n (λ f. home f) o.log o.disks)) (first_is o.part list opened.lawful)
+      (close_moments failed (started_part o.part list) None (fails_so (started o) failed (started_part o.part list) start_is_part refl refl refl refl))
 
 -- ---- an opening that ends
 

@@ -5,12 +5,12 @@ ghost use Rattle.tc_store.specs.Disk.{home};
 ghost use Rattle.tc_store.specs.DiskFile.{DiskFile};
 ghost use Rattle.tc_store.specs.Moments.{IfTold, LeavesAt};
 ghost use Rattle.tc_store.specs.StoreCalls.{comes_home};
-ghost use Rattle.tc_plain_model.specs.Writes.{Write};
+ghost use Rattle.tc_plain_model.specs.Writes.{Pairs, Write};
 ghost use Rattle.tc_component.specs.Rows.{IsComponent};
 ghost use Rattle.tc_machine.specs.Components.{file_of};
 ghost use Rattle.tc_machine.specs.State.{Flushing, Merging, flush_name};
 ghost use Rattle.tc_machine.specs.Steps.{IsFlushed, IsShutOrHas};
-ghost use Rattle.tc_lsm_model.specs.Contents.{Content};
+ghost use Rattle.tc_lsm_model.specs.Contents.{Content, Partition};
 ghost use Rattle.tc_part_model.specs.Calls.{HasMade, MakesFlush};
 ghost use Rattle.tc_part_model.specs.Leaving.{FailedMomentsLeaveStore};
 ghost use Rattle.tc_part_model.specs.Meaning.{IsPart, HasFailed, HasFailedAs};
@@ -27,6 +27,7 @@ pub fn failures_are_kept()
 pub fn failed_parts_keep_files()
     ensures fails { (t u : Told) (p : PartView) → IsPart t p → u.failed ≡ true → u.disks ≡ t.disks → u.log ≡ t.log → u.sealed_log ≡ t.sealed_log → HasFailedAs u p None }
     ensures stores { (t : Told) (p : PartView) (frame : Option (List Write)) → HasFailedAs t p frame → HasFailed t p.part (store_of p) frame }
+    ensures view { (t : Told) (part : Partition) (pairs : Pairs) (frame : Option (List Write)) (has : HasFailed t part pairs frame) → HasFailedAs t has.view frame }
     ensures flush { (t u : Told) (p : PartView) (frame : Option (List Write)) (j : Flushing) (device : List DiskFile) → HasFailedAs t p frame → p.flush ≡ Some j → IfTold device (LeavesAt (IsShutOrHas (IsFlushed p.part p.list p.sealed)))
         → u.failed ≡ true → u.log ≡ t.log → u.sealed_log ≡ t.sealed_log → u.disks ≡ comes_home (flush_name j) (λ f. home f) device t.disks → HasFailedAs u p frame }
     ensures merge { (t u : Told) (p : PartView) (frame : Option (List Write)) (m : Merging) (device : List DiskFile) → HasFailedAs t p frame → p.merge ≡ Some m → IfTold device (LeavesAt (IsShutOrHas (IsComponent m.target)))

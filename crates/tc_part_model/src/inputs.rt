@@ -1,28 +1,31 @@
 //! Laws of what the jobs of a part need.
 
-ghost use Rattle.std.specs.Prelude.{◌≡◌, ◌+◌, ◌-◌, ◌<◌, ◌≤◌, ◌^◌, List, length, map, slice_get, Some, None, IsSome};
+ghost use Rattle.std.specs.Prelude.{◌≡◌, ◌+◌, ◌-◌, ◌<◌, ◌≤◌, ◌^◌, List, All, length, map, slice_get, Some, None, IsSome};
 ghost use Rattle.std.specs.List.{AllZip};
 ghost use Rattle.tc_model.specs.Document.{Name};
 ghost use Rattle.tc_schema_model.specs.Counted.{Counted};
+ghost use Rattle.tc_store.specs.Disk.{Disk};
+ghost use Rattle.tc_store.specs.DiskFile.{DiskFile, settled_file};
+ghost use Rattle.tc_store.specs.Moments.{IfTold};
 ghost use Rattle.tc_memory.specs.Table.{Table, IsTable};
 ghost use Rattle.tc_component.specs.declared.head.Head.{Head};
 ghost use Rattle.tc_component.specs.Loaded.{IsLoadedOf};
 ghost use Rattle.tc_component.specs.Loading.{ComponentState};
-ghost use Rattle.tc_component.specs.Rows.{part_of};
+ghost use Rattle.tc_component.specs.Rows.{IsShortWrite, component_bytes, part_of};
 ghost use Rattle.tc_component.specs.Spelling.{name_of};
-ghost use Rattle.tc_lsm_model.specs.Contents.{Content};
+ghost use Rattle.tc_lsm_model.specs.Contents.{Content, IsContent};
 ghost use Rattle.tc_lsm_model.specs.Flushes.{IsFlush};
 ghost use Rattle.tc_lsm_model.specs.Lists.{names_of, schema_of};
-ghost use Rattle.tc_lsm_model.specs.Merges.{IsMerge, in_run as contents_in_run, swapped as contents_swapped};
+ghost use Rattle.tc_lsm_model.specs.Merges.{IsMerge, Run as Neighbours, in_run as contents_in_run, swapped as contents_swapped};
 ghost use Rattle.tc_flush.specs.Counting.{IsCounted};
 ghost use Rattle.tc_list.specs.declared.run.Run.{Run};
 ghost use Rattle.tc_list.specs.Runs.{in_run, swapped, neighbours};
 ghost use Rattle.tc_machine.specs.Components.{file_of};
 ghost use Rattle.tc_merge.specs.Merging.{IsRun};
-ghost use Rattle.tc_part_model.specs.Calls.{FlushesBehind, MakesFlush};
+ghost use Rattle.tc_part_model.specs.Calls.{FlushesBehind, HasMade, MakesFlush};
 ghost use Rattle.tc_part_model.specs.Meaning.{IsPart, IsOfContent};
 ghost use Rattle.tc_part_model.specs.Newest.{newest_index, names_by, schema_by};
-ghost use Rattle.tc_part_model.specs.PartState.{Told, AreTold, told_component};
+ghost use Rattle.tc_part_model.specs.PartState.{Told, AreTold, IsTold, told_component};
 ghost use Rattle.tc_part_model.specs.PartView.{PartView};
 
 use tc_flush::lists_are_counted;
@@ -66,4 +69,13 @@ pub fn runs_can_merge<F: Frozen>()
     ensures named { (t : Told) (p : PartView) (components : List (ComponentState F)) (run : Run) (head : Head) (first last : ComponentState F) → IsPart t p → t.components ≡ map (told_component F.content) components → run.first < run.last
         → slice_get components run.first ≡ Some first → slice_get components run.last ≡ Some last → head ≡ record { number = t.part.number; count = t.part.count; from = first.index.head.from; to = last.index.head.to }
         → (c : Content) → IsMerge (contents_in_run (neighbours run) p.list) c → file_of c ≡ name_of head }
+{}
+
+/// A law, and no work. A device that has the bytes of a content, and nothing pending, has made the component of it, where the
+/// file is no longer than a file may be. What a flush or a merge of a part makes is a content that a component may have.
+pub fn jobs_have_made()
+    ensures made { (c : Content) (disks : List Disk) (device : List DiskFile) → IsContent c → All IsShortWrite c.entries → length (component_bytes c) < 2 ^ 63 → IfTold disks (λ disk. IsTold device)
+        → IfTold device (λ f. f ≡ settled_file (component_bytes c)) → HasMade c disks device }
+    ensures flush { (t : Told) (p : PartView) (table : Table) (c : Content) → IsPart t p → t.sealed ≡ Some table → MakesFlush p c → IsContent c }
+    ensures merge { (t : Told) (p : PartView) (run : Neighbours) (c : Content) → IsPart t p → IsMerge (contents_in_run run p.list) c → IsContent c }
 {}

@@ -12,3 +12,6 @@ returns-clause-flush c = flush_returns
 
 pub returns-clause-merge : goal.returns-clause-merge
 returns-clause-merge c = merge_returns
+
+pub returns-clause-view : goal.returns-clause-view
+returns-clause-view c = λ t part pairs frame has. record { failed = has.failed; tells = has.tells; files = has.files }
