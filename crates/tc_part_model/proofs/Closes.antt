@@ -1,8 +1,9 @@
 -- A part is closed: the devices of its logs come home, and each picture of the store holds what was stored.
-use Rattle.std.proofs.Common.{◌≡◌, ◌≢◌, ◌<◌, ◌+◌, List, [], ◌∷◌, length, arith, Bool, refl, sym, ap, ◌∙◌, subst, inl, inr, Option, Some, true, if◌then◌else◌}
+use Rattle.std.proofs.Common.{◌≡◌, ◌≢◌, ◌<◌, ◌+◌, ◌-◌, List, [], ◌∷◌, length, arith, Bool, refl, sym, ap, ◌∙◌, subst, inl, inr, Option, Some, None, true, is_some, if◌then◌else◌}
 use Rattle.std.specs.Prelude.{IfSome, IsSome}
 use Rattle.std.proofs.lemmas.Bool.{cases_Bool}
 use Rattle.tc_store.specs.declared.file_name.FileName.{FileName}
+use Rattle.tc_store.specs.declared.file_name.FileName.TheVariants.{Log}
 use Rattle.tc_store.specs.Disk.{Disk, Entry, MayLeaveAt, bytes_at, home, none, out, put, same_name, still}
 use Rattle.tc_store.specs.DiskFile.{DiskFile}
 use Rattle.tc_store.specs.Images.{Image}
@@ -10,16 +11,17 @@ use Rattle.tc_store.specs.Moments.{IfTold}
 use Rattle.tc_store.specs.StoreCalls.{comes_home}
 use Rattle.tc_store.proofs.NameLemmas.{put_there, same_name-is}
 use Rattle.tc_plain_model.specs.Writes.{Write}
+use Rattle.tc_memory.specs.Table as memory
 use Rattle.tc_lsm_model.specs.Lists.{last_of}
-use Rattle.tc_machine.specs.State.{sealed_logs}
+use Rattle.tc_machine.specs.State.{Sealed, sealed_logs}
 use Rattle.tc_machine.proofs.Targets.{log_generation}
 use Rattle.tc_machine.specs.Steps.{nothing_held}
 use Rattle.tc_machine.proofs.FilesLeft.{at_name}
 use Rattle.tc_machine.proofs.PictureLaws.{picture_recovers}
 use Rattle.tc_part_model.specs.Leaving.{KeepsStore}
-use Rattle.tc_part_model.specs.Meaning.{HasFailedAs}
+use Rattle.tc_part_model.specs.Meaning.{HasFailedAs, IsPart, KeepsSealed}
 use Rattle.tc_part_model.specs.PartFiles.{AreKeptAt, IfFiles, active_name, device_at, files_at, no_job, sealed_name, seen_entry}
-use Rattle.tc_part_model.specs.PartState.{IsTold, Told}
+use Rattle.tc_part_model.specs.PartState.{AreTold, IsTold, Told}
 use Rattle.tc_part_model.specs.PartView.{PartView, generation_of, state_with, store_of}
 use Rattle.tc_part_model.proofs.DeviceFiles.{comes_untold, no_job_leaves, sealed_device, seen_active, some_sealed}
 use Rattle.tc_part_model.proofs.ToldReturns.{returned}
@@ -108,3 +110,13 @@ pub close_both_stores : (t : Told) (p : PartView) (frame : Option (List Write)) 
 close_both_stores t p frame covered has is some logs =
     closed_both p true frame some logs t.disks t.log covered has.tells.active (subst (λ o. IfTold t.disks (λ disk. IfSome o (λ moments. IsTold moments))) is has.tells.sealed)
     (subst (λ o. IfFiles t.disks t.log o (AreKeptAt p true frame)) is has.files)
+
+pub sealed_covers : (t : Told) (p : PartView) (covered : List DiskFile) → IsPart t p → t.sealed_log ≡ Some covered → IsSome p.sealed × (0 < length (sealed_logs p.sealed)) × (sealed_name p ≡ Log (t.generation - 1))
+sealed_covers t p covered is some = at p.sealed t.sealed refl is.view.sealed (sym (ap (λ o. is_some o) some) ∙ is.view.sealed_log)
+  where
+    at : (o : Option Sealed) (kept : Option memory.Table) → p.sealed ≡ o → KeepsSealed (AreTold t.components) o kept → true ≡ is_some o → IsSome p.sealed × (0 < length (sealed_logs p.sealed)) × (sealed_name p ≡ Log (t.generation - 1))
+    at None kept same keeps there = absurd (cc)
+    at (Some d) None same keeps there = absurd keeps
+    at (Some d) (Some table) same keeps there =
+        let one : length (sealed_logs p.sealed) ≡ 1 = ap (λ o. length (sealed_logs o)) same ∙ keeps.0 in
+        (ap (λ o. is_some o) same, omega (arith, one), ap (λ n. Log n) (omega (arith, one, is.view.generation)))

@@ -1,5 +1,5 @@
 -- What is told of components, and what they were loaded of.
-use Rattle.std.proofs.Common.{◌≡◌, ◌≤◌, ℕ, List, [], ◌∷◌, map, refl, subst, Option, Some, None, sym}
+use Rattle.std.proofs.Common.{◌≡◌, ◌≤◌, ℕ, List, [], ◌∷◌, map, refl, ap, ◌∙◌, subst, Option, Some, None, sym}
 use Rattle.std.specs.Prelude.{IfSome, IsSome}
 use Rattle.std.specs.List.{AllZip}
 use Rattle.std.proofs.lemmas.Bool.{false≢true}
@@ -7,11 +7,13 @@ use Rattle.std.proofs.lemmas.List.Elements.{All-head, All-tail}
 use Rattle.tc_component.specs.Loaded.{IsLoadedOf}
 use Rattle.tc_component.specs.Loading.{ComponentState}
 use Rattle.tc_component.specs.Rows.{IsComponent}
+use Rattle.tc_component.specs.Spelling.{Index, name_of}
 use Rattle.tc_lsm_model.specs.Contents.{Content}
-use Rattle.tc_lsm_model.specs.Merges.{swapped as contents_swapped}
+use Rattle.tc_lsm_model.specs.Merges.{in_run as contents_in_run, swapped as contents_swapped}
 use Rattle.tc_list.specs.declared.run.Run.{Run}
-use Rattle.tc_list.specs.Runs.{neighbours, swapped}
-use Rattle.tc_list.proofs.RunPairs.{AllZip-swapped}
+use Rattle.tc_list.specs.Runs.{in_run, neighbours, swapped}
+use Rattle.tc_list.proofs.RunPairs.{AllZip-in_run, AllZip-swapped}
+use Rattle.tc_machine.specs.Components.{file_of}
 use Rattle.tc_part_model.specs.Meaning.{IsOfContent}
 use Rattle.tc_part_model.specs.PartState.{AreTold, ToldComponent, told_component}
 
@@ -55,3 +57,16 @@ module _ {F : Type 0} (content : F → Option (List ℕ)) where
       → IsOfContent (told_component content merged) c → AllZip IsOfContent (map (told_component content) (swapped run merged components)) (contents_swapped (neighbours run) c cs)
   swapped_told run components cs merged c order all one =
       to_told (swapped run merged components) (contents_swapped (neighbours run) c cs) (AllZip-swapped ToldOf run components cs merged c order (of_told components cs all) one)
+
+  -- ---- the names of their files
+
+  names_of_each : (components : List (ComponentState F)) (cs : List Content) → AllZip ToldOf components cs → map (λ (m : ComponentState F). name_of m.index.head) components ≡ map file_of cs
+  names_of_each [] [] all = refl
+  names_of_each [] (c ∷ cs) all = absurd all
+  names_of_each (m ∷ components) [] all = absurd all
+  names_of_each (m ∷ components) (c ∷ cs) all =
+      ap (λ (i : Index). name_of i.head ∷ map (λ (m : ComponentState F). name_of m.index.head) components) all.0.index ∙ ap (λ names. file_of c ∷ names) (names_of_each components cs all.1)
+
+  pub run_names : (run : Run) (components : List (ComponentState F)) (cs : List Content) → AllZip IsOfContent (map (told_component content) components) cs
+      → map (λ (m : ComponentState F). name_of m.index.head) (in_run run components) ≡ map file_of (contents_in_run (neighbours run) cs)
+  run_names run components cs all = names_of_each (in_run run components) (contents_in_run (neighbours run) cs) (AllZip-in_run ToldOf run components cs (of_told components cs all))

@@ -1,6 +1,7 @@
 //! Laws of a part that is closed.
 
-ghost use Rattle.std.specs.Prelude.{◌≡◌, ◌<◌, List, length, Option, Some, IsSome};
+ghost use Rattle.std.specs.Prelude.{◌≡◌, ◌-◌, ◌<◌, List, length, Option, Some, IsSome};
+ghost use Rattle.tc_store.specs.declared.file_name.FileName.TheVariants.{Log};
 ghost use Rattle.tc_store.specs.Disk.{home};
 ghost use Rattle.tc_store.specs.DiskFile.{DiskFile};
 ghost use Rattle.tc_store.specs.Moments.{IfTold};
@@ -8,14 +9,17 @@ ghost use Rattle.tc_store.specs.StoreCalls.{comes_home};
 ghost use Rattle.tc_plain_model.specs.Writes.{Write};
 ghost use Rattle.tc_machine.specs.State.{sealed_logs};
 ghost use Rattle.tc_part_model.specs.Leaving.{FailedMomentsLeaveStore, KeepsStore};
-ghost use Rattle.tc_part_model.specs.Meaning.{HasFailedAs};
+ghost use Rattle.tc_part_model.specs.Meaning.{HasFailedAs, IsPart};
 ghost use Rattle.tc_part_model.specs.PartFiles.{active_name, sealed_name};
 ghost use Rattle.tc_part_model.specs.PartState.{Told};
 ghost use Rattle.tc_part_model.specs.PartView.{PartView, store_of};
 
 /// A law, and no work. Once the devices of its logs are at home, whatever a stop leaves of the store of a part holds what was
-/// stored, without the frame or with it. A part that runs is one that fails with no frame, as far as its files go.
+/// stored, without the frame or with it. A part that runs is one that fails with no frame, as far as its files go; its logs
+/// have these names.
 pub fn closed_parts_keep_store()
+    ensures named { (t : Told) (p : PartView) → IsPart t p → active_name p ≡ Log t.generation }
+    ensures covers { (t : Told) (p : PartView) (covered : List DiskFile) → IsPart t p → t.sealed_log ≡ Some covered → IsSome p.sealed × (0 < length (sealed_logs p.sealed)) × (sealed_name p ≡ Log (t.generation - 1)) }
     ensures one { (t : Told) (p : PartView) (frame : Option (List Write)) → HasFailedAs t p frame → IfTold (comes_home (active_name p) (λ f. home f) t.log t.disks) (KeepsStore p.part (store_of p) frame) }
     ensures both { (t : Told) (p : PartView) (frame : Option (List Write)) (covered : List DiskFile) → HasFailedAs t p frame → t.sealed_log ≡ Some covered → IsSome p.sealed → 0 < length (sealed_logs p.sealed)
         → IfTold (comes_home (sealed_name p) (λ f. home f) covered (comes_home (active_name p) (λ f. home f) t.log t.disks)) (KeepsStore p.part (store_of p) frame) }

@@ -32,12 +32,14 @@ use tc_flush::lists_are_counted;
 use tc_store::Frozen;
 
 /// A law, and no work. A component of a part whose file is told was loaded of the file of its content, and so are those of a
-/// run; and a component that was loaded of a content is one of it, also in place of a run.
+/// run, whose names are those of their contents. A component that was loaded of a content is one of it, also in place of a run.
 pub fn told_components_are_loaded<F: Frozen>()
     ensures loaded { (component : ComponentState F) (c : Content) → IsOfContent (told_component F.content component) c → IsSome (F.content component.file) → IsLoadedOf F.content component c }
     ensures all_loaded { (components : List (ComponentState F)) (cs : List Content) → AllZip IsOfContent (map (told_component F.content) components) cs → AreTold (map (told_component F.content) components)
         → AllZip (IsLoadedOf F.content) components cs }
     ensures run { (run : Run) (components : List (ComponentState F)) (cs : List Content) → AllZip (IsLoadedOf F.content) components cs → AllZip (IsLoadedOf F.content) (in_run run components) (contents_in_run (neighbours run) cs) }
+    ensures names { (run : Run) (components : List (ComponentState F)) (cs : List Content) → AllZip IsOfContent (map (told_component F.content) components) cs
+        → map (λ (m : ComponentState F). name_of m.index.head) (in_run run components) ≡ map file_of (contents_in_run (neighbours run) cs) }
     ensures of_content { (component : ComponentState F) (c : Content) → IsLoadedOf F.content component c → IsOfContent (told_component F.content component) c }
     ensures swapped { (run : Run) (components : List (ComponentState F)) (cs : List Content) (merged : ComponentState F) (c : Content) → run.first ≤ run.last → AllZip IsOfContent (map (told_component F.content) components) cs
         → IsOfContent (told_component F.content merged) c → AllZip IsOfContent (map (told_component F.content) (swapped run merged components)) (contents_swapped (neighbours run) c cs) }

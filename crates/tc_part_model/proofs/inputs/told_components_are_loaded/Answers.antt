@@ -1,6 +1,6 @@
 use Rattle.tc_component.specs.Loaded.{IsLoadedOf}
 use Rattle.tc_list.proofs.RunPairs.{AllZip-in_run}
-use Rattle.tc_part_model.proofs.LoadedComponents.{all_loaded, is_of, loaded_of, swapped_told}
+use Rattle.tc_part_model.proofs.LoadedComponents.{all_loaded, is_of, loaded_of, run_names, swapped_told}
 use Rattle.tc_part_model.proofs.inputs.told_components_are_loaded.Goals as goal
 
 pub returns-clause-loaded : goal.returns-clause-loaded
@@ -17,3 +17,6 @@ returns-clause-of_content g c = is_of g.F.Frozen.content
 
 pub returns-clause-swapped : goal.returns-clause-swapped
 returns-clause-swapped g c = swapped_told g.F.Frozen.content
+
+pub returns-clause-names : goal.returns-clause-names
+returns-clause-names g c = run_names g.F.Frozen.content
