@@ -20,10 +20,10 @@ use Rattle.tc_machine.proofs.MemorySteps.{flush_begun_memory, merge_begun_memory
 use Rattle.tc_machine.proofs.Options.{if_some_map}
 use Rattle.tc_part_model.specs.Changes.{flushing_part, merging_part}
 use Rattle.tc_part_model.specs.Leaving.{LeavesStoreAt, StoreMomentsLeaveStore}
-use Rattle.tc_part_model.specs.Meaning.{HasFailed, IsPart, KeepsSealed}
+use Rattle.tc_part_model.specs.Meaning.{HasFailedAs, IsPart, KeepsSealed}
 use Rattle.tc_part_model.specs.PartFiles.{AreJobsOut, AreKeptAt, IfFiles}
 use Rattle.tc_part_model.specs.PartState.{AreTold, IsTold, Told}
-use Rattle.tc_part_model.specs.PartView.{PartView, state_of, store_of}
+use Rattle.tc_part_model.specs.PartView.{PartView, state_of}
 use Rattle.tc_part_model.proofs.Beginnings.{flush_begins, flush_free, kept_leaves, merge_begins, merge_free, waste_keeps}
 use Rattle.tc_part_model.proofs.DeviceFiles.{logs_tell, some_sealed}
 use Rattle.tc_part_model.proofs.Failures.{failing_keeps}
@@ -63,12 +63,9 @@ module _ (t : Told) (p : PartView) (is : IsPart t p) where
       at (disk ∷ before) (f ∷ past) tells kept = let any = some_sealed t.sealed_log in free disk f any.0 (kept any.0 any.1)
 
   unmade : (from to : ℕ) → ((disk : Disk) (f g : DiskFile) → AreKeptAt p false None disk f g → IsThere (disk (Component from to)) → ⊥) → (u : Told) → u.failed ≡ true → u.log ≡ t.log → u.sealed_log ≡ t.sealed_log
-      → FailsMaking (Component from to) t.disks u.disks → HasFailed u p.part (store_of p) None
+      → FailsMaking (Component from to) t.disks u.disks → HasFailedAs u p None
   unmade from to free u failed log sealed fails = record {
     failed = failed;
-    view = p;
-    here = refl;
-    holds = refl;
     tells = rw (log, sealed) (logs_tell t.disks u.disks t.log t.sealed_log (unmade_untold (Component from to) t.disks u.disks fails) is.tells);
     files = rw (log, sealed) (if_files_unmade (Component from to) (AreKeptAt p false None) (AreKeptAt p true None) t.disks u.disks t.log t.sealed_log (failing_keeps p)
         (λ disk f g k. waste_keeps p disk f g k from to (free disk f g k)) is.files.kept fails);
@@ -138,7 +135,7 @@ module _ (t : Told) (p : PartView) (is : IsPart t p) where
     flush_free_at : (disk : Disk) (f g : DiskFile) → AreKeptAt p false None disk f g → IsThere (disk (Component (t.generation - 1) (t.generation - 1))) → ⊥
     flush_free_at disk f g k = subst (λ n. IsThere (disk n) → ⊥) (sym named) (flush_free p disk f g k (sealed_found kept some).0 (sealed_found kept some).1 none_out)
 
-    pub flush_unmade : (u : Told) → u.failed ≡ true → u.log ≡ t.log → u.sealed_log ≡ t.sealed_log → FailsMaking (Component (t.generation - 1) (t.generation - 1)) t.disks u.disks → HasFailed u p.part (store_of p) None
+    pub flush_unmade : (u : Told) → u.failed ≡ true → u.log ≡ t.log → u.sealed_log ≡ t.sealed_log → FailsMaking (Component (t.generation - 1) (t.generation - 1)) t.disks u.disks → HasFailedAs u p None
     flush_unmade = unmade (t.generation - 1) (t.generation - 1) flush_free_at
 
     pub flush_unmade_moments : (disks : List Disk) → FailsMaking (Component (t.generation - 1) (t.generation - 1)) t.disks disks → StoreMomentsLeaveStore p p t disks
@@ -192,7 +189,7 @@ module _ (t : Told) (p : PartView) (is : IsPart t p) where
         moments_goes_on (put (file_of c) out) (AreKeptAt p false None) (λ disk f g. LeavesStoreAt (merging_part run c p) None g f disk ⊎ LeavesStoreAt (merging_part run c p) None g f disk) t.disks t.log t.sealed_log
         (λ disk f g k. inl (kept_leaves (merging_part run c p) false (put (file_of c) out disk) f g (merge_begins p disk f g k run c two within is_merge none_merging))) is.files.kept
 
-    pub merge_unmade : (u : Told) → u.failed ≡ true → u.log ≡ t.log → u.sealed_log ≡ t.sealed_log → FailsMaking (file_of c) t.disks u.disks → HasFailed u p.part (store_of p) None
+    pub merge_unmade : (u : Told) → u.failed ≡ true → u.log ≡ t.log → u.sealed_log ≡ t.sealed_log → FailsMaking (file_of c) t.disks u.disks → HasFailedAs u p None
     merge_unmade = unmade c.from c.to merge_free_at
 
     pub merge_unmade_moments : (disks : List Disk) → FailsMaking (file_of c) t.disks disks → StoreMomentsLeaveStore p p t disks

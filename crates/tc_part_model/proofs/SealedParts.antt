@@ -24,7 +24,7 @@ use Rattle.tc_machine.proofs.Holding.{holds}
 use Rattle.tc_part_model.specs.Calls.{Creates, HasCreated}
 use Rattle.tc_part_model.specs.Changes.{sealed_part}
 use Rattle.tc_part_model.specs.Leaving.{NextLogMoments, StoreMomentsLeaveStore}
-use Rattle.tc_part_model.specs.Meaning.{KeepsSealed, IsPart, HasFailed}
+use Rattle.tc_part_model.specs.Meaning.{KeepsSealed, IsPart, HasFailedAs}
 use Rattle.tc_part_model.specs.PartFiles.{AreKeptAt, AreJobsOut, IfFiles}
 use Rattle.tc_part_model.specs.PartState.{Told, AreTold, IsTold}
 use Rattle.tc_part_model.specs.PartView.{PartView, state_of, generation_of, next_of, names_in, store_of}
@@ -122,14 +122,11 @@ module _ (t : Told) (p : PartView) (is : IsPart t (bare p)) where
         (broken_moments p (of_head (λ h. IsHead h) head) t.disks t.log broken t.sealed_log is.files.kept (creates_next broken creates))
 
     bare_broken : (u : Told) (broken : List DiskFile) → IsHead (log_head t.part (t.generation + 1)) → Creates (log_head t.part (t.generation + 1)) device broken → u.failed ≡ true → u.log ≡ t.log → u.sealed_log ≡ t.sealed_log
-        → u.disks ≡ comes_home (Log (t.generation + 1)) (λ x. home x) broken (makes (Log (t.generation + 1)) t.disks) → HasFailed u p.part (store_of (bare p)) None
+        → u.disks ≡ comes_home (Log (t.generation + 1)) (λ x. home x) broken (makes (Log (t.generation + 1)) t.disks) → HasFailedAs u (bare p) None
     bare_broken u broken head creates failed log sealed disks =
         let same : u.disks ≡ comes_home (next_name p) (λ x. home x) broken (makes (next_name p) t.disks) = disks ∙ ap (λ n. comes_home (Log n) (λ x. home x) broken (makes (Log n) t.disks)) next in
         record {
           failed = failed;
-          view = bare p;
-          here = refl;
-          holds = refl;
           tells = rw (same, log, sealed) (logs_tell t.disks (comes_home (next_name p) (λ x. home x) broken (makes (next_name p) t.disks)) t.log t.sealed_log
               (λ none. ap (λ ds. comes_home (next_name p) (λ x. home x) broken (makes (next_name p) ds)) none ∙ comes_untold (next_name p) (λ x. home x) broken) is.tells);
           files = rw (same, log, sealed) (broken_failed p (of_head (λ h. IsHead h) head) t.disks t.log broken t.sealed_log is.tells.active is.files.kept (creates_next broken creates));
@@ -141,14 +138,11 @@ module _ (t : Told) (p : PartView) (is : IsPart t (bare p)) where
   bare_unmade_moments : (disks : List Disk) → FailsMaking (Log (t.generation + 1)) t.disks disks → StoreMomentsLeaveStore (bare p) (bare p) t disks
   bare_unmade_moments disks fails = unmade_moments p t.disks disks t.log t.sealed_log is.files.kept (subst (λ n. FailsMaking (Log n) t.disks disks) next fails)
 
-  bare_unmade : (u : Told) → u.failed ≡ true → u.log ≡ t.log → u.sealed_log ≡ t.sealed_log → FailsMaking (Log (t.generation + 1)) t.disks u.disks → HasFailed u p.part (store_of (bare p)) None
+  bare_unmade : (u : Told) → u.failed ≡ true → u.log ≡ t.log → u.sealed_log ≡ t.sealed_log → FailsMaking (Log (t.generation + 1)) t.disks u.disks → HasFailedAs u (bare p) None
   bare_unmade u failed log sealed fails =
       let fails' = subst (λ n. FailsMaking (Log n) t.disks u.disks) next fails in
       record {
         failed = failed;
-        view = bare p;
-        here = refl;
-        holds = refl;
         tells = rw (log, sealed) (logs_tell t.disks u.disks t.log t.sealed_log (unmade_untold (next_name p) t.disks u.disks fails') is.tells);
         files = rw (log, sealed) (unmade_failed p t.disks u.disks t.log t.sealed_log is.files.kept fails');
       }
@@ -174,8 +168,8 @@ module _ (t : Told) (p : PartView) (is : IsPart t p) (none : t.sealed ≡ None) 
   pub seal_unmade_moments : (disks : List Disk) → FailsMaking (Log (t.generation + 1)) t.disks disks → StoreMomentsLeaveStore p p t disks
   seal_unmade_moments disks fails = subst (λ q. StoreMomentsLeaveStore q q t disks) same (bare_unmade_moments t p is_bare_part disks fails)
 
-  pub seal_unmade : (u : Told) → u.failed ≡ true → u.log ≡ t.log → u.sealed_log ≡ t.sealed_log → FailsMaking (Log (t.generation + 1)) t.disks u.disks → HasFailed u p.part (store_of p) None
-  seal_unmade u failed log sealed fails = subst (λ q. HasFailed u p.part (store_of q) None) same (bare_unmade t p is_bare_part u failed log sealed fails)
+  pub seal_unmade : (u : Told) → u.failed ≡ true → u.log ≡ t.log → u.sealed_log ≡ t.sealed_log → FailsMaking (Log (t.generation + 1)) t.disks u.disks → HasFailedAs u p None
+  seal_unmade u failed log sealed fails = subst (λ q. HasFailedAs u q None) same (bare_unmade t p is_bare_part u failed log sealed fails)
 
   module _ (device : List DiskFile) (fresh : device ≡ fresh_file_at (Log (t.generation + 1)) t.disks) (head : IsHead (log_head t.part (t.generation + 1))) where
     pub seal_is_part : (u : Told) → HasCreated (log_head t.part (t.generation + 1)) device u.log
@@ -193,6 +187,6 @@ module _ (t : Told) (p : PartView) (is : IsPart t p) (none : t.sealed ≡ None) 
         (bare_broken_moments t p is_bare_part device fresh broken head creates)
 
     pub seal_broken : (u : Told) (broken : List DiskFile) → Creates (log_head t.part (t.generation + 1)) device broken → u.failed ≡ true → u.log ≡ t.log → u.sealed_log ≡ t.sealed_log
-        → u.disks ≡ comes_home (Log (t.generation + 1)) (λ x. home x) broken (makes (Log (t.generation + 1)) t.disks) → HasFailed u p.part (store_of p) None
+        → u.disks ≡ comes_home (Log (t.generation + 1)) (λ x. home x) broken (makes (Log (t.generation + 1)) t.disks) → HasFailedAs u p None
     seal_broken u broken creates failed log sealed disks =
-        subst (λ q. HasFailed u p.part (store_of q) None) same (bare_broken t p is_bare_part device fresh u broken head creates failed log sealed disks)
+        subst (λ q. HasFailedAs u q None) same (bare_broken t p is_bare_part device fresh u broken head creates failed log sealed disks)

@@ -17,10 +17,10 @@ use Rattle.tc_machine.proofs.Moments.{appending}
 use Rattle.tc_part_model.specs.Calls.{Appends, HasAppended}
 use Rattle.tc_part_model.specs.Changes.{committed_part}
 use Rattle.tc_part_model.specs.Leaving.{LeavesStore, LogMomentsLeaveStore}
-use Rattle.tc_part_model.specs.Meaning.{IsPart, HasFailed, plain_of}
+use Rattle.tc_part_model.specs.Meaning.{IsPart, HasFailedAs, plain_of}
 use Rattle.tc_part_model.specs.PartFiles.{AreKeptAt, IfFiles, IsSealedFile, no_job}
 use Rattle.tc_part_model.specs.PartState.{Told, IsTold}
-use Rattle.tc_part_model.specs.PartView.{PartView, generation_of, store_of, stored_with, MayStart}
+use Rattle.tc_part_model.specs.PartView.{PartView, generation_of, stored_with, MayStart}
 use Rattle.tc_part_model.proofs.Commits.{commit_keeps, failed_keeps, means_now, moment_leaves, uncalled_keeps}
 use Rattle.tc_part_model.proofs.DeviceFiles.{some_sealed}
 use Rattle.tc_part_model.proofs.ViewLaws.{kept-append, none_kept, commit_adds, commit_of_none, committed_memory, committed_names, nothing_starts}
@@ -129,25 +129,19 @@ module _ (t : Told) (p : PartView) (is : IsPart t p) where
   commit_no_moments = no_moments p t.disks t.log t.sealed_log
 
   -- where the append failed
-  pub commit_failed : (u : Told) → u.failed ≡ true → u.disks ≡ t.disks → u.sealed_log ≡ t.sealed_log → Appends t.staged t.log u.log → HasFailed u p.part (store_of p) (Some p.staged)
+  pub commit_failed : (u : Told) → u.failed ≡ true → u.disks ≡ t.disks → u.sealed_log ≡ t.sealed_log → Appends t.staged t.log u.log → HasFailedAs u p (Some p.staged)
   commit_failed u failed disks sealed appends =
       let appends' = subst (λ ws. Appends ws t.log u.log) is.view.staged appends in
       record {
         failed = failed;
-        view = p;
-        here = refl;
-        holds = refl;
         tells = rw (disks, sealed) (record { active = appended_tells p t.disks t.log u.log t.sealed_log is.files.kept appends' is.tells.active; sealed = is.tells.sealed });
         files = rw (disks, sealed) (failed_files p t.disks t.log u.log t.sealed_log is.staged is.files.kept is.tells.active appends');
       }
 
   -- or where it was not called
-  pub commit_not_begun : (u : Told) → u.failed ≡ true → u.disks ≡ t.disks → u.sealed_log ≡ t.sealed_log → u.log ≡ t.log → HasFailed u p.part (store_of p) (Some p.staged)
+  pub commit_not_begun : (u : Told) → u.failed ≡ true → u.disks ≡ t.disks → u.sealed_log ≡ t.sealed_log → u.log ≡ t.log → HasFailedAs u p (Some p.staged)
   commit_not_begun u failed disks sealed log = record {
     failed = failed;
-    view = p;
-    here = refl;
-    holds = refl;
     tells = rw (disks, sealed, log) is.tells;
     files = rw (disks, sealed, log) (uncalled_files p t.disks t.log t.sealed_log is.staged is.files.kept);
   }

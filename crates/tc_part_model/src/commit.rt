@@ -5,7 +5,7 @@ ghost use Rattle.tc_store.specs.DiskFile.{DiskFile};
 ghost use Rattle.tc_part_model.specs.Calls.{Appends, HasAppended};
 ghost use Rattle.tc_part_model.specs.Changes.{committed_part};
 ghost use Rattle.tc_part_model.specs.Leaving.{LogMomentsLeaveStore};
-ghost use Rattle.tc_part_model.specs.Meaning.{IsPart, HasFailed, plain_of};
+ghost use Rattle.tc_part_model.specs.Meaning.{IsPart, HasFailed, HasFailedAs, plain_of};
 ghost use Rattle.tc_part_model.specs.PartState.{Told};
 ghost use Rattle.tc_part_model.specs.PartView.{PartView, store_of, stored_with};
 
@@ -19,6 +19,8 @@ pub fn commits_are_kept()
     ensures moments { (t : Told) (p : PartView) (log : List DiskFile) → IsPart t p → Appends t.staged t.log log → LogMomentsLeaveStore p t log }
     ensures no_moments { (t : Told) (p : PartView) → IsPart t p → LogMomentsLeaveStore p t t.log }
     ensures failed { (t u : Told) (p : PartView) → IsPart t p → u.failed ≡ true → u.disks ≡ t.disks → u.sealed_log ≡ t.sealed_log → Appends t.staged t.log u.log → HasFailed u p.part (store_of p) (Some p.staged) }
+    ensures failed_as { (t u : Told) (p : PartView) → IsPart t p → u.failed ≡ true → u.disks ≡ t.disks → u.sealed_log ≡ t.sealed_log → Appends t.staged t.log u.log → HasFailedAs u p (Some p.staged) }
     ensures not_begun { (t u : Told) (p : PartView) → IsPart t p → u.failed ≡ true → u.disks ≡ t.disks → u.sealed_log ≡ t.sealed_log → u.log ≡ t.log → HasFailed u p.part (store_of p) (Some p.staged) }
+    ensures not_begun_as { (t u : Told) (p : PartView) → IsPart t p → u.failed ≡ true → u.disks ≡ t.disks → u.sealed_log ≡ t.sealed_log → u.log ≡ t.log → HasFailedAs u p (Some p.staged) }
     ensures nothing { (t : Told) (p : PartView) → IsPart t p → t.staged ≡ [] → committed_part p ≡ p }
 {}

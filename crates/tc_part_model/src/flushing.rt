@@ -25,6 +25,8 @@ pub fn flushes_begin()
         → StoreMomentsLeaveStore (flushing_part p) (flushing_part p) t (makes (Component (t.generation - 1) (t.generation - 1)) t.disks) }
     ensures not_made { (t u : Told) (p : PartView) (table : Table) → IsPart t p → t.sealed ≡ Some table → t.flushing ≡ false → u.failed ≡ true → u.log ≡ t.log → u.sealed_log ≡ t.sealed_log
         → FailsMaking (Component (t.generation - 1) (t.generation - 1)) t.disks u.disks → HasFailed u p.part (store_of p) None }
+    ensures not_made_as { (t u : Told) (p : PartView) (table : Table) → IsPart t p → t.sealed ≡ Some table → t.flushing ≡ false → u.failed ≡ true → u.log ≡ t.log → u.sealed_log ≡ t.sealed_log
+        → FailsMaking (Component (t.generation - 1) (t.generation - 1)) t.disks u.disks → HasFailedAs u p None }
     ensures not_made_moments { (t : Told) (p : PartView) (table : Table) (disks : List Disk) → IsPart t p → t.sealed ≡ Some table → t.flushing ≡ false
         → FailsMaking (Component (t.generation - 1) (t.generation - 1)) t.disks disks → StoreMomentsLeaveStore p p t disks }
     ensures stored { (p : PartView) → store_of (flushing_part p) ≡ store_of p }

@@ -28,6 +28,8 @@ pub fn merges_begin()
         → StoreMomentsLeaveStore (merging_part run c p) (merging_part run c p) t (makes (file_of c) t.disks) }
     ensures not_made { (t u : Told) (p : PartView) (run : Run) (c : Content) → IsPart t p → 2 ≤ run.length → run.first + run.length ≤ length p.list → IsMerge (in_run run p.list) c → t.merging ≡ None
         → u.failed ≡ true → u.log ≡ t.log → u.sealed_log ≡ t.sealed_log → FailsMaking (file_of c) t.disks u.disks → HasFailed u p.part (store_of p) None }
+    ensures not_made_as { (t u : Told) (p : PartView) (run : Run) (c : Content) → IsPart t p → 2 ≤ run.length → run.first + run.length ≤ length p.list → IsMerge (in_run run p.list) c → t.merging ≡ None
+        → u.failed ≡ true → u.log ≡ t.log → u.sealed_log ≡ t.sealed_log → FailsMaking (file_of c) t.disks u.disks → HasFailedAs u p None }
     ensures not_made_moments { (t : Told) (p : PartView) (run : Run) (c : Content) (disks : List Disk) → IsPart t p → 2 ≤ run.length → run.first + run.length ≤ length p.list → IsMerge (in_run run p.list) c → t.merging ≡ None
         → FailsMaking (file_of c) t.disks disks → StoreMomentsLeaveStore p p t disks }
     ensures stored { (p : PartView) (run : Run) (c : Content) → store_of (merging_part run c p) ≡ store_of p }

@@ -11,7 +11,7 @@ ghost use Rattle.tc_machine.specs.Logs.{log_head};
 ghost use Rattle.tc_part_model.specs.Calls.{Creates, HasCreated};
 ghost use Rattle.tc_part_model.specs.Changes.{sealed_part};
 ghost use Rattle.tc_part_model.specs.Leaving.{NextLogMoments, StoreMomentsLeaveStore};
-ghost use Rattle.tc_part_model.specs.Meaning.{IsPart, HasFailed};
+ghost use Rattle.tc_part_model.specs.Meaning.{IsPart, HasFailed, HasFailedAs};
 ghost use Rattle.tc_part_model.specs.PartState.{Told};
 ghost use Rattle.tc_part_model.specs.PartView.{PartView, store_of};
 
@@ -37,11 +37,16 @@ pub fn seals_leave_store()
         → Creates (log_head t.part (t.generation + 1)) device broken → StoreMomentsLeaveStore p p t (comes_home (Log (t.generation + 1)) (λ f. home f) broken (makes (Log (t.generation + 1)) t.disks)) }
 {}
 
-/// A law, and no work. Where a seal failed, the files keep what was stored.
+/// A law, and no work. Where a seal failed, the files keep what was stored: as the part that it was.
 pub fn failed_seals_are_kept()
     ensures not_made { (t u : Told) (p : PartView) → IsPart t p → t.sealed ≡ None → t.staged ≡ [] → u.failed ≡ true → u.log ≡ t.log → u.sealed_log ≡ t.sealed_log → FailsMaking (Log (t.generation + 1)) t.disks u.disks
         → HasFailed u p.part (store_of p) None }
+    ensures not_made_as { (t u : Told) (p : PartView) → IsPart t p → t.sealed ≡ None → t.staged ≡ [] → u.failed ≡ true → u.log ≡ t.log → u.sealed_log ≡ t.sealed_log → FailsMaking (Log (t.generation + 1)) t.disks u.disks
+        → HasFailedAs u p None }
     ensures broken { (t u : Told) (p : PartView) (device broken : List DiskFile) → IsPart t p → t.sealed ≡ None → t.staged ≡ [] → device ≡ fresh_file_at (Log (t.generation + 1)) t.disks → IsHead (log_head t.part (t.generation + 1))
         → Creates (log_head t.part (t.generation + 1)) device broken → u.failed ≡ true → u.log ≡ t.log → u.sealed_log ≡ t.sealed_log
         → u.disks ≡ comes_home (Log (t.generation + 1)) (λ f. home f) broken (makes (Log (t.generation + 1)) t.disks) → HasFailed u p.part (store_of p) None }
+    ensures broken_as { (t u : Told) (p : PartView) (device broken : List DiskFile) → IsPart t p → t.sealed ≡ None → t.staged ≡ [] → device ≡ fresh_file_at (Log (t.generation + 1)) t.disks → IsHead (log_head t.part (t.generation + 1))
+        → Creates (log_head t.part (t.generation + 1)) device broken → u.failed ≡ true → u.log ≡ t.log → u.sealed_log ≡ t.sealed_log
+        → u.disks ≡ comes_home (Log (t.generation + 1)) (λ f. home f) broken (makes (Log (t.generation + 1)) t.disks) → HasFailedAs u p None }
 {}
