@@ -1,0 +1,5 @@
+mod Growing
+mod NewestContents
+mod Tiles
+mod Loads
+mod Removals

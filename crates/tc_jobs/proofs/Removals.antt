@@ -1,0 +1,27 @@
+-- Some of several files are removed, one after the other.
+use Rattle.std.proofs.Common.{◌≡◌, ◌⊎◌, List, [], ◌∷◌, map, refl, sym, subst, inl, inr}
+use Rattle.tc_store.specs.Disk.{Disk}
+use Rattle.tc_store.specs.StoreCalls.{removes}
+use Rattle.tc_store.specs.declared.file_name.FileName.{FileName}
+use Rattle.tc_component.specs.Loading.{ComponentState}
+use Rattle.tc_part_model.specs.Calls.{RemovesSome}
+
+-- the names of the files of shared components
+abbrev pub names_of : {A F : Type 0} → (A → ComponentState F) → (F → FileName) → List A → List FileName
+names_of seen name items = map (λ m. name m.file) (map seen items)
+
+-- none of them
+pub removes_none : (names : List FileName) (disks : List Disk) → RemovesSome names disks disks
+removes_none [] disks = refl
+removes_none (name ∷ names) disks = inl (removes_none names disks)
+
+-- perhaps the first, and then some of the others
+removes_next : (name : FileName) (names : List FileName) (old middle new : List Disk) → (middle ≡ old) ⊎ (middle ≡ removes name old) → RemovesSome names middle new → RemovesSome (name ∷ names) old new
+removes_next name names old middle new (inl same) rest = inl (subst (λ disks. RemovesSome names disks new) same rest)
+removes_next name names old middle new (inr removed) rest = inr (subst (λ disks. RemovesSome names disks new) removed rest)
+
+-- the same of the components that are left
+pub removes_left : {A F : Type 0} (seen : A → ComponentState F) (name : F → FileName) (left rest : List A) (x : A) (old middle new : List Disk) → left ≡ x ∷ rest
+    → (middle ≡ old) ⊎ (middle ≡ removes (name (seen x).file) old) → RemovesSome (names_of seen name rest) middle new → RemovesSome (names_of seen name left) old new
+removes_left seen name left rest x old middle new is step some =
+    subst (λ items. RemovesSome (names_of seen name items) old new) (sym is) (removes_next (name (seen x).file) (names_of seen name rest) old middle new step some)

@@ -1,0 +1,46 @@
+//! The files of components that a merge took the place of are removed.
+
+ghost use Rattle.std.specs.Arc.{arc_value};
+ghost use Rattle.std.specs.Prelude.{◌≡◌, ◌⊎◌, map, IsErrOf};
+ghost use Rattle.tc_store.specs.Counted.{IsCounted};
+ghost use Rattle.tc_store.specs.StoreCalls.{removes};
+ghost use Rattle.tc_jobs.specs.Faults.{IfDamaged};
+ghost use Rattle.tc_component.specs.Loading.{ComponentState};
+ghost use Rattle.tc_part_model.specs.Calls.{RemovesSome};
+
+use crate::fault::JobFault;
+use std::sync::Arc;
+use tc_component::Component;
+use tc_store::{Store, StoreFault};
+
+/// Removes the files of those components of which nobody else has a share, in order, and gives up the shares of the others.
+/// `Disk` comes only where a removal failed; then the files behind that one stay.
+pub fn remove_unshared<S: Store>(
+    store: &mut S,
+    components: Vec<Arc<Component<S::Frozen>>>,
+    watch: &mut S::Watch,
+) -> Result<(), JobFault>
+    ensures removed { RemovesSome (map (λ (m : ComponentState S.Frozen). S.Frozen.name m.file) (map arc_value components.items)) (S.history store.old) (S.history store.new) }
+    ensures no_damage { IfDamaged result (λ damage. ⊥) }
+    ensures counted { IsCounted (IsErrOf result JobFault.Disk) (S.Watch.counts watch.old) (S.Watch.counts watch.new) }
+{
+    for component in components {
+        remove_if_unshared(store, component, watch)?;
+    }
+    Ok(())
+}
+
+/// Removes the file of a component if nobody else has a share of it, and else gives up the share.
+fn remove_if_unshared<S: Store>(
+    store: &mut S,
+    component: Arc<Component<S::Frozen>>,
+    watch: &mut S::Watch,
+) -> Result<(), StoreFault>
+    ensures removed { (S.history store.new ≡ S.history store.old) ⊎ (S.history store.new ≡ removes (S.Frozen.name (arc_value component).file) (S.history store.old)) }
+    ensures counted { IsCounted (IsErrOf result StoreFault.Fault) (S.Watch.counts watch.old) (S.Watch.counts watch.new) }
+{
+    match Arc::try_unwrap(component) {
+        Ok(component) => store.remove(component.into_file(), watch),
+        Err(_shared) => Ok(()),
+    }
+}
