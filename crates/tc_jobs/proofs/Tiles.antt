@@ -31,6 +31,9 @@ head_with number count from to = record { number = number; count = count; from =
 abbrev pub header_of : {F : Type 0} → ℕ → ℕ → List (ComponentState F) → Head
 header_of number count run = head_with number count (first_of run) (last_of run)
 
+pub head_seen : {F : Type 0} (number count : ℕ) (head : Head) (xs ys : List (ComponentState F)) → head ≡ header_of number count xs → xs ≡ ys → head ≡ header_of number count ys
+head_seen number count head xs ys is same = is ∙ ap (header_of number count) same
+
 pub run_is : {F : Type 0} (number count : ℕ) (run : Run) (cs : List (ComponentState F)) → run.first < run.last → run.last < length cs → Follow 0 cs → IsListOf number count cs
     → IsRun (header_of number count (in_run run cs)) (in_run run cs)
 run_is number count run cs several within follow listed =

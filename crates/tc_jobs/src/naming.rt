@@ -38,7 +38,8 @@ pub fn goes_between<F: Frozen>(list: &ComponentList<F>, run: Run, merged: &Compo
 {
     let components = list.as_slice();
     let names = merged.names();
-    extend_last(&components[..run.first], names) && first_extends(&components[run.last + 1..], names)
+    extend_last(&components[..run.first], names)
+        && first_extends(&components[run.last + 1..], names)
 }
 
 /// Whether names go on from those of the last of these components, if there is one.

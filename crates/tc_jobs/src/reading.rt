@@ -26,6 +26,7 @@ use tc_store::{Damage, Frozen, Store, bytes_of};
 
 /// Where the header of a component stands, and how long it is.
 const HEAD_PLACE: u64 = 1;
+
 const HEAD_LEN: usize = 60;
 
 /// Makes a still file of the device of a job, on which nothing is pending, and loads the component of this header from it,

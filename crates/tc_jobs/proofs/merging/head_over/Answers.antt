@@ -1,4 +1,4 @@
-use Rattle.std.proofs.Common.{◌≡◌, ◌∙◌, ℕ, ap, map}
+use Rattle.std.proofs.Common.{◌∙◌, ap, map}
 use Rattle.std.specs.Arc.{arc_value}
 use Rattle.tc_component.specs.declared.head.Head.{Head}
 use Rattle.tc_list.specs.Intervals.{first_of}

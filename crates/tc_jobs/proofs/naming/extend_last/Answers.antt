@@ -1,4 +1,4 @@
-use Rattle.std.proofs.Common.{◌≡◌, ◌∙◌, [], map, ap, subst, sym, true}
+use Rattle.std.proofs.Common.{◌∙◌, [], map, ap, subst, sym, true}
 use Rattle.std.specs.Arc.{arc_value}
 use Rattle.std.specs.Prelude.{◌↔◌, IsTrue}
 use Rattle.std.proofs.lemmas.List.{nil_from_length}
