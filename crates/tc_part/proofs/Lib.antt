@@ -1,3 +1,10 @@
 mod Outcomes
 mod Standing
+mod Spelled
+mod ListedContents
+mod BelowKeys
+mod ListedDocuments
+mod Refusals
+mod Handing
+mod StagedWrites
 mod Creations

@@ -1,2 +1,6 @@
 pub mod Faults
 pub mod Ready
+pub mod Below
+pub mod Harms
+pub mod Reads
+pub mod Stages

@@ -1,11 +1,17 @@
 //! Why a call of a partition failed.
 
 ghost use Rattle.std.specs.Prelude.{◌≡◌};
-ghost use Rattle.tc_part.specs.declared.fault.PartFault.TheVariants.{Memory as no_memory};
+ghost use Rattle.tc_record.specs.declared.fault.RecordFault.TheVariants.{NotARecord as not_a_record};
+ghost use Rattle.tc_store.specs.declared.damage.Damage.TheVariants.{Bytes as damage_of};
+ghost use Rattle.tc_store.specs.declared.damage.ReadFault.TheVariants.{Disk as read_fault, Damaged as damage_read};
+ghost use Rattle.tc_part.specs.declared.fault.PartFault.TheVariants.{Memory as no_memory, Disk as disk_fault, Damaged as damage_found};
 ghost use Rattle.tc_part.specs.Faults.{of_device, of_store};
+ghost use Rattle.tc_part.specs.Harms.{IsOfRead};
 
 use std::alloc::{AllocError, AllocFailed};
-use tc_store::{Damage, DeviceFault, StoreFault};
+use tc_bytes::Bytes;
+use tc_record::RecordFault;
+use tc_store::{Damage, DeviceFault, FileName, ReadFault, StoreFault};
 use thiserror::Error;
 
 /// Why a call of a partition failed. The partition has failed then too.
@@ -57,4 +63,34 @@ impl From<StoreFault> for PartFault {
             StoreFault::Memory => PartFault::Memory,
         }
     }
+}
+
+/// The same fault, of a file that is read.
+pub(crate) fn of_read(file: FileName, fault: ReadFault) -> PartFault
+    ensures cause { result ≡ disk_fault → fault ≡ read_fault }
+    ensures harmed { IsOfRead result (λ of place bytes. (of ≡ file) × (fault ≡ damage_read place bytes)) }
+{
+    match fault {
+        ReadFault::Disk => PartFault::Disk,
+        ReadFault::Damaged { place, bytes } => damaged(file, place, bytes),
+        ReadFault::Memory => PartFault::Memory,
+    }
+}
+
+/// The same fault, of the bytes that stand at a place of a file.
+pub(crate) fn of_record(file: FileName, place: u64, bytes: Bytes, fault: RecordFault) -> PartFault
+    ensures cause { result ≡ disk_fault → ⊥ }
+    ensures harmed { IsOfRead result (λ of at kept. (of ≡ file) × (at ≡ place) × (kept ≡ bytes) × (fault ≡ not_a_record)) }
+{
+    match fault {
+        RecordFault::NotARecord => damaged(file, place, bytes),
+        RecordFault::Memory => PartFault::Memory,
+    }
+}
+
+/// Damage of these bytes at a place of a file.
+pub(crate) fn damaged(file: FileName, place: u64, bytes: Bytes) -> PartFault
+    ensures { result ≡ damage_found (damage_of file place bytes) }
+{
+    PartFault::Damaged(Damage::Bytes { file, place, bytes })
 }

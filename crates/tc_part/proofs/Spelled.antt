@@ -1,0 +1,40 @@
+-- What the bytes at the place of an entry spell.
+use Rattle.std.proofs.Common.{◌≡◌, ℕ, Bool, true, false, List, Option, Some, None, inl, inr}
+use Rattle.std.specs.Prelude.{Result, Ok, Err, IfOk, IfSome}
+use Rattle.tc_model.specs.Document.{Name, Document}
+use Rattle.tc_record.specs.Record.{NumberedTree, IsRecordOf, IsNumberedRecordOf}
+use Rattle.tc_compact.specs.Meant.{IsRecordUnder}
+use Rattle.tc_component.specs.Meaning.{IsRecordOfOne}
+use Rattle.tc_store.specs.declared.damage.Damage.TheVariants.{Bytes, Files}
+use Rattle.tc_store.specs.declared.file_name.FileName.{FileName}
+use Rattle.tc_part.specs.declared.fault.PartFault.{PartFault}
+use Rattle.tc_part.specs.declared.fault.PartFault.TheVariants.{Disk, Damaged, Spent, Memory}
+use Rattle.tc_part.specs.Harms.{IsOfRead}
+
+pub of_read_then : (fault : PartFault) (P Q : FileName → ℕ → List ℕ → Type 0) → ((file : FileName) (place : ℕ) (bytes : List ℕ) → P file place bytes → Q file place bytes) → IsOfRead fault P → IsOfRead fault Q
+of_read_then Disk P Q f is = tt
+of_read_then (Damaged (Bytes file place bytes)) P Q f is = f file place bytes is
+of_read_then (Damaged (Files names)) P Q f is = absurd is
+of_read_then Spent P Q f is = absurd is
+of_read_then Memory P Q f is = tt
+
+-- where a record with numbers is that of one document, no other one is meant
+pub one_under : (names : List Name) (d e : Document) (bytes : List ℕ) (named : Bool) → ((x : Document) → IsRecordOf x bytes → named ≡ true) → ((n : NumberedTree) → IsNumberedRecordOf n bytes → named ≡ false)
+    → IsRecordOfOne names d bytes → IsRecordUnder names e bytes → e ≡ d
+one_under names d e bytes named with_names with_numbers one (inl is) =
+    let yes = with_names e is in
+    let no = with_numbers _ one.record_is.numbered in
+    absurd (cc)
+one_under names d e bytes named with_names with_numbers one (inr is) = one.one e is.0 is.1 is.2
+
+pub if_some_then : {A : Type 0} (o : Option A) (P Q : A → Type 0) → ((x : A) → P x → Q x) → IfSome o P → IfSome o Q
+if_some_then None P Q f p = tt
+if_some_then (Some x) P Q f p = f x p
+
+pub if_ok_then : {X E : Type 0} (r : Result X E) (P Q : X → Type 0) → ((x : X) → P x → Q x) → IfOk r P → IfOk r Q
+if_ok_then (Ok x) P Q f p = f x p
+if_ok_then (Err e) P Q f p = tt
+
+pub if_ok_both : {X E : Type 0} (r : Result X E) (P Q R : X → Type 0) → ((x : X) → P x → Q x → R x) → IfOk r P → IfOk r Q → IfOk r R
+if_ok_both (Ok x) P Q R f p q = f x p q
+if_ok_both (Err e) P Q R f p q = tt

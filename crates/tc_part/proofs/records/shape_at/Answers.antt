@@ -1,0 +1,18 @@
+use Rattle.std.proofs.Common.{◌∙◌, sym, ap, subst}
+use Rattle.tc_model.specs.Document.{document_shape}
+use Rattle.tc_component.specs.Meaning.{IsRecordOfOne}
+use Rattle.tc_compact.specs.Meant.{IsRecordUnder}
+use Rattle.tc_part.proofs.Spelled.{one_under, if_some_then}
+use Rattle.tc_part.proofs.records.shape_at.Goals as goal
+
+pub returns-in-Ok-clause-shape : goal.returns-in-Ok-clause-shape
+returns-in-Ok-clause-shape g c = λ d.
+    let component = c.args.component.now in
+    let bytes = c.as_slice.result.now in
+    let found = c.in-Ok.ensures.found in
+    let under = subst (IsRecordUnder component.index.names found.0) c.known.ensures.bytes (subst (λ names. IsRecordUnder names found.0 c.known.result.bytes) c.names.ensures found.1) in
+    if_some_then (g.F.Frozen.content component.file) _ _
+    (λ whole read one.
+    found.2 ∙ ap document_shape (one_under component.index.names d found.0 bytes c.known.result.named (λ x is. (c.known.ensures.document x is).0) (λ n is. (c.known.ensures.numbered n is).0)
+    (subst (IsRecordOfOne component.index.names d) (sym (c.as_slice.ensures.same ∙ read)) one) under))
+    c.in_ok-bytes.ensures.read

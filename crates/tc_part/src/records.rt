@@ -1,0 +1,117 @@
+//! The record of a document in a component, and what it spells.
+
+ghost use Rattle.std.specs.Prelude.{◌≡◌, ◌<◌, ◌⊎◌, List, Some, length, slice_get, IfOk, IfErr, IfSome, IsErrOf};
+ghost use Rattle.std.specs.Result.{IsOk};
+ghost use Rattle.tc_model.specs.Document.{Document, document_shape};
+ghost use Rattle.tc_value.specs.Meaning.{tree_of};
+ghost use Rattle.tc_value.specs.ShapeMeaning.{shape_tree};
+ghost use Rattle.tc_compact.specs.Meant.{IsRecordUnder};
+ghost use Rattle.tc_store.specs.Counted.{IsCountedOnce};
+ghost use Rattle.tc_component.specs.Fetching.{IsPlace, record_at as bytes_of_record, length_at, IsRecordWithin};
+ghost use Rattle.tc_component.specs.Meaning.{IsRecordOfOne};
+ghost use Rattle.tc_component.specs.Spelling.{name_of as name_meant};
+ghost use Rattle.tc_part.specs.Harms.{IsHarmOf, IsOfRead};
+
+use crate::fault::{PartFault, of_read, of_record};
+use std::alloc::Global;
+use tc_bytes::Bytes;
+use tc_compact::{document_of, shape_of};
+use tc_component::{Component, Place};
+use tc_list::ComponentList;
+use tc_record::{RecordFault, RecordRef};
+use tc_store::{FileName, Frozen};
+use tc_value::{Doc, Shape};
+
+/// The component at a position of the list.
+pub(crate) fn component_at<F: Frozen>(list: &ComponentList<F>, at: usize) -> &Component<F>
+    requires { at < length list.now }
+    ensures { slice_get list.now at ≡ Some result.now }
+{
+    &list.as_slice()[at]
+}
+
+/// The shape of the document at a place of a component, by one read.
+pub(crate) fn shape_at<F: Frozen>(
+    alloc: Global,
+    component: &Component<F>,
+    place: Place,
+    watch: &mut F::Watch,
+) -> Result<Shape, PartFault>
+    requires { IsPlace component.now.index.slots place }
+    ensures shape { IfOk result (λ shape. (d : Document) → IfSome (F.content component.now.file) (λ whole. IsRecordOfOne component.now.index.names d (bytes_of_record component.now.index.slots place.at whole) → shape_tree shape ≡ document_shape d)) }
+    ensures harmed { IfErr result (λ fault. IsOfRead fault (λ file at bytes. IsHarmOf (λ file. F.content file) component.now file at bytes)) }
+    ensures counted { IsCountedOnce (IsErrOf result PartFault.Disk) (IsOk result) (F.Watch.counts watch.old) (F.Watch.counts watch.new) }
+{
+    let bytes = record_at(alloc, component, place, watch)?;
+    match shape_of(alloc, RecordRef::known(bytes.as_slice()), component.names()) {
+        Ok(shape) => Ok(shape),
+        Err(fault) => Err(no_document(component, place, bytes, fault)),
+    }
+}
+
+/// The document at a place of a component, by one read.
+pub(crate) fn document_at<F: Frozen>(
+    alloc: Global,
+    component: &Component<F>,
+    place: Place,
+    watch: &mut F::Watch,
+) -> Result<Doc, PartFault>
+    requires { IsPlace component.now.index.slots place }
+    ensures document { IfOk result (λ doc. (d : Document) → IfSome (F.content component.now.file) (λ whole. IsRecordOfOne component.now.index.names d (bytes_of_record component.now.index.slots place.at whole) → tree_of doc ≡ d)) }
+    ensures harmed { IfErr result (λ fault. IsOfRead fault (λ file at bytes. IsHarmOf (λ file. F.content file) component.now file at bytes)) }
+    ensures counted { IsCountedOnce (IsErrOf result PartFault.Disk) (IsOk result) (F.Watch.counts watch.old) (F.Watch.counts watch.new) }
+{
+    let bytes = record_at(alloc, component, place, watch)?;
+    match document_of(alloc, RecordRef::known(bytes.as_slice()), component.names()) {
+        Ok(doc) => Ok(doc),
+        Err(fault) => Err(no_document(component, place, bytes, fault)),
+    }
+}
+
+/// The record at a place of a component, by one read.
+fn record_at<F: Frozen>(
+    alloc: Global,
+    component: &Component<F>,
+    place: Place,
+    watch: &mut F::Watch,
+) -> Result<Bytes, PartFault>
+    requires { IsPlace component.now.index.slots place }
+    ensures read { IfOk result (λ read. IfSome (F.content component.now.file) (λ whole. read ≡ bytes_of_record component.now.index.slots place.at whole)) }
+    ensures found { IfOk result (λ read. (length read ≡ length_at component.now.index.slots place.at) × IsRecordWithin (length component.now.index.names) read) }
+    ensures harmed { IfErr result (λ fault. IsOfRead fault (λ file at bytes. IsHarmOf (λ file. F.content file) component.now file at bytes)) }
+    ensures counted { IsCountedOnce (IsErrOf result PartFault.Disk) (IsOk result) (F.Watch.counts watch.old) (F.Watch.counts watch.new) }
+{
+    match component.fetch(alloc, place, watch) {
+        Ok(bytes) => Ok(bytes),
+        Err(fault) => Err(of_read(name_of(component), fault)),
+    }
+}
+
+/// Why a record gave no document under the names of its component.
+fn no_document<F: Frozen>(
+    component: &Component<F>,
+    place: Place,
+    bytes: Bytes,
+    fault: RecordFault,
+) -> PartFault
+    requires place { IsPlace component.now.index.slots place }
+    requires read { IfSome (F.content component.now.file) (λ whole. bytes ≡ bytes_of_record component.now.index.slots place.at whole) }
+    requires long { length bytes ≡ length_at component.now.index.slots place.at }
+    requires cause { fault ≡ RecordFault.NotARecord → (d : Document) → IsRecordUnder component.now.index.names d bytes → ⊥ }
+    ensures cause { result ≡ PartFault.Disk → ⊥ }
+    ensures harmed { IsOfRead result (λ file at bytes. IsHarmOf (λ file. F.content file) component.now file at bytes) }
+{
+    let (at, _) = component.record_range(place);
+    of_record(name_of(component), at, bytes, fault)
+}
+
+/// The name of a component's file.
+pub(crate) fn name_of<F: Frozen>(component: &Component<F>) -> FileName
+    ensures { result ≡ name_meant component.now.index.head }
+{
+    let head = component.head();
+    FileName::Component {
+        from: head.from,
+        to: head.to,
+    }
+}
