@@ -2,7 +2,7 @@ use Rattle.std.proofs.Common.{ap, ◌∙◌}
 use Rattle.tc_view.proofs.tests.each_snapshot_sees_the_last_publication.Goals as goal
 
 pub rounds-seen-requires-after_bounds : goal.rounds-seen-requires-after_bounds
-rounds-seen-requires-after_bounds g c κs within =
+rounds-seen-requires-after_bounds g c κs =
     let made = c.in_ok-publisher.ensures in
     let lens = c.lens.ensures in (
       made.0,
