@@ -1,0 +1,7 @@
+mod Fronts
+mod Homes
+mod OrderedRows
+mod AskedAll
+mod GatheredWindows
+mod PartsGiven
+mod RepliesPut

@@ -1,0 +1,54 @@
+-- What partitions reply to their shares of a window, and what the world replies to the window.
+use Rattle.std.specs.Prelude.{◌≡◌, ℕ, suc, ◌<◌, ◌%◌, length, map, List, [], ◌∷◌}
+use Rattle.std.specs.List.{All}
+use Rattle.tc_model.specs.Keyed.{Keyed, Ascends}
+use Rattle.tc_model.specs.Request.{Request, upsert, delete, get, query, flush, schema, scan, collect, refused}
+use Rattle.tc_model.specs.Reply.{Reply}
+use Rattle.tc_plain_model.specs.Store.{Store}
+use Rattle.tc_plain_model.specs.Part.{Limits, part_reply, part_left}
+use Rattle.tc_run_model.specs.World.{World, after}
+use Rattle.tc_run_model.specs.Replies.{reply_to}
+use Rattle.tc_route.specs.Shares.{share}
+use Rattle.tc_route.specs.Gathered.{gathered}
+
+-- the replies of a partition to requests, one after the other, each at the place of its request
+abbrev pub answered : Limits → Keyed Request → Store → Keyed Reply
+answered limits [] s = []
+answered limits (r ∷ rs) s = (r.0, part_reply limits r.1 s) ∷ answered limits rs (part_left limits r.1 s)
+
+-- the replies of partitions, of so many, from the one of a number on, each to its share of a window
+abbrev pub shares_answered : Limits → ℕ → ℕ → Keyed Request → List Store → List (Keyed Reply)
+shares_answered limits count p window [] = []
+shares_answered limits count p window (s ∷ ss) =
+    answered limits (share count p window) s ∷ shares_answered limits count (suc p) window ss
+
+-- the replies of the world to a window
+abbrev pub window_answered : Keyed Request → World → Keyed Reply
+window_answered [] w = []
+window_answered (r ∷ rs) w = (r.0, reply_to r.1 w) ∷ window_answered rs (after r.1 w)
+
+-- a request for partitions, and not for the whole store
+abbrev pub IsForParts : Request → Type 0
+IsForParts (upsert n d) = Unit {0}
+IsForParts (delete n) = Unit {0}
+IsForParts (get n) = Unit {0}
+IsForParts (query ask) = Unit {0}
+IsForParts flush = ⊥
+IsForParts schema = ⊥
+IsForParts (scan ask) = ⊥
+IsForParts collect = ⊥
+IsForParts (refused r) = ⊥
+
+-- partitions, of so many, from the one of a number on store their own keys alone, in ascending order
+abbrev pub KeepOwn : ℕ → ℕ → List Store → Type 0
+KeepOwn count p [] = Unit {0}
+KeepOwn count p (s ∷ ss) = Ascends s.pairs × All (λ e. e.0 % count ≡ p) s.pairs × KeepOwn count (suc p) ss
+
+-- what the partitions of a world store
+abbrev pub stores_of : World → List Store
+stores_of w = map (λ part. part.now) w.parts
+
+-- What partitions reply to their shares of a window, put together, are the replies of the world to the window, in its order.
+abbrev pub AreGathered : Type 0
+AreGathered = (w : World) (window : Keyed Request) → 0 < length w.parts → KeepOwn (length w.parts) 0 (stores_of w) → Ascends window → All (λ r. IsForParts r.1) window
+    → gathered (shares_answered w.limits (length w.parts) 0 window (stores_of w)) ≡ window_answered window w

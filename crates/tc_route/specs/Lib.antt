@@ -1,0 +1,4 @@
+pub mod Shares
+pub mod Gathered
+pub mod Answers
+pub mod Meaning
