@@ -37,3 +37,4 @@ pub mod LoadedComponents
 pub mod ShortDocuments
 pub mod SealedInputs
 pub mod RunInputs
+pub mod StartRows

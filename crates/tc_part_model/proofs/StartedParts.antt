@@ -74,7 +74,7 @@ length-values [] = refl
 length-values (p ∷ pairs) = omega (arith, length-values pairs)
 
 module _ (part : Partition) (list : List Content) (is_list : IsList part list) where
-  started_memory : IsMemoryKept part (state_of (started_part part list))
+  pub started_memory : IsMemoryKept part (state_of (started_part part list))
   started_memory =
       let n = newest_of_list part list is_list in
       record {
