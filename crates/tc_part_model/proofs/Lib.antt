@@ -38,3 +38,4 @@ pub mod ShortDocuments
 pub mod SealedInputs
 pub mod RunInputs
 pub mod StartRows
+pub mod BetweenNames

@@ -26,7 +26,7 @@ use Rattle.tc_part_model.proofs.LoadedComponents.{ToldOf, of_told}
 
 -- ---- elements of a run
 
-slice_get-drop : {X : Type 0} (a n : ℕ) (xs : List X) (x : X) → slice_get xs (a + n) ≡ Some x → slice_get (drop a xs) n ≡ Some x
+pub slice_get-drop : {X : Type 0} (a n : ℕ) (xs : List X) (x : X) → slice_get xs (a + n) ≡ Some x → slice_get (drop a xs) n ≡ Some x
 slice_get-drop a n xs x there =
     let within = slice_get_within xs (a + n) x there in
     slice_get-get_or (drop a xs) n x (omega (arith, within, length-drop a xs)) ∙ ap Some (get_or-drop a xs n x ∙ get_or_from_slice_get xs (a + n) x x there)
@@ -37,7 +37,7 @@ length-front zero (y ∷ xs) x there = refl
 length-front (suc n) (y ∷ xs) x there = ap suc (length-front n xs x there)
 
 module _ {F : Type 0} (content : F → Option (List ℕ)) where
-  abbrev Zipped : List (ComponentState F) → List Content → Type 0
+  abbrev pub Zipped : List (ComponentState F) → List Content → Type 0
   Zipped ms cs = AllZip (ToldOf content) ms cs
 
   -- ---- from the first component of a list on

@@ -1,7 +1,8 @@
 //! Laws of what the jobs of a part need.
 
-ghost use Rattle.std.specs.Prelude.{◌≡◌, ◌+◌, ◌-◌, ◌<◌, ◌≤◌, ◌^◌, List, All, length, map, slice_get, Some, None, IsSome};
+ghost use Rattle.std.specs.Prelude.{◌≡◌, ◌+◌, ◌-◌, ◌<◌, ◌≤◌, ◌^◌, ℕ, List, All, length, map, slice_get, Some, None, IsSome};
 ghost use Rattle.std.specs.List.{AllZip};
+ghost use Rattle.tc_model.specs.Dictionary.{Extends};
 ghost use Rattle.tc_model.specs.Document.{Name};
 ghost use Rattle.tc_schema_model.specs.Counted.{Counted};
 ghost use Rattle.tc_store.specs.Disk.{Disk};
@@ -80,4 +81,13 @@ pub fn jobs_have_made()
         → IfTold device (λ f. f ≡ settled_file (component_bytes c)) → HasMade c disks device }
     ensures flush { (t : Told) (p : PartView) (table : Table) (c : Content) → IsPart t p → t.sealed ≡ Some table → MakesFlush p c → IsContent c }
     ensures merge { (t : Told) (p : PartView) (run : Neighbours) (c : Content) → IsPart t p → IsMerge (contents_in_run run p.list) c → IsContent c }
+{}
+
+/// A law, and no work. Over every store, the names of what merges a run of a part go on from those of the component before the
+/// run, and those of the one behind it go on from them.
+pub fn merges_go_between<F: Frozen>()
+    ensures older { (t : Told) (p : PartView) (components : List (ComponentState F)) (run : Run) (last : ComponentState F) (c : Content) → IsPart t p → t.components ≡ map (told_component F.content) components → run.first < run.last
+        → slice_get components run.last ≡ Some last → IsMerge (contents_in_run (neighbours run) p.list) c → (at : ℕ) (older : ComponentState F) → slice_get components at ≡ Some older → at + 1 ≡ run.first → Extends c.names older.index.names }
+    ensures newer { (t : Told) (p : PartView) (components : List (ComponentState F)) (run : Run) (last : ComponentState F) (c : Content) → IsPart t p → t.components ≡ map (told_component F.content) components → run.first < run.last
+        → slice_get components run.last ≡ Some last → IsMerge (contents_in_run (neighbours run) p.list) c → (newer : ComponentState F) → slice_get components (run.last + 1) ≡ Some newer → Extends newer.index.names c.names }
 {}

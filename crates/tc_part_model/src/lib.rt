@@ -21,7 +21,8 @@ pub use flushing::{
     failed_flushes_are_kept, failed_flushes_leave_store, flushes_are_listed, flushes_begin,
 };
 pub use inputs::{
-    jobs_have_made, runs_can_merge, sealed_tables_can_flush, told_components_are_loaded,
+    jobs_have_made, merges_go_between, runs_can_merge, sealed_tables_can_flush,
+    told_components_are_loaded,
 };
 pub use merging::{failed_merges_are_kept, merges_are_listed, merges_begin};
 pub use moments::moments_follow;
