@@ -11,9 +11,9 @@ use Rattle.tc_memory.specs.Table as memory
 use Rattle.tc_plain_model.specs.Store.{names_after}
 use Rattle.tc_component.specs.declared.head.Head.{Head}
 use Rattle.tc_component.specs.Rows.{IsShortWrite, part_of}
-use Rattle.tc_lsm_model.specs.Contents.{Content, IsContent, Partition}
+use Rattle.tc_lsm_model.specs.Contents.{Content, Partition}
 use Rattle.tc_lsm_model.specs.Flushes.{IsFlush}
-use Rattle.tc_lsm_model.specs.Lists.{IsList, last_of, live, names_of, schema_of}
+use Rattle.tc_lsm_model.specs.Lists.{GoesOn, IsList, last_of, live, names_of, schema_of}
 use Rattle.tc_lsm_model.specs.Tables.{KeepsShapes, Table, over, shape_in, table_over, writes_of}
 use Rattle.tc_lsm_model.proofs.FlushNames.{Extends-names_after}
 use Rattle.tc_machine.specs.Logs.{all_writes}
@@ -115,9 +115,9 @@ makes_flush p head names schema kept c b is =
     subst (λ o. IfSome o (λ d. IsFlush p.part p.list d.table (length d.logs) c)) (sym b.is_sealed)
     (subst (λ n. IsFlush p.part p.list b.sealed.table n c) (sym b.one_log) (subst (λ part. IsFlush part p.list b.sealed.table 1 c) b.here is))
 
--- what a flush of the sealed table makes is a content
-pub flush_content : (t : Told) (p : PartView) (kept : memory.Table) (c : Content) → IsPart t p → t.sealed ≡ Some kept → MakesFlush p c → IsContent c
-flush_content t p kept c is some makes =
+-- what a flush of the sealed table makes goes on behind the list
+pub flush_goes_on : (t : Told) (p : PartView) (kept : memory.Table) (c : Content) → IsPart t p → t.sealed ≡ Some kept → MakesFlush p c → GoesOn p.part (last_of p.list) (live p.list) (names_of p.list) c
+flush_goes_on t p kept c is some makes =
     let found = sealed_found t p is kept some in
     let flushed : IsFlush p.part p.list found.0.table (length found.0.logs) c = subst (λ o. IfSome o (λ d. IsFlush p.part p.list d.table (length d.logs) c)) found.1 makes in
-    flushed.goes_on.content
+    flushed.goes_on

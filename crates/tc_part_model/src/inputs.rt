@@ -48,13 +48,14 @@ pub fn told_components_are_loaded<F: Frozen>()
 
 /// A law, and no work. The newest component that a part has loaded has the names and the schema of its list. Over them the
 /// sealed table lies behind the list, where the files are told, and passes the test `counted`; and what a flush makes of it
-/// there is what the flush of the part makes.
+/// there is what the flush of the part makes, whose names go on from those of the list.
 pub fn sealed_tables_can_flush()
     ensures names { (t : Told) (p : PartView) → IsPart t p → names_by (newest_index None t.components) ≡ names_of p.list }
     ensures schema { (t : Told) (p : PartView) → IsPart t p → schema_by (newest_index None t.components) ≡ schema_of p.list }
     ensures behind { (t : Told) (p : PartView) (head : Head) (kept : Table) → IsPart t p → AreTold t.components → t.sealed ≡ Some kept → t.generation < 2 ^ 63
         → head ≡ record { number = t.part.number; count = t.part.count; from = t.generation - 1; to = t.generation - 1 } → FlushesBehind p head (names_of p.list) (schema_of p.list) kept }
     ensures counted { (t : Told) (p : PartView) (kept : Table) → IsPart t p → AreTold t.components → t.sealed ≡ Some kept → IsTable kept → IsCounted (names_of p.list) (schema_of p.list) kept }
+    ensures extends { (t : Told) (p : PartView) (kept : Table) (c : Content) → IsPart t p → t.sealed ≡ Some kept → MakesFlush p c → Extends c.names (names_of p.list) }
     ensures makes { (p : PartView) (head : Head) (names : List Name) (schema : Counted) (kept : Table) (c : Content) (b : FlushesBehind p head names schema kept) → IsFlush (part_of head) p.list b.sealed.table 1 c → MakesFlush p c }
 {
     lists_are_counted();

@@ -1,4 +1,4 @@
-use Rattle.tc_part_model.proofs.SealedInputs.{makes_flush, newest_names_are, newest_schema_is, sealed_behind, sealed_counted}
+use Rattle.tc_part_model.proofs.SealedInputs.{flush_goes_on, makes_flush, newest_names_are, newest_schema_is, sealed_behind, sealed_counted}
 use Rattle.tc_part_model.proofs.inputs.sealed_tables_can_flush.Goals as goal
 
 pub returns-clause-names : goal.returns-clause-names
@@ -15,3 +15,6 @@ returns-clause-counted c = λ t p kept is told some lawful. sealed_counted t p i
 
 pub returns-clause-makes : goal.returns-clause-makes
 returns-clause-makes c = makes_flush
+
+pub returns-clause-extends : goal.returns-clause-extends
+returns-clause-extends c = λ t p kept content is some makes. (flush_goes_on t p kept content is some makes).extends
