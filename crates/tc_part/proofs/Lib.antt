@@ -8,3 +8,4 @@ mod Refusals
 mod Handing
 mod StagedWrites
 mod Creations
+mod ClosedParts

@@ -56,4 +56,7 @@ has_some cs key n place found none =
 pub looked_up : {F : Type 0} (cs : List (ComponentState F)) (key n : ℕ) (place : Place) (Failed Done Fails : Type 0) (old new : Counts) → IsFoundAt cs key (At n place) → (Fails → Failed) → IsCountedOnce Failed Done old new
     → IsCountedLookup Fails (HaveNone cs key) old new
 looked_up cs key n place Failed Done Fails old new found fails counted =
-    record { faults = counted.faults; cause = λ f. counted.cause (fails f); none = λ none. absurd (has_some cs key n place found none); most = counted.reads }
+    record {
+      once = record { faults = counted.faults; cause = λ f. counted.cause (fails f); done = λ no. absurd no; reads = counted.reads };
+      none = λ none. absurd (has_some cs key n place found none);
+    }

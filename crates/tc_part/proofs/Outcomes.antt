@@ -29,4 +29,4 @@ no_fault (Ok x) is fails = absurd (cc)
 no_fault (Err e) is fails = absurd (cc)
 
 pub memory_counts : {X : Type 0} (r : Result X PartFault) (Unwanted : Type 0) (counts : Counts) → IfErr r (λ fault. fault ≡ Memory) → IsCountedLookup (IsErrOf r Disk) Unwanted counts counts
-memory_counts r Unwanted counts is = record { faults = omega arith; cause = no_fault r is; none = λ none. refl; most = inl refl }
+memory_counts r Unwanted counts is = record { once = record { faults = omega arith; cause = no_fault r is; done = λ no. absurd no; reads = inl refl }; none = λ none. refl }

@@ -4,11 +4,10 @@ use Rattle.std.specs.Prelude.{◌^◌, Result, Ok, Err, IfOk, is_some, option_ma
 use Rattle.std.proofs.lemmas.Option.{same_Some}
 use Rattle.tc_model.specs.Document.{Document, ShapeTree}
 use Rattle.tc_model.specs.Keyed.{value_of}
-use Rattle.tc_model.specs.Request.{Refusal, oversized, malformed, unknown, not_whole, too_deep, no_key, names_full, full, busy, no_scan, not_built}
+use Rattle.tc_model.specs.Request.{Refusal}
 use Rattle.tc_model.proofs.StoredDocuments.{keyless_object}
 use Rattle.tc_record.specs.Record.{record_of, IsRecordOf}
 use Rattle.tc_record.specs.StoredRecord.{IsStoredRecord}
-use Rattle.tc_log.specs.declared.write.Write as log
 use Rattle.tc_log.specs.declared.write.Write.TheVariants.{Upsert, Delete}
 use Rattle.tc_memory.specs.Table.{upserted}
 use Rattle.tc_plain_model.specs.Part.{Limits}
@@ -18,13 +17,13 @@ use Rattle.tc_machine.specs.Logs.{kept_write}
 use Rattle.tc_machine.specs.Writes.{IsStorableWrite}
 use Rattle.tc_machine.proofs.Holding.{holds}
 use Rattle.tc_part_model.specs.Meaning.{IsPart}
-use Rattle.tc_part_model.specs.PartState.{PartState, Told}
+use Rattle.tc_part_model.specs.PartState.{Told}
 use Rattle.tc_part_model.specs.PartView.{PartView, stored_with}
 use Rattle.tc_part_model.specs.Staging.{called, taken_with, counted_with}
 use Rattle.tc_part.specs.declared.fault.PartFault.{PartFault}
 use Rattle.tc_part.specs.declared.staging.Staged.{Staged}
 use Rattle.tc_part.specs.declared.staging.Staged.TheVariants.{Done}
-use Rattle.tc_part.specs.Stages.{answer_to, refusal_for, refused_as, stages, HasStaged}
+use Rattle.tc_part.specs.Stages.{answer_to, refusal_for, refused_as, stages}
 
 -- ---- the write
 
@@ -51,23 +50,6 @@ refused_answer (Some r) answer was_live is = same_Some answer (refused_as r) is
 pub refused_stages : (o : Option Refusal) (answer : Staged) (w : Write) (was_live : Bool) (p : PartView) → Some answer ≡ option_map refused_as o → stages o w was_live p ≡ p
 refused_stages None answer w was_live p is = absurd (cc)
 refused_stages (Some r) answer w was_live p is = refl
-
-same_left : {S D F W : Type 0} (r : Refusal) (write : log.Write) (old : PartState S D F W) → HasStaged (refused_as r) write old old
-same_left oversized write old = refl
-same_left malformed write old = refl
-same_left unknown write old = refl
-same_left not_whole write old = refl
-same_left too_deep write old = refl
-same_left no_key write old = refl
-same_left names_full write old = refl
-same_left full write old = refl
-same_left busy write old = refl
-same_left no_scan write old = refl
-same_left not_built write old = refl
-
-pub refused_leaves : {S D F W : Type 0} (o : Option Refusal) (answer : Staged) (write : log.Write) (old new : PartState S D F W) → Some answer ≡ option_map refused_as o → new ≡ old → HasStaged answer write old new
-refused_leaves None answer write old new is same = absurd (cc)
-refused_leaves (Some r) answer write old new is same = rw (same, same_Some answer (refused_as r) is) (same_left r write old)
 
 -- ---- an accepted write
 

@@ -24,6 +24,10 @@ IsOfRead (Damaged damage) P = IsBytesHarm damage P
 IsOfRead Spent P = ⊥
 IsOfRead Memory P = Unit {0}
 
+-- the bytes are those of the entry's record in the file, if it tells
+abbrev pub AreOfFile : {F : Type 0} → (F → Option (List ℕ)) → ComponentState F → ℕ → List ℕ → Type 0
+AreOfFile content c at bytes = IfSome (content c.file) (λ whole. bytes ≡ record_at c.index.slots at whole)
+
 -- The bytes stand at the place of an entry of a component, and are the record of no document under its names; and they are
 -- the file's, if it tells.
 pub record IsHarmOf {F : Type 0} (content : F → Option (List ℕ)) (c : ComponentState F) (file : FileName) (place : ℕ) (bytes : List ℕ) : Type 0 where
@@ -33,7 +37,7 @@ pub record IsHarmOf {F : Type 0} (content : F → Option (List ℕ)) (c : Compon
   pub place_is : place ≡ record_place c.index.slots entry.at
   pub long : length bytes ≡ length_at c.index.slots entry.at
   pub broken : (IsRecordWithin (length c.index.names) bytes → ⊥) ⊎ ((d : Document) → IsRecordUnder c.index.names d bytes → ⊥)
-  pub told : IfSome (content c.file) (λ whole. bytes ≡ record_at c.index.slots entry.at whole)
+  pub told : AreOfFile content c entry.at bytes
 
 -- so of one in a list
 pub record IsHarmIn {F : Type 0} (content : F → Option (List ℕ)) (components : List (ComponentState F)) (file : FileName) (place : ℕ) (bytes : List ℕ) : Type 0 where

@@ -4,3 +4,4 @@ pub mod Below
 pub mod Harms
 pub mod Reads
 pub mod Stages
+pub mod Closing

@@ -1,8 +1,9 @@
 //! Layer 5, engine: one partition of the store, in memory and in its files. Writes are staged and committed, keys are looked
-//! up, and a table is sealed; the calls that flush and merge, and that start and close a partition are to come.
+//! up, a table is sealed, and a partition is closed; the calls that flush and merge, and that start one, are to come.
 #![tactic(auto)]
 
 mod below;
+mod closing;
 mod committing;
 mod deleting;
 mod fault;

@@ -1,14 +1,19 @@
 //! The partition: what it has in memory, and its files.
 
+ghost use Rattle.std.specs.Arc.{arc_value};
+ghost use Rattle.std.specs.Prelude.{◌≡◌, map, IfOk};
+
 use crate::limits::Limits;
 use std::alloc::Global;
 use std::marker::Model;
 use std::sync::Arc;
+use tc_bytes::Memory;
+use tc_component::Component;
 use tc_list::{ComponentList, Run};
 use tc_log::{Log, Write};
 use tc_memory::{Memtable, Sealed};
 use tc_names::Names;
-use tc_store::Store;
+use tc_store::{Frozen, Store};
 
 /// One partition. The memory table that writes go into stands over the one that is being flushed, and that over the
 /// listed components. Each table has a write-ahead log. After a call that answers a fault the partition has failed, and
@@ -83,11 +88,11 @@ impl<S: Store> Model for Part<S> {
       failed = p.failed;
     } };
 
-    ghost invariant = { λ p. IsReady p.staged.items p.writes p.generation p.failed p.log p.sealed_log p.merger p.merging };
+    ghost invariant = { λ p. IsReady (λ d. S.Device.name d) p.staged.items p.writes p.generation p.failed p.log p.sealed_log p.merger p.merging };
 }
 
 impl<S: Store> Part<S> {
-    ghost use Rattle.std.specs.Prelude.{◌≡◌, length, is_some};
+    ghost use Rattle.std.specs.Prelude.{◌≡◌, length, map, is_some, IfOk};
 
     /// Whether a call answered a fault.
     pub fn failed(&self) -> bool
@@ -116,4 +121,34 @@ impl<S: Store> Part<S> {
     {
         self.sealed.is_some()
     }
+
+    /// What the partition takes.
+    pub fn limits(&self) -> Limits
+        ensures names { result.names ≡ self.now.limits.names }
+        ensures docs { result.docs ≡ self.now.limits.docs }
+        ensures memory { result.memory ≡ self.now.memory }
+    {
+        self.limits
+    }
+
+    /// The lengths in bytes of the files of the listed components, the oldest first. Errs only for want of memory.
+    pub fn sizes(&self, alloc: Global) -> Result<Vec<u64>, Memory>
+        ensures { IfOk result (λ sizes. sizes.items ≡ map (λ c. S.Frozen.size c.file) self.now.list) }
+    {
+        lengths_of(alloc, self.list.as_slice())
+    }
+}
+
+/// The lengths of the files of components.
+fn lengths_of<F: Frozen>(
+    alloc: Global,
+    components: &[Arc<Component<F>>],
+) -> Result<Vec<u64>, Memory>
+    ensures { IfOk result (λ lengths. lengths.items ≡ map (λ c. F.size c.file) (map arc_value components.now)) }
+{
+    let mut lengths = Vec::new(alloc);
+    for component in components {
+        lengths.push(component.file_len())?;
+    }
+    Ok(lengths)
 }

@@ -1,6 +1,7 @@
 //! The active table is sealed, and the next log begins.
 
 ghost use Rattle.std.specs.Prelude.{◌≡◌, ◌<◌, ◌+◌, ◌^◌, ◌↔◌, [], Some, None, false, true, OnOk, OnErr, IfErr, IsErrOf};
+ghost use Rattle.tc_store.specs.declared.file_name.FileName.TheVariants.{Log as log_name};
 ghost use Rattle.tc_store.specs.Counted.{IsCounted};
 ghost use Rattle.tc_part_model.specs.PartState.{told};
 ghost use Rattle.tc_part_model.specs.PartView.{PartView, store_of};
@@ -81,6 +82,7 @@ impl<S: Store> Part<S> {
         requires sound { log.failed ≡ false }
         requires old_sound { self.old.log.failed ≡ false }
         requires next { self.old.generation + 1 < 2 ^ 63 }
+        requires name { S.Device.name log.device ≡ log_name (self.old.generation + 1) }
         ensures { self.new ≡ record self.old { sealed_log = Some self.old.log; log = log; generation = self.old.generation + 1; failed = false } }
     {
         self.sealed_log = Some(mem::replace(&mut self.log, log));

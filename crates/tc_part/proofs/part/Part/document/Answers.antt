@@ -15,7 +15,7 @@ pub returns-then-has-clause-live : goal.returns-then-has-clause-live
 returns-then-has-clause-live g c =
     let t = told g.S.Store.history g.S.Device.Device.history g.S.Frozen.Frozen.content c.args.self.now in
     let key = c.args.key in
-    λ p is. if_ok_then c.document_active.result _ _ (λ doc there. active_live t p is key (is_some doc) there) c.document_active.ensures.there
+    λ p is. if_ok_then c.document_active.result _ _ (λ doc _ there. active_live t p is key (is_some doc) there) c.document_active.ensures.there
 
 pub returns-then-has-clause-document : goal.returns-then-has-clause-document
 returns-then-has-clause-document g c =
@@ -29,14 +29,14 @@ pub returns-then-has-clause-shown : goal.returns-then-has-clause-shown
 returns-then-has-clause-shown g c =
     let state = c.args.self.now in
     let key = c.args.key in
-    if_ok_then c.document_active.result _ _ (λ doc there. active_shows (held_at key state.active) state.sealed state.list key (is_some doc) there) c.document_active.ensures.there
+    if_ok_then c.document_active.result _ _ (λ doc _ there. active_shows (held_at key state.active) state.sealed state.list key (is_some doc) there) c.document_active.ensures.there
 
 pub returns-then-has-clause-held : goal.returns-then-has-clause-held
 returns-then-has-clause-held g c =
     let state = c.args.self.now in
     let key = c.args.key in
     let has = sym (ap (λ s. is_some (value_of key s.active)) c.self.view_is) ∙ sym c.has.ensures.found ∙ c.if-has.true in
-    λ d bytes held of. if_ok_then c.document_active.result _ _ (λ doc spelled. spelled d bytes (newest_active key state.active state.sealed (live bytes) has held) of) c.document_active.ensures.document
+    λ d bytes held of. if_ok_then c.document_active.result _ _ (λ doc _ spelled. spelled d bytes (newest_active key state.active state.sealed (live bytes) has held) of) c.document_active.ensures.document
 
 pub returns-then-has-clause-harmed : goal.returns-then-has-clause-harmed
 returns-then-has-clause-harmed g c =
@@ -54,14 +54,14 @@ returns-clause-live g c =
     let none = sym (ap (λ s. is_some (value_of key s.active)) c.self.view_is) ∙ sym c.has.ensures.found ∙ c.if-has.false in
     λ p is.
     let there = below_there t p is key state.list (all_show g.S.Frozen.Frozen.content state.list p.list is.view.components) c.below-below.result c.below-below.ensures ∙ ap (λ o. is_some o) (sym (stored_below t p is key none)) in
-    if_ok_then c.document_below.result _ _ (λ doc found. found ∙ there) c.document_below.ensures.there
+    if_ok_then c.document_below.result _ _ (λ doc _ found. found ∙ there) c.document_below.ensures.there
 
 pub returns-clause-document : goal.returns-clause-document
 returns-clause-document g c =
     let t = told g.S.Store.history g.S.Device.Device.history g.S.Frozen.Frozen.content c.args.self.now in
     let key = c.args.key in
     let none = sym (ap (λ s. is_some (value_of key s.active)) c.self.view_is) ∙ sym c.has.ensures.found ∙ c.if-has.false in
-    λ p is files. if_ok_then c.document_below.result _ _ (λ doc same. same ∙ sym (stored_below t p is key none)) (c.document_below.ensures.document p is files)
+    λ p is files. if_ok_then c.document_below.result _ _ (λ doc _ same. same ∙ sym (stored_below t p is key none)) (c.document_below.ensures.document p is files)
 
 pub returns-clause-shown : goal.returns-clause-shown
 returns-clause-shown g c =
@@ -69,7 +69,7 @@ returns-clause-shown g c =
     let key = c.args.key in
     let none = sym (ap (λ s. is_some (value_of key s.active)) c.self.view_is) ∙ sym c.has.ensures.found ∙ c.if-has.false in
     if_ok_then c.document_below.result _ _
-    (λ doc there. subst (λ o. ShowsLiveBy o state.sealed state.list key (is_some doc)) (sym (none_held key state.active none)) (c.below-below.result, c.below-below.ensures, there))
+    (λ doc _ there. subst (λ o. ShowsLiveBy o state.sealed state.list key (is_some doc)) (sym (none_held key state.active none)) (c.below-below.result, c.below-below.ensures, there))
     c.document_below.ensures.there
 
 pub returns-clause-held : goal.returns-clause-held

@@ -11,7 +11,7 @@ returns-clause-document g c =
     let held = sym (ap (option_map held_of) (c.in-Some-Live.is ∙ ap Some c.in-Some-Live.field-0-is)) ∙ c.held_in.ensures.held in
     rw (← c.self.view_is)
     (if_ok_then c.document_of_record.result _ _
-    (λ doc spelled d bytes some of. spelled d (subst (IsRecordOf d) (sym (c.as_slice.ensures.same ∙ same_record _ _ _ held some)) of))
+    (λ doc _ spelled d bytes some of. spelled d (subst (IsRecordOf d) (sym (c.as_slice.ensures.same ∙ same_record _ _ _ held some)) of))
     c.document_of_record.ensures.document)
 
 pub returns-clause-lawful : goal.returns-clause-lawful

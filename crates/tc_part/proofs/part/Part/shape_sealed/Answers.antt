@@ -11,7 +11,7 @@ returns-clause-shape g c =
     let held = sym (ap (option_map held_of) (c.in-Some-Live.is ∙ ap Some c.in-Some-Live.field-0-is)) ∙ c.held_in.ensures.held in
     rw (← c.self.view_is)
     (if_ok_then c.shape_of_record.result _ _
-    (λ shape spelled d bytes some of. spelled d (subst (IsRecordOf d) (sym (c.as_slice.ensures.same ∙ same_record _ _ _ held some)) of))
+    (λ shape _ spelled d bytes some of. spelled d (subst (IsRecordOf d) (sym (c.as_slice.ensures.same ∙ same_record _ _ _ held some)) of))
     c.shape_of_record.ensures.shape)
 
 pub returns-clause-lawful : goal.returns-clause-lawful

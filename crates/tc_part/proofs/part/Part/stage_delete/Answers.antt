@@ -31,7 +31,7 @@ returns-then-is_live-clause-staged g c = λ p w is storable kept.
 pub returns-then-is_live-clause-by_key : goal.returns-then-is_live-clause-by_key
 returns-then-is_live-clause-by_key g c =
     let state = c.args.self.now in
-    if_ok_then c.delete.result _ _ (λ answer done. (true, shows_live (held_at c.args.key state.active) state.sealed state.list c.args.key c.below-below.result true c.below-below.ensures (sym c.if-is_live.true ∙ c.is_live.ensures), done))
+    if_ok_then c.delete.result _ _ (λ answer _ done. (true, shows_live (held_at c.args.key state.active) state.sealed state.list c.args.key c.below-below.result true c.below-below.ensures (sym c.if-is_live.true ∙ c.is_live.ensures), done))
     c.delete.ensures.done
 
 pub returns-clause-answered : goal.returns-clause-answered

@@ -102,7 +102,7 @@ returns-in-None-clause-by_key g c =
     let state = c.args.self.now in
     let was = c.is_live-was_live.result in
     if_ok_then c.upsert.result _ _
-    (λ answer done. (
+    (λ answer _ done. (
       was,
       shows_live (held_at c.args.key state.active) state.sealed state.list c.args.key c.below-below.result was c.below-below.ensures c.is_live-was_live.ensures,
       λ d of.

@@ -1,0 +1,28 @@
+use Rattle.std.proofs.Common.{◌∙◌, None, sym, ap, subst}
+use Rattle.tc_store.specs.Moments.{IfTold}
+use Rattle.tc_list.specs.Runs.{neighbours}
+use Rattle.tc_part_model.specs.Leaving.{KeepsStore}
+use Rattle.tc_part_model.specs.PartState.{told}
+use Rattle.tc_part_model.specs.PartView.{store_of}
+use Rattle.tc_part.proofs.ClosedParts.{closed_runs, closed_keeps, named_logs, flusher_in, merger_in}
+use Rattle.tc_part.proofs.part.Part.close.Goals as goal
+
+pub kit_of-requires-clause-flusher : goal.kit_of-requires-clause-flusher
+kit_of-requires-clause-flusher g c = λ κs lives. flusher_in c.self.inside.flusher (ap (λ s. s.flushing) c.self.view_is ∙ c.requires.no_flush)
+
+pub kit_of-requires-clause-merger : goal.kit_of-requires-clause-merger
+kit_of-requires-clause-merger g c = λ κs lives. merger_in neighbours c.self.inside.merging c.self.inside.merger (ap (λ s. s.merging) c.self.view_is ∙ c.requires.no_merge) c.self.invariant.merge
+
+pub returns-clause-home : goal.returns-clause-home
+returns-clause-home g c =
+    rw (← c.self.view_is)
+    (ap g.S.Store.history c.kit_of.ensures.store ∙ c.bring_home.ensures
+    ∙ named_logs g.S.Device.Device.name g.S.Device.Device.history c.self.inside.generation c.self.inside.log c.self.inside.sealed_log (g.S.Store.history c.self.inside.store) c.self.invariant.log_name c.self.invariant.sealed_name)
+
+pub returns-clause-kept : goal.returns-clause-kept
+returns-clause-kept g c = λ p is.
+    subst (λ disks. IfTold disks (KeepsStore p.part (store_of p) None)) (sym (returns-clause-home g c)) (closed_runs (told g.S.Store.history g.S.Device.Device.history g.S.Frozen.Frozen.content c.args.self) p is)
+
+pub returns-clause-failed : goal.returns-clause-failed
+returns-clause-failed g c = λ p frame failed logs.
+    subst (λ disks. IfTold disks (KeepsStore p.part (store_of p) frame)) (sym (returns-clause-home g c)) (closed_keeps (told g.S.Store.history g.S.Device.Device.history g.S.Frozen.Frozen.content c.args.self) p frame failed logs)
