@@ -37,7 +37,7 @@ closed_passes : (part : Partition) (name : FileName) (is_open : Bool) (content :
 closed_passes part name is_open None some gate is = absurd (cc)
 closed_passes part name is_open (Some bytes) some gate is = let byte : is_open_file bytes ≡ false = cc in rw byte refl
 
-told_holds : (P : List ℕ → Type 0) (content : Option (List ℕ)) → IsSome content → IfSome content P → P (unwrap_or content [])
+pub told_holds : (P : List ℕ → Type 0) (content : Option (List ℕ)) → IsSome content → IfSome content P → P (unwrap_or content [])
 told_holds P None some holds = absurd (cc)
 told_holds P (Some bytes) some holds = holds
 
@@ -61,16 +61,16 @@ pub record AreHeadsLeft {F W : Type 0} (tells : F → Option (List ℕ)) (part :
 pub heads_begin : {F W : Type 0} (tells : F → Option (List ℕ)) (part : Partition) (all : List (Taken F W)) (counts : Counts) → AreGates tells all → AreHeadsLeft tells part all all counts counts
 heads_begin tells part all counts gates = record { gates = gates; told = λ told. told; judged = λ told. refl; lawful = λ lawful. lawful; faults = omega arith; reads = refl }
 
-gate_first : {F W : Type 0} (tells : F → Option (List ℕ)) (t : Taken F W) (ts : List (Taken F W)) → AreGates tells (t ∷ ts) → IfSome (tells t.file) (λ bytes. t.open ≡ is_open_file bytes)
+pub gate_first : {F W : Type 0} (tells : F → Option (List ℕ)) (t : Taken F W) (ts : List (Taken F W)) → AreGates tells (t ∷ ts) → IfSome (tells t.file) (λ bytes. t.open ≡ is_open_file bytes)
 gate_first tells t ts gates = all_first (λ u. IfSome (tells u.file) (λ bytes. u.open ≡ is_open_file bytes)) t ts gates
 
-gates_behind : {F W : Type 0} (tells : F → Option (List ℕ)) (t : Taken F W) (ts : List (Taken F W)) → AreGates tells (t ∷ ts) → AreGates tells ts
+pub gates_behind : {F W : Type 0} (tells : F → Option (List ℕ)) (t : Taken F W) (ts : List (Taken F W)) → AreGates tells (t ∷ ts) → AreGates tells ts
 gates_behind tells t ts gates = all_behind (λ u. IfSome (tells u.file) (λ bytes. u.open ≡ is_open_file bytes)) t ts gates
 
-told_first : {F W : Type 0} (tells : F → Option (List ℕ)) (t : Taken F W) (ts : List (Taken F W)) → AreTold tells (t ∷ ts) → IsSome (tells t.file)
+pub told_first : {F W : Type 0} (tells : F → Option (List ℕ)) (t : Taken F W) (ts : List (Taken F W)) → AreTold tells (t ∷ ts) → IsSome (tells t.file)
 told_first tells t ts told = all_first (λ u. IsSome (tells u.file)) t ts told
 
-told_behind : {F W : Type 0} (tells : F → Option (List ℕ)) (t : Taken F W) (ts : List (Taken F W)) → AreTold tells (t ∷ ts) → AreTold tells ts
+pub told_behind : {F W : Type 0} (tells : F → Option (List ℕ)) (t : Taken F W) (ts : List (Taken F W)) → AreTold tells (t ∷ ts) → AreTold tells ts
 told_behind tells t ts told = all_behind (λ u. IsSome (tells u.file)) t ts told
 
 pub head_skipped : {F W : Type 0} (tells : F → Option (List ℕ)) (part : Partition) (all rest ts : List (Taken F W)) (t : Taken F W) (before now : Counts) → AreHeadsLeft tells part all rest before now

@@ -5,3 +5,4 @@ mod NameOrders
 mod Taking
 mod HeadSteps
 mod SortedNames
+mod LogSteps

@@ -43,6 +43,10 @@ takes_all (name ∷ names) disks = takes_all names (takes name disks)
 abbrev pub TakesFirst : List FileName → List Disk → List Disk → Type 0
 TakesFirst names old new = (first rest : List FileName) × (names ≡ first ++ rest) × (new ≡ takes_all first old)
 
+-- some files were taken, and nothing else changed
+abbrev pub TakesSome : List Disk → List Disk → Type 0
+TakesSome old new = (names : List FileName) × (new ≡ takes_all names old)
+
 -- the file has more than one byte
 abbrev pub is_long : {F W : Type 0} → (F → ℕ) → Taken F W → Bool
 is_long size t = nat_lt 1 (size t.file)

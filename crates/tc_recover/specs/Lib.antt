@@ -5,3 +5,4 @@ pub mod Files
 pub mod Reads
 pub mod Refusals
 pub mod Sorting
+pub mod Loads

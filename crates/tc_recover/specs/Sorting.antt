@@ -1,8 +1,13 @@
 -- The open files of a partition, sorted by their generations: which components count, and which logs stand above them.
-use Rattle.std.specs.Prelude.{◌≡◌, ◌+◌, ℕ, nat_lt, List, [], ◌∷◌, if◌then◌else◌}
+use Rattle.std.specs.Prelude.{◌≡◌, ◌+◌, ℕ, nat_lt, List, [], ◌∷◌, filter, if◌then◌else◌}
 use Rattle.tc_store.specs.declared.file_name.FileName.{FileName}
 use Rattle.tc_store.specs.declared.file_name.FileName.TheVariants.{Component, Log}
+use Rattle.tc_store.specs.declared.damage.Damage.TheVariants.{Bytes, Files}
+use Rattle.tc_recover.specs.declared.cause.OpenCause.{OpenCause}
+use Rattle.tc_recover.specs.declared.cause.OpenCause.TheVariants.{Disk, Damaged, Layout, Memory}
 use Rattle.tc_recover.specs.declared.interval.Interval.{Interval}
+use Rattle.tc_recover.specs.declared.taken.Taken.{Taken}
+use Rattle.tc_recover.specs.Files.{names_in}
 use Rattle.tc_recover.specs.Tilings.{IsTiling, end_of}
 
 -- the intervals of the components
@@ -26,3 +31,17 @@ Follow last (generation ∷ generations) = (generation ≡ last + 1) × Follow g
 pub record GoTogether (names : List FileName) (tiles : List Interval) : Type 0 where
   pub tiling : IsTiling (intervals_of names) tiles
   pub logs : Follow (end_of 0 tiles) (logs_above (end_of 0 tiles) names)
+
+-- ---- files
+
+-- the names of the open ones
+abbrev pub open_names : {F W : Type 0} → List (Taken F W) → List FileName
+open_names ts = names_in (filter (λ t. t.open) ts)
+
+-- What is answered where files do not go together: the names of all of them. Of want of memory nothing is said.
+abbrev pub IsClash : List FileName → OpenCause → Type 0
+IsClash names (Damaged (Files kept)) = (kept ≡ names) × ((tiles : List Interval) → GoTogether names tiles → ⊥)
+IsClash names (Damaged (Bytes file place bytes)) = ⊥
+IsClash names Disk = ⊥
+IsClash names (Layout found found_of) = ⊥
+IsClash names Memory = Unit {0}

@@ -13,7 +13,7 @@ use tc_store::{FileName, Store, StoreFault};
 
 /// The names of all files that are there, each once: components first, by their first and then by their last generation,
 /// then logs. Changes no file.
-pub fn listed<S: Store>(
+pub(crate) fn listed<S: Store>(
     alloc: Global,
     store: &mut S,
     watch: &mut S::Watch,

@@ -11,7 +11,10 @@ use tc_bytes::Memory;
 
 /// Of these intervals those that lie in no other one, the oldest first, where they tile the generations from 1 on, without a
 /// gap and without an overlap; else `None`. Looks at each interval once. Errs only for want of memory.
-pub fn tiling_of(alloc: Global, intervals: &[Interval]) -> Result<Option<Vec<Interval>>, Memory>
+pub(crate) fn tiling_of(
+    alloc: Global,
+    intervals: &[Interval],
+) -> Result<Option<Vec<Interval>>, Memory>
     requires order { All (λ i. i.from ≤ i.to) intervals.now }
     requires ascend { Ascend intervals.now }
     ensures some { IfOk result (λ found. IfSome found (λ tiles. IsTiling intervals.now tiles.items)) }
