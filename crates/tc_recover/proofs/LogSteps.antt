@@ -31,17 +31,6 @@ pub record AreLogsLeft {F W : Type 0} (tells : F → Option (List ℕ)) (last : 
   pub faults : before.faults ≤ now.faults
   pub reads : count_after (length (filter (is_log last) rest)) now.reads ≡ count_after (length (filter (is_log last) all)) before.reads
 
-pub logs_begin : {F W : Type 0} (tells : F → Option (List ℕ)) (last : ℕ) (all : List (Taken F W)) (done : List (List Write)) (counts : Counts) → AreGates tells all → done ≡ []
-    → AreLogsLeft tells last all all done counts counts
-logs_begin tells last all done counts gates nothing = subst (λ ws. AreLogsLeft tells last all all ws counts counts) (sym nothing) record {
-  gates = gates;
-  told = λ told. told;
-  judged = λ told. refl;
-  lawful = λ k d low. absurd (omega (arith, low));
-  faults = omega arith;
-  reads = refl;
-}
-
 and_first : (a b : Bool) → a && b ≡ true → a ≡ true
 and_first true b is = refl
 and_first false b is = is

@@ -18,3 +18,6 @@ pub use interval::Interval;
 pub use logs::read_logs;
 pub use sorting::{last_of, sort_files};
 pub use taken::Taken;
+
+#[cfg(test)]
+mod tests;

@@ -1,0 +1,183 @@
+//! Stores of a few files, taken, judged, sorted and read.
+
+ghost use Rattle.tc_store.specs.Disk.{IsAtRest};
+ghost use Rattle.tc_store.specs.Memory.Store.{store_disks};
+ghost use Rattle.tc_store.specs.Moments.{IfTold};
+
+use crate::{OpenCause, Partition, judge_heads, last_of, read_logs, sort_files, take_all};
+use std::alloc::{AllocError, Global};
+use std::test::Fail;
+use tc_bytes::Bytes;
+use tc_store::{FileName, MemFile, MemStore, MemWatch};
+
+const PART: Partition = Partition {
+    number: 0,
+    count: 1,
+};
+
+// A log of partition 0 of 1 and of generation 1 or 2, with one deletion of key 7, and the closed gate behind it.
+const FIRST: [u8; 40] =
+    *b"\x01TCL1\0\0\0\0\0\0\0\x01\0\0\0\0\0\0\0\x01\x01\0\0\0\x01\0\0\0\x09\0\0\0\0\0\0\0\x07\x02\0";
+
+const SECOND: [u8; 22] = *b"\x01TCL1\0\0\0\0\0\0\0\x01\0\0\0\0\0\0\0\x02\0";
+
+fn file(alloc: Global, name: FileName, bytes: &[u8]) -> Result<MemFile, AllocError> {
+    Ok(MemFile {
+        name,
+        bytes: Bytes::of(Vec::from_slice(alloc, bytes)?),
+    })
+}
+
+fn log(alloc: Global, generation: u64, bytes: &[u8]) -> Result<MemFile, AllocError> {
+    file(alloc, FileName::Log { generation }, bytes)
+}
+
+fn watch(alloc: Global) -> MemWatch {
+    MemWatch::new(Vec::new(alloc))
+}
+
+// What the steps say, one after the other.
+fn told(alloc: Global, part: Partition, files: Vec<MemFile>) -> Result<String, AllocError> {
+    let mut store = MemStore::with(files);
+    let mut watch = watch(alloc);
+    let taken = match take_all(alloc, &mut store, &mut watch) {
+        Ok(taken) => taken,
+        Err(cause) => return format!(in alloc; "{cause}"),
+    };
+    if let Err(cause) = judge_heads(alloc, part, &taken, &mut watch) {
+        return format!(in alloc; "{cause:?}");
+    }
+    let tiles = match sort_files(alloc, &taken) {
+        Ok(tiles) => tiles,
+        Err(cause) => return format!(in alloc; "{cause:?}"),
+    };
+    match read_logs(alloc, last_of(&tiles), &taken, &mut watch) {
+        Ok(writes) => format!(in alloc; "{writes:?}"),
+        Err(cause) => format!(in alloc; "{cause:?}"),
+    }
+}
+
+// A component without a byte behind its header.
+fn component(alloc: Global, from: u8, to: u8) -> Result<MemFile, AllocError> {
+    let mut bytes = [0; 61];
+    bytes[0] = 1;
+    bytes[1..5].copy_from_slice(b"TCC1");
+    bytes[12] = 1;
+    bytes[20] = from;
+    bytes[28] = to;
+    let name = FileName::Component {
+        from: u64::from(from),
+        to: u64::from(to),
+    };
+    file(alloc, name, &bytes)
+}
+
+#[test]
+fn an_empty_store_has_nothing(rt: HostRuntime) -> Result<(), Fail> {
+    let alloc = rt.alloc();
+    assert_eq!(rt; told(alloc, PART, Vec::new(alloc))?.as_str(), "[]");
+    Ok(())
+}
+
+#[test]
+fn logs_are_read_in_their_order(rt: HostRuntime) -> Result<(), Fail> {
+    let alloc = rt.alloc();
+    let closed = FileName::Component { from: 1, to: 1 };
+    let mut files = Vec::new(alloc);
+    files.push(log(alloc, 2, &SECOND)?)?;
+    files.push(file(alloc, closed, &[0, 9])?)?;
+    files.push(log(alloc, 1, &FIRST)?)?;
+    assert_eq!(rt;
+        told(alloc, PART, files)?.as_str(),
+        "[Writes { writes: [Delete { key: 7 }] }, Writes { writes: [] }]"
+    );
+    Ok(())
+}
+
+#[test]
+fn what_lies_within_components_is_passed(rt: HostRuntime) -> Result<(), Fail> {
+    let alloc = rt.alloc();
+    let mut files = Vec::new(alloc);
+    files.push(log(alloc, 1, &FIRST)?)?;
+    files.push(log(alloc, 2, &SECOND)?)?;
+    files.push(component(alloc, 1, 1)?)?;
+    files.push(component(alloc, 1, 2)?)?;
+    files.push(component(alloc, 2, 2)?)?;
+    assert_eq!(rt; told(alloc, PART, files)?.as_str(), "[]");
+    Ok(())
+}
+
+#[test]
+fn what_does_not_go_together_is_refused(rt: HostRuntime) -> Result<(), Fail> {
+    let alloc = rt.alloc();
+    let mut files = Vec::new(alloc);
+    files.push(log(alloc, 2, &SECOND)?)?;
+    assert_eq!(rt;
+        told(alloc, PART, files)?.as_str(),
+        "Damaged(Files { names: FileNames { names: [Log { generation: 2 }] } })"
+    );
+    let mut files = Vec::new(alloc);
+    files.push(component(alloc, 2, 3)?)?;
+    files.push(component(alloc, 1, 2)?)?;
+    assert_eq!(rt;
+        told(alloc, PART, files)?.as_str(),
+        "Damaged(Files { names: FileNames { names: [Component { from: 1, to: 2 }, Component { from: 2, to: 3 }] } })"
+    );
+    Ok(())
+}
+
+#[test]
+fn the_first_header_decides(rt: HostRuntime) -> Result<(), Fail> {
+    let alloc = rt.alloc();
+    let other = Partition {
+        number: 0,
+        count: 2,
+    };
+    let mut files = Vec::new(alloc);
+    files.push(log(alloc, 2, &[1, 9])?)?;
+    files.push(log(alloc, 1, &FIRST)?)?;
+    assert_eq!(rt;
+        told(alloc, other, files)?.as_str(),
+        "Layout { found: 0, found_of: 1 }"
+    );
+    Ok(())
+}
+
+#[test]
+fn calls_that_fail_are_faults(rt: HostRuntime) -> Result<(), Fail> {
+    let alloc = rt.alloc();
+    for failing in 0..5 {
+        let mut files = Vec::new(alloc);
+        files.push(log(alloc, 1, &FIRST)?)?;
+        let mut store = MemStore::with(files);
+        let mut numbers = Vec::new(alloc);
+        numbers.push(failing)?;
+        let mut watch = MemWatch::new(numbers);
+        assert!(rt; fails(alloc, &mut store, &mut watch), "{failing}");
+    }
+    Ok(())
+}
+
+// Whether a step answers a fault of the disk.
+fn fails(alloc: Global, store: &mut MemStore, watch: &mut MemWatch) -> bool
+    requires { IfTold (store_disks store.old) IsAtRest }
+{
+    let taken = match take_all(alloc, store, watch) {
+        Ok(taken) => taken,
+        Err(cause) => return is_disk(cause),
+    };
+    match judge_heads(alloc, PART, &taken, watch) {
+        Ok(()) => match read_logs(alloc, 0, &taken, watch) {
+            Ok(_writes) => false,
+            Err(cause) => is_disk(cause),
+        },
+        Err(cause) => is_disk(cause),
+    }
+}
+
+fn is_disk(cause: OpenCause) -> bool {
+    match cause {
+        OpenCause::Disk => true,
+        _other => false,
+    }
+}
