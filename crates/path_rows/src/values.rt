@@ -56,18 +56,18 @@ fn reached(
 // How many values a path reaches, the first one and all of them, with their texts and whether they equal a document.
 fn reached_in(
     alloc: Global,
-    record: RecordRef<'_>,
+    of: RecordRef<'_>,
     names: &Names,
     path: &PathExpr,
     equal_to: &Doc,
     doc: &Doc,
 ) -> Option<String>
-    requires { IsRecordUnder names.now (tree_of doc.now) record.bytes }
+    requires { IsRecordUnder names.now (tree_of doc.now) of.bytes }
 {
-    match select(alloc, record.again(), names, path) {
+    match select(alloc, of.again(), names, path) {
         Ok(values) => {
             let each = texts(alloc, values.as_slice(), names, equal_to)?;
-            let first = first_text(alloc, record, names, path, equal_to, doc)?;
+            let first = first_text(alloc, of, names, path, equal_to, doc)?;
             format!(in alloc;
                 "{} first{} all{}",
                 values.len(),
@@ -83,15 +83,15 @@ fn reached_in(
 // The text of the first one. The document is what the record spells, and is not looked at.
 fn first_text(
     alloc: Global,
-    record: RecordRef<'_>,
+    of: RecordRef<'_>,
     names: &Names,
     path: &PathExpr,
     equal_to: &Doc,
     _doc: &Doc,
 ) -> Option<String>
-    requires { IsRecordUnder names.now (tree_of _doc.now) record.bytes }
+    requires { IsRecordUnder names.now (tree_of _doc.now) of.bytes }
 {
-    match first(record, names, path) {
+    match first(of, names, path) {
         Some(value) => told(alloc, &value, names, equal_to),
         None => String::from_str(alloc, " none").ok(),
     }
