@@ -9,3 +9,5 @@ mod Handing
 mod StagedWrites
 mod Creations
 mod ClosedParts
+mod NewestListed
+mod StartedLogs

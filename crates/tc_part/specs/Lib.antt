@@ -5,3 +5,4 @@ pub mod Harms
 pub mod Reads
 pub mod Stages
 pub mod Closing
+pub mod Openings

@@ -1,11 +1,11 @@
 //! What is staged is committed.
 
-ghost use Rattle.std.specs.Prelude.{◌≡◌, ◌≤◌, ◌+◌, ◌^◌, ◌↔◌, Some, true, false, length, OnOk, OnErr, IfErr, IsErrOf};
+ghost use Rattle.std.specs.Prelude.{◌≡◌, ◌≤◌, ◌+◌, ◌^◌, ◌↔◌, Some, true, false, [], length, OnOk, OnErr, IfErr, IsErrOf};
 ghost use Rattle.tc_store.specs.Counted.{IsCounted};
 ghost use Rattle.tc_plain_model.specs.Writes.{after_writes};
 ghost use Rattle.tc_part_model.specs.PartState.{told};
 ghost use Rattle.tc_part_model.specs.PartView.{PartView, store_of};
-ghost use Rattle.tc_part_model.specs.Meaning.{IsPart, HasFailed};
+ghost use Rattle.tc_part_model.specs.Meaning.{IsPart, HasFailedAs};
 ghost use Rattle.tc_part_model.specs.Changes.{committed_part};
 ghost use Rattle.tc_part_model.specs.Leaving.{LogMomentsLeaveStore};
 ghost use Rattle.tc_part.specs.Faults.{IsUndamaged};
@@ -29,12 +29,13 @@ impl<S: Store> Part<S> {
         ensures committed { OnOk result ((p : PartView) → IsPart (told S.history S.Device.history S.Frozen.content self.old) p
             → IsPart (told S.history S.Device.history S.Frozen.content self.new) (committed_part p) × (store_of (committed_part p) ≡ after_writes (store_of p) p.staged)) }
         ensures same { OnOk result (self.new ≡ record self.old { main = self.new.main; log = self.new.log; staged = self.new.staged; writes = self.old.writes + length self.old.staged }) }
+        ensures cleared { OnOk result (self.new.staged ≡ []) }
 
         // At each moment of the call a stop leaves what is stored, without the frame or with it, and so it does behind a fault.
         ensures moments { (p : PartView) → IsPart (told S.history S.Device.history S.Frozen.content self.old) p
             → LogMomentsLeaveStore p (told S.history S.Device.history S.Frozen.content self.old) (S.Device.history self.new.log.device) }
         ensures failed { OnErr result ((p : PartView) → IsPart (told S.history S.Device.history S.Frozen.content self.old) p
-            → HasFailed (told S.history S.Device.history S.Frozen.content self.new) p.part (store_of p) (Some p.staged)) }
+            → HasFailedAs (told S.history S.Device.history S.Frozen.content self.new) p (Some p.staged)) }
         ensures left { OnErr result (self.new ≡ record self.old { main = self.new.main; log = self.new.log; failed = true }) }
 
         ensures spent { IsErrOf result PartFault.Spent ↔ 2 ^ 63 ≤ self.old.writes + length self.old.staged }

@@ -1,5 +1,5 @@
-//! Layer 5, engine: one partition of the store, in memory and in its files. Writes are staged and committed, keys are looked
-//! up, a table is sealed, and a partition is closed; the calls that flush and merge, and that start one, are to come.
+//! Layer 5, engine: one partition of the store, in memory and in its files. It begins with what was opened, writes are staged
+//! and committed, keys are looked up, a table is sealed, and it is closed; the calls that flush and merge are to come.
 #![tactic(auto)]
 
 mod below;
@@ -14,9 +14,11 @@ mod part;
 mod records;
 mod sealing;
 mod staging;
+mod starting;
 mod upserting;
 
 pub use fault::PartFault;
 pub use limits::Limits;
 pub use part::Part;
 pub use staging::Staged;
+pub use starting::Opened;

@@ -9,8 +9,8 @@ ghost use Rattle.tc_record.specs.StoredRecord.{IsStoredRecord};
 ghost use Rattle.tc_memory.specs.Table.{live as live_record};
 ghost use Rattle.tc_list.specs.Lookups.{HaveNone};
 ghost use Rattle.tc_part_model.specs.PartState.{told, AreTold};
-ghost use Rattle.tc_part_model.specs.PartView.{PartView, below_of, store_of, stored_with};
-ghost use Rattle.tc_part_model.specs.Meaning.{IsPart, HasFailed};
+ghost use Rattle.tc_part_model.specs.PartView.{PartView, below_of, stored_with};
+ghost use Rattle.tc_part_model.specs.Meaning.{IsPart, HasFailedAs};
 ghost use Rattle.tc_part.specs.Below.{IsBelow, ShowsLive, is_there as there, held_at, newest_held, sealed_held, is_document};
 ghost use Rattle.tc_part.specs.Harms.{IsHarmIn, IsOfRead};
 ghost use Rattle.tc_part.specs.Reads.{IsCountedLookup};
@@ -24,7 +24,7 @@ use tc_compact::document_of;
 use tc_list::loaded_components_show_contents;
 use tc_memory::Held;
 use tc_names::Names;
-use tc_part_model::failures_are_kept;
+use tc_part_model::failed_parts_keep_files;
 use tc_record::{RecordFault, RecordRef, one_document};
 use tc_store::Store;
 use tc_value::Doc;
@@ -47,13 +47,13 @@ impl<S: Store> Part<S> {
 
         // A part that fails keeps what it stored.
         ensures failed { OnErr result ((p : PartView) → IsPart (told S.history S.Device.history S.Frozen.content self.old) p
-            → HasFailed (told S.history S.Device.history S.Frozen.content self.new) p.part (store_of p) None) }
+            → HasFailedAs (told S.history S.Device.history S.Frozen.content self.new) p None) }
         ensures left { OnErr result (self.new ≡ record self.old { main = self.new.main; failed = true }) }
 
         ensures harmed { IfErr result (λ fault. IsOfRead fault (λ file at bytes. IsHarmIn (λ file. S.Frozen.content file) self.old.list file at bytes)) }
         ensures counted { IsCountedLookup (IsErrOf result PartFault.Disk) (HaveNone self.old.list key) (S.Watch.counts self.old.main) (S.Watch.counts self.new.main) }
     {
-        failures_are_kept();
+        failed_parts_keep_files();
         match self.document(alloc, key) {
             Ok(found) => Ok(found),
             Err(fault) => {

@@ -5,7 +5,7 @@ ghost use Rattle.tc_store.specs.declared.file_name.FileName.TheVariants.{Log as 
 ghost use Rattle.tc_store.specs.Counted.{IsCounted};
 ghost use Rattle.tc_part_model.specs.PartState.{told};
 ghost use Rattle.tc_part_model.specs.PartView.{PartView, store_of};
-ghost use Rattle.tc_part_model.specs.Meaning.{IsPart, HasFailed, Stands};
+ghost use Rattle.tc_part_model.specs.Meaning.{IsPart, HasFailedAs, Stands};
 ghost use Rattle.tc_part_model.specs.Changes.{sealed_part};
 ghost use Rattle.tc_part_model.specs.Leaving.{StoreMomentsLeaveStore, NextLogMoments};
 ghost use Rattle.tc_part.specs.Faults.{IsUndamaged};
@@ -39,7 +39,7 @@ impl<S: Store> Part<S> {
             → StoreMomentsLeaveStore p p (told S.history S.Device.history S.Frozen.content self.old) (S.history self.new.store) }
         ensures next_log { OnOk result ((p : PartView) → IsPart (told S.history S.Device.history S.Frozen.content self.old) p → NextLogMoments p (S.Device.history self.new.log.device)) }
         ensures failed { OnErr result ((p : PartView) → IsPart (told S.history S.Device.history S.Frozen.content self.old) p
-            → HasFailed (told S.history S.Device.history S.Frozen.content self.new) p.part (store_of p) None) }
+            → HasFailedAs (told S.history S.Device.history S.Frozen.content self.new) p None) }
         ensures left { OnErr result (self.new ≡ record self.old { store = self.new.store; main = self.new.main; sealed = self.new.sealed; active = self.new.active; failed = true }) }
 
         ensures spent { IsErrOf result PartFault.Spent ↔ self.old.generation + 1 ≡ 2 ^ 63 }

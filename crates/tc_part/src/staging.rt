@@ -10,8 +10,8 @@ ghost use Rattle.tc_machine.specs.Logs.{kept_write};
 ghost use Rattle.tc_machine.specs.Writes.{IsStorableWrite};
 ghost use Rattle.tc_list.specs.Lookups.{HaveNone};
 ghost use Rattle.tc_part_model.specs.PartState.{told, AreForFrame};
-ghost use Rattle.tc_part_model.specs.PartView.{PartView, store_of, stored_with};
-ghost use Rattle.tc_part_model.specs.Meaning.{IsPart, HasFailed, plain_of};
+ghost use Rattle.tc_part_model.specs.PartView.{PartView, stored_with};
+ghost use Rattle.tc_part_model.specs.Meaning.{IsPart, HasFailedAs, plain_of};
 ghost use Rattle.tc_part.specs.Below.{ShowsLive};
 ghost use Rattle.tc_part.specs.Harms.{IsHarmIn, IsOfRead};
 ghost use Rattle.tc_part.specs.Reads.{IsCountedLookup};
@@ -22,7 +22,7 @@ use crate::part::Part;
 use std::alloc::Global;
 use tc_bytes::Bytes;
 use tc_log::Write;
-use tc_part_model::{failures_are_kept, staged_is_kept};
+use tc_part_model::{failed_parts_keep_files, staged_is_kept};
 use tc_store::Store;
 
 /// What comes of a write: it is staged, where that changes anything, and its key had a document or not; or it is refused,
@@ -55,13 +55,13 @@ impl<S: Store> Part<S> {
 
         // A part that fails keeps what it stored.
         ensures failed { OnErr result ((p : PartView) → IsPart (told S.history S.Device.history S.Frozen.content self.old) p
-            → HasFailed (told S.history S.Device.history S.Frozen.content self.new) p.part (store_of p) None) }
+            → HasFailedAs (told S.history S.Device.history S.Frozen.content self.new) p None) }
         ensures left { OnErr result (self.new ≡ record self.old { main = self.new.main; active = self.new.active; staged = self.new.staged; taken = self.new.taken; live = self.new.live; failed = true }) }
 
         ensures harmed { IfErr result (λ fault. IsOfRead fault (λ file at bytes. IsHarmIn (λ file. S.Frozen.content file) self.old.list file at bytes)) }
         ensures counted { IsCountedLookup (IsErrOf result PartFault.Disk) (HaveNone self.old.list (key_of write)) (S.Watch.counts self.old.main) (S.Watch.counts self.new.main) }
     {
-        failures_are_kept();
+        failed_parts_keep_files();
         match self.stage_write(alloc, write) {
             Ok(staged) => Ok(staged),
             Err(fault) => {

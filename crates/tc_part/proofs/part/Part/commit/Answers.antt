@@ -13,6 +13,9 @@ returns-then-is_empty-clause-committed g c = λ p is.
     let none : c.args.self.now.staged ≡ [] = nil_from_length c.args.self.now.staged (rw (← c.self.view_is) grind (arith, common_steps)) in
     (subst (IsPart t) (sym (c.commits_are_kept.ensures.nothing t p is none)) is, c.commits_are_kept.ensures.stored p)
 
+pub returns-then-is_empty-clause-cleared : goal.returns-then-is_empty-clause-cleared
+returns-then-is_empty-clause-cleared g c = nil_from_length c.args.self.now.staged (rw (← c.self.view_is) grind (arith, common_steps))
+
 pub returns-then-is_empty-clause-moments : goal.returns-then-is_empty-clause-moments
 returns-then-is_empty-clause-moments g c = λ p is.
     c.commits_are_kept.ensures.no_moments (told g.S.Store.history g.S.Device.Device.history g.S.Frozen.Frozen.content c.args.self.now) p is
@@ -21,13 +24,13 @@ pub returns-then-count-self-clause-moments : goal.returns-then-count-self-clause
 returns-then-count-self-clause-moments g c = rw (← c.self.view_is) λ p is. c.commits_are_kept.ensures.no_moments _ p is
 
 pub returns-then-count-self-clause-failed : goal.returns-then-count-self-clause-failed
-returns-then-count-self-clause-failed g c = rw (← c.self.view_is) λ p is. c.commits_are_kept.ensures.not_begun _ _ p is refl refl refl refl
+returns-then-count-self-clause-failed g c = rw (← c.self.view_is) λ p is. c.commits_are_kept.ensures.not_begun_as _ _ p is refl refl refl refl
 
 pub returns-in_err-frame-clause-moments : goal.returns-in_err-frame-clause-moments
 returns-in_err-frame-clause-moments g c = rw (← c.self.view_is, c.reserve.ensures.same) λ p is. c.commits_are_kept.ensures.no_moments _ p is
 
 pub returns-in_err-frame-clause-failed : goal.returns-in_err-frame-clause-failed
-returns-in_err-frame-clause-failed g c = rw (← c.self.view_is, c.reserve.ensures.same) (err_always c.from_residual.result _ (λ p is. c.commits_are_kept.ensures.not_begun _ _ p is refl refl refl refl))
+returns-in_err-frame-clause-failed g c = rw (← c.self.view_is, c.reserve.ensures.same) (err_always c.from_residual.result _ (λ p is. c.commits_are_kept.ensures.not_begun_as _ _ p is refl refl refl refl))
 
 pub returns-in_err-append-clause-moments : goal.returns-in_err-append-clause-moments
 returns-in_err-append-clause-moments g c =
@@ -47,7 +50,7 @@ returns-in_err-append-clause-failed g c =
       moments = rw (← c.reserve.ensures.same, ← c.deref.ensures.value, ← c.in_ok-frame.ensures.frame) c.append.ensures.moments;
       after = rw (← c.reserve.ensures.same, ← c.deref.ensures.value, ← c.in_ok-frame.ensures.frame) c.append.ensures.after;
     } in
-    rw (← c.self.view_is) (err_always c.from_residual-in_err-append.result _ (λ p is. c.commits_are_kept.ensures.failed _ _ p is refl refl refl appends))
+    rw (← c.self.view_is) (err_always c.from_residual-in_err-append.result _ (λ p is. c.commits_are_kept.ensures.failed_as _ _ p is refl refl refl appends))
 
 pub returns-clause-committed : goal.returns-clause-committed
 returns-clause-committed g c =

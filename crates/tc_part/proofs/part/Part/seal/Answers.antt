@@ -18,13 +18,13 @@ pub returns-then-self-eq-MAX_NUMBER-clause-failed : goal.returns-then-self-eq-MA
 returns-then-self-eq-MAX_NUMBER-clause-failed g c =
     let none = ap (λ s. s.sealed) c.self.view_is ∙ c.requires.none_sealed in
     let nothing = ap (λ s. s.staged) c.self.view_is ∙ c.requires.nothing_staged in
-    rw (← c.self.view_is) λ p is. c.failed_seals_are_kept.ensures.not_made _ _ p is none nothing refl refl refl (inl refl)
+    rw (← c.self.view_is) λ p is. c.failed_seals_are_kept.ensures.not_made_as _ _ p is none nothing refl refl refl (inl refl)
 
 pub returns-in_err-new-clause-failed : goal.returns-in_err-new-clause-failed
 returns-in_err-new-clause-failed g c =
     let none = ap (λ s. s.sealed) c.self.view_is ∙ c.requires.none_sealed in
     let nothing = ap (λ s. s.staged) c.self.view_is ∙ c.requires.nothing_staged in
-    rw (← c.self.view_is) (err_always c.from_residual.result _ (λ p is. c.failed_seals_are_kept.ensures.not_made _ _ p is none nothing refl refl refl (inl refl)))
+    rw (← c.self.view_is) (err_always c.from_residual.result _ (λ p is. c.failed_seals_are_kept.ensures.not_made_as _ _ p is none nothing refl refl refl (inl refl)))
 
 pub fresh-requires : goal.fresh-requires
 fresh-requires g c =
@@ -37,7 +37,7 @@ returns-in_err-device-clause-failed g c =
     let none = ap (λ s. s.sealed) c.self.view_is ∙ c.requires.none_sealed in
     let nothing = ap (λ s. s.staged) c.self.view_is ∙ c.requires.nothing_staged in
     rw (← c.self.view_is)
-    (err_always c.from_residual-in_err-device.result _ (λ p is. c.failed_seals_are_kept.ensures.not_made _ _ p is none nothing refl refl refl c.in_err-device.ensures.failed))
+    (err_always c.from_residual-in_err-device.result _ (λ p is. c.failed_seals_are_kept.ensures.not_made_as _ _ p is none nothing refl refl refl c.in_err-device.ensures.failed))
 
 pub returns-in-Ok-clause-sealed : goal.returns-in-Ok-clause-sealed
 returns-in-Ok-clause-sealed g c =
@@ -93,5 +93,5 @@ returns-in-Err-clause-failed g c =
     let broken = g.S.Device.Device.history c.in-Err.broken.device in
     let named = c.in-Err.ensures.broken_name ∙ c.in_ok-device.ensures.name in
     rw (← c.self.view_is) λ p is.
-    c.failed_seals_are_kept.ensures.broken _ _ p device broken is none nothing c.in_ok-device.ensures.file lawful (creates head device broken c.in-Err.ensures.broken_moments c.in-Err.ensures.untold) refl refl refl
+    c.failed_seals_are_kept.ensures.broken_as _ _ p device broken is none nothing c.in_ok-device.ensures.file lawful (creates head device broken c.in-Err.ensures.broken_moments c.in-Err.ensures.untold) refl refl refl
     (rw (c.abandon.ensures.home, named, c.in_ok-device.ensures.made) refl)

@@ -1,0 +1,33 @@
+use Rattle.std.proofs.Common.{◌≡◌, ◌∙◌, None, sym, ap, subst}
+use Rattle.tc_store.specs.Disk.{home}
+use Rattle.tc_store.specs.Moments.{IfTold}
+use Rattle.tc_store.specs.StoreCalls.{comes_home}
+use Rattle.tc_lsm_model.specs.Lists.{live}
+use Rattle.tc_part_model.specs.Leaving.{KeepsStore}
+use Rattle.tc_part_model.specs.Meaning.{IsPart}
+use Rattle.tc_part_model.specs.PartState.{told}
+use Rattle.tc_part_model.specs.Starting.{started, started_part}
+use Rattle.tc_part.specs.Openings.{told_opening}
+use Rattle.tc_part.proofs.StagedWrites.{few_live}
+use Rattle.tc_part.proofs.StartedLogs.{named_first}
+use Rattle.tc_part.proofs.part.Part.start.Goals as goal
+
+pub returns-in-Ok-clause-started : goal.returns-in-Ok-clause-started
+returns-in-Ok-clause-started g c = λ list opened.
+    let from = c.args.opened in
+    let o = told_opening g.S.Store.history g.S.Device.Device.history g.S.Frozen.Frozen.content from.number from.count from.kit.store from.log.device from.list in
+    let is = c.parts_start.ensures.started o list opened in
+    let part = c.begun_with.result in
+    let same : told g.S.Store.history g.S.Device.Device.history g.S.Frozen.Frozen.content part ≡ started o =
+    ap (told g.S.Store.history g.S.Device.Device.history g.S.Frozen.Frozen.content) c.begun_with.ensures.begun
+    ∙ ap (λ names. record (started o) { taken = names; live = part.live }) c.in-Ok.ensures
+    ∙ ap (λ n. record (started o) { live = n }) (c.begun_with.ensures.counted (few_live (started o) (started_part o.part list) is)) in
+    subst (λ t. IsPart t (started_part o.part list)) (sym same) is
+
+pub returns-in-Err-clause-kept : goal.returns-in-Err-clause-kept
+returns-in-Err-clause-kept g c = λ list opened.
+    let from = c.args.opened in
+    let o = told_opening g.S.Store.history g.S.Device.Device.history g.S.Frozen.Frozen.content from.number from.count from.kit.store from.log.device from.list in
+    let named = c.requires.follows ∙ named_first o list (c.parts_start.ensures.started o list opened) in
+    let at_home = c.given_up.ensures.home ∙ ap (λ name. comes_home name (λ f. home f) o.log o.disks) named in
+    subst (λ disks. IfTold disks (KeepsStore o.part (live list) None)) (sym at_home) (c.parts_start.ensures.not_begun o list opened)

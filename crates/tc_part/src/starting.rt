@@ -1,0 +1,178 @@
+//! A partition begins with what was opened.
+
+ghost use Rattle.std.specs.Prelude.{◌≡◌, ◌<◌, ◌≤◌, ◌^◌, [], List, Some, None, false, length, All, IfOk, IfErr};
+ghost use Rattle.tc_store.specs.declared.file_name.FileName.TheVariants.{Log as log_name};
+ghost use Rattle.tc_store.specs.Disk.{home as at_home};
+ghost use Rattle.tc_store.specs.Moments.{IfTold};
+ghost use Rattle.tc_store.specs.StoreCalls.{comes_home};
+ghost use Rattle.tc_log.specs.Layout.{empty_size};
+ghost use Rattle.tc_lsm_model.specs.Contents.{Content};
+ghost use Rattle.tc_lsm_model.specs.Lists.{live as live_in};
+ghost use Rattle.tc_part_model.specs.Leaving.{KeepsStore};
+ghost use Rattle.tc_part_model.specs.Meaning.{IsPart};
+ghost use Rattle.tc_part_model.specs.Newest.{names_by, documents_by, next_by};
+ghost use Rattle.tc_part_model.specs.PartState.{told};
+ghost use Rattle.tc_part_model.specs.Starting.{IsOpened, started_part};
+ghost use Rattle.tc_part.specs.Openings.{IsOfPart, told_opening, newest_in};
+
+use crate::limits::Limits;
+use crate::part::Part;
+use crate::records::component_at;
+use std::alloc::Global;
+use tc_bytes::Memory;
+use tc_list::ComponentList;
+use tc_log::Log;
+use tc_memory::Memtable;
+use tc_names::Names;
+use tc_part_model::parts_start;
+use tc_store::{Frozen, Kit, Store};
+
+/// What a partition begins with: its store with the watches, its number and how many partitions there are, what it takes, its
+/// components, and the log behind them, which has no frame.
+#[derive(Drop)]
+pub struct Opened<S: Store> {
+    pub kit: Kit<S>,
+    pub number: u32,
+    pub count: u32,
+    pub limits: Limits,
+    pub list: ComponentList<S::Frozen>,
+    pub log: Log<S::Device>,
+}
+
+impl<S: Store> Part<S> {
+    /// A partition with what was opened. It has no write, and no job of it is out. For want of memory the kit is given back,
+    /// and the device of the log is at home in its store.
+    pub fn start(alloc: Global, opened: Opened<S>) -> Result<Part<S>, Kit<S>>
+        requires sound { opened.log.failed ≡ false }
+        requires empty { S.Device.size opened.log.device ≡ empty_size }
+        requires follows { S.Device.name opened.log.device ≡ log_name (next_by (newest_in S.Frozen.content opened.list)) }
+        requires last { next_by (newest_in S.Frozen.content opened.list) < 2 ^ 63 }
+        requires few { length opened.list ≤ 8 }
+        requires alike { All (IsOfPart opened.number opened.count) opened.list }
+
+        // It is the part that is opened, where what is handed in makes up one.
+        ensures started { (list : List Content) → IsOpened (told_opening S.history S.Device.history S.Frozen.content opened.number opened.count opened.kit.store opened.log.device opened.list) list
+            → IfOk result (λ part. IsPart (told S.history S.Device.history S.Frozen.content part) (started_part (record { number = opened.number; count = opened.count }) list)) }
+
+        // Over every store nothing is in its tables, nothing is staged, and the newest component tells names and documents.
+        ensures begun { IfOk result (λ part. part ≡ record { number = opened.number; count = opened.count; limits = record { names = opened.limits.names; docs = opened.limits.docs }; memory = opened.limits.memory; store = opened.kit.store; main = opened.kit.main; flusher = Some opened.kit.flusher; merger = Some opened.kit.merger; reader = Some opened.kit.reader; list = opened.list; sealed = None; sealed_log = None; active = []; log = opened.log; generation = next_by (newest_in S.Frozen.content opened.list); staged = []; taken = names_by (newest_in S.Frozen.content opened.list); live = part.live; writes = 0; flushing = false; merging = None; failed = false }) }
+        ensures counted { IfOk result (λ part. documents_by (newest_in S.Frozen.content opened.list) < 2 ^ 32 → part.live ≡ documents_by (newest_in S.Frozen.content opened.list)) }
+
+        // Whatever a stop leaves of the store that is given back is what is live in the components.
+        ensures kept { (list : List Content) → IsOpened (told_opening S.history S.Device.history S.Frozen.content opened.number opened.count opened.kit.store opened.log.device opened.list) list
+            → IfErr result (λ kit. IfTold (S.history kit.store) (KeepsStore (record { number = opened.number; count = opened.count }) (live_in list) None)) }
+        ensures given_back { IfErr result (λ kit. kit ≡ record opened.kit { store = kit.store }) }
+        ensures home { IfErr result (λ kit. S.history kit.store ≡ comes_home (S.Device.name opened.log.device) (λ f. at_home f) (S.Device.history opened.log.device) (S.history opened.kit.store)) }
+    {
+        parts_start();
+        match names_of(alloc, &opened.list) {
+            Ok(taken) => Ok(begun_with(alloc, opened, taken)),
+            Err(_) => Err(given_up(opened)),
+        }
+    }
+}
+
+/// The partition with the names that are taken.
+fn begun_with<S: Store>(alloc: Global, opened: Opened<S>, taken: Names) -> Part<S>
+    requires sound { opened.log.failed ≡ false }
+    requires follows { S.Device.name opened.log.device ≡ log_name (next_by (newest_in S.Frozen.content opened.list)) }
+    requires last { next_by (newest_in S.Frozen.content opened.list) < 2 ^ 63 }
+    ensures begun { result ≡ record { number = opened.number; count = opened.count; limits = record { names = opened.limits.names; docs = opened.limits.docs }; memory = opened.limits.memory; store = opened.kit.store; main = opened.kit.main; flusher = Some opened.kit.flusher; merger = Some opened.kit.merger; reader = Some opened.kit.reader; list = opened.list; sealed = None; sealed_log = None; active = []; log = opened.log; generation = next_by (newest_in S.Frozen.content opened.list); staged = []; taken = taken; live = result.live; writes = 0; flushing = false; merging = None; failed = false } }
+    ensures counted { documents_by (newest_in S.Frozen.content opened.list) < 2 ^ 32 → result.live ≡ documents_by (newest_in S.Frozen.content opened.list) }
+{
+    let Opened {
+        kit,
+        number,
+        count,
+        limits,
+        list,
+        log,
+    } = opened;
+    let Kit {
+        store,
+        main,
+        flusher,
+        merger,
+        reader,
+    } = kit;
+    let live = at_most(documents_in(&list));
+    let generation = generation_behind(&list);
+    Part {
+        number,
+        count,
+        limits,
+        store,
+        main,
+        flusher: Some(flusher),
+        merger: Some(merger),
+        reader,
+        list,
+        sealed: None,
+        sealed_log: None,
+        active: Memtable::new(alloc),
+        log,
+        generation,
+        staged: Vec::new(alloc),
+        taken,
+        live,
+        writes: 0,
+        merging: None,
+        failed: false,
+    }
+}
+
+/// The kit, once the device of the log is at home.
+fn given_up<S: Store>(opened: Opened<S>) -> Kit<S>
+    ensures kit { result ≡ record opened.kit { store = result.store } }
+    ensures home { S.history result.store ≡ comes_home (S.Device.name opened.log.device) (λ f. at_home f) (S.Device.history opened.log.device) (S.history opened.kit.store) }
+{
+    let Opened { kit, log, .. } = opened;
+    let mut kit = kit;
+    kit.store.abandon(log.give_back());
+    kit
+}
+
+/// The names of the newest component. Errs only for want of memory.
+fn names_of<F: Frozen>(alloc: Global, list: &ComponentList<F>) -> Result<Names, Memory>
+    ensures { IfOk result (λ names. names ≡ names_by (newest_in F.content list.now)) }
+{
+    let count = list.len();
+    if count == 0 {
+        return Ok(Names::new(alloc));
+    }
+    component_at(list, count - 1).names().copy()
+}
+
+/// How many documents the newest component counts.
+fn documents_in<F: Frozen>(list: &ComponentList<F>) -> u64
+    ensures { result ≡ documents_by (newest_in F.content list.now) }
+{
+    let count = list.len();
+    if count == 0 {
+        return 0;
+    }
+    component_at(list, count - 1).schema().documents()
+}
+
+/// The generation behind that of the newest component.
+fn generation_behind<F: Frozen>(list: &ComponentList<F>) -> u64
+    requires { next_by (newest_in F.content list.now) < 2 ^ 63 }
+    ensures { result ≡ next_by (newest_in F.content list.now) }
+{
+    let count = list.len();
+    if count == 0 {
+        return 1;
+    }
+    component_at(list, count - 1).head().to + 1
+}
+
+/// So many, or the most that are counted.
+fn at_most(documents: u64) -> u32
+    ensures { documents < 2 ^ 32 → result ≡ documents }
+{
+    if documents < u64::from(u32::MAX) {
+        documents as u32
+    } else {
+        u32::MAX
+    }
+}
