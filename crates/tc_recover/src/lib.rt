@@ -1,4 +1,6 @@
-//! Layer 5, opening: what the files that a stop left of a partition are taken for.
+//! Layer 5, opening: what the files that a stop left of a partition are taken for. All are taken and their headers judged,
+//! the components that count are chosen, and the logs above them read; the loading of those components, and all that is
+//! written, is to come.
 #![tactic(auto)]
 
 mod cause;
