@@ -1,5 +1,5 @@
 -- What is refused of the files of a partition, by their names and bytes.
-use Rattle.std.specs.Prelude.{◌≡◌, ℕ, List, [], ◌∷◌, Option, None, Some, Result, Ok, Err, if◌then◌else◌, ◌==◌, ◌&&◌}
+use Rattle.std.specs.Prelude.{◌≡◌, Contains, length, true, ℕ, List, [], ◌∷◌, Option, None, Some, Result, Ok, Err, if◌then◌else◌, ◌==◌, ◌&&◌}
 use Rattle.std.specs.Option.{option_or}
 use Rattle.tc_store.specs.declared.file_name.FileName.{FileName}
 use Rattle.tc_store.specs.declared.file_name.FileName.TheVariants.{Component, Log}
@@ -11,6 +11,7 @@ use Rattle.tc_lsm_model.specs.Contents.{Partition}
 use Rattle.tc_component.specs.Reading as component
 use Rattle.tc_log.specs.Reading as log
 use Rattle.tc_recover.specs.declared.cause.OpenCause.{OpenCause}
+use Rattle.tc_recover.specs.declared.taken.Taken.{Taken}
 use Rattle.tc_recover.specs.declared.heads.Partition.{Partition as Asked}
 use Rattle.tc_recover.specs.declared.cause.OpenCause.TheVariants.{Disk, Damaged, Layout, Memory}
 
@@ -60,3 +61,23 @@ Refuses (Err (Damaged (Bytes file place bytes))) refused = refused ≡ Some (bre
 Refuses (Err (Damaged (Files names))) refused = refused ≡ Some (clashes names)
 Refuses (Err (Layout found found_of)) refused = refused ≡ Some (strays found found_of)
 Refuses (Err Memory) refused = Unit {0}
+
+-- ---- causes, also of files that tell nothing
+
+-- bytes that are no header of an open file of this name: those at the place in some whole of its length
+pub record BreaksHead {F W : Type 0} (size : F → ℕ) (part : Partition) (files : List (Taken F W)) (name : FileName) (place : ℕ) (bytes : List ℕ) : Type 0 where
+  pub file : Taken F W
+  pub there : Contains files file
+  pub is_open : file.open ≡ true
+  pub named : file.name ≡ name
+  pub whole : List ℕ
+  pub sized : length whole ≡ size file.file
+  pub refused : head_refused part name whole ≡ Some (breaks name (judging.damage place bytes))
+
+-- bytes of one of these files, or numbers that are others
+abbrev pub IsHeadCause : {F W : Type 0} → (F → ℕ) → Partition → List (Taken F W) → OpenCause → Type 0
+IsHeadCause size part files Disk = Unit {0}
+IsHeadCause size part files (Damaged (Bytes name place bytes)) = BreaksHead size part files name place bytes
+IsHeadCause size part files (Damaged (Files names)) = ⊥
+IsHeadCause size part files (Layout found found_of) = stray part found found_of ≡ Some (strays found found_of)
+IsHeadCause size part files Memory = Unit {0}

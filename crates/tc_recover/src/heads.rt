@@ -1,10 +1,11 @@
 //! The headers of the open files of a partition.
 
-ghost use Rattle.std.specs.Prelude.{◌≡◌, length, filter, IfSome, OnOk, IsErrOf};
+ghost use Rattle.std.specs.Prelude.{◌≡◌, [], ◌∷◌, true, length, filter, IfErr, IfSome, OnOk, IsErrOf};
 ghost use Rattle.std.specs.Result.{IsOk};
+ghost use Rattle.tc_recover.specs.declared.cause.OpenCause.TheVariants.{Layout};
 ghost use Rattle.tc_recover.specs.Files.{picture_in, AreTold, AreGates, IsLawfulName, AreLawful};
 ghost use Rattle.tc_recover.specs.Reads.{IsCountedTimes};
-ghost use Rattle.tc_recover.specs.Refusals.{Refuses, asked, head_refused, heads_refused, stray};
+ghost use Rattle.tc_recover.specs.Refusals.{Refuses, IsHeadCause, asked, head_refused, heads_refused, stray};
 
 use crate::cause::{OpenCause, of_read};
 use crate::taken::Taken;
@@ -31,6 +32,7 @@ pub fn judge_heads<F: Frozen>(
 ) -> Result<(), OpenCause>
     requires gates { AreGates F.content files.now }
     ensures judged { AreTold F.content files.now → Refuses result (heads_refused (asked part) (picture_in F.content files.now)) }
+    ensures causes { IfErr result (IsHeadCause F.size (asked part) files.now) }
     ensures lawful { OnOk result (AreLawful files.now) }
     ensures counted { IsCountedTimes (IsErrOf result OpenCause.Disk) (IsOk result) (length (filter (λ t. t.open) files.now)) (F.Watch.counts watch.old) (F.Watch.counts watch.new) }
 {
@@ -51,7 +53,9 @@ fn judge_head<F: Frozen>(
     file: &Taken<F>,
     watch: &mut F::Watch,
 ) -> Result<(), OpenCause>
+    requires { file.now.open ≡ true }
     ensures judged { IfSome (F.content file.now.file) (λ bytes. Refuses result (head_refused (asked part) file.now.name bytes)) }
+    ensures causes { IfErr result (IsHeadCause F.size (asked part) (file.now ∷ [])) }
     ensures lawful { OnOk result (IsLawfulName file.now.name) }
     ensures counted { IsCountedTimes (IsErrOf result OpenCause.Disk) (IsOk result) 1 (F.Watch.counts watch.old) (F.Watch.counts watch.new) }
 {
@@ -74,6 +78,7 @@ fn judge_head<F: Frozen>(
 
 fn judge_numbers(part: Partition, number: u32, count: u32) -> Result<(), OpenCause>
     ensures judged { Refuses result (stray (asked part) number count) }
+    ensures numbers { IfErr result (λ cause. cause ≡ Layout number count) }
     ensures no_disk { IsErrOf result OpenCause.Disk → ⊥ }
 {
     if number == part.number && count == part.count {

@@ -2,8 +2,10 @@ use Rattle.std.proofs.Common.{◌∙◌, Err, ap, sym, subst, refl}
 use Rattle.std.proofs.lemmas.List.{nil_from_length}
 use Rattle.std.proofs.lemmas.Result.{err_from_is_err_and}
 use Rattle.tc_recover.specs.Files.{picture_in}
-use Rattle.tc_recover.specs.Refusals.{asked, heads_refused, Refuses}
-use Rattle.tc_recover.proofs.HeadSteps.{heads_begin, head_skipped, head_read, head_refuses, heads_counted}
+use Rattle.tc_recover.specs.Refusals.{asked, heads_refused, Refuses, IsHeadCause}
+use Rattle.tc_recover.proofs.HeadSteps.{heads_begin, head_skipped, head_read, head_refuses, heads_counted, cause_of_all}
+use Rattle.tc_recover.proofs.Members.{member_first}
+use Rattle.std.specs.Prelude.{Contains, IfErr}
 use Rattle.tc_recover.proofs.heads.judge_heads.Goals as goal
 
 pub loop-file-init : goal.loop-file-init
@@ -31,3 +33,12 @@ returns-clause-counted g c = record {
   cause = λ failed. absurd (cc);
   done = λ is. heads_counted _ (asked c.args.part) c.args.files.now c.loop-file.rest.now _ _ c.loop-file.invariant (nil_from_length c.loop-file.rest.now c.in_default.ensures.cases);
 }
+
+pub returns-in_err-judge_head-clause-causes : goal.returns-in_err-judge_head-clause-causes
+returns-in_err-judge_head-clause-causes g c =
+    let p = err_from_is_err_and c.from_residual.result c.from_residual.ensures.1 in
+    let size = g.F.Frozen.size in
+    let file = c.in-Some.file.now in
+    let member = subst (λ left. Contains left file) (sym c.in-Some.ensures.cases.0) (member_first file c.in-Some.behind.now) in
+    subst (λ r. IfErr r (IsHeadCause (λ f. size f) (asked c.args.part) c.args.files.now)) (sym (p.1 ∙ ap Err p.2))
+    (cause_of_all _ (asked c.args.part) c.args.files.now file c.in_err-judge_head.field-0.0 (c.loop-file.invariant.among file member) c.in_err-judge_head.ensures.causes)

@@ -1,4 +1,4 @@
-use Rattle.std.proofs.Common.{◌∙◌, Vec, Global, Err, List, [], ap, sym, subst, refl}
+use Rattle.std.proofs.Common.{◌≡◌, ◌∙◌, true, false, Vec, Global, Err, List, [], ap, sym, subst, refl}
 use Rattle.std.proofs.lemmas.List.{nil_from_length}
 use Rattle.std.proofs.lemmas.Result.{err_from_is_err_and}
 use Rattle.tc_log.specs.declared.write.Write.{Write}
@@ -10,16 +10,16 @@ use Rattle.tc_recover.proofs.logs.read_logs.Goals as goal
 
 pub read_log-requires-after_bounds : goal.read_log-requires-after_bounds
 read_log-requires-after_bounds g c = λ _ _.
-    next_open _ c.args.last c.args.files.now c.loop-file.rest.now c.in-Some.behind.now c.in-Some.file.now _ _ _ c.loop-file.invariant c.in-Some.ensures.cases.0 (sym c.is_log.ensures ∙ c.if-is_log.true)
+    next_open _ c.args.last c.args.files.now c.loop-file.rest.now c.in-Some.behind.now c.in-Some.file.now _ _ _ c.loop-file.invariant c.in-Some.ensures.cases.0 (subst (λ is. is ≡ true) c.is_log.ensures c.if-is_log.true)
 
 pub loop-file-preserved : goal.loop-file-preserved
 loop-file-preserved g c =
-    log_skipped _ c.args.last c.args.files.now c.loop-file.rest.now c.in-Some.behind.now c.in-Some.file.now _ _ _ c.loop-file.invariant c.in-Some.ensures.cases.0 (sym c.is_log.ensures ∙ c.if-is_log.false)
+    log_skipped _ c.args.last c.args.files.now c.loop-file.rest.now c.in-Some.behind.now c.in-Some.file.now _ _ _ c.loop-file.invariant c.in-Some.ensures.cases.0 (subst (λ is. is ≡ false) c.is_log.ensures c.if-is_log.false)
 
 pub loop-file-preserved-in_ok-push : goal.loop-file-preserved-in_ok-push
 loop-file-preserved-in_ok-push g c =
     log_read _ c.args.last c.args.files.now c.loop-file.rest.now c.in-Some.behind.now c.in-Some.file.now c.loop-file.all.items c.push.new.self.items c.in_ok-writes.writes _ _ _ c.loop-file.invariant c.in-Some.ensures.cases.0
-    (sym c.is_log.ensures ∙ c.if-is_log.true) c.in_ok-push.ensures.items c.in_ok-writes.ensures.judged c.in_ok-writes.ensures.lawful c.in_ok-writes.ensures.counted.faults (c.in_ok-writes.ensures.counted.done refl)
+    (subst (λ is. is ≡ true) c.is_log.ensures c.if-is_log.true) c.in_ok-push.ensures.items c.in_ok-writes.ensures.judged c.in_ok-writes.ensures.lawful c.in_ok-writes.ensures.counted.faults (c.in_ok-writes.ensures.counted.done refl)
 
 pub returns-in_err-writes-clause-judged : goal.returns-in_err-writes-clause-judged
 returns-in_err-writes-clause-judged g c = λ told.
@@ -28,7 +28,7 @@ returns-in_err-writes-clause-judged g c = λ told.
     let view : Vec Writes Global → List (List Write) = λ writes. writes.items in
     subst (λ r. Answers view r (logs_judged c.args.last [] (picture_in (λ file. content file) c.args.files.now))) (sym (p.1 ∙ ap Err p.2))
     (log_refused (Vec Writes Global) view _ c.args.last c.args.files.now c.loop-file.rest.now c.in-Some.behind.now c.in-Some.file.now _ _ _ c.in_err-writes.field-0.0 c.loop-file.invariant c.in-Some.ensures.cases.0
-    (sym c.is_log.ensures ∙ c.if-is_log.true) c.in_err-writes.ensures.judged told)
+    (subst (λ is. is ≡ true) c.is_log.ensures c.if-is_log.true) c.in_err-writes.ensures.judged told)
 
 pub returns-in_err-push-clause-counted : goal.returns-in_err-push-clause-counted
 returns-in_err-push-clause-counted g c = counted_memory c.from_residual-in_err-push.result _ _ (g.F.Watch.Watch.counts c.loop-file.watch) _ c.from_residual-in_err-push.ensures.1 c.loop-file.invariant.faults c.in_ok-writes.ensures.counted.faults
