@@ -14,7 +14,7 @@ use Rattle.tc_recover.specs.declared.cause.OpenCause.TheVariants.{Disk, Damaged,
 use Rattle.tc_recover.specs.declared.taken.Taken.{Taken}
 use Rattle.tc_recover.specs.Files.{entry_in, picture_in, AreTold, AreGates, IsLawfulName, AreLawful}
 use Rattle.tc_recover.specs.Reads.{count_after}
-use Rattle.tc_recover.specs.Refusals.{Refusal, head_refused, file_refused, heads_refused, stray, Refuses, BreaksHead, IsHeadCause}
+use Rattle.tc_recover.specs.Refusals.{Refusal, head_refused, file_refused, heads_refused, Refuses, IsHeadCause}
 use Rattle.tc_recover.specs.Causes.{IsOfRead}
 use Rattle.tc_recover.proofs.Members.{member_cases, member_first, member_further, no_member}
 use Rattle.tc_store.specs.declared.file_name.FileName.TheVariants.{Component, Log}

@@ -1,13 +1,13 @@
 -- Logs are read one after the other.
 use Rattle.std.proofs.Common.{◌≡◌, ◌≤◌, ℕ, Bool, cond, filter, List, [], ◌∷◌, ◌++◌, length, refl, sym, subst, ap, arith}
-use Rattle.std.specs.Prelude.{◌&&◌, false, if◌then◌else◌, Option, Some, None, unwrap_or, All, IsSome, IfSome, true, Result, Ok, Err}
+use Rattle.std.specs.Prelude.{Contains, ◌&&◌, false, if◌then◌else◌, Option, Some, None, unwrap_or, All, IsSome, IfSome, true, Result, Ok, Err}
 use Rattle.std.specs.List.{AllByRecursion}
 use Rattle.std.specs.Result.{IsErrAnd, IsErrOf, IsOk}
 use Rattle.std.proofs.lemmas.List.Elements.{All-push}
 use Rattle.tc_store.specs.declared.file_name.FileName.{FileName}
 use Rattle.tc_store.specs.declared.damage.Damage.TheVariants.{Bytes, Files}
 use Rattle.tc_store.specs.Counted.{Counts}
-use Rattle.tc_store.specs.Judging.{Damage}
+use Rattle.tc_store.specs.Judging.{Damage, damage, IfDamaged}
 use Rattle.tc_store.specs.Gate.{is_open_file}
 use Rattle.tc_log.specs.declared.head.LogHead.{LogHead}
 use Rattle.tc_log.specs.declared.write.Write.{Write}
@@ -17,7 +17,11 @@ use Rattle.tc_recover.specs.declared.cause.OpenCause.{OpenCause}
 use Rattle.tc_recover.specs.declared.cause.OpenCause.TheVariants.{Disk, Damaged, Layout, Memory}
 use Rattle.tc_recover.specs.declared.taken.Taken.{Taken}
 use Rattle.tc_recover.specs.Files.{picture_in, AreTold, AreGates}
-use Rattle.tc_recover.specs.Loads.{file_then, is_above, is_log, logs_judged, Answers, same_writes}
+use Rattle.tc_recover.specs.Loads.{file_then, is_above, is_log, logs_judged, Answers, IsLogDamage, IsLogCause, same_writes}
+use Rattle.tc_recover.specs.Causes.{IsOfRead}
+use Rattle.tc_recover.proofs.Members.{member_further}
+use Rattle.tc_store.specs.declared.damage.ReadFault.{ReadFault}
+use Rattle.tc_store.specs.declared.damage.ReadFault.TheVariants.{Disk as unread, Damaged as broken, Memory as no_memory}
 use Rattle.tc_recover.specs.Reads.{count_after, IsCountedTimes}
 use Rattle.tc_recover.specs.Refusals.{Refusal}
 use Rattle.tc_recover.proofs.HeadSteps.{count_moves, gate_first, gates_behind, told_first, told_behind, told_holds}
@@ -27,6 +31,7 @@ pub record AreLogsLeft {F W : Type 0} (tells : F → Option (List ℕ)) (last : 
   pub gates : AreGates tells rest
   pub told : AreTold tells all → AreTold tells rest
   pub judged : AreTold tells all → logs_judged last [] (picture_in tells all) ≡ logs_judged last done (picture_in tells rest)
+  pub among : (t : Taken F W) → Contains rest t → Contains all t
   pub lawful : All (AllByRecursion IsWrite) done
   pub faults : before.faults ≤ now.faults
   pub reads : count_after (length (filter (is_log last) rest)) now.reads ≡ count_after (length (filter (is_log last) all)) before.reads
@@ -64,6 +69,7 @@ log_skipped tells last all rest ts t done before now p rests other = left (subst
           let no : is_open_file (unwrap_or (tells t.file) []) && is_above last t.name ≡ false = cc in
           subst (λ (is : Bool). logs_judged last [] (picture_in tells all) ≡ (if is then file_then t.name (log_judged (unwrap_or (tells t.file) [])) (λ read. logs_judged last (done ++ read.1 ∷ []) (picture_in tells ts)) else logs_judged last done (picture_in tells ts)))
           no (q.judged told);
+      among = λ u member. q.among u (member_further t ts u member);
       lawful = q.lawful;
       faults = q.faults;
       reads = subst (λ is. count_after (length (cond is (t ∷ filter (is_log last) ts) (filter (is_log last) ts))) now.reads ≡ count_after (length (filter (is_log last) all)) before.reads) other q.reads;
@@ -93,6 +99,7 @@ log_read tells last all rest ts t done more writes before now after p rests this
           let was = subst (λ (is : Bool). logs_judged last [] (picture_in tells all) ≡ (if is then file_then t.name (log_judged (unwrap_or (tells t.file) [])) (λ read. logs_judged last (done ++ read.1 ∷ []) (picture_in tells ts)) else logs_judged last done (picture_in tells ts)))
           yes (q.judged told) in
           subst (λ r. logs_judged last [] (picture_in tells all) ≡ r) next was;
+      among = λ u member. q.among u (member_further t ts u member);
       lawful = All-push (AllByRecursion IsWrite) done writes q.lawful lawful;
       faults = omega (arith, q.faults, risen);
       reads =
@@ -143,3 +150,17 @@ pub logs_counted : {F W : Type 0} (tells : F → Option (List ℕ)) (last : ℕ)
     → now.reads ≡ count_after (length (filter (is_log last) all)) before.reads
 logs_counted tells last all rest done before now p nothing =
     subst (λ left. count_after (length (filter (is_log last) left)) now.reads ≡ count_after (length (filter (is_log last) all)) before.reads) nothing p.reads
+
+pub log_damage : {X F W : Type 0} (size : F → ℕ) (t : Taken F W) (judged : Result X ReadFault) (fault : ReadFault) (cause : OpenCause) → IsOfRead t.name fault cause
+    → IfDamaged judged (λ place bytes. (whole : List ℕ) × (length whole ≡ size t.file) × (log_judged whole ≡ Err (damage place bytes))) → judged ≡ Err fault → IsLogDamage size t cause
+log_damage size t (Ok x) fault cause of_read damaged was = absurd (cc)
+log_damage size t (Err unread) fault cause of_read damaged was = subst (IsLogDamage size t) (sym (let same : fault ≡ unread = cc in subst (λ f. IsOfRead t.name f cause) same of_read)) tt
+log_damage size t (Err (broken place bytes)) fault cause of_read damaged was =
+    subst (IsLogDamage size t) (sym (let same : fault ≡ broken place bytes = cc in subst (λ f. IsOfRead t.name f cause) same of_read)) (refl, damaged)
+log_damage size t (Err no_memory) fault cause of_read damaged was = subst (IsLogDamage size t) (sym (let same : fault ≡ no_memory = cc in subst (λ f. IsOfRead t.name f cause) same of_read)) tt
+
+pub damage_of_all : {F W : Type 0} (size : F → ℕ) (last : ℕ) (all : List (Taken F W)) (t : Taken F W) (cause : OpenCause) → Contains all t → is_log last t ≡ true → IsLogDamage size t cause → IsLogCause size last all cause
+damage_of_all size last all t Disk member this is = tt
+damage_of_all size last all t (Damaged damage) member this is = (t, member, this, is)
+damage_of_all size last all t (Layout found found_of) member this is = is
+damage_of_all size last all t Memory member this is = tt

@@ -1,5 +1,5 @@
 -- What is read of the files that count, or the first refusal.
-use Rattle.std.specs.Prelude.{◌≡◌, ◌&&◌, ℕ, nat_lt, Bool, false, if◌then◌else◌, List, [], ◌∷◌, ◌++◌, Result, Ok, Err}
+use Rattle.std.specs.Prelude.{◌≡◌, Contains, length, true, ◌&&◌, ℕ, nat_lt, Bool, false, if◌then◌else◌, List, [], ◌∷◌, ◌++◌, Result, Ok, Err}
 use Rattle.tc_store.specs.declared.file_name.FileName.{FileName}
 use Rattle.tc_store.specs.declared.file_name.FileName.TheVariants.{Component, Log}
 use Rattle.tc_store.specs.declared.damage.Damage.TheVariants.{Bytes, Files}
@@ -45,3 +45,20 @@ Answers view (Err Memory) judged = Unit {0}
 -- the writes of a log
 abbrev pub same_writes : List Write → List Write
 same_writes writes = writes
+
+-- ---- causes, also of files that tell nothing
+
+-- bytes that break the rules of a log: those at the place in some whole of its length
+abbrev pub IsLogDamage : {F W : Type 0} → (F → ℕ) → Taken F W → OpenCause → Type 0
+IsLogDamage size t Disk = Unit {0}
+IsLogDamage size t (Damaged (Bytes name place bytes)) = (t.name ≡ name) × ((whole : List ℕ) × (length whole ≡ size t.file) × (log_judged whole ≡ Err (judging.damage place bytes)))
+IsLogDamage size t (Damaged (Files names)) = ⊥
+IsLogDamage size t (Layout found found_of) = ⊥
+IsLogDamage size t Memory = Unit {0}
+
+-- of one of the open logs above a generation
+abbrev pub IsLogCause : {F W : Type 0} → (F → ℕ) → ℕ → List (Taken F W) → OpenCause → Type 0
+IsLogCause size last files Disk = Unit {0}
+IsLogCause {F = F} {W = W} size last files (Damaged damage) = (t : Taken F W) × Contains files t × (is_log last t ≡ true) × IsLogDamage size t (Damaged damage)
+IsLogCause size last files (Layout found found_of) = ⊥
+IsLogCause size last files Memory = Unit {0}

@@ -1,13 +1,13 @@
 //! The logs above the components.
 
-ghost use Rattle.std.specs.Prelude.{◌≡◌, [], true, Ok, length, filter, All, IfOk, IfSome, IsErrOf};
+ghost use Rattle.std.specs.Prelude.{◌≡◌, [], true, Ok, length, filter, All, IfErr, IfOk, IfSome, IsErrOf};
 ghost use Rattle.std.specs.List.{AllByRecursion};
 ghost use Rattle.std.specs.Result.{IsOk};
 ghost use Rattle.tc_store.specs.Gate.{is_open_file};
 ghost use Rattle.tc_log.specs.Reading.{log_judged};
 ghost use Rattle.tc_log.specs.Writes.{IsWrite};
 ghost use Rattle.tc_recover.specs.Files.{picture_in, AreTold, AreGates};
-ghost use Rattle.tc_recover.specs.Loads.{file_then, is_log as of_log, logs_judged, Answers, same_writes};
+ghost use Rattle.tc_recover.specs.Loads.{file_then, is_log as of_log, logs_judged, Answers, IsLogCause, IsLogDamage, same_writes};
 ghost use Rattle.tc_recover.specs.Reads.{IsCountedTimes};
 
 use crate::cause::{OpenCause, of_read};
@@ -27,6 +27,7 @@ pub fn read_logs<F: Frozen>(
 ) -> Result<Vec<Writes>, OpenCause>
     requires gates { AreGates F.content files.now }
     ensures judged { AreTold F.content files.now → Answers (λ writes. writes.items) result (logs_judged last [] (picture_in F.content files.now)) }
+    ensures causes { IfErr result (IsLogCause F.size last files.now) }
     ensures lawful { IfOk result (λ writes. All (AllByRecursion IsWrite) writes.items) }
     ensures counted { IsCountedTimes (IsErrOf result OpenCause.Disk) (IsOk result) (length (filter (of_log last) files.now)) (F.Watch.counts watch.old) (F.Watch.counts watch.new) }
 {
@@ -60,6 +61,7 @@ fn read_log<F: Frozen>(
 ) -> Result<Writes, OpenCause>
     requires { IfSome (F.content log.now.file) (λ bytes. is_open_file bytes ≡ true) }
     ensures judged { IfSome (F.content log.now.file) (λ bytes. Answers same_writes result (file_then log.now.name (log_judged bytes) (λ read. Ok read.1))) }
+    ensures causes { IfErr result (IsLogDamage F.size log.now) }
     ensures lawful { IfOk result (AllByRecursion IsWrite) }
     ensures counted { IsCountedTimes (IsErrOf result OpenCause.Disk) (IsOk result) 1 (F.Watch.counts watch.old) (F.Watch.counts watch.new) }
 {

@@ -4,8 +4,10 @@ use Rattle.std.proofs.lemmas.Result.{err_from_is_err_and}
 use Rattle.tc_log.specs.declared.write.Write.{Write}
 use Rattle.tc_log.specs.declared.write.Writes.{Writes}
 use Rattle.tc_recover.specs.Files.{picture_in}
-use Rattle.tc_recover.specs.Loads.{logs_judged, Answers}
-use Rattle.tc_recover.proofs.LogSteps.{next_open, log_skipped, log_read, log_refused, counted_memory, logs_counted}
+use Rattle.tc_recover.specs.Loads.{logs_judged, Answers, IsLogCause}
+use Rattle.std.specs.Prelude.{Contains, IfErr}
+use Rattle.tc_recover.proofs.Members.{member_first}
+use Rattle.tc_recover.proofs.LogSteps.{next_open, log_skipped, log_read, log_refused, counted_memory, logs_counted, damage_of_all}
 use Rattle.tc_recover.proofs.logs.read_logs.Goals as goal
 
 pub read_log-requires-after_bounds : goal.read_log-requires-after_bounds
@@ -39,3 +41,12 @@ returns-clause-counted g c = record {
   cause = λ failed. absurd (cc);
   done = λ done. logs_counted _ c.args.last c.args.files.now c.loop-file.rest.now _ _ _ c.loop-file.invariant (nil_from_length c.loop-file.rest.now c.in_default.ensures.cases);
 }
+
+pub returns-in_err-writes-clause-causes : goal.returns-in_err-writes-clause-causes
+returns-in_err-writes-clause-causes g c =
+    let p = err_from_is_err_and c.from_residual.result c.from_residual.ensures.1 in
+    let size = g.F.Frozen.size in
+    let file = c.in-Some.file.now in
+    let member = subst (λ left. Contains left file) (sym c.in-Some.ensures.cases.0) (member_first file c.in-Some.behind.now) in
+    subst (λ r. IfErr r (IsLogCause (λ f. size f) c.args.last c.args.files.now)) (sym (p.1 ∙ ap Err p.2))
+    (damage_of_all _ c.args.last c.args.files.now file c.in_err-writes.field-0.0 (c.loop-file.invariant.among file member) (subst (λ is. is ≡ true) c.is_log.ensures c.if-is_log.true) c.in_err-writes.ensures.causes)
