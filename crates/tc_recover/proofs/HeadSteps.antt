@@ -16,7 +16,7 @@ use Rattle.tc_recover.specs.Files.{entry_in, picture_in, AreTold, AreGates, IsLa
 use Rattle.tc_recover.specs.Reads.{count_after}
 use Rattle.tc_recover.specs.Refusals.{Refusal, head_refused, file_refused, heads_refused, Refuses, IsHeadCause}
 use Rattle.tc_recover.specs.Causes.{IsOfRead}
-use Rattle.tc_recover.proofs.Members.{member_cases, member_first, member_further, no_member}
+use Rattle.tc_recover.proofs.Members.{AreAmong, member_cases, member_first, member_further, no_member}
 use Rattle.tc_store.specs.declared.file_name.FileName.TheVariants.{Component, Log}
 use Rattle.tc_store.specs.declared.damage.ReadFault.{ReadFault}
 use Rattle.tc_store.specs.declared.damage.ReadFault.TheVariants.{Disk as unread, Damaged as broken, Memory as no_memory}
@@ -63,7 +63,7 @@ pub record AreHeadsLeft {F W : Type 0} (tells : F → Option (List ℕ)) (part :
   pub told : AreTold tells all → AreTold tells rest
   pub judged : AreTold tells all → heads_refused part (picture_in tells all) ≡ heads_refused part (picture_in tells rest)
   pub faults : before.faults ≤ now.faults
-  pub among : (t : Taken F W) → Contains rest t → Contains all t
+  pub among : AreAmong rest all
   pub lawful : AreLawful rest → AreLawful all
   pub reads : count_after (length (filter (λ t. t.open) rest)) now.reads ≡ count_after (length (filter (λ t. t.open) all)) before.reads
 

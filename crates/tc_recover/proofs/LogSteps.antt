@@ -19,7 +19,7 @@ use Rattle.tc_recover.specs.declared.taken.Taken.{Taken}
 use Rattle.tc_recover.specs.Files.{picture_in, AreTold, AreGates}
 use Rattle.tc_recover.specs.Loads.{file_then, is_above, is_log, logs_judged, Answers, IsLogDamage, IsLogCause, same_writes}
 use Rattle.tc_recover.specs.Causes.{IsOfRead}
-use Rattle.tc_recover.proofs.Members.{member_further}
+use Rattle.tc_recover.proofs.Members.{AreAmong, member_further}
 use Rattle.tc_store.specs.declared.damage.ReadFault.{ReadFault}
 use Rattle.tc_store.specs.declared.damage.ReadFault.TheVariants.{Disk as unread, Damaged as broken, Memory as no_memory}
 use Rattle.tc_recover.specs.Reads.{count_after, IsCountedTimes}
@@ -31,7 +31,7 @@ pub record AreLogsLeft {F W : Type 0} (tells : F → Option (List ℕ)) (last : 
   pub gates : AreGates tells rest
   pub told : AreTold tells all → AreTold tells rest
   pub judged : AreTold tells all → logs_judged last [] (picture_in tells all) ≡ logs_judged last done (picture_in tells rest)
-  pub among : (t : Taken F W) → Contains rest t → Contains all t
+  pub among : AreAmong rest all
   pub lawful : All (AllByRecursion IsWrite) done
   pub faults : before.faults ≤ now.faults
   pub reads : count_after (length (filter (is_log last) rest)) now.reads ≡ count_after (length (filter (is_log last) all)) before.reads

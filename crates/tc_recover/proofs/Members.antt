@@ -14,3 +14,7 @@ member_further x xs y (k, low, same) = (suc k, omega arith, same)
 
 pub no_member : {X : Type 0} (y : X) → Contains [] y → ⊥
 no_member y member = absurd (omega (arith, member.1))
+
+-- each of these is one of those
+abbrev pub AreAmong : {X : Type 0} → List X → List X → Type 0
+AreAmong {X = X} xs ys = (x : X) → Contains xs x → Contains ys x
