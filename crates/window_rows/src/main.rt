@@ -1,0 +1,46 @@
+//! Layer 6, programs: generates lines, shares windows out to partitions and puts replies together, one window a row of
+//! standard input, and prints what comes of it. A row is `feed N P`, for N generated lines and P partitions, or
+//! `lines P` and the lines themselves, each behind a tab. The answer has the places that each partition gets, and then
+//! the replies. `no answer` stands for a row out of form, and a row that begins with `#` is printed as it is.
+#![tactic(auto)]
+
+mod answers;
+mod windows;
+
+use crate::answers::answers;
+use crate::windows::{fed, given, routed};
+use std::alloc::Global;
+use std::io;
+
+fn main(rt: HostRuntime) -> io::Result<()> {
+    for row in rt.lines(rt.alloc()) {
+        answer(&rt, row?.as_str())?;
+    }
+    Ok(())
+}
+
+fn answer(rt: &(impl Print + AllocGlobal), row: &str) -> io::Result<()> {
+    match answer_of(rt.alloc(), row) {
+        Some(answer) => print!(rt; "{}", answer.as_str()),
+        None => println!(rt; "no answer"),
+    }
+}
+
+// The lines that answer a row.
+fn answer_of(alloc: Global, row: &str) -> Option<String> {
+    let (call, argument) = row.split_once(' ')?;
+    match call {
+        "#" => format!(in alloc; "{row}\n").ok(),
+        "feed" => {
+            let (lines, partitions) = argument.split_once(' ')?;
+            let window = routed(alloc, fed(alloc, lines.parse().ok()?)?)?;
+            answers(alloc, window, partitions.parse().ok()?)
+        }
+        "lines" => {
+            let (partitions, lines) = argument.split_once('\t')?;
+            let window = routed(alloc, given(alloc, lines)?)?;
+            answers(alloc, window, partitions.parse().ok()?)
+        }
+        _ => None,
+    }
+}
