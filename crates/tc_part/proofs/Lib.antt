@@ -11,3 +11,4 @@ mod Creations
 mod ClosedParts
 mod NewestListed
 mod StartedLogs
+mod SchemaTexts

@@ -12,6 +12,7 @@ mod looking;
 mod names;
 mod part;
 mod records;
+mod schema_text;
 mod sealing;
 mod staging;
 mod starting;
