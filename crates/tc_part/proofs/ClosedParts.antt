@@ -1,5 +1,5 @@
 -- A part that is closed leaves what was stored in its store.
-use Rattle.std.proofs.Common.{◌≡◌, ◌∙◌, ◌+◌, ◌-◌, ℕ, true, false, List, Option, Some, None, length, is_some, option_map, refl, sym, ap, subst, arith}
+use Rattle.std.proofs.Common.{◌≡◌, ◌∙◌, ◌<◌, ◌+◌, ◌-◌, ℕ, true, false, List, Option, Some, None, length, is_some, option_map, refl, sym, ap, subst, arith}
 use Rattle.std.specs.Prelude.{IfSome, IsSome, not}
 use Rattle.tc_store.specs.declared.file_name.FileName.{FileName}
 use Rattle.tc_store.specs.declared.file_name.FileName.TheVariants.{Log}
@@ -12,13 +12,14 @@ use Rattle.tc_memory.specs.Table as memory
 use Rattle.tc_plain_model.specs.Writes.{Write}
 use Rattle.tc_lsm_model.specs.Lists.{last_of}
 use Rattle.tc_machine.specs.State.{Sealed, sealed_logs}
-use Rattle.tc_part_model.specs.Leaving.{KeepsStore}
+use Rattle.tc_part_model.specs.Leaving.{FailedMomentsLeaveStore, KeepsStore}
 use Rattle.tc_part_model.specs.Meaning.{IsPart, HasFailedAs, KeepsSealed}
 use Rattle.tc_part_model.specs.PartFiles.{active_name, sealed_name}
 use Rattle.tc_part_model.specs.PartState.{Told, AreTold}
 use Rattle.tc_part_model.specs.PartView.{PartView, store_of}
 use Rattle.tc_part_model.proofs.Closes.{close_stores, close_both_stores}
 use Rattle.tc_part_model.proofs.FailedParts.{fails_so}
+use Rattle.tc_part_model.proofs.HomeMoments.{close_moments, close_both_moments}
 use Rattle.tc_part.specs.Closing.{brought_home, HasLogsOf}
 
 -- ---- the logs of a part that runs
@@ -45,30 +46,45 @@ some_of : {A : Type 0} (o : Option A) → true ≡ is_some o → IsSome o
 some_of None is = absurd (cc)
 some_of (Some a) is = refl
 
-pub closed_keeps : (t : Told) (p : PartView) (frame : Option (List Write)) → HasFailedAs t p frame → HasLogsOf t p
-    → IfTold (brought_home (Log t.generation) t.log (option_map (λ moments. (Log (t.generation - 1), moments)) t.sealed_log) t.disks) (KeepsStore p.part (store_of p) frame)
-closed_keeps t p frame failed logs = at t.sealed_log refl
+-- What is so once the device of the active log is at home, and that of the sealed log behind it, is so of a part that is closed.
+closed_by : (t : Told) (p : PartView) (Q : List Disk → Type 0) → HasLogsOf t p → Q (comes_home (active_name p) (λ f. home f) t.log t.disks)
+    → ((covered : List DiskFile) → t.sealed_log ≡ Some covered → IsSome p.sealed → 0 < length (sealed_logs p.sealed) → Q (comes_home (sealed_name p) (λ f. home f) covered (comes_home (active_name p) (λ f. home f) t.log t.disks)))
+    → Q (brought_home (Log t.generation) t.log (option_map (λ moments. (Log (t.generation - 1), moments)) t.sealed_log) t.disks)
+closed_by t p Q logs one both = at t.sealed_log refl
   where
     active : Log t.generation ≡ active_name p
     active = ap (λ g. Log g) logs.generation
 
-    Keeps : List Disk → Type 0
-    Keeps disks = IfTold disks (KeepsStore p.part (store_of p) frame)
-
-    at : (o : Option (List DiskFile)) → t.sealed_log ≡ o → Keeps (brought_home (Log t.generation) t.log (option_map (λ moments. (Log (t.generation - 1), moments)) o) t.disks)
-    at None is = subst (λ name. Keeps (comes_home name (λ f. home f) t.log t.disks)) (sym active) (close_stores t p frame failed)
+    at : (o : Option (List DiskFile)) → t.sealed_log ≡ o → Q (brought_home (Log t.generation) t.log (option_map (λ moments. (Log (t.generation - 1), moments)) o) t.disks)
+    at None is = subst (λ name. Q (comes_home name (λ f. home f) t.log t.disks)) (sym active) one
     at (Some covered) is =
         let some : IsSome p.sealed = some_of p.sealed (sym (ap (λ o. is_some o) is) ∙ logs.sealed_log) in
-        let one = one_sealed p some logs.one in
-        let behind : t.generation - 1 ≡ last_of p.list + 1 = omega (arith, logs.generation, one) in
-        subst (λ name. Keeps (comes_home name (λ f. home f) covered (comes_home (Log t.generation) (λ f. home f) t.log t.disks))) (sym (ap (λ g. Log g) behind))
-        (subst (λ name. Keeps (comes_home (sealed_name p) (λ f. home f) covered (comes_home name (λ f. home f) t.log t.disks))) (sym active) (close_both_stores t p frame covered failed is some (omega (arith, one))))
+        let only = one_sealed p some logs.one in
+        let behind : t.generation - 1 ≡ last_of p.list + 1 = omega (arith, logs.generation, only) in
+        subst (λ name. Q (comes_home name (λ f. home f) covered (comes_home (Log t.generation) (λ f. home f) t.log t.disks))) (sym (ap (λ g. Log g) behind))
+        (subst (λ name. Q (comes_home (sealed_name p) (λ f. home f) covered (comes_home name (λ f. home f) t.log t.disks))) (sym active) (both covered is some (omega (arith, only))))
+
+pub closed_keeps : (t : Told) (p : PartView) (frame : Option (List Write)) → HasFailedAs t p frame → HasLogsOf t p
+    → IfTold (brought_home (Log t.generation) t.log (option_map (λ moments. (Log (t.generation - 1), moments)) t.sealed_log) t.disks) (KeepsStore p.part (store_of p) frame)
+closed_keeps t p frame failed logs = closed_by t p (λ disks. IfTold disks (KeepsStore p.part (store_of p) frame)) logs (close_stores t p frame failed) (λ covered. close_both_stores t p frame covered failed)
+
+pub closed_moments : (t : Told) (p : PartView) (frame : Option (List Write)) → HasFailedAs t p frame → HasLogsOf t p
+    → FailedMomentsLeaveStore p frame t (brought_home (Log t.generation) t.log (option_map (λ moments. (Log (t.generation - 1), moments)) t.sealed_log) t.disks)
+closed_moments t p frame failed logs = closed_by t p (FailedMomentsLeaveStore p frame t) logs (close_moments t p frame failed) (λ covered. close_both_moments t p frame covered failed)
+
+-- a part that runs is one that fails, as far as its files go
+fails_whole : (t : Told) (p : PartView) → IsPart t p → HasFailedAs (record t { failed = true }) p None × HasLogsOf (record t { failed = true }) p
+fails_whole t p is =
+    let logs = logs_of t p is in
+    (fails_so t (record t { failed = true }) p is refl refl refl refl, record { generation = logs.generation; sealed_log = logs.sealed_log; one = logs.one })
 
 pub closed_runs : (t : Told) (p : PartView) → IsPart t p
     → IfTold (brought_home (Log t.generation) t.log (option_map (λ moments. (Log (t.generation - 1), moments)) t.sealed_log) t.disks) (KeepsStore p.part (store_of p) None)
-closed_runs t p is =
-    let logs = logs_of t p is in
-    closed_keeps (record t { failed = true }) p None (fails_so t (record t { failed = true }) p is refl refl refl refl) (record { generation = logs.generation; sealed_log = logs.sealed_log; one = logs.one })
+closed_runs t p is = let fails = fails_whole t p is in closed_keeps (record t { failed = true }) p None fails.0 fails.1
+
+pub closed_run_moments : (t : Told) (p : PartView) → IsPart t p
+    → FailedMomentsLeaveStore p None t (brought_home (Log t.generation) t.log (option_map (λ moments. (Log (t.generation - 1), moments)) t.sealed_log) t.disks)
+closed_run_moments t p is = let fails = fails_whole t p is in closed_moments (record t { failed = true }) p None fails.0 fails.1
 
 -- ---- the devices
 

@@ -4,7 +4,7 @@ ghost use Rattle.std.specs.Prelude.{◌≡◌, ◌-◌, List, Option, Some, None
 ghost use Rattle.tc_store.specs.declared.file_name.FileName.TheVariants.{Log as log_name};
 ghost use Rattle.tc_store.specs.Moments.{IfTold};
 ghost use Rattle.tc_plain_model.specs.Writes.{Write as PlainWrite};
-ghost use Rattle.tc_part_model.specs.Leaving.{KeepsStore};
+ghost use Rattle.tc_part_model.specs.Leaving.{FailedMomentsLeaveStore, KeepsStore};
 ghost use Rattle.tc_part_model.specs.Meaning.{IsPart, HasFailedAs};
 ghost use Rattle.tc_part_model.specs.PartState.{told};
 ghost use Rattle.tc_part_model.specs.PartView.{PartView, store_of};
@@ -26,6 +26,11 @@ impl<S: Store> Part<S> {
         ensures kept { (p : PartView) → IsPart (told S.history S.Device.history S.Frozen.content self) p → IfTold (S.history result.store) (KeepsStore p.part (store_of p) None) }
         ensures failed { (p : PartView) (frame : Option (List PlainWrite)) → HasFailedAs (told S.history S.Device.history S.Frozen.content self) p frame → HasLogsOf (told S.history S.Device.history S.Frozen.content self) p
             → IfTold (S.history result.store) (KeepsStore p.part (store_of p) frame) }
+
+        // At each moment of the call a stop leaves the same.
+        ensures moments { (p : PartView) → IsPart (told S.history S.Device.history S.Frozen.content self) p → FailedMomentsLeaveStore p None (told S.history S.Device.history S.Frozen.content self) (S.history result.store) }
+        ensures failed_moments { (p : PartView) (frame : Option (List PlainWrite)) → HasFailedAs (told S.history S.Device.history S.Frozen.content self) p frame → HasLogsOf (told S.history S.Device.history S.Frozen.content self) p
+            → FailedMomentsLeaveStore p frame (told S.history S.Device.history S.Frozen.content self) (S.history result.store) }
 
         ensures main { result.main ≡ self.main }
         ensures flusher { Some result.flusher ≡ self.flusher }

@@ -8,11 +8,11 @@ ghost use Rattle.tc_store.specs.StoreCalls.{comes_home};
 ghost use Rattle.tc_log.specs.Layout.{empty_size};
 ghost use Rattle.tc_lsm_model.specs.Contents.{Content};
 ghost use Rattle.tc_lsm_model.specs.Lists.{live as live_in};
-ghost use Rattle.tc_part_model.specs.Leaving.{KeepsStore};
+ghost use Rattle.tc_part_model.specs.Leaving.{FailedMomentsLeaveStore, KeepsStore};
 ghost use Rattle.tc_part_model.specs.Meaning.{IsPart};
 ghost use Rattle.tc_part_model.specs.Newest.{names_by, documents_by, next_by};
 ghost use Rattle.tc_part_model.specs.PartState.{told};
-ghost use Rattle.tc_part_model.specs.Starting.{IsOpened, started_part};
+ghost use Rattle.tc_part_model.specs.Starting.{IsOpened, started, started_part};
 ghost use Rattle.tc_part.specs.Openings.{IsOfPart, told_opening, newest_in};
 
 use crate::limits::Limits;
@@ -61,6 +61,8 @@ impl<S: Store> Part<S> {
         // Whatever a stop leaves of the store that is given back is what is live in the components.
         ensures kept { (list : List Content) → IsOpened (told_opening S.history S.Device.history S.Frozen.content opened.number opened.count opened.kit.store opened.log.device opened.list) list
             → IfErr result (λ kit. IfTold (S.history kit.store) (KeepsStore (record { number = opened.number; count = opened.count }) (live_in list) None)) }
+        ensures moments { (list : List Content) → IsOpened (told_opening S.history S.Device.history S.Frozen.content opened.number opened.count opened.kit.store opened.log.device opened.list) list
+            → IfErr result (λ kit. FailedMomentsLeaveStore (started_part (record { number = opened.number; count = opened.count }) list) None (started (told_opening S.history S.Device.history S.Frozen.content opened.number opened.count opened.kit.store opened.log.device opened.list)) (S.history kit.store)) }
         ensures given_back { IfErr result (λ kit. kit ≡ record opened.kit { store = kit.store }) }
         ensures home { IfErr result (λ kit. S.history kit.store ≡ comes_home (S.Device.name opened.log.device) (λ f. at_home f) (S.Device.history opened.log.device) (S.history opened.kit.store)) }
     {

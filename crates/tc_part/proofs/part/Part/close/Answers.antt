@@ -1,10 +1,10 @@
 use Rattle.std.proofs.Common.{◌∙◌, None, sym, ap, subst}
 use Rattle.tc_store.specs.Moments.{IfTold}
 use Rattle.tc_list.specs.Runs.{neighbours}
-use Rattle.tc_part_model.specs.Leaving.{KeepsStore}
+use Rattle.tc_part_model.specs.Leaving.{FailedMomentsLeaveStore, KeepsStore}
 use Rattle.tc_part_model.specs.PartState.{told}
 use Rattle.tc_part_model.specs.PartView.{store_of}
-use Rattle.tc_part.proofs.ClosedParts.{closed_runs, closed_keeps, named_logs, flusher_in, merger_in}
+use Rattle.tc_part.proofs.ClosedParts.{closed_runs, closed_keeps, closed_run_moments, closed_moments, named_logs, flusher_in, merger_in}
 use Rattle.tc_part.proofs.part.Part.close.Goals as goal
 
 pub kit_of-requires-clause-flusher : goal.kit_of-requires-clause-flusher
@@ -26,3 +26,13 @@ returns-clause-kept g c = λ p is.
 pub returns-clause-failed : goal.returns-clause-failed
 returns-clause-failed g c = λ p frame failed logs.
     subst (λ disks. IfTold disks (KeepsStore p.part (store_of p) frame)) (sym (returns-clause-home g c)) (closed_keeps (told g.S.Store.history g.S.Device.Device.history g.S.Frozen.Frozen.content c.args.self) p frame failed logs)
+
+pub returns-clause-moments : goal.returns-clause-moments
+returns-clause-moments g c = λ p is.
+    let t = told g.S.Store.history g.S.Device.Device.history g.S.Frozen.Frozen.content c.args.self in
+    subst (λ disks. FailedMomentsLeaveStore p None t disks) (sym (returns-clause-home g c)) (closed_run_moments t p is)
+
+pub returns-clause-failed_moments : goal.returns-clause-failed_moments
+returns-clause-failed_moments g c = λ p frame failed logs.
+    let t = told g.S.Store.history g.S.Device.Device.history g.S.Frozen.Frozen.content c.args.self in
+    subst (λ disks. FailedMomentsLeaveStore p frame t disks) (sym (returns-clause-home g c)) (closed_moments t p frame failed logs)

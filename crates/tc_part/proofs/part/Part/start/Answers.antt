@@ -3,7 +3,7 @@ use Rattle.tc_store.specs.Disk.{home}
 use Rattle.tc_store.specs.Moments.{IfTold}
 use Rattle.tc_store.specs.StoreCalls.{comes_home}
 use Rattle.tc_lsm_model.specs.Lists.{live}
-use Rattle.tc_part_model.specs.Leaving.{KeepsStore}
+use Rattle.tc_part_model.specs.Leaving.{FailedMomentsLeaveStore, KeepsStore}
 use Rattle.tc_part_model.specs.Meaning.{IsPart}
 use Rattle.tc_part_model.specs.PartState.{told}
 use Rattle.tc_part_model.specs.Starting.{started, started_part}
@@ -31,3 +31,11 @@ returns-in-Err-clause-kept g c = λ list opened.
     let named = c.requires.follows ∙ named_first o list (c.parts_start.ensures.started o list opened) in
     let at_home = c.given_up.ensures.home ∙ ap (λ name. comes_home name (λ f. home f) o.log o.disks) named in
     subst (λ disks. IfTold disks (KeepsStore o.part (live list) None)) (sym at_home) (c.parts_start.ensures.not_begun o list opened)
+
+pub returns-in-Err-clause-moments : goal.returns-in-Err-clause-moments
+returns-in-Err-clause-moments g c = λ list opened.
+    let from = c.args.opened in
+    let o = told_opening g.S.Store.history g.S.Device.Device.history g.S.Frozen.Frozen.content from.number from.count from.kit.store from.log.device from.list in
+    let named = c.requires.follows ∙ named_first o list (c.parts_start.ensures.started o list opened) in
+    let at_home = c.given_up.ensures.home ∙ ap (λ name. comes_home name (λ f. home f) o.log o.disks) named in
+    subst (λ disks. FailedMomentsLeaveStore (started_part o.part list) None (started o) disks) (sym at_home) (c.parts_start.ensures.not_begun_moments o list opened)
