@@ -3,3 +3,4 @@ mod NewestContents
 mod Tiles
 mod Loads
 mod Removals
+mod Listings

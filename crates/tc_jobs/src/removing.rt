@@ -1,14 +1,18 @@
-//! The files of components that a merge took the place of are removed.
+//! Files are removed: of components that a merge took the place of, and of a log that a component covers.
 
 ghost use Rattle.std.specs.Arc.{arc_value};
-ghost use Rattle.std.specs.Prelude.{◌≡◌, ◌⊎◌, map, IsErrOf};
+ghost use Rattle.std.specs.Prelude.{◌≡◌, ◌⊎◌, map, IsErrOf, OnOk, OnErr};
 ghost use Rattle.tc_store.specs.Counted.{IsCounted};
-ghost use Rattle.tc_store.specs.StoreCalls.{removes};
+ghost use Rattle.tc_store.specs.DiskFile.{IsSettled};
+ghost use Rattle.tc_store.specs.Moments.{IfTold};
+ghost use Rattle.tc_store.specs.StoreCalls.{comes_home, frozen_entry, removes};
 ghost use Rattle.tc_jobs.specs.Faults.{IfDamaged};
+ghost use Rattle.tc_jobs.specs.Listing.{FailsRemoving};
 ghost use Rattle.tc_component.specs.Loading.{ComponentState};
 ghost use Rattle.tc_part_model.specs.Calls.{RemovesSome};
 
 use crate::fault::JobFault;
+use std::alloc::Global;
 use std::sync::Arc;
 use tc_component::Component;
 use tc_store::{Store, StoreFault};
@@ -43,4 +47,24 @@ fn remove_if_unshared<S: Store>(
         Ok(component) => store.remove(component.into_file(), watch),
         Err(_shared) => Ok(()),
     }
+}
+
+/// Removes the file of a device on which nothing is pending: the log that a component covers. After an `Err` the device came
+/// home as it is, or its file counts as removed too. `Disk` comes only where the store failed.
+pub fn remove_file<S: Store>(
+    alloc: Global,
+    store: &mut S,
+    device: S::Device,
+    watch: &mut S::Watch,
+) -> Result<(), JobFault>
+    requires { IfTold (S.Device.history device) IsSettled }
+
+    ensures removed { OnOk result (S.history store.new ≡ removes (S.Device.name device) (comes_home (S.Device.name device) frozen_entry (S.Device.history device) (S.history store.old))) }
+    ensures failed { OnErr result (FailsRemoving (S.Device.name device) (S.Device.history device) (S.history store.old) (S.history store.new)) }
+    ensures no_damage { IfDamaged result (λ damage. ⊥) }
+    ensures counted { IsCounted (IsErrOf result JobFault.Disk) (S.Watch.counts watch.old) (S.Watch.counts watch.new) }
+{
+    let file = store.freeze(alloc, device, watch)?;
+    store.remove(file, watch)?;
+    Ok(())
 }
