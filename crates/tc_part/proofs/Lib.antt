@@ -1,5 +1,6 @@
 mod Outcomes
 mod Standing
+mod JobOutcomes
 mod Spelled
 mod ListedContents
 mod BelowKeys

@@ -48,3 +48,10 @@ all_loaded told (m ∷ ms) (c ∷ cs) all some = (
   loaded told m c all.0 (All-head (λ (c : ToldComponent). IsSome c.content) (told_component told m) (map (told_component told) ms) some),
   all_loaded told ms cs all.1 (All-tail (λ (c : ToldComponent). IsSome c.content) (told_component told m) (map (told_component told) ms) some),
 )
+
+-- so it is of what they have beside their records
+pub all_indices : {F : Type 0} (told : F → Option (List ℕ)) (ms : List (ComponentState F)) (cs : List Content) → AllZip IsOfContent (map (told_component told) ms) cs → AllZip (λ (m : ComponentState F) c. m.index ≡ component_index c) ms cs
+all_indices told [] [] all = tt
+all_indices told [] (c ∷ cs) all = absurd all
+all_indices told (m ∷ ms) [] all = absurd all
+all_indices told (m ∷ ms) (c ∷ cs) all = (all.0.index, all_indices told ms cs all.1)

@@ -1,5 +1,5 @@
 -- What is so where a part stands.
-use Rattle.std.proofs.Common.{List, [], ◌∷◌}
+use Rattle.std.proofs.Common.{◌≡◌, true, false, subst, List, [], ◌∷◌, Option, Some, None, is_some, refl}
 use Rattle.tc_store.specs.Disk.{Disk}
 use Rattle.tc_store.specs.Moments.{IfTold}
 use Rattle.tc_part_model.specs.Meaning.{IsPart}
@@ -10,3 +10,15 @@ use Rattle.tc_part_model.specs.PartView.{PartView}
 pub where_it_stands : (t : Told) (disks : List Disk) (Q : Disk → Type 0) → IfTold disks (λ disk. (p : PartView) × IsPart t p) → ((p : PartView) → IsPart t p → IfTold disks Q) → IfTold disks Q
 where_it_stands t [] Q stands each = tt
 where_it_stands t (disk ∷ past) Q stands each = each stands.0 stands.1
+
+-- what is there where something is
+pub that_is : {X : Type 0} (o : Option X) → is_some o ≡ true → (x : X) × (o ≡ Some x)
+that_is None is = absurd (cc)
+that_is (Some x) is = (x, refl)
+
+abbrev pub told_in : {t : Told} {p : PartView} → IsPart t p → Told
+told_in {t} is = t
+
+-- what a part means it means still where it is said that it has not failed
+pub unfailed : {t : Told} {p : PartView} → IsPart t p → IsPart (record t { failed = false }) p
+unfailed {t} {p} is = subst (λ failed. IsPart (record t { failed = failed }) p) is.sound is

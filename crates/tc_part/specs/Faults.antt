@@ -1,4 +1,8 @@
--- Why a call of a part failed, by what a call below it answered.
+-- Why a call of a part failed, by what a call below it answered, and what damage it tells.
+use Rattle.std.specs.Prelude.{Result, Ok, Err}
+use Rattle.tc_jobs.specs.declared.fault.JobFault.{JobFault}
+use Rattle.tc_jobs.specs.declared.fault.JobFault.TheVariants as job
+use Rattle.tc_store.specs.declared.damage.Damage.{Damage}
 use Rattle.tc_store.specs.declared.fault.DeviceFault.{DeviceFault}
 use Rattle.tc_store.specs.declared.fault.DeviceFault.TheVariants as device
 use Rattle.tc_store.specs.declared.fault.StoreFault.{StoreFault}
@@ -13,6 +17,19 @@ of_device device.Memory = part.Memory
 abbrev pub of_store : StoreFault → PartFault
 of_store store.Fault = part.Disk
 of_store store.Memory = part.Memory
+
+abbrev pub of_job : JobFault → PartFault
+of_job job.Disk = part.Disk
+of_job (job.Damaged damage) = part.Damaged damage
+of_job job.Memory = part.Memory
+
+-- of damage this holds
+abbrev pub IfDamaged : {X : Type 0} → Result X PartFault → (Damage → Type 0) → Type 0
+IfDamaged (Ok x) P = Unit {0}
+IfDamaged (Err part.Disk) P = Unit {0}
+IfDamaged (Err (part.Damaged damage)) P = P damage
+IfDamaged (Err part.Spent) P = Unit {0}
+IfDamaged (Err part.Memory) P = Unit {0}
 
 -- that of a call that reads no file, so that it finds none damaged
 abbrev pub IsUndamaged : PartFault → Type 0

@@ -5,11 +5,12 @@ ghost use Rattle.tc_record.specs.declared.fault.RecordFault.TheVariants.{NotARec
 ghost use Rattle.tc_store.specs.declared.damage.Damage.TheVariants.{Bytes as damage_of};
 ghost use Rattle.tc_store.specs.declared.damage.ReadFault.TheVariants.{Disk as read_fault, Damaged as damage_read};
 ghost use Rattle.tc_part.specs.declared.fault.PartFault.TheVariants.{Memory as no_memory, Disk as disk_fault, Damaged as damage_found};
-ghost use Rattle.tc_part.specs.Faults.{of_device, of_store};
+ghost use Rattle.tc_part.specs.Faults.{of_device, of_job, of_store};
 ghost use Rattle.tc_part.specs.Harms.{IsOfRead};
 
 use std::alloc::{AllocError, AllocFailed};
 use tc_bytes::Bytes;
+use tc_jobs::JobFault;
 use tc_record::RecordFault;
 use tc_store::{Damage, DeviceFault, FileName, ReadFault, StoreFault};
 use thiserror::Error;
@@ -61,6 +62,18 @@ impl From<StoreFault> for PartFault {
         match fault {
             StoreFault::Fault => PartFault::Disk,
             StoreFault::Memory => PartFault::Memory,
+        }
+    }
+}
+
+impl From<JobFault> for PartFault {
+    ghost from_gives = { λ f e. e ≡ of_job f };
+
+    fn from(fault: JobFault) -> PartFault {
+        match fault {
+            JobFault::Disk => PartFault::Disk,
+            JobFault::Damaged(damage) => PartFault::Damaged(damage),
+            JobFault::Memory => PartFault::Memory,
         }
     }
 }
