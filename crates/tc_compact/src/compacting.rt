@@ -1,9 +1,10 @@
 //! Names become numbers.
 
-ghost use Rattle.std.specs.Prelude.{◌≡◌, ◌<◌, ◌+◌, ◌*◌, ◌^◌, List, true, IfOk, OnOk, length};
+ghost use Rattle.std.specs.Prelude.{◌≡◌, ◌<◌, ◌+◌, ◌*◌, ◌^◌, List, true, IfOk, OnOk, length, map};
 ghost use Rattle.tc_model.specs.Document.{Name, Document};
-ghost use Rattle.tc_model.specs.Dictionary.{Extends, IsDictionary, all_learned};
-ghost use Rattle.tc_record.specs.Record.{header_size, IsRecordOf};
+ghost use Rattle.tc_model.specs.Dictionary.{Extends, IsDictionary, all_learned, number as name_number};
+ghost use Rattle.tc_model.specs.KnownNames.{HasEach};
+ghost use Rattle.tc_record.specs.Record.{header_size, joined, IsRecordOf};
 ghost use Rattle.tc_compact.specs.Compacted.{IsCompactedRecordOf};
 ghost use Rattle.tc_compact.specs.Slots.{names_in};
 ghost use Rattle.tc_compact.specs.Layout.{numbered_record};
@@ -27,10 +28,29 @@ pub fn compact(alloc: Global, from: RecordRef<'_>, names: &mut Names) -> Result<
     ensures extends { Extends names.new names.old }
     ensures dictionary { IsDictionary names.new }
 {
-    let bytes = from.bytes();
+    // that the bytes spell a document
+    let _bytes = from.bytes();
     let learned = learn_names(alloc, &from, names)?;
     let numbers = learned.numbers.as_slice();
-    let shared = shared_in(bytes, numbers.len(), learned.name_bytes);
+    compact_numbered(alloc, from, numbers, learned.name_bytes)
+}
+
+/// The same where the numbers of the record's names are known, in the order of its members, and how many bytes its names
+/// have together. Errs only for want of memory.
+pub fn compact_numbered(
+    alloc: Global,
+    from: RecordRef<'_>,
+    numbers: &[usize],
+    name_bytes: usize,
+) -> Result<Bytes, Memory>
+    requires named { from.named ≡ true }
+    requires short { length from.bytes < 2 ^ 30 }
+    requires members { length numbers.now ≡ length (names_in from.tokens) }
+    requires bytes { name_bytes ≡ length (joined (names_in from.tokens)) }
+    ensures compacted { IfOk result (λ bytes. (d : Document) → IsRecordOf d from.entry.bytes → (names : List Name) → IsDictionary names → HasEach names (names_in from.entry.tokens) → numbers.now ≡ map (name_number names) (names_in from.entry.tokens) → IsCompactedRecordOf names d bytes) }
+{
+    let bytes = from.bytes();
+    let shared = shared_in(bytes, numbers.len(), name_bytes);
     with_numbers(alloc, shared, numbers)
 }
 

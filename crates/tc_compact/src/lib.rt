@@ -16,7 +16,7 @@ mod shaping;
 mod sizing;
 mod slot_sum;
 
-pub use compacting::compact;
+pub use compacting::{compact, compact_numbered};
 pub use decoding::{document_of, value_behind};
 pub use expanding::expand;
 pub use law::{document_meant, names_agree, round_trip};
