@@ -19,6 +19,7 @@ use crate::record::compact_counted;
 use std::alloc::Global;
 use tc_compact::round_trip;
 use tc_component::Builder;
+use tc_infer::Met;
 use tc_memory::{Entry, Held};
 use tc_names::Names;
 use tc_record::{RecordRef, one_document};
@@ -32,6 +33,7 @@ pub(crate) fn put_entry<D: Device>(
     entry: Entry<'_>,
     schema: &mut Schema,
     names: &mut Names,
+    met: &mut Met,
     builder: &mut Builder<D>,
     watch: &mut D::Watch,
 ) -> Result<(), DeviceFault>
@@ -55,7 +57,7 @@ pub(crate) fn put_entry<D: Device>(
         Held::Gone => builder.push(entry.key, None, watch),
         Held::Live(bytes) => {
             let of = RecordRef::known(bytes.as_slice());
-            let record = compact_counted(alloc, of, schema, names)?;
+            let record = compact_counted(alloc, of, schema, names, met)?;
             builder.push(entry.key, Some(record.as_slice()), watch)
         }
     }

@@ -13,19 +13,21 @@ ghost use Rattle.tc_compact.specs.Compacted.{IsCompactedRecordOf};
 
 use std::alloc::Global;
 use tc_bytes::{Bytes, Memory};
-use tc_compact::{compact, names_agree};
-use tc_infer::add_known;
+use tc_compact::{compact_numbered, names_agree};
+use tc_infer::{Met, add_learning};
 use tc_names::Names;
 use tc_record::RecordRef;
 use tc_schema::Schema;
 
 /// Learns the new names of a record's document, counts it once more, and answers its compacted record. No tree is made of
-/// it: one walk learns and compacts, and one counts. Errs only for want of memory.
+/// it: one walk learns and counts, and keeps the numbers of the names, of which the record is then made. Errs only for
+/// want of memory.
 pub(crate) fn compact_counted(
     alloc: Global,
     of: RecordRef<'_>,
     schema: &mut Schema,
     names: &mut Names,
+    met: &mut Met,
 ) -> Result<Bytes, Memory>
     requires named { of.named ≡ true }
     requires short { length of.bytes < 2 ^ 30 }
@@ -39,7 +41,9 @@ pub(crate) fn compact_counted(
     names_agree();
     // that the bytes spell a document
     let _bytes = of.bytes();
-    let record = compact(alloc, of.again(), names)?;
-    add_known(schema, names, of)?;
-    Ok(record)
+    let again = of.again();
+    add_learning(schema, names, met, of)?;
+    // that the names are a dictionary
+    let _known = names.len();
+    compact_numbered(alloc, again, met.numbers.as_slice(), met.name_bytes)
 }

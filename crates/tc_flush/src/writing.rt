@@ -21,6 +21,7 @@ use std::alloc::Global;
 use tc_anti::subtract;
 use tc_compact::names_agree;
 use tc_component::{Builder, Head};
+use tc_infer::Met;
 use tc_lsm_model::flushes_learn_names;
 use tc_memory::{Sealed, tables_keep_documents};
 use tc_names::Names;
@@ -67,9 +68,10 @@ pub(crate) fn put_entries<D: Device>(
     names_agree();
     tables_keep_documents();
     let _known = names.len();
+    let mut met = Met::new(alloc);
     let mut entries = sealed.entries();
     while let Some(entry) = entries.next() {
-        put_entry(alloc, entry, schema, names, builder, watch)?;
+        put_entry(alloc, entry, schema, names, &mut met, builder, watch)?;
     }
     Ok(())
 }

@@ -1,5 +1,6 @@
 pub mod PlaceRoom
 mod LevelLaws
 mod LevelSteps
+mod LearnedSteps
 mod RecordShape
 mod TogetherLaws

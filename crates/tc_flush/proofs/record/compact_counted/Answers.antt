@@ -1,36 +1,57 @@
-use Rattle.std.proofs.Common.{◌≡◌, sym, ap, ◌∙◌, subst, arith}
-use Rattle.tc_model.proofs.DictionaryGrowth.{Extends-same}
-use Rattle.tc_model.specs.Dictionary.{all_learned}
+use Rattle.std.proofs.Common.{◌≡◌, length, map, sym, ap, ◌∙◌, subst, arith}
+use Rattle.std.proofs.lemmas.List.{length-map}
+use Rattle.std.proofs.lemmas.Result.{IfOk-weaker}
+use Rattle.tc_model.specs.Dictionary.{all_learned, number as name_number}
 use Rattle.tc_model.specs.Document.{document_shape}
+use Rattle.tc_model.specs.KnownNames.{HasEach}
 use Rattle.tc_model.specs.ShapeNames.{names_within}
-use Rattle.tc_record.specs.Record.{IsRecordOf}
-use Rattle.tc_schema_model.specs.Added.{IsNamed}
-use Rattle.tc_schema_model.proofs.MoreNames.{same_total, canonical_newer}
-use Rattle.tc_schema_model.proofs.NamedShapes.{named-all_learned}
+use Rattle.tc_model.proofs.LearnedNames.{all_numbered}
+use Rattle.tc_record.specs.Record.{IsRecordOf, joined}
 use Rattle.tc_compact.specs.Slots.{names_in}
-use Rattle.tc_flush.proofs.RecordNames.{names_are, room_is}
+use Rattle.tc_compact.proofs.Compacts.{named_document, names_lie}
+use Rattle.tc_flush.proofs.Outcomes.{ok_always}
+use Rattle.tc_flush.proofs.RecordNames.{names_are}
 use Rattle.tc_flush.proofs.record.compact_counted.Goals as goal
 
-pub compact-requires-clause-room : goal.compact-requires-clause-room
-compact-requires-clause-room c = rw (c.again.ensures) (room_is c.names_agree.ensures.order c.args.of c.bytes-bytes.ensures.spells c.args.names.now c.requires.named c.requires.room)
+pub add_learning-requires-clause-short : goal.add_learning-requires-clause-short
+add_learning-requires-clause-short c = λ d is.
+    let r = c.args.of in
+    let lie = names_lie r c.bytes-bytes.ensures.spells c.requires.named in
+    omega (arith, lie.held, ap (λ ns. length (joined ns)) (names_are c.names_agree.ensures.order r c.bytes-bytes.ensures.spells d is), c.requires.short)
 
-pub add_known-requires-clause-known : goal.add_known-requires-clause-known
-add_known-requires-clause-known c = λ d is.
-    let s = document_shape d in
-    let known : c.compact.new.names ≡ all_learned c.args.names.now (names_within s) =
-    c.in_ok-record.ensures.learned ∙ ap (λ r. all_learned c.args.names.now (names_in r.tokens)) c.again.ensures ∙ ap (all_learned c.args.names.now) (names_are c.names_agree.ensures.order c.args.of c.bytes-bytes.ensures.spells d is) in
-    subst (λ ns. IsNamed ns s) (sym known) (named-all_learned c.args.names.now s)
+pub compact_numbered-requires-clause-members : goal.compact_numbered-requires-clause-members
+compact_numbered-requires-clause-members c =
+    let r = c.args.of in
+    let found = named_document r c.bytes-bytes.ensures.spells c.requires.named in
+    let ns = names_within (document_shape found.0) in
+    ap length (c.as_slice.ensures.value ∙ c.in_ok-add_learning.ensures.numbers found.0 found.1)
+    ∙ length-map ns (name_number c.add_learning.new.names)
+    ∙ ap length (sym (names_are c.names_agree.ensures.order r c.bytes-bytes.ensures.spells found.0 found.1))
+    ∙ ap (λ r. length (names_in r.tokens)) (sym c.again-again.ensures)
 
-pub add_known-requires-clause-canonical : goal.add_known-requires-clause-canonical
-add_known-requires-clause-canonical c = canonical_newer c.compact.new.names c.args.names.now c.args.schema.now c.compact.ensures.extends c.requires.canonical
-
-pub add_known-requires-clause-counters : goal.add_known-requires-clause-counters
-add_known-requires-clause-counters c = λ d is path.
-    omega (arith, same_total c.compact.new.names c.args.names.now c.args.schema.now path c.compact.ensures.extends c.requires.canonical, c.requires.counters d is path)
+pub compact_numbered-requires-clause-bytes : goal.compact_numbered-requires-clause-bytes
+compact_numbered-requires-clause-bytes c =
+    let r = c.args.of in
+    let found = named_document r c.bytes-bytes.ensures.spells c.requires.named in
+    c.in_ok-add_learning.ensures.bytes found.0 found.1
+    ∙ ap (λ ns. length (joined ns)) (sym (names_are c.names_agree.ensures.order r c.bytes-bytes.ensures.spells found.0 found.1))
+    ∙ ap (λ r. length (joined (names_in r.tokens))) (sym c.again-again.ensures)
 
 pub returns-clause-learned : goal.returns-clause-learned
-returns-clause-learned c = λ d is.
-    c.in_ok-record.ensures.learned ∙ ap (λ r. all_learned c.args.names.now (names_in r.tokens)) c.again.ensures ∙ ap (all_learned c.args.names.now) (names_are c.names_agree.ensures.order c.args.of c.bytes-bytes.ensures.spells d is)
+returns-clause-learned c = ok_always c.compact_numbered.result _ c.in_ok-add_learning.ensures.names
+
+pub returns-clause-counted : goal.returns-clause-counted
+returns-clause-counted c = ok_always c.compact_numbered.result _ c.in_ok-add_learning.ensures.added
 
 pub returns-clause-compacted : goal.returns-clause-compacted
-returns-clause-compacted c = λ d is. c.in_ok-record.ensures.compacted d (subst (λ r. IsRecordOf d r.bytes) (sym c.again.ensures) is) c.compact.new.names c.compact.ensures.dictionary (Extends-same c.compact.new.names)
+returns-clause-compacted c =
+    let r = c.args.of in
+    let names = c.add_learning.new.names in
+    IfOk-weaker c.compact_numbered.result _ _
+    (λ bytes made d is.
+    let within = names_within (document_shape d) in
+    let same : names_in c.again-again.result.tokens ≡ within = ap (λ r. names_in r.tokens) c.again-again.ensures ∙ names_are c.names_agree.ensures.order r c.bytes-bytes.ensures.spells d is in
+    let has = subst (λ known. HasEach known within) (sym (c.in_ok-add_learning.ensures.names d is)) (all_numbered c.args.names.now within) in
+    made d (subst (λ r. IsRecordOf d r.bytes) (sym c.again-again.ensures) is) names c.len-known.ensures.dictionary (subst (HasEach names) (sym same) has)
+    (c.as_slice.ensures.value ∙ c.in_ok-add_learning.ensures.numbers d is ∙ ap (map (name_number names)) (sym same)))
+    c.compact_numbered.ensures.compacted

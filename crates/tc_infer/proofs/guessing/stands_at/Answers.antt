@@ -1,4 +1,4 @@
-use Rattle.std.proofs.Common.{◌≡◌, ◌<◌, ℕ, Some, unwrap_or, option_map, length, map, get_or, sym, ap, ◌∙◌, arith}
+use Rattle.std.proofs.Common.{◌≡◌, ◌<◌, ℕ, Some, is_some, unwrap_or, option_map, length, map, get_or, sym, ap, ◌∙◌, arith}
 use Rattle.std.specs.Prelude.{slice_get}
 use Rattle.std.proofs.lemmas.Option.{slice_get-map, slice_get-get_or}
 use Rattle.std.proofs.lemmas.Slice.Eq.{bytes_eq-Decides}
@@ -11,15 +11,22 @@ use Rattle.tc_schema.proofs.PlaceViews.{field_parts}
 use Rattle.tc_schema.proofs.PlacesOfFields.{place_from}
 use Rattle.tc_infer.proofs.guessing.stands_at.Goals as goal
 
-pub returns-in-Some : goal.returns-in-Some
-returns-in-Some c = λ same.
+-- the number of the field is that of the name
+known_here : (c : goal.After-name-in-Some-1) → c.in-Some.known.now ≡ c.args.name.now → number_of c.args.names.now c.args.name.now ≡ Some (out-Field (get_or c.args.fields.now c.args.at c.index-fields-at.result)).number
+known_here c equal = number_of-slice_get c.args.names.now c.args.name.now (out-Field (get_or c.args.fields.now c.args.at c.index-fields-at.result)).number c.len-known.ensures.dictionary.distinct (sym c.in-Some.ensures.name ∙ ap Some equal)
+
+pub returns-in-Some-clause-known : goal.returns-in-Some-clause-known
+returns-in-Some-clause-known c = λ same. ap is_some (known_here c ((bytes_eq-Decides c.in-Some.known.now c.args.name.now).0 (sym c.eq.ensures ∙ same)))
+
+pub returns-in-Some-clause-place : goal.returns-in-Some-clause-place
+returns-in-Some-clause-place c = λ same.
     let names = c.args.names.now in
     let name = c.args.name.now in
     let fs = c.args.fields.now in
     let f = get_or fs c.args.at c.index-fields-at.result in
     let d = place_counted (out-Field f).node.value in
     let equal : c.in-Some.known.now ≡ name = (bytes_eq-Decides c.in-Some.known.now name).0 (sym c.eq.ensures ∙ same) in
-    let known : number_of names name ≡ Some (out-Field f).number = number_of-slice_get names name (out-Field f).number c.len-known.ensures.dictionary.distinct (sym c.in-Some.ensures.name ∙ ap Some equal) in
+    let known : number_of names name ≡ Some (out-Field f).number = known_here c equal in
     let its_number : (out-Field f).number ≡ number names name = sym (ap (λ o. unwrap_or o 0) known) in
     let inside : c.args.at < length fs = omega (arith, c.if-at-fields.false) in
     let there : slice_get fs c.args.at ≡ Some f = slice_get-get_or fs c.args.at c.index-fields-at.result inside in
