@@ -12,12 +12,12 @@ use Rattle.tc_component.specs.declared.head.Head.{Head}
 use Rattle.tc_component.specs.Layout.{names_place}
 use Rattle.tc_component.specs.Loaded.{IsLoadedOf}
 use Rattle.tc_component.specs.Loading.{ComponentState}
-use Rattle.tc_component.specs.Rows.{component_index, head_of, IsComponent}
+use Rattle.tc_component.specs.Rows.{head_of, IsComponent}
 use Rattle.tc_component.specs.Spelling.{Index, IsIndex, name_of, sizes_in}
 use Rattle.tc_jobs.specs.declared.fault.JobFault.{JobFault}
 use Rattle.tc_jobs.specs.declared.fault.JobFault.TheVariants.{Disk, Damaged, Memory}
 use Rattle.tc_jobs.specs.Faults.{IfDamaged, IfHarmed}
-use Rattle.tc_jobs.specs.Listing.{HasOtherNames, IsListed, IsReadBack, IsUnlisted}
+use Rattle.tc_jobs.specs.Listing.{IsListed, IsReadBack, IsUnlisted}
 use Rattle.tc_jobs.specs.Lists.{IsListOf, IsOf}
 use Rattle.tc_jobs.specs.ReadBack.{own_judged}
 
