@@ -1,6 +1,7 @@
 mod Outcomes
 mod Standing
 mod JobOutcomes
+mod RunEnds
 mod Spelled
 mod ListedContents
 mod BelowKeys

@@ -3,7 +3,8 @@ use Rattle.std.proofs.Common.{◌≡◌, ◌+◌, ℕ, zero, suc, List, [], ◌�
 use Rattle.std.proofs.lemmas.Option.{same_Some}
 use Rattle.tc_component.specs.Loading.{ComponentState}
 use Rattle.tc_component.specs.Spelling.{Index}
-use Rattle.tc_part_model.specs.Newest.{newest_index}
+use Rattle.tc_list.specs.Intervals.{last_after, last_of}
+use Rattle.tc_part_model.specs.Newest.{newest_index, next_by}
 use Rattle.tc_part_model.specs.PartState.{told_component}
 use Rattle.tc_part.specs.Openings.{newest_in}
 
@@ -22,3 +23,12 @@ newest_at content cs at c here long = last_index content None cs at c here long
 pub none_listed : {F : Type 0} (content : F → Option (List ℕ)) (cs : List (ComponentState F)) → length cs ≡ 0 → newest_in content cs ≡ None
 none_listed content [] long = refl
 none_listed content (c ∷ cs) long = absurd (omega (arith, long))
+
+-- the generation behind it is that behind the list
+behind_index : {F : Type 0} (content : F → Option (List ℕ)) (i : Index) (cs : List (ComponentState F)) → next_by (newest_index (Some i) (map (told_component content) cs)) ≡ last_after i.head.to cs + 1
+behind_index content i [] = refl
+behind_index content i (c ∷ cs) = behind_index content c.index cs
+
+pub next_listed : {F : Type 0} (content : F → Option (List ℕ)) (cs : List (ComponentState F)) → next_by (newest_in content cs) ≡ last_of cs + 1
+next_listed content [] = refl
+next_listed content (c ∷ cs) = behind_index content c.index cs

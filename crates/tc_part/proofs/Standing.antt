@@ -2,6 +2,7 @@
 use Rattle.std.proofs.Common.{◌≡◌, true, false, subst, List, [], ◌∷◌, Option, Some, None, is_some, refl}
 use Rattle.tc_store.specs.Disk.{Disk}
 use Rattle.tc_store.specs.Moments.{IfTold}
+use Rattle.tc_memory.specs.Table.{Table}
 use Rattle.tc_part_model.specs.Meaning.{IsPart}
 use Rattle.tc_part_model.specs.PartState.{Told}
 use Rattle.tc_part_model.specs.PartView.{PartView}
@@ -11,10 +12,10 @@ pub where_it_stands : (t : Told) (disks : List Disk) (Q : Disk → Type 0) → I
 where_it_stands t [] Q stands each = tt
 where_it_stands t (disk ∷ past) Q stands each = each stands.0 stands.1
 
--- what is there where something is
-pub that_is : {X : Type 0} (o : Option X) → is_some o ≡ true → (x : X) × (o ≡ Some x)
-that_is None is = absurd (cc)
-that_is (Some x) is = (x, refl)
+-- the table that is sealed
+pub table_in : (sealed : Option Table) → is_some sealed ≡ true → (table : Table) × (sealed ≡ Some table)
+table_in None is = absurd (cc)
+table_in (Some table) is = (table, refl)
 
 abbrev pub told_in : {t : Told} {p : PartView} → IsPart t p → Told
 told_in {t} is = t

@@ -6,3 +6,4 @@ pub mod Reads
 pub mod Stages
 pub mod Closing
 pub mod Openings
+pub mod JobHeads

@@ -20,7 +20,3 @@ told_opening disks moments content number count store log list = record {
 -- what the newest listed component has beside its records, if there is one
 abbrev pub newest_in : {F : Type 0} → (F → Option (List ℕ)) → List (ComponentState F) → Option Index
 newest_in content list = newest_index None (map (told_component content) list)
-
--- a component keeps these numbers of its partition
-abbrev pub IsOfPart : {F : Type 0} → ℕ → ℕ → ComponentState F → Type 0
-IsOfPart number count c = (c.index.head.number ≡ number) × (c.index.head.count ≡ count)

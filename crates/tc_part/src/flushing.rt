@@ -1,12 +1,13 @@
 //! The sealed table is flushed by a job.
 
 ghost use Rattle.std.specs.Arc.{arc_value};
-ghost use Rattle.std.specs.Prelude.{◌≡◌, ◌-◌, [], Some, None, false, true, is_some, IfOk, IfSome, IsErrOf, OnOk, OnErr};
+ghost use Rattle.std.specs.Prelude.{◌≡◌, ◌+◌, ◌-◌, [], Some, None, false, true, is_some, IfOk, IfSome, IsErrOf, OnOk, OnErr};
 ghost use Rattle.tc_schema_model.specs.Counted.{nothing};
 ghost use Rattle.tc_store.specs.declared.file_name.FileName.TheVariants.{Component as component_name};
 ghost use Rattle.tc_store.specs.Counted.{IsCounted};
 ghost use Rattle.tc_store.specs.StoreCalls.{fresh_file_at};
 ghost use Rattle.tc_component.specs.declared.head.Head.{Head as HeadRecord};
+ghost use Rattle.tc_list.specs.Intervals.{last_of};
 ghost use Rattle.tc_memory.specs.DocumentTables.{IsTableOf};
 ghost use Rattle.tc_lsm_model.specs.Tables.{Table};
 ghost use Rattle.tc_flush.specs.Counting.{IsCounted as CountsOf};
@@ -127,6 +128,9 @@ impl<S: Store> Part<S> {
     /// The job of these parts, with the flusher's watch. It is out from then on.
     fn flush_with(&mut self, inputs: FlushInputs, device: S::Device, head: Head) -> FlushJob<S>
         requires there { is_some self.old.flusher ≡ true }
+        requires sealed { is_some self.old.sealed ≡ true }
+        requires sealed_both { is_some self.old.sealed_log ≡ true }
+        requires behind { self.old.generation ≡ last_of self.old.list + 2 }
         requires can { (t : Table) → IsTableOf t (arc_value inputs.sealed) → CanFlush inputs.names inputs.schema t }
         requires empty { S.Device.size device ≡ 0 }
         requires sound { self.old.log.failed ≡ false }

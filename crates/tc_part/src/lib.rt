@@ -10,6 +10,7 @@ mod fault;
 mod flushing;
 mod limits;
 mod looking;
+mod merging;
 mod names;
 mod part;
 mod records;

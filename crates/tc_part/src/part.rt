@@ -88,7 +88,7 @@ impl<S: Store> Model for Part<S> {
       failed = p.failed;
     } };
 
-    ghost invariant = { λ p. IsReady (λ d. S.Device.name d) p.staged.items p.writes p.generation p.failed p.log p.sealed_log p.merger p.merging };
+    ghost invariant = { λ p. IsReady (λ d. S.Device.name d) (λ f. S.Frozen.name f) p.number p.count p.list p.staged.items p.writes p.generation p.failed p.sealed p.log p.sealed_log p.flusher p.merger p.merging };
 }
 
 impl<S: Store> Part<S> {

@@ -1,8 +1,9 @@
 //! The active table is sealed, and the next log begins.
 
-ghost use Rattle.std.specs.Prelude.{◌≡◌, ◌<◌, ◌+◌, ◌^◌, ◌↔◌, [], Some, None, false, true, OnOk, OnErr, IfErr, IsErrOf};
+ghost use Rattle.std.specs.Prelude.{◌≡◌, ◌<◌, ◌+◌, ◌^◌, ◌↔◌, [], Some, None, false, true, is_some, OnOk, OnErr, IfErr, IsErrOf};
 ghost use Rattle.tc_store.specs.declared.file_name.FileName.TheVariants.{Log as log_name};
 ghost use Rattle.tc_store.specs.Counted.{IsCounted};
+ghost use Rattle.tc_list.specs.Intervals.{last_of};
 ghost use Rattle.tc_part_model.specs.PartState.{told};
 ghost use Rattle.tc_part_model.specs.PartView.{PartView, store_of};
 ghost use Rattle.tc_part_model.specs.Meaning.{IsPart, HasFailedAs, Stands};
@@ -81,6 +82,8 @@ impl<S: Store> Part<S> {
     fn put_behind(&mut self, log: Log<S::Device>)
         requires sound { log.failed ≡ false }
         requires old_sound { self.old.log.failed ≡ false }
+        requires sealed { is_some self.old.sealed ≡ true }
+        requires behind { self.old.generation ≡ last_of self.old.list + 1 }
         requires next { self.old.generation + 1 < 2 ^ 63 }
         requires name { S.Device.name log.device ≡ log_name (self.old.generation + 1) }
         ensures { self.new ≡ record self.old { sealed_log = Some self.old.log; log = log; generation = self.old.generation + 1; failed = false } }

@@ -13,7 +13,9 @@ ghost use Rattle.tc_part_model.specs.Meaning.{IsPart};
 ghost use Rattle.tc_part_model.specs.Newest.{names_by, documents_by, next_by};
 ghost use Rattle.tc_part_model.specs.PartState.{told};
 ghost use Rattle.tc_part_model.specs.Starting.{IsOpened, started, started_part};
-ghost use Rattle.tc_part.specs.Openings.{IsOfPart, told_opening, newest_in};
+ghost use Rattle.tc_jobs.specs.Lists.{IsListOf};
+ghost use Rattle.tc_part.specs.Openings.{told_opening, newest_in};
+ghost use Rattle.tc_part.specs.Ready.{AreNamed};
 
 use crate::limits::Limits;
 use crate::part::Part;
@@ -48,7 +50,8 @@ impl<S: Store> Part<S> {
         requires follows { S.Device.name opened.log.device ≡ log_name (next_by (newest_in S.Frozen.content opened.list)) }
         requires last { next_by (newest_in S.Frozen.content opened.list) < 2 ^ 63 }
         requires few { length opened.list ≤ 8 }
-        requires alike { All (IsOfPart opened.number opened.count) opened.list }
+        requires listed { IsListOf opened.number opened.count opened.list }
+        requires named { AreNamed (λ f. S.Frozen.name f) opened.list }
 
         // It is the part that is opened, where what is handed in makes up one.
         ensures started { (list : List Content) → IsOpened (told_opening S.history S.Device.history S.Frozen.content opened.number opened.count opened.kit.store opened.log.device opened.list) list
@@ -79,6 +82,8 @@ fn begun_with<S: Store>(alloc: Global, opened: Opened<S>, taken: Names) -> Part<
     requires sound { opened.log.failed ≡ false }
     requires follows { S.Device.name opened.log.device ≡ log_name (next_by (newest_in S.Frozen.content opened.list)) }
     requires last { next_by (newest_in S.Frozen.content opened.list) < 2 ^ 63 }
+    requires listed { IsListOf opened.number opened.count opened.list }
+    requires named { AreNamed (λ f. S.Frozen.name f) opened.list }
     ensures begun { result ≡ record { number = opened.number; count = opened.count; limits = record { names = opened.limits.names; docs = opened.limits.docs }; memory = opened.limits.memory; store = opened.kit.store; main = opened.kit.main; flusher = Some opened.kit.flusher; merger = Some opened.kit.merger; reader = Some opened.kit.reader; list = opened.list; sealed = None; sealed_log = None; active = []; log = opened.log; generation = next_by (newest_in S.Frozen.content opened.list); staged = []; taken = taken; live = result.live; writes = 0; flushing = false; merging = None; failed = false } }
     ensures counted { documents_by (newest_in S.Frozen.content opened.list) < 2 ^ 32 → result.live ≡ documents_by (newest_in S.Frozen.content opened.list) }
 {

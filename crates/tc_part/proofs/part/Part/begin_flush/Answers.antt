@@ -8,25 +8,25 @@ use Rattle.tc_part_model.specs.Calls.{FlushesBehind}
 use Rattle.tc_part_model.specs.Changes.{flushing_part}
 use Rattle.tc_part_model.specs.PartState.{told}
 use Rattle.tc_part.proofs.Outcomes.{err_always}
-use Rattle.tc_part.proofs.Standing.{where_it_stands, that_is, told_in, unfailed}
+use Rattle.tc_part.proofs.Standing.{where_it_stands, table_in, told_in, unfailed}
 use Rattle.tc_part.proofs.part.Part.begin_flush.Goals as goal
 
 pub returns-in_err-inputs-clause-moments : goal.returns-in_err-inputs-clause-moments
 returns-in_err-inputs-clause-moments g c =
     let none = ap (λ s. s.flushing) c.self.view_is ∙ c.requires.none_out in
-    let table = that_is _ (ap (λ s. is_some s.sealed) c.self.view_is ∙ c.requires.sealed) in
+    let table = table_in _ (ap (λ s. is_some s.sealed) c.self.view_is ∙ c.requires.sealed) in
     rw (← c.self.view_is) λ p is. c.moments_follow.ensures.before (told_in is) p (flushing_part p) _ (c.flushes_begin.ensures.not_made_moments _ p table.0 _ is table.1 none (inl refl))
 
 pub returns-in_err-inputs-clause-failed : goal.returns-in_err-inputs-clause-failed
 returns-in_err-inputs-clause-failed g c =
     let none = ap (λ s. s.flushing) c.self.view_is ∙ c.requires.none_out in
-    let table = that_is _ (ap (λ s. is_some s.sealed) c.self.view_is ∙ c.requires.sealed) in
+    let table = table_in _ (ap (λ s. is_some s.sealed) c.self.view_is ∙ c.requires.sealed) in
     rw (← c.self.view_is) (err_always c.from_residual.result _ (λ p is. c.flushes_begin.ensures.not_made_as _ _ p table.0 is table.1 none refl refl refl (inl refl)))
 
 pub fresh-requires : goal.fresh-requires
 fresh-requires g c =
     let t = told g.S.Store.history g.S.Device.Device.history g.S.Frozen.Frozen.content c.args.self.now in
-    let table = that_is t.sealed c.requires.sealed in
+    let table = table_in t.sealed c.requires.sealed in
     let named : c.name_of_head.result ≡ Component (c.self.inside.generation - 1) (c.self.inside.generation - 1) = c.name_of_head.ensures ∙ ap name_of c.flush_head-head.ensures in
     let free = where_it_stands t t.disks (λ disk. IsThere (disk (Component (t.generation - 1) (t.generation - 1))) → ⊥) c.requires.stands (λ p is. c.flushes_begin.ensures.free t p table.0 is table.1 c.requires.none_out) in
     subst (λ name. IfTold (g.S.Store.history c.self.inside.store) (λ disk. IsThere (disk name) → ⊥)) (sym named)
@@ -35,7 +35,7 @@ fresh-requires g c =
 pub returns-in_err-device-clause-moments : goal.returns-in_err-device-clause-moments
 returns-in_err-device-clause-moments g c =
     let none = ap (λ s. s.flushing) c.self.view_is ∙ c.requires.none_out in
-    let table = that_is _ (ap (λ s. is_some s.sealed) c.self.view_is ∙ c.requires.sealed) in
+    let table = table_in _ (ap (λ s. is_some s.sealed) c.self.view_is ∙ c.requires.sealed) in
     let named : c.name_of_head.result ≡ Component (c.self.inside.generation - 1) (c.self.inside.generation - 1) = c.name_of_head.ensures ∙ ap name_of c.flush_head-head.ensures in
     let failed = subst (λ name. FailsMaking name (g.S.Store.history c.self.inside.store) (g.S.Store.history c.fresh.new.self)) named c.in_err-device.ensures.failed in
     rw (← c.self.view_is) λ p is. c.moments_follow.ensures.before (told_in is) p (flushing_part p) _ (c.flushes_begin.ensures.not_made_moments _ p table.0 _ is table.1 none failed)
@@ -43,7 +43,7 @@ returns-in_err-device-clause-moments g c =
 pub returns-in_err-device-clause-failed : goal.returns-in_err-device-clause-failed
 returns-in_err-device-clause-failed g c =
     let none = ap (λ s. s.flushing) c.self.view_is ∙ c.requires.none_out in
-    let table = that_is _ (ap (λ s. is_some s.sealed) c.self.view_is ∙ c.requires.sealed) in
+    let table = table_in _ (ap (λ s. is_some s.sealed) c.self.view_is ∙ c.requires.sealed) in
     let named : c.name_of_head.result ≡ Component (c.self.inside.generation - 1) (c.self.inside.generation - 1) = c.name_of_head.ensures ∙ ap name_of c.flush_head-head.ensures in
     let failed = subst (λ name. FailsMaking name (g.S.Store.history c.self.inside.store) (g.S.Store.history c.fresh.new.self)) named c.in_err-device.ensures.failed in
     rw (← c.self.view_is) (err_always c.from_residual-in_err-device.result _ (λ p is. c.flushes_begin.ensures.not_made_as _ _ p table.0 is table.1 none refl refl refl failed))
@@ -51,7 +51,7 @@ returns-in_err-device-clause-failed g c =
 pub returns-clause-begun : goal.returns-clause-begun
 returns-clause-begun g c =
     let none = ap (λ s. s.flushing) c.self.view_is ∙ c.requires.none_out in
-    let table = that_is _ (ap (λ s. is_some s.sealed) c.self.view_is ∙ c.requires.sealed) in
+    let table = table_in _ (ap (λ s. is_some s.sealed) c.self.view_is ∙ c.requires.sealed) in
     let named : c.name_of_head.result ≡ Component (c.self.inside.generation - 1) (c.self.inside.generation - 1) = c.name_of_head.ensures ∙ ap name_of c.flush_head-head.ensures in
     let sound : c.self.inside.failed ≡ false = ap (λ s. s.failed) c.self.view_is ∙ c.requires.sound in
     rw (← c.self.view_is, c.flush_with.ensures.same) λ p is.
@@ -60,7 +60,7 @@ returns-clause-begun g c =
 pub returns-clause-moments : goal.returns-clause-moments
 returns-clause-moments g c =
     let none = ap (λ s. s.flushing) c.self.view_is ∙ c.requires.none_out in
-    let table = that_is _ (ap (λ s. is_some s.sealed) c.self.view_is ∙ c.requires.sealed) in
+    let table = table_in _ (ap (λ s. is_some s.sealed) c.self.view_is ∙ c.requires.sealed) in
     let named : c.name_of_head.result ≡ Component (c.self.inside.generation - 1) (c.self.inside.generation - 1) = c.name_of_head.ensures ∙ ap name_of c.flush_head-head.ensures in
     rw (← c.self.view_is, c.flush_with.ensures.same, c.in_ok-device.ensures.made, named) λ p is. c.moments_follow.ensures.behind (told_in is) p (flushing_part p) _ (c.flushes_begin.ensures.moments _ p table.0 is table.1 none)
 

@@ -1,0 +1,90 @@
+use Rattle.std.proofs.Common.{◌∙◌, Some, option_map, refl, sym, ap, subst}
+use Rattle.tc_store.specs.Disk.{IsThere}
+use Rattle.tc_store.specs.Moments.{IfTold}
+use Rattle.tc_store.specs.StoreCalls.{FailsMaking, makes}
+use Rattle.tc_component.specs.Spelling.{name_of}
+use Rattle.tc_list.specs.Runs.{neighbours}
+use Rattle.tc_part_model.specs.Changes.{merging_part}
+use Rattle.tc_part_model.specs.Leaving.{StoreMomentsLeaveStore}
+use Rattle.tc_machine.specs.Components.{file_of}
+use Rattle.tc_part_model.specs.PartState.{PartState, told}
+use Rattle.tc_part.specs.JobHeads.{merged_head}
+use Rattle.tc_part.proofs.RunEnds.{ends, merge_within}
+use Rattle.tc_part.proofs.Standing.{where_it_stands}
+use Rattle.tc_part.proofs.part.Part.begin_merge.Goals as goal
+
+pub merge_job-requires-clause-free : goal.merge_job-requires-clause-free
+merge_job-requires-clause-free g c = λ κs lives.
+    let s = c.args.self.now in
+    let run = c.args.run in
+    let t = told g.S.Store.history g.S.Device.Device.history g.S.Frozen.Frozen.content s in
+    let head = merged_head s.number s.count run s.list in
+    let e = ends s.number s.count run s.list c.requires.run in
+    where_it_stands t t.disks (λ disk. IsThere (disk (name_of head)) → ⊥) c.requires.stands λ p is.
+    let two = c.runs_can_merge.ensures.within t p s.list run head e.first e.last is refl c.requires.run.0 e.at_first e.at_last e.head in
+    let m = merge_within (neighbours run) p.list two in
+    subst (λ name. IfTold t.disks (λ disk. IsThere (disk name) → ⊥)) (c.runs_can_merge.ensures.named t p s.list run head e.first e.last is refl c.requires.run.0 e.at_first e.at_last e.head m.0 m.1)
+    (c.merges_begin.ensures.free t p (neighbours run) m.0 is two.0 two.1 m.1 c.requires.none_out)
+
+pub returns-in-Ok-clause-begun : goal.returns-in-Ok-clause-begun
+returns-in-Ok-clause-begun g c = λ p m is merge.
+    let s = c.args.self.now in
+    let run = c.args.run in
+    let t = told g.S.Store.history g.S.Device.Device.history g.S.Frozen.Frozen.content s in
+    let head = merged_head s.number s.count run s.list in
+    let e = ends s.number s.count run s.list c.requires.run in
+    let two = c.runs_can_merge.ensures.within t p s.list run head e.first e.last is refl c.requires.run.0 e.at_first e.at_last e.head in
+    let named = c.runs_can_merge.ensures.named t p s.list run head e.first e.last is refl c.requires.run.0 e.at_first e.at_last e.head m merge in
+    let made = c.in-Ok.ensures.made ∙ ap (λ name. makes name t.disks) (sym named) in (
+      c.merges_begin.ensures.begun t _ p (neighbours run) m is two.0 two.1 merge c.requires.none_out
+          (ap (told g.S.Store.history g.S.Device.Device.history g.S.Frozen.Frozen.content) c.in-Ok.ensures.same ∙ ap (λ disks. record t { disks = disks; merging = Some (neighbours run) }) made),
+      c.merges_begin.ensures.stored p (neighbours run) m,
+    )
+
+pub returns-in-Ok-clause-loaded : goal.returns-in-Ok-clause-loaded
+returns-in-Ok-clause-loaded g c = λ p is files.
+    let s = c.args.self.now in
+    let loaded = c.told_components_are_loaded.ensures.all_loaded s.list p.list is.view.components files in
+    rw c.in-Ok.ensures.components (c.told_components_are_loaded.ensures.run c.args.run s.list p.list loaded)
+
+pub returns-in-Ok-clause-moments : goal.returns-in-Ok-clause-moments
+returns-in-Ok-clause-moments g c = λ p m is merge.
+    let s = c.args.self.now in
+    let run = c.args.run in
+    let t = told g.S.Store.history g.S.Device.Device.history g.S.Frozen.Frozen.content s in
+    let head = merged_head s.number s.count run s.list in
+    let e = ends s.number s.count run s.list c.requires.run in
+    let two = c.runs_can_merge.ensures.within t p s.list run head e.first e.last is refl c.requires.run.0 e.at_first e.at_last e.head in
+    let named = c.runs_can_merge.ensures.named t p s.list run head e.first e.last is refl c.requires.run.0 e.at_first e.at_last e.head m merge in
+    let made = c.in-Ok.ensures.made ∙ ap (λ name. makes name t.disks) (sym named) in
+    subst (λ disks. StoreMomentsLeaveStore p (merging_part (neighbours run) m p) t disks) (sym made)
+    (c.moments_follow.ensures.behind t p (merging_part (neighbours run) m p) _ (c.merges_begin.ensures.moments t p (neighbours run) m is two.0 two.1 merge c.requires.none_out))
+
+pub returns-in-Err-clause-moments : goal.returns-in-Err-clause-moments
+returns-in-Err-clause-moments g c = λ p m is merge.
+    let s = c.args.self.now in
+    let run = c.args.run in
+    let t = told g.S.Store.history g.S.Device.Device.history g.S.Frozen.Frozen.content s in
+    let head = merged_head s.number s.count run s.list in
+    let e = ends s.number s.count run s.list c.requires.run in
+    let two = c.runs_can_merge.ensures.within t p s.list run head e.first e.last is refl c.requires.run.0 e.at_first e.at_last e.head in
+    let named = c.runs_can_merge.ensures.named t p s.list run head e.first e.last is refl c.requires.run.0 e.at_first e.at_last e.head m merge in
+    let unmade = subst (λ name. FailsMaking name t.disks (g.S.Store.history c.merge_job.new.self.store)) (sym named) c.in-Err.ensures.unmade in
+    subst (λ (s : PartState _ _ _ _). StoreMomentsLeaveStore p (merging_part (neighbours run) m p) t (g.S.Store.history s.store)) (sym c.self.view_is)
+    (c.moments_follow.ensures.before t p (merging_part (neighbours run) m p) _ (c.merges_begin.ensures.not_made_moments t p (neighbours run) m _ is two.0 two.1 merge c.requires.none_out unmade))
+
+pub returns-in-Err-clause-failed : goal.returns-in-Err-clause-failed
+returns-in-Err-clause-failed g c = λ p is.
+    let s = c.args.self.now in
+    let run = c.args.run in
+    let t = told g.S.Store.history g.S.Device.Device.history g.S.Frozen.Frozen.content s in
+    let head = merged_head s.number s.count run s.list in
+    let e = ends s.number s.count run s.list c.requires.run in
+    let two = c.runs_can_merge.ensures.within t p s.list run head e.first e.last is refl c.requires.run.0 e.at_first e.at_last e.head in
+    let m = merge_within (neighbours run) p.list two in
+    let named = c.runs_can_merge.ensures.named t p s.list run head e.first e.last is refl c.requires.run.0 e.at_first e.at_last e.head m.0 m.1 in
+    let unmade = subst (λ name. FailsMaking name t.disks (g.S.Store.history c.merge_job.new.self.store)) (sym named) c.in-Err.ensures.unmade in
+    c.merges_begin.ensures.not_made_as t _ p (neighbours run) m.0 is two.0 two.1 m.1 c.requires.none_out refl
+    (ap (λ (s : PartState _ _ _ _). g.S.Device.Device.history s.log.device) (c.self.view_is ∙ c.in-Err.ensures.left))
+    (ap (λ (s : PartState _ _ _ _). option_map (λ l. g.S.Device.Device.history l.device) s.sealed_log) (c.self.view_is ∙ c.in-Err.ensures.left))
+    (subst (λ (s : PartState _ _ _ _). FailsMaking (file_of m.0) t.disks (g.S.Store.history s.store)) (sym c.self.view_is) unmade)
