@@ -2,6 +2,8 @@ mod Outcomes
 mod Standing
 mod JobOutcomes
 mod RunEnds
+mod ListedBehind
+mod FlushedContents
 mod Spelled
 mod ListedContents
 mod BelowKeys

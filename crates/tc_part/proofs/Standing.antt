@@ -23,3 +23,7 @@ told_in {t} is = t
 -- what a part means it means still where it is said that it has not failed
 pub unfailed : {t : Told} {p : PartView} → IsPart t p → IsPart (record t { failed = false }) p
 unfailed {t} {p} is = subst (λ failed. IsPart (record t { failed = failed }) p) is.sound is
+
+-- the side of an equation that stands first
+abbrev pub left_of : {X : Type 0} {x y : X} → x ≡ y → X
+left_of {X} {x} {y} e = x

@@ -7,3 +7,4 @@ pub mod Stages
 pub mod Closing
 pub mod Openings
 pub mod JobHeads
+pub mod FlushEnds

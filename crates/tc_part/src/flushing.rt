@@ -85,7 +85,7 @@ impl<S: Store> Part<S> {
     }
 
     /// The header of what the flush of the sealed table makes.
-    fn flush_head(&self) -> Head
+    pub(crate) fn flush_head(&self) -> Head
         ensures { result ≡ record { number = self.now.number; count = self.now.count; from = self.now.generation - 1; to = self.now.generation - 1 } }
     {
         let generation = self.generation - 1;

@@ -7,6 +7,7 @@ mod closing;
 mod committing;
 mod deleting;
 mod fault;
+mod flushed;
 mod flushing;
 mod limits;
 mod looking;

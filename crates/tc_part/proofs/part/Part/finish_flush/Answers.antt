@@ -1,0 +1,39 @@
+use Rattle.std.proofs.Common.{◌≡◌, ◌∙◌, ◌-◌, true, false, Some, is_some, option_map, refl, sym, ap}
+use Rattle.std.specs.Prelude.{not}
+use Rattle.std.specs.Arc.{arc_value}
+use Rattle.tc_store.specs.Disk.{home}
+use Rattle.tc_store.specs.StoreCalls.{comes_home}
+use Rattle.tc_store.specs.declared.file_name.FileName.TheVariants.{Component}
+use Rattle.tc_store.proofs.MomentLemmas.{told_map}
+use Rattle.tc_part_model.specs.Changes.{flushed_part}
+use Rattle.tc_part_model.specs.Meaning.{IsOfContent, IsPart}
+use Rattle.tc_part_model.specs.PartState.{told, told_component}
+use Rattle.tc_part.proofs.FlushedContents.{flush_headed, none_out, of_made, some_there, told_listed}
+use Rattle.tc_part.proofs.Handing.{still_some}
+use Rattle.tc_part.proofs.Standing.{left_of}
+use Rattle.tc_part.proofs.part.Part.finish_flush.Goals as goal
+
+pub returns-then-self-clause-stays : goal.returns-then-self-clause-stays
+returns-then-self-clause-stays g c =
+    let device_named = c.requires.name ∙ ap (λ s. Component (s.generation - 1) (s.generation - 1)) (sym c.self.view_is) in
+    rw (← c.self.view_is) λ failed p frame j was out named leaves.
+    c.failed_parts_keep_files.ensures.flush _ _ p frame j _ was out leaves failed refl refl
+    (c.abandon.ensures.home ∙ ap (λ name. comes_home name (λ f. home f) (g.S.Device.Device.history c.args.out.device) (g.S.Store.history c.self.inside.store)) (device_named ∙ sym named))
+
+pub returns-in-Ok-clause-flushed : goal.returns-in-Ok-clause-flushed
+returns-in-Ok-clause-flushed g c =
+    let s = c.self.inside in
+    let device = g.S.Device.Device.history c.args.out.device in
+    let flushing : not (is_some s.flusher) ≡ true = ap (λ s. s.flushing) c.self.view_is ∙ c.requires.out in
+    rw (← c.self.view_is) λ sound p m is makes made.
+    let sealed = c.self.invariant.flush sound (none_out s.flusher flushing) in
+    let there = some_there s.sealed_log _ (c.self.invariant.sealed_both sound ∙ sealed) c.in-Ok.ensures.uncovered in
+    let some = ap (option_map (λ l. g.S.Device.Device.history l.device)) there.1 in
+    let head = flush_headed _ p m is (still_some arc_value s.sealed ∙ sealed) makes in
+    let listed = c.in-Ok.ensures.listed in
+    let of = of_made g.S.Frozen.Frozen.content g.S.Frozen.Frozen.name _ _ (g.S.Store.history s.store) m device listed.component listed.made made head (c.told_components_are_loaded.ensures.of_content listed.component m) in (
+      told_map (λ disk. IsOfContent (told_component g.S.Frozen.Frozen.content listed.component) m) (λ disk. IsPart (told g.S.Store.history g.S.Device.Device.history g.S.Frozen.Frozen.content c.end_flush.new.self) (flushed_part m p)) (g.S.Store.history s.store)
+          (λ disk is_of. c.flushes_are_listed.ensures.listed _ _ p m _ device _ is flushing some makes is_of made there.2.0
+          (told_listed g.S.Store.history g.S.Device.Device.history g.S.Frozen.Frozen.content (record (left_of c.self.view_is) { flusher = Some c.args.out.watch; flushing = false }) c.end_flush.new.self listed.component _ c.in-Ok.ensures.same listed.listed there.2.1)) of,
+      c.flushes_are_listed.ensures.stored _ p m _ is flushing some makes,
+    )

@@ -1,0 +1,141 @@
+//! What a flush made is listed.
+
+ghost use Rattle.std.specs.Prelude.{◌≡◌, ◌⊎◌, List, Option, Some, Ok, Err, None, false, true, is_some, IfErr, IfOk, IsErrOf, OnOk, OnErr};
+ghost use Rattle.std.specs.Result.{IsOk};
+ghost use Rattle.tc_store.specs.Disk.{home as at_home};
+ghost use Rattle.tc_store.specs.DiskFile.{IsSettled};
+ghost use Rattle.tc_store.specs.Moments.{IfTold, LeavesAt};
+ghost use Rattle.tc_store.specs.StoreCalls.{comes_home, frozen_entry};
+ghost use Rattle.tc_plain_model.specs.Writes.{Write as PlainWrite};
+ghost use Rattle.tc_lsm_model.specs.Contents.{Content};
+ghost use Rattle.tc_machine.specs.State.{Flushing, flush_name};
+ghost use Rattle.tc_machine.specs.Steps.{IsFlushed, IsShutOrHas};
+ghost use Rattle.tc_merge.specs.Faults.{IsWatched};
+ghost use Rattle.tc_jobs.specs.ReadBack.{ComesHome};
+ghost use Rattle.tc_part_model.specs.Calls.{HasMade, MakesFlush};
+ghost use Rattle.tc_part_model.specs.Changes.{flushed_part};
+ghost use Rattle.tc_part_model.specs.Meaning.{IsPart, HasFailedAs};
+ghost use Rattle.tc_part_model.specs.PartState.{told};
+ghost use Rattle.tc_part_model.specs.PartView.{PartView, store_of};
+ghost use Rattle.tc_part.specs.Faults.{of_device};
+ghost use Rattle.tc_part.specs.FlushEnds.{flushed_name, HasListed, HasUncovered, IsFlushUnlisted, IsFlushCovering};
+
+use crate::fault::PartFault;
+use crate::part::Part;
+use std::alloc::Global;
+use tc_flush::FlushOut;
+use tc_jobs::{JobFault, list_flush, remove_file};
+use tc_log::Log;
+use tc_part_model::{failed_parts_keep_files, flushes_are_listed, told_components_are_loaded};
+use tc_store::{DeviceFault, Store};
+
+impl<S: Store> Part<S> {
+    /// Takes back what is left of a flush. Where its component is whole, that is listed, and the log that it covers is removed.
+    /// A partition that has failed brings the device home, and does nothing else. Makes the reads of a component that is loaded.
+    pub fn finish_flush(&mut self, alloc: Global, out: FlushOut<S>) -> Result<(), PartFault>
+        requires out { self.old.flushing ≡ true }
+        requires name { S.Device.name out.device ≡ flushed_name self.old }
+        requires settled { IsOk out.outcome → IfTold (S.Device.history out.device) IsSettled }
+
+        // On Ok of a part that had not failed it is the part whose flush is listed, which stores what it stored.
+        ensures flushed { OnOk result (self.old.failed ≡ false → (p : PartView) (c : Content) → IsPart (told S.history S.Device.history S.Frozen.content self.old) p → MakesFlush p c → HasMade c (S.history self.old.store) (S.Device.history out.device)
+            → IfTold (S.history self.old.store) (λ disk. IsPart (told S.history S.Device.history S.Frozen.content self.new) (flushed_part c p)) × (store_of (flushed_part c p) ≡ store_of p)) }
+
+        // So it is over every store: the component of the device is listed behind the others, and no table is sealed.
+        ensures listed { OnOk result (self.old.failed ≡ false → HasListed S.Frozen.content S.Frozen.name (S.Device.history out.device) self.old self.new.list) }
+        ensures same { OnOk result (self.old.failed ≡ false → self.new ≡ record self.old { store = self.new.store; main = self.new.main; flusher = Some out.watch; flushing = false; list = self.new.list; sealed = None; sealed_log = None }) }
+        ensures uncovered { OnOk result (self.old.failed ≡ false → HasUncovered S.history S.Device.history (S.Device.history out.device) self.old (S.history self.new.store)) }
+
+        // A part that had failed gets its device home and its watch back.
+        ensures home { self.old.failed ≡ true → (result ≡ Ok tt) × (self.new ≡ record self.old { store = self.new.store; flusher = Some out.watch; flushing = false }) × (S.history self.new.store ≡ comes_home (flushed_name self.old) (λ f. at_home f) (S.Device.history out.device) (S.history self.old.store)) }
+        ensures stays { self.old.failed ≡ true → (p : PartView) (frame : Option (List PlainWrite)) (j : Flushing) → HasFailedAs (told S.history S.Device.history S.Frozen.content self.old) p frame → p.flush ≡ Some j → flush_name j ≡ flushed_name self.old
+            → IfTold (S.Device.history out.device) (LeavesAt (IsShutOrHas (IsFlushed p.part p.list p.sealed))) → HasFailedAs (told S.history S.Device.history S.Frozen.content self.new) p frame }
+
+        // Behind a fault the watch is back, and the part failed: before the component was listed, or behind that.
+        ensures left { OnErr result ((self.new.failed ≡ true) × (IsFlushUnlisted S.history (S.Device.history out.device) (record self.old { flusher = Some out.watch; flushing = false }) self.new ⊎ IsFlushCovering S.Frozen.content S.Frozen.name S.history S.Device.history (S.Device.history out.device) (record self.old { flusher = Some out.watch; flushing = false }) self.new)) }
+        ensures unmade { IfErr out.outcome (λ cause. self.old.failed ≡ false → result ≡ Err (of_device cause)) }
+        ensures unspent { IsErrOf result PartFault.Spent → ⊥ }
+        ensures watched { IsWatched (IsOk out.outcome × IsErrOf result PartFault.Disk) (S.Watch.counts self.old.main) (S.Watch.counts self.new.main) }
+    {
+        flushes_are_listed();
+        failed_parts_keep_files();
+        told_components_are_loaded::<S::Frozen>();
+        let FlushOut {
+            watch,
+            device,
+            outcome,
+        } = out;
+        self.flusher = Some(watch);
+        if self.failed {
+            self.store.abandon(device);
+            return Ok(());
+        }
+        match self.end_flush(alloc, device, outcome) {
+            Ok(()) => Ok(()),
+            Err(fault) => {
+                self.failed = true;
+                Err(fault)
+            }
+        }
+    }
+
+    /// Lists what a flush made, and removes the log that it covers.
+    fn end_flush(
+        &mut self,
+        alloc: Global,
+        device: S::Device,
+        outcome: Result<(), DeviceFault>,
+    ) -> Result<(), PartFault>
+        requires sound { self.old.failed ≡ false }
+        requires sealed { is_some self.old.sealed ≡ true }
+        requires back { self.old.flushing ≡ false }
+        requires name { S.Device.name device ≡ flushed_name self.old }
+        requires settled { IsOk outcome → IfTold (S.Device.history device) IsSettled }
+        ensures listed { OnOk result (HasListed S.Frozen.content S.Frozen.name (S.Device.history device) self.old self.new.list) }
+        ensures same { OnOk result (self.new ≡ record self.old { store = self.new.store; main = self.new.main; list = self.new.list; sealed = None; sealed_log = None }) }
+        ensures uncovered { OnOk result (HasUncovered S.history S.Device.history (S.Device.history device) self.old (S.history self.new.store)) }
+        ensures left { OnErr result (IsFlushUnlisted S.history (S.Device.history device) self.old self.new ⊎ IsFlushCovering S.Frozen.content S.Frozen.name S.history S.Device.history (S.Device.history device) self.old self.new) }
+        ensures unmade { IfErr outcome (λ cause. (result ≡ Err (of_device cause)) × (self.new ≡ record self.old { store = self.new.store }) × (S.history self.new.store ≡ comes_home (flushed_name self.old) (λ f. at_home f) (S.Device.history device) (S.history self.old.store))) }
+        ensures unspent { IsErrOf result PartFault.Spent → ⊥ }
+        ensures watched { IsWatched (IsOk outcome × IsErrOf result PartFault.Disk) (S.Watch.counts self.old.main) (S.Watch.counts self.new.main) }
+    {
+        if let Err(cause) = outcome {
+            self.store.abandon(device);
+            return Err(cause.into());
+        }
+        let log = self.push_flushed(alloc, device)?;
+        remove_file(alloc, &mut self.store, log.give_back(), &mut self.main)?;
+        Ok(())
+    }
+
+    /// Lists what a flush made, and takes the log that it covers out of the partition.
+    fn push_flushed(&mut self, alloc: Global, device: S::Device) -> Result<Log<S::Device>, JobFault>
+        requires sound { self.old.failed ≡ false }
+        requires sealed { is_some self.old.sealed ≡ true }
+        requires back { self.old.flushing ≡ false }
+        requires name { S.Device.name device ≡ flushed_name self.old }
+        requires settled { IfTold (S.Device.history device) IsSettled }
+        ensures listed { OnOk result (HasListed S.Frozen.content S.Frozen.name (S.Device.history device) self.old self.new.list) }
+        ensures log { IfOk result (λ log. Some log ≡ self.old.sealed_log) }
+        ensures same { OnOk result (self.new ≡ record self.old { store = self.new.store; main = self.new.main; list = self.new.list; sealed = None; sealed_log = None }) }
+        ensures store { OnOk result (S.history self.new.store ≡ comes_home (flushed_name self.old) frozen_entry (S.Device.history device) (S.history self.old.store)) }
+        ensures left { OnErr result (self.new ≡ record self.old { store = self.new.store; main = self.new.main }) }
+        ensures home { OnErr result (ComesHome (flushed_name self.old) (S.Device.history device) (S.history self.old.store) (S.history self.new.store)) }
+        ensures watched { IsWatched (IsErrOf result JobFault.Disk) (S.Watch.counts self.old.main) (S.Watch.counts self.new.main) }
+    {
+        let head = self.flush_head();
+        list_flush(
+            alloc,
+            &mut self.store,
+            &mut self.list,
+            device,
+            head,
+            &mut self.main,
+        )?;
+        self.sealed = None;
+        match self.sealed_log.take() {
+            Some(log) => Ok(log),
+            None => unreachable!(),
+        }
+    }
+}
