@@ -12,6 +12,7 @@ use Rattle.tc_component.specs.declared.head.Head.{Head}
 use Rattle.tc_component.specs.Loaded.{IsLoadedOf}
 use Rattle.tc_component.specs.Loading.{ComponentState}
 use Rattle.tc_component.specs.Rows.{IsComponent, component_bytes, head_of}
+use Rattle.tc_log.specs.Appending.{LogState}
 use Rattle.tc_lsm_model.specs.Contents.{Content, Partition}
 use Rattle.tc_lsm_model.specs.Flushes.{IsFlush}
 use Rattle.tc_lsm_model.specs.Lists.{last_of}
@@ -65,3 +66,8 @@ told_listed disks moments content old new m ds same listed store =
     ap (told disks moments content) same
     ∙ ap (λ d. record (told disks moments content old) { disks = d; sealed = None; sealed_log = None; components = map (told_component content) new.list }) store
     ∙ ap (λ cs. record (told disks moments content old) { disks = ds; sealed = None; sealed_log = None; components = cs }) (ap (map (told_component content)) listed ∙ map-append (told_component content) old.list (m ∷ []))
+
+-- the log that is there
+pub log_there : {D : Type 0} (o : Option (LogState D)) → is_some o ≡ true → (l : LogState D) × (o ≡ Some l)
+log_there None there = absurd (cc)
+log_there (Some l) there = (l, refl)

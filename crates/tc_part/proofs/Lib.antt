@@ -4,6 +4,7 @@ mod JobOutcomes
 mod RunEnds
 mod ListedBehind
 mod FlushedContents
+mod FlushOutcomes
 mod Spelled
 mod ListedContents
 mod BelowKeys

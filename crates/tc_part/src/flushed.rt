@@ -14,6 +14,7 @@ ghost use Rattle.tc_merge.specs.Faults.{IsWatched};
 ghost use Rattle.tc_jobs.specs.ReadBack.{ComesHome};
 ghost use Rattle.tc_part_model.specs.Calls.{HasMade, MakesFlush};
 ghost use Rattle.tc_part_model.specs.Changes.{flushed_part};
+ghost use Rattle.tc_part_model.specs.Leaving.{StoreMomentsLeaveStore};
 ghost use Rattle.tc_part_model.specs.Meaning.{IsPart, HasFailedAs};
 ghost use Rattle.tc_part_model.specs.PartState.{told};
 ghost use Rattle.tc_part_model.specs.PartView.{PartView, store_of};
@@ -41,6 +42,10 @@ impl<S: Store> Part<S> {
         ensures flushed { OnOk result (self.old.failed ≡ false → (p : PartView) (c : Content) → IsPart (told S.history S.Device.history S.Frozen.content self.old) p → MakesFlush p c → HasMade c (S.history self.old.store) (S.Device.history out.device)
             → IfTold (S.history self.old.store) (λ disk. IsPart (told S.history S.Device.history S.Frozen.content self.new) (flushed_part c p)) × (store_of (flushed_part c p) ≡ store_of p)) }
 
+        // At each moment of the call a stop leaves what was stored.
+        ensures moments { (p : PartView) (c : Content) → IsPart (told S.history S.Device.history S.Frozen.content self.old) p → MakesFlush p c → HasMade c (S.history self.old.store) (S.Device.history out.device)
+            → StoreMomentsLeaveStore p (flushed_part c p) (told S.history S.Device.history S.Frozen.content self.old) (S.history self.new.store) }
+
         // So it is over every store: the component of the device is listed behind the others, and no table is sealed.
         ensures listed { OnOk result (self.old.failed ≡ false → HasListed S.Frozen.content S.Frozen.name (S.Device.history out.device) self.old self.new.list) }
         ensures same { OnOk result (self.old.failed ≡ false → self.new ≡ record self.old { store = self.new.store; main = self.new.main; flusher = Some out.watch; flushing = false; list = self.new.list; sealed = None; sealed_log = None }) }
@@ -53,6 +58,8 @@ impl<S: Store> Part<S> {
 
         // Behind a fault the watch is back, and the part failed: before the component was listed, or behind that.
         ensures left { OnErr result ((self.new.failed ≡ true) × (IsFlushUnlisted S.history (S.Device.history out.device) (record self.old { flusher = Some out.watch; flushing = false }) self.new ⊎ IsFlushCovering S.Frozen.content S.Frozen.name S.history S.Device.history (S.Device.history out.device) (record self.old { flusher = Some out.watch; flushing = false }) self.new)) }
+        ensures failed { OnErr result ((p : PartView) (c : Content) → IsPart (told S.history S.Device.history S.Frozen.content self.old) p → MakesFlush p c → HasMade c (S.history self.old.store) (S.Device.history out.device)
+            → HasFailedAs (told S.history S.Device.history S.Frozen.content self.new) p None ⊎ HasFailedAs (told S.history S.Device.history S.Frozen.content self.new) (flushed_part c p) None) }
         ensures unmade { IfErr out.outcome (λ cause. self.old.failed ≡ false → result ≡ Err (of_device cause)) }
         ensures unspent { IsErrOf result PartFault.Spent → ⊥ }
         ensures watched { IsWatched (IsOk out.outcome × IsErrOf result PartFault.Disk) (S.Watch.counts self.old.main) (S.Watch.counts self.new.main) }

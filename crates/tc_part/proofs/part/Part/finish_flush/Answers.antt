@@ -1,4 +1,4 @@
-use Rattle.std.proofs.Common.{◌≡◌, ◌∙◌, ◌-◌, true, false, Some, is_some, option_map, refl, sym, ap}
+use Rattle.std.proofs.Common.{◌≡◌, ◌∙◌, ◌-◌, ◌⊎◌, true, false, Bool, Some, None, is_some, option_map, refl, sym, ap, subst}
 use Rattle.std.specs.Prelude.{not}
 use Rattle.std.specs.Arc.{arc_value}
 use Rattle.tc_store.specs.Disk.{home}
@@ -6,11 +6,13 @@ use Rattle.tc_store.specs.StoreCalls.{comes_home}
 use Rattle.tc_store.specs.declared.file_name.FileName.TheVariants.{Component}
 use Rattle.tc_store.proofs.MomentLemmas.{told_map}
 use Rattle.tc_part_model.specs.Changes.{flushed_part}
-use Rattle.tc_part_model.specs.Meaning.{IsOfContent, IsPart}
-use Rattle.tc_part_model.specs.PartState.{told, told_component}
-use Rattle.tc_part.proofs.FlushedContents.{flush_headed, none_out, of_made, some_there, told_listed}
+use Rattle.tc_part_model.specs.Leaving.{StoreMomentsLeaveStore}
+use Rattle.tc_part_model.specs.Meaning.{HasFailedAs, IsOfContent, IsPart}
+use Rattle.tc_part_model.specs.PartState.{PartState, told, told_component}
+use Rattle.tc_part.proofs.FlushedContents.{flush_headed, log_there, none_out, of_made, some_there, told_listed}
+use Rattle.tc_part.proofs.FlushOutcomes.{ended_failed, ended_moments}
 use Rattle.tc_part.proofs.Handing.{still_some}
-use Rattle.tc_part.proofs.Standing.{left_of}
+use Rattle.tc_part.proofs.Standing.{left_of, told_in}
 use Rattle.tc_part.proofs.part.Part.finish_flush.Goals as goal
 
 pub returns-then-self-clause-stays : goal.returns-then-self-clause-stays
@@ -37,3 +39,43 @@ returns-in-Ok-clause-flushed g c =
           (told_listed g.S.Store.history g.S.Device.Device.history g.S.Frozen.Frozen.content (record (left_of c.self.view_is) { flusher = Some c.args.out.watch; flushing = false }) c.end_flush.new.self listed.component _ c.in-Ok.ensures.same listed.listed there.2.1)) of,
       c.flushes_are_listed.ensures.stored _ p m _ is flushing some makes,
     )
+
+both : {P : Type 0} (b : Bool) → b ≡ true → b ≡ false → P
+both b is is_not = absurd (cc)
+
+pub returns-then-self-clause-moments : goal.returns-then-self-clause-moments
+returns-then-self-clause-moments g c = rw (← c.self.view_is) λ p m is makes made. both c.self.inside.failed c.if-self.true is.sound
+
+pub returns-in-Ok-clause-moments : goal.returns-in-Ok-clause-moments
+returns-in-Ok-clause-moments g c =
+    let s = c.self.inside in
+    let flushing : not (is_some s.flusher) ≡ true = ap (λ s. s.flushing) c.self.view_is ∙ c.requires.out in
+    rw (← c.self.view_is) λ p m is makes made.
+    let sealed = c.self.invariant.flush is.sound (none_out s.flusher flushing) in
+    let there = some_there s.sealed_log _ (c.self.invariant.sealed_both is.sound ∙ sealed) c.in-Ok.ensures.uncovered in
+    let some = ap (option_map (λ l. g.S.Device.Device.history l.device)) there.1 in
+    subst (λ disks. StoreMomentsLeaveStore p (flushed_part m p) (told_in is) disks) (sym there.2.1) (c.flushes_are_listed.ensures.moments _ p m _ _ is flushing some makes made there.2.0)
+
+pub returns-in-Err-clause-moments : goal.returns-in-Err-clause-moments
+returns-in-Err-clause-moments g c =
+    let s = c.self.inside in
+    let flushing : not (is_some s.flusher) ≡ true = ap (λ s. s.flushing) c.self.view_is ∙ c.requires.out in
+    rw (← c.self.view_is) λ p m is makes made.
+    let sealed = c.self.invariant.flush is.sound (none_out s.flusher flushing) in
+    let there = log_there s.sealed_log (c.self.invariant.sealed_both is.sound ∙ sealed) in
+    let out = subst (λ b. IsPart (record (told_in is) { flushing = b }) p) flushing is in
+    subst (λ (x : PartState _ _ _ _). StoreMomentsLeaveStore p (flushed_part m p) (told_in is) (g.S.Store.history x.store)) (sym c.self-2.view_is)
+    (ended_moments g.S.Store.history g.S.Device.Device.history g.S.Frozen.Frozen.content g.S.Frozen.Frozen.name (record (left_of c.self.view_is) { flusher = Some c.args.out.watch; flushing = false }) c.end_flush.new.self p m (g.S.Device.Device.history c.args.out.device) there.0 out there.1 makes made c.in-Err.ensures.left)
+
+pub returns-in-Err-clause-failed : goal.returns-in-Err-clause-failed
+returns-in-Err-clause-failed g c =
+    let s = c.self.inside in
+    let flushing : not (is_some s.flusher) ≡ true = ap (λ s. s.flushing) c.self.view_is ∙ c.requires.out in
+    rw (← c.self.view_is) λ p m is makes made.
+    let sealed = c.self.invariant.flush is.sound (none_out s.flusher flushing) in
+    let there = log_there s.sealed_log (c.self.invariant.sealed_both is.sound ∙ sealed) in
+    let out = subst (λ b. IsPart (record (told_in is) { flushing = b }) p) flushing is in
+    let head = flush_headed _ p m is (still_some arc_value s.sealed ∙ sealed) makes in
+    subst (λ (x : PartState _ _ _ _). HasFailedAs (record (told g.S.Store.history g.S.Device.Device.history g.S.Frozen.Frozen.content x) { failed = true }) p None ⊎ HasFailedAs (record (told g.S.Store.history g.S.Device.Device.history g.S.Frozen.Frozen.content x) { failed = true }) (flushed_part m p) None) (sym c.self-2.view_is)
+    (ended_failed g.S.Store.history g.S.Device.Device.history g.S.Frozen.Frozen.content g.S.Frozen.Frozen.name (record (left_of c.self.view_is) { flusher = Some c.args.out.watch; flushing = false }) c.end_flush.new.self p m (g.S.Device.Device.history c.args.out.device) there.0 out there.1 makes made refl head
+    (λ component. c.told_components_are_loaded.ensures.of_content component m) c.in-Err.ensures.left)
