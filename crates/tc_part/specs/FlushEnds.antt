@@ -1,5 +1,6 @@
 -- What becomes of a part when what is left of a flush is handed back.
 use Rattle.std.specs.Prelude.{◌≡◌, ◌-◌, ℕ, List, Option, None, IfSome}
+use Rattle.tc_store.specs.declared.damage.Damage.{Damage}
 use Rattle.tc_store.specs.declared.file_name.FileName.{FileName}
 use Rattle.tc_store.specs.declared.file_name.FileName.TheVariants.{Component, Log}
 use Rattle.tc_store.specs.Disk.{Disk}
@@ -7,7 +8,7 @@ use Rattle.tc_store.specs.DiskFile.{DiskFile, IsSettled}
 use Rattle.tc_store.specs.Moments.{IfTold}
 use Rattle.tc_store.specs.StoreCalls.{comes_home, frozen_entry, removes}
 use Rattle.tc_component.specs.Loading.{ComponentState}
-use Rattle.tc_jobs.specs.Listing.{FailsRemoving, FitsBehind, IsListed, IsReadBack, behind}
+use Rattle.tc_jobs.specs.Listing.{FailsRemoving, FitsBehind, IsListed, IsReadBack, IsUnlisted, behind}
 use Rattle.tc_jobs.specs.ReadBack.{ComesHome}
 use Rattle.tc_part_model.specs.PartState.{PartState}
 use Rattle.tc_part.specs.JobHeads.{flushed_head}
@@ -39,3 +40,8 @@ pub record IsFlushCovering {S D F W : Type 0} (content : F → Option (List ℕ)
   pub same : new ≡ record old { store = new.store; main = new.main; list = new.list; sealed = None; sealed_log = None; failed = new.failed }
   pub settled : IfSome old.sealed_log (λ l. IfTold (moments l.device) IsSettled)
   pub covered : IfSome old.sealed_log (λ l. FailsRemoving (covered_name old) (moments l.device) (comes_home (flushed_name old) frozen_entry device (disks old.store)) (disks new.store))
+
+-- the file of the device is damaged, or the names of the component that it is do not go on from those of the newest one listed
+abbrev pub IsFlushDamage : {S D F W : Type 0} → (F → Option (List ℕ)) → (F → FileName) → ℕ → List DiskFile → PartState S D F W → Damage → Type 0
+IsFlushDamage content name size device old =
+    IsUnlisted (IsReadBack content name (flushed_head old.number old.count old.generation) (flushed_name old) device) (FitsBehind old.list) (flushed_head old.number old.count old.generation) size device

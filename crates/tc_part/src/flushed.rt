@@ -11,6 +11,7 @@ ghost use Rattle.tc_lsm_model.specs.Contents.{Content};
 ghost use Rattle.tc_machine.specs.State.{Flushing, flush_name};
 ghost use Rattle.tc_machine.specs.Steps.{IsFlushed, IsShutOrHas};
 ghost use Rattle.tc_merge.specs.Faults.{IsWatched};
+ghost use Rattle.tc_jobs.specs.Faults.{IfDamaged as IfJobDamaged};
 ghost use Rattle.tc_jobs.specs.ReadBack.{ComesHome};
 ghost use Rattle.tc_part_model.specs.Calls.{HasMade, MakesFlush};
 ghost use Rattle.tc_part_model.specs.Changes.{flushed_part};
@@ -18,8 +19,8 @@ ghost use Rattle.tc_part_model.specs.Leaving.{StoreMomentsLeaveStore};
 ghost use Rattle.tc_part_model.specs.Meaning.{IsPart, HasFailedAs};
 ghost use Rattle.tc_part_model.specs.PartState.{told};
 ghost use Rattle.tc_part_model.specs.PartView.{PartView, store_of};
-ghost use Rattle.tc_part.specs.Faults.{of_device};
-ghost use Rattle.tc_part.specs.FlushEnds.{flushed_name, HasListed, HasUncovered, IsFlushUnlisted, IsFlushCovering};
+ghost use Rattle.tc_part.specs.Faults.{of_device, IfDamaged};
+ghost use Rattle.tc_part.specs.FlushEnds.{flushed_name, HasListed, HasUncovered, IsFlushDamage, IsFlushUnlisted, IsFlushCovering};
 
 use crate::fault::PartFault;
 use crate::part::Part;
@@ -61,6 +62,7 @@ impl<S: Store> Part<S> {
         ensures failed { OnErr result ((p : PartView) (c : Content) → IsPart (told S.history S.Device.history S.Frozen.content self.old) p → MakesFlush p c → HasMade c (S.history self.old.store) (S.Device.history out.device)
             → HasFailedAs (told S.history S.Device.history S.Frozen.content self.new) p None ⊎ HasFailedAs (told S.history S.Device.history S.Frozen.content self.new) (flushed_part c p) None) }
         ensures unmade { IfErr out.outcome (λ cause. self.old.failed ≡ false → result ≡ Err (of_device cause)) }
+        ensures damaged { IfDamaged result (IsFlushDamage S.Frozen.content S.Frozen.name (S.Device.size out.device) (S.Device.history out.device) self.old) }
         ensures unspent { IsErrOf result PartFault.Spent → ⊥ }
         ensures watched { IsWatched (IsOk out.outcome × IsErrOf result PartFault.Disk) (S.Watch.counts self.old.main) (S.Watch.counts self.new.main) }
     {
@@ -103,6 +105,7 @@ impl<S: Store> Part<S> {
         ensures uncovered { OnOk result (HasUncovered S.history S.Device.history (S.Device.history device) self.old (S.history self.new.store)) }
         ensures left { OnErr result (IsFlushUnlisted S.history (S.Device.history device) self.old self.new ⊎ IsFlushCovering S.Frozen.content S.Frozen.name S.history S.Device.history (S.Device.history device) self.old self.new) }
         ensures unmade { IfErr outcome (λ cause. (result ≡ Err (of_device cause)) × (self.new ≡ record self.old { store = self.new.store }) × (S.history self.new.store ≡ comes_home (flushed_name self.old) (λ f. at_home f) (S.Device.history device) (S.history self.old.store))) }
+        ensures damaged { IfDamaged result (IsFlushDamage S.Frozen.content S.Frozen.name (S.Device.size device) (S.Device.history device) self.old) }
         ensures unspent { IsErrOf result PartFault.Spent → ⊥ }
         ensures watched { IsWatched (IsOk outcome × IsErrOf result PartFault.Disk) (S.Watch.counts self.old.main) (S.Watch.counts self.new.main) }
     {
@@ -128,6 +131,7 @@ impl<S: Store> Part<S> {
         ensures store { OnOk result (S.history self.new.store ≡ comes_home (flushed_name self.old) frozen_entry (S.Device.history device) (S.history self.old.store)) }
         ensures left { OnErr result (self.new ≡ record self.old { store = self.new.store; main = self.new.main }) }
         ensures home { OnErr result (ComesHome (flushed_name self.old) (S.Device.history device) (S.history self.old.store) (S.history self.new.store)) }
+        ensures damaged { IfJobDamaged result (IsFlushDamage S.Frozen.content S.Frozen.name (S.Device.size device) (S.Device.history device) self.old) }
         ensures watched { IsWatched (IsErrOf result JobFault.Disk) (S.Watch.counts self.old.main) (S.Watch.counts self.new.main) }
     {
         let head = self.flush_head();

@@ -1,5 +1,6 @@
 //! Layer 5, engine: one partition of the store, in memory and in its files. It begins with what was opened, writes are staged
-//! and committed, keys are looked up, a table is sealed, and it is closed; the calls that flush and merge are to come.
+//! and committed, keys are looked up, a table is sealed and flushed, a merge begins, and it is closed; the call that ends a
+//! merge is to come.
 #![tactic(auto)]
 
 mod below;
