@@ -1,5 +1,5 @@
 -- What a partition begins with, as far as it tells.
-use Rattle.std.specs.Prelude.{◌≡◌, ℕ, List, map, Option, None}
+use Rattle.std.specs.Prelude.{ℕ, List, map, Option, None}
 use Rattle.tc_store.specs.Disk.{Disk}
 use Rattle.tc_store.specs.DiskFile.{DiskFile}
 use Rattle.tc_component.specs.Loading.{ComponentState}

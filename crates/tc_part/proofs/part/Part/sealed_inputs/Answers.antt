@@ -1,8 +1,6 @@
-use Rattle.std.proofs.Common.{◌≡◌, ◌∙◌, [], option_map, ap, subst}
+use Rattle.std.proofs.Common.{option_map, ap, subst}
 use Rattle.std.specs.Arc.{arc_value}
 use Rattle.tc_memory.specs.Table.{IsTable}
-use Rattle.tc_merge.specs.Merging.{newest_names, newest_schema}
-use Rattle.tc_schema_model.specs.Counted.{nothing}
 use Rattle.tc_part.proofs.JobOutcomes.{if_ok_all, damaged_then}
 use Rattle.tc_part.proofs.ListedContents.{all_indices}
 use Rattle.tc_part.proofs.part.Part.sealed_inputs.Goals as goal
