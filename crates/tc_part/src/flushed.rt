@@ -1,11 +1,15 @@
 //! What a flush made is listed.
 
-ghost use Rattle.std.specs.Prelude.{◌≡◌, ◌⊎◌, List, Option, Some, Ok, Err, None, false, true, is_some, IfErr, IfOk, IsErrOf, OnOk, OnErr};
+ghost use Rattle.std.specs.Prelude.{◌≡◌, ◌⊎◌, [], List, Option, Some, Ok, Err, None, false, true, is_some, IfErr, IfOk, IfSome, IsErrOf, OnOk, OnErr};
 ghost use Rattle.std.specs.Result.{IsOk};
 ghost use Rattle.tc_store.specs.Disk.{home as at_home};
 ghost use Rattle.tc_store.specs.DiskFile.{IsSettled};
 ghost use Rattle.tc_store.specs.Moments.{IfTold, LeavesAt};
-ghost use Rattle.tc_store.specs.StoreCalls.{comes_home, frozen_entry};
+ghost use Rattle.tc_store.specs.StoreCalls.{comes_home, content_now, frozen_entry};
+ghost use Rattle.tc_model.specs.Dictionary.{Extends};
+ghost use Rattle.tc_component.specs.Rows.{IsComponent, head_of};
+ghost use Rattle.tc_merge.specs.Merging.{newest_names};
+ghost use Rattle.tc_part.specs.JobHeads.{flushed_head};
 ghost use Rattle.tc_plain_model.specs.Writes.{Write as PlainWrite};
 ghost use Rattle.tc_lsm_model.specs.Contents.{Content};
 ghost use Rattle.tc_machine.specs.State.{Flushing, flush_name};
@@ -26,9 +30,12 @@ use crate::fault::PartFault;
 use crate::part::Part;
 use std::alloc::Global;
 use tc_flush::FlushOut;
-use tc_jobs::{JobFault, list_flush, remove_file};
+use tc_jobs::{JobFault, inputs_are_newest, list_flush, remove_file};
 use tc_log::Log;
-use tc_part_model::{failed_parts_keep_files, flushes_are_listed, told_components_are_loaded};
+use tc_part_model::{
+    failed_parts_keep_files, flushes_are_listed, sealed_tables_can_flush,
+    told_components_are_loaded,
+};
 use tc_store::{DeviceFault, Store};
 
 impl<S: Store> Part<S> {
@@ -62,6 +69,8 @@ impl<S: Store> Part<S> {
         ensures failed { OnErr result ((p : PartView) (c : Content) → IsPart (told S.history S.Device.history S.Frozen.content self.old) p → MakesFlush p c → HasMade c (S.history self.old.store) (S.Device.history out.device)
             → HasFailedAs (told S.history S.Device.history S.Frozen.content self.new) p None ⊎ HasFailedAs (told S.history S.Device.history S.Frozen.content self.new) (flushed_part c p) None) }
         ensures unmade { IfErr out.outcome (λ cause. self.old.failed ≡ false → result ≡ Err (of_device cause)) }
+        ensures undamaged { (p : PartView) (c : Content) → IsPart (told S.history S.Device.history S.Frozen.content self.old) p → MakesFlush p c → HasMade c (S.history self.old.store) (S.Device.history out.device)
+            → IfTold (S.history self.old.store) (λ disk. IfDamaged result (λ damage. ⊥)) }
         ensures damaged { IfDamaged result (IsFlushDamage S.Frozen.content S.Frozen.name (S.Device.size out.device) (S.Device.history out.device) self.old) }
         ensures unspent { IsErrOf result PartFault.Spent → ⊥ }
         ensures watched { IsWatched (IsOk out.outcome × IsErrOf result PartFault.Disk) (S.Watch.counts self.old.main) (S.Watch.counts self.new.main) }
@@ -69,6 +78,8 @@ impl<S: Store> Part<S> {
         flushes_are_listed();
         failed_parts_keep_files();
         told_components_are_loaded::<S::Frozen>();
+        sealed_tables_can_flush();
+        inputs_are_newest::<S::Frozen>();
         let FlushOut {
             watch,
             device,
@@ -105,6 +116,7 @@ impl<S: Store> Part<S> {
         ensures uncovered { OnOk result (HasUncovered S.history S.Device.history (S.Device.history device) self.old (S.history self.new.store)) }
         ensures left { OnErr result (IsFlushUnlisted S.history (S.Device.history device) self.old self.new ⊎ IsFlushCovering S.Frozen.content S.Frozen.name S.history S.Device.history (S.Device.history device) self.old self.new) }
         ensures unmade { IfErr outcome (λ cause. (result ≡ Err (of_device cause)) × (self.new ≡ record self.old { store = self.new.store }) × (S.history self.new.store ≡ comes_home (flushed_name self.old) (λ f. at_home f) (S.Device.history device) (S.history self.old.store))) }
+        ensures sound { IfSome (content_now (S.Device.history device)) (λ bytes. (c : Content) → IsComponent c bytes → head_of c ≡ flushed_head self.old.number self.old.count self.old.generation → Extends c.names (newest_names [] self.old.list) → IfDamaged result (λ damage. ⊥)) }
         ensures damaged { IfDamaged result (IsFlushDamage S.Frozen.content S.Frozen.name (S.Device.size device) (S.Device.history device) self.old) }
         ensures unspent { IsErrOf result PartFault.Spent → ⊥ }
         ensures watched { IsWatched (IsOk outcome × IsErrOf result PartFault.Disk) (S.Watch.counts self.old.main) (S.Watch.counts self.new.main) }
@@ -131,6 +143,7 @@ impl<S: Store> Part<S> {
         ensures store { OnOk result (S.history self.new.store ≡ comes_home (flushed_name self.old) frozen_entry (S.Device.history device) (S.history self.old.store)) }
         ensures left { OnErr result (self.new ≡ record self.old { store = self.new.store; main = self.new.main }) }
         ensures home { OnErr result (ComesHome (flushed_name self.old) (S.Device.history device) (S.history self.old.store) (S.history self.new.store)) }
+        ensures sound { IfSome (content_now (S.Device.history device)) (λ bytes. (c : Content) → IsComponent c bytes → head_of c ≡ flushed_head self.old.number self.old.count self.old.generation → Extends c.names (newest_names [] self.old.list) → IfJobDamaged result (λ damage. ⊥)) }
         ensures damaged { IfJobDamaged result (IsFlushDamage S.Frozen.content S.Frozen.name (S.Device.size device) (S.Device.history device) self.old) }
         ensures watched { IsWatched (IsErrOf result JobFault.Disk) (S.Watch.counts self.old.main) (S.Watch.counts self.new.main) }
     {

@@ -1,5 +1,8 @@
-use Rattle.std.proofs.Common.{◌≡◌, ◌∙◌, ◌-◌, ◌⊎◌, true, false, Bool, Some, None, is_some, option_map, refl, sym, ap, subst}
-use Rattle.std.specs.Prelude.{not}
+use Rattle.std.proofs.Common.{◌≡◌, ◌∙◌, ◌-◌, ◌⊎◌, true, false, Bool, [], Some, None, is_some, option_map, refl, sym, ap, subst}
+use Rattle.std.specs.Prelude.{Err, not}
+use Rattle.tc_model.specs.Dictionary.{Extends}
+use Rattle.tc_merge.specs.Merging.{newest_names}
+use Rattle.tc_part.specs.Faults.{IfDamaged}
 use Rattle.std.specs.Arc.{arc_value}
 use Rattle.tc_store.specs.Disk.{home}
 use Rattle.tc_store.specs.StoreCalls.{comes_home}
@@ -9,10 +12,11 @@ use Rattle.tc_part_model.specs.Changes.{flushed_part}
 use Rattle.tc_part_model.specs.Leaving.{StoreMomentsLeaveStore}
 use Rattle.tc_part_model.specs.Meaning.{HasFailedAs, IsOfContent, IsPart}
 use Rattle.tc_part_model.specs.PartState.{PartState, told, told_component}
-use Rattle.tc_part.proofs.FlushedContents.{flush_headed, log_there, none_out, of_made, some_there, told_listed}
+use Rattle.tc_part.proofs.FlushedContents.{flush_headed, log_there, made_so, none_out, of_made, some_there, told_any, told_listed}
 use Rattle.tc_part.proofs.FlushOutcomes.{ended_failed, ended_moments}
+use Rattle.tc_part.proofs.ListedContents.{all_indices}
 use Rattle.tc_part.proofs.Handing.{still_some}
-use Rattle.tc_part.proofs.Standing.{left_of, told_in}
+use Rattle.tc_part.proofs.Standing.{left_of, table_in, told_in}
 use Rattle.tc_part.proofs.part.Part.finish_flush.Goals as goal
 
 pub returns-then-self-clause-stays : goal.returns-then-self-clause-stays
@@ -79,3 +83,20 @@ returns-in-Err-clause-failed g c =
     subst (λ (x : PartState _ _ _ _). HasFailedAs (record (told g.S.Store.history g.S.Device.Device.history g.S.Frozen.Frozen.content x) { failed = true }) p None ⊎ HasFailedAs (record (told g.S.Store.history g.S.Device.Device.history g.S.Frozen.Frozen.content x) { failed = true }) (flushed_part m p) None) (sym c.self-2.view_is)
     (ended_failed g.S.Store.history g.S.Device.Device.history g.S.Frozen.Frozen.content g.S.Frozen.Frozen.name (record (left_of c.self.view_is) { flusher = Some c.args.out.watch; flushing = false }) c.end_flush.new.self p m (g.S.Device.Device.history c.args.out.device) there.0 out there.1 makes made refl head
     (λ component. c.told_components_are_loaded.ensures.of_content component m) c.in-Err.ensures.left)
+
+pub returns-then-self-clause-undamaged : goal.returns-then-self-clause-undamaged
+returns-then-self-clause-undamaged g c = λ p m is makes made. told_any _ (Unit {0}) tt
+
+pub returns-in-Ok-clause-undamaged : goal.returns-in-Ok-clause-undamaged
+returns-in-Ok-clause-undamaged g c = λ p m is makes made. told_any _ (Unit {0}) tt
+
+pub returns-in-Err-clause-undamaged : goal.returns-in-Err-clause-undamaged
+returns-in-Err-clause-undamaged g c =
+    let s = c.self.inside in
+    let flushing : not (is_some s.flusher) ≡ true = ap (λ s. s.flushing) c.self.view_is ∙ c.requires.out in
+    rw (← c.self.view_is) λ p m is makes made.
+    let sealed = still_some arc_value s.sealed ∙ c.self.invariant.flush is.sound (none_out s.flusher flushing) in
+    let table = table_in _ sealed in
+    let names = c.inputs_are_newest.ensures.names s.list p.list (all_indices g.S.Frozen.Frozen.content s.list p.list is.view.components) in
+    let extends = subst (λ names. Extends m.names names) (sym names) (c.sealed_tables_can_flush.ensures.extends _ p table.0 m is table.1 makes) in
+    made_so _ (newest_names [] s.list) (g.S.Store.history s.store) (g.S.Device.Device.history c.args.out.device) m (IfDamaged {X = Unit {0}} (Err c.in-Err.fault) (λ damage. ⊥)) made (flush_headed _ p m is sealed makes) extends c.in-Err.ensures.sound
