@@ -6,3 +6,5 @@ mod Taking
 mod HeadSteps
 mod SortedNames
 mod LogSteps
+mod LoadSteps
+mod Removals

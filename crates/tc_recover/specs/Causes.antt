@@ -7,6 +7,8 @@ use Rattle.tc_store.specs.declared.fault.FrozenFault.{FrozenFault}
 use Rattle.tc_store.specs.declared.damage.ReadFault.{ReadFault}
 use Rattle.tc_store.specs.declared.damage.ReadFault.TheVariants.{Disk as unread, Damaged as broken, Memory as no_memory}
 use Rattle.tc_store.specs.declared.damage.Damage.TheVariants.{Bytes}
+use Rattle.tc_jobs.specs.declared.fault.JobFault.{JobFault}
+use Rattle.tc_jobs.specs.declared.fault.JobFault.TheVariants as job
 use Rattle.tc_recover.specs.declared.cause.OpenCause.{OpenCause}
 use Rattle.tc_recover.specs.declared.cause.OpenCause.TheVariants.{Disk, Damaged, Layout, Memory}
 
@@ -16,6 +18,11 @@ of_store no_room = Memory
 
 abbrev pub of_frozen : FrozenFault → OpenCause
 of_frozen fault = Disk
+
+abbrev pub of_job : JobFault → OpenCause
+of_job job.Disk = Disk
+of_job (job.Damaged damage) = Damaged damage
+of_job job.Memory = Memory
 
 -- of the file of this name
 abbrev pub IsOfRead : FileName → ReadFault → OpenCause → Type 0

@@ -6,3 +6,5 @@ pub mod Reads
 pub mod Refusals
 pub mod Sorting
 pub mod Loads
+pub mod Loading
+pub mod Removing

@@ -2,9 +2,10 @@
 
 ghost use Rattle.std.specs.Prelude.{◌≡◌};
 ghost use Rattle.tc_recover.specs.declared.cause.OpenCause.TheVariants.{Memory as no_memory};
-ghost use Rattle.tc_recover.specs.Causes.{of_store, of_frozen, IsOfRead};
+ghost use Rattle.tc_recover.specs.Causes.{of_store, of_frozen, of_job, IsOfRead};
 
 use std::alloc::{AllocError, AllocFailed};
+use tc_jobs::JobFault;
 use tc_store::{Damage, FileName, FrozenFault, ReadFault, StoreFault};
 use thiserror::Error;
 
@@ -54,6 +55,18 @@ impl From<FrozenFault> for OpenCause {
 
     fn from(_: FrozenFault) -> OpenCause {
         OpenCause::Disk
+    }
+}
+
+impl From<JobFault> for OpenCause {
+    ghost from_gives = { λ f e. e ≡ of_job f };
+
+    fn from(fault: JobFault) -> OpenCause {
+        match fault {
+            JobFault::Disk => OpenCause::Disk,
+            JobFault::Damaged(damage) => OpenCause::Damaged(damage),
+            JobFault::Memory => OpenCause::Memory,
+        }
     }
 }
 

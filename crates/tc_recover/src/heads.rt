@@ -76,9 +76,12 @@ fn judge_head<F: Frozen>(
     }
 }
 
-fn judge_numbers(part: Partition, number: u32, count: u32) -> Result<(), OpenCause>
+/// Whether numbers that a file keeps are those of the partition.
+pub(crate) fn judge_numbers(part: Partition, number: u32, count: u32) -> Result<(), OpenCause>
     ensures judged { Refuses result (stray (asked part) number count) }
     ensures numbers { IfErr result (λ cause. cause ≡ Layout number count) }
+    ensures own_number { OnOk result (number ≡ part.number) }
+    ensures own_count { OnOk result (count ≡ part.count) }
     ensures no_disk { IsErrOf result OpenCause.Disk → ⊥ }
 {
     if number == part.number && count == part.count {

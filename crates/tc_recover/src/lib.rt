@@ -1,6 +1,6 @@
 //! Layer 5, opening: what the files that a stop left of a partition are taken for. All are taken and their headers judged,
-//! the components that count are chosen, and the logs above them read; the loading of those components, and all that is
-//! written, is to come.
+//! the components that count are chosen and loaded, the logs above them read, and the files that nobody needs removed; what
+//! is written is to come.
 #![tactic(auto)]
 
 mod cause;
@@ -8,7 +8,9 @@ mod gates;
 mod heads;
 mod interval;
 mod listing;
+mod loading;
 mod logs;
+mod removing;
 mod sorting;
 mod taken;
 mod tiling;
@@ -17,7 +19,9 @@ pub use cause::OpenCause;
 pub use gates::take_all;
 pub use heads::{Partition, judge_heads};
 pub use interval::Interval;
+pub use loading::{Loaded, load_components};
 pub use logs::read_logs;
+pub use removing::remove_needless;
 pub use sorting::{last_of, sort_files};
 pub use taken::Taken;
 

@@ -44,7 +44,7 @@ pub fn read_logs<F: Frozen>(
 }
 
 /// Whether a file is an open log above a generation.
-fn is_log<F: Frozen>(last: u64, file: &Taken<F>) -> bool
+pub(crate) fn is_log<F: Frozen>(last: u64, file: &Taken<F>) -> bool
     ensures { result ≡ of_log last file.now }
 {
     match file.name {
