@@ -1,3 +1,4 @@
+pub mod ListEnds
 mod Growing
 mod NewestContents
 mod Tiles

@@ -1,6 +1,6 @@
 //! What is staged is committed.
 
-ghost use Rattle.std.specs.Prelude.{◌≡◌, ◌≤◌, ◌+◌, ◌^◌, ◌↔◌, Some, true, false, [], length, OnOk, OnErr, IfErr, IsErrOf};
+ghost use Rattle.std.specs.Prelude.{◌≡◌, ◌≤◌, ◌+◌, ◌^◌, ◌↔◌, Ok, Some, true, false, [], length, OnOk, OnErr, IfErr, IsErrOf};
 ghost use Rattle.tc_store.specs.Counted.{IsCounted};
 ghost use Rattle.tc_plain_model.specs.Writes.{after_writes};
 ghost use Rattle.tc_part_model.specs.PartState.{told};
@@ -30,6 +30,7 @@ impl<S: Store> Part<S> {
             → IsPart (told S.history S.Device.history S.Frozen.content self.new) (committed_part p) × (store_of (committed_part p) ≡ after_writes (store_of p) p.staged)) }
         ensures same { OnOk result (self.new ≡ record self.old { main = self.new.main; log = self.new.log; staged = self.new.staged; writes = self.old.writes + length self.old.staged }) }
         ensures cleared { OnOk result (self.new.staged ≡ []) }
+        ensures nothing { self.old.staged ≡ [] → (result ≡ Ok tt) × (self.new ≡ self.old) }
 
         // At each moment of the call a stop leaves what is stored, without the frame or with it, and so it does behind a fault.
         ensures moments { (p : PartView) → IsPart (told S.history S.Device.history S.Frozen.content self.old) p

@@ -23,7 +23,8 @@ use Rattle.tc_store.proofs.NameLemmas.{same_name-refl, same_name-is}
 use Rattle.tc_component.specs.Layout.{names_place, file_size}
 use Rattle.tc_component.specs.Loading.{ComponentState, index_in}
 use Rattle.tc_component.specs.Spelling.{Index, IsIndex, name_of, sizes_in}
-use Rattle.tc_list.specs.Intervals.{last_of, last_after}
+use Rattle.tc_list.specs.Intervals.{last_of}
+use Rattle.tc_jobs.proofs.ListEnds.{last_pushed}
 use Rattle.tc_merge.specs.Merging.{newest_names}
 use Rattle.tc_jobs.specs.declared.fault.JobFault.{JobFault}
 use Rattle.tc_jobs.specs.declared.fault.JobFault.TheVariants as job
@@ -146,10 +147,6 @@ pub record AreTilesLeft {F W : Type 0} (tells : F → Option (List ℕ)) (part :
 newest_behind : {F : Type 0} (names : List Name) (older newer : List (ComponentState F)) → newest_names names (older ++ newer) ≡ newest_names (newest_names names older) newer
 newest_behind names [] newer = refl
 newest_behind names (d ∷ older) newer = newest_behind d.index.names older newer
-
-last_pushed : {F : Type 0} (g : ℕ) (cs : List (ComponentState F)) (c : ComponentState F) → last_after g (cs ++ c ∷ []) ≡ c.index.head.to
-last_pushed g [] c = refl
-last_pushed g (d ∷ cs) c = last_pushed d.index.head.to cs c
 
 tiles_begin : {F W : Type 0} (tells : F → Option (List ℕ)) (part : Partition) (all : List (Taken F W)) (tiles : List Interval) (now : Counts) → IsStrictlySortedBy name_cmp (names_in all) → IsTiling (intervals_of (open_names all)) tiles
     → AreTilesLeft tells part all all tiles tiles [] [] now now
