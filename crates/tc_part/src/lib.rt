@@ -25,5 +25,6 @@ mod upserting;
 pub use fault::PartFault;
 pub use limits::Limits;
 pub use part::Part;
+pub use records::shape_at;
 pub use staging::Staged;
 pub use starting::Opened;

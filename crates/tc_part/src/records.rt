@@ -30,8 +30,9 @@ pub(crate) fn component_at<F: Frozen>(list: &ComponentList<F>, at: usize) -> &Co
     &list.as_slice()[at]
 }
 
-/// The shape of the document at a place of a component, by one read.
-pub(crate) fn shape_at<F: Frozen>(
+/// The shape of the document at a place of a component, by one read. `Damaged` comes where the bytes there are the record of
+/// no document under the names of the component.
+pub fn shape_at<F: Frozen>(
     alloc: Global,
     component: &Component<F>,
     place: Place,
