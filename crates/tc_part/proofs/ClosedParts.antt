@@ -20,7 +20,7 @@ use Rattle.tc_part_model.specs.PartView.{PartView, store_of}
 use Rattle.tc_part_model.proofs.Closes.{close_stores, close_both_stores}
 use Rattle.tc_part_model.proofs.FailedParts.{fails_so}
 use Rattle.tc_part_model.proofs.HomeMoments.{close_moments, close_both_moments}
-use Rattle.tc_part.specs.Closing.{brought_home, HasLogsOf}
+use Rattle.tc_part.specs.Closing.{brought_home, HasFailedWhole, HasLogsOf}
 
 -- ---- the logs of a part that runs
 
@@ -31,6 +31,10 @@ one_log are_told (Some d) (Some kept) keeps = keeps.0
 
 pub logs_of : (t : Told) (p : PartView) → IsPart t p → HasLogsOf t p
 logs_of t p is = record { generation = is.view.generation; sealed_log = is.view.sealed_log; one = one_log (AreTold t.components) p.sealed t.sealed is.view.sealed }
+
+-- another one has them too that has as many
+pub logs_like : (t u : Told) (p : PartView) → HasLogsOf t p → u.generation ≡ t.generation → is_some u.sealed_log ≡ is_some t.sealed_log → HasLogsOf u p
+logs_like t u p logs generation sealed_log = record { generation = generation ∙ logs.generation; sealed_log = sealed_log ∙ logs.sealed_log; one = logs.one }
 
 -- ---- what the store keeps
 
@@ -73,10 +77,9 @@ pub closed_moments : (t : Told) (p : PartView) (frame : Option (List Write)) →
 closed_moments t p frame failed logs = closed_by t p (FailedMomentsLeaveStore p frame t) logs (close_moments t p frame failed) (λ covered. close_both_moments t p frame covered failed)
 
 -- a part that runs is one that fails, as far as its files go
-fails_whole : (t : Told) (p : PartView) → IsPart t p → HasFailedAs (record t { failed = true }) p None × HasLogsOf (record t { failed = true }) p
+fails_whole : (t : Told) (p : PartView) → IsPart t p → HasFailedWhole (record t { failed = true }) p
 fails_whole t p is =
-    let logs = logs_of t p is in
-    (fails_so t (record t { failed = true }) p is refl refl refl refl, record { generation = logs.generation; sealed_log = logs.sealed_log; one = logs.one })
+    (fails_so t (record t { failed = true }) p is refl refl refl refl, logs_like t (record t { failed = true }) p (logs_of t p is) refl refl)
 
 pub closed_runs : (t : Told) (p : PartView) → IsPart t p
     → IfTold (brought_home (Log t.generation) t.log (option_map (λ moments. (Log (t.generation - 1), moments)) t.sealed_log) t.disks) (KeepsStore p.part (store_of p) None)

@@ -2,7 +2,6 @@
 use Rattle.std.proofs.Common.{◌≡◌, ◌∙◌, ◌+◌, ◌-◌, ◌++◌, ℕ, List, [], ◌∷◌, false, map, Option, Some, None, is_some, true, length, refl, sym, ap, subst, arith}
 use Rattle.std.specs.Prelude.{IfSome, not}
 use Rattle.std.proofs.lemmas.List.{map-append}
-use Rattle.tc_model.specs.Dictionary.{Extends}
 use Rattle.tc_model.specs.Document.{Name}
 use Rattle.tc_store.specs.declared.file_name.FileName.{FileName}
 use Rattle.tc_store.specs.Disk.{Disk}
@@ -78,13 +77,13 @@ pub told_any : {X : Type 0} (xs : List X) (Q : Type 0) → Q → IfTold xs (λ x
 told_any [] Q q = tt
 told_any (x ∷ xs) Q q = q
 
--- what is so of the bytes of a content is so where the store tells its files
-pub made_so : (head : Head) (names : List Name) (disks : List Disk) (device : List DiskFile) (c : Content) (Q : Type 0) → HasMade c disks device → head_of c ≡ head → Extends c.names names
-    → IfSome (content_now device) (λ bytes. (d : Content) → IsComponent d bytes → head_of d ≡ head → Extends d.names names → Q) → IfTold disks (λ disk. Q)
-made_so head names disks device c Q made is extends so = given disks device made.tells made.content so
+-- what is so of the bytes of a content whose names fit is so where the store tells its files
+pub made_so : (head : Head) (Fits : List Name → Type 0) (disks : List Disk) (device : List DiskFile) (c : Content) (Q : Type 0) → HasMade c disks device → head_of c ≡ head → Fits c.names
+    → IfSome (content_now device) (λ bytes. (d : Content) → IsComponent d bytes → head_of d ≡ head → Fits d.names → Q) → IfTold disks (λ disk. Q)
+made_so head Fits disks device c Q made is fits so = given disks device made.tells made.content so
   where
     given : (ds : List Disk) (dev : List DiskFile) → IfTold ds (λ disk. IsTold dev) → IfTold dev (λ f. f ≡ settled_file (component_bytes c))
-        → IfSome (content_now dev) (λ bytes. (d : Content) → IsComponent d bytes → head_of d ≡ head → Extends d.names names → Q) → IfTold ds (λ disk. Q)
+        → IfSome (content_now dev) (λ bytes. (d : Content) → IsComponent d bytes → head_of d ≡ head → Fits d.names → Q) → IfTold ds (λ disk. Q)
     given [] dev tells whole so = tt
     given (disk ∷ past) [] tells whole so = absurd tells
-    given (disk ∷ past) (f ∷ more) tells whole so = so c (subst (λ bytes. IsComponent c bytes) (sym (ap (λ (x : DiskFile). x.content) whole)) made.whole) is extends
+    given (disk ∷ past) (f ∷ more) tells whole so = so c (subst (λ bytes. IsComponent c bytes) (sym (ap (λ (x : DiskFile). x.content) whole)) made.whole) is fits

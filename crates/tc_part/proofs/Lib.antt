@@ -5,6 +5,9 @@ mod RunEnds
 mod ListedBehind
 mod FlushedContents
 mod FlushOutcomes
+mod ReplacedRun
+mod MergedContents
+mod MergeOutcomes
 mod Spelled
 mod ListedContents
 mod BelowKeys

@@ -4,6 +4,7 @@ use Rattle.tc_store.specs.declared.file_name.FileName.{FileName}
 use Rattle.tc_store.specs.Disk.{Disk, home}
 use Rattle.tc_store.specs.DiskFile.{DiskFile}
 use Rattle.tc_store.specs.StoreCalls.{comes_home}
+use Rattle.tc_part_model.specs.Meaning.{HasFailedAs}
 use Rattle.tc_part_model.specs.PartState.{Told}
 use Rattle.tc_part_model.specs.PartView.{PartView, generation_of}
 
@@ -17,3 +18,7 @@ pub record HasLogsOf (t : Told) (p : PartView) : Type 0 where
   pub generation : t.generation ≡ generation_of p
   pub sealed_log : is_some t.sealed_log ≡ is_some p.sealed
   pub one : IfSome p.sealed (λ d. length d.logs ≡ 1)
+
+-- It has failed as this, without a frame, and has the logs of this: what is asked of a part that is closed.
+abbrev pub HasFailedWhole : Told → PartView → Type 0
+HasFailedWhole t p = HasFailedAs t p None × HasLogsOf t p

@@ -9,8 +9,8 @@ use Rattle.tc_store.specs.Moments.{IfTold}
 use Rattle.tc_store.specs.StoreCalls.{comes_home, frozen_entry, removes}
 use Rattle.tc_component.specs.Loading.{ComponentState}
 use Rattle.tc_jobs.specs.Listing.{FailsRemoving, FitsBehind, IsListed, IsReadBack, IsUnlisted, behind}
-use Rattle.tc_jobs.specs.ReadBack.{ComesHome}
 use Rattle.tc_part_model.specs.PartState.{PartState}
+use Rattle.tc_part.specs.JobEnds.{IsLeftUnlisted}
 use Rattle.tc_part.specs.JobHeads.{flushed_head}
 
 -- the name of what the flush makes, and that of the log that it covers
@@ -30,9 +30,8 @@ HasUncovered disks moments device old new =
     IfSome old.sealed_log (λ l. IfTold (moments l.device) IsSettled × (new ≡ removes (covered_name old) (comes_home (covered_name old) frozen_entry (moments l.device) (comes_home (flushed_name old) frozen_entry device (disks old.store)))))
 
 -- nothing is listed, and the file of the device is at home, still or as it is
-pub record IsFlushUnlisted {S D F W : Type 0} (disks : S → List Disk) (device : List DiskFile) (old new : PartState S D F W) : Type 0 where
-  pub same : new ≡ record old { store = new.store; main = new.main; failed = new.failed }
-  pub home : ComesHome (flushed_name old) device (disks old.store) (disks new.store)
+abbrev pub IsFlushUnlisted : {S D F W : Type 0} → (S → List Disk) → List DiskFile → PartState S D F W → PartState S D F W → Type 0
+IsFlushUnlisted disks device old new = IsLeftUnlisted disks (flushed_name old) device old new
 
 -- the component is listed, and the log that it covers came home, or counts as removed
 pub record IsFlushCovering {S D F W : Type 0} (content : F → Option (List ℕ)) (name : F → FileName) (disks : S → List Disk) (moments : D → List DiskFile) (device : List DiskFile) (old new : PartState S D F W) : Type 0 where

@@ -7,4 +7,6 @@ pub mod Stages
 pub mod Closing
 pub mod Openings
 pub mod JobHeads
+pub mod JobEnds
 pub mod FlushEnds
+pub mod MergeEnds

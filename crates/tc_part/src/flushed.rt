@@ -19,11 +19,13 @@ ghost use Rattle.tc_jobs.specs.Faults.{IfDamaged as IfJobDamaged};
 ghost use Rattle.tc_jobs.specs.ReadBack.{ComesHome};
 ghost use Rattle.tc_part_model.specs.Calls.{HasMade, MakesFlush};
 ghost use Rattle.tc_part_model.specs.Changes.{flushed_part};
-ghost use Rattle.tc_part_model.specs.Leaving.{StoreMomentsLeaveStore};
+ghost use Rattle.tc_part_model.specs.Leaving.{FailedMomentsLeaveStore, StoreMomentsLeaveStore};
 ghost use Rattle.tc_part_model.specs.Meaning.{IsPart, HasFailedAs};
 ghost use Rattle.tc_part_model.specs.PartState.{told};
 ghost use Rattle.tc_part_model.specs.PartView.{PartView, store_of};
+ghost use Rattle.tc_part.specs.Closing.{HasFailedWhole};
 ghost use Rattle.tc_part.specs.Faults.{of_device, IfDamaged};
+ghost use Rattle.tc_part.specs.MergeEnds.{merged_name, run_out};
 ghost use Rattle.tc_part.specs.FlushEnds.{flushed_name, HasListed, HasUncovered, IsFlushDamage, IsFlushUnlisted, IsFlushCovering};
 
 use crate::fault::PartFault;
@@ -59,16 +61,29 @@ impl<S: Store> Part<S> {
         ensures same { OnOk result (self.old.failed ≡ false → self.new ≡ record self.old { store = self.new.store; main = self.new.main; flusher = Some out.watch; flushing = false; list = self.new.list; sealed = None; sealed_log = None }) }
         ensures uncovered { OnOk result (self.old.failed ≡ false → HasUncovered S.history S.Device.history (S.Device.history out.device) self.old (S.history self.new.store)) }
 
-        // A part that had failed gets its device home and its watch back.
+        // What a merge that is out makes has the name that it had.
+        ensures merge_named { is_some self.old.merging ≡ true → merged_name (run_out self.new) self.new ≡ merged_name (run_out self.old) self.old }
+
+        // A part that had failed gets its device home and its watch back, and keeps what it stored, at each moment too.
         ensures home { self.old.failed ≡ true → (result ≡ Ok tt) × (self.new ≡ record self.old { store = self.new.store; flusher = Some out.watch; flushing = false }) × (S.history self.new.store ≡ comes_home (flushed_name self.old) (λ f. at_home f) (S.Device.history out.device) (S.history self.old.store)) }
         ensures stays { self.old.failed ≡ true → (p : PartView) (frame : Option (List PlainWrite)) (j : Flushing) → HasFailedAs (told S.history S.Device.history S.Frozen.content self.old) p frame → p.flush ≡ Some j → flush_name j ≡ flushed_name self.old
             → IfTold (S.Device.history out.device) (LeavesAt (IsShutOrHas (IsFlushed p.part p.list p.sealed))) → HasFailedAs (told S.history S.Device.history S.Frozen.content self.new) p frame }
 
+        ensures stays_moments { self.old.failed ≡ true → (p : PartView) (frame : Option (List PlainWrite)) (j : Flushing) → HasFailedAs (told S.history S.Device.history S.Frozen.content self.old) p frame → p.flush ≡ Some j → flush_name j ≡ flushed_name self.old
+            → IfTold (S.Device.history out.device) (LeavesAt (IsShutOrHas (IsFlushed p.part p.list p.sealed))) → FailedMomentsLeaveStore p frame (told S.history S.Device.history S.Frozen.content self.old) (S.history self.new.store) }
+
+        // Where the flush failed its fault is the answer, its device comes home, and the part keeps what it stored, at each
+        // moment too.
+        ensures unmade { IfErr out.outcome (λ cause. self.old.failed ≡ false → (result ≡ Err (of_device cause)) × (self.new ≡ record self.old { store = self.new.store; flusher = Some out.watch; flushing = false; failed = true }) × (S.history self.new.store ≡ comes_home (flushed_name self.old) (λ f. at_home f) (S.Device.history out.device) (S.history self.old.store))) }
+        ensures unmade_failed { IfErr out.outcome (λ cause. (p : PartView) → IsPart (told S.history S.Device.history S.Frozen.content self.old) p
+            → IfTold (S.Device.history out.device) (LeavesAt (IsShutOrHas (IsFlushed p.part p.list p.sealed))) → HasFailedWhole (told S.history S.Device.history S.Frozen.content self.new) p) }
+        ensures unmade_moments { IfErr out.outcome (λ cause. (p : PartView) → IsPart (told S.history S.Device.history S.Frozen.content self.old) p
+            → IfTold (S.Device.history out.device) (LeavesAt (IsShutOrHas (IsFlushed p.part p.list p.sealed))) → FailedMomentsLeaveStore p None (told S.history S.Device.history S.Frozen.content self.old) (S.history self.new.store)) }
+
         // Behind a fault the watch is back, and the part failed: before the component was listed, or behind that.
         ensures left { OnErr result ((self.new.failed ≡ true) × (IsFlushUnlisted S.history (S.Device.history out.device) (record self.old { flusher = Some out.watch; flushing = false }) self.new ⊎ IsFlushCovering S.Frozen.content S.Frozen.name S.history S.Device.history (S.Device.history out.device) (record self.old { flusher = Some out.watch; flushing = false }) self.new)) }
         ensures failed { OnErr result ((p : PartView) (c : Content) → IsPart (told S.history S.Device.history S.Frozen.content self.old) p → MakesFlush p c → HasMade c (S.history self.old.store) (S.Device.history out.device)
-            → HasFailedAs (told S.history S.Device.history S.Frozen.content self.new) p None ⊎ HasFailedAs (told S.history S.Device.history S.Frozen.content self.new) (flushed_part c p) None) }
-        ensures unmade { IfErr out.outcome (λ cause. self.old.failed ≡ false → result ≡ Err (of_device cause)) }
+            → HasFailedWhole (told S.history S.Device.history S.Frozen.content self.new) p ⊎ HasFailedWhole (told S.history S.Device.history S.Frozen.content self.new) (flushed_part c p)) }
         ensures undamaged { (p : PartView) (c : Content) → IsPart (told S.history S.Device.history S.Frozen.content self.old) p → MakesFlush p c → HasMade c (S.history self.old.store) (S.Device.history out.device)
             → IfTold (S.history self.old.store) (λ disk. IfDamaged result (λ damage. ⊥)) }
         ensures damaged { IfDamaged result (IsFlushDamage S.Frozen.content S.Frozen.name (S.Device.size out.device) (S.Device.history out.device) self.old) }

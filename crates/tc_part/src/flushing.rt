@@ -5,7 +5,7 @@ ghost use Rattle.std.specs.Prelude.{◌≡◌, ◌+◌, ◌-◌, [], Some, None,
 ghost use Rattle.tc_schema_model.specs.Counted.{nothing};
 ghost use Rattle.tc_store.specs.declared.file_name.FileName.TheVariants.{Component as component_name};
 ghost use Rattle.tc_store.specs.Counted.{IsCounted};
-ghost use Rattle.tc_store.specs.StoreCalls.{fresh_file_at};
+ghost use Rattle.tc_store.specs.StoreCalls.{fresh_file_at, makes};
 ghost use Rattle.tc_component.specs.declared.head.Head.{Head as HeadRecord};
 ghost use Rattle.tc_list.specs.Intervals.{last_of};
 ghost use Rattle.tc_memory.specs.DocumentTables.{IsTableOf};
@@ -55,6 +55,7 @@ impl<S: Store> Part<S> {
         ensures watch { IfOk result (λ job. Some job.watch ≡ self.old.flusher) }
         ensures name { IfOk result (λ job. S.Device.name job.device ≡ component_name (self.old.generation - 1) (self.old.generation - 1)) }
         ensures file { IfOk result (λ job. S.Device.history job.device ≡ fresh_file_at (component_name (self.old.generation - 1) (self.old.generation - 1)) (S.history self.old.store)) }
+        ensures made { OnOk result (S.history self.new.store ≡ makes (component_name (self.old.generation - 1) (self.old.generation - 1)) (S.history self.old.store)) }
 
         // Where the listed files are told, what it makes is what a flush of the part makes.
         ensures behind { (p : PartView) → IsPart (told S.history S.Device.history S.Frozen.content self.old) p → AreTold (told S.history S.Device.history S.Frozen.content self.old).components
@@ -73,6 +74,9 @@ impl<S: Store> Part<S> {
         ensures undamaged { (p : PartView) → IsPart (told S.history S.Device.history S.Frozen.content self.old) p → AreTold (told S.history S.Device.history S.Frozen.content self.old).components
             → IfDamaged result (λ damage. ⊥) }
         ensures unspent { IsErrOf result PartFault.Spent → ⊥ }
+
+        // A call on files is made only where the table can be over the components.
+        ensures order { IsErrOf result PartFault.Disk → IfSome self.old.sealed (λ kept. CountsOf (newest_names [] self.old.list) (newest_schema nothing self.old.list) kept) }
         ensures counted { IsCounted (IsErrOf result PartFault.Disk) (S.Watch.counts self.old.main) (S.Watch.counts self.new.main) }
     {
         flushes_begin();

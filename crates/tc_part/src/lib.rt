@@ -1,6 +1,5 @@
 //! Layer 5, engine: one partition of the store, in memory and in its files. It begins with what was opened, writes are staged
-//! and committed, keys are looked up, a table is sealed and flushed, a merge begins, and it is closed; the call that ends a
-//! merge is to come.
+//! and committed, keys are looked up, a table is sealed and flushed, neighbours are merged, and it is closed.
 #![tactic(auto)]
 
 mod below;
@@ -12,6 +11,7 @@ mod flushed;
 mod flushing;
 mod limits;
 mod looking;
+mod merged;
 mod merging;
 mod names;
 mod part;

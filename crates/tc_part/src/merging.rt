@@ -20,6 +20,7 @@ ghost use Rattle.tc_part_model.specs.PartState.{told, AreTold};
 ghost use Rattle.tc_part_model.specs.PartView.{PartView, store_of};
 ghost use Rattle.tc_part.specs.Faults.{IsUndamaged};
 ghost use Rattle.tc_part.specs.JobHeads.{merged_head as head_over};
+ghost use Rattle.tc_part.specs.MergeEnds.{run_out};
 ghost use Rattle.tc_part.specs.Ready.{LiesIn};
 
 use crate::fault::PartFault;
@@ -47,6 +48,8 @@ impl<S: Store> Part<S> {
             → IsPart (told S.history S.Device.history S.Frozen.content self.new) (merging_part (neighbours run) c p) × (store_of (merging_part (neighbours run) c p) ≡ store_of p)) }
         ensures same { OnOk result (self.new ≡ record self.old { store = self.new.store; main = self.new.main; merger = None; merging = Some (neighbours run) }) }
 
+        ensures out { OnOk result (run_out self.new ≡ run) }
+
         // The job has the components of the run, the header over them, the merger's watch, and a device of that name, whose
         // file was just made.
         ensures components { IfOk result (λ job. job.run ≡ in_run run self.old.list) }
@@ -54,6 +57,7 @@ impl<S: Store> Part<S> {
         ensures watch { IfOk result (λ job. Some job.watch ≡ self.old.merger) }
         ensures name { IfOk result (λ job. S.Device.name job.device ≡ name_of (head_over self.old.number self.old.count run self.old.list)) }
         ensures file { IfOk result (λ job. S.Device.history job.device ≡ fresh_file_at (name_of (head_over self.old.number self.old.count run self.old.list)) (S.history self.old.store)) }
+        ensures made { OnOk result (S.history self.new.store ≡ makes (name_of (head_over self.old.number self.old.count run self.old.list)) (S.history self.old.store)) }
 
         // Where the listed files are told, what it merges is the run of the part's contents.
         ensures loaded { (p : PartView) → IsPart (told S.history S.Device.history S.Frozen.content self.old) p → AreTold (told S.history S.Device.history S.Frozen.content self.old).components

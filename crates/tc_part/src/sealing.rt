@@ -3,6 +3,8 @@
 ghost use Rattle.std.specs.Prelude.{◌≡◌, ◌<◌, ◌+◌, ◌^◌, ◌↔◌, [], Some, None, false, true, is_some, OnOk, OnErr, IfErr, IsErrOf};
 ghost use Rattle.tc_store.specs.declared.file_name.FileName.TheVariants.{Log as log_name};
 ghost use Rattle.tc_store.specs.Counted.{IsCounted};
+ghost use Rattle.tc_store.specs.StoreCalls.{makes};
+ghost use Rattle.tc_log.specs.Layout.{empty_size};
 ghost use Rattle.tc_list.specs.Intervals.{last_of};
 ghost use Rattle.tc_part_model.specs.PartState.{told};
 ghost use Rattle.tc_part_model.specs.PartView.{PartView, store_of};
@@ -34,6 +36,10 @@ impl<S: Store> Part<S> {
         ensures sealed { OnOk result ((p : PartView) → IsPart (told S.history S.Device.history S.Frozen.content self.old) p
             → IsPart (told S.history S.Device.history S.Frozen.content self.new) (sealed_part p) × (store_of (sealed_part p) ≡ store_of p)) }
         ensures same { OnOk result (self.new ≡ record self.old { store = self.new.store; main = self.new.main; sealed = Some self.old.active; sealed_log = Some self.old.log; active = []; log = self.new.log; generation = self.old.generation + 1 }) }
+
+        // So it is over every store: the file of the next log was made, and that log has no frame.
+        ensures made { OnOk result (S.history self.new.store ≡ makes (log_name (self.old.generation + 1)) (S.history self.old.store)) }
+        ensures empty { OnOk result (S.Device.size self.new.log.device ≡ empty_size) }
 
         // At each moment of the call a stop leaves what is stored, and so it does behind a fault.
         ensures moments { (p : PartView) → IsPart (told S.history S.Device.history S.Frozen.content self.old) p

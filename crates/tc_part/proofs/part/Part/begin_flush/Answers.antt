@@ -1,9 +1,13 @@
-use Rattle.std.proofs.Common.{◌≡◌, ◌∙◌, ◌-◌, false, is_some, inl, refl, sym, ap, subst}
+use Rattle.std.proofs.Common.{◌≡◌, ◌∙◌, ◌-◌, [], false, is_some, inl, refl, sym, ap, subst}
+use Rattle.std.specs.Prelude.{IfSome}
+use Rattle.tc_schema_model.specs.Counted.{nothing}
 use Rattle.tc_store.specs.Disk.{IsThere}
 use Rattle.tc_store.specs.Moments.{IfTold}
 use Rattle.tc_store.specs.StoreCalls.{FailsMaking}
 use Rattle.tc_store.specs.declared.file_name.FileName.TheVariants.{Component}
 use Rattle.tc_component.specs.Spelling.{name_of}
+use Rattle.tc_flush.specs.Counting.{IsCounted}
+use Rattle.tc_merge.specs.Merging.{newest_names, newest_schema}
 use Rattle.tc_part_model.specs.Calls.{FlushesBehind}
 use Rattle.tc_part_model.specs.Changes.{flushing_part}
 use Rattle.tc_part_model.specs.PartState.{told}
@@ -67,3 +71,13 @@ returns-clause-moments g c =
 pub returns-clause-behind : goal.returns-clause-behind
 returns-clause-behind g c = rw (← c.self.view_is) λ p is files.
     subst (λ job. FlushesBehind p job.head job.names job.schema job.kept) (sym c.flush_with.ensures.job) (c.in_ok-inputs.ensures.behind p (unfailed is) files c.flush_head-head.result c.flush_head-head.ensures)
+
+pub returns-clause-made : goal.returns-clause-made
+returns-clause-made g c =
+    let named : c.name_of_head.result ≡ Component (c.self.inside.generation - 1) (c.self.inside.generation - 1) = c.name_of_head.ensures ∙ ap name_of c.flush_head-head.ensures in
+    rw (← c.self.view_is, c.flush_with.ensures.same, c.in_ok-device.ensures.made, named) refl
+
+pub returns-in_err-device-clause-order : goal.returns-in_err-device-clause-order
+returns-in_err-device-clause-order g c =
+    let list = c.self.inside.list in
+    rw (← c.self.view_is) λ disk. subst (λ o. IfSome o (λ kept. IsCounted (newest_names [] list) (newest_schema nothing list) kept)) c.in_ok-inputs.ensures.table c.in_ok-inputs.ensures.counted

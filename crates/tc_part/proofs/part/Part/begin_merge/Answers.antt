@@ -9,6 +9,8 @@ use Rattle.tc_part_model.specs.Leaving.{StoreMomentsLeaveStore}
 use Rattle.tc_machine.specs.Components.{file_of}
 use Rattle.tc_part_model.specs.PartState.{PartState, told}
 use Rattle.tc_part.specs.JobHeads.{merged_head}
+use Rattle.tc_part.specs.MergeEnds.{run_out}
+use Rattle.tc_part.proofs.ReplacedRun.{positions_back}
 use Rattle.tc_part.proofs.RunEnds.{ends, merge_within}
 use Rattle.tc_part.proofs.Standing.{where_it_stands}
 use Rattle.tc_part.proofs.part.Part.begin_merge.Goals as goal
@@ -88,3 +90,6 @@ returns-in-Err-clause-failed g c = λ p is.
     (ap (λ (s : PartState _ _ _ _). g.S.Device.Device.history s.log.device) (c.self.view_is ∙ c.in-Err.ensures.left))
     (ap (λ (s : PartState _ _ _ _). option_map (λ l. g.S.Device.Device.history l.device) s.sealed_log) (c.self.view_is ∙ c.in-Err.ensures.left))
     (subst (λ (s : PartState _ _ _ _). FailsMaking (file_of m.0) t.disks (g.S.Store.history s.store)) (sym c.self.view_is) unmade)
+
+pub returns-in-Ok-clause-out : goal.returns-in-Ok-clause-out
+returns-in-Ok-clause-out g c = ap (λ (s : PartState _ _ _ _). run_out s) c.in-Ok.ensures.same ∙ positions_back c.args.run c.requires.run.0

@@ -8,12 +8,17 @@ use Rattle.tc_store.specs.Disk.{home}
 use Rattle.tc_store.specs.StoreCalls.{comes_home}
 use Rattle.tc_store.specs.declared.file_name.FileName.TheVariants.{Component}
 use Rattle.tc_store.proofs.MomentLemmas.{told_map}
+use Rattle.tc_flush.proofs.Outcomes.{if_err}
 use Rattle.tc_part_model.specs.Changes.{flushed_part}
-use Rattle.tc_part_model.specs.Leaving.{StoreMomentsLeaveStore}
-use Rattle.tc_part_model.specs.Meaning.{HasFailedAs, IsOfContent, IsPart}
+use Rattle.tc_part_model.specs.Leaving.{FailedMomentsLeaveStore, StoreMomentsLeaveStore}
+use Rattle.tc_part_model.specs.Meaning.{IsOfContent, IsPart}
 use Rattle.tc_part_model.specs.PartState.{PartState, told, told_component}
+use Rattle.tc_part_model.proofs.HomeMoments.{flush_home_moments}
+use Rattle.tc_part.specs.Closing.{HasFailedWhole}
+use Rattle.tc_part.specs.FlushEnds.{flushed_name}
+use Rattle.tc_part.specs.MergeEnds.{merged_name, run_out}
 use Rattle.tc_part.proofs.FlushedContents.{flush_headed, log_there, made_so, none_out, of_made, some_there, told_any, told_listed}
-use Rattle.tc_part.proofs.FlushOutcomes.{ended_failed, ended_moments}
+use Rattle.tc_part.proofs.FlushOutcomes.{ended_failed, ended_moments, ended_named, listed_named, unmade_failed, unmade_moments}
 use Rattle.tc_part.proofs.ListedContents.{all_indices}
 use Rattle.tc_part.proofs.Handing.{still_some}
 use Rattle.tc_part.proofs.Standing.{left_of, table_in, told_in}
@@ -25,6 +30,14 @@ returns-then-self-clause-stays g c =
     rw (← c.self.view_is) λ failed p frame j was out named leaves.
     c.failed_parts_keep_files.ensures.flush _ _ p frame j _ was out leaves failed refl refl
     (c.abandon.ensures.home ∙ ap (λ name. comes_home name (λ f. home f) (g.S.Device.Device.history c.args.out.device) (g.S.Store.history c.self.inside.store)) (device_named ∙ sym named))
+
+pub returns-then-self-clause-stays_moments : goal.returns-then-self-clause-stays_moments
+returns-then-self-clause-stays_moments g c =
+    let device_named = c.requires.name ∙ ap (λ s. Component (s.generation - 1) (s.generation - 1)) (sym c.self.view_is) in
+    rw (← c.self.view_is) λ failed p frame j was out named leaves.
+    subst (λ disks. FailedMomentsLeaveStore p frame (told g.S.Store.history g.S.Device.Device.history g.S.Frozen.Frozen.content (left_of c.self.view_is)) disks)
+    (sym (c.abandon.ensures.home ∙ ap (λ name. comes_home name (λ f. home f) (g.S.Device.Device.history c.args.out.device) (g.S.Store.history c.self.inside.store)) (device_named ∙ sym named)))
+    (flush_home_moments _ p frame j _ was out leaves)
 
 pub returns-in-Ok-clause-flushed : goal.returns-in-Ok-clause-flushed
 returns-in-Ok-clause-flushed g c =
@@ -71,6 +84,40 @@ returns-in-Err-clause-moments g c =
     subst (λ (x : PartState _ _ _ _). StoreMomentsLeaveStore p (flushed_part m p) (told_in is) (g.S.Store.history x.store)) (sym c.self-2.view_is)
     (ended_moments g.S.Store.history g.S.Device.Device.history g.S.Frozen.Frozen.content g.S.Frozen.Frozen.name (record (left_of c.self.view_is) { flusher = Some c.args.out.watch; flushing = false }) c.end_flush.new.self p m (g.S.Device.Device.history c.args.out.device) there.0 out there.1 makes made c.in-Err.ensures.left)
 
+pub returns-in-Err-clause-unmade : goal.returns-in-Err-clause-unmade
+returns-in-Err-clause-unmade g c =
+    let device = g.S.Device.Device.history c.args.out.device in
+    let start = record (left_of c.self.view_is) { flusher = Some c.args.out.watch; flushing = false } in
+    rw (← c.self.view_is) (if_err c.args.out.outcome _ _ (λ e unmade sound. (
+      unmade.0,
+      subst (λ (x : PartState _ _ _ _). record x { failed = true } ≡ record start { store = x.store; failed = true }) (sym c.self-2.view_is) (ap (λ (x : PartState _ _ _ _). record x { failed = true }) unmade.1),
+      subst (λ (x : PartState _ _ _ _). g.S.Store.history x.store ≡ comes_home (flushed_name start) (λ f. home f) device (g.S.Store.history c.self.inside.store)) (sym c.self-2.view_is) unmade.2,
+    )) c.in-Err.ensures.unmade)
+
+pub returns-in-Err-clause-unmade_failed : goal.returns-in-Err-clause-unmade_failed
+returns-in-Err-clause-unmade_failed g c =
+    let s = c.self.inside in
+    let flushing : not (is_some s.flusher) ≡ true = ap (λ s. s.flushing) c.self.view_is ∙ c.requires.out in
+    let start = record (left_of c.self.view_is) { flusher = Some c.args.out.watch; flushing = false } in
+    rw (← c.self.view_is) (if_err c.args.out.outcome _ _ (λ e unmade p is leaves.
+    let sealed = c.self.invariant.flush is.sound (none_out s.flusher flushing) in
+    let there = log_there s.sealed_log (c.self.invariant.sealed_both is.sound ∙ sealed) in
+    let out = subst (λ b. IsPart (record (told_in is) { flushing = b }) p) flushing is in
+    subst (λ (x : PartState _ _ _ _). HasFailedWhole (record (told g.S.Store.history g.S.Device.Device.history g.S.Frozen.Frozen.content x) { failed = true }) p) (sym c.self-2.view_is)
+    (unmade_failed g.S.Store.history g.S.Device.Device.history g.S.Frozen.Frozen.content start c.end_flush.new.self p (g.S.Device.Device.history c.args.out.device) there.0 out there.1 leaves unmade.1 unmade.2)) c.in-Err.ensures.unmade)
+
+pub returns-in-Err-clause-unmade_moments : goal.returns-in-Err-clause-unmade_moments
+returns-in-Err-clause-unmade_moments g c =
+    let s = c.self.inside in
+    let flushing : not (is_some s.flusher) ≡ true = ap (λ s. s.flushing) c.self.view_is ∙ c.requires.out in
+    let start = record (left_of c.self.view_is) { flusher = Some c.args.out.watch; flushing = false } in
+    rw (← c.self.view_is) (if_err c.args.out.outcome _ _ (λ e unmade p is leaves.
+    let sealed = c.self.invariant.flush is.sound (none_out s.flusher flushing) in
+    let there = log_there s.sealed_log (c.self.invariant.sealed_both is.sound ∙ sealed) in
+    let out = subst (λ b. IsPart (record (told_in is) { flushing = b }) p) flushing is in
+    subst (λ (x : PartState _ _ _ _). FailedMomentsLeaveStore p None (told_in is) (g.S.Store.history x.store)) (sym c.self-2.view_is)
+    (unmade_moments g.S.Store.history g.S.Device.Device.history g.S.Frozen.Frozen.content start c.end_flush.new.self p (g.S.Device.Device.history c.args.out.device) there.0 out there.1 leaves unmade.2)) c.in-Err.ensures.unmade)
+
 pub returns-in-Err-clause-failed : goal.returns-in-Err-clause-failed
 returns-in-Err-clause-failed g c =
     let s = c.self.inside in
@@ -80,7 +127,7 @@ returns-in-Err-clause-failed g c =
     let there = log_there s.sealed_log (c.self.invariant.sealed_both is.sound ∙ sealed) in
     let out = subst (λ b. IsPart (record (told_in is) { flushing = b }) p) flushing is in
     let head = flush_headed _ p m is (still_some arc_value s.sealed ∙ sealed) makes in
-    subst (λ (x : PartState _ _ _ _). HasFailedAs (record (told g.S.Store.history g.S.Device.Device.history g.S.Frozen.Frozen.content x) { failed = true }) p None ⊎ HasFailedAs (record (told g.S.Store.history g.S.Device.Device.history g.S.Frozen.Frozen.content x) { failed = true }) (flushed_part m p) None) (sym c.self-2.view_is)
+    subst (λ (x : PartState _ _ _ _). HasFailedWhole (record (told g.S.Store.history g.S.Device.Device.history g.S.Frozen.Frozen.content x) { failed = true }) p ⊎ HasFailedWhole (record (told g.S.Store.history g.S.Device.Device.history g.S.Frozen.Frozen.content x) { failed = true }) (flushed_part m p)) (sym c.self-2.view_is)
     (ended_failed g.S.Store.history g.S.Device.Device.history g.S.Frozen.Frozen.content g.S.Frozen.Frozen.name (record (left_of c.self.view_is) { flusher = Some c.args.out.watch; flushing = false }) c.end_flush.new.self p m (g.S.Device.Device.history c.args.out.device) there.0 out there.1 makes made refl head
     (λ component. c.told_components_are_loaded.ensures.of_content component m) c.in-Err.ensures.left)
 
@@ -99,4 +146,21 @@ returns-in-Err-clause-undamaged g c =
     let table = table_in _ sealed in
     let names = c.inputs_are_newest.ensures.names s.list p.list (all_indices g.S.Frozen.Frozen.content s.list p.list is.view.components) in
     let extends = subst (λ names. Extends m.names names) (sym names) (c.sealed_tables_can_flush.ensures.extends _ p table.0 m is table.1 makes) in
-    made_so _ (newest_names [] s.list) (g.S.Store.history s.store) (g.S.Device.Device.history c.args.out.device) m (IfDamaged {X = Unit {0}} (Err c.in-Err.fault) (λ damage. ⊥)) made (flush_headed _ p m is sealed makes) extends c.in-Err.ensures.sound
+    made_so _ (λ names. Extends names (newest_names [] s.list)) (g.S.Store.history s.store) (g.S.Device.Device.history c.args.out.device) m (IfDamaged {X = Unit {0}} (Err c.in-Err.fault) (λ damage. ⊥)) made (flush_headed _ p m is sealed makes) extends c.in-Err.ensures.sound
+
+pub returns-in-Ok-clause-merge_named : goal.returns-in-Ok-clause-merge_named
+returns-in-Ok-clause-merge_named g c =
+    let s = c.self.inside in
+    let start = record (left_of c.self.view_is) { flusher = Some c.args.out.watch; flushing = false } in
+    let listed = c.in-Ok.ensures.listed in
+    rw (← c.self.view_is) λ out.
+    listed_named g.S.Store.history g.S.Device.Device.history g.S.Frozen.Frozen.content g.S.Frozen.Frozen.name start c.end_flush.new.self (g.S.Device.Device.history c.args.out.device) s.merging refl c.self.invariant.run out listed.component
+    (c.in-Ok.ensures.same ∙ ap (λ failed. record start { store = c.end_flush.new.self.store; main = c.end_flush.new.self.main; list = c.end_flush.new.self.list; sealed = None; sealed_log = None; failed = failed }) (sym (ap (λ (x : PartState _ _ _ _). x.failed) c.in-Ok.ensures.same)))
+    listed.listed
+
+pub returns-in-Err-clause-merge_named : goal.returns-in-Err-clause-merge_named
+returns-in-Err-clause-merge_named g c =
+    let s = c.self.inside in
+    let start = record (left_of c.self.view_is) { flusher = Some c.args.out.watch; flushing = false } in
+    rw (← c.self.view_is) λ out.
+    subst (λ (x : PartState _ _ _ _). merged_name (run_out x) x ≡ merged_name (run_out start) start) (sym c.self-2.view_is) (ended_named g.S.Store.history g.S.Device.Device.history g.S.Frozen.Frozen.content g.S.Frozen.Frozen.name start c.end_flush.new.self (g.S.Device.Device.history c.args.out.device) s.merging refl c.self.invariant.run out c.in-Err.ensures.left)

@@ -54,6 +54,12 @@ returns-in-Ok-clause-sealed g c =
     rw (← c.self.view_is, c.put_behind.ensures) λ p is.
     (c.seals_are_kept.ensures.sealed _ _ p device is none nothing c.in_ok-device.ensures.file lawful made (rw (c.in_ok-device.ensures.made, arc, empty, sound) refl), c.seals_are_kept.ensures.stored _ p is none nothing)
 
+pub returns-in-Ok-clause-made : goal.returns-in-Ok-clause-made
+returns-in-Ok-clause-made g c = rw (← c.self.view_is, c.put_behind.ensures, c.in_ok-device.ensures.made) refl
+
+pub returns-in-Ok-clause-empty : goal.returns-in-Ok-clause-empty
+returns-in-Ok-clause-empty g c = rw c.put_behind.ensures c.in-Ok.ensures.size
+
 pub returns-in-Ok-clause-moments : goal.returns-in-Ok-clause-moments
 returns-in-Ok-clause-moments g c =
     let none = ap (λ s. s.sealed) c.self.view_is ∙ c.requires.none_sealed in

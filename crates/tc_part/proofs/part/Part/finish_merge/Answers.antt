@@ -1,0 +1,207 @@
+use Rattle.std.proofs.Common.{◌≡◌, ◌∙◌, ◌⊎◌, Some, None, true, option_map, refl, sym, ap, subst}
+use Rattle.std.specs.Prelude.{Err, IfSome}
+use Rattle.tc_store.specs.Disk.{home}
+use Rattle.tc_store.specs.StoreCalls.{comes_home}
+use Rattle.tc_list.specs.Runs.{neighbours}
+use Rattle.tc_flush.proofs.Outcomes.{if_err}
+use Rattle.tc_part_model.specs.Changes.{merged_part}
+use Rattle.tc_part_model.specs.Leaving.{FailedMomentsLeaveStore, StoreMomentsLeaveStore}
+use Rattle.tc_part_model.specs.Meaning.{IsPart}
+use Rattle.tc_part_model.specs.PartState.{PartState, told}
+use Rattle.tc_part_model.proofs.FailedParts.{merge_returns}
+use Rattle.tc_part_model.proofs.HomeMoments.{merge_home_moments}
+use Rattle.tc_part_model.proofs.MergedParts.{merge_keeps_store}
+use Rattle.tc_part.specs.Closing.{HasFailedWhole}
+use Rattle.tc_part.specs.Faults.{IfDamaged}
+use Rattle.tc_part.specs.MergeEnds.{HasReplaced, IsMergeDamage, IsMergeRemoving, IsMergeUnlisted, merged_name, positions, run_out}
+use Rattle.tc_part.specs.Ready.{LiesIn}
+use Rattle.tc_part.proofs.FlushedContents.{told_any}
+use Rattle.tc_part.proofs.MergeOutcomes.{done, done_moments, ended_failed, ended_moments, fitting, left_failed, unmade_failed, unmade_moments}
+use Rattle.tc_part.proofs.ReplacedRun.{positions_back}
+use Rattle.tc_part.proofs.Standing.{left_of, told_in}
+use Rattle.tc_part.proofs.part.Part.finish_merge.Goals as goal
+
+pub returns-then-self-clause-stays : goal.returns-then-self-clause-stays
+returns-then-self-clause-stays g c =
+    let device_named = c.requires.name ∙ ap (λ s. merged_name (run_out s) s) (sym c.self.view_is) in
+    rw (← c.self.view_is) λ failed p frame m was out named leaves.
+    merge_returns _ _ p frame m _ was out leaves failed refl refl
+    (c.abandon.ensures.home ∙ ap (λ name. comes_home name (λ f. home f) (g.S.Device.Device.history c.args.out.device) (g.S.Store.history c.self.inside.store)) (device_named ∙ sym named))
+
+pub returns-then-self-clause-stays_moments : goal.returns-then-self-clause-stays_moments
+returns-then-self-clause-stays_moments g c =
+    let device_named = c.requires.name ∙ ap (λ s. merged_name (run_out s) s) (sym c.self.view_is) in
+    rw (← c.self.view_is) λ failed p frame m was out named leaves.
+    subst (λ disks. FailedMomentsLeaveStore p frame (told g.S.Store.history g.S.Device.Device.history g.S.Frozen.Frozen.content (left_of c.self.view_is)) disks)
+    (sym (c.abandon.ensures.home ∙ ap (λ name. comes_home name (λ f. home f) (g.S.Device.Device.history c.args.out.device) (g.S.Store.history c.self.inside.store)) (device_named ∙ sym named)))
+    (merge_home_moments _ p frame m _ was out leaves)
+
+pub returns-in-Ok-clause-merged : goal.returns-in-Ok-clause-merged
+returns-in-Ok-clause-merged g c =
+    let s = c.self.inside in
+    let run = c.in-Some.run' in
+    let device = g.S.Device.Device.history c.args.out.device in
+    let merging : s.merging ≡ Some run = sym c.take-merging.ensures.value ∙ c.in-Some.is in
+    let out = ap (option_map neighbours) merging in
+    let lies : LiesIn s.list run = subst (λ o. IfSome o (LiesIn s.list)) merging c.self.invariant.run in
+    let gone = ap (option_map neighbours) c.take-merging.ensures.after in
+    let start = record (left_of c.self.view_is) { merger = Some c.args.out.watch; merging = option_map neighbours c.take-merging.new.self } in
+    rw (← c.self.view_is) λ p m is some made files.
+    let before = subst (λ o. IsPart (record (told_in is) { merging = o }) p) out is in
+    (done g.S.Store.history g.S.Device.Device.history g.S.Frozen.Frozen.content g.S.Frozen.Frozen.name start c.end_merge.new.self p m device run before some lies gone made files c.self.invariant.named c.in-Ok.ensures.listed c.in-Ok.ensures.same c.in-Ok.ensures.removed, merge_keeps_store _ p m is some)
+
+pub returns-in-Ok-clause-moments : goal.returns-in-Ok-clause-moments
+returns-in-Ok-clause-moments g c =
+    let s = c.self.inside in
+    let run = c.in-Some.run' in
+    let device = g.S.Device.Device.history c.args.out.device in
+    let merging : s.merging ≡ Some run = sym c.take-merging.ensures.value ∙ c.in-Some.is in
+    let out = ap (option_map neighbours) merging in
+    let lies : LiesIn s.list run = subst (λ o. IfSome o (LiesIn s.list)) merging c.self.invariant.run in
+    let gone = ap (option_map neighbours) c.take-merging.ensures.after in
+    let start = record (left_of c.self.view_is) { merger = Some c.args.out.watch; merging = option_map neighbours c.take-merging.new.self } in
+    rw (← c.self.view_is) λ p m is some made files.
+    let before = subst (λ o. IsPart (record (told_in is) { merging = o }) p) out is in
+    done_moments g.S.Store.history g.S.Device.Device.history g.S.Frozen.Frozen.content g.S.Frozen.Frozen.name start c.end_merge.new.self p m device run before some lies gone made files c.self.invariant.named c.in-Ok.ensures.listed c.in-Ok.ensures.same c.in-Ok.ensures.removed
+
+pub returns-in-Ok-clause-listed : goal.returns-in-Ok-clause-listed
+returns-in-Ok-clause-listed g c =
+    let s = c.self.inside in
+    let run = c.in-Some.run' in
+    let device = g.S.Device.Device.history c.args.out.device in
+    let merging : s.merging ≡ Some run = sym c.take-merging.ensures.value ∙ c.in-Some.is in
+    let out = ap (option_map neighbours) merging in
+    let lies : LiesIn s.list run = subst (λ o. IfSome o (LiesIn s.list)) merging c.self.invariant.run in
+    let gone = ap (option_map neighbours) c.take-merging.ensures.after in
+    let start = record (left_of c.self.view_is) { merger = Some c.args.out.watch; merging = option_map neighbours c.take-merging.new.self } in
+    let here : run_out (left_of c.self.view_is) ≡ run = ap positions out ∙ positions_back run lies.0 in
+    rw (← c.self.view_is) λ sound. subst (λ r. HasReplaced g.S.Frozen.Frozen.content g.S.Frozen.Frozen.name device r (left_of c.self.view_is) c.end_merge.new.self.list) (sym here) c.in-Ok.ensures.listed
+
+pub returns-in-Ok-clause-undamaged : goal.returns-in-Ok-clause-undamaged
+returns-in-Ok-clause-undamaged g c = λ ok p m is out made. told_any _ (Unit {0}) tt
+
+pub returns-in-Err-clause-moments : goal.returns-in-Err-clause-moments
+returns-in-Err-clause-moments g c =
+    let s = c.self.inside in
+    let run = c.in-Some.run' in
+    let device = g.S.Device.Device.history c.args.out.device in
+    let merging : s.merging ≡ Some run = sym c.take-merging.ensures.value ∙ c.in-Some.is in
+    let out = ap (option_map neighbours) merging in
+    let lies : LiesIn s.list run = subst (λ o. IfSome o (LiesIn s.list)) merging c.self.invariant.run in
+    let gone = ap (option_map neighbours) c.take-merging.ensures.after in
+    let start = record (left_of c.self.view_is) { merger = Some c.args.out.watch; merging = option_map neighbours c.take-merging.new.self } in
+    rw (← c.self.view_is) λ p m is some made files.
+    let before = subst (λ o. IsPart (record (told_in is) { merging = o }) p) out is in
+    subst (λ (x : PartState _ _ _ _). StoreMomentsLeaveStore p (merged_part p) (told_in is) (g.S.Store.history x.store)) (sym c.self-in-Some.view_is)
+    (ended_moments g.S.Store.history g.S.Device.Device.history g.S.Frozen.Frozen.content g.S.Frozen.Frozen.name start c.end_merge.new.self p m device run before some lies gone made files c.self.invariant.named c.in-Err.ensures.left)
+
+pub returns-in-Err-clause-unmade : goal.returns-in-Err-clause-unmade
+returns-in-Err-clause-unmade g c =
+    let s = c.self.inside in
+    let run = c.in-Some.run' in
+    let device = g.S.Device.Device.history c.args.out.device in
+    let merging : s.merging ≡ Some run = sym c.take-merging.ensures.value ∙ c.in-Some.is in
+    let out = ap (option_map neighbours) merging in
+    let lies : LiesIn s.list run = subst (λ o. IfSome o (LiesIn s.list)) merging c.self.invariant.run in
+    let gone = ap (option_map neighbours) c.take-merging.ensures.after in
+    let start = record (left_of c.self.view_is) { merger = Some c.args.out.watch; merging = option_map neighbours c.take-merging.new.self } in
+    let here : run_out (left_of c.self.view_is) ≡ run = ap positions out ∙ positions_back run lies.0 in
+    rw (← c.self.view_is) (if_err c.args.out.outcome _ _ (λ e unmade sound. (
+      unmade.0,
+      subst (λ (x : PartState _ _ _ _). record x { failed = true } ≡ record start { store = x.store; merging = None; failed = true }) (sym c.self-in-Some.view_is) (ap (λ (x : PartState _ _ _ _). record x { failed = true }) unmade.1 ∙ ap (λ o. record start { store = c.end_merge.new.self.store; merging = o; failed = true }) gone),
+      subst (λ (x : PartState _ _ _ _). g.S.Store.history x.store ≡ comes_home (merged_name (run_out (left_of c.self.view_is)) start) (λ f. home f) device (g.S.Store.history s.store)) (sym c.self-in-Some.view_is)
+          (unmade.2 ∙ ap (λ r. comes_home (merged_name r start) (λ f. home f) device (g.S.Store.history s.store)) (sym here)),
+    )) c.in-Err.ensures.unmade)
+
+pub returns-in-Err-clause-unmade_failed : goal.returns-in-Err-clause-unmade_failed
+returns-in-Err-clause-unmade_failed g c =
+    let s = c.self.inside in
+    let run = c.in-Some.run' in
+    let device = g.S.Device.Device.history c.args.out.device in
+    let merging : s.merging ≡ Some run = sym c.take-merging.ensures.value ∙ c.in-Some.is in
+    let out = ap (option_map neighbours) merging in
+    let lies : LiesIn s.list run = subst (λ o. IfSome o (LiesIn s.list)) merging c.self.invariant.run in
+    let gone = ap (option_map neighbours) c.take-merging.ensures.after in
+    let start = record (left_of c.self.view_is) { merger = Some c.args.out.watch; merging = option_map neighbours c.take-merging.new.self } in
+    rw (← c.self.view_is) (if_err c.args.out.outcome _ _ (λ e unmade p m is some leaves.
+    let before = subst (λ o. IsPart (record (told_in is) { merging = o }) p) out is in
+    subst (λ (x : PartState _ _ _ _). HasFailedWhole (record (told g.S.Store.history g.S.Device.Device.history g.S.Frozen.Frozen.content x) { failed = true }) p) (sym c.self-in-Some.view_is)
+    (unmade_failed g.S.Store.history g.S.Device.Device.history g.S.Frozen.Frozen.content g.S.Frozen.Frozen.name start c.end_merge.new.self p m device run before some lies gone leaves unmade.1 unmade.2)) c.in-Err.ensures.unmade)
+
+pub returns-in-Err-clause-unmade_moments : goal.returns-in-Err-clause-unmade_moments
+returns-in-Err-clause-unmade_moments g c =
+    let s = c.self.inside in
+    let run = c.in-Some.run' in
+    let device = g.S.Device.Device.history c.args.out.device in
+    let merging : s.merging ≡ Some run = sym c.take-merging.ensures.value ∙ c.in-Some.is in
+    let out = ap (option_map neighbours) merging in
+    let lies : LiesIn s.list run = subst (λ o. IfSome o (LiesIn s.list)) merging c.self.invariant.run in
+    let gone = ap (option_map neighbours) c.take-merging.ensures.after in
+    let start = record (left_of c.self.view_is) { merger = Some c.args.out.watch; merging = option_map neighbours c.take-merging.new.self } in
+    rw (← c.self.view_is) (if_err c.args.out.outcome _ _ (λ e unmade p m is some leaves.
+    let before = subst (λ o. IsPart (record (told_in is) { merging = o }) p) out is in
+    subst (λ (x : PartState _ _ _ _). FailedMomentsLeaveStore p None (told_in is) (g.S.Store.history x.store)) (sym c.self-in-Some.view_is)
+    (unmade_moments g.S.Store.history g.S.Device.Device.history g.S.Frozen.Frozen.content g.S.Frozen.Frozen.name start c.end_merge.new.self p m device run before some lies gone leaves unmade.2)) c.in-Err.ensures.unmade)
+
+pub returns-in-Err-clause-left : goal.returns-in-Err-clause-left
+returns-in-Err-clause-left g c =
+    let s = c.self.inside in
+    let run = c.in-Some.run' in
+    let device = g.S.Device.Device.history c.args.out.device in
+    let merging : s.merging ≡ Some run = sym c.take-merging.ensures.value ∙ c.in-Some.is in
+    let out = ap (option_map neighbours) merging in
+    let lies : LiesIn s.list run = subst (λ o. IfSome o (LiesIn s.list)) merging c.self.invariant.run in
+    let gone = ap (option_map neighbours) c.take-merging.ensures.after in
+    let start = record (left_of c.self.view_is) { merger = Some c.args.out.watch; merging = option_map neighbours c.take-merging.new.self } in
+    let here : run_out (left_of c.self.view_is) ≡ run = ap positions out ∙ positions_back run lies.0 in
+    let ended : PartState _ _ _ _ = record c.end_merge.new.self { failed = true } in
+    let left = subst (λ o. IsMergeUnlisted g.S.Store.history device run (record start { merging = o }) ended ⊎ IsMergeRemoving g.S.Frozen.Frozen.content g.S.Frozen.Frozen.name g.S.Store.history device run (record start { merging = o }) ended) gone
+    (left_failed g.S.Store.history g.S.Frozen.Frozen.content g.S.Frozen.Frozen.name start c.end_merge.new.self device run c.in-Err.ensures.left) in
+    rw (← c.self.view_is) (
+      refl,
+      subst (λ (x : PartState _ _ _ _). IsMergeUnlisted g.S.Store.history device (run_out (left_of c.self.view_is)) (record start { merging = None }) (record x { failed = true }) ⊎ IsMergeRemoving g.S.Frozen.Frozen.content g.S.Frozen.Frozen.name g.S.Store.history device (run_out (left_of c.self.view_is)) (record start { merging = None }) (record x { failed = true })) (sym c.self-in-Some.view_is)
+          (subst (λ r. IsMergeUnlisted g.S.Store.history device r (record start { merging = None }) ended ⊎ IsMergeRemoving g.S.Frozen.Frozen.content g.S.Frozen.Frozen.name g.S.Store.history device r (record start { merging = None }) ended) (sym here) left),
+    )
+
+pub returns-in-Err-clause-failed : goal.returns-in-Err-clause-failed
+returns-in-Err-clause-failed g c =
+    let s = c.self.inside in
+    let run = c.in-Some.run' in
+    let device = g.S.Device.Device.history c.args.out.device in
+    let merging : s.merging ≡ Some run = sym c.take-merging.ensures.value ∙ c.in-Some.is in
+    let out = ap (option_map neighbours) merging in
+    let lies : LiesIn s.list run = subst (λ o. IfSome o (LiesIn s.list)) merging c.self.invariant.run in
+    let gone = ap (option_map neighbours) c.take-merging.ensures.after in
+    let start = record (left_of c.self.view_is) { merger = Some c.args.out.watch; merging = option_map neighbours c.take-merging.new.self } in
+    rw (← c.self.view_is) λ p m is some made files.
+    let before = subst (λ o. IsPart (record (told_in is) { merging = o }) p) out is in
+    subst (λ (x : PartState _ _ _ _). HasFailedWhole (record (told g.S.Store.history g.S.Device.Device.history g.S.Frozen.Frozen.content x) { failed = true }) p ⊎ HasFailedWhole (record (told g.S.Store.history g.S.Device.Device.history g.S.Frozen.Frozen.content x) { failed = true }) (merged_part p)) (sym c.self-in-Some.view_is)
+    (ended_failed g.S.Store.history g.S.Device.Device.history g.S.Frozen.Frozen.content g.S.Frozen.Frozen.name start c.end_merge.new.self p m device run before some lies gone made files c.self.invariant.named c.in-Err.ensures.left)
+
+pub returns-in-Err-clause-damaged : goal.returns-in-Err-clause-damaged
+returns-in-Err-clause-damaged g c =
+    let s = c.self.inside in
+    let run = c.in-Some.run' in
+    let device = g.S.Device.Device.history c.args.out.device in
+    let merging : s.merging ≡ Some run = sym c.take-merging.ensures.value ∙ c.in-Some.is in
+    let out = ap (option_map neighbours) merging in
+    let lies : LiesIn s.list run = subst (λ o. IfSome o (LiesIn s.list)) merging c.self.invariant.run in
+    let gone = ap (option_map neighbours) c.take-merging.ensures.after in
+    let start = record (left_of c.self.view_is) { merger = Some c.args.out.watch; merging = option_map neighbours c.take-merging.new.self } in
+    let here : run_out (left_of c.self.view_is) ≡ run = ap positions out ∙ positions_back run lies.0 in
+    rw (← c.self.view_is) λ ok.
+    subst (λ r. IfDamaged {X = Unit {0}} (Err c.in-Err.fault) (IsMergeDamage g.S.Frozen.Frozen.content g.S.Frozen.Frozen.name (g.S.Device.Device.size c.args.out.device) device r (left_of c.self.view_is))) (sym here) (c.in-Err.ensures.damaged ok)
+
+pub returns-in-Err-clause-undamaged : goal.returns-in-Err-clause-undamaged
+returns-in-Err-clause-undamaged g c =
+    let s = c.self.inside in
+    let run = c.in-Some.run' in
+    let device = g.S.Device.Device.history c.args.out.device in
+    let merging : s.merging ≡ Some run = sym c.take-merging.ensures.value ∙ c.in-Some.is in
+    let out = ap (option_map neighbours) merging in
+    let lies : LiesIn s.list run = subst (λ o. IfSome o (LiesIn s.list)) merging c.self.invariant.run in
+    let gone = ap (option_map neighbours) c.take-merging.ensures.after in
+    let start = record (left_of c.self.view_is) { merger = Some c.args.out.watch; merging = option_map neighbours c.take-merging.new.self } in
+    rw (← c.self.view_is) λ ok p m is some made.
+    let before = subst (λ o. IsPart (record (told_in is) { merging = o }) p) out is in
+    fitting g.S.Store.history g.S.Device.Device.history g.S.Frozen.Frozen.content g.S.Frozen.Frozen.name start c.end_merge.new.self p m device run before some lies gone (IfDamaged {X = Unit {0}} (Err c.in-Err.fault) (λ damage. ⊥)) made (c.in-Err.ensures.sound ok)
