@@ -11,7 +11,7 @@ mod MergeOutcomes
 mod Spelled
 mod ListedContents
 mod BelowKeys
-mod ListedDocuments
+pub mod ListedDocuments
 mod Refusals
 mod Handing
 mod StagedWrites
