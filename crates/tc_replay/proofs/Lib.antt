@@ -1,0 +1,7 @@
+mod ReplayedWrites
+mod ReplayedTables
+mod CountedReads
+mod ReadFaults
+mod OpeningPictures
+mod NeedlessFiles
+mod WritesLeft

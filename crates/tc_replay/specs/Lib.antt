@@ -1,0 +1,5 @@
+pub mod Faults
+pub mod Reads
+pub mod LastWrites
+pub mod Replays
+pub mod Openings
