@@ -16,7 +16,7 @@ mod Refusals
 mod Handing
 mod StagedWrites
 mod Creations
-mod ClosedParts
+pub mod ClosedParts
 mod NewestListed
 mod StartedLogs
 mod SchemaTexts
