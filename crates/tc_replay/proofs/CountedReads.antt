@@ -1,16 +1,18 @@
 -- How reads add up.
-use Rattle.std.proofs.Common.{◌≡◌, ◌≤◌, ◌+◌, ◌⊎◌, ℕ, inl, inr, arith}
-use Rattle.tc_bytes.specs.Counts.{Rose, next_count}
+use Rattle.std.proofs.Common.{◌≤◌, ◌+◌, ℕ, inl, inr, arith}
 use Rattle.tc_store.specs.Counted.{Counts}
 use Rattle.tc_part.specs.Reads.{IsCountedLookup}
 use Rattle.tc_replay.specs.Reads.{IsCountedUpTo}
 
-at_most_one : (old new : ℕ) → (new ≡ old) ⊎ (new ≡ next_count old) → new ≤ old + 1
-at_most_one old new (inl same) = omega (arith, same)
-at_most_one old new (inr next) = omega (arith, next)
-
 pub lookup_counts : (Failed Unwanted : Type 0) (old new : Counts) → IsCountedLookup Failed Unwanted old new → IsCountedUpTo Failed 1 old new
-lookup_counts Failed Unwanted old new is = record { faults = is.once.faults; cause = is.once.cause; reads = at_most_one old.reads new.reads is.once.reads }
+lookup_counts Failed Unwanted old new is = record {
+  faults = is.once.faults;
+  cause = is.once.cause;
+  reads = elim is.once.reads [
+    | inl same ↦ omega (arith, same)
+    | inr next ↦ omega (arith, next)
+  ];
+}
 
 pub none_counts : (Failed : Type 0) (counts : Counts) → (Failed → ⊥) → IsCountedUpTo Failed 0 counts counts
 none_counts Failed counts never = record { faults = omega arith; cause = λ failed. absurd (never failed); reads = omega arith }
@@ -23,9 +25,6 @@ done_counts Failed most old new is = record { faults = is.faults; cause = λ nev
 pub counts_follow : (Failed Fails : Type 0) (m n most : ℕ) (old between new : Counts) → IsCountedUpTo ⊥ m old between → IsCountedUpTo Failed n between new → (Fails → Failed) → m + n ≤ most → IsCountedUpTo Fails most old new
 counts_follow Failed Fails m n most old between new first second fails within = record {
   faults = omega (arith, first.faults, second.faults);
-  cause = λ failed. rose old.faults between.faults new.faults first.faults (second.cause (fails failed));
+  cause = λ failed. omega (arith, first.faults, second.cause (fails failed));
   reads = omega (arith, first.reads, second.reads, within);
 }
-  where
-    rose : (a b c : ℕ) → a ≤ b → Rose b c → Rose a c
-    rose a b c before after = omega (arith, before, after)

@@ -4,7 +4,7 @@ use Rattle.std.specs.Prelude.{ℕ}
 use Rattle.std.proofs.lemmas.Bool.{cases_Bool, false≢true}
 use Rattle.std.proofs.lemmas.List.Elements.{All-head, All-tail, All-weaker}
 use Rattle.tc_store.specs.declared.file_name.FileName.{FileName}
-use Rattle.tc_store.specs.Disk.{Disk, Entry, content_of, home, is_still, none, out, put, still}
+use Rattle.tc_store.specs.Disk.{Disk, Entry, content_of, home, is_still, none, out, still}
 use Rattle.tc_store.specs.Moments.{EachSince, IfTold}
 use Rattle.tc_store.specs.StoreCalls.{removes}
 use Rattle.tc_store.proofs.MomentLemmas.{EachSince-none, EachSince-one, EachSince-trans}
@@ -16,17 +16,18 @@ use Rattle.tc_machine.specs.Steps.{IsSpare}
 use Rattle.tc_machine.proofs.Events.{event_keeps}
 use Rattle.tc_machine.proofs.FilesLeft.{at_name}
 use Rattle.tc_part_model.specs.Calls.{RemovesSome}
+use Rattle.tc_part_model.proofs.Removals.{without}
 use Rattle.tc_replay.specs.Openings.{AreIn, AreNeedless, IsOpening, LeavesLogged, opening_at}
 use Rattle.tc_replay.proofs.OpeningPictures.{keeps_store, leaves_in, put_in_place}
 
-still_is : (e : Entry) → is_still e ≡ true → (bytes : List ℕ) × (e ≡ still bytes)
-still_is (none before) is = absurd (false≢true is)
-still_is (home f) is = absurd (false≢true is)
-still_is (still bytes) is = (bytes, refl)
-still_is out is = absurd (false≢true is)
-
-abbrev without : FileName → Disk → Disk
-without name disk = put name (none (content_of (disk name))) disk
+still_file : (disk : Disk) (name : FileName) → is_still (disk name) ≡ true → (bytes : List ℕ) × (disk name ≡ still bytes)
+still_file disk name = at (disk name) refl
+  where
+    at : (e : Entry) → disk name ≡ e → is_still e ≡ true → (bytes : List ℕ) × (disk name ≡ still bytes)
+    at (none before) same is = absurd (false≢true is)
+    at (home f) same is = absurd (false≢true is)
+    at (still bytes) same is = (bytes, same)
+    at out same is = absurd (false≢true is)
 
 -- no file may be needed that is still
 abbrev IsNeedless : List Content → Disk → FileName → Type 0
@@ -40,7 +41,7 @@ module _ (part : Partition) (cs : List Content) (logs : List (List Write)) where
 
   goes : (name : FileName) (disk : Disk) → is_still (disk name) ≡ true → IsNeedless cs disk name → IsOpenedOn disk → IsOpenedOn (without name disk)
   goes name disk found needless is =
-      let bytes = still_is (disk name) found in
+      let bytes = still_file disk name found in
       record {
         kept = event_keeps part (opening_at cs logs disk) (file_removed name) is.kept (record { bytes = bytes.0; still = bytes.1; spare = needless bytes.0 bytes.1 });
         home = put_in_place name (none (content_of (disk name))) disk refl is.home;

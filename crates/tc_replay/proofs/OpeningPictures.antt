@@ -1,5 +1,5 @@
 -- What a stop leaves of a partition that is being opened is what is stored in its components and logs.
-use Rattle.std.proofs.Common.{◌≡◌, List, [], refl, sym, ap, subst, inl, inr, false, Option, None}
+use Rattle.std.proofs.Common.{◌≡◌, ◌∙◌, List, [], refl, sym, ap, subst, inl, inr, false, Option, None}
 use Rattle.std.proofs.Math.Path.{fun_ext}
 use Rattle.std.proofs.lemmas.Bool.{cases_Bool, false≢true}
 use Rattle.tc_store.specs.declared.file_name.FileName.{FileName}
@@ -31,14 +31,14 @@ keeps_store part cs logs flush disk k picture left =
 
 -- ---- files that are in
 
-pub seen_in : (x : DiskFile) (e : Entry) → is_out e ≡ false → seen_entry x e ≡ e
-seen_in x (none before) is = refl
-seen_in x (home f) is = refl
-seen_in x (still bytes) is = refl
-seen_in x out is = absurd (false≢true (sym is))
+seen_at : (x : DiskFile) (disk : Disk) (name : FileName) (e : Entry) → AreIn disk → disk name ≡ e → seen_entry x (disk name) ≡ disk name
+seen_at x disk name (none before) is_in same = rw same refl
+seen_at x disk name (home f) is_in same = rw same refl
+seen_at x disk name (still bytes) is_in same = rw same refl
+seen_at x disk name out is_in same = absurd (false≢true (sym (is_in name) ∙ ap is_out same))
 
-pub all_seen_in : (x : DiskFile) (disk : Disk) → AreIn disk → (λ name. seen_entry x (disk name)) ≡ disk
-all_seen_in x disk is_in = fun_ext λ name. seen_in x (disk name) (is_in name)
+all_seen_in : (x : DiskFile) (disk : Disk) → AreIn disk → (λ name. seen_entry x (disk name)) ≡ disk
+all_seen_in x disk is_in = fun_ext λ name. seen_at x disk name (disk name) is_in refl
 
 pub put_in_place : (name : FileName) (e : Entry) (disk : Disk) → is_out e ≡ false → AreIn disk → AreIn (put name e disk)
 put_in_place name e disk is is_in n = elim (cases_Bool (same_name name n)) [

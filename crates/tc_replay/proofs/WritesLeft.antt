@@ -36,9 +36,3 @@ module _ {F : Type 0} (content : F → Option (List ℕ)) (list : List (Componen
   pub counted_all : (Fails : Type 0) (rest : List Write) (now : Table) (after : Counts) → (Fails → ⊥) → AreWritesLeft content list all rest old now before after → IsCountedUpTo Fails (length all) before after
   counted_all Fails rest now after never left =
       counts_follow ⊥ Fails left.done 0 (length all) before after after left.counted (none_counts ⊥ after (λ never. never)) never (omega (arith, left.left))
-
-  -- and where a call failed
-  pub counted_failed : (Failed Fails : Type 0) (ws rest : List Write) (now : Table) (mid after : Counts) → AreWritesLeft content list all (ws ++ rest) old now before mid → IsCountedUpTo Failed (length ws) mid after → (Fails → Failed)
-      → IsCountedUpTo Fails (length all) before after
-  counted_failed Failed Fails ws rest now mid after left counts fails =
-      counts_follow Failed Fails left.done (length ws) (length all) before mid after left.counted counts fails (omega (arith, left.left, length-append ws rest))

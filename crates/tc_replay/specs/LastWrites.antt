@@ -12,8 +12,8 @@ use Rattle.tc_list.specs.declared.whereabouts.Whereabouts.TheVariants.{Absent, A
 use Rattle.tc_part.specs.Below.{IsFoundAt}
 use Rattle.tc_part_model.specs.Meaning.{shown}
 
--- the writes of logs, of which the oldest comes first
-abbrev pub written_in : List (List Write) → List Write
+-- what is written in logs, of which the oldest comes first
+abbrev pub written_in : {W : Type 0} → List (List W) → List W
 written_in logs = flat_map (λ ws. ws) logs
 
 -- the last of these writes to a key, if there is one
