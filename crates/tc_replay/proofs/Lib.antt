@@ -5,3 +5,5 @@ mod ReadFaults
 mod OpeningPictures
 mod NeedlessFiles
 mod WritesLeft
+mod FlushSteps
+mod ToldFlushes

@@ -31,7 +31,7 @@ keeps_store part cs logs flush disk k picture left =
 
 -- ---- files that are in
 
-seen_at : (x : DiskFile) (disk : Disk) (name : FileName) (e : Entry) → AreIn disk → disk name ≡ e → seen_entry x (disk name) ≡ disk name
+pub seen_at : (x : DiskFile) (disk : Disk) (name : FileName) (e : Entry) → AreIn disk → disk name ≡ e → seen_entry x (disk name) ≡ disk name
 seen_at x disk name (none before) is_in same = rw same refl
 seen_at x disk name (home f) is_in same = rw same refl
 seen_at x disk name (still bytes) is_in same = rw same refl

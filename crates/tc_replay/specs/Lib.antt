@@ -3,3 +3,4 @@ pub mod Reads
 pub mod LastWrites
 pub mod Replays
 pub mod Openings
+pub mod LogFlushes

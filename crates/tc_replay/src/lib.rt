@@ -1,11 +1,13 @@
 //! Layer 5, engine: the logs above the components of a partition that is being opened, replayed into a memory table over them;
-//! and that files which nobody needs may go then. The flush of that table is to come.
+//! and laws of the flush of that table, and of files that nobody needs any more.
 #![tactic(auto)]
 
 mod below;
 mod fault;
+mod flush_laws;
 mod laws;
 mod replaying;
 
+pub use flush_laws::logs_are_flushed;
 pub use laws::needless_files_go;
 pub use replaying::replay;
