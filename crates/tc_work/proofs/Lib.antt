@@ -1,0 +1,10 @@
+mod HandedFaults
+mod ReadCounts
+mod GrownFrames
+mod StorableAsks
+mod StagedAnswers
+mod WindowSizes
+mod Underway
+mod Windows
+mod Failures
+mod OpenEngines

@@ -1,0 +1,101 @@
+use Rattle.std.proofs.Common.{◌≡◌, ◌∙◌, ◌≤◌, ◌+◌, ◌^◌, [], ap, map, subst, sym, length, true}
+use Rattle.tc_part.specs.Harms.{IsHarmIn}
+use Rattle.tc_part_model.specs.Leaving.{LogMomentsLeaveStore}
+use Rattle.tc_part_model.specs.Meaning.{IsPart, plain_of}
+use Rattle.tc_part_model.specs.PartState.{PartState, told, AreTold}
+use Rattle.tc_part_model.specs.PartView.{PartView}
+use Rattle.tc_plain_model.specs.Part.{part_writes_all}
+use Rattle.tc_route.specs.Answers.{answered}
+use Rattle.tc_route.specs.Meaning.{replies_in, routed_of}
+use Rattle.tc_work.specs.Asked.{most_writes, requests_in}
+use Rattle.tc_work.specs.Faults.{IfDamage}
+use Rattle.tc_work.specs.EngineState.{EngineState}
+use Rattle.tc_work.specs.Failing.{HasFailedWith}
+use Rattle.tc_work.specs.Windowed.{staged_as, IsWindowed}
+use Rattle.tc_work.proofs.HandedFaults.{same_fault, same_harm}
+use Rattle.tc_work.proofs.ReadCounts.{counted_inside}
+use Rattle.tc_work.proofs.Windows.{err_always}
+use Rattle.tc_work.proofs.OpenEngines.{inside_is, closed_sound}
+use Rattle.tc_work.proofs.engine.Engine.window.Goals as goal
+
+pub run-requires-clause-sound : goal.run-requires-clause-sound
+run-requires-clause-sound g c κs within = ap (λ (s : PartState _ _ _ _). s.failed) (inside_is c.self.inside.part c.self.inside.failed c.args.self.now.part (ap (λ (e : EngineState _ _ _ _). e.part) c.self.view_is) c.requires.sound c.self.invariant.awake) ∙ c.requires.sound
+
+pub run-requires-clause-nothing_staged : goal.run-requires-clause-nothing_staged
+run-requires-clause-nothing_staged g c κs within = (c.self.invariant.awake (ap (λ (s : EngineState _ _ _ _). s.part.failed) c.self.view_is ∙ c.requires.sound)).nothing_staged
+
+pub returns-clause-replies : goal.returns-clause-replies
+returns-clause-replies g c =
+    subst (λ (s : PartState _ _ _ _). (p : PartView) → IsPart (told g.S.Store.history g.S.Device.Device.history g.S.Frozen.Frozen.content s) p → AreTold (told g.S.Store.history g.S.Device.Device.history g.S.Frozen.Frozen.content s).components → replies_in c.in_ok-replies.replies ≡ answered s.limits (map routed_of c.args.list.now) (plain_of (told g.S.Store.history g.S.Device.Device.history g.S.Frozen.Frozen.content s) p)) (inside_is c.self.inside.part c.self.inside.failed c.args.self.now.part (ap (λ (e : EngineState _ _ _ _). e.part) c.self.view_is) c.requires.sound c.self.invariant.awake)
+    (c.in_ok-replies.ensures.replies)
+
+pub returns-clause-windowed : goal.returns-clause-windowed
+returns-clause-windowed g c =
+    subst (λ (u : PartState _ _ _ _). (p : PartView) → IsPart (told g.S.Store.history g.S.Device.Device.history g.S.Frozen.Frozen.content c.args.self.now.part) p → IsWindowed c.args.self.now.part.limits (requests_in c.args.list.now) (told g.S.Store.history g.S.Device.Device.history g.S.Frozen.Frozen.content c.args.self.now.part) p (told g.S.Store.history g.S.Device.Device.history g.S.Frozen.Frozen.content u)) (closed_sound c.run.new.part c.in_ok-replies.ensures.sound)
+    (subst (λ (s : PartState _ _ _ _). (p : PartView) → IsPart (told g.S.Store.history g.S.Device.Device.history g.S.Frozen.Frozen.content s) p → IsWindowed s.limits (requests_in c.args.list.now) (told g.S.Store.history g.S.Device.Device.history g.S.Frozen.Frozen.content s) p (told g.S.Store.history g.S.Device.Device.history g.S.Frozen.Frozen.content c.run.new.part)) (inside_is c.self.inside.part c.self.inside.failed c.args.self.now.part (ap (λ (e : EngineState _ _ _ _). e.part) c.self.view_is) c.requires.sound c.self.invariant.awake)
+    (c.in_ok-replies.ensures.windowed))
+
+pub returns-clause-writes : goal.returns-clause-writes
+returns-clause-writes g c =
+    subst (λ (s : PartState _ _ _ _). (p : PartView) → IsPart (told g.S.Store.history g.S.Device.Device.history g.S.Frozen.Frozen.content s) p → c.run.new.part.writes ≡ s.writes + length (part_writes_all s.limits (requests_in c.args.list.now) (plain_of (told g.S.Store.history g.S.Device.Device.history g.S.Frozen.Frozen.content s) p))) (inside_is c.self.inside.part c.self.inside.failed c.args.self.now.part (ap (λ (e : EngineState _ _ _ _). e.part) c.self.view_is) c.requires.sound c.self.invariant.awake)
+    (c.in_ok-replies.ensures.writes)
+
+pub returns-clause-moments : goal.returns-clause-moments
+returns-clause-moments g c =
+    subst (λ (s : PartState _ _ _ _). (p : PartView) → IsPart (told g.S.Store.history g.S.Device.Device.history g.S.Frozen.Frozen.content s) p → LogMomentsLeaveStore (staged_as (part_writes_all s.limits (requests_in c.args.list.now) (plain_of (told g.S.Store.history g.S.Device.Device.history g.S.Frozen.Frozen.content s) p)) p) (told g.S.Store.history g.S.Device.Device.history g.S.Frozen.Frozen.content s) (g.S.Device.Device.history c.run.new.part.log.device)) (inside_is c.self.inside.part c.self.inside.failed c.args.self.now.part (ap (λ (e : EngineState _ _ _ _). e.part) c.self.view_is) c.requires.sound c.self.invariant.awake)
+    (c.run.ensures.moments)
+
+pub returns-clause-same : goal.returns-clause-same
+returns-clause-same g c = sym (closed_sound c.run.new.part c.in_ok-replies.ensures.sound) ∙
+    subst (λ (s : PartState _ _ _ _). c.run.new.part ≡ record s { main = c.run.new.part.main; active = c.run.new.part.active; log = c.run.new.part.log; taken = c.run.new.part.taken; live = c.run.new.part.live; writes = c.run.new.part.writes }) (inside_is c.self.inside.part c.self.inside.failed c.args.self.now.part (ap (λ (e : EngineState _ _ _ _). e.part) c.self.view_is) c.requires.sound c.self.invariant.awake)
+    (c.in_ok-replies.ensures.same)
+
+pub returns-clause-counted : goal.returns-clause-counted
+returns-clause-counted g c = counted_inside g.S.Watch.Watch.counts (length c.args.list.now) _ _ c.self.inside.part c.args.self.now.part c.run.new.part (inside_is c.self.inside.part c.self.inside.failed c.args.self.now.part (ap (λ (e : EngineState _ _ _ _). e.part) c.self.view_is) c.requires.sound c.self.invariant.awake) c.run.ensures.counted (λ failed. absurd (cc))
+
+-- ---- it fails
+
+pub returns-in_err-replies-clause-moments : goal.returns-in_err-replies-clause-moments
+returns-in_err-replies-clause-moments g c =
+    subst (λ (s : PartState _ _ _ _). (p : PartView) → IsPart (told g.S.Store.history g.S.Device.Device.history g.S.Frozen.Frozen.content s) p → LogMomentsLeaveStore (staged_as (part_writes_all s.limits (requests_in c.args.list.now) (plain_of (told g.S.Store.history g.S.Device.Device.history g.S.Frozen.Frozen.content s) p)) p) (told g.S.Store.history g.S.Device.Device.history g.S.Frozen.Frozen.content s) (g.S.Device.Device.history c.run.new.part.log.device)) (inside_is c.self.inside.part c.self.inside.failed c.args.self.now.part (ap (λ (e : EngineState _ _ _ _). e.part) c.self.view_is) c.requires.sound c.self.invariant.awake)
+    (c.run.ensures.moments)
+
+pub returns-in_err-replies-clause-failed : goal.returns-in_err-replies-clause-failed
+returns-in_err-replies-clause-failed g c = err_always c.from_residual.result _
+    (subst (λ (s : PartState _ _ _ _). (p : PartView) → IsPart (told g.S.Store.history g.S.Device.Device.history g.S.Frozen.Frozen.content s) p → HasFailedWith (part_writes_all s.limits (requests_in c.args.list.now) (plain_of (told g.S.Store.history g.S.Device.Device.history g.S.Frozen.Frozen.content s) p)) (record (told g.S.Store.history g.S.Device.Device.history g.S.Frozen.Frozen.content c.run.new.part) { failed = true }) p) (inside_is c.self.inside.part c.self.inside.failed c.args.self.now.part (ap (λ (e : EngineState _ _ _ _). e.part) c.self.view_is) c.requires.sound c.self.invariant.awake)
+    (c.in_err-replies.ensures.failed))
+
+pub returns-in_err-replies-clause-left : goal.returns-in_err-replies-clause-left
+returns-in_err-replies-clause-left g c = err_always c.from_residual.result _
+    (subst (λ (s : PartState _ _ _ _). record c.run.new.part { failed = true } ≡ record s { main = c.run.new.part.main; active = c.run.new.part.active; staged = c.run.new.part.staged; taken = c.run.new.part.taken; live = c.run.new.part.live; log = c.run.new.part.log; failed = true }) (inside_is c.self.inside.part c.self.inside.failed c.args.self.now.part (ap (λ (e : EngineState _ _ _ _). e.part) c.self.view_is) c.requires.sound c.self.invariant.awake)
+    (ap (λ (x : PartState _ _ _ _). record x { failed = true }) c.in_err-replies.ensures.left))
+
+pub returns-in_err-replies-clause-harmed : goal.returns-in_err-replies-clause-harmed
+returns-in_err-replies-clause-harmed g c = same_harm c.from_residual.result c.in_err-replies.field-0.0 _ c.from_residual.ensures.1
+    (subst (λ (s : PartState _ _ _ _). IfDamage c.in_err-replies.field-0.0 (λ file at bytes. IsHarmIn (λ file. g.S.Frozen.Frozen.content file) s.list file at bytes)) (inside_is c.self.inside.part c.self.inside.failed c.args.self.now.part (ap (λ (e : EngineState _ _ _ _). e.part) c.self.view_is) c.requires.sound c.self.invariant.awake)
+    (c.in_err-replies.ensures.harmed))
+
+pub returns-in_err-replies-clause-spent : goal.returns-in_err-replies-clause-spent
+returns-in_err-replies-clause-spent g c = λ spent.
+    subst (λ (s : PartState _ _ _ _). 2 ^ 63 ≤ s.writes + most_writes (requests_in c.args.list.now)) (inside_is c.self.inside.part c.self.inside.failed c.args.self.now.part (ap (λ (e : EngineState _ _ _ _). e.part) c.self.view_is) c.requires.sound c.self.invariant.awake)
+    (c.run.ensures.spent (same_fault c.from_residual.result c.run.result c.in_err-replies.field-0.0 _ c.from_residual.ensures.1 c.in_err-replies.was spent))
+
+pub returns-in_err-replies-clause-unspent : goal.returns-in_err-replies-clause-unspent
+returns-in_err-replies-clause-unspent g c = λ spent.
+    subst (λ (s : PartState _ _ _ _). c.run.new.part.log ≡ s.log) (inside_is c.self.inside.part c.self.inside.failed c.args.self.now.part (ap (λ (e : EngineState _ _ _ _). e.part) c.self.view_is) c.requires.sound c.self.invariant.awake)
+    (c.run.ensures.unspent (same_fault c.from_residual.result c.run.result c.in_err-replies.field-0.0 _ c.from_residual.ensures.1 c.in_err-replies.was spent))
+
+pub returns-in_err-replies-clause-counted : goal.returns-in_err-replies-clause-counted
+returns-in_err-replies-clause-counted g c =
+    counted_inside g.S.Watch.Watch.counts (length c.args.list.now) _ _ c.self.inside.part c.args.self.now.part c.run.new.part (inside_is c.self.inside.part c.self.inside.failed c.args.self.now.part (ap (λ (e : EngineState _ _ _ _). e.part) c.self.view_is) c.requires.sound c.self.invariant.awake) c.run.ensures.counted
+    (same_fault c.from_residual.result c.run.result c.in_err-replies.field-0.0 _ c.from_residual.ensures.1 c.in_err-replies.was)
+
+pub returns-clause-unwritten : goal.returns-clause-unwritten
+returns-clause-unwritten g c =
+    subst (λ (s : PartState _ _ _ _). (p : PartView) → IsPart (told g.S.Store.history g.S.Device.Device.history g.S.Frozen.Frozen.content s) p → part_writes_all s.limits (requests_in c.args.list.now) (plain_of (told g.S.Store.history g.S.Device.Device.history g.S.Frozen.Frozen.content s) p) ≡ [] → c.run.new.part.log ≡ s.log) (inside_is c.self.inside.part c.self.inside.failed c.args.self.now.part (ap (λ (e : EngineState _ _ _ _). e.part) c.self.view_is) c.requires.sound c.self.invariant.awake)
+    (c.in_ok-replies.ensures.unwritten)
+
+pub returns-clause-looked_up : goal.returns-clause-looked_up
+returns-clause-looked_up g c =
+    subst (λ (s : PartState _ _ _ _). most_writes (requests_in c.args.list.now) ≡ 0 → c.run.new.part.log ≡ s.log) (inside_is c.self.inside.part c.self.inside.failed c.args.self.now.part (ap (λ (e : EngineState _ _ _ _). e.part) c.self.view_is) c.requires.sound c.self.invariant.awake)
+    (c.in_ok-replies.ensures.looked_up)

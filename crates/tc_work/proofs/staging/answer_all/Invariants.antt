@@ -1,0 +1,25 @@
+use Rattle.std.proofs.Common.{◌≡◌, ◌++◌, map, drop, false}
+use Rattle.tc_part_model.specs.Meaning.{IsPart, plain_of}
+use Rattle.tc_part_model.specs.PartState.{told, AreTold}
+use Rattle.tc_part_model.specs.PartView.{PartView}
+use Rattle.tc_route.specs.Meaning.{replies_in, routed_of}
+use Rattle.tc_work.specs.Asked.{most_bytes, most_writes, requests_in}
+use Rattle.tc_work.specs.Frames.{AreWithin}
+use Rattle.tc_work.specs.Reads.{IsCountedWithin}
+use Rattle.tc_work.specs.Windowed.{HasOnlyStaged}
+use Rattle.tc_work.proofs.Underway.{IsUnderway}
+use Rattle.tc_work.proofs.staging.answer_all.Given as goal
+
+abbrev pub invariant-loop-routed : goal.invariant-loop-routed
+invariant-loop-routed g l =
+    let first = told g.S.Store.history g.S.Device.Device.history g.S.Frozen.Frozen.content l.fn.part in
+    let now = told g.S.Store.history g.S.Device.Device.history g.S.Frozen.Frozen.content l.part in
+    record {
+      underway : (p : PartView) → IsPart first p
+          → IsUnderway l.fn.part.limits (map routed_of l.list) (plain_of first p) p (AreTold first.components) (map routed_of (drop l.routed-index l.list)) (replies_in l.replies.items) now;
+      places : map (λ a. a.at) l.replies.items ++ map (λ r. r.at) (drop l.routed-index l.list) ≡ map (λ r. r.at) l.list;
+      within : AreWithin (most_writes (requests_in l.list)) (most_bytes (requests_in l.list)) l.part.staged (requests_in (drop l.routed-index l.list));
+      same : HasOnlyStaged l.fn.part l.part;
+      sound : l.part.failed ≡ false;
+      counted : IsCountedWithin l.routed-index ⊥ (g.S.Watch.Watch.counts l.fn.part.main) (g.S.Watch.Watch.counts l.part.main);
+    }

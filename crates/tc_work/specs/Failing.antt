@@ -1,0 +1,21 @@
+-- What is left of an engine that failed.
+use Rattle.std.specs.Prelude.{◌≡◌, ◌⊎◌, List, Option, Some, None}
+use Rattle.tc_lsm_model.specs.Contents.{Partition}
+use Rattle.tc_plain_model.specs.Writes.{Pairs, Write}
+use Rattle.tc_part.specs.Closing.{HasLogsOf}
+use Rattle.tc_part_model.specs.Meaning.{HasFailedAs}
+use Rattle.tc_part_model.specs.PartState.{Told}
+use Rattle.tc_part_model.specs.PartView.{PartView, store_of}
+
+-- It has failed. Its files keep what is stored, with the frame whose append failed or without it, and its logs are those that
+-- a part has which stores that, so that the same is kept when it is closed.
+pub record HasFailedKeeping (t : Told) (part : Partition) (pairs : Pairs) (frame : Option (List Write)) : Type 0 where
+  pub view : PartView
+  pub here : view.part ≡ part
+  pub holds : store_of view ≡ pairs
+  pub files : HasFailedAs t view frame
+  pub logs : HasLogsOf t view
+
+-- without these writes, or with all of them
+abbrev pub HasFailedWith : List Write → Told → PartView → Type 0
+HasFailedWith ws t p = HasFailedKeeping t p.part (store_of p) None ⊎ HasFailedKeeping t p.part (store_of p) (Some ws)

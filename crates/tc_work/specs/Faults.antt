@@ -1,0 +1,21 @@
+-- Why a call of an engine failed, by what a call of its part answered.
+use Rattle.std.specs.Prelude.{ℕ, List}
+use Rattle.tc_store.specs.declared.file_name.FileName.{FileName}
+use Rattle.tc_part.specs.declared.fault.PartFault.{PartFault}
+use Rattle.tc_part.specs.declared.fault.PartFault.TheVariants as part
+use Rattle.tc_part.specs.Harms.{IsBytesHarm}
+use Rattle.tc_work.specs.declared.fault.EngineFault.{EngineFault}
+use Rattle.tc_work.specs.declared.fault.EngineFault.TheVariants as engine
+
+abbrev pub of_part : PartFault → EngineFault
+of_part part.Disk = engine.Disk
+of_part (part.Damaged damage) = engine.Damaged damage
+of_part part.Spent = engine.Spent
+of_part part.Memory = engine.Memory
+
+-- if it is damage, this holds of it by the file, the place and the bytes there
+abbrev pub IfDamage : EngineFault → (FileName → ℕ → List ℕ → Type 0) → Type 0
+IfDamage engine.Disk P = Unit {0}
+IfDamage (engine.Damaged damage) P = IsBytesHarm damage P
+IfDamage engine.Spent P = Unit {0}
+IfDamage engine.Memory P = Unit {0}

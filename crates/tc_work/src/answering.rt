@@ -1,0 +1,153 @@
+//! One command of a window: its write is staged, or its key is looked up.
+
+ghost use Rattle.std.specs.Prelude.{◌≡◌, false, IfErr, IfOk, OnOk, IsErrOf};
+ghost use Rattle.tc_model.specs.Request.{upsert, delete, get};
+ghost use Rattle.tc_value.specs.Meaning.{tree_of};
+ghost use Rattle.tc_command.specs.Commands.{request_of_command};
+ghost use Rattle.tc_command.specs.Replies.{reply_of};
+ghost use Rattle.tc_plain_model.specs.Part.{part_left, part_reply, part_writes};
+ghost use Rattle.tc_part_model.specs.Meaning.{IsPart, plain_of};
+ghost use Rattle.tc_part_model.specs.PartState.{told, AreTold};
+ghost use Rattle.tc_part_model.specs.PartView.{PartView};
+ghost use Rattle.tc_part.specs.Harms.{IsHarmIn};
+ghost use Rattle.tc_work.specs.Asked.{IsOfKey};
+ghost use Rattle.tc_work.specs.Faults.{IfDamage};
+ghost use Rattle.tc_work.specs.Frames.{HasGrown, HasRoomFor};
+ghost use Rattle.tc_work.specs.Reads.{IsCountedWithin};
+ghost use Rattle.tc_work.specs.Replied.{reply_to_delete, reply_to_upsert};
+ghost use Rattle.tc_work.specs.Windowed.{HasOnlyStaged, IsStagedAs};
+
+use crate::fault::EngineFault;
+use std::alloc::Global;
+use tc_command::{Command, Refusal, Reply};
+use tc_log::Write;
+use tc_part::{Part, Staged};
+use tc_part_model::staged_is_kept;
+use tc_record::encode;
+use tc_store::Store;
+use tc_value::Doc;
+
+/// The reply to a command, whose write is staged. Where this errs the part may have failed or not.
+pub(crate) fn answer<S: Store>(
+    alloc: Global,
+    part: &mut Part<S>,
+    command: &Command,
+) -> Result<Reply, EngineFault>
+    requires sound { part.old.failed ≡ false }
+    requires asked { IsOfKey (request_of_command command.now) }
+    requires frame { HasRoomFor (request_of_command command.now) part.old.staged }
+    ensures staged { (p : PartView) → IsPart (told S.history S.Device.history S.Frozen.content part.old) p
+        → OnOk result (IsStagedAs (part_writes part.old.limits (request_of_command command.now) (plain_of (told S.history S.Device.history S.Frozen.content part.old) p)) (part_left part.old.limits (request_of_command command.now) (plain_of (told S.history S.Device.history S.Frozen.content part.old) p)) p (told S.history S.Device.history S.Frozen.content part.new)) }
+    ensures reply { (p : PartView) → IsPart (told S.history S.Device.history S.Frozen.content part.old) p → AreTold (told S.history S.Device.history S.Frozen.content part.old).components
+        → IfOk result (λ reply. reply_of reply ≡ part_reply part.old.limits (request_of_command command.now) (plain_of (told S.history S.Device.history S.Frozen.content part.old) p)) }
+    ensures grown { OnOk result (HasGrown (request_of_command command.now) part.old.staged part.new.staged) }
+    ensures same { HasOnlyStaged part.old part.new }
+    ensures sound { OnOk result (part.new.failed ≡ false) }
+    ensures harmed { IfErr result (λ fault. IfDamage fault (λ file at bytes. IsHarmIn (λ file. S.Frozen.content file) part.old.list file at bytes)) }
+    ensures unspent { IsErrOf result EngineFault.Spent → ⊥ }
+    ensures counted { IsCountedWithin 1 (IsErrOf result EngineFault.Disk) (S.Watch.counts part.old.main) (S.Watch.counts part.new.main) }
+{
+    match command {
+        Command::Upsert { key, doc } => upsert(alloc, part, *key, doc),
+        Command::Delete { key } => delete(alloc, part, *key),
+        Command::Get { key } => get(alloc, part, *key),
+        _other => unreachable!(),
+    }
+}
+
+fn upsert<S: Store>(
+    alloc: Global,
+    part: &mut Part<S>,
+    key: u64,
+    doc: &Doc,
+) -> Result<Reply, EngineFault>
+    requires sound { part.old.failed ≡ false }
+    requires asked { IsOfKey (upsert key (tree_of doc.now)) }
+    requires frame { HasRoomFor (upsert key (tree_of doc.now)) part.old.staged }
+    ensures staged { (p : PartView) → IsPart (told S.history S.Device.history S.Frozen.content part.old) p
+        → OnOk result (IsStagedAs (part_writes part.old.limits (upsert key (tree_of doc.now)) (plain_of (told S.history S.Device.history S.Frozen.content part.old) p)) (part_left part.old.limits (upsert key (tree_of doc.now)) (plain_of (told S.history S.Device.history S.Frozen.content part.old) p)) p (told S.history S.Device.history S.Frozen.content part.new)) }
+    ensures reply { (p : PartView) → IsPart (told S.history S.Device.history S.Frozen.content part.old) p → AreTold (told S.history S.Device.history S.Frozen.content part.old).components
+        → IfOk result (λ reply. reply_of reply ≡ part_reply part.old.limits (upsert key (tree_of doc.now)) (plain_of (told S.history S.Device.history S.Frozen.content part.old) p)) }
+    ensures grown { OnOk result (HasGrown (upsert key (tree_of doc.now)) part.old.staged part.new.staged) }
+    ensures same { HasOnlyStaged part.old part.new }
+    ensures sound { OnOk result (part.new.failed ≡ false) }
+    ensures harmed { IfErr result (λ fault. IfDamage fault (λ file at bytes. IsHarmIn (λ file. S.Frozen.content file) part.old.list file at bytes)) }
+    ensures unspent { IsErrOf result EngineFault.Spent → ⊥ }
+    ensures counted { IsCountedWithin 1 (IsErrOf result EngineFault.Disk) (S.Watch.counts part.old.main) (S.Watch.counts part.new.main) }
+{
+    staged_is_kept();
+    // The walk shows that the names of the document ascend at each level.
+    let _depth = doc.depth();
+    let bytes = encode(alloc, doc)?;
+    let staged = part.stage(alloc, Write::Upsert { key, bytes })?;
+    Ok(upserted(key, staged))
+}
+
+/// The reply to the upsert of a key.
+fn upserted(key: u64, staged: Staged) -> Reply
+    ensures { reply_of result ≡ reply_to_upsert key staged }
+{
+    match staged {
+        Staged::Done { was_live } => Reply::Upserted {
+            id: key,
+            replaced: was_live,
+        },
+        Staged::NamesFull => Reply::Refused(Refusal::NamesFull),
+        Staged::Full => Reply::Refused(Refusal::Full),
+    }
+}
+
+fn delete<S: Store>(alloc: Global, part: &mut Part<S>, key: u64) -> Result<Reply, EngineFault>
+    requires sound { part.old.failed ≡ false }
+    requires asked { IsOfKey (delete key) }
+    requires frame { HasRoomFor (delete key) part.old.staged }
+    ensures staged { (p : PartView) → IsPart (told S.history S.Device.history S.Frozen.content part.old) p
+        → OnOk result (IsStagedAs (part_writes part.old.limits (delete key) (plain_of (told S.history S.Device.history S.Frozen.content part.old) p)) (part_left part.old.limits (delete key) (plain_of (told S.history S.Device.history S.Frozen.content part.old) p)) p (told S.history S.Device.history S.Frozen.content part.new)) }
+    ensures reply { (p : PartView) → IsPart (told S.history S.Device.history S.Frozen.content part.old) p → AreTold (told S.history S.Device.history S.Frozen.content part.old).components
+        → IfOk result (λ reply. reply_of reply ≡ part_reply part.old.limits (delete key) (plain_of (told S.history S.Device.history S.Frozen.content part.old) p)) }
+    ensures grown { OnOk result (HasGrown (delete key) part.old.staged part.new.staged) }
+    ensures same { HasOnlyStaged part.old part.new }
+    ensures sound { OnOk result (part.new.failed ≡ false) }
+    ensures harmed { IfErr result (λ fault. IfDamage fault (λ file at bytes. IsHarmIn (λ file. S.Frozen.content file) part.old.list file at bytes)) }
+    ensures unspent { IsErrOf result EngineFault.Spent → ⊥ }
+    ensures counted { IsCountedWithin 1 (IsErrOf result EngineFault.Disk) (S.Watch.counts part.old.main) (S.Watch.counts part.new.main) }
+{
+    staged_is_kept();
+    let staged = part.stage(alloc, Write::Delete { key })?;
+    Ok(deleted(key, staged))
+}
+
+/// The reply to the delete of a key. A delete is never refused.
+fn deleted(key: u64, staged: Staged) -> Reply
+    ensures { reply_of result ≡ reply_to_delete key staged }
+{
+    match staged {
+        Staged::Done { was_live } => Reply::Deleted {
+            id: key,
+            found: was_live,
+        },
+        _refused => Reply::Deleted {
+            id: key,
+            found: false,
+        },
+    }
+}
+
+fn get<S: Store>(alloc: Global, part: &mut Part<S>, key: u64) -> Result<Reply, EngineFault>
+    requires sound { part.old.failed ≡ false }
+    requires asked { IsOfKey (get key) }
+    requires frame { HasRoomFor (get key) part.old.staged }
+    ensures staged { (p : PartView) → IsPart (told S.history S.Device.history S.Frozen.content part.old) p
+        → OnOk result (IsStagedAs (part_writes part.old.limits (get key) (plain_of (told S.history S.Device.history S.Frozen.content part.old) p)) (part_left part.old.limits (get key) (plain_of (told S.history S.Device.history S.Frozen.content part.old) p)) p (told S.history S.Device.history S.Frozen.content part.new)) }
+    ensures reply { (p : PartView) → IsPart (told S.history S.Device.history S.Frozen.content part.old) p → AreTold (told S.history S.Device.history S.Frozen.content part.old).components
+        → IfOk result (λ reply. reply_of reply ≡ part_reply part.old.limits (get key) (plain_of (told S.history S.Device.history S.Frozen.content part.old) p)) }
+    ensures grown { OnOk result (HasGrown (get key) part.old.staged part.new.staged) }
+    ensures same { HasOnlyStaged part.old part.new }
+    ensures sound { OnOk result (part.new.failed ≡ false) }
+    ensures harmed { IfErr result (λ fault. IfDamage fault (λ file at bytes. IsHarmIn (λ file. S.Frozen.content file) part.old.list file at bytes)) }
+    ensures unspent { IsErrOf result EngineFault.Spent → ⊥ }
+    ensures counted { IsCountedWithin 1 (IsErrOf result EngineFault.Disk) (S.Watch.counts part.old.main) (S.Watch.counts part.new.main) }
+{
+    let doc = part.lookup(alloc, key)?;
+    Ok(Reply::Got { id: key, doc })
+}

@@ -1,0 +1,95 @@
+//! A window: what its commands write is made one frame.
+
+ghost use Rattle.std.specs.Prelude.{◌≡◌, ◌≤◌, ◌+◌, ◌^◌, [], false, true, length, map, IfErr, IfOk, OnErr, OnOk, IsErrOf};
+ghost use Rattle.tc_plain_model.specs.Part.{part_writes_all};
+ghost use Rattle.tc_part_model.specs.Leaving.{LogMomentsLeaveStore};
+ghost use Rattle.tc_part_model.specs.Meaning.{IsPart, plain_of};
+ghost use Rattle.tc_part_model.specs.PartState.{told, AreTold};
+ghost use Rattle.tc_part_model.specs.PartView.{PartView};
+ghost use Rattle.tc_part.specs.Harms.{IsHarmIn};
+ghost use Rattle.tc_route.specs.Answers.{answered};
+ghost use Rattle.tc_route.specs.Meaning.{replies_in, routed_of};
+ghost use Rattle.tc_work.specs.Asked.{most_writes, requests_in, IsWindow};
+ghost use Rattle.tc_work.specs.Failing.{HasFailedWith};
+ghost use Rattle.tc_work.specs.Faults.{IfDamage};
+ghost use Rattle.tc_work.specs.Reads.{IsCountedWithin};
+ghost use Rattle.tc_work.specs.Windowed.{staged_as, IsWindowed};
+
+use crate::engine::Engine;
+use crate::fault::EngineFault;
+use crate::staging::answer_all;
+use std::alloc::Global;
+use tc_part::Part;
+use tc_part_model::{commits_are_kept, failed_parts_keep_files};
+use tc_route::{Replies, Routed};
+use tc_store::Store;
+
+impl<S: Store> Engine<S> {
+    /// Runs the commands of a window, and commits their writes as one frame: one reply a command, in order and with its place,
+    /// in which a get sees the writes before it. A refused upsert is a reply, and no fault. At most one read is made for a
+    /// command. `Spent` comes only where there would be more than 2^63 - 1 writes of this run; then nothing is written.
+    pub fn window(&mut self, alloc: Global, list: &[Routed]) -> Result<Replies, EngineFault>
+        requires sound { self.old.part.failed ≡ false }
+        requires window { IsWindow list.now }
+
+        // Where the files are told, the replies are those of the plain store, and over every store each is at the place of its command.
+        ensures replies { (p : PartView) → IsPart (told S.history S.Device.history S.Frozen.content self.old.part) p → AreTold (told S.history S.Device.history S.Frozen.content self.old.part).components
+            → IfOk result (λ replies. replies_in replies ≡ answered self.old.part.limits (map routed_of list.now) (plain_of (told S.history S.Device.history S.Frozen.content self.old.part) p)) }
+        ensures places { IfOk result (λ replies. map (λ a. a.at) replies ≡ map (λ r. r.at) list.now) }
+
+        // On Ok the part is the one in which the writes of the window are committed.
+        ensures windowed { OnOk result ((p : PartView) → IsPart (told S.history S.Device.history S.Frozen.content self.old.part) p → IsWindowed self.old.part.limits (requests_in list.now) (told S.history S.Device.history S.Frozen.content self.old.part) p (told S.history S.Device.history S.Frozen.content self.new.part)) }
+        ensures same { OnOk result (self.new.part ≡ record self.old.part { main = self.new.part.main; active = self.new.part.active; log = self.new.part.log; taken = self.new.part.taken; live = self.new.part.live; writes = self.new.part.writes }) }
+        ensures writes { OnOk result ((p : PartView) → IsPart (told S.history S.Device.history S.Frozen.content self.old.part) p → self.new.part.writes ≡ self.old.part.writes + length (part_writes_all self.old.part.limits (requests_in list.now) (plain_of (told S.history S.Device.history S.Frozen.content self.old.part) p))) }
+        ensures policy { self.new.policy ≡ self.old.policy }
+
+        // The log stays as it is where no write is made, as one of lookups alone makes none.
+        ensures unwritten { OnOk result ((p : PartView) → IsPart (told S.history S.Device.history S.Frozen.content self.old.part) p → part_writes_all self.old.part.limits (requests_in list.now) (plain_of (told S.history S.Device.history S.Frozen.content self.old.part) p) ≡ [] → self.new.part.log ≡ self.old.part.log) }
+        ensures looked_up { OnOk result (most_writes (requests_in list.now) ≡ 0 → self.new.part.log ≡ self.old.part.log) }
+
+        // At each moment of the call a stop leaves what is stored, without the writes of the window or with all of them, and so it
+        // does behind a fault.
+        ensures moments { (p : PartView) → IsPart (told S.history S.Device.history S.Frozen.content self.old.part) p → LogMomentsLeaveStore (staged_as (part_writes_all self.old.part.limits (requests_in list.now) (plain_of (told S.history S.Device.history S.Frozen.content self.old.part) p)) p) (told S.history S.Device.history S.Frozen.content self.old.part) (S.Device.history self.new.part.log.device) }
+        ensures failed { OnErr result ((p : PartView) → IsPart (told S.history S.Device.history S.Frozen.content self.old.part) p → HasFailedWith (part_writes_all self.old.part.limits (requests_in list.now) (plain_of (told S.history S.Device.history S.Frozen.content self.old.part) p)) (told S.history S.Device.history S.Frozen.content self.new.part) p) }
+        ensures left { OnErr result (self.new.part ≡ record self.old.part { main = self.new.part.main; active = self.new.part.active; staged = self.new.part.staged; taken = self.new.part.taken; live = self.new.part.live; log = self.new.part.log; failed = true }) }
+
+        ensures harmed { IfErr result (λ fault. IfDamage fault (λ file at bytes. IsHarmIn (λ file. S.Frozen.content file) self.old.part.list file at bytes)) }
+        ensures spent { IsErrOf result EngineFault.Spent → 2 ^ 63 ≤ self.old.part.writes + most_writes (requests_in list.now) }
+        ensures unspent { IsErrOf result EngineFault.Spent → self.new.part.log ≡ self.old.part.log }
+        ensures counted { IsCountedWithin (length list.now) (IsErrOf result EngineFault.Disk) (S.Watch.counts self.old.part.main) (S.Watch.counts self.new.part.main) }
+    {
+        self.failed = true;
+        let replies = run(alloc, &mut self.part, list)?;
+        self.failed = false;
+        Ok(replies)
+    }
+}
+
+/// Runs the commands of a window over its part. Where this errs the part may have failed or not.
+fn run<S: Store>(alloc: Global, part: &mut Part<S>, list: &[Routed]) -> Result<Replies, EngineFault>
+    requires sound { part.old.failed ≡ false }
+    requires nothing_staged { part.old.staged ≡ [] }
+    requires window { IsWindow list.now }
+    ensures replies { (p : PartView) → IsPart (told S.history S.Device.history S.Frozen.content part.old) p → AreTold (told S.history S.Device.history S.Frozen.content part.old).components
+        → IfOk result (λ replies. replies_in replies ≡ answered part.old.limits (map routed_of list.now) (plain_of (told S.history S.Device.history S.Frozen.content part.old) p)) }
+    ensures places { IfOk result (λ replies. map (λ a. a.at) replies ≡ map (λ r. r.at) list.now) }
+    ensures windowed { OnOk result ((p : PartView) → IsPart (told S.history S.Device.history S.Frozen.content part.old) p → IsWindowed part.old.limits (requests_in list.now) (told S.history S.Device.history S.Frozen.content part.old) p (told S.history S.Device.history S.Frozen.content part.new)) }
+    ensures same { OnOk result (part.new ≡ record part.old { main = part.new.main; active = part.new.active; log = part.new.log; taken = part.new.taken; live = part.new.live; writes = part.new.writes }) }
+    ensures writes { OnOk result ((p : PartView) → IsPart (told S.history S.Device.history S.Frozen.content part.old) p → part.new.writes ≡ part.old.writes + length (part_writes_all part.old.limits (requests_in list.now) (plain_of (told S.history S.Device.history S.Frozen.content part.old) p))) }
+    ensures unwritten { OnOk result ((p : PartView) → IsPart (told S.history S.Device.history S.Frozen.content part.old) p → part_writes_all part.old.limits (requests_in list.now) (plain_of (told S.history S.Device.history S.Frozen.content part.old) p) ≡ [] → part.new.log ≡ part.old.log) }
+    ensures looked_up { OnOk result (most_writes (requests_in list.now) ≡ 0 → part.new.log ≡ part.old.log) }
+    ensures moments { (p : PartView) → IsPart (told S.history S.Device.history S.Frozen.content part.old) p → LogMomentsLeaveStore (staged_as (part_writes_all part.old.limits (requests_in list.now) (plain_of (told S.history S.Device.history S.Frozen.content part.old) p)) p) (told S.history S.Device.history S.Frozen.content part.old) (S.Device.history part.new.log.device) }
+    ensures failed { OnErr result ((p : PartView) → IsPart (told S.history S.Device.history S.Frozen.content part.old) p → HasFailedWith (part_writes_all part.old.limits (requests_in list.now) (plain_of (told S.history S.Device.history S.Frozen.content part.old) p)) (record (told S.history S.Device.history S.Frozen.content part.new) { failed = true }) p) }
+    ensures left { OnErr result (part.new ≡ record part.old { main = part.new.main; active = part.new.active; staged = part.new.staged; taken = part.new.taken; live = part.new.live; log = part.new.log; failed = part.new.failed }) }
+    ensures harmed { IfErr result (λ fault. IfDamage fault (λ file at bytes. IsHarmIn (λ file. S.Frozen.content file) part.old.list file at bytes)) }
+    ensures spent { IsErrOf result EngineFault.Spent → 2 ^ 63 ≤ part.old.writes + most_writes (requests_in list.now) }
+    ensures unspent { IsErrOf result EngineFault.Spent → part.new.log ≡ part.old.log }
+    ensures counted { IsCountedWithin (length list.now) (IsErrOf result EngineFault.Disk) (S.Watch.counts part.old.main) (S.Watch.counts part.new.main) }
+    ensures sound { OnOk result (part.new.failed ≡ false) }
+{
+    commits_are_kept();
+    failed_parts_keep_files();
+    let replies = answer_all(alloc, part, list)?;
+    part.commit(alloc)?;
+    Ok(replies)
+}
