@@ -9,6 +9,7 @@ ghost use Rattle.tc_store.specs.StoreCalls.{fresh_file_at, makes};
 ghost use Rattle.tc_component.specs.declared.head.Head.{Head as HeadRecord};
 ghost use Rattle.tc_list.specs.Intervals.{last_of};
 ghost use Rattle.tc_memory.specs.DocumentTables.{IsTableOf};
+ghost use Rattle.tc_memory.specs.Table.{IsTable};
 ghost use Rattle.tc_lsm_model.specs.Tables.{Table};
 ghost use Rattle.tc_flush.specs.Counting.{IsCounted as CountsOf};
 ghost use Rattle.tc_flush.specs.Flushable.{CanFlush};
@@ -52,6 +53,7 @@ impl<S: Store> Part<S> {
         ensures names { IfOk result (λ job. job.names ≡ newest_names [] self.old.list) }
         ensures schema { IfOk result (λ job. job.schema ≡ newest_schema nothing self.old.list) }
         ensures head { IfOk result (λ job. job.head ≡ record { number = self.old.number; count = self.old.count; from = self.old.generation - 1; to = self.old.generation - 1 }) }
+        ensures lawful { IfOk result (λ job. IsTable job.kept) }
         ensures watch { IfOk result (λ job. Some job.watch ≡ self.old.flusher) }
         ensures name { IfOk result (λ job. S.Device.name job.device ≡ component_name (self.old.generation - 1) (self.old.generation - 1)) }
         ensures file { IfOk result (λ job. S.Device.history job.device ≡ fresh_file_at (component_name (self.old.generation - 1) (self.old.generation - 1)) (S.history self.old.store)) }
@@ -108,6 +110,7 @@ impl<S: Store> Part<S> {
         ensures names { IfOk result (λ inputs. inputs.names ≡ newest_names [] self.now.list) }
         ensures schema { IfOk result (λ inputs. inputs.schema ≡ newest_schema nothing self.now.list) }
         ensures counted { IfOk result (λ inputs. CountsOf (newest_names [] self.now.list) (newest_schema nothing self.now.list) (arc_value inputs.sealed)) }
+        ensures lawful { IfOk result (λ inputs. IsTable (arc_value inputs.sealed)) }
         ensures can { IfOk result (λ inputs. (t : Table) → IsTableOf t (arc_value inputs.sealed) → CanFlush inputs.names inputs.schema t) }
         ensures behind { (p : PartView) → IsPart (record (told S.history S.Device.history S.Frozen.content self.now) { failed = false }) p → AreTold (told S.history S.Device.history S.Frozen.content self.now).components
             → (head : HeadRecord) → head ≡ record { number = self.now.number; count = self.now.count; from = self.now.generation - 1; to = self.now.generation - 1 }

@@ -7,6 +7,7 @@ use Rattle.tc_store.specs.StoreCalls.{FailsMaking}
 use Rattle.tc_store.specs.declared.file_name.FileName.TheVariants.{Component}
 use Rattle.tc_component.specs.Spelling.{name_of}
 use Rattle.tc_flush.specs.Counting.{IsCounted}
+use Rattle.tc_memory.specs.Table.{IsTable}
 use Rattle.tc_merge.specs.Merging.{newest_names, newest_schema}
 use Rattle.tc_part_model.specs.Calls.{FlushesBehind}
 use Rattle.tc_part_model.specs.Changes.{flushing_part}
@@ -81,3 +82,6 @@ pub returns-in_err-device-clause-order : goal.returns-in_err-device-clause-order
 returns-in_err-device-clause-order g c =
     let list = c.self.inside.list in
     rw (← c.self.view_is) λ disk. subst (λ o. IfSome o (λ kept. IsCounted (newest_names [] list) (newest_schema nothing list) kept)) c.in_ok-inputs.ensures.table c.in_ok-inputs.ensures.counted
+
+pub returns-clause-lawful : goal.returns-clause-lawful
+returns-clause-lawful g c = subst (λ job. IsTable job.kept) (sym c.flush_with.ensures.job) c.in_ok-inputs.ensures.lawful

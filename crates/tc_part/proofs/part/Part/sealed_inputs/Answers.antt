@@ -1,5 +1,6 @@
-use Rattle.std.proofs.Common.{option_map, ap, subst}
+use Rattle.std.proofs.Common.{option_map, sym, ap, subst}
 use Rattle.std.specs.Arc.{arc_value}
+use Rattle.tc_flush.proofs.Outcomes.{if_ok}
 use Rattle.tc_memory.specs.Table.{IsTable}
 use Rattle.tc_part.proofs.JobOutcomes.{if_ok_all, damaged_then}
 use Rattle.tc_part.proofs.ListedContents.{all_indices}
@@ -21,3 +22,8 @@ returns-clause-undamaged g c = rw (← c.self.view_is) λ p is files.
     let table : IsTable (arc_value c.in-Some.sealed) = subst IsTable c.deref.ensures c.len-entries.ensures.table in
     let law = c.sealed_tables_can_flush.ensures.counted _ p (arc_value c.in-Some.sealed) is files (ap (option_map arc_value) c.in-Some.is) table in
     damaged_then c.flush_inputs.result _ (λ damage. ⊥) c.flush_inputs.ensures.uncounted (λ damage uncounted. uncounted (rw (names, schema) law))
+
+pub returns-clause-lawful : goal.returns-clause-lawful
+returns-clause-lawful g c =
+    let table : IsTable (arc_value c.in-Some.sealed) = subst IsTable c.deref.ensures c.len-entries.ensures.table in
+    if_ok c.flush_inputs.result _ _ (λ inputs same. subst IsTable (sym same) table) c.flush_inputs.ensures.table
