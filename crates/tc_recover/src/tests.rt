@@ -4,11 +4,14 @@ ghost use Rattle.tc_store.specs.Disk.{IsAtRest};
 ghost use Rattle.tc_store.specs.Memory.Store.{store_disks};
 ghost use Rattle.tc_store.specs.Moments.{IfTold};
 
-use crate::{OpenCause, Partition, judge_heads, last_of, read_logs, sort_files, take_all};
+use crate::{
+    OpenCause, Partition, judge_heads, last_of, load_components, read_logs, remove_needless,
+    sort_files, take_all,
+};
 use std::alloc::{AllocError, Global};
 use std::test::Fail;
 use tc_bytes::Bytes;
-use tc_store::{FileName, MemFile, MemStore, MemWatch};
+use tc_store::{FileName, MemFile, MemStore, MemWatch, Store};
 
 const PART: Partition = Partition {
     number: 0,
@@ -20,6 +23,10 @@ const FIRST: [u8; 40] =
     *b"\x01TCL1\0\0\0\0\0\0\0\x01\0\0\0\0\0\0\0\x01\x01\0\0\0\x01\0\0\0\x09\0\0\0\0\0\0\0\x07\x02\0";
 
 const SECOND: [u8; 22] = *b"\x01TCL1\0\0\0\0\0\0\0\x01\0\0\0\0\0\0\0\x02\0";
+
+// The component 1 to 1 of partition 0 of 1, without an entry, whose one name is `a`.
+const NAMED: [u8; 71] =
+    *b"\x01TCC1\0\0\0\0\0\0\0\x01\0\0\0\0\0\0\0\x01\0\0\0\0\0\0\0\x01\0\0\0\0\0\0\0\0\0\0\0\0\0\0\0\0\0\0\0\0\0\0\0\x09\0\0\0\0\0\0\0\x01\0\0\0\x01\0\0\0\x01a\0";
 
 fn file(alloc: Global, name: FileName, bytes: &[u8]) -> Result<MemFile, AllocError> {
     Ok(MemFile {
@@ -57,14 +64,16 @@ fn told(alloc: Global, part: Partition, files: Vec<MemFile>) -> Result<String, A
     }
 }
 
-// A component without a byte behind its header.
+// A component without an entry or a name.
 fn component(alloc: Global, from: u8, to: u8) -> Result<MemFile, AllocError> {
-    let mut bytes = [0; 61];
+    let mut bytes = [0; 66];
     bytes[0] = 1;
     bytes[1..5].copy_from_slice(b"TCC1");
     bytes[12] = 1;
     bytes[20] = from;
     bytes[28] = to;
+    bytes[52] = 4;
+    bytes[60] = 1;
     let name = FileName::Component {
         from: u64::from(from),
         to: u64::from(to),
@@ -122,6 +131,74 @@ fn what_does_not_go_together_is_refused(rt: HostRuntime) -> Result<(), Fail> {
     assert_eq!(rt;
         told(alloc, PART, files)?.as_str(),
         "Damaged(Files { names: FileNames { names: [Component { from: 1, to: 2 }, Component { from: 2, to: 3 }] } })"
+    );
+    Ok(())
+}
+
+// How many components are loaded of a store, how many files no component was loaded of, how many logs stay, and the names
+// that are left once the others were removed.
+fn needed(alloc: Global, files: Vec<MemFile>) -> Result<String, AllocError> {
+    let mut store = MemStore::with(files);
+    let mut watch = watch(alloc);
+    let taken = match take_all(alloc, &mut store, &mut watch) {
+        Ok(taken) => taken,
+        Err(cause) => return format!(in alloc; "{cause:?}"),
+    };
+    if let Err(cause) = judge_heads(alloc, PART, &taken, &mut watch) {
+        return format!(in alloc; "{cause:?}");
+    }
+    let tiles = match sort_files(alloc, &taken) {
+        Ok(tiles) => tiles,
+        Err(cause) => return format!(in alloc; "{cause:?}"),
+    };
+    let loaded = match load_components(alloc, PART, &tiles, taken, &mut watch) {
+        Ok(loaded) => loaded,
+        Err(cause) => return format!(in alloc; "{cause:?}"),
+    };
+    let left = loaded.left.len();
+    let logs = match remove_needless(alloc, &mut store, last_of(&tiles), loaded.left, &mut watch) {
+        Ok(logs) => logs.len(),
+        Err(cause) => return format!(in alloc; "{cause:?}"),
+    };
+    match store.names(alloc, &mut watch) {
+        Ok(names) => format!(in alloc; "{} {left} {logs} {names:?}", loaded.list.len()),
+        Err(_) => format!(in alloc; "names"),
+    }
+}
+
+#[test]
+fn needless_files_are_removed(rt: HostRuntime) -> Result<(), Fail> {
+    let alloc = rt.alloc();
+    let closed = FileName::Component { from: 3, to: 3 };
+    let mut files = Vec::new(alloc);
+    files.push(component(alloc, 1, 1)?)?;
+    files.push(component(alloc, 1, 2)?)?;
+    files.push(log(alloc, 2, &SECOND)?)?;
+    files.push(file(alloc, closed, &[0, 9])?)?;
+    assert_eq!(rt;
+        needed(alloc, files)?.as_str(),
+        "1 3 0 [Component { from: 1, to: 2 }]"
+    );
+    let mut files = Vec::new(alloc);
+    files.push(log(alloc, 1, &FIRST)?)?;
+    files.push(log(alloc, 2, &[0, 9])?)?;
+    assert_eq!(rt;
+        needed(alloc, files)?.as_str(),
+        "0 2 1 [Log { generation: 1 }]"
+    );
+    Ok(())
+}
+
+#[test]
+fn names_that_do_not_go_on_are_damage(rt: HostRuntime) -> Result<(), Fail> {
+    let alloc = rt.alloc();
+    let first = FileName::Component { from: 1, to: 1 };
+    let mut files = Vec::new(alloc);
+    files.push(component(alloc, 2, 2)?)?;
+    files.push(file(alloc, first, &NAMED)?)?;
+    assert_eq!(rt;
+        needed(alloc, files)?.as_str(),
+        "Damaged(Bytes { file: Component { from: 2, to: 2 }, place: 61, bytes: Bytes { bytes: [0, 0, 0, 0] } })"
     );
     Ok(())
 }
