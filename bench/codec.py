@@ -1,33 +1,43 @@
 #!/usr/bin/env python3
 """Measures the record codec and the files of a partition.
 
-    bench/codec.py [RUNS]      the least of so many runs, 5 by default
+    bench/codec.py [TURNS [PART ..]]      11 turns and all parts by default: codec, flushes, merges
 
-First, nanoseconds a call and a byte of the record, for three documents; then, for four tables of documents, nanoseconds
-a document of a flush, beside those of serde_json's parse of the same documents; then, for four runs of components,
-nanoseconds a record of their merge, beside those of looking whether it is a record.
+codec tells nanoseconds a call and a byte of the record, for three documents; flushes tells nanoseconds an entry of a
+flush, for four tables of documents, beside those of serde_json's parse of the same documents; merges tells nanoseconds a
+record of the merge of components, beside those of looking whether it is a record.
 
-The program is crates/codec_bench/out/codec_bench, which `rt run` in crates/codec_bench builds. A figure is the CPU time
-of N calls: that of a run with 2N calls less that of a run with N, so starting and reading the document are not in it.
-`size` asks for a record's length, `encode` writes it, `check` looks whether bytes are a record, `cursor` walks over the
-tokens of one that was looked at, `decode` makes the document of one, the look included, and `compact` writes one with
-numbers in place of names.
+The program is crates/codec_bench/out/codec_bench, which `rt run` in crates/codec_bench builds. Times are CPU time.
 
-A table is flushed over files that tell nothing and keep their bytes in memory: `parse` reads each line of the table as
-JSON, `counted` asks whether the table can be flushed, and `flush` makes its component, for which the schema and the names
-below the table are copied. The writes and bytes are those of one flush; a table of churn stands over a component whose
-documents most of its entries replace or take out.
+A figure of the codec is that of N calls: that of a run with 2N calls less that of a run with N, so starting and reading
+the document are not in it; the least of five runs each. `size` asks for a record's length, `encode` writes it, `check`
+looks whether bytes are a record, `cursor` walks over the tokens of one that was looked at, `decode` makes the document of
+one, the look included, and `compact` writes one with numbers in place of names.
+
+The calls on tables take turns in one process, which makes what they are done on once, before the first of them; it prints
+a line after each, at which its CPU time is read. The first turn counts for nothing. A figure is the median of the turns,
+and a ratio the median of the ratios of the turns, each of two calls one after the other, so that a machine that is slower
+for a while is so for both; behind it stand the least and the greatest but for a tenth of the turns at each end.
+
+A table is flushed over files that tell nothing and keep their bytes in memory, in room that the flush before used: a
+system has the pages of a file ready too, and what it takes to make them is no part of a flush. `parse` reads each line of
+the table as JSON, `counted` asks whether the table can be flushed, and `flush` makes its component, for which the schema
+and the names below the table are copied. The writes and bytes are those of one flush; a table of churn stands over a
+component whose documents most of its entries replace or take out.
 
 Components are merged over such files too: `judge` looks whether the bytes of each record of the merge are a record, as
 `check` does, and `merge` makes the component. Four components have a quarter of the documents each, every fourth key; the
-two of churn are those of its table and of what the table stands over.
+two of churn are those of its table and of what the table stands over. A store merges components of megabytes, which are
+larger than its window of 64 KB on each and than a processor's nearest caches; small ones are measured beside them.
 """
 
 import os
 import random
 import resource
+import statistics
 import subprocess
 import sys
+import tempfile
 
 import feeds
 
@@ -79,7 +89,14 @@ RUNS = {
     "200 readings": spread(200, feeds.readings),
     "2,000 profiles": spread(2_000, feeds.profile),
     "churn of 2,000 keys": churn(2_000),
+    "40,000 messages": spread(40_000, feeds.message),
+    "2,000 readings": spread(2_000, feeds.readings),
+    "8,000 profiles": spread(8_000, feeds.profile),
+    "churn of 40,000 keys": churn(40_000),
 }
+
+# a call on tables is repeated until it takes so many seconds
+LEAST = 0.25
 
 
 def run(text, call, rounds):
@@ -99,45 +116,82 @@ def least(document, call, runs, rounds=1000):
     return (twice - once) / rounds, length
 
 
-def made(text):
-    """The entries, the writes and the bytes of one flush."""
-    answer = subprocess.run([PROGRAM, "1", "flush"], input=text.encode(), stdout=subprocess.PIPE, check=True).stdout.split()
-    return int(answer[1]), int(answer[3]), int(answer[5])
+def cpu_of(process):
+    """The CPU seconds of a process so far."""
+    with open(f"/proc/{process.pid}/schedstat", encoding="ascii") as file:
+        return int(file.read().split()[0]) / 1e9
 
 
-def codec(runs):
-    for name, document in DOCUMENTS.items():
-        for call in CALLS:
-            seconds, length = least(document, call, runs)
-            print(f"{name:22} {len(document):5} B as JSON {length:5} B as a record  {call:7} {seconds * 1e9:9.0f} ns {seconds * 1e9 / length:6.2f} ns/B", flush=True)
+def lines(text, words, rounds):
+    """The answer of each call of one process, and the CPU seconds that it took."""
+    with tempfile.TemporaryFile() as documents:
+        documents.write(text.encode())
+        documents.seek(0)
+        with subprocess.Popen([PROGRAM, str(rounds), *words], stdin=documents, stdout=subprocess.PIPE) as process:
+            before = 0
+            for line in process.stdout:
+                now = cpu_of(process)
+                yield line.decode().split(), now - before
+                before = now
+        assert process.returncode == 0
 
 
-def flushes(runs):
+def turns(text, calls, count):
+    """The seconds of each call, one list a turn, and the answer of each."""
+    rounds, longest = 1, 0
+    while longest < LEAST:
+        rounds *= 8 if longest < LEAST / 8 else 2
+        longest = max(seconds for _, seconds in list(lines(text, [*calls, *calls], rounds))[len(calls):])
+    order = [call for turn in range(count + 1) for call in (calls if turn % 2 == 0 else reversed(calls))]
+    answers = list(lines(text, order, rounds))
+    each = []
+    for turn in range(1, count + 1):
+        part = answers[turn * len(calls):(turn + 1) * len(calls)]
+        each.append({answer[0]: seconds / rounds for answer, seconds in part})
+    return each, {answer[0]: answer for answer, _ in answers}, rounds
+
+
+def ratio(each, over, under):
+    """The median of the ratios of two calls, and between which all but a tenth at each end lie."""
+    ratios = sorted(turn[over] / turn[under] for turn in each)
+    tenth = len(ratios) // 10
+    return f"{statistics.median(ratios):.2f} ({ratios[tenth]:.2f} to {ratios[-1 - tenth]:.2f})"
+
+
+def median(each, call, count):
+    """Nanoseconds of a call for each of so many documents."""
+    return statistics.median(turn[call] for turn in each) / count * 1e9
+
+
+def flushes(count):
     print("| table | entries | parse | counted | flush | flush / parse | writes | bytes / 65,536 + 8 |")
     print("|---|--:|--:|--:|--:|--:|--:|--:|")
     for name, text in TABLES.items():
-        entries, writes, length = made(text)
-        parse, counted, flush = (least(text, call, runs, 10)[0] / entries * 1e9 for call in ("parse", "counted", "flush"))
-        print(f"| {name} | {entries:,} | {parse:,.0f} | {counted:,.0f} | {flush:,.0f} | {flush / parse:.2f} | {writes} | {length // PIECE + 8} |", flush=True)
+        each, answers, rounds = turns(text, ["parse", "counted", "flush"], count)
+        entries, writes, length = (int(answers["flush"][place]) for place in (1, 3, 5))
+        parse, counted, flush = (median(each, call, entries) for call in ("parse", "counted", "flush"))
+        writes, length = writes // rounds, length // rounds
+        print(f"| {name} | {entries:,} | {parse:,.0f} | {counted:,.0f} | {flush:,.0f} | {ratio(each, 'flush', 'parse')} | {writes} | {length // PIECE + 8} |", flush=True)
 
 
-def merges(runs):
-    print("| components of | records | judge | merge | merge / judge | reads | bytes / 32,768 + components |")
-    print("|---|--:|--:|--:|--:|--:|--:|")
+def merges(count):
+    print("| components of | bytes | records | judge | merge | merge / judge | reads | bytes / 32,768 + components |")
+    print("|---|--:|--:|--:|--:|--:|--:|--:|")
     for name, text in RUNS.items():
-        answer = subprocess.run([PROGRAM, "1", "merge"], input=text.encode(), stdout=subprocess.PIPE, check=True).stdout.split()
-        reads, length = int(answer[1]), int(answer[3])
-        seconds, records = least(text, "judge", runs, 10)
-        judge, merge = seconds / records * 1e9, least(text, "merge", runs, 10)[0] / records * 1e9
+        each, answers, rounds = turns(text, ["judge", "merge"], count)
+        records, reads, length = int(answers["judge"][1]), int(answers["merge"][1]), int(answers["merge"][3])
+        judge, merge = median(each, "judge", records), median(each, "merge", records)
+        reads, length = reads // rounds, length // rounds
         bound = length // (PIECE // 2) + text.count("\n\n") + 1
-        print(f"| {name} | {records:,} | {judge:,.0f} | {merge:,.0f} | {merge / judge:.2f} | {reads} | {bound} |", flush=True)
+        print(f"| {name} | {length:,} | {records:,} | {judge:,.0f} | {merge:,.0f} | {ratio(each, 'merge', 'judge')} | {reads} | {bound} |", flush=True)
 
 
 def main():
-    runs = int(sys.argv[1]) if len(sys.argv) > 1 else 5
-    codec(runs)
-    flushes(runs)
-    merges(runs)
+    count = int(sys.argv[1]) if len(sys.argv) > 1 else 11
+    for part in sys.argv[2:] or ("codec", "flushes", "merges"):
+        PARTS[part](count)
 
+
+PARTS = {"codec": lambda _: codec(5), "flushes": flushes, "merges": merges}
 
 main()

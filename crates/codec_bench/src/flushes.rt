@@ -60,7 +60,7 @@ pub(crate) fn flushed(
         bail!("the table cannot be flushed");
     }
     let mut watch = Tally::none();
-    let (device, name) = flush(alloc, table, below, &mut watch)?;
+    let (device, name) = flush(alloc, table, below, Vec::new(alloc), &mut watch)?;
     let file = SilentStore {}.freeze(alloc, device, &mut watch)?;
     Ok(Component::load(alloc, file, name, &mut watch)?)
 }
@@ -76,7 +76,7 @@ pub(crate) fn asked(alloc: Global, table: &Arc<Sealed>, below: &Below, rounds: u
     Ok(sum)
 }
 
-/// Flushes a table so often.
+/// Flushes a table so often, each time into the room of the time before.
 pub(crate) fn flushed_again(
     alloc: Global,
     table: &Arc<Sealed>,
@@ -88,19 +88,22 @@ pub(crate) fn flushed_again(
     }
     let mut watch = Tally::none();
     let mut bytes = 0u64;
+    let mut room = Vec::new(alloc);
     for _ in 0..rounds {
-        let (device, _name) = flush(alloc, table, below, &mut watch)?;
+        let (device, _name) = flush(alloc, table, below, room, &mut watch)?;
         bytes = bytes.wrapping_add(device.len());
+        room = device.into_room();
     }
     let writes = watch.writes;
     Ok(Written { writes, bytes })
 }
 
-/// The file of a component, which is whole.
+/// The file of a component, which is whole, in this room.
 fn flush(
     alloc: Global,
     table: &Arc<Sealed>,
     below: &Below,
+    room: Vec<u8>,
     watch: &mut Tally,
 ) -> Result<(SilentDevice, FileName)>
     requires { (t : Table) → IsTableOf t (arc_value table.now) → CanFlush below.now.names below.now.schema t }
@@ -116,7 +119,7 @@ fn flush(
     let sealed = table.clone()?;
     let schema = below.schema.copy(alloc)?;
     let names = below.names.copy()?;
-    let device = SilentStore {}.fresh(alloc, name, watch)?;
+    let device = SilentDevice::within(name, room);
     let job: FlushJob<SilentStore> = FlushJob::new(FlushParts {
         sealed,
         schema,

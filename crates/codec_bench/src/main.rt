@@ -2,7 +2,7 @@
 //! can be taken from outside.
 //! `codec_bench ROUNDS CALL ..` reads documents as JSON from standard input, one a line, as memory tables, between two of
 //! which stands an empty line. A call of the codec is done on each document of the last table, and prints the length of its
-//! record and a checksum. One of files is done on the tables.
+//! record and a checksum. One of files is done on the tables, which are made once, and prints its line as soon as it is done.
 #![tactic(auto)]
 
 mod calls;
@@ -14,7 +14,7 @@ mod silent;
 mod tables;
 
 use anyhow::{Context, Result};
-use calls::{answer_of, is_of_tables};
+use calls::{Work, is_of_tables};
 use rounds::{record_of_document, sum_of};
 use serde_json::Value;
 use std::{env, io};
@@ -25,10 +25,16 @@ fn main(rt: HostRuntime) -> Result<()> {
     let text = io::read_to_string(alloc, rt.reader())?;
     let mut words = env::args(&rt)?.skip(1);
     let rounds = words.next().context("no rounds")?.parse::<u32>()?;
+    let mut work = None;
     for call in words {
         if is_of_tables(call.as_str()) {
-            let answer = answer_of(alloc, call.as_str(), text.as_str(), rounds)?;
+            let ready = match work {
+                Some(ready) => ready,
+                None => Work::of(alloc, text.as_str())?,
+            };
+            let answer = ready.answer_of(alloc, call.as_str(), text.as_str(), rounds)?;
             println!(rt; "{call} {}", answer.as_str())?;
+            work = Some(ready);
         } else {
             print_each(&rt, call.as_str(), text.as_str(), rounds)?;
         }

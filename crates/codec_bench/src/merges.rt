@@ -5,7 +5,6 @@ use crate::silent::{SilentDevice, SilentFile, SilentStore, Tally};
 use anyhow::{Result, bail};
 use std::alloc::Global;
 use std::sync::Arc;
-use tc_bytes::Bytes;
 use tc_component::{Component, Found, Head};
 use tc_memory::Sealed;
 use tc_merge::{MergeJob, MergeParts, can_merge};
@@ -34,37 +33,71 @@ pub(crate) fn components_of(alloc: Global, tables: &[Arc<Sealed>]) -> Result<Vec
     Ok(run)
 }
 
-/// Merges components into one so often.
+/// Merges components into one so often, each time into the room of the time before.
 pub(crate) fn merged_again(alloc: Global, run: &[Shared], rounds: u32) -> Result<Merged> {
     let mut watch = Tally::none();
     let mut bytes = 0u64;
+    let mut room = Vec::new(alloc);
     for _ in 0..rounds {
-        let (device, _name) = merge(alloc, run, &mut watch)?;
+        let (device, _name) = merge(alloc, run, room, &mut watch)?;
         bytes = bytes.wrapping_add(device.len());
+        room = device.into_room();
     }
     let reads = watch.reads;
     Ok(Merged { reads, bytes })
 }
 
-/// Judges each record of the merge of components so often, and answers how many there are.
-pub(crate) fn judged_again(alloc: Global, run: &[Shared], rounds: u32) -> Result<u64> {
-    let records = records_of(alloc, run)?;
-    let mut lawful = 0u64;
-    for _ in 0..rounds {
-        for record in &records {
-            if RecordRef::of(record.as_slice()).is_some() {
-                lawful = lawful.wrapping_add(1);
-            }
-        }
-    }
-    if lawful != u64::from(rounds).wrapping_mul(records.len() as u64) {
-        bail!("a merged record is none");
-    }
-    Ok(records.len() as u64)
+/// The records of a merge, one behind the other, as a window has them: walking over records that lie apart in memory would
+/// measure the memory.
+#[derive(Drop)]
+pub(crate) struct Records {
+    bytes: Vec<u8>,
+    lens: Vec<usize>,
 }
 
-/// The file of their merge, which is whole.
-fn merge(alloc: Global, run: &[Shared], watch: &mut Tally) -> Result<(SilentDevice, FileName)> {
+impl Records {
+    pub(crate) fn none(alloc: Global) -> Records {
+        Records {
+            bytes: Vec::new(alloc),
+            lens: Vec::new(alloc),
+        }
+    }
+
+    /// How many of them are a record.
+    fn lawful(&self) -> u64 {
+        let mut rest = self.bytes.as_slice();
+        let mut lawful = 0u64;
+        for len in &self.lens {
+            let Some((record, behind)) = rest.split_at_checked(*len) else {
+                return lawful;
+            };
+            if RecordRef::of(record).is_some() {
+                lawful = lawful.wrapping_add(1);
+            }
+            rest = behind;
+        }
+        lawful
+    }
+}
+
+/// Judges each record so often, and answers how many there are.
+pub(crate) fn judged_again(records: &Records, rounds: u32) -> Result<u64> {
+    let count = records.lens.len() as u64;
+    for _ in 0..rounds {
+        if records.lawful() != count {
+            bail!("a merged record is none");
+        }
+    }
+    Ok(count)
+}
+
+/// The file of their merge, which is whole, in this room.
+fn merge(
+    alloc: Global,
+    run: &[Shared],
+    room: Vec<u8>,
+    watch: &mut Tally,
+) -> Result<(SilentDevice, FileName)> {
     let (from, to) = (1, run.len() as u64);
     let name = FileName::Component { from, to };
     let head = Head {
@@ -77,7 +110,7 @@ fn merge(alloc: Global, run: &[Shared], watch: &mut Tally) -> Result<(SilentDevi
     if !can_merge(head, &run) {
         bail!("the components cannot be merged");
     }
-    let device = SilentStore {}.fresh(alloc, name, watch)?;
+    let device = SilentDevice::within(name, room);
     let job: MergeJob<SilentStore> = MergeJob::new(MergeParts {
         run,
         device,
@@ -99,15 +132,17 @@ fn shares_of(alloc: Global, run: &[Shared]) -> Result<Vec<Shared>> {
 }
 
 /// The records of their merge.
-fn records_of(alloc: Global, run: &[Shared]) -> Result<Vec<Bytes>> {
+pub(crate) fn records_of(alloc: Global, run: &[Shared]) -> Result<Records> {
     let mut watch = Tally::none();
-    let (device, name) = merge(alloc, run, &mut watch)?;
+    let (device, name) = merge(alloc, run, Vec::new(alloc), &mut watch)?;
     let file = SilentStore {}.freeze(alloc, device, &mut watch)?;
     let whole = Component::load(alloc, file, name, &mut watch)?;
-    let mut records = Vec::new(alloc);
+    let mut records = Records::none(alloc);
     for at in 0..whole.len() {
         if let Found::At(place) = whole.find(whole.entry(at).key) {
-            records.push(whole.fetch(alloc, place, &mut watch)?)?;
+            let record = whole.fetch(alloc, place, &mut watch)?;
+            records.bytes.extend_from_slice(record.as_slice())?;
+            records.lens.push(record.as_slice().len())?;
         }
     }
     Ok(records)

@@ -1,6 +1,6 @@
 //! Files in memory that tell nothing, and a watch that counts what is done to them.
 
-ghost use Rattle.std.specs.Prelude.{◌<◌, ◌^◌, [], None, length};
+ghost use Rattle.std.specs.Prelude.{◌≡◌, ◌<◌, ◌^◌, [], None, length};
 
 use std::alloc::Global;
 use tc_store::{Device, DeviceFault, FileName, Frozen, FrozenFault, Store, StoreFault, Watch};
@@ -63,6 +63,23 @@ pub(crate) struct SilentDevice {
     name: FileName,
     bytes: Vec<u8>,
     ghost limit: { length bytes.items < 2 ^ 63 },
+}
+
+impl SilentDevice {
+    /// An empty file that is written into room that was there before, so that its growth costs nothing once the room was
+    /// used.
+    pub(crate) fn within(name: FileName, room: Vec<u8>) -> SilentDevice
+        ensures { length result.bytes.items ≡ 0 }
+    {
+        let mut bytes = room;
+        bytes.clear();
+        SilentDevice { name, bytes }
+    }
+
+    /// The room of a file that nobody reads any more.
+    pub(crate) fn into_room(self) -> Vec<u8> {
+        self.bytes
+    }
 }
 
 impl Device for SilentDevice {
