@@ -7,3 +7,5 @@ mod NeedlessFiles
 mod WritesLeft
 mod FlushSteps
 mod ToldFlushes
+mod LogNames
+mod FlushedLogs

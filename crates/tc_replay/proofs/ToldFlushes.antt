@@ -1,12 +1,12 @@
 -- The flush of the logs of an opening, as its store tells it: what each of its calls leaves, and at each moment.
-use Rattle.std.proofs.Common.{◌≡◌, ◌∙◌, ◌⊎◌, ◌++◌, List, [], ◌∷◌, length, refl, sym, ap, subst, inl, inr, if◌then◌else◌, Some, None}
+use Rattle.std.proofs.Common.{◌≡◌, ◌∙◌, ◌⊎◌, ◌<◌, ◌^◌, ◌++◌, ℕ, List, [], ◌∷◌, length, refl, sym, ap, subst, arith, inl, inr, if◌then◌else◌, Some, None}
 use Rattle.std.specs.Prelude.{All}
 use Rattle.std.proofs.Math.Path.{fun_ext}
 use Rattle.std.proofs.lemmas.Bool.{cases_Bool}
 use Rattle.std.proofs.lemmas.List.Elements.{All-head}
 use Rattle.tc_store.specs.declared.file_name.FileName.{FileName}
 use Rattle.tc_store.specs.Disk.{Disk, Entry, IsThere, home, is_out, out, put, removed_of, same_name, still}
-use Rattle.tc_store.specs.DiskFile.{DiskFile, IsSettled, empty_file}
+use Rattle.tc_store.specs.DiskFile.{DiskFile, IsSettled, empty_file, settled_file}
 use Rattle.tc_store.specs.Gate.{IsShutOr, IsShutOrWhole}
 use Rattle.tc_store.specs.Moments.{EachSince, IfTold, LeavesAt, LeavesOnly}
 use Rattle.tc_store.specs.StoreCalls.{FailsMaking, comes_home, fresh_file_at, frozen_entry, makes}
@@ -62,6 +62,16 @@ module _ (part : Partition) (cs : List Content) (ws : List Write) (more : List (
         → LeavesOnly (IsShutOrWhole None (component_bytes c)) (fresh_file_at (made_name cs (ws ∷ more)) disks) device → IfTold disks (λ disk. IsDeviceNow part cs (ws ∷ more) device)
     device_now [] device kept free moments = tt
     device_now (disk ∷ past) device kept free moments = device_on (empty_file (removed_of (disk (made_name cs (ws ∷ more))))) device (fresh_leaves part cs ws more disk kept free) moments
+
+    -- the whole component
+    pub whole_now : (device : List DiskFile) (size : ℕ) → size < 2 ^ 63 → IfTold device (λ f. size ≡ length f.content) → IfTold device (λ f. f ≡ settled_file (component_bytes c)) → IfTold device (λ f. IsComponent c f.content)
+    whole_now [] size fits told is = tt
+    whole_now (f ∷ fs) size fits told is = record {
+      content = is_flush.goes_on.content;
+      records = short;
+      spelled = ap (λ (x : DiskFile). x.content) is;
+      short = omega (arith, fits, told);
+    }
 
   -- ---- one disk
 

@@ -4,3 +4,4 @@ pub mod LastWrites
 pub mod Replays
 pub mod Openings
 pub mod LogFlushes
+pub mod FlushedLogs

@@ -1,13 +1,16 @@
-//! Layer 5, engine: the logs above the components of a partition that is being opened, replayed into a memory table over them;
-//! and laws of the flush of that table, and of files that nobody needs any more.
+//! Layer 5, engine: the logs above the components of a partition that is being opened, replayed into a memory table over them,
+//! which is flushed and listed behind them; and laws of that flush, and of files that nobody needs any more.
 #![tactic(auto)]
 
 mod below;
 mod fault;
 mod flush_laws;
+mod flushing;
+mod inputs;
 mod laws;
 mod replaying;
 
 pub use flush_laws::logs_are_flushed;
+pub use flushing::{LogsFlushed, flush_logs};
 pub use laws::needless_files_go;
 pub use replaying::replay;

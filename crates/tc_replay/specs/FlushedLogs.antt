@@ -1,0 +1,68 @@
+-- What becomes of the store and of the list of components where logs are flushed.
+use Rattle.std.specs.Prelude.{◌≡◌, ◌+◌, ◌-◌, ◌⊎◌, ℕ, zero, suc, List, [], ◌∷◌, ◌++◌, Option, length}
+use Rattle.std.specs.List.{AllZip}
+use Rattle.tc_store.specs.declared.damage.Damage.{Damage}
+use Rattle.tc_store.specs.declared.file_name.FileName.{FileName}
+use Rattle.tc_store.specs.declared.file_name.FileName.TheVariants.{Log}
+use Rattle.tc_store.specs.Disk.{Disk, home}
+use Rattle.tc_store.specs.DiskFile.{DiskFile}
+use Rattle.tc_store.specs.Moments.{IfTold}
+use Rattle.tc_store.specs.StoreCalls.{FailsMaking, comes_home, frozen_entry, makes}
+use Rattle.tc_component.specs.declared.head.Head.{Head}
+use Rattle.tc_component.specs.Loaded.{IsLoadedOf}
+use Rattle.tc_component.specs.Loading.{ComponentState}
+use Rattle.tc_component.specs.Rows.{part_of}
+use Rattle.tc_component.specs.Spelling.{name_of}
+use Rattle.tc_plain_model.specs.Writes.{Write}
+use Rattle.tc_lsm_model.specs.Contents.{Content}
+use Rattle.tc_lsm_model.specs.Flushes.{IsFlush}
+use Rattle.tc_lsm_model.specs.Lists.{live}
+use Rattle.tc_lsm_model.specs.Tables.{table_over}
+use Rattle.tc_machine.specs.Logs.{all_writes}
+use Rattle.tc_jobs.specs.Faults.{AreBytes, AreFiles}
+use Rattle.tc_jobs.specs.Listing.{FitsBehind, IsListed, IsReadBack, IsUnlisted, behind}
+use Rattle.tc_jobs.specs.Lists.{file_names}
+use Rattle.tc_jobs.specs.ReadBack.{ComesHome}
+use Rattle.tc_part.specs.Harms.{IsHarmIn}
+use Rattle.tc_replay.specs.Openings.{IsOpening, stored_by}
+
+-- the names of so many logs from a generation on
+abbrev pub log_names : ℕ → ℕ → List FileName
+log_names generation zero = []
+log_names generation (suc n) = Log generation ∷ log_names (generation + 1) n
+
+-- ---- over every store
+
+-- a device of the component's name was made and came home still, and the component that it has is listed behind the others
+pub record IsFlushListed {F : Type 0} (content : F → Option (List ℕ)) (name : F → FileName) (head : Head) (old new : List (ComponentState F)) (disks later : List Disk) : Type 0 where
+  pub device : List DiskFile
+  pub listed : IsListed (IsReadBack content name head (name_of head) device) (FitsBehind old) (behind old) new
+  pub still : later ≡ comes_home (name_of head) frozen_entry device (makes (name_of head) disks)
+
+-- nothing was made, or a device that came home again, still or as it is
+abbrev pub IsFlushGivenUp : Head → List Disk → List Disk → Type 0
+IsFlushGivenUp head disks later = FailsMaking (name_of head) disks later ⊎ ((device : List DiskFile) × ComesHome (name_of head) device (makes (name_of head) disks) later)
+
+-- a device whose component is whole comes home still or as it is, and any other one as it is
+abbrev pub EndsHome : Type 0 → FileName → List DiskFile → List Disk → List Disk → Type 0
+EndsHome Whole name device old new = (Whole × ComesHome name device old new) ⊎ (new ≡ comes_home name (λ f. home f) device old)
+
+-- a record of a component is damaged, or the table of the logs of these generations cannot be over the listed components
+abbrev pub IsBeginDamage : {F : Type 0} → (F → Option (List ℕ)) → Head → List (ComponentState F) → Damage → Type 0
+IsBeginDamage content head list damage = AreBytes (IsHarmIn content list) damage ⊎ AreFiles (file_names list ++ log_names head.from (head.to + 1 - head.from)) damage
+
+-- or the component that was made is damaged when it is read back, or its names do not fit
+abbrev pub IsReplayDamage : {F : Type 0} → (F → Option (List ℕ)) → (F → FileName) → Head → List (ComponentState F) → Damage → Type 0
+IsReplayDamage content name head list damage =
+    IsBeginDamage content head list damage
+    ⊎ ((size : ℕ) × (device : List DiskFile) × IsUnlisted (IsReadBack content name head (name_of head) device) (FitsBehind list) head size device damage)
+
+-- ---- where the files are told
+
+-- the component holds what the logs leave over the older ones, and nothing else is above these
+pub record IsLogsFlushed {F : Type 0} (content : F → Option (List ℕ)) (head : Head) (cs : List Content) (logs : List (List Write)) (list : List (ComponentState F)) (disks : List Disk) : Type 0 where
+  pub made : Content
+  pub is_flush : IsFlush (part_of head) cs (table_over (live cs) (all_writes logs)) (length logs) made
+  pub loaded : IfTold disks (λ disk. AllZip (IsLoadedOf content) list (cs ++ made ∷ []))
+  pub stored : live (cs ++ made ∷ []) ≡ stored_by cs logs
+  pub opening : IsOpening (part_of head) (cs ++ made ∷ []) [] disks
