@@ -116,6 +116,13 @@ def least(document, call, runs, rounds=1000):
     return (twice - once) / rounds, length
 
 
+def codec(runs):
+    for name, document in DOCUMENTS.items():
+        for call in CALLS:
+            seconds, length = least(document, call, runs)
+            print(f"{name:22} {len(document):5} B as JSON {length:5} B as a record  {call:7} {seconds * 1e9:9.0f} ns {seconds * 1e9 / length:6.2f} ns/B", flush=True)
+
+
 def cpu_of(process):
     """The CPU seconds of a process so far."""
     with open(f"/proc/{process.pid}/schedstat", encoding="ascii") as file:
