@@ -9,8 +9,8 @@ use Rattle.tc_store.specs.declared.file_name.FileName.{FileName}
 use Rattle.tc_store.specs.declared.damage.Damage.TheVariants.{Bytes, Files}
 use Rattle.tc_store.specs.Counted.{Counts}
 use Rattle.tc_store.specs.Gate.{is_open_file}
-use Rattle.tc_recover.specs.declared.cause.OpenCause.{OpenCause}
-use Rattle.tc_recover.specs.declared.cause.OpenCause.TheVariants.{Disk, Damaged, Layout, Memory}
+use Rattle.tc_recover.specs.declared.cause.FilesCause.{FilesCause}
+use Rattle.tc_recover.specs.declared.cause.FilesCause.TheVariants.{Disk, Damaged, Layout, Memory}
 use Rattle.tc_recover.specs.declared.taken.Taken.{Taken}
 use Rattle.tc_recover.specs.Files.{entry_in, picture_in, AreTold, AreGates, IsLawfulName, AreLawful}
 use Rattle.tc_recover.specs.Reads.{count_after}
@@ -50,7 +50,7 @@ told_holds P None some holds = absurd (cc)
 told_holds P (Some bytes) some holds = holds
 
 -- what is refused first is refused of all
-refused_first : (X Y : Type 0) (cause : OpenCause) (refused rest : Option Refusal) → Refuses {X = X} (Err cause) refused → Refuses {X = Y} (Err cause) (option_or refused rest)
+refused_first : (X Y : Type 0) (cause : FilesCause) (refused rest : Option Refusal) → Refuses {X = X} (Err cause) refused → Refuses {X = Y} (Err cause) (option_or refused rest)
 refused_first X Y Disk refused rest is = tt
 refused_first X Y (Damaged (Bytes file place bytes)) refused rest is = rw is refl
 refused_first X Y (Damaged (Files names)) refused rest is = rw is refl
@@ -124,7 +124,7 @@ head_read tells part all rest ts t before now after p rests is_open passes name 
           cc;
     }
 
-pub head_refuses : (X Y : Type 0) {F W : Type 0} (tells : F → Option (List ℕ)) (part : Partition) (all rest ts : List (Taken F W)) (t : Taken F W) (before now : Counts) (cause : OpenCause)
+pub head_refuses : (X Y : Type 0) {F W : Type 0} (tells : F → Option (List ℕ)) (part : Partition) (all rest ts : List (Taken F W)) (t : Taken F W) (before now : Counts) (cause : FilesCause)
     → AreHeadsLeft tells part all rest before now → rest ≡ t ∷ ts → t.open ≡ true → IfSome (tells t.file) (λ bytes. Refuses {X = X} (Err cause) (head_refused part t.name bytes)) → AreTold tells all
     → Refuses {X = Y} (Err cause) (heads_refused part (picture_in tells all))
 head_refuses X Y tells part all rest ts t before now cause p rests is_open refuses told = refused (subst (λ left. AreHeadsLeft tells part all left before now) rests p)
@@ -142,7 +142,7 @@ heads_counted tells part all rest before now p done = subst (λ left. count_afte
 
 -- ---- causes
 
-pub component_cause : {X F W : Type 0} (size : F → ℕ) (part : Partition) (t : Taken F W) (from to : ℕ) (judged : Result X ReadFault) (fault : ReadFault) (cause : OpenCause) → t.open ≡ true → t.name ≡ Component from to
+pub component_cause : {X F W : Type 0} (size : F → ℕ) (part : Partition) (t : Taken F W) (from to : ℕ) (judged : Result X ReadFault) (fault : ReadFault) (cause : FilesCause) → t.open ≡ true → t.name ≡ Component from to
     → IsOfRead (Component from to) fault cause → IfDamaged judged (λ place bytes. (whole : List ℕ) × (length whole ≡ size t.file) × (component.head_judged (Component from to) whole ≡ Err (damage place bytes))) → judged ≡ Err fault
     → IsHeadCause size part (t ∷ []) cause
 component_cause size part t from to (Ok x) fault cause is_open name of_read damaged was = absurd (cc)
@@ -159,7 +159,7 @@ component_cause size part t from to (Err (broken place bytes)) fault cause is_op
     }
 component_cause size part t from to (Err no_memory) fault cause is_open name of_read damaged was = subst (IsHeadCause size part (t ∷ [])) (sym (let same : fault ≡ no_memory = cc in subst (λ f. IsOfRead (Component from to) f cause) same of_read)) tt
 
-pub log_cause : {X F W : Type 0} (size : F → ℕ) (part : Partition) (t : Taken F W) (generation : ℕ) (judged : Result X ReadFault) (fault : ReadFault) (cause : OpenCause) → t.open ≡ true → t.name ≡ Log generation
+pub log_cause : {X F W : Type 0} (size : F → ℕ) (part : Partition) (t : Taken F W) (generation : ℕ) (judged : Result X ReadFault) (fault : ReadFault) (cause : FilesCause) → t.open ≡ true → t.name ≡ Log generation
     → IsOfRead (Log generation) fault cause → IfDamaged judged (λ place bytes. (whole : List ℕ) × (length whole ≡ size t.file) × (log.front_judged generation (log.front_of whole) ≡ Err (damage place bytes))) → judged ≡ Err fault
     → IsHeadCause size part (t ∷ []) cause
 log_cause size part t generation (Ok x) fault cause is_open name of_read damaged was = absurd (cc)
@@ -176,7 +176,7 @@ log_cause size part t generation (Err (broken place bytes)) fault cause is_open 
     }
 log_cause size part t generation (Err no_memory) fault cause is_open name of_read damaged was = subst (IsHeadCause size part (t ∷ [])) (sym (let same : fault ≡ no_memory = cc in subst (λ f. IsOfRead (Log generation) f cause) same of_read)) tt
 
-pub cause_of_all : {F W : Type 0} (size : F → ℕ) (part : Partition) (all : List (Taken F W)) (t : Taken F W) (cause : OpenCause) → Contains all t → IsHeadCause size part (t ∷ []) cause → IsHeadCause size part all cause
+pub cause_of_all : {F W : Type 0} (size : F → ℕ) (part : Partition) (all : List (Taken F W)) (t : Taken F W) (cause : FilesCause) → Contains all t → IsHeadCause size part (t ∷ []) cause → IsHeadCause size part all cause
 cause_of_all size part all t Disk member is = tt
 cause_of_all size part all t (Damaged (Bytes name place bytes)) member is = record {
   file = is.file;

@@ -8,3 +8,5 @@ mod SortedNames
 mod LogSteps
 mod LoadSteps
 mod Removals
+mod ReadSteps
+mod StoreReads

@@ -30,8 +30,8 @@ use Rattle.tc_jobs.specs.declared.fault.JobFault.{JobFault}
 use Rattle.tc_jobs.specs.declared.fault.JobFault.TheVariants as job
 use Rattle.tc_jobs.specs.Faults.{AreBytesOr}
 use Rattle.tc_jobs.specs.Lists.{IsListOf}
-use Rattle.tc_recover.specs.declared.cause.OpenCause.{OpenCause}
-use Rattle.tc_recover.specs.declared.cause.OpenCause.TheVariants.{Disk, Damaged, Layout, Memory}
+use Rattle.tc_recover.specs.declared.cause.FilesCause.{FilesCause}
+use Rattle.tc_recover.specs.declared.cause.FilesCause.TheVariants.{Disk, Damaged, Layout, Memory}
 use Rattle.tc_recover.specs.declared.interval.Interval.{Interval}
 use Rattle.tc_recover.specs.declared.taken.Taken.{Taken}
 use Rattle.tc_recover.specs.Causes.{of_job}
@@ -50,7 +50,7 @@ use Rattle.tc_recover.proofs.Tiles.{stands_at}
 
 -- ---- names that go on
 
-begins_from : (newer older : List Name) → Extends newer older → begins_with newer older ≡ true
+pub begins_from : (newer older : List Name) → Extends newer older → begins_with newer older ≡ true
 begins_from newer [] extends = refl
 begins_from [] (name ∷ older) extends = let is = extends.1 in absurd (cc)
 begins_from (first ∷ newer) (name ∷ older) extends =
@@ -92,7 +92,7 @@ pub goes_on : {F : Type 0} (content : Option (List ℕ)) (part : Partition) (old
 goes_on None part older name c goes own exact is = tt
 goes_on (Some bytes) part older name c goes own exact is = rw own (goes_on_one older name c.index goes exact is)
 
-pub stops_judged : {F : Type 0} (content : Option (List ℕ)) (part : Partition) (older : List Name) (name : FileName) (c : ComponentState F) (goes : Bool) (fault : JobFault) (cause : OpenCause)
+pub stops_judged : {F : Type 0} (content : Option (List ℕ)) (part : Partition) (older : List Name) (name : FileName) (c : ComponentState F) (goes : Bool) (fault : JobFault) (cause : FilesCause)
     → IfSome content (λ bytes. Answers {X = ComponentState F} index_in (Ok c) (own_judged part name bytes)) → (IsTrue goes ↔ Extends c.index.names older) → goes ≡ false → name ≡ name_of c.index.head
     → AreBytesOr (name_of c.index.head) (names_place (sizes_in c.index)) (section c.index.names) fault → cause ≡ of_job fault → IfSome content (λ bytes. Answers {X = ComponentState F} index_in (Err cause) (component_judged part older name bytes))
 stops_judged {F = F} None part older name c goes fault cause own exact is named are of_it = tt
@@ -106,7 +106,7 @@ stops_judged {F = F} (Some bytes) part older name c goes fault cause own exact i
         subst (λ x. Answers {X = ComponentState F} index_in (Err (Damaged x)) (component_judged part older name bytes)) (sym a) (rw (own, no) (rw named refl))
     answered job.Memory a = tt
 
-pub stops_cause : {F W : Type 0} (size : F → ℕ) (part : Partition) (t : Taken F W) (older : List Name) (c : ComponentState F) (goes : Bool) (fault : JobFault) (cause : OpenCause) (whole : ℕ) → (IsTrue goes ↔ Extends c.index.names older) → goes ≡ false
+pub stops_cause : {F W : Type 0} (size : F → ℕ) (part : Partition) (t : Taken F W) (older : List Name) (c : ComponentState F) (goes : Bool) (fault : JobFault) (cause : FilesCause) (whole : ℕ) → (IsTrue goes ↔ Extends c.index.names older) → goes ≡ false
     → c.file ≡ t.file → t.name ≡ name_of c.index.head → IsIndex c.index → whole ≡ size c.file → whole ≡ file_size (sizes_in c.index)
     → AreBytesOr (name_of c.index.head) (names_place (sizes_in c.index)) (section c.index.names) fault → cause ≡ of_job fault → IsLoadDamage size part t cause
 stops_cause size part t older c goes fault cause whole exact is filed named lawful long sized are of_it = subst (IsLoadDamage size part t) (sym of_it) (harmed fault are)
@@ -403,14 +403,14 @@ all_loaded tells part all us tiles rest list left before now p nothing =
 
 -- ---- refusals
 
-refused_first : (X Y A B : Type 0) (view : X → A) (all_view : Y → B) (cause : OpenCause) (judged : Result A Refusal) (next : A → Result B Refusal) → Answers {X = X} view (Err cause) judged → Answers {X = Y} all_view (Err cause) (then_judged judged next)
+refused_first : (X Y A B : Type 0) (view : X → A) (all_view : Y → B) (cause : FilesCause) (judged : Result A Refusal) (next : A → Result B Refusal) → Answers {X = X} view (Err cause) judged → Answers {X = Y} all_view (Err cause) (then_judged judged next)
 refused_first X Y A B view all_view Disk judged next is = tt
 refused_first X Y A B view all_view Memory judged next is = tt
 refused_first X Y A B view all_view (Damaged (Bytes file place bytes)) judged next is = ap (λ r. then_judged r next) is
 refused_first X Y A B view all_view (Damaged (Files names)) judged next is = ap (λ r. then_judged r next) is
 refused_first X Y A B view all_view (Layout found found_of) judged next is = ap (λ r. then_judged r next) is
 
-pub load_refused : (Y : Type 0) (view : Y → List Index) {F W : Type 0} (tells : F → Option (List ℕ)) (part : Partition) (all us ts : List (Taken F W)) (tiles rest behind : List Interval) (tile : Interval) (list : List (ComponentState F)) (left : List (Taken F W)) (before now : Counts) (t : Taken F W) (cause : OpenCause)
+pub load_refused : (Y : Type 0) (view : Y → List Index) {F W : Type 0} (tells : F → Option (List ℕ)) (part : Partition) (all us ts : List (Taken F W)) (tiles rest behind : List Interval) (tile : Interval) (list : List (ComponentState F)) (left : List (Taken F W)) (before now : Counts) (t : Taken F W) (cause : FilesCause)
     → IsStrictlySortedBy name_cmp (names_in all) → AreTilesLeft tells part all us tiles rest list left before now → us ≡ t ∷ ts → rest ≡ tile ∷ behind → is_file_of tile t ≡ true
     → IfSome (tells t.file) (λ bytes. Answers {X = ComponentState F} index_in (Err cause) (component_judged part (newest_names [] list) t.name bytes)) → AreTold tells all
     → Answers view (Err cause) (components_judged part (picture_in tells all) tiles [] [])
@@ -427,7 +427,7 @@ load_refused Y view {F = F} tells part all us ts tiles rest behind tile list lef
     (refused_first (ComponentState F) Y Index (List Index) index_in view cause (component_judged part names (tile_name tile) (unwrap_or (bytes_at picture (tile_name tile)) []))
     (λ d. components_judged part picture behind d.names (map (index_in {F = F}) list ++ d ∷ [])) one)
 
-pub load_caused : {F W : Type 0} (tells : F → Option (List ℕ)) (size : F → ℕ) (part : Partition) (all us ts : List (Taken F W)) (tiles rest behind : List Interval) (tile : Interval) (list : List (ComponentState F)) (left : List (Taken F W)) (before now : Counts) (t : Taken F W) (cause : OpenCause)
+pub load_caused : {F W : Type 0} (tells : F → Option (List ℕ)) (size : F → ℕ) (part : Partition) (all us ts : List (Taken F W)) (tiles rest behind : List Interval) (tile : Interval) (list : List (ComponentState F)) (left : List (Taken F W)) (before now : Counts) (t : Taken F W) (cause : FilesCause)
     → AreTilesLeft tells part all us tiles rest list left before now → us ≡ t ∷ ts → rest ≡ tile ∷ behind → is_file_of tile t ≡ true → IsLoadDamage size part t cause → IsLoadCause size part tiles all cause
 load_caused tells size part all us ts tiles rest behind tile list left before now t cause p items rests is harm = caused cause harm
   where
@@ -437,7 +437,7 @@ load_caused tells size part all us ts tiles rest behind tile list left before no
     counts : Contains tiles tile
     counts = subst (λ is. Contains is tile) (sym (subst (λ r. tiles ≡ map interval_of list ++ r) rests p.done)) (Contains-append_right (map interval_of list) (tile ∷ behind) tile (member_first tile behind))
 
-    caused : (e : OpenCause) → IsLoadDamage size part t e → IsLoadCause size part tiles all e
+    caused : (e : FilesCause) → IsLoadDamage size part t e → IsLoadCause size part tiles all e
     caused Disk harmed = tt
     caused Memory harmed = tt
     caused (Damaged d) harmed = record { file = t; tile = tile; there = member; counts = counts; is_of = is; harm = harmed }
@@ -448,24 +448,24 @@ load_caused tells size part all us ts tiles rest behind tile list left before no
 abbrev pub same_indexes : List Index → List Index
 same_indexes cs = cs
 
-pub answers_result : {T : Type 0} (view : T → List Index) (result : Result T OpenCause) (x e : OpenCause) (judged : Result (List Index) Refusal) → result ≡ Err x → x ≡ e → Answers {X = List Index} same_indexes (Err e) judged → Answers view result judged
+pub answers_result : {T : Type 0} (view : T → List Index) (result : Result T FilesCause) (x e : FilesCause) (judged : Result (List Index) Refusal) → result ≡ Err x → x ≡ e → Answers {X = List Index} same_indexes (Err e) judged → Answers view result judged
 answers_result {T = T} view result x e judged is same answers = subst (λ r. Answers view r judged) (sym (is ∙ ap Err same)) (as_well e answers)
   where
-    as_well : (c : OpenCause) → Answers {X = List Index} same_indexes (Err c) judged → Answers {X = T} view (Err c) judged
+    as_well : (c : FilesCause) → Answers {X = List Index} same_indexes (Err c) judged → Answers {X = T} view (Err c) judged
     as_well Disk a = tt
     as_well Memory a = tt
     as_well (Damaged (Bytes file place bytes)) a = a
     as_well (Damaged (Files names)) a = a
     as_well (Layout found found_of) a = a
 
-pub caused_result : {T F W : Type 0} (size : F → ℕ) (part : Partition) (tiles : List Interval) (files : List (Taken F W)) (result : Result T OpenCause) (x e : OpenCause) → result ≡ Err x → x ≡ e → IsLoadCause size part tiles files e
+pub caused_result : {T F W : Type 0} (size : F → ℕ) (part : Partition) (tiles : List Interval) (files : List (Taken F W)) (result : Result T FilesCause) (x e : FilesCause) → result ≡ Err x → x ≡ e → IsLoadCause size part tiles files e
     → IfErr result (IsLoadCause size part tiles files)
 caused_result size part tiles files result x e is same caused = subst (λ r. IfErr r (IsLoadCause size part tiles files)) (sym (is ∙ ap Err same)) caused
 
 pub rose_before : (before now after : ℕ) → before ≤ now → Rose now after → Rose before after
 rose_before before now after low rose = grind (arith, common_steps)
 
-pub counted_result : {T : Type 0} (result : Result T OpenCause) (x e : OpenCause) (times : ℕ) (before now after : Counts) → result ≡ Err x → x ≡ e → before.faults ≤ now.faults → now.faults ≤ after.faults → (e ≡ Disk → Rose now.faults after.faults)
+pub counted_result : {T : Type 0} (result : Result T FilesCause) (x e : FilesCause) (times : ℕ) (before now after : Counts) → result ≡ Err x → x ≡ e → before.faults ≤ now.faults → now.faults ≤ after.faults → (e ≡ Disk → Rose now.faults after.faults)
     → IsCountedTimes (IsErrOf result Disk) (IsOk result) times before after
 counted_result result x e times before now after is same low risen cause = subst (λ r. IsCountedTimes (IsErrOf r Disk) (IsOk r) times before after) (sym (is ∙ ap Err same)) record {
   faults = omega (arith, low, risen);

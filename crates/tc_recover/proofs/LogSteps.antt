@@ -13,8 +13,8 @@ use Rattle.tc_log.specs.declared.head.LogHead.{LogHead}
 use Rattle.tc_log.specs.declared.write.Write.{Write}
 use Rattle.tc_log.specs.Reading.{log_judged}
 use Rattle.tc_log.specs.Writes.{IsWrite}
-use Rattle.tc_recover.specs.declared.cause.OpenCause.{OpenCause}
-use Rattle.tc_recover.specs.declared.cause.OpenCause.TheVariants.{Disk, Damaged, Layout, Memory}
+use Rattle.tc_recover.specs.declared.cause.FilesCause.{FilesCause}
+use Rattle.tc_recover.specs.declared.cause.FilesCause.TheVariants.{Disk, Damaged, Layout, Memory}
 use Rattle.tc_recover.specs.declared.taken.Taken.{Taken}
 use Rattle.tc_recover.specs.Files.{picture_in, AreTold, AreGates}
 use Rattle.tc_recover.specs.Loads.{file_then, is_above, is_log, logs_judged, Answers, IsLogDamage, IsLogCause, same_writes}
@@ -109,7 +109,7 @@ log_read tells last all rest ts t done more writes before now after p rests this
           cc;
     }
 
-refused_then : (X Y : Type 0) (view : Y → List (List Write)) (cause : OpenCause) (name : FileName) (judged : Result (LogHead × List Write) Damage) (next : LogHead × List Write → Result (List (List Write)) Refusal) (same : X → List Write)
+refused_then : (X Y : Type 0) (view : Y → List (List Write)) (cause : FilesCause) (name : FileName) (judged : Result (LogHead × List Write) Damage) (next : LogHead × List Write → Result (List (List Write)) Refusal) (same : X → List Write)
     → Answers {X = X} same (Err cause) (file_then name judged (λ read. Ok read.1)) → Answers {X = Y} view (Err cause) (file_then name judged next)
 refused_then X Y view Disk name judged next same is = tt
 refused_then X Y view Memory name judged next same is = tt
@@ -120,7 +120,7 @@ refused_then X Y view (Damaged (Files names)) name (Err d) next same is = cc
 refused_then X Y view (Layout found found_of) name (Ok read) next same is = absurd (cc)
 refused_then X Y view (Layout found found_of) name (Err d) next same is = cc
 
-pub log_refused : (Y : Type 0) (view : Y → List (List Write)) {F W : Type 0} (tells : F → Option (List ℕ)) (last : ℕ) (all rest ts : List (Taken F W)) (t : Taken F W) (done : List (List Write)) (before now : Counts) (cause : OpenCause)
+pub log_refused : (Y : Type 0) (view : Y → List (List Write)) {F W : Type 0} (tells : F → Option (List ℕ)) (last : ℕ) (all rest ts : List (Taken F W)) (t : Taken F W) (done : List (List Write)) (before now : Counts) (cause : FilesCause)
     → AreLogsLeft tells last all rest done before now → rest ≡ t ∷ ts → is_log last t ≡ true → IfSome (tells t.file) (λ bytes. Answers same_writes (Err cause) (file_then t.name (log_judged bytes) (λ read. Ok read.1))) → AreTold tells all
     → Answers view (Err cause) (logs_judged last [] (picture_in tells all))
 log_refused Y view tells last all rest ts t done before now cause p rests this refuses told = refused (subst (λ left. AreLogsLeft tells last all left done before now) rests p)
@@ -137,7 +137,7 @@ log_refused Y view tells last all rest ts t done before now cause p rests this r
         (refused_then (List Write) Y view cause t.name (log_judged (unwrap_or (tells t.file) [])) (λ read. logs_judged last (done ++ read.1 ∷ []) (picture_in tells ts)) same_writes here)
 
 -- where memory was wanting, no fault is answered
-pub counted_memory : {T : Type 0} (result : Result T OpenCause) (times : ℕ) (before now after : Counts) → IsErrAnd result (λ cause. cause ≡ Memory) → before.faults ≤ now.faults → now.faults ≤ after.faults
+pub counted_memory : {T : Type 0} (result : Result T FilesCause) (times : ℕ) (before now after : Counts) → IsErrAnd result (λ cause. cause ≡ Memory) → before.faults ≤ now.faults → now.faults ≤ after.faults
     → IsCountedTimes (IsErrOf result Disk) (IsOk result) times before after
 counted_memory (Ok x) times before now after wanting risen more = absurd wanting
 counted_memory (Err cause) times before now after wanting risen more = record {
@@ -151,7 +151,7 @@ pub logs_counted : {F W : Type 0} (tells : F → Option (List ℕ)) (last : ℕ)
 logs_counted tells last all rest done before now p nothing =
     subst (λ left. count_after (length (filter (is_log last) left)) now.reads ≡ count_after (length (filter (is_log last) all)) before.reads) nothing p.reads
 
-pub log_damage : {X F W : Type 0} (size : F → ℕ) (t : Taken F W) (judged : Result X ReadFault) (fault : ReadFault) (cause : OpenCause) → IsOfRead t.name fault cause
+pub log_damage : {X F W : Type 0} (size : F → ℕ) (t : Taken F W) (judged : Result X ReadFault) (fault : ReadFault) (cause : FilesCause) → IsOfRead t.name fault cause
     → IfDamaged judged (λ place bytes. (whole : List ℕ) × (length whole ≡ size t.file) × (log_judged whole ≡ Err (damage place bytes))) → judged ≡ Err fault → IsLogDamage size t cause
 log_damage size t (Ok x) fault cause of_read damaged was = absurd (cc)
 log_damage size t (Err unread) fault cause of_read damaged was = subst (IsLogDamage size t) (sym (let same : fault ≡ unread = cc in subst (λ f. IsOfRead t.name f cause) same of_read)) tt
@@ -159,7 +159,7 @@ log_damage size t (Err (broken place bytes)) fault cause of_read damaged was =
     subst (IsLogDamage size t) (sym (let same : fault ≡ broken place bytes = cc in subst (λ f. IsOfRead t.name f cause) same of_read)) (refl, damaged)
 log_damage size t (Err no_memory) fault cause of_read damaged was = subst (IsLogDamage size t) (sym (let same : fault ≡ no_memory = cc in subst (λ f. IsOfRead t.name f cause) same of_read)) tt
 
-pub damage_of_all : {F W : Type 0} (size : F → ℕ) (last : ℕ) (all : List (Taken F W)) (t : Taken F W) (cause : OpenCause) → Contains all t → is_log last t ≡ true → IsLogDamage size t cause → IsLogCause size last all cause
+pub damage_of_all : {F W : Type 0} (size : F → ℕ) (last : ℕ) (all : List (Taken F W)) (t : Taken F W) (cause : FilesCause) → Contains all t → is_log last t ≡ true → IsLogDamage size t cause → IsLogCause size last all cause
 damage_of_all size last all t Disk member this is = tt
 damage_of_all size last all t (Damaged damage) member this is = (t, member, this, is)
 damage_of_all size last all t (Layout found found_of) member this is = is

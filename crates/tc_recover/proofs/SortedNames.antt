@@ -31,7 +31,7 @@ intervals_order (Component from to ∷ names) lawful =
     All-cons (λ (i : Interval). i.from ≤ i.to) (record { from = from; to = to }) (intervals_of names) (lawful 0 (Component from to) (omega arith)).1 (intervals_order names (all_behind (Component from to) names lawful))
 intervals_order (Log generation ∷ names) lawful = intervals_order names (all_behind (Log generation) names lawful)
 
-named_member : (names : List FileName) (j : Interval) → Contains (intervals_of names) j → Contains names (Component j.from j.to)
+pub named_member : (names : List FileName) (j : Interval) → Contains (intervals_of names) j → Contains names (Component j.from j.to)
 named_member [] j member = absurd (no_member j member)
 named_member (Component from to ∷ names) j member = elim (member_cases (record { from = from; to = to }) (intervals_of names) j member) [
   | inl same ↦ subst (λ (i : Interval). Contains (Component from to ∷ names) (Component i.from i.to)) same (member_first (Component from to) names)

@@ -9,29 +9,29 @@ use Rattle.tc_store.specs.declared.damage.ReadFault.TheVariants.{Disk as unread,
 use Rattle.tc_store.specs.declared.damage.Damage.TheVariants.{Bytes}
 use Rattle.tc_jobs.specs.declared.fault.JobFault.{JobFault}
 use Rattle.tc_jobs.specs.declared.fault.JobFault.TheVariants as job
-use Rattle.tc_recover.specs.declared.cause.OpenCause.{OpenCause}
-use Rattle.tc_recover.specs.declared.cause.OpenCause.TheVariants.{Disk, Damaged, Layout, Memory}
+use Rattle.tc_recover.specs.declared.cause.FilesCause.{FilesCause}
+use Rattle.tc_recover.specs.declared.cause.FilesCause.TheVariants.{Disk, Damaged, Layout, Memory}
 
-abbrev pub of_store : StoreFault → OpenCause
+abbrev pub of_store : StoreFault → FilesCause
 of_store Fault = Disk
 of_store no_room = Memory
 
-abbrev pub of_frozen : FrozenFault → OpenCause
+abbrev pub of_frozen : FrozenFault → FilesCause
 of_frozen fault = Disk
 
-abbrev pub of_job : JobFault → OpenCause
+abbrev pub of_job : JobFault → FilesCause
 of_job job.Disk = Disk
 of_job (job.Damaged damage) = Damaged damage
 of_job job.Memory = Memory
 
 -- of the file of this name
-abbrev pub IsOfRead : FileName → ReadFault → OpenCause → Type 0
+abbrev pub IsOfRead : FileName → ReadFault → FilesCause → Type 0
 IsOfRead name unread cause = cause ≡ Disk
 IsOfRead name (broken place bytes) cause = cause ≡ Damaged (Bytes name place bytes)
 IsOfRead name no_memory cause = cause ≡ Memory
 
 -- nothing that a file holds is at fault
-abbrev pub IsNoRefusal : {X : Type 0} → Result X OpenCause → Type 0
+abbrev pub IsNoRefusal : {X : Type 0} → Result X FilesCause → Type 0
 IsNoRefusal (Ok x) = Unit {0}
 IsNoRefusal (Err Disk) = Unit {0}
 IsNoRefusal (Err (Damaged damage)) = ⊥

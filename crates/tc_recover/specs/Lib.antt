@@ -8,3 +8,4 @@ pub mod Sorting
 pub mod Loads
 pub mod Loading
 pub mod Removing
+pub mod Opening

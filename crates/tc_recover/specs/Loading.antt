@@ -13,8 +13,8 @@ use Rattle.tc_component.specs.Layout.{names_place, file_size}
 use Rattle.tc_component.specs.Loading.{ComponentState}
 use Rattle.tc_component.specs.Reading.{file_judged}
 use Rattle.tc_component.specs.Spelling.{Index, IsIndex, name_of, sizes_in}
-use Rattle.tc_recover.specs.declared.cause.OpenCause.{OpenCause}
-use Rattle.tc_recover.specs.declared.cause.OpenCause.TheVariants.{Disk, Damaged, Layout, Memory}
+use Rattle.tc_recover.specs.declared.cause.FilesCause.{FilesCause}
+use Rattle.tc_recover.specs.declared.cause.FilesCause.TheVariants.{Disk, Damaged, Layout, Memory}
 use Rattle.tc_recover.specs.declared.interval.Interval.{Interval}
 use Rattle.tc_recover.specs.declared.taken.Taken.{Taken}
 use Rattle.tc_recover.specs.Loads.{file_then}
@@ -97,7 +97,7 @@ pub record HasOtherNames {F W : Type 0} (size : F → ℕ) (t : Taken F W) (plac
   pub bytes_are : bytes ≡ section index.names
 
 -- of a file that is loaded
-abbrev pub IsLoadDamage : {F W : Type 0} → (F → ℕ) → Partition → Taken F W → OpenCause → Type 0
+abbrev pub IsLoadDamage : {F W : Type 0} → (F → ℕ) → Partition → Taken F W → FilesCause → Type 0
 IsLoadDamage size part t Disk = Unit {0}
 IsLoadDamage size part t (Damaged (Bytes name place bytes)) = (t.name ≡ name) × (IsHarm size t place bytes ⊎ HasOtherNames size t place bytes)
 IsLoadDamage size part t (Damaged (Files names)) = ⊥
@@ -105,7 +105,7 @@ IsLoadDamage size part t (Layout found found_of) = stray part found found_of ≡
 IsLoadDamage size part t Memory = Unit {0}
 
 -- of the file of one of the tiles
-pub record IsTileDamage {F W : Type 0} (size : F → ℕ) (part : Partition) (tiles : List Interval) (files : List (Taken F W)) (cause : OpenCause) : Type 0 where
+pub record IsTileDamage {F W : Type 0} (size : F → ℕ) (part : Partition) (tiles : List Interval) (files : List (Taken F W)) (cause : FilesCause) : Type 0 where
   pub file : Taken F W
   pub tile : Interval
   pub there : Contains files file
@@ -113,7 +113,7 @@ pub record IsTileDamage {F W : Type 0} (size : F → ℕ) (part : Partition) (ti
   pub is_of : is_file_of tile file ≡ true
   pub harm : IsLoadDamage size part file cause
 
-abbrev pub IsLoadCause : {F W : Type 0} → (F → ℕ) → Partition → List Interval → List (Taken F W) → OpenCause → Type 0
+abbrev pub IsLoadCause : {F W : Type 0} → (F → ℕ) → Partition → List Interval → List (Taken F W) → FilesCause → Type 0
 IsLoadCause size part tiles files Disk = Unit {0}
 IsLoadCause size part tiles files (Damaged damage) = IsTileDamage size part tiles files (Damaged damage)
 IsLoadCause size part tiles files (Layout found found_of) = IsTileDamage size part tiles files (Layout found found_of)

@@ -8,8 +8,8 @@ use Rattle.tc_store.specs.Gate.{is_open_file}
 use Rattle.tc_store.specs.Judging as judging
 use Rattle.tc_log.specs.declared.write.Write.{Write}
 use Rattle.tc_log.specs.Reading.{log_judged}
-use Rattle.tc_recover.specs.declared.cause.OpenCause.{OpenCause}
-use Rattle.tc_recover.specs.declared.cause.OpenCause.TheVariants.{Disk, Damaged, Layout, Memory}
+use Rattle.tc_recover.specs.declared.cause.FilesCause.{FilesCause}
+use Rattle.tc_recover.specs.declared.cause.FilesCause.TheVariants.{Disk, Damaged, Layout, Memory}
 use Rattle.tc_recover.specs.declared.taken.Taken.{Taken}
 use Rattle.tc_recover.specs.Refusals.{Refusal, breaks, strays, clashes}
 
@@ -34,7 +34,7 @@ logs_judged last before (file ∷ files) =
     if is_open_file file.1 && is_above last file.0 then file_then file.0 (log_judged file.1) (λ read. logs_judged last (before ++ read.1 ∷ []) files) else logs_judged last before files
 
 -- What is answered, seen by view, is what is judged. Of a fault of the disk and of want of memory nothing is said here.
-abbrev pub Answers : {X Y : Type 0} → (X → Y) → Result X OpenCause → Result Y Refusal → Type 0
+abbrev pub Answers : {X Y : Type 0} → (X → Y) → Result X FilesCause → Result Y Refusal → Type 0
 Answers view (Ok x) judged = judged ≡ Ok (view x)
 Answers view (Err Disk) judged = Unit {0}
 Answers view (Err (Damaged (Bytes file place bytes))) judged = judged ≡ Err (breaks file (judging.damage place bytes))
@@ -49,7 +49,7 @@ same_writes writes = writes
 -- ---- causes, also of files that tell nothing
 
 -- bytes that break the rules of a log: those at the place in some whole of its length
-abbrev pub IsLogDamage : {F W : Type 0} → (F → ℕ) → Taken F W → OpenCause → Type 0
+abbrev pub IsLogDamage : {F W : Type 0} → (F → ℕ) → Taken F W → FilesCause → Type 0
 IsLogDamage size t Disk = Unit {0}
 IsLogDamage size t (Damaged (Bytes name place bytes)) = (t.name ≡ name) × ((whole : List ℕ) × (length whole ≡ size t.file) × (log_judged whole ≡ Err (judging.damage place bytes)))
 IsLogDamage size t (Damaged (Files names)) = ⊥
@@ -57,7 +57,7 @@ IsLogDamage size t (Layout found found_of) = ⊥
 IsLogDamage size t Memory = Unit {0}
 
 -- of one of the open logs above a generation
-abbrev pub IsLogCause : {F W : Type 0} → (F → ℕ) → ℕ → List (Taken F W) → OpenCause → Type 0
+abbrev pub IsLogCause : {F W : Type 0} → (F → ℕ) → ℕ → List (Taken F W) → FilesCause → Type 0
 IsLogCause size last files Disk = Unit {0}
 IsLogCause {F = F} {W = W} size last files (Damaged damage) = (t : Taken F W) × Contains files t × (is_log last t ≡ true) × IsLogDamage size t (Damaged damage)
 IsLogCause size last files (Layout found found_of) = ⊥

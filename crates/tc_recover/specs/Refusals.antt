@@ -10,10 +10,10 @@ use Rattle.tc_store.specs.Judging as judging
 use Rattle.tc_lsm_model.specs.Contents.{Partition}
 use Rattle.tc_component.specs.Reading as component
 use Rattle.tc_log.specs.Reading as log
-use Rattle.tc_recover.specs.declared.cause.OpenCause.{OpenCause}
+use Rattle.tc_recover.specs.declared.cause.FilesCause.{FilesCause}
 use Rattle.tc_recover.specs.declared.taken.Taken.{Taken}
 use Rattle.tc_recover.specs.declared.heads.Partition.{Partition as Asked}
-use Rattle.tc_recover.specs.declared.cause.OpenCause.TheVariants.{Disk, Damaged, Layout, Memory}
+use Rattle.tc_recover.specs.declared.cause.FilesCause.TheVariants.{Disk, Damaged, Layout, Memory}
 
 pub data Refusal : Type 0 where
   -- bytes of a file that break the rules, at their place
@@ -54,7 +54,7 @@ heads_refused part (file ∷ files) = option_or (file_refused part file) (heads_
 
 -- What is answered is what is refused, and where it is Ok there is nothing. Of a fault of the disk and of want of memory
 -- nothing is said here.
-abbrev pub Refuses : {X : Type 0} → Result X OpenCause → Option Refusal → Type 0
+abbrev pub Refuses : {X : Type 0} → Result X FilesCause → Option Refusal → Type 0
 Refuses (Ok x) refused = refused ≡ None
 Refuses (Err Disk) refused = Unit {0}
 Refuses (Err (Damaged (Bytes file place bytes))) refused = refused ≡ Some (breaks file (judging.damage place bytes))
@@ -75,7 +75,7 @@ pub record BreaksHead {F W : Type 0} (size : F → ℕ) (part : Partition) (file
   pub refused : head_refused part name whole ≡ Some (breaks name (judging.damage place bytes))
 
 -- bytes of one of these files, or numbers that are others
-abbrev pub IsHeadCause : {F W : Type 0} → (F → ℕ) → Partition → List (Taken F W) → OpenCause → Type 0
+abbrev pub IsHeadCause : {F W : Type 0} → (F → ℕ) → Partition → List (Taken F W) → FilesCause → Type 0
 IsHeadCause size part files Disk = Unit {0}
 IsHeadCause size part files (Damaged (Bytes name place bytes)) = BreaksHead size part files name place bytes
 IsHeadCause size part files (Damaged (Files names)) = ⊥

@@ -3,8 +3,8 @@ use Rattle.std.specs.Prelude.{◌≡◌, ◌+◌, ℕ, nat_lt, List, [], ◌∷�
 use Rattle.tc_store.specs.declared.file_name.FileName.{FileName}
 use Rattle.tc_store.specs.declared.file_name.FileName.TheVariants.{Component, Log}
 use Rattle.tc_store.specs.declared.damage.Damage.TheVariants.{Bytes, Files}
-use Rattle.tc_recover.specs.declared.cause.OpenCause.{OpenCause}
-use Rattle.tc_recover.specs.declared.cause.OpenCause.TheVariants.{Disk, Damaged, Layout, Memory}
+use Rattle.tc_recover.specs.declared.cause.FilesCause.{FilesCause}
+use Rattle.tc_recover.specs.declared.cause.FilesCause.TheVariants.{Disk, Damaged, Layout, Memory}
 use Rattle.tc_recover.specs.declared.interval.Interval.{Interval}
 use Rattle.tc_recover.specs.declared.taken.Taken.{Taken}
 use Rattle.tc_recover.specs.Files.{names_in}
@@ -39,7 +39,7 @@ abbrev pub open_names : {F W : Type 0} → List (Taken F W) → List FileName
 open_names ts = names_in (filter (λ t. t.open) ts)
 
 -- What is answered where files do not go together: the names of all of them. Of want of memory nothing is said.
-abbrev pub IsClash : List FileName → OpenCause → Type 0
+abbrev pub IsClash : List FileName → FilesCause → Type 0
 IsClash names (Damaged (Files kept)) = (kept ≡ names) × ((tiles : List Interval) → GoTogether names tiles → ⊥)
 IsClash names (Damaged (Bytes file place bytes)) = ⊥
 IsClash names Disk = ⊥

@@ -1,7 +1,7 @@
-//! Why the files of a partition are not opened.
+//! Why the files of a partition are not read or removed.
 
 ghost use Rattle.std.specs.Prelude.{◌≡◌};
-ghost use Rattle.tc_recover.specs.declared.cause.OpenCause.TheVariants.{Memory as no_memory};
+ghost use Rattle.tc_recover.specs.declared.cause.FilesCause.TheVariants.{Memory as no_memory};
 ghost use Rattle.tc_recover.specs.Causes.{of_store, of_frozen, of_job, IsOfRead};
 
 use std::alloc::{AllocError, AllocFailed};
@@ -9,10 +9,10 @@ use tc_jobs::JobFault;
 use tc_store::{Damage, FileName, FrozenFault, ReadFault, StoreFault};
 use thiserror::Error;
 
-/// Why the files of a partition are not opened. `Layout` has the number and the count of partitions that a file keeps,
+/// Why the files of a partition are not read or removed. `Layout` has the number and the count of partitions that a file keeps,
 /// where others were asked for.
 #[derive(Drop, Debug, Error)]
-pub enum OpenCause {
+pub enum FilesCause {
     #[error("a file operation failed")]
     Disk,
     #[error("a file is damaged")]
@@ -23,64 +23,64 @@ pub enum OpenCause {
     Memory,
 }
 
-impl From<AllocError> for OpenCause {
+impl From<AllocError> for FilesCause {
     ghost from_gives = { λ _ e. e ≡ no_memory };
 
-    fn from(_: AllocError) -> OpenCause {
-        OpenCause::Memory
+    fn from(_: AllocError) -> FilesCause {
+        FilesCause::Memory
     }
 }
 
-impl<T: Drop> From<AllocFailed<T>> for OpenCause {
+impl<T: Drop> From<AllocFailed<T>> for FilesCause {
     ghost from_gives = { λ _ e. e ≡ no_memory };
 
-    fn from(_: AllocFailed<T>) -> OpenCause {
-        OpenCause::Memory
+    fn from(_: AllocFailed<T>) -> FilesCause {
+        FilesCause::Memory
     }
 }
 
-impl From<StoreFault> for OpenCause {
+impl From<StoreFault> for FilesCause {
     ghost from_gives = { λ f e. e ≡ of_store f };
 
-    fn from(fault: StoreFault) -> OpenCause {
+    fn from(fault: StoreFault) -> FilesCause {
         match fault {
-            StoreFault::Fault => OpenCause::Disk,
-            StoreFault::Memory => OpenCause::Memory,
+            StoreFault::Fault => FilesCause::Disk,
+            StoreFault::Memory => FilesCause::Memory,
         }
     }
 }
 
-impl From<FrozenFault> for OpenCause {
+impl From<FrozenFault> for FilesCause {
     ghost from_gives = { λ f e. e ≡ of_frozen f };
 
-    fn from(_: FrozenFault) -> OpenCause {
-        OpenCause::Disk
+    fn from(_: FrozenFault) -> FilesCause {
+        FilesCause::Disk
     }
 }
 
-impl From<JobFault> for OpenCause {
+impl From<JobFault> for FilesCause {
     ghost from_gives = { λ f e. e ≡ of_job f };
 
-    fn from(fault: JobFault) -> OpenCause {
+    fn from(fault: JobFault) -> FilesCause {
         match fault {
-            JobFault::Disk => OpenCause::Disk,
-            JobFault::Damaged(damage) => OpenCause::Damaged(damage),
-            JobFault::Memory => OpenCause::Memory,
+            JobFault::Disk => FilesCause::Disk,
+            JobFault::Damaged(damage) => FilesCause::Damaged(damage),
+            JobFault::Memory => FilesCause::Memory,
         }
     }
 }
 
 /// The cause that a fault of reading the file of this name is.
-pub(crate) fn of_read(file: FileName, fault: ReadFault) -> OpenCause
+pub(crate) fn of_read(file: FileName, fault: ReadFault) -> FilesCause
     ensures { IsOfRead file fault result }
 {
     match fault {
-        ReadFault::Disk => OpenCause::Disk,
-        ReadFault::Damaged { place, bytes } => OpenCause::Damaged(Damage::Bytes {
+        ReadFault::Disk => FilesCause::Disk,
+        ReadFault::Damaged { place, bytes } => FilesCause::Damaged(Damage::Bytes {
             file,
             place,
             bytes,
         }),
-        ReadFault::Memory => OpenCause::Memory,
+        ReadFault::Memory => FilesCause::Memory,
     }
 }

@@ -12,7 +12,7 @@ ghost use Rattle.tc_recover.specs.Causes.{IsNoRefusal};
 ghost use Rattle.tc_recover.specs.Files.{is_long, picture_in, picture_at, names_in, AreTold, AreGates, AreNamed, takes_all, TakesFirst, TakesSome};
 ghost use Rattle.tc_recover.specs.Reads.{IsCountedTimes};
 
-use crate::cause::OpenCause;
+use crate::cause::FilesCause;
 use crate::listing::listed;
 use crate::taken::Taken;
 use std::alloc::Global;
@@ -25,7 +25,7 @@ pub fn take_all<S: Store>(
     alloc: Global,
     store: &mut S,
     watch: &mut S::Watch,
-) -> Result<Vec<Taken<S::Frozen>>, OpenCause>
+) -> Result<Vec<Taken<S::Frozen>>, FilesCause>
     requires at_rest { IfTold (S.history store.old) IsAtRest }
     ensures exact { IfOk result (λ files. IfTold (S.history store.old) (λ disk. (name : Name) → Contains (names_in files.items) name ↔ IsThere (disk name))) }
     ensures ascend { IfOk result (λ files. IsStrictlySortedBy name_cmp (names_in files.items)) }
@@ -37,7 +37,7 @@ pub fn take_all<S: Store>(
     ensures gates { IfOk result (λ files. AreGates S.Frozen.content files.items) }
     ensures causes { IsNoRefusal result }
     ensures counted { IfOk result (λ files. IsCountedTimes ⊥ (Unit {0}) (length (filter (is_long S.Frozen.size) files.items)) (S.Watch.counts watch.old) (S.Watch.counts watch.new)) }
-    ensures faults { IsCountedTimes (IsErrOf result OpenCause.Disk) ⊥ 0 (S.Watch.counts watch.old) (S.Watch.counts watch.new) }
+    ensures faults { IsCountedTimes (IsErrOf result FilesCause.Disk) ⊥ 0 (S.Watch.counts watch.old) (S.Watch.counts watch.new) }
 {
     let names = listed(alloc, store, watch)?;
     let files = take_files(alloc, store, &names, watch)?;
@@ -52,7 +52,7 @@ fn take_files<S: Store>(
     store: &mut S,
     names: &[FileName],
     watch: &mut S::Watch,
-) -> Result<Vec<Taken<S::Frozen>>, OpenCause>
+) -> Result<Vec<Taken<S::Frozen>>, FilesCause>
     requires at_home { IfTold (S.history store.old) (λ disk. (name : Name) → Contains names.now name → IsSettledHome (disk name)) }
     requires ascend { IsStrictlySortedBy name_cmp names.now }
     ensures taken { OnOk result (S.history store.new ≡ takes_all names.now (S.history store.old)) }
@@ -64,7 +64,7 @@ fn take_files<S: Store>(
     ensures gates { IfOk result (λ files. AreGates S.Frozen.content files.items) }
     ensures causes { IsNoRefusal result }
     ensures counted { IfOk result (λ files. IsCountedTimes ⊥ (Unit {0}) (length (filter (is_long S.Frozen.size) files.items)) (S.Watch.counts watch.old) (S.Watch.counts watch.new)) }
-    ensures faults { IsCountedTimes (IsErrOf result OpenCause.Disk) ⊥ 0 (S.Watch.counts watch.old) (S.Watch.counts watch.new) }
+    ensures faults { IsCountedTimes (IsErrOf result FilesCause.Disk) ⊥ 0 (S.Watch.counts watch.old) (S.Watch.counts watch.new) }
 {
     let mut files = Vec::new(alloc);
     let mut rest = names;
@@ -82,7 +82,7 @@ fn take_file<S: Store>(
     store: &mut S,
     name: FileName,
     watch: &mut S::Watch,
-) -> Result<Taken<S::Frozen>, OpenCause>
+) -> Result<Taken<S::Frozen>, FilesCause>
     requires { IfTold (S.history store.old) (λ disk. IsSettledHome (disk name)) }
     ensures taken { OnOk result (S.history store.new ≡ takes name (S.history store.old)) }
     ensures failed { OnErr result ((S.history store.new ≡ S.history store.old) ⊎ (S.history store.new ≡ takes name (S.history store.old))) }
@@ -92,7 +92,7 @@ fn take_file<S: Store>(
     ensures gate { IfOk result (λ t. IfSome (S.Frozen.content t.file) (λ bytes. t.open ≡ is_open_file bytes)) }
     ensures causes { IsNoRefusal result }
     ensures long { IfOk result (λ t. IsCountedTimes ⊥ (Unit {0}) (length (filter (is_long S.Frozen.size) (t ∷ []))) (S.Watch.counts watch.old) (S.Watch.counts watch.new)) }
-    ensures faults { IsCountedTimes (IsErrOf result OpenCause.Disk) ⊥ 0 (S.Watch.counts watch.old) (S.Watch.counts watch.new) }
+    ensures faults { IsCountedTimes (IsErrOf result FilesCause.Disk) ⊥ 0 (S.Watch.counts watch.old) (S.Watch.counts watch.new) }
 {
     let file = store.take(alloc, name, watch)?;
     let open = is_open(&file, watch)?;

@@ -2,12 +2,12 @@
 
 ghost use Rattle.std.specs.Prelude.{◌≡◌, [], ◌∷◌, true, length, filter, IfErr, IfSome, OnOk, IsErrOf};
 ghost use Rattle.std.specs.Result.{IsOk};
-ghost use Rattle.tc_recover.specs.declared.cause.OpenCause.TheVariants.{Layout};
+ghost use Rattle.tc_recover.specs.declared.cause.FilesCause.TheVariants.{Layout};
 ghost use Rattle.tc_recover.specs.Files.{picture_in, AreTold, AreGates, IsLawfulName, AreLawful};
 ghost use Rattle.tc_recover.specs.Reads.{IsCountedTimes};
 ghost use Rattle.tc_recover.specs.Refusals.{Refuses, IsHeadCause, asked, head_refused, heads_refused, stray};
 
-use crate::cause::{OpenCause, of_read};
+use crate::cause::{FilesCause, of_read};
 use crate::taken::Taken;
 use std::alloc::Global;
 use tc_component::read_head;
@@ -29,12 +29,12 @@ pub fn judge_heads<F: Frozen>(
     part: Partition,
     files: &[Taken<F>],
     watch: &mut F::Watch,
-) -> Result<(), OpenCause>
+) -> Result<(), FilesCause>
     requires gates { AreGates F.content files.now }
     ensures judged { AreTold F.content files.now → Refuses result (heads_refused (asked part) (picture_in F.content files.now)) }
     ensures causes { IfErr result (IsHeadCause F.size (asked part) files.now) }
     ensures lawful { OnOk result (AreLawful files.now) }
-    ensures counted { IsCountedTimes (IsErrOf result OpenCause.Disk) (IsOk result) (length (filter (λ t. t.open) files.now)) (F.Watch.counts watch.old) (F.Watch.counts watch.new) }
+    ensures counted { IsCountedTimes (IsErrOf result FilesCause.Disk) (IsOk result) (length (filter (λ t. t.open) files.now)) (F.Watch.counts watch.old) (F.Watch.counts watch.new) }
 {
     let mut rest = files;
     while let Some((file, behind)) = rest.split_first() {
@@ -52,12 +52,12 @@ fn judge_head<F: Frozen>(
     part: Partition,
     file: &Taken<F>,
     watch: &mut F::Watch,
-) -> Result<(), OpenCause>
+) -> Result<(), FilesCause>
     requires { file.now.open ≡ true }
     ensures judged { IfSome (F.content file.now.file) (λ bytes. Refuses result (head_refused (asked part) file.now.name bytes)) }
     ensures causes { IfErr result (IsHeadCause F.size (asked part) (file.now ∷ [])) }
     ensures lawful { OnOk result (IsLawfulName file.now.name) }
-    ensures counted { IsCountedTimes (IsErrOf result OpenCause.Disk) (IsOk result) 1 (F.Watch.counts watch.old) (F.Watch.counts watch.new) }
+    ensures counted { IsCountedTimes (IsErrOf result FilesCause.Disk) (IsOk result) 1 (F.Watch.counts watch.old) (F.Watch.counts watch.new) }
 {
     match file.name {
         FileName::Component { from, to } => {
@@ -77,17 +77,17 @@ fn judge_head<F: Frozen>(
 }
 
 /// Whether numbers that a file keeps are those of the partition.
-pub(crate) fn judge_numbers(part: Partition, number: u32, count: u32) -> Result<(), OpenCause>
+pub(crate) fn judge_numbers(part: Partition, number: u32, count: u32) -> Result<(), FilesCause>
     ensures judged { Refuses result (stray (asked part) number count) }
     ensures numbers { IfErr result (λ cause. cause ≡ Layout number count) }
     ensures own_number { OnOk result (number ≡ part.number) }
     ensures own_count { OnOk result (count ≡ part.count) }
-    ensures no_disk { IsErrOf result OpenCause.Disk → ⊥ }
+    ensures no_disk { IsErrOf result FilesCause.Disk → ⊥ }
 {
     if number == part.number && count == part.count {
         Ok(())
     } else {
-        Err(OpenCause::Layout {
+        Err(FilesCause::Layout {
             found: number,
             found_of: count,
         })

@@ -17,7 +17,7 @@ ghost use Rattle.tc_recover.specs.Refusals.{asked};
 ghost use Rattle.tc_recover.specs.Sorting.{open_names, intervals_of};
 ghost use Rattle.tc_recover.specs.Tilings.{IsTiling};
 
-use crate::cause::{OpenCause, of_read};
+use crate::cause::{FilesCause, of_read};
 use crate::heads::{Partition, judge_numbers};
 use crate::interval::Interval;
 use crate::taken::Taken;
@@ -45,7 +45,7 @@ pub fn load_components<F: Frozen>(
     tiles: &[Interval],
     files: Vec<Taken<F>>,
     watch: &mut F::Watch,
-) -> Result<Loaded<F>, OpenCause>
+) -> Result<Loaded<F>, FilesCause>
     requires ascend { IsStrictlySortedBy name_cmp (names_in files.items) }
     requires tiling { IsTiling (intervals_of (open_names files.items)) tiles.now }
     ensures judged { AreTold F.content files.items → Answers (λ loaded. map index_in loaded.list) result (components_judged (asked part) (picture_in F.content files.items) tiles.now [] []) }
@@ -55,7 +55,7 @@ pub fn load_components<F: Frozen>(
     ensures left { IfOk result (λ loaded. loaded.left.items ≡ left_of tiles.now files.items) }
     ensures lawful { IfOk result (λ loaded. All (λ (c : ComponentState F). IsIndex c.index) loaded.list) }
     ensures listed { IfOk result (λ loaded. IsListOf part.number part.count loaded.list) }
-    ensures counted { IsCountedTimes (IsErrOf result OpenCause.Disk) (IsOk result) (length tiles.now + length tiles.now) (F.Watch.counts watch.old) (F.Watch.counts watch.new) }
+    ensures counted { IsCountedTimes (IsErrOf result FilesCause.Disk) (IsOk result) (length tiles.now + length tiles.now) (F.Watch.counts watch.old) (F.Watch.counts watch.new) }
 {
     let mut list = ComponentList::new(alloc);
     let mut left = Vec::new(alloc);
@@ -99,21 +99,21 @@ fn load_next<F: Frozen>(
     list: &ComponentList<F>,
     file: Taken<F>,
     watch: &mut F::Watch,
-) -> Result<Component<F>, OpenCause>
+) -> Result<Component<F>, FilesCause>
     ensures judged { IfSome (F.content file.file) (λ bytes. Answers index_in result (component_judged (asked part) (newest_names [] list.now) file.name bytes)) }
     ensures causes { IfErr result (IsLoadDamage F.size (asked part) file) }
     ensures file { IfOk result (λ c. c.file ≡ file.file) }
     ensures name { IfOk result (λ c. file.name ≡ name_of c.index.head) }
     ensures lawful { IfOk result (λ c. IsIndex c.index) }
     ensures listed { IfOk result (λ c. IsListOf part.number part.count list.now → IsListOf part.number part.count (list.now ++ c ∷ [])) }
-    ensures counted { IsCountedTimes (IsErrOf result OpenCause.Disk) (IsOk result) 2 (F.Watch.counts watch.old) (F.Watch.counts watch.new) }
+    ensures counted { IsCountedTimes (IsErrOf result FilesCause.Disk) (IsOk result) 2 (F.Watch.counts watch.old) (F.Watch.counts watch.new) }
 {
     let component = load_own(alloc, part, file, watch)?;
     let _size = component.file_len();
     if goes_behind(list, &component) {
         Ok(component)
     } else {
-        Err(OpenCause::from(names_damage(alloc, &component)))
+        Err(FilesCause::from(names_damage(alloc, &component)))
     }
 }
 
@@ -123,7 +123,7 @@ fn load_own<F: Frozen>(
     part: Partition,
     file: Taken<F>,
     watch: &mut F::Watch,
-) -> Result<Component<F>, OpenCause>
+) -> Result<Component<F>, FilesCause>
     ensures judged { IfSome (F.content file.file) (λ bytes. Answers index_in result (own_judged (asked part) file.name bytes)) }
     ensures causes { IfErr result (IsLoadDamage F.size (asked part) file) }
     ensures file { IfOk result (λ c. c.file ≡ file.file) }
@@ -131,7 +131,7 @@ fn load_own<F: Frozen>(
     ensures lawful { IfOk result (λ c. IsIndex c.index) }
     ensures number { IfOk result (λ c. c.index.head.number ≡ part.number) }
     ensures count { IfOk result (λ c. c.index.head.count ≡ part.count) }
-    ensures counted { IsCountedTimes (IsErrOf result OpenCause.Disk) (IsOk result) 2 (F.Watch.counts watch.old) (F.Watch.counts watch.new) }
+    ensures counted { IsCountedTimes (IsErrOf result FilesCause.Disk) (IsOk result) 2 (F.Watch.counts watch.old) (F.Watch.counts watch.new) }
 {
     let Taken {
         name,

@@ -10,7 +10,7 @@ ghost use Rattle.tc_recover.specs.Files.{picture_in, AreTold, AreGates};
 ghost use Rattle.tc_recover.specs.Loads.{file_then, is_log as of_log, logs_judged, Answers, IsLogCause, IsLogDamage, same_writes};
 ghost use Rattle.tc_recover.specs.Reads.{IsCountedTimes};
 
-use crate::cause::{OpenCause, of_read};
+use crate::cause::{FilesCause, of_read};
 use crate::taken::Taken;
 use std::alloc::Global;
 use tc_log::{LogRead, Writes, read_frames};
@@ -24,12 +24,12 @@ pub fn read_logs<F: Frozen>(
     last: u64,
     files: &[Taken<F>],
     watch: &mut F::Watch,
-) -> Result<Vec<Writes>, OpenCause>
+) -> Result<Vec<Writes>, FilesCause>
     requires gates { AreGates F.content files.now }
     ensures judged { AreTold F.content files.now → Answers (λ writes. writes.items) result (logs_judged last [] (picture_in F.content files.now)) }
     ensures causes { IfErr result (IsLogCause F.size last files.now) }
     ensures lawful { IfOk result (λ writes. All (AllByRecursion IsWrite) writes.items) }
-    ensures counted { IsCountedTimes (IsErrOf result OpenCause.Disk) (IsOk result) (length (filter (of_log last) files.now)) (F.Watch.counts watch.old) (F.Watch.counts watch.new) }
+    ensures counted { IsCountedTimes (IsErrOf result FilesCause.Disk) (IsOk result) (length (filter (of_log last) files.now)) (F.Watch.counts watch.old) (F.Watch.counts watch.new) }
 {
     let mut all = Vec::new(alloc);
     let mut rest = files;
@@ -58,12 +58,12 @@ fn read_log<F: Frozen>(
     alloc: Global,
     log: &Taken<F>,
     watch: &mut F::Watch,
-) -> Result<Writes, OpenCause>
+) -> Result<Writes, FilesCause>
     requires { IfSome (F.content log.now.file) (λ bytes. is_open_file bytes ≡ true) }
     ensures judged { IfSome (F.content log.now.file) (λ bytes. Answers same_writes result (file_then log.now.name (log_judged bytes) (λ read. Ok read.1))) }
     ensures causes { IfErr result (IsLogDamage F.size log.now) }
     ensures lawful { IfOk result (AllByRecursion IsWrite) }
-    ensures counted { IsCountedTimes (IsErrOf result OpenCause.Disk) (IsOk result) 1 (F.Watch.counts watch.old) (F.Watch.counts watch.new) }
+    ensures counted { IsCountedTimes (IsErrOf result FilesCause.Disk) (IsOk result) 1 (F.Watch.counts watch.old) (F.Watch.counts watch.new) }
 {
     match read_frames(alloc, &log.file, watch) {
         Ok(LogRead { head: _, writes }) => Ok(writes),

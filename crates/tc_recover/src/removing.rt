@@ -6,7 +6,7 @@ ghost use Rattle.tc_recover.specs.Causes.{IsNoRefusal};
 ghost use Rattle.tc_recover.specs.Loads.{is_log as of_log};
 ghost use Rattle.tc_recover.specs.Removing.{needless_names, removes_all, RemovesFirst};
 
-use crate::cause::OpenCause;
+use crate::cause::FilesCause;
 use crate::logs::is_log;
 use crate::taken::Taken;
 use std::alloc::Global;
@@ -21,12 +21,12 @@ pub fn remove_needless<S: Store>(
     last: u64,
     files: Vec<Taken<S::Frozen>>,
     watch: &mut S::Watch,
-) -> Result<Vec<Taken<S::Frozen>>, OpenCause>
+) -> Result<Vec<Taken<S::Frozen>>, FilesCause>
     ensures kept { IfOk result (λ logs. logs.items ≡ filter (of_log last) files.items) }
     ensures removed { OnOk result (S.history store.new ≡ removes_all (needless_names S.Frozen.name last files.items) (S.history store.old)) }
     ensures partly { OnErr result (RemovesFirst (needless_names S.Frozen.name last files.items) (S.history store.old) (S.history store.new)) }
     ensures causes { IsNoRefusal result }
-    ensures counted { IsCounted (IsErrOf result OpenCause.Disk) (S.Watch.counts watch.old) (S.Watch.counts watch.new) }
+    ensures counted { IsCounted (IsErrOf result FilesCause.Disk) (S.Watch.counts watch.old) (S.Watch.counts watch.new) }
 {
     let mut logs = Vec::new(alloc);
     for taken in files {

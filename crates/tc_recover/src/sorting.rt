@@ -8,7 +8,7 @@ ghost use Rattle.tc_recover.specs.Files.{names_in, IsLawfulName, AreLawful};
 ghost use Rattle.tc_recover.specs.Sorting.{intervals_of as components_of, open_names as names_of, logs_above, Follow, GoTogether, IsClash};
 ghost use Rattle.tc_recover.specs.Tilings.{end_of};
 
-use crate::cause::OpenCause;
+use crate::cause::FilesCause;
 use crate::interval::Interval;
 use crate::taken::Taken;
 use crate::tiling::tiling_of;
@@ -19,7 +19,7 @@ use tc_store::{Damage, FileName, FileNames, Frozen};
 /// The intervals of the components that count among the open files, the oldest first. `Damaged` has the names of all open
 /// files: it comes exactly where the components do not tile the generations from 1 on, or the logs above them have a gap.
 /// Makes no read.
-pub fn sort_files<F: Frozen>(alloc: Global, files: &[Taken<F>]) -> Result<Vec<Interval>, OpenCause>
+pub fn sort_files<F: Frozen>(alloc: Global, files: &[Taken<F>]) -> Result<Vec<Interval>, FilesCause>
     requires ascend { IsStrictlySortedBy name_cmp (names_in files.now) }
     requires lawful { AreLawful files.now }
     ensures sorted { IfOk result (λ tiles. GoTogether (names_of files.now) tiles.items) }
@@ -28,7 +28,7 @@ pub fn sort_files<F: Frozen>(alloc: Global, files: &[Taken<F>]) -> Result<Vec<In
     let names = open_names(alloc, files)?;
     match components_that_count(alloc, &names)? {
         Some(tiles) => Ok(tiles),
-        None => Err(OpenCause::Damaged(Damage::Files {
+        None => Err(FilesCause::Damaged(Damage::Files {
             names: FileNames::of(names),
         })),
     }

@@ -5,7 +5,7 @@ ghost use Rattle.tc_store.specs.Memory.Store.{store_disks};
 ghost use Rattle.tc_store.specs.Moments.{IfTold};
 
 use crate::{
-    OpenCause, Partition, judge_heads, last_of, load_components, read_logs, remove_needless,
+    FilesCause, Partition, judge_heads, last_of, load_components, read_logs, remove_needless,
     sort_files, take_all,
 };
 use std::alloc::{AllocError, Global};
@@ -252,9 +252,9 @@ fn fails(alloc: Global, store: &mut MemStore, watch: &mut MemWatch) -> bool
     }
 }
 
-fn is_disk(cause: OpenCause) -> bool {
+fn is_disk(cause: FilesCause) -> bool {
     match cause {
-        OpenCause::Disk => true,
+        FilesCause::Disk => true,
         _other => false,
     }
 }
