@@ -1,14 +1,15 @@
 -- A fault of a call below that is handed on.
-use Rattle.std.proofs.Common.{◌≡◌, ◌∙◌, ℕ, List, refl, sym, ap}
+use Rattle.std.proofs.Common.{◌≡◌, ◌∙◌, ℕ, List, refl, sym, ap, subst}
 use Rattle.std.specs.Prelude.{Result, Ok, Err, IfErr, IsErrOf, IsErrAnd}
 use Rattle.tc_store.specs.declared.file_name.FileName.{FileName}
 use Rattle.tc_part.specs.declared.fault.PartFault.{PartFault}
 use Rattle.tc_part.specs.declared.fault.PartFault.TheVariants as part
 use Rattle.tc_part.specs.Harms.{IsOfRead}
-use Rattle.tc_part.specs.Faults.{IsUndamaged}
+use Rattle.tc_part.specs.Faults.{IsUndamaged, IfDamaged as part_damaged}
+use Rattle.tc_store.specs.declared.damage.Damage.{Damage}
 use Rattle.tc_work.specs.declared.fault.EngineFault.{EngineFault}
 use Rattle.tc_work.specs.declared.fault.EngineFault.TheVariants as engine
-use Rattle.tc_work.specs.Faults.{of_part, IfDamage}
+use Rattle.tc_work.specs.Faults.{of_part, IfDamage, IfDamaged}
 
 found : (fault : PartFault) (P : FileName → ℕ → List ℕ → Type 0) → IsOfRead fault P → IfDamage (of_part fault) P
 found part.Disk P is = tt
@@ -74,6 +75,38 @@ pub same_fault : {X Y : Type 0} (r : Result X EngineFault) (below : Result Y Eng
 same_fault (Ok x) below fault other is failed cause = absurd (cc)
 same_fault (Err e) below fault other is failed cause = let same : e ≡ other = cc in failed ∙ ap Err (sym is ∙ same)
 
+pub handed_on : {X : Type 0} (r : Result X EngineFault) (fault : EngineFault) (P : EngineFault → Type 0) → IsErrAnd r (λ e. e ≡ fault) → P fault → IfErr r P
+handed_on (Ok x) fault P is holds = tt
+handed_on (Err e) fault P is holds = subst P (sym is) holds
+
 pub same_harm : {X : Type 0} (r : Result X EngineFault) (fault : EngineFault) (P : FileName → ℕ → List ℕ → Type 0) → IsErrAnd r (λ e. e ≡ fault) → IfDamage fault P → IfErr r (λ e. IfDamage e P)
-same_harm (Ok x) fault P is harm = tt
-same_harm (Err e) fault P is harm = rw is harm
+same_harm r fault P is harm = handed_on r fault (λ e. IfDamage e P) is harm
+
+-- ---- damage of any kind
+
+damaged_as : (fault : PartFault) (P Q : Damage → Type 0) → part_damaged {X = Unit {0}} (Err fault) P → ((damage : Damage) → P damage → Q damage) → IfDamaged (of_part fault) Q
+damaged_as part.Disk P Q is go = tt
+damaged_as (part.Damaged damage) P Q is go = go damage is
+damaged_as part.Spent P Q is go = tt
+damaged_as part.Memory P Q is go = tt
+
+below_damaged : (Y : Type 0) (fault : PartFault) (P : Damage → Type 0) → part_damaged {X = Y} (Err fault) P → part_damaged {X = Unit {0}} (Err fault) P
+below_damaged Y part.Disk P is = tt
+below_damaged Y (part.Damaged damage) P is = is
+below_damaged Y part.Spent P is = tt
+below_damaged Y part.Memory P is = tt
+
+pub damaged_so : {X Y : Type 0} (r : Result X EngineFault) (below : Result Y PartFault) (fault : PartFault) (P Q : Damage → Type 0) → IsOf r fault → below ≡ Err fault → part_damaged below P → ((damage : Damage) → P damage → Q damage)
+    → IfErr r (λ e. IfDamaged e Q)
+damaged_so (Ok x) below fault P Q is failed damaged go = tt
+damaged_so {Y = Y} (Err e) below fault P Q is failed damaged go = rw is (damaged_as fault P Q (below_damaged Y fault P (subst (λ (b : Result Y PartFault). part_damaged b P) failed damaged)) go)
+
+pub undamaged_so : {X : Type 0} (r : Result X EngineFault) (fault : PartFault) (Q : Damage → Type 0) → IsOf r fault → IsUndamaged fault → IfErr r (λ e. IfDamaged e Q)
+undamaged_so (Ok x) fault Q is un = tt
+undamaged_so (Err e) fault Q is un = rw is (at fault un)
+  where
+    at : (f : PartFault) → IsUndamaged f → IfDamaged (of_part f) Q
+    at part.Disk u = tt
+    at (part.Damaged damage) u = absurd u
+    at part.Spent u = tt
+    at part.Memory u = tt

@@ -8,3 +8,12 @@ mod Underway
 mod Windows
 mod Failures
 mod OpenEngines
+mod FreshDevices
+mod StoredMoments
+mod FlushRuns
+mod Settled
+mod SealedFlushes
+mod Watches
+mod JobEnds
+mod OnResults
+mod SealedTables

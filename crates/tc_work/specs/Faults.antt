@@ -1,5 +1,7 @@
 -- Why a call of an engine failed, by what a call of its part answered.
-use Rattle.std.specs.Prelude.{ℕ, List}
+use Rattle.std.specs.Prelude.{◌≡◌, ◌⊎◌, ℕ, List}
+use Rattle.tc_jobs.specs.Faults.{AreBytes, AreFiles}
+use Rattle.tc_store.specs.declared.damage.Damage.{Damage}
 use Rattle.tc_store.specs.declared.file_name.FileName.{FileName}
 use Rattle.tc_part.specs.declared.fault.PartFault.{PartFault}
 use Rattle.tc_part.specs.declared.fault.PartFault.TheVariants as part
@@ -19,3 +21,14 @@ IfDamage engine.Disk P = Unit {0}
 IfDamage (engine.Damaged damage) P = IsBytesHarm damage P
 IfDamage engine.Spent P = Unit {0}
 IfDamage engine.Memory P = Unit {0}
+
+-- of damage this holds
+abbrev pub IfDamaged : EngineFault → (Damage → Type 0) → Type 0
+IfDamaged engine.Disk P = Unit {0}
+IfDamaged (engine.Damaged damage) P = P damage
+IfDamaged engine.Spent P = Unit {0}
+IfDamaged engine.Memory P = Unit {0}
+
+-- these files do not go together, or this one is damaged
+abbrev pub AreOfFiles : List FileName → FileName → Damage → Type 0
+AreOfFiles names name damage = AreFiles names damage ⊎ AreBytes (λ file place bytes. file ≡ name) damage

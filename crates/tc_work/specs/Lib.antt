@@ -6,3 +6,4 @@ pub mod Frames
 pub mod Windowed
 pub mod Reads
 pub mod Replied
+pub mod Settling

@@ -1,0 +1,92 @@
+-- What is stored stays while tables are flushed and components are merged.
+use Rattle.std.proofs.Common.{◌≡◌, ◌∙◌, ℕ, true, List, [], ◌∷◌, ◌++◌, Option, None, map, refl, sym, ap, subst}
+use Rattle.std.specs.Prelude.{IsSome}
+use Rattle.std.proofs.lemmas.List.{map-append}
+use Rattle.std.proofs.lemmas.List.Elements.{All-append, All-cons, All-nil}
+use Rattle.tc_model.specs.Document.{Name}
+use Rattle.tc_store.specs.Disk.{Disk}
+use Rattle.tc_store.specs.DiskFile.{DiskFile}
+use Rattle.tc_store.specs.Moments.{IfTold}
+use Rattle.tc_store.specs.StoreCalls.{content_now}
+use Rattle.tc_component.specs.Loading.{ComponentState}
+use Rattle.tc_lsm_model.specs.Contents.{Partition}
+use Rattle.tc_plain_model.specs.Writes.{Pairs, Write, after_writes}
+use Rattle.tc_part.specs.Closing.{HasFailedWhole}
+use Rattle.tc_part_model.specs.Meaning.{IsPart, HasFailedAs, Stands, plain_of}
+use Rattle.tc_part_model.specs.PartState.{Told, ToldComponent, AreTold, IsTold, told, told_component}
+use Rattle.tc_part_model.specs.PartView.{PartView, store_of, stored_with}
+use Rattle.tc_work.specs.Failing.{HasFailedKeeping}
+use Rattle.tc_work.specs.Settling.{StandsTold, StoresStill, TellsFiles}
+use Rattle.tc_work.proofs.Failures.{logs_stay}
+
+-- ---- what a part stores
+
+same_plain : (t v : Told) (p q : PartView) → store_of q ≡ store_of p → q.staged ≡ p.staged → v.taken ≡ t.taken → plain_of v q ≡ plain_of t p
+same_plain t v p q stores staged taken = ap (λ (pairs : Pairs). record { pairs = after_writes pairs q.staged; taken = v.taken }) stores
+    ∙ ap (λ (ws : List Write). record { pairs = after_writes (store_of p) ws; taken = v.taken }) staged
+    ∙ ap (λ (names : List Name). record { pairs = stored_with p; taken = names }) taken
+
+pub still : (t v : Told) (p q : PartView) → IsPart v q → q.part ≡ p.part → store_of q ≡ store_of p → q.staged ≡ p.staged → v.taken ≡ t.taken → TellsFiles v → StoresStill t p v
+still t v p q is here stores staged taken tells = record { view = q; is = is; here = here; stores = stores; plain = same_plain t v p q stores staged taken; tells = tells }
+
+-- a call of the part that came to be, which stores the same
+pub still_behind : (t u v : Told) (p q : PartView) → IsPart u q → q.part ≡ p.part → store_of q ≡ store_of p → q.staged ≡ p.staged → u.taken ≡ t.taken → TellsFiles u → StoresStill u q v → StoresStill t p v
+still_behind t u v p q is here stores staged taken tells two =
+    record { view = two.view; is = two.is; here = two.here ∙ here; stores = two.stores ∙ stores; plain = two.plain ∙ same_plain t u p q stores staged taken; tells = two.tells }
+
+-- ---- where it stands
+
+told_now : {X : Type 0} (xs : List X) (P : X → Type 0) → (IsTold xs → (x : X) → P x) → IfTold xs P
+told_now [] P give = tt
+told_now (x ∷ xs) P give = give tt x
+
+pub stands_so : (t : Told) → StandsTold t → Stands t
+stands_so t stands = at t.disks stands
+  where
+    at : (disks : List Disk) → IfTold disks (λ disk. AreTold t.components × ((p : PartView) × IsPart t p)) → IfTold disks (λ disk. (p : PartView) × IsPart t p)
+    at [] all = tt
+    at (disk ∷ past) all = all.1
+
+-- Behind a call that keeps what is stored where the files are told, and that tells nothing where nothing was told, it stands.
+pub stands_still : (t u : Told) → StandsTold t → (t.disks ≡ [] → u.disks ≡ []) → ((p : PartView) → IsPart t p → TellsFiles t → StoresStill t p u) → StandsTold u
+stands_still t u stands untold stores = at t.disks refl stands
+  where
+    at : (disks : List Disk) → t.disks ≡ disks → IfTold disks (λ disk. AreTold t.components × ((p : PartView) × IsPart t p)) → StandsTold u
+    at [] same all = subst (λ (ds : List Disk). IfTold ds (λ disk. AreTold u.components × ((p : PartView) × IsPart u p))) (sym (untold same)) tt
+    at (disk ∷ past) same all =
+        let now = stores all.1.0 all.1.1 (record { store = subst (λ (ds : List Disk). IsTold ds) (sym same) tt; components = all.0 }) in
+        told_now u.disks (λ d. AreTold u.components × ((p : PartView) × IsPart u p)) (λ told d. (now.tells.components, (now.view, now.is)))
+
+-- ---- where a call fails
+
+pub as_failed : (t : Told) (part : Partition) (pairs : Pairs) (frame : Option (List Write)) → HasFailedKeeping t part pairs frame → HasFailedKeeping (record t { failed = true }) part pairs frame
+as_failed t part pairs frame has = record {
+  view = has.view;
+  here = has.here;
+  holds = has.holds;
+  files = record { failed = refl; tells = has.files.tells; files = has.files.files };
+  logs = record { generation = has.logs.generation; sealed_log = has.logs.sealed_log; one = has.logs.one };
+}
+
+-- what failed as a part that stores the same keeps that
+pub whole_keeps : (t : Told) (p q : PartView) → q.part ≡ p.part → store_of q ≡ store_of p → HasFailedWhole t q → HasFailedKeeping (record t { failed = true }) p.part (store_of p) None
+whole_keeps t p q here holds has = as_failed t p.part (store_of p) None (record { view = q; here = here; holds = holds; files = has.0; logs = has.1 })
+
+-- a call that fails as the part that it was, whose logs are as they were
+pub failed_keeps : (t u : Told) (p q : PartView) → IsPart t q → q.part ≡ p.part → store_of q ≡ store_of p → HasFailedAs u q None → u.generation ≡ t.generation → u.sealed_log ≡ t.sealed_log → HasFailedKeeping (record u { failed = true }) p.part (store_of p) None
+failed_keeps t u p q is here holds files generation sealed_log = whole_keeps u p q here holds (files, logs_stay t u q is generation sealed_log)
+
+-- and of one that stores the same
+pub keeps_of : (t : Told) (p q : PartView) → q.part ≡ p.part → store_of q ≡ store_of p → HasFailedKeeping t q.part (store_of q) None → HasFailedKeeping t p.part (store_of p) None
+keeps_of t p q here holds has = record { view = has.view; here = has.here ∙ here; holds = has.holds ∙ holds; files = has.files; logs = has.logs }
+
+-- ---- components that are told
+
+pub content_told : (device : List DiskFile) → IsTold device → IsSome (content_now device)
+content_told [] tells = absurd tells
+content_told (f ∷ past) tells = refl
+
+pub told_behind : {F : Type 0} (content : F → Option (List ℕ)) (list : List (ComponentState F)) (c : ComponentState F) → AreTold (map (told_component content) list) → IsSome (content c.file) → AreTold (map (told_component content) (list ++ c ∷ []))
+told_behind content list c all one =
+    subst AreTold (sym (map-append (told_component content) list (c ∷ [])))
+    (All-append (λ (x : ToldComponent). IsSome x.content) (map (told_component content) list) (told_component content c ∷ []) all (All-cons (λ (x : ToldComponent). IsSome x.content) (told_component content c) [] one (All-nil (λ (x : ToldComponent). IsSome x.content))))

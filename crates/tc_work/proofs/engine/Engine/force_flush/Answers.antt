@@ -1,0 +1,115 @@
+use Rattle.std.proofs.Common.{◌≡◌, ◌∙◌, ◌+◌, ◌^◌, [], None, ap, subst, sym, length, true, arith}
+use Rattle.std.specs.Prelude.{Result, IfErr}
+use Rattle.tc_jobs.specs.Lists.{file_names}
+use Rattle.tc_part_model.specs.Meaning.{IsPart}
+use Rattle.tc_part_model.specs.PartState.{PartState, told}
+use Rattle.tc_part_model.specs.PartView.{PartView, store_of}
+use Rattle.tc_store.specs.declared.file_name.FileName.TheVariants.{Component}
+use Rattle.tc_work.specs.declared.fault.EngineFault.{EngineFault}
+use Rattle.tc_work.specs.EngineState.{EngineState}
+use Rattle.tc_work.specs.Failing.{HasFailedKeeping}
+use Rattle.tc_work.specs.Faults.{AreOfFiles, IfDamaged}
+use Rattle.tc_work.specs.Settling.{MomentsLeavePairsOver, NextLogs, StandsTold, StoresStill, TellsFiles}
+use Rattle.tc_work.proofs.HandedFaults.{handed_on, same_fault}
+use Rattle.tc_work.proofs.OpenEngines.{inside_is, closed_sound}
+use Rattle.tc_work.proofs.Watches.{watched_inside}
+use Rattle.tc_work.proofs.Windows.{err_always}
+use Rattle.tc_work.proofs.engine.Engine.force_flush.Goals as goal
+
+pub seal_and_flush-requires-clause-sound : goal.seal_and_flush-requires-clause-sound
+seal_and_flush-requires-clause-sound g c κs within =
+    (c.self.invariant.awake (ap (λ (s : EngineState _ _ _ _). s.part.failed) c.self.view_is ∙ c.requires.sound)).sound
+
+pub seal_and_flush-requires-clause-none_flushing : goal.seal_and_flush-requires-clause-none_flushing
+seal_and_flush-requires-clause-none_flushing g c κs within =
+    c.self.invariant.no_flush
+
+pub seal_and_flush-requires-clause-none_merging : goal.seal_and_flush-requires-clause-none_merging
+seal_and_flush-requires-clause-none_merging g c κs within =
+    c.self.invariant.no_merge
+
+pub seal_and_flush-requires-clause-nothing_staged : goal.seal_and_flush-requires-clause-nothing_staged
+seal_and_flush-requires-clause-nothing_staged g c κs within =
+    (c.self.invariant.awake (ap (λ (s : EngineState _ _ _ _). s.part.failed) c.self.view_is ∙ c.requires.sound)).nothing_staged
+
+pub seal_and_flush-requires-clause-none_sealed : goal.seal_and_flush-requires-clause-none_sealed
+seal_and_flush-requires-clause-none_sealed g c κs within =
+    (c.self.invariant.awake (ap (λ (s : EngineState _ _ _ _). s.part.failed) c.self.view_is ∙ c.requires.sound)).none_sealed
+
+pub seal_and_flush-requires-clause-stands : goal.seal_and_flush-requires-clause-stands
+seal_and_flush-requires-clause-stands g c κs within =
+    subst (λ (s : PartState _ _ _ _). StandsTold (told g.S.Store.history g.S.Device.Device.history g.S.Frozen.Frozen.content s)) (sym (inside_is c.self.inside.part c.self.inside.failed c.args.self.now.part (ap (λ (e : EngineState _ _ _ _). e.part) c.self.view_is) c.requires.sound c.self.invariant.awake)) c.requires.stands
+
+pub returns-clause-stores : goal.returns-clause-stores
+returns-clause-stores g c =
+    subst (λ (u : PartState _ _ _ _). (p : PartView) → IsPart (told g.S.Store.history g.S.Device.Device.history g.S.Frozen.Frozen.content c.args.self.now.part) p → TellsFiles (told g.S.Store.history g.S.Device.Device.history g.S.Frozen.Frozen.content c.args.self.now.part) → StoresStill (told g.S.Store.history g.S.Device.Device.history g.S.Frozen.Frozen.content c.args.self.now.part) p (told g.S.Store.history g.S.Device.Device.history g.S.Frozen.Frozen.content u)) (closed_sound c.seal_and_flush.new.part (ap (λ (s : PartState _ _ _ _). s.failed) c.in_ok-seal_and_flush.ensures.same ∙ (c.self.invariant.awake (ap (λ (s : EngineState _ _ _ _). s.part.failed) c.self.view_is ∙ c.requires.sound)).sound))
+    (subst (λ (s : PartState _ _ _ _). (p : PartView) → IsPart (told g.S.Store.history g.S.Device.Device.history g.S.Frozen.Frozen.content s) p → TellsFiles (told g.S.Store.history g.S.Device.Device.history g.S.Frozen.Frozen.content s) → StoresStill (told g.S.Store.history g.S.Device.Device.history g.S.Frozen.Frozen.content s) p (told g.S.Store.history g.S.Device.Device.history g.S.Frozen.Frozen.content c.seal_and_flush.new.part)) (inside_is c.self.inside.part c.self.inside.failed c.args.self.now.part (ap (λ (e : EngineState _ _ _ _). e.part) c.self.view_is) c.requires.sound c.self.invariant.awake)
+    (c.in_ok-seal_and_flush.ensures.stores))
+
+pub returns-clause-flushed : goal.returns-clause-flushed
+returns-clause-flushed g c =
+    λ has. sym (closed_sound c.seal_and_flush.new.part (ap (λ (s : PartState _ _ _ _). s.failed) c.in_ok-seal_and_flush.ensures.same ∙ (c.self.invariant.awake (ap (λ (s : EngineState _ _ _ _). s.part.failed) c.self.view_is ∙ c.requires.sound)).sound)) ∙
+    subst (λ (s : PartState _ _ _ _). c.seal_and_flush.new.part ≡ record s { store = c.seal_and_flush.new.part.store; main = c.seal_and_flush.new.part.main; flusher = c.seal_and_flush.new.part.flusher; list = c.seal_and_flush.new.part.list; sealed = None; sealed_log = None; active = []; log = c.seal_and_flush.new.part.log; generation = s.generation + 1 }) (inside_is c.self.inside.part c.self.inside.failed c.args.self.now.part (ap (λ (e : EngineState _ _ _ _). e.part) c.self.view_is) c.requires.sound c.self.invariant.awake)
+    (c.in_ok-seal_and_flush.ensures.same)
+
+pub returns-clause-listed : goal.returns-clause-listed
+returns-clause-listed g c =
+    λ has. subst (λ (s : PartState _ _ _ _). length c.seal_and_flush.new.part.list ≡ length s.list + 1) (inside_is c.self.inside.part c.self.inside.failed c.args.self.now.part (ap (λ (e : EngineState _ _ _ _). e.part) c.self.view_is) c.requires.sound c.self.invariant.awake)
+    (c.in_ok-seal_and_flush.ensures.listed)
+
+pub returns-clause-empty : goal.returns-clause-empty
+returns-clause-empty g c =
+    omega (arith, c.in_ok-seal_and_flush.ensures.empty)
+
+pub returns-clause-untold : goal.returns-clause-untold
+returns-clause-untold g c =
+    subst (λ (s : PartState _ _ _ _). g.S.Store.history s.store ≡ [] → g.S.Store.history c.seal_and_flush.new.part.store ≡ []) (inside_is c.self.inside.part c.self.inside.failed c.args.self.now.part (ap (λ (e : EngineState _ _ _ _). e.part) c.self.view_is) c.requires.sound c.self.invariant.awake)
+    (c.in_ok-seal_and_flush.ensures.untold)
+
+pub returns-clause-moments : goal.returns-clause-moments
+returns-clause-moments g c =
+    subst (λ (s : PartState _ _ _ _). (p : PartView) → IsPart (told g.S.Store.history g.S.Device.Device.history g.S.Frozen.Frozen.content s) p → TellsFiles (told g.S.Store.history g.S.Device.Device.history g.S.Frozen.Frozen.content s) → MomentsLeavePairsOver p.part (store_of p) (told g.S.Store.history g.S.Device.Device.history g.S.Frozen.Frozen.content s) (g.S.Device.Device.history c.seal_and_flush.new.part.log.device) (g.S.Store.history c.seal_and_flush.new.part.store)) (inside_is c.self.inside.part c.self.inside.failed c.args.self.now.part (ap (λ (e : EngineState _ _ _ _). e.part) c.self.view_is) c.requires.sound c.self.invariant.awake)
+    (c.seal_and_flush.ensures.moments)
+
+pub returns-clause-next_log : goal.returns-clause-next_log
+returns-clause-next_log g c =
+    subst (λ (s : PartState _ _ _ _). (p : PartView) → IsPart (told g.S.Store.history g.S.Device.Device.history g.S.Frozen.Frozen.content s) p → c.seal_and_flush.new.part.generation ≡ s.generation + 1 → NextLogs p.part c.seal_and_flush.new.part.generation (g.S.Device.Device.history c.seal_and_flush.new.part.log.device)) (inside_is c.self.inside.part c.self.inside.failed c.args.self.now.part (ap (λ (e : EngineState _ _ _ _). e.part) c.self.view_is) c.requires.sound c.self.invariant.awake)
+    (c.seal_and_flush.ensures.next_log)
+
+pub returns-in_err-seal_and_flush-clause-moments : goal.returns-in_err-seal_and_flush-clause-moments
+returns-in_err-seal_and_flush-clause-moments g c =
+    subst (λ (s : PartState _ _ _ _). (p : PartView) → IsPart (told g.S.Store.history g.S.Device.Device.history g.S.Frozen.Frozen.content s) p → TellsFiles (told g.S.Store.history g.S.Device.Device.history g.S.Frozen.Frozen.content s) → MomentsLeavePairsOver p.part (store_of p) (told g.S.Store.history g.S.Device.Device.history g.S.Frozen.Frozen.content s) (g.S.Device.Device.history c.seal_and_flush.new.part.log.device) (g.S.Store.history c.seal_and_flush.new.part.store)) (inside_is c.self.inside.part c.self.inside.failed c.args.self.now.part (ap (λ (e : EngineState _ _ _ _). e.part) c.self.view_is) c.requires.sound c.self.invariant.awake)
+    (c.seal_and_flush.ensures.moments)
+
+pub returns-in_err-seal_and_flush-clause-next_log : goal.returns-in_err-seal_and_flush-clause-next_log
+returns-in_err-seal_and_flush-clause-next_log g c =
+    subst (λ (s : PartState _ _ _ _). (p : PartView) → IsPart (told g.S.Store.history g.S.Device.Device.history g.S.Frozen.Frozen.content s) p → c.seal_and_flush.new.part.generation ≡ s.generation + 1 → NextLogs p.part c.seal_and_flush.new.part.generation (g.S.Device.Device.history c.seal_and_flush.new.part.log.device)) (inside_is c.self.inside.part c.self.inside.failed c.args.self.now.part (ap (λ (e : EngineState _ _ _ _). e.part) c.self.view_is) c.requires.sound c.self.invariant.awake)
+    (c.seal_and_flush.ensures.next_log)
+
+pub returns-clause-watched : goal.returns-clause-watched
+returns-clause-watched g c = watched_inside g.S.Watch.Watch.counts _ _ _ _ c.seal_and_flush.new.part _ (inside_is c.self.inside.part c.self.inside.failed c.args.self.now.part (ap (λ (e : EngineState _ _ _ _). e.part) c.self.view_is) c.requires.sound c.self.invariant.awake) c.seal_and_flush.ensures.watched (λ failed. absurd (cc))
+
+pub returns-in_err-seal_and_flush-clause-watched : goal.returns-in_err-seal_and_flush-clause-watched
+returns-in_err-seal_and_flush-clause-watched g c = watched_inside g.S.Watch.Watch.counts _ _ _ _ c.seal_and_flush.new.part _ (inside_is c.self.inside.part c.self.inside.failed c.args.self.now.part (ap (λ (e : EngineState _ _ _ _). e.part) c.self.view_is) c.requires.sound c.self.invariant.awake) c.seal_and_flush.ensures.watched
+    (same_fault c.from_residual.result c.seal_and_flush.result c.in_err-seal_and_flush.field-0.0 _ c.from_residual.ensures.1 c.in_err-seal_and_flush.was)
+
+pub returns-in_err-seal_and_flush-clause-failed : goal.returns-in_err-seal_and_flush-clause-failed
+returns-in_err-seal_and_flush-clause-failed g c =
+    err_always c.from_residual.result _
+    (subst (λ (s : PartState _ _ _ _). (p : PartView) → IsPart (told g.S.Store.history g.S.Device.Device.history g.S.Frozen.Frozen.content s) p → TellsFiles (told g.S.Store.history g.S.Device.Device.history g.S.Frozen.Frozen.content s) → HasFailedKeeping (record (told g.S.Store.history g.S.Device.Device.history g.S.Frozen.Frozen.content c.seal_and_flush.new.part) { failed = true }) p.part (store_of p) None) (inside_is c.self.inside.part c.self.inside.failed c.args.self.now.part (ap (λ (e : EngineState _ _ _ _). e.part) c.self.view_is) c.requires.sound c.self.invariant.awake)
+    (c.in_err-seal_and_flush.ensures.failed))
+
+pub returns-in_err-seal_and_flush-clause-damaged : goal.returns-in_err-seal_and_flush-clause-damaged
+returns-in_err-seal_and_flush-clause-damaged g c = handed_on c.from_residual.result c.in_err-seal_and_flush.field-0.0 _ c.from_residual.ensures.1
+    (subst (λ (s : PartState _ _ _ _). IfDamaged c.in_err-seal_and_flush.field-0.0 (AreOfFiles (file_names s.list) (Component s.generation s.generation))) (inside_is c.self.inside.part c.self.inside.failed c.args.self.now.part (ap (λ (e : EngineState _ _ _ _). e.part) c.self.view_is) c.requires.sound c.self.invariant.awake) c.in_err-seal_and_flush.ensures.damaged)
+
+pub returns-in_err-seal_and_flush-clause-undamaged : goal.returns-in_err-seal_and_flush-clause-undamaged
+returns-in_err-seal_and_flush-clause-undamaged g c = λ p is tells. handed_on c.from_residual.result c.in_err-seal_and_flush.field-0.0 _ c.from_residual.ensures.1
+    (subst (λ (r : Result (Unit {0}) EngineFault). IfErr r (λ fault. IfDamaged fault (λ damage. ⊥))) c.in_err-seal_and_flush.was
+    (subst (λ (s : PartState _ _ _ _). (p : PartView) → IsPart (told g.S.Store.history g.S.Device.Device.history g.S.Frozen.Frozen.content s) p → TellsFiles (told g.S.Store.history g.S.Device.Device.history g.S.Frozen.Frozen.content s) → IfErr c.seal_and_flush.result (λ fault. IfDamaged fault (λ damage. ⊥))) (inside_is c.self.inside.part c.self.inside.failed c.args.self.now.part (ap (λ (e : EngineState _ _ _ _). e.part) c.self.view_is) c.requires.sound c.self.invariant.awake) c.seal_and_flush.ensures.undamaged p is tells))
+
+pub returns-in_err-seal_and_flush-clause-spent : goal.returns-in_err-seal_and_flush-clause-spent
+returns-in_err-seal_and_flush-clause-spent g c =
+    λ spent.
+    subst (λ (s : PartState _ _ _ _). s.generation + 1 ≡ 2 ^ 63) (inside_is c.self.inside.part c.self.inside.failed c.args.self.now.part (ap (λ (e : EngineState _ _ _ _). e.part) c.self.view_is) c.requires.sound c.self.invariant.awake)
+    (c.seal_and_flush.ensures.spent (same_fault c.from_residual.result c.seal_and_flush.result c.in_err-seal_and_flush.field-0.0 _ c.from_residual.ensures.1 c.in_err-seal_and_flush.was spent))

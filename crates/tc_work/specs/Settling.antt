@@ -1,0 +1,79 @@
+-- What a call leaves that moves documents from a table into a component: what is stored.
+use Rattle.std.specs.Prelude.{◌≡◌, ◌≤◌, ◌⊎◌, ℕ, List, [], All, Option, None, Some, option_map}
+use Rattle.tc_bytes.specs.Counts.{Rose}
+use Rattle.tc_store.specs.Counted.{Counts}
+use Rattle.tc_store.specs.Disk.{Disk}
+use Rattle.tc_store.specs.DiskFile.{DiskFile}
+use Rattle.tc_store.specs.Moments.{IfTold, EachSince, LeavesAt}
+use Rattle.tc_lsm_model.specs.Contents.{Partition}
+use Rattle.tc_plain_model.specs.Writes.{Pairs}
+use Rattle.tc_machine.specs.Logs.{IsLog}
+use Rattle.tc_machine.specs.Steps.{IsShutOrHas}
+use Rattle.tc_part_model.specs.Leaving.{LeavesStoreAt}
+use Rattle.tc_part_model.specs.Meaning.{IsPart, plain_of}
+use Rattle.tc_part_model.specs.PartFiles.{IsSealedFile}
+use Rattle.tc_part_model.specs.PartState.{PartState, Told, AreTold, IsTold}
+use Rattle.tc_part_model.specs.PartView.{PartView, store_of}
+
+-- it tells its files, and those of its components
+pub record TellsFiles (t : Told) : Type 0 where
+  pub store : IsTold t.disks
+  pub components : AreTold t.components
+
+-- Where the store tells its files, those of the components are told too, and the part means something. A store that tells
+-- nothing may hold anything, so that nothing is asked over it.
+abbrev pub StandsTold : Told → Type 0
+StandsTold t = IfTold t.disks (λ disk. AreTold t.components × ((p : PartView) × IsPart t p))
+
+-- It is a part in which the same is stored, which is the same plain store, and which tells its files.
+pub record StoresStill (old : Told) (p : PartView) (new : Told) : Type 0 where
+  pub view : PartView
+  pub is : IsPart new view
+  pub here : view.part ≡ p.part
+  pub stores : store_of view ≡ store_of p
+  pub plain : plain_of new view ≡ plain_of old p
+  pub tells : TellsFiles new
+
+-- ---- moments
+
+-- At this moment of the store, with these files of the logs, a stop leaves these documents, since they are those of some part.
+pub record LeavesPairs (part : Partition) (pairs : Pairs) (sealed_log log : DiskFile) (disk : Disk) : Type 0 where
+  pub view : PartView
+  pub here : view.part ≡ part
+  pub holds : store_of view ≡ pairs
+  pub leaves : LeavesStoreAt view None sealed_log log disk
+
+-- So does each moment of the store while the logs are as they were.
+abbrev pub MomentsLeavePairs : Partition → Pairs → Told → List Disk → Type 0
+MomentsLeavePairs part pairs old disks =
+    IfTold old.log λ f. (g : DiskFile) → IsSealedFile old.sealed_log g → EachSince (LeavesPairs part pairs g f) old.disks disks
+
+-- And so while the log is sealed once, and the next one takes its place.
+abbrev pub MomentsLeavePairsOver : Partition → Pairs → Told → List DiskFile → List Disk → Type 0
+MomentsLeavePairsOver part pairs old log disks =
+    IfTold old.log λ f. (g : DiskFile) → IsSealedFile old.sealed_log g
+    → EachSince (λ disk. LeavesPairs part pairs g f disk ⊎ IfTold log (λ h. LeavesPairs part pairs f h disk)) old.disks disks
+
+-- each moment of the next log, which a call made: its file is absent, closed, or a log without a frame
+abbrev pub NextLogs : Partition → ℕ → List DiskFile → Type 0
+NextLogs part generation log = All (LeavesAt (IsShutOrHas (IsLog part generation []))) log
+
+-- ---- watches
+
+-- a watch that a partition may have lent counted no fewer faults than before, and one more
+abbrev pub FaultsStay : Option Counts → Option Counts → Type 0
+FaultsStay None None = Unit {0}
+FaultsStay None (Some now) = ⊥
+FaultsStay (Some before) None = ⊥
+FaultsStay (Some before) (Some now) = before.faults ≤ now.faults
+
+abbrev pub FaultsRose : Option Counts → Option Counts → Type 0
+FaultsRose (Some before) (Some now) = Rose before.faults now.faults
+FaultsRose _ _ = ⊥
+
+-- No watch of the partition counts fewer faults. Where the call failed for a fault, one was counted on one of them.
+pub record IsWatchedIn {S D F W : Type 0} (counts : W → Counts) (Failed : Type 0) (old new : PartState S D F W) : Type 0 where
+  pub main : (counts old.main).faults ≤ (counts new.main).faults
+  pub flusher : FaultsStay (option_map counts old.flusher) (option_map counts new.flusher)
+  pub merger : FaultsStay (option_map counts old.merger) (option_map counts new.merger)
+  pub cause : Failed → Rose (counts old.main).faults (counts new.main).faults ⊎ (FaultsRose (option_map counts old.flusher) (option_map counts new.flusher) ⊎ FaultsRose (option_map counts old.merger) (option_map counts new.merger))
