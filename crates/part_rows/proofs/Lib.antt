@@ -1,0 +1,7 @@
+mod FirstLogs
+mod FlushEnds
+mod LaidLists
+mod Parts
+mod Resting
+mod ToldFiles
+mod Writes

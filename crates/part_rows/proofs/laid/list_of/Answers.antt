@@ -1,0 +1,18 @@
+use Rattle.std.proofs.Common.{rules, ◌≡◌, ◌∙◌, ◌∷◌, [], ap}
+use Rattle.tc_component.specs.Spelling.{name_of}
+use Rattle.tc_store.specs.declared.file_name.FileName.TheVariants.{Component}
+use Rattle.tc_store.specs.Memory.Frozen.{frozen_name}
+use Rattle.part_rows.proofs.LaidLists.{one_listed}
+use Rattle.part_rows.proofs.laid.list_of.Goals as goal
+
+pub returns-clause-one : goal.returns-clause-one
+returns-clause-one c =
+    let component = c.in_ok-component.component in
+    let pushed : c.push.new.self ≡ component ∷ [] = search rules in
+    let name : Component 1 c.args.to ≡ name_of component.index.head = search rules in
+    let file : component.file ≡ c.args.file = search rules in
+    (component, pushed, name, ap frozen_name file ∙ c.requires.name)
+
+pub returns-clause-listed : goal.returns-clause-listed
+returns-clause-listed c =
+    one_listed c.new-list.result c.push.new.self c.in_ok-component.component (search rules) (search rules) (λ number count. c.goes_behind.ensures.listed number count (search rules)) (search rules) (search rules)

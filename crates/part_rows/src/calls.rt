@@ -1,0 +1,49 @@
+//! Writes that are staged.
+
+ghost use Rattle.std.specs.Prelude.{IfSome};
+ghost use Rattle.part_rows.specs.Waiting.{IsShortWrite};
+
+use crate::arguments::bytes;
+use crate::desk::Desk;
+use std::alloc::Global;
+use tc_bytes::Bytes;
+use tc_log::{MAX_NUMBER, Write};
+use tc_record::is_stored_record;
+
+// The bytes of a record, at most.
+const MOST: usize = 65_536;
+
+/// Stages the upsert of a key, with the bytes of a record.
+pub(crate) fn put(alloc: Global, desk: &mut Desk, argument: &str) -> Option<String> {
+    let write = upsert(alloc, argument)?;
+    desk.stage(alloc, write)
+}
+
+/// Stages the delete of a key.
+pub(crate) fn delete(alloc: Global, desk: &mut Desk, argument: &str) -> Option<String> {
+    let write = deletion(argument)?;
+    desk.stage(alloc, write)
+}
+
+fn upsert(alloc: Global, argument: &str) -> Option<Write>
+    ensures { IfSome result IsShortWrite }
+{
+    let (key, digits) = argument.split_once(' ')?;
+    let key = key.parse::<u64>().ok()?;
+    let bytes = bytes(alloc, digits)?;
+    if key > MAX_NUMBER || bytes.len() > MOST || !is_stored_record(&bytes) {
+        return None;
+    }
+    let bytes = Bytes::of(bytes);
+    Some(Write::Upsert { key, bytes })
+}
+
+fn deletion(argument: &str) -> Option<Write>
+    ensures { IfSome result IsShortWrite }
+{
+    let key = argument.parse::<u64>().ok()?;
+    if key > MAX_NUMBER {
+        return None;
+    }
+    Some(Write::Delete { key })
+}

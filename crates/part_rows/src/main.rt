@@ -1,0 +1,134 @@
+//! Layer 6, programs: makes calls of one partition over a store in memory, one row of standard input at a time, and prints
+//! what they answer. A row begins with numbers: what a stop behind it chooses, how many names and how many documents the
+//! partition takes, and which calls on files fail, counted from 0. Where ` flush ` follows, behind it stand those of the
+//! calls of flushes that fail, behind ` merge ` those of merges, and behind ` over ` a component from generation 1 on: its
+//! last generation, and the bytes of its file. Behind all this stands a list of calls, each of a name and its argument, and
+//! a `; ` between two; its answers stand in the same order. Last the partition is closed, and the row ends with how many
+//! calls on files failed and how many were reads, and the bytes of the files that a stop then leaves. The partition is
+//! number 0 of 1, and its store has no file but the first log, unless it has a component and the log behind that. `no
+//! answer` stands for a row out of form. A row that begins with `#` is a note, and is printed as it is.
+#![tactic(auto)]
+
+mod arguments;
+mod calls;
+mod desk;
+mod files;
+mod first_logs;
+mod laid;
+mod making;
+mod steps;
+
+use arguments::{bytes, numbers};
+use desk::{Desk, Watches};
+use first_logs::unfailing;
+use laid::{laid_first, laid_over};
+use std::alloc::Global;
+use std::fmt::Write;
+use std::io;
+use tc_part::Limits;
+use tc_store::MemWatch;
+
+// How many bytes of log make a table be sealed. Nothing here seals one by itself.
+const MEMORY: u64 = 4096;
+
+fn main(rt: HostRuntime) -> io::Result<()> {
+    for row in rt.lines(rt.alloc()) {
+        answer(&rt, row?.as_str())?;
+    }
+    Ok(())
+}
+
+fn answer(rt: &(impl Print + AllocGlobal), row: &str) -> io::Result<()> {
+    if row.starts_with('#') {
+        return println!(rt; "{row}");
+    }
+    match answers_of(rt.alloc(), row) {
+        Some(answers) => println!(rt; "{}", answers.as_str()),
+        None => println!(rt; "no answer"),
+    }
+}
+
+// The answers of a row.
+fn answers_of(alloc: Global, row: &str) -> Option<String> {
+    let (begin, calls) = row.split_once("; ")?;
+    let (desk, choice) = begun(alloc, begin)?;
+    let mut desk = desk;
+    let mut answers = String::new(alloc);
+    for call in calls.split("; ") {
+        let answer = answer_of(alloc, &mut desk, call)?;
+        write!(answers, "{}; ", answer.as_str()).ok()?;
+    }
+    files::push_left(alloc, &mut answers, desk.close(), choice)?;
+    Some(answers)
+}
+
+// A partition, and what a stop behind the row chooses.
+fn begun(alloc: Global, begin: &str) -> Option<(Desk, u64)> {
+    let (begin, component) = parted(begin, " over ");
+    let (begin, merger) = parted(begin, " merge ");
+    let (begin, flusher) = parted(begin, " flush ");
+    let numbers = numbers(alloc, begin)?;
+    let [choice, names, docs, failing @ ..] = numbers.as_slice() else {
+        return None;
+    };
+    let limits = Limits {
+        names: u32::try_from(*names).ok()?,
+        docs: u32::try_from(*docs).ok()?,
+        memory: MEMORY,
+    };
+    let watches = Watches {
+        main: MemWatch::new(Vec::from_slice(alloc, failing).ok()?),
+        flusher: watch_of(alloc, flusher)?,
+        merger: watch_of(alloc, merger)?,
+    };
+    Some((desk_of(alloc, limits, watches, component)?, *choice))
+}
+
+// What stands before a word, and what stands behind it, if the word is there.
+fn parted<'a>(text: &'a str, word: &str) -> (&'a str, Option<&'a str>) {
+    match text.split_once(word) {
+        Some((before, behind)) => (before, Some(behind)),
+        None => (text, None),
+    }
+}
+
+// A watch that fails the calls of these numbers.
+fn watch_of(alloc: Global, failing: Option<&str>) -> Option<MemWatch> {
+    match failing {
+        Some(failing) => Some(MemWatch::new(numbers(alloc, failing)?)),
+        None => Some(unfailing(alloc)),
+    }
+}
+
+// A partition without a component, or over one: its last generation, and the bytes of its file.
+fn desk_of(
+    alloc: Global,
+    limits: Limits,
+    watches: Watches,
+    component: Option<&str>,
+) -> Option<Desk> {
+    match component {
+        Some(component) => {
+            let (to, digits) = component.split_once(' ')?;
+            let laid = laid_over(alloc, to.parse::<u64>().ok()?, bytes(alloc, digits)?)?;
+            Desk::over(alloc, limits, watches, laid, false)
+        }
+        None => Desk::over(alloc, limits, watches, laid_first(alloc)?, true),
+    }
+}
+
+// The answer of a call.
+fn answer_of(alloc: Global, desk: &mut Desk, call: &str) -> Option<String> {
+    let (name, argument) = call.split_once(' ').unwrap_or((call, ""));
+    match name {
+        "put" => calls::put(alloc, desk, argument),
+        "delete" => calls::delete(alloc, desk, argument),
+        "get" => desk.get(alloc, argument.parse::<u64>().ok()?),
+        "commit" => desk.commit(alloc),
+        "seal" => desk.seal(alloc),
+        "flush" => desk.flush(alloc),
+        "tell" => desk.tell(alloc),
+        "schema" => desk.schema(alloc),
+        _ => None,
+    }
+}

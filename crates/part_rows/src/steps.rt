@@ -1,0 +1,96 @@
+//! The calls of the partition at a desk, and that they leave it there.
+
+ghost use Rattle.std.specs.Prelude.{◌≡◌, ◌<◌, ◌+◌, None, false, true, is_some, OnErr, OnOk};
+ghost use Rattle.part_rows.specs.Standing.{IsAtDesk};
+ghost use Rattle.part_rows.specs.Waiting.{IsShortWrite};
+
+use std::alloc::Global;
+use tc_log::Write;
+use tc_part::{Part, PartFault, Staged};
+use tc_part_model::{jobs_have_made, sealed_tables_can_flush};
+use tc_store::MemStore;
+use tc_value::Doc;
+
+/// Stages a write behind so many, at most.
+pub(crate) fn stage(
+    alloc: Global,
+    part: &mut Part<MemStore>,
+    write: Write,
+    waiting: u32,
+    stands: bool,
+) -> Result<Staged, PartFault>
+    requires desk { IsAtDesk part.old waiting stands }
+    requires sound { part.old.failed ≡ false }
+    requires few { waiting < 1024 }
+    requires write { IsShortWrite write }
+    ensures { IsAtDesk part.new (waiting + 1) stands }
+{
+    part.stage(alloc, write)
+}
+
+/// Commits what is staged.
+pub(crate) fn commit(
+    alloc: Global,
+    part: &mut Part<MemStore>,
+    waiting: u32,
+    stands: bool,
+) -> Result<(), PartFault>
+    requires desk { IsAtDesk part.old waiting stands }
+    requires sound { part.old.failed ≡ false }
+    ensures ok { OnOk result (IsAtDesk part.new 0 stands) }
+    ensures err { OnErr result (IsAtDesk part.new waiting stands) }
+{
+    part.commit(alloc)
+}
+
+/// Seals the active table.
+pub(crate) fn seal(
+    alloc: Global,
+    part: &mut Part<MemStore>,
+    waiting: u32,
+    stands: bool,
+) -> Result<(), PartFault>
+    requires desk { IsAtDesk part.old waiting stands }
+    requires sound { part.old.failed ≡ false }
+    requires standing { stands ≡ true }
+    requires none_waits { waiting ≡ 0 }
+    requires none_sealed { is_some part.old.sealed ≡ false }
+    ensures { IsAtDesk part.new waiting stands }
+{
+    part.seal(alloc)
+}
+
+/// Looks for the document of a key.
+pub(crate) fn lookup(
+    alloc: Global,
+    part: &mut Part<MemStore>,
+    key: u64,
+    waiting: u32,
+    stands: bool,
+) -> Result<Option<Doc>, PartFault>
+    requires desk { IsAtDesk part.old waiting stands }
+    requires sound { part.old.failed ≡ false }
+    ensures { IsAtDesk part.new waiting stands }
+{
+    part.lookup(alloc, key)
+}
+
+/// Flushes the sealed table on this thread.
+pub(crate) fn flush(
+    alloc: Global,
+    part: &mut Part<MemStore>,
+    waiting: u32,
+    stands: bool,
+) -> Result<(), PartFault>
+    requires desk { IsAtDesk part.old waiting stands }
+    requires sound { part.old.failed ≡ false }
+    requires standing { stands ≡ true }
+    requires sealed { is_some part.old.sealed ≡ true }
+    ensures { IsAtDesk part.new waiting stands }
+{
+    sealed_tables_can_flush();
+    jobs_have_made();
+    let job = part.begin_flush(alloc)?;
+    let out = job.run(alloc);
+    part.finish_flush(alloc, out)
+}
