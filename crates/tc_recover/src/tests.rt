@@ -5,8 +5,8 @@ ghost use Rattle.tc_store.specs.Memory.Store.{store_disks};
 ghost use Rattle.tc_store.specs.Moments.{IfTold};
 
 use crate::{
-    FilesCause, Partition, judge_heads, last_of, load_components, read_logs, remove_needless,
-    sort_files, take_all,
+    FilesCause, Partition, judge_heads, last_of, load_components, read_files, read_logs,
+    remove_needless, sort_files, take_all,
 };
 use std::alloc::{AllocError, Global};
 use std::test::Fail;
@@ -131,6 +131,37 @@ fn what_does_not_go_together_is_refused(rt: HostRuntime) -> Result<(), Fail> {
     assert_eq!(rt;
         told(alloc, PART, files)?.as_str(),
         "Damaged(Files { names: FileNames { names: [Component { from: 1, to: 2 }, Component { from: 2, to: 3 }] } })"
+    );
+    Ok(())
+}
+
+// How many components and other files are read of a store, the writes of the logs above, and the last generation of the
+// components.
+fn read(alloc: Global, files: Vec<MemFile>) -> Result<String, AllocError> {
+    let mut store = MemStore::with(files);
+    let mut watch = watch(alloc);
+    match read_files(alloc, &mut store, PART, &mut watch) {
+        Ok(read) => {
+            let listed = read.list.len();
+            let left = read.left.len();
+            format!(in alloc; "{listed} {left} {:?} {}", read.writes, read.last)
+        }
+        Err(cause) => format!(in alloc; "{cause:?}"),
+    }
+}
+
+#[test]
+fn components_and_the_logs_above_are_read(rt: HostRuntime) -> Result<(), Fail> {
+    let alloc = rt.alloc();
+    let closed = FileName::Component { from: 3, to: 3 };
+    let mut files = Vec::new(alloc);
+    files.push(log(alloc, 2, &SECOND)?)?;
+    files.push(log(alloc, 1, &FIRST)?)?;
+    files.push(file(alloc, closed, &[0, 9])?)?;
+    files.push(component(alloc, 1, 1)?)?;
+    assert_eq!(rt;
+        read(alloc, files)?.as_str(),
+        "1 3 [Writes { writes: [] }] 1"
     );
     Ok(())
 }
