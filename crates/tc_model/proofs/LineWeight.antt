@@ -188,3 +188,11 @@ judged line false is = tt
 -- no document of an upsert weighs more than a line has room for
 pub request_weight : (line : List ℕ) → IsLight max_line (request_of line)
 request_weight line = judged line (nat_le (length line) max_line) refl
+
+in_line : (line : List ℕ) (b : Bool) → IsLight (length line) (if b then request_if_json (json_of line) else refused oversized)
+in_line line true = read_request (length line) (json_of line) (either_way data_weight (length line) (is_utf8 line) (read line) None (read_weight line) tt)
+in_line line false = tt
+
+-- nor more than its own line has bytes
+pub request_in_line : (line : List ℕ) → IsLight (length line) (request_of line)
+request_in_line line = in_line line (nat_le (length line) max_line)

@@ -86,7 +86,7 @@ column_total (x ∷ xs) =
 total_within : (t f p x q y : ℕ) → sum_within (sum_within (sum_within 23 (min t (2 ^ 64 - 1))) (min f (2 ^ 64 - 1))) (sum_within (min (p + x) (2 ^ 64 - 1)) (min (q + y) (2 ^ 64 - 1))) ≡ min (23 + (t + (f + (p + (x + (q + y)))))) (2 ^ 64 - 1)
 total_within t f p x q y = omega arith
 
-length-record_of : (ts : List (Token Name Scalar)) → length (record_bytes 0 ts (map length (labels ts)) (joined (labels ts)))
+pub length-record_of : (ts : List (Token Name Scalar)) → length (record_bytes 0 ts (map length (labels ts)) (joined (labels ts)))
     ≡ 23 + (length (tags ts) + (length (fixed ts) + (length (numbers (width (map length (texts ts))) (map length (texts ts))) + (length (joined (texts ts)) + (length (numbers (width (map length (labels ts))) (map length (labels ts))) + length (joined (labels ts)))))))
 length-record_of ts =
     let lengths = map length (texts ts) in

@@ -1,6 +1,7 @@
 pub mod Measuring
 pub mod NumberLengths
 pub mod Lengths
+pub mod Weights
 pub mod Encoded
 pub mod Utf8
 pub mod Stacks

@@ -25,7 +25,7 @@ pub use decoding::decode;
 pub use encoding::encode;
 pub use fault::RecordFault;
 pub use header::{NAMED_FORM, NUMBERED_FORM};
-pub use law::one_document;
+pub use law::{one_document, record_within_weight};
 pub use record_ref::RecordRef;
 pub use sizing::{HEADER_SIZE, size};
 pub use stored::is_stored_record;

@@ -2,5 +2,6 @@ pub mod WindowLaws
 pub mod WindowCuts
 pub mod WorldLaws
 pub mod ReplyLaws
+pub mod KindLaws
 mod LineRows
 mod WorldRows
