@@ -5,7 +5,9 @@ use std::fmt::{Display, Write};
 use std::io::Eprint;
 use std::process::ExitCode;
 use std::{io, str};
+use tc_bytes::Bytes;
 use tc_server::{RunFault, fault_text};
+use tc_store::{Damage, FileName, FileNames};
 
 /// Says on standard output what a program says on standard error.
 #[derive(Clone, Copy)]
@@ -66,17 +68,37 @@ fn push_times(text: &mut String, times: u64, line: &str) -> Option<()> {
 /// The texts of all faults.
 pub(crate) fn faults(alloc: Global) -> Option<String> {
     let mut text = String::new(alloc);
-    let write = RunFault::Write { taken: 12 };
+    let file = FileName::Log { generation: 1 };
+    let bytes = Bytes::of(Vec::new(alloc));
+    let place = 30;
+    let names = FileNames::of(Vec::new(alloc));
     for fault in [
         RunFault::Usage,
         RunFault::Read,
-        write,
+        RunFault::Write { taken: 12 },
         RunFault::Spent,
+        RunFault::Disk { partition: 3 },
+        of_files(Damage::Bytes { file, place, bytes }),
+        of_files(Damage::Files { names }),
         RunFault::Memory,
+        RunFault::Layout {
+            partition: 0,
+            found: 1,
+            found_of: 2,
+            asked_of: 4,
+        },
     ] {
         text.push_str(fault_text(alloc, &fault).ok()?.as_str())
             .ok()?;
         text.push('\n').ok()?;
     }
     Some(text)
+}
+
+// The fault of the first partition's files.
+fn of_files(damage: Damage) -> RunFault {
+    RunFault::Damaged {
+        partition: 0,
+        damage,
+    }
 }

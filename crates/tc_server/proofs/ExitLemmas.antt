@@ -4,7 +4,7 @@ use Rattle.std.specs.Prelude.{Option, Some, None, IfSome}
 use Rattle.tc_server.specs.Ending.{status_of}
 use Rattle.tc_server.specs.Stage.{IsWrite}
 use Rattle.tc_server.specs.declared.outcome.RunFault.{RunFault}
-use Rattle.tc_server.specs.declared.outcome.RunFault.TheVariants.{Usage, Read, Write, Spent, Memory}
+use Rattle.tc_server.specs.declared.outcome.RunFault.TheVariants.{Usage, Read, Write, Spent, Disk, Damaged, Memory, Layout}
 
 pub usage_told : (fault : Option RunFault) → status_of fault ≡ status_of (Some Usage) → fault ≡ Some Usage
 usage_told None same = absurd (omega (arith, same))
@@ -13,6 +13,9 @@ usage_told (Some Read) same = absurd (omega (arith, same))
 usage_told (Some (Write n)) same = absurd (omega (arith, same))
 usage_told (Some Memory) same = absurd (omega (arith, same))
 usage_told (Some Spent) same = absurd (omega (arith, same))
+usage_told (Some (Disk p)) same = absurd (omega (arith, same))
+usage_told (Some (Damaged p damage)) same = absurd (omega (arith, same))
+usage_told (Some (Layout p found found_of asked_of)) same = absurd (omega (arith, same))
 
 pub read_told : (fault : Option RunFault) → status_of fault ≡ status_of (Some Read) → fault ≡ Some Read
 read_told None same = absurd (omega (arith, same))
@@ -21,6 +24,9 @@ read_told (Some Read) same = refl
 read_told (Some (Write n)) same = absurd (omega (arith, same))
 read_told (Some Memory) same = absurd (omega (arith, same))
 read_told (Some Spent) same = absurd (omega (arith, same))
+read_told (Some (Disk p)) same = absurd (omega (arith, same))
+read_told (Some (Damaged p damage)) same = absurd (omega (arith, same))
+read_told (Some (Layout p found found_of asked_of)) same = absurd (omega (arith, same))
 
 -- at the status of a write, what is told of each fault of one is so
 pub write_told : (fault : Option RunFault) (P : Type 0) → status_of fault ≡ status_of (Some (Write 0)) → IfSome fault (λ f. IsWrite f → P) → P
@@ -30,3 +36,6 @@ write_told (Some Read) P same told = absurd (omega (arith, same))
 write_told (Some (Write n)) P same told = told tt
 write_told (Some Memory) P same told = absurd (omega (arith, same))
 write_told (Some Spent) P same told = absurd (omega (arith, same))
+write_told (Some (Disk p)) P same told = absurd (omega (arith, same))
+write_told (Some (Damaged p damage)) P same told = absurd (omega (arith, same))
+write_told (Some (Layout p found found_of asked_of)) P same told = absurd (omega (arith, same))

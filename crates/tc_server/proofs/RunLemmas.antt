@@ -25,7 +25,7 @@ use Rattle.tc_server.specs.Limited.{Limited, empty_under}
 use Rattle.tc_server.specs.Window.{requests_of}
 use Rattle.tc_server.specs.Stage.{IsAt, with_end, StopsIn, TakesLine, FailsAtLine}
 use Rattle.tc_server.specs.declared.outcome.RunFault.{RunFault}
-use Rattle.tc_server.specs.declared.outcome.RunFault.TheVariants.{Usage, Read, Write, Spent, Memory}
+use Rattle.tc_server.specs.declared.outcome.RunFault.TheVariants.{Usage, Read, Write, Spent, Disk, Damaged, Memory, Layout}
 use Rattle.tc_server.specs.declared.session.Session.{Session}
 use Rattle.tc_server.proofs.SessionLemmas.{stops_between}
 
@@ -149,6 +149,9 @@ ends_in first limit seen input begun left base taken Memory consumed has stops =
 ends_in first limit seen input begun left base taken Usage consumed has stops = absurd stops
 ends_in first limit seen input begun left base taken Read consumed has stops = absurd stops
 ends_in first limit seen input begun left base taken Spent consumed has stops = absurd stops
+ends_in first limit seen input begun left base taken (Disk p) consumed has stops = absurd stops
+ends_in first limit seen input begun left base taken (Damaged p damage) consumed has stops = absurd stops
+ends_in first limit seen input begun left base taken (Layout p found found_of asked_of) consumed has stops = absurd stops
 
 -- ---- a line is taken
 
@@ -241,6 +244,9 @@ fails_at_end first limit seen Memory begun left base taken heard stops = record 
 fails_at_end first limit seen Usage begun left base taken heard stops = absurd stops
 fails_at_end first limit seen Read begun left base taken heard stops = absurd stops
 fails_at_end first limit seen Spent begun left base taken heard stops = absurd stops
+fails_at_end first limit seen (Disk p) begun left base taken heard stops = absurd stops
+fails_at_end first limit seen (Damaged p damage) begun left base taken heard stops = absurd stops
+fails_at_end first limit seen (Layout p found found_of asked_of) begun left base taken heard stops = absurd stops
 
 -- ---- a failure of the reader
 

@@ -26,7 +26,7 @@ use Rattle.tc_command.specs.declared.refusals.Refusal.TheVariants.{Oversized}
 use Rattle.tc_server.specs.declared.answer.Action.{Action}
 use Rattle.tc_server.specs.declared.answer.Action.TheVariants.{Refuse}
 use Rattle.tc_server.specs.declared.outcome.RunFault.{RunFault}
-use Rattle.tc_server.specs.declared.outcome.RunFault.TheVariants.{Usage, Read, Write, Spent, Memory}
+use Rattle.tc_server.specs.declared.outcome.RunFault.TheVariants.{Usage, Read, Write, Spent, Disk, Damaged, Memory, Layout}
 use Rattle.tc_server.specs.declared.session.Session.{Session}
 
 -- the requests of windows, behind which one more stands
@@ -148,6 +148,9 @@ fails_closing first base taken taken' ws session Memory whole at writes among =
 fails_closing first base taken taken' ws session Usage whole at writes among = absurd (writes (behind first ws.closed) at.store)
 fails_closing first base taken taken' ws session Read whole at writes among = absurd (writes (behind first ws.closed) at.store)
 fails_closing first base taken taken' ws session Spent whole at writes among = absurd (writes (behind first ws.closed) at.store)
+fails_closing first base taken taken' ws session (Disk p) whole at writes among = absurd (writes (behind first ws.closed) at.store)
+fails_closing first base taken taken' ws session (Damaged p damage) whole at writes among = absurd (writes (behind first ws.closed) at.store)
+fails_closing first base taken taken' ws session (Layout p found found_of asked_of) whole at writes among = absurd (writes (behind first ws.closed) at.store)
 
 -- ---- the windows when a line has come
 

@@ -7,7 +7,7 @@ use Rattle.tc_plain_model.specs.Part.{Limits}
 use Rattle.tc_run_model.specs.World.{World, first_world}
 use Rattle.tc_run_model.specs.Course.{Ending, finished, input_failed, input_spent, output_failed, stopped, each_line, IsDue, Ran}
 use Rattle.tc_server.specs.declared.outcome.RunFault.{RunFault}
-use Rattle.tc_server.specs.declared.outcome.RunFault.TheVariants.{Usage, Read, Write, Spent, Memory}
+use Rattle.tc_server.specs.declared.outcome.RunFault.TheVariants.{Usage, Read, Write, Spent, Disk, Damaged, Memory, Layout}
 use Rattle.tc_words.specs.declared.run.Options.{Options}
 
 -- The exit status: 0 for a run to the end of its input, and a number of its own for each fault.
@@ -16,7 +16,10 @@ status_of None = 0
 status_of (Some Usage) = 2
 status_of (Some Read) = 3
 status_of (Some (Write n)) = 4
+status_of (Some (Disk p)) = 5
+status_of (Some (Damaged p damage)) = 6
 status_of (Some Memory) = 7
+status_of (Some (Layout p found found_of asked_of)) = 8
 status_of (Some Spent) = 9
 
 -- the fault that a function answered, if any
@@ -24,7 +27,7 @@ abbrev pub fault_in : {T : Type 0} → Result T RunFault → Option RunFault
 fault_in (Ok x) = None
 fault_in (Err fault) = Some fault
 
--- how a run ended, by the fault that it answered; a fault in the words ends no run
+-- How a run ended, by the fault that it answered. A fault in the words ends no run, and a run in memory has none of files.
 abbrev pub ending_of : Option RunFault → Option Ending
 ending_of None = Some finished
 ending_of (Some Read) = Some input_failed
@@ -32,6 +35,9 @@ ending_of (Some Spent) = Some input_spent
 ending_of (Some (Write n)) = Some (output_failed n)
 ending_of (Some Memory) = Some stopped
 ending_of (Some Usage) = None
+ending_of (Some (Disk p)) = None
+ending_of (Some (Damaged p damage)) = None
+ending_of (Some (Layout p found found_of asked_of)) = None
 
 -- a run from a first world, over windows of at most so many lines, that ended so
 abbrev pub RanTo : Option Ending → World → ℕ → Option (List ℕ) → Option (List ℕ) → Option (List ℕ) → Option (List ℕ) → Type 0

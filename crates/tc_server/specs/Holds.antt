@@ -8,7 +8,7 @@ use Rattle.tc_run_model.specs.Replies.{AreReplies}
 use Rattle.tc_run_model.specs.Course.{each_line}
 use Rattle.tc_server.specs.Limited.{Limited}
 use Rattle.tc_server.specs.declared.outcome.RunFault.{RunFault}
-use Rattle.tc_server.specs.declared.outcome.RunFault.TheVariants.{Usage, Read, Write, Spent, Memory}
+use Rattle.tc_server.specs.declared.outcome.RunFault.TheVariants.{Usage, Read, Write, Spent, Disk, Damaged, Memory, Layout}
 
 -- the store holds what the only partition of the world stores, under the world's limits
 pub record Holds (w : World) (s : Limited) : Type 0 where
@@ -40,3 +40,6 @@ WritesPart Memory w rs taken taken' = Keeps taken taken'
 WritesPart Usage w rs taken taken' = ⊥
 WritesPart Read w rs taken taken' = ⊥
 WritesPart Spent w rs taken taken' = ⊥
+WritesPart (Disk p) w rs taken taken' = ⊥
+WritesPart (Damaged p damage) w rs taken taken' = ⊥
+WritesPart (Layout p found found_of asked_of) w rs taken taken' = ⊥

@@ -5,6 +5,7 @@ pub mod Sound
 pub mod Asked
 pub mod Window
 pub mod Stage
+pub mod FaultText
 pub mod Ending
 pub mod Progress
 pub mod Program

@@ -13,7 +13,7 @@ use Rattle.tc_server.specs.Holds.{Holds}
 use Rattle.tc_server.specs.Window.{requests_of}
 use Rattle.tc_server.specs.declared.answer.Asked.{Asked}
 use Rattle.tc_server.specs.declared.outcome.RunFault.{RunFault}
-use Rattle.tc_server.specs.declared.outcome.RunFault.TheVariants.{Usage, Read, Write, Spent, Memory}
+use Rattle.tc_server.specs.declared.outcome.RunFault.TheVariants.{Usage, Read, Write, Spent, Disk, Damaged, Memory, Layout}
 use Rattle.tc_server.specs.declared.session.Session.{Session}
 
 -- what a line asks for was read off, and its size was told
@@ -60,6 +60,9 @@ StopsIn first Memory base closed taken = EndsAmong first stopped base closed tak
 StopsIn first Usage base closed taken = ⊥
 StopsIn first Read base closed taken = ⊥
 StopsIn first Spent base closed taken = ⊥
+StopsIn first (Disk p) base closed taken = ⊥
+StopsIn first (Damaged p damage) base closed taken = ⊥
+StopsIn first (Layout p found found_of asked_of) base closed taken = ⊥
 
 -- from behind any windows the session goes to behind these windows with the line
 abbrev pub TakesLine : List ℕ → Session → Option (List ℕ) → Session → Option (List ℕ) → Type 0
@@ -78,6 +81,9 @@ IsWrite Memory = ⊥
 IsWrite Usage = ⊥
 IsWrite Read = ⊥
 IsWrite Spent = ⊥
+IsWrite (Disk p) = ⊥
+IsWrite (Damaged p damage) = ⊥
+IsWrite (Layout p found found_of asked_of) = ⊥
 
 -- The count of the sink's faults did not fall, and it rose where a write failed; no read failed.
 pub record HasWriteCause (before now : ℕ) (result : Result ⊤ RunFault) : Type 0 where

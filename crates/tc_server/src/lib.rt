@@ -7,8 +7,10 @@ mod program;
 mod server;
 mod session;
 mod store;
+mod texts;
 mod window;
 
-pub use outcome::{Outcome, RunFault, fault_text};
+pub use outcome::{Outcome, RunFault};
 pub use program::{run_program, words};
 pub use server::serve;
+pub use texts::fault_text;

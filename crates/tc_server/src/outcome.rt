@@ -4,29 +4,42 @@ ghost use Rattle.std.specs.Prelude.{◌≡◌};
 ghost use Rattle.tc_edge.specs.declared.streams.WriteFault.{WriteFault};
 ghost use Rattle.tc_server.specs.declared.outcome.RunFault.TheVariants.{Memory, Write};
 
-use std::alloc::{AllocError, AllocFailed, Global};
+use std::alloc::{AllocError, AllocFailed};
 use tc_edge::WriteFault;
-use tc_value::Text;
-use thiserror::Error;
+use tc_store::Damage;
 
-/// The fault that ended a run.
-#[derive(Clone, Copy, Debug, PartialEq, Eq, Error)]
+/// The fault that ended a run; what is said of it is `fault_text`. `Disk`, `Damaged` and `Layout` are faults of files, by
+/// which no run in memory ends.
+#[derive(Drop, Debug)]
 pub enum RunFault {
     /// The words are no command line.
-    #[error("usage: tuple_store FOLDER run [OPTIONS] or tuple_store FOLDER demo N")]
     Usage,
     /// A read of the input failed.
-    #[error("read fault")]
     Read,
     /// A write of a window's replies failed, after this many bytes of them.
-    #[error("write fault after {taken} bytes")]
-    Write { taken: u64 },
+    Write {
+        taken: u64,
+    },
     /// The input has more bytes than can be counted.
-    #[error("no number left")]
     Spent,
+    /// A call on the files of a partition failed.
+    Disk {
+        partition: u32,
+    },
+    /// The files of a partition do not hold what they should.
+    Damaged {
+        partition: u32,
+        damage: Damage,
+    },
     /// Memory was wanting.
-    #[error("no memory")]
     Memory,
+    /// A file of a partition is of another one, or of another number of partitions.
+    Layout {
+        partition: u32,
+        found: u32,
+        found_of: u32,
+        asked_of: u32,
+    },
 }
 
 impl RunFault {
@@ -34,14 +47,17 @@ impl RunFault {
     ghost use Rattle.tc_server.specs.Ending.{status_of};
 
     /// The exit status of a run that ended by this fault.
-    pub fn status(self) -> u8
-        ensures { result ≡ status_of (Some self) }
+    pub fn status(&self) -> u8
+        ensures { result ≡ status_of (Some self.now) }
     {
         match self {
             RunFault::Usage => 2,
             RunFault::Read => 3,
             RunFault::Write { .. } => 4,
+            RunFault::Disk { .. } => 5,
+            RunFault::Damaged { .. } => 6,
             RunFault::Memory => 7,
+            RunFault::Layout { .. } => 8,
             RunFault::Spent => 9,
         }
     }
@@ -71,13 +87,8 @@ impl From<WriteFault> for RunFault {
     }
 }
 
-/// What to say of a fault, without a line feed. Errs only for want of memory.
-pub fn fault_text(alloc: Global, fault: &RunFault) -> Result<Text, AllocError> {
-    Ok(Text::of(format!(in alloc; "{fault}")?))
-}
-
 /// How a run ended: its exit status, and the fault where the status is not 0.
-#[derive(Clone, Copy, Debug, PartialEq, Eq)]
+#[derive(Drop, Debug)]
 pub struct Outcome {
     pub status: u8,
     pub fault: Option<RunFault>,
@@ -101,8 +112,9 @@ impl Outcome {
     pub fn of(fault: RunFault) -> Outcome
         ensures { result ≡ record { status = status_of (Some fault); fault = Some fault } }
     {
+        let status = fault.status();
         Outcome {
-            status: fault.status(),
+            status,
             fault: Some(fault),
         }
     }

@@ -8,8 +8,9 @@ ghost use Rattle.tc_server.specs.Ending.{Served, ServedPromptly, status_of};
 ghost use Rattle.tc_server.specs.Program.{Exits, fault_of_words, options_given};
 ghost use Rattle.tc_server.specs.Stage.{IsWrite};
 
-use crate::outcome::{Outcome, RunFault, fault_text};
+use crate::outcome::{Outcome, RunFault};
 use crate::server::serve;
+use crate::texts::fault_text;
 use std::alloc::Global;
 use std::env;
 use std::env::Env;
@@ -66,7 +67,7 @@ pub fn run_program<R: Eprint + AllocGlobal, I: Source<O>, O: Sink>(
     ensures write { exit_status result ≡ status_of (Some (RunFault.Write 0)) → Rose (O.faults sink.old) (O.faults sink.new) }
 {
     let outcome = outcome_of(rt.alloc(), words, source, sink);
-    report(rt, outcome.fault);
+    report(rt, &outcome.fault);
     ExitCode::from(outcome.status)
 }
 
@@ -96,9 +97,9 @@ fn outcome_of<I: Source<O>, O: Sink>(
 }
 
 // Says on standard error how the run ended. Where memory is refused for the text, nothing is said.
-fn report(rt: &(impl Eprint + AllocGlobal), fault: Option<RunFault>) {
+fn report(rt: &(impl Eprint + AllocGlobal), fault: &Option<RunFault>) {
     if let Some(fault) = fault {
-        if let Ok(text) = fault_text(rt.alloc(), &fault) {
+        if let Ok(text) = fault_text(rt.alloc(), fault) {
             let _ = eprintln!(rt; "{}", text.as_str());
         }
     }

@@ -86,9 +86,10 @@ impl Session {
         ensures cause { HasWriteCause (O.faults sink.old) (O.faults sink.new) result }
     {
         self.window.push(asked, size)?;
-        if self.window.is_full() {
-            self.close(alloc, sink)?;
+        if !self.window.is_full() {
+            return Ok(());
         }
+        self.close(alloc, sink)?;
         Ok(())
     }
 

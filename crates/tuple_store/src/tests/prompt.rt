@@ -79,7 +79,7 @@ fn replies_before_the_next_line(rt: HostRuntime) -> Result<(), Fail> {
         ("run --partitions 1", [0, 0, 0, 0, 4, 4]),
     ] {
         let outcome = run_waiting(rt.alloc(), words, lines.as_slice(), due.as_slice())?;
-        assert_eq!(rt; outcome, Outcome::done(), "{words}");
+        assert_eq!(rt; outcome.status, 0u8, "{words}");
     }
     Ok(())
 }

@@ -19,18 +19,18 @@ returns-in_err-close-clause-fault g c =
     let held : IsAt first base (with_pushed ws line) pushed (g.O.Sink.taken c.args.sink.now) =
     holds_line first base (g.O.Sink.taken c.args.sink.now) ws line c.args.asked c.args.size c.args.self.now pushed asks at refl c.in_ok-push.ensures.requests c.in_ok-push.ensures.bytes in
     let full : is_full c.args.self.now.window.limit (ws.open_lines ++ line ∷ []) ≡ true =
-    sym (is_full-found first c.args.self.now.window.limit base (g.O.Sink.taken c.args.sink.now) (with_pushed ws line) pushed held) ∙ rw (← c.in_ok-push.ensures.limit) (sym c.is_full.ensures ∙ c.if-is_full.true) in
+    sym (is_full-found first c.args.self.now.window.limit base (g.O.Sink.taken c.args.sink.now) (with_pushed ws line) pushed held) ∙ rw (← c.in_ok-push.ensures.limit) (sym c.is_full.ensures ∙ c.if-not-is_full.false) in
     rw (with_line-full c.args.self.now.window.limit ws line plain full)
     (fails_closing first base (g.O.Sink.taken c.args.sink.now) (g.O.Sink.taken c.close.new.sink) (with_pushed ws line) pushed c.in_err-close.field-0.0 (with_end (with_pushed ws line)).closed held
     c.in_err-close.ensures.fault (BeginsWith-refl _)))
 
-pub returns-in_ok-close-clause-ok : goal.returns-in_ok-close-clause-ok
-returns-in_ok-close-clause-ok g c = λ line asks plain first base ws at.
+pub returns-clause-ok : goal.returns-clause-ok
+returns-clause-ok g c = λ line asks plain first base ws at.
     let pushed : Session = record c.args.self.now { window = c.push.new.self } in
     let held : IsAt first base (with_pushed ws line) pushed (g.O.Sink.taken c.args.sink.now) =
     holds_line first base (g.O.Sink.taken c.args.sink.now) ws line c.args.asked c.args.size c.args.self.now pushed asks at refl c.in_ok-push.ensures.requests c.in_ok-push.ensures.bytes in
     let full : is_full c.args.self.now.window.limit (ws.open_lines ++ line ∷ []) ≡ true =
-    sym (is_full-found first c.args.self.now.window.limit base (g.O.Sink.taken c.args.sink.now) (with_pushed ws line) pushed held) ∙ rw (← c.in_ok-push.ensures.limit) (sym c.is_full.ensures ∙ c.if-is_full.true) in
+    sym (is_full-found first c.args.self.now.window.limit base (g.O.Sink.taken c.args.sink.now) (with_pushed ws line) pushed held) ∙ rw (← c.in_ok-push.ensures.limit) (sym c.is_full.ensures ∙ c.if-not-is_full.false) in
     rw (with_line-full c.args.self.now.window.limit ws line plain full)
     (closes first base (g.O.Sink.taken c.args.sink.now) (g.O.Sink.taken c.close.new.sink) (with_pushed ws line) pushed c.close.new.self held
     c.in_ok-close.ensures.written c.in_ok-close.ensures.requests c.in_ok-close.ensures.bytes)
