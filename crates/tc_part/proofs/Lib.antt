@@ -20,3 +20,7 @@ pub mod ClosedParts
 mod NewestListed
 mod StartedLogs
 mod SchemaTexts
+mod OwnIntervals
+mod OwnNames
+mod OwnParts
+mod OwnOutcomes

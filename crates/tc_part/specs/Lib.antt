@@ -1,5 +1,6 @@
 pub mod Faults
 pub mod Ready
+pub mod OwnFiles
 pub mod Below
 pub mod Harms
 pub mod Reads

@@ -19,7 +19,8 @@ ghost use Rattle.tc_jobs.specs.Lists.{file_names};
 ghost use Rattle.tc_part_model.specs.Calls.{FlushesBehind};
 ghost use Rattle.tc_part_model.specs.Changes.{flushing_part};
 ghost use Rattle.tc_part_model.specs.Leaving.{StoreMomentsLeaveStore};
-ghost use Rattle.tc_part_model.specs.Meaning.{IsPart, HasFailedAs, Stands};
+ghost use Rattle.tc_part_model.specs.Meaning.{IsPart, HasFailedAs};
+ghost use Rattle.tc_part.specs.OwnFiles.{HasOwnFiles};
 ghost use Rattle.tc_part_model.specs.PartState.{told, AreTold};
 ghost use Rattle.tc_part_model.specs.PartView.{PartView, store_of};
 ghost use Rattle.tc_part.specs.Faults.{IfDamaged};
@@ -40,7 +41,7 @@ impl<S: Store> Part<S> {
         requires sound { self.old.failed ≡ false }
         requires sealed { is_some self.old.sealed ≡ true }
         requires none_out { self.old.flushing ≡ false }
-        requires stands { Stands (told S.history S.Device.history S.Frozen.content self.old) }
+        requires own { HasOwnFiles (told S.history S.Device.history S.Frozen.content self.old) }
 
         // On Ok the part is the one whose flush is out, which stores what it stored.
         ensures begun { OnOk result ((p : PartView) → IsPart (told S.history S.Device.history S.Frozen.content self.old) p
@@ -58,6 +59,9 @@ impl<S: Store> Part<S> {
         ensures name { IfOk result (λ job. S.Device.name job.device ≡ component_name (self.old.generation - 1) (self.old.generation - 1)) }
         ensures file { IfOk result (λ job. S.Device.history job.device ≡ fresh_file_at (component_name (self.old.generation - 1) (self.old.generation - 1)) (S.history self.old.store)) }
         ensures made { OnOk result (S.history self.new.store ≡ makes (component_name (self.old.generation - 1) (self.old.generation - 1)) (S.history self.old.store)) }
+
+        // Each name that is there still is one of its own.
+        ensures own { OnOk result (HasOwnFiles (told S.history S.Device.history S.Frozen.content self.new)) }
 
         // Where the listed files are told, what it makes is what a flush of the part makes.
         ensures behind { (p : PartView) → IsPart (told S.history S.Device.history S.Frozen.content self.old) p → AreTold (told S.history S.Device.history S.Frozen.content self.old).components

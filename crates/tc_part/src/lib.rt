@@ -14,6 +14,7 @@ mod looking;
 mod merged;
 mod merging;
 mod names;
+mod own_files;
 mod part;
 mod records;
 mod schema_text;
@@ -24,6 +25,7 @@ mod upserting;
 
 pub use fault::PartFault;
 pub use limits::Limits;
+pub use own_files::parts_own_files;
 pub use part::Part;
 pub use records::shape_at;
 pub use staging::Staged;

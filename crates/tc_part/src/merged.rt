@@ -22,6 +22,7 @@ ghost use Rattle.tc_part_model.specs.Calls.{HasMade};
 ghost use Rattle.tc_part_model.specs.Changes.{merged_part};
 ghost use Rattle.tc_part_model.specs.Leaving.{FailedMomentsLeaveStore, StoreMomentsLeaveStore};
 ghost use Rattle.tc_part_model.specs.Meaning.{IsPart, HasFailedAs};
+ghost use Rattle.tc_part.specs.OwnFiles.{HasOwnFiles};
 ghost use Rattle.tc_part_model.specs.PartState.{AreTold, told};
 ghost use Rattle.tc_part_model.specs.PartView.{PartView, store_of};
 ghost use Rattle.tc_part.specs.Closing.{HasFailedWhole};
@@ -62,6 +63,7 @@ impl<S: Store> Part<S> {
         ensures listed { OnOk result (self.old.failed ≡ false → HasReplaced S.Frozen.content S.Frozen.name (S.Device.history out.device) (run_out self.old) self.old self.new.list) }
         ensures same { OnOk result (self.old.failed ≡ false → self.new ≡ record self.old { store = self.new.store; main = self.new.main; merger = Some out.watch; merging = None; list = self.new.list }) }
         ensures removed { OnOk result (self.old.failed ≡ false → HasRemovedRun S.history S.Frozen.name (S.Device.history out.device) (run_out self.old) self.old (S.history self.new.store)) }
+        ensures own { OnOk result (self.old.failed ≡ false → HasOwnFiles (told S.history S.Device.history S.Frozen.content self.old) → HasOwnFiles (told S.history S.Device.history S.Frozen.content self.new)) }
 
         // A part that had failed gets its device home and its watch back, and keeps what it stored, at each moment too.
         ensures home { self.old.failed ≡ true → (result ≡ Ok tt) × (self.new ≡ record self.old { store = self.new.store; merger = Some out.watch; merging = None }) × (S.history self.new.store ≡ comes_home (merged_name (run_out self.old) self.old) (λ f. at_home f) (S.Device.history out.device) (S.history self.old.store)) }

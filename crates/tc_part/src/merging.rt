@@ -15,7 +15,8 @@ ghost use Rattle.tc_lsm_model.specs.Merges.{IsMerge, in_run as contents_in_run};
 ghost use Rattle.tc_merge.specs.Merging.{IsRun};
 ghost use Rattle.tc_part_model.specs.Changes.{merging_part};
 ghost use Rattle.tc_part_model.specs.Leaving.{StoreMomentsLeaveStore};
-ghost use Rattle.tc_part_model.specs.Meaning.{IsPart, HasFailedAs, Stands};
+ghost use Rattle.tc_part_model.specs.Meaning.{IsPart, HasFailedAs};
+ghost use Rattle.tc_part.specs.OwnFiles.{HasOwnFiles};
 ghost use Rattle.tc_part_model.specs.PartState.{told, AreTold};
 ghost use Rattle.tc_part_model.specs.PartView.{PartView, store_of};
 ghost use Rattle.tc_part.specs.Faults.{IsUndamaged};
@@ -41,7 +42,7 @@ impl<S: Store> Part<S> {
         requires sound { self.old.failed ≡ false }
         requires none_out { self.old.merging ≡ None }
         requires run { LiesIn self.old.list run }
-        requires stands { Stands (told S.history S.Device.history S.Frozen.content self.old) }
+        requires own { HasOwnFiles (told S.history S.Device.history S.Frozen.content self.old) }
 
         // On Ok the part is the one whose merge is out, which stores what it stored.
         ensures begun { OnOk result ((p : PartView) (c : Content) → IsPart (told S.history S.Device.history S.Frozen.content self.old) p → IsMerge (contents_in_run (neighbours run) p.list) c
@@ -58,6 +59,9 @@ impl<S: Store> Part<S> {
         ensures name { IfOk result (λ job. S.Device.name job.device ≡ name_of (head_over self.old.number self.old.count run self.old.list)) }
         ensures file { IfOk result (λ job. S.Device.history job.device ≡ fresh_file_at (name_of (head_over self.old.number self.old.count run self.old.list)) (S.history self.old.store)) }
         ensures made { OnOk result (S.history self.new.store ≡ makes (name_of (head_over self.old.number self.old.count run self.old.list)) (S.history self.old.store)) }
+
+        // Each name that is there still is one of its own.
+        ensures own { OnOk result (HasOwnFiles (told S.history S.Device.history S.Frozen.content self.new)) }
 
         // Where the listed files are told, what it merges is the run of the part's contents.
         ensures loaded { (p : PartView) → IsPart (told S.history S.Device.history S.Frozen.content self.old) p → AreTold (told S.history S.Device.history S.Frozen.content self.old).components

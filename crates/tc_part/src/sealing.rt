@@ -8,7 +8,8 @@ ghost use Rattle.tc_log.specs.Layout.{empty_size};
 ghost use Rattle.tc_list.specs.Intervals.{last_of};
 ghost use Rattle.tc_part_model.specs.PartState.{told};
 ghost use Rattle.tc_part_model.specs.PartView.{PartView, store_of};
-ghost use Rattle.tc_part_model.specs.Meaning.{IsPart, HasFailedAs, Stands};
+ghost use Rattle.tc_part_model.specs.Meaning.{IsPart, HasFailedAs};
+ghost use Rattle.tc_part.specs.OwnFiles.{HasOwnFiles};
 ghost use Rattle.tc_part_model.specs.Changes.{sealed_part};
 ghost use Rattle.tc_part_model.specs.Leaving.{StoreMomentsLeaveStore, NextLogMoments};
 ghost use Rattle.tc_part.specs.Faults.{IsUndamaged};
@@ -30,7 +31,7 @@ impl<S: Store> Part<S> {
         requires sound { self.old.failed ≡ false }
         requires nothing_staged { self.old.staged ≡ [] }
         requires none_sealed { self.old.sealed ≡ None }
-        requires stands { Stands (told S.history S.Device.history S.Frozen.content self.old) }
+        requires own { HasOwnFiles (told S.history S.Device.history S.Frozen.content self.old) }
 
         // On Ok the part is the one whose active table is sealed, which stores what it stored.
         ensures sealed { OnOk result ((p : PartView) → IsPart (told S.history S.Device.history S.Frozen.content self.old) p
@@ -40,6 +41,9 @@ impl<S: Store> Part<S> {
         // So it is over every store: the file of the next log was made, and that log has no frame.
         ensures made { OnOk result (S.history self.new.store ≡ makes (log_name (self.old.generation + 1)) (S.history self.old.store)) }
         ensures empty { OnOk result (S.Device.size self.new.log.device ≡ empty_size) }
+
+        // Each name that is there still is one of its own.
+        ensures own { OnOk result (HasOwnFiles (told S.history S.Device.history S.Frozen.content self.new)) }
 
         // At each moment of the call a stop leaves what is stored, and so it does behind a fault.
         ensures moments { (p : PartView) → IsPart (told S.history S.Device.history S.Frozen.content self.old) p

@@ -1,16 +1,19 @@
 //! A partition begins with what was opened.
 
-ghost use Rattle.std.specs.Prelude.{◌≡◌, ◌<◌, ◌≤◌, ◌^◌, [], List, Some, None, false, length, All, IfOk, IfErr};
+ghost use Rattle.std.specs.Arc.{arc_value};
+ghost use Rattle.std.specs.Prelude.{◌≡◌, ◌<◌, ◌^◌, [], List, Some, None, false, map, All, IfOk, IfErr};
 ghost use Rattle.tc_store.specs.declared.file_name.FileName.TheVariants.{Log as log_name};
 ghost use Rattle.tc_store.specs.Disk.{home as at_home};
 ghost use Rattle.tc_store.specs.Moments.{IfTold};
 ghost use Rattle.tc_store.specs.StoreCalls.{comes_home};
 ghost use Rattle.tc_log.specs.Layout.{empty_size};
+ghost use Rattle.tc_component.specs.Spelling.{IsIndex};
 ghost use Rattle.tc_lsm_model.specs.Contents.{Content};
 ghost use Rattle.tc_lsm_model.specs.Lists.{live as live_in};
 ghost use Rattle.tc_part_model.specs.Leaving.{FailedMomentsLeaveStore, KeepsStore};
 ghost use Rattle.tc_part_model.specs.Meaning.{IsPart};
 ghost use Rattle.tc_part_model.specs.Newest.{names_by, documents_by, next_by};
+ghost use Rattle.tc_part.specs.OwnFiles.{HasOnlyOwn, HasOwnFiles};
 ghost use Rattle.tc_part_model.specs.PartState.{told};
 ghost use Rattle.tc_part_model.specs.Starting.{IsOpened, started, started_part};
 ghost use Rattle.tc_jobs.specs.Lists.{IsListOf};
@@ -21,7 +24,9 @@ use crate::limits::Limits;
 use crate::part::Part;
 use crate::records::component_at;
 use std::alloc::Global;
+use std::sync::Arc;
 use tc_bytes::Memory;
+use tc_component::Component;
 use tc_list::ComponentList;
 use tc_log::Log;
 use tc_memory::Memtable;
@@ -49,7 +54,6 @@ impl<S: Store> Part<S> {
         requires empty { S.Device.size opened.log.device ≡ empty_size }
         requires follows { S.Device.name opened.log.device ≡ log_name (next_by (newest_in S.Frozen.content opened.list)) }
         requires last { next_by (newest_in S.Frozen.content opened.list) < 2 ^ 63 }
-        requires few { length opened.list ≤ 8 }
         requires listed { IsListOf opened.number opened.count opened.list }
         requires named { AreNamed (λ f. S.Frozen.name f) opened.list }
 
@@ -61,6 +65,9 @@ impl<S: Store> Part<S> {
         ensures begun { IfOk result (λ part. part ≡ record { number = opened.number; count = opened.count; limits = record { names = opened.limits.names; docs = opened.limits.docs }; memory = opened.limits.memory; store = opened.kit.store; main = opened.kit.main; flusher = Some opened.kit.flusher; merger = Some opened.kit.merger; reader = Some opened.kit.reader; list = opened.list; sealed = None; sealed_log = None; active = []; log = opened.log; generation = next_by (newest_in S.Frozen.content opened.list); staged = []; taken = names_by (newest_in S.Frozen.content opened.list); live = part.live; writes = 0; flushing = false; merging = None; failed = false }) }
         ensures counted { IfOk result (λ part. documents_by (newest_in S.Frozen.content opened.list) < 2 ^ 32 → part.live ≡ documents_by (newest_in S.Frozen.content opened.list)) }
 
+        // Its files are its own, where each name that is there is that of a log which is no newer, or lies within a listed component.
+        ensures own { IfOk result (λ part. IfTold (S.history opened.kit.store) (HasOnlyOwn (started (told_opening S.history S.Device.history S.Frozen.content opened.number opened.count opened.kit.store opened.log.device opened.list))) → HasOwnFiles (told S.history S.Device.history S.Frozen.content part)) }
+
         // Whatever a stop leaves of the store that is given back is what is live in the components.
         ensures kept { (list : List Content) → IsOpened (told_opening S.history S.Device.history S.Frozen.content opened.number opened.count opened.kit.store opened.log.device opened.list) list
             → IfErr result (λ kit. IfTold (S.history kit.store) (KeepsStore (record { number = opened.number; count = opened.count }) (live_in list) None)) }
@@ -70,10 +77,20 @@ impl<S: Store> Part<S> {
         ensures home { IfErr result (λ kit. S.history kit.store ≡ comes_home (S.Device.name opened.log.device) (λ f. at_home f) (S.Device.history opened.log.device) (S.history opened.kit.store)) }
     {
         parts_start();
+        look_over(opened.list.as_slice());
         match names_of(alloc, &opened.list) {
             Ok(taken) => Ok(begun_with(alloc, opened, taken)),
             Err(_) => Err(given_up(opened)),
         }
+    }
+}
+
+/// Looks at each component, and does nothing else: no interval ends before it begins, which shows where one is looked at.
+fn look_over<F: Frozen>(components: &[Arc<Component<F>>])
+    ensures { All (λ c. IsIndex c.index) (map arc_value components.now) }
+{
+    for component in components {
+        let _lawful = component.file_len();
     }
 }
 

@@ -1,9 +1,10 @@
-use Rattle.std.proofs.Common.{◌≡◌, ◌∙◌, ◌-◌, [], false, is_some, inl, refl, sym, ap, subst}
+use Rattle.std.proofs.Common.{◌≡◌, ◌∙◌, ◌-◌, [], false, is_some, map, inl, refl, sym, ap, subst}
+use Rattle.std.specs.Arc.{arc_value}
 use Rattle.std.specs.Prelude.{IfSome}
 use Rattle.tc_schema_model.specs.Counted.{nothing}
 use Rattle.tc_store.specs.Disk.{IsThere}
 use Rattle.tc_store.specs.Moments.{IfTold}
-use Rattle.tc_store.specs.StoreCalls.{FailsMaking}
+use Rattle.tc_store.specs.StoreCalls.{FailsMaking, makes}
 use Rattle.tc_store.specs.declared.file_name.FileName.TheVariants.{Component}
 use Rattle.tc_component.specs.Spelling.{name_of}
 use Rattle.tc_flush.specs.Counting.{IsCounted}
@@ -11,9 +12,13 @@ use Rattle.tc_memory.specs.Table.{IsTable}
 use Rattle.tc_merge.specs.Merging.{newest_names, newest_schema}
 use Rattle.tc_part_model.specs.Calls.{FlushesBehind}
 use Rattle.tc_part_model.specs.Changes.{flushing_part}
-use Rattle.tc_part_model.specs.PartState.{told}
+use Rattle.tc_part.specs.OwnFiles.{HasOwnFiles}
+use Rattle.tc_part_model.specs.PartState.{PartState, told, told_component}
+use Rattle.tc_part.proofs.OwnNames.{flush_begun_own, flush_is_free}
+use Rattle.tc_part.specs.Ready.{active_generation}
+use Rattle.tc_part.proofs.Handing.{still_some}
 use Rattle.tc_part.proofs.Outcomes.{err_always}
-use Rattle.tc_part.proofs.Standing.{where_it_stands, table_in, told_in, unfailed}
+use Rattle.tc_part.proofs.Standing.{left_of, table_in, told_in, unfailed}
 use Rattle.tc_part.proofs.part.Part.begin_flush.Goals as goal
 
 pub returns-in_err-inputs-clause-moments : goal.returns-in_err-inputs-clause-moments
@@ -30,12 +35,14 @@ returns-in_err-inputs-clause-failed g c =
 
 pub fresh-requires : goal.fresh-requires
 fresh-requires g c =
-    let t = told g.S.Store.history g.S.Device.Device.history g.S.Frozen.Frozen.content c.args.self.now in
-    let table = table_in t.sealed c.requires.sealed in
+    let t = told g.S.Store.history g.S.Device.Device.history g.S.Frozen.Frozen.content (left_of c.self.view_is) in
+    let none = ap (λ s. s.flushing) c.self.view_is ∙ c.requires.none_out in
+    let sound : c.self.inside.failed ≡ false = ap (λ s. s.failed) c.self.view_is ∙ c.requires.sound in
+    let sealed = sym (still_some arc_value c.self.inside.sealed) ∙ ap (λ s. is_some s.sealed) c.self.view_is ∙ c.requires.sealed in
+    let behind = c.self.invariant.behind sound ∙ ap (active_generation c.self.inside.list) sealed in
+    let own = subst (λ s. HasOwnFiles (told g.S.Store.history g.S.Device.Device.history g.S.Frozen.Frozen.content s)) (sym c.self.view_is) c.requires.own in
     let named : c.name_of_head.result ≡ Component (c.self.inside.generation - 1) (c.self.inside.generation - 1) = c.name_of_head.ensures ∙ ap name_of c.flush_head-head.ensures in
-    let free = where_it_stands t t.disks (λ disk. IsThere (disk (Component (t.generation - 1) (t.generation - 1))) → ⊥) c.requires.stands (λ p is. c.flushes_begin.ensures.free t p table.0 is table.1 c.requires.none_out) in
-    subst (λ name. IfTold (g.S.Store.history c.self.inside.store) (λ disk. IsThere (disk name) → ⊥)) (sym named)
-    (subst (λ s. IfTold (g.S.Store.history s.store) (λ disk. IsThere (disk (Component (s.generation - 1) (s.generation - 1))) → ⊥)) (sym c.self.view_is) free)
+    subst (λ name. IfTold (g.S.Store.history c.self.inside.store) (λ disk. IsThere (disk name) → ⊥)) (sym named) (flush_is_free g.S.Frozen.Frozen.content t c.self.inside.list refl none behind own)
 
 pub returns-in_err-device-clause-moments : goal.returns-in_err-device-clause-moments
 returns-in_err-device-clause-moments g c =
@@ -85,3 +92,14 @@ returns-in_err-device-clause-order g c =
 
 pub returns-clause-lawful : goal.returns-clause-lawful
 returns-clause-lawful g c = subst (λ job. IsTable job.kept) (sym c.flush_with.ensures.job) c.in_ok-inputs.ensures.lawful
+
+pub returns-clause-own : goal.returns-clause-own
+returns-clause-own g c =
+    let none = ap (λ s. s.flushing) c.self.view_is ∙ c.requires.none_out in
+    let own = subst (λ s. HasOwnFiles (told g.S.Store.history g.S.Device.Device.history g.S.Frozen.Frozen.content s)) (sym c.self.view_is) c.requires.own in
+    let named : c.name_of_head.result ≡ Component (c.self.inside.generation - 1) (c.self.inside.generation - 1) = c.name_of_head.ensures ∙ ap name_of c.flush_head-head.ensures in
+    let same = c.flush_with.ensures.same in
+    let disks = ap (λ (x : PartState _ _ _ _). g.S.Store.history x.store) same ∙ c.in_ok-device.ensures.made ∙ ap (λ name. makes name (g.S.Store.history c.self.inside.store)) named in
+    flush_begun_own (told g.S.Store.history g.S.Device.Device.history g.S.Frozen.Frozen.content (left_of c.self.view_is)) (told g.S.Store.history g.S.Device.Device.history g.S.Frozen.Frozen.content (left_of same)) none disks
+    (ap (λ (x : PartState _ _ _ _). x.generation) same) (ap (λ (x : PartState _ _ _ _). map (told_component g.S.Frozen.Frozen.content) x.list) same)
+    (ap (λ (x : PartState _ _ _ _). x.flushing) same) (ap (λ (x : PartState _ _ _ _). x.merging) same) own

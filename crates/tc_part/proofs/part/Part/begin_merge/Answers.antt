@@ -1,32 +1,30 @@
-use Rattle.std.proofs.Common.{◌∙◌, Some, option_map, refl, sym, ap, subst}
-use Rattle.tc_store.specs.Disk.{IsThere}
-use Rattle.tc_store.specs.Moments.{IfTold}
+use Rattle.std.proofs.Common.{◌∙◌, Some, map, option_map, refl, sym, ap, subst}
 use Rattle.tc_store.specs.StoreCalls.{FailsMaking, makes}
-use Rattle.tc_component.specs.Spelling.{name_of}
 use Rattle.tc_list.specs.Runs.{neighbours}
 use Rattle.tc_part_model.specs.Changes.{merging_part}
 use Rattle.tc_part_model.specs.Leaving.{StoreMomentsLeaveStore}
 use Rattle.tc_machine.specs.Components.{file_of}
-use Rattle.tc_part_model.specs.PartState.{PartState, told}
+use Rattle.tc_part_model.specs.PartState.{PartState, told, told_component}
+use Rattle.tc_part.proofs.OwnNames.{merge_begun_own, merge_is_free}
 use Rattle.tc_part.specs.JobHeads.{merged_head}
 use Rattle.tc_part.specs.MergeEnds.{run_out}
 use Rattle.tc_part.proofs.ReplacedRun.{positions_back}
 use Rattle.tc_part.proofs.RunEnds.{ends, merge_within}
-use Rattle.tc_part.proofs.Standing.{where_it_stands}
+use Rattle.tc_part.proofs.Standing.{left_of}
 use Rattle.tc_part.proofs.part.Part.begin_merge.Goals as goal
 
 pub merge_job-requires-clause-free : goal.merge_job-requires-clause-free
 merge_job-requires-clause-free g c = λ κs lives.
     let s = c.args.self.now in
-    let run = c.args.run in
-    let t = told g.S.Store.history g.S.Device.Device.history g.S.Frozen.Frozen.content s in
-    let head = merged_head s.number s.count run s.list in
-    let e = ends s.number s.count run s.list c.requires.run in
-    where_it_stands t t.disks (λ disk. IsThere (disk (name_of head)) → ⊥) c.requires.stands λ p is.
-    let two = c.runs_can_merge.ensures.within t p s.list run head e.first e.last is refl c.requires.run.0 e.at_first e.at_last e.head in
-    let m = merge_within (neighbours run) p.list two in
-    subst (λ name. IfTold t.disks (λ disk. IsThere (disk name) → ⊥)) (c.runs_can_merge.ensures.named t p s.list run head e.first e.last is refl c.requires.run.0 e.at_first e.at_last e.head m.0 m.1)
-    (c.merges_begin.ensures.free t p (neighbours run) m.0 is two.0 two.1 m.1 c.requires.none_out)
+    merge_is_free g.S.Frozen.Frozen.content (told g.S.Store.history g.S.Device.Device.history g.S.Frozen.Frozen.content s) s.list refl c.args.run c.requires.run.0 c.requires.run.1 c.requires.none_out c.requires.own
+
+pub returns-in-Ok-clause-own : goal.returns-in-Ok-clause-own
+returns-in-Ok-clause-own g c =
+    let s = c.args.self.now in
+    let same = c.in-Ok.ensures.same in
+    merge_begun_own g.S.Frozen.Frozen.content (told g.S.Store.history g.S.Device.Device.history g.S.Frozen.Frozen.content s) s.list refl c.args.run c.requires.run.0 c.requires.run.1 (told g.S.Store.history g.S.Device.Device.history g.S.Frozen.Frozen.content (left_of same)) c.requires.none_out c.in-Ok.ensures.made
+    (ap (λ (x : PartState _ _ _ _). x.generation) same) (ap (λ (x : PartState _ _ _ _). map (told_component g.S.Frozen.Frozen.content) x.list) same)
+    (ap (λ (x : PartState _ _ _ _). x.flushing) same) (ap (λ (x : PartState _ _ _ _). x.merging) same) c.requires.own
 
 pub returns-in-Ok-clause-begun : goal.returns-in-Ok-clause-begun
 returns-in-Ok-clause-begun g c = λ p m is merge.

@@ -75,3 +75,6 @@ returns-clause-moments g c =
       after = rw (← c.reserve.ensures.same, ← c.deref.ensures.value, ← c.in_ok-frame.ensures.frame) c.append.ensures.after;
     } in
     rw (← c.self.view_is) λ p is. c.commits_are_kept.ensures.moments _ p _ is appends
+
+pub returns-clause-own : goal.returns-clause-own
+returns-clause-own g c = rw (← c.self.view_is) λ own. own

@@ -1,4 +1,4 @@
-use Rattle.std.proofs.Common.{◌≡◌, ◌∙◌, ◌-◌, ◌⊎◌, true, false, Bool, [], Some, None, is_some, option_map, refl, sym, ap, subst}
+use Rattle.std.proofs.Common.{◌≡◌, ◌∙◌, ◌-◌, ◌⊎◌, true, false, [], Some, None, is_some, option_map, refl, sym, ap, subst}
 use Rattle.std.specs.Prelude.{Err, not}
 use Rattle.tc_model.specs.Dictionary.{Extends}
 use Rattle.tc_merge.specs.Merging.{newest_names}
@@ -12,16 +12,19 @@ use Rattle.tc_flush.proofs.Outcomes.{if_err}
 use Rattle.tc_part_model.specs.Changes.{flushed_part}
 use Rattle.tc_part_model.specs.Leaving.{FailedMomentsLeaveStore, StoreMomentsLeaveStore}
 use Rattle.tc_part_model.specs.Meaning.{IsOfContent, IsPart}
+use Rattle.tc_part.specs.OwnFiles.{HasOwnFiles}
 use Rattle.tc_part_model.specs.PartState.{PartState, told, told_component}
 use Rattle.tc_part_model.proofs.HomeMoments.{flush_home_moments}
 use Rattle.tc_part.specs.Closing.{HasFailedWhole}
 use Rattle.tc_part.specs.FlushEnds.{flushed_name}
 use Rattle.tc_part.specs.MergeEnds.{merged_name, run_out}
+use Rattle.tc_part.specs.Ready.{active_generation}
 use Rattle.tc_part.proofs.FlushedContents.{flush_headed, log_there, made_so, none_out, of_made, some_there, told_any, told_listed}
 use Rattle.tc_part.proofs.FlushOutcomes.{ended_failed, ended_moments, ended_named, listed_named, unmade_failed, unmade_moments}
 use Rattle.tc_part.proofs.ListedContents.{all_indices}
 use Rattle.tc_part.proofs.Handing.{still_some}
-use Rattle.tc_part.proofs.Standing.{left_of, table_in, told_in}
+use Rattle.tc_part.proofs.OwnOutcomes.{flush_own}
+use Rattle.tc_part.proofs.Standing.{both, left_of, table_in, told_in}
 use Rattle.tc_part.proofs.part.Part.finish_flush.Goals as goal
 
 pub returns-then-self-clause-stays : goal.returns-then-self-clause-stays
@@ -56,9 +59,6 @@ returns-in-Ok-clause-flushed g c =
           (told_listed g.S.Store.history g.S.Device.Device.history g.S.Frozen.Frozen.content (record (left_of c.self.view_is) { flusher = Some c.args.out.watch; flushing = false }) c.end_flush.new.self listed.component _ c.in-Ok.ensures.same listed.listed there.2.1)) of,
       c.flushes_are_listed.ensures.stored _ p m _ is flushing some makes,
     )
-
-both : {P : Type 0} (b : Bool) → b ≡ true → b ≡ false → P
-both b is is_not = absurd (cc)
 
 pub returns-then-self-clause-moments : goal.returns-then-self-clause-moments
 returns-then-self-clause-moments g c = rw (← c.self.view_is) λ p m is makes made. both c.self.inside.failed c.if-self.true is.sound
@@ -164,3 +164,18 @@ returns-in-Err-clause-merge_named g c =
     let start = record (left_of c.self.view_is) { flusher = Some c.args.out.watch; flushing = false } in
     rw (← c.self.view_is) λ out.
     subst (λ (x : PartState _ _ _ _). merged_name (run_out x) x ≡ merged_name (run_out start) start) (sym c.self-2.view_is) (ended_named g.S.Store.history g.S.Device.Device.history g.S.Frozen.Frozen.content g.S.Frozen.Frozen.name start c.end_flush.new.self (g.S.Device.Device.history c.args.out.device) s.merging refl c.self.invariant.run out c.in-Err.ensures.left)
+
+pub returns-then-self-clause-own : goal.returns-then-self-clause-own
+returns-then-self-clause-own g c = rw (← c.self.view_is) λ sound own. both c.self.inside.failed c.if-self.true sound
+
+pub returns-in-Ok-clause-own : goal.returns-in-Ok-clause-own
+returns-in-Ok-clause-own g c =
+    let s = c.self.inside in
+    let start = record (left_of c.self.view_is) { flusher = Some c.args.out.watch; flushing = false } in
+    let flushing : not (is_some s.flusher) ≡ true = ap (λ s. s.flushing) c.self.view_is ∙ c.requires.out in
+    rw (← c.self.view_is) λ sound own.
+    let sealed = c.self.invariant.flush sound (none_out s.flusher flushing) in
+    let there = some_there s.sealed_log _ (c.self.invariant.sealed_both sound ∙ sealed) c.in-Ok.ensures.uncovered in
+    flush_own g.S.Store.history g.S.Device.Device.history g.S.Frozen.Frozen.content g.S.Frozen.Frozen.name start c.end_flush.new.self (g.S.Device.Device.history c.args.out.device)
+    _ c.in-Ok.ensures.same refl (c.self.invariant.behind sound ∙ ap (active_generation s.list) sealed) c.in-Ok.ensures.listed there.2.1
+    (subst (λ b. HasOwnFiles (record (told g.S.Store.history g.S.Device.Device.history g.S.Frozen.Frozen.content start) { flushing = b })) flushing own)

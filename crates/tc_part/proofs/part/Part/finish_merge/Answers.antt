@@ -7,6 +7,7 @@ use Rattle.tc_flush.proofs.Outcomes.{if_err}
 use Rattle.tc_part_model.specs.Changes.{merged_part}
 use Rattle.tc_part_model.specs.Leaving.{FailedMomentsLeaveStore, StoreMomentsLeaveStore}
 use Rattle.tc_part_model.specs.Meaning.{IsPart}
+use Rattle.tc_part.specs.OwnFiles.{HasOwnFiles}
 use Rattle.tc_part_model.specs.PartState.{PartState, told}
 use Rattle.tc_part_model.proofs.FailedParts.{merge_returns}
 use Rattle.tc_part_model.proofs.HomeMoments.{merge_home_moments}
@@ -17,8 +18,9 @@ use Rattle.tc_part.specs.MergeEnds.{HasReplaced, IsMergeDamage, IsMergeRemoving,
 use Rattle.tc_part.specs.Ready.{LiesIn}
 use Rattle.tc_part.proofs.FlushedContents.{told_any}
 use Rattle.tc_part.proofs.MergeOutcomes.{done, done_moments, ended_failed, ended_moments, fitting, left_failed, unmade_failed, unmade_moments}
+use Rattle.tc_part.proofs.OwnOutcomes.{merge_own}
 use Rattle.tc_part.proofs.ReplacedRun.{positions_back}
-use Rattle.tc_part.proofs.Standing.{left_of, told_in}
+use Rattle.tc_part.proofs.Standing.{both, left_of, told_in}
 use Rattle.tc_part.proofs.part.Part.finish_merge.Goals as goal
 
 pub returns-then-self-clause-stays : goal.returns-then-self-clause-stays
@@ -205,3 +207,20 @@ returns-in-Err-clause-undamaged g c =
     rw (← c.self.view_is) λ ok p m is some made.
     let before = subst (λ o. IsPart (record (told_in is) { merging = o }) p) out is in
     fitting g.S.Store.history g.S.Device.Device.history g.S.Frozen.Frozen.content g.S.Frozen.Frozen.name start c.end_merge.new.self p m device run before some lies gone (IfDamaged {X = Unit {0}} (Err c.in-Err.fault) (λ damage. ⊥)) made (c.in-Err.ensures.sound ok)
+
+pub returns-then-self-clause-own : goal.returns-then-self-clause-own
+returns-then-self-clause-own g c = rw (← c.self.view_is) λ sound own. both c.self.inside.failed c.if-self.true sound
+
+pub returns-in-Ok-clause-own : goal.returns-in-Ok-clause-own
+returns-in-Ok-clause-own g c =
+    let s = c.self.inside in
+    let run = c.in-Some.run' in
+    let device = g.S.Device.Device.history c.args.out.device in
+    let merging : s.merging ≡ Some run = sym c.take-merging.ensures.value ∙ c.in-Some.is in
+    let out = ap (option_map neighbours) merging in
+    let lies : LiesIn s.list run = subst (λ o. IfSome o (LiesIn s.list)) merging c.self.invariant.run in
+    let gone = ap (option_map neighbours) c.take-merging.ensures.after in
+    let start = record (left_of c.self.view_is) { merger = Some c.args.out.watch; merging = option_map neighbours c.take-merging.new.self } in
+    rw (← c.self.view_is) λ sound own.
+    merge_own g.S.Store.history g.S.Device.Device.history g.S.Frozen.Frozen.content g.S.Frozen.Frozen.name start c.end_merge.new.self device run c.in-Ok.ensures.same gone lies c.in-Ok.ensures.listed c.in-Ok.ensures.removed
+    (subst (λ o. HasOwnFiles (record (told g.S.Store.history g.S.Device.Device.history g.S.Frozen.Frozen.content start) { merging = o })) out own)

@@ -1,4 +1,4 @@
-use Rattle.std.proofs.Common.{rules, ◌≡◌, ◌∙◌, ◌+◌, false, [], inl, refl, sym, ap, subst, arith}
+use Rattle.std.proofs.Common.{rules, ◌≡◌, ◌∙◌, ◌+◌, false, [], inl, map, refl, sym, ap, subst, arith}
 use Rattle.std.proofs.lemmas.Grind.{common_steps}
 use Rattle.std.specs.Arc.{arc_value}
 use Rattle.tc_store.specs.Disk.{IsThere}
@@ -8,10 +8,13 @@ use Rattle.tc_log.specs.declared.head.LogHead.{LogHead}
 use Rattle.tc_log.specs.Appending.{created}
 use Rattle.tc_log.specs.Spelling.{IsHead}
 use Rattle.tc_part_model.specs.Calls.{HasCreated}
-use Rattle.tc_part_model.specs.PartState.{told}
+use Rattle.tc_part.specs.OwnFiles.{HasOwnFiles}
+use Rattle.tc_part_model.specs.PartState.{PartState, told, told_component}
+use Rattle.tc_part.proofs.OwnNames.{next_log_is_free, sealed_own}
 use Rattle.tc_part.proofs.Creations.{creates}
 use Rattle.tc_part.proofs.Outcomes.{err_always}
-use Rattle.tc_part.proofs.Standing.{where_it_stands}
+use Rattle.tc_part.proofs.OwnOutcomes.{no_flush_out}
+use Rattle.tc_part.proofs.Standing.{left_of}
 use Rattle.tc_part.proofs.part.Part.seal.Goals as goal
 
 pub returns-then-self-eq-MAX_NUMBER-clause-failed : goal.returns-then-self-eq-MAX_NUMBER-clause-failed
@@ -28,9 +31,7 @@ returns-in_err-new-clause-failed g c =
 
 pub fresh-requires : goal.fresh-requires
 fresh-requires g c =
-    let t = told g.S.Store.history g.S.Device.Device.history g.S.Frozen.Frozen.content c.args.self.now in
-    let free = where_it_stands t t.disks (λ disk. IsThere (disk (Log (t.generation + 1))) → ⊥) c.requires.stands (λ p is. c.seals_are_kept.ensures.free t p is c.requires.none_sealed c.requires.nothing_staged) in
-    subst (λ s. IfTold (g.S.Store.history s.store) (λ disk. IsThere (disk (Log (s.generation + 1))) → ⊥)) (sym c.self.view_is) free
+    subst (λ s. IfTold (g.S.Store.history s.store) (λ disk. IsThere (disk (Log (s.generation + 1))) → ⊥)) (sym c.self.view_is) (next_log_is_free (told g.S.Store.history g.S.Device.Device.history g.S.Frozen.Frozen.content c.args.self.now) c.requires.own)
 
 pub returns-in_err-device-clause-failed : goal.returns-in_err-device-clause-failed
 returns-in_err-device-clause-failed g c =
@@ -101,3 +102,14 @@ returns-in-Err-clause-failed g c =
     rw (← c.self.view_is) λ p is.
     c.failed_seals_are_kept.ensures.broken_as _ _ p device broken is none nothing c.in_ok-device.ensures.file lawful (creates head device broken c.in-Err.ensures.broken_moments c.in-Err.ensures.untold) refl refl refl
     (rw (c.abandon.ensures.home, named, c.in_ok-device.ensures.made) refl)
+
+pub returns-in-Ok-clause-own : goal.returns-in-Ok-clause-own
+returns-in-Ok-clause-own g c =
+    let none = ap (λ s. s.sealed) c.self.view_is ∙ c.requires.none_sealed in
+    let sound : c.self.inside.failed ≡ false = ap (λ s. s.failed) c.self.view_is ∙ c.requires.sound in
+    let own = subst (λ s. HasOwnFiles (told g.S.Store.history g.S.Device.Device.history g.S.Frozen.Frozen.content s)) (sym c.self.view_is) c.requires.own in
+    let behind = c.put_behind.ensures in
+    let disks = ap (λ (x : PartState _ _ _ _). g.S.Store.history x.store) behind ∙ c.in_ok-device.ensures.made in
+    sealed_own (told g.S.Store.history g.S.Device.Device.history g.S.Frozen.Frozen.content (left_of c.self.view_is)) (told g.S.Store.history g.S.Device.Device.history g.S.Frozen.Frozen.content (left_of behind)) (no_flush_out arc_value c.self.inside.flusher c.self.inside.sealed (c.self.invariant.flush sound) none) disks
+    (ap (λ (x : PartState _ _ _ _). x.generation) behind) (ap (λ (x : PartState _ _ _ _). map (told_component g.S.Frozen.Frozen.content) x.list) behind)
+    (ap (λ (x : PartState _ _ _ _). x.flushing) behind) (ap (λ (x : PartState _ _ _ _). x.merging) behind) own

@@ -1,13 +1,19 @@
 use Rattle.std.proofs.Common.{◌≡◌, ◌∙◌, None, sym, ap, subst}
+use Rattle.std.specs.Prelude.{All}
 use Rattle.tc_store.specs.Disk.{home}
 use Rattle.tc_store.specs.Moments.{IfTold}
 use Rattle.tc_store.specs.StoreCalls.{comes_home}
+use Rattle.tc_store.proofs.MomentLemmas.{told_map}
+use Rattle.tc_component.specs.Loading.{ComponentState}
+use Rattle.tc_component.specs.Spelling.{IsIndex}
 use Rattle.tc_lsm_model.specs.Lists.{live}
 use Rattle.tc_part_model.specs.Leaving.{FailedMomentsLeaveStore, KeepsStore}
 use Rattle.tc_part_model.specs.Meaning.{IsPart}
+use Rattle.tc_part.specs.OwnFiles.{FollowInOrder, HasOnlyOwn, HasOwnFiles}
 use Rattle.tc_part_model.specs.PartState.{told}
 use Rattle.tc_part_model.specs.Starting.{started, started_part}
 use Rattle.tc_part.specs.Openings.{told_opening}
+use Rattle.tc_part.proofs.OwnOutcomes.{follow_in_order}
 use Rattle.tc_part.proofs.StagedWrites.{few_live}
 use Rattle.tc_part.proofs.StartedLogs.{named_first}
 use Rattle.tc_part.proofs.part.Part.start.Goals as goal
@@ -39,3 +45,13 @@ returns-in-Err-clause-moments g c = λ list opened.
     let named = c.requires.follows ∙ named_first o list (c.parts_start.ensures.started o list opened) in
     let at_home = c.given_up.ensures.home ∙ ap (λ name. comes_home name (λ f. home f) o.log o.disks) named in
     subst (λ disks. FailedMomentsLeaveStore (started_part o.part list) None (started o) disks) (sym at_home) (c.parts_start.ensures.not_begun_moments o list opened)
+
+pub returns-in-Ok-clause-own : goal.returns-in-Ok-clause-own
+returns-in-Ok-clause-own g c = λ only.
+    let from = c.args.opened in
+    let content = g.S.Frozen.Frozen.content in
+    let o = told_opening g.S.Store.history g.S.Device.Device.history content from.number from.count from.kit.store from.log.device from.list in
+    let lawful = subst (All (λ (x : ComponentState _). IsIndex x.index)) c.as_slice.ensures.all c.look_over.ensures in
+    let order = follow_in_order content 0 from.list c.as_slice.ensures.follow lawful in
+    let own : HasOwnFiles (started o) = told_map (HasOnlyOwn (started o)) (λ disk. FollowInOrder 0 o.components × HasOnlyOwn (started o) disk) o.disks (λ disk each. (order, each)) only in
+    subst (λ part. HasOwnFiles (told g.S.Store.history g.S.Device.Device.history g.S.Frozen.Frozen.content part)) (sym c.begun_with.ensures.begun) own
