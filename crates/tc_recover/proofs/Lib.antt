@@ -9,4 +9,11 @@ mod LogSteps
 mod LoadSteps
 mod Removals
 mod ReadSteps
+mod OneTiling
+mod ComponentFronts
+mod LawfulPictures
+mod LawfulDisks
+mod LawfulReads
+mod TakenFiles
+mod NeedlessLeft
 mod StoreReads

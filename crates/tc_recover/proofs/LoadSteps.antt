@@ -6,6 +6,7 @@ use Rattle.std.proofs.lemmas.List.{map-append}
 use Rattle.std.proofs.lemmas.List.Elements.{All-push, Contains-append_right}
 use Rattle.std.proofs.lemmas.Map.Keys.{sorted_tail}
 use Rattle.std.proofs.lemmas.Grind.{common_steps}
+use Rattle.std.proofs.lemmas.Bool.{and_parts}
 use Rattle.std.proofs.lemmas.Slice.Eq.{bytes_eq-Decides}
 use Rattle.std.specs.Result.{IsErrOf, IsOk}
 use Rattle.tc_bytes.specs.Counts.{Rose}
@@ -237,16 +238,12 @@ told_of tells (u ∷ us) t told member = elim (member_cases u us t member) [
 
 -- ---- one file more
 
-same_interval : (i j : Interval) → i.from ≡ j.from → i.to ≡ j.to → i ≡ j
+pub same_interval : (i j : Interval) → i.from ≡ j.from → i.to ≡ j.to → i ≡ j
 same_interval i j from to = subst (λ a. i ≡ record { from = a; to = j.to }) from (subst (λ b. i ≡ record { from = i.from; to = b }) to refl)
 
 -- the file of the next tile has its name
 pub called_so : {F W : Type 0} (tile : Interval) (t : Taken F W) → is_file_of tile t ≡ true → tile_name tile ≡ t.name
-called_so tile t is = same_name-is (tile_name tile) t.name (second t.open (same_name (tile_name tile) t.name) is)
-  where
-    second : (a b : Bool) → a && b ≡ true → b ≡ true
-    second true b is = is
-    second false b is = absurd (cc)
+called_so tile t is = same_name-is (tile_name tile) t.name (and_parts t.open (same_name (tile_name tile) t.name) is).1
 
 one_name : (i j : Interval) → tile_name i ≡ tile_name j → i ≡ j
 one_name i j same = same_interval i j (cc) (cc)

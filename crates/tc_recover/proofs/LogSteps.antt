@@ -1,8 +1,9 @@
 -- Logs are read one after the other.
-use Rattle.std.proofs.Common.{◌≡◌, ◌≤◌, ℕ, Bool, cond, filter, List, [], ◌∷◌, ◌++◌, length, refl, sym, subst, ap, arith}
+use Rattle.std.proofs.Common.{◌≡◌, ◌≤◌, ◌+◌, ℕ, Bool, cond, filter, List, [], ◌∷◌, ◌++◌, length, refl, sym, subst, ap, length-append, arith}
 use Rattle.std.specs.Prelude.{Contains, ◌&&◌, false, if◌then◌else◌, Option, Some, None, unwrap_or, All, IsSome, IfSome, true, Result, Ok, Err}
 use Rattle.std.specs.List.{AllByRecursion}
 use Rattle.std.specs.Result.{IsErrAnd, IsErrOf, IsOk}
+use Rattle.std.proofs.lemmas.Bool.{and_parts}
 use Rattle.std.proofs.lemmas.List.Elements.{All-push}
 use Rattle.tc_store.specs.declared.file_name.FileName.{FileName}
 use Rattle.tc_store.specs.declared.damage.Damage.TheVariants.{Bytes, Files}
@@ -33,12 +34,9 @@ pub record AreLogsLeft {F W : Type 0} (tells : F → Option (List ℕ)) (last : 
   pub judged : AreTold tells all → logs_judged last [] (picture_in tells all) ≡ logs_judged last done (picture_in tells rest)
   pub among : AreAmong rest all
   pub lawful : All (AllByRecursion IsWrite) done
+  pub each : length done + length (filter (is_log last) rest) ≡ length (filter (is_log last) all)
   pub faults : before.faults ≤ now.faults
   pub reads : count_after (length (filter (is_log last) rest)) now.reads ≡ count_after (length (filter (is_log last) all)) before.reads
-
-and_first : (a b : Bool) → a && b ≡ true → a ≡ true
-and_first true b is = refl
-and_first false b is = is
 
 open_told : (open_it : Bool) (content : Option (List ℕ)) → IfSome content (λ bytes. open_it ≡ is_open_file bytes) → open_it ≡ true → IfSome content (λ bytes. is_open_file bytes ≡ true)
 open_told open_it None gate is = tt
@@ -49,7 +47,7 @@ pub next_open : {F W : Type 0} (tells : F → Option (List ℕ)) (last : ℕ) (a
     → is_log last t ≡ true → IfSome (tells t.file) (λ bytes. is_open_file bytes ≡ true)
 next_open tells last all rest ts t done before now p rests is =
     let q = subst (λ left. AreLogsLeft tells last all left done before now) rests p in
-    open_told t.open (tells t.file) (gate_first tells t ts q.gates) (and_first t.open (is_above last t.name) is)
+    open_told t.open (tells t.file) (gate_first tells t ts q.gates) (and_parts t.open (is_above last t.name) is).0
 
 -- the test of the gate's byte and of the name is that of the file
 tested : {F W : Type 0} (tells : F → Option (List ℕ)) (last : ℕ) (t : Taken F W) → IsSome (tells t.file) → IfSome (tells t.file) (λ bytes. t.open ≡ is_open_file bytes)
@@ -71,6 +69,7 @@ log_skipped tells last all rest ts t done before now p rests other = left (subst
           no (q.judged told);
       among = λ u member. q.among u (member_further t ts u member);
       lawful = q.lawful;
+      each = subst (λ is. length done + length (cond is (t ∷ filter (is_log last) ts) (filter (is_log last) ts)) ≡ length (filter (is_log last) all)) other q.each;
       faults = q.faults;
       reads = subst (λ is. count_after (length (cond is (t ∷ filter (is_log last) ts) (filter (is_log last) ts))) now.reads ≡ count_after (length (filter (is_log last) all)) before.reads) other q.reads;
     }
@@ -101,6 +100,10 @@ log_read tells last all rest ts t done more writes before now after p rests this
           subst (λ r. logs_judged last [] (picture_in tells all) ≡ r) next was;
       among = λ u member. q.among u (member_further t ts u member);
       lawful = All-push (AllByRecursion IsWrite) done writes q.lawful lawful;
+      each =
+          let was = subst (λ is. length done + length (cond is (t ∷ filter (is_log last) ts) (filter (is_log last) ts)) ≡ length (filter (is_log last) all)) this q.each in
+          let more = length-append done (writes ∷ []) in
+          omega (arith, was, more);
       faults = omega (arith, q.faults, risen);
       reads =
           let was = subst (λ is. count_after (length (cond is (t ∷ filter (is_log last) ts) (filter (is_log last) ts))) now.reads ≡ count_after (length (filter (is_log last) all)) before.reads) this q.reads in
@@ -150,6 +153,12 @@ pub logs_counted : {F W : Type 0} (tells : F → Option (List ℕ)) (last : ℕ)
     → now.reads ≡ count_after (length (filter (is_log last) all)) before.reads
 logs_counted tells last all rest done before now p nothing =
     subst (λ left. count_after (length (filter (is_log last) left)) now.reads ≡ count_after (length (filter (is_log last) all)) before.reads) nothing p.reads
+
+pub logs_each : {F W : Type 0} (tells : F → Option (List ℕ)) (last : ℕ) (all rest : List (Taken F W)) (done : List (List Write)) (before now : Counts) → AreLogsLeft tells last all rest done before now → rest ≡ []
+    → length done ≡ length (filter (is_log last) all)
+logs_each tells last all rest done before now p nothing =
+    let all_done : length done + 0 ≡ length (filter (is_log last) all) = subst (λ left. length done + length (filter (is_log last) left) ≡ length (filter (is_log last) all)) nothing p.each in
+    omega (arith, all_done)
 
 pub log_damage : {X F W : Type 0} (size : F → ℕ) (t : Taken F W) (judged : Result X ReadFault) (fault : ReadFault) (cause : FilesCause) → IsOfRead t.name fault cause
     → IfDamaged judged (λ place bytes. (whole : List ℕ) × (length whole ≡ size t.file) × (log_judged whole ≡ Err (damage place bytes))) → judged ≡ Err fault → IsLogDamage size t cause

@@ -66,7 +66,7 @@ logs_left {F = F} {W = W} tells last (tile ∷ tiles) (t ∷ ts) before = cases 
         rw (is, not, and_false (is_open_file (unwrap_or (tells t.file) []))) here
     cases false is here later = rw is (step_same last before (t.name, unwrap_or (tells t.file) []) (picture_in tells (left_of (tile ∷ tiles) ts)) (picture_in tells ts) later)
 
-left_all : {F W : Type 0} (P : Taken F W → Type 0) (tiles : List Interval) (ts : List (Taken F W)) → All P ts → All P (left_of tiles ts)
+pub left_all : {F W : Type 0} (P : Taken F W → Type 0) (tiles : List Interval) (ts : List (Taken F W)) → All P ts → All P (left_of tiles ts)
 left_all P tiles [] all = all
 left_all P [] (t ∷ ts) all = all
 left_all {F = F} {W = W} P (tile ∷ tiles) (t ∷ ts) all = cases (is_file_of tile t) refl (left_all P tiles ts (λ k d low. all (suc k) d (omega (arith, low)))) (left_all P (tile ∷ tiles) ts (λ k d low. all (suc k) d (omega (arith, low))))

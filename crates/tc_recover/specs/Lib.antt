@@ -9,3 +9,4 @@ pub mod Loads
 pub mod Loading
 pub mod Removing
 pub mod Opening
+pub mod Lawful

@@ -29,6 +29,7 @@ pub fn read_logs<F: Frozen>(
     ensures judged { AreTold F.content files.now → Answers (λ writes. writes.items) result (logs_judged last [] (picture_in F.content files.now)) }
     ensures causes { IfErr result (IsLogCause F.size last files.now) }
     ensures lawful { IfOk result (λ writes. All (AllByRecursion IsWrite) writes.items) }
+    ensures each { IfOk result (λ writes. length writes.items ≡ length (filter (of_log last) files.now)) }
     ensures counted { IsCountedTimes (IsErrOf result FilesCause.Disk) (IsOk result) (length (filter (of_log last) files.now)) (F.Watch.counts watch.old) (F.Watch.counts watch.new) }
 {
     let mut all = Vec::new(alloc);

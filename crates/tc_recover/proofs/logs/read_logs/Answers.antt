@@ -7,7 +7,7 @@ use Rattle.tc_recover.specs.Files.{picture_in}
 use Rattle.tc_recover.specs.Loads.{logs_judged, Answers, IsLogCause}
 use Rattle.std.specs.Prelude.{Contains, IfErr}
 use Rattle.tc_recover.proofs.Members.{member_first}
-use Rattle.tc_recover.proofs.LogSteps.{next_open, log_skipped, log_read, log_refused, counted_memory, logs_counted, damage_of_all}
+use Rattle.tc_recover.proofs.LogSteps.{next_open, log_skipped, log_read, log_refused, counted_memory, logs_counted, logs_each, damage_of_all}
 use Rattle.tc_recover.proofs.logs.read_logs.Goals as goal
 
 pub read_log-requires-after_bounds : goal.read_log-requires-after_bounds
@@ -41,6 +41,9 @@ returns-clause-counted g c = record {
   cause = λ failed. absurd (cc);
   done = λ done. logs_counted _ c.args.last c.args.files.now c.loop-file.rest.now _ _ _ c.loop-file.invariant (nil_from_length c.loop-file.rest.now c.in_default.ensures.cases);
 }
+
+pub returns-clause-each : goal.returns-clause-each
+returns-clause-each g c = logs_each _ c.args.last c.args.files.now c.loop-file.rest.now _ _ _ c.loop-file.invariant (nil_from_length c.loop-file.rest.now c.in_default.ensures.cases)
 
 pub returns-in_err-writes-clause-causes : goal.returns-in_err-writes-clause-causes
 returns-in_err-writes-clause-causes g c =

@@ -170,6 +170,11 @@ returns-clause-read g c =
       left_are = subst (λ ts. c.in_ok-list.field-0.left.items ≡ left_of ts files) (sym c.in_ok-list.ensures.tiles) c.in_ok-list.ensures.left;
     }
 
+pub returns-clause-logs : goal.returns-clause-logs
+returns-clause-logs g c =
+    let d5 : c.deref-5.result.now ≡ c.in_ok-list.field-0.left.items = search rules in
+    subst (λ ts. length c.in_ok-writes.writes.items ≡ length (filter (is_log c.last_of-last.result) ts)) d5 c.in_ok-writes.ensures.each
+
 pub returns-clause-counted : goal.returns-clause-counted
 returns-clause-counted g c =
     let d1 : c.deref.result.now ≡ c.args.files.items = search rules in
