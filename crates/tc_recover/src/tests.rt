@@ -1,5 +1,6 @@
 //! Stores of a few files, taken, judged, sorted and read.
 
+ghost use Rattle.std.specs.Prelude.{◌<◌, length};
 ghost use Rattle.tc_store.specs.Disk.{IsAtRest};
 ghost use Rattle.tc_store.specs.Memory.Store.{store_disks};
 ghost use Rattle.tc_store.specs.Moments.{IfTold};
@@ -150,18 +151,37 @@ fn read(alloc: Global, files: Vec<MemFile>) -> Result<String, AllocError> {
     }
 }
 
+// A log of a generation below 256.
+fn log_of(alloc: Global, generation: u8, bytes: &[u8]) -> Result<MemFile, AllocError>
+    requires { 20 < length bytes.now }
+{
+    let mut bytes = Vec::from_slice(alloc, bytes)?;
+    bytes[20] = generation;
+    let name = FileName::Log {
+        generation: u64::from(generation),
+    };
+    Ok(MemFile {
+        name,
+        bytes: Bytes::of(bytes),
+    })
+}
+
+// Of two components and one that lies within the first, a log that they cover, two above them, and a closed component.
 #[test]
 fn components_and_the_logs_above_are_read(rt: HostRuntime) -> Result<(), Fail> {
     let alloc = rt.alloc();
-    let closed = FileName::Component { from: 3, to: 3 };
+    let closed = FileName::Component { from: 4, to: 5 };
     let mut files = Vec::new(alloc);
-    files.push(log(alloc, 2, &SECOND)?)?;
+    files.push(log_of(alloc, 5, &SECOND)?)?;
+    files.push(log_of(alloc, 4, &FIRST)?)?;
     files.push(log(alloc, 1, &FIRST)?)?;
     files.push(file(alloc, closed, &[0, 9])?)?;
+    files.push(component(alloc, 3, 3)?)?;
+    files.push(component(alloc, 1, 2)?)?;
     files.push(component(alloc, 1, 1)?)?;
     assert_eq!(rt;
         read(alloc, files)?.as_str(),
-        "1 3 [Writes { writes: [] }] 1"
+        "2 5 [Writes { writes: [Delete { key: 7 }] }, Writes { writes: [] }] 3"
     );
     Ok(())
 }
