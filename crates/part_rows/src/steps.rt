@@ -6,7 +6,7 @@ ghost use Rattle.part_rows.specs.Waiting.{IsShortWrite};
 
 use std::alloc::Global;
 use tc_log::Write;
-use tc_part::{Part, PartFault, Staged};
+use tc_part::{Part, PartFault, Staged, parts_own_files};
 use tc_part_model::{jobs_have_made, sealed_tables_can_flush};
 use tc_store::MemStore;
 use tc_value::Doc;
@@ -57,6 +57,7 @@ pub(crate) fn seal(
     requires none_sealed { is_some part.old.sealed ≡ false }
     ensures { IsAtDesk part.new waiting stands }
 {
+    parts_own_files();
     part.seal(alloc)
 }
 
@@ -90,6 +91,7 @@ pub(crate) fn flush(
 {
     sealed_tables_can_flush();
     jobs_have_made();
+    parts_own_files();
     let job = part.begin_flush(alloc)?;
     let out = job.run(alloc);
     part.finish_flush(alloc, out)

@@ -9,8 +9,8 @@ use Rattle.part_rows.proofs.Parts.{at_desk, ends_well, fails, fails_by, on_err, 
 use Rattle.part_rows.proofs.ToldFiles.{all_told, settled_told}
 use Rattle.part_rows.proofs.steps.flush.Goals as goal
 
-pub begin_flush-requires-clause-stands : goal.begin_flush-requires-clause-stands
-begin_flush-requires-clause-stands c κs = c.requires.desk.means c.requires.standing c.requires.sound
+pub begin_flush-requires-clause-own : goal.begin_flush-requires-clause-own
+begin_flush-requires-clause-own c κs = let m = c.requires.desk.means c.requires.standing c.requires.sound in c.parts_own_files.ensures.part _ m.0 m.1
 
 pub returns-in_err-job : goal.returns-in_err-job
 returns-in_err-job c = fails c.args.part.now c.begin_flush.new.self c.args.waiting c.args.waiting c.args.stands c.requires.desk (fails_by c.args.part.now c.begin_flush.new.self _ refl refl refl c.in_err-job.ensures.left)

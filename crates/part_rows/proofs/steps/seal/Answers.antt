@@ -9,8 +9,8 @@ seal-requires-clause-nothing_staged c κs = nothing_waits c.args.part.now.staged
 pub seal-requires-clause-none_sealed : goal.seal-requires-clause-none_sealed
 seal-requires-clause-none_sealed c κs = none_is c.args.part.now.sealed _ refl c.requires.none_sealed
 
-pub seal-requires-clause-stands : goal.seal-requires-clause-stands
-seal-requires-clause-stands c κs = c.requires.desk.means c.requires.standing c.requires.sound
+pub seal-requires-clause-own : goal.seal-requires-clause-own
+seal-requires-clause-own c κs = let m = c.requires.desk.means c.requires.standing c.requires.sound in c.parts_own_files.ensures.part _ m.0 m.1
 
 pub returns : goal.returns
 returns c =
