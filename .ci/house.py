@@ -24,10 +24,9 @@ ANSWERS = ("Answers.antt", "Invariants.antt", "Proof.antt")
 ROWS = "Rows.antt"
 # Definitions, and laws that no clause can state, which crates to come stand on. A name leaves this list once it is used.
 AWAITED = {
-    "tc_model": ("request_in_line",),
     "tc_plain_model": ("part_left_all-writes", "part_replies"),
-    "tc_run_model": ("AreReplies-replies_to", "MayReply-append", "MayReply-none", "after_all_stands", "built_replies", "first_stands", "known_after-append", "lines_in-windows",
-        "replied-none", "replies_have_kinds", "windows_are_cut", "worlds_left"),
+    "tc_run_model": ("AreReplies-replies_to", "after_all_stands", "built_replies", "first_stands", "known_after-append", "lines_in-windows",
+        "replies_have_kinds", "windows_are_cut"),
     "tc_store": ("picture_before", "picture_weaker"),
 }
 

@@ -1,12 +1,12 @@
 -- How far a run comes: which windows were answered, at which it ended, and what the sink accepted. What is said of the
--- disk is said of the same windows.
-use Rattle.std.specs.Prelude.{◌≡◌, ◌⊎◌, ℕ, ◌+◌, ◌<◌, List, [], ◌∷◌, ◌++◌, length, flat_map, take, Option}
+-- disk is said of the same windows. The world in which a run begins is none where it is not known.
+use Rattle.std.specs.Prelude.{◌≡◌, ◌⊎◌, ℕ, ◌+◌, ◌<◌, List, [], ◌∷◌, ◌++◌, length, flat_map, take, Option, option_map}
 use Rattle.std.specs.Io.KnownBytes.{Appends, Consumes, IsAtEnd}
 use Rattle.tc_model.specs.Request.{Request}
 use Rattle.tc_model.specs.Reply.{Reply, reply_line}
 use Rattle.tc_run_model.specs.Windows.{BeginsWith, Window, windows, closed_windows, unless_empty, lines_in}
 use Rattle.tc_run_model.specs.World.{World, after_all}
-use Rattle.tc_run_model.specs.Replies.{AreReplies}
+use Rattle.tc_run_model.specs.Known.{MayReply}
 use Rattle.tc_run_model.specs.Built.{requests_for}
 
 -- how a run ends
@@ -37,6 +37,10 @@ requests_in ws = requests_for (lines_in ws)
 abbrev pub behind : World → List Window → World
 behind first ws = after_all (requests_in ws) first
 
+-- the same of a world that may not be known
+abbrev pub known_behind : Option World → List Window → Option World
+known_behind first ws = option_map (λ w. behind w ws) first
+
 -- These windows closed: by the lines that came with their line feed, or by the end of the input too.
 abbrev pub HaveClosed : ℕ → List ℕ → Option (List ℕ) → List Window → Type 0
 HaveClosed most input left closed = (closed ≡ closed_windows most input) ⊎ (IsAtEnd left × (closed ≡ windows most input))
@@ -65,32 +69,32 @@ each_line replies = flat_map reply_line replies
 
 -- What is shown of the replies to the answered windows. Where a write failed, also the first bytes of the last window's,
 -- and not all of them.
-abbrev pub Took : Shown → Ending → World → List Window → Window → List Reply → Option (List ℕ) → Option (List ℕ) → Type 0
+abbrev pub Took : Shown → Ending → Option World → List Window → Window → List Reply → Option (List ℕ) → Option (List ℕ) → Type 0
 Took shown finished first answered last replies taken taken' = Appends taken taken' (shown replies)
 Took shown input_failed first answered last replies taken taken' = Appends taken taken' (shown replies)
 Took shown input_spent first answered last replies taken taken' = Appends taken taken' (shown replies)
 Took shown (output_failed n) first answered last replies taken taken' =
-    (more : List Reply) × AreReplies (requests_for last) (behind first answered) more
+    (more : List Reply) × MayReply (requests_for last) (known_behind first answered) more
     × (length (shown replies) + n < length (shown (replies ++ more)))
     × Appends taken taken' (take (length (shown replies) + n) (shown (replies ++ more)))
 Took shown stopped first answered last replies taken taken' = Appends taken taken' (shown replies)
 Took shown unopened first answered last replies taken taken' = Appends taken taken' (shown replies)
 
 -- What is due by given input: the replies to the windows that have closed among it, to a sink that had taken `base`.
-abbrev pub IsDue : Shown → World → ℕ → Option (List ℕ) → List ℕ → Option (List ℕ) → Type 0
+abbrev pub IsDue : Shown → Option World → ℕ → Option (List ℕ) → List ℕ → Option (List ℕ) → Type 0
 IsDue shown first most base given accepted =
-    (replies : List Reply) × AreReplies (requests_in (closed_windows most given)) first replies × Appends base accepted (shown replies)
+    (replies : List Reply) × MayReply (requests_in (closed_windows most given)) first replies × Appends base accepted (shown replies)
 
 -- ---- a run
 
 -- a run from a first world, over windows of at most so many lines, of whose replies so much is shown
-pub record Ran (shown : Shown) (first : World) (most : ℕ) (ending : Ending) (left left' taken taken' : Option (List ℕ)) : Type 0 where
+pub record Ran (shown : Shown) (first : Option World) (most : ℕ) (ending : Ending) (left left' taken taken' : Option (List ℕ)) : Type 0 where
   pub input : List ℕ
   pub consumed : Consumes left left' input
   pub answered : List Window
   pub last : Window
   pub replies : List Reply
-  pub given : AreReplies (requests_in answered) first replies
+  pub given : MayReply (requests_in answered) first replies
   pub reached : IsReached ending most input left' answered last
   pub took : Took shown ending first answered last replies taken taken'
 

@@ -1,65 +1,97 @@
--- How far a window is answered, between two of its lines.
-use Rattle.std.proofs.Common.{◌≡◌, ℕ, ◌<◌, length, take, List, [], ◌∷◌, ◌++◌, refl, ap, sym, subst, ◌∙◌, append_assoc, append-nil}
-use Rattle.std.proofs.lemmas.Grind.{flat_map-append}
-use Rattle.tc_model.specs.Request.{Request}
-use Rattle.tc_model.specs.Reply.{Reply, reply_line}
-use Rattle.tc_run_model.specs.World.{World, after, after_all}
-use Rattle.tc_run_model.specs.Replies.{AreReplies}
-use Rattle.tc_run_model.specs.Course.{each_line}
-use Rattle.tc_run_model.specs.Built.{if_built}
-use Rattle.tc_server.specs.Limited.{Limited, left_by, reply_by}
-use Rattle.std.specs.Prelude.{Option}
-use Rattle.std.specs.Io.KnownBytes.{Appends}
-use Rattle.tc_server.specs.Holds.{Holds, AreAnswered, AreWritten, WritesPart}
-use Rattle.tc_server.specs.declared.outcome.RunFault.TheVariants.{Write}
-use Rattle.tc_server.proofs.Holding.{answers_as, leaves_as}
+-- What answering requests leaves, and what is written of it.
+use Rattle.std.proofs.Common.{◌≡◌, ℕ, ◌<◌, length, take, List, [], ◌∷◌, inl, inr, refl, ap, subst}
+use Rattle.std.specs.Prelude.{Option, Some, None, option_map, IfSome}
+use Rattle.std.specs.Io.KnownBytes.{Appends, Keeps}
+use Rattle.tc_model.specs.Request.{Request, refused, not_built}
+use Rattle.tc_model.specs.Reply.{turned_down}
+use Rattle.tc_run_model.specs.World.{World, after_all}
+use Rattle.tc_run_model.specs.Known.{MayReply, known_after}
+use Rattle.tc_server.specs.Asked.{request_whole}
+use Rattle.tc_server.specs.Faults.{Stop, failed_writing, gave_up, stop_of, IsNoDamage, IsOfStore}
+use Rattle.tc_server.specs.Holds.{AreAnswered, AreWritten, IsLeft, worlds_at, HaveFailed}
+use Rattle.tc_server.specs.declared.answer.Control.{Control}
+use Rattle.tc_server.specs.declared.answer.Control.TheVariants.{Schema, NotBuilt}
+use Rattle.tc_server.specs.declared.outcome.RunFault.{RunFault}
+use Rattle.tc_server.specs.declared.outcome.RunFault.TheVariants.{Usage, Read, Write, Spent, Disk, Damaged, Memory, Layout}
 
--- Of all requests these are left. The bytes are the lines of the replies so far, which go on to replies to all; the store
--- holds the world in which the rest is answered.
-pub record IsAnswering (w : World) (all rest : List Request) (bytes : List ℕ) (s : Limited) : Type 0 where
-  pub replies : List Reply
-  pub now : World
-  pub lines : bytes ≡ each_line replies
-  pub held : Holds now s
-  pub given : (more : List Reply) → AreReplies rest now more → AreReplies all w (replies ++ more)
-  pub leaves : after_all rest now ≡ after_all all w
+-- ---- requests for the whole store
 
-pub begins_answering : (w : World) (all : List Request) (s : Limited) → Holds w s → IsAnswering w all all [] s
-begins_answering w all s holds = record { replies = []; now = w; lines = refl; held = holds; given = λ more given. given; leaves = refl }
+pub whole_leaves : (control : Control) (w : World) → after_all (request_whole control ∷ []) w ≡ w
+whole_leaves Schema w = refl
+whole_leaves NotBuilt w = refl
 
--- one more request was answered
-pub one_answered : (w : World) (all rest : List Request) (r : Request) (old new : List ℕ) (s t : Limited) → IsAnswering w all (if_built r ∷ rest) old s
-    → new ≡ old ++ reply_line (reply_by r s) → t ≡ left_by r s
-    → IsAnswering w all rest new t
-one_answered w all rest r old new s t so_far longer leaves =
-    let reply = reply_by r s in record {
-      replies = so_far.replies ++ reply ∷ [];
-      now = after (if_built r) so_far.now;
-      lines = longer ∙ ap (λ bytes. bytes ++ reply_line reply) so_far.lines ∙ ap (λ bytes. each_line so_far.replies ++ bytes) (sym (append-nil (reply_line reply))) ∙ sym (flat_map-append reply_line so_far.replies (reply ∷ []));
-      held = subst (Holds (after (if_built r) so_far.now)) (sym leaves) (leaves_as r so_far.now s so_far.held);
-      given = λ more given. subst (AreReplies all w) (sym (append_assoc so_far.replies (reply ∷ []) more)) (so_far.given (reply ∷ more) (answers_as r so_far.now s so_far.held, given));
-      leaves = so_far.leaves;
-    }
+pub whole_known : (control : Control) (known : Option World) → known_after (request_whole control ∷ []) known ≡ known
+whole_known control (Some w) = ap Some (whole_leaves control w)
+whole_known control None = refl
 
-pub all_answered : (w : World) (all : List Request) (bytes : List ℕ) (s : Limited) → IsAnswering w all [] bytes s → AreAnswered w all bytes s
-all_answered w all bytes s so_far = record {
-  replies = so_far.replies;
-  given = subst (AreReplies all w) (append-nil so_far.replies) (so_far.given [] tt);
-  lines = so_far.lines;
-  held = subst (λ v. Holds v s) so_far.leaves so_far.held;
-}
+pub unbuilt_replied : (known : Option World) → MayReply (refused not_built ∷ []) known (turned_down not_built ∷ [])
+unbuilt_replied (Some w) = (refl, tt)
+unbuilt_replied None = (refl, tt)
+
+-- ---- what is left where a window failed
+
+-- it failed at one of two worlds
+pub left_failed : {K : Type 0} (holds : K → Option World → Type 0) (keeps : K → World → World → Type 0) (k : K) (rs : List Request) (known : Option World)
+    → ((w : World) → known ≡ Some w → keeps k w (after_all rs w)) → IsLeft holds keeps k (option_map (worlds_at gave_up rs) known)
+left_failed holds keeps k rs (Some w) fails = record { one = w; other = after_all rs w; one_of = inl refl; other_of = inr (inl refl); left = inr (fails w refl) }
+left_failed holds keeps k rs None fails = tt
+
+-- it failed behind the requests
+pub left_behind : {K : Type 0} (holds : K → Option World → Type 0) (keeps : K → World → World → Type 0) (k : K) (rs : List Request) (known : Option World)
+    → ((w : World) → known_after rs known ≡ Some w → keeps k w w) → IsLeft holds keeps k (option_map (worlds_at gave_up rs) known)
+left_behind holds keeps k rs (Some w) fails = record { one = after_all rs w; other = after_all rs w; one_of = inr (inl refl); other_of = inr (inl refl); left = inr (fails (after_all rs w) refl) }
+left_behind holds keeps k rs None fails = tt
+
+-- it stands behind the requests
+pub left_standing : {K : Type 0} (holds : K → Option World → Type 0) (keeps : K → World → World → Type 0) (k : K) (stop : Stop) (rs : List Request) (known : Option World)
+    → holds k (known_after rs known) → IsLeft holds keeps k (option_map (worlds_at stop rs) known)
+left_standing holds keeps k (failed_writing n) rs (Some w) held = record { one = after_all rs w; other = after_all rs w; one_of = inl refl; other_of = inl refl; left = inl held }
+left_standing holds keeps k gave_up rs (Some w) held = record { one = after_all rs w; other = after_all rs w; one_of = inr (inl refl); other_of = inr (inl refl); left = inl held }
+left_standing holds keeps k stop rs None held = tt
+
+-- a fault of the store ends a run within its window
+pub store_stops : (f : RunFault) → IsOfStore f → stop_of f ≡ Some gave_up
+store_stops Usage kind = absurd kind
+store_stops Read kind = absurd kind
+store_stops (Write n) kind = absurd kind
+store_stops Spent kind = refl
+store_stops (Disk p) kind = refl
+store_stops (Damaged p damage) kind = refl
+store_stops Memory kind = refl
+store_stops (Layout p found found_of asked_of) kind = absurd kind
+
+pub if_known : (known : Option World) (P : Type 0) → ((w : World) → known ≡ Some w → P) → IfSome known (λ w. P)
+if_known (Some w) P holds = holds w refl
+if_known None P holds = tt
 
 -- ---- what is written of the answers
 
-pub all_written : (w : World) (rs : List Request) (bytes : List ℕ) (s : Limited) (taken taken' : Option (List ℕ)) → AreAnswered w rs bytes s → Appends taken taken' bytes → AreWritten w rs taken taken' s
-all_written w rs bytes s taken taken' answered written = record {
+pub all_written : {K : Type 0} (holds : K → Option World → Type 0) (known : Option World) (rs : List Request) (bytes : List ℕ) (old new : K) (taken taken' : Option (List ℕ)) → AreAnswered holds known rs bytes old
+    → (holds old (known_after rs known) → holds new (known_after rs known)) → Appends taken taken' bytes → AreWritten holds known rs taken taken' new
+all_written holds known rs bytes old new taken taken' answered stays written = record {
   replies = answered.replies;
   given = answered.given;
   written = subst (Appends taken taken') answered.lines written;
-  held = answered.held;
+  held = stays answered.held;
 }
 
-pub part_written : (w : World) (rs : List Request) (bytes : List ℕ) (s : Limited) (taken taken' : Option (List ℕ)) (n : ℕ) → AreAnswered w rs bytes s → n < length bytes → Appends taken taken' (take n bytes)
-    → WritesPart (Write n) w rs taken taken'
-part_written w rs bytes s taken taken' n answered within written =
-    (answered.replies, answered.given, subst (λ lines. n < length lines) answered.lines within, subst (λ lines. Appends taken taken' (take n lines)) answered.lines written)
+pub part_written : {K : Type 0} (holds : K → Option World → Type 0) (keeps : K → World → World → Type 0) (n : ℕ) (known : Option World) (rs : List Request) (bytes : List ℕ) (old new : K) (taken taken' : Option (List ℕ)) → AreAnswered holds known rs bytes old
+    → (holds old (known_after rs known) → holds new (known_after rs known)) → n < length bytes → Appends taken taken' (take n bytes) → HaveFailed holds keeps (Write n) known rs taken taken' new
+part_written holds keeps n known rs bytes old new taken taken' answered stays within written = record {
+  stop = failed_writing n;
+  by = refl;
+  sound = if_known known (IsNoDamage (Write n)) (λ w is. tt);
+  wrote = (answered.replies, answered.given, subst (λ lines. n < length lines) answered.lines within, subst (λ lines. Appends taken taken' (take n lines)) answered.lines written);
+  left = left_standing holds keeps new (failed_writing n) rs known (stays answered.held);
+}
+
+-- nothing is written where the store fails
+pub none_written : {K : Type 0} (holds : K → Option World → Type 0) (keeps : K → World → World → Type 0) (f : RunFault) (known : Option World) (rs : List Request) (k : K) (taken taken' : Option (List ℕ)) → IsOfStore f → ((w : World) → known ≡ Some w → IsNoDamage f)
+    → Keeps taken taken' → IsLeft holds keeps k (option_map (worlds_at gave_up rs) known) → HaveFailed holds keeps f known rs taken taken' k
+none_written holds keeps f known rs k taken taken' kind sound kept left = record {
+  stop = gave_up;
+  by = store_stops f kind;
+  sound = if_known known (IsNoDamage f) sound;
+  wrote = kept;
+  left = left;
+}

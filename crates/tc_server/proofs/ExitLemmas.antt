@@ -1,8 +1,7 @@
 -- Which fault an exit status tells.
 use Rattle.std.proofs.Common.{◌≡◌, refl, arith}
 use Rattle.std.specs.Prelude.{Option, Some, None, IfSome}
-use Rattle.tc_server.specs.Ending.{status_of}
-use Rattle.tc_server.specs.Stage.{IsWrite}
+use Rattle.tc_server.specs.Faults.{status_of, IsWrite}
 use Rattle.tc_server.specs.declared.outcome.RunFault.{RunFault}
 use Rattle.tc_server.specs.declared.outcome.RunFault.TheVariants.{Usage, Read, Write, Spent, Disk, Damaged, Memory, Layout}
 

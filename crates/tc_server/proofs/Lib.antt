@@ -1,6 +1,8 @@
 pub mod SchemaFloats
 pub mod StoreLemmas
 pub mod Holding
+pub mod Mixing
+pub mod Causes
 pub mod Answering
 pub mod SessionLemmas
 pub mod RunLemmas

@@ -1,6 +1,6 @@
 -- How a run comes from line to line, and what it did where it ends.
 use Rattle.std.proofs.Common.{◌≡◌, ◌⊎◌, ℕ, ◌+◌, Bool, true, false, List, [], ◌∷◌, ◌++◌, length, refl, ap, sym, subst, ◌∙◌, inl, inr, ⊎_elim, append_assoc, append-nil, length-append, arith}
-use Rattle.std.specs.Prelude.{Option, Some, None}
+use Rattle.std.specs.Prelude.{Option, Some, None, option_map}
 use Rattle.std.specs.Io.KnownBytes.{Consumes, IsAtEnd}
 use Rattle.std.proofs.KnownBytes.{Consumes-nil, Consumes-trans, Appends-nil, Keeps-refl}
 use Rattle.tc_edge.specs.Moments.{Moment, GavePromptly}
@@ -11,22 +11,23 @@ use Rattle.tc_lines.specs.declared.reader.Line.{Line}
 use Rattle.tc_lines.specs.declared.reader.Line.TheVariants.{End}
 use Rattle.tc_lines.proofs.NeededReads.{begins_promptly, goes_on_promptly}
 use Rattle.tc_model.specs.Lines.{lines_of, whole_lines}
-use Rattle.tc_plain_model.specs.Store.{empty}
-use Rattle.tc_plain_model.specs.Part.{Limits}
-use Rattle.tc_run_model.specs.World.{World, part_of, first_world}
+use Rattle.tc_run_model.specs.World.{World}
+use Rattle.tc_run_model.specs.Known.{MayReply}
 use Rattle.tc_run_model.specs.Windows.{BeginsWith, Window, Windows, windows_of, unless_empty, closed_windows, windows}
-use Rattle.tc_run_model.specs.Course.{HaveClosed, requests_in, each_line, IsDue}
-use Rattle.tc_run_model.specs.Replies.{AreReplies}
+use Rattle.tc_run_model.specs.Course.{finished, input_failed, input_spent, stopped, HaveClosed, IsReached, requests_in, behind, known_behind, each_line, worlds_left, IsDue}
+use Rattle.tc_run_model.proofs.ReplyLaws.{MayReply-none}
 use Rattle.tc_run_model.proofs.WindowLaws.{BeginsWith-trans, closed-windows_of-append, windows_of-push}
-use Rattle.tc_server.specs.Ending.{ending_of, RanTo, opened_by, ReadsPromptly, Served, ServedPromptly}
+use Rattle.tc_server.specs.Ending.{RanTo, RanLeaving, opened_by, ReadsPromptly, Served, ServedPromptly}
+use Rattle.tc_server.specs.Faults.{Stop, failed_writing, gave_up, ending_at, stop_of, EndsAs, IsNoDamage, IsOfStore}
+use Rattle.tc_server.specs.Holds.{IsLeft}
 use Rattle.tc_words.specs.declared.run.Options.{Options}
 use Rattle.tc_server.specs.Progress.{StandsBehind, HasSeenAll, HasSeen, HasCome}
-use Rattle.tc_server.specs.Limited.{Limited, empty_under}
 use Rattle.tc_server.specs.Window.{requests_of}
-use Rattle.tc_server.specs.Stage.{IsAt, with_end, StopsIn, TakesLine, FailsAtLine}
+use Rattle.tc_server.specs.Stage.{IsAt, with_end, up_to, StopsIn, TakesLine, FailsAtLine}
 use Rattle.tc_server.specs.declared.outcome.RunFault.{RunFault}
 use Rattle.tc_server.specs.declared.outcome.RunFault.TheVariants.{Usage, Read, Write, Spent, Disk, Damaged, Memory, Layout}
 use Rattle.tc_server.specs.declared.session.Session.{Session}
+use Rattle.tc_server.proofs.Answering.{if_known, store_stops}
 use Rattle.tc_server.proofs.SessionLemmas.{stops_between}
 
 -- ---- one more line
@@ -112,71 +113,101 @@ closed-no_more limit seen old begun left goes heard now none =
 
 -- The reads of the next line were prompt: what the lines that were seen closed is answered, and these reads gave no whole
 -- line but at their end.
-asks_promptly : (first : World) (old : Reading) (session : Session) (begun left base taken : Option (List ℕ)) (told told' told'' : Option (List Moment)) → old.ended ≡ false
-    → (come : HasCome first old session begun left base taken told told') → (now : List ℕ) → HasReadNeeded old.held taken now told' told''
+asks_promptly : {K : Type 0} (holds : K → Option World → Type 0) (first : Option World) (old : Reading) (session : Session K) (begun left base taken : Option (List ℕ)) (told told' told'' : Option (List Moment)) → old.ended ≡ false
+    → (come : HasCome holds first old session begun left base taken told told') → (now : List ℕ) → HasReadNeeded old.held taken now told' told''
     → GavePromptly (IsDue each_line first session.window.limit base) (come.heard.input ++ now) told told''
-asks_promptly first old session begun left base taken told told' told'' goes come now reads =
+asks_promptly holds first old session begun left base taken told told' told'' goes come now reads =
     let limit = session.window.limit in
     goes_on_promptly (IsDue each_line first limit base) come.heard.input now old.held taken told told' told'' come.prompt reads (λ given none. (
       come.at.replies,
-      subst (λ ws. AreReplies (requests_in ws) first come.at.replies) (closed-no_more limit come.seen old begun left goes come.heard given none) come.at.given,
+      subst (λ ws. MayReply (requests_in ws) first come.at.replies) (closed-no_more limit come.seen old begun left goes come.heard given none) come.at.given,
       come.at.written,
     ))
 
+-- a run that ends within a window has reached it
+reached_in : (stop : Stop) (most : ℕ) (input : List ℕ) (left : Option (List ℕ)) (closed answered : List Window) (last : Window) → HaveClosed most input left closed → BeginsWith closed (up_to stop answered last) → IsReached (ending_at stop) most input left answered last
+reached_in (failed_writing n) most input left closed answered last have begins = (closed, have, begins)
+reached_in gave_up most input left closed answered last have begins = (closed, have, begins)
+
+-- a run that a fault ends in a window ends so
+ends_as : (spent : Type 0) (fault : RunFault) (stop : Stop) → stop_of fault ≡ Some stop → (fault ≡ Spent → spent) → EndsAs spent (Some fault) (ending_at stop)
+ends_as spent Usage stop by cause = absurd (cc)
+ends_as spent Read stop by cause = absurd (cc)
+ends_as spent (Write n) stop by cause = let same : stop ≡ failed_writing n = cc in ap ending_at same
+ends_as spent Spent stop by cause = let same : stop ≡ gave_up = cc in inr (ap ending_at same, cause refl)
+ends_as spent (Disk p) stop by cause = let same : stop ≡ gave_up = cc in ap ending_at same
+ends_as spent (Damaged p damage) stop by cause = let same : stop ≡ gave_up = cc in ap ending_at same
+ends_as spent Memory stop by cause = let same : stop ≡ gave_up = cc in ap ending_at same
+ends_as spent (Layout p found found_of asked_of) stop by cause = absurd (cc)
+
 -- a fault in windows that have closed ends the run
-ends_in : (first : World) (limit : ℕ) (seen : List (List ℕ)) (input : List ℕ) (begun left base taken : Option (List ℕ)) (fault : RunFault) → Consumes begun left input → HasClosed limit seen input left
-    → StopsIn first fault base (windows_of limit seen).closed taken → RanTo (ending_of (Some fault)) first limit begun left base taken
-ends_in first limit seen input begun left base taken (Write n) consumed has stops = record {
-  input = input;
-  consumed = consumed;
-  answered = stops.answered;
-  last = stops.last;
-  replies = stops.replies;
-  given = stops.given;
-  reached = (has.closed, has.have, BeginsWith-trans has.begin stops.among);
-  took = stops.took;
+ends_among : {K : Type 0} (holds : K → Option World → Type 0) (keeps : K → World → World → Type 0) (spent : K → Type 0) (first : Option World) (limit : ℕ) (input : List ℕ) (begun left base taken : Option (List ℕ)) (fault : RunFault) (k : K) (closed : List Window) → Consumes begun left input → HaveClosed limit input left closed → (fault ≡ Spent → spent k)
+    → StopsIn holds keeps first fault base closed taken k → RanLeaving holds keeps spent (Some fault) first limit begun left base taken k
+ends_among holds keeps spent first limit input begun left base taken fault k closed consumed have cause stops = record {
+  run = record {
+    ending = ending_at stops.stop;
+    by = ends_as (spent k) fault stops.stop stops.by cause;
+    ran = record {
+      input = input;
+      consumed = consumed;
+      answered = stops.ends.answered;
+      last = stops.ends.last;
+      replies = stops.ends.replies;
+      given = stops.ends.given;
+      reached = reached_in stops.stop limit input left closed stops.ends.answered stops.ends.last have stops.ends.among;
+      took = stops.ends.took;
+    };
+  };
+  sound = stops.sound;
+  left = stops.ends.left;
 }
-ends_in first limit seen input begun left base taken Memory consumed has stops = record {
-  input = input;
-  consumed = consumed;
-  answered = stops.answered;
-  last = stops.last;
-  replies = stops.replies;
-  given = stops.given;
-  reached = (has.closed, has.have, BeginsWith-trans has.begin stops.among);
-  took = stops.took;
+
+-- the same in windows with which those that have closed begin
+among_more : {K : Type 0} (holds : K → Option World → Type 0) (keeps : K → World → World → Type 0) (first : Option World) (fault : RunFault) (base taken : Option (List ℕ)) (k : K) (closed front : List Window) → BeginsWith closed front → StopsIn holds keeps first fault base front taken k → StopsIn holds keeps first fault base closed taken k
+among_more holds keeps first fault base taken k closed front begins stops = record {
+  stop = stops.stop;
+  by = stops.by;
+  sound = stops.sound;
+  ends = record {
+    answered = stops.ends.answered;
+    last = stops.ends.last;
+    replies = stops.ends.replies;
+    given = stops.ends.given;
+    among = BeginsWith-trans begins stops.ends.among;
+    took = stops.ends.took;
+    left = stops.ends.left;
+  };
 }
-ends_in first limit seen input begun left base taken Usage consumed has stops = absurd stops
-ends_in first limit seen input begun left base taken Read consumed has stops = absurd stops
-ends_in first limit seen input begun left base taken Spent consumed has stops = absurd stops
-ends_in first limit seen input begun left base taken (Disk p) consumed has stops = absurd stops
-ends_in first limit seen input begun left base taken (Damaged p damage) consumed has stops = absurd stops
-ends_in first limit seen input begun left base taken (Layout p found found_of asked_of) consumed has stops = absurd stops
+
+ends_in : {K : Type 0} (holds : K → Option World → Type 0) (keeps : K → World → World → Type 0) (spent : K → Type 0) (first : Option World) (limit : ℕ) (seen : List (List ℕ)) (input : List ℕ) (begun left base taken : Option (List ℕ)) (fault : RunFault) (k : K) → Consumes begun left input → HasClosed limit seen input left → (fault ≡ Spent → spent k)
+    → StopsIn holds keeps first fault base (windows_of limit seen).closed taken k → RanLeaving holds keeps spent (Some fault) first limit begun left base taken k
+ends_in holds keeps spent first limit seen input begun left base taken fault k consumed has cause stops =
+    ends_among holds keeps spent first limit input begun left base taken fault k has.closed consumed has.have cause (among_more holds keeps first fault base taken k has.closed (windows_of limit seen).closed has.begin stops)
 
 -- ---- a line is taken
 
-pub goes_on : (first : World) (line : List ℕ) (old new : Reading) (before after : Session) (begun left left' base taken taken' : Option (List ℕ)) (told told' told'' : Option (List Moment)) → old.ended ≡ false
-    → (come : HasCome first old before begun left base taken told told') → (now : List ℕ) → Consumes left left' now → new.taken ≡ old.taken + length now → IsNextLine (old.held ++ now) line new left'
-    → HasReadNeeded old.held taken now told' told'' → TakesLine line before taken after taken' → after.window.limit ≡ before.window.limit
-    → HasCome first new after begun left' base taken' told told''
+pub goes_on : {K : Type 0} (holds : K → Option World → Type 0) (first : Option World) (line : List ℕ) (old new : Reading) (before after : Session K) (begun left left' base taken taken' : Option (List ℕ)) (told told' told'' : Option (List Moment)) → old.ended ≡ false
+    → (come : HasCome holds first old before begun left base taken told told') → (now : List ℕ) → Consumes left left' now → new.taken ≡ old.taken + length now → IsNextLine (old.held ++ now) line new left'
+    → HasReadNeeded old.held taken now told' told'' → TakesLine holds line before taken after taken' → after.window.limit ≡ before.window.limit
+    → HasCome holds first new after begun left' base taken' told told''
 unfolding hears_line
-goes_on first line old new before after begun left left' base taken taken' told told' told'' goes come now consumed counted next reads takes same = record {
+goes_on holds first line old new before after begun left left' base taken taken' told told' told'' goes come now consumed counted next reads takes same = record {
   seen = come.seen ++ line ∷ [];
   heard = hears_line come.seen line old new begun left left' goes come.heard now consumed counted next;
-  at = subst (λ (ws : Windows). IsAt first base ws after taken') (sym (ap (λ limit. windows_of limit (come.seen ++ line ∷ [])) same ∙ windows_of-push before.window.limit come.seen line)) (takes first base (windows_of before.window.limit come.seen) come.at);
-  prompt = subst (λ limit. GavePromptly (IsDue each_line first limit base) (come.heard.input ++ now) told told'') (sym same) (asks_promptly first old before begun left base taken told told' told'' goes come now reads);
+  at = subst (λ (ws : Windows). IsAt holds first base ws after taken') (sym (ap (λ limit. windows_of limit (come.seen ++ line ∷ [])) same ∙ windows_of-push before.window.limit come.seen line)) (takes first base (windows_of before.window.limit come.seen) come.at);
+  prompt = subst (λ limit. GavePromptly (IsDue each_line first limit base) (come.heard.input ++ now) told told'') (sym same) (asks_promptly holds first old before begun left base taken told told' told'' goes come now reads);
 }
 
-pub fails_at_line : {told told' : Option (List Moment)} (first : World) (fault : RunFault) (line : List ℕ) (old new : Reading) (before : Session) (begun left left' base taken taken' : Option (List ℕ)) → old.ended ≡ false → (come : HasCome first old before begun left base taken told told')
+pub fails_at_line : {told told' : Option (List Moment)} {K : Type 0} (holds : K → Option World → Type 0) (keeps : K → World → World → Type 0) (spent : K → Type 0) (first : Option World) (fault : RunFault) (line : List ℕ) (old new : Reading) (before after : Session K) (begun left left' base taken taken' : Option (List ℕ)) → old.ended ≡ false → (come : HasCome holds first old before begun left base taken told told')
     → (now : List ℕ) → Consumes left left' now → new.taken ≡ old.taken + length now → IsNextLine (old.held ++ now) line new left'
-    → FailsAtLine fault line before taken taken'
-    → RanTo (ending_of (Some fault)) first before.window.limit begun left' base taken'
-fails_at_line first fault line old new before begun left left' base taken taken' goes come now consumed counted next fails =
+    → (fault ≡ Spent → spent after.keeper) → FailsAtLine holds keeps fault line before taken after taken'
+    → RanLeaving holds keeps spent (Some fault) first before.window.limit begun left' base taken' after.keeper
+fails_at_line holds keeps spent first fault line old new before after begun left left' base taken taken' goes come now consumed counted next cause fails =
     let limit = before.window.limit in
     let seen = come.seen ++ line ∷ [] in
     let heard = hears_line come.seen line old new begun left left' goes come.heard now consumed counted next in
-    ends_in first limit seen heard.input begun left' base taken' fault heard.consumed (has_closed limit seen new begun left' heard)
-    (subst (λ (ws : Windows). StopsIn first fault base ws.closed taken') (sym (windows_of-push limit come.seen line)) (fails first base (windows_of limit come.seen) come.at))
+    ends_in holds keeps spent first limit seen heard.input begun left' base taken' fault after.keeper heard.consumed (has_closed limit seen new begun left' heard) cause
+    (subst (λ (ws : Windows). StopsIn holds keeps first fault base ws.closed taken' after.keeper) (sym (windows_of-push limit come.seen line)) (fails first base (windows_of limit come.seen) come.at))
 
 -- ---- the end of the input
 
@@ -206,89 +237,93 @@ heard_end seen reading begun left ended heard =
 all_windows : (limit : ℕ) (seen : List (List ℕ)) (input : List ℕ) (left : Option (List ℕ)) → HasSeenAll input seen left → (with_end (windows_of limit seen)).closed ≡ windows limit input
 all_windows limit seen input left all = ap (λ lines. (with_end (windows_of limit lines)).closed) (sym all.lines)
 
-pub ran_to_end : (first : World) (limit : ℕ) (seen : List (List ℕ)) (session : Session) (begun left base taken : Option (List ℕ)) → HasHeardAll seen begun left → IsAt first base (with_end (windows_of limit seen)) session taken
-    → RanTo (ending_of None) first limit begun left base taken
-ran_to_end first limit seen session begun left base taken heard at = record {
-  input = heard.input;
-  consumed = heard.consumed;
-  answered = (with_end (windows_of limit seen)).closed;
-  last = [];
-  replies = at.replies;
-  given = at.given;
-  reached = (heard.all.at_end, all_windows limit seen heard.input left heard.all, refl);
-  took = at.written;
+left_behind_all : {K : Type 0} (holds : K → Option World → Type 0) (keeps : K → World → World → Type 0) (first : Option World) (closed : List Window) (k : K) → holds k (known_behind first closed) → IsLeft holds keeps k (option_map (λ w. worlds_left finished w closed []) first)
+left_behind_all holds keeps (Some w) closed k held = record { one = behind w closed; other = behind w closed; one_of = inl refl; other_of = inl refl; left = inl held }
+left_behind_all holds keeps None closed k held = tt
+
+pub ran_to_end : {K : Type 0} (holds : K → Option World → Type 0) (keeps : K → World → World → Type 0) (spent : K → Type 0) (first : Option World) (limit : ℕ) (seen : List (List ℕ)) (session : Session K) (begun left base taken : Option (List ℕ)) → HasHeardAll seen begun left → IsAt holds first base (with_end (windows_of limit seen)) session taken
+    → RanLeaving holds keeps spent None first limit begun left base taken session.keeper
+ran_to_end holds keeps spent first limit seen session begun left base taken heard at = record {
+  run = record {
+    ending = finished;
+    by = refl;
+    ran = record {
+      input = heard.input;
+      consumed = heard.consumed;
+      answered = (with_end (windows_of limit seen)).closed;
+      last = [];
+      replies = at.replies;
+      given = at.given;
+      reached = (heard.all.at_end, all_windows limit seen heard.input left heard.all, refl);
+      took = at.written;
+    };
+  };
+  sound = if_known first (Unit {0}) (λ w is. tt);
+  left = left_behind_all holds keeps first (with_end (windows_of limit seen)).closed session.keeper at.store;
 }
 
-pub fails_at_end : (first : World) (limit : ℕ) (seen : List (List ℕ)) (fault : RunFault) (begun left base taken : Option (List ℕ)) → HasHeardAll seen begun left → StopsIn first fault base (with_end (windows_of limit seen)).closed taken
-    → RanTo (ending_of (Some fault)) first limit begun left base taken
-fails_at_end first limit seen (Write n) begun left base taken heard stops = record {
-  input = heard.input;
-  consumed = heard.consumed;
-  answered = stops.answered;
-  last = stops.last;
-  replies = stops.replies;
-  given = stops.given;
-  reached = ((with_end (windows_of limit seen)).closed, inr (heard.all.at_end, all_windows limit seen heard.input left heard.all), stops.among);
-  took = stops.took;
-}
-fails_at_end first limit seen Memory begun left base taken heard stops = record {
-  input = heard.input;
-  consumed = heard.consumed;
-  answered = stops.answered;
-  last = stops.last;
-  replies = stops.replies;
-  given = stops.given;
-  reached = ((with_end (windows_of limit seen)).closed, inr (heard.all.at_end, all_windows limit seen heard.input left heard.all), stops.among);
-  took = stops.took;
-}
-fails_at_end first limit seen Usage begun left base taken heard stops = absurd stops
-fails_at_end first limit seen Read begun left base taken heard stops = absurd stops
-fails_at_end first limit seen Spent begun left base taken heard stops = absurd stops
-fails_at_end first limit seen (Disk p) begun left base taken heard stops = absurd stops
-fails_at_end first limit seen (Damaged p damage) begun left base taken heard stops = absurd stops
-fails_at_end first limit seen (Layout p found found_of asked_of) begun left base taken heard stops = absurd stops
+pub fails_at_end : {K : Type 0} (holds : K → Option World → Type 0) (keeps : K → World → World → Type 0) (spent : K → Type 0) (first : Option World) (limit : ℕ) (seen : List (List ℕ)) (fault : RunFault) (begun left base taken : Option (List ℕ)) (k : K) → HasHeardAll seen begun left → (fault ≡ Spent → spent k) → StopsIn holds keeps first fault base (with_end (windows_of limit seen)).closed taken k
+    → RanLeaving holds keeps spent (Some fault) first limit begun left base taken k
+fails_at_end holds keeps spent first limit seen fault begun left base taken k heard cause stops =
+    ends_among holds keeps spent first limit heard.input begun left base taken fault k (with_end (windows_of limit seen)).closed heard.consumed (inr (heard.all.at_end, all_windows limit seen heard.input left heard.all)) cause stops
 
 -- ---- a failure of the reader
 
-pub read_failed : {told told' : Option (List Moment)} (first : World) (old : Reading) (session : Session) (begun left left' base taken : Option (List ℕ)) → old.ended ≡ false → HasCome first old session begun left base taken told told'
-    → (now : List ℕ) → Consumes left left' now → whole_lines (old.held ++ now) ≡ [] → RanTo (ending_of (Some Read)) first session.window.limit begun left' base taken
-read_failed first old session begun left left' base taken goes come now consumed none = record {
-  input = come.heard.input ++ now;
-  consumed = Consumes-trans begun left left' come.heard.input now come.heard.consumed consumed;
-  answered = (windows_of session.window.limit come.seen).closed;
-  last = [];
-  replies = come.at.replies;
-  given = come.at.given;
-  reached = (closed-no_more session.window.limit come.seen old begun left goes come.heard now none, refl);
-  took = come.at.written;
+pub read_failed : {told told' : Option (List Moment)} {K : Type 0} (holds : K → Option World → Type 0) (keeps : K → World → World → Type 0) (spent : K → Type 0) (first : Option World) (old : Reading) (session : Session K) (begun left left' base taken : Option (List ℕ)) → old.ended ≡ false → HasCome holds first old session begun left base taken told told'
+    → (now : List ℕ) → Consumes left left' now → whole_lines (old.held ++ now) ≡ [] → RanLeaving holds keeps spent (Some Read) first session.window.limit begun left' base taken session.keeper
+read_failed holds keeps spent first old session begun left left' base taken goes come now consumed none = record {
+  run = record {
+    ending = input_failed;
+    by = refl;
+    ran = record {
+      input = come.heard.input ++ now;
+      consumed = Consumes-trans begun left left' come.heard.input now come.heard.consumed consumed;
+      answered = (windows_of session.window.limit come.seen).closed;
+      last = [];
+      replies = come.at.replies;
+      given = come.at.given;
+      reached = (closed-no_more session.window.limit come.seen old begun left goes come.heard now none, refl);
+      took = come.at.written;
+    };
+  };
+  sound = if_known first (Unit {0}) (λ w is. tt);
+  left = left_behind_all holds keeps first (windows_of session.window.limit come.seen).closed session.keeper come.at.store;
 }
 
-pub all_taken : {told told' : Option (List Moment)} (first : World) (old new : Reading) (session : Session) (begun left left' base taken : Option (List ℕ)) → old.ended ≡ false → HasCome first old session begun left base taken told told'
+pub all_taken : {told told' : Option (List Moment)} {K : Type 0} (holds : K → Option World → Type 0) (keeps : K → World → World → Type 0) (spent : K → Type 0) (first : Option World) (old new : Reading) (session : Session K) (begun left left' base taken : Option (List ℕ)) → old.ended ≡ false → HasCome holds first old session begun left base taken told told'
     → (now : List ℕ) → Consumes left left' now → new.taken ≡ old.taken + length now → whole_lines (old.held ++ now) ≡ [] → new.taken ≡ MAX_TAKEN
-    → RanTo (ending_of (Some Spent)) first session.window.limit begun left' base taken
-all_taken first old new session begun left left' base taken goes come now consumed counted none all = record {
-  input = come.heard.input ++ now;
-  consumed = Consumes-trans begun left left' come.heard.input now come.heard.consumed consumed;
-  answered = (windows_of session.window.limit come.seen).closed;
-  last = [];
-  replies = come.at.replies;
-  given = come.at.given;
-  reached = (
-    omega (arith, all, counted, come.heard.counted, length-append come.heard.input now),
-    closed-no_more session.window.limit come.seen old begun left goes come.heard now none,
-    refl,
-  );
-  took = come.at.written;
+    → RanLeaving holds keeps spent (Some Spent) first session.window.limit begun left' base taken session.keeper
+all_taken holds keeps spent first old new session begun left left' base taken goes come now consumed counted none all = record {
+  run = record {
+    ending = input_spent;
+    by = inl refl;
+    ran = record {
+      input = come.heard.input ++ now;
+      consumed = Consumes-trans begun left left' come.heard.input now come.heard.consumed consumed;
+      answered = (windows_of session.window.limit come.seen).closed;
+      last = [];
+      replies = come.at.replies;
+      given = come.at.given;
+      reached = (
+        omega (arith, all, counted, come.heard.counted, length-append come.heard.input now),
+        closed-no_more session.window.limit come.seen old begun left goes come.heard now none,
+        refl,
+      );
+      took = come.at.written;
+    };
+  };
+  sound = if_known first (Unit {0}) (λ w is. tt);
+  left = left_behind_all holds keeps first (windows_of session.window.limit come.seen).closed session.keeper come.at.store;
 }
 
-pub reads_without_memory : {told told' : Option (List Moment)} (first : World) (old : Reading) (session : Session) (begun left left' base taken : Option (List ℕ)) → old.ended ≡ false → HasCome first old session begun left base taken told told'
-    → (now : List ℕ) → Consumes left left' now → RanTo (ending_of (Some Memory)) first session.window.limit begun left' base taken
-reads_without_memory first old session begun left left' base taken goes come now consumed =
+pub reads_without_memory : {told told' : Option (List Moment)} {K : Type 0} (holds : K → Option World → Type 0) (keeps : K → World → World → Type 0) (spent : K → Type 0) (first : Option World) (old : Reading) (session : Session K) (begun left left' base taken : Option (List ℕ)) → old.ended ≡ false → HasCome holds first old session begun left base taken told told'
+    → (now : List ℕ) → Consumes left left' now → RanLeaving holds keeps spent (Some Memory) first session.window.limit begun left' base taken session.keeper
+reads_without_memory holds keeps spent first old session begun left left' base taken goes come now consumed =
     let limit = session.window.limit in
     let input = come.heard.input ++ now in
-    ends_in first limit come.seen input begun left' base taken Memory (Consumes-trans begun left left' come.heard.input now come.heard.consumed consumed)
-    (closed_so_far limit come.seen (whole_lines (old.held ++ now)) input left' ((stands come.seen old begun left goes come.heard).whole now))
-    (stops_between first base taken (windows_of limit come.seen) session come.at)
+    ends_in holds keeps spent first limit come.seen input begun left' base taken Memory session.keeper (Consumes-trans begun left left' come.heard.input now come.heard.consumed consumed)
+    (closed_so_far limit come.seen (whole_lines (old.held ++ now)) input left' ((stands come.seen old begun left goes come.heard).whole now)) (λ same. absurd (cc))
+    (stops_between holds keeps first base taken (windows_of limit come.seen) session come.at)
 
 -- ---- the answers of the reader
 
@@ -310,22 +345,26 @@ hears_all seen old new begun left left' heard answers same =
     heard.place
 
 -- all reads up to an answer were prompt
-pub asked_promptly : (answer : Line) (first : World) (old new : Reading) (session : Session) (begun left left' base taken : Option (List ℕ)) (told told' told'' : Option (List Moment))
-    → HasCome first old session begun left base taken told told' → (old.ended ≡ false → IsAnswered answer old new left left' taken told' told'') → (old.ended ≡ true → told'' ≡ told')
+pub asked_promptly : {K : Type 0} (holds : K → Option World → Type 0) (answer : Line) (first : Option World) (old new : Reading) (session : Session K) (begun left left' base taken : Option (List ℕ)) (told told' told'' : Option (List Moment))
+    → HasCome holds first old session begun left base taken told told' → (old.ended ≡ false → IsAnswered answer old new left left' taken told' told'') → (old.ended ≡ true → told'' ≡ told')
     → ReadsPromptly first session.window.limit base told told''
-asked_promptly answer first old new session begun left left' base taken told told' told'' come answers same =
+asked_promptly holds answer first old new session begun left left' base taken told told' told'' come answers same =
     ⊎_elim
-    (λ place. let a = answers place.0 in (come.heard.input ++ a.input, asks_promptly first old session begun left base taken told told' told'' place.0 come a.input a.prompt))
+    (λ place. let a = answers place.0 in (come.heard.input ++ a.input, asks_promptly holds first old session begun left base taken told told' told'' place.0 come a.input a.prompt))
     (λ place. (come.heard.input, subst (GavePromptly (IsDue each_line first session.window.limit base) come.heard.input told) (sym (same place.0)) come.prompt))
     come.heard.place
 
 -- ---- the first line, and after as many as can be
 
+behind_none : (first : Option World) → known_behind first [] ≡ first
+behind_none (Some w) = refl
+behind_none None = refl
+
 -- before the first line nothing was read nor written
-pub begins : (limits : Limits) (limit : ℕ) (reading : Reading) (session : Session) (left taken : Option (List ℕ)) (told : Option (List Moment)) → reading ≡ record { limit = limit; held = []; taken = 0; failed = false; ended = false }
-    → session.store ≡ empty_under limits → requests_of session.window ≡ [] → session.window.bytes ≡ 0
-    → HasCome (first_world limits (empty ∷ [])) reading session left left taken taken told told
-begins limits limit reading session left taken told fresh store requests bytes =
+pub begins : {K : Type 0} (holds : K → Option World → Type 0) (first : Option World) (limit : ℕ) (reading : Reading) (session : Session K) (left taken : Option (List ℕ)) (told : Option (List Moment)) → reading ≡ record { limit = limit; held = []; taken = 0; failed = false; ended = false }
+    → holds session.keeper first → requests_of session.window ≡ [] → session.window.bytes ≡ 0
+    → HasCome holds first reading session left left taken taken told told
+begins holds first limit reading session left taken told fresh store requests bytes =
     let held : reading.held ≡ [] = ap (λ (r : Reading). r.held) fresh in record {
       seen = [];
       heard = record {
@@ -342,39 +381,66 @@ begins limits limit reading session left taken told fresh store requests bytes =
       };
       at = record {
         replies = [];
-        given = tt;
+        given = MayReply-none first;
         written = Appends-nil taken;
-        store = record { part = part_of empty; alone = refl; stores = ap (λ (s : Limited). s.plain) (sym store); limits = ap (λ (s : Limited). s.limits) (sym store) };
+        store = subst (λ known. holds session.keeper known) (sym (behind_none first)) store;
         requests = requests;
         bytes = bytes;
       };
-      prompt = begins_promptly (IsDue each_line (first_world limits (empty ∷ [])) session.window.limit taken) told;
+      prompt = begins_promptly (IsDue each_line first session.window.limit taken) told;
     }
 
 -- a run that gives up between two lines has answered the windows that have closed
-pub gives_up : {told told' : Option (List Moment)} (first : World) (reading : Reading) (session : Session) (begun left base taken : Option (List ℕ)) → HasCome first reading session begun left base taken told told' → RanTo (ending_of (Some Memory)) first session.window.limit begun left base taken
-gives_up first reading session begun left base taken come =
-    ends_in first session.window.limit come.seen come.heard.input begun left base taken Memory come.heard.consumed (has_closed session.window.limit come.seen reading begun left come.heard)
-    (stops_between first base taken (windows_of session.window.limit come.seen) session come.at)
+pub gives_up : {told told' : Option (List Moment)} {K : Type 0} (holds : K → Option World → Type 0) (keeps : K → World → World → Type 0) (spent : K → Type 0) (first : Option World) (reading : Reading) (session : Session K) (begun left base taken : Option (List ℕ)) → HasCome holds first reading session begun left base taken told told' → RanLeaving holds keeps spent (Some Memory) first session.window.limit begun left base taken session.keeper
+gives_up holds keeps spent first reading session begun left base taken come =
+    ends_in holds keeps spent first session.window.limit come.seen come.heard.input begun left base taken Memory session.keeper come.heard.consumed (has_closed session.window.limit come.seen reading begun left come.heard) (λ same. absurd (cc))
+    (stops_between holds keeps first base taken (windows_of session.window.limit come.seen) session come.at)
 
 -- ---- no run
 
+-- a store that fails before a line is read stops in no window
+settles_not : {K : Type 0} (holds : K → Option World → Type 0) (keeps : K → World → World → Type 0) (first : Option World) (k : K) → ((w : World) → first ≡ Some w → keeps k w w) → IsLeft holds keeps k (option_map (λ w. worlds_left stopped w [] []) first)
+settles_not holds keeps (Some w) k fails = record { one = w; other = w; one_of = inl refl; other_of = inl refl; left = inr (fails w refl) }
+settles_not holds keeps None k fails = tt
+
+pub begins_not : {K : Type 0} (holds : K → Option World → Type 0) (keeps : K → World → World → Type 0) (spent : K → Type 0) (first : Option World) (most : ℕ) (left taken : Option (List ℕ)) (fault : RunFault) (k : K) → IsOfStore fault → (fault ≡ Spent → spent k) → ((w : World) → first ≡ Some w → IsNoDamage fault) → ((w : World) → first ≡ Some w → keeps k w w)
+    → RanLeaving holds keeps spent (Some fault) first most left left taken taken k
+begins_not holds keeps spent first most left taken fault k kind cause sound fails =
+    ends_among holds keeps spent first most [] left left taken taken fault k (closed_windows most []) (Consumes-nil left) (inl refl) cause (record {
+      stop = gave_up;
+      by = store_stops fault kind;
+      sound = if_known first (IsNoDamage fault) sound;
+      ends = record {
+        answered = [];
+        last = [];
+        replies = [];
+        given = MayReply-none first;
+        among = record { more = closed_windows most []; goes_on = refl };
+        took = Appends-nil taken;
+        left = settles_not holds keeps first k fails;
+      };
+    })
+
 -- a run that stopped before it read
-ran_nothing : (first : World) (most : ℕ) (left taken : Option (List ℕ)) → RanTo (ending_of (Some Memory)) first most left left taken taken
-ran_nothing first most left taken = record {
-  input = [];
-  consumed = Consumes-nil left;
-  answered = [];
-  last = [];
-  replies = [];
-  given = tt;
-  reached = (closed_windows most [], inl refl, record { more = closed_windows most []; goes_on = refl });
-  took = Appends-nil taken;
+ran_nothing : (spent : Type 0) (first : Option World) (most : ℕ) (left taken : Option (List ℕ)) → RanTo spent (Some Memory) first most left left taken taken
+ran_nothing spent first most left taken = record {
+  ending = stopped;
+  by = refl;
+  ran = record {
+    input = [];
+    consumed = Consumes-nil left;
+    answered = [];
+    last = [];
+    replies = [];
+    given = MayReply-none first;
+    reached = (closed_windows most [], inl refl, record { more = closed_windows most []; goes_on = refl });
+    took = Appends-nil taken;
+  };
 }
 
 by_options : (o : Option Options) (left taken : Option (List ℕ)) → Served o (Some Memory) left left taken taken
 by_options None left taken = (Keeps-refl left, Keeps-refl taken)
-by_options (Some options) left taken = ran_nothing (opened_by options) options.window left taken
+by_options (Some options) left taken = ran_nothing ⊥ (Some (opened_by options)) options.window left taken
 
 -- where the words gave no options, nothing was read nor written
 pub served_nothing : (o : Option Options) (fault : RunFault) (left taken : Option (List ℕ)) → (fault ≡ Usage) ⊎ (fault ≡ Memory) → (fault ≡ Usage → o ≡ None) → Served o (Some fault) left left taken taken
@@ -382,7 +448,11 @@ served_nothing o fault left taken (inl usage) none =
     rw (none usage, usage) (Keeps-refl left, Keeps-refl taken)
 served_nothing o fault left taken (inr memory) none = rw memory (by_options o left taken)
 
+-- where nothing was read, the reads were prompt
+pub unread : (first : Option World) (most : ℕ) (base : Option (List ℕ)) (told : Option (List Moment)) → ReadsPromptly first most base told told
+unread first most base told = ([], begins_promptly (IsDue each_line first most base) told)
+
 -- where the words gave no options, there was no read
 pub served_unread : (o : Option Options) (base : Option (List ℕ)) (told : Option (List Moment)) → ServedPromptly o base told told
 served_unread None base told = refl
-served_unread (Some options) base told = ([], begins_promptly (IsDue each_line (opened_by options) options.window base) told)
+served_unread (Some options) base told = unread (Some (opened_by options)) options.window base told

@@ -1,10 +1,50 @@
--- What a line of a window asks for.
-use Rattle.tc_model.specs.Request.{Request, refused}
+-- What a line of a window asks for, as it is answered.
+use Rattle.std.specs.Prelude.{◌≤◌, Bool, true, false}
+use Rattle.tc_model.specs.Limits.{max_key, max_line}
+use Rattle.tc_model.specs.Request.{Request, upsert, delete, get, query, flush, schema, scan, collect, refused, not_built}
+use Rattle.tc_model.specs.Stored.{IsStorable}
+use Rattle.tc_model.specs.Weight.{IsLight}
 use Rattle.tc_command.specs.Commands.{request_of_command}
 use Rattle.tc_command.specs.Refusals.{refusal_of}
 use Rattle.tc_server.specs.declared.answer.Action.{Action}
-use Rattle.tc_server.specs.declared.answer.Action.TheVariants.{Run, Refuse}
+use Rattle.tc_server.specs.declared.answer.Action.TheVariants.{Run, Whole, Refuse}
+use Rattle.tc_server.specs.declared.answer.Control.{Control}
+use Rattle.tc_server.specs.declared.answer.Control.TheVariants.{Schema, NotBuilt}
+
+abbrev pub request_whole : Control → Request
+request_whole Schema = schema
+request_whole NotBuilt = refused not_built
 
 abbrev pub request_asked : Action → Request
 request_asked (Run command) = request_of_command command
+request_asked (Whole control) = request_whole control
 request_asked (Refuse refusal) = refused (refusal_of refusal)
+
+-- it is for the whole store
+abbrev pub is_whole : Action → Bool
+is_whole (Run command) = false
+is_whole (Whole control) = true
+is_whole (Refuse refusal) = false
+
+-- a request for one key, whose document may be stored
+abbrev pub IsOfKey : Request → Type 0
+IsOfKey (upsert n d) = (n ≤ max_key) × IsStorable d
+IsOfKey (delete n) = n ≤ max_key
+IsOfKey (get n) = n ≤ max_key
+IsOfKey (query ask) = ⊥
+IsOfKey flush = ⊥
+IsOfKey schema = ⊥
+IsOfKey (scan ask) = ⊥
+IsOfKey collect = ⊥
+IsOfKey (refused r) = ⊥
+
+-- a command that is run is for one key
+abbrev pub IsRunOfKey : Action → Type 0
+IsRunOfKey (Run command) = IsOfKey (request_of_command command)
+IsRunOfKey (Whole control) = Unit {0}
+IsRunOfKey (Refuse refusal) = Unit {0}
+
+-- and its document is no heavier than a line
+pub record IsSoundAction (action : Action) : Type 0 where
+  pub of_key : IsRunOfKey action
+  pub light : IsLight max_line (request_asked action)

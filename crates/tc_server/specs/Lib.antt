@@ -1,11 +1,13 @@
 pub mod Pairs
 pub mod Limited
-pub mod Holds
+pub mod InMemory
 pub mod Sound
 pub mod Asked
+pub mod Faults
+pub mod FaultText
+pub mod Holds
 pub mod Window
 pub mod Stage
-pub mod FaultText
 pub mod Ending
 pub mod Progress
 pub mod Program

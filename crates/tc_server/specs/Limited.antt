@@ -33,6 +33,16 @@ reply_by (refused r) s = turned_down r
 abbrev pub left_by : Request → Limited → Limited
 left_by r s = record { limits = s.limits; plain = part_left s.limits r s.plain }
 
+-- ---- requests, one after the other
+
+abbrev pub replies_by : List Request → Limited → List Reply
+replies_by [] s = []
+replies_by (r ∷ rs) s = reply_by r s ∷ replies_by rs (left_by r s)
+
+abbrev pub all_left_by : List Request → Limited → Limited
+all_left_by [] s = s
+all_left_by (r ∷ rs) s = all_left_by rs (left_by r s)
+
 -- the code, as the pair of the limits and of the pairs and names
 abbrev pub coded_limited : Coded Limited
 coded_limited =

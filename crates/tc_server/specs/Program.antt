@@ -1,6 +1,7 @@
 -- What a program does with its words, and what it exits with.
-use Rattle.std.specs.Prelude.{◌≡◌, ℕ, List, Option, option_and_then}
-use Rattle.tc_server.specs.Ending.{Served, status_of}
+use Rattle.std.specs.Prelude.{◌≡◌, ℕ, List, Option, option_and_then, IfSome}
+use Rattle.tc_server.specs.Ending.{Served}
+use Rattle.tc_server.specs.Faults.{status_of, IsWithoutFiles}
 use Rattle.tc_server.specs.declared.outcome.RunFault.{RunFault}
 use Rattle.tc_server.specs.declared.outcome.RunFault.TheVariants.{Usage, Memory}
 use Rattle.tc_words.specs.Options.{options_of}
@@ -21,4 +22,5 @@ fault_of_words words.Memory = Memory
 pub record Exits (options : Option Options) (exit : ℕ) (left left' taken taken' : Option (List ℕ)) : Type 0 where
   pub fault : Option RunFault
   pub status : exit ≡ status_of fault
+  pub files : IfSome fault IsWithoutFiles
   pub served : Served options fault left left' taken taken'

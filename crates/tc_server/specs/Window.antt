@@ -1,13 +1,73 @@
--- What the lines of a window ask for.
-use Rattle.std.specs.Prelude.{List, map}
-use Rattle.tc_model.specs.Request.{Request}
-use Rattle.tc_run_model.specs.Built.{if_built}
-use Rattle.tc_server.specs.Asked.{request_asked}
+-- What the lines of a window ask for: some are refused, and the others are commands for single keys.
+use Rattle.std.specs.Prelude.{◌≡◌, ◌≤◌, ℕ, ◌+◌, suc, List, [], ◌∷◌, length, map, All, Option, Some, None}
+use Rattle.tc_model.specs.Limits.{max_line}
+use Rattle.tc_model.specs.Reply.{Reply, turned_down}
+use Rattle.tc_model.specs.Request.{Request, upsert, delete, get, query, flush, schema, scan, collect, refused}
+use Rattle.tc_model.specs.Weight.{weight, IsLight}
+use Rattle.tc_command.specs.Commands.{request_of_command}
+use Rattle.tc_command.specs.Refusals.{refusal_of}
+use Rattle.tc_command.specs.declared.refusals.Refusal.{Refusal}
+use Rattle.tc_route.specs.declared.placed.Routed.{Routed}
+use Rattle.tc_run_model.specs.Windows.{max_window}
+use Rattle.tc_server.specs.Asked.{IsOfKey}
 use Rattle.tc_server.specs.declared.window.Window.{Window}
 
-abbrev pub requests_of : Window → List Request
-requests_of w = map request_asked w.asked.items
+-- ---- lines of which some are refused
 
--- the requests that are answered
-abbrev pub answered_of : Window → List Request
-answered_of w = map if_built (requests_of w)
+-- in the order of the lines, of a refused one what f says, and of each other one the next of these
+abbrev pub mixed : {A : Type 0} → (Refusal → A) → List (Option Refusal) → List A → List A
+mixed f [] xs = []
+mixed f (Some r ∷ lines) xs = f r ∷ mixed f lines xs
+mixed f (None ∷ lines) [] = mixed f lines []
+mixed f (None ∷ lines) (x ∷ xs) = x ∷ mixed f lines xs
+
+-- how many are not refused
+abbrev pub count_asked : List (Option Refusal) → ℕ
+count_asked [] = 0
+count_asked (Some r ∷ lines) = count_asked lines
+count_asked (None ∷ lines) = suc (count_asked lines)
+
+abbrev pub request_refused : Refusal → Request
+request_refused r = refused (refusal_of r)
+
+abbrev pub reply_refused : Refusal → Reply
+reply_refused r = turned_down (refusal_of r)
+
+abbrev pub requests_routed : List Routed → List Request
+requests_routed list = map (λ r. request_of_command r.command) list
+
+-- ---- the window
+
+abbrev pub requests_of : Window → List Request
+requests_of w = mixed request_refused w.refusals.items (requests_routed w.commands.items)
+
+abbrev pub weight_of : Request → ℕ
+weight_of (upsert n d) = weight d
+weight_of (delete n) = 0
+weight_of (get n) = 0
+weight_of (query ask) = 0
+weight_of flush = 0
+weight_of schema = 0
+weight_of (scan ask) = 0
+weight_of collect = 0
+weight_of (refused r) = 0
+
+abbrev pub weight_in : List Request → ℕ
+weight_in [] = 0
+weight_in (r ∷ rs) = weight_of r + weight_in rs
+
+-- each is for one key, with a document that fits a line
+abbrev pub IsRoutedKey : Routed → Type 0
+IsRoutedKey r = IsOfKey (request_of_command r.command) × IsLight max_line (request_of_command r.command)
+
+-- commands that are answered together
+pub record AreTogether (list : List Routed) : Type 0 where
+  pub few : length list ≤ 4096
+  pub each : All IsRoutedKey list
+  pub light : weight_in (requests_routed list) ≤ max_window + max_line
+
+-- A line that is not refused has its command. The documents weigh no more than the lines.
+pub record IsSoundWindow (w : Window) : Type 0 where
+  pub each : All IsRoutedKey w.commands.items
+  pub whole : count_asked w.refusals.items ≡ length w.commands.items
+  pub light : weight_in (requests_routed w.commands.items) ≤ w.bytes

@@ -2,6 +2,8 @@
 #![tactic(auto)]
 
 mod answer;
+mod in_memory;
+mod keeper;
 mod outcome;
 mod program;
 mod server;

@@ -20,7 +20,7 @@ pub enum RunFault {
     Write {
         taken: u64,
     },
-    /// The input has more bytes than can be counted.
+    /// The input has more bytes, or a partition more generations or writes, than can be counted.
     Spent,
     /// A call on the files of a partition failed.
     Disk {
@@ -44,7 +44,7 @@ pub enum RunFault {
 
 impl RunFault {
     ghost use Rattle.std.specs.Prelude.{◌≡◌, Some};
-    ghost use Rattle.tc_server.specs.Ending.{status_of};
+    ghost use Rattle.tc_server.specs.Faults.{status_of};
 
     /// The exit status of a run that ended by this fault.
     pub fn status(&self) -> u8
@@ -96,7 +96,7 @@ pub struct Outcome {
 
 impl Outcome {
     ghost use Rattle.std.specs.Prelude.{◌≡◌, Some, None};
-    ghost use Rattle.tc_server.specs.Ending.{status_of};
+    ghost use Rattle.tc_server.specs.Faults.{status_of};
 
     /// A run to the end of its input.
     pub fn done() -> Outcome

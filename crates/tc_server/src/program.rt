@@ -4,9 +4,9 @@ ghost use Rattle.std.specs.Prelude.{◌≡◌, Some, None, IfErr, IfSome, option
 ghost use Rattle.std.specs.Process.{exit_status};
 ghost use Rattle.std.specs.Result.{result_ok};
 ghost use Rattle.tc_bytes.specs.Counts.{Rose};
-ghost use Rattle.tc_server.specs.Ending.{Served, ServedPromptly, status_of};
+ghost use Rattle.tc_server.specs.Ending.{Served, ServedPromptly};
 ghost use Rattle.tc_server.specs.Program.{Exits, fault_of_words, options_given};
-ghost use Rattle.tc_server.specs.Stage.{IsWrite};
+ghost use Rattle.tc_server.specs.Faults.{status_of, IsWithoutFiles, IsWrite};
 
 use crate::outcome::{Outcome, RunFault};
 use crate::server::serve;
@@ -88,6 +88,7 @@ fn outcome_of<I: Source<O>, O: Sink>(
         → options_given (option_map (λ words. words.items) (result_ok words)) ≡ None }
     ensures read { result.fault ≡ Some RunFault.Read → Rose (I.faults source.old) (I.faults source.new) }
     ensures write { IfSome result.fault (λ fault. IsWrite fault → Rose (O.faults sink.old) (O.faults sink.new)) }
+    ensures without_files { IfSome result.fault IsWithoutFiles }
 {
     match words {
         Ok(words) => serve(alloc, words.as_slice(), source, sink),

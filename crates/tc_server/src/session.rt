@@ -1,67 +1,109 @@
-//! A run between two lines: the store, and the window that is open.
+//! A run between two lines: what keeps the documents, and the window that is open.
 
-ghost use Rattle.std.specs.Prelude.{◌≡◌, ℕ, ◌<◌, ◌≤◌, true, false, List, [], length, OnOk, IfErr};
-ghost use Rattle.tc_model.specs.Request.{request_of};
+ghost use Rattle.std.specs.Prelude.{◌≡◌, ◌∷◌, ℕ, ◌+◌, ◌<◌, ◌≤◌, true, false, List, [], length, Option, Some, option_map, IfErr, IfOk, OnErr, OnOk};
+ghost use Rattle.tc_command.specs.Replies.{reply_of};
 ghost use Rattle.tc_model.specs.Limits.{max_line};
-ghost use Rattle.tc_run_model.specs.World.{World};
+ghost use Rattle.tc_model.specs.Request.{Request, request_of};
+ghost use Rattle.tc_model.specs.Weight.{IsLight};
+ghost use Rattle.tc_run_model.specs.Known.{MayReply, known_after};
 ghost use Rattle.tc_run_model.specs.Windows.{is_control, max_window};
-ghost use Rattle.tc_server.specs.Stage.{AsksFor, FailsAtLine, HasWriteCause, TakesLine};
-ghost use Rattle.tc_server.specs.Asked.{request_asked};
-ghost use Rattle.tc_server.specs.Ending.{limits_of};
-ghost use Rattle.tc_server.specs.Holds.{AreWritten, Holds, WritesPart};
-ghost use Rattle.tc_server.specs.Limited.{empty_under};
-ghost use Rattle.tc_server.specs.Window.{answered_of, requests_of};
+ghost use Rattle.tc_run_model.specs.World.{World};
+ghost use Rattle.tc_server.specs.Asked.{is_whole, request_asked, request_whole, IsRunOfKey};
+ghost use Rattle.tc_server.specs.Faults.{fault_in, gave_up, HasCauses, HasDiskCause, IsNoDamage, IsOfStore};
+ghost use Rattle.tc_server.specs.Holds.{worlds_at, AreAnswered, AreWritten, HaveFailed, IsLeft};
+ghost use Rattle.tc_server.specs.Stage.{AsksFor, FailsAtLine, IsReady, TakesLine};
+ghost use Rattle.tc_server.specs.Window.{requests_of, IsSoundWindow};
+ghost use Rattle.tc_server.specs.declared.answer.Action.TheVariants.{Whole as whole};
 
-use crate::answer::Asked;
+use crate::answer::{Action, Asked, Control, push_reply};
+use crate::keeper::Keeper;
 use crate::outcome::RunFault;
-use crate::store::Store;
 use crate::window::Window;
 use std::alloc::Global;
 use tc_bytes::Bytes;
-use tc_command::Refusal;
+use tc_command::{Refusal, Reply};
 use tc_edge::{Sink, write_all};
-use tc_words::Options;
 
 /// Bytes of room for replies, up to which it is kept from window to window.
 const KEPT_ROOM: usize = 65_536;
 
-/// The store, the window that is open, and room for the replies to a window, which is kept for the next one where it is
-/// not large.
+/// What keeps the documents, the window that is open, and room for the replies to a window, which is kept for the next one
+/// where it is not large.
 #[derive(Drop)]
-pub struct Session {
-    pub store: Store,
+pub struct Session<K: Keeper> {
+    pub keeper: K,
     pub window: Window,
     replies: Vec<u8>,
 }
 
-impl Session {
-    /// A session over an empty store with the limits and the windows of these options.
-    pub fn new(alloc: Global, options: &Options) -> Session
-        ensures store { result.store ≡ empty_under (limits_of options.now) }
+impl<K: Keeper> Session<K> {
+    /// A session over what keeps the documents, with windows of so many lines at most.
+    pub fn new(alloc: Global, keeper: K, window: usize) -> Session<K>
+        requires works { K.works keeper }
+        requires some { 0 < window }
+        requires limit { window ≤ 4096 }
+        ensures keeper { result.keeper ≡ keeper }
         ensures requests { requests_of result.window ≡ [] }
         ensures bytes { result.window.bytes ≡ 0 }
-        ensures limit { result.window.limit ≡ options.now.window }
+        ensures limit { result.window.limit ≡ window }
+        ensures ready { IsReady K.works result }
     {
         Session {
-            store: Store::new(alloc, options.names, options.docs),
-            window: Window::new(alloc, options.window as usize),
+            keeper,
+            window: Window::new(alloc, window),
             replies: Vec::new(alloc),
         }
     }
 
-    /// Answers the window that is open, and writes the replies. Errs where the sink fails, and for want of memory.
+    /// Settles the store before a line is read.
+    pub fn begin(&mut self, alloc: Global) -> Result<(), RunFault>
+        requires ready { IsReady K.works self.old }
+        ensures ready { OnOk result (IsReady K.works self.new) }
+        ensures window { self.new.window ≡ self.old.window }
+        ensures held { (known : Option World) → K.holds self.old.keeper known → OnOk result (K.holds self.new.keeper known) }
+        ensures failed { (w : World) → K.holds self.old.keeper (Some w) → OnErr result (K.keeps self.new.keeper w w) }
+        ensures undamaged { (w : World) → K.holds self.old.keeper (Some w) → IfErr result IsNoDamage }
+        ensures kinds { IfErr result IsOfStore }
+        ensures cause { HasDiskCause (K.faults self.old.keeper) (K.faults self.new.keeper) (K.spent self.new.keeper) (fault_in result) }
+    {
+        self.keeper.settle(alloc)
+    }
+
+    /// Answers the window that is open, and writes the replies. Errs where the store or the sink fails, and for want of memory.
     pub fn close<O: Sink>(&mut self, alloc: Global, sink: &mut O) -> Result<(), RunFault>
-        ensures written { OnOk result ((w : World) → Holds w self.old.store
-            → AreWritten w (answered_of self.old.window) (O.taken sink.old) (O.taken sink.new) self.new.store) }
+        requires sound { IsSoundWindow self.old.window }
+        requires few { length self.old.window.refusals.items ≤ 4096 }
+        requires bytes { self.old.window.bytes ≤ max_window + max_line }
+        requires works { K.works self.old.keeper }
+        ensures works { OnOk result (K.works self.new.keeper) }
+        ensures written { OnOk result ((known : Option World) → K.holds self.old.keeper known
+            → AreWritten K.holds known (requests_of self.old.window) (O.taken sink.old) (O.taken sink.new) self.new.keeper) }
         ensures requests { OnOk result (requests_of self.new.window ≡ []) }
+        ensures lines { OnOk result (length self.new.window.refusals.items ≡ 0) }
+        ensures sound { OnOk result (IsSoundWindow self.new.window) }
         ensures bytes { OnOk result (self.new.window.bytes ≡ 0) }
         ensures limit { OnOk result (self.new.window.limit ≡ self.old.window.limit) }
-        ensures fault { IfErr result (λ fault. (w : World) → Holds w self.old.store
-            → WritesPart fault w (answered_of self.old.window) (O.taken sink.old) (O.taken sink.new)) }
-        ensures cause { HasWriteCause (O.faults sink.old) (O.faults sink.new) result }
+        ensures fault { IfErr result (λ fault. (known : Option World) → K.holds self.old.keeper known
+            → HaveFailed K.holds K.keeps fault known (requests_of self.old.window) (O.taken sink.old) (O.taken sink.new) self.new.keeper) }
+        ensures cause { HasCauses (O.faults sink.old) (O.faults sink.new) (K.faults self.old.keeper) (K.faults self.new.keeper) (K.spent self.new.keeper) (fault_in result) }
     {
         self.window
-            .answer(alloc, &mut self.store, &mut self.replies)?;
+            .answer(alloc, &mut self.keeper, &mut self.replies)?;
+        self.settle_and_write(alloc, sink)
+    }
+
+    // Settles the store behind a window that was answered, and writes the replies.
+    fn settle_and_write<O: Sink>(&mut self, alloc: Global, sink: &mut O) -> Result<(), RunFault>
+        requires works { K.works self.old.keeper }
+        ensures works { OnOk result (K.works self.new.keeper) }
+        ensures window { self.new.window ≡ self.old.window }
+        ensures written { OnOk result ((known : Option World) (rs : List Request) → AreAnswered K.holds known rs self.old.replies.items self.old.keeper
+            → AreWritten K.holds known rs (O.taken sink.old) (O.taken sink.new) self.new.keeper) }
+        ensures fault { IfErr result (λ fault. (known : Option World) (rs : List Request) → AreAnswered K.holds known rs self.old.replies.items self.old.keeper
+            → HaveFailed K.holds K.keeps fault known rs (O.taken sink.old) (O.taken sink.new) self.new.keeper) }
+        ensures cause { HasCauses (O.faults sink.old) (O.faults sink.new) (K.faults self.old.keeper) (K.faults self.new.keeper) (K.spent self.new.keeper) (fault_in result) }
+    {
+        self.keeper.settle(alloc)?;
         write_all(sink, self.replies.as_slice())?;
         give_back_large(alloc, &mut self.replies);
         Ok(())
@@ -71,21 +113,24 @@ impl Session {
     pub fn take_line<O: Sink>(
         &mut self,
         alloc: Global,
-        asked: Asked,
+        action: Action,
         size: usize,
         sink: &mut O,
     ) -> Result<(), RunFault>
+        requires ready { IsReady K.works self.old }
         requires size { size ≤ max_line }
-        requires room { self.old.window.bytes < max_window }
-        ensures ok { OnOk result ((line : List ℕ) → AsksFor line asked size → is_control (request_of line) ≡ false
-            → TakesLine line self.old (O.taken sink.old) self.new (O.taken sink.new)) }
-        ensures room { OnOk result (self.new.window.bytes < max_window) }
+        requires of_key { IsRunOfKey action }
+        requires plain { is_whole action ≡ false }
+        requires light { IsLight size (request_asked action) }
+        ensures ok { OnOk result ((line : List ℕ) → AsksFor line action size
+            → TakesLine K.holds line self.old (O.taken sink.old) self.new (O.taken sink.new)) }
+        ensures ready { OnOk result (IsReady K.works self.new) }
         ensures limit { OnOk result (self.new.window.limit ≡ self.old.window.limit) }
-        ensures fault { IfErr result (λ fault. (line : List ℕ) → AsksFor line asked size → is_control (request_of line) ≡ false
-            → FailsAtLine fault line self.old (O.taken sink.old) (O.taken sink.new)) }
-        ensures cause { HasWriteCause (O.faults sink.old) (O.faults sink.new) result }
+        ensures fault { IfErr result (λ fault. (line : List ℕ) → AsksFor line action size
+            → FailsAtLine K.holds K.keeps fault line self.old (O.taken sink.old) self.new (O.taken sink.new)) }
+        ensures cause { HasCauses (O.faults sink.old) (O.faults sink.new) (K.faults self.old.keeper) (K.faults self.new.keeper) (K.spent self.new.keeper) (fault_in result) }
     {
-        self.window.push(asked, size)?;
+        self.window.push(action, size)?;
         if !self.window.is_full() {
             return Ok(());
         }
@@ -97,47 +142,65 @@ impl Session {
     pub fn take_control<O: Sink>(
         &mut self,
         alloc: Global,
-        asked: Asked,
+        control: Control,
         size: usize,
         sink: &mut O,
     ) -> Result<(), RunFault>
-        requires size { size ≤ max_line }
-        ensures ok { OnOk result ((line : List ℕ) → AsksFor line asked size → is_control (request_of line) ≡ true
-            → TakesLine line self.old (O.taken sink.old) self.new (O.taken sink.new)) }
-        ensures room { OnOk result (self.new.window.bytes ≡ 0) }
+        requires ready { IsReady K.works self.old }
+        ensures ok { OnOk result ((line : List ℕ) → AsksFor line (whole control) size
+            → TakesLine K.holds line self.old (O.taken sink.old) self.new (O.taken sink.new)) }
+        ensures ready { OnOk result (IsReady K.works self.new) }
         ensures limit { OnOk result (self.new.window.limit ≡ self.old.window.limit) }
-        ensures fault { IfErr result (λ fault. (line : List ℕ) → AsksFor line asked size → is_control (request_of line) ≡ true
-            → FailsAtLine fault line self.old (O.taken sink.old) (O.taken sink.new)) }
-        ensures cause { HasWriteCause (O.faults sink.old) (O.faults sink.new) result }
+        ensures fault { IfErr result (λ fault. (line : List ℕ) → AsksFor line (whole control) size
+            → FailsAtLine K.holds K.keeps fault line self.old (O.taken sink.old) self.new (O.taken sink.new)) }
+        ensures cause { HasCauses (O.faults sink.old) (O.faults sink.new) (K.faults self.old.keeper) (K.faults self.new.keeper) (K.spent self.new.keeper) (fault_in result) }
     {
         self.close(alloc, sink)?;
-        self.window.push(asked, size)?;
-        self.close(alloc, sink)?;
-        Ok(())
+        self.close_control(alloc, control, sink)
     }
 
-    /// Takes a line: answers it in its window, or by itself where it is a command of the whole store.
-    pub fn take<O: Sink>(
+    // Answers a line for the whole store, and writes the reply.
+    fn close_control<O: Sink>(
+        &mut self,
+        alloc: Global,
+        control: Control,
+        sink: &mut O,
+    ) -> Result<(), RunFault>
+        requires works { K.works self.old.keeper }
+        ensures works { OnOk result (K.works self.new.keeper) }
+        ensures window { self.new.window ≡ self.old.window }
+        ensures written { OnOk result ((known : Option World) → K.holds self.old.keeper known
+            → AreWritten K.holds known (request_whole control ∷ []) (O.taken sink.old) (O.taken sink.new) self.new.keeper) }
+        ensures fault { IfErr result (λ fault. (known : Option World) → K.holds self.old.keeper known
+            → HaveFailed K.holds K.keeps fault known (request_whole control ∷ []) (O.taken sink.old) (O.taken sink.new) self.new.keeper) }
+        ensures cause { HasCauses (O.faults sink.old) (O.faults sink.new) (K.faults self.old.keeper) (K.faults self.new.keeper) (K.spent self.new.keeper) (fault_in result) }
+    {
+        answer_whole(alloc, &mut self.keeper, control, &mut self.replies)?;
+        self.settle_and_write(alloc, sink)
+    }
+
+    /// Takes a line, by what it asks for and its size.
+    fn take<O: Sink>(
         &mut self,
         alloc: Global,
         asked: Asked,
         size: usize,
         sink: &mut O,
     ) -> Result<(), RunFault>
+        requires ready { IsReady K.works self.old }
         requires size { size ≤ max_line }
-        requires room { self.old.window.bytes < max_window }
+        requires light { IsLight size (request_asked asked) }
         ensures ok { OnOk result ((line : List ℕ) → AsksFor line asked size
-            → TakesLine line self.old (O.taken sink.old) self.new (O.taken sink.new)) }
-        ensures room { OnOk result (self.new.window.bytes < max_window) }
+            → TakesLine K.holds line self.old (O.taken sink.old) self.new (O.taken sink.new)) }
+        ensures ready { OnOk result (IsReady K.works self.new) }
         ensures limit { OnOk result (self.new.window.limit ≡ self.old.window.limit) }
         ensures fault { IfErr result (λ fault. (line : List ℕ) → AsksFor line asked size
-            → FailsAtLine fault line self.old (O.taken sink.old) (O.taken sink.new)) }
-        ensures cause { HasWriteCause (O.faults sink.old) (O.faults sink.new) result }
+            → FailsAtLine K.holds K.keeps fault line self.old (O.taken sink.old) self.new (O.taken sink.new)) }
+        ensures cause { HasCauses (O.faults sink.old) (O.faults sink.new) (K.faults self.old.keeper) (K.faults self.new.keeper) (K.spent self.new.keeper) (fault_in result) }
     {
-        if asked.is_control() {
-            self.take_control(alloc, asked, size, sink)
-        } else {
-            self.take_line(alloc, asked, size, sink)
+        match asked.into_action() {
+            Action::Whole(control) => self.take_control(alloc, control, size, sink),
+            action => self.take_line(alloc, action, size, sink),
         }
     }
 
@@ -148,13 +211,13 @@ impl Session {
         line: Bytes,
         sink: &mut O,
     ) -> Result<(), RunFault>
+        requires ready { IsReady K.works self.old }
         requires size { length line ≤ max_line }
-        requires room { self.old.window.bytes < max_window }
-        ensures ok { OnOk result (TakesLine line self.old (O.taken sink.old) self.new (O.taken sink.new)) }
-        ensures room { OnOk result (self.new.window.bytes < max_window) }
+        ensures ok { OnOk result (TakesLine K.holds line self.old (O.taken sink.old) self.new (O.taken sink.new)) }
+        ensures ready { OnOk result (IsReady K.works self.new) }
         ensures limit { OnOk result (self.new.window.limit ≡ self.old.window.limit) }
-        ensures fault { IfErr result (λ fault. FailsAtLine fault line self.old (O.taken sink.old) (O.taken sink.new)) }
-        ensures cause { HasWriteCause (O.faults sink.old) (O.faults sink.new) result }
+        ensures fault { IfErr result (λ fault. FailsAtLine K.holds K.keeps fault line self.old (O.taken sink.old) self.new (O.taken sink.new)) }
+        ensures cause { HasCauses (O.faults sink.old) (O.faults sink.new) (K.faults self.old.keeper) (K.faults self.new.keeper) (K.spent self.new.keeper) (fault_in result) }
     {
         self.take_slice(alloc, line.as_slice(), sink)
     }
@@ -166,13 +229,13 @@ impl Session {
         line: &[u8],
         sink: &mut O,
     ) -> Result<(), RunFault>
+        requires ready { IsReady K.works self.old }
         requires size { length line.now ≤ max_line }
-        requires room { self.old.window.bytes < max_window }
-        ensures ok { OnOk result (TakesLine line.now self.old (O.taken sink.old) self.new (O.taken sink.new)) }
-        ensures room { OnOk result (self.new.window.bytes < max_window) }
+        ensures ok { OnOk result (TakesLine K.holds line.now self.old (O.taken sink.old) self.new (O.taken sink.new)) }
+        ensures ready { OnOk result (IsReady K.works self.new) }
         ensures limit { OnOk result (self.new.window.limit ≡ self.old.window.limit) }
-        ensures fault { IfErr result (λ fault. FailsAtLine fault line.now self.old (O.taken sink.old) (O.taken sink.new)) }
-        ensures cause { HasWriteCause (O.faults sink.old) (O.faults sink.new) result }
+        ensures fault { IfErr result (λ fault. FailsAtLine K.holds K.keeps fault line.now self.old (O.taken sink.old) self.new (O.taken sink.new)) }
+        ensures cause { HasCauses (O.faults sink.old) (O.faults sink.new) (K.faults self.old.keeper) (K.faults self.new.keeper) (K.spent self.new.keeper) (fault_in result) }
     {
         let asked = Asked::of(alloc, line)?;
         self.take(alloc, asked, line.len(), sink)
@@ -180,16 +243,58 @@ impl Session {
 
     /// Takes a line that is oversized.
     pub fn take_oversized<O: Sink>(&mut self, alloc: Global, sink: &mut O) -> Result<(), RunFault>
-        requires room { self.old.window.bytes < max_window }
+        requires ready { IsReady K.works self.old }
         ensures ok { OnOk result ((line : List ℕ) → max_line < length line
-            → TakesLine line self.old (O.taken sink.old) self.new (O.taken sink.new)) }
-        ensures room { OnOk result (self.new.window.bytes < max_window) }
+            → TakesLine K.holds line self.old (O.taken sink.old) self.new (O.taken sink.new)) }
+        ensures ready { OnOk result (IsReady K.works self.new) }
         ensures limit { OnOk result (self.new.window.limit ≡ self.old.window.limit) }
         ensures fault { IfErr result (λ fault. (line : List ℕ) → max_line < length line
-            → FailsAtLine fault line self.old (O.taken sink.old) (O.taken sink.new)) }
-        ensures cause { HasWriteCause (O.faults sink.old) (O.faults sink.new) result }
+            → FailsAtLine K.holds K.keeps fault line self.old (O.taken sink.old) self.new (O.taken sink.new)) }
+        ensures cause { HasCauses (O.faults sink.old) (O.faults sink.new) (K.faults self.old.keeper) (K.faults self.new.keeper) (K.spent self.new.keeper) (fault_in result) }
     {
         self.take(alloc, Asked::refused(Refusal::Oversized), 0, sink)
+    }
+}
+
+// Answers a line for the whole store, and leaves the reply line in `replies`, in whose place others stood.
+fn answer_whole<K: Keeper>(
+    alloc: Global,
+    keeper: &mut K,
+    control: Control,
+    replies: &mut Vec<u8>,
+) -> Result<(), RunFault>
+    requires works { K.works keeper.old }
+    ensures works { OnOk result (K.works keeper.new) }
+    ensures answered { (known : Option World) → K.holds keeper.old known → OnOk result (AreAnswered K.holds known (request_whole control ∷ []) replies.new.items keeper.new) }
+    ensures left { (known : Option World) → K.holds keeper.old known → OnErr result (IsLeft K.holds K.keeps keeper.new (option_map (worlds_at gave_up (request_whole control ∷ [])) known)) }
+    ensures undamaged { (w : World) → K.holds keeper.old (Some w) → IfErr result IsNoDamage }
+    ensures kinds { IfErr result IsOfStore }
+    ensures cause { HasDiskCause (K.faults keeper.old) (K.faults keeper.new) (K.spent keeper.new) (fault_in result) }
+{
+    replies.clear();
+    let reply = reply_whole(alloc, keeper, control)?;
+    push_reply(alloc, &reply, replies)?;
+    Ok(())
+}
+
+// The reply to a line for the whole store.
+fn reply_whole<K: Keeper>(
+    alloc: Global,
+    keeper: &mut K,
+    control: Control,
+) -> Result<Reply, RunFault>
+    requires works { K.works keeper.old }
+    ensures works { OnOk result (K.works keeper.new) }
+    ensures reply { (known : Option World) → K.holds keeper.old known → IfOk result (λ reply. MayReply (request_whole control ∷ []) known (reply_of reply ∷ [])) }
+    ensures held { (known : Option World) → K.holds keeper.old known → OnOk result (K.holds keeper.new known) }
+    ensures failed { (w : World) → K.holds keeper.old (Some w) → OnErr result (K.keeps keeper.new w w) }
+    ensures undamaged { (w : World) → K.holds keeper.old (Some w) → IfErr result IsNoDamage }
+    ensures kinds { IfErr result IsOfStore }
+    ensures cause { HasDiskCause (K.faults keeper.old) (K.faults keeper.new) (K.spent keeper.new) (fault_in result) }
+{
+    match control {
+        Control::Schema => Ok(Reply::Schemas(keeper.schemas(alloc)?)),
+        Control::NotBuilt => Ok(Reply::Refused(Refusal::NotBuilt)),
     }
 }
 

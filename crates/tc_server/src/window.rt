@@ -1,16 +1,24 @@
 //! A window: lines that are answered together.
 
-ghost use Rattle.std.specs.Prelude.{◌≡◌, ℕ, ◌+◌, ◌≤◌, ◌<◌, ◌^◌, ◌↔◌, ◌||◌, [], ◌∷◌, ◌++◌, length, nat_le, IsTrue, OnOk, OnErr};
-ghost use Rattle.tc_run_model.specs.World.{World};
+ghost use Rattle.std.specs.Prelude.{◌≡◌, ℕ, false, ◌+◌, ◌≤◌, ◌<◌, ◌^◌, ◌||◌, ◌++◌, [], ◌∷◌, length, map, nat_le, Option, Some, option_map, IfErr, OnErr, OnOk};
+ghost use Rattle.tc_command.specs.Commands.{request_of_command};
+ghost use Rattle.tc_command.specs.Replies.{reply_of};
+ghost use Rattle.tc_model.specs.Limits.{max_line};
+ghost use Rattle.tc_model.specs.Weight.{IsLight};
+ghost use Rattle.tc_run_model.specs.Course.{each_line};
 ghost use Rattle.tc_run_model.specs.Windows.{max_window};
-ghost use Rattle.tc_server.specs.Asked.{request_asked};
-ghost use Rattle.tc_server.specs.Holds.{AreAnswered, Holds};
-ghost use Rattle.tc_server.specs.Window.{answered_of, requests_of};
+ghost use Rattle.tc_run_model.specs.World.{World};
+ghost use Rattle.tc_server.specs.Asked.{is_whole, request_asked, IsOfKey, IsRunOfKey};
+ghost use Rattle.tc_server.specs.Faults.{fault_in, gave_up, HasDiskCause, IsNoDamage, IsOfStore};
+ghost use Rattle.tc_server.specs.Holds.{worlds_at, AreAnswered, IsLeft};
+ghost use Rattle.tc_server.specs.Window.{mixed, reply_refused, request_refused, requests_of, IsSoundWindow};
 
-use crate::answer::{Asked, answer_all};
-use crate::store::Store;
+use crate::answer::{Action, push_reply};
+use crate::keeper::Keeper;
+use crate::outcome::RunFault;
 use std::alloc::{AllocError, Global};
-use std::collections::VecDeque;
+use tc_command::{Command, Refusal, Reply};
+use tc_route::{Placed, Routed};
 
 /// Bytes of lines that close a window, at least.
 pub const MAX_WINDOW: usize = 4_194_304;
@@ -18,7 +26,10 @@ pub const MAX_WINDOW: usize = 4_194_304;
 /// The lines that have come since the last window closed.
 #[derive(Drop)]
 pub struct Window {
-    pub asked: VecDeque<Asked>,
+    /// For each line why it is refused, and none where it has a command.
+    refusals: Vec<Option<Refusal>>,
+    /// The commands, in the order of their lines, each with the place of its line.
+    commands: Vec<Routed>,
     /// Bytes of these lines.
     pub bytes: usize,
     /// Lines that close a window.
@@ -29,51 +40,138 @@ impl Window {
     /// A window without lines.
     pub fn new(alloc: Global, limit: usize) -> Window
         ensures requests { requests_of result ≡ [] }
+        ensures lines { length result.refusals.items ≡ 0 }
+        ensures sound { IsSoundWindow result }
         ensures bytes { result.bytes ≡ 0 }
         ensures limit { result.limit ≡ limit }
     {
         Window {
-            asked: VecDeque::new(alloc),
+            refusals: Vec::new(alloc),
+            commands: Vec::new(alloc),
             bytes: 0,
             limit,
         }
     }
 
-    /// Adds a line of this many bytes. Errs only for want of memory.
-    pub fn push(&mut self, asked: Asked, size: usize) -> Result<(), AllocError>
-        requires { self.old.bytes + size < 2 ^ 64 }
-        ensures requests { OnOk result (requests_of self.new ≡ requests_of self.old ++ request_asked asked ∷ []) }
+    /// Adds a line of this many bytes that is not for the whole store. Errs only for want of memory.
+    pub fn push(&mut self, action: Action, size: usize) -> Result<(), AllocError>
+        requires sound { IsSoundWindow self.old }
+        requires room { self.old.bytes + size < 2 ^ 64 }
+        requires lines { length self.old.refusals.items < 2 ^ 32 }
+        requires size { size ≤ max_line }
+        requires of_key { IsRunOfKey action }
+        requires plain { is_whole action ≡ false }
+        requires light { IsLight size (request_asked action) }
+        ensures requests { OnOk result (requests_of self.new ≡ requests_of self.old ++ request_asked action ∷ []) }
+        ensures lines { OnOk result (length self.new.refusals.items ≡ length self.old.refusals.items + 1) }
+        ensures sound { OnOk result (IsSoundWindow self.new) }
         ensures bytes { OnOk result (self.new.bytes ≡ self.old.bytes + size) }
         ensures limit { OnOk result (self.new.limit ≡ self.old.limit) }
-        ensures err { OnErr result (requests_of self.new ≡ requests_of self.old) }
     {
-        self.asked.push_back(asked)?;
+        match action {
+            Action::Run(command) => self.push_command(command, size),
+            Action::Refuse(refusal) => self.push_refused(refusal, size),
+            Action::Whole(_) => unreachable!(),
+        }
+    }
+
+    // Adds a line of this many bytes that is refused. Errs only for want of memory.
+    fn push_refused(&mut self, refusal: Refusal, size: usize) -> Result<(), AllocError>
+        requires sound { IsSoundWindow self.old }
+        requires room { self.old.bytes + size < 2 ^ 64 }
+        ensures requests { OnOk result (requests_of self.new ≡ requests_of self.old ++ request_refused refusal ∷ []) }
+        ensures lines { OnOk result (length self.new.refusals.items ≡ length self.old.refusals.items + 1) }
+        ensures sound { OnOk result (IsSoundWindow self.new) }
+        ensures bytes { OnOk result (self.new.bytes ≡ self.old.bytes + size) }
+        ensures limit { OnOk result (self.new.limit ≡ self.old.limit) }
+    {
+        self.refusals.push(Some(refusal))?;
+        self.bytes += size;
+        Ok(())
+    }
+
+    // Adds a line of this many bytes that has a command for one key. Errs only for want of memory.
+    fn push_command(&mut self, command: Command, size: usize) -> Result<(), AllocError>
+        requires sound { IsSoundWindow self.old }
+        requires room { self.old.bytes + size < 2 ^ 64 }
+        requires lines { length self.old.refusals.items < 2 ^ 32 }
+        requires size { size ≤ max_line }
+        requires of_key { IsOfKey (request_of_command command) }
+        requires light { IsLight size (request_of_command command) }
+        ensures requests { OnOk result (requests_of self.new ≡ requests_of self.old ++ request_of_command command ∷ []) }
+        ensures lines { OnOk result (length self.new.refusals.items ≡ length self.old.refusals.items + 1) }
+        ensures sound { OnOk result (IsSoundWindow self.new) }
+        ensures bytes { OnOk result (self.new.bytes ≡ self.old.bytes + size) }
+        ensures limit { OnOk result (self.new.limit ≡ self.old.limit) }
+    {
+        let at = self.refusals.len() as u32;
+        self.commands.push(Routed { at, command })?;
+        self.refusals.push(None)?;
         self.bytes += size;
         Ok(())
     }
 
     /// Whether the window has to close.
     pub fn is_full(&self) -> bool
-        ensures { result ≡ (nat_le self.now.limit (length (requests_of self.now)) || nat_le max_window self.now.bytes) }
+        ensures { result ≡ (nat_le self.now.limit (length self.now.refusals.items) || nat_le max_window self.now.bytes) }
     {
-        self.limit <= self.asked.len() || MAX_WINDOW <= self.bytes
+        self.limit <= self.refusals.len() || MAX_WINDOW <= self.bytes
     }
 
-    /// Answers the lines from the store, and leaves the window without lines and the reply lines in `replies`, in whose
-    /// place others stood. Errs only for want of memory.
-    pub fn answer(
+    /// Answers the lines, and leaves the window without lines and the reply lines in `replies`, in whose place others stood.
+    pub fn answer<K: Keeper>(
         &mut self,
         alloc: Global,
-        store: &mut Store,
+        keeper: &mut K,
         replies: &mut Vec<u8>,
-    ) -> Result<(), AllocError>
-        ensures answered { OnOk result ((w : World) → Holds w store.old → AreAnswered w (answered_of self.old) replies.new.items store.new) }
+    ) -> Result<(), RunFault>
+        requires sound { IsSoundWindow self.old }
+        requires few { length self.old.refusals.items ≤ 4096 }
+        requires bytes { self.old.bytes ≤ max_window + max_line }
+        requires works { K.works keeper.old }
+        ensures works { OnOk result (K.works keeper.new) }
+        ensures answered { (known : Option World) → K.holds keeper.old known → OnOk result (AreAnswered K.holds known (requests_of self.old) replies.new.items keeper.new) }
         ensures requests { OnOk result (requests_of self.new ≡ []) }
+        ensures lines { OnOk result (length self.new.refusals.items ≡ 0) }
+        ensures sound { OnOk result (IsSoundWindow self.new) }
         ensures bytes { OnOk result (self.new.bytes ≡ 0) }
         ensures limit { OnOk result (self.new.limit ≡ self.old.limit) }
+        ensures left { (known : Option World) → K.holds keeper.old known → OnErr result (IsLeft K.holds K.keeps keeper.new (option_map (worlds_at gave_up (requests_of self.old)) known)) }
+        ensures undamaged { (w : World) → K.holds keeper.old (Some w) → IfErr result IsNoDamage }
+        ensures kinds { IfErr result IsOfStore }
+        ensures cause { HasDiskCause (K.faults keeper.old) (K.faults keeper.new) (K.spent keeper.new) (fault_in result) }
     {
-        answer_all(alloc, store, &mut self.asked, replies)?;
+        let answers = keeper.window(alloc, self.commands.as_slice())?;
+        replies.clear();
+        push_all(alloc, self.refusals.as_slice(), answers.as_slice(), replies)?;
+        self.refusals.clear();
+        self.commands.clear();
         self.bytes = 0;
         Ok(())
     }
+}
+
+// Puts the reply lines of a window behind those that are there: to a refused line that it is refused, and to the others
+// the answers, in order. Errs only for want of memory.
+fn push_all(
+    alloc: Global,
+    refusals: &[Option<Refusal>],
+    answers: &[Placed],
+    replies: &mut Vec<u8>,
+) -> Result<(), AllocError>
+    ensures { OnOk result (replies.new.items ≡ replies.old.items ++ each_line (mixed reply_refused refusals.now (map (λ a. reply_of a.reply) answers.now))) }
+{
+    let mut rest = answers;
+    for refusal in refusals {
+        match refusal {
+            Some(refusal) => push_reply(alloc, &Reply::Refused(*refusal), replies)?,
+            None => {
+                if let Some((first, more)) = rest.split_first() {
+                    push_reply(alloc, &first.reply, replies)?;
+                    rest = more;
+                }
+            }
+        }
+    }
+    Ok(())
 }

@@ -1,2 +1,3 @@
 mod GrammarLemmas
 mod OptionsLemmas
+pub mod WindowRange

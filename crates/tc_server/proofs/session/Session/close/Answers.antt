@@ -1,20 +1,32 @@
-use Rattle.std.proofs.Common.{◌<◌, length, take, subst}
-use Rattle.std.specs.Io.KnownBytes.{Appends}
-use Rattle.std.proofs.lemmas.Result.{err_from_is_err_and}
-use Rattle.tc_server.specs.Window.{answered_of}
-use Rattle.tc_server.proofs.Answering.{all_written, part_written}
+use Rattle.std.proofs.Common.{subst}
+use Rattle.std.proofs.KnownBytes.{Keeps-refl}
+use Rattle.std.proofs.lemmas.Result.{err_from_is_err_and, IfErr-weaker, on_ok_weaker}
+use Rattle.tc_server.specs.Faults.{fault_in}
+use Rattle.tc_server.specs.Window.{requests_of}
+use Rattle.tc_server.proofs.Answering.{none_written}
+use Rattle.tc_server.proofs.Causes.{store_failed, window_behind_call}
 use Rattle.tc_server.proofs.session.Session.close.Goals as goal
 
-pub returns-in_err-write_all-clause-fault : goal.returns-in_err-write_all-clause-fault
-returns-in_err-write_all-clause-fault g c =
-    let p = err_from_is_err_and c.from_residual-in_err-write_all.result c.from_residual-in_err-write_all.ensures.1 in
-    let n = c.in_err-write_all.field-0.0.taken in
-    rw (p.1, p.2) (λ w holds. part_written w (answered_of c.args.self.now.window) c.answer.new.replies.items c.answer.new.store (g.O.Sink.taken c.args.sink.now) (g.O.Sink.taken c.write_all.new.sink) n
-    (c.in_ok-answer.ensures.answered w holds)
-    (subst (λ bytes. n < length bytes) c.as_slice.ensures.value c.in_err-write_all.ensures.within)
-    (subst (λ bytes. Appends (g.O.Sink.taken c.args.sink.now) (g.O.Sink.taken c.write_all.new.sink) (take n bytes)) c.as_slice.ensures.value c.in_err-write_all.ensures.err))
+pub returns-in_err-answer-clause-fault : goal.returns-in_err-answer-clause-fault
+returns-in_err-answer-clause-fault g c =
+    let p = err_from_is_err_and c.from_residual.result c.from_residual.ensures.1 in
+    rw (p.1, p.2) (λ known holds.
+    none_written g.K.Keeper.holds g.K.Keeper.keeps c.in_err-answer.field-0.0 known (requests_of c.args.self.now.window) c.answer.new.keeper (g.O.Sink.taken c.args.sink.now) (g.O.Sink.taken c.args.sink.now)
+    c.in_err-answer.ensures.kinds (λ w is. c.in_err-answer.ensures.undamaged w (subst (g.K.Keeper.holds c.args.self.now.keeper) is holds)) (Keeps-refl (g.O.Sink.taken c.args.sink.now)) (c.in_err-answer.ensures.left known holds))
+
+pub returns-in_err-answer-clause-cause : goal.returns-in_err-answer-clause-cause
+returns-in_err-answer-clause-cause g c =
+    let p = err_from_is_err_and c.from_residual.result c.from_residual.ensures.1 in
+    rw (p.1, p.2) (store_failed c.in_err-answer.field-0.0 (g.O.Sink.faults c.args.sink.now) (g.K.Keeper.faults c.args.self.now.keeper) (g.K.Keeper.faults c.answer.new.keeper) (g.K.Keeper.spent c.answer.new.keeper) c.in_err-answer.ensures.kinds c.in_err-answer.ensures.cause)
 
 pub returns-clause-written : goal.returns-clause-written
-returns-clause-written g c = λ w holds.
-    all_written w (answered_of c.args.self.now.window) c.answer.new.replies.items c.answer.new.store (g.O.Sink.taken c.args.sink.now) (g.O.Sink.taken c.write_all.new.sink) (c.in_ok-answer.ensures.answered w holds)
-    (subst (Appends (g.O.Sink.taken c.args.sink.now) (g.O.Sink.taken c.write_all.new.sink)) c.as_slice.ensures.value c.in_ok-write_all.ensures.ok)
+returns-clause-written g c =
+    on_ok_weaker c.settle_and_write.result (λ writes known holds. writes known (requests_of c.args.self.now.window) (c.in_ok-answer.ensures.answered known holds)) c.settle_and_write.ensures.written
+
+pub returns-clause-fault : goal.returns-clause-fault
+returns-clause-fault g c =
+    IfErr-weaker c.settle_and_write.result _ _ (λ f fails known holds. fails known (requests_of c.args.self.now.window) (c.in_ok-answer.ensures.answered known holds)) c.settle_and_write.ensures.fault
+
+pub returns-clause-cause : goal.returns-clause-cause
+returns-clause-cause g c =
+    window_behind_call (fault_in c.settle_and_write.result) _ _ _ _ _ _ _ c.in_ok-answer.ensures.cause c.settle_and_write.ensures.cause

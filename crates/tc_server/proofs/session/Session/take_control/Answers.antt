@@ -1,50 +1,62 @@
-use Rattle.std.proofs.Common.{[], ◌∷◌, refl}
-use Rattle.std.proofs.lemmas.Result.{err_from_is_err_and}
-use Rattle.tc_server.specs.Stage.{IsAt, with_end}
-use Rattle.tc_server.specs.declared.session.Session.{Session}
-use Rattle.tc_server.proofs.SessionLemmas.{holds_line, closes, fails_closing, with_line-control, with_pushed, stops_before, BeginsWith-refl}
+use Rattle.std.proofs.Common.{[], ◌∷◌, length, ap, sym, subst, refl, arith}
+use Rattle.std.proofs.lemmas.Result.{err_from_is_err_and, IfErr-weaker, on_ok_weaker}
+use Rattle.tc_server.specs.Faults.{fault_in}
+use Rattle.tc_server.specs.Stage.{with_end}
+use Rattle.tc_server.specs.Window.{IsSoundWindow}
+use Rattle.tc_server.specs.declared.answer.Action.TheVariants.{Whole as whole}
+use Rattle.tc_server.specs.declared.window.Window.{Window}
+use Rattle.tc_server.proofs.Causes.{windows_follow}
+use Rattle.tc_server.proofs.SessionLemmas.{closes, closes_line, fails_closing, fails_line, with_line-control, with_pushed}
 use Rattle.tc_server.proofs.session.Session.take_control.Goals as goal
+
+pub close-requires-clause-few : goal.close-requires-clause-few
+close-requires-clause-few g c = omega (arith, c.requires.ready.lines, c.requires.ready.limit)
+
+pub close-requires-clause-bytes : goal.close-requires-clause-bytes
+close-requires-clause-bytes g c = omega (arith, c.requires.ready.room)
 
 pub returns-in_err-close-clause-fault : goal.returns-in_err-close-clause-fault
 returns-in_err-close-clause-fault g c =
     let p = err_from_is_err_and c.from_residual.result c.from_residual.ensures.1 in
-    rw (p.1, p.2) (λ line asks control first base ws at.
-    rw (with_line-control c.args.self.now.window.limit ws line control)
-    (fails_closing first base (g.O.Sink.taken c.args.sink.now) (g.O.Sink.taken c.close.new.sink) ws c.args.self.now c.in_err-close.field-0.0 (with_end (with_pushed (with_end ws) line)).closed at
+    rw (p.1, p.2) (λ line asks first base ws at.
+    rw (with_line-control c.args.self.now.window.limit ws line (sym asks.whole))
+    (fails_closing g.K.Keeper.holds g.K.Keeper.keeps first base (g.O.Sink.taken c.args.sink.now) (g.O.Sink.taken c.close.new.sink) ws c.args.self.now c.in_err-close.field-0.0 c.close.new.self.keeper (with_end (with_pushed (with_end ws) line)).closed at
     c.in_err-close.ensures.fault (record { more = (line ∷ []) ∷ []; goes_on = refl })))
 
-pub returns-in_err-push-clause-fault : goal.returns-in_err-push-clause-fault
-returns-in_err-push-clause-fault g c =
-    let p = err_from_is_err_and c.from_residual-in_err-push.result c.from_residual-in_err-push.ensures.1 in
-    rw (p.1, p.2) (λ line asks control first base ws at.
-    let before : IsAt first base (with_end ws) c.close.new.self (g.O.Sink.taken c.close.new.sink) =
-    closes first base (g.O.Sink.taken c.args.sink.now) (g.O.Sink.taken c.close.new.sink) ws c.args.self.now c.close.new.self at
-    c.in_ok-close.ensures.written c.in_ok-close.ensures.requests c.in_ok-close.ensures.bytes in
-    rw (with_line-control c.args.self.now.window.limit ws line control)
-    (stops_before first base (g.O.Sink.taken c.close.new.sink) (with_end ws) c.close.new.self _ before (record { more = (line ∷ []) ∷ []; goes_on = refl })))
-
-pub returns-in_err-close-2-clause-fault : goal.returns-in_err-close-2-clause-fault
-returns-in_err-close-2-clause-fault g c =
-    let p = err_from_is_err_and c.from_residual-in_err-close-2.result c.from_residual-in_err-close-2.ensures.1 in
-    rw (p.1, p.2) (λ line asks control first base ws at.
-    let before : IsAt first base (with_end ws) c.close.new.self (g.O.Sink.taken c.close.new.sink) =
-    closes first base (g.O.Sink.taken c.args.sink.now) (g.O.Sink.taken c.close.new.sink) ws c.args.self.now c.close.new.self at
-    c.in_ok-close.ensures.written c.in_ok-close.ensures.requests c.in_ok-close.ensures.bytes in
-    let pushed : Session = record c.close.new.self { window = c.push.new.self } in
-    let held : IsAt first base (with_pushed (with_end ws) line) pushed (g.O.Sink.taken c.close.new.sink) =
-    holds_line first base (g.O.Sink.taken c.close.new.sink) (with_end ws) line c.args.asked c.args.size c.close.new.self pushed asks before refl c.in_ok-push.ensures.requests c.in_ok-push.ensures.bytes in
-    rw (with_line-control c.args.self.now.window.limit ws line control)
-    (fails_closing first base (g.O.Sink.taken c.close.new.sink) (g.O.Sink.taken c.close-2.new.sink) (with_pushed (with_end ws) line) pushed c.in_err-close-2.field-0.0 (with_end (with_pushed (with_end ws) line)).closed held
-    c.in_err-close-2.ensures.fault (BeginsWith-refl _)))
+pub returns-in_err-close-clause-cause : goal.returns-in_err-close-clause-cause
+returns-in_err-close-clause-cause g c =
+    let p = err_from_is_err_and c.from_residual.result c.from_residual.ensures.1 in
+    rw (p.1, p.2) c.in_err-close.ensures.cause
 
 pub returns-clause-ok : goal.returns-clause-ok
-returns-clause-ok g c = λ line asks control first base ws at.
-    let before : IsAt first base (with_end ws) c.close.new.self (g.O.Sink.taken c.close.new.sink) =
-    closes first base (g.O.Sink.taken c.args.sink.now) (g.O.Sink.taken c.close.new.sink) ws c.args.self.now c.close.new.self at
+returns-clause-ok g c =
+    on_ok_weaker c.close_control.result (λ writes line asks first base ws at.
+    let before = closes g.K.Keeper.holds first base (g.O.Sink.taken c.args.sink.now) (g.O.Sink.taken c.close.new.sink) ws c.args.self.now c.close.new.self at
     c.in_ok-close.ensures.written c.in_ok-close.ensures.requests c.in_ok-close.ensures.bytes in
-    let pushed : Session = record c.close.new.self { window = c.push.new.self } in
-    let held : IsAt first base (with_pushed (with_end ws) line) pushed (g.O.Sink.taken c.close.new.sink) =
-    holds_line first base (g.O.Sink.taken c.close.new.sink) (with_end ws) line c.args.asked c.args.size c.close.new.self pushed asks before refl c.in_ok-push.ensures.requests c.in_ok-push.ensures.bytes in
-    rw (with_line-control c.args.self.now.window.limit ws line control)
-    (closes first base (g.O.Sink.taken c.close.new.sink) (g.O.Sink.taken c.close-2.new.sink) (with_pushed (with_end ws) line) pushed c.close-2.new.self held
-    c.in_ok-close-2.ensures.written c.in_ok-close-2.ensures.requests c.in_ok-close-2.ensures.bytes)
+    rw (with_line-control c.args.self.now.window.limit ws line (sym asks.whole))
+    (closes_line g.K.Keeper.holds first base (g.O.Sink.taken c.close.new.sink) (g.O.Sink.taken c.close_control.new.sink) ws line (whole c.args.control) c.args.size c.close.new.self c.close_control.new.self asks before
+    c.close_control.ensures.window c.in_ok-close.ensures.requests c.in_ok-close.ensures.bytes writes))
+    c.close_control.ensures.written
+
+pub returns-clause-ready : goal.returns-clause-ready
+returns-clause-ready g c =
+    on_ok_weaker c.close_control.result (λ works. record {
+      works = works;
+      sound = subst IsSoundWindow (sym c.close_control.ensures.window) c.in_ok-close.ensures.sound;
+      room = omega (arith, ap (λ (w : Window). w.bytes) c.close_control.ensures.window, c.in_ok-close.ensures.bytes);
+      lines = omega (arith, ap (λ (w : Window). length w.refusals.items) c.close_control.ensures.window, ap (λ (w : Window). w.limit) c.close_control.ensures.window, c.in_ok-close.ensures.lines, c.in_ok-close.ensures.limit, c.requires.ready.lines);
+      limit = omega (arith, ap (λ (w : Window). w.limit) c.close_control.ensures.window, c.in_ok-close.ensures.limit, c.requires.ready.limit);
+    }) c.close_control.ensures.works
+
+pub returns-clause-fault : goal.returns-clause-fault
+returns-clause-fault g c =
+    IfErr-weaker c.close_control.result _ _ (λ f fails line asks first base ws at.
+    let before = closes g.K.Keeper.holds first base (g.O.Sink.taken c.args.sink.now) (g.O.Sink.taken c.close.new.sink) ws c.args.self.now c.close.new.self at
+    c.in_ok-close.ensures.written c.in_ok-close.ensures.requests c.in_ok-close.ensures.bytes in
+    rw (with_line-control c.args.self.now.window.limit ws line (sym asks.whole))
+    (fails_line g.K.Keeper.holds g.K.Keeper.keeps first base (g.O.Sink.taken c.close.new.sink) (g.O.Sink.taken c.close_control.new.sink) ws line (whole c.args.control) c.args.size c.close.new.self f c.close_control.new.self.keeper asks before fails))
+    c.close_control.ensures.fault
+
+pub returns-clause-cause : goal.returns-clause-cause
+returns-clause-cause g c =
+    windows_follow (fault_in c.close_control.result) _ _ _ _ _ _ _ _ c.in_ok-close.ensures.cause c.close_control.ensures.cause

@@ -1,0 +1,15 @@
+use Rattle.std.proofs.Common.{◌∷◌, [], sym, subst}
+use Rattle.tc_model.specs.Reply.{turned_down}
+use Rattle.tc_model.specs.Request.{not_built}
+use Rattle.tc_run_model.specs.Known.{MayReply}
+use Rattle.tc_server.specs.Asked.{request_whole}
+use Rattle.tc_server.proofs.Answering.{unbuilt_replied}
+use Rattle.tc_server.proofs.Causes.{nothing_counted}
+use Rattle.tc_server.proofs.session.reply_whole.Goals as goal
+
+pub returns-in-NotBuilt-clause-reply : goal.returns-in-NotBuilt-clause-reply
+returns-in-NotBuilt-clause-reply g c = λ known holds.
+    subst (λ control. MayReply (request_whole control ∷ []) known (turned_down not_built ∷ [])) (sym c.in-NotBuilt.is) (unbuilt_replied known)
+
+pub returns-in-NotBuilt-clause-cause : goal.returns-in-NotBuilt-clause-cause
+returns-in-NotBuilt-clause-cause g c = nothing_counted (g.K.Keeper.faults c.args.keeper.now) (g.K.Keeper.spent c.args.keeper.now)

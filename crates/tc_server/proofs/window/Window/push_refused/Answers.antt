@@ -1,0 +1,22 @@
+use Rattle.std.proofs.Common.{◌∙◌, ◌∷◌, [], ap, length, length-append, sym, arith}
+use Rattle.std.specs.Prelude.{Some}
+use Rattle.std.proofs.lemmas.List.{length-map}
+use Rattle.tc_server.specs.Window.{count_asked, mixed, request_refused, requests_routed}
+use Rattle.tc_server.proofs.Mixing.{count_asked-append, mixed-refused}
+use Rattle.tc_server.proofs.window.Window.push_refused.Goals as goal
+
+pub returns-clause-requests : goal.returns-clause-requests
+returns-clause-requests c =
+    let w = c.args.self.now in
+    ap (λ lines. mixed request_refused lines (requests_routed w.commands.items)) c.in_ok-push.ensures.items
+    ∙ mixed-refused request_refused w.refusals.items (requests_routed w.commands.items) c.args.refusal (c.requires.sound.whole ∙ sym (length-map w.commands.items _))
+
+pub returns-clause-lines : goal.returns-clause-lines
+returns-clause-lines c = omega (arith, ap length c.in_ok-push.ensures.items ∙ length-append c.args.self.now.refusals.items (Some c.args.refusal ∷ []))
+
+pub returns-clause-sound : goal.returns-clause-sound
+returns-clause-sound c = record {
+  each = c.requires.sound.each;
+  whole = omega (arith, ap count_asked c.in_ok-push.ensures.items ∙ count_asked-append c.args.self.now.refusals.items (Some c.args.refusal ∷ []), c.requires.sound.whole);
+  light = omega (arith, c.requires.sound.light);
+}
