@@ -1,6 +1,6 @@
 -- The device of a job that was just made, and as the job leaves it: absent, closed, or what the job makes.
-use Rattle.std.proofs.Common.{◌≡◌, ◌∙◌, ◌<◌, ◌+◌, ◌-◌, ℕ, List, [], ◌∷◌, ◌++◌, length, refl, sym, ap, subst, inl, inr, arith, Option, Some, None, false, is_some}
-use Rattle.std.specs.Prelude.{◌^◌, All}
+use Rattle.std.proofs.Common.{◌≡◌, ◌∙◌, ◌≤◌, ◌<◌, ◌+◌, ◌-◌, ℕ, List, [], ◌∷◌, ◌++◌, length, refl, sym, ap, subst, inl, inr, arith, Option, Some, None, false, is_some}
+use Rattle.std.specs.Prelude.{◌^◌, All, option_map}
 use Rattle.std.proofs.lemmas.List.Elements.{All-head}
 use Rattle.tc_store.specs.declared.file_name.FileName.{FileName}
 use Rattle.tc_store.specs.declared.file_name.FileName.TheVariants.{Component}
@@ -12,9 +12,13 @@ use Rattle.tc_store.specs.Moments.{IfTold, LeavesAt, LeavesOnly}
 use Rattle.tc_store.specs.StoreCalls.{fresh_file_at}
 use Rattle.tc_store.proofs.NameLemmas.{put_there}
 use Rattle.tc_memory.specs.Table as memory
+use Rattle.tc_component.specs.Rows.{IsComponent}
+use Rattle.tc_lsm_model.specs.Contents.{Content}
 use Rattle.tc_lsm_model.specs.Lists.{last_of}
-use Rattle.tc_machine.specs.Events.{flush_begun, made}
-use Rattle.tc_machine.specs.State.{Flushing, Sealed, flush_name, flushing_of, sealed_logs}
+use Rattle.tc_lsm_model.specs.Merges.{IsMerge, Run, in_run}
+use Rattle.tc_machine.specs.Components.{file_of}
+use Rattle.tc_machine.specs.Events.{flush_begun, made, merge_begun}
+use Rattle.tc_machine.specs.State.{Flushing, Merging, Sealed, flush_name, flushing_of, sealed_logs}
 use Rattle.tc_machine.specs.Steps.{IsFlushed, IsShutOrHas, nothing_held}
 use Rattle.tc_machine.proofs.Events.{event_keeps}
 use Rattle.tc_machine.proofs.FilesMade.{empty_image}
@@ -23,7 +27,7 @@ use Rattle.tc_part_model.specs.Meaning.{IsPart}
 use Rattle.tc_part_model.specs.PartFiles.{AreKeptAt, IfFiles, device_at, files_at, no_job, seen_entry}
 use Rattle.tc_part_model.specs.PartState.{Told, IsTold}
 use Rattle.tc_part_model.specs.PartView.{PartView, state_of, state_with}
-use Rattle.tc_part_model.proofs.Beginnings.{flush_free}
+use Rattle.tc_part_model.proofs.Beginnings.{flush_free, merge_free}
 use Rattle.tc_part_model.proofs.BegunParts.{sealed_found}
 use Rattle.tc_part_model.proofs.DeviceFiles.{no_job_leaves, some_sealed}
 
@@ -51,6 +55,15 @@ module _ (p : PartView) (disk : Disk) (f g : DiskFile) (k : AreKeptAt p false No
       let begun = event_keeps p.part (state_with p false None files) flush_begun (k.kept no_job (no_job_leaves p)) (record { sealed = d; is_sealed = sealed; none_out = none_out; sound = refl; before = absent.0; absent = absent.1 }) in
       begun.files.flush_file image (subst (λ e. MayLeaveAt (nothing_held name) e image) (sym (put_there name (made (files name)) files)) (left_of_made name image free left))
 
+  pub fresh_merge : (run : Run) (c : Content) → 2 ≤ run.length → run.first + run.length ≤ length p.list → IsMerge (in_run run p.list) c → p.merge ≡ None → LeavesAt (IsShutOrHas (IsComponent c)) (empty_file (removed_of (disk (file_of c))))
+  fresh_merge run c two within is_merge none_out image left =
+      let name = file_of c in
+      let files = files_at p disk f g no_job in
+      let free = merge_free p disk f g k run c two within is_merge none_out in
+      let absent = seen_free name free in
+      let begun = event_keeps p.part (state_with p false None files) (merge_begun run c) (k.kept no_job (no_job_leaves p)) (record { none_out = none_out; sound = refl; two = two; within = within; is_merge = is_merge; before = absent.0; absent = absent.1 }) in
+      begun.files.merge_file image (subst (λ e. MayLeaveAt (nothing_held name) e image) (sym (put_there name (made (files name)) files)) (left_of_made name image free left))
+
 -- ---- where it is told
 
 -- what each disk of a part says of the file that is made under a name, the device of it tells
@@ -76,6 +89,15 @@ fresh_flush_told t p kept is sealed in_store =
     none_out : (o : Option Flushing) → is_some o ≡ false → o ≡ None
     none_out None is = refl
     none_out (Some f) is = absurd (cc)
+
+pub fresh_merge_told : (t : Told) (p : PartView) (run : Run) (c : Content) → IsPart t p → 2 ≤ run.length → run.first + run.length ≤ length p.list → IsMerge (in_run run p.list) c → t.merging ≡ None
+    → IfTold (fresh_file_at (file_of c) t.disks) (LeavesAt (IsShutOrHas (IsComponent c)))
+fresh_merge_told t p run c is two within is_merge in_store =
+    fresh_at t p (file_of c) (LeavesAt (IsShutOrHas (IsComponent c))) is (λ disk f g k. fresh_merge p disk f g k run c two within is_merge (none_out p.merge (sym is.view.merging ∙ in_store)))
+  where
+    none_out : (o : Option Merging) → option_map (λ m. m.run) o ≡ None → o ≡ None
+    none_out None is = refl
+    none_out (Some m) is = absurd (cc)
 
 -- ---- as the job leaves it
 

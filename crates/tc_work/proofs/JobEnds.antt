@@ -50,6 +50,11 @@ pub settled_told : (bytes : List ℕ) (device : List DiskFile) → IfTold device
 settled_told bytes [] is = tt
 settled_told bytes (f ∷ past) is = subst (λ (x : DiskFile). x ≡ settled_file x.content) (sym is) refl
 
+-- where a job needs its files told, and a device that tells nothing goes on so
+pub settled_where : (disks : List Disk) (bytes : List ℕ) (new : List DiskFile) (Told : Type 0) → (disks ≡ [] → new ≡ []) → IfTold disks (λ disk. Told) → (Told → IfTold new (λ f. f ≡ settled_file bytes)) → IfTold new IsSettled
+settled_where [] bytes new Told untold is_told whole = subst (λ (fs : List DiskFile). IfTold fs IsSettled) (sym (untold refl)) tt
+settled_where (disk ∷ past) bytes new Told untold is_told whole = settled_told bytes new (whole is_told)
+
 -- ---- what is stored
 
 pub job_stores : (t u v : Told) (p q r : PartView) → IsPart u q → IsTold u.disks → q.part ≡ p.part → store_of q ≡ store_of p → q.staged ≡ p.staged → IfTold u.disks (λ disk. IsPart v r) → r.part ≡ q.part → store_of r ≡ store_of q → r.staged ≡ q.staged

@@ -17,3 +17,11 @@ mod Watches
 mod JobEnds
 mod OnResults
 mod SealedTables
+mod ReplyKinds
+mod UnharmedRecords
+mod EmptyLogs
+mod MovedDocuments
+mod RunMerges
+mod MergeRuns
+mod MergeFaults
+mod StayingStores

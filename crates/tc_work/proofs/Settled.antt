@@ -12,11 +12,11 @@ use Rattle.tc_component.specs.Loading.{ComponentState}
 use Rattle.tc_lsm_model.specs.Contents.{Partition}
 use Rattle.tc_plain_model.specs.Writes.{Pairs, Write, after_writes}
 use Rattle.tc_part.specs.Closing.{HasFailedWhole}
-use Rattle.tc_part_model.specs.Meaning.{IsPart, HasFailedAs, Stands, plain_of}
-use Rattle.tc_part_model.specs.PartState.{Told, ToldComponent, AreTold, IsTold, told, told_component}
+use Rattle.tc_part_model.specs.Meaning.{IsPart, HasFailedAs, plain_of}
+use Rattle.tc_part_model.specs.PartState.{Told, ToldComponent, AreTold, IsTold, told_component}
 use Rattle.tc_part_model.specs.PartView.{PartView, store_of, stored_with}
 use Rattle.tc_work.specs.Failing.{HasFailedKeeping}
-use Rattle.tc_work.specs.Settling.{StandsTold, StoresStill, TellsFiles}
+use Rattle.tc_work.specs.Settling.{StoresStill, TellsFiles}
 use Rattle.tc_work.proofs.Failures.{logs_stay}
 
 -- ---- what a part stores
@@ -34,28 +34,23 @@ pub still_behind : (t u v : Told) (p q : PartView) → IsPart u q → q.part ≡
 still_behind t u v p q is here stores staged taken tells two =
     record { view = two.view; is = two.is; here = two.here ∙ here; stores = two.stores ∙ stores; plain = two.plain ∙ same_plain t u p q stores staged taken; tells = two.tells }
 
--- ---- where it stands
+-- behind two calls
+pub still_then : (t u v : Told) (p : PartView) (one : StoresStill t p u) → StoresStill u one.view v → StoresStill t p v
+still_then t u v p one two = record { view = two.view; is = two.is; here = two.here ∙ one.here; stores = two.stores ∙ one.stores; plain = two.plain ∙ one.plain; tells = two.tells }
 
-told_now : {X : Type 0} (xs : List X) (P : X → Type 0) → (IsTold xs → (x : X) → P x) → IfTold xs P
+-- ---- where the store tells, so do its components
+
+pub told_now : {X : Type 0} (xs : List X) (P : X → Type 0) → (IsTold xs → (x : X) → P x) → IfTold xs P
 told_now [] P give = tt
 told_now (x ∷ xs) P give = give tt x
 
-pub stands_so : (t : Told) → StandsTold t → Stands t
-stands_so t stands = at t.disks stands
+-- so it is behind a call, where a store that tells nothing tells nothing behind it
+pub components_still : (t u : Told) → (t.disks ≡ [] → u.disks ≡ []) → IfTold t.disks (λ disk. AreTold t.components) → (IsTold t.disks → AreTold t.components → AreTold u.components) → IfTold u.disks (λ disk. AreTold u.components)
+components_still t u untold are_told go = at t.disks refl are_told
   where
-    at : (disks : List Disk) → IfTold disks (λ disk. AreTold t.components × ((p : PartView) × IsPart t p)) → IfTold disks (λ disk. (p : PartView) × IsPart t p)
-    at [] all = tt
-    at (disk ∷ past) all = all.1
-
--- Behind a call that keeps what is stored where the files are told, and that tells nothing where nothing was told, it stands.
-pub stands_still : (t u : Told) → StandsTold t → (t.disks ≡ [] → u.disks ≡ []) → ((p : PartView) → IsPart t p → TellsFiles t → StoresStill t p u) → StandsTold u
-stands_still t u stands untold stores = at t.disks refl stands
-  where
-    at : (disks : List Disk) → t.disks ≡ disks → IfTold disks (λ disk. AreTold t.components × ((p : PartView) × IsPart t p)) → StandsTold u
-    at [] same all = subst (λ (ds : List Disk). IfTold ds (λ disk. AreTold u.components × ((p : PartView) × IsPart u p))) (sym (untold same)) tt
-    at (disk ∷ past) same all =
-        let now = stores all.1.0 all.1.1 (record { store = subst (λ (ds : List Disk). IsTold ds) (sym same) tt; components = all.0 }) in
-        told_now u.disks (λ d. AreTold u.components × ((p : PartView) × IsPart u p)) (λ told d. (now.tells.components, (now.view, now.is)))
+    at : (disks : List Disk) → t.disks ≡ disks → IfTold disks (λ disk. AreTold t.components) → IfTold u.disks (λ disk. AreTold u.components)
+    at [] same all = subst (λ (ds : List Disk). IfTold ds (λ disk. AreTold u.components)) (sym (untold same)) tt
+    at (disk ∷ past) same all = told_now u.disks (λ d. AreTold u.components) (λ told d. go (subst (λ (ds : List Disk). IsTold ds) (sym same) tt) all)
 
 -- ---- where a call fails
 

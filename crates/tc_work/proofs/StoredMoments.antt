@@ -91,6 +91,17 @@ module _ (part : Partition) (pairs : Pairs) where
           EachSince-trans (Over (h ∷ more) g f) t.disks u.disks disks (since_weaker (LeavesPairs part pairs g f) (Over (h ∷ more) g f) t.disks u.disks (λ disk leaves. inl leaves) (first g is))
           (since_weaker (LeavesPairs part pairs f h) (Over (h ∷ more) g f) u.disks disks (λ disk leaves. inr leaves) (second f refl))
 
+  -- what was sealed is flushed, and the next log stays
+  pub over_then : (t u : Told) (disks : List Disk) → u.sealed_log ≡ None → IsTold u.log → MomentsLeavePairsOver part pairs t u.log u.disks → MomentsLeavePairs part pairs u disks → MomentsLeavePairsOver part pairs t u.log disks
+  over_then t u disks flushed tells one two = at t.log u.log tells one (subst (λ (o : Option (List DiskFile)). MomentsSince (λ disk f g. LeavesPairs part pairs g f disk) u.disks u.log o disks) flushed two)
+    where
+      at : (fs hs : List DiskFile) → IsTold hs → MomentsSince (λ disk f g. Over hs g f disk) t.disks fs t.sealed_log u.disks → MomentsSince (λ disk f g. LeavesPairs part pairs g f disk) u.disks hs None disks
+          → MomentsSince (λ disk f g. Over hs g f disk) t.disks fs t.sealed_log disks
+      at [] hs told first second = tt
+      at (f ∷ past) [] told first second = absurd told
+      at (f ∷ past) (h ∷ more) told first second = λ g is.
+          EachSince-trans (Over (h ∷ more) g f) t.disks u.disks disks (first g is) (since_weaker (LeavesPairs part pairs f h) (Over (h ∷ more) g f) u.disks disks (λ disk leaves. inr leaves) (second f tt))
+
 -- no moment more
 pub no_moments : (part : Partition) (pairs : Pairs) (t : Told) → MomentsLeavePairs part pairs t t.disks
 no_moments part pairs t = no_moments_since (λ disk f g. LeavesPairs part pairs g f disk) t.disks t.log t.sealed_log

@@ -47,6 +47,10 @@ then_watched counts First Second Failed old mid new one two cause = record {
     at (inr (inl rose)) = inr (inl (rose_behind (option_map counts old.flusher) (option_map counts mid.flusher) (option_map counts new.flusher) one.flusher rose))
     at (inr (inr rose)) = inr (inr (rose_behind (option_map counts old.merger) (option_map counts mid.merger) (option_map counts new.merger) one.merger rose))
 
+-- a call whose fault is handed on
+pub watched_so : {S D F W : Type 0} (counts : W → Counts) (Failed Cause : Type 0) (old new : PartState S D F W) → IsWatchedIn counts Cause old new → (Failed → Cause) → IsWatchedIn counts Failed old new
+watched_so counts Failed Cause old new is cause = record { main = is.main; flusher = is.flusher; merger = is.merger; cause = λ fails. is.cause (cause fails) }
+
 -- a call that is handed the main watch alone
 pub main_watched : {S D F W : Type 0} (counts : W → Counts) (Failed Cause : Type 0) (old new : PartState S D F W) → IsCounted Cause (counts old.main) (counts new.main) → new.flusher ≡ old.flusher → new.merger ≡ old.merger → (Failed → Cause) → IsWatchedIn counts Failed old new
 main_watched {W = W} counts Failed Cause old new is flusher merger cause = record {
@@ -86,6 +90,14 @@ module _ {S D F W : Type 0} (counts : W → Counts) (Failed First Cause Job : Ty
     flusher = job_stays old.flusher new.flusher before after;
     merger = other_stays old.merger new.merger other;
     cause = λ failed. elim (rose failed) [ inl up ↦ inl up | inr up ↦ inr (inl (job_rose old.flusher new.flusher before after up)) ];
+  }
+
+  pub merge_watched : Some w ≡ old.merger → new.merger ≡ Some done → new.flusher ≡ old.flusher → IsWatchedIn counts Failed old new
+  merge_watched before after other = record {
+    main = omega (arith, begun.faults, ended.faults);
+    flusher = other_stays old.flusher new.flusher other;
+    merger = job_stays old.merger new.merger before after;
+    cause = λ failed. elim (rose failed) [ inl up ↦ inl up | inr up ↦ inr (inr (job_rose old.merger new.merger before after up)) ];
   }
 
 -- what a job counts

@@ -21,7 +21,7 @@ use Rattle.tc_work.specs.Windowed.{staged_as, windowed, HasOnlyStaged, IsStagedA
 
 -- ---- what is staged
 
-none_mapped : {X Y : Type 0} (f : X → Y) (xs : List X) → [] ≡ map f xs → xs ≡ []
+pub none_mapped : {X Y : Type 0} (f : X → Y) (xs : List X) → [] ≡ map f xs → xs ≡ []
 none_mapped f [] is = refl
 none_mapped f (x ∷ xs) is = absurd (cc)
 
@@ -92,6 +92,9 @@ kept_committed {S = S} {D = D} {F = F} {W = W} first second third count none sou
 
 pub spent_of : (old mid staged most : ℕ) → mid ≡ old → staged + 0 ≤ most → 2 ^ 63 ≤ mid + staged → 2 ^ 63 ≤ old + most
 spent_of old mid staged most same few spent = omega (arith, same, few, spent)
+
+pub few_written : (old mid staged most new : ℕ) → mid ≡ old → staged + 0 ≤ most → new ≡ mid + staged → new ≤ old + most
+few_written old mid staged most new same few is = omega (arith, same, few, is)
 
 -- where nothing is staged a commit leaves the log
 pub log_stays : {S D F W : Type 0} (first second third : PartState S D F W) → HasOnlyStaged first second → (second.staged ≡ [] → third ≡ second) → length second.staged ≡ 0 → third.log ≡ first.log

@@ -1,14 +1,19 @@
 -- What a call leaves that moves documents from a table into a component: what is stored.
-use Rattle.std.specs.Prelude.{◌≡◌, ◌≤◌, ◌⊎◌, ℕ, List, [], All, Option, None, Some, option_map}
+use Rattle.std.specs.Prelude.{◌≡◌, ◌<◌, ◌≤◌, ◌⊎◌, ℕ, List, [], length, All, Option, None, Some, option_map}
 use Rattle.tc_bytes.specs.Counts.{Rose}
 use Rattle.tc_store.specs.Counted.{Counts}
 use Rattle.tc_store.specs.Disk.{Disk}
 use Rattle.tc_store.specs.DiskFile.{DiskFile}
 use Rattle.tc_store.specs.Moments.{IfTold, EachSince, LeavesAt}
+use Rattle.tc_log.specs.Layout.{empty_size}
+use Rattle.tc_component.specs.Loading.{ComponentState}
+use Rattle.tc_list.specs.Policies.{listed_least}
+use Rattle.tc_list.specs.declared.policy.Policy.{Policy}
 use Rattle.tc_lsm_model.specs.Contents.{Partition}
 use Rattle.tc_plain_model.specs.Writes.{Pairs}
 use Rattle.tc_machine.specs.Logs.{IsLog}
 use Rattle.tc_machine.specs.Steps.{IsShutOrHas}
+use Rattle.tc_part.specs.OwnFiles.{HasOwnFiles}
 use Rattle.tc_part_model.specs.Leaving.{LeavesStoreAt}
 use Rattle.tc_part_model.specs.Meaning.{IsPart, plain_of}
 use Rattle.tc_part_model.specs.PartFiles.{IsSealedFile}
@@ -20,10 +25,10 @@ pub record TellsFiles (t : Told) : Type 0 where
   pub store : IsTold t.disks
   pub components : AreTold t.components
 
--- Where the store tells its files, those of the components are told too, and the part means something. A store that tells
--- nothing may hold anything, so that nothing is asked over it.
-abbrev pub StandsTold : Told → Type 0
-StandsTold t = IfTold t.disks (λ disk. AreTold t.components × ((p : PartView) × IsPart t p))
+-- Each file of the store is one of the part's own, and where the store tells its files, those of the components are told too.
+pub record MaySettle (t : Told) : Type 0 where
+  pub own : HasOwnFiles t
+  pub components : IfTold t.disks (λ disk. AreTold t.components)
 
 -- It is a part in which the same is stored, which is the same plain store, and which tells its files.
 pub record StoresStill (old : Told) (p : PartView) (new : Told) : Type 0 where
@@ -33,6 +38,28 @@ pub record StoresStill (old : Told) (p : PartView) (new : Told) : Type 0 where
   pub stores : store_of view ≡ store_of p
   pub plain : plain_of new view ≡ plain_of old p
   pub tells : TellsFiles new
+
+-- what a call keeps that moves documents and ends well
+pub record StaysStored (old new : Told) : Type 0 where
+  pub stores : (p : PartView) → IsPart old p → TellsFiles old → StoresStill old p new
+  pub ready : MaySettle new
+  pub untold : old.disks ≡ [] → new.disks ≡ []
+
+-- Nothing changed but where the documents are, and what the watches counted.
+abbrev pub HasOnlyMoved : {S D F W : Type 0} → PartState S D F W → PartState S D F W → Type 0
+HasOnlyMoved old new =
+    new ≡ record old { store = new.store; main = new.main; flusher = new.flusher; merger = new.merger; list = new.list; sealed = new.sealed; sealed_log = new.sealed_log; active = new.active; log = new.log; generation = new.generation; failed = new.failed }
+
+-- ---- when
+
+-- the log of the active table has a frame, and the bytes at which a table is sealed
+pub record IsDue {S D F W : Type 0} (size : D → ℕ) (part : PartState S D F W) : Type 0 where
+  pub written : empty_size < size part.log.device
+  pub long : part.memory ≤ size part.log.device
+
+-- so few components are listed that a policy picks none for a merge
+abbrev pub PicksNone : {F : Type 0} → Policy → List (ComponentState F) → Type 0
+PicksNone policy list = (length list < listed_least policy) ⊎ (length list < 2)
 
 -- ---- moments
 
@@ -48,11 +75,18 @@ abbrev pub MomentsLeavePairs : Partition → Pairs → Told → List Disk → Ty
 MomentsLeavePairs part pairs old disks =
     IfTold old.log λ f. (g : DiskFile) → IsSealedFile old.sealed_log g → EachSince (LeavesPairs part pairs g f) old.disks disks
 
+-- So it is of whatever is stored, where the files are told.
+abbrev pub MomentsStay : Told → List Disk → Type 0
+MomentsStay old disks = (p : PartView) → IsPart old p → TellsFiles old → MomentsLeavePairs p.part (store_of p) old disks
+
 -- And so while the log is sealed once, and the next one takes its place.
 abbrev pub MomentsLeavePairsOver : Partition → Pairs → Told → List DiskFile → List Disk → Type 0
 MomentsLeavePairsOver part pairs old log disks =
     IfTold old.log λ f. (g : DiskFile) → IsSealedFile old.sealed_log g
     → EachSince (λ disk. LeavesPairs part pairs g f disk ⊎ IfTold log (λ h. LeavesPairs part pairs f h disk)) old.disks disks
+
+abbrev pub MomentsStayOver : Told → List DiskFile → List Disk → Type 0
+MomentsStayOver old log disks = (p : PartView) → IsPart old p → TellsFiles old → MomentsLeavePairsOver p.part (store_of p) old log disks
 
 -- each moment of the next log, which a call made: its file is absent, closed, or a log without a frame
 abbrev pub NextLogs : Partition → ℕ → List DiskFile → Type 0

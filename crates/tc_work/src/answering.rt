@@ -5,6 +5,7 @@ ghost use Rattle.tc_model.specs.Request.{upsert, delete, get};
 ghost use Rattle.tc_value.specs.Meaning.{tree_of};
 ghost use Rattle.tc_command.specs.Commands.{request_of_command};
 ghost use Rattle.tc_command.specs.Replies.{reply_of};
+ghost use Rattle.tc_run_model.specs.Kinds.{IsOfKind};
 ghost use Rattle.tc_plain_model.specs.Part.{part_left, part_reply, part_writes};
 ghost use Rattle.tc_part_model.specs.Meaning.{IsPart, plain_of};
 ghost use Rattle.tc_part_model.specs.PartState.{told, AreTold};
@@ -40,6 +41,7 @@ pub(crate) fn answer<S: Store>(
         → OnOk result (IsStagedAs (part_writes part.old.limits (request_of_command command.now) (plain_of (told S.history S.Device.history S.Frozen.content part.old) p)) (part_left part.old.limits (request_of_command command.now) (plain_of (told S.history S.Device.history S.Frozen.content part.old) p)) p (told S.history S.Device.history S.Frozen.content part.new)) }
     ensures reply { (p : PartView) → IsPart (told S.history S.Device.history S.Frozen.content part.old) p → AreTold (told S.history S.Device.history S.Frozen.content part.old).components
         → IfOk result (λ reply. reply_of reply ≡ part_reply part.old.limits (request_of_command command.now) (plain_of (told S.history S.Device.history S.Frozen.content part.old) p)) }
+    ensures kind { IfOk result (λ reply. IsOfKind (request_of_command command.now) (reply_of reply)) }
     ensures grown { OnOk result (HasGrown (request_of_command command.now) part.old.staged part.new.staged) }
     ensures same { HasOnlyStaged part.old part.new }
     ensures sound { OnOk result (part.new.failed ≡ false) }
@@ -68,6 +70,7 @@ fn upsert<S: Store>(
         → OnOk result (IsStagedAs (part_writes part.old.limits (upsert key (tree_of doc.now)) (plain_of (told S.history S.Device.history S.Frozen.content part.old) p)) (part_left part.old.limits (upsert key (tree_of doc.now)) (plain_of (told S.history S.Device.history S.Frozen.content part.old) p)) p (told S.history S.Device.history S.Frozen.content part.new)) }
     ensures reply { (p : PartView) → IsPart (told S.history S.Device.history S.Frozen.content part.old) p → AreTold (told S.history S.Device.history S.Frozen.content part.old).components
         → IfOk result (λ reply. reply_of reply ≡ part_reply part.old.limits (upsert key (tree_of doc.now)) (plain_of (told S.history S.Device.history S.Frozen.content part.old) p)) }
+    ensures kind { IfOk result (λ reply. IsOfKind (upsert key (tree_of doc.now)) (reply_of reply)) }
     ensures grown { OnOk result (HasGrown (upsert key (tree_of doc.now)) part.old.staged part.new.staged) }
     ensures same { HasOnlyStaged part.old part.new }
     ensures sound { OnOk result (part.new.failed ≡ false) }
@@ -105,6 +108,7 @@ fn delete<S: Store>(alloc: Global, part: &mut Part<S>, key: u64) -> Result<Reply
         → OnOk result (IsStagedAs (part_writes part.old.limits (delete key) (plain_of (told S.history S.Device.history S.Frozen.content part.old) p)) (part_left part.old.limits (delete key) (plain_of (told S.history S.Device.history S.Frozen.content part.old) p)) p (told S.history S.Device.history S.Frozen.content part.new)) }
     ensures reply { (p : PartView) → IsPart (told S.history S.Device.history S.Frozen.content part.old) p → AreTold (told S.history S.Device.history S.Frozen.content part.old).components
         → IfOk result (λ reply. reply_of reply ≡ part_reply part.old.limits (delete key) (plain_of (told S.history S.Device.history S.Frozen.content part.old) p)) }
+    ensures kind { IfOk result (λ reply. IsOfKind (delete key) (reply_of reply)) }
     ensures grown { OnOk result (HasGrown (delete key) part.old.staged part.new.staged) }
     ensures same { HasOnlyStaged part.old part.new }
     ensures sound { OnOk result (part.new.failed ≡ false) }
@@ -141,6 +145,7 @@ fn get<S: Store>(alloc: Global, part: &mut Part<S>, key: u64) -> Result<Reply, E
         → OnOk result (IsStagedAs (part_writes part.old.limits (get key) (plain_of (told S.history S.Device.history S.Frozen.content part.old) p)) (part_left part.old.limits (get key) (plain_of (told S.history S.Device.history S.Frozen.content part.old) p)) p (told S.history S.Device.history S.Frozen.content part.new)) }
     ensures reply { (p : PartView) → IsPart (told S.history S.Device.history S.Frozen.content part.old) p → AreTold (told S.history S.Device.history S.Frozen.content part.old).components
         → IfOk result (λ reply. reply_of reply ≡ part_reply part.old.limits (get key) (plain_of (told S.history S.Device.history S.Frozen.content part.old) p)) }
+    ensures kind { IfOk result (λ reply. IsOfKind (get key) (reply_of reply)) }
     ensures grown { OnOk result (HasGrown (get key) part.old.staged part.new.staged) }
     ensures same { HasOnlyStaged part.old part.new }
     ensures sound { OnOk result (part.new.failed ≡ false) }

@@ -9,7 +9,7 @@ ghost use Rattle.tc_part_model.specs.PartView.{PartView, store_of};
 ghost use Rattle.tc_store.specs.declared.file_name.FileName.TheVariants.{Component as component_name};
 ghost use Rattle.tc_work.specs.Failing.{HasFailedKeeping};
 ghost use Rattle.tc_work.specs.Faults.{AreOfFiles, IfDamaged};
-ghost use Rattle.tc_work.specs.Settling.{IsWatchedIn, MomentsLeavePairsOver, NextLogs, StandsTold, StoresStill, TellsFiles};
+ghost use Rattle.tc_work.specs.Settling.{HasOnlyMoved, IsWatchedIn, MaySettle, MomentsLeavePairsOver, NextLogs, StoresStill, TellsFiles};
 
 use crate::engine::Engine;
 use crate::fault::EngineFault;
@@ -20,17 +20,19 @@ use tc_part_model::{failed_parts_keep_files, moments_follow};
 use tc_store::Store;
 
 /// The length of a log without a frame.
-const EMPTY_LOG: u64 = 22;
+pub(crate) const EMPTY_LOG: u64 = 22;
 
 impl<S: Store> Engine<S> {
     /// Seals the active table, and flushes it on this thread: one more component is listed, and both tables are empty. Does
     /// nothing where the log has no frame. Merges nothing. `Spent` comes only where the active log has the generation 2^63 - 1.
     pub fn force_flush(&mut self, alloc: Global) -> Result<(), EngineFault>
         requires sound { self.old.part.failed ≡ false }
-        requires stands { StandsTold (told S.history S.Device.history S.Frozen.content self.old.part) }
+        requires ready { MaySettle (told S.history S.Device.history S.Frozen.content self.old.part) }
 
         // Where the files are told the engine stores what it stored.
         ensures stores { OnOk result ((p : PartView) → IsPart (told S.history S.Device.history S.Frozen.content self.old.part) p → TellsFiles (told S.history S.Device.history S.Frozen.content self.old.part) → StoresStill (told S.history S.Device.history S.Frozen.content self.old.part) p (told S.history S.Device.history S.Frozen.content self.new.part)) }
+        ensures sound { OnOk result (self.new.part.failed ≡ false) }
+        ensures ready { OnOk result (MaySettle (told S.history S.Device.history S.Frozen.content self.new.part)) }
 
         // So it is over every store: a log without a frame stays, and all else with it. Where it has one, the table is in one more
         // component, no table is left, and the next log has no frame.
@@ -38,6 +40,9 @@ impl<S: Store> Engine<S> {
         ensures flushed { OnOk result (empty_size < S.Device.size self.old.part.log.device → self.new.part ≡ record self.old.part { store = self.new.part.store; main = self.new.part.main; flusher = self.new.part.flusher; list = self.new.part.list; sealed = None; sealed_log = None; active = []; log = self.new.part.log; generation = self.old.part.generation + 1 }) }
         ensures listed { OnOk result (empty_size < S.Device.size self.old.part.log.device → length self.new.part.list ≡ length self.old.part.list + 1) }
         ensures empty { OnOk result (S.Device.size self.new.part.log.device ≤ empty_size) }
+        ensures none_sealed { OnOk result (self.new.part.sealed ≡ None) }
+        ensures emptied { OnOk result ((p : PartView) → IsPart (told S.history S.Device.history S.Frozen.content self.old.part) p → TellsFiles (told S.history S.Device.history S.Frozen.content self.old.part) → self.new.part.active ≡ []) }
+        ensures moved { HasOnlyMoved self.old.part self.new.part }
         ensures policy { self.new.policy ≡ self.old.policy }
         ensures untold { OnOk result (S.history self.old.part.store ≡ [] → S.history self.new.part.store ≡ []) }
 
@@ -52,6 +57,7 @@ impl<S: Store> Engine<S> {
         ensures damaged { IfErr result (λ fault. IfDamaged fault (AreOfFiles (file_names self.old.part.list) (component_name self.old.part.generation self.old.part.generation))) }
         ensures undamaged { (p : PartView) → IsPart (told S.history S.Device.history S.Frozen.content self.old.part) p → TellsFiles (told S.history S.Device.history S.Frozen.content self.old.part) → IfErr result (λ fault. IfDamaged fault (λ damage. ⊥)) }
         ensures spent { IsErrOf result EngineFault.Spent → self.old.part.generation + 1 ≡ 2 ^ 63 }
+        ensures unmoved { IsErrOf result EngineFault.Spent → self.new.part.generation ≡ self.old.part.generation }
         ensures watched { IsWatchedIn (λ w. S.Watch.counts w) (IsErrOf result EngineFault.Disk) self.old.part self.new.part }
     {
         if self.part.log_len() <= EMPTY_LOG {
@@ -65,14 +71,15 @@ impl<S: Store> Engine<S> {
 }
 
 /// Seals the active table, and flushes it.
-fn seal_and_flush<S: Store>(alloc: Global, part: &mut Part<S>) -> Result<(), EngineFault>
+pub(crate) fn seal_and_flush<S: Store>(alloc: Global, part: &mut Part<S>) -> Result<(), EngineFault>
     requires sound { part.old.failed ≡ false }
     requires none_flushing { part.old.flushing ≡ false }
     requires none_merging { part.old.merging ≡ None }
     requires nothing_staged { part.old.staged ≡ [] }
     requires none_sealed { part.old.sealed ≡ None }
-    requires stands { StandsTold (told S.history S.Device.history S.Frozen.content part.old) }
+    requires ready { MaySettle (told S.history S.Device.history S.Frozen.content part.old) }
     ensures stores { OnOk result ((p : PartView) → IsPart (told S.history S.Device.history S.Frozen.content part.old) p → TellsFiles (told S.history S.Device.history S.Frozen.content part.old) → StoresStill (told S.history S.Device.history S.Frozen.content part.old) p (told S.history S.Device.history S.Frozen.content part.new)) }
+    ensures ready { OnOk result (MaySettle (told S.history S.Device.history S.Frozen.content part.new)) }
     ensures same { OnOk result (part.new ≡ record part.old { store = part.new.store; main = part.new.main; flusher = part.new.flusher; list = part.new.list; sealed = None; sealed_log = None; active = []; log = part.new.log; generation = part.old.generation + 1 }) }
     ensures listed { OnOk result (length part.new.list ≡ length part.old.list + 1) }
     ensures empty { OnOk result (S.Device.size part.new.log.device ≡ empty_size) }
@@ -81,12 +88,14 @@ fn seal_and_flush<S: Store>(alloc: Global, part: &mut Part<S>) -> Result<(), Eng
     // At each moment of the call a stop leaves what was stored, and so it does behind a fault.
     ensures moments { (p : PartView) → IsPart (told S.history S.Device.history S.Frozen.content part.old) p → TellsFiles (told S.history S.Device.history S.Frozen.content part.old) → MomentsLeavePairsOver p.part (store_of p) (told S.history S.Device.history S.Frozen.content part.old) (S.Device.history part.new.log.device) (S.history part.new.store) }
     ensures failed { OnErr result ((p : PartView) → IsPart (told S.history S.Device.history S.Frozen.content part.old) p → TellsFiles (told S.history S.Device.history S.Frozen.content part.old) → HasFailedKeeping (record (told S.history S.Device.history S.Frozen.content part.new) { failed = true }) p.part (store_of p) None) }
+    ensures moved { HasOnlyMoved part.old part.new }
     ensures no_flush { part.new.flushing ≡ false }
     ensures no_merge { part.new.merging ≡ None }
     ensures next_log { (p : PartView) → IsPart (told S.history S.Device.history S.Frozen.content part.old) p → part.new.generation ≡ part.old.generation + 1 → NextLogs p.part part.new.generation (S.Device.history part.new.log.device) }
     ensures damaged { IfErr result (λ fault. IfDamaged fault (AreOfFiles (file_names part.old.list) (component_name part.old.generation part.old.generation))) }
     ensures undamaged { (p : PartView) → IsPart (told S.history S.Device.history S.Frozen.content part.old) p → TellsFiles (told S.history S.Device.history S.Frozen.content part.old) → IfErr result (λ fault. IfDamaged fault (λ damage. ⊥)) }
     ensures spent { IsErrOf result EngineFault.Spent → part.old.generation + 1 ≡ 2 ^ 63 }
+    ensures unmoved { IsErrOf result EngineFault.Spent → part.new.generation ≡ part.old.generation }
     ensures watched { IsWatchedIn (λ w. S.Watch.counts w) (IsErrOf result EngineFault.Disk) part.old part.new }
 {
     failed_parts_keep_files();

@@ -8,7 +8,7 @@ ghost use Rattle.tc_part_model.specs.PartView.{PartView, store_of};
 ghost use Rattle.tc_part.specs.FlushEnds.{flushed_name};
 ghost use Rattle.tc_work.specs.Failing.{HasFailedKeeping};
 ghost use Rattle.tc_work.specs.Faults.{AreOfFiles, IfDamaged};
-ghost use Rattle.tc_work.specs.Settling.{IsWatchedIn, MomentsLeavePairs, StandsTold, StoresStill, TellsFiles};
+ghost use Rattle.tc_work.specs.Settling.{HasOnlyMoved, IsWatchedIn, MaySettle, MomentsLeavePairs, StoresStill, TellsFiles};
 
 use crate::fault::EngineFault;
 use std::alloc::Global;
@@ -24,10 +24,11 @@ pub(crate) fn flush_sealed<S: Store>(alloc: Global, part: &mut Part<S>) -> Resul
     requires both { is_some part.old.sealed_log ≡ true }
     requires none_out { part.old.flushing ≡ false }
     requires none_merging { part.old.merging ≡ None }
-    requires stands { StandsTold (told S.history S.Device.history S.Frozen.content part.old) }
+    requires ready { MaySettle (told S.history S.Device.history S.Frozen.content part.old) }
 
     // Where the files are told the part stores what it stored.
     ensures stores { OnOk result ((p : PartView) → IsPart (told S.history S.Device.history S.Frozen.content part.old) p → TellsFiles (told S.history S.Device.history S.Frozen.content part.old) → StoresStill (told S.history S.Device.history S.Frozen.content part.old) p (told S.history S.Device.history S.Frozen.content part.new)) }
+    ensures ready { OnOk result (MaySettle (told S.history S.Device.history S.Frozen.content part.new)) }
 
     // So it is over every store: one more component is listed, and no table is sealed.
     ensures same { OnOk result (part.new ≡ record part.old { store = part.new.store; main = part.new.main; flusher = part.new.flusher; list = part.new.list; sealed = None; sealed_log = None }) }
@@ -37,6 +38,7 @@ pub(crate) fn flush_sealed<S: Store>(alloc: Global, part: &mut Part<S>) -> Resul
     // At each moment of the call a stop leaves what was stored, and so it does behind a fault.
     ensures moments { (p : PartView) → IsPart (told S.history S.Device.history S.Frozen.content part.old) p → TellsFiles (told S.history S.Device.history S.Frozen.content part.old) → MomentsLeavePairs p.part (store_of p) (told S.history S.Device.history S.Frozen.content part.old) (S.history part.new.store) }
     ensures failed { OnErr result ((p : PartView) → IsPart (told S.history S.Device.history S.Frozen.content part.old) p → TellsFiles (told S.history S.Device.history S.Frozen.content part.old) → HasFailedKeeping (record (told S.history S.Device.history S.Frozen.content part.new) { failed = true }) p.part (store_of p) None) }
+    ensures moved { HasOnlyMoved part.old part.new }
     ensures no_flush { part.new.flushing ≡ false }
     ensures no_merge { part.new.merging ≡ None }
     ensures logs { (part.new.log ≡ part.old.log) × (part.new.generation ≡ part.old.generation) }

@@ -1,14 +1,20 @@
 //! Layer 5, engine: the commands of a window run over one partition, and its writes made one frame; the log is emptied into a
-//! component.
+//! component, and components are merged.
 #![tactic(auto)]
 
 mod answering;
 mod emptying;
 mod engine;
 mod fault;
+mod finishing;
 mod flushing;
+mod merging;
+mod picking;
+mod schema_text;
+mod settling;
 mod staging;
 mod window;
 
 pub use engine::Engine;
 pub use fault::EngineFault;
+pub use finishing::Finished;

@@ -1,6 +1,8 @@
 //! The commands of a window, one after the other: their writes are staged, and their replies put together.
 
 ghost use Rattle.std.specs.Prelude.{◌≡◌, [], false, length, map, IfErr, IfOk, OnOk, IsErrOf};
+ghost use Rattle.tc_model.specs.Keyed.{values_in};
+ghost use Rattle.tc_run_model.specs.Kinds.{AreOfKinds};
 ghost use Rattle.tc_plain_model.specs.Part.{part_left_all, part_writes_all};
 ghost use Rattle.tc_part_model.specs.Meaning.{IsPart, plain_of};
 ghost use Rattle.tc_part_model.specs.PartState.{told, AreTold};
@@ -35,6 +37,7 @@ pub(crate) fn answer_all<S: Store>(
     ensures replies { (p : PartView) → IsPart (told S.history S.Device.history S.Frozen.content part.old) p → AreTold (told S.history S.Device.history S.Frozen.content part.old).components
         → IfOk result (λ replies. replies_in replies ≡ answered part.old.limits (map routed_of list.now) (plain_of (told S.history S.Device.history S.Frozen.content part.old) p)) }
     ensures places { IfOk result (λ replies. map (λ a. a.at) replies ≡ map (λ r. r.at) list.now) }
+    ensures kinds { IfOk result (λ replies. AreOfKinds (requests_in list.now) (values_in (replies_in replies))) }
     ensures grown { OnOk result (AreWithin (most_writes (requests_in list.now)) (most_bytes (requests_in list.now)) part.new.staged []) }
     ensures same { HasOnlyStaged part.old part.new }
     ensures sound { OnOk result (part.new.failed ≡ false) }

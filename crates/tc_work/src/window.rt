@@ -1,6 +1,8 @@
 //! A window: what its commands write is made one frame.
 
 ghost use Rattle.std.specs.Prelude.{◌≡◌, ◌≤◌, ◌+◌, ◌^◌, [], false, true, length, map, IfErr, IfOk, OnErr, OnOk, IsErrOf};
+ghost use Rattle.tc_model.specs.Keyed.{values_in};
+ghost use Rattle.tc_run_model.specs.Kinds.{AreOfKinds};
 ghost use Rattle.tc_plain_model.specs.Part.{part_writes_all};
 ghost use Rattle.tc_part_model.specs.Leaving.{LogMomentsLeaveStore};
 ghost use Rattle.tc_part_model.specs.Meaning.{IsPart, plain_of};
@@ -11,14 +13,16 @@ ghost use Rattle.tc_route.specs.Answers.{answered};
 ghost use Rattle.tc_route.specs.Meaning.{replies_in, routed_of};
 ghost use Rattle.tc_work.specs.Asked.{most_writes, requests_in, IsWindow};
 ghost use Rattle.tc_work.specs.Failing.{HasFailedWith};
-ghost use Rattle.tc_work.specs.Faults.{IfDamage};
+ghost use Rattle.tc_work.specs.Faults.{IfDamage, IfDamaged};
 ghost use Rattle.tc_work.specs.Reads.{IsCountedWithin};
+ghost use Rattle.tc_work.specs.Settling.{MaySettle, TellsFiles};
 ghost use Rattle.tc_work.specs.Windowed.{staged_as, IsWindowed};
 
 use crate::engine::Engine;
 use crate::fault::EngineFault;
 use crate::staging::answer_all;
 use std::alloc::Global;
+use tc_component::components_are_contents;
 use tc_part::Part;
 use tc_part_model::{commits_are_kept, failed_parts_keep_files};
 use tc_route::{Replies, Routed};
@@ -37,10 +41,16 @@ impl<S: Store> Engine<S> {
             → IfOk result (λ replies. replies_in replies ≡ answered self.old.part.limits (map routed_of list.now) (plain_of (told S.history S.Device.history S.Frozen.content self.old.part) p)) }
         ensures places { IfOk result (λ replies. map (λ a. a.at) replies ≡ map (λ r. r.at) list.now) }
 
+        // Over every store a reply is of the kind of its command.
+        ensures kinds { IfOk result (λ replies. AreOfKinds (requests_in list.now) (values_in (replies_in replies))) }
+
         // On Ok the part is the one in which the writes of the window are committed.
         ensures windowed { OnOk result ((p : PartView) → IsPart (told S.history S.Device.history S.Frozen.content self.old.part) p → IsWindowed self.old.part.limits (requests_in list.now) (told S.history S.Device.history S.Frozen.content self.old.part) p (told S.history S.Device.history S.Frozen.content self.new.part)) }
         ensures same { OnOk result (self.new.part ≡ record self.old.part { main = self.new.part.main; active = self.new.part.active; log = self.new.part.log; taken = self.new.part.taken; live = self.new.part.live; writes = self.new.part.writes }) }
         ensures writes { OnOk result ((p : PartView) → IsPart (told S.history S.Device.history S.Frozen.content self.old.part) p → self.new.part.writes ≡ self.old.part.writes + length (part_writes_all self.old.part.limits (requests_in list.now) (plain_of (told S.history S.Device.history S.Frozen.content self.old.part) p))) }
+        ensures few_writes { OnOk result (self.new.part.writes ≤ self.old.part.writes + most_writes (requests_in list.now)) }
+        ensures ready { OnOk result (MaySettle (told S.history S.Device.history S.Frozen.content self.old.part) → MaySettle (told S.history S.Device.history S.Frozen.content self.new.part)) }
+        ensures tells { OnOk result (TellsFiles (told S.history S.Device.history S.Frozen.content self.old.part) → TellsFiles (told S.history S.Device.history S.Frozen.content self.new.part)) }
         ensures policy { self.new.policy ≡ self.old.policy }
 
         // The log stays as it is where no write is made, as one of lookups alone makes none.
@@ -53,11 +63,14 @@ impl<S: Store> Engine<S> {
         ensures failed { OnErr result ((p : PartView) → IsPart (told S.history S.Device.history S.Frozen.content self.old.part) p → HasFailedWith (part_writes_all self.old.part.limits (requests_in list.now) (plain_of (told S.history S.Device.history S.Frozen.content self.old.part) p)) (told S.history S.Device.history S.Frozen.content self.new.part) p) }
         ensures left { OnErr result (self.new.part ≡ record self.old.part { main = self.new.part.main; active = self.new.part.active; staged = self.new.part.staged; taken = self.new.part.taken; live = self.new.part.live; log = self.new.part.log; failed = true }) }
 
+        // Damage is that of a record of a listed component. Where the files of these are told there is none.
         ensures harmed { IfErr result (λ fault. IfDamage fault (λ file at bytes. IsHarmIn (λ file. S.Frozen.content file) self.old.part.list file at bytes)) }
+        ensures undamaged { (p : PartView) → IsPart (told S.history S.Device.history S.Frozen.content self.old.part) p → AreTold (told S.history S.Device.history S.Frozen.content self.old.part).components → IfErr result (λ fault. IfDamaged fault (λ damage. ⊥)) }
         ensures spent { IsErrOf result EngineFault.Spent → 2 ^ 63 ≤ self.old.part.writes + most_writes (requests_in list.now) }
         ensures unspent { IsErrOf result EngineFault.Spent → self.new.part.log ≡ self.old.part.log }
         ensures counted { IsCountedWithin (length list.now) (IsErrOf result EngineFault.Disk) (S.Watch.counts self.old.part.main) (S.Watch.counts self.new.part.main) }
     {
+        components_are_contents();
         self.failed = true;
         let replies = run(alloc, &mut self.part, list)?;
         self.failed = false;
@@ -73,9 +86,11 @@ fn run<S: Store>(alloc: Global, part: &mut Part<S>, list: &[Routed]) -> Result<R
     ensures replies { (p : PartView) → IsPart (told S.history S.Device.history S.Frozen.content part.old) p → AreTold (told S.history S.Device.history S.Frozen.content part.old).components
         → IfOk result (λ replies. replies_in replies ≡ answered part.old.limits (map routed_of list.now) (plain_of (told S.history S.Device.history S.Frozen.content part.old) p)) }
     ensures places { IfOk result (λ replies. map (λ a. a.at) replies ≡ map (λ r. r.at) list.now) }
+    ensures kinds { IfOk result (λ replies. AreOfKinds (requests_in list.now) (values_in (replies_in replies))) }
     ensures windowed { OnOk result ((p : PartView) → IsPart (told S.history S.Device.history S.Frozen.content part.old) p → IsWindowed part.old.limits (requests_in list.now) (told S.history S.Device.history S.Frozen.content part.old) p (told S.history S.Device.history S.Frozen.content part.new)) }
     ensures same { OnOk result (part.new ≡ record part.old { main = part.new.main; active = part.new.active; log = part.new.log; taken = part.new.taken; live = part.new.live; writes = part.new.writes }) }
     ensures writes { OnOk result ((p : PartView) → IsPart (told S.history S.Device.history S.Frozen.content part.old) p → part.new.writes ≡ part.old.writes + length (part_writes_all part.old.limits (requests_in list.now) (plain_of (told S.history S.Device.history S.Frozen.content part.old) p))) }
+    ensures few_writes { OnOk result (part.new.writes ≤ part.old.writes + most_writes (requests_in list.now)) }
     ensures unwritten { OnOk result ((p : PartView) → IsPart (told S.history S.Device.history S.Frozen.content part.old) p → part_writes_all part.old.limits (requests_in list.now) (plain_of (told S.history S.Device.history S.Frozen.content part.old) p) ≡ [] → part.new.log ≡ part.old.log) }
     ensures looked_up { OnOk result (most_writes (requests_in list.now) ≡ 0 → part.new.log ≡ part.old.log) }
     ensures moments { (p : PartView) → IsPart (told S.history S.Device.history S.Frozen.content part.old) p → LogMomentsLeaveStore (staged_as (part_writes_all part.old.limits (requests_in list.now) (plain_of (told S.history S.Device.history S.Frozen.content part.old) p)) p) (told S.history S.Device.history S.Frozen.content part.old) (S.Device.history part.new.log.device) }

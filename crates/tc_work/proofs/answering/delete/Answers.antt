@@ -1,4 +1,4 @@
-use Rattle.std.proofs.Common.{◌∙◌, None, ap, subst, refl, is_some}
+use Rattle.std.proofs.Common.{◌∙◌, None, ap, subst, sym, refl, is_some}
 use Rattle.tc_model.specs.Keyed.{value_of}
 use Rattle.tc_model.specs.Request.{delete}
 use Rattle.tc_log.specs.declared.write.Write.TheVariants.{Delete}
@@ -11,6 +11,8 @@ use Rattle.tc_work.proofs.HandedFaults.{harmed, unspent, disk_below}
 use Rattle.tc_work.proofs.ReadCounts.{one_lookup}
 use Rattle.tc_work.proofs.StagedAnswers.{delete_staged, delete_taken, only_staged, still_sound, staged_or_not}
 use Rattle.tc_work.proofs.StorableAsks.{storable_delete, delete_for}
+use Rattle.tc_run_model.specs.Kinds.{IsOfKind}
+use Rattle.tc_work.proofs.ReplyKinds.{kind_of_delete}
 use Rattle.tc_work.proofs.answering.delete.Goals as goal
 
 pub stage-requires-clause-lawful : goal.stage-requires-clause-lawful
@@ -57,3 +59,6 @@ returns-clause-sound g c = still_sound c.in_ok-staged.staged (Delete c.args.key)
 
 pub returns-clause-counted : goal.returns-clause-counted
 returns-clause-counted g c = one_lookup _ _ _ _ _ (λ failed. absurd (cc)) c.stage.ensures.counted
+
+pub returns-clause-kind : goal.returns-clause-kind
+returns-clause-kind g c = subst (IsOfKind (delete c.args.key)) (sym c.deleted.ensures) (kind_of_delete c.args.key c.in_ok-staged.staged)

@@ -1,4 +1,4 @@
-use Rattle.std.proofs.Common.{◌≡◌, ap, subst, sym}
+use Rattle.std.proofs.Common.{◌≡◌, ap, refl, subst, sym}
 use Rattle.tc_model.specs.Request.{get}
 use Rattle.tc_part_model.specs.Meaning.{IsPart}
 use Rattle.tc_part_model.specs.PartState.{PartState, told}
@@ -29,3 +29,6 @@ returns-clause-grown g c = not_grown (get c.args.key) c.args.part.now.staged c.l
 
 pub returns-clause-counted : goal.returns-clause-counted
 returns-clause-counted g c = one_lookup _ _ _ _ _ (λ failed. absurd (cc)) c.lookup.ensures.counted
+
+pub returns-clause-kind : goal.returns-clause-kind
+returns-clause-kind g c = (_, refl)

@@ -1,4 +1,4 @@
-use Rattle.std.proofs.Common.{◌∙◌, ap, subst, Some, is_some}
+use Rattle.std.proofs.Common.{◌∙◌, ap, subst, sym, Some, is_some}
 use Rattle.tc_model.specs.Keyed.{value_of}
 use Rattle.tc_model.specs.Request.{upsert}
 use Rattle.tc_value.specs.Meaning.{tree_of}
@@ -13,6 +13,8 @@ use Rattle.tc_work.proofs.HandedFaults.{harmed, unspent, disk_below, no_memory}
 use Rattle.tc_work.proofs.ReadCounts.{none_counted, one_lookup}
 use Rattle.tc_work.proofs.StagedAnswers.{upsert_replied, upsert_staged, upsert_taken, only_staged, still_sound, staged_or_not}
 use Rattle.tc_work.proofs.StorableAsks.{storable_upsert, short_record, record_upserted, upsert_for}
+use Rattle.tc_run_model.specs.Kinds.{IsOfKind}
+use Rattle.tc_work.proofs.ReplyKinds.{kind_of_upsert}
 use Rattle.tc_work.proofs.answering.upsert.Goals as goal
 
 pub encode-requires-clause-short : goal.encode-requires-clause-short
@@ -83,3 +85,6 @@ returns-clause-sound g c = still_sound c.in_ok-staged.staged (Upsert c.args.key 
 
 pub returns-clause-counted : goal.returns-clause-counted
 returns-clause-counted g c = one_lookup _ _ _ _ _ (λ failed. absurd (cc)) c.stage.ensures.counted
+
+pub returns-clause-kind : goal.returns-clause-kind
+returns-clause-kind g c = subst (IsOfKind (upsert c.args.key (tree_of c.args.doc.now))) (sym c.upserted.ensures) (kind_of_upsert c.args.key (tree_of c.args.doc.now) c.in_ok-staged.staged)

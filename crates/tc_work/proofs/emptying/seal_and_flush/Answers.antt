@@ -11,19 +11,20 @@ use Rattle.tc_part_model.specs.PartState.{PartState, ToldComponent, told, AreTol
 use Rattle.tc_part_model.specs.PartView.{store_of}
 use Rattle.tc_log.specs.Appending.{LogState}
 use Rattle.tc_store.specs.DiskFile.{DiskFile}
-use Rattle.tc_work.specs.Settling.{MomentsLeavePairsOver, NextLogs, TellsFiles}
+use Rattle.tc_work.specs.Settling.{HasOnlyMoved, MomentsLeavePairsOver, NextLogs, TellsFiles}
 use Rattle.tc_work.proofs.HandedFaults.{disk_below, spent_below, undamaged_so}
 use Rattle.tc_work.proofs.JobEnds.{makes_tells}
 use Rattle.tc_work.proofs.OnResults.{on_err}
 use Rattle.tc_work.proofs.SealedTables.{next_logs_of, sealed_flushed_same}
-use Rattle.tc_work.proofs.Settled.{failed_keeps, keeps_of, stands_so, stands_still, still, still_behind}
+use Rattle.tc_work.proofs.Settled.{components_still, failed_keeps, keeps_of, still_behind}
 use Rattle.tc_work.proofs.StoredMoments.{moments_of, over_before, over_sealed, store_moments, where_told}
 use Rattle.tc_work.proofs.Watches.{main_watched, then_watched}
 use Rattle.tc_work.proofs.Windows.{err_always}
+use Rattle.tc_work.proofs.MovedDocuments.{moved_then}
 use Rattle.tc_work.proofs.emptying.seal_and_flush.Goals as goal
 
-pub seal-requires-clause-stands : goal.seal-requires-clause-stands
-seal-requires-clause-stands g c κs within = stands_so (told g.S.Store.history g.S.Device.Device.history g.S.Frozen.Frozen.content c.args.part.now) c.requires.stands
+pub seal-requires-clause-own : goal.seal-requires-clause-own
+seal-requires-clause-own g c κs within = c.requires.ready.own
 
 -- ---- the table is not sealed
 
@@ -64,16 +65,16 @@ returns-in_err-seal-clause-undamaged g c = λ p is tells. undamaged_so c.from_re
 
 -- ---- it is sealed, and flushed or not
 
-pub flush_sealed-requires-clause-stands : goal.flush_sealed-requires-clause-stands
-flush_sealed-requires-clause-stands g c κs within =
+pub flush_sealed-requires-clause-ready : goal.flush_sealed-requires-clause-ready
+flush_sealed-requires-clause-ready g c κs within =
     let t = told g.S.Store.history g.S.Device.Device.history g.S.Frozen.Frozen.content c.args.part.now in
     let u = told g.S.Store.history g.S.Device.Device.history g.S.Frozen.Frozen.content c.seal.new.self in
-    let made = c.in_ok-seal.ensures.made in
     let same = c.in_ok-seal.ensures.same in
-    stands_still t u c.requires.stands (λ untold. made ∙ ap (makes (Log (c.args.part.now.generation + 1))) untold) (λ p is tells.
-    let sealed = c.in_ok-seal.ensures.sealed p is in
-    still t u p (sealed_part p) sealed.0 refl sealed.1 refl (ap (λ (s : PartState _ _ _ _). s.taken) same)
-    (record { store = subst (λ ds. IsTold ds) (sym made) (makes_tells (Log (c.args.part.now.generation + 1)) t.disks tells.store); components = subst (λ (cs : List ToldComponent). AreTold cs) (sym (ap (λ (s : PartState _ _ _ _). (told g.S.Store.history g.S.Device.Device.history g.S.Frozen.Frozen.content s).components) same)) tells.components }))
+    record {
+      own = c.in_ok-seal.ensures.own;
+      components = components_still t u (λ untold. c.in_ok-seal.ensures.made ∙ ap (makes (Log (c.args.part.now.generation + 1))) untold) c.requires.ready.components (λ tells are_told.
+          subst (λ (cs : List ToldComponent). AreTold cs) (sym (ap (λ (s : PartState _ _ _ _). (told g.S.Store.history g.S.Device.Device.history g.S.Frozen.Frozen.content s).components) same)) are_told);
+    }
 
 pub returns-clause-stores : goal.returns-clause-stores
 returns-clause-stores g c = ok_then c.flush_sealed.result _ _ (λ stores p is tells.
@@ -155,3 +156,16 @@ returns-clause-watched g c =
     let same = c.in_ok-seal.ensures.same in
     then_watched g.S.Watch.Watch.counts ⊥ _ _ c.args.part.now c.seal.new.self c.flush_sealed.new.part
     (main_watched g.S.Watch.Watch.counts ⊥ _ c.args.part.now c.seal.new.self c.seal.ensures.counted (ap (λ (s : PartState _ _ _ _). s.flusher) same) (ap (λ (s : PartState _ _ _ _). s.merger) same) (λ no. absurd no)) c.flush_sealed.ensures.watched (λ failed. failed)
+
+pub returns-in_err-seal-clause-moved : goal.returns-in_err-seal-clause-moved
+returns-in_err-seal-clause-moved g c = subst (λ (s : PartState _ _ _ _). HasOnlyMoved c.args.part.now s) (sym c.in_err-seal.ensures.left) refl
+
+pub returns-in_err-seal-clause-unmoved : goal.returns-in_err-seal-clause-unmoved
+returns-in_err-seal-clause-unmoved g c = λ spent. ap (λ (s : PartState _ _ _ _). s.generation) c.in_err-seal.ensures.left
+
+pub returns-clause-moved : goal.returns-clause-moved
+returns-clause-moved g c =
+    moved_then c.args.part.now c.seal.new.self c.flush_sealed.new.part (subst (λ (s : PartState _ _ _ _). HasOnlyMoved c.args.part.now s) (sym c.in_ok-seal.ensures.same) refl) c.flush_sealed.ensures.moved
+
+pub returns-clause-unmoved : goal.returns-clause-unmoved
+returns-clause-unmoved g c = λ spent. absurd (c.flush_sealed.ensures.unspent spent)

@@ -8,19 +8,21 @@ use Rattle.tc_part_model.specs.Changes.{flushed_part, flushing_part}
 use Rattle.tc_part_model.specs.PartState.{PartState, told, told_component, AreTold, IsTold}
 use Rattle.tc_part_model.specs.PartView.{store_of}
 use Rattle.tc_work.specs.Failing.{HasFailedKeeping}
-use Rattle.tc_work.specs.Settling.{MomentsLeavePairs}
-use Rattle.tc_work.proofs.FlushRuns.{ran_flush}
+use Rattle.tc_work.specs.Settling.{HasOnlyMoved, MomentsLeavePairs}
+use Rattle.tc_work.proofs.FlushRuns.{ran_flush, ran_tells}
 use Rattle.tc_work.proofs.HandedFaults.{damaged_so, disk_below, spent_below}
 use Rattle.tc_work.proofs.JobEnds.{bytes_named, by_outcome, device_undamaged, ended_well, job_moments, job_stores, makes_tells, settled_told}
 use Rattle.tc_work.proofs.SealedFlushes.{flushed_keeps, flushed_same, flushed_untold}
-use Rattle.tc_work.proofs.Settled.{content_told, failed_keeps, stands_so, told_behind, whole_keeps}
+use Rattle.tc_work.proofs.Settled.{components_still, content_told, failed_keeps, told_behind, whole_keeps}
 use Rattle.tc_work.proofs.StoredMoments.{store_moments, where_told}
 use Rattle.tc_work.proofs.Watches.{as_watched, flush_cause, flush_watched, main_watched}
 use Rattle.tc_work.proofs.Windows.{err_always}
+use Rattle.tc_work.proofs.MovedDocuments.{flush_back, moved_then}
+use Rattle.tc_work.proofs.FreshDevices.{before_in}
 use Rattle.tc_work.proofs.flushing.flush_sealed.Goals as goal
 
-pub begin_flush-requires-clause-stands : goal.begin_flush-requires-clause-stands
-begin_flush-requires-clause-stands g c κs within = stands_so (told g.S.Store.history g.S.Device.Device.history g.S.Frozen.Frozen.content c.args.part.now) c.requires.stands
+pub begin_flush-requires-clause-own : goal.begin_flush-requires-clause-own
+begin_flush-requires-clause-own g c κs within = c.requires.ready.own
 
 -- ---- the flush does not begin
 
@@ -274,3 +276,38 @@ returns-clause-logs g c =
     let same = c.in_ok-job.ensures.same in
     let back = c.in_ok-finish_flush.ensures.same (ap (λ (s : PartState _ _ _ _). s.failed) same ∙ c.requires.sound) in
     (ap (λ (s : PartState _ _ _ _). s.log) back ∙ ap (λ (s : PartState _ _ _ _). s.log) same, ap (λ (s : PartState _ _ _ _). s.generation) back ∙ ap (λ (s : PartState _ _ _ _). s.generation) same)
+
+pub returns-clause-ready : goal.returns-clause-ready
+returns-clause-ready g c =
+    let t = told g.S.Store.history g.S.Device.Device.history g.S.Frozen.Frozen.content c.args.part.now in
+    let v = told g.S.Store.history g.S.Device.Device.history g.S.Frozen.Frozen.content c.finish_flush.new.self in
+    let begins = c.in_ok-job.ensures in
+    let same = begins.same in
+    let sound : c.begin_flush.new.self.failed ≡ false = ap (λ (s : PartState _ _ _ _). s.failed) same ∙ c.requires.sound in
+    let device = g.S.Device.Device.history c.run-out.result.device in
+    let documents = c.tables_keep_documents.ensures.some c.in_ok-job.job.kept begins.lawful in
+    let listed = c.in_ok-finish_flush.ensures.listed sound in
+    let list : c.finish_flush.new.self.list ≡ c.args.part.now.list ++ listed.component ∷ [] = listed.listed ∙ ap (λ (s : PartState _ _ _ _). s.list ++ listed.component ∷ []) same in
+    record {
+      own = c.in_ok-finish_flush.ensures.own sound begins.own;
+      components = components_still t v (returns-clause-untold g c) c.requires.ready.components (λ tells are_told.
+          let told_device : IsTold device = ran_tells (flushed_name c.args.part.now) t.disks _ (g.S.Device.Device.history c.in_ok-job.job.device) device tells begins.file (c.run-out.ensures.moments (before_in (flushed_name c.args.part.now) t.disks) documents.table documents.of) in
+          subst (λ cs. AreTold (map (told_component g.S.Frozen.Frozen.content) cs)) (sym list)
+          (told_behind g.S.Frozen.Frozen.content c.args.part.now.list listed.component are_told (subst (λ o. IsSome o) (sym listed.made.has_content) (content_told device told_device))));
+    }
+
+pub returns-in_err-job-clause-moved : goal.returns-in_err-job-clause-moved
+returns-in_err-job-clause-moved g c = subst (λ (s : PartState _ _ _ _). HasOnlyMoved c.args.part.now s) (sym c.in_err-job.ensures.left) refl
+
+pub returns-in_err-finish_flush-clause-moved : goal.returns-in_err-finish_flush-clause-moved
+returns-in_err-finish_flush-clause-moved g c =
+    let old = c.args.part.now in
+    let back = record c.begin_flush.new.self { flusher = Some c.run-out.result.watch; flushing = false } in
+    moved_then old back c.finish_flush.new.self (flush_back old c.begin_flush.new.self c.run-out.result.watch c.requires.none_out c.in_ok-job.ensures.same)
+    (elim c.in_err-finish_flush.ensures.left.1 [
+      | inl unlisted ↦ subst (λ (s : PartState _ _ _ _). HasOnlyMoved back s) (sym unlisted.same) refl
+      | inr covering ↦ subst (λ (s : PartState _ _ _ _). HasOnlyMoved back s) (sym covering.same) refl
+    ])
+
+pub returns-clause-moved : goal.returns-clause-moved
+returns-clause-moved g c = subst (λ (s : PartState _ _ _ _). HasOnlyMoved c.args.part.now s) (sym (returns-clause-same g c)) refl

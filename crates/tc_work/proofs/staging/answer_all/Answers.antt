@@ -2,6 +2,9 @@ use Rattle.std.proofs.Common.{◌≡◌, ◌∙◌, ◌+◌, ◌++◌, ◌∷◌
 use Rattle.std.proofs.lemmas.List.Elements.{All-get_or}
 use Rattle.std.proofs.lemmas.List.{map-append, append-nil}
 use Rattle.tc_value.proofs.Sizes.{from_place}
+use Rattle.tc_model.specs.Keyed.{values_in}
+use Rattle.tc_run_model.specs.Kinds.{AreOfKinds}
+use Rattle.tc_command.specs.Replies.{reply_of}
 use Rattle.tc_command.specs.Commands.{request_of_command}
 use Rattle.tc_part.specs.Harms.{IsHarmIn}
 use Rattle.tc_part_model.specs.Meaning.{plain_of}
@@ -18,6 +21,7 @@ use Rattle.tc_work.proofs.ReadCounts.{none_counted, then_counted, counted_weaker
 use Rattle.tc_work.proofs.Underway.{begins, goes_on, ends_staged, ends_replied, place_moves, IsUnderway}
 use Rattle.tc_work.proofs.WindowSizes.{few_writes}
 use Rattle.tc_work.proofs.Windows.{staged_again}
+use Rattle.tc_work.proofs.ReplyKinds.{one_more_reply}
 use Rattle.tc_work.proofs.staging.answer_all.Goals as goal
 
 pub loop-routed-preserved : goal.loop-routed-preserved
@@ -42,6 +46,8 @@ loop-routed-preserved g c =
           (λ are_told. c.in_ok-reply.ensures.reply q before.staged.part (subst AreTold (sym (ap (λ (s : PartState _ _ _ _). (told g.S.Store.history g.S.Device.Device.history g.S.Frozen.Frozen.content s).components) l.invariant.same)) are_told)));
       places = ap (λ xs. map (λ a. a.at) xs ++ map (λ r. r.at) (drop (i + 1) list)) c.in_ok-push.ensures.items
           ∙ place_moves (λ a. a.at) (λ r. r.at) l.replies.items placed r (drop (i + 1) list) (map (λ r. r.at) list) refl (subst (λ xs. map (λ a. a.at) l.replies.items ++ map (λ r. r.at) xs ≡ map (λ r. r.at) list) step l.invariant.places);
+      kinds = λ more given. subst (AreOfKinds (requests_in list)) (sym (one_more_reply l.replies.items _ placed more c.in_ok-push.ensures.items))
+          (l.invariant.kinds (reply_of c.in_ok-reply.reply ∷ more) (subst (λ xs. AreOfKinds (requests_in xs) (reply_of c.in_ok-reply.reply ∷ more)) (sym step) (c.in_ok-reply.ensures.kind, given)));
       within = still_within _ _ (routed_of r).1 l.part.staged c.answer.new.part.staged (requests_in (drop (i + 1) list))
           (subst (λ xs. AreWithin (most_writes (requests_in list)) (most_bytes (requests_in list)) l.part.staged (requests_in xs)) step l.invariant.within) c.in_ok-reply.ensures.grown;
       same = staged_again c.args.part.now l.part c.answer.new.part l.invariant.same c.answer.ensures.same;
@@ -59,6 +65,7 @@ loop-routed-init g c =
           subst (λ made. IsUnderway c.args.part.now.limits (map routed_of list) (plain_of old p) p (AreTold old.components) (map routed_of list) (replies_in made) old) (sym none)
           (begins c.args.part.now.limits (map routed_of list) p (AreTold old.components) old is);
       places = subst (λ made. map (λ a. a.at) made ++ map (λ r. r.at) list ≡ map (λ r. r.at) list) (sym none) refl;
+      kinds = λ more given. subst (λ made. AreOfKinds (requests_in list) (values_in (replies_in made) ++ more)) (sym none) given;
       within = subst (λ ws. AreWithin (most_writes (requests_in list)) (most_bytes (requests_in list)) ws (requests_in list)) (sym c.requires.nothing_staged) (record { each = tt; few = omega arith; short = omega arith });
       same = refl;
       sound = c.requires.sound;
@@ -155,3 +162,10 @@ returns-clause-grown g c =
 pub returns-clause-counted : goal.returns-clause-counted
 returns-clause-counted g c =
     counted_weaker c.loop-routed.routed-index (length c.args.list.now) _ ⊥ (g.S.Watch.Watch.counts c.args.part.now.main) (g.S.Watch.Watch.counts c.loop-routed.part.main) (search) (λ failed. absurd (cc)) c.loop-routed.invariant.counted
+
+pub returns-clause-kinds : goal.returns-clause-kinds
+returns-clause-kinds g c =
+    let list = c.args.list.now in
+    let none : drop c.loop-routed.routed-index list ≡ [] = drop_of_length-le list (omega (arith, c.loop-routed-test.false)) in
+    subst (λ xs. AreOfKinds (requests_in list) (values_in (replies_in xs))) (sym c.of.ensures)
+    (subst (AreOfKinds (requests_in list)) (append-nil (values_in (replies_in c.loop-routed.replies.items))) (c.loop-routed.invariant.kinds [] (subst (λ xs. AreOfKinds (requests_in xs) []) (sym none) tt)))

@@ -1,4 +1,7 @@
-use Rattle.std.proofs.Common.{◌≡◌, ◌++◌, map, drop, false}
+use Rattle.std.proofs.Common.{◌≡◌, ◌++◌, List, map, drop, false}
+use Rattle.tc_model.specs.Keyed.{values_in}
+use Rattle.tc_model.specs.Reply.{Reply}
+use Rattle.tc_run_model.specs.Kinds.{AreOfKinds}
 use Rattle.tc_part_model.specs.Meaning.{IsPart, plain_of}
 use Rattle.tc_part_model.specs.PartState.{told, AreTold}
 use Rattle.tc_part_model.specs.PartView.{PartView}
@@ -18,6 +21,7 @@ invariant-loop-routed g l =
       underway : (p : PartView) → IsPart first p
           → IsUnderway l.fn.part.limits (map routed_of l.list) (plain_of first p) p (AreTold first.components) (map routed_of (drop l.routed-index l.list)) (replies_in l.replies.items) now;
       places : map (λ a. a.at) l.replies.items ++ map (λ r. r.at) (drop l.routed-index l.list) ≡ map (λ r. r.at) l.list;
+      kinds : (more : List Reply) → AreOfKinds (requests_in (drop l.routed-index l.list)) more → AreOfKinds (requests_in l.list) (values_in (replies_in l.replies.items) ++ more);
       within : AreWithin (most_writes (requests_in l.list)) (most_bytes (requests_in l.list)) l.part.staged (requests_in (drop l.routed-index l.list));
       same : HasOnlyStaged l.fn.part l.part;
       sound : l.part.failed ≡ false;

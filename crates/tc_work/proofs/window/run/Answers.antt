@@ -8,7 +8,7 @@ use Rattle.tc_work.specs.Windowed.{staged_as}
 use Rattle.tc_work.proofs.HandedFaults.{not_harmed, disk_below, spent_below, same_fault, same_harm}
 use Rattle.tc_work.proofs.ReadCounts.{committed_counted, counted_weaker}
 use Rattle.tc_work.proofs.Failures.{failed_with, failed_without}
-use Rattle.tc_work.proofs.Windows.{none_staged_in, count_staged, is_windowed, no_moments, err_always, left_staged, left_uncommitted, kept_committed, log_stays, spent_of}
+use Rattle.tc_work.proofs.Windows.{none_staged_in, count_staged, is_windowed, no_moments, err_always, left_staged, left_uncommitted, kept_committed, log_stays, spent_of, few_written}
 use Rattle.tc_work.proofs.window.run.Goals as goal
 
 -- ---- the commands fail
@@ -132,3 +132,8 @@ pub returns-clause-looked_up : goal.returns-clause-looked_up
 returns-clause-looked_up g c = λ none.
     let few = c.in_ok-replies.ensures.grown.few in
     log_stays c.args.part.now c.answer_all.new.part c.commit.new.self c.answer_all.ensures.same (λ empty. (c.commit.ensures.nothing empty).1) (omega (arith, few, none))
+
+pub returns-clause-few_writes : goal.returns-clause-few_writes
+returns-clause-few_writes g c =
+    few_written c.args.part.now.writes c.answer_all.new.part.writes (length c.answer_all.new.part.staged) (most_writes (requests_in c.args.list.now)) c.commit.new.self.writes
+    (ap (λ (s : PartState _ _ _ _). s.writes) c.answer_all.ensures.same) c.in_ok-replies.ensures.grown.few (ap (λ (s : PartState _ _ _ _). s.writes) c.in_ok-commit.ensures.same)

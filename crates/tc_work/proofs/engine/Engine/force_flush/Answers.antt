@@ -1,6 +1,7 @@
-use Rattle.std.proofs.Common.{◌≡◌, ◌∙◌, ◌+◌, ◌^◌, [], None, ap, subst, sym, length, true, arith}
+use Rattle.std.proofs.Common.{◌≡◌, ◌∙◌, ◌≤◌, ◌+◌, ◌^◌, [], None, ap, subst, sym, length, true, arith}
 use Rattle.std.specs.Prelude.{Result, IfErr}
 use Rattle.tc_jobs.specs.Lists.{file_names}
+use Rattle.tc_log.specs.Layout.{empty_size}
 use Rattle.tc_part_model.specs.Meaning.{IsPart}
 use Rattle.tc_part_model.specs.PartState.{PartState, told}
 use Rattle.tc_part_model.specs.PartView.{PartView, store_of}
@@ -9,11 +10,13 @@ use Rattle.tc_work.specs.declared.fault.EngineFault.{EngineFault}
 use Rattle.tc_work.specs.EngineState.{EngineState}
 use Rattle.tc_work.specs.Failing.{HasFailedKeeping}
 use Rattle.tc_work.specs.Faults.{AreOfFiles, IfDamaged}
-use Rattle.tc_work.specs.Settling.{MomentsLeavePairsOver, NextLogs, StandsTold, StoresStill, TellsFiles}
+use Rattle.tc_work.specs.Settling.{MomentsLeavePairsOver, NextLogs, MaySettle, StoresStill, TellsFiles}
 use Rattle.tc_work.proofs.HandedFaults.{handed_on, same_fault}
 use Rattle.tc_work.proofs.OpenEngines.{inside_is, closed_sound}
 use Rattle.tc_work.proofs.Watches.{watched_inside}
 use Rattle.tc_work.proofs.Windows.{err_always}
+use Rattle.tc_work.proofs.MovedDocuments.{moved_inside}
+use Rattle.tc_work.proofs.EmptyLogs.{none_active, unwritten}
 use Rattle.tc_work.proofs.engine.Engine.force_flush.Goals as goal
 
 pub seal_and_flush-requires-clause-sound : goal.seal_and_flush-requires-clause-sound
@@ -36,9 +39,9 @@ pub seal_and_flush-requires-clause-none_sealed : goal.seal_and_flush-requires-cl
 seal_and_flush-requires-clause-none_sealed g c κs within =
     (c.self.invariant.awake (ap (λ (s : EngineState _ _ _ _). s.part.failed) c.self.view_is ∙ c.requires.sound)).none_sealed
 
-pub seal_and_flush-requires-clause-stands : goal.seal_and_flush-requires-clause-stands
-seal_and_flush-requires-clause-stands g c κs within =
-    subst (λ (s : PartState _ _ _ _). StandsTold (told g.S.Store.history g.S.Device.Device.history g.S.Frozen.Frozen.content s)) (sym (inside_is c.self.inside.part c.self.inside.failed c.args.self.now.part (ap (λ (e : EngineState _ _ _ _). e.part) c.self.view_is) c.requires.sound c.self.invariant.awake)) c.requires.stands
+pub seal_and_flush-requires-clause-ready : goal.seal_and_flush-requires-clause-ready
+seal_and_flush-requires-clause-ready g c κs within =
+    subst (λ (s : PartState _ _ _ _). MaySettle (told g.S.Store.history g.S.Device.Device.history g.S.Frozen.Frozen.content s)) (sym (inside_is c.self.inside.part c.self.inside.failed c.args.self.now.part (ap (λ (e : EngineState _ _ _ _). e.part) c.self.view_is) c.requires.sound c.self.invariant.awake)) c.requires.ready
 
 pub returns-clause-stores : goal.returns-clause-stores
 returns-clause-stores g c =
@@ -113,3 +116,36 @@ returns-in_err-seal_and_flush-clause-spent g c =
     λ spent.
     subst (λ (s : PartState _ _ _ _). s.generation + 1 ≡ 2 ^ 63) (inside_is c.self.inside.part c.self.inside.failed c.args.self.now.part (ap (λ (e : EngineState _ _ _ _). e.part) c.self.view_is) c.requires.sound c.self.invariant.awake)
     (c.seal_and_flush.ensures.spent (same_fault c.from_residual.result c.seal_and_flush.result c.in_err-seal_and_flush.field-0.0 _ c.from_residual.ensures.1 c.in_err-seal_and_flush.was spent))
+
+pub returns-clause-ready : goal.returns-clause-ready
+returns-clause-ready g c =
+    subst (λ (u : PartState _ _ _ _). MaySettle (told g.S.Store.history g.S.Device.Device.history g.S.Frozen.Frozen.content u)) (closed_sound c.seal_and_flush.new.part (ap (λ (s : PartState _ _ _ _). s.failed) c.in_ok-seal_and_flush.ensures.same ∙ (c.self.invariant.awake (ap (λ (s : EngineState _ _ _ _). s.part.failed) c.self.view_is ∙ c.requires.sound)).sound)) c.in_ok-seal_and_flush.ensures.ready
+
+pub returns-clause-none_sealed : goal.returns-clause-none_sealed
+returns-clause-none_sealed g c = ap (λ (s : PartState _ _ _ _). s.sealed) c.in_ok-seal_and_flush.ensures.same
+
+pub returns-clause-emptied : goal.returns-clause-emptied
+returns-clause-emptied g c = λ p is tells. ap (λ (s : PartState _ _ _ _). s.active) c.in_ok-seal_and_flush.ensures.same
+
+pub returns-clause-moved : goal.returns-clause-moved
+returns-clause-moved g c = moved_inside c.self.inside.part c.args.self.now.part c.seal_and_flush.new.part _ (inside_is c.self.inside.part c.self.inside.failed c.args.self.now.part (ap (λ (e : EngineState _ _ _ _). e.part) c.self.view_is) c.requires.sound c.self.invariant.awake) c.seal_and_flush.ensures.moved
+
+pub returns-in_err-seal_and_flush-clause-moved : goal.returns-in_err-seal_and_flush-clause-moved
+returns-in_err-seal_and_flush-clause-moved g c = moved_inside c.self.inside.part c.args.self.now.part c.seal_and_flush.new.part _ (inside_is c.self.inside.part c.self.inside.failed c.args.self.now.part (ap (λ (e : EngineState _ _ _ _). e.part) c.self.view_is) c.requires.sound c.self.invariant.awake) c.seal_and_flush.ensures.moved
+
+pub returns-in_err-seal_and_flush-clause-unmoved : goal.returns-in_err-seal_and_flush-clause-unmoved
+returns-in_err-seal_and_flush-clause-unmoved g c = λ spent.
+    subst (λ (s : PartState _ _ _ _). c.seal_and_flush.new.part.generation ≡ s.generation) (inside_is c.self.inside.part c.self.inside.failed c.args.self.now.part (ap (λ (e : EngineState _ _ _ _). e.part) c.self.view_is) c.requires.sound c.self.invariant.awake)
+    (c.seal_and_flush.ensures.unmoved (same_fault c.from_residual.result c.seal_and_flush.result c.in_err-seal_and_flush.field-0.0 _ c.from_residual.ensures.1 c.in_err-seal_and_flush.was spent))
+
+-- ---- the log has no frame
+
+pub returns-then-log_len-le-EMPTY_LOG-clause-emptied : goal.returns-then-log_len-le-EMPTY_LOG-clause-emptied
+returns-then-log_len-le-EMPTY_LOG-clause-emptied g c = λ p is tells.
+    let t = told g.S.Store.history g.S.Device.Device.history g.S.Frozen.Frozen.content c.args.self.now.part in
+    let laws = g.met.S.Device.Device g.world.𝓛 g.world.𝓜 g.world.𝓡 ((λ s x. x), (λ x. x), (λ x. x), λ x. x) in
+    let device = c.args.self.now.part.log.device in
+    let same = (inside_is c.self.inside.part c.self.inside.failed c.args.self.now.part (ap (λ (e : EngineState _ _ _ _). e.part) c.self.view_is) c.requires.sound c.self.invariant.awake) in
+    let awake = (c.self.invariant.awake (ap (λ (s : EngineState _ _ _ _). s.part.failed) c.self.view_is ∙ c.requires.sound)) in
+    let short : g.S.Device.Device.size device ≤ empty_size = omega (arith, c.if-log_len-le-EMPTY_LOG.true, c.log_len.ensures, ap (λ (s : PartState _ _ _ _). g.S.Device.Device.size s.log.device) same) in
+    none_active t p is tells.components (sym (ap (λ (s : PartState _ _ _ _). s.staged) same) ∙ awake.nothing_staged) (unwritten t p (g.S.Device.Device.size device) is tells.store (laws.told_size device) (laws.content_may_stay device) short)

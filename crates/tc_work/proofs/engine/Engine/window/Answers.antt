@@ -16,6 +16,9 @@ use Rattle.tc_work.proofs.HandedFaults.{same_fault, same_harm}
 use Rattle.tc_work.proofs.ReadCounts.{counted_inside}
 use Rattle.tc_work.proofs.Windows.{err_always}
 use Rattle.tc_work.proofs.OpenEngines.{inside_is, closed_sound}
+use Rattle.tc_work.specs.Settling.{MaySettle, TellsFiles}
+use Rattle.tc_part_model.proofs.LoadedComponents.{all_loaded}
+use Rattle.tc_work.proofs.UnharmedRecords.{not_harmed_in, unharmed}
 use Rattle.tc_work.proofs.engine.Engine.window.Goals as goal
 
 pub run-requires-clause-sound : goal.run-requires-clause-sound
@@ -99,3 +102,23 @@ pub returns-clause-looked_up : goal.returns-clause-looked_up
 returns-clause-looked_up g c =
     subst (λ (s : PartState _ _ _ _). most_writes (requests_in c.args.list.now) ≡ 0 → c.run.new.part.log ≡ s.log) (inside_is c.self.inside.part c.self.inside.failed c.args.self.now.part (ap (λ (e : EngineState _ _ _ _). e.part) c.self.view_is) c.requires.sound c.self.invariant.awake)
     (c.in_ok-replies.ensures.looked_up)
+
+pub returns-clause-few_writes : goal.returns-clause-few_writes
+returns-clause-few_writes g c =
+    subst (λ (s : PartState _ _ _ _). c.run.new.part.writes ≤ s.writes + most_writes (requests_in c.args.list.now)) (inside_is c.self.inside.part c.self.inside.failed c.args.self.now.part (ap (λ (e : EngineState _ _ _ _). e.part) c.self.view_is) c.requires.sound c.self.invariant.awake)
+    (c.in_ok-replies.ensures.few_writes)
+
+pub returns-clause-ready : goal.returns-clause-ready
+returns-clause-ready g c = λ ready.
+    subst (λ (s : PartState _ _ _ _). MaySettle (told g.S.Store.history g.S.Device.Device.history g.S.Frozen.Frozen.content s)) (sym (returns-clause-same g c)) (record { own = ready.own; components = ready.components })
+
+pub returns-clause-tells : goal.returns-clause-tells
+returns-clause-tells g c = λ tells.
+    subst (λ (s : PartState _ _ _ _). TellsFiles (told g.S.Store.history g.S.Device.Device.history g.S.Frozen.Frozen.content s)) (sym (returns-clause-same g c)) (record { store = tells.store; components = tells.components })
+
+pub returns-in_err-replies-clause-undamaged : goal.returns-in_err-replies-clause-undamaged
+returns-in_err-replies-clause-undamaged g c = λ p is are_told.
+    let laws = c.components_are_contents.ensures in
+    unharmed c.from_residual.result _
+    (λ file place bytes. not_harmed_in g.S.Frozen.Frozen.content laws.found laws.fetched c.args.self.now.part.list p.list file place bytes (all_loaded g.S.Frozen.Frozen.content c.args.self.now.part.list p.list is.view.components are_told))
+    (returns-in_err-replies-clause-harmed g c)

@@ -1,0 +1,104 @@
+-- A part of which a run is merged on this thread: what stays, over every store.
+use Rattle.std.proofs.Common.{◌≡◌, ◌∙◌, ◌≤◌, ◌<◌, ◌+◌, ◌-◌, ℕ, List, [], ◌∷◌, ◌++◌, Option, Some, None, length, map, take, drop, refl, sym, ap, subst, arith, length-append, inl, inr}
+use Rattle.std.specs.Prelude.{IsSome}
+use Rattle.std.proofs.lemmas.List.{drop-map, length-drop, length-map, length-take-le, map-append, take-map}
+use Rattle.std.proofs.lemmas.Slice.Zip.{AllZip-long}
+use Rattle.std.proofs.lemmas.List.Elements.{All-append, All-cons, All-drop, All-head, All-nil, All-tail, All-take}
+use Rattle.tc_store.specs.declared.file_name.FileName.{FileName}
+use Rattle.tc_store.specs.Disk.{Disk}
+use Rattle.tc_store.specs.DiskFile.{DiskFile}
+use Rattle.tc_store.specs.StoreCalls.{comes_home, frozen_entry, makes}
+use Rattle.tc_component.specs.Loading.{ComponentState}
+use Rattle.tc_list.specs.declared.run.Run.{Run}
+use Rattle.tc_list.specs.Runs.{in_run, neighbours, swapped}
+use Rattle.tc_lsm_model.specs.Contents.{Content}
+use Rattle.tc_lsm_model.specs.Lists as contents
+use Rattle.tc_lsm_model.specs.Merges.{IsMerge, merged_entries, in_run as contents_in_run, Run as Neighbours}
+use Rattle.tc_merge.specs.Merging.{AreTold as AreRunTold}
+use Rattle.tc_part.specs.MergeEnds.{HasRemovedRun, merged_name}
+use Rattle.tc_part.specs.Ready.{LiesIn}
+use Rattle.tc_part_model.specs.Calls.{RemovesSome}
+use Rattle.tc_part_model.specs.Meaning.{IsOfContent, IsPart}
+use Rattle.tc_part_model.specs.PartState.{PartState, Told, ToldComponent, AreTold, told_component}
+use Rattle.tc_part_model.specs.PartView.{PartView}
+use Rattle.tc_part_model.proofs.DeviceFiles.{comes_untold}
+
+module _ {S D F W : Type 0} (old mid new : PartState S D F W) where
+  -- a merge is out, and then it is back
+  pub merged_same : (w : W) (r : Neighbours) → old.merging ≡ None → mid ≡ record old { store = mid.store; main = mid.main; merger = None; merging = Some r } → new ≡ record mid { store = new.store; main = new.main; merger = Some w; merging = None; list = new.list }
+      → new ≡ record old { store = new.store; main = new.main; merger = new.merger; list = new.list }
+  merged_same w r out one two =
+      let here : new ≡ record old { store = new.store; main = new.main; merger = Some w; merging = None; list = new.list } =
+      two ∙ ap (λ (s : PartState S D F W). record s { store = new.store; main = new.main; merger = Some w; merging = None; list = new.list }) one in
+      let there : new ≡ record old { store = new.store; main = new.main; merger = Some w; list = new.list } =
+      here ∙ ap (λ (o : Option Neighbours). record old { store = new.store; main = new.main; merger = Some w; merging = o; list = new.list }) (sym out) in
+      subst (λ (s : PartState S D F W). s ≡ record old { store = s.store; main = s.main; merger = s.merger; list = s.list }) (sym there) refl
+
+  -- two runs, one after the other
+  pub merged_again : mid ≡ record old { store = mid.store; main = mid.main; merger = mid.merger; list = mid.list } → new ≡ record mid { store = new.store; main = new.main; merger = new.merger; list = new.list }
+      → new ≡ record old { store = new.store; main = new.main; merger = new.merger; list = new.list }
+  merged_again one two = two ∙ ap (λ (s : PartState S D F W). record s { store = new.store; main = new.main; merger = new.merger; list = new.list }) one
+
+  removes_untold : (names : List FileName) (disks : List Disk) → RemovesSome names [] disks → disks ≡ []
+  removes_untold [] disks is = is
+  removes_untold (name ∷ names) disks (inl is) = removes_untold names disks is
+  removes_untold (name ∷ names) disks (inr is) = removes_untold names disks is
+
+  -- a store that tells nothing tells nothing behind it
+  pub merged_untold : (disks : S → List Disk) (file_name : F → FileName) (name : FileName) (device : List DiskFile) (run : Run) → disks mid.store ≡ makes name (disks old.store) → HasRemovedRun disks file_name device run mid (disks new.store) → disks old.store ≡ [] → disks new.store ≡ []
+  merged_untold disks file_name name device run made removed untold =
+      let none : disks mid.store ≡ [] = made ∙ ap (makes name) untold in
+      removes_untold (map (λ (c : ComponentState F). file_name c.file) (in_run run mid.list)) (disks new.store)
+      (subst (λ (ds : List Disk). RemovesSome (map (λ (c : ComponentState F). file_name c.file) (in_run run mid.list)) ds (disks new.store))
+      (ap (λ (ds : List Disk). comes_home (merged_name run mid) frozen_entry device ds) none ∙ comes_untold (merged_name run mid) frozen_entry device) removed)
+
+-- ---- the list
+
+-- one component stands where there was a run
+pub length_swapped : {X : Type 0} (run : Run) (x : X) (xs : List X) → run.first < run.last → run.last < length xs → length (swapped run x xs) + run.last ≡ length xs + run.first
+length_swapped run x xs several within =
+    let front : length (take run.first xs) ≡ run.first = length-take-le run.first xs (omega (arith, several, within)) in
+    let back : length (drop (run.last + 1) xs) ≡ length xs - (run.last + 1) = length-drop (run.last + 1) xs in
+    omega (arith, length-append (take run.first xs) (x ∷ drop (run.last + 1) xs), front, back, within)
+
+pub told_swapped : {F : Type 0} (content : F → Option (List ℕ)) (run : Run) (list : List (ComponentState F)) (c : ComponentState F) → AreTold (map (told_component content) list) → IsSome (content c.file) → AreTold (map (told_component content) (swapped run c list))
+told_swapped content run list c all one =
+    let P : ToldComponent → Type 0 = λ (x : ToldComponent). IsSome x.content in
+    subst AreTold
+    (sym (map-append (told_component content) (take run.first list) (c ∷ drop (run.last + 1) list)
+    ∙ ap (λ (xs : List ToldComponent). xs ++ told_component content c ∷ map (told_component content) (drop (run.last + 1) list)) (sym (take-map (told_component content) run.first list))
+    ∙ ap (λ (xs : List ToldComponent). take run.first (map (told_component content) list) ++ told_component content c ∷ xs) (sym (drop-map (told_component content) (run.last + 1) list))))
+    (All-append P (take run.first (map (told_component content) list)) (told_component content c ∷ drop (run.last + 1) (map (told_component content) list)) (All-take P run.first (map (told_component content) list) all)
+    (All-cons P (told_component content c) (drop (run.last + 1) (map (told_component content) list)) one (All-drop P (run.last + 1) (map (told_component content) list) all)))
+
+-- the files of a run are told where those of the list are
+each_told : {F : Type 0} (content : F → Option (List ℕ)) (list : List (ComponentState F)) → AreTold (map (told_component content) list) → AreRunTold content list
+each_told content [] all = All-nil (λ c. IsSome (content c.file))
+each_told content (c ∷ list) all =
+    let rest = map (told_component content) list in
+    All-cons (λ c. IsSome (content c.file)) c list (All-head (λ (x : ToldComponent). IsSome x.content) (told_component content c) rest all) (each_told content list (All-tail (λ (x : ToldComponent). IsSome x.content) (told_component content c) rest all))
+
+pub run_told : {F : Type 0} (content : F → Option (List ℕ)) (run : Run) (list : List (ComponentState F)) → AreTold (map (told_component content) list) → AreRunTold content (in_run run list)
+run_told content run list all =
+    All-take (λ c. IsSome (content c.file)) (run.last + 1 - run.first) (drop run.first list) (All-drop (λ c. IsSome (content c.file)) run.first list (each_told content list all))
+
+-- ---- where the files are told
+
+-- the run lies in what the part means
+pub run_within : {F : Type 0} (content : F → Option (List ℕ)) (t : Told) (p : PartView) (list : List (ComponentState F)) (run : Run) → IsPart t p → t.components ≡ map (told_component content) list → LiesIn list run
+    → (2 ≤ (neighbours run).length) × ((neighbours run).first + (neighbours run).length ≤ length p.list)
+run_within content t p list run is same (several, within) =
+    let long : length p.list ≡ length t.components = AllZip-long IsOfContent t.components p.list is.view.components in
+    let as_long : length t.components ≡ length list = ap length same ∙ length-map list (told_component content) in
+    (omega (arith, several), omega (arith, long, as_long, several, within))
+
+-- it can be merged
+pub some_merge : (p : PartView) (run : Neighbours) → (2 ≤ run.length) × (run.first + run.length ≤ length p.list) → (c : Content) × IsMerge (contents_in_run run p.list) c
+some_merge p run (two, within) = at (contents_in_run run p.list) (omega (arith, length-take-le run.length (drop run.first p.list) (omega (arith, length-drop run.first p.list, within)), two))
+  where
+    at : (cs : List Content) → 2 ≤ length cs → (c : Content) × IsMerge cs c
+    at [] some = absurd (omega (arith, some))
+    at (d ∷ cs) some = (
+      record { part = d.part; from = d.from; to = contents.last_of (d ∷ cs); entries = merged_entries d.from (d ∷ cs); names = contents.names_of (d ∷ cs); schema = contents.schema_of (d ∷ cs) },
+      record { first = d; others = cs; is = refl; part = refl; from = refl; to = refl; entries = refl; names = refl; schema = refl },
+    )

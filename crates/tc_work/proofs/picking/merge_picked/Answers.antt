@@ -1,0 +1,44 @@
+use Rattle.std.proofs.Common.{ap, refl, true}
+use Rattle.tc_part_model.specs.PartState.{PartState, told}
+use Rattle.tc_work.proofs.RunMerges.{merged_again}
+use Rattle.tc_work.proofs.StayingStores.{fails_here, fails_then, moments_then, stays_then}
+use Rattle.tc_work.proofs.Watches.{then_watched}
+use Rattle.tc_work.proofs.Windows.{err_always}
+use Rattle.tc_work.proofs.picking.merge_picked.Goals as goal
+
+pub loop-run-preserved : goal.loop-run-preserved
+loop-run-preserved g c =
+    let l = c.loop-run in
+    let first = told g.S.Store.history g.S.Device.Device.history g.S.Frozen.Frozen.content c.args.part.now in
+    let now = told g.S.Store.history g.S.Device.Device.history g.S.Frozen.Frozen.content l.part in
+    let new = told g.S.Store.history g.S.Device.Device.history g.S.Frozen.Frozen.content c.merge_run.new.part in
+    let same = l.invariant.same in
+    record {
+      stays = stays_then first now new l.invariant.stays c.in_ok-merge_run.ensures.stays;
+      moments = moments_then first now new.disks (ap (λ (s : PartState _ _ _ _). g.S.Device.Device.history s.log.device) same) (ap (λ (s : PartState _ _ _ _). (told g.S.Store.history g.S.Device.Device.history g.S.Frozen.Frozen.content s).sealed_log) same) l.invariant.stays
+          l.invariant.moments c.merge_run.ensures.moments;
+      same = merged_again c.args.part.now l.part c.merge_run.new.part same c.in_ok-merge_run.ensures.same;
+      watched = then_watched g.S.Watch.Watch.counts ⊥ _ ⊥ c.args.part.now l.part c.merge_run.new.part l.invariant.watched c.merge_run.ensures.watched (λ no. absurd no);
+    }
+
+pub returns-in_err-run-clause-failed : goal.returns-in_err-run-clause-failed
+returns-in_err-run-clause-failed g c =
+    let first = told g.S.Store.history g.S.Device.Device.history g.S.Frozen.Frozen.content c.args.part.now in
+    let now = told g.S.Store.history g.S.Device.Device.history g.S.Frozen.Frozen.content c.loop-run.part in
+    err_always c.from_residual.result _ (fails_here first now (λ p is. c.failed_parts_keep_files.ensures.fails now (record now { failed = true }) p is refl refl refl refl) c.loop-run.invariant.stays)
+
+pub returns-in_err-merge_run-clause-moments : goal.returns-in_err-merge_run-clause-moments
+returns-in_err-merge_run-clause-moments g c =
+    let l = c.loop-run in
+    let first = told g.S.Store.history g.S.Device.Device.history g.S.Frozen.Frozen.content c.args.part.now in
+    let now = told g.S.Store.history g.S.Device.Device.history g.S.Frozen.Frozen.content l.part in
+    let same = l.invariant.same in
+    moments_then first now (g.S.Store.history c.merge_run.new.part.store) (ap (λ (s : PartState _ _ _ _). g.S.Device.Device.history s.log.device) same) (ap (λ (s : PartState _ _ _ _). (told g.S.Store.history g.S.Device.Device.history g.S.Frozen.Frozen.content s).sealed_log) same) l.invariant.stays
+    l.invariant.moments c.merge_run.ensures.moments
+
+pub returns-in_err-merge_run-clause-failed : goal.returns-in_err-merge_run-clause-failed
+returns-in_err-merge_run-clause-failed g c =
+    let first = told g.S.Store.history g.S.Device.Device.history g.S.Frozen.Frozen.content c.args.part.now in
+    let now = told g.S.Store.history g.S.Device.Device.history g.S.Frozen.Frozen.content c.loop-run.part in
+    let new = told g.S.Store.history g.S.Device.Device.history g.S.Frozen.Frozen.content c.merge_run.new.part in
+    err_always c.from_residual-in_err-merge_run.result _ (fails_then first now new c.loop-run.invariant.stays c.in_err-merge_run.ensures.failed)
