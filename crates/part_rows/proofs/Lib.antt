@@ -1,5 +1,5 @@
 mod FirstLogs
-mod FlushEnds
+mod JobEnds
 mod LaidLists
 mod Parts
 mod Resting

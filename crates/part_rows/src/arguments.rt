@@ -2,6 +2,7 @@
 
 use std::alloc::Global;
 use std::fmt::Write;
+use tc_jobs::JobFault;
 use tc_part::PartFault;
 use tc_store::{Damage, FileName};
 
@@ -36,6 +37,16 @@ pub(crate) fn fault_word(alloc: Global, fault: PartFault) -> Option<String> {
         PartFault::Damaged(damage) => damage_text(alloc, damage),
         PartFault::Spent => word(alloc, "spent"),
         PartFault::Memory => None,
+    }
+}
+
+/// How the end of a job went, as an answer. Want of memory is none.
+pub(crate) fn job_outcome(alloc: Global, done: Result<(), JobFault>) -> Option<String> {
+    match done {
+        Ok(()) => word(alloc, "ok"),
+        Err(JobFault::Disk) => word(alloc, "fault"),
+        Err(JobFault::Damaged(damage)) => damage_text(alloc, damage),
+        Err(JobFault::Memory) => None,
     }
 }
 

@@ -1,12 +1,13 @@
-//! Writes that are staged.
+//! Writes that are staged, and runs of components that are merged.
 
 ghost use Rattle.std.specs.Prelude.{IfSome};
 ghost use Rattle.part_rows.specs.Waiting.{IsShortWrite};
 
-use crate::arguments::bytes;
+use crate::arguments::{bytes, numbers};
 use crate::desk::Desk;
 use std::alloc::Global;
 use tc_bytes::Bytes;
+use tc_list::Run;
 use tc_log::{MAX_NUMBER, Write};
 use tc_record::is_stored_record;
 
@@ -23,6 +24,17 @@ pub(crate) fn put(alloc: Global, desk: &mut Desk, argument: &str) -> Option<Stri
 pub(crate) fn delete(alloc: Global, desk: &mut Desk, argument: &str) -> Option<String> {
     let write = deletion(argument)?;
     desk.stage(alloc, write)
+}
+
+/// Merges a run of components: the places of its first and of its last one.
+pub(crate) fn merge(alloc: Global, desk: &mut Desk, argument: &str) -> Option<String> {
+    let places = numbers(alloc, argument)?;
+    let [first, last] = places.as_slice() else {
+        return None;
+    };
+    let first = usize::try_from(*first).ok()?;
+    let last = usize::try_from(*last).ok()?;
+    desk.merge(alloc, Run { first, last })
 }
 
 fn upsert(alloc: Global, argument: &str) -> Option<Write>

@@ -9,6 +9,7 @@ use crate::steps;
 use std::alloc::Global;
 use std::fmt::Write as _;
 use std::marker::Model;
+use tc_list::Run;
 use tc_log::Write;
 use tc_part::{Limits, Opened, Part, PartFault, Staged};
 use tc_record::{encode, size};
@@ -142,6 +143,20 @@ impl Desk {
             return None;
         }
         match steps::flush(alloc, &mut self.part, self.waiting, self.stands) {
+            Ok(()) => word(alloc, "ok"),
+            Err(fault) => fault_word(alloc, fault),
+        }
+    }
+
+    /// Merges a run of two components or more.
+    pub(crate) fn merge(&mut self, alloc: Global, run: Run) -> Option<String> {
+        if self.part.failed() {
+            return word(alloc, "failed");
+        }
+        if !self.stands || run.first >= run.last || run.last >= self.part.listed() {
+            return None;
+        }
+        match steps::merge(alloc, &mut self.part, run, self.waiting, self.stands) {
             Ok(()) => word(alloc, "ok"),
             Err(fault) => fault_word(alloc, fault),
         }

@@ -1,19 +1,23 @@
-//! Layer 6, programs: makes calls of one partition over a store in memory, one row of standard input at a time, and prints
-//! what they answer. A row begins with numbers: what a stop behind it chooses, how many names and how many documents the
-//! partition takes, and which calls on files fail, counted from 0. Where ` flush ` follows, behind it stand those of the
-//! calls of flushes that fail, behind ` merge ` those of merges, and behind ` over ` a component from generation 1 on: its
-//! last generation, and the bytes of its file. Behind all this stands a list of calls, each of a name and its argument, and
-//! a `; ` between two; its answers stand in the same order. Last the partition is closed, and the row ends with how many
-//! calls on files failed and how many were reads, and the bytes of the files that a stop then leaves. The partition is
-//! number 0 of 1, and its store has no file but the first log, unless it has a component and the log behind that. `no
-//! answer` stands for a row out of form. A row that begins with `#` is a note, and is printed as it is.
+//! Layer 6, programs: makes calls of one partition over a store in memory, or of what its jobs begin and end with, one row of
+//! standard input at a time, and prints what they answer. A row begins with numbers: what a stop behind it chooses, how many
+//! names and how many documents the partition takes, and which calls on files fail, counted from 0. Where ` flush ` follows,
+//! behind it stand those of the calls of flushes that fail, behind ` merge ` those of merges, and behind ` over ` a component
+//! from generation 1 on: its last generation, and the bytes of its file. Behind all this stands a list of calls, each of a
+//! name and its argument, and a `; ` between two; its answers stand in the same order. Last the partition is closed, and the
+//! row ends with how many calls on files failed and how many were reads, and the bytes of the files that a stop then leaves.
+//! The partition is number 0 of 1, and its store has no file but the first log, unless it has a component and the log behind
+//! that. A row of jobs begins with `jobs` and the calls on files that fail; it begins with no file and nothing listed, and
+//! ends with what is listed and all files. `no answer` stands for a row out of form. A row that begins with `#` is a note,
+//! and is printed as it is.
 #![tactic(auto)]
 
 mod arguments;
+mod bench;
 mod calls;
 mod desk;
 mod files;
 mod first_logs;
+mod jobs;
 mod laid;
 mod making;
 mod steps;
@@ -51,6 +55,14 @@ fn answer(rt: &(impl Print + AllocGlobal), row: &str) -> io::Result<()> {
 // The answers of a row.
 fn answers_of(alloc: Global, row: &str) -> Option<String> {
     let (begin, calls) = row.split_once("; ")?;
+    if begin.starts_with("jobs") {
+        return jobs::answers_of(alloc, begin, calls);
+    }
+    answers_of_part(alloc, begin, calls)
+}
+
+// The answers of a row of a partition.
+fn answers_of_part(alloc: Global, begin: &str, calls: &str) -> Option<String> {
     let (desk, choice) = begun(alloc, begin)?;
     let mut desk = desk;
     let mut answers = String::new(alloc);
@@ -127,6 +139,7 @@ fn answer_of(alloc: Global, desk: &mut Desk, call: &str) -> Option<String> {
         "commit" => desk.commit(alloc),
         "seal" => desk.seal(alloc),
         "flush" => desk.flush(alloc),
+        "merge" => calls::merge(alloc, desk, argument),
         "tell" => desk.tell(alloc),
         "schema" => desk.schema(alloc),
         _ => None,

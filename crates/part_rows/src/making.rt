@@ -1,11 +1,13 @@
 //! Files that are made in a store in memory.
 
 ghost use Rattle.std.specs.Prelude.{◌≡◌, IfSome};
-ghost use Rattle.tc_store.specs.Memory.Device.{device_name, device_size};
+ghost use Rattle.tc_store.specs.DiskFile.{IsSettled};
+ghost use Rattle.tc_store.specs.Memory.Device.{device_files, device_name, device_size};
+ghost use Rattle.tc_store.specs.Moments.{IfTold};
 
 use crate::first_logs::unfailing;
 use std::alloc::Global;
-use tc_store::{FileName, MemDevice, MemStore, Store};
+use tc_store::{Device, FileName, MemDevice, MemStore, Store};
 
 /// An empty file, unless the name is taken.
 pub(crate) fn fresh_file(alloc: Global, store: &mut MemStore, name: FileName) -> Option<MemDevice>
@@ -18,4 +20,22 @@ pub(crate) fn fresh_file(alloc: Global, store: &mut MemStore, name: FileName) ->
         return None;
     }
     store.fresh(alloc, name, &mut watch).ok()
+}
+
+/// A file of these bytes, on which nothing is pending, unless the name is taken.
+pub(crate) fn settled_file(
+    alloc: Global,
+    store: &mut MemStore,
+    name: FileName,
+    bytes: &[u8],
+) -> Option<MemDevice>
+    ensures settled { IfSome result (λ device. IfTold (device_files device) IsSettled) }
+{
+    let mut watch = unfailing(alloc);
+    let mut device = fresh_file(alloc, store, name)?;
+    device.write_at(0, bytes, &mut watch).ok()?;
+    match device.sync(&mut watch) {
+        Ok(()) => Some(device),
+        Err(_) => None,
+    }
 }

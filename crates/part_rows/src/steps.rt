@@ -1,10 +1,12 @@
 //! The calls of the partition at a desk, and that they leave it there.
 
 ghost use Rattle.std.specs.Prelude.{◌≡◌, ◌<◌, ◌+◌, None, false, true, is_some, OnErr, OnOk};
+ghost use Rattle.tc_part.specs.Ready.{LiesIn};
 ghost use Rattle.part_rows.specs.Standing.{IsAtDesk};
 ghost use Rattle.part_rows.specs.Waiting.{IsShortWrite};
 
 use std::alloc::Global;
+use tc_list::Run;
 use tc_log::Write;
 use tc_part::{Part, PartFault, Staged, parts_own_files};
 use tc_part_model::{jobs_have_made, sealed_tables_can_flush};
@@ -95,4 +97,25 @@ pub(crate) fn flush(
     let job = part.begin_flush(alloc)?;
     let out = job.run(alloc);
     part.finish_flush(alloc, out)
+}
+
+/// Merges a run of two components or more on this thread.
+pub(crate) fn merge(
+    alloc: Global,
+    part: &mut Part<MemStore>,
+    run: Run,
+    waiting: u32,
+    stands: bool,
+) -> Result<(), PartFault>
+    requires desk { IsAtDesk part.old waiting stands }
+    requires sound { part.old.failed ≡ false }
+    requires standing { stands ≡ true }
+    requires run { LiesIn part.old.list run }
+    ensures { IsAtDesk part.new waiting stands }
+{
+    jobs_have_made();
+    parts_own_files();
+    let job = part.begin_merge(alloc, run)?;
+    let out = job.run(alloc);
+    part.finish_merge(alloc, out)
 }

@@ -4,7 +4,7 @@ use Rattle.tc_store.specs.declared.file_name.FileName.TheVariants.{Component}
 use Rattle.tc_store.specs.Memory.Device.{device_files}
 use Rattle.tc_store.specs.Memory.Store.{store_disks}
 use Rattle.part_rows.specs.Standing.{MemPart}
-use Rattle.part_rows.proofs.FlushEnds.{ended_jobs, ends_in_err}
+use Rattle.part_rows.proofs.JobEnds.{ends_in_err, flush_ended}
 use Rattle.part_rows.proofs.Parts.{at_desk, ends_well, fails, fails_by, on_err, same_wait}
 use Rattle.part_rows.proofs.ToldFiles.{all_told, settled_told}
 use Rattle.part_rows.proofs.steps.flush.Goals as goal
@@ -53,7 +53,7 @@ returns c =
     }))
     (on_err c.finish_flush.result _ _ c.finish_flush.ensures.left (λ left. record {
       jobs =
-          let jobs = ended_jobs (device_files device) (record begun { flusher = Some c.run-out.result.watch; flushing = false }) new left.1 in
+          let jobs = flush_ended (device_files device) (record begun { flusher = Some c.run-out.result.watch; flushing = false }) new left.1 in
           record { flushing = jobs.flushing ∙ sym c.requires.desk.no_flush; merging = jobs.merging ∙ ap (λ (s : MemPart). s.merging) same };
       failed = left.0;
     }))
