@@ -27,7 +27,7 @@ AWAITED = {
     "tc_plain_model": ("part_left_all-writes", "part_replies"),
     "tc_run_model": ("AreReplies-replies_to", "after_all_stands", "built_replies", "first_stands", "known_after-append", "lines_in-windows",
         "replies_have_kinds", "windows_are_cut"),
-    "tc_store": ("picture_before", "picture_weaker"),
+    "tc_store": ("picture_before",),
 }
 
 

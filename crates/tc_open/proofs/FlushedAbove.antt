@@ -1,0 +1,91 @@
+-- The logs above listed components were flushed under a header, and then their files are removed.
+use Rattle.std.proofs.Common.{◌≡◌, ◌∙◌, ◌+◌, ◌<◌, ◌++◌, ℕ, List, [], ◌∷◌, filter, length, refl, sym, ap, subst, arith, Option}
+use Rattle.std.specs.Prelude.{All}
+use Rattle.tc_store.specs.declared.damage.Damage.{Damage}
+use Rattle.tc_store.specs.declared.file_name.FileName.{FileName}
+use Rattle.tc_store.specs.Disk.{Disk}
+use Rattle.tc_store.specs.Moments.{EachSince, IfTold}
+use Rattle.tc_store.specs.StoreCalls.{comes_home, frozen_entry, makes}
+use Rattle.tc_component.specs.declared.head.Head.{Head}
+use Rattle.tc_component.specs.Loading.{ComponentState}
+use Rattle.tc_component.specs.Rows.{part_of}
+use Rattle.tc_component.specs.Spelling.{name_of}
+use Rattle.tc_log.specs.declared.write.Write as log
+use Rattle.tc_list.specs.Intervals.{last_of}
+use Rattle.tc_lsm_model.specs.Contents.{Content}
+use Rattle.tc_jobs.specs.Lists.{IsListOf}
+use Rattle.tc_part_model.specs.PartState.{IsTold}
+use Rattle.tc_plain_model.specs.Writes.{Write}
+use Rattle.tc_recover.specs.declared.taken.Taken.{Taken}
+use Rattle.tc_recover.specs.Loads.{is_log}
+use Rattle.tc_recover.specs.Opening.{found_in}
+use Rattle.tc_recover.specs.Removing.{needless_names}
+use Rattle.tc_replay.specs.FlushedLogs.{IsFlushListed, IsLogsFlushed, IsReplayDamage}
+use Rattle.tc_replay.specs.Openings.{AreNeedless}
+use Rattle.tc_open.specs.declared.fault.OpenCause.{OpenCause}
+use Rattle.tc_open.specs.declared.fault.OpenCause.TheVariants as cause
+use Rattle.tc_open.specs.Judged.{IsOfLogs}
+use Rattle.tc_open.specs.OpenCauses.{IfDamaged}
+use Rattle.tc_open.specs.Resting.{AreOwn}
+use Rattle.tc_open.specs.Steps.{AreAbove, AreListed, IsLogUpTo, Stands}
+use Rattle.tc_open.proofs.FlushedOpenings.{reaches}
+use Rattle.tc_open.proofs.LogsCovered.{covered_needless, last_longer, list_longer, none_stay}
+use Rattle.tc_open.proofs.OpenStates.{tells_since}
+use Rattle.tc_open.proofs.OwnFiles.{own_flushed}
+
+pub tells_on : (P : Disk → Type 0) (old new : List Disk) → IsTold old → EachSince P old new → IsTold new
+tells_on P [] new tells since = absurd tells
+tells_on P (disk ∷ past) new tells since = tells_since P disk past new since
+
+damage_weaker : (P Q : Damage → Type 0) (c : OpenCause) → ((damage : Damage) → P damage → Q damage) → IfDamaged c P → IfDamaged c Q
+damage_weaker P Q cause.Disk weaker harmed = tt
+damage_weaker P Q (cause.Damaged damage) weaker harmed = weaker damage harmed
+damage_weaker P Q (cause.Layout found found_of) weaker harmed = tt
+damage_weaker P Q cause.Spent weaker harmed = tt
+damage_weaker P Q cause.Memory weaker harmed = tt
+
+module _ {F W : Type 0} (content : F → Option (List ℕ)) (name : F → FileName) (head : Head) (list : List (ComponentState F)) (logs : List (Taken F W)) (writes : List (List log.Write)) (last count : ℕ) (above : AreAbove name list logs writes last) (count_is : count ≡ length writes)
+    (from : head.from ≡ last + 1) (to : head.to ≡ last + count) where
+  same : last + length writes ≡ last + count
+  same = ap (λ n. last + n) (sym count_is)
+
+  behind : head.from ≡ last_of list + 1
+  behind = from ∙ ap (λ n. n + 1) above.last_is
+
+  -- the logs are needless then
+  pub covered : (cs : List Content) (ws : List (List Write)) (longer : List (ComponentState F)) (old later : List Disk) → Stands content (part_of head) cs ws list writes old → (flushed : IsLogsFlushed content head cs ws longer later)
+      → IfTold later (λ disk. AreNeedless (cs ++ flushed.made ∷ []) disk (needless_names name (last + count) logs))
+  covered cs ws longer old later stands flushed =
+      let all = cs ++ flushed.made ∷ [] in
+      subst (λ most. IfTold later (λ disk. AreNeedless all disk (needless_names name most logs))) same
+      (covered_needless name all (last + length writes) later logs (reaches content head cs ws list longer writes old later stands flushed last above.last_is) above.named above.up_to)
+
+  pub none_left : filter (is_log (last + count)) logs ≡ []
+  none_left = none_stay name (last + count) logs (subst (λ most. All (λ t. IsLogUpTo most t.name) logs) same above.up_to)
+
+  pub harmed_logs : (c : OpenCause) → IfDamaged c (IsReplayDamage content name head list) → IfDamaged c (IsOfLogs content name (part_of head) (found_in list writes))
+  harmed_logs c = damage_weaker (IsReplayDamage content name head list) (IsOfLogs content name (part_of head) (found_in list writes)) c (λ damage harm. record {
+    list = list;
+    head = head;
+    components = refl;
+    here = refl;
+    from = behind;
+    to = omega (arith, to, count_is, above.last_is);
+    harm = harm;
+  })
+
+  module _ (longer : List (ComponentState F)) (old later : List Disk) (listed : IsFlushListed content name head list longer old later) where
+    pub listed_longer : AreListed name (part_of head) list → IsListOf head.number head.count longer → 0 < length writes → AreListed name (part_of head) longer
+    listed_longer before of some =
+        let l = listed.listed in
+        subst (λ cs. AreListed name (part_of head) cs) (sym l.listed)
+        (list_longer content name (part_of head) list l.component head listed.device before l.made (subst (λ cs. IsListOf head.number head.count cs) l.listed of) behind (omega (arith, from, to, count_is, some)))
+
+    pub ends_longer : last_of longer ≡ last + length writes
+    ends_longer = ap last_of listed.listed.listed ∙ last_longer content name (part_of head) list listed.listed.component head listed.listed.made.has_head ∙ to ∙ sym same
+
+    pub own_longer : (others : List FileName) → IfTold old (AreOwn list others) → IfTold later (AreOwn longer others)
+    own_longer others own =
+        let l = listed.listed in
+        subst (λ disks. IfTold disks (AreOwn longer others)) (sym listed.still)
+        (subst (λ cs. IfTold (comes_home (name_of head) frozen_entry listed.device (makes (name_of head) old)) (AreOwn cs others)) (sym l.listed) (own_flushed list l.component others (name_of head) listed.device old (ap name_of (sym l.made.has_head)) own))

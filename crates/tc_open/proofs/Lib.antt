@@ -1,0 +1,17 @@
+mod KeptStores
+mod FirstLogs
+mod FirstLogMoments
+mod OwnFiles
+mod FilesRead
+mod OpenStates
+mod LogsCovered
+mod ReadKits
+mod FlushedOpenings
+mod Lawfully
+mod CreatedLogs
+mod StartedLogs
+mod StartedFiles
+mod FlushedAbove
+mod FilesIn
+mod RestedOpenings
+mod OpenedParts

@@ -1,0 +1,110 @@
+use Rattle.std.proofs.Common.{rules, ◌≡◌, ◌∙◌, ◌+◌, ◌<◌, ◌++◌, [], ◌∷◌, length, map, refl, sym, ap, subst}
+use Rattle.tc_store.specs.Moments.{IfTold}
+use Rattle.tc_component.specs.declared.head.Head.{Head}
+use Rattle.tc_machine.specs.Pictures.{recovered}
+use Rattle.tc_recover.specs.Refusals.{asked}
+use Rattle.tc_open.specs.Openings.{LeavesStored}
+use Rattle.tc_open.specs.Resting.{AreOwn}
+use Rattle.tc_open.proofs.FlushedAbove.{covered, ends_longer, harmed_logs, listed_longer, none_left, own_longer, tells_on}
+use Rattle.tc_open.proofs.FlushedOpenings.{covered_keeps, flushed_rests, same_keeps}
+use Rattle.tc_open.proofs.LogsCovered.{free_behind}
+use Rattle.tc_open.proofs.OpenStates.{keeps_on}
+use Rattle.tc_open.proofs.flushing.flush_above.Goals as goal
+
+pub returns-then-is_empty-clause-keeps : goal.returns-then-is_empty-clause-keeps
+returns-then-is_empty-clause-keeps g c = λ cs logs stands. same_keeps (asked c.args.part) cs logs (g.S.Store.history c.args.tidied.kit.store) stands.opening
+
+pub flush_kit-requires-clause-free : goal.flush_kit-requires-clause-free
+flush_kit-requires-clause-free g c κs within =
+    let t = c.args.tidied in
+    free_behind (λ file. g.S.Frozen.Frozen.name file) (asked c.args.part) t.list t.logs.items (t.last + 1) (t.last + c.len.result) _ (g.S.Store.history t.kit.store) c.requires.listed c.requires.above.named c.requires.above.up_to (ap (λ n. n + 1) c.requires.above.last_is)
+    c.requires.own
+
+pub returns-clause-kept : goal.returns-clause-kept
+returns-clause-kept g c = λ cs logs stands. c.in-Err.ensures.kept cs logs stands.opening stands.loaded (c.deref.ensures.value ∙ stands.written)
+
+pub returns-clause-damaged : goal.returns-clause-damaged
+returns-clause-damaged g c =
+    let t = c.args.tidied in
+    let head : Head = record { number = c.args.part.number; count = c.args.part.count; from = t.last + 1; to = t.last + c.len.result } in
+    let count : c.len.result ≡ length t.writes.items = c.len.ensures ∙ sym c.deref.ensures.len ∙ ap length c.deref.ensures.value in
+    harmed_logs (λ file. g.S.Frozen.Frozen.content file) (λ file. g.S.Frozen.Frozen.name file) head t.list t.logs.items t.writes.items t.last c.len.result c.requires.above count refl refl c.in-Err.fault.cause c.in-Err.ensures.damaged
+
+pub returns-in-Ok-clause-kept : goal.returns-in-Ok-clause-kept
+returns-in-Ok-clause-kept g c = λ cs logs stands.
+    let t = c.args.tidied in
+    let content = g.S.Frozen.Frozen.content in
+    let head : Head = record { number = c.args.part.number; count = c.args.part.count; from = t.last + 1; to = t.last + c.len.result } in
+    let count : c.len.result ≡ length t.writes.items = c.len.ensures ∙ sym c.deref.ensures.len ∙ ap length c.deref.ensures.value in
+    let longer = c.in-Ok.field-0.list in
+    let before = g.S.Store.history t.kit.store in
+    let mid = g.S.Store.history c.in-Ok.field-0.kit.store in
+    let after = g.S.Store.history c.in-Err-remove_files.fault.kit.store in
+    let same = c.deref.ensures.value ∙ stands.written in
+    let flushed = c.in-Ok.ensures.flushed cs logs stands.opening stands.loaded same in
+    let first = c.in-Ok.ensures.keeps cs logs stands.opening stands.loaded same in
+    let needless = covered content (λ file. g.S.Frozen.Frozen.name file) head t.list t.logs.items t.writes.items t.last c.len.result c.requires.above count refl refl cs logs longer before mid stands flushed in
+    keeps_on (asked c.args.part) (recovered cs logs).pairs before mid after first
+    (covered_keeps content head cs logs t.list longer t.writes.items before mid stands flushed after (c.in-Err-remove_files.ensures.kept (asked c.args.part) (cs ++ flushed.made ∷ []) [] flushed.opening needless))
+
+pub returns-in-Ok-remove_files-clause-keeps : goal.returns-in-Ok-remove_files-clause-keeps
+returns-in-Ok-remove_files-clause-keeps g c = λ cs logs stands.
+    let t = c.args.tidied in
+    let content = g.S.Frozen.Frozen.content in
+    let head : Head = record { number = c.args.part.number; count = c.args.part.count; from = t.last + 1; to = t.last + c.len.result } in
+    let count : c.len.result ≡ length t.writes.items = c.len.ensures ∙ sym c.deref.ensures.len ∙ ap length c.deref.ensures.value in
+    let longer = c.in-Ok.field-0.list in
+    let before = g.S.Store.history t.kit.store in
+    let mid = g.S.Store.history c.in-Ok.field-0.kit.store in
+    let after = g.S.Store.history c.in-Ok-remove_files.removed.kit.store in
+    let same = c.deref.ensures.value ∙ stands.written in
+    let flushed = c.in-Ok.ensures.flushed cs logs stands.opening stands.loaded same in
+    let first = c.in-Ok.ensures.keeps cs logs stands.opening stands.loaded same in
+    let needless = covered content (λ file. g.S.Frozen.Frozen.name file) head t.list t.logs.items t.writes.items t.last c.len.result c.requires.above count refl refl cs logs longer before mid stands flushed in
+    keeps_on (asked c.args.part) (recovered cs logs).pairs before mid after first
+    (covered_keeps content head cs logs t.list longer t.writes.items before mid stands flushed after (c.in-Ok-remove_files.ensures.keeps (asked c.args.part) (cs ++ flushed.made ∷ []) [] flushed.opening needless))
+
+pub returns-in-Ok-remove_files-clause-rests : goal.returns-in-Ok-remove_files-clause-rests
+returns-in-Ok-remove_files-clause-rests g c = λ cs logs stands.
+    let t = c.args.tidied in
+    let content = g.S.Frozen.Frozen.content in
+    let head : Head = record { number = c.args.part.number; count = c.args.part.count; from = t.last + 1; to = t.last + c.len.result } in
+    let count : c.len.result ≡ length t.writes.items = c.len.ensures ∙ sym c.deref.ensures.len ∙ ap length c.deref.ensures.value in
+    let longer = c.in-Ok.field-0.list in
+    let before = g.S.Store.history t.kit.store in
+    let mid = g.S.Store.history c.in-Ok.field-0.kit.store in
+    let after = g.S.Store.history c.in-Ok-remove_files.removed.kit.store in
+    let same = c.deref.ensures.value ∙ stands.written in
+    let flushed = c.in-Ok.ensures.flushed cs logs stands.opening stands.loaded same in
+    let first = c.in-Ok.ensures.keeps cs logs stands.opening stands.loaded same in
+    let told = tells_on (LeavesStored (asked c.args.part) (recovered cs logs).pairs) before mid stands.tells first.moments in
+    let needless = covered content (λ file. g.S.Frozen.Frozen.name file) head t.list t.logs.items t.writes.items t.last c.len.result c.requires.above count refl refl cs logs longer before mid stands flushed in
+    flushed_rests content head cs logs t.list longer t.writes.items before mid stands flushed after told (c.in-Ok-remove_files.ensures.tells told) (c.in-Ok-remove_files.ensures.opening (asked c.args.part) (cs ++ flushed.made ∷ []) [] flushed.opening needless)
+
+pub returns-in-Ok-remove_files-clause-listed : goal.returns-in-Ok-remove_files-clause-listed
+returns-in-Ok-remove_files-clause-listed g c =
+    let t = c.args.tidied in
+    let head : Head = record { number = c.args.part.number; count = c.args.part.count; from = t.last + 1; to = t.last + c.len.result } in
+    let count : c.len.result ≡ length t.writes.items = c.len.ensures ∙ sym c.deref.ensures.len ∙ ap length c.deref.ensures.value in
+    let some : 0 < length t.writes.items = search rules in
+    listed_longer (λ file. g.S.Frozen.Frozen.content file) (λ file. g.S.Frozen.Frozen.name file) head t.list t.logs.items t.writes.items t.last c.len.result c.requires.above count refl refl c.in-Ok.field-0.list (g.S.Store.history t.kit.store) (g.S.Store.history c.in-Ok.field-0.kit.store)
+    c.in-Ok.ensures.listed c.requires.listed (c.in-Ok.ensures.partition c.requires.listed.of) some
+
+pub returns-in-Ok-remove_files-clause-last : goal.returns-in-Ok-remove_files-clause-last
+returns-in-Ok-remove_files-clause-last g c =
+    let t = c.args.tidied in
+    let head : Head = record { number = c.args.part.number; count = c.args.part.count; from = t.last + 1; to = t.last + c.len.result } in
+    let count : c.len.result ≡ length t.writes.items = c.len.ensures ∙ sym c.deref.ensures.len ∙ ap length c.deref.ensures.value in
+    ends_longer (λ file. g.S.Frozen.Frozen.content file) (λ file. g.S.Frozen.Frozen.name file) head t.list t.logs.items t.writes.items t.last c.len.result c.requires.above count refl refl c.in-Ok.field-0.list (g.S.Store.history t.kit.store) (g.S.Store.history c.in-Ok.field-0.kit.store) c.in-Ok.ensures.listed
+
+pub returns-in-Ok-remove_files-clause-own : goal.returns-in-Ok-remove_files-clause-own
+returns-in-Ok-remove_files-clause-own g c =
+    let t = c.args.tidied in
+    let name = g.S.Frozen.Frozen.name in
+    let content = g.S.Frozen.Frozen.content in
+    let head : Head = record { number = c.args.part.number; count = c.args.part.count; from = t.last + 1; to = t.last + c.len.result } in
+    let count : c.len.result ≡ length t.writes.items = c.len.ensures ∙ sym c.deref.ensures.len ∙ ap length c.deref.ensures.value in
+    let longer = c.in-Ok.field-0.list in
+    let mid = own_longer content name head t.list t.logs.items t.writes.items t.last c.len.result c.requires.above count refl refl longer (g.S.Store.history t.kit.store) (g.S.Store.history c.in-Ok.field-0.kit.store) c.in-Ok.ensures.listed (map (λ u. name u.file) t.logs.items) c.requires.own in
+    let none = c.in-Ok-remove_files.ensures.logs ∙ none_left content name head t.list t.logs.items t.writes.items t.last c.len.result c.requires.above count refl refl in
+    subst (λ ts. IfTold (g.S.Store.history c.in-Ok-remove_files.removed.kit.store) (AreOwn longer (map (λ u. name u.file) ts))) none (c.in-Ok-remove_files.ensures.own longer mid)

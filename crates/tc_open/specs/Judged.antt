@@ -1,0 +1,77 @@
+-- Which files are why a partition is not opened.
+use Rattle.std.specs.Prelude.{◌≡◌, ◌⊎◌, ◌+◌, ◌^◌, ℕ, List, [], ◌∷◌, Option, map, length, Ok, Err}
+use Rattle.tc_store.specs.declared.damage.Damage.{Damage}
+use Rattle.tc_store.specs.declared.damage.Damage.TheVariants.{Bytes, Files}
+use Rattle.tc_store.specs.declared.file_name.FileName.{FileName}
+use Rattle.tc_store.specs.Disk.{Disk}
+use Rattle.tc_store.specs.Judging as judging
+use Rattle.tc_component.specs.declared.head.Head.{Head}
+use Rattle.tc_component.specs.Loading.{ComponentState, index_in}
+use Rattle.tc_component.specs.Rows.{part_of}
+use Rattle.tc_component.specs.Spelling.{Index}
+use Rattle.tc_list.specs.Intervals.{last_of}
+use Rattle.tc_lsm_model.specs.Contents.{Partition}
+use Rattle.tc_recover.specs.declared.cause.FilesCause.{FilesCause}
+use Rattle.tc_recover.specs.declared.cause.FilesCause.TheVariants as files
+use Rattle.tc_recover.specs.declared.taken.Taken.{Taken}
+use Rattle.tc_recover.specs.Files.{AreNamed}
+use Rattle.tc_recover.specs.Opening.{DiskJudged, Found, IsReadCause}
+use Rattle.tc_recover.specs.Refusals.{Refusal, breaks, strays, clashes}
+use Rattle.tc_replay.specs.FlushedLogs.{IsReplayDamage}
+use Rattle.tc_open.specs.declared.fault.OpenCause.{OpenCause}
+use Rattle.tc_open.specs.declared.fault.OpenCause.TheVariants.{Disk as DiskFault, Damaged, Layout, Spent, Memory}
+
+-- ---- over every store
+
+-- this is what is refused of some files, which have these names and lengths
+pub record IsOfFiles {F : Type 0} (W : Type 0) (size : F → ℕ) (name : F → FileName) (part : Partition) (cause : FilesCause) : Type 0 where
+  pub taken : List (Taken F W)
+  pub named : AreNamed name taken
+  pub harm : IsReadCause size part taken cause
+
+-- the damage was found while the logs above the components were flushed, once all of this had been read
+pub record IsOfLogs {F : Type 0} (content : F → Option (List ℕ)) (name : F → FileName) (part : Partition) (found : Found) (damage : Damage) : Type 0 where
+  pub list : List (ComponentState F)
+  pub head : Head
+  pub components : found.components ≡ map index_in list
+  pub here : part_of head ≡ part
+  pub from : head.from ≡ last_of list + 1
+  pub to : head.to ≡ last_of list + length found.logs
+  pub harm : IsReplayDamage content name head list damage
+
+-- Damage is of some files, or was found while the logs were flushed; other numbers are of some files.
+abbrev pub IsOpenCause : {F : Type 0} → Type 0 → (F → ℕ) → (F → Option (List ℕ)) → (F → FileName) → Partition → OpenCause → Type 0
+IsOpenCause W size content name part DiskFault = Unit {0}
+IsOpenCause W size content name part (Damaged damage) = IsOfFiles W size name part (files.Damaged damage) ⊎ ((found : Found) × IsOfLogs content name part found damage)
+IsOpenCause W size content name part (Layout found found_of) = IsOfFiles W size name part (files.Layout found found_of)
+IsOpenCause W size content name part Spent = Unit {0}
+IsOpenCause W size content name part Memory = Unit {0}
+
+-- the last generation of these components, which stand behind one
+abbrev pub end_by : ℕ → List Index → ℕ
+end_by generation [] = generation
+end_by generation (i ∷ is) = end_by i.head.to is
+
+-- no generation is left behind those of these components and logs
+abbrev pub AreSpent : Found → Type 0
+AreSpent found = end_by 0 found.components + length found.logs + 1 ≡ 2 ^ 63
+
+-- ---- where the files are told
+
+-- what is told of damage that is refused
+abbrev pub refusal_of : Damage → Refusal
+refusal_of (Bytes file place bytes) = breaks file (judging.damage place bytes)
+refusal_of (Files names) = clashes names
+
+-- The files are not refused, and of what is read of them this holds.
+abbrev pub Passes : Partition → Disk → (Found → Type 0) → Type 0
+Passes part disk P = (found : Found) × DiskJudged part disk (Ok found) × P found
+
+-- What is answered is what is judged of the files; only damage that is found while the logs are flushed, and that no generation
+-- is left, come where they are not refused. Of a fault of the disk and of want of memory nothing is said here.
+abbrev pub CauseJudged : {F : Type 0} → (F → Option (List ℕ)) → (F → FileName) → Partition → Disk → OpenCause → Type 0
+CauseJudged content name part disk DiskFault = Unit {0}
+CauseJudged content name part disk (Damaged damage) = DiskJudged part disk (Err (refusal_of damage)) ⊎ Passes part disk (λ found. IsOfLogs content name part found damage)
+CauseJudged content name part disk (Layout found found_of) = DiskJudged part disk (Err (strays found found_of))
+CauseJudged content name part disk Spent = Passes part disk AreSpent
+CauseJudged content name part disk Memory = Unit {0}

@@ -1,0 +1,6 @@
+pub mod FirstLog
+pub mod OpenCauses
+pub mod Resting
+pub mod Openings
+pub mod Judged
+pub mod Steps

@@ -1,0 +1,19 @@
+//! Layer 5, opening: a partition is opened. What a stop left of it is read, files that nobody needs are removed, the logs above
+//! the components are flushed, and the partition starts with a new log.
+#![tactic(auto)]
+
+mod fault;
+mod flushing;
+mod opening;
+mod reading;
+mod removing;
+mod resting;
+mod starting;
+mod steps;
+mod tidying;
+
+pub use fault::{OpenCause, OpenFault};
+pub use opening::open_part;
+
+#[cfg(test)]
+mod tests;
