@@ -25,3 +25,4 @@ mod RunMerges
 mod MergeRuns
 mod MergeFaults
 mod StayingStores
+mod PickedMerges

@@ -1,5 +1,5 @@
 -- What a call leaves that moves documents from a table into a component: what is stored.
-use Rattle.std.specs.Prelude.{◌≡◌, ◌<◌, ◌≤◌, ◌⊎◌, ℕ, List, [], length, All, Option, None, Some, option_map}
+use Rattle.std.specs.Prelude.{◌≡◌, ◌<◌, ◌≤◌, ◌⊎◌, ℕ, List, [], ◌∷◌, length, map, All, Option, None, Some, option_map}
 use Rattle.tc_bytes.specs.Counts.{Rose}
 use Rattle.tc_store.specs.Counted.{Counts}
 use Rattle.tc_store.specs.Disk.{Disk}
@@ -7,8 +7,10 @@ use Rattle.tc_store.specs.DiskFile.{DiskFile}
 use Rattle.tc_store.specs.Moments.{IfTold, EachSince, LeavesAt}
 use Rattle.tc_log.specs.Layout.{empty_size}
 use Rattle.tc_component.specs.Loading.{ComponentState}
-use Rattle.tc_list.specs.Policies.{listed_least}
+use Rattle.tc_list.specs.Policies.{listed_least, IsPicked}
+use Rattle.tc_list.specs.Runs.{swapped}
 use Rattle.tc_list.specs.declared.policy.Policy.{Policy}
+use Rattle.tc_list.specs.declared.run.Run.{Run}
 use Rattle.tc_lsm_model.specs.Contents.{Partition}
 use Rattle.tc_plain_model.specs.Writes.{Pairs}
 use Rattle.tc_machine.specs.Logs.{IsLog}
@@ -60,6 +62,16 @@ pub record IsDue {S D F W : Type 0} (size : D → ℕ) (part : PartState S D F W
 -- so few components are listed that a policy picks none for a merge
 abbrev pub PicksNone : {F : Type 0} → Policy → List (ComponentState F) → Type 0
 PicksNone policy list = (length list < listed_least policy) ⊎ (length list < 2)
+
+-- Merges one after another: each of a run that a policy picks by the sizes of the files, in whose place this component is listed.
+abbrev pub AreMerged : {F : Type 0} → Policy → (F → ℕ) → List (Run × ComponentState F) → List (ComponentState F) → List (ComponentState F) → Type 0
+AreMerged policy size [] old new = new ≡ old
+AreMerged policy size (m ∷ merges) old new = IsPicked policy (map (λ c. size c.file) old) m.0 × AreMerged policy size merges (swapped m.0 m.1 old) new
+
+-- the list comes to be by such merges alone
+pub record IsMergedBy {F : Type 0} (policy : Policy) (size : F → ℕ) (old new : List (ComponentState F)) : Type 0 where
+  pub merges : List (Run × ComponentState F)
+  pub are : AreMerged policy size merges old new
 
 -- ---- moments
 

@@ -1,6 +1,7 @@
 //! The log of the active table is emptied: the table is sealed, and flushed.
 
-ghost use Rattle.std.specs.Prelude.{◌≡◌, ◌≤◌, ◌<◌, ◌+◌, ◌^◌, [], None, true, false, length, IfErr, IsErrOf, OnErr, OnOk};
+ghost use Rattle.std.specs.Prelude.{◌≡◌, ◌≤◌, ◌<◌, ◌+◌, ◌^◌, ◌++◌, ◌∷◌, [], None, true, false, length, IfErr, IsErrOf, OnErr, OnOk};
+ghost use Rattle.tc_component.specs.Loading.{ComponentState};
 ghost use Rattle.tc_jobs.specs.Lists.{file_names};
 ghost use Rattle.tc_log.specs.Layout.{empty_size};
 ghost use Rattle.tc_part_model.specs.Meaning.{IsPart};
@@ -81,6 +82,7 @@ pub(crate) fn seal_and_flush<S: Store>(alloc: Global, part: &mut Part<S>) -> Res
     ensures stores { OnOk result ((p : PartView) → IsPart (told S.history S.Device.history S.Frozen.content part.old) p → TellsFiles (told S.history S.Device.history S.Frozen.content part.old) → StoresStill (told S.history S.Device.history S.Frozen.content part.old) p (told S.history S.Device.history S.Frozen.content part.new)) }
     ensures ready { OnOk result (MaySettle (told S.history S.Device.history S.Frozen.content part.new)) }
     ensures same { OnOk result (part.new ≡ record part.old { store = part.new.store; main = part.new.main; flusher = part.new.flusher; list = part.new.list; sealed = None; sealed_log = None; active = []; log = part.new.log; generation = part.old.generation + 1 }) }
+    ensures behind { OnOk result ((c : ComponentState S.Frozen) × (part.new.list ≡ part.old.list ++ c ∷ [])) }
     ensures listed { OnOk result (length part.new.list ≡ length part.old.list + 1) }
     ensures empty { OnOk result (S.Device.size part.new.log.device ≡ empty_size) }
     ensures untold { OnOk result (S.history part.old.store ≡ [] → S.history part.new.store ≡ []) }

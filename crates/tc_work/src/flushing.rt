@@ -1,6 +1,7 @@
 //! The sealed table is flushed on this thread.
 
-ghost use Rattle.std.specs.Prelude.{◌≡◌, ◌+◌, [], None, true, false, is_some, length, IfErr, IsErrOf, OnErr, OnOk};
+ghost use Rattle.std.specs.Prelude.{◌≡◌, ◌+◌, ◌++◌, ◌∷◌, [], None, true, false, is_some, length, IfErr, IsErrOf, OnErr, OnOk};
+ghost use Rattle.tc_component.specs.Loading.{ComponentState};
 ghost use Rattle.tc_jobs.specs.Lists.{file_names};
 ghost use Rattle.tc_part_model.specs.Meaning.{IsPart};
 ghost use Rattle.tc_part_model.specs.PartState.{told};
@@ -32,6 +33,7 @@ pub(crate) fn flush_sealed<S: Store>(alloc: Global, part: &mut Part<S>) -> Resul
 
     // So it is over every store: one more component is listed, and no table is sealed.
     ensures same { OnOk result (part.new ≡ record part.old { store = part.new.store; main = part.new.main; flusher = part.new.flusher; list = part.new.list; sealed = None; sealed_log = None }) }
+    ensures behind { OnOk result ((c : ComponentState S.Frozen) × (part.new.list ≡ part.old.list ++ c ∷ [])) }
     ensures listed { OnOk result (length part.new.list ≡ length part.old.list + 1) }
     ensures untold { OnOk result (S.history part.old.store ≡ [] → S.history part.new.store ≡ []) }
 

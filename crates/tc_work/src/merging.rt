@@ -1,6 +1,8 @@
 //! A run of components is merged on this thread.
 
 ghost use Rattle.std.specs.Prelude.{◌≡◌, ◌+◌, None, false, length, IfErr, IsErrOf, OnErr, OnOk};
+ghost use Rattle.tc_component.specs.Loading.{ComponentState};
+ghost use Rattle.tc_list.specs.Runs.{swapped};
 ghost use Rattle.tc_part_model.specs.Meaning.{IsPart};
 ghost use Rattle.tc_part_model.specs.PartState.{told};
 ghost use Rattle.tc_part_model.specs.PartView.{PartView};
@@ -34,6 +36,7 @@ pub(crate) fn merge_run<S: Store>(
 
     // Over every store one component is listed in place of the run.
     ensures same { OnOk result (part.new ≡ record part.old { store = part.new.store; main = part.new.main; merger = part.new.merger; list = part.new.list }) }
+    ensures swapped { OnOk result ((c : ComponentState S.Frozen) × (part.new.list ≡ swapped run c part.old.list)) }
     ensures listed { OnOk result (length part.new.list + run.last ≡ length part.old.list + run.first) }
     ensures moved { HasOnlyMoved part.old part.new }
     ensures logs { (part.new.log ≡ part.old.log) × (part.new.generation ≡ part.old.generation) }

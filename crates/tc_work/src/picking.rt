@@ -1,13 +1,14 @@
 //! Components are merged as long as the policy picks some.
 
-ghost use Rattle.std.specs.Prelude.{◌≡◌, None, false, IfErr, IfOk, IfSome, IsErrOf, OnErr, OnOk};
+ghost use Rattle.std.specs.Prelude.{◌≡◌, None, false, map, IfErr, IfOk, IfSome, IsErrOf, OnErr, OnOk};
+ghost use Rattle.tc_list.specs.Policies.{IsPicked};
 ghost use Rattle.tc_part_model.specs.Meaning.{IsPart};
 ghost use Rattle.tc_part_model.specs.PartState.{told};
 ghost use Rattle.tc_part_model.specs.PartView.{PartView};
 ghost use Rattle.tc_part.specs.Ready.{LiesIn};
 ghost use Rattle.tc_work.specs.Failing.{FailsKeeping};
 ghost use Rattle.tc_work.specs.Faults.{AreOfComponents, IfDamaged};
-ghost use Rattle.tc_work.specs.Settling.{HasOnlyMoved, IsWatchedIn, MaySettle, MomentsStay, PicksNone, StaysStored, TellsFiles};
+ghost use Rattle.tc_work.specs.Settling.{HasOnlyMoved, IsMergedBy, IsWatchedIn, MaySettle, MomentsStay, PicksNone, StaysStored, TellsFiles};
 
 use crate::fault::EngineFault;
 use crate::merging::merge_run;
@@ -31,9 +32,10 @@ pub(crate) fn merge_picked<S: Store>(
     // Where the files are told the part stores what it stored.
     ensures stays { OnOk result (StaysStored (told S.history S.Device.history S.Frozen.content part.old) (told S.history S.Device.history S.Frozen.content part.new)) }
 
-    // Over every store so few components are listed that the policy picks none.
+    // Over every store only what the policy picks is merged, until so few components are listed that it picks none.
     ensures same { OnOk result (part.new ≡ record part.old { store = part.new.store; main = part.new.main; merger = part.new.merger; list = part.new.list }) }
     ensures none { OnOk result (PicksNone policy part.new.list) }
+    ensures merged { OnOk result (IsMergedBy policy (λ f. S.Frozen.size f) part.old.list part.new.list) }
     ensures moved { HasOnlyMoved part.old part.new }
     ensures logs { (part.new.log ≡ part.old.log) × (part.new.generation ≡ part.old.generation) }
     ensures no_flush { part.new.flushing ≡ false }
@@ -63,6 +65,7 @@ fn picked<S: Store>(
     policy: Policy,
 ) -> Result<Option<Run>, EngineFault>
     ensures run { IfOk result (λ run. IfSome run (LiesIn part.now.list)) }
+    ensures picked { IfOk result (λ run. IfSome run (IsPicked policy (map (λ c. S.Frozen.size c.file) part.now.list))) }
     ensures none { IfOk result (λ run. run ≡ None → PicksNone policy part.now.list) }
     ensures no_memory { IfErr result (λ fault. fault ≡ EngineFault.Memory) }
 {

@@ -1,6 +1,7 @@
 //! What an engine does between two windows: a long log is emptied, and components are merged.
 
-ghost use Rattle.std.specs.Prelude.{◌≡◌, ◌≤◌, ◌<◌, ◌+◌, ◌^◌, [], None, true, false, length, IfErr, IsErrOf, OnErr, OnOk};
+ghost use Rattle.std.specs.Prelude.{◌≡◌, ◌≤◌, ◌<◌, ◌+◌, ◌^◌, ◌++◌, ◌∷◌, [], None, true, false, length, IfErr, IsErrOf, OnErr, OnOk};
+ghost use Rattle.tc_component.specs.Loading.{ComponentState};
 ghost use Rattle.tc_list.specs.Policies.{listed_least};
 ghost use Rattle.tc_log.specs.Layout.{empty_size};
 ghost use Rattle.tc_part_model.specs.Meaning.{IsPart};
@@ -8,7 +9,7 @@ ghost use Rattle.tc_part_model.specs.PartState.{told};
 ghost use Rattle.tc_part_model.specs.PartView.{PartView, store_of};
 ghost use Rattle.tc_work.specs.Failing.{FailsKeeping, HasFailedKeeping};
 ghost use Rattle.tc_work.specs.Faults.{AreOfComponents, IfDamaged};
-ghost use Rattle.tc_work.specs.Settling.{HasOnlyMoved, IsDue, IsWatchedIn, MaySettle, MomentsLeavePairsOver, MomentsStayOver, NextLogs, PicksNone, StaysStored, StoresStill, TellsFiles};
+ghost use Rattle.tc_work.specs.Settling.{HasOnlyMoved, IsDue, IsMergedBy, IsWatchedIn, MaySettle, MomentsLeavePairsOver, MomentsStayOver, NextLogs, PicksNone, StaysStored, StoresStill, TellsFiles};
 
 use crate::emptying::{EMPTY_LOG, seal_and_flush};
 use crate::engine::Engine;
@@ -37,6 +38,10 @@ impl<S: Store> Engine<S> {
         ensures stays { OnOk result ((IsDue (λ d. S.Device.size d) self.old.part → ⊥) → (self.new.part.active ≡ self.old.part.active) × (self.new.part.log ≡ self.old.part.log) × (self.new.part.generation ≡ self.old.part.generation)) }
         ensures short { OnOk result (empty_size < self.old.part.memory → S.Device.size self.new.part.log.device < self.old.part.memory) }
         ensures none { OnOk result (PicksNone self.old.policy self.new.part.list) }
+
+        // Only what the policy picks is merged, of the list with the component of the table behind it where that was due.
+        ensures flushed { OnOk result (IsDue (λ d. S.Device.size d) self.old.part → (c : ComponentState S.Frozen) × IsMergedBy self.old.policy (λ f. S.Frozen.size f) (self.old.part.list ++ c ∷ []) self.new.part.list) }
+        ensures merged { OnOk result ((IsDue (λ d. S.Device.size d) self.old.part → ⊥) → IsMergedBy self.old.policy (λ f. S.Frozen.size f) self.old.part.list self.new.part.list) }
         ensures few { OnOk result (listed_least self.old.policy ≤ 9 → length self.new.part.list ≤ 8) }
         ensures none_sealed { OnOk result (self.new.part.sealed ≡ None) }
         ensures moved { HasOnlyMoved self.old.part self.new.part }
@@ -80,6 +85,8 @@ fn settle_part<S: Store>(
     ensures undue { OnOk result ((IsDue (λ d. S.Device.size d) part.old → ⊥) → (part.new.active ≡ part.old.active) × (part.new.log ≡ part.old.log) × (part.new.generation ≡ part.old.generation)) }
     ensures short { OnOk result (empty_size < part.old.memory → S.Device.size part.new.log.device < part.old.memory) }
     ensures none { OnOk result (PicksNone policy part.new.list) }
+    ensures flushed { OnOk result (IsDue (λ d. S.Device.size d) part.old → (c : ComponentState S.Frozen) × IsMergedBy policy (λ f. S.Frozen.size f) (part.old.list ++ c ∷ []) part.new.list) }
+    ensures merged { OnOk result ((IsDue (λ d. S.Device.size d) part.old → ⊥) → IsMergedBy policy (λ f. S.Frozen.size f) part.old.list part.new.list) }
     ensures none_sealed { OnOk result (part.new.sealed ≡ None) }
     ensures sound { OnOk result (part.new.failed ≡ false) }
     ensures moved { HasOnlyMoved part.old part.new }
@@ -126,6 +133,7 @@ fn empty_and_merge<S: Store>(
     ensures stays { OnOk result (StaysStored (told S.history S.Device.history S.Frozen.content part.old) (told S.history S.Device.history S.Frozen.content part.new)) }
     ensures emptied { OnOk result ((part.new.active ≡ []) × (S.Device.size part.new.log.device ≡ empty_size) × (part.new.generation ≡ part.old.generation + 1)) }
     ensures none { OnOk result (PicksNone policy part.new.list) }
+    ensures flushed { OnOk result ((c : ComponentState S.Frozen) × IsMergedBy policy (λ f. S.Frozen.size f) (part.old.list ++ c ∷ []) part.new.list) }
     ensures none_sealed { OnOk result (part.new.sealed ≡ None) }
     ensures sound { OnOk result (part.new.failed ≡ false) }
     ensures moved { HasOnlyMoved part.old part.new }

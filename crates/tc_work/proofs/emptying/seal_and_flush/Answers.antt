@@ -1,4 +1,4 @@
-use Rattle.std.proofs.Common.{◌≡◌, ◌∙◌, ◌+◌, ℕ, List, ap, subst, sym, refl, true, arith}
+use Rattle.std.proofs.Common.{◌≡◌, ◌∙◌, ◌+◌, ◌++◌, ◌∷◌, [], ℕ, List, ap, subst, sym, refl, true, arith}
 use Rattle.std.specs.Prelude.{◌-◌, length, IfErr}
 use Rattle.tc_jobs.specs.Lists.{file_names}
 use Rattle.tc_store.specs.declared.file_name.FileName.{FileName}
@@ -169,3 +169,6 @@ returns-clause-moved g c =
 
 pub returns-clause-unmoved : goal.returns-clause-unmoved
 returns-clause-unmoved g c = λ spent. absurd (c.flush_sealed.ensures.unspent spent)
+
+pub returns-clause-behind : goal.returns-clause-behind
+returns-clause-behind g c = ok_then c.flush_sealed.result _ _ (λ behind. (behind.0, behind.1 ∙ ap (λ (s : PartState _ _ _ _). s.list ++ behind.0 ∷ []) c.in_ok-seal.ensures.same)) c.flush_sealed.ensures.behind

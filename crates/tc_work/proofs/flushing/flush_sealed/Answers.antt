@@ -311,3 +311,10 @@ returns-in_err-finish_flush-clause-moved g c =
 
 pub returns-clause-moved : goal.returns-clause-moved
 returns-clause-moved g c = subst (λ (s : PartState _ _ _ _). HasOnlyMoved c.args.part.now s) (sym (returns-clause-same g c)) refl
+
+pub returns-clause-behind : goal.returns-clause-behind
+returns-clause-behind g c =
+    let same = c.in_ok-job.ensures.same in
+    let sound : c.begin_flush.new.self.failed ≡ false = ap (λ (s : PartState _ _ _ _). s.failed) same ∙ c.requires.sound in
+    let listed = c.in_ok-finish_flush.ensures.listed sound in
+    (listed.component, listed.listed ∙ ap (λ (s : PartState _ _ _ _). s.list ++ listed.component ∷ []) same)

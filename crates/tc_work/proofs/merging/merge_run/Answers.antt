@@ -409,3 +409,13 @@ returns-in_err-finish_merge-clause-undamaged g c = λ p is tells.
     (by_outcome c.run-out.result.outcome _ (part_damaged result (λ damage. ⊥)) (err_both c.run-out.result.outcome _ _ c.finish_merge.ensures.unmade c.run-out.ensures.damaged)
     (λ cause both. told_damage result cause (IsHarmIn g.S.Frozen.Frozen.content job.run) (λ damage. ⊥) (both.0 sound).0 both.1 (λ file place bytes. not_harmed_run g.S.Frozen.Frozen.content found.found found.fetched job.run (contents_in_run run p.list) file place bytes loaded))
     (λ ended. where_told u.disks (part_damaged result (λ damage. ⊥)) told_out (c.finish_merge.ensures.undamaged ended q out begun refl (ran.made ended)))) (λ damage no. no)
+
+pub returns-clause-swapped : goal.returns-clause-swapped
+returns-clause-swapped g c =
+    let begins = c.in_ok-job.ensures in
+    let same = begins.same in
+    let sound : c.begin_merge.new.self.failed ≡ false = ap (λ (s : PartState _ _ _ _). s.failed) same ∙ c.requires.sound in
+    let listed = c.in_ok-finish_merge.ensures.listed sound in (
+      listed.component,
+      listed.listed ∙ ap (λ run. swapped run listed.component c.begin_merge.new.self.list) begins.out ∙ ap (λ (s : PartState _ _ _ _). swapped c.args.run listed.component s.list) same,
+    )

@@ -1,9 +1,12 @@
-use Rattle.std.proofs.Common.{ap, refl, true}
+use Rattle.std.proofs.Common.{ap, map, refl, subst, true}
+use Rattle.std.specs.Prelude.{IfSome}
+use Rattle.tc_list.specs.Policies.{IsPicked}
 use Rattle.tc_part_model.specs.PartState.{PartState, told}
 use Rattle.tc_work.proofs.RunMerges.{merged_again}
 use Rattle.tc_work.proofs.StayingStores.{fails_here, fails_then, moments_then, stays_then}
 use Rattle.tc_work.proofs.Watches.{then_watched}
 use Rattle.tc_work.proofs.Windows.{err_always}
+use Rattle.tc_work.proofs.PickedMerges.{one_more_merged}
 use Rattle.tc_work.proofs.picking.merge_picked.Goals as goal
 
 pub loop-run-preserved : goal.loop-run-preserved
@@ -18,6 +21,8 @@ loop-run-preserved g c =
       moments = moments_then first now new.disks (ap (λ (s : PartState _ _ _ _). g.S.Device.Device.history s.log.device) same) (ap (λ (s : PartState _ _ _ _). (told g.S.Store.history g.S.Device.Device.history g.S.Frozen.Frozen.content s).sealed_log) same) l.invariant.stays
           l.invariant.moments c.merge_run.ensures.moments;
       same = merged_again c.args.part.now l.part c.merge_run.new.part same c.in_ok-merge_run.ensures.same;
+      merged = one_more_merged c.args.policy (λ f. g.S.Frozen.Frozen.size f) c.args.part.now.list l.part.list c.merge_run.new.part.list c.in-Some.run' c.in_ok-merge_run.ensures.swapped.0 l.invariant.merged
+          (subst (λ o. IfSome o (IsPicked c.args.policy (map (λ m. g.S.Frozen.Frozen.size m.file) l.part.list))) c.in-Some.is c.in_ok-run.ensures.picked) c.in_ok-merge_run.ensures.swapped.1;
       watched = then_watched g.S.Watch.Watch.counts ⊥ _ ⊥ c.args.part.now l.part c.merge_run.new.part l.invariant.watched c.merge_run.ensures.watched (λ no. absurd no);
     }
 

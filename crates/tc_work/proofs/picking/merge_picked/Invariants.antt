@@ -1,6 +1,6 @@
 use Rattle.std.proofs.Common.{◌≡◌, length}
 use Rattle.tc_part_model.specs.PartState.{told}
-use Rattle.tc_work.specs.Settling.{IsWatchedIn, MomentsStay, StaysStored}
+use Rattle.tc_work.specs.Settling.{IsMergedBy, IsWatchedIn, MomentsStay, StaysStored}
 use Rattle.tc_work.proofs.picking.merge_picked.Given as goal
 
 abbrev pub invariant-loop-run : goal.invariant-loop-run
@@ -10,6 +10,7 @@ invariant-loop-run g l =
       stays : StaysStored first (told g.S.Store.history g.S.Device.Device.history g.S.Frozen.Frozen.content l.part);
       moments : MomentsStay first (g.S.Store.history l.part.store);
       same : l.part ≡ record l.fn.part { store = l.part.store; main = l.part.main; merger = l.part.merger; list = l.part.list };
+      merged : IsMergedBy l.policy (λ f. g.S.Frozen.Frozen.size f) l.fn.part.list l.part.list;
       watched : IsWatchedIn g.S.Watch.Watch.counts ⊥ l.fn.part l.part;
     }
 

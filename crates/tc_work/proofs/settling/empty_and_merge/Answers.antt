@@ -6,7 +6,7 @@ use Rattle.tc_part_model.specs.PartState.{PartState, told}
 use Rattle.tc_store.specs.DiskFile.{DiskFile}
 use Rattle.tc_work.specs.declared.fault.EngineFault.{EngineFault}
 use Rattle.tc_work.specs.Faults.{AreOfComponents, IfDamaged}
-use Rattle.tc_work.specs.Settling.{MomentsStayOver, NextLogs}
+use Rattle.tc_work.specs.Settling.{IsMergedBy, MomentsStayOver, NextLogs}
 use Rattle.tc_work.proofs.HandedFaults.{handed_on, same_fault}
 use Rattle.tc_work.proofs.MergeFaults.{fault_damage_so, of_components}
 use Rattle.tc_work.proofs.MovedDocuments.{moved_then}
@@ -103,3 +103,8 @@ returns-clause-unmoved g c = λ spent. absurd (c.merge_picked.ensures.unspent sp
 
 pub returns-clause-watched : goal.returns-clause-watched
 returns-clause-watched g c = then_watched g.S.Watch.Watch.counts _ _ _ c.args.part.now c.seal_and_flush.new.part c.merge_picked.new.part c.seal_and_flush.ensures.watched c.merge_picked.ensures.watched (λ failed. failed)
+
+pub returns-clause-flushed : goal.returns-clause-flushed
+returns-clause-flushed g c = ok_then c.merge_picked.result _ _ (λ merged.
+    let behind = c.in_ok-seal_and_flush.ensures.behind in
+    (behind.0, subst (λ list. IsMergedBy c.args.policy (λ f. g.S.Frozen.Frozen.size f) list c.merge_picked.new.part.list) behind.1 merged)) c.merge_picked.ensures.merged

@@ -46,3 +46,17 @@ returns-else-is_due-clause-spent g c = λ spent. absurd (c.merge_picked.ensures.
 
 pub returns-else-is_due-clause-unmoved : goal.returns-else-is_due-clause-unmoved
 returns-else-is_due-clause-unmoved g c = λ spent. absurd (c.merge_picked.ensures.unspent spent)
+
+-- ---- what is listed
+
+pub returns-then-is_due-clause-flushed : goal.returns-then-is_due-clause-flushed
+returns-then-is_due-clause-flushed g c = ok_then c.empty_and_merge.result _ _ (λ flushed due. flushed) c.empty_and_merge.ensures.flushed
+
+pub returns-then-is_due-clause-merged : goal.returns-then-is_due-clause-merged
+returns-then-is_due-clause-merged g c = ok_always c.empty_and_merge.result _ (λ undue. absurd (undue (c.is_due.ensures.due c.if-is_due.true)))
+
+pub returns-else-is_due-clause-flushed : goal.returns-else-is_due-clause-flushed
+returns-else-is_due-clause-flushed g c = ok_always c.merge_picked.result _ (λ due. absurd (c.is_due.ensures.undue c.if-is_due.false due))
+
+pub returns-else-is_due-clause-merged : goal.returns-else-is_due-clause-merged
+returns-else-is_due-clause-merged g c = ok_then c.merge_picked.result _ _ (λ merged undue. merged) c.merge_picked.ensures.merged

@@ -1,4 +1,4 @@
-use Rattle.std.proofs.Common.{◌≡◌, ◌∙◌, ◌<◌, ◌+◌, ◌^◌, [], ap, subst, sym, arith, inl, inr}
+use Rattle.std.proofs.Common.{◌++◌, ◌∷◌, ◌≡◌, ◌∙◌, ◌<◌, ◌+◌, ◌^◌, [], ap, subst, sym, arith, inl, inr}
 use Rattle.std.specs.Prelude.{Result, IfErr}
 use Rattle.tc_list.specs.Policies.{listed_least}
 use Rattle.tc_log.specs.Layout.{empty_size}
@@ -9,12 +9,14 @@ use Rattle.tc_work.specs.declared.fault.EngineFault.{EngineFault}
 use Rattle.tc_work.specs.EngineState.{EngineState}
 use Rattle.tc_work.specs.Failing.{FailsKeeping}
 use Rattle.tc_work.specs.Faults.{IfDamaged}
-use Rattle.tc_work.specs.Settling.{IsDue, MaySettle, MomentsStayOver, NextLogs, StoresStill, TellsFiles}
+use Rattle.tc_work.specs.Settling.{IsMergedBy, IsDue, MaySettle, MomentsStayOver, NextLogs, StoresStill, TellsFiles}
 use Rattle.tc_work.proofs.HandedFaults.{handed_on, same_fault}
 use Rattle.tc_work.proofs.MovedDocuments.{moved_inside}
 use Rattle.tc_work.proofs.OpenEngines.{inside_is, closed_sound}
 use Rattle.tc_work.proofs.Watches.{watched_inside}
 use Rattle.tc_work.proofs.Windows.{err_always}
+use Rattle.tc_component.specs.Loading.{ComponentState}
+use Rattle.tc_list.specs.declared.policy.Policy.{Policy}
 use Rattle.tc_work.proofs.engine.Engine.settle.Goals as goal
 
 pub settle_part-requires-clause-sound : goal.settle_part-requires-clause-sound
@@ -100,3 +102,13 @@ returns-in_err-settle_part-clause-unmoved g c = λ spent. subst (λ (s : PartSta
 
 pub returns-in_err-settle_part-clause-watched : goal.returns-in_err-settle_part-clause-watched
 returns-in_err-settle_part-clause-watched g c = watched_inside g.S.Watch.Watch.counts _ _ _ _ c.settle_part.new.part _ (inside_is c.self.inside.part c.self.inside.failed c.args.self.now.part (ap (λ (e : EngineState _ _ _ _). e.part) c.self.view_is) c.requires.sound c.self.invariant.awake) c.settle_part.ensures.watched (same_fault c.from_residual.result c.settle_part.result c.in_err-settle_part.field-0.0 _ c.from_residual.ensures.1 c.in_err-settle_part.was)
+
+pub returns-clause-flushed : goal.returns-clause-flushed
+returns-clause-flushed g c =
+    subst (λ (policy : Policy). IsDue (λ d. g.S.Device.Device.size d) c.args.self.now.part → (x : ComponentState _) × IsMergedBy policy (λ f. g.S.Frozen.Frozen.size f) (c.args.self.now.part.list ++ x ∷ []) c.settle_part.new.part.list) (ap (λ (e : EngineState _ _ _ _). e.policy) c.self.view_is)
+    (subst (λ (s : PartState _ _ _ _). IsDue (λ d. g.S.Device.Device.size d) s → (x : ComponentState _) × IsMergedBy c.self.inside.policy (λ f. g.S.Frozen.Frozen.size f) (s.list ++ x ∷ []) c.settle_part.new.part.list) (inside_is c.self.inside.part c.self.inside.failed c.args.self.now.part (ap (λ (e : EngineState _ _ _ _). e.part) c.self.view_is) c.requires.sound c.self.invariant.awake) (c.in_ok-settle_part.ensures.flushed))
+
+pub returns-clause-merged : goal.returns-clause-merged
+returns-clause-merged g c =
+    subst (λ (policy : Policy). (IsDue (λ d. g.S.Device.Device.size d) c.args.self.now.part → ⊥) → IsMergedBy policy (λ f. g.S.Frozen.Frozen.size f) c.args.self.now.part.list c.settle_part.new.part.list) (ap (λ (e : EngineState _ _ _ _). e.policy) c.self.view_is)
+    (subst (λ (s : PartState _ _ _ _). (IsDue (λ d. g.S.Device.Device.size d) s → ⊥) → IsMergedBy c.self.inside.policy (λ f. g.S.Frozen.Frozen.size f) s.list c.settle_part.new.part.list) (inside_is c.self.inside.part c.self.inside.failed c.args.self.now.part (ap (λ (e : EngineState _ _ _ _). e.part) c.self.view_is) c.requires.sound c.self.invariant.awake) (c.in_ok-settle_part.ensures.merged))
