@@ -39,7 +39,7 @@ logs_like t u p logs generation sealed_log = record { generation = generation �
 -- ---- what the store keeps
 
 -- one log is sealed
-one_sealed : (p : PartView) → IsSome p.sealed → IfSome p.sealed (λ d. length d.logs ≡ 1) → length (sealed_logs p.sealed) ≡ 1
+pub one_sealed : (p : PartView) → IsSome p.sealed → IfSome p.sealed (λ d. length d.logs ≡ 1) → length (sealed_logs p.sealed) ≡ 1
 one_sealed p some one = at p.sealed some one
   where
     at : (o : Option Sealed) → IsSome o → IfSome o (λ d. length d.logs ≡ 1) → length (sealed_logs o) ≡ 1

@@ -24,3 +24,8 @@ mod OwnIntervals
 mod OwnNames
 mod OwnParts
 mod OwnOutcomes
+pub mod DevicesOut
+mod JobDevices
+pub mod FreshFiles
+mod PartDevices
+mod LogOut

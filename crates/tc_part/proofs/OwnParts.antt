@@ -30,10 +30,10 @@ use Rattle.tc_part_model.proofs.DeviceFiles.{no_job_leaves, some_sealed, there_s
 
 -- ---- the intervals of what is told are those of the contents
 
-from_is : (c : ToldComponent) (d : Content) → IsOfContent c d → c.index.head.from ≡ d.from
+pub from_is : (c : ToldComponent) (d : Content) → IsOfContent c d → c.index.head.from ≡ d.from
 from_is c d of = ap (λ (i : Index). i.head.from) of.index
 
-to_is : (c : ToldComponent) (d : Content) → IsOfContent c d → c.index.head.to ≡ d.to
+pub to_is : (c : ToldComponent) (d : Content) → IsOfContent c d → c.index.head.to ≡ d.to
 to_is c d of = ap (λ (i : Index). i.head.to) of.index
 
 in_order : (part : Partition) (g : ℕ) (p : Pairs) (names : List Name) (ts : List ToldComponent) (cs : List Content) → AllZip IsOfContent ts cs → GoOn part g p names cs → FollowInOrder g ts
@@ -79,7 +79,7 @@ one_log T (Some e) (Some k) d keeps is = let same : e ≡ d = cc in (subst (λ (
 -- ---- the names
 
 module _ (t : Told) (p : PartView) (is : IsPart t p) where
-  of_flush : (from to : ℕ) (flush : Option Flushing) → p.flush ≡ flush → IsOfFlush flush from to → AreOfFlush t.flushing t.generation from to
+  pub of_flush : (from to : ℕ) (flush : Option Flushing) → p.flush ≡ flush → IsOfFlush flush from to → AreOfFlush t.flushing t.generation from to
   of_flush from to None same named = absurd named
   of_flush from to (Some j) same named = subst (λ b. AreOfFlush b t.generation from to) (sym (is.view.flushing ∙ ap (λ o. is_some o) same)) (omega (arith, named.0, target.from, behind, logs.0), omega (arith, named.1, target.to, behind, logs.0))
     where

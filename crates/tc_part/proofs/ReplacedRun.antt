@@ -50,7 +50,7 @@ positions_back run order = ap (λ (n : ℕ). record { first = run.first; last = 
 
 -- ---- a run of a list that grows
 
-run_kept : {X : Type 0} (run : Run) (xs ys : List X) → run.first < run.last → run.last < length xs → in_run run (xs ++ ys) ≡ in_run run xs
+pub run_kept : {X : Type 0} (run : Run) (xs ys : List X) → run.first < run.last → run.last < length xs → in_run run (xs ++ ys) ≡ in_run run xs
 run_kept run xs ys several within =
     let n = run.last + 1 - run.first in
     ap (take n) (drop-append-le run.first xs ys (omega (arith, several, within))) ∙ take-append-le n (drop run.first xs) ys (omega (arith, length-drop run.first xs, several, within))

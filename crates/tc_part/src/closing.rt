@@ -1,7 +1,9 @@
 //! A partition ends.
 
 ghost use Rattle.std.specs.Prelude.{◌≡◌, ◌-◌, List, Option, Some, None, true, false, is_some, option_map};
+ghost use Rattle.tc_store.specs.declared.file_name.FileName.{FileName};
 ghost use Rattle.tc_store.specs.declared.file_name.FileName.TheVariants.{Log as log_name};
+ghost use Rattle.tc_store.specs.Disk.{is_out};
 ghost use Rattle.tc_store.specs.Moments.{IfTold};
 ghost use Rattle.tc_plain_model.specs.Writes.{Write as PlainWrite};
 ghost use Rattle.tc_part_model.specs.Leaving.{FailedMomentsLeaveStore, KeepsStore};
@@ -9,6 +11,7 @@ ghost use Rattle.tc_part_model.specs.Meaning.{IsPart, HasFailedAs};
 ghost use Rattle.tc_part_model.specs.PartState.{told};
 ghost use Rattle.tc_part_model.specs.PartView.{PartView, store_of};
 ghost use Rattle.tc_part.specs.Closing.{brought_home, HasLogsOf};
+ghost use Rattle.tc_part.specs.FilesOut.{OnlyDevicesOut, TellsLogs};
 
 use crate::part::Part;
 use tc_log::Log;
@@ -21,6 +24,9 @@ impl<S: Store> Part<S> {
         requires no_merge { self.merging ≡ None }
 
         ensures home { S.history result.store ≡ brought_home (log_name self.generation) (S.Device.history self.log.device) (option_map (λ moments. (log_name (self.generation - 1), moments)) (option_map (λ l. S.Device.history l.device) self.sealed_log)) (S.history self.store) }
+
+        // Where no file is out but those of its devices, none is out any more.
+        ensures brought_in { TellsLogs (told S.history S.Device.history S.Frozen.content self) → OnlyDevicesOut (told S.history S.Device.history S.Frozen.content self) → IfTold (S.history result.store) (λ disk. (name : FileName) → is_out (disk name) ≡ false) }
 
         // Whatever a stop leaves from then on is what was stored, of a part that failed without the frame or with it.
         ensures kept { (p : PartView) → IsPart (told S.history S.Device.history S.Frozen.content self) p → IfTold (S.history result.store) (KeepsStore p.part (store_of p) None) }

@@ -6,6 +6,7 @@ ghost use Rattle.tc_plain_model.specs.Writes.{after_writes};
 ghost use Rattle.tc_part_model.specs.PartState.{told};
 ghost use Rattle.tc_part_model.specs.PartView.{PartView, store_of};
 ghost use Rattle.tc_part_model.specs.Meaning.{IsPart, HasFailedAs};
+ghost use Rattle.tc_part.specs.FilesOut.{LogIsOut};
 ghost use Rattle.tc_part.specs.OwnFiles.{HasOwnFiles};
 ghost use Rattle.tc_part_model.specs.Changes.{committed_part};
 ghost use Rattle.tc_part_model.specs.Leaving.{LogMomentsLeaveStore};
@@ -32,6 +33,7 @@ impl<S: Store> Part<S> {
         ensures same { OnOk result (self.new ≡ record self.old { main = self.new.main; log = self.new.log; staged = self.new.staged; writes = self.old.writes + length self.old.staged }) }
         ensures cleared { OnOk result (self.new.staged ≡ []) }
         ensures nothing { self.old.staged ≡ [] → (result ≡ Ok tt) × (self.new ≡ self.old) }
+        ensures log_out { OnOk result (LogIsOut (told S.history S.Device.history S.Frozen.content self.old) → LogIsOut (told S.history S.Device.history S.Frozen.content self.new)) }
         ensures own { OnOk result (HasOwnFiles (told S.history S.Device.history S.Frozen.content self.old) → HasOwnFiles (told S.history S.Device.history S.Frozen.content self.new)) }
 
         // At each moment of the call a stop leaves what is stored, without the frame or with it, and so it does behind a fault.

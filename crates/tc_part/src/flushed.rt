@@ -22,7 +22,8 @@ ghost use Rattle.tc_part_model.specs.Changes.{flushed_part};
 ghost use Rattle.tc_part_model.specs.Leaving.{FailedMomentsLeaveStore, StoreMomentsLeaveStore};
 ghost use Rattle.tc_part_model.specs.Meaning.{IsPart, HasFailedAs};
 ghost use Rattle.tc_part.specs.OwnFiles.{HasOwnFiles};
-ghost use Rattle.tc_part_model.specs.PartState.{told};
+ghost use Rattle.tc_part.specs.FilesOut.{LogIsOut, OnlyDevicesOut, TellsLogs};
+ghost use Rattle.tc_part_model.specs.PartState.{told, IsTold};
 ghost use Rattle.tc_part_model.specs.PartView.{PartView, store_of};
 ghost use Rattle.tc_part.specs.Closing.{HasFailedWhole};
 ghost use Rattle.tc_part.specs.Faults.{of_device, IfDamaged};
@@ -62,6 +63,11 @@ impl<S: Store> Part<S> {
         ensures same { OnOk result (self.old.failed ≡ false → self.new ≡ record self.old { store = self.new.store; main = self.new.main; flusher = Some out.watch; flushing = false; list = self.new.list; sealed = None; sealed_log = None }) }
         ensures uncovered { OnOk result (self.old.failed ≡ false → HasUncovered S.history S.Device.history (S.Device.history out.device) self.old (S.history self.new.store)) }
         ensures own { OnOk result (self.old.failed ≡ false → HasOwnFiles (told S.history S.Device.history S.Frozen.content self.old) → HasOwnFiles (told S.history S.Device.history S.Frozen.content self.new)) }
+
+        // The device comes home, and that of the log whose table is listed, behind a fault too: no file is out but those of the
+        // devices that are left. That of the active log stays out.
+        ensures devices { IfTold (S.history self.old.store) (λ disk. IsTold (S.Device.history out.device)) → TellsLogs (told S.history S.Device.history S.Frozen.content self.old) → OnlyDevicesOut (told S.history S.Device.history S.Frozen.content self.old) → OnlyDevicesOut (told S.history S.Device.history S.Frozen.content self.new) }
+        ensures log_out { OnOk result (LogIsOut (told S.history S.Device.history S.Frozen.content self.old) → LogIsOut (told S.history S.Device.history S.Frozen.content self.new)) }
 
         // What a merge that is out makes has the name that it had.
         ensures merge_named { is_some self.old.merging ≡ true → merged_name (run_out self.new) self.new ≡ merged_name (run_out self.old) self.old }

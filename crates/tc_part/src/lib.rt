@@ -25,7 +25,7 @@ mod upserting;
 
 pub use fault::PartFault;
 pub use limits::Limits;
-pub use own_files::parts_own_files;
+pub use own_files::{parts_hold_devices, parts_own_files};
 pub use part::Part;
 pub use records::shape_at;
 pub use staging::Staged;

@@ -23,7 +23,8 @@ ghost use Rattle.tc_part_model.specs.Changes.{merged_part};
 ghost use Rattle.tc_part_model.specs.Leaving.{FailedMomentsLeaveStore, StoreMomentsLeaveStore};
 ghost use Rattle.tc_part_model.specs.Meaning.{IsPart, HasFailedAs};
 ghost use Rattle.tc_part.specs.OwnFiles.{HasOwnFiles};
-ghost use Rattle.tc_part_model.specs.PartState.{AreTold, told};
+ghost use Rattle.tc_part.specs.FilesOut.{LogIsOut, OnlyDevicesOut};
+ghost use Rattle.tc_part_model.specs.PartState.{AreTold, told, IsTold};
 ghost use Rattle.tc_part_model.specs.PartView.{PartView, store_of};
 ghost use Rattle.tc_part.specs.Closing.{HasFailedWhole};
 ghost use Rattle.tc_part.specs.Faults.{of_job, IfDamaged};
@@ -64,6 +65,11 @@ impl<S: Store> Part<S> {
         ensures same { OnOk result (self.old.failed ≡ false → self.new ≡ record self.old { store = self.new.store; main = self.new.main; merger = Some out.watch; merging = None; list = self.new.list }) }
         ensures removed { OnOk result (self.old.failed ≡ false → HasRemovedRun S.history S.Frozen.name (S.Device.history out.device) (run_out self.old) self.old (S.history self.new.store)) }
         ensures own { OnOk result (self.old.failed ≡ false → HasOwnFiles (told S.history S.Device.history S.Frozen.content self.old) → HasOwnFiles (told S.history S.Device.history S.Frozen.content self.new)) }
+
+        // The device comes home, behind a fault too: no file is out but those of the devices that are left. That of the active log
+        // stays out.
+        ensures devices { IfTold (S.history self.old.store) (λ disk. IsTold (S.Device.history out.device)) → OnlyDevicesOut (told S.history S.Device.history S.Frozen.content self.old) → OnlyDevicesOut (told S.history S.Device.history S.Frozen.content self.new) }
+        ensures log_out { OnOk result (LogIsOut (told S.history S.Device.history S.Frozen.content self.old) → LogIsOut (told S.history S.Device.history S.Frozen.content self.new)) }
 
         // A part that had failed gets its device home and its watch back, and keeps what it stored, at each moment too.
         ensures home { self.old.failed ≡ true → (result ≡ Ok tt) × (self.new ≡ record self.old { store = self.new.store; merger = Some out.watch; merging = None }) × (S.history self.new.store ≡ comes_home (merged_name (run_out self.old) self.old) (λ f. at_home f) (S.Device.history out.device) (S.history self.old.store)) }

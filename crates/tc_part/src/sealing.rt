@@ -10,6 +10,7 @@ ghost use Rattle.tc_part_model.specs.PartState.{told};
 ghost use Rattle.tc_part_model.specs.PartView.{PartView, store_of};
 ghost use Rattle.tc_part_model.specs.Meaning.{IsPart, HasFailedAs};
 ghost use Rattle.tc_part.specs.OwnFiles.{HasOwnFiles};
+ghost use Rattle.tc_part.specs.FilesOut.{LogIsOut, OnlyDevicesOut, TellsLogs};
 ghost use Rattle.tc_part_model.specs.Changes.{sealed_part};
 ghost use Rattle.tc_part_model.specs.Leaving.{StoreMomentsLeaveStore, NextLogMoments};
 ghost use Rattle.tc_part.specs.Faults.{IsUndamaged};
@@ -44,6 +45,11 @@ impl<S: Store> Part<S> {
 
         // Each name that is there still is one of its own.
         ensures own { OnOk result (HasOwnFiles (told S.history S.Device.history S.Frozen.content self.new)) }
+
+        // No file is out but those of its devices, and its logs go on to tell, behind a fault too. That of the next log is out.
+        ensures devices { OnlyDevicesOut (told S.history S.Device.history S.Frozen.content self.old) → OnlyDevicesOut (told S.history S.Device.history S.Frozen.content self.new) }
+        ensures log_out { OnOk result (LogIsOut (told S.history S.Device.history S.Frozen.content self.new)) }
+        ensures tells { TellsLogs (told S.history S.Device.history S.Frozen.content self.old) → TellsLogs (told S.history S.Device.history S.Frozen.content self.new) }
 
         // At each moment of the call a stop leaves what is stored, and so it does behind a fault.
         ensures moments { (p : PartView) → IsPart (told S.history S.Device.history S.Frozen.content self.old) p

@@ -2,8 +2,9 @@
 
 ghost use Rattle.std.specs.Arc.{arc_value};
 ghost use Rattle.std.specs.Prelude.{◌≡◌, ◌<◌, ◌^◌, [], List, Some, None, false, map, All, IfOk, IfErr};
+ghost use Rattle.tc_store.specs.declared.file_name.FileName.{FileName};
 ghost use Rattle.tc_store.specs.declared.file_name.FileName.TheVariants.{Log as log_name};
-ghost use Rattle.tc_store.specs.Disk.{home as at_home};
+ghost use Rattle.tc_store.specs.Disk.{home as at_home, is_out, out};
 ghost use Rattle.tc_store.specs.Moments.{IfTold};
 ghost use Rattle.tc_store.specs.StoreCalls.{comes_home};
 ghost use Rattle.tc_log.specs.Layout.{empty_size};
@@ -14,7 +15,8 @@ ghost use Rattle.tc_part_model.specs.Leaving.{FailedMomentsLeaveStore, KeepsStor
 ghost use Rattle.tc_part_model.specs.Meaning.{IsPart};
 ghost use Rattle.tc_part_model.specs.Newest.{names_by, documents_by, next_by};
 ghost use Rattle.tc_part.specs.OwnFiles.{HasOnlyOwn, HasOwnFiles};
-ghost use Rattle.tc_part_model.specs.PartState.{told};
+ghost use Rattle.tc_part.specs.FilesOut.{LogIsOut, OnlyDevicesOut, OnlyOut};
+ghost use Rattle.tc_part_model.specs.PartState.{told, IsTold};
 ghost use Rattle.tc_part_model.specs.Starting.{IsOpened, started, started_part};
 ghost use Rattle.tc_jobs.specs.Lists.{IsListOf};
 ghost use Rattle.tc_part.specs.Openings.{told_opening, newest_in};
@@ -67,6 +69,11 @@ impl<S: Store> Part<S> {
 
         // Its files are its own, where each name that is there is that of a log which is no newer, or lies within a listed component.
         ensures own { IfOk result (λ part. IfTold (S.history opened.kit.store) (HasOnlyOwn (started (told_opening S.history S.Device.history S.Frozen.content opened.number opened.count opened.kit.store opened.log.device opened.list))) → HasOwnFiles (told S.history S.Device.history S.Frozen.content part)) }
+
+        // Where no file is out but that of the log, so it is of the part, and none is out once the log is home.
+        ensures devices { IfOk result (λ part. IfTold (S.history opened.kit.store) (OnlyOut (S.Device.name opened.log.device)) → OnlyDevicesOut (told S.history S.Device.history S.Frozen.content part)) }
+        ensures log_out { IfOk result (λ part. IfTold (S.history opened.kit.store) (λ disk. (disk (S.Device.name opened.log.device) ≡ out) × IsTold (S.Device.history opened.log.device)) → LogIsOut (told S.history S.Device.history S.Frozen.content part)) }
+        ensures brought_in { IfErr result (λ kit. IfTold (S.history opened.kit.store) (λ disk. IsTold (S.Device.history opened.log.device)) → IfTold (S.history opened.kit.store) (OnlyOut (S.Device.name opened.log.device)) → IfTold (S.history kit.store) (λ disk. (name : FileName) → is_out (disk name) ≡ false)) }
 
         // Whatever a stop leaves of the store that is given back is what is live in the components.
         ensures kept { (list : List Content) → IsOpened (told_opening S.history S.Device.history S.Frozen.content opened.number opened.count opened.kit.store opened.log.device opened.list) list

@@ -9,7 +9,7 @@ use Rattle.tc_store.specs.Disk.{Disk}
 use Rattle.tc_store.specs.DiskFile.{DiskFile, settled_file}
 use Rattle.tc_store.specs.Gate.{IsShutOr, IsShutOrWhole}
 use Rattle.tc_store.specs.Images.{Image}
-use Rattle.tc_store.specs.Moments.{EachSince, IfTold, LeavesAt, LeavesOnly}
+use Rattle.tc_store.specs.Moments.{IfTold, LeavesAt, LeavesOnly}
 use Rattle.tc_store.specs.StoreCalls.{fresh_file_at}
 use Rattle.tc_store.proofs.MomentLemmas.{told_map}
 use Rattle.tc_component.specs.declared.head.Head.{Head}
@@ -27,20 +27,10 @@ use Rattle.tc_part_model.specs.Meaning.{IsPart}
 use Rattle.tc_part_model.specs.PartState.{Told, IsTold}
 use Rattle.tc_part_model.specs.PartView.{PartView}
 use Rattle.tc_part_model.proofs.SealedInputs.{flush_goes_on, makes_flush}
-use Rattle.tc_work.proofs.FreshDevices.{before_in, fresh_flush_told, fresh_shut, ran_leaves}
-use Rattle.tc_work.proofs.StoredMoments.{since_tells}
+use Rattle.tc_part.proofs.FreshFiles.{before_in, fresh_shut, fresh_tells, since_tells}
+use Rattle.tc_work.proofs.FreshDevices.{fresh_flush_told, ran_leaves}
 
 -- ---- of any job
-
--- a device of a store that tells
-pub fresh_tells : (name : FileName) (disks : List Disk) → IsTold disks → IsTold (fresh_file_at name disks)
-fresh_tells name [] tells = absurd tells
-fresh_tells name (disk ∷ past) tells = tt
-
--- and what a job leaves of it
-pub ran_tells : (name : FileName) (disks : List Disk) (P : DiskFile → Type 0) (old new : List DiskFile) → IsTold disks → old ≡ fresh_file_at name disks → (IfTold old (LeavesAt (IsShutOr (before_in name disks))) → EachSince P old new) → IsTold new
-ran_tells name disks P old new tells fresh moments =
-    since_tells P old new (moments (subst (λ (fs : List DiskFile). IfTold fs (LeavesAt (IsShutOr (before_in name disks)))) (sym fresh) (fresh_shut name disks))) (subst (λ (fs : List DiskFile). IsTold fs) (sym fresh) (fresh_tells name disks tells))
 
 -- a file that is told is no longer than the device is
 pub short_file : (size : ℕ) (device : List DiskFile) (bytes : List ℕ) → IsTold device → IfTold device (λ f. size ≡ length f.content) → IfTold device (λ f. f ≡ settled_file bytes) → size < 2 ^ 63 → length bytes < 2 ^ 63

@@ -6,7 +6,7 @@ use Rattle.tc_store.specs.declared.file_name.FileName.{FileName}
 use Rattle.tc_store.specs.declared.file_name.FileName.TheVariants.{Component}
 use Rattle.tc_store.specs.Disk.{Disk, IsThere, MayLeaveAt, none, removed_of}
 use Rattle.tc_store.specs.DiskFile.{DiskFile, empty_file}
-use Rattle.tc_store.specs.Gate.{IsShutOr, IsShutOrWhole}
+use Rattle.tc_store.specs.Gate.{IsShutOrWhole}
 use Rattle.tc_store.specs.Images.{Image, MayLeave}
 use Rattle.tc_store.specs.Moments.{IfTold, LeavesAt, LeavesOnly}
 use Rattle.tc_store.specs.StoreCalls.{fresh_file_at}
@@ -21,8 +21,8 @@ use Rattle.tc_machine.specs.Events.{flush_begun, made, merge_begun}
 use Rattle.tc_machine.specs.State.{Flushing, Merging, Sealed, flush_name, flushing_of, sealed_logs}
 use Rattle.tc_machine.specs.Steps.{IsFlushed, IsShutOrHas, nothing_held}
 use Rattle.tc_machine.proofs.Events.{event_keeps}
-use Rattle.tc_machine.proofs.FilesMade.{empty_image}
 use Rattle.tc_machine.proofs.FreeNames.{none_there}
+use Rattle.tc_part.proofs.FreshFiles.{before_in}
 use Rattle.tc_part_model.specs.Meaning.{IsPart}
 use Rattle.tc_part_model.specs.PartFiles.{AreKeptAt, IfFiles, device_at, files_at, no_job, seen_entry}
 use Rattle.tc_part_model.specs.PartState.{Told, IsTold}
@@ -100,20 +100,6 @@ fresh_merge_told t p run c is two within is_merge in_store =
     none_out (Some m) is = absurd (cc)
 
 -- ---- as the job leaves it
-
--- what was there before the file was made, and may still come back
-abbrev pub before_in : FileName → List Disk → Image
-before_in name [] = None
-before_in name (disk ∷ past) = removed_of (disk name)
-
-pub fresh_shut : (name : FileName) (disks : List Disk) → IfTold (fresh_file_at name disks) (LeavesAt (IsShutOr (before_in name disks)))
-fresh_shut name [] = tt
-fresh_shut name (disk ∷ past) = at
-  where
-    at : LeavesAt (IsShutOr (removed_of (disk name))) (empty_file (removed_of (disk name)))
-    at None left = tt
-    at (Some b) (inl is) = inl (empty_image (removed_of (disk name)) b is)
-    at (Some b) (inr was) = inr was
 
 came_back : (name : FileName) (disks : List Disk) (P : List ℕ → Type 0) → IfTold (fresh_file_at name disks) (LeavesAt (IsShutOrHas P)) → (b : List ℕ) → before_in name disks ≡ Some b → IsShutOrHas P (Some b)
 came_back name [] P leaves b is = absurd (cc)

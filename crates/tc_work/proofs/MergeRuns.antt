@@ -28,10 +28,10 @@ use Rattle.tc_part_model.specs.Meaning.{IsPart}
 use Rattle.tc_part_model.specs.PartState.{Told, IsTold}
 use Rattle.tc_part_model.specs.PartView.{PartView}
 use Rattle.tc_part_model.proofs.BegunParts.{merge_name_free}
-use Rattle.tc_work.proofs.FlushRuns.{fresh_tells, has_component, short_file}
+use Rattle.tc_work.proofs.FlushRuns.{has_component, short_file}
 use Rattle.tc_work.proofs.Settled.{told_now}
-use Rattle.tc_work.proofs.FreshDevices.{before_in, fresh_merge_told, fresh_shut, ran_leaves}
-use Rattle.tc_work.proofs.StoredMoments.{since_tells}
+use Rattle.tc_work.proofs.FreshDevices.{fresh_merge_told, ran_leaves}
+use Rattle.tc_part.proofs.FreshFiles.{before_in, fresh_shut, fresh_tells, since_tells}
 
 -- the files of components that were loaded are told
 pub loaded_told : {F : Type 0} (content : F → Option (List ℕ)) (run : List (ComponentState F)) (cs : List Content) → AllZip (IsLoadedOf content) run cs → AreRunTold content run

@@ -1,9 +1,9 @@
 -- The moments of a store while what it stores stays, of calls that follow each other.
-use Rattle.std.proofs.Common.{◌≡◌, List, [], ◌∷◌, ◌++◌, Option, Some, None, refl, sym, subst, inl, inr}
+use Rattle.std.proofs.Common.{◌≡◌, List, [], ◌∷◌, Option, Some, None, refl, subst, inl, inr}
 use Rattle.std.specs.Prelude.{◌⊎◌}
 use Rattle.tc_store.specs.Disk.{Disk}
 use Rattle.tc_store.specs.DiskFile.{DiskFile}
-use Rattle.tc_store.specs.Moments.{EachSince, IfTold}
+use Rattle.tc_store.specs.Moments.{IfTold}
 use Rattle.tc_store.proofs.MomentLemmas.{EachSince-trans}
 use Rattle.tc_store.proofs.StopLaws.{since_weaker}
 use Rattle.tc_lsm_model.specs.Contents.{Partition}
@@ -15,16 +15,10 @@ use Rattle.tc_part_model.specs.PartState.{Told, IsTold}
 use Rattle.tc_part_model.specs.PartView.{PartView, store_of}
 use Rattle.tc_part_model.proofs.DeviceFiles.{some_sealed}
 use Rattle.tc_part_model.proofs.ToldFiles.{MomentsSince, no_moments_since}
+use Rattle.tc_part.proofs.FreshFiles.{since_tells}
 use Rattle.tc_work.specs.Settling.{LeavesPairs, MomentsLeavePairs, MomentsLeavePairsOver}
 
--- ---- what tells goes on to tell
-
-pub since_tells : {X : Type 0} (P : X → Type 0) (old new : List X) → EachSince P old new → IsTold old → IsTold new
-since_tells {X = X} P old new since tells = subst (λ (xs : List X). IsTold xs) (sym since.goes_on) (at since.added)
-  where
-    at : (added : List X) → IsTold (added ++ old)
-    at [] = tells
-    at (x ∷ xs) = tt
+-- ---- what is told
 
 -- what holds where something is told holds where it is
 pub where_told : {X : Type 0} (xs : List X) (Q : Type 0) → IsTold xs → IfTold xs (λ x. Q) → Q

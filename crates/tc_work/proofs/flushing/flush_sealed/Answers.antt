@@ -9,7 +9,7 @@ use Rattle.tc_part_model.specs.PartState.{PartState, told, told_component, AreTo
 use Rattle.tc_part_model.specs.PartView.{store_of}
 use Rattle.tc_work.specs.Failing.{HasFailedKeeping}
 use Rattle.tc_work.specs.Settling.{HasOnlyMoved, MomentsLeavePairs}
-use Rattle.tc_work.proofs.FlushRuns.{ran_flush, ran_tells}
+use Rattle.tc_work.proofs.FlushRuns.{ran_flush}
 use Rattle.tc_work.proofs.HandedFaults.{damaged_so, disk_below, spent_below}
 use Rattle.tc_work.proofs.JobEnds.{bytes_named, by_outcome, device_undamaged, ended_well, job_moments, job_stores, makes_tells, settled_told}
 use Rattle.tc_work.proofs.SealedFlushes.{flushed_keeps, flushed_same, flushed_untold}
@@ -18,7 +18,7 @@ use Rattle.tc_work.proofs.StoredMoments.{store_moments, where_told}
 use Rattle.tc_work.proofs.Watches.{as_watched, flush_cause, flush_watched, main_watched}
 use Rattle.tc_work.proofs.Windows.{err_always}
 use Rattle.tc_work.proofs.MovedDocuments.{flush_back, moved_then}
-use Rattle.tc_work.proofs.FreshDevices.{before_in}
+use Rattle.tc_part.proofs.FreshFiles.{before_in, ran_tells}
 use Rattle.tc_work.proofs.flushing.flush_sealed.Goals as goal
 
 pub begin_flush-requires-clause-own : goal.begin_flush-requires-clause-own

@@ -19,8 +19,7 @@ use Rattle.tc_store.specs.StoreCalls.{fresh_file_at}
 use Rattle.tc_work.specs.Failing.{HasFailedKeeping}
 use Rattle.tc_work.specs.Faults.{AreOfComponents, IsComponentName}
 use Rattle.tc_work.specs.Settling.{HasOnlyMoved, MomentsLeavePairs}
-use Rattle.tc_work.proofs.FlushRuns.{ran_tells}
-use Rattle.tc_work.proofs.FreshDevices.{before_in}
+use Rattle.tc_part.proofs.FreshFiles.{before_in, ran_tells}
 use Rattle.tc_work.proofs.HandedFaults.{damaged_so, disk_below, spent_below, undamaged_so}
 use Rattle.tc_work.proofs.JobEnds.{by_outcome, ended_well, job_moments, job_stores, makes_tells, settled_where}
 use Rattle.tc_work.proofs.MergeFaults.{damage_so, err_both, merge_cause, of_component, told_damage}

@@ -5,7 +5,7 @@ use Rattle.tc_schema_model.specs.Counted.{nothing}
 use Rattle.tc_store.specs.Disk.{IsThere}
 use Rattle.tc_store.specs.Moments.{IfTold}
 use Rattle.tc_store.specs.StoreCalls.{FailsMaking, makes}
-use Rattle.tc_store.specs.declared.file_name.FileName.TheVariants.{Component}
+use Rattle.tc_store.specs.declared.file_name.FileName.TheVariants.{Component, Log}
 use Rattle.tc_component.specs.Spelling.{name_of}
 use Rattle.tc_flush.specs.Counting.{IsCounted}
 use Rattle.tc_memory.specs.Table.{IsTable}
@@ -19,6 +19,9 @@ use Rattle.tc_part.specs.Ready.{active_generation}
 use Rattle.tc_part.proofs.Handing.{still_some}
 use Rattle.tc_part.proofs.Outcomes.{err_always}
 use Rattle.tc_part.proofs.Standing.{left_of, table_in, told_in, unfailed}
+use Rattle.tc_part.proofs.DevicesOut.{not_made_in, out_on}
+use Rattle.tc_part.proofs.JobDevices.{flush_begun_out}
+use Rattle.tc_part.proofs.LogOut.{log_out_on, other_made}
 use Rattle.tc_part.proofs.part.Part.begin_flush.Goals as goal
 
 pub returns-in_err-inputs-clause-moments : goal.returns-in_err-inputs-clause-moments
@@ -103,3 +106,29 @@ returns-clause-own g c =
     flush_begun_own (told g.S.Store.history g.S.Device.Device.history g.S.Frozen.Frozen.content (left_of c.self.view_is)) (told g.S.Store.history g.S.Device.Device.history g.S.Frozen.Frozen.content (left_of same)) none disks
     (ap (λ (x : PartState _ _ _ _). x.generation) same) (ap (λ (x : PartState _ _ _ _). map (told_component g.S.Frozen.Frozen.content) x.list) same)
     (ap (λ (x : PartState _ _ _ _). x.flushing) same) (ap (λ (x : PartState _ _ _ _). x.merging) same) own
+
+pub returns-in_err-inputs-clause-devices : goal.returns-in_err-inputs-clause-devices
+returns-in_err-inputs-clause-devices g c = rw (← c.self.view_is) λ only. only
+
+pub returns-in_err-device-clause-devices : goal.returns-in_err-device-clause-devices
+returns-in_err-device-clause-devices g c =
+    let t = told g.S.Store.history g.S.Device.Device.history g.S.Frozen.Frozen.content (left_of c.self.view_is) in
+    let new = g.S.Store.history c.fresh.new.self in
+    rw (← c.self.view_is) (out_on t new (not_made_in c.name_of_head.result t.disks new c.in_err-device.ensures.failed))
+
+pub returns-clause-devices : goal.returns-clause-devices
+returns-clause-devices g c =
+    let named : c.name_of_head.result ≡ Component (c.self.inside.generation - 1) (c.self.inside.generation - 1) = c.name_of_head.ensures ∙ ap name_of c.flush_head-head.ensures in
+    let same = c.flush_with.ensures.same in
+    let disks = ap (λ (x : PartState _ _ _ _). g.S.Store.history x.store) same ∙ c.in_ok-device.ensures.made ∙ ap (λ name. makes name (g.S.Store.history c.self.inside.store)) named in
+    rw (← c.self.view_is)
+    (flush_begun_out (told g.S.Store.history g.S.Device.Device.history g.S.Frozen.Frozen.content (left_of c.self.view_is)) (told g.S.Store.history g.S.Device.Device.history g.S.Frozen.Frozen.content (left_of same)) disks (ap (λ (x : PartState _ _ _ _). x.generation) same)
+    (ap (λ (x : PartState _ _ _ _). (told g.S.Store.history g.S.Device.Device.history g.S.Frozen.Frozen.content x).sealed_log) same) (ap (λ (x : PartState _ _ _ _). map (told_component g.S.Frozen.Frozen.content) x.list) same)
+    (ap (λ (x : PartState _ _ _ _). x.flushing) same) (ap (λ (x : PartState _ _ _ _). x.merging) same))
+
+pub returns-clause-log_out : goal.returns-clause-log_out
+returns-clause-log_out g c =
+    let t = told g.S.Store.history g.S.Device.Device.history g.S.Frozen.Frozen.content (left_of c.self.view_is) in
+    let named : c.name_of_head.result ≡ Component (c.self.inside.generation - 1) (c.self.inside.generation - 1) = c.name_of_head.ensures ∙ ap name_of c.flush_head-head.ensures in
+    let name = Component (t.generation - 1) (t.generation - 1) in
+    rw (← c.self.view_is, c.flush_with.ensures.same, c.in_ok-device.ensures.made, named) (log_out_on t (makes name t.disks) (other_made name (Log t.generation) t.disks (λ same. absurd (cc))))

@@ -1,4 +1,5 @@
 use Rattle.std.proofs.Common.{◌∙◌, Some, map, option_map, refl, sym, ap, subst}
+use Rattle.tc_store.specs.declared.file_name.FileName.TheVariants.{Log}
 use Rattle.tc_store.specs.StoreCalls.{FailsMaking, makes}
 use Rattle.tc_list.specs.Runs.{neighbours}
 use Rattle.tc_part_model.specs.Changes.{merging_part}
@@ -6,11 +7,15 @@ use Rattle.tc_part_model.specs.Leaving.{StoreMomentsLeaveStore}
 use Rattle.tc_machine.specs.Components.{file_of}
 use Rattle.tc_part_model.specs.PartState.{PartState, told, told_component}
 use Rattle.tc_part.proofs.OwnNames.{merge_begun_own, merge_is_free}
+use Rattle.tc_part.specs.FilesOut.{LogIsOut, OnlyDevicesOut}
 use Rattle.tc_part.specs.JobHeads.{merged_head}
-use Rattle.tc_part.specs.MergeEnds.{run_out}
+use Rattle.tc_part.specs.MergeEnds.{merged_name, run_out}
 use Rattle.tc_part.proofs.ReplacedRun.{positions_back}
 use Rattle.tc_part.proofs.RunEnds.{ends, merge_within}
 use Rattle.tc_part.proofs.Standing.{left_of}
+use Rattle.tc_part.proofs.DevicesOut.{not_made_in, out_on}
+use Rattle.tc_part.proofs.JobDevices.{merge_begun_out}
+use Rattle.tc_part.proofs.LogOut.{StaysOut, log_out_on, other_made}
 use Rattle.tc_part.proofs.part.Part.begin_merge.Goals as goal
 
 pub merge_job-requires-clause-free : goal.merge_job-requires-clause-free
@@ -91,3 +96,22 @@ returns-in-Err-clause-failed g c = λ p is.
 
 pub returns-in-Ok-clause-out : goal.returns-in-Ok-clause-out
 returns-in-Ok-clause-out g c = ap (λ (s : PartState _ _ _ _). run_out s) c.in-Ok.ensures.same ∙ positions_back c.args.run c.requires.run.0
+
+pub returns-in-Ok-clause-devices : goal.returns-in-Ok-clause-devices
+returns-in-Ok-clause-devices g c =
+    merge_begun_out g.S.Store.history g.S.Device.Device.history g.S.Frozen.Frozen.content g.S.Frozen.Frozen.name c.args.self.now c.merge_job.new.self c.args.run c.requires.run c.requires.none_out c.in-Ok.ensures.same c.in-Ok.ensures.made
+
+pub returns-in-Err-clause-devices : goal.returns-in-Err-clause-devices
+returns-in-Err-clause-devices g c = λ only.
+    let s = c.args.self.now in
+    let t = told g.S.Store.history g.S.Device.Device.history g.S.Frozen.Frozen.content s in
+    let new = g.S.Store.history c.merge_job.new.self.store in
+    subst (λ (x : PartState _ _ _ _). OnlyDevicesOut (told g.S.Store.history g.S.Device.Device.history g.S.Frozen.Frozen.content x)) (sym (c.self.view_is ∙ c.in-Err.ensures.left)) (out_on t new (not_made_in (merged_name c.args.run s) t.disks new c.in-Err.ensures.unmade) only)
+
+pub returns-in-Ok-clause-log_out : goal.returns-in-Ok-clause-log_out
+returns-in-Ok-clause-log_out g c = λ is.
+    let s = c.args.self.now in
+    let t = told g.S.Store.history g.S.Device.Device.history g.S.Frozen.Frozen.content s in
+    let new = g.S.Store.history c.merge_job.new.self.store in
+    let stays : StaysOut (Log t.generation) t.disks new = subst (StaysOut (Log t.generation) t.disks) (sym c.in-Ok.ensures.made) (other_made (merged_name c.args.run s) (Log t.generation) t.disks (λ same. absurd (cc))) in
+    subst (λ (x : PartState _ _ _ _). LogIsOut (told g.S.Store.history g.S.Device.Device.history g.S.Frozen.Frozen.content x)) (sym c.in-Ok.ensures.same) (log_out_on t new stays is)

@@ -1,10 +1,13 @@
-use Rattle.std.proofs.Common.{◌∙◌, None, sym, ap, subst}
+use Rattle.std.proofs.Common.{◌≡◌, ◌∙◌, None, false, sym, ap, subst}
+use Rattle.tc_store.specs.declared.file_name.FileName.{FileName}
+use Rattle.tc_store.specs.Disk.{is_out}
 use Rattle.tc_store.specs.Moments.{IfTold}
 use Rattle.tc_list.specs.Runs.{neighbours}
 use Rattle.tc_part_model.specs.Leaving.{FailedMomentsLeaveStore, KeepsStore}
 use Rattle.tc_part_model.specs.PartState.{told}
 use Rattle.tc_part_model.specs.PartView.{store_of}
 use Rattle.tc_part.proofs.ClosedParts.{closed_runs, closed_keeps, closed_run_moments, closed_moments, named_logs, flusher_in, merger_in}
+use Rattle.tc_part.proofs.DevicesOut.{closed_in}
 use Rattle.tc_part.proofs.part.Part.close.Goals as goal
 
 pub kit_of-requires-clause-flusher : goal.kit_of-requires-clause-flusher
@@ -36,3 +39,7 @@ pub returns-clause-failed_moments : goal.returns-clause-failed_moments
 returns-clause-failed_moments g c = λ p frame failed logs.
     let t = told g.S.Store.history g.S.Device.Device.history g.S.Frozen.Frozen.content c.args.self in
     subst (λ disks. FailedMomentsLeaveStore p frame t disks) (sym (returns-clause-home g c)) (closed_moments t p frame failed logs)
+
+pub returns-clause-brought_in : goal.returns-clause-brought_in
+returns-clause-brought_in g c = λ tells only.
+    subst (λ disks. IfTold disks (λ disk. (name : FileName) → is_out (disk name) ≡ false)) (sym (returns-clause-home g c)) (closed_in (told g.S.Store.history g.S.Device.Device.history g.S.Frozen.Frozen.content c.args.self) c.requires.no_flush c.requires.no_merge tells only)

@@ -1,10 +1,14 @@
-use Rattle.std.proofs.Common.{◌≡◌, ◌∙◌, false, [], sym, ap, refl, subst, arith}
+use Rattle.std.proofs.Common.{◌≡◌, ◌∙◌, ◌-◌, false, [], sym, ap, refl, subst, arith}
 use Rattle.std.proofs.lemmas.Grind.{common_steps}
 use Rattle.std.proofs.lemmas.List.{nil_from_length}
+use Rattle.tc_log.specs.Appending.{LogState}
+use Rattle.tc_log.specs.Frame.{with_closed_gate}
 use Rattle.tc_part_model.specs.Calls.{Appends, HasAppended}
-use Rattle.tc_part_model.specs.PartState.{told}
+use Rattle.tc_part_model.specs.PartState.{IsTold, told}
 use Rattle.tc_part_model.specs.Meaning.{IsPart}
 use Rattle.tc_part.proofs.Outcomes.{err_always}
+use Rattle.tc_part.proofs.Standing.{left_of}
+use Rattle.tc_part.proofs.LogOut.{appended_tells, log_grows}
 use Rattle.tc_part.proofs.part.Part.commit.Goals as goal
 
 pub returns-then-is_empty-clause-committed : goal.returns-then-is_empty-clause-committed
@@ -78,3 +82,10 @@ returns-clause-moments g c =
 
 pub returns-clause-own : goal.returns-clause-own
 returns-clause-own g c = rw (← c.self.view_is) λ own. own
+
+pub returns-clause-log_out : goal.returns-clause-log_out
+returns-clause-log_out g c =
+    let t = told g.S.Store.history g.S.Device.Device.history g.S.Frozen.Frozen.content (left_of c.self.view_is) in
+    let log = g.S.Device.Device.history c.append.new.self.device in
+    rw (← c.self.view_is)
+    (log_grows t log (λ tells. appended_tells (g.S.Device.Device.size c.reserve.new.self.device - 1) (with_closed_gate c.in_ok-frame.frame) (g.S.Device.Device.history c.reserve.new.self.device) log c.in_ok-append.ensures.appended (subst (λ (l : LogState _). IsTold (g.S.Device.Device.history l.device)) (sym c.reserve.ensures.same) tells)))

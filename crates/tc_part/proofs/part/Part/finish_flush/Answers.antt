@@ -6,12 +6,13 @@ use Rattle.tc_part.specs.Faults.{IfDamaged}
 use Rattle.std.specs.Arc.{arc_value}
 use Rattle.tc_store.specs.Disk.{home}
 use Rattle.tc_store.specs.StoreCalls.{comes_home}
-use Rattle.tc_store.specs.declared.file_name.FileName.TheVariants.{Component}
+use Rattle.tc_store.specs.declared.file_name.FileName.TheVariants.{Component, Log}
 use Rattle.tc_store.proofs.MomentLemmas.{told_map}
 use Rattle.tc_flush.proofs.Outcomes.{if_err}
 use Rattle.tc_part_model.specs.Changes.{flushed_part}
 use Rattle.tc_part_model.specs.Leaving.{FailedMomentsLeaveStore, StoreMomentsLeaveStore}
 use Rattle.tc_part_model.specs.Meaning.{IsOfContent, IsPart}
+use Rattle.tc_part.specs.FilesOut.{LogIsOut, OnlyDevicesOut}
 use Rattle.tc_part.specs.OwnFiles.{HasOwnFiles}
 use Rattle.tc_part_model.specs.PartState.{PartState, told, told_component}
 use Rattle.tc_part_model.proofs.HomeMoments.{flush_home_moments}
@@ -25,6 +26,9 @@ use Rattle.tc_part.proofs.ListedContents.{all_indices}
 use Rattle.tc_part.proofs.Handing.{still_some}
 use Rattle.tc_part.proofs.OwnOutcomes.{flush_own}
 use Rattle.tc_part.proofs.Standing.{both, left_of, table_in, told_in}
+use Rattle.tc_part.proofs.DevicesOut.{StayOutBut, home_in}
+use Rattle.tc_part.proofs.JobDevices.{flush_back_out, flush_ended_out, flush_listed_out}
+use Rattle.tc_part.proofs.LogOut.{StaysOut, listed_log, log_out_on, other_home}
 use Rattle.tc_part.proofs.part.Part.finish_flush.Goals as goal
 
 pub returns-then-self-clause-stays : goal.returns-then-self-clause-stays
@@ -179,3 +183,72 @@ returns-in-Ok-clause-own g c =
     flush_own g.S.Store.history g.S.Device.Device.history g.S.Frozen.Frozen.content g.S.Frozen.Frozen.name start c.end_flush.new.self (g.S.Device.Device.history c.args.out.device)
     _ c.in-Ok.ensures.same refl (c.self.invariant.behind sound ∙ ap (active_generation s.list) sealed) c.in-Ok.ensures.listed there.2.1
     (subst (λ b. HasOwnFiles (record (told g.S.Store.history g.S.Device.Device.history g.S.Frozen.Frozen.content start) { flushing = b })) flushing own)
+
+-- ---- what is out
+
+pub returns-then-self-clause-devices : goal.returns-then-self-clause-devices
+returns-then-self-clause-devices g c =
+    let s = c.self.inside in
+    let start = record (left_of c.self.view_is) { flusher = Some c.args.out.watch; flushing = false } in
+    let device = g.S.Device.Device.history c.args.out.device in
+    let flushing : not (is_some s.flusher) ≡ true = ap (λ s. s.flushing) c.self.view_is ∙ c.requires.out in
+    let device_named = c.requires.name ∙ ap (λ s. Component (s.generation - 1) (s.generation - 1)) (sym c.self.view_is) in
+    let new = g.S.Store.history c.abandon.new.self in
+    let at_home : new ≡ comes_home (flushed_name start) (λ f. home f) device (g.S.Store.history s.store) = c.abandon.ensures.home ∙ ap (λ name. comes_home name (λ f. home f) device (g.S.Store.history s.store)) device_named in
+    rw (← c.self.view_is) λ device_tells tells only.
+    flush_back_out g.S.Store.history g.S.Device.Device.history g.S.Frozen.Frozen.content g.S.Frozen.Frozen.name start start device device_tells
+    (subst (λ b. OnlyDevicesOut (record (told g.S.Store.history g.S.Device.Device.history g.S.Frozen.Frozen.content start) { flushing = b })) flushing only) new
+    (subst (StayOutBut (λ n. n ≡ flushed_name start) (g.S.Store.history s.store)) (sym at_home) (home_in (flushed_name start) (λ f. home f) (λ f. refl) device (g.S.Store.history s.store) device_tells))
+
+pub returns-in-Ok-clause-devices : goal.returns-in-Ok-clause-devices
+returns-in-Ok-clause-devices g c =
+    let s = c.self.inside in
+    let start = record (left_of c.self.view_is) { flusher = Some c.args.out.watch; flushing = false } in
+    let flushing : not (is_some s.flusher) ≡ true = ap (λ s. s.flushing) c.self.view_is ∙ c.requires.out in
+    let sound = c.if-self.false in
+    let sealed = c.self.invariant.flush sound (none_out s.flusher flushing) in
+    let there = some_there s.sealed_log _ (c.self.invariant.sealed_both sound ∙ sealed) c.in-Ok.ensures.uncovered in
+    rw (← c.self.view_is) λ device_tells tells only.
+    flush_listed_out g.S.Store.history g.S.Device.Device.history g.S.Frozen.Frozen.content g.S.Frozen.Frozen.name start c.end_flush.new.self (g.S.Device.Device.history c.args.out.device) device_tells
+    (subst (λ b. OnlyDevicesOut (record (told g.S.Store.history g.S.Device.Device.history g.S.Frozen.Frozen.content start) { flushing = b })) flushing only)
+    s.merging refl c.self.invariant.run there.0 there.1 tells.sealed c.in-Ok.ensures.listed start.failed c.in-Ok.ensures.same there.2.1
+
+pub returns-in-Err-clause-devices : goal.returns-in-Err-clause-devices
+returns-in-Err-clause-devices g c =
+    let s = c.self.inside in
+    let start = record (left_of c.self.view_is) { flusher = Some c.args.out.watch; flushing = false } in
+    let flushing : not (is_some s.flusher) ≡ true = ap (λ s. s.flushing) c.self.view_is ∙ c.requires.out in
+    let sound = c.if-self.false in
+    let sealed = c.self.invariant.flush sound (none_out s.flusher flushing) in
+    let there = log_there s.sealed_log (c.self.invariant.sealed_both sound ∙ sealed) in
+    rw (← c.self.view_is) λ device_tells tells only.
+    subst (λ (x : PartState _ _ _ _). OnlyDevicesOut (told g.S.Store.history g.S.Device.Device.history g.S.Frozen.Frozen.content x)) (sym c.self-2.view_is)
+    (flush_ended_out g.S.Store.history g.S.Device.Device.history g.S.Frozen.Frozen.content g.S.Frozen.Frozen.name start c.end_flush.new.self (g.S.Device.Device.history c.args.out.device) device_tells
+    (subst (λ b. OnlyDevicesOut (record (told g.S.Store.history g.S.Device.Device.history g.S.Frozen.Frozen.content start) { flushing = b })) flushing only)
+    s.merging refl c.self.invariant.run there.0 there.1 tells.sealed c.in-Err.ensures.left)
+
+-- ---- the active log
+
+pub returns-then-self-clause-log_out : goal.returns-then-self-clause-log_out
+returns-then-self-clause-log_out g c =
+    let t = told g.S.Store.history g.S.Device.Device.history g.S.Frozen.Frozen.content (left_of c.self.view_is) in
+    let name = flushed_name (left_of c.self.view_is) in
+    let device = g.S.Device.Device.history c.args.out.device in
+    let device_named = c.requires.name ∙ ap (λ s. Component (s.generation - 1) (s.generation - 1)) (sym c.self.view_is) in
+    let new = g.S.Store.history c.abandon.new.self in
+    let at_home : new ≡ comes_home name (λ f. home f) device t.disks = c.abandon.ensures.home ∙ ap (λ n. comes_home n (λ f. home f) device t.disks) device_named in
+    rw (← c.self.view_is) (log_out_on t new (subst (StaysOut (Log t.generation) t.disks) (sym at_home) (other_home name (Log t.generation) (λ f. home f) device t.disks (λ same. absurd (cc)))))
+
+pub returns-in-Ok-clause-log_out : goal.returns-in-Ok-clause-log_out
+returns-in-Ok-clause-log_out g c =
+    let s = c.self.inside in
+    let t = told g.S.Store.history g.S.Device.Device.history g.S.Frozen.Frozen.content (left_of c.self.view_is) in
+    let device = g.S.Device.Device.history c.args.out.device in
+    let flushing : not (is_some s.flusher) ≡ true = ap (λ s. s.flushing) c.self.view_is ∙ c.requires.out in
+    let sound = c.if-self.false in
+    let sealed = c.self.invariant.flush sound (none_out s.flusher flushing) in
+    let there = some_there s.sealed_log _ (c.self.invariant.sealed_both sound ∙ sealed) c.in-Ok.ensures.uncovered in
+    let new = g.S.Store.history c.end_flush.new.self.store in
+    let stays : StaysOut (Log t.generation) t.disks new = subst (StaysOut (Log t.generation) t.disks) (sym there.2.1)
+    (listed_log t.generation (flushed_name (left_of c.self.view_is)) device (g.S.Device.Device.history there.0.device) t.disks c.self.invariant.first (λ same. absurd (cc))) in
+    rw (← c.self.view_is) λ is. subst (λ (x : PartState _ _ _ _). LogIsOut (told g.S.Store.history g.S.Device.Device.history g.S.Frozen.Frozen.content x)) (sym c.in-Ok.ensures.same) (log_out_on t new stays is)

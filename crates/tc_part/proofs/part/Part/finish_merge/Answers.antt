@@ -1,12 +1,14 @@
-use Rattle.std.proofs.Common.{◌≡◌, ◌∙◌, ◌⊎◌, Some, None, true, option_map, refl, sym, ap, subst}
+use Rattle.std.proofs.Common.{◌≡◌, ◌∙◌, ◌⊎◌, Some, None, true, is_some, map, option_map, refl, sym, ap, subst}
 use Rattle.std.specs.Prelude.{Err, IfSome}
+use Rattle.tc_store.specs.declared.file_name.FileName.TheVariants.{Log}
 use Rattle.tc_store.specs.Disk.{home}
 use Rattle.tc_store.specs.StoreCalls.{comes_home}
-use Rattle.tc_list.specs.Runs.{neighbours}
+use Rattle.tc_list.specs.Runs.{in_run, neighbours}
 use Rattle.tc_flush.proofs.Outcomes.{if_err}
 use Rattle.tc_part_model.specs.Changes.{merged_part}
 use Rattle.tc_part_model.specs.Leaving.{FailedMomentsLeaveStore, StoreMomentsLeaveStore}
 use Rattle.tc_part_model.specs.Meaning.{IsPart}
+use Rattle.tc_part.specs.FilesOut.{LogIsOut, OnlyDevicesOut}
 use Rattle.tc_part.specs.OwnFiles.{HasOwnFiles}
 use Rattle.tc_part_model.specs.PartState.{PartState, told}
 use Rattle.tc_part_model.proofs.FailedParts.{merge_returns}
@@ -16,11 +18,15 @@ use Rattle.tc_part.specs.Closing.{HasFailedWhole}
 use Rattle.tc_part.specs.Faults.{IfDamaged}
 use Rattle.tc_part.specs.MergeEnds.{HasReplaced, IsMergeDamage, IsMergeRemoving, IsMergeUnlisted, merged_name, positions, run_out}
 use Rattle.tc_part.specs.Ready.{LiesIn}
-use Rattle.tc_part.proofs.FlushedContents.{told_any}
+use Rattle.tc_part.proofs.FlushedContents.{some_there, told_any}
 use Rattle.tc_part.proofs.MergeOutcomes.{done, done_moments, ended_failed, ended_moments, fitting, left_failed, unmade_failed, unmade_moments}
+use Rattle.tc_part.proofs.Handing.{still_some}
 use Rattle.tc_part.proofs.OwnOutcomes.{merge_own}
 use Rattle.tc_part.proofs.ReplacedRun.{positions_back}
 use Rattle.tc_part.proofs.Standing.{both, left_of, told_in}
+use Rattle.tc_part.proofs.DevicesOut.{StayOutBut, home_in}
+use Rattle.tc_part.proofs.JobDevices.{merge_back_out, merge_ended_out, merge_listed_out}
+use Rattle.tc_part.proofs.LogOut.{StaysOut, log_out_on, other_home, replaced_log}
 use Rattle.tc_part.proofs.part.Part.finish_merge.Goals as goal
 
 pub returns-then-self-clause-stays : goal.returns-then-self-clause-stays
@@ -224,3 +230,65 @@ returns-in-Ok-clause-own g c =
     rw (← c.self.view_is) λ sound own.
     merge_own g.S.Store.history g.S.Device.Device.history g.S.Frozen.Frozen.content g.S.Frozen.Frozen.name start c.end_merge.new.self device run c.in-Ok.ensures.same gone lies c.in-Ok.ensures.listed c.in-Ok.ensures.removed
     (subst (λ o. HasOwnFiles (record (told g.S.Store.history g.S.Device.Device.history g.S.Frozen.Frozen.content start) { merging = o })) out own)
+
+-- ---- what is out
+
+pub returns-then-self-clause-devices : goal.returns-then-self-clause-devices
+returns-then-self-clause-devices g c =
+    let s = c.self.inside in
+    let start = record (left_of c.self.view_is) { merger = Some c.args.out.watch; merging = option_map neighbours c.take-merging.new.self } in
+    let device = g.S.Device.Device.history c.args.out.device in
+    let some = some_there s.merging (LiesIn s.list) (sym (still_some neighbours s.merging) ∙ ap (λ s. is_some s.merging) c.self.view_is ∙ c.requires.out) c.self.invariant.run in
+    let out = ap (option_map neighbours) some.1 in
+    let here : run_out (left_of c.self.view_is) ≡ some.0 = ap positions out ∙ positions_back some.0 some.2.0 in
+    let device_named : g.S.Device.Device.name c.args.out.device ≡ merged_name some.0 start = c.requires.name ∙ ap (λ s. merged_name (run_out s) s) (sym c.self.view_is) ∙ ap (λ r. merged_name r start) here in
+    let new = g.S.Store.history c.abandon.new.self in
+    let at_home : new ≡ comes_home (merged_name some.0 start) (λ f. home f) device (g.S.Store.history s.store) = c.abandon.ensures.home ∙ ap (λ name. comes_home name (λ f. home f) device (g.S.Store.history s.store)) device_named in
+    rw (← c.self.view_is) λ device_tells only.
+    merge_back_out g.S.Store.history g.S.Device.Device.history g.S.Frozen.Frozen.content g.S.Frozen.Frozen.name start start some.0 device device_tells
+    (subst (λ o. OnlyDevicesOut (record (told g.S.Store.history g.S.Device.Device.history g.S.Frozen.Frozen.content start) { merging = o })) out only) new ((told g.S.Store.history g.S.Device.Device.history g.S.Frozen.Frozen.content start).components)
+    (subst (StayOutBut (λ n. n ≡ merged_name some.0 start) (g.S.Store.history s.store)) (sym at_home) (home_in (merged_name some.0 start) (λ f. home f) (λ f. refl) device (g.S.Store.history s.store) device_tells))
+
+pub returns-in-Ok-clause-devices : goal.returns-in-Ok-clause-devices
+returns-in-Ok-clause-devices g c =
+    let s = c.self.inside in
+    let run = c.in-Some.run' in
+    let merging : s.merging ≡ Some run = sym c.take-merging.ensures.value ∙ c.in-Some.is in
+    let out = ap (option_map neighbours) merging in
+    let start = record (left_of c.self.view_is) { merger = Some c.args.out.watch; merging = option_map neighbours c.take-merging.new.self } in
+    rw (← c.self.view_is) λ device_tells only.
+    merge_listed_out g.S.Store.history g.S.Device.Device.history g.S.Frozen.Frozen.content g.S.Frozen.Frozen.name start c.end_merge.new.self run (g.S.Device.Device.history c.args.out.device) device_tells
+    (subst (λ o. OnlyDevicesOut (record (told g.S.Store.history g.S.Device.Device.history g.S.Frozen.Frozen.content start) { merging = o })) out only) c.in-Ok.ensures.removed start.failed c.in-Ok.ensures.same
+
+pub returns-in-Err-clause-devices : goal.returns-in-Err-clause-devices
+returns-in-Err-clause-devices g c =
+    let s = c.self.inside in
+    let run = c.in-Some.run' in
+    let merging : s.merging ≡ Some run = sym c.take-merging.ensures.value ∙ c.in-Some.is in
+    let out = ap (option_map neighbours) merging in
+    let start = record (left_of c.self.view_is) { merger = Some c.args.out.watch; merging = option_map neighbours c.take-merging.new.self } in
+    rw (← c.self.view_is) λ device_tells only.
+    subst (λ (x : PartState _ _ _ _). OnlyDevicesOut (told g.S.Store.history g.S.Device.Device.history g.S.Frozen.Frozen.content x)) (sym c.self-in-Some.view_is)
+    (merge_ended_out g.S.Store.history g.S.Device.Device.history g.S.Frozen.Frozen.content g.S.Frozen.Frozen.name start c.end_merge.new.self run (g.S.Device.Device.history c.args.out.device) device_tells
+    (subst (λ o. OnlyDevicesOut (record (told g.S.Store.history g.S.Device.Device.history g.S.Frozen.Frozen.content start) { merging = o })) out only) c.in-Err.ensures.left)
+
+-- ---- the active log
+
+pub returns-then-self-clause-log_out : goal.returns-then-self-clause-log_out
+returns-then-self-clause-log_out g c =
+    let t = told g.S.Store.history g.S.Device.Device.history g.S.Frozen.Frozen.content (left_of c.self.view_is) in
+    let name = merged_name (run_out (left_of c.self.view_is)) (left_of c.self.view_is) in
+    let device = g.S.Device.Device.history c.args.out.device in
+    let device_named = c.requires.name ∙ ap (λ s. merged_name (run_out s) s) (sym c.self.view_is) in
+    let new = g.S.Store.history c.abandon.new.self in
+    let at_home : new ≡ comes_home name (λ f. home f) device t.disks = c.abandon.ensures.home ∙ ap (λ n. comes_home n (λ f. home f) device t.disks) device_named in
+    rw (← c.self.view_is) (log_out_on t new (subst (StaysOut (Log t.generation) t.disks) (sym at_home) (other_home name (Log t.generation) (λ f. home f) device t.disks (λ same. absurd (cc)))))
+
+pub returns-in-Ok-clause-log_out : goal.returns-in-Ok-clause-log_out
+returns-in-Ok-clause-log_out g c =
+    let s = c.self.inside in
+    let t = told g.S.Store.history g.S.Device.Device.history g.S.Frozen.Frozen.content (left_of c.self.view_is) in
+    let run = c.in-Some.run' in
+    let new = g.S.Store.history c.end_merge.new.self.store in
+    let stays : StaysOut (Log t.generation) t.disks new = replaced_log t.generation (merged_name run (left_of c.self.view_is)) (g.S.Device.Device.history c.args.out.device) (map (λ x. g.S.Frozen.Frozen.name x.file) (in_run run s.list)) t.disks new (λ same. absurd (cc)) c.in-Ok.ensures.removed in
+    rw (← c.self.view_is) λ is. subst (λ (x : PartState _ _ _ _). LogIsOut (told g.S.Store.history g.S.Device.Device.history g.S.Frozen.Frozen.content x)) (sym c.in-Ok.ensures.same) (log_out_on t new stays is)

@@ -1,4 +1,4 @@
-use Rattle.std.proofs.Common.{rules, ◌≡◌, ◌∙◌, ◌+◌, false, [], inl, map, refl, sym, ap, subst, arith}
+use Rattle.std.proofs.Common.{rules, ◌≡◌, ◌∙◌, ◌+◌, false, [], inl, is_some, map, refl, sym, ap, subst, arith}
 use Rattle.std.proofs.lemmas.Grind.{common_steps}
 use Rattle.std.specs.Arc.{arc_value}
 use Rattle.tc_store.specs.Disk.{IsThere}
@@ -9,12 +9,15 @@ use Rattle.tc_log.specs.Appending.{created}
 use Rattle.tc_log.specs.Spelling.{IsHead}
 use Rattle.tc_part_model.specs.Calls.{HasCreated}
 use Rattle.tc_part.specs.OwnFiles.{HasOwnFiles}
-use Rattle.tc_part_model.specs.PartState.{PartState, told, told_component}
+use Rattle.tc_part_model.specs.PartState.{IsTold, PartState, told, told_component}
 use Rattle.tc_part.proofs.OwnNames.{next_log_is_free, sealed_own}
-use Rattle.tc_part.proofs.Creations.{creates}
 use Rattle.tc_part.proofs.Outcomes.{err_always}
 use Rattle.tc_part.proofs.OwnOutcomes.{no_flush_out}
 use Rattle.tc_part.proofs.Standing.{left_of}
+use Rattle.tc_part.proofs.Creations.{created_tells, creates}
+use Rattle.tc_part.proofs.DevicesOut.{Nobody, made_in, made_told, not_made_in, out_on, tells_on}
+use Rattle.tc_part.proofs.JobDevices.{none_with, seal_out}
+use Rattle.tc_part.proofs.LogOut.{next_log_out}
 use Rattle.tc_part.proofs.part.Part.seal.Goals as goal
 
 pub returns-then-self-eq-MAX_NUMBER-clause-failed : goal.returns-then-self-eq-MAX_NUMBER-clause-failed
@@ -113,3 +116,84 @@ returns-in-Ok-clause-own g c =
     sealed_own (told g.S.Store.history g.S.Device.Device.history g.S.Frozen.Frozen.content (left_of c.self.view_is)) (told g.S.Store.history g.S.Device.Device.history g.S.Frozen.Frozen.content (left_of behind)) (no_flush_out arc_value c.self.inside.flusher c.self.inside.sealed (c.self.invariant.flush sound) none) disks
     (ap (λ (x : PartState _ _ _ _). x.generation) behind) (ap (λ (x : PartState _ _ _ _). map (told_component g.S.Frozen.Frozen.content) x.list) behind)
     (ap (λ (x : PartState _ _ _ _). x.flushing) behind) (ap (λ (x : PartState _ _ _ _). x.merging) behind) own
+
+-- ---- what is out
+
+pub returns-then-self-eq-MAX_NUMBER-clause-devices : goal.returns-then-self-eq-MAX_NUMBER-clause-devices
+returns-then-self-eq-MAX_NUMBER-clause-devices g c = rw (← c.self.view_is) λ only. only
+
+pub returns-in_err-new-clause-devices : goal.returns-in_err-new-clause-devices
+returns-in_err-new-clause-devices g c = rw (← c.self.view_is) λ only. only
+
+pub returns-in_err-device-clause-devices : goal.returns-in_err-device-clause-devices
+returns-in_err-device-clause-devices g c =
+    let t = told g.S.Store.history g.S.Device.Device.history g.S.Frozen.Frozen.content (left_of c.self.view_is) in
+    let new = g.S.Store.history c.fresh.new.self in
+    rw (← c.self.view_is) (out_on t new (not_made_in (Log (t.generation + 1)) t.disks new c.in_err-device.ensures.failed))
+
+pub returns-in-Ok-clause-devices : goal.returns-in-Ok-clause-devices
+returns-in-Ok-clause-devices g c =
+    let none = ap (λ s. s.sealed) c.self.view_is ∙ c.requires.none_sealed in
+    let sound : c.self.inside.failed ≡ false = ap (λ s. s.failed) c.self.view_is ∙ c.requires.sound in
+    let behind = c.put_behind.ensures in
+    let disks = ap (λ (x : PartState _ _ _ _). g.S.Store.history x.store) behind ∙ c.in_ok-device.ensures.made in
+    rw (← c.self.view_is)
+    (seal_out (told g.S.Store.history g.S.Device.Device.history g.S.Frozen.Frozen.content (left_of c.self.view_is)) (told g.S.Store.history g.S.Device.Device.history g.S.Frozen.Frozen.content (left_of behind)) (no_flush_out arc_value c.self.inside.flusher c.self.inside.sealed (c.self.invariant.flush sound) none)
+    (none_with arc_value (λ l. g.S.Device.Device.history l.device) c.self.inside.sealed_log c.self.inside.sealed (c.self.invariant.sealed_both sound) none) disks (ap (λ (x : PartState _ _ _ _). x.generation) behind)
+    (ap (λ (x : PartState _ _ _ _). is_some ((told g.S.Store.history g.S.Device.Device.history g.S.Frozen.Frozen.content x).sealed_log)) behind) (ap (λ (x : PartState _ _ _ _). map (told_component g.S.Frozen.Frozen.content) x.list) behind) (ap (λ (x : PartState _ _ _ _). x.merging) behind))
+
+pub returns-in-Err-clause-devices : goal.returns-in-Err-clause-devices
+returns-in-Err-clause-devices g c =
+    let t = told g.S.Store.history g.S.Device.Device.history g.S.Frozen.Frozen.content (left_of c.self.view_is) in
+    let head : LogHead = record { number = c.self.inside.number; count = c.self.inside.count; generation = c.self.inside.generation + 1 } in
+    let name = Log (t.generation + 1) in
+    let device = g.S.Device.Device.history c.in_ok-device.device in
+    let broken = g.S.Device.Device.history c.in-Err.broken.device in
+    let named = c.in-Err.ensures.broken_name ∙ c.in_ok-device.ensures.name in
+    let tells = created_tells name t.disks head device broken c.in_ok-device.ensures.file (creates head device broken c.in-Err.ensures.broken_moments c.in-Err.ensures.untold) in
+    rw (← c.self.view_is, c.abandon.ensures.home, named, c.in_ok-device.ensures.made) (out_on t _ (made_in name broken t.disks tells))
+
+-- ---- what tells
+
+pub returns-then-self-eq-MAX_NUMBER-clause-tells : goal.returns-then-self-eq-MAX_NUMBER-clause-tells
+returns-then-self-eq-MAX_NUMBER-clause-tells g c = rw (← c.self.view_is) λ tells. tells
+
+pub returns-in_err-new-clause-tells : goal.returns-in_err-new-clause-tells
+returns-in_err-new-clause-tells g c = rw (← c.self.view_is) λ tells. tells
+
+pub returns-in_err-device-clause-tells : goal.returns-in_err-device-clause-tells
+returns-in_err-device-clause-tells g c =
+    let t = told g.S.Store.history g.S.Device.Device.history g.S.Frozen.Frozen.content (left_of c.self.view_is) in
+    let new = g.S.Store.history c.fresh.new.self in
+    rw (← c.self.view_is) (tells_on Nobody t new (not_made_in (Log (t.generation + 1)) t.disks new c.in_err-device.ensures.failed))
+
+pub returns-in-Ok-clause-tells : goal.returns-in-Ok-clause-tells
+returns-in-Ok-clause-tells g c =
+    let t = told g.S.Store.history g.S.Device.Device.history g.S.Frozen.Frozen.content (left_of c.self.view_is) in
+    let head : LogHead = record { number = c.self.inside.number; count = c.self.inside.count; generation = c.self.inside.generation + 1 } in
+    let name = Log (t.generation + 1) in
+    let device = g.S.Device.Device.history c.in_ok-device.device in
+    let log = g.S.Device.Device.history c.in-Ok.log.device in
+    let new_tells = created_tells name t.disks head device log c.in_ok-device.ensures.file (creates head device log c.in-Ok.ensures.moments (λ untold. c.in-Ok.ensures.created ∙ ap (created head) untold)) in
+    rw (← c.self.view_is, c.put_behind.ensures, c.in_ok-device.ensures.made) λ tells. record { active = made_told name (IsTold log) t.disks new_tells; sealed = made_told name (IsTold t.log) t.disks tells.active }
+
+pub returns-in-Err-clause-tells : goal.returns-in-Err-clause-tells
+returns-in-Err-clause-tells g c =
+    let t = told g.S.Store.history g.S.Device.Device.history g.S.Frozen.Frozen.content (left_of c.self.view_is) in
+    let head : LogHead = record { number = c.self.inside.number; count = c.self.inside.count; generation = c.self.inside.generation + 1 } in
+    let name = Log (t.generation + 1) in
+    let device = g.S.Device.Device.history c.in_ok-device.device in
+    let broken = g.S.Device.Device.history c.in-Err.broken.device in
+    let named = c.in-Err.ensures.broken_name ∙ c.in_ok-device.ensures.name in
+    let tells = created_tells name t.disks head device broken c.in_ok-device.ensures.file (creates head device broken c.in-Err.ensures.broken_moments c.in-Err.ensures.untold) in
+    rw (← c.self.view_is, c.abandon.ensures.home, named, c.in_ok-device.ensures.made) (tells_on Nobody t _ (made_in name broken t.disks tells))
+
+pub returns-in-Ok-clause-log_out : goal.returns-in-Ok-clause-log_out
+returns-in-Ok-clause-log_out g c =
+    let t = told g.S.Store.history g.S.Device.Device.history g.S.Frozen.Frozen.content (left_of c.self.view_is) in
+    let head : LogHead = record { number = c.self.inside.number; count = c.self.inside.count; generation = c.self.inside.generation + 1 } in
+    let name = Log (t.generation + 1) in
+    let device = g.S.Device.Device.history c.in_ok-device.device in
+    let log = g.S.Device.Device.history c.in-Ok.log.device in
+    let new_tells = created_tells name t.disks head device log c.in_ok-device.ensures.file (creates head device log c.in-Ok.ensures.moments (λ untold. c.in-Ok.ensures.created ∙ ap (created head) untold)) in
+    rw (c.put_behind.ensures, c.in_ok-device.ensures.made) (next_log_out name log t.disks new_tells)

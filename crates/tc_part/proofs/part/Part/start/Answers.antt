@@ -1,6 +1,7 @@
-use Rattle.std.proofs.Common.{◌≡◌, ◌∙◌, None, sym, ap, subst}
+use Rattle.std.proofs.Common.{◌≡◌, ◌∙◌, None, false, true, inl, sym, ap, subst}
 use Rattle.std.specs.Prelude.{All}
-use Rattle.tc_store.specs.Disk.{home}
+use Rattle.tc_store.specs.declared.file_name.FileName.{FileName}
+use Rattle.tc_store.specs.Disk.{home, is_out, out}
 use Rattle.tc_store.specs.Moments.{IfTold}
 use Rattle.tc_store.specs.StoreCalls.{comes_home}
 use Rattle.tc_store.proofs.MomentLemmas.{told_map}
@@ -9,13 +10,15 @@ use Rattle.tc_component.specs.Spelling.{IsIndex}
 use Rattle.tc_lsm_model.specs.Lists.{live}
 use Rattle.tc_part_model.specs.Leaving.{FailedMomentsLeaveStore, KeepsStore}
 use Rattle.tc_part_model.specs.Meaning.{IsPart}
+use Rattle.tc_part.specs.FilesOut.{LogIsOut, OnlyDevicesOut, OnlyOut}
 use Rattle.tc_part.specs.OwnFiles.{FollowInOrder, HasOnlyOwn, HasOwnFiles}
-use Rattle.tc_part_model.specs.PartState.{told}
+use Rattle.tc_part_model.specs.PartState.{IsTold, told}
 use Rattle.tc_part_model.specs.Starting.{started, started_part}
 use Rattle.tc_part.specs.Openings.{told_opening}
 use Rattle.tc_part.proofs.OwnOutcomes.{follow_in_order}
 use Rattle.tc_part.proofs.StagedWrites.{few_live}
 use Rattle.tc_part.proofs.StartedLogs.{named_first}
+use Rattle.tc_part.proofs.DevicesOut.{IsDeviceOf, one_in}
 use Rattle.tc_part.proofs.part.Part.start.Goals as goal
 
 pub returns-in-Ok-clause-started : goal.returns-in-Ok-clause-started
@@ -55,3 +58,22 @@ returns-in-Ok-clause-own g c = λ only.
     let order = follow_in_order content 0 from.list c.as_slice.ensures.follow lawful in
     let own : HasOwnFiles (started o) = told_map (HasOnlyOwn (started o)) (λ disk. FollowInOrder 0 o.components × HasOnlyOwn (started o) disk) o.disks (λ disk each. (order, each)) only in
     subst (λ part. HasOwnFiles (told g.S.Store.history g.S.Device.Device.history g.S.Frozen.Frozen.content part)) (sym c.begun_with.ensures.begun) own
+
+pub returns-in-Ok-clause-devices : goal.returns-in-Ok-clause-devices
+returns-in-Ok-clause-devices g c = λ only.
+    let from = c.args.opened in
+    let o = told_opening g.S.Store.history g.S.Device.Device.history g.S.Frozen.Frozen.content from.number from.count from.kit.store from.log.device from.list in
+    let is : OnlyDevicesOut (started o) =
+    told_map (OnlyOut (g.S.Device.Device.name from.log.device)) (λ disk. (name : FileName) → is_out (disk name) ≡ true → IsDeviceOf (started o) name) o.disks (λ disk each name out. inl (inl (each name out ∙ c.requires.follows))) only in
+    subst (λ part. OnlyDevicesOut (told g.S.Store.history g.S.Device.Device.history g.S.Frozen.Frozen.content part)) (sym c.begun_with.ensures.begun) is
+
+pub returns-in-Err-clause-brought_in : goal.returns-in-Err-clause-brought_in
+returns-in-Err-clause-brought_in g c = λ tells only.
+    let from = c.args.opened in
+    subst (λ disks. IfTold disks (λ disk. (name : FileName) → is_out (disk name) ≡ false)) (sym c.given_up.ensures.home) (one_in (g.S.Device.Device.name from.log.device) (g.S.Device.Device.history from.log.device) (g.S.Store.history from.kit.store) tells only)
+
+pub returns-in-Ok-clause-log_out : goal.returns-in-Ok-clause-log_out
+returns-in-Ok-clause-log_out g c = λ is.
+    let from = c.args.opened in
+    subst (λ part. LogIsOut (told g.S.Store.history g.S.Device.Device.history g.S.Frozen.Frozen.content part)) (sym c.begun_with.ensures.begun)
+    (subst (λ name. IfTold (g.S.Store.history from.kit.store) (λ disk. (disk name ≡ out) × IsTold (g.S.Device.Device.history from.log.device))) c.requires.follows is)
