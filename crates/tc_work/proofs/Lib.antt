@@ -26,3 +26,4 @@ mod MergeRuns
 mod MergeFaults
 mod StayingStores
 mod PickedMerges
+mod FilesOut

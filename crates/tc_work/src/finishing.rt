@@ -1,14 +1,17 @@
 //! An engine ends.
 
-ghost use Rattle.std.specs.Prelude.{◌≡◌, ◌-◌, List, Ok, Option, Some, None, option_map};
+ghost use Rattle.std.specs.Prelude.{◌≡◌, ◌-◌, false, List, Ok, Option, Some, None, option_map};
 ghost use Rattle.tc_lsm_model.specs.Contents.{Partition};
 ghost use Rattle.tc_part.specs.Closing.{brought_home};
+ghost use Rattle.tc_part.specs.FilesOut.{OnlyDevicesOut, TellsLogs};
 ghost use Rattle.tc_part_model.specs.Leaving.{FailedMomentsLeaveStore, KeepsStore};
 ghost use Rattle.tc_part_model.specs.Meaning.{IsPart};
 ghost use Rattle.tc_part_model.specs.PartState.{told};
 ghost use Rattle.tc_part_model.specs.PartView.{PartView, store_of};
 ghost use Rattle.tc_plain_model.specs.Writes.{Pairs, Write as PlainWrite};
+ghost use Rattle.tc_store.specs.declared.file_name.FileName.{FileName};
 ghost use Rattle.tc_store.specs.declared.file_name.FileName.TheVariants.{Log as log_name};
+ghost use Rattle.tc_store.specs.Disk.{is_out};
 ghost use Rattle.tc_store.specs.Moments.{IfTold};
 ghost use Rattle.tc_work.specs.Failing.{HasFailedKeeping};
 
@@ -27,6 +30,9 @@ impl<S: Store> Engine<S> {
     /// Gives the store and the watches back, of an engine that failed too. The devices of its logs come home.
     pub fn finish(self) -> Finished<S>
         ensures home { S.history result.kit.store ≡ brought_home (log_name self.part.generation) (S.Device.history self.part.log.device) (option_map (λ moments. (log_name (self.part.generation - 1), moments)) (option_map (λ l. S.Device.history l.device) self.part.sealed_log)) (S.history self.part.store) }
+
+        // Where no file is out but those of the part's devices, none is out any more.
+        ensures brought_in { TellsLogs (told S.history S.Device.history S.Frozen.content self.part) → OnlyDevicesOut (told S.history S.Device.history S.Frozen.content self.part) → IfTold (S.history result.kit.store) (λ disk. (name : FileName) → is_out (disk name) ≡ false) }
 
         // Whatever a stop leaves from then on is what was stored, of an engine that failed what it kept.
         ensures kept { (p : PartView) → IsPart (told S.history S.Device.history S.Frozen.content self.part) p → IfTold (S.history result.kit.store) (KeepsStore p.part (store_of p) None) }

@@ -3,6 +3,7 @@
 ghost use Rattle.std.specs.Prelude.{◌≡◌, ◌+◌, ◌++◌, ◌∷◌, [], None, true, false, is_some, length, IfErr, IsErrOf, OnErr, OnOk};
 ghost use Rattle.tc_component.specs.Loading.{ComponentState};
 ghost use Rattle.tc_jobs.specs.Lists.{file_names};
+ghost use Rattle.tc_part.specs.FilesOut.{LogIsOut, OnlyDevicesOut, TellsLogs};
 ghost use Rattle.tc_part_model.specs.Meaning.{IsPart};
 ghost use Rattle.tc_part_model.specs.PartState.{told};
 ghost use Rattle.tc_part_model.specs.PartView.{PartView, store_of};
@@ -41,6 +42,8 @@ pub(crate) fn flush_sealed<S: Store>(alloc: Global, part: &mut Part<S>) -> Resul
     ensures moments { (p : PartView) → IsPart (told S.history S.Device.history S.Frozen.content part.old) p → TellsFiles (told S.history S.Device.history S.Frozen.content part.old) → MomentsLeavePairs p.part (store_of p) (told S.history S.Device.history S.Frozen.content part.old) (S.history part.new.store) }
     ensures failed { OnErr result ((p : PartView) → IsPart (told S.history S.Device.history S.Frozen.content part.old) p → TellsFiles (told S.history S.Device.history S.Frozen.content part.old) → HasFailedKeeping (record (told S.history S.Device.history S.Frozen.content part.new) { failed = true }) p.part (store_of p) None) }
     ensures moved { HasOnlyMoved part.old part.new }
+    ensures devices { TellsLogs (told S.history S.Device.history S.Frozen.content part.old) → OnlyDevicesOut (told S.history S.Device.history S.Frozen.content part.old) → OnlyDevicesOut (told S.history S.Device.history S.Frozen.content part.new) }
+    ensures log_out { OnOk result (LogIsOut (told S.history S.Device.history S.Frozen.content part.old) → LogIsOut (told S.history S.Device.history S.Frozen.content part.new)) }
     ensures no_flush { part.new.flushing ≡ false }
     ensures no_merge { part.new.merging ≡ None }
     ensures logs { (part.new.log ≡ part.old.log) × (part.new.generation ≡ part.old.generation) }

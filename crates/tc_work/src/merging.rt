@@ -3,6 +3,7 @@
 ghost use Rattle.std.specs.Prelude.{◌≡◌, ◌+◌, None, false, length, IfErr, IsErrOf, OnErr, OnOk};
 ghost use Rattle.tc_component.specs.Loading.{ComponentState};
 ghost use Rattle.tc_list.specs.Runs.{swapped};
+ghost use Rattle.tc_part.specs.FilesOut.{LogIsOut, OnlyDevicesOut};
 ghost use Rattle.tc_part_model.specs.Meaning.{IsPart};
 ghost use Rattle.tc_part_model.specs.PartState.{told};
 ghost use Rattle.tc_part_model.specs.PartView.{PartView};
@@ -39,6 +40,8 @@ pub(crate) fn merge_run<S: Store>(
     ensures swapped { OnOk result ((c : ComponentState S.Frozen) × (part.new.list ≡ swapped run c part.old.list)) }
     ensures listed { OnOk result (length part.new.list + run.last ≡ length part.old.list + run.first) }
     ensures moved { HasOnlyMoved part.old part.new }
+    ensures devices { OnlyDevicesOut (told S.history S.Device.history S.Frozen.content part.old) → OnlyDevicesOut (told S.history S.Device.history S.Frozen.content part.new) }
+    ensures log_out { OnOk result (LogIsOut (told S.history S.Device.history S.Frozen.content part.old) → LogIsOut (told S.history S.Device.history S.Frozen.content part.new)) }
     ensures logs { (part.new.log ≡ part.old.log) × (part.new.generation ≡ part.old.generation) }
     ensures no_flush { part.new.flushing ≡ false }
     ensures no_merge { part.new.merging ≡ None }

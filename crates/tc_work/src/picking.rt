@@ -2,6 +2,7 @@
 
 ghost use Rattle.std.specs.Prelude.{◌≡◌, None, false, map, IfErr, IfOk, IfSome, IsErrOf, OnErr, OnOk};
 ghost use Rattle.tc_list.specs.Policies.{IsPicked};
+ghost use Rattle.tc_part.specs.FilesOut.{LogIsOut, OnlyDevicesOut};
 ghost use Rattle.tc_part_model.specs.Meaning.{IsPart};
 ghost use Rattle.tc_part_model.specs.PartState.{told};
 ghost use Rattle.tc_part_model.specs.PartView.{PartView};
@@ -37,6 +38,8 @@ pub(crate) fn merge_picked<S: Store>(
     ensures none { OnOk result (PicksNone policy part.new.list) }
     ensures merged { OnOk result (IsMergedBy policy (λ f. S.Frozen.size f) part.old.list part.new.list) }
     ensures moved { HasOnlyMoved part.old part.new }
+    ensures devices { OnlyDevicesOut (told S.history S.Device.history S.Frozen.content part.old) → OnlyDevicesOut (told S.history S.Device.history S.Frozen.content part.new) }
+    ensures log_out { OnOk result (LogIsOut (told S.history S.Device.history S.Frozen.content part.old) → LogIsOut (told S.history S.Device.history S.Frozen.content part.new)) }
     ensures logs { (part.new.log ≡ part.old.log) × (part.new.generation ≡ part.old.generation) }
     ensures no_flush { part.new.flushing ≡ false }
     ensures no_merge { part.new.merging ≡ None }

@@ -4,6 +4,7 @@ ghost use Rattle.std.specs.Prelude.{◌≡◌, ◌≤◌, ◌<◌, ◌+◌, ◌^
 ghost use Rattle.tc_component.specs.Loading.{ComponentState};
 ghost use Rattle.tc_list.specs.Policies.{listed_least};
 ghost use Rattle.tc_log.specs.Layout.{empty_size};
+ghost use Rattle.tc_part.specs.FilesOut.{LogIsOut, OnlyDevicesOut, TellsLogs};
 ghost use Rattle.tc_part_model.specs.Meaning.{IsPart};
 ghost use Rattle.tc_part_model.specs.PartState.{told};
 ghost use Rattle.tc_part_model.specs.PartView.{PartView, store_of};
@@ -48,6 +49,13 @@ impl<S: Store> Engine<S> {
         ensures policy { self.new.policy ≡ self.old.policy }
         ensures untold { OnOk result (S.history self.old.part.store ≡ [] → S.history self.new.part.store ≡ []) }
 
+        // No file is out but those of the part's devices, behind a fault too.
+        ensures devices { TellsLogs (told S.history S.Device.history S.Frozen.content self.old.part) → OnlyDevicesOut (told S.history S.Device.history S.Frozen.content self.old.part) → OnlyDevicesOut (told S.history S.Device.history S.Frozen.content self.new.part) }
+
+        // That of the active log is out after Ok, where it was before, and so it is where nothing was done.
+        ensures log_out { OnOk result (LogIsOut (told S.history S.Device.history S.Frozen.content self.old.part) → LogIsOut (told S.history S.Device.history S.Frozen.content self.new.part)) }
+        ensures log_out_spent { IsErrOf result EngineFault.Spent → LogIsOut (told S.history S.Device.history S.Frozen.content self.old.part) → LogIsOut (told S.history S.Device.history S.Frozen.content self.new.part) }
+
         // At each moment of the call a stop leaves what was stored, and so it does behind a fault.
         ensures moments { (p : PartView) → IsPart (told S.history S.Device.history S.Frozen.content self.old.part) p → TellsFiles (told S.history S.Device.history S.Frozen.content self.old.part) → MomentsLeavePairsOver p.part (store_of p) (told S.history S.Device.history S.Frozen.content self.old.part) (S.Device.history self.new.part.log.device) (S.history self.new.part.store) }
         ensures next_log { (p : PartView) → IsPart (told S.history S.Device.history S.Frozen.content self.old.part) p → self.new.part.generation ≡ self.old.part.generation + 1 → NextLogs p.part self.new.part.generation (S.Device.history self.new.part.log.device) }
@@ -90,6 +98,9 @@ fn settle_part<S: Store>(
     ensures none_sealed { OnOk result (part.new.sealed ≡ None) }
     ensures sound { OnOk result (part.new.failed ≡ false) }
     ensures moved { HasOnlyMoved part.old part.new }
+    ensures devices { TellsLogs (told S.history S.Device.history S.Frozen.content part.old) → OnlyDevicesOut (told S.history S.Device.history S.Frozen.content part.old) → OnlyDevicesOut (told S.history S.Device.history S.Frozen.content part.new) }
+    ensures log_out { OnOk result (LogIsOut (told S.history S.Device.history S.Frozen.content part.old) → LogIsOut (told S.history S.Device.history S.Frozen.content part.new)) }
+    ensures log_out_spent { IsErrOf result EngineFault.Spent → LogIsOut (told S.history S.Device.history S.Frozen.content part.old) → LogIsOut (told S.history S.Device.history S.Frozen.content part.new) }
     ensures no_flush { part.new.flushing ≡ false }
     ensures no_merge { part.new.merging ≡ None }
     ensures moments { MomentsStayOver (told S.history S.Device.history S.Frozen.content part.old) (S.Device.history part.new.log.device) (S.history part.new.store) }
@@ -137,6 +148,9 @@ fn empty_and_merge<S: Store>(
     ensures none_sealed { OnOk result (part.new.sealed ≡ None) }
     ensures sound { OnOk result (part.new.failed ≡ false) }
     ensures moved { HasOnlyMoved part.old part.new }
+    ensures devices { TellsLogs (told S.history S.Device.history S.Frozen.content part.old) → OnlyDevicesOut (told S.history S.Device.history S.Frozen.content part.old) → OnlyDevicesOut (told S.history S.Device.history S.Frozen.content part.new) }
+    ensures log_out { OnOk result (LogIsOut (told S.history S.Device.history S.Frozen.content part.old) → LogIsOut (told S.history S.Device.history S.Frozen.content part.new)) }
+    ensures log_out_spent { IsErrOf result EngineFault.Spent → LogIsOut (told S.history S.Device.history S.Frozen.content part.old) → LogIsOut (told S.history S.Device.history S.Frozen.content part.new) }
     ensures no_flush { part.new.flushing ≡ false }
     ensures no_merge { part.new.merging ≡ None }
     ensures moments { MomentsStayOver (told S.history S.Device.history S.Frozen.content part.old) (S.Device.history part.new.log.device) (S.history part.new.store) }

@@ -4,6 +4,7 @@ ghost use Rattle.std.specs.Prelude.{◌≡◌, ◌≤◌, ◌+◌, ◌^◌, [], 
 ghost use Rattle.tc_model.specs.Keyed.{values_in};
 ghost use Rattle.tc_run_model.specs.Kinds.{AreOfKinds};
 ghost use Rattle.tc_plain_model.specs.Part.{part_writes_all};
+ghost use Rattle.tc_part.specs.FilesOut.{LogIsOut, OnlyDevicesOut};
 ghost use Rattle.tc_part_model.specs.Leaving.{LogMomentsLeaveStore};
 ghost use Rattle.tc_part_model.specs.Meaning.{IsPart, plain_of};
 ghost use Rattle.tc_part_model.specs.PartState.{told, AreTold};
@@ -53,6 +54,13 @@ impl<S: Store> Engine<S> {
         ensures tells { OnOk result (TellsFiles (told S.history S.Device.history S.Frozen.content self.old.part) → TellsFiles (told S.history S.Device.history S.Frozen.content self.new.part)) }
         ensures policy { self.new.policy ≡ self.old.policy }
 
+        // No file is out but those of the part's devices, behind a fault too.
+        ensures devices { OnlyDevicesOut (told S.history S.Device.history S.Frozen.content self.old.part) → OnlyDevicesOut (told S.history S.Device.history S.Frozen.content self.new.part) }
+
+        // That of the active log stays out after Ok, and where nothing was written.
+        ensures log_out { OnOk result (LogIsOut (told S.history S.Device.history S.Frozen.content self.old.part) → LogIsOut (told S.history S.Device.history S.Frozen.content self.new.part)) }
+        ensures log_out_spent { IsErrOf result EngineFault.Spent → LogIsOut (told S.history S.Device.history S.Frozen.content self.old.part) → LogIsOut (told S.history S.Device.history S.Frozen.content self.new.part) }
+
         // The log stays as it is where no write is made, as one of lookups alone makes none.
         ensures unwritten { OnOk result ((p : PartView) → IsPart (told S.history S.Device.history S.Frozen.content self.old.part) p → part_writes_all self.old.part.limits (requests_in list.now) (plain_of (told S.history S.Device.history S.Frozen.content self.old.part) p) ≡ [] → self.new.part.log ≡ self.old.part.log) }
         ensures looked_up { OnOk result (most_writes (requests_in list.now) ≡ 0 → self.new.part.log ≡ self.old.part.log) }
@@ -93,6 +101,7 @@ fn run<S: Store>(alloc: Global, part: &mut Part<S>, list: &[Routed]) -> Result<R
     ensures few_writes { OnOk result (part.new.writes ≤ part.old.writes + most_writes (requests_in list.now)) }
     ensures unwritten { OnOk result ((p : PartView) → IsPart (told S.history S.Device.history S.Frozen.content part.old) p → part_writes_all part.old.limits (requests_in list.now) (plain_of (told S.history S.Device.history S.Frozen.content part.old) p) ≡ [] → part.new.log ≡ part.old.log) }
     ensures looked_up { OnOk result (most_writes (requests_in list.now) ≡ 0 → part.new.log ≡ part.old.log) }
+    ensures log_out { OnOk result (LogIsOut (told S.history S.Device.history S.Frozen.content part.old) → LogIsOut (told S.history S.Device.history S.Frozen.content part.new)) }
     ensures moments { (p : PartView) → IsPart (told S.history S.Device.history S.Frozen.content part.old) p → LogMomentsLeaveStore (staged_as (part_writes_all part.old.limits (requests_in list.now) (plain_of (told S.history S.Device.history S.Frozen.content part.old) p)) p) (told S.history S.Device.history S.Frozen.content part.old) (S.Device.history part.new.log.device) }
     ensures failed { OnErr result ((p : PartView) → IsPart (told S.history S.Device.history S.Frozen.content part.old) p → HasFailedWith (part_writes_all part.old.limits (requests_in list.now) (plain_of (told S.history S.Device.history S.Frozen.content part.old) p)) (record (told S.history S.Device.history S.Frozen.content part.new) { failed = true }) p) }
     ensures left { OnErr result (part.new ≡ record part.old { main = part.new.main; active = part.new.active; staged = part.new.staged; taken = part.new.taken; live = part.new.live; log = part.new.log; failed = part.new.failed }) }

@@ -6,6 +6,7 @@ use Rattle.tc_store.specs.declared.file_name.FileName.TheVariants.{Component, Lo
 use Rattle.tc_work.specs.Faults.{AreOfFiles, IfDamaged}
 use Rattle.tc_store.specs.StoreCalls.{makes}
 use Rattle.tc_flush.proofs.Outcomes.{ok_then}
+use Rattle.tc_part.specs.FilesOut.{LogIsOut}
 use Rattle.tc_part_model.specs.Changes.{sealed_part}
 use Rattle.tc_part_model.specs.PartState.{PartState, ToldComponent, told, AreTold, IsTold}
 use Rattle.tc_part_model.specs.PartView.{store_of}
@@ -172,3 +173,23 @@ returns-clause-unmoved g c = λ spent. absurd (c.flush_sealed.ensures.unspent sp
 
 pub returns-clause-behind : goal.returns-clause-behind
 returns-clause-behind g c = ok_then c.flush_sealed.result _ _ (λ behind. (behind.0, behind.1 ∙ ap (λ (s : PartState _ _ _ _). s.list ++ behind.0 ∷ []) c.in_ok-seal.ensures.same)) c.flush_sealed.ensures.behind
+
+-- ---- what is out
+
+pub returns-in_err-seal-clause-devices : goal.returns-in_err-seal-clause-devices
+returns-in_err-seal-clause-devices g c = λ tells. c.seal.ensures.devices
+
+pub returns-clause-devices : goal.returns-clause-devices
+returns-clause-devices g c = λ tells only. c.flush_sealed.ensures.devices (c.seal.ensures.tells tells) (c.seal.ensures.devices only)
+
+pub returns-in_err-seal-clause-log_out_spent : goal.returns-in_err-seal-clause-log_out_spent
+returns-in_err-seal-clause-log_out_spent g c = λ spent is.
+    let store = c.seal.ensures.unspent (spent_below c.from_residual.result c.seal.result c.in_err-seal.field-0.0 c.from_residual.ensures.1 c.in_err-seal.was spent) in
+    subst (λ (s : PartState _ _ _ _). LogIsOut (told g.S.Store.history g.S.Device.Device.history g.S.Frozen.Frozen.content s)) (sym c.in_err-seal.ensures.left)
+    (subst (λ store. LogIsOut (record (told g.S.Store.history g.S.Device.Device.history g.S.Frozen.Frozen.content c.args.part.now) { disks = g.S.Store.history store })) (sym store) is)
+
+pub returns-clause-log_out : goal.returns-clause-log_out
+returns-clause-log_out g c = ok_then c.flush_sealed.result _ _ (λ flushed is. flushed c.in_ok-seal.ensures.log_out) c.flush_sealed.ensures.log_out
+
+pub returns-clause-log_out_spent : goal.returns-clause-log_out_spent
+returns-clause-log_out_spent g c = λ spent. absurd (c.flush_sealed.ensures.unspent spent)

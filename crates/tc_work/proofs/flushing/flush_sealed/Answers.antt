@@ -19,6 +19,7 @@ use Rattle.tc_work.proofs.Watches.{as_watched, flush_cause, flush_watched, main_
 use Rattle.tc_work.proofs.Windows.{err_always}
 use Rattle.tc_work.proofs.MovedDocuments.{flush_back, moved_then}
 use Rattle.tc_part.proofs.FreshFiles.{before_in, ran_tells}
+use Rattle.tc_work.proofs.FilesOut.{job_tells, logs_tell_still}
 use Rattle.tc_work.proofs.flushing.flush_sealed.Goals as goal
 
 pub begin_flush-requires-clause-own : goal.begin_flush-requires-clause-own
@@ -318,3 +319,37 @@ returns-clause-behind g c =
     let sound : c.begin_flush.new.self.failed ≡ false = ap (λ (s : PartState _ _ _ _). s.failed) same ∙ c.requires.sound in
     let listed = c.in_ok-finish_flush.ensures.listed sound in
     (listed.component, listed.listed ∙ ap (λ (s : PartState _ _ _ _). s.list ++ listed.component ∷ []) same)
+
+-- ---- what is out
+
+pub returns-in_err-job-clause-devices : goal.returns-in_err-job-clause-devices
+returns-in_err-job-clause-devices g c = λ tells. c.begin_flush.ensures.devices
+
+pub returns-in_err-finish_flush-clause-devices : goal.returns-in_err-finish_flush-clause-devices
+returns-in_err-finish_flush-clause-devices g c = λ tells only.
+    let t = told g.S.Store.history g.S.Device.Device.history g.S.Frozen.Frozen.content c.args.part.now in
+    let u = told g.S.Store.history g.S.Device.Device.history g.S.Frozen.Frozen.content c.begin_flush.new.self in
+    let begins = c.in_ok-job.ensures in
+    let same = begins.same in
+    let name = flushed_name c.args.part.now in
+    let device = g.S.Device.Device.history c.run-out.result.device in
+    let documents = c.tables_keep_documents.ensures.some c.in_ok-job.job.kept begins.lawful in
+    let device_tells = job_tells name t.disks u.disks (AreTold t.components) _ (g.S.Device.Device.history c.in_ok-job.job.device) device begins.made begins.file c.requires.ready.components (λ needed. c.run-out.ensures.moments (before_in name t.disks) documents.table documents.of) in
+    let logs = logs_tell_still name t u begins.made (ap (λ (s : PartState _ _ _ _). g.S.Device.Device.history s.log.device) same) (ap (λ (s : PartState _ _ _ _). (told g.S.Store.history g.S.Device.Device.history g.S.Frozen.Frozen.content s).sealed_log) same) tells in
+    c.finish_flush.ensures.devices device_tells logs (c.begin_flush.ensures.devices only)
+
+pub returns-clause-devices : goal.returns-clause-devices
+returns-clause-devices g c = λ tells only.
+    let t = told g.S.Store.history g.S.Device.Device.history g.S.Frozen.Frozen.content c.args.part.now in
+    let u = told g.S.Store.history g.S.Device.Device.history g.S.Frozen.Frozen.content c.begin_flush.new.self in
+    let begins = c.in_ok-job.ensures in
+    let same = begins.same in
+    let name = flushed_name c.args.part.now in
+    let device = g.S.Device.Device.history c.run-out.result.device in
+    let documents = c.tables_keep_documents.ensures.some c.in_ok-job.job.kept begins.lawful in
+    let device_tells = job_tells name t.disks u.disks (AreTold t.components) _ (g.S.Device.Device.history c.in_ok-job.job.device) device begins.made begins.file c.requires.ready.components (λ needed. c.run-out.ensures.moments (before_in name t.disks) documents.table documents.of) in
+    let logs = logs_tell_still name t u begins.made (ap (λ (s : PartState _ _ _ _). g.S.Device.Device.history s.log.device) same) (ap (λ (s : PartState _ _ _ _). (told g.S.Store.history g.S.Device.Device.history g.S.Frozen.Frozen.content s).sealed_log) same) tells in
+    c.finish_flush.ensures.devices device_tells logs (c.begin_flush.ensures.devices only)
+
+pub returns-clause-log_out : goal.returns-clause-log_out
+returns-clause-log_out g c = λ is. c.in_ok-finish_flush.ensures.log_out (c.in_ok-job.ensures.log_out is)

@@ -31,6 +31,7 @@ use Rattle.tc_work.proofs.StoredMoments.{store_moments, where_told}
 use Rattle.tc_work.proofs.UnharmedRecords.{not_harmed_run}
 use Rattle.tc_work.proofs.Watches.{main_watched, merge_watched}
 use Rattle.tc_work.proofs.Windows.{err_always}
+use Rattle.tc_work.proofs.FilesOut.{job_tells}
 use Rattle.tc_work.proofs.merging.merge_run.Goals as goal
 
 pub begin_merge-requires-clause-own : goal.begin_merge-requires-clause-own
@@ -418,3 +419,30 @@ returns-clause-swapped g c =
       listed.component,
       listed.listed ∙ ap (λ run. swapped run listed.component c.begin_merge.new.self.list) begins.out ∙ ap (λ (s : PartState _ _ _ _). swapped c.args.run listed.component s.list) same,
     )
+
+-- ---- what is out
+
+pub returns-in_err-finish_merge-clause-devices : goal.returns-in_err-finish_merge-clause-devices
+returns-in_err-finish_merge-clause-devices g c = λ only.
+    let t = told g.S.Store.history g.S.Device.Device.history g.S.Frozen.Frozen.content c.args.part.now in
+    let u = told g.S.Store.history g.S.Device.Device.history g.S.Frozen.Frozen.content c.begin_merge.new.self in
+    let begins = c.in_ok-job.ensures in
+    let name = name_of (merged_head c.args.part.now.number c.args.part.now.count c.args.run c.args.part.now.list) in
+    let device = g.S.Device.Device.history c.run-out.result.device in
+    let device_tells = job_tells name t.disks u.disks (AreTold t.components) _ (g.S.Device.Device.history c.in_ok-job.job.device) device begins.made begins.file c.requires.ready.components
+    (λ are_told. c.run-out.ensures.moments (before_in name t.disks) (subst (AreRunTold g.S.Frozen.Frozen.content) (sym begins.components) (run_told g.S.Frozen.Frozen.content c.args.run c.args.part.now.list are_told))) in
+    c.finish_merge.ensures.devices device_tells (c.begin_merge.ensures.devices only)
+
+pub returns-clause-devices : goal.returns-clause-devices
+returns-clause-devices g c = λ only.
+    let t = told g.S.Store.history g.S.Device.Device.history g.S.Frozen.Frozen.content c.args.part.now in
+    let u = told g.S.Store.history g.S.Device.Device.history g.S.Frozen.Frozen.content c.begin_merge.new.self in
+    let begins = c.in_ok-job.ensures in
+    let name = name_of (merged_head c.args.part.now.number c.args.part.now.count c.args.run c.args.part.now.list) in
+    let device = g.S.Device.Device.history c.run-out.result.device in
+    let device_tells = job_tells name t.disks u.disks (AreTold t.components) _ (g.S.Device.Device.history c.in_ok-job.job.device) device begins.made begins.file c.requires.ready.components
+    (λ are_told. c.run-out.ensures.moments (before_in name t.disks) (subst (AreRunTold g.S.Frozen.Frozen.content) (sym begins.components) (run_told g.S.Frozen.Frozen.content c.args.run c.args.part.now.list are_told))) in
+    c.finish_merge.ensures.devices device_tells (c.begin_merge.ensures.devices only)
+
+pub returns-clause-log_out : goal.returns-clause-log_out
+returns-clause-log_out g c = λ is. c.in_ok-finish_merge.ensures.log_out (c.in_ok-job.ensures.log_out is)

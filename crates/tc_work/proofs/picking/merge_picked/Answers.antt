@@ -23,6 +23,8 @@ loop-run-preserved g c =
       same = merged_again c.args.part.now l.part c.merge_run.new.part same c.in_ok-merge_run.ensures.same;
       merged = one_more_merged c.args.policy (λ f. g.S.Frozen.Frozen.size f) c.args.part.now.list l.part.list c.merge_run.new.part.list c.in-Some.run' c.in_ok-merge_run.ensures.swapped.0 l.invariant.merged
           (subst (λ o. IfSome o (IsPicked c.args.policy (map (λ m. g.S.Frozen.Frozen.size m.file) l.part.list))) c.in-Some.is c.in_ok-run.ensures.picked) c.in_ok-merge_run.ensures.swapped.1;
+      devices = λ only. c.merge_run.ensures.devices (l.invariant.devices only);
+      log_out = λ is. c.in_ok-merge_run.ensures.log_out (l.invariant.log_out is);
       watched = then_watched g.S.Watch.Watch.counts ⊥ _ ⊥ c.args.part.now l.part c.merge_run.new.part l.invariant.watched c.merge_run.ensures.watched (λ no. absurd no);
     }
 
@@ -47,3 +49,6 @@ returns-in_err-merge_run-clause-failed g c =
     let now = told g.S.Store.history g.S.Device.Device.history g.S.Frozen.Frozen.content c.loop-run.part in
     let new = told g.S.Store.history g.S.Device.Device.history g.S.Frozen.Frozen.content c.merge_run.new.part in
     err_always c.from_residual-in_err-merge_run.result _ (fails_then first now new c.loop-run.invariant.stays c.in_err-merge_run.ensures.failed)
+
+pub returns-in_err-merge_run-clause-devices : goal.returns-in_err-merge_run-clause-devices
+returns-in_err-merge_run-clause-devices g c = λ only. c.merge_run.ensures.devices (c.loop-run.invariant.devices only)

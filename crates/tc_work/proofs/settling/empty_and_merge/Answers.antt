@@ -108,3 +108,15 @@ pub returns-clause-flushed : goal.returns-clause-flushed
 returns-clause-flushed g c = ok_then c.merge_picked.result _ _ (λ merged.
     let behind = c.in_ok-seal_and_flush.ensures.behind in
     (behind.0, subst (λ list. IsMergedBy c.args.policy (λ f. g.S.Frozen.Frozen.size f) list c.merge_picked.new.part.list) behind.1 merged)) c.merge_picked.ensures.merged
+
+pub returns-clause-devices : goal.returns-clause-devices
+returns-clause-devices g c = λ tells only. c.merge_picked.ensures.devices (c.seal_and_flush.ensures.devices tells only)
+
+pub returns-in_err-seal_and_flush-clause-log_out_spent : goal.returns-in_err-seal_and_flush-clause-log_out_spent
+returns-in_err-seal_and_flush-clause-log_out_spent g c = λ spent. c.seal_and_flush.ensures.log_out_spent (same_fault c.from_residual.result c.seal_and_flush.result c.in_err-seal_and_flush.field-0.0 _ c.from_residual.ensures.1 c.in_err-seal_and_flush.was spent)
+
+pub returns-clause-log_out : goal.returns-clause-log_out
+returns-clause-log_out g c = ok_then c.merge_picked.result _ _ (λ goes is. goes (c.in_ok-seal_and_flush.ensures.log_out is)) c.merge_picked.ensures.log_out
+
+pub returns-clause-log_out_spent : goal.returns-clause-log_out_spent
+returns-clause-log_out_spent g c = λ spent. absurd (c.merge_picked.ensures.unspent spent)

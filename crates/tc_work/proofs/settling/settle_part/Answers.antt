@@ -60,3 +60,11 @@ returns-else-is_due-clause-flushed g c = ok_always c.merge_picked.result _ (λ d
 
 pub returns-else-is_due-clause-merged : goal.returns-else-is_due-clause-merged
 returns-else-is_due-clause-merged g c = ok_then c.merge_picked.result _ _ (λ merged undue. merged) c.merge_picked.ensures.merged
+
+-- ---- what is out
+
+pub returns-else-is_due-clause-devices : goal.returns-else-is_due-clause-devices
+returns-else-is_due-clause-devices g c = λ tells. c.merge_picked.ensures.devices
+
+pub returns-else-is_due-clause-log_out_spent : goal.returns-else-is_due-clause-log_out_spent
+returns-else-is_due-clause-log_out_spent g c = λ spent. absurd (c.merge_picked.ensures.unspent spent)

@@ -1,4 +1,5 @@
-use Rattle.std.proofs.Common.{◌∙◌, ◌+◌, ap, subst, refl, length, true, Some, arith}
+use Rattle.std.proofs.Common.{◌∙◌, ◌+◌, ap, subst, sym, refl, length, true, Some, arith}
+use Rattle.tc_part.specs.FilesOut.{LogIsOut}
 use Rattle.tc_part_model.specs.Leaving.{LogMomentsLeaveStore}
 use Rattle.tc_part_model.specs.Meaning.{plain_of, HasFailedAs}
 use Rattle.tc_part_model.specs.PartState.{PartState, Told, told}
@@ -137,3 +138,6 @@ pub returns-clause-few_writes : goal.returns-clause-few_writes
 returns-clause-few_writes g c =
     few_written c.args.part.now.writes c.answer_all.new.part.writes (length c.answer_all.new.part.staged) (most_writes (requests_in c.args.list.now)) c.commit.new.self.writes
     (ap (λ (s : PartState _ _ _ _). s.writes) c.answer_all.ensures.same) c.in_ok-replies.ensures.grown.few (ap (λ (s : PartState _ _ _ _). s.writes) c.in_ok-commit.ensures.same)
+
+pub returns-clause-log_out : goal.returns-clause-log_out
+returns-clause-log_out g c = λ is. c.in_ok-commit.ensures.log_out (subst (λ (s : PartState _ _ _ _). LogIsOut (told g.S.Store.history g.S.Device.Device.history g.S.Frozen.Frozen.content s)) (sym c.answer_all.ensures.same) is)

@@ -52,3 +52,6 @@ returns-clause-merger g c = rw (← c.self.view_is) c.close.ensures.merger
 
 pub returns-clause-reader : goal.returns-clause-reader
 returns-clause-reader g c = rw (← c.self.view_is) c.close.ensures.reader
+
+pub returns-clause-brought_in : goal.returns-clause-brought_in
+returns-clause-brought_in g c = rw (← c.self.view_is) c.close.ensures.brought_in

@@ -6,6 +6,7 @@ use Rattle.tc_part_model.specs.Meaning.{IsPart}
 use Rattle.tc_part_model.specs.PartState.{PartState, told}
 use Rattle.tc_part_model.specs.PartView.{PartView, store_of}
 use Rattle.tc_store.specs.declared.file_name.FileName.TheVariants.{Component}
+use Rattle.tc_part.specs.FilesOut.{LogIsOut, OnlyDevicesOut, TellsLogs}
 use Rattle.tc_work.specs.declared.fault.EngineFault.{EngineFault}
 use Rattle.tc_work.specs.EngineState.{EngineState}
 use Rattle.tc_work.specs.Failing.{HasFailedKeeping}
@@ -149,3 +150,19 @@ returns-then-log_len-le-EMPTY_LOG-clause-emptied g c = λ p is tells.
     let awake = (c.self.invariant.awake (ap (λ (s : EngineState _ _ _ _). s.part.failed) c.self.view_is ∙ c.requires.sound)) in
     let short : g.S.Device.Device.size device ≤ empty_size = omega (arith, c.if-log_len-le-EMPTY_LOG.true, c.log_len.ensures, ap (λ (s : PartState _ _ _ _). g.S.Device.Device.size s.log.device) same) in
     none_active t p is tells.components (sym (ap (λ (s : PartState _ _ _ _). s.staged) same) ∙ awake.nothing_staged) (unwritten t p (g.S.Device.Device.size device) is tells.store (laws.told_size device) (laws.content_may_stay device) short)
+
+-- ---- what is out
+
+pub returns-clause-devices : goal.returns-clause-devices
+returns-clause-devices g c = subst (λ (s : PartState _ _ _ _). TellsLogs (told g.S.Store.history g.S.Device.Device.history g.S.Frozen.Frozen.content s) → OnlyDevicesOut (told g.S.Store.history g.S.Device.Device.history g.S.Frozen.Frozen.content s) → OnlyDevicesOut (told g.S.Store.history g.S.Device.Device.history g.S.Frozen.Frozen.content c.seal_and_flush.new.part)) (inside_is c.self.inside.part c.self.inside.failed c.args.self.now.part (ap (λ (e : EngineState _ _ _ _). e.part) c.self.view_is) c.requires.sound c.self.invariant.awake) c.seal_and_flush.ensures.devices
+
+pub returns-in_err-seal_and_flush-clause-devices : goal.returns-in_err-seal_and_flush-clause-devices
+returns-in_err-seal_and_flush-clause-devices g c = subst (λ (s : PartState _ _ _ _). TellsLogs (told g.S.Store.history g.S.Device.Device.history g.S.Frozen.Frozen.content s) → OnlyDevicesOut (told g.S.Store.history g.S.Device.Device.history g.S.Frozen.Frozen.content s) → OnlyDevicesOut (told g.S.Store.history g.S.Device.Device.history g.S.Frozen.Frozen.content c.seal_and_flush.new.part)) (inside_is c.self.inside.part c.self.inside.failed c.args.self.now.part (ap (λ (e : EngineState _ _ _ _). e.part) c.self.view_is) c.requires.sound c.self.invariant.awake) c.seal_and_flush.ensures.devices
+
+pub returns-clause-log_out : goal.returns-clause-log_out
+returns-clause-log_out g c = subst (λ (s : PartState _ _ _ _). LogIsOut (told g.S.Store.history g.S.Device.Device.history g.S.Frozen.Frozen.content s) → LogIsOut (told g.S.Store.history g.S.Device.Device.history g.S.Frozen.Frozen.content c.seal_and_flush.new.part)) (inside_is c.self.inside.part c.self.inside.failed c.args.self.now.part (ap (λ (e : EngineState _ _ _ _). e.part) c.self.view_is) c.requires.sound c.self.invariant.awake) c.in_ok-seal_and_flush.ensures.log_out
+
+pub returns-in_err-seal_and_flush-clause-log_out_spent : goal.returns-in_err-seal_and_flush-clause-log_out_spent
+returns-in_err-seal_and_flush-clause-log_out_spent g c = λ spent.
+    subst (λ (s : PartState _ _ _ _). LogIsOut (told g.S.Store.history g.S.Device.Device.history g.S.Frozen.Frozen.content s) → LogIsOut (told g.S.Store.history g.S.Device.Device.history g.S.Frozen.Frozen.content c.seal_and_flush.new.part)) (inside_is c.self.inside.part c.self.inside.failed c.args.self.now.part (ap (λ (e : EngineState _ _ _ _). e.part) c.self.view_is) c.requires.sound c.self.invariant.awake)
+    (c.seal_and_flush.ensures.log_out_spent (same_fault c.from_residual.result c.seal_and_flush.result c.in_err-seal_and_flush.field-0.0 _ c.from_residual.ensures.1 c.in_err-seal_and_flush.was spent))

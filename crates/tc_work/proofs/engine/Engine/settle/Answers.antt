@@ -5,6 +5,7 @@ use Rattle.tc_log.specs.Layout.{empty_size}
 use Rattle.tc_part_model.specs.Meaning.{IsPart}
 use Rattle.tc_part_model.specs.PartState.{PartState, told}
 use Rattle.tc_part_model.specs.PartView.{PartView}
+use Rattle.tc_part.specs.FilesOut.{LogIsOut, OnlyDevicesOut, TellsLogs}
 use Rattle.tc_work.specs.declared.fault.EngineFault.{EngineFault}
 use Rattle.tc_work.specs.EngineState.{EngineState}
 use Rattle.tc_work.specs.Failing.{FailsKeeping}
@@ -112,3 +113,19 @@ pub returns-clause-merged : goal.returns-clause-merged
 returns-clause-merged g c =
     subst (λ (policy : Policy). (IsDue (λ d. g.S.Device.Device.size d) c.args.self.now.part → ⊥) → IsMergedBy policy (λ f. g.S.Frozen.Frozen.size f) c.args.self.now.part.list c.settle_part.new.part.list) (ap (λ (e : EngineState _ _ _ _). e.policy) c.self.view_is)
     (subst (λ (s : PartState _ _ _ _). (IsDue (λ d. g.S.Device.Device.size d) s → ⊥) → IsMergedBy c.self.inside.policy (λ f. g.S.Frozen.Frozen.size f) s.list c.settle_part.new.part.list) (inside_is c.self.inside.part c.self.inside.failed c.args.self.now.part (ap (λ (e : EngineState _ _ _ _). e.part) c.self.view_is) c.requires.sound c.self.invariant.awake) (c.in_ok-settle_part.ensures.merged))
+
+-- ---- what is out
+
+pub returns-clause-devices : goal.returns-clause-devices
+returns-clause-devices g c = subst (λ (s : PartState _ _ _ _). TellsLogs (told g.S.Store.history g.S.Device.Device.history g.S.Frozen.Frozen.content s) → OnlyDevicesOut (told g.S.Store.history g.S.Device.Device.history g.S.Frozen.Frozen.content s) → OnlyDevicesOut (told g.S.Store.history g.S.Device.Device.history g.S.Frozen.Frozen.content c.settle_part.new.part)) (inside_is c.self.inside.part c.self.inside.failed c.args.self.now.part (ap (λ (e : EngineState _ _ _ _). e.part) c.self.view_is) c.requires.sound c.self.invariant.awake) c.settle_part.ensures.devices
+
+pub returns-in_err-settle_part-clause-devices : goal.returns-in_err-settle_part-clause-devices
+returns-in_err-settle_part-clause-devices g c = subst (λ (s : PartState _ _ _ _). TellsLogs (told g.S.Store.history g.S.Device.Device.history g.S.Frozen.Frozen.content s) → OnlyDevicesOut (told g.S.Store.history g.S.Device.Device.history g.S.Frozen.Frozen.content s) → OnlyDevicesOut (told g.S.Store.history g.S.Device.Device.history g.S.Frozen.Frozen.content c.settle_part.new.part)) (inside_is c.self.inside.part c.self.inside.failed c.args.self.now.part (ap (λ (e : EngineState _ _ _ _). e.part) c.self.view_is) c.requires.sound c.self.invariant.awake) c.settle_part.ensures.devices
+
+pub returns-clause-log_out : goal.returns-clause-log_out
+returns-clause-log_out g c = subst (λ (s : PartState _ _ _ _). LogIsOut (told g.S.Store.history g.S.Device.Device.history g.S.Frozen.Frozen.content s) → LogIsOut (told g.S.Store.history g.S.Device.Device.history g.S.Frozen.Frozen.content c.settle_part.new.part)) (inside_is c.self.inside.part c.self.inside.failed c.args.self.now.part (ap (λ (e : EngineState _ _ _ _). e.part) c.self.view_is) c.requires.sound c.self.invariant.awake) c.in_ok-settle_part.ensures.log_out
+
+pub returns-in_err-settle_part-clause-log_out_spent : goal.returns-in_err-settle_part-clause-log_out_spent
+returns-in_err-settle_part-clause-log_out_spent g c = λ spent.
+    subst (λ (s : PartState _ _ _ _). LogIsOut (told g.S.Store.history g.S.Device.Device.history g.S.Frozen.Frozen.content s) → LogIsOut (told g.S.Store.history g.S.Device.Device.history g.S.Frozen.Frozen.content c.settle_part.new.part)) (inside_is c.self.inside.part c.self.inside.failed c.args.self.now.part (ap (λ (e : EngineState _ _ _ _). e.part) c.self.view_is) c.requires.sound c.self.invariant.awake)
+    (c.settle_part.ensures.log_out_spent (same_fault c.from_residual.result c.settle_part.result c.in_err-settle_part.field-0.0 _ c.from_residual.ensures.1 c.in_err-settle_part.was spent))

@@ -1,5 +1,6 @@
 use Rattle.std.proofs.Common.{◌≡◌, ◌∙◌, ◌≤◌, ◌+◌, ◌^◌, [], ap, map, subst, sym, length, true}
 use Rattle.tc_part.specs.Harms.{IsHarmIn}
+use Rattle.tc_log.specs.Appending.{LogState}
 use Rattle.tc_part_model.specs.Leaving.{LogMomentsLeaveStore}
 use Rattle.tc_part_model.specs.Meaning.{IsPart, plain_of}
 use Rattle.tc_part_model.specs.PartState.{PartState, told, AreTold}
@@ -19,6 +20,7 @@ use Rattle.tc_work.proofs.OpenEngines.{inside_is, closed_sound}
 use Rattle.tc_work.specs.Settling.{MaySettle, TellsFiles}
 use Rattle.tc_part_model.proofs.LoadedComponents.{all_loaded}
 use Rattle.tc_work.proofs.UnharmedRecords.{not_harmed_in, unharmed}
+use Rattle.tc_part.specs.FilesOut.{LogIsOut, OnlyDevicesOut}
 use Rattle.tc_work.proofs.engine.Engine.window.Goals as goal
 
 pub run-requires-clause-sound : goal.run-requires-clause-sound
@@ -122,3 +124,23 @@ returns-in_err-replies-clause-undamaged g c = λ p is are_told.
     unharmed c.from_residual.result _
     (λ file place bytes. not_harmed_in g.S.Frozen.Frozen.content laws.found laws.fetched c.args.self.now.part.list p.list file place bytes (all_loaded g.S.Frozen.Frozen.content c.args.self.now.part.list p.list is.view.components are_told))
     (returns-in_err-replies-clause-harmed g c)
+
+-- ---- what is out
+
+pub returns-clause-devices : goal.returns-clause-devices
+returns-clause-devices g c = λ only. subst (λ (s : PartState _ _ _ _). OnlyDevicesOut (told g.S.Store.history g.S.Device.Device.history g.S.Frozen.Frozen.content s)) (sym (returns-clause-same g c)) only
+
+pub returns-in_err-replies-clause-devices : goal.returns-in_err-replies-clause-devices
+returns-in_err-replies-clause-devices g c = λ only.
+    subst (λ (s : PartState _ _ _ _). OnlyDevicesOut (told g.S.Store.history g.S.Device.Device.history g.S.Frozen.Frozen.content s)) (sym c.in_err-replies.ensures.left)
+    (subst (λ (s : PartState _ _ _ _). OnlyDevicesOut (told g.S.Store.history g.S.Device.Device.history g.S.Frozen.Frozen.content s)) (sym (inside_is c.self.inside.part c.self.inside.failed c.args.self.now.part (ap (λ (e : EngineState _ _ _ _). e.part) c.self.view_is) c.requires.sound c.self.invariant.awake)) only)
+
+pub returns-clause-log_out : goal.returns-clause-log_out
+returns-clause-log_out g c = subst (λ (s : PartState _ _ _ _). LogIsOut (told g.S.Store.history g.S.Device.Device.history g.S.Frozen.Frozen.content s) → LogIsOut (told g.S.Store.history g.S.Device.Device.history g.S.Frozen.Frozen.content c.run.new.part)) (inside_is c.self.inside.part c.self.inside.failed c.args.self.now.part (ap (λ (e : EngineState _ _ _ _). e.part) c.self.view_is) c.requires.sound c.self.invariant.awake) c.in_ok-replies.ensures.log_out
+
+pub returns-in_err-replies-clause-log_out_spent : goal.returns-in_err-replies-clause-log_out_spent
+returns-in_err-replies-clause-log_out_spent g c = λ spent is.
+    let log = c.run.ensures.unspent (same_fault c.from_residual.result c.run.result c.in_err-replies.field-0.0 _ c.from_residual.ensures.1 c.in_err-replies.was spent) in
+    subst (λ (s : PartState _ _ _ _). LogIsOut (told g.S.Store.history g.S.Device.Device.history g.S.Frozen.Frozen.content s)) (sym c.in_err-replies.ensures.left)
+    (subst (λ (l : LogState _). LogIsOut (record (told g.S.Store.history g.S.Device.Device.history g.S.Frozen.Frozen.content c.self.inside.part) { log = g.S.Device.Device.history l.device })) (sym log)
+    (subst (λ (s : PartState _ _ _ _). LogIsOut (told g.S.Store.history g.S.Device.Device.history g.S.Frozen.Frozen.content s)) (sym (inside_is c.self.inside.part c.self.inside.failed c.args.self.now.part (ap (λ (e : EngineState _ _ _ _). e.part) c.self.view_is) c.requires.sound c.self.invariant.awake)) is))
