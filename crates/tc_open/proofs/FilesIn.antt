@@ -16,7 +16,7 @@ use Rattle.tc_part_model.specs.PartState.{IsTold}
 use Rattle.tc_part_model.proofs.DeviceFiles.{comes_untold}
 use Rattle.tc_replay.specs.Openings.{AreIn}
 use Rattle.tc_open.specs.FirstLog.{FailsCreating}
-use Rattle.tc_open.proofs.OpenStates.{tells_since}
+use Rattle.tc_replay.proofs.ToldMoments.{tells_since}
 
 module _ (head : LogHead) (name : FileName) where
   home_in : (f : DiskFile) (disk : Disk) → ((n : FileName) → (name ≡ n → ⊥) → is_out (disk n) ≡ false) → AreIn (put name (home f) disk)

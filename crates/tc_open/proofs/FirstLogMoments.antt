@@ -29,7 +29,7 @@ use Rattle.tc_part_model.proofs.StartedParts.{opening_ends}
 use Rattle.tc_part_model.proofs.ToldFiles.{wasted}
 use Rattle.tc_open.specs.FirstLog.{EachHolds, FailsCreating, Holds, MakesLog, held_under}
 use Rattle.tc_open.specs.Resting.{IsTidy}
-use Rattle.tc_open.proofs.OpenStates.{told_on}
+use Rattle.tc_replay.proofs.ToldMoments.{told_on}
 use Rattle.tc_open.proofs.FirstLogs.{created_leaves, empty_leaves, home_holds, may_start, only_out, out_holds, rest_holds, whole_kept, with_log}
 
 module _ (part : Partition) (cs : List Content) where

@@ -4,7 +4,7 @@ use Rattle.std.specs.Prelude.{All}
 use Rattle.tc_store.specs.declared.damage.Damage.{Damage}
 use Rattle.tc_store.specs.declared.file_name.FileName.{FileName}
 use Rattle.tc_store.specs.Disk.{Disk}
-use Rattle.tc_store.specs.Moments.{EachSince, IfTold}
+use Rattle.tc_store.specs.Moments.{IfTold}
 use Rattle.tc_store.specs.StoreCalls.{comes_home, frozen_entry, makes}
 use Rattle.tc_component.specs.declared.head.Head.{Head}
 use Rattle.tc_component.specs.Loading.{ComponentState}
@@ -14,7 +14,6 @@ use Rattle.tc_log.specs.declared.write.Write as log
 use Rattle.tc_list.specs.Intervals.{last_of}
 use Rattle.tc_lsm_model.specs.Contents.{Content}
 use Rattle.tc_jobs.specs.Lists.{IsListOf}
-use Rattle.tc_part_model.specs.PartState.{IsTold}
 use Rattle.tc_plain_model.specs.Writes.{Write}
 use Rattle.tc_recover.specs.declared.taken.Taken.{Taken}
 use Rattle.tc_recover.specs.Loads.{is_log}
@@ -30,12 +29,7 @@ use Rattle.tc_open.specs.Resting.{AreOwn}
 use Rattle.tc_open.specs.Steps.{AreAbove, AreListed, IsLogUpTo, Stands}
 use Rattle.tc_open.proofs.FlushedOpenings.{reaches}
 use Rattle.tc_open.proofs.LogsCovered.{covered_needless, last_longer, list_longer, none_stay}
-use Rattle.tc_open.proofs.OpenStates.{tells_since}
 use Rattle.tc_open.proofs.OwnFiles.{own_flushed}
-
-pub tells_on : (P : Disk → Type 0) (old new : List Disk) → IsTold old → EachSince P old new → IsTold new
-tells_on P [] new tells since = absurd tells
-tells_on P (disk ∷ past) new tells since = tells_since P disk past new since
 
 damage_weaker : (P Q : Damage → Type 0) (c : OpenCause) → ((damage : Damage) → P damage → Q damage) → IfDamaged c P → IfDamaged c Q
 damage_weaker P Q cause.Disk weaker harmed = tt

@@ -29,7 +29,9 @@ use Rattle.tc_part_model.specs.PartState.{IsTold}
 use Rattle.tc_plain_model.specs.Writes.{Pairs, Write}
 use Rattle.tc_replay.specs.FlushedLogs.{IsLogsFlushed}
 use Rattle.tc_replay.specs.Openings.{AreIn, IsOpening, LeavesLogged, stored_by}
-use Rattle.tc_open.specs.OpenCauses.{IfDamaged, of_job}
+use Rattle.tc_open.specs.declared.fault.OpenCause.{OpenCause}
+use Rattle.tc_open.specs.declared.fault.OpenCause.TheVariants as cause
+use Rattle.tc_open.specs.OpenCauses.{IfDamaged, IsOfCall, IsOfNoFile, of_job}
 use Rattle.tc_open.specs.Openings.{LeavesStored}
 use Rattle.tc_open.specs.Steps.{Keeps, Rests, Stands}
 use Rattle.tc_open.proofs.OpenStates.{if_tells, opening_keeps, stored_behind}
@@ -54,6 +56,21 @@ job_damage {X = X} P r fault is harmed = of fault (subst (λ (s : Result X JobFa
     of job.Disk h = tt
     of (job.Damaged damage) h = h
     of job.Memory h = tt
+
+-- a call that reads no record tells none
+pub call_sound : (c : OpenCause) → IsOfCall c → IfDamaged c (λ damage. ⊥)
+call_sound cause.Disk is = tt
+call_sound (cause.Damaged damage) is = is
+call_sound (cause.Layout found found_of) is = tt
+call_sound cause.Spent is = tt
+call_sound cause.Memory is = tt
+
+pub no_file_sound : (c : OpenCause) → IsOfNoFile c → IfDamaged c (λ damage. ⊥)
+no_file_sound cause.Disk is = tt
+no_file_sound (cause.Damaged damage) is = is
+no_file_sound (cause.Layout found found_of) is = tt
+no_file_sound cause.Spent is = tt
+no_file_sound cause.Memory is = tt
 
 -- ---- the logs are in a component
 

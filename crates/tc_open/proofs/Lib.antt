@@ -13,5 +13,6 @@ mod StartedLogs
 mod StartedFiles
 mod FlushedAbove
 mod FilesIn
+mod ToldOpenings
 mod RestedOpenings
 mod OpenedParts

@@ -1,8 +1,7 @@
 -- A partition between two steps of its opening, where its files are lawful.
-use Rattle.std.proofs.Common.{◌≡◌, ◌∙◌, ◌++◌, ℕ, List, [], ◌∷◌, map, refl, sym, ap, subst, arith, inl, inr, Option, None}
-use Rattle.std.specs.Prelude.{IsSome, Contains}
+use Rattle.std.proofs.Common.{◌≡◌, ◌∙◌, ◌++◌, ℕ, List, [], ◌∷◌, refl, sym, ap, subst, arith, inl, inr, Option, None}
+use Rattle.std.specs.Prelude.{Contains}
 use Rattle.std.specs.List.{AllZip}
-use Rattle.std.proofs.lemmas.List.Elements.{All-cons, All-nil}
 use Rattle.std.proofs.lemmas.Bool.{cases_Bool}
 use Rattle.tc_store.specs.declared.file_name.FileName.{FileName}
 use Rattle.tc_store.specs.declared.file_name.FileName.TheVariants.{Component, Log}
@@ -25,7 +24,7 @@ use Rattle.tc_machine.specs.Steps.{IsExpected}
 use Rattle.tc_machine.proofs.MemorySteps.{opened_logs}
 use Rattle.tc_part_model.specs.Calls.{RemovesSome}
 use Rattle.tc_part_model.specs.Leaving.{KeepsStore}
-use Rattle.tc_part_model.specs.PartState.{AreTold, IsTold, ToldComponent, told_component}
+use Rattle.tc_part_model.specs.PartState.{IsTold}
 use Rattle.tc_jobs.specs.Lists.{file_names}
 use Rattle.tc_recover.specs.Removing.{RemovesFirst, removes_all}
 use Rattle.tc_recover.proofs.Members.{member_cases, no_member}
@@ -37,14 +36,6 @@ use Rattle.tc_open.proofs.KeptStores.{kept_holds}
 use Rattle.tc_open.proofs.OwnFiles.{rests}
 
 -- ---- moments
-
-pub told_on : {X : Type 0} (now : X) (past added : List X) → IsTold (added ++ now ∷ past)
-told_on now past [] = tt
-told_on now past (x ∷ added) = tt
-
--- what told something tells on
-pub tells_since : {X : Type 0} (P : X → Type 0) (now : X) (past new : List X) → EachSince P (now ∷ past) new → IsTold new
-tells_since P now past new since = subst (λ l. IsTold l) (sym since.goes_on) (told_on now past since.added)
 
 pub if_tells : {X : Type 0} (P : Type 0) (moments : List X) → IsTold moments → IfTold moments (λ now. P) → P
 if_tells P [] tells is = absurd tells
@@ -119,11 +110,6 @@ module _ {F : Type 0} (content : F → Option (List ℕ)) where
         inl (omega (arith, begins), omega (arith, ends))
     | inr further ↦ inr (listed_covers list cs from to all.1 further)
   ]
-
-  pub loaded_tell : (list : List (ComponentState F)) (cs : List Content) → AllZip (IsLoadedOf content) list cs → AreTold (map (told_component content) list)
-  loaded_tell [] cs all = All-nil (λ (c : ToldComponent). IsSome c.content)
-  loaded_tell (m ∷ list) [] all = absurd all
-  loaded_tell (m ∷ list) (c ∷ cs) all = All-cons (λ (d : ToldComponent). IsSome d.content) (told_component content m) (map (told_component content) list) (subst (λ o. IsSome o) (sym all.0.tells) refl) (loaded_tell list cs all.1)
 
   -- where no other file is left, the machine may start
   pub tidy_at_last : (part : Partition) (cs : List Content) (list : List (ComponentState F)) (disks : List Disk) → Stands content part cs [] list [] disks → IfTold disks (AreOwn list []) → IfTold disks (IsTidy part cs [])

@@ -10,7 +10,6 @@ use Rattle.tc_store.specs.Moments.{EachSince, IfTold, LeavesAt}
 use Rattle.tc_store.specs.StoreCalls.{makes}
 use Rattle.tc_store.proofs.MomentLemmas.{EachSince-trans, told_map}
 use Rattle.tc_store.proofs.StopLaws.{since_weaker}
-use Rattle.tc_component.specs.Loaded.{IsLoadedOf}
 use Rattle.tc_component.specs.Loading.{ComponentState}
 use Rattle.tc_list.specs.Intervals as listed
 use Rattle.tc_lsm_model.specs.Contents.{Content, Partition}
@@ -25,17 +24,17 @@ use Rattle.tc_part_model.specs.Meaning.{IsOfContent, IsPart}
 use Rattle.tc_part_model.specs.Newest.{names_by, newest_index}
 use Rattle.tc_part_model.specs.PartState.{AreTold, IsTold, Told, told_component}
 use Rattle.tc_part_model.specs.Starting.{first_log, started_part}
-use Rattle.tc_part_model.proofs.LoadedComponents.{is_of}
 use Rattle.tc_part_model.proofs.NewestComponents.{names_are, next_is}
 use Rattle.tc_plain_model.specs.Store.{Store}
 use Rattle.tc_plain_model.specs.Writes.{Pairs, Write}
 use Rattle.tc_recover.proofs.Members.{no_member}
 use Rattle.tc_replay.specs.Openings.{AreIn}
+use Rattle.tc_replay.proofs.CountedLogs.{loaded_are, loaded_tell}
 use Rattle.tc_open.specs.FirstLog.{EachHolds, Holds, MakesLog, held_under}
 use Rattle.tc_open.specs.Openings.{IsOpenedAs, LeavesStored}
 use Rattle.tc_open.specs.Resting.{AreOwn, IsTidy}
 use Rattle.tc_open.specs.Steps.{Keeps, Rests}
-use Rattle.tc_open.proofs.OpenStates.{if_tells, keeps_on, loaded_tell, no_log_listed, tidy_at_last}
+use Rattle.tc_open.proofs.OpenStates.{if_tells, keeps_on, no_log_listed, tidy_at_last}
 use Rattle.tc_open.proofs.StartedLogs.{next_loaded}
 
 -- ---- over every store
@@ -68,12 +67,6 @@ both_told P Q (disk ∷ past) p q = (p, q)
 -- ---- where the files were lawful
 
 module _ {F : Type 0} (content : F → Option (List ℕ)) where
-  loaded_are : (list : List (ComponentState F)) (cs : List Content) → AllZip (IsLoadedOf content) list cs → AllZip IsOfContent (map (told_component content) list) cs
-  loaded_are [] [] all = tt
-  loaded_are [] (c ∷ cs) all = absurd all
-  loaded_are (m ∷ list) [] all = absurd all
-  loaded_are (m ∷ list) (c ∷ cs) all = (is_of content m c all.0, loaded_are list cs all.1)
-
   module _ (part : Partition) (cs : List Content) (logs : List (List Write)) (list : List (ComponentState F)) (disks : List Disk) (rests : Rests content part (recovered cs logs) list disks) (own : IfTold disks (AreOwn list [])) where
     pub rest_tidy : IfTold disks (IsTidy part rests.contents [])
     rest_tidy = tidy_at_last content part rests.contents list disks rests.stands own
@@ -82,7 +75,7 @@ module _ {F : Type 0} (content : F → Option (List ℕ)) where
     rest_lawful = rests.stands.opening.memory.list
 
     pub rest_are : AllZip IsOfContent (map (told_component content) list) rests.contents
-    rest_are = loaded_are list rests.contents rests.stands.loaded
+    rest_are = loaded_are content list rests.contents rests.stands.loaded
 
     same_pairs : live rests.contents ≡ (recovered cs logs).pairs
     same_pairs = ap (λ (s : Store). s.pairs) rests.same

@@ -33,13 +33,14 @@ use Rattle.tc_recover.specs.Opening.{AnswersBy, AreAllTaken, DiskJudged, Found, 
 use Rattle.tc_recover.specs.Sorting.{Follow, logs_above, open_names}
 use Rattle.tc_recover.specs.Tilings.{end_of}
 use Rattle.tc_replay.specs.Openings.{AreIn, IsOpening}
+use Rattle.tc_replay.proofs.ToldMoments.{tells_since}
 use Rattle.tc_open.specs.Judged.{CauseJudged, IsOpenCause}
-use Rattle.tc_open.specs.OpenCauses.{IfLayout, of_files}
+use Rattle.tc_open.specs.OpenCauses.{IfDamaged, IfLayout, of_files}
 use Rattle.tc_open.specs.Openings.{LeavesStored}
 use Rattle.tc_open.specs.Steps.{AreAbove, AreListed, IsLogUpTo, Keeps, Stands}
 use Rattle.tc_open.proofs.FilesRead.{Reach, left_named, listed_named, logs_reach}
 use Rattle.tc_open.proofs.LogsCovered.{end_listed}
-use Rattle.tc_open.proofs.OpenStates.{files_keep, tells_since}
+use Rattle.tc_open.proofs.OpenStates.{files_keep}
 
 -- ---- lawful files
 
@@ -108,6 +109,16 @@ no_layout X files.Memory is = tt
 pub lawful_passes : (X : Type 0) (part : Partition) (cause : FilesCause) (old : List Disk) → OfLawful part old (λ cs logs. IsNoRefusal {X = X} (Err cause)) → OfLawful part old (λ cs logs. IfLayout (of_files cause) ⊥)
 lawful_passes X part cause [] passes = tt
 lawful_passes X part cause (disk ∷ past) passes = λ cs logs opens. no_layout X cause (passes cs logs opens)
+
+no_damage : (X : Type 0) (cause : FilesCause) → IsNoRefusal {X = X} (Err cause) → IfDamaged (of_files cause) (λ damage. ⊥)
+no_damage X files.Disk is = tt
+no_damage X (files.Damaged damage) is = is
+no_damage X (files.Layout found found_of) is = absurd is
+no_damage X files.Memory is = tt
+
+pub lawful_sound : (X : Type 0) (part : Partition) (cause : FilesCause) (old : List Disk) → OfLawful part old (λ cs logs. IsNoRefusal {X = X} (Err cause)) → OfLawful part old (λ cs logs. IfDamaged (of_files cause) (λ damage. ⊥))
+lawful_sound X part cause [] passes = tt
+lawful_sound X part cause (disk ∷ past) passes = λ cs logs opens. no_damage X cause (passes cs logs opens)
 
 -- ---- over every store
 

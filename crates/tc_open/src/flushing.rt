@@ -18,6 +18,7 @@ ghost use Rattle.tc_recover.specs.Opening.{found_in};
 ghost use Rattle.tc_recover.specs.Refusals.{asked};
 ghost use Rattle.tc_jobs.specs.Lists.{IsListOf};
 ghost use Rattle.tc_part_model.specs.Leaving.{KeepsStore};
+ghost use Rattle.tc_part_model.specs.PartState.{AreTold, told_component};
 ghost use Rattle.tc_replay.specs.FlushedLogs.{IsFlushListed, IsLogsFlushed, IsReplayDamage};
 ghost use Rattle.tc_replay.specs.Openings.{AreIn, AreNeedless, IsOpening, LeavesLogged, stored_by};
 ghost use Rattle.tc_open.specs.Judged.{IsOfLogs};
@@ -54,6 +55,12 @@ pub(crate) fn flush_above<S: Store>(
         → IfOk result (λ r. Keeps (asked part) (recovered cs logs).pairs (S.history tidied.kit.store) (S.history r.kit.store)) }
     ensures kept { (cs : List Content) (logs : List (List PlainWrite)) → Stands (λ file. S.Frozen.content file) (asked part) cs logs tidied.list tidied.writes.items (S.history tidied.kit.store)
         → IfErr result (λ fault. Keeps (asked part) (recovered cs logs).pairs (S.history tidied.kit.store) (S.history fault.kit.store)) }
+    ensures undamaged { (cs : List Content) (logs : List (List PlainWrite)) → Stands (λ file. S.Frozen.content file) (asked part) cs logs tidied.list tidied.writes.items (S.history tidied.kit.store)
+        → IfErr result (λ fault. IfDamaged fault.cause (λ damage. ⊥)) }
+
+    // Where the files of the components are told, so is that of the new one.
+    ensures components { IfTold (S.history tidied.kit.store) (λ disk. AreTold (map (told_component S.Frozen.content) tidied.list))
+        → IfOk result (λ r. IfTold (S.history r.kit.store) (λ disk. AreTold (map (told_component S.Frozen.content) r.list))) }
 
     // So it is over every store: the components reach up to the last log, and no other file is left.
     ensures listed { IfOk result (λ r. AreListed (λ file. S.Frozen.name file) (asked part) r.list) }
@@ -116,6 +123,8 @@ fn flush_kit<S: Store>(
         → IfOk result (λ r. Keeps (part_of head) (recovered cs ws).pairs (S.history kit.store) (S.history r.kit.store)) }
     ensures kept { (cs : List Content) (ws : List (List PlainWrite)) → IsOpening (part_of head) cs ws (S.history kit.store) → AllZip (IsLoadedOf (λ file. S.Frozen.content file)) list cs → writes.now ≡ map (λ log. map kept_write log) ws
         → IfErr result (λ fault. Keeps (part_of head) (recovered cs ws).pairs (S.history kit.store) (S.history fault.kit.store)) }
+    ensures undamaged { (cs : List Content) (ws : List (List PlainWrite)) → IsOpening (part_of head) cs ws (S.history kit.store) → AllZip (IsLoadedOf (λ file. S.Frozen.content file)) list cs → writes.now ≡ map (λ log. map kept_write log) ws
+        → IfTold (S.history kit.store) (λ disk. IfErr result (λ fault. IfDamaged fault.cause (λ damage. ⊥))) }
 
     ensures listed { IfOk result (λ r. IsFlushListed (λ file. S.Frozen.content file) (λ file. S.Frozen.name file) head list r.list (S.history kit.store) (S.history r.kit.store)) }
     ensures partition { IfOk result (λ r. IsListOf head.number head.count list → IsListOf head.number head.count r.list) }

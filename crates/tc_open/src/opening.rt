@@ -15,12 +15,12 @@ ghost use Rattle.tc_merge.specs.Faults.{IsWatched};
 ghost use Rattle.tc_part.specs.Openings.{newest_in};
 ghost use Rattle.tc_part.specs.OwnFiles.{HasOwnFiles};
 ghost use Rattle.tc_part_model.specs.Newest.{names_by};
-ghost use Rattle.tc_part_model.specs.PartState.{told};
+ghost use Rattle.tc_part_model.specs.PartState.{AreTold, told};
 ghost use Rattle.tc_plain_model.specs.Writes.{Write as PlainWrite};
 ghost use Rattle.tc_recover.specs.Files.{TakesSome};
 ghost use Rattle.tc_recover.specs.Lawful.{DiskOpens};
 ghost use Rattle.tc_open.specs.Judged.{CauseJudged, IsOpenCause, Passes};
-ghost use Rattle.tc_open.specs.OpenCauses.{IfLayout};
+ghost use Rattle.tc_open.specs.OpenCauses.{IfDamaged, IfLayout};
 ghost use Rattle.tc_open.specs.Openings.{IsOpenedAs, LeavesStored};
 ghost use Rattle.tc_open.specs.Steps.{Keeps};
 
@@ -47,11 +47,13 @@ pub fn open_part<S: Store>(
     requires at_rest { IfTold (S.history kit.store) IsAtRest }
 
     // Of lawful files it is the partition that stores what they hold, with the names that a reopened store has. They are never taken
-    // for another partition's.
+    // for another partition's, nor for damaged.
     ensures opened { IfTold (S.history kit.store) (λ disk. (cs : List Content) (logs : List (List PlainWrite)) → DiskOpens (record { number = number; count = count }) disk cs logs
         → IfOk result (λ p. IsOpenedAs (record { number = number; count = count }) cs logs (told S.history S.Device.history S.Frozen.content p))) }
     ensures lawful { IfTold (S.history kit.store) (λ disk. (cs : List Content) (logs : List (List PlainWrite)) → DiskOpens (record { number = number; count = count }) disk cs logs
         → IfErr result (λ fault. IfLayout fault.cause ⊥)) }
+    ensures undamaged { IfTold (S.history kit.store) (λ disk. (cs : List Content) (logs : List (List PlainWrite)) → DiskOpens (record { number = number; count = count }) disk cs logs
+        → IfErr result (λ fault. IfDamaged fault.cause (λ damage. ⊥))) }
 
     // At each moment of the store and of the new log a stop leaves what they hold, and so it does behind a fault, where no file is
     // out.
@@ -67,6 +69,9 @@ pub fn open_part<S: Store>(
     ensures refused { IfTold (S.history kit.store) (λ disk. IfErr result (λ fault. CauseJudged (λ file. S.Frozen.content file) (λ file. S.Frozen.name file) (record { number = number; count = count }) disk fault.cause)) }
     ensures causes { IfErr result (λ fault. IsOpenCause S.Watch (λ file. S.Frozen.size file) (λ file. S.Frozen.content file) (λ file. S.Frozen.name file) (record { number = number; count = count }) fault.cause) }
     ensures layout { IfErr result (λ fault. IfLayout fault.cause (TakesSome (S.history kit.store) (S.history fault.kit.store))) }
+
+    // Where its store tells its files, so do those of its components.
+    ensures components { IfOk result (λ p. IfTold (S.history p.store) (λ disk. AreTold (told S.history S.Device.history S.Frozen.content p).components)) }
 
     // Over every store nothing is in its tables, nothing is staged, no job is out, and no other file is left.
     ensures begun { IfOk result (λ p. p ≡ record { number = number; count = count; limits = record { names = limits.names; docs = limits.docs }; memory = limits.memory; store = p.store; main = p.main; flusher = Some kit.flusher; merger = Some kit.merger; reader = Some kit.reader; list = p.list; sealed = None; sealed_log = None; active = []; log = p.log; generation = last_of p.list + 1; staged = []; taken = names_by (newest_in S.Frozen.content p.list); live = p.live; writes = 0; flushing = false; merging = None; failed = false }) }

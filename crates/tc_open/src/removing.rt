@@ -1,6 +1,6 @@
 //! Files that nobody needs are removed, with the kit of a partition.
 
-ghost use Rattle.std.specs.Prelude.{◌≡◌, List, filter, map, IfErr, IfOk};
+ghost use Rattle.std.specs.Prelude.{◌≡◌, [], List, filter, map, IfErr, IfOk};
 ghost use Rattle.tc_store.specs.Moments.{IfTold};
 ghost use Rattle.tc_component.specs.Loading.{ComponentState};
 ghost use Rattle.tc_lsm_model.specs.Contents.{Content, Partition};
@@ -37,6 +37,7 @@ pub(crate) fn remove_files<S: Store>(
     ensures kept { (part : Partition) (cs : List Content) (logs : List (List Write)) → IsOpening part cs logs (S.history kit.store) → IfTold (S.history kit.store) (λ disk. AreNeedless cs disk (needless_names (λ file. S.Frozen.name file) last files.items))
         → IfErr result (λ fault. Keeps part (recovered cs logs).pairs (S.history kit.store) (S.history fault.kit.store)) }
     ensures tells { IsTold (S.history kit.store) → IfOk result (λ r. IsTold (S.history r.kit.store)) }
+    ensures untold { S.history kit.store ≡ [] → IfOk result (λ r. S.history r.kit.store ≡ []) }
 
     // Over every store they are gone.
     ensures logs { IfOk result (λ r. r.logs.items ≡ filter (of_log last) files.items) }

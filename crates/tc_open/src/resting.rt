@@ -1,18 +1,19 @@
 //! All that is done with the files of a partition before it starts.
 
-ghost use Rattle.std.specs.Prelude.{◌≡◌, ◌+◌, [], List, length, IfErr, IfOk};
+ghost use Rattle.std.specs.Prelude.{◌≡◌, ◌+◌, [], List, length, map, IfErr, IfOk};
 ghost use Rattle.tc_store.specs.Disk.{IsAtRest};
 ghost use Rattle.tc_store.specs.Moments.{IfTold};
 ghost use Rattle.tc_list.specs.Intervals.{last_of};
 ghost use Rattle.tc_lsm_model.specs.Contents.{Content};
 ghost use Rattle.tc_machine.specs.Pictures.{recovered};
 ghost use Rattle.tc_merge.specs.Faults.{IsWatched};
+ghost use Rattle.tc_part_model.specs.PartState.{AreTold, told_component};
 ghost use Rattle.tc_plain_model.specs.Writes.{Write as PlainWrite};
 ghost use Rattle.tc_recover.specs.Files.{TakesSome};
 ghost use Rattle.tc_recover.specs.Lawful.{DiskOpens};
 ghost use Rattle.tc_recover.specs.Refusals.{asked};
 ghost use Rattle.tc_open.specs.Judged.{CauseJudged, IsOpenCause, Passes, end_by};
-ghost use Rattle.tc_open.specs.OpenCauses.{IfLayout};
+ghost use Rattle.tc_open.specs.OpenCauses.{IfDamaged, IfLayout};
 ghost use Rattle.tc_open.specs.Resting.{AreOwn};
 ghost use Rattle.tc_open.specs.Steps.{AreListed, Keeps, Rests};
 
@@ -41,12 +42,17 @@ pub(crate) fn bring_to_rest<S: Store>(
         → IfErr result (λ fault. Keeps (asked part) (recovered cs logs).pairs (S.history kit.store) (S.history fault.kit.store))) }
     ensures lawful { IfTold (S.history kit.store) (λ disk. (cs : List Content) (logs : List (List PlainWrite)) → DiskOpens (asked part) disk cs logs
         → IfErr result (λ fault. IfLayout fault.cause ⊥)) }
+    ensures undamaged { IfTold (S.history kit.store) (λ disk. (cs : List Content) (logs : List (List PlainWrite)) → DiskOpens (asked part) disk cs logs
+        → IfErr result (λ fault. IfDamaged fault.cause (λ damage. ⊥))) }
 
     // Where the store tells its files, the answer is what is judged of them.
     ensures judged { IfTold (S.history kit.store) (λ disk. IfOk result (λ r. Passes (asked part) disk (λ found. last_of r.list ≡ end_by 0 found.components + length found.logs))) }
     ensures refused { IfTold (S.history kit.store) (λ disk. IfErr result (λ fault. CauseJudged (λ file. S.Frozen.content file) (λ file. S.Frozen.name file) (asked part) disk fault.cause)) }
     ensures causes { IfErr result (λ fault. IsOpenCause S.Watch (λ file. S.Frozen.size file) (λ file. S.Frozen.content file) (λ file. S.Frozen.name file) (asked part) fault.cause) }
     ensures layout { IfErr result (λ fault. IfLayout fault.cause (TakesSome (S.history kit.store) (S.history fault.kit.store))) }
+
+    // Where it still tells them, so do the files of the components.
+    ensures components { IfOk result (λ r. IfTold (S.history r.kit.store) (λ disk. AreTold (map (told_component S.Frozen.content) r.list))) }
 
     // So it is over every store.
     ensures listed { IfOk result (λ r. AreListed (λ file. S.Frozen.name file) (asked part) r.list) }

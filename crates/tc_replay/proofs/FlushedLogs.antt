@@ -1,8 +1,10 @@
 -- The flush of the logs of an opening, from what its calls answer: what is kept, and what is listed.
 use Rattle.std.proofs.Common.{◌≡◌, ◌∙◌, ◌+◌, ◌<◌, ◌^◌, ◌++◌, ℕ, List, [], ◌∷◌, Option, None, length, map, refl, sym, ap, subst, arith, inl, inr}
-use Rattle.std.specs.Prelude.{All, Err, IfSome, Ok, OnErr, OnOk, Result}
+use Rattle.std.specs.Prelude.{All, Err, IfErr, IfSome, Ok, OnErr, OnOk, Result}
+use Rattle.std.specs.Result.{IsOk}
 use Rattle.std.specs.List.{AllZip}
 use Rattle.std.proofs.lemmas.List.{length-map}
+use Rattle.tc_model.specs.Dictionary.{Extends}
 use Rattle.tc_model.specs.Document.{Name}
 use Rattle.tc_schema_model.specs.Counted.{Counted}
 use Rattle.tc_store.specs.declared.file_name.FileName.{FileName}
@@ -14,6 +16,7 @@ use Rattle.tc_store.specs.Images.{Image}
 use Rattle.tc_store.specs.Gate.{IsShutOr, IsShutOrWhole}
 use Rattle.tc_store.specs.Moments.{IfTold, LeavesAt, LeavesOnly}
 use Rattle.tc_store.specs.StoreCalls.{FailsMaking, comes_home, content_now, fresh_file_at, frozen_entry, makes}
+use Rattle.tc_store.proofs.MomentLemmas.{told_map}
 use Rattle.tc_log.specs.declared.write.Write as log
 use Rattle.tc_plain_model.specs.Writes.{Write}
 use Rattle.tc_memory.specs.DocumentTables.{IsTableOf}
@@ -41,6 +44,7 @@ use Rattle.tc_part_model.proofs.DeviceFiles.{comes_untold}
 use Rattle.tc_replay.specs.FlushedLogs.{EndsHome, IsLogsFlushed}
 use Rattle.tc_replay.specs.LogFlushes.{IsDeviceNow, IsKeptBehind, made_name}
 use Rattle.tc_replay.specs.Openings.{IsOpening}
+use Rattle.tc_replay.proofs.CountedLogs.{no_logs}
 use Rattle.tc_replay.proofs.FlushSteps.{listed_stored}
 use Rattle.tc_replay.proofs.ToldFlushes.{device_now, home_again, not_made, opened_with, shut_at_first, still_behind, whole_now}
 
@@ -128,13 +132,24 @@ module _ (head : Head) (cs : List Content) (ws : List Write) (more : List (List 
         ends_kept Whole later settled (inl (whole, inr came)) = home_kept later came
         ends_kept Whole later settled (inr came) = home_kept later came
 
-        -- ---- the component is listed
+        -- ---- the component
 
         head_is : head_of made.0 ≡ head
         head_is =
             ap (λ (p : Partition). record { number = p.number; count = p.count; from = made.0.from; to = made.0.to }) made.1.goes_on.here
             ∙ ap (λ n. record { number = head.number; count = head.count; from = n; to = made.0.to }) (made.1.goes_on.next ∙ sym from)
             ∙ ap (λ n. record { number = head.number; count = head.count; from = head.from; to = n }) (made.1.to ∙ sym to)
+
+        -- what is so of the bytes of a content that goes on behind the list is so where the store tells its files
+        pub made_sound : (size : ℕ) (P : Type 0) → size < 2 ^ 63 → IfTold device (λ f. size ≡ length f.content) → IfTold device (λ f. f ≡ settled_file bytes)
+            → IfSome (content_now device) (λ whole. (c : Content) → IsComponent c whole → head_of c ≡ head → Extends c.names (names_of cs) → P) → IfTold disks (λ disk. P)
+        made_sound size P fits told whole sound =
+            let has = whole_now (part_of head) cs ws more made.0 made.1 made.2 device size fits told (subst (λ b. IfTold device (λ f. f ≡ settled_file b)) (sym made.3) whole) in
+            told_map (λ disk. IsDeviceNow (part_of head) cs (ws ∷ more) device) (λ disk. P) disks (λ disk n.
+            subst (λ ds. IfSome (content_now ds) (λ whole. (c : Content) → IsComponent c whole → head_of c ≡ head → Extends c.names (names_of cs) → P)) n.is sound made.0
+            (subst (λ ds. IfTold ds (λ f. IsComponent made.0 f.content)) n.is has) head_is made.1.goes_on.extends) now
+
+        -- ---- it is listed
 
         module _ {F : Type 0} (content : F → Option (List ℕ)) (name : F → FileName) (old new : List (ComponentState F)) (loaded : AllZip (IsLoadedOf content) old cs)
             (size : ℕ) (fits : size < 2 ^ 63) (told : IfTold device (λ f. size ≡ length f.content)) (settled : IfTold device IsSettled) (whole : IfTold device (λ f. f ≡ settled_file bytes)) where
@@ -174,6 +189,11 @@ pub in_both : {E : Type 0} (r : Result (Unit {0}) E) (P Q R : Type 0) → (P →
 in_both (Ok done) P Q R f h p q = f p
 in_both (Err fault) P Q R f h p q = h q
 
+-- what follows in either case of a job, where it follows of itself from a failure
+pub either_way : {E : Type 0} (o : Result (Unit {0}) E) (P : Type 0) → (IsOk o → P) → IfErr o (λ cause. P) → P
+either_way (Ok done) P ended failed = ended refl
+either_way (Err cause) P ended failed = failed
+
 -- damage of which more is known
 pub harmed_then : {X : Type 0} (P Q : Damage → Type 0) → ((damage : Damage) → P damage → Q damage) → (r : Result X JobFault) → IfDamaged r P → IfDamaged r Q
 harmed_then P Q more (Ok x) harmed = tt
@@ -190,7 +210,7 @@ module _ {F : Type 0} (content : F → Option (List ℕ)) (head : Head) (old : L
   ends cs ws loaded same = omega (arith, to, last_loaded content 0 old cs loaded, ap (λ (ls : List (List log.Write)). length ls) same, length-map ws (λ (log : List Write). map kept_write log))
 
   none_of : (ws : List (List Write)) → logs ≡ map (λ log. map kept_write log) ws → ws ≡ [] → ⊥
-  none_of ws same none = omega (arith, some, ap (λ (ls : List (List log.Write)). length ls) (same ∙ ap (λ (ls : List (List Write)). map (λ log. map kept_write log) ls) none))
+  none_of ws same none = no_logs logs ws some same none
 
   -- where no device was made
   pub unmade_kept : (later : List Disk) → FailsMaking (name_of head) disks later
@@ -231,3 +251,13 @@ module _ {F : Type 0} (content : F → Option (List ℕ)) (head : Head) (old : L
     flushed_so name device_name new later size fits told settled whole listed came cs (w ∷ more) is loaded same =
         is_flushed head cs w more disks is (begins cs loaded) (ends cs (w ∷ more) loaded same) free (bytes (logged head cs w more disks is)) fresh device is_fresh (made cs w more is loaded same)
         (moments None (logged head cs w more disks is) (table cs w more is loaded same)) content name old new loaded size fits told settled (whole (logged head cs w more disks is) (table cs w more is loaded same)) device_name later listed came
+
+    -- or read back
+    pub sound_so : (P : Type 0) (size : ℕ) → size < 2 ^ 63 → IfTold device (λ f. size ≡ length f.content) → ((t : Table) → IsTableOf t kept → IfTold device (λ f. f ≡ settled_file (bytes t)))
+        → IfSome (content_now device) (λ whole. (c : Content) → IsComponent c whole → head_of c ≡ head → Extends c.names names → P)
+        → (cs : List Content) (ws : List (List Write)) → IsOpening (part_of head) cs ws disks → AllZip (IsLoadedOf content) old cs → logs ≡ map (λ log. map kept_write log) ws → IfTold disks (λ disk. P)
+    sound_so P size fits told whole sound cs [] is loaded same = absurd (none_of [] same refl)
+    sound_so P size fits told whole sound cs (w ∷ more) is loaded same =
+        made_sound head cs w more disks is (begins cs loaded) (ends cs (w ∷ more) loaded same) free (bytes (logged head cs w more disks is)) fresh device is_fresh (made cs w more is loaded same)
+        (moments None (logged head cs w more disks is) (table cs w more is loaded same)) size P fits told (whole (logged head cs w more disks is) (table cs w more is loaded same))
+        (subst (λ ns. IfSome (content_now device) (λ whole. (c : Content) → IsComponent c whole → head_of c ≡ head → Extends c.names ns → P)) (same_names cs (indices content old cs loaded)) sound)

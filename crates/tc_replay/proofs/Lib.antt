@@ -8,4 +8,7 @@ mod WritesLeft
 mod FlushSteps
 mod ToldFlushes
 mod LogNames
+pub mod ToldMoments
+mod UnharmedReads
+pub mod CountedLogs
 mod FlushedLogs

@@ -1,19 +1,20 @@
 //! The logs above the components are flushed as one component.
 
 ghost use Rattle.std.specs.Arc.{arc_value};
-ghost use Rattle.std.specs.Prelude.{◌≡◌, ◌+◌, ◌<◌, ◌≤◌, ◌^◌, ℕ, [], List, length, map, All, IfOk, IsErrOf, OnOk, OnErr};
+ghost use Rattle.std.specs.Prelude.{◌≡◌, ◌+◌, ◌<◌, ◌≤◌, ◌^◌, ℕ, [], List, length, map, All, IfErr, IfOk, IfSome, IsErrOf, OnOk, OnErr};
 ghost use Rattle.std.specs.List.{AllByRecursion, AllZip};
 ghost use Rattle.std.specs.Result.{IsOk};
 ghost use Rattle.tc_log.specs.Writes.{IsWrite};
+ghost use Rattle.tc_model.specs.Dictionary.{Extends};
 ghost use Rattle.tc_store.specs.Counted.{Counts, IsCounted};
 ghost use Rattle.tc_store.specs.Disk.{IsThere};
 ghost use Rattle.tc_store.specs.DiskFile.{IsSettled, settled_file};
 ghost use Rattle.tc_store.specs.Gate.{IsShutOr, IsShutOrWhole};
 ghost use Rattle.tc_store.specs.Images.{Image};
 ghost use Rattle.tc_store.specs.Moments.{EachSince, IfTold, LeavesAt, LeavesOnly};
-ghost use Rattle.tc_store.specs.StoreCalls.{FailsMaking, comes_home, fresh_file_at, frozen_entry, makes};
+ghost use Rattle.tc_store.specs.StoreCalls.{FailsMaking, comes_home, content_now, fresh_file_at, frozen_entry, makes};
 ghost use Rattle.tc_component.specs.Loaded.{IsLoadedOf};
-ghost use Rattle.tc_component.specs.Rows.{component_bytes, part_of, IsShortWrite};
+ghost use Rattle.tc_component.specs.Rows.{component_bytes, head_of, part_of, IsComponent, IsShortWrite};
 ghost use Rattle.tc_component.specs.Spelling.{name_of};
 ghost use Rattle.tc_plain_model.specs.Writes.{Write as PlainWrite};
 ghost use Rattle.tc_lsm_model.specs.Contents.{Content, Partition};
@@ -34,6 +35,7 @@ ghost use Rattle.tc_jobs.specs.Faults.{IfDamaged};
 ghost use Rattle.tc_jobs.specs.Listing.{behind, FitsBehind, IsListed, IsReadBack, IsUnlisted};
 ghost use Rattle.tc_jobs.specs.Lists.{IsListOf};
 ghost use Rattle.tc_part_model.specs.Leaving.{KeepsStore};
+ghost use Rattle.tc_part_model.specs.PartState.{IsTold};
 ghost use Rattle.tc_replay.specs.FlushedLogs.{EndsHome, IsBeginDamage, IsFlushGivenUp, IsFlushListed, IsLogsFlushed, IsReplayDamage};
 ghost use Rattle.tc_replay.specs.Openings.{AreIn, IsOpening, LeavesLogged, stored_by};
 
@@ -41,8 +43,8 @@ use crate::inputs::inputs_over;
 use crate::replaying::replay;
 use std::alloc::Global;
 use std::sync::Arc;
-use tc_component::Head;
-use tc_flush::{FlushJob, FlushOut, FlushParts};
+use tc_component::{Head, components_are_contents};
+use tc_flush::{FlushJob, FlushOut, FlushParts, lists_are_counted};
 use tc_jobs::{FlushInputs, JobFault, inputs_are_newest, list_flush, name_of_head};
 use tc_list::ComponentList;
 use tc_log::Writes;
@@ -92,6 +94,11 @@ pub fn flush_logs<S: Store>(
     ensures left { OnErr result.outcome ((list.new ≡ list.old) × IsFlushGivenUp head (S.history store.old) (S.history store.new)) }
 
     ensures damaged { IfDamaged result.outcome (IsReplayDamage (λ file. S.Frozen.content file) (λ file. S.Frozen.name file) head list.old) }
+
+    // Where the files are told and lawful, nothing is damaged.
+    ensures undamaged { (cs : List Content) (ws : List (List PlainWrite)) → IsOpening (part_of head) cs ws (S.history store.old) → AllZip (IsLoadedOf (λ file. S.Frozen.content file)) list.old cs → logs.now ≡ map (λ log. map kept_write log) ws
+        → IfTold (S.history store.old) (λ disk. IfDamaged result.outcome (λ damage. ⊥)) }
+
     ensures watched { IsWatched (IsErrOf result.outcome JobFault.Disk) (S.Watch.counts watch) (S.Watch.counts result.watch) }
 {
     inputs_are_newest::<S::Frozen>();
@@ -129,6 +136,7 @@ fn begin_flush<S: Store>(
     watch: &mut S::Watch,
 ) -> Result<Begun<S>, JobFault>
     requires lawful { All (AllByRecursion IsWrite) logs.now }
+    requires some { 0 < length logs.now }
     requires order { head.from ≤ head.to }
     requires last { head.to < 2 ^ 63 }
     requires free { IfTold (S.history store.old) (λ disk. IsThere (disk (name_of head)) → ⊥) }
@@ -144,9 +152,15 @@ fn begin_flush<S: Store>(
     ensures made { OnOk result (S.history store.new ≡ makes (name_of head) (S.history store.old)) }
     ensures failed { OnErr result (FailsMaking (name_of head) (S.history store.old) (S.history store.new)) }
     ensures damaged { IfDamaged result (IsBeginDamage (λ file. S.Frozen.content file) head list.now) }
+    ensures undamaged { (cs : List Content) (ws : List (List PlainWrite)) → IsOpening (part_of head) cs ws (S.history store.old) → AllZip (IsLoadedOf (λ file. S.Frozen.content file)) list.now cs → logs.now ≡ map (λ log. map kept_write log) ws
+        → IfDamaged result (λ damage. ⊥) }
     ensures watched { IsWatched (IsErrOf result JobFault.Disk) (S.Watch.counts watch.old) (S.Watch.counts watch.new) }
 {
+    components_are_contents();
+    inputs_are_newest::<S::Frozen>();
+    lists_are_counted();
     let table = replay(alloc, list, logs, watch)?;
+    let _entries = table.len();
     let sealed = Arc::new(alloc, table.seal())?;
     let inputs = inputs_over(alloc, &sealed, list, head)?;
     let device = store.fresh(alloc, name_of_head(head), watch)?;
@@ -164,6 +178,7 @@ fn run_flush<S: Store>(alloc: Global, begun: Begun<S>, head: Head, watch: S::Wat
         → (c : Content) × IsFlush (part_of head) cs t generations c × All IsShortWrite c.entries × (component_bytes c ≡ flush_bytes head begun.inputs.names begun.inputs.schema t) }
     ensures moments { (before : Image) (t : Table) → IsTableOf t (arc_value begun.inputs.sealed) → IfTold (S.Device.history begun.device) (LeavesAt (IsShutOr before))
         → LeavesOnly (IsShutOrWhole before (flush_bytes head begun.inputs.names begun.inputs.schema t)) (S.Device.history begun.device) (S.Device.history result.device) }
+    ensures tells { (before : Image) → IfTold (S.Device.history begun.device) (LeavesAt (IsShutOr before)) → IsTold (S.Device.history begun.device) → IsTold (S.Device.history result.device) }
     ensures size { IsOk result.outcome → S.Device.size result.device < 2 ^ 63 }
     ensures name { S.Device.name result.device ≡ S.Device.name begun.device }
     ensures watched { IsCounted (IsErrOf result.outcome DeviceFault.Fault) (S.Watch.counts watch) (S.Watch.counts result.watch) }
@@ -203,6 +218,8 @@ fn end_flush<S: Store>(
     ensures unlisted { OnErr result.outcome (list.new ≡ list.old) }
     ensures home { OnErr result.outcome (EndsHome (IsOk out.outcome) (S.Device.name out.device) (S.Device.history out.device) (S.history store.old) (S.history store.new)) }
     ensures damaged { IfDamaged result.outcome (IsUnlisted (IsReadBack (λ file. S.Frozen.content file) (λ file. S.Frozen.name file) head (S.Device.name out.device) (S.Device.history out.device)) (FitsBehind list.old) head (S.Device.size out.device) (S.Device.history out.device)) }
+    ensures sound { IfSome (content_now (S.Device.history out.device)) (λ bytes. (c : Content) → IsComponent c bytes → head_of c ≡ head → Extends c.names (newest_names [] list.old) → IfDamaged result.outcome (λ damage. ⊥)) }
+    ensures unmade { IfErr out.outcome (λ cause. IfDamaged result.outcome (λ damage. ⊥)) }
     ensures watched { (old : Counts) → IsCounted (IsErrOf out.outcome DeviceFault.Fault) old (S.Watch.counts out.watch) → IsWatched (IsErrOf result.outcome JobFault.Disk) old (S.Watch.counts result.watch) }
 {
     let FlushOut {

@@ -3,12 +3,14 @@ use Rattle.tc_store.specs.Moments.{IfTold}
 use Rattle.tc_component.specs.declared.head.Head.{Head}
 use Rattle.tc_machine.specs.Pictures.{recovered}
 use Rattle.tc_recover.specs.Refusals.{asked}
+use Rattle.tc_replay.proofs.ToldMoments.{tells_on}
 use Rattle.tc_open.specs.Openings.{LeavesStored}
 use Rattle.tc_open.specs.Resting.{AreOwn}
-use Rattle.tc_open.proofs.FlushedAbove.{covered, ends_longer, harmed_logs, listed_longer, none_left, own_longer, tells_on}
-use Rattle.tc_open.proofs.FlushedOpenings.{covered_keeps, flushed_rests, same_keeps}
+use Rattle.tc_open.proofs.FlushedAbove.{covered, ends_longer, harmed_logs, listed_longer, none_left, own_longer}
+use Rattle.tc_open.proofs.FlushedOpenings.{call_sound, covered_keeps, flushed_rests, same_keeps}
 use Rattle.tc_open.proofs.LogsCovered.{free_behind}
-use Rattle.tc_open.proofs.OpenStates.{keeps_on}
+use Rattle.tc_open.proofs.OpenStates.{if_tells, keeps_on}
+use Rattle.tc_open.proofs.ToldOpenings.{flushed_tells}
 use Rattle.tc_open.proofs.flushing.flush_above.Goals as goal
 
 pub returns-then-is_empty-clause-keeps : goal.returns-then-is_empty-clause-keeps
@@ -108,3 +110,16 @@ returns-in-Ok-remove_files-clause-own g c =
     let mid = own_longer content name head t.list t.logs.items t.writes.items t.last c.len.result c.requires.above count refl refl longer (g.S.Store.history t.kit.store) (g.S.Store.history c.in-Ok.field-0.kit.store) c.in-Ok.ensures.listed (map (λ u. name u.file) t.logs.items) c.requires.own in
     let none = c.in-Ok-remove_files.ensures.logs ∙ none_left content name head t.list t.logs.items t.writes.items t.last c.len.result c.requires.above count refl refl in
     subst (λ ts. IfTold (g.S.Store.history c.in-Ok-remove_files.removed.kit.store) (AreOwn longer (map (λ u. name u.file) ts))) none (c.in-Ok-remove_files.ensures.own longer mid)
+
+pub returns-clause-undamaged : goal.returns-clause-undamaged
+returns-clause-undamaged g c = λ cs logs stands. if_tells _ (g.S.Store.history c.args.tidied.kit.store) stands.tells (c.in-Err.ensures.undamaged cs logs stands.opening stands.loaded (c.deref.ensures.value ∙ stands.written))
+
+pub returns-in-Ok-clause-undamaged : goal.returns-in-Ok-clause-undamaged
+returns-in-Ok-clause-undamaged g c = λ cs logs stands. call_sound c.in-Err-remove_files.fault.cause c.in-Err-remove_files.ensures.causes
+
+pub returns-in-Ok-remove_files-clause-components : goal.returns-in-Ok-remove_files-clause-components
+returns-in-Ok-remove_files-clause-components g c = λ told.
+    let t = c.args.tidied in
+    let head : Head = record { number = c.args.part.number; count = c.args.part.count; from = t.last + 1; to = t.last + c.len.result } in
+    flushed_tells (λ file. g.S.Frozen.Frozen.content file) (λ file. g.S.Frozen.Frozen.name file) head t.list c.in-Ok.field-0.list (g.S.Store.history t.kit.store) (g.S.Store.history c.in-Ok.field-0.kit.store) (g.S.Store.history c.in-Ok-remove_files.removed.kit.store)
+    c.in-Ok.ensures.listed c.in-Ok-remove_files.ensures.untold told

@@ -8,10 +8,13 @@ use Rattle.tc_store.specs.Moments.{IfTold}
 use Rattle.tc_jobs.specs.Lists.{file_names}
 use Rattle.tc_list.specs.Intervals.{last_of}
 use Rattle.tc_lsm_model.specs.Contents.{Partition}
-use Rattle.tc_part_model.specs.PartState.{told, told_component}
+use Rattle.tc_part_model.specs.PartState.{AreTold, told, told_component}
+use Rattle.tc_store.specs.StoreCalls.{makes}
+use Rattle.tc_open.proofs.FlushedOpenings.{no_file_sound}
 use Rattle.tc_open.proofs.Lawfully.{both_lawful}
 use Rattle.tc_open.proofs.OpenedParts.{made_own, no_log_there, opened_as, rest_are, rest_lawful, rest_tidy, start_kept, start_moments, starts_log}
 use Rattle.tc_open.proofs.RestedOpenings.{err_joined, ok_joined}
+use Rattle.tc_open.proofs.ToldOpenings.{told_still}
 use Rattle.tc_open.proofs.opening.open_part.Goals as goal
 
 pub start_part-requires-clause-free : goal.start_part-requires-clause-free
@@ -74,4 +77,20 @@ returns-in-Ok-clause-own g c =
     let own = subst (λ ds. IfTold ds (λ (disk : Disk). (name : FileName) → IsThere (disk name) → Contains (file_names list) name ⊎ (name ≡ log_name (last_of list + 1)))) (sym is.1) (made_own list (last_of list + 1) mid c.in-Ok.ensures.own) in
     subst (λ n. IfTold (g.S.Store.history p.store) (λ (disk : Disk). (name : FileName) → IsThere (disk name) → Contains (file_names p.list) name ⊎ (name ≡ log_name n))) (sym (ap (λ q. q.generation) is.0))
     (subst (λ l. IfTold (g.S.Store.history p.store) (λ (disk : Disk). (name : FileName) → IsThere (disk name) → Contains (file_names l) name ⊎ (name ≡ log_name (last_of list + 1)))) (sym (ap (λ q. q.list) is.0)) own))
+    (ok_joined c.start_part.result _ _ c.start_part.ensures.begun c.start_part.ensures.made)
+
+pub returns-in-Ok-clause-undamaged : goal.returns-in-Ok-clause-undamaged
+returns-in-Ok-clause-undamaged g c =
+    let part : Partition = record { number = c.args.number; count = c.args.count } in
+    both_lawful part _ _ _ (g.S.Store.history c.args.kit.store) c.in-Ok.ensures.rests c.in-Ok.ensures.rests (λ cs logs rests same. IfErr-weaker c.start_part.result _ _ (λ fault is. no_file_sound fault.cause is) c.start_part.ensures.causes)
+
+pub returns-in-Ok-clause-components : goal.returns-in-Ok-clause-components
+returns-in-Ok-clause-components g c =
+    let content = g.S.Frozen.Frozen.content in
+    let list = c.in-Ok.field-0.list in
+    let mid = g.S.Store.history c.in-Ok.field-0.kit.store in
+    let log = log_name (last_of list + 1) in
+    IfOk-weaker c.start_part.result _ _ (λ p is.
+    subst (λ l. IfTold (g.S.Store.history p.store) (λ disk. AreTold (map (told_component content) l))) (sym (ap (λ q. q.list) is.0))
+    (subst (λ ds. IfTold ds (λ (disk : Disk). AreTold (map (told_component content) list))) (sym is.1) (told_still (AreTold (map (told_component content) list)) mid (makes log mid) (λ none. ap (makes log) none) c.in-Ok.ensures.components)))
     (ok_joined c.start_part.result _ _ c.start_part.ensures.begun c.start_part.ensures.made)

@@ -7,9 +7,10 @@ use Rattle.tc_recover.specs.Lawful.{DiskOpens}
 use Rattle.tc_recover.specs.Opening.{Found, found_in}
 use Rattle.tc_recover.specs.Refusals.{asked}
 use Rattle.tc_open.specs.Judged.{CauseJudged, IsOpenCause}
-use Rattle.tc_open.specs.OpenCauses.{IfLayout}
+use Rattle.tc_open.specs.OpenCauses.{IfDamaged, IfLayout}
 use Rattle.tc_open.proofs.FilesRead.{own_read}
-use Rattle.tc_open.proofs.ReadKits.{files_kept, lawful_passes, read_above, read_listed, read_stands, refusal_caused, refusal_judged}
+use Rattle.tc_open.proofs.ReadKits.{files_kept, lawful_passes, lawful_sound, read_above, read_listed, read_stands, refusal_caused, refusal_judged}
+use Rattle.tc_open.proofs.ToldOpenings.{read_tells}
 use Rattle.tc_open.proofs.reading.read_kit.Goals as goal
 
 pub returns-in-Ok-clause-stands : goal.returns-in-Ok-clause-stands
@@ -55,3 +56,13 @@ pub returns-in-Err-clause-causes : goal.returns-in-Err-clause-causes
 returns-in-Err-clause-causes g c =
     subst (λ e. IsOpenCause g.row.S-Watch.Denot (λ file. g.S.Frozen.Frozen.size file) (λ file. g.S.Frozen.Frozen.content file) (λ file. g.S.Frozen.Frozen.name file) (asked c.args.part) e) (sym c.from.ensures)
     (refusal_caused (λ file. g.S.Frozen.Frozen.size file) (λ file. g.S.Frozen.Frozen.content file) (λ file. g.S.Frozen.Frozen.name file) (asked c.args.part) c.in-Err.cause c.in-Err.ensures.causes)
+
+pub returns-in-Err-clause-undamaged : goal.returns-in-Err-clause-undamaged
+returns-in-Err-clause-undamaged g c =
+    subst (λ e. IfTold (g.S.Store.history c.args.kit.store) (λ disk. (cs : List Content) (logs : List (List Write)) → DiskOpens (asked c.args.part) disk cs logs → IfDamaged e (λ damage. ⊥))) (sym c.from.ensures)
+    (lawful_sound (FilesRead g.row.S-Frozen.Denot g.row.S-Watch.Denot) (asked c.args.part) c.in-Err.cause (g.S.Store.history c.args.kit.store) c.in-Err.ensures.passes)
+
+pub returns-in-Ok-clause-components : goal.returns-in-Ok-clause-components
+returns-in-Ok-clause-components g c =
+    let read = c.in-Ok.ensures.read in
+    read_tells (λ file. g.S.Frozen.Frozen.content file) (λ file. g.S.Frozen.Frozen.name file) c.in-Ok.read.list c.in-Ok.read.left.items read.0 c.in-Ok.read.last (g.S.Store.history c.args.kit.store) (g.S.Store.history c.read_files.new.store) read.1 read.2

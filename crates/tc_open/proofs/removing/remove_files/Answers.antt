@@ -1,14 +1,15 @@
-use Rattle.std.proofs.Common.{List, map, filter, sym, subst}
+use Rattle.std.proofs.Common.{◌∙◌, List, ap, map, filter, sym, subst}
 use Rattle.tc_store.specs.declared.file_name.FileName.{FileName}
 use Rattle.tc_store.specs.Moments.{IfTold}
 use Rattle.tc_part_model.specs.PartState.{IsTold}
 use Rattle.tc_recover.specs.declared.taken.Taken.{Taken}
 use Rattle.tc_recover.specs.Loads.{is_log}
-use Rattle.tc_recover.specs.Removing.{needless_names}
+use Rattle.tc_recover.specs.Removing.{needless_names, removes_all}
 use Rattle.tc_open.specs.Resting.{AreOwn}
 use Rattle.tc_open.proofs.LogsCovered.{go_or_stay}
 use Rattle.tc_open.proofs.OpenStates.{opening_keeps, partly_some, removed_some, removes_tells}
 use Rattle.tc_open.proofs.OwnFiles.{own_removed}
+use Rattle.tc_open.proofs.ToldOpenings.{removes_untold}
 use Rattle.tc_open.proofs.removing.remove_files.Goals as goal
 
 pub returns-in-Ok-clause-opening : goal.returns-in-Ok-clause-opening
@@ -46,3 +47,8 @@ returns-in-Err-clause-kept g c = λ part cs logs is needless.
     let new = g.S.Store.history c.remove_needless.new.store in
     let some = partly_some names old new c.in-Err.ensures.partly in
     opening_keeps part cs logs old new (c.needless_files_go.ensures.opening part cs logs names old new is needless some) (c.needless_files_go.ensures.moments part cs logs names old new is needless some)
+
+pub returns-in-Ok-clause-untold : goal.returns-in-Ok-clause-untold
+returns-in-Ok-clause-untold g c = λ none.
+    let names = needless_names (λ file. g.S.Frozen.Frozen.name file) c.args.last c.args.files.items in
+    c.in-Ok.ensures.removed ∙ ap (removes_all names) none ∙ removes_untold names

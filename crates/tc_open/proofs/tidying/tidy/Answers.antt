@@ -1,8 +1,10 @@
 use Rattle.tc_machine.specs.Pictures.{recovered}
 use Rattle.tc_recover.specs.Refusals.{asked}
 use Rattle.tc_open.specs.Steps.{Keeps}
+use Rattle.tc_open.proofs.FlushedOpenings.{call_sound}
 use Rattle.tc_open.proofs.Lawfully.{both_lawful}
 use Rattle.tc_open.proofs.OpenStates.{keeps_on}
+use Rattle.tc_open.proofs.ToldOpenings.{told_still}
 use Rattle.tc_open.proofs.tidying.tidy.Goals as goal
 
 pub returns-in-Ok-remove_files-clause-stands : goal.returns-in-Ok-remove_files-clause-stands
@@ -33,3 +35,10 @@ returns-in-Err-remove_files-clause-kept g c =
     both_lawful part _ _ _ old (both_lawful part _ _ (λ cs logs. Keeps part (recovered cs logs).pairs (g.S.Store.history c.in-Ok.field-0.kit.store) (g.S.Store.history c.in-Err-remove_files.fault.kit.store)) old c.in-Ok.ensures.stands c.in-Ok.ensures.spare
     (λ cs logs stands spare. c.in-Err-remove_files.ensures.kept part cs logs stands.opening spare)) c.in-Ok.ensures.keeps
     (λ cs logs after before. keeps_on part (recovered cs logs).pairs old (g.S.Store.history c.in-Ok.field-0.kit.store) (g.S.Store.history c.in-Err-remove_files.fault.kit.store) before after)
+
+pub returns-in-Ok-remove_files-clause-components : goal.returns-in-Ok-remove_files-clause-components
+returns-in-Ok-remove_files-clause-components g c = told_still _ (g.S.Store.history c.in-Ok.field-0.kit.store) (g.S.Store.history c.in-Ok-remove_files.field-0.kit.store) c.in-Ok-remove_files.ensures.untold c.in-Ok.ensures.components
+
+pub returns-in-Err-remove_files-clause-undamaged : goal.returns-in-Err-remove_files-clause-undamaged
+returns-in-Err-remove_files-clause-undamaged g c =
+    both_lawful (asked c.args.part) _ _ _ (g.S.Store.history c.args.kit.store) c.in-Ok.ensures.stands c.in-Ok.ensures.stands (λ cs logs stands same. call_sound c.in-Err-remove_files.fault.cause c.in-Err-remove_files.ensures.causes)

@@ -1,13 +1,22 @@
-use Rattle.std.proofs.Common.{◌≡◌, ◌∙◌, inl, inr, ap, subst}
+use Rattle.std.proofs.Common.{◌≡◌, ◌∙◌, inl, inr, ap, subst, sym}
+use Rattle.std.specs.Prelude.{IfSome}
+use Rattle.std.proofs.lemmas.Result.{IfErr-weaker}
+use Rattle.tc_component.specs.Rows.{head_of, IsComponent}
+use Rattle.tc_jobs.specs.Faults.{IfDamaged}
+use Rattle.tc_lsm_model.specs.Contents.{Content}
+use Rattle.tc_model.specs.Dictionary.{Extends}
+use Rattle.tc_store.proofs.MomentLemmas.{told_map}
+use Rattle.tc_store.specs.Moments.{IfTold}
 use Rattle.std.specs.Arc.{arc_value}
 use Rattle.std.specs.Result.{IsOk}
 use Rattle.tc_flush.proofs.Outcomes.{ok_both}
 use Rattle.tc_flush.specs.Flushing.{flush_bytes}
 use Rattle.tc_jobs.specs.Listing.{FitsBehind, IsListed, IsReadBack, IsUnlisted, behind}
-use Rattle.tc_store.specs.StoreCalls.{comes_home, frozen_entry, makes}
+use Rattle.tc_store.specs.StoreCalls.{comes_home, content_now, frozen_entry, makes}
 use Rattle.tc_component.specs.Spelling.{name_of}
 use Rattle.tc_replay.specs.FlushedLogs.{EndsHome, IsFlushListed, IsLogsFlushed, IsReplayDamage}
-use Rattle.tc_replay.proofs.FlushedLogs.{flushed_so, harmed_then, home_kept_so, in_both, unmade_kept}
+use Rattle.tc_replay.proofs.FlushedLogs.{either_way, flushed_so, harmed_then, home_kept_so, in_both, sound_so, unmade_kept}
+use Rattle.tc_replay.proofs.ToldMoments.{device_tells}
 use Rattle.tc_replay.proofs.flushing.flush_logs.Goals as goal
 
 pub returns-in-Err-clause-moments : goal.returns-in-Err-clause-moments
@@ -57,6 +66,7 @@ returns-in-Ok-clause-listed g c =
       device = device;
       listed = subst (λ n. IsListed (IsReadBack (λ file. g.S.Frozen.Frozen.content file) (λ file. g.S.Frozen.Frozen.name file) c.args.head n device) (FitsBehind c.args.list.now) (behind c.args.list.now) c.end_flush.new.list) named listed;
       still = still ∙ ap (λ n. comes_home n frozen_entry device (g.S.Store.history c.begin_flush.new.store)) named ∙ ap (λ disks. comes_home (name_of c.args.head) frozen_entry device disks) c.in-Ok.ensures.made;
+      tells = device_tells (name_of c.args.head) (g.S.Store.history c.args.store.now) (g.S.Device.Device.history c.in-Ok.begun.device) device c.in-Ok.ensures.file c.run_flush.ensures.tells;
     }) c.end_flush.ensures.listed c.end_flush.ensures.still
 
 pub returns-in-Ok-clause-damaged : goal.returns-in-Ok-clause-damaged
@@ -90,3 +100,23 @@ returns-in-Ok-clause-flushed g c = λ cs ws is loaded same.
     c.end_flush.ensures.whole
     (ok_both c.end_flush.result.outcome _ _ (IsListed (IsReadBack content file_name c.args.head (g.S.Device.Device.name c.run_flush.result.device) device) (FitsBehind c.args.list.now) (behind c.args.list.now) c.end_flush.new.list
     × (store ≡ comes_home (g.S.Device.Device.name c.run_flush.result.device) frozen_entry device (g.S.Store.history c.begin_flush.new.store))) (λ listed still. (listed, still)) c.end_flush.ensures.listed c.end_flush.ensures.still)
+
+pub returns-in-Err-clause-undamaged : goal.returns-in-Err-clause-undamaged
+returns-in-Err-clause-undamaged g c = λ cs ws is loaded same. told_map _ _ (g.S.Store.history c.args.store.now) (λ disk kept. c.in-Err.ensures.undamaged cs ws is loaded same) is.kept
+
+pub returns-in-Ok-clause-undamaged : goal.returns-in-Ok-clause-undamaged
+returns-in-Ok-clause-undamaged g c = λ cs ws is loaded same.
+    let laws = g.met.S.Device.Device g.world.𝓛 g.world.𝓜 g.world.𝓡 ((λ s x. x), (λ x. x), (λ x. x), λ x. x) in
+    let device = g.S.Device.Device.history c.run_flush.result.device in
+    let disks = g.S.Store.history c.args.store.now in
+    let names = c.in-Ok.begun.inputs.names in
+    let sound = IfDamaged c.end_flush.result.outcome (λ damage. ⊥) in
+    either_way c.run_flush.result.outcome (IfTold disks (λ disk. sound)) (λ whole.
+    sound_so (λ file. g.S.Frozen.Frozen.content file) c.args.head c.args.list.now c.args.logs.now disks c.requires.some c.requires.from c.requires.to c.requires.free
+    names c.in-Ok.begun.inputs.schema (arc_value c.in-Ok.begun.inputs.sealed) (flush_bytes c.args.head names c.in-Ok.begun.inputs.schema) (g.S.Device.Device.history c.in-Ok.begun.device) device c.requires.last
+    (λ cs all. c.in-Ok.ensures.names ∙ c.inputs_are_newest.ensures.names c.args.list.now cs all) (λ cs all. c.in-Ok.ensures.schema ∙ c.inputs_are_newest.ensures.schema c.args.list.now cs all)
+    c.in-Ok.ensures.table c.in-Ok.ensures.file c.run_flush.ensures.flushed c.run_flush.ensures.moments
+    sound (g.S.Device.Device.size c.run_flush.result.device) (c.run_flush.ensures.size whole) (laws.told_size c.run_flush.result.device) (c.run_flush.ensures.whole whole)
+    (subst (λ ns. IfSome (content_now device) (λ bytes. (m : Content) → IsComponent m bytes → head_of m ≡ c.args.head → Extends m.names ns → sound)) (sym c.in-Ok.ensures.names) c.end_flush.ensures.sound)
+    cs ws is loaded same)
+    (IfErr-weaker c.run_flush.result.outcome _ (λ cause. IfTold disks (λ disk. sound)) (λ cause so. told_map _ _ disks (λ disk kept. so) is.kept) c.end_flush.ensures.unmade)
