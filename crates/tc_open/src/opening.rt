@@ -12,6 +12,7 @@ ghost use Rattle.tc_machine.specs.Logs.{IsLog};
 ghost use Rattle.tc_machine.specs.Pictures.{recovered};
 ghost use Rattle.tc_machine.specs.Steps.{IsShutOrHas};
 ghost use Rattle.tc_merge.specs.Faults.{IsWatched};
+ghost use Rattle.tc_part.specs.FilesOut.{LogIsOut};
 ghost use Rattle.tc_part.specs.Openings.{newest_in};
 ghost use Rattle.tc_part.specs.OwnFiles.{HasOwnFiles};
 ghost use Rattle.tc_part_model.specs.Newest.{names_by};
@@ -77,6 +78,7 @@ pub fn open_part<S: Store>(
     ensures begun { IfOk result (λ p. p ≡ record { number = number; count = count; limits = record { names = limits.names; docs = limits.docs }; memory = limits.memory; store = p.store; main = p.main; flusher = Some kit.flusher; merger = Some kit.merger; reader = Some kit.reader; list = p.list; sealed = None; sealed_log = None; active = []; log = p.log; generation = last_of p.list + 1; staged = []; taken = names_by (newest_in S.Frozen.content p.list); live = p.live; writes = 0; flushing = false; merging = None; failed = false }) }
     ensures own { IfOk result (λ p. IfTold (S.history p.store) (λ disk. (name : FileName) → IsThere (disk name) → Contains (file_names p.list) name ⊎ (name ≡ log_name p.generation))) }
     ensures has_own { IfOk result (λ p. HasOwnFiles (told S.history S.Device.history S.Frozen.content p)) }
+    ensures log_out { IfOk result (λ p. LogIsOut (told S.history S.Device.history S.Frozen.content p)) }
     ensures given_back { IfErr result (λ fault. fault.kit ≡ record kit { store = fault.kit.store; main = fault.kit.main }) }
     ensures watched { IfOk result (λ p. IsWatched ⊥ (S.Watch.counts kit.main) (S.Watch.counts p.main)) }
     ensures failed { IfErr result (λ fault. IsWatched (fault.cause ≡ OpenCause.Disk) (S.Watch.counts kit.main) (S.Watch.counts fault.kit.main)) }

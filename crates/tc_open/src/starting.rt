@@ -22,6 +22,7 @@ ghost use Rattle.tc_part_model.specs.Newest.{names_by};
 ghost use Rattle.tc_part_model.specs.PartState.{told, told_component};
 ghost use Rattle.tc_part_model.specs.Starting.{first_log, started_part};
 ghost use Rattle.tc_jobs.specs.Lists.{IsListOf};
+ghost use Rattle.tc_part.specs.FilesOut.{LogIsOut};
 ghost use Rattle.tc_part.specs.Openings.{newest_in};
 ghost use Rattle.tc_part.specs.OwnFiles.{HasOwnFiles};
 ghost use Rattle.tc_part.specs.Ready.{AreNamed};
@@ -65,6 +66,8 @@ pub(crate) fn start_part<S: Store>(
     // those of the components.
     ensures made { IfOk result (λ p. S.history p.store ≡ makes (log_name (last_of list + 1)) (S.history kit.store)) }
     ensures own { IfOk result (λ p. IfTold (S.history kit.store) (AreOwn list []) → HasOwnFiles (told S.history S.Device.history S.Frozen.content p)) }
+
+    ensures log_out { IfOk result (λ p. LogIsOut (told S.history S.Device.history S.Frozen.content p)) }
 
     // At each moment of the store and of the log a stop leaves what is live in the components.
     ensures moments { (cs : List Content) → AllZip IsOfContent (map (told_component S.Frozen.content) list) cs → IfTold (S.history kit.store) (IsTidy (asked part) cs [])

@@ -1,16 +1,17 @@
-use Rattle.std.proofs.Common.{rules, ◌∙◌, ◌+◌, ◌<◌, ◌^◌, None, map, refl, sym, ap, subst, arith, inr}
+use Rattle.std.proofs.Common.{rules, ◌≡◌, ◌∙◌, ◌+◌, ◌<◌, ◌^◌, None, map, refl, sym, ap, subst, arith, inr}
 use Rattle.std.specs.Prelude.{All}
+use Rattle.tc_store.specs.Disk.{Disk, out}
 use Rattle.tc_store.specs.Moments.{IfTold, LeavesAt}
 use Rattle.tc_store.specs.StoreCalls.{makes}
 use Rattle.tc_store.specs.declared.file_name.FileName.TheVariants.{Log as log_name}
 use Rattle.tc_log.specs.Spelling.{IsHead}
 use Rattle.tc_machine.specs.Logs.{log_head}
 use Rattle.tc_part.specs.OwnFiles.{HasOnlyOwn}
-use Rattle.tc_part_model.specs.PartState.{PartState, told_component}
+use Rattle.tc_part_model.specs.PartState.{IsTold, PartState, told_component}
 use Rattle.tc_part_model.specs.Starting.{started}
 use Rattle.tc_open.specs.FirstLog.{MakesLog}
 use Rattle.tc_recover.specs.Refusals.{asked}
-use Rattle.tc_open.proofs.CreatedLogs.{came_home}
+use Rattle.tc_open.proofs.CreatedLogs.{came_home, log_is_out}
 use Rattle.tc_open.proofs.FirstLogMoments.{failed_keeps, none_made}
 use Rattle.tc_open.proofs.FilesIn.{failed_in}
 use Rattle.tc_open.proofs.StartedFiles.{makes_own}
@@ -123,3 +124,10 @@ returns-in-Err-clause-left_moments g c = λ cs of tidy.
 pub returns-in-Err-clause-kept : goal.returns-in-Err-clause-kept
 returns-in-Err-clause-kept g c = λ cs of tidy.
     failed_keeps (asked c.args.part) cs (g.S.Store.history c.args.kit.store) (g.S.Store.history c.in-Err.fault.kit.store) tidy (returns-in-Err-clause-left_moments g c cs of tidy)
+
+pub returns-in-Ok-start-clause-log_out : goal.returns-in-Ok-start-clause-log_out
+returns-in-Ok-start-clause-log_out g c =
+    let name = log_name (c.last_generation-last.result + 1) in
+    let disks = g.S.Store.history c.in-Ok.field-0.kit.store in
+    let device = g.S.Device.Device.history c.in-Ok.field-0.log.device in
+    c.in-Ok-start.ensures.log_out (subst (λ n. IfTold disks (λ (disk : Disk). (disk n ≡ out) × IsTold device)) (sym c.in-Ok.ensures.name) (log_is_out name _ (g.S.Store.history c.args.kit.store) disks device c.in-Ok.ensures.made c.in-Ok.ensures.created))
