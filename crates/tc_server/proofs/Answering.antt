@@ -10,13 +10,14 @@ use Rattle.tc_server.specs.Asked.{request_whole}
 use Rattle.tc_server.specs.Faults.{Stop, failed_writing, gave_up, stop_of, IsNoDamage, IsOfStore}
 use Rattle.tc_server.specs.Holds.{AreAnswered, AreWritten, IsLeft, worlds_at, HaveFailed}
 use Rattle.tc_server.specs.declared.answer.Control.{Control}
-use Rattle.tc_server.specs.declared.answer.Control.TheVariants.{Schema, NotBuilt}
+use Rattle.tc_server.specs.declared.answer.Control.TheVariants.{Flush, Schema, NotBuilt}
 use Rattle.tc_server.specs.declared.outcome.RunFault.{RunFault}
 use Rattle.tc_server.specs.declared.outcome.RunFault.TheVariants.{Usage, Read, Write, Spent, Disk, Damaged, Memory, Layout}
 
 -- ---- requests for the whole store
 
 pub whole_leaves : (control : Control) (w : World) → after_all (request_whole control ∷ []) w ≡ w
+whole_leaves Flush w = refl
 whole_leaves Schema w = refl
 whole_leaves NotBuilt w = refl
 

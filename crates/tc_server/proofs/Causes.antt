@@ -1,43 +1,63 @@
 -- The causes of calls, one after the other, are those of all together.
 use Rattle.std.proofs.Common.{◌≡◌, ◌≤◌, ℕ, subst, inl, inr, arith}
-use Rattle.std.specs.Prelude.{Option, Some, None, IfSome, Result, Ok, Err, IfErr}
+use Rattle.std.specs.Prelude.{Option, Some, None, IfSome, IsSome}
 use Rattle.tc_bytes.specs.Counts.{Rose}
 use Rattle.tc_store.specs.KitFaults.{KitFaults}
-use Rattle.tc_server.specs.Faults.{fault_in, IfDisk, IsNoDamage, IsOfStore, IsOfWindow, IsOfRun, IsWithoutFiles, IsWrite, HaveStayed, OneRose, DiskFaults, HasDiskCause, HasCauses, HasRunCauses}
-use Rattle.tc_server.specs.InMemory.{no_faults}
+use Rattle.tc_server.specs.Faults.{IfDisk, IfDamaged, IsOfStore, IsOfWindow, IsOfRun, IsWrite, NoneFell, HaveStayed, OneRose, HaveRisen, DiskFaults, HasDiskCause, HasCauses, HasRunCauses}
 use Rattle.tc_server.specs.declared.outcome.RunFault.{RunFault}
 use Rattle.tc_server.specs.declared.outcome.RunFault.TheVariants.{Usage, Read, Write, Spent, Disk, Damaged, Memory, Layout}
 
 -- ---- counts
 
-have_stayed : (k : KitFaults) → HaveStayed k k
-have_stayed k = record { main = omega arith; flusher = omega arith; merger = omega arith; reader = omega arith }
+none_fell : (k : KitFaults) → NoneFell k k
+none_fell k = record { main = omega arith; flusher = omega arith; merger = omega arith; reader = omega arith }
 
-both_stayed : (a b c : KitFaults) → HaveStayed a b → HaveStayed b c → HaveStayed a c
-both_stayed a b c one two = record {
+none_fell_twice : (a b c : KitFaults) → NoneFell a b → NoneFell b c → NoneFell a c
+none_fell_twice a b c one two = record {
   main = omega (arith, one.main, two.main);
   flusher = omega (arith, one.flusher, two.flusher);
   merger = omega (arith, one.merger, two.merger);
   reader = omega (arith, one.reader, two.reader);
 }
 
-one_rose : (a b c : KitFaults) → HaveStayed a b → OneRose b c → OneRose a c
+have_stayed : (k : Option KitFaults) → HaveStayed k k
+have_stayed None = tt
+have_stayed (Some k) = none_fell k
+
+both_stayed : (a b c : Option KitFaults) → HaveStayed a b → HaveStayed b c → HaveStayed a c
+both_stayed None None c one two = two
+both_stayed None (Some b) c one two = absurd one
+both_stayed (Some a) None c one two = absurd one
+both_stayed (Some a) (Some b) None one two = absurd two
+both_stayed (Some a) (Some b) (Some c) one two = none_fell_twice a b c one two
+
+one_rose : (a b c : KitFaults) → NoneFell a b → OneRose b c → OneRose a c
 one_rose a b c stayed (inl rose) = inl (omega (arith, stayed.main, rose))
 one_rose a b c stayed (inr (inl rose)) = inr (inl (omega (arith, stayed.flusher, rose)))
 one_rose a b c stayed (inr (inr (inl rose))) = inr (inr (inl (omega (arith, stayed.merger, rose))))
 one_rose a b c stayed (inr (inr (inr rose))) = inr (inr (inr (omega (arith, stayed.reader, rose))))
 
-disk_rose : (f : RunFault) (a b c : DiskFaults) → ((p : ℕ) → HaveStayed (a p) (b p)) → IfDisk f (λ p. OneRose (b p) (c p)) → IfDisk f (λ p. OneRose (a p) (c p))
+have_risen : (a b c : Option KitFaults) → HaveStayed a b → HaveRisen b c → HaveRisen a c
+have_risen None None None stayed risen = absurd risen
+have_risen None None (Some c) stayed risen = absurd risen
+have_risen None (Some b) c stayed risen = absurd stayed
+have_risen (Some a) None c stayed risen = absurd stayed
+have_risen (Some a) (Some b) None stayed risen = absurd risen
+have_risen (Some a) (Some b) (Some c) stayed risen = one_rose a b c stayed risen
+
+-- ---- a fault of the disk
+
+disk_rose : (f : RunFault) (a b c : DiskFaults) → ((p : ℕ) → HaveStayed (a p) (b p)) → IfDisk f (λ p. HaveRisen (b p) (c p)) → IfDisk f (λ p. HaveRisen (a p) (c p))
 disk_rose Usage a b c stayed rose = tt
 disk_rose Read a b c stayed rose = tt
 disk_rose (Write n) a b c stayed rose = tt
 disk_rose Spent a b c stayed rose = tt
-disk_rose (Disk p) a b c stayed rose = one_rose (a p) (b p) (c p) (stayed p) rose
+disk_rose (Disk p) a b c stayed rose = have_risen (a p) (b p) (c p) (stayed p) rose
 disk_rose (Damaged p damage) a b c stayed rose = tt
 disk_rose Memory a b c stayed rose = tt
 disk_rose (Layout p found found_of asked_of) a b c stayed rose = tt
 
-if_disk_rose : (fault : Option RunFault) (a b c : DiskFaults) → ((p : ℕ) → HaveStayed (a p) (b p)) → IfSome fault (λ f. IfDisk f (λ p. OneRose (b p) (c p))) → IfSome fault (λ f. IfDisk f (λ p. OneRose (a p) (c p)))
+if_disk_rose : (fault : Option RunFault) (a b c : DiskFaults) → ((p : ℕ) → HaveStayed (a p) (b p)) → IfSome fault (λ f. IfDisk f (λ p. HaveRisen (b p) (c p))) → IfSome fault (λ f. IfDisk f (λ p. HaveRisen (a p) (c p)))
 if_disk_rose None a b c stayed rose = tt
 if_disk_rose (Some f) a b c stayed rose = disk_rose f a b c stayed rose
 
@@ -45,23 +65,24 @@ if_disk_rose (Some f) a b c stayed rose = disk_rose f a b c stayed rose
 
 -- a call that counts nothing
 pub nothing_counted : (faults : DiskFaults) (spent : Type 0) → HasDiskCause faults faults spent None
-nothing_counted faults spent = record { stayed = λ p. have_stayed (faults p); disk = tt; spent = tt }
+nothing_counted faults spent = record { stayed = λ p. have_stayed (faults p); disk = tt; damaged = tt; spent = tt }
 
 -- want of memory is no fault that is counted
 pub no_memory_counted : (faults : DiskFaults) (spent : Type 0) → HasDiskCause faults faults spent (Some Memory)
-no_memory_counted faults spent = record { stayed = λ p. have_stayed (faults p); disk = tt; spent = λ same. cc }
+no_memory_counted faults spent = record { stayed = λ p. have_stayed (faults p); disk = tt; damaged = tt; spent = λ same. cc }
 
 -- two calls, of which the first did not fail
 pub calls_follow : (fault : Option RunFault) (a b c : DiskFaults) (first spent : Type 0) → HasDiskCause a b first None → HasDiskCause b c spent fault → HasDiskCause a c spent fault
 calls_follow fault a b c first spent one two = record {
   stayed = λ p. both_stayed (a p) (b p) (c p) (one.stayed p) (two.stayed p);
   disk = if_disk_rose fault a b c one.stayed two.disk;
+  damaged = two.damaged;
   spent = two.spent;
 }
 
 -- a call, and then want of memory
 pub call_without_memory : (a b : DiskFaults) (first spent : Type 0) → HasDiskCause a b first None → HasDiskCause a b spent (Some Memory)
-call_without_memory a b first spent one = record { stayed = one.stayed; disk = tt; spent = λ same. cc }
+call_without_memory a b first spent one = record { stayed = one.stayed; disk = tt; damaged = tt; spent = λ same. cc }
 
 -- ---- windows
 
@@ -103,11 +124,11 @@ write_failed n before now a b first spent one up rose = record {
   kept = up;
   failed = λ write. rose;
   kind = tt;
-  disks = record { stayed = one.stayed; disk = tt; spent = λ same. cc };
+  disks = record { stayed = one.stayed; disk = tt; damaged = tt; spent = λ same. cc };
 }
 
 pub all_done : (before now : ℕ) (a b : DiskFaults) (first spent : Type 0) → HasDiskCause a b first None → before ≤ now → HasCauses before now a b spent None
-all_done before now a b first spent one up = record { kept = up; failed = tt; kind = tt; disks = record { stayed = one.stayed; disk = tt; spent = tt } }
+all_done before now a b first spent one up = record { kept = up; failed = tt; kind = tt; disks = record { stayed = one.stayed; disk = tt; damaged = tt; spent = tt } }
 
 if_write_rose : (fault : Option RunFault) (a b c : ℕ) → a ≤ b → IfSome fault (λ f. IsWrite f → Rose b c) → IfSome fault (λ f. IsWrite f → Rose a c)
 if_write_rose None a b c up rose = tt
@@ -163,19 +184,21 @@ run_by_window fault x y before now a b spent up cause = record {
   failed = cause.failed;
   stayed = cause.disks.stayed;
   disk = cause.disks.disk;
+  damaged = cause.disks.damaged;
   kind = if_run_kind fault cause.kind;
 }
 
 -- reads alone, of which none failed, or the last one
-pub run_by_reads : (fault : Option RunFault) (x y sink : ℕ) (faults : DiskFaults) → x ≤ y → IfSome fault (λ f. f ≡ Read → Rose x y) → IfSome fault IsOfRun → IfSome fault (λ f. IsWrite f → Rose sink sink) → IfSome fault (λ f. IfDisk f (λ p. OneRose (faults p) (faults p)))
+pub run_by_reads : (fault : Option RunFault) (x y sink : ℕ) (faults : DiskFaults) → x ≤ y → IfSome fault (λ f. f ≡ Read → Rose x y) → IfSome fault IsOfRun → IfSome fault (λ f. IsWrite f → Rose sink sink) → IfSome fault (λ f. IfDisk f (λ p. HaveRisen (faults p) (faults p))) → IfSome fault (λ f. IfDamaged f (λ p. IsSome (faults p)))
     → HasRunCauses x y sink sink faults faults fault
-run_by_reads fault x y sink faults up read kind write disk = record {
+run_by_reads fault x y sink faults up read kind write disk damaged = record {
   heard = up;
   read = read;
   kept = omega arith;
   failed = write;
   stayed = λ p. have_stayed (faults p);
   disk = disk;
+  damaged = damaged;
   kind = kind;
 }
 
@@ -192,6 +215,7 @@ runs_follow fault x y z u v w a b c one two = record {
   failed = if_write_rose fault u v w one.kept two.failed;
   stayed = λ p. both_stayed (a p) (b p) (c p) (one.stayed p) (two.stayed p);
   disk = if_disk_rose fault a b c one.stayed two.disk;
+  damaged = two.damaged;
   kind = two.kind;
 }
 
@@ -203,7 +227,7 @@ no_read f P kind same = not_read f P (window_kind f kind) same
 
 -- a call of the store, and nothing else
 pub run_by_call : (fault : Option RunFault) (reads sink : ℕ) (a b : DiskFaults) (spent : Type 0) → IfSome fault IsOfStore → HasDiskCause a b spent fault → HasRunCauses reads reads sink sink a b fault
-run_by_call None reads sink a b spent kind cause = record { heard = omega arith; read = tt; kept = omega arith; failed = tt; stayed = cause.stayed; disk = tt; kind = tt }
+run_by_call None reads sink a b spent kind cause = record { heard = omega arith; read = tt; kept = omega arith; failed = tt; stayed = cause.stayed; disk = tt; damaged = tt; kind = tt }
 run_by_call (Some f) reads sink a b spent kind cause = record {
   heard = omega arith;
   read = no_read f (Rose reads reads) kind;
@@ -211,6 +235,7 @@ run_by_call (Some f) reads sink a b spent kind cause = record {
   failed = no_write f (Rose sink sink) kind;
   stayed = cause.stayed;
   disk = cause.disk;
+  damaged = cause.damaged;
   kind = store_run_kind f kind;
 }
 
@@ -223,41 +248,6 @@ run_without_memory x y u v a b done = record {
   failed = λ write. absurd write;
   stayed = done.stayed;
   disk = tt;
+  damaged = tt;
   kind = tt;
 }
-
--- ---- a run in memory
-
-none_rose : OneRose (no_faults 0) (no_faults 0) → ⊥
-none_rose (inl rose) = omega (arith, rose)
-none_rose (inr (inl rose)) = omega (arith, rose)
-none_rose (inr (inr (inl rose))) = omega (arith, rose)
-none_rose (inr (inr (inr rose))) = omega (arith, rose)
-
-without_files : (f : RunFault) → IsNoDamage f → IsOfRun f → IfDisk f (λ p. OneRose (no_faults p) (no_faults p)) → IsWithoutFiles f
-without_files Usage sound kind disk = tt
-without_files Read sound kind disk = tt
-without_files (Write n) sound kind disk = tt
-without_files Spent sound kind disk = tt
-without_files (Disk p) sound kind disk = absurd (none_rose disk)
-without_files (Damaged p damage) sound kind disk = absurd sound
-without_files Memory sound kind disk = tt
-without_files (Layout p found found_of asked_of) sound kind disk = absurd kind
-
--- it ends by no fault of files
-pub ends_without_files : (fault : Option RunFault) → IfSome fault IsNoDamage → IfSome fault IsOfRun → IfSome fault (λ f. IfDisk f (λ p. OneRose (no_faults p) (no_faults p))) → IfSome fault IsWithoutFiles
-ends_without_files None sound kind disk = tt
-ends_without_files (Some f) sound kind disk = without_files f sound kind disk
-
-no_usage : (f : RunFault) (P : Type 0) → IsOfRun f → f ≡ Usage → P
-no_usage f P kind same = absurd (subst IsOfRun same kind)
-
--- nor by one of its words
-pub not_by_words : (fault : Option RunFault) (P : Type 0) → IfSome fault IsOfRun → IfSome fault (λ f. f ≡ Usage → P)
-not_by_words None P kind = tt
-not_by_words (Some f) P kind = no_usage f P kind
-
--- what holds of the fault that was answered
-pub err_in : {T : Type 0} (P : RunFault → Type 0) (r : Result T RunFault) → IfSome (fault_in r) P → IfErr r P
-err_in P (Ok x) holds = tt
-err_in P (Err f) holds = holds

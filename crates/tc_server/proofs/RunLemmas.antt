@@ -1,8 +1,8 @@
 -- How a run comes from line to line, and what it did where it ends.
-use Rattle.std.proofs.Common.{◌≡◌, ◌⊎◌, ℕ, ◌+◌, Bool, true, false, List, [], ◌∷◌, ◌++◌, length, refl, ap, sym, subst, ◌∙◌, inl, inr, ⊎_elim, append_assoc, append-nil, length-append, arith}
+use Rattle.std.proofs.Common.{◌≡◌, ℕ, ◌+◌, Bool, true, false, List, [], ◌∷◌, ◌++◌, length, refl, ap, sym, subst, ◌∙◌, inl, inr, ⊎_elim, append_assoc, append-nil, length-append, arith}
 use Rattle.std.specs.Prelude.{Option, Some, None, option_map}
 use Rattle.std.specs.Io.KnownBytes.{Consumes, IsAtEnd}
-use Rattle.std.proofs.KnownBytes.{Consumes-nil, Consumes-trans, Appends-nil, Keeps-refl}
+use Rattle.std.proofs.KnownBytes.{Consumes-nil, Consumes-trans, Appends-nil}
 use Rattle.tc_edge.specs.Moments.{Moment, GavePromptly}
 use Rattle.tc_lines.specs.Needed.{HasReadNeeded}
 use Rattle.tc_lines.specs.Answer.{Reading, BeginsWithLine, IsNextLine, IsAnswered}
@@ -17,10 +17,9 @@ use Rattle.tc_run_model.specs.Windows.{BeginsWith, Window, Windows, windows_of, 
 use Rattle.tc_run_model.specs.Course.{finished, input_failed, input_spent, stopped, HaveClosed, IsReached, requests_in, behind, known_behind, each_line, worlds_left, IsDue}
 use Rattle.tc_run_model.proofs.ReplyLaws.{MayReply-none}
 use Rattle.tc_run_model.proofs.WindowLaws.{BeginsWith-trans, closed-windows_of-append, windows_of-push}
-use Rattle.tc_server.specs.Ending.{RanTo, RanLeaving, opened_by, ReadsPromptly, Served, ServedPromptly}
+use Rattle.tc_server.specs.Ending.{RanLeaving, ReadsPromptly}
 use Rattle.tc_server.specs.Faults.{Stop, failed_writing, gave_up, ending_at, stop_of, EndsAs, IsNoDamage, IsOfStore}
 use Rattle.tc_server.specs.Holds.{IsLeft}
-use Rattle.tc_words.specs.declared.run.Options.{Options}
 use Rattle.tc_server.specs.Progress.{StandsBehind, HasSeenAll, HasSeen, HasCome}
 use Rattle.tc_server.specs.Window.{requests_of}
 use Rattle.tc_server.specs.Stage.{IsAt, with_end, up_to, StopsIn, TakesLine, FailsAtLine}
@@ -421,38 +420,6 @@ begins_not holds keeps spent first most left taken fault k kind cause sound fail
       };
     })
 
--- a run that stopped before it read
-ran_nothing : (spent : Type 0) (first : Option World) (most : ℕ) (left taken : Option (List ℕ)) → RanTo spent (Some Memory) first most left left taken taken
-ran_nothing spent first most left taken = record {
-  ending = stopped;
-  by = refl;
-  ran = record {
-    input = [];
-    consumed = Consumes-nil left;
-    answered = [];
-    last = [];
-    replies = [];
-    given = MayReply-none first;
-    reached = (closed_windows most [], inl refl, record { more = closed_windows most []; goes_on = refl });
-    took = Appends-nil taken;
-  };
-}
-
-by_options : (o : Option Options) (left taken : Option (List ℕ)) → Served o (Some Memory) left left taken taken
-by_options None left taken = (Keeps-refl left, Keeps-refl taken)
-by_options (Some options) left taken = ran_nothing ⊥ (Some (opened_by options)) options.window left taken
-
--- where the words gave no options, nothing was read nor written
-pub served_nothing : (o : Option Options) (fault : RunFault) (left taken : Option (List ℕ)) → (fault ≡ Usage) ⊎ (fault ≡ Memory) → (fault ≡ Usage → o ≡ None) → Served o (Some fault) left left taken taken
-served_nothing o fault left taken (inl usage) none =
-    rw (none usage, usage) (Keeps-refl left, Keeps-refl taken)
-served_nothing o fault left taken (inr memory) none = rw memory (by_options o left taken)
-
 -- where nothing was read, the reads were prompt
 pub unread : (first : Option World) (most : ℕ) (base : Option (List ℕ)) (told : Option (List Moment)) → ReadsPromptly first most base told told
 unread first most base told = ([], begins_promptly (IsDue each_line first most base) told)
-
--- where the words gave no options, there was no read
-pub served_unread : (o : Option Options) (base : Option (List ℕ)) (told : Option (List Moment)) → ServedPromptly o base told told
-served_unread None base told = refl
-served_unread (Some options) base told = unread (Some (opened_by options)) options.window base told

@@ -1,8 +1,5 @@
 -- The text of a schema has no floats, so that its compact text is known.
-use Rattle.std.proofs.Common.{◌≡◌, ◌∙◌, ℕ, List, false, None, Some, refl, ap}
-use Rattle.std.specs.Prelude.{IfOk, Result, Ok, Err}
-use Rattle.serde_json.specs.View.{view}
-use Rattle.serde_json.specs.declared.value.Value.{Value}
+use Rattle.std.proofs.Common.{◌≡◌, ℕ, List, false, None, Some, refl}
 use Rattle.serde_json.specs.Written.{has_float, items_have_float, members_have_float}
 use Rattle.tc_model.specs.Document.{Name, ScalarKind, null_kind, boolean_kind, integer_kind, text_kind}
 use Rattle.tc_schema_model.specs.SchemaTree.{SchemaNode, scalar_node, array_node, object_node, union_node, ItemNode, no_item_node, an_item_node, FieldNodes, no_field_nodes, a_field_node, KindNodes, no_kind_nodes, a_kind_node, SchemaTree}
@@ -37,8 +34,3 @@ mutual
 pub schemas_have_no_floats : (names : List Name) (t : SchemaTree) → has_float (tree_text names t) ≡ false
 schemas_have_no_floats names None = refl
 schemas_have_no_floats names (Some t) = nodes names t
-
--- the same of an answer that is such a text
-pub shown_without_floats : {E : Type 0} (names : List Name) (t : SchemaTree) (r : Result Value E) → IfOk r (λ v. view v ≡ tree_text names t) → IfOk r (λ v. has_float (view v) ≡ false)
-shown_without_floats names t (Ok v) is = ap has_float is ∙ schemas_have_no_floats names t
-shown_without_floats names t (Err e) is = is

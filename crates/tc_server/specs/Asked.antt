@@ -9,9 +9,10 @@ use Rattle.tc_command.specs.Refusals.{refusal_of}
 use Rattle.tc_server.specs.declared.answer.Action.{Action}
 use Rattle.tc_server.specs.declared.answer.Action.TheVariants.{Run, Whole, Refuse}
 use Rattle.tc_server.specs.declared.answer.Control.{Control}
-use Rattle.tc_server.specs.declared.answer.Control.TheVariants.{Schema, NotBuilt}
+use Rattle.tc_server.specs.declared.answer.Control.TheVariants.{Flush, Schema, NotBuilt}
 
 abbrev pub request_whole : Control → Request
+request_whole Flush = flush
 request_whole Schema = schema
 request_whole NotBuilt = refused not_built
 

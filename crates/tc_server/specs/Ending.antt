@@ -1,15 +1,12 @@
 -- What a run read and wrote, by the way in which it ended.
-use Rattle.std.specs.Prelude.{◌≡◌, ℕ, List, [], ◌∷◌, Option, Some, None, option_map, IfSome}
-use Rattle.std.specs.Io.KnownBytes.{Keeps}
+use Rattle.std.specs.Prelude.{◌≡◌, ℕ, List, Option, Some, None, option_map, IfSome}
 use Rattle.tc_edge.specs.Moments.{Moment, IsPrompt}
-use Rattle.tc_plain_model.specs.Store.{empty}
 use Rattle.tc_plain_model.specs.Part.{Limits}
-use Rattle.tc_run_model.specs.World.{World, first_world}
+use Rattle.tc_run_model.specs.World.{World}
 use Rattle.tc_run_model.specs.Course.{Ending, each_line, IsDue, Ran, worlds_left}
 use Rattle.tc_server.specs.Faults.{EndsAs, IsNoDamage}
 use Rattle.tc_server.specs.Holds.{IsLeft}
 use Rattle.tc_server.specs.declared.outcome.RunFault.{RunFault}
-use Rattle.tc_server.specs.declared.outcome.RunFault.TheVariants.{Usage, Memory}
 use Rattle.tc_words.specs.declared.run.Options.{Options}
 
 -- A run from a first world, over windows of at most so many lines, that ended by this fault or by none. Where it ended by a
@@ -29,23 +26,12 @@ pub record RanLeaving {K : Type 0} (holds : K → Option World → Type 0) (keep
 abbrev pub limits_of : Options → Limits
 limits_of options = record { names = options.names; docs = options.docs }
 
--- the first world of a run: one partition, in which nothing is stored
-abbrev pub opened_by : Options → World
-opened_by options = first_world (limits_of options) (empty ∷ [])
-
 -- Each read from those told at first on to those told now was asked for when the sink, which had taken `base`, had
 -- accepted the replies to the windows that had closed among the bytes given before it, and no more.
 abbrev pub ReadsPromptly : Option World → ℕ → Option (List ℕ) → Option (List Moment) → Option (List Moment) → Type 0
 ReadsPromptly first most base told told' = IsPrompt (IsDue each_line first most base) told told'
 
--- A run for these options, or for words that are none, which reads and writes nothing.
-abbrev pub Served : Option Options → Option RunFault → Option (List ℕ) → Option (List ℕ) → Option (List ℕ) → Option (List ℕ) → Type 0
-Served (Some options) fault left left' taken taken' = RanTo ⊥ fault (Some (opened_by options)) options.window left left' taken taken'
-Served None (Some Usage) left left' taken taken' = Keeps left left' × Keeps taken taken'
-Served None (Some Memory) left left' taken taken' = Keeps left left' × Keeps taken taken'
-Served None _ left left' taken taken' = ⊥
-
 -- the reads of a run for these options were prompt, and for words that are none there was no read
-abbrev pub ServedPromptly : Option Options → Option (List ℕ) → Option (List Moment) → Option (List Moment) → Type 0
-ServedPromptly (Some options) base told told' = ReadsPromptly (Some (opened_by options)) options.window base told told'
-ServedPromptly None base told told' = told' ≡ told
+abbrev pub ServedPromptly : Option World → Option Options → Option (List ℕ) → Option (List Moment) → Option (List Moment) → Type 0
+ServedPromptly first (Some options) base told told' = ReadsPromptly first options.window base told told'
+ServedPromptly first None base told told' = told' ≡ told

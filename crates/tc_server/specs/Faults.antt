@@ -1,7 +1,16 @@
 -- Faults of a run: what kind each is, and what counts where it comes.
-use Rattle.std.specs.Prelude.{◌≡◌, ◌⊎◌, ◌≤◌, ℕ, Option, Some, None, Result, Ok, Err, IfSome}
+use Rattle.std.specs.Prelude.{◌≡◌, ◌⊎◌, ◌≤◌, ℕ, zero, suc, Option, Some, None, Result, Ok, Err, option_map, unwrap_or, IfSome, IsSome}
 use Rattle.tc_bytes.specs.Counts.{Rose}
+use Rattle.tc_open.specs.declared.fault.OpenCause.{OpenCause}
+use Rattle.tc_open.specs.declared.fault.OpenCause.TheVariants as opening
+use Rattle.tc_part_model.specs.PartState.{PartState}
+use Rattle.tc_store.specs.Counted.{Counts}
 use Rattle.tc_store.specs.KitFaults.{KitFaults}
+use Rattle.tc_store.specs.declared.fault.ShelfFault.{ShelfFault}
+use Rattle.tc_store.specs.declared.fault.ShelfFault.TheVariants as shelf
+use Rattle.tc_store.specs.declared.kit.Kit.{Kit}
+use Rattle.tc_work.specs.declared.fault.EngineFault.{EngineFault}
+use Rattle.tc_work.specs.declared.fault.EngineFault.TheVariants as engine
 use Rattle.tc_run_model.specs.Course.{Ending, finished, input_failed, input_spent, output_failed, stopped}
 use Rattle.tc_server.specs.declared.outcome.RunFault.{RunFault}
 use Rattle.tc_server.specs.declared.outcome.RunFault.TheVariants.{Usage, Read, Write, Spent, Disk, Damaged, Memory, Layout}
@@ -22,6 +31,28 @@ status_of (Some Spent) = 9
 abbrev pub fault_in : {T : Type 0} → Result T RunFault → Option RunFault
 fault_in (Ok x) = None
 fault_in (Err fault) = Some fault
+
+-- ---- faults of a partition
+
+-- an engine of this partition failed
+abbrev pub fault_of_engine : ℕ → EngineFault → RunFault
+fault_of_engine p engine.Disk = Disk p
+fault_of_engine p (engine.Damaged damage) = Damaged p damage
+fault_of_engine p engine.Spent = Spent
+fault_of_engine p engine.Memory = Memory
+
+-- this one of so many partitions was not opened
+abbrev pub fault_of_opening : ℕ → ℕ → OpenCause → RunFault
+fault_of_opening p count opening.Disk = Disk p
+fault_of_opening p count (opening.Damaged damage) = Damaged p damage
+fault_of_opening p count (opening.Layout found found_of) = Layout p found found_of count
+fault_of_opening p count opening.Spent = Spent
+fault_of_opening p count opening.Memory = Memory
+
+-- the kit of this partition was not given
+abbrev pub fault_of_shelf : ℕ → ShelfFault → RunFault
+fault_of_shelf p shelf.Fault = Disk p
+fault_of_shelf p shelf.Memory = Memory
 
 -- ---- how a run ends by a fault
 
@@ -82,6 +113,17 @@ IfDisk (Damaged p damage) P = Unit {0}
 IfDisk Memory P = Unit {0}
 IfDisk (Layout p found found_of asked_of) P = Unit {0}
 
+-- if it is damage, this holds of its partition
+abbrev pub IfDamaged : RunFault → (ℕ → Type 0) → Type 0
+IfDamaged Usage P = Unit {0}
+IfDamaged Read P = Unit {0}
+IfDamaged (Write n) P = Unit {0}
+IfDamaged Spent P = Unit {0}
+IfDamaged (Disk p) P = Unit {0}
+IfDamaged (Damaged p damage) P = P p
+IfDamaged Memory P = Unit {0}
+IfDamaged (Layout p found found_of asked_of) P = Unit {0}
+
 -- it is no damage
 abbrev pub IsNoDamage : RunFault → Type 0
 IsNoDamage Usage = Unit {0}
@@ -126,22 +168,32 @@ IsOfRun (Damaged p damage) = Unit {0}
 IsOfRun Memory = Unit {0}
 IsOfRun (Layout p found found_of asked_of) = ⊥
 
--- it is one of a run that keeps its documents in memory
-abbrev pub IsWithoutFiles : RunFault → Type 0
-IsWithoutFiles Usage = Unit {0}
-IsWithoutFiles Read = Unit {0}
-IsWithoutFiles (Write n) = Unit {0}
-IsWithoutFiles Spent = Unit {0}
-IsWithoutFiles (Disk p) = ⊥
-IsWithoutFiles (Damaged p damage) = ⊥
-IsWithoutFiles Memory = Unit {0}
-IsWithoutFiles (Layout p found found_of asked_of) = ⊥
+-- ---- counts of faults
 
--- the counts of faults of the watches of each partition
+-- the counts of the watches of each partition that there is
 abbrev pub DiskFaults : Type 0
-DiskFaults = ℕ → KitFaults
+DiskFaults = ℕ → Option KitFaults
 
-pub record HaveStayed (old new : KitFaults) : Type 0 where
+-- of the only partition
+abbrev pub of_only : KitFaults → DiskFaults
+of_only counts zero = Some counts
+of_only counts (suc p) = None
+
+-- the counts of faults of a kit's watches
+abbrev pub faults_in : {S W D F : Type 0} → (W → Counts) → Kit S W D F → KitFaults
+faults_in counts kit = record { main = (counts kit.main).faults; flusher = (counts kit.flusher).faults; merger = (counts kit.merger).faults; reader = (counts kit.reader).faults }
+
+-- the same of a part; a watch that is lent has none
+abbrev pub faults_of_part : {S D F W : Type 0} → (W → Counts) → PartState S D F W → KitFaults
+faults_of_part counts part = record {
+  main = (counts part.main).faults;
+  flusher = unwrap_or (option_map (λ w. (counts w).faults) part.flusher) 0;
+  merger = unwrap_or (option_map (λ w. (counts w).faults) part.merger) 0;
+  reader = unwrap_or (option_map (λ w. (counts w).faults) part.reader) 0;
+}
+
+-- no count fell
+pub record NoneFell (old new : KitFaults) : Type 0 where
   pub main : old.main ≤ new.main
   pub flusher : old.flusher ≤ new.flusher
   pub merger : old.merger ≤ new.merger
@@ -151,10 +203,24 @@ pub record HaveStayed (old new : KitFaults) : Type 0 where
 abbrev pub OneRose : KitFaults → KitFaults → Type 0
 OneRose old new = Rose old.main new.main ⊎ (Rose old.flusher new.flusher ⊎ (Rose old.merger new.merger ⊎ Rose old.reader new.reader))
 
--- What counts over a call of the store: no count falls, and one of the partition rose where the disk is at fault.
+-- a partition is there as before, and no count of it fell
+abbrev pub HaveStayed : Option KitFaults → Option KitFaults → Type 0
+HaveStayed None None = Unit {0}
+HaveStayed None (Some now) = ⊥
+HaveStayed (Some before) None = ⊥
+HaveStayed (Some before) (Some now) = NoneFell before now
+
+-- it is there, and one of its counts rose
+abbrev pub HaveRisen : Option KitFaults → Option KitFaults → Type 0
+HaveRisen (Some before) (Some now) = OneRose before now
+HaveRisen _ _ = ⊥
+
+-- What counts over a call of the store: no count falls, and one of the partition rose where the disk is at fault. What is damaged
+-- is of a partition that there is.
 pub record HasDiskCause (old new : DiskFaults) (last : Type 0) (fault : Option RunFault) : Type 0 where
   pub stayed : (p : ℕ) → HaveStayed (old p) (new p)
-  pub disk : IfSome fault (λ f. IfDisk f (λ p. OneRose (old p) (new p)))
+  pub disk : IfSome fault (λ f. IfDisk f (λ p. HaveRisen (old p) (new p)))
+  pub damaged : IfSome fault (λ f. IfDamaged f (λ p. IsSome (new p)))
   pub spent : IfSome fault (λ f. f ≡ Spent → last)
 
 -- The same over a window: the count of the sink's faults does not fall, and rises where a write failed.
@@ -171,5 +237,6 @@ pub record HasRunCauses (reads reads' before now : ℕ) (old new : DiskFaults) (
   pub kept : before ≤ now
   pub failed : IfSome fault (λ f. IsWrite f → Rose before now)
   pub stayed : (p : ℕ) → HaveStayed (old p) (new p)
-  pub disk : IfSome fault (λ f. IfDisk f (λ p. OneRose (old p) (new p)))
+  pub disk : IfSome fault (λ f. IfDisk f (λ p. HaveRisen (old p) (new p)))
+  pub damaged : IfSome fault (λ f. IfDamaged f (λ p. IsSome (new p)))
   pub kind : IfSome fault IsOfRun

@@ -1,7 +1,3 @@
-pub mod Pairs
-pub mod Limited
-pub mod InMemory
-pub mod Sound
 pub mod Asked
 pub mod Faults
 pub mod FaultText
@@ -9,5 +5,8 @@ pub mod Holds
 pub mod Window
 pub mod Stage
 pub mod Ending
-pub mod Progress
+pub mod Partitions
+pub mod OverFiles
+pub mod Calls
 pub mod Program
+pub mod Progress

@@ -18,6 +18,7 @@ use tc_command::{Command, ParseFault, Refusal, Reply, parse, reply_text};
 /// What is asked of the whole store.
 #[derive(Clone, Copy, Debug, PartialEq, Eq)]
 pub enum Control {
+    Flush,
     Schema,
     /// A command that is not built.
     NotBuilt,
@@ -93,8 +94,9 @@ fn action_of(command: Command) -> Action
     ensures of_key { IsLawful command → IsRunOfKey result }
 {
     match command {
+        Command::Flush => Action::Whole(Control::Flush),
         Command::Schema => Action::Whole(Control::Schema),
-        Command::Flush | Command::Scan(_) | Command::Collect => Action::Whole(Control::NotBuilt),
+        Command::Scan(_) | Command::Collect => Action::Whole(Control::NotBuilt),
         Command::Query(_) => Action::Refuse(Refusal::NotBuilt),
         command => Action::Run(command),
     }

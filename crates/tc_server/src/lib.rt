@@ -2,17 +2,15 @@
 #![tactic(auto)]
 
 mod answer;
-mod in_memory;
-mod keeper;
 mod outcome;
+mod partitions;
 mod program;
 mod server;
 mod session;
-mod store;
 mod texts;
 mod window;
 
-pub use outcome::{Outcome, RunFault};
+pub use outcome::{RunFault, Served};
 pub use program::{run_program, words};
 pub use server::serve;
 pub use texts::fault_text;

@@ -2,14 +2,16 @@
 
 ghost use Rattle.std.specs.Prelude.{◌≡◌};
 ghost use Rattle.tc_edge.specs.declared.streams.WriteFault.{WriteFault};
+ghost use Rattle.tc_server.specs.Faults.{fault_of_engine, fault_of_opening, fault_of_shelf};
 ghost use Rattle.tc_server.specs.declared.outcome.RunFault.TheVariants.{Memory, Write};
 
 use std::alloc::{AllocError, AllocFailed};
 use tc_edge::WriteFault;
-use tc_store::Damage;
+use tc_open::OpenCause;
+use tc_store::{Damage, Kit, ShelfFault, Store};
+use tc_work::EngineFault;
 
-/// The fault that ended a run; what is said of it is `fault_text`. `Disk`, `Damaged` and `Layout` are faults of files, by
-/// which no run in memory ends.
+/// The fault that ended a run; what is said of it is `fault_text`.
 #[derive(Drop, Debug)]
 pub enum RunFault {
     /// The words are no command line.
@@ -87,35 +89,73 @@ impl From<WriteFault> for RunFault {
     }
 }
 
-/// How a run ended: its exit status, and the fault where the status is not 0.
-#[derive(Drop, Debug)]
-pub struct Outcome {
-    pub status: u8,
-    pub fault: Option<RunFault>,
+/// The fault of a run whose engine of this partition failed.
+pub(crate) fn of_engine(partition: u32, fault: EngineFault) -> RunFault
+    ensures { result ≡ fault_of_engine partition fault }
+{
+    match fault {
+        EngineFault::Disk => RunFault::Disk { partition },
+        EngineFault::Damaged(damage) => RunFault::Damaged { partition, damage },
+        EngineFault::Spent => RunFault::Spent,
+        EngineFault::Memory => RunFault::Memory,
+    }
 }
 
-impl Outcome {
-    ghost use Rattle.std.specs.Prelude.{◌≡◌, Some, None};
+/// The fault of a run for which this one of so many partitions was not opened.
+pub(crate) fn of_opening(partition: u32, asked_of: u32, cause: OpenCause) -> RunFault
+    ensures { result ≡ fault_of_opening partition asked_of cause }
+{
+    match cause {
+        OpenCause::Disk => RunFault::Disk { partition },
+        OpenCause::Damaged(damage) => RunFault::Damaged { partition, damage },
+        OpenCause::Layout { found, found_of } => RunFault::Layout {
+            partition,
+            found,
+            found_of,
+            asked_of,
+        },
+        OpenCause::Spent => RunFault::Spent,
+        OpenCause::Memory => RunFault::Memory,
+    }
+}
+
+/// The fault of a run for which the kit of this partition was not given.
+pub(crate) fn of_shelf(partition: u32, fault: ShelfFault) -> RunFault
+    ensures { result ≡ fault_of_shelf partition fault }
+{
+    match fault {
+        ShelfFault::Fault => RunFault::Disk { partition },
+        ShelfFault::Memory => RunFault::Memory,
+    }
+}
+
+/// How a run ended: its exit status, the fault where the status is not 0, and each kit that the shelf gave, all files of
+/// which are at home.
+#[derive(Drop)]
+pub struct Served<S: Store> {
+    pub status: u8,
+    pub fault: Option<RunFault>,
+    pub kits: Vec<Kit<S>>,
+}
+
+impl<S: Store> Served<S> {
+    ghost use Rattle.std.specs.Prelude.{◌≡◌};
     ghost use Rattle.tc_server.specs.Faults.{status_of};
 
-    /// A run to the end of its input.
-    pub fn done() -> Outcome
-        ensures { result ≡ record { status = 0; fault = None } }
+    /// A run that ended by this fault, or by none.
+    pub(crate) fn of(fault: Option<RunFault>, kits: Vec<Kit<S>>) -> Served<S>
+        ensures status { result.status ≡ status_of fault }
+        ensures fault { result.fault ≡ fault }
+        ensures kits { result.kits ≡ kits }
     {
-        Outcome {
-            status: 0,
-            fault: None,
-        }
-    }
-
-    /// A run that this fault ended.
-    pub fn of(fault: RunFault) -> Outcome
-        ensures { result ≡ record { status = status_of (Some fault); fault = Some fault } }
-    {
-        let status = fault.status();
-        Outcome {
+        let status = match &fault {
+            Some(fault) => fault.status(),
+            None => 0,
+        };
+        Served {
             status,
-            fault: Some(fault),
+            fault,
+            kits,
         }
     }
 }

@@ -1,22 +1,24 @@
 //! All that a program does between its words and its exit.
 
-ghost use Rattle.std.specs.Prelude.{◌≡◌, Some, None, IfErr, IfSome, option_map};
-ghost use Rattle.std.specs.Process.{exit_status};
+ghost use Rattle.std.specs.Prelude.{◌≡◌, ◌≢◌, ℕ, ◌≤◌, ◌⊎◌, [], length, map, All, Option, Some, None, option_map, IfErr, IfSome};
 ghost use Rattle.std.specs.Result.{result_ok};
 ghost use Rattle.tc_bytes.specs.Counts.{Rose};
-ghost use Rattle.tc_server.specs.Ending.{Served, ServedPromptly};
-ghost use Rattle.tc_server.specs.Program.{Exits, fault_of_words, options_given};
-ghost use Rattle.tc_server.specs.Faults.{status_of, IsWithoutFiles, IsWrite};
+ghost use Rattle.tc_run_model.specs.World.{World};
+ghost use Rattle.tc_store.specs.Moments.{IfTold};
+ghost use Rattle.tc_server.specs.Ending.{ServedPromptly};
+ghost use Rattle.tc_server.specs.Faults.{faults_in, status_of, IfDisk, IsWrite, NoneFell};
+ghost use Rattle.tc_server.specs.OverFiles.{AreGenerationsSpent, BeginsFor, HasDiskCauseOver, HasLayoutCause, HasSpentInput, IsJudged, IsOfTheOnly, ServedOver};
+ghost use Rattle.tc_server.specs.Program.{fault_of_words, options_given};
 
-use crate::outcome::{Outcome, RunFault};
+use crate::outcome::{RunFault, Served};
 use crate::server::serve;
 use crate::texts::fault_text;
 use std::alloc::Global;
 use std::env;
 use std::env::Env;
 use std::io::{Eprint, Error, ErrorKind};
-use std::process::ExitCode;
 use tc_edge::{Sink, Source};
+use tc_store::Shelf;
 use tc_value::Text;
 use tc_words::WordsFault;
 
@@ -41,59 +43,81 @@ fn refusal_of(error: &Error) -> WordsFault {
     }
 }
 
-/// Serves the lines of the source for these words, says on standard error by which fault the run ended, if by any, and
-/// gives the exit of the program.
-#[tactic(auto, using(crate::proofs::ExitLemmas::usage_told, crate::proofs::ExitLemmas::read_told, crate::proofs::ExitLemmas::write_told))]
-pub fn run_program<R: Eprint + AllocGlobal, I: Source<O>, O: Sink>(
+/// Serves the lines of the source for these words, and says on standard error by which fault the run ended, if by any. What is
+/// answered is what `serve` answers for the words, of whose contract these are the clauses.
+pub fn run_program<R: Eprint + AllocGlobal, I: Source<O>, O: Sink, H: Shelf>(
     rt: &R,
     words: Result<Vec<Text>, WordsFault>,
     source: &mut I,
     sink: &mut O,
-) -> ExitCode
-    // What was read and written, by the exit status.
-    ensures exits { Exits (options_given (option_map (λ words. words.items) (result_ok words))) (exit_status result)
-        (I.left source.old) (I.left source.new) (O.taken sink.old) (O.taken sink.new) }
+    shelf: &mut H,
+) -> Served<H::Store>
+    ensures status { result.status ≡ status_of result.fault }
+
+    // What was read and written, and what is left of the files, from each first world that the files give, and from none.
+    ensures served { (first : Option World) → BeginsFor (options_given (option_map (λ words. words.items) (result_ok words))) (H.files shelf.old 0) first
+        → ServedOver (options_given (option_map (λ words. words.items) (result_ok words))) result.fault first (I.left source.old) (I.left source.new) (O.taken sink.old) (O.taken sink.new) (map (λ kit. H.Store.history kit.store) result.kits.items) }
 
     // At each read the sink had accepted the replies to the windows that had closed among what was
     // given before it, and no more.
-    ensures prompt { ServedPromptly (options_given (option_map (λ words. words.items) (result_ok words))) (O.taken sink.old)
-        (I.moments source.old) (I.moments source.new) }
+    ensures prompt { (first : Option World) → BeginsFor (options_given (option_map (λ words. words.items) (result_ok words))) (H.files shelf.old 0) first
+        → ServedPromptly first (options_given (option_map (λ words. words.items) (result_ok words))) (O.taken sink.old) (I.moments source.old) (I.moments source.new) }
 
-    // When the program may exit with the status of a fault.
-    ensures words { IfErr words (λ fault. exit_status result ≡ status_of (Some (fault_of_words fault))) }
-    ensures usage { exit_status result ≡ status_of (Some RunFault.Usage)
-        → options_given (option_map (λ words. words.items) (result_ok words)) ≡ None }
-    ensures read { exit_status result ≡ status_of (Some RunFault.Read) → Rose (I.faults source.old) (I.faults source.new) }
-    ensures write { exit_status result ≡ status_of (Some (RunFault.Write 0)) → Rose (O.faults sink.old) (O.faults sink.new) }
+    // One kit at most was asked for, and is given back. Where none is, the shelf is as it was, or has failed. No count falls.
+    ensures kits { length result.kits.items ≤ 1 }
+    ensures unasked { result.kits.items ≡ [] → (shelf.new ≡ shelf.old) ⊎ Rose (H.faults shelf.old) (H.faults shelf.new) }
+    ensures other_kits { (other : ℕ) → other ≢ 0 → (H.files shelf.new other ≡ H.files shelf.old other) × (H.kit_faults shelf.new other ≡ H.kit_faults shelf.old other) }
+    ensures counts { (H.faults shelf.old ≤ H.faults shelf.new) × All (λ kit. NoneFell (H.kit_faults shelf.old 0) (faults_in (λ w. H.Store.Watch.counts w) kit)) result.kits.items }
+
+    // When a fault may be answered.
+    ensures words { IfErr words (λ fault. result.fault ≡ Some (fault_of_words fault)) }
+    ensures usage { result.fault ≡ Some RunFault.Usage → options_given (option_map (λ words. words.items) (result_ok words)) ≡ None }
+    ensures read { result.fault ≡ Some RunFault.Read → Rose (I.faults source.old) (I.faults source.new) }
+    ensures write { IfSome result.fault (λ fault. IsWrite fault → Rose (O.faults sink.old) (O.faults sink.new)) }
+    ensures disk { IfSome result.fault (λ fault. IfDisk fault (λ p. HasDiskCauseOver (H.faults shelf.old) (H.faults shelf.new) (H.kit_faults shelf.old 0) (map (faults_in (λ w. H.Store.Watch.counts w)) result.kits.items))) }
+    ensures partition { IfSome result.fault IsOfTheOnly }
+    ensures judged { options_given (option_map (λ words. words.items) (result_ok words)) ≢ None → IfTold (H.files shelf.old 0) (λ disk. IsJudged disk result.fault) }
+    ensures layout { IfSome result.fault (HasLayoutCause H.Store.Watch (λ file. H.Store.Frozen.size file) (λ file. H.Store.Frozen.name file)) }
+    ensures spent { result.fault ≡ Some RunFault.Spent
+        → HasSpentInput (I.left source.old) (I.left source.new) ⊎ AreGenerationsSpent (H.files shelf.old 0) (map (λ kit. H.Store.history kit.store) result.kits.items) }
 {
-    let outcome = outcome_of(rt.alloc(), words, source, sink);
-    report(rt, &outcome.fault);
-    ExitCode::from(outcome.status)
+    let served = served_for(rt.alloc(), words, source, sink, shelf);
+    report(rt, &served.fault);
+    served
 }
 
 // How the run for these words ends.
-fn outcome_of<I: Source<O>, O: Sink>(
+fn served_for<I: Source<O>, O: Sink, H: Shelf>(
     alloc: Global,
     words: Result<Vec<Text>, WordsFault>,
     source: &mut I,
     sink: &mut O,
-) -> Outcome
+    shelf: &mut H,
+) -> Served<H::Store>
     ensures status { result.status ≡ status_of result.fault }
-    ensures served { Served (options_given (option_map (λ words. words.items) (result_ok words))) result.fault
-        (I.left source.old) (I.left source.new) (O.taken sink.old) (O.taken sink.new) }
-    ensures prompt { ServedPromptly (options_given (option_map (λ words. words.items) (result_ok words))) (O.taken sink.old)
-        (I.moments source.old) (I.moments source.new) }
+    ensures served { (first : Option World) → BeginsFor (options_given (option_map (λ words. words.items) (result_ok words))) (H.files shelf.old 0) first
+        → ServedOver (options_given (option_map (λ words. words.items) (result_ok words))) result.fault first (I.left source.old) (I.left source.new) (O.taken sink.old) (O.taken sink.new) (map (λ kit. H.Store.history kit.store) result.kits.items) }
+    ensures prompt { (first : Option World) → BeginsFor (options_given (option_map (λ words. words.items) (result_ok words))) (H.files shelf.old 0) first
+        → ServedPromptly first (options_given (option_map (λ words. words.items) (result_ok words))) (O.taken sink.old) (I.moments source.old) (I.moments source.new) }
+    ensures kits { length result.kits.items ≤ 1 }
+    ensures unasked { result.kits.items ≡ [] → (shelf.new ≡ shelf.old) ⊎ Rose (H.faults shelf.old) (H.faults shelf.new) }
+    ensures other_kits { (other : ℕ) → other ≢ 0 → (H.files shelf.new other ≡ H.files shelf.old other) × (H.kit_faults shelf.new other ≡ H.kit_faults shelf.old other) }
+    ensures counts { (H.faults shelf.old ≤ H.faults shelf.new) × All (λ kit. NoneFell (H.kit_faults shelf.old 0) (faults_in (λ w. H.Store.Watch.counts w) kit)) result.kits.items }
     ensures words { IfErr words (λ fault. result.fault ≡ Some (fault_of_words fault)) }
-    ensures usage { result.fault ≡ Some RunFault.Usage
-        → options_given (option_map (λ words. words.items) (result_ok words)) ≡ None }
+    ensures usage { result.fault ≡ Some RunFault.Usage → options_given (option_map (λ words. words.items) (result_ok words)) ≡ None }
     ensures read { result.fault ≡ Some RunFault.Read → Rose (I.faults source.old) (I.faults source.new) }
     ensures write { IfSome result.fault (λ fault. IsWrite fault → Rose (O.faults sink.old) (O.faults sink.new)) }
-    ensures without_files { IfSome result.fault IsWithoutFiles }
+    ensures disk { IfSome result.fault (λ fault. IfDisk fault (λ p. HasDiskCauseOver (H.faults shelf.old) (H.faults shelf.new) (H.kit_faults shelf.old 0) (map (faults_in (λ w. H.Store.Watch.counts w)) result.kits.items))) }
+    ensures partition { IfSome result.fault IsOfTheOnly }
+    ensures judged { options_given (option_map (λ words. words.items) (result_ok words)) ≢ None → IfTold (H.files shelf.old 0) (λ disk. IsJudged disk result.fault) }
+    ensures layout { IfSome result.fault (HasLayoutCause H.Store.Watch (λ file. H.Store.Frozen.size file) (λ file. H.Store.Frozen.name file)) }
+    ensures spent { result.fault ≡ Some RunFault.Spent
+        → HasSpentInput (I.left source.old) (I.left source.new) ⊎ AreGenerationsSpent (H.files shelf.old 0) (map (λ kit. H.Store.history kit.store) result.kits.items) }
 {
     match words {
-        Ok(words) => serve(alloc, words.as_slice(), source, sink),
-        Err(WordsFault::Usage) => Outcome::of(RunFault::Usage),
-        Err(WordsFault::Memory) => Outcome::of(RunFault::Memory),
+        Ok(words) => serve(alloc, words.as_slice(), source, sink, shelf),
+        Err(WordsFault::Usage) => Served::of(Some(RunFault::Usage), Vec::new(alloc)),
+        Err(WordsFault::Memory) => Served::of(Some(RunFault::Memory), Vec::new(alloc)),
     }
 }
 

@@ -1,75 +1,237 @@
-//! A run: the words, the lines, and how it ends.
+//! A run: the words, the partition, the lines, and how it ends.
 
-ghost use Rattle.std.specs.Prelude.{◌≡◌, ℕ, ◌<◌, ◌≤◌, ◌⊎◌, [], true, false, Option, Some, None, IfOk, IfErr, IfSome, IsErrOf, OnOk};
+ghost use Rattle.std.specs.Prelude.{◌≡◌, ◌≢◌, ℕ, ◌<◌, ◌≤◌, ◌⊎◌, List, [], ◌∷◌, true, false, length, map, All, Ok, Option, Some, None, vec_capacity, vec_len, IfOk, IfErr, IfSome, IsErrOf, OnOk};
 ghost use Rattle.tc_bytes.specs.Counts.{Rose};
+ghost use Rattle.tc_list.specs.Policies.{listed_least};
+ghost use Rattle.tc_part.specs.FilesOut.{LogIsOut};
+ghost use Rattle.tc_part_model.specs.PartState.{told};
 ghost use Rattle.tc_run_model.specs.World.{World};
-ghost use Rattle.tc_server.specs.Ending.{RanLeaving, ReadsPromptly, Served, ServedPromptly};
-ghost use Rattle.tc_server.specs.Faults.{fault_in, status_of, HasRunCauses, IsWithoutFiles, IsWrite};
+ghost use Rattle.tc_store.specs.Disk.{IsAtRest};
+ghost use Rattle.tc_store.specs.Moments.{IfTold};
+ghost use Rattle.tc_work.specs.Settling.{MaySettle};
+ghost use Rattle.tc_server.specs.Ending.{limits_of, RanLeaving, ReadsPromptly, ServedPromptly};
+ghost use Rattle.tc_server.specs.Faults.{fault_in, faults_in, faults_of_part, status_of, HasRunCauses, IfDisk, IsOfRun, IsWrite, NoneFell, OneRose};
+ghost use Rattle.tc_server.specs.OverFiles.{AreGenerationsSpent, BeginsAs, BeginsFor, HasDiskCauseOver, HasLastGeneration, HasLayoutCause, HasSpentInput, IsJudged, IsOfTheOnly, RanOver, ServedOver};
+ghost use Rattle.tc_server.specs.Partitions.{StandsAt};
+ghost use Rattle.tc_server.specs.Calls.{faults_of, IsSpent, KeepsAt, MayAsk, Rests, HoldsAt};
 ghost use Rattle.tc_server.specs.Progress.{AsksPromptly, Ends, Goes};
 ghost use Rattle.tc_server.specs.Stage.{IsReady};
 ghost use Rattle.tc_server.specs.Window.{requests_of};
 ghost use Rattle.tc_words.specs.Options.{options_of};
 
-use crate::keeper::Keeper;
-use crate::outcome::{Outcome, RunFault};
+use crate::outcome::{RunFault, Served, of_engine, of_opening, of_shelf};
+use crate::partitions::Partitions;
 use crate::session::Session;
-use crate::store::Store;
 use std::alloc::Global;
 use tc_command::MAX_LINE;
 use tc_edge::{Sink, Source};
 use tc_lines::{Line, Lines};
+use tc_list::Policy;
+use tc_open::{OpenFault, open_part};
+use tc_part::{Limits, Part};
+use tc_store::{Kit, Shelf, Store};
 use tc_value::Text;
 use tc_words::{Options, WordsFault, options};
+use tc_work::{Engine, EngineFault, Finished};
 
-/// Answers the lines of the source for the words of the command line, which stand behind the folder.
-pub fn serve<I: Source<O>, O: Sink>(
+/// Answers the lines of the source for the words of the command line, which stand behind the folder, over the partition
+/// that the shelf keeps. The kit is asked for, and the partition opened, before a line is read; behind each window, and before
+/// the first one, it is settled.
+pub fn serve<I: Source<O>, O: Sink, H: Shelf>(
     alloc: Global,
     words: &[Text],
     source: &mut I,
     sink: &mut O,
-) -> Outcome
+    shelf: &mut H,
+) -> Served<H::Store>
     ensures status { result.status ≡ status_of result.fault }
 
-    // What was read and written.
-    ensures served { Served (options_of words.now) result.fault
-        (I.left source.old) (I.left source.new) (O.taken sink.old) (O.taken sink.new) }
+    // What was read and written, and what is left of the files, from each first world that the files give, and from none.
+    ensures served { (first : Option World) → BeginsFor (options_of words.now) (H.files shelf.old 0) first
+        → ServedOver (options_of words.now) result.fault first (I.left source.old) (I.left source.new) (O.taken sink.old) (O.taken sink.new) (map (λ kit. H.Store.history kit.store) result.kits.items) }
 
     // At each read the sink had accepted the replies to the windows that had closed among what was
     // given before it, and no more.
-    ensures prompt { ServedPromptly (options_of words.now) (O.taken sink.old)
-        (I.moments source.old) (I.moments source.new) }
+    ensures prompt { (first : Option World) → BeginsFor (options_of words.now) (H.files shelf.old 0) first
+        → ServedPromptly first (options_of words.now) (O.taken sink.old) (I.moments source.old) (I.moments source.new) }
+
+    // One kit at most was asked for, and is given back. Where none is, the shelf is as it was, or has failed. No count falls.
+    ensures kits { length result.kits.items ≤ 1 }
+    ensures unasked { result.kits.items ≡ [] → (shelf.new ≡ shelf.old) ⊎ Rose (H.faults shelf.old) (H.faults shelf.new) }
+    ensures other_kits { (other : ℕ) → other ≢ 0 → (H.files shelf.new other ≡ H.files shelf.old other) × (H.kit_faults shelf.new other ≡ H.kit_faults shelf.old other) }
+    ensures counts { (H.faults shelf.old ≤ H.faults shelf.new) × All (λ kit. NoneFell (H.kit_faults shelf.old 0) (faults_in (λ w. H.Store.Watch.counts w) kit)) result.kits.items }
 
     // When a fault may be answered.
     ensures usage { result.fault ≡ Some RunFault.Usage → options_of words.now ≡ None }
     ensures read { result.fault ≡ Some RunFault.Read → Rose (I.faults source.old) (I.faults source.new) }
     ensures write { IfSome result.fault (λ fault. IsWrite fault → Rose (O.faults sink.old) (O.faults sink.new)) }
-    ensures without_files { IfSome result.fault IsWithoutFiles }
+    ensures disk { IfSome result.fault (λ fault. IfDisk fault (λ p. HasDiskCauseOver (H.faults shelf.old) (H.faults shelf.new) (H.kit_faults shelf.old 0) (map (faults_in (λ w. H.Store.Watch.counts w)) result.kits.items))) }
+    ensures partition { IfSome result.fault IsOfTheOnly }
+    ensures judged { options_of words.now ≢ None → IfTold (H.files shelf.old 0) (λ disk. IsJudged disk result.fault) }
+    ensures layout { IfSome result.fault (HasLayoutCause H.Store.Watch (λ file. H.Store.Frozen.size file) (λ file. H.Store.Frozen.name file)) }
+    ensures spent { result.fault ≡ Some RunFault.Spent
+        → HasSpentInput (I.left source.old) (I.left source.new) ⊎ AreGenerationsSpent (H.files shelf.old 0) (map (λ kit. H.Store.history kit.store) result.kits.items) }
 {
-    match run(alloc, words, source, sink) {
-        Ok(()) => Outcome::done(),
-        Err(fault) => Outcome::of(fault),
+    match options_of(alloc, words) {
+        Ok(options) => serve_run(alloc, &options, source, sink, shelf),
+        Err(fault) => Served::of(Some(fault), Vec::new(alloc)),
     }
 }
 
-fn run<I: Source<O>, O: Sink>(
+// Asks for the kit, and serves over it.
+fn serve_run<I: Source<O>, O: Sink, H: Shelf>(
     alloc: Global,
-    words: &[Text],
+    options: &Options,
     source: &mut I,
     sink: &mut O,
-) -> Result<(), RunFault>
-    ensures served { Served (options_of words.now) (fault_in result)
-        (I.left source.old) (I.left source.new) (O.taken sink.old) (O.taken sink.new) }
-    ensures prompt { ServedPromptly (options_of words.now) (O.taken sink.old)
-        (I.moments source.old) (I.moments source.new) }
-    ensures usage { IfErr result (λ fault. fault ≡ RunFault.Usage → options_of words.now ≡ None) }
-    ensures read { IfErr result (λ fault. fault ≡ RunFault.Read → Rose (I.faults source.old) (I.faults source.new)) }
-    ensures write { IfErr result (λ fault. IsWrite fault → Rose (O.faults sink.old) (O.faults sink.new)) }
-    ensures without_files { IfErr result IsWithoutFiles }
+    shelf: &mut H,
+) -> Served<H::Store>
+    requires some { 0 < options.now.window }
+    requires limit { options.now.window ≤ 4096 }
+    ensures status { result.status ≡ status_of result.fault }
+    ensures ran { (first : Option World) → BeginsAs (limits_of options.now) (H.files shelf.old 0) first
+        → RanOver result.fault first options.now.window (I.left source.old) (I.left source.new) (O.taken sink.old) (O.taken sink.new) (map (λ kit. H.Store.history kit.store) result.kits.items) }
+    ensures prompt { (first : Option World) → BeginsAs (limits_of options.now) (H.files shelf.old 0) first
+        → ReadsPromptly first options.now.window (O.taken sink.old) (I.moments source.old) (I.moments source.new) }
+    ensures kits { length result.kits.items ≤ 1 }
+    ensures unasked { result.kits.items ≡ [] → (shelf.new ≡ shelf.old) ⊎ Rose (H.faults shelf.old) (H.faults shelf.new) }
+    ensures other_kits { (other : ℕ) → other ≢ 0 → (H.files shelf.new other ≡ H.files shelf.old other) × (H.kit_faults shelf.new other ≡ H.kit_faults shelf.old other) }
+    ensures counts { (H.faults shelf.old ≤ H.faults shelf.new) × All (λ kit. NoneFell (H.kit_faults shelf.old 0) (faults_in (λ w. H.Store.Watch.counts w) kit)) result.kits.items }
+    ensures usage { result.fault ≢ Some RunFault.Usage }
+    ensures read { result.fault ≡ Some RunFault.Read → Rose (I.faults source.old) (I.faults source.new) }
+    ensures write { IfSome result.fault (λ fault. IsWrite fault → Rose (O.faults sink.old) (O.faults sink.new)) }
+    ensures disk { IfSome result.fault (λ fault. IfDisk fault (λ p. HasDiskCauseOver (H.faults shelf.old) (H.faults shelf.new) (H.kit_faults shelf.old 0) (map (faults_in (λ w. H.Store.Watch.counts w)) result.kits.items))) }
+    ensures partition { IfSome result.fault IsOfTheOnly }
+    ensures judged { IfTold (H.files shelf.old 0) (λ disk. IsJudged disk result.fault) }
+    ensures layout { IfSome result.fault (HasLayoutCause H.Store.Watch (λ file. H.Store.Frozen.size file) (λ file. H.Store.Frozen.name file)) }
+    ensures spent { result.fault ≡ Some RunFault.Spent
+        → HasSpentInput (I.left source.old) (I.left source.new) ⊎ AreGenerationsSpent (H.files shelf.old 0) (map (λ kit. H.Store.history kit.store) result.kits.items) }
 {
-    let options = options_of(alloc, words)?;
-    let store = Store::new(alloc, options.names, options.docs);
-    let mut session = Session::new(alloc, store, options.window as usize);
-    answer_lines(alloc, &mut session, source, sink)
+    // The room for the kit is taken before the kit is.
+    let kits = match Vec::with_capacity(alloc, 1) {
+        Ok(kits) => kits,
+        Err(_) => return Served::of(Some(RunFault::Memory), Vec::new(alloc)),
+    };
+    match shelf.kit(alloc, 0) {
+        Ok(kit) => {
+            let (kit, fault) = serve_kit(alloc, options, source, sink, kit);
+            Served::of(fault, with_kit(kits, kit))
+        }
+        Err(fault) => Served::of(Some(of_shelf(0, fault)), kits),
+    }
+}
+
+// The kit, in the room that was taken for it.
+fn with_kit<S: Store>(kits: Vec<Kit<S>>, kit: Kit<S>) -> Vec<Kit<S>>
+    requires none { kits.items ≡ [] }
+    requires room { vec_len kits < vec_capacity kits }
+    ensures { result.items ≡ kit ∷ [] }
+{
+    let mut kits = kits;
+    if kits.push(kit).is_err() {
+        unreachable!();
+    }
+    kits
+}
+
+// Opens the partition of a kit, and serves over it.
+fn serve_kit<I: Source<O>, O: Sink, S: Store>(
+    alloc: Global,
+    options: &Options,
+    source: &mut I,
+    sink: &mut O,
+    kit: Kit<S>,
+) -> (Kit<S>, Option<RunFault>)
+    requires at_rest { IfTold (S.history kit.store) IsAtRest }
+    requires some { 0 < options.now.window }
+    requires limit { options.now.window ≤ 4096 }
+    ensures ran { (first : Option World) → BeginsAs (limits_of options.now) (S.history kit.store) first
+        → RanOver result.1 first options.now.window (I.left source.old) (I.left source.new) (O.taken sink.old) (O.taken sink.new) (S.history result.0.store ∷ []) }
+    ensures prompt { (first : Option World) → BeginsAs (limits_of options.now) (S.history kit.store) first
+        → ReadsPromptly first options.now.window (O.taken sink.old) (I.moments source.old) (I.moments source.new) }
+    ensures counts { NoneFell (faults_in (λ w. S.Watch.counts w) kit) (faults_in (λ w. S.Watch.counts w) result.0) }
+    ensures usage { result.1 ≢ Some RunFault.Usage }
+    ensures read { result.1 ≡ Some RunFault.Read → Rose (I.faults source.old) (I.faults source.new) }
+    ensures write { IfSome result.1 (λ fault. IsWrite fault → Rose (O.faults sink.old) (O.faults sink.new)) }
+    ensures disk { IfSome result.1 (λ fault. IfDisk fault (λ p. OneRose (faults_in (λ w. S.Watch.counts w) kit) (faults_in (λ w. S.Watch.counts w) result.0))) }
+    ensures partition { IfSome result.1 IsOfTheOnly }
+    ensures judged { IfTold (S.history kit.store) (λ disk. IsJudged disk result.1) }
+    ensures layout { IfSome result.1 (HasLayoutCause S.Watch (λ file. S.Frozen.size file) (λ file. S.Frozen.name file)) }
+    ensures spent { result.1 ≡ Some RunFault.Spent
+        → HasSpentInput (I.left source.old) (I.left source.new) ⊎ AreGenerationsSpent (S.history kit.store) (S.history result.0.store ∷ []) }
+{
+    let limits = Limits {
+        names: options.names,
+        docs: options.docs,
+        memory: options.memory,
+    };
+    match open_part(alloc, kit, 0, 1, limits) {
+        Ok(part) => serve_part(alloc, options, source, sink, part),
+        Err(OpenFault { kit, cause }) => (kit, Some(of_opening(0, 1, cause))),
+    }
+}
+
+// Answers the lines over an open partition, and closes it.
+fn serve_part<I: Source<O>, O: Sink, S: Store>(
+    alloc: Global,
+    options: &Options,
+    source: &mut I,
+    sink: &mut O,
+    part: Part<S>,
+) -> (Kit<S>, Option<RunFault>)
+    requires some { 0 < options.now.window }
+    requires limit { options.now.window ≤ 4096 }
+    requires sound { part.failed ≡ false }
+    requires nothing_staged { part.staged ≡ [] }
+    requires none_sealed { part.sealed ≡ None }
+    requires no_flush { part.flushing ≡ false }
+    requires no_merge { part.merging ≡ None }
+    requires ready { MaySettle (told S.history S.Device.history S.Frozen.content part) }
+    requires log { LogIsOut (told S.history S.Device.history S.Frozen.content part) }
+    ensures ran { (first : Option World) → StandsAt (told S.history S.Device.history S.Frozen.content part) part.limits first
+        → RanOver result.1 first options.now.window (I.left source.old) (I.left source.new) (O.taken sink.old) (O.taken sink.new) (S.history result.0.store ∷ []) }
+    ensures prompt { (first : Option World) → StandsAt (told S.history S.Device.history S.Frozen.content part) part.limits first
+        → ReadsPromptly first options.now.window (O.taken sink.old) (I.moments source.old) (I.moments source.new) }
+    ensures counts { NoneFell (faults_of_part (λ w. S.Watch.counts w) part) (faults_in (λ w. S.Watch.counts w) result.0) }
+    ensures kind { IfSome result.1 IsOfRun }
+    ensures read { IfSome result.1 (λ fault. fault ≡ RunFault.Read → Rose (I.faults source.old) (I.faults source.new)) }
+    ensures write { IfSome result.1 (λ fault. IsWrite fault → Rose (O.faults sink.old) (O.faults sink.new)) }
+    ensures disk { IfSome result.1 (λ fault. IfDisk fault (λ p. OneRose (faults_of_part (λ w. S.Watch.counts w) part) (faults_in (λ w. S.Watch.counts w) result.0))) }
+    ensures partition { IfSome result.1 IsOfTheOnly }
+    ensures spent { result.1 ≡ Some RunFault.Spent → HasSpentInput (I.left source.old) (I.left source.new) ⊎ IfTold (S.history result.0.store) HasLastGeneration }
+{
+    let engine = Engine::new(part, policy_of(options));
+    let partitions = Partitions::of(engine);
+    let mut session = Session::new(alloc, partitions, options.window as usize);
+    let answer = answer_lines(alloc, &mut session, source, sink);
+    let Finished { kit, outcome } = session.into_keeper().finish();
+    (kit, fault_of(answer, outcome))
+}
+
+// By which fault a run ended whose lines were answered so, and whose partition was closed so.
+fn fault_of(answer: Result<(), RunFault>, outcome: Result<(), EngineFault>) -> Option<RunFault>
+    ensures { outcome ≡ Ok tt → result ≡ fault_in answer }
+{
+    match (answer, outcome) {
+        (Err(fault), _) => Some(fault),
+        (Ok(()), Err(late)) => Some(of_engine(0, late)),
+        (Ok(()), Ok(())) => None,
+    }
+}
+
+// How components are merged.
+fn policy_of(options: &Options) -> Policy
+    ensures { listed_least result ≡ options.now.merge }
+{
+    let k = options.merge as usize;
+    if options.limit == 0 {
+        Policy::Constant { k }
+    } else {
+        Policy::Sized {
+            k,
+            limit: options.limit,
+        }
+    }
 }
 
 // What the words ask for.
@@ -86,22 +248,23 @@ fn options_of(alloc: Global, words: &[Text]) -> Result<Options, RunFault>
 }
 
 /// Answers the lines of the source, in the windows of the session.
-pub fn answer_lines<I: Source<O>, O: Sink, K: Keeper>(
+pub fn answer_lines<I: Source<O>, O: Sink, S: Store>(
     alloc: Global,
-    session: &mut Session<K>,
+    session: &mut Session<Partitions<S>>,
     source: &mut I,
     sink: &mut O,
 ) -> Result<(), RunFault>
-    requires ready { IsReady K.works session.old }
+    requires ready { IsReady (MayAsk S.history S.Device.history S.Frozen.content) session.old }
     requires requests { requests_of session.old.window ≡ [] }
     requires bytes { session.old.window.bytes ≡ 0 }
 
     // What was read and written, and what is left of the store, from whatever world it stood at.
-    ensures ran { (first : Option World) → K.holds session.old.keeper first → RanLeaving K.holds K.keeps K.spent (fault_in result) first session.old.window.limit
+    ensures ran { (first : Option World) → HoldsAt S.history S.Device.history S.Frozen.content session.old.keeper first → RanLeaving (HoldsAt S.history S.Device.history S.Frozen.content) (KeepsAt S.history S.Device.history S.Frozen.content) (IsSpent S.history S.Device.history S.Frozen.content) (fault_in result) first session.old.window.limit
         (I.left source.old) (I.left source.new) (O.taken sink.old) (O.taken sink.new) session.new.keeper }
-    ensures prompt { (first : Option World) → K.holds session.old.keeper first → ReadsPromptly first session.old.window.limit (O.taken sink.old)
+    ensures prompt { (first : Option World) → HoldsAt S.history S.Device.history S.Frozen.content session.old.keeper first → ReadsPromptly first session.old.window.limit (O.taken sink.old)
         (I.moments source.old) (I.moments source.new) }
-    ensures cause { HasRunCauses (I.faults source.old) (I.faults source.new) (O.faults sink.old) (O.faults sink.new) (K.faults session.old.keeper) (K.faults session.new.keeper) (fault_in result) }
+    ensures rests { OnOk result (Rests (λ d. S.Device.size d) session.new.keeper) }
+    ensures cause { HasRunCauses (I.faults source.old) (I.faults source.new) (O.faults sink.old) (O.faults sink.new) (faults_of (λ w. S.Watch.counts w) session.old.keeper) (faults_of (λ w. S.Watch.counts w) session.new.keeper) (fault_in result) }
 {
     let mut lines = Lines::new(alloc, MAX_LINE);
     session.begin(alloc)?;
@@ -115,34 +278,35 @@ pub fn answer_lines<I: Source<O>, O: Sink, K: Keeper>(
 }
 
 // Takes the next line, and answers whether more may come. At the end of the input the last window is answered.
-fn answer_line<I: Source<O>, O: Sink, K: Keeper>(
+fn answer_line<I: Source<O>, O: Sink, S: Store>(
     alloc: Global,
     lines: &mut Lines,
-    session: &mut Session<K>,
+    session: &mut Session<Partitions<S>>,
     source: &mut I,
     sink: &mut O,
 ) -> Result<bool, RunFault>
     requires works { lines.old.failed ≡ false }
     requires limit { lines.old.limit ≡ MAX_LINE }
-    requires ready { IsReady K.works session.old }
+    requires ready { IsReady (MayAsk S.history S.Device.history S.Frozen.content) session.old }
     ensures works { OnOk result (lines.new.failed ≡ false) }
     ensures limit { lines.new.limit ≡ MAX_LINE }
-    ensures ready { IfOk result (λ more. more ≡ true → IsReady K.works session.new) }
+    ensures ready { IfOk result (λ more. more ≡ true → IsReady (MayAsk S.history S.Device.history S.Frozen.content) session.new) }
+    ensures rests { IfOk result (λ more. more ≡ false → Rests (λ d. S.Device.size d) session.new.keeper) }
     ensures window { OnOk result (session.new.window.limit ≡ session.old.window.limit) }
 
     // Behind the lines that came before, one more came, or the input is answered, or the run has failed.
-    ensures more { IfOk result (λ more. Goes K.holds K.keeps K.spent more
+    ensures more { IfOk result (λ more. Goes (HoldsAt S.history S.Device.history S.Frozen.content) (KeepsAt S.history S.Device.history S.Frozen.content) (IsSpent S.history S.Device.history S.Frozen.content) more
         lines.old session.old (I.left source.old) (O.taken sink.old) (I.moments source.old)
         lines.new session.new (I.left source.new) (O.taken sink.new) (I.moments source.new)) }
-    ensures fault { IfErr result (λ fault. Ends K.holds K.keeps K.spent fault lines.old session.old
+    ensures fault { IfErr result (λ fault. Ends (HoldsAt S.history S.Device.history S.Frozen.content) (KeepsAt S.history S.Device.history S.Frozen.content) (IsSpent S.history S.Device.history S.Frozen.content) fault lines.old session.old
         (I.left source.old) (I.left source.new) (O.taken sink.old) (O.taken sink.new)
         (I.moments source.old) session.new) }
 
     // Each read for the line was asked for when all windows before it were answered, and no more.
-    ensures prompt { AsksPromptly K.holds lines.old session.old (I.left source.old) (O.taken sink.old)
+    ensures prompt { AsksPromptly (HoldsAt S.history S.Device.history S.Frozen.content) lines.old session.old (I.left source.old) (O.taken sink.old)
         (I.moments source.old) (I.moments source.new) }
 
-    ensures cause { HasRunCauses (I.faults source.old) (I.faults source.new) (O.faults sink.old) (O.faults sink.new) (K.faults session.old.keeper) (K.faults session.new.keeper) (fault_in result) }
+    ensures cause { HasRunCauses (I.faults source.old) (I.faults source.new) (O.faults sink.old) (O.faults sink.new) (faults_of (λ w. S.Watch.counts w) session.old.keeper) (faults_of (λ w. S.Watch.counts w) session.new.keeper) (fault_in result) }
 {
     match lines.next(source, sink) {
         Line::Whole(line) => {

@@ -11,42 +11,44 @@ ghost use Rattle.tc_run_model.specs.World.{World};
 ghost use Rattle.tc_server.specs.Asked.{is_whole, request_asked, request_whole, IsRunOfKey};
 ghost use Rattle.tc_server.specs.Faults.{fault_in, gave_up, HasCauses, HasDiskCause, IsNoDamage, IsOfStore};
 ghost use Rattle.tc_server.specs.Holds.{worlds_at, AreAnswered, AreWritten, HaveFailed, IsLeft};
+ghost use Rattle.tc_server.specs.Calls.{faults_of, IsSpent, KeepsAt, MayAsk, Rests, HoldsAt};
 ghost use Rattle.tc_server.specs.Stage.{AsksFor, FailsAtLine, IsReady, TakesLine};
 ghost use Rattle.tc_server.specs.Window.{requests_of, IsSoundWindow};
 ghost use Rattle.tc_server.specs.declared.answer.Action.TheVariants.{Whole as whole};
 
 use crate::answer::{Action, Asked, Control, push_reply};
-use crate::keeper::Keeper;
 use crate::outcome::RunFault;
+use crate::partitions::Partitions;
 use crate::window::Window;
 use std::alloc::Global;
 use tc_bytes::Bytes;
 use tc_command::{Refusal, Reply};
 use tc_edge::{Sink, write_all};
+use tc_store::Store;
 
 /// Bytes of room for replies, up to which it is kept from window to window.
 const KEPT_ROOM: usize = 65_536;
 
-/// What keeps the documents, the window that is open, and room for the replies to a window, which is kept for the next one
-/// where it is not large.
+/// What keeps the documents, which are partitions, the window that is open, and room for the replies to a window, which is kept
+/// for the next one where it is not large.
 #[derive(Drop)]
-pub struct Session<K: Keeper> {
+pub struct Session<K: Drop> {
     pub keeper: K,
     pub window: Window,
     replies: Vec<u8>,
 }
 
-impl<K: Keeper> Session<K> {
+impl<S: Store> Session<Partitions<S>> {
     /// A session over what keeps the documents, with windows of so many lines at most.
-    pub fn new(alloc: Global, keeper: K, window: usize) -> Session<K>
-        requires works { K.works keeper }
+    pub fn new(alloc: Global, keeper: Partitions<S>, window: usize) -> Session<Partitions<S>>
+        requires works { MayAsk S.history S.Device.history S.Frozen.content keeper }
         requires some { 0 < window }
         requires limit { window ≤ 4096 }
         ensures keeper { result.keeper ≡ keeper }
         ensures requests { requests_of result.window ≡ [] }
         ensures bytes { result.window.bytes ≡ 0 }
         ensures limit { result.window.limit ≡ window }
-        ensures ready { IsReady K.works result }
+        ensures ready { IsReady (MayAsk S.history S.Device.history S.Frozen.content) result }
     {
         Session {
             keeper,
@@ -55,16 +57,25 @@ impl<K: Keeper> Session<K> {
         }
     }
 
+    /// What keeps the documents, where the session ends.
+    pub fn into_keeper(self) -> Partitions<S>
+        ensures { result ≡ self.keeper }
+    {
+        let Session { keeper, .. } = self;
+        keeper
+    }
+
     /// Settles the store before a line is read.
     pub fn begin(&mut self, alloc: Global) -> Result<(), RunFault>
-        requires ready { IsReady K.works self.old }
-        ensures ready { OnOk result (IsReady K.works self.new) }
+        requires ready { IsReady (MayAsk S.history S.Device.history S.Frozen.content) self.old }
+        ensures ready { OnOk result (IsReady (MayAsk S.history S.Device.history S.Frozen.content) self.new) }
+        ensures rests { OnOk result (Rests (λ d. S.Device.size d) self.new.keeper) }
         ensures window { self.new.window ≡ self.old.window }
-        ensures held { (known : Option World) → K.holds self.old.keeper known → OnOk result (K.holds self.new.keeper known) }
-        ensures failed { (w : World) → K.holds self.old.keeper (Some w) → OnErr result (K.keeps self.new.keeper w w) }
-        ensures undamaged { (w : World) → K.holds self.old.keeper (Some w) → IfErr result IsNoDamage }
+        ensures held { (known : Option World) → HoldsAt S.history S.Device.history S.Frozen.content self.old.keeper known → OnOk result (HoldsAt S.history S.Device.history S.Frozen.content self.new.keeper known) }
+        ensures failed { (w : World) → HoldsAt S.history S.Device.history S.Frozen.content self.old.keeper (Some w) → OnErr result (KeepsAt S.history S.Device.history S.Frozen.content self.new.keeper w w) }
+        ensures undamaged { (w : World) → HoldsAt S.history S.Device.history S.Frozen.content self.old.keeper (Some w) → IfErr result IsNoDamage }
         ensures kinds { IfErr result IsOfStore }
-        ensures cause { HasDiskCause (K.faults self.old.keeper) (K.faults self.new.keeper) (K.spent self.new.keeper) (fault_in result) }
+        ensures cause { HasDiskCause (faults_of (λ w. S.Watch.counts w) self.old.keeper) (faults_of (λ w. S.Watch.counts w) self.new.keeper) (IsSpent S.history S.Device.history S.Frozen.content self.new.keeper) (fault_in result) }
     {
         self.keeper.settle(alloc)
     }
@@ -74,18 +85,19 @@ impl<K: Keeper> Session<K> {
         requires sound { IsSoundWindow self.old.window }
         requires few { length self.old.window.refusals.items ≤ 4096 }
         requires bytes { self.old.window.bytes ≤ max_window + max_line }
-        requires works { K.works self.old.keeper }
-        ensures works { OnOk result (K.works self.new.keeper) }
-        ensures written { OnOk result ((known : Option World) → K.holds self.old.keeper known
-            → AreWritten K.holds known (requests_of self.old.window) (O.taken sink.old) (O.taken sink.new) self.new.keeper) }
+        requires works { MayAsk S.history S.Device.history S.Frozen.content self.old.keeper }
+        ensures works { OnOk result (MayAsk S.history S.Device.history S.Frozen.content self.new.keeper) }
+        ensures rests { OnOk result (Rests (λ d. S.Device.size d) self.new.keeper) }
+        ensures written { OnOk result ((known : Option World) → HoldsAt S.history S.Device.history S.Frozen.content self.old.keeper known
+            → AreWritten (HoldsAt S.history S.Device.history S.Frozen.content) known (requests_of self.old.window) (O.taken sink.old) (O.taken sink.new) self.new.keeper) }
         ensures requests { OnOk result (requests_of self.new.window ≡ []) }
         ensures lines { OnOk result (length self.new.window.refusals.items ≡ 0) }
         ensures sound { OnOk result (IsSoundWindow self.new.window) }
         ensures bytes { OnOk result (self.new.window.bytes ≡ 0) }
         ensures limit { OnOk result (self.new.window.limit ≡ self.old.window.limit) }
-        ensures fault { IfErr result (λ fault. (known : Option World) → K.holds self.old.keeper known
-            → HaveFailed K.holds K.keeps fault known (requests_of self.old.window) (O.taken sink.old) (O.taken sink.new) self.new.keeper) }
-        ensures cause { HasCauses (O.faults sink.old) (O.faults sink.new) (K.faults self.old.keeper) (K.faults self.new.keeper) (K.spent self.new.keeper) (fault_in result) }
+        ensures fault { IfErr result (λ fault. (known : Option World) → HoldsAt S.history S.Device.history S.Frozen.content self.old.keeper known
+            → HaveFailed (HoldsAt S.history S.Device.history S.Frozen.content) (KeepsAt S.history S.Device.history S.Frozen.content) fault known (requests_of self.old.window) (O.taken sink.old) (O.taken sink.new) self.new.keeper) }
+        ensures cause { HasCauses (O.faults sink.old) (O.faults sink.new) (faults_of (λ w. S.Watch.counts w) self.old.keeper) (faults_of (λ w. S.Watch.counts w) self.new.keeper) (IsSpent S.history S.Device.history S.Frozen.content self.new.keeper) (fault_in result) }
     {
         self.window
             .answer(alloc, &mut self.keeper, &mut self.replies)?;
@@ -94,14 +106,15 @@ impl<K: Keeper> Session<K> {
 
     // Settles the store behind a window that was answered, and writes the replies.
     fn settle_and_write<O: Sink>(&mut self, alloc: Global, sink: &mut O) -> Result<(), RunFault>
-        requires works { K.works self.old.keeper }
-        ensures works { OnOk result (K.works self.new.keeper) }
+        requires works { MayAsk S.history S.Device.history S.Frozen.content self.old.keeper }
+        ensures works { OnOk result (MayAsk S.history S.Device.history S.Frozen.content self.new.keeper) }
+        ensures rests { OnOk result (Rests (λ d. S.Device.size d) self.new.keeper) }
         ensures window { self.new.window ≡ self.old.window }
-        ensures written { OnOk result ((known : Option World) (rs : List Request) → AreAnswered K.holds known rs self.old.replies.items self.old.keeper
-            → AreWritten K.holds known rs (O.taken sink.old) (O.taken sink.new) self.new.keeper) }
-        ensures fault { IfErr result (λ fault. (known : Option World) (rs : List Request) → AreAnswered K.holds known rs self.old.replies.items self.old.keeper
-            → HaveFailed K.holds K.keeps fault known rs (O.taken sink.old) (O.taken sink.new) self.new.keeper) }
-        ensures cause { HasCauses (O.faults sink.old) (O.faults sink.new) (K.faults self.old.keeper) (K.faults self.new.keeper) (K.spent self.new.keeper) (fault_in result) }
+        ensures written { OnOk result ((known : Option World) (rs : List Request) → AreAnswered (HoldsAt S.history S.Device.history S.Frozen.content) known rs self.old.replies.items self.old.keeper
+            → AreWritten (HoldsAt S.history S.Device.history S.Frozen.content) known rs (O.taken sink.old) (O.taken sink.new) self.new.keeper) }
+        ensures fault { IfErr result (λ fault. (known : Option World) (rs : List Request) → AreAnswered (HoldsAt S.history S.Device.history S.Frozen.content) known rs self.old.replies.items self.old.keeper
+            → HaveFailed (HoldsAt S.history S.Device.history S.Frozen.content) (KeepsAt S.history S.Device.history S.Frozen.content) fault known rs (O.taken sink.old) (O.taken sink.new) self.new.keeper) }
+        ensures cause { HasCauses (O.faults sink.old) (O.faults sink.new) (faults_of (λ w. S.Watch.counts w) self.old.keeper) (faults_of (λ w. S.Watch.counts w) self.new.keeper) (IsSpent S.history S.Device.history S.Frozen.content self.new.keeper) (fault_in result) }
     {
         self.keeper.settle(alloc)?;
         write_all(sink, self.replies.as_slice())?;
@@ -117,18 +130,18 @@ impl<K: Keeper> Session<K> {
         size: usize,
         sink: &mut O,
     ) -> Result<(), RunFault>
-        requires ready { IsReady K.works self.old }
+        requires ready { IsReady (MayAsk S.history S.Device.history S.Frozen.content) self.old }
         requires size { size ≤ max_line }
         requires of_key { IsRunOfKey action }
         requires plain { is_whole action ≡ false }
         requires light { IsLight size (request_asked action) }
         ensures ok { OnOk result ((line : List ℕ) → AsksFor line action size
-            → TakesLine K.holds line self.old (O.taken sink.old) self.new (O.taken sink.new)) }
-        ensures ready { OnOk result (IsReady K.works self.new) }
+            → TakesLine (HoldsAt S.history S.Device.history S.Frozen.content) line self.old (O.taken sink.old) self.new (O.taken sink.new)) }
+        ensures ready { OnOk result (IsReady (MayAsk S.history S.Device.history S.Frozen.content) self.new) }
         ensures limit { OnOk result (self.new.window.limit ≡ self.old.window.limit) }
         ensures fault { IfErr result (λ fault. (line : List ℕ) → AsksFor line action size
-            → FailsAtLine K.holds K.keeps fault line self.old (O.taken sink.old) self.new (O.taken sink.new)) }
-        ensures cause { HasCauses (O.faults sink.old) (O.faults sink.new) (K.faults self.old.keeper) (K.faults self.new.keeper) (K.spent self.new.keeper) (fault_in result) }
+            → FailsAtLine (HoldsAt S.history S.Device.history S.Frozen.content) (KeepsAt S.history S.Device.history S.Frozen.content) fault line self.old (O.taken sink.old) self.new (O.taken sink.new)) }
+        ensures cause { HasCauses (O.faults sink.old) (O.faults sink.new) (faults_of (λ w. S.Watch.counts w) self.old.keeper) (faults_of (λ w. S.Watch.counts w) self.new.keeper) (IsSpent S.history S.Device.history S.Frozen.content self.new.keeper) (fault_in result) }
     {
         self.window.push(action, size)?;
         if !self.window.is_full() {
@@ -146,14 +159,14 @@ impl<K: Keeper> Session<K> {
         size: usize,
         sink: &mut O,
     ) -> Result<(), RunFault>
-        requires ready { IsReady K.works self.old }
+        requires ready { IsReady (MayAsk S.history S.Device.history S.Frozen.content) self.old }
         ensures ok { OnOk result ((line : List ℕ) → AsksFor line (whole control) size
-            → TakesLine K.holds line self.old (O.taken sink.old) self.new (O.taken sink.new)) }
-        ensures ready { OnOk result (IsReady K.works self.new) }
+            → TakesLine (HoldsAt S.history S.Device.history S.Frozen.content) line self.old (O.taken sink.old) self.new (O.taken sink.new)) }
+        ensures ready { OnOk result (IsReady (MayAsk S.history S.Device.history S.Frozen.content) self.new) }
         ensures limit { OnOk result (self.new.window.limit ≡ self.old.window.limit) }
         ensures fault { IfErr result (λ fault. (line : List ℕ) → AsksFor line (whole control) size
-            → FailsAtLine K.holds K.keeps fault line self.old (O.taken sink.old) self.new (O.taken sink.new)) }
-        ensures cause { HasCauses (O.faults sink.old) (O.faults sink.new) (K.faults self.old.keeper) (K.faults self.new.keeper) (K.spent self.new.keeper) (fault_in result) }
+            → FailsAtLine (HoldsAt S.history S.Device.history S.Frozen.content) (KeepsAt S.history S.Device.history S.Frozen.content) fault line self.old (O.taken sink.old) self.new (O.taken sink.new)) }
+        ensures cause { HasCauses (O.faults sink.old) (O.faults sink.new) (faults_of (λ w. S.Watch.counts w) self.old.keeper) (faults_of (λ w. S.Watch.counts w) self.new.keeper) (IsSpent S.history S.Device.history S.Frozen.content self.new.keeper) (fault_in result) }
     {
         self.close(alloc, sink)?;
         self.close_control(alloc, control, sink)
@@ -166,14 +179,15 @@ impl<K: Keeper> Session<K> {
         control: Control,
         sink: &mut O,
     ) -> Result<(), RunFault>
-        requires works { K.works self.old.keeper }
-        ensures works { OnOk result (K.works self.new.keeper) }
+        requires works { MayAsk S.history S.Device.history S.Frozen.content self.old.keeper }
+        ensures works { OnOk result (MayAsk S.history S.Device.history S.Frozen.content self.new.keeper) }
+        ensures rests { OnOk result (Rests (λ d. S.Device.size d) self.new.keeper) }
         ensures window { self.new.window ≡ self.old.window }
-        ensures written { OnOk result ((known : Option World) → K.holds self.old.keeper known
-            → AreWritten K.holds known (request_whole control ∷ []) (O.taken sink.old) (O.taken sink.new) self.new.keeper) }
-        ensures fault { IfErr result (λ fault. (known : Option World) → K.holds self.old.keeper known
-            → HaveFailed K.holds K.keeps fault known (request_whole control ∷ []) (O.taken sink.old) (O.taken sink.new) self.new.keeper) }
-        ensures cause { HasCauses (O.faults sink.old) (O.faults sink.new) (K.faults self.old.keeper) (K.faults self.new.keeper) (K.spent self.new.keeper) (fault_in result) }
+        ensures written { OnOk result ((known : Option World) → HoldsAt S.history S.Device.history S.Frozen.content self.old.keeper known
+            → AreWritten (HoldsAt S.history S.Device.history S.Frozen.content) known (request_whole control ∷ []) (O.taken sink.old) (O.taken sink.new) self.new.keeper) }
+        ensures fault { IfErr result (λ fault. (known : Option World) → HoldsAt S.history S.Device.history S.Frozen.content self.old.keeper known
+            → HaveFailed (HoldsAt S.history S.Device.history S.Frozen.content) (KeepsAt S.history S.Device.history S.Frozen.content) fault known (request_whole control ∷ []) (O.taken sink.old) (O.taken sink.new) self.new.keeper) }
+        ensures cause { HasCauses (O.faults sink.old) (O.faults sink.new) (faults_of (λ w. S.Watch.counts w) self.old.keeper) (faults_of (λ w. S.Watch.counts w) self.new.keeper) (IsSpent S.history S.Device.history S.Frozen.content self.new.keeper) (fault_in result) }
     {
         answer_whole(alloc, &mut self.keeper, control, &mut self.replies)?;
         self.settle_and_write(alloc, sink)
@@ -187,16 +201,16 @@ impl<K: Keeper> Session<K> {
         size: usize,
         sink: &mut O,
     ) -> Result<(), RunFault>
-        requires ready { IsReady K.works self.old }
+        requires ready { IsReady (MayAsk S.history S.Device.history S.Frozen.content) self.old }
         requires size { size ≤ max_line }
         requires light { IsLight size (request_asked asked) }
         ensures ok { OnOk result ((line : List ℕ) → AsksFor line asked size
-            → TakesLine K.holds line self.old (O.taken sink.old) self.new (O.taken sink.new)) }
-        ensures ready { OnOk result (IsReady K.works self.new) }
+            → TakesLine (HoldsAt S.history S.Device.history S.Frozen.content) line self.old (O.taken sink.old) self.new (O.taken sink.new)) }
+        ensures ready { OnOk result (IsReady (MayAsk S.history S.Device.history S.Frozen.content) self.new) }
         ensures limit { OnOk result (self.new.window.limit ≡ self.old.window.limit) }
         ensures fault { IfErr result (λ fault. (line : List ℕ) → AsksFor line asked size
-            → FailsAtLine K.holds K.keeps fault line self.old (O.taken sink.old) self.new (O.taken sink.new)) }
-        ensures cause { HasCauses (O.faults sink.old) (O.faults sink.new) (K.faults self.old.keeper) (K.faults self.new.keeper) (K.spent self.new.keeper) (fault_in result) }
+            → FailsAtLine (HoldsAt S.history S.Device.history S.Frozen.content) (KeepsAt S.history S.Device.history S.Frozen.content) fault line self.old (O.taken sink.old) self.new (O.taken sink.new)) }
+        ensures cause { HasCauses (O.faults sink.old) (O.faults sink.new) (faults_of (λ w. S.Watch.counts w) self.old.keeper) (faults_of (λ w. S.Watch.counts w) self.new.keeper) (IsSpent S.history S.Device.history S.Frozen.content self.new.keeper) (fault_in result) }
     {
         match asked.into_action() {
             Action::Whole(control) => self.take_control(alloc, control, size, sink),
@@ -211,13 +225,13 @@ impl<K: Keeper> Session<K> {
         line: Bytes,
         sink: &mut O,
     ) -> Result<(), RunFault>
-        requires ready { IsReady K.works self.old }
+        requires ready { IsReady (MayAsk S.history S.Device.history S.Frozen.content) self.old }
         requires size { length line ≤ max_line }
-        ensures ok { OnOk result (TakesLine K.holds line self.old (O.taken sink.old) self.new (O.taken sink.new)) }
-        ensures ready { OnOk result (IsReady K.works self.new) }
+        ensures ok { OnOk result (TakesLine (HoldsAt S.history S.Device.history S.Frozen.content) line self.old (O.taken sink.old) self.new (O.taken sink.new)) }
+        ensures ready { OnOk result (IsReady (MayAsk S.history S.Device.history S.Frozen.content) self.new) }
         ensures limit { OnOk result (self.new.window.limit ≡ self.old.window.limit) }
-        ensures fault { IfErr result (λ fault. FailsAtLine K.holds K.keeps fault line self.old (O.taken sink.old) self.new (O.taken sink.new)) }
-        ensures cause { HasCauses (O.faults sink.old) (O.faults sink.new) (K.faults self.old.keeper) (K.faults self.new.keeper) (K.spent self.new.keeper) (fault_in result) }
+        ensures fault { IfErr result (λ fault. FailsAtLine (HoldsAt S.history S.Device.history S.Frozen.content) (KeepsAt S.history S.Device.history S.Frozen.content) fault line self.old (O.taken sink.old) self.new (O.taken sink.new)) }
+        ensures cause { HasCauses (O.faults sink.old) (O.faults sink.new) (faults_of (λ w. S.Watch.counts w) self.old.keeper) (faults_of (λ w. S.Watch.counts w) self.new.keeper) (IsSpent S.history S.Device.history S.Frozen.content self.new.keeper) (fault_in result) }
     {
         self.take_slice(alloc, line.as_slice(), sink)
     }
@@ -229,13 +243,13 @@ impl<K: Keeper> Session<K> {
         line: &[u8],
         sink: &mut O,
     ) -> Result<(), RunFault>
-        requires ready { IsReady K.works self.old }
+        requires ready { IsReady (MayAsk S.history S.Device.history S.Frozen.content) self.old }
         requires size { length line.now ≤ max_line }
-        ensures ok { OnOk result (TakesLine K.holds line.now self.old (O.taken sink.old) self.new (O.taken sink.new)) }
-        ensures ready { OnOk result (IsReady K.works self.new) }
+        ensures ok { OnOk result (TakesLine (HoldsAt S.history S.Device.history S.Frozen.content) line.now self.old (O.taken sink.old) self.new (O.taken sink.new)) }
+        ensures ready { OnOk result (IsReady (MayAsk S.history S.Device.history S.Frozen.content) self.new) }
         ensures limit { OnOk result (self.new.window.limit ≡ self.old.window.limit) }
-        ensures fault { IfErr result (λ fault. FailsAtLine K.holds K.keeps fault line.now self.old (O.taken sink.old) self.new (O.taken sink.new)) }
-        ensures cause { HasCauses (O.faults sink.old) (O.faults sink.new) (K.faults self.old.keeper) (K.faults self.new.keeper) (K.spent self.new.keeper) (fault_in result) }
+        ensures fault { IfErr result (λ fault. FailsAtLine (HoldsAt S.history S.Device.history S.Frozen.content) (KeepsAt S.history S.Device.history S.Frozen.content) fault line.now self.old (O.taken sink.old) self.new (O.taken sink.new)) }
+        ensures cause { HasCauses (O.faults sink.old) (O.faults sink.new) (faults_of (λ w. S.Watch.counts w) self.old.keeper) (faults_of (λ w. S.Watch.counts w) self.new.keeper) (IsSpent S.history S.Device.history S.Frozen.content self.new.keeper) (fault_in result) }
     {
         let asked = Asked::of(alloc, line)?;
         self.take(alloc, asked, line.len(), sink)
@@ -243,33 +257,33 @@ impl<K: Keeper> Session<K> {
 
     /// Takes a line that is oversized.
     pub fn take_oversized<O: Sink>(&mut self, alloc: Global, sink: &mut O) -> Result<(), RunFault>
-        requires ready { IsReady K.works self.old }
+        requires ready { IsReady (MayAsk S.history S.Device.history S.Frozen.content) self.old }
         ensures ok { OnOk result ((line : List ℕ) → max_line < length line
-            → TakesLine K.holds line self.old (O.taken sink.old) self.new (O.taken sink.new)) }
-        ensures ready { OnOk result (IsReady K.works self.new) }
+            → TakesLine (HoldsAt S.history S.Device.history S.Frozen.content) line self.old (O.taken sink.old) self.new (O.taken sink.new)) }
+        ensures ready { OnOk result (IsReady (MayAsk S.history S.Device.history S.Frozen.content) self.new) }
         ensures limit { OnOk result (self.new.window.limit ≡ self.old.window.limit) }
         ensures fault { IfErr result (λ fault. (line : List ℕ) → max_line < length line
-            → FailsAtLine K.holds K.keeps fault line self.old (O.taken sink.old) self.new (O.taken sink.new)) }
-        ensures cause { HasCauses (O.faults sink.old) (O.faults sink.new) (K.faults self.old.keeper) (K.faults self.new.keeper) (K.spent self.new.keeper) (fault_in result) }
+            → FailsAtLine (HoldsAt S.history S.Device.history S.Frozen.content) (KeepsAt S.history S.Device.history S.Frozen.content) fault line self.old (O.taken sink.old) self.new (O.taken sink.new)) }
+        ensures cause { HasCauses (O.faults sink.old) (O.faults sink.new) (faults_of (λ w. S.Watch.counts w) self.old.keeper) (faults_of (λ w. S.Watch.counts w) self.new.keeper) (IsSpent S.history S.Device.history S.Frozen.content self.new.keeper) (fault_in result) }
     {
         self.take(alloc, Asked::refused(Refusal::Oversized), 0, sink)
     }
 }
 
 // Answers a line for the whole store, and leaves the reply line in `replies`, in whose place others stood.
-fn answer_whole<K: Keeper>(
+fn answer_whole<S: Store>(
     alloc: Global,
-    keeper: &mut K,
+    keeper: &mut Partitions<S>,
     control: Control,
     replies: &mut Vec<u8>,
 ) -> Result<(), RunFault>
-    requires works { K.works keeper.old }
-    ensures works { OnOk result (K.works keeper.new) }
-    ensures answered { (known : Option World) → K.holds keeper.old known → OnOk result (AreAnswered K.holds known (request_whole control ∷ []) replies.new.items keeper.new) }
-    ensures left { (known : Option World) → K.holds keeper.old known → OnErr result (IsLeft K.holds K.keeps keeper.new (option_map (worlds_at gave_up (request_whole control ∷ [])) known)) }
-    ensures undamaged { (w : World) → K.holds keeper.old (Some w) → IfErr result IsNoDamage }
+    requires works { MayAsk S.history S.Device.history S.Frozen.content keeper.old }
+    ensures works { OnOk result (MayAsk S.history S.Device.history S.Frozen.content keeper.new) }
+    ensures answered { (known : Option World) → HoldsAt S.history S.Device.history S.Frozen.content keeper.old known → OnOk result (AreAnswered (HoldsAt S.history S.Device.history S.Frozen.content) known (request_whole control ∷ []) replies.new.items keeper.new) }
+    ensures left { (known : Option World) → HoldsAt S.history S.Device.history S.Frozen.content keeper.old known → OnErr result (IsLeft (HoldsAt S.history S.Device.history S.Frozen.content) (KeepsAt S.history S.Device.history S.Frozen.content) keeper.new (option_map (worlds_at gave_up (request_whole control ∷ [])) known)) }
+    ensures undamaged { (w : World) → HoldsAt S.history S.Device.history S.Frozen.content keeper.old (Some w) → IfErr result IsNoDamage }
     ensures kinds { IfErr result IsOfStore }
-    ensures cause { HasDiskCause (K.faults keeper.old) (K.faults keeper.new) (K.spent keeper.new) (fault_in result) }
+    ensures cause { HasDiskCause (faults_of (λ w. S.Watch.counts w) keeper.old) (faults_of (λ w. S.Watch.counts w) keeper.new) (IsSpent S.history S.Device.history S.Frozen.content keeper.new) (fault_in result) }
 {
     replies.clear();
     let reply = reply_whole(alloc, keeper, control)?;
@@ -278,21 +292,25 @@ fn answer_whole<K: Keeper>(
 }
 
 // The reply to a line for the whole store.
-fn reply_whole<K: Keeper>(
+fn reply_whole<S: Store>(
     alloc: Global,
-    keeper: &mut K,
+    keeper: &mut Partitions<S>,
     control: Control,
 ) -> Result<Reply, RunFault>
-    requires works { K.works keeper.old }
-    ensures works { OnOk result (K.works keeper.new) }
-    ensures reply { (known : Option World) → K.holds keeper.old known → IfOk result (λ reply. MayReply (request_whole control ∷ []) known (reply_of reply ∷ [])) }
-    ensures held { (known : Option World) → K.holds keeper.old known → OnOk result (K.holds keeper.new known) }
-    ensures failed { (w : World) → K.holds keeper.old (Some w) → OnErr result (K.keeps keeper.new w w) }
-    ensures undamaged { (w : World) → K.holds keeper.old (Some w) → IfErr result IsNoDamage }
+    requires works { MayAsk S.history S.Device.history S.Frozen.content keeper.old }
+    ensures works { OnOk result (MayAsk S.history S.Device.history S.Frozen.content keeper.new) }
+    ensures reply { (known : Option World) → HoldsAt S.history S.Device.history S.Frozen.content keeper.old known → IfOk result (λ reply. MayReply (request_whole control ∷ []) known (reply_of reply ∷ [])) }
+    ensures held { (known : Option World) → HoldsAt S.history S.Device.history S.Frozen.content keeper.old known → OnOk result (HoldsAt S.history S.Device.history S.Frozen.content keeper.new known) }
+    ensures failed { (w : World) → HoldsAt S.history S.Device.history S.Frozen.content keeper.old (Some w) → OnErr result (KeepsAt S.history S.Device.history S.Frozen.content keeper.new w w) }
+    ensures undamaged { (w : World) → HoldsAt S.history S.Device.history S.Frozen.content keeper.old (Some w) → IfErr result IsNoDamage }
     ensures kinds { IfErr result IsOfStore }
-    ensures cause { HasDiskCause (K.faults keeper.old) (K.faults keeper.new) (K.spent keeper.new) (fault_in result) }
+    ensures cause { HasDiskCause (faults_of (λ w. S.Watch.counts w) keeper.old) (faults_of (λ w. S.Watch.counts w) keeper.new) (IsSpent S.history S.Device.history S.Frozen.content keeper.new) (fault_in result) }
 {
     match control {
+        Control::Flush => {
+            keeper.flush(alloc)?;
+            Ok(Reply::Flushed)
+        }
         Control::Schema => Ok(Reply::Schemas(keeper.schemas(alloc)?)),
         Control::NotBuilt => Ok(Reply::Refused(Refusal::NotBuilt)),
     }

@@ -11,14 +11,16 @@ ghost use Rattle.tc_run_model.specs.World.{World};
 ghost use Rattle.tc_server.specs.Asked.{is_whole, request_asked, IsOfKey, IsRunOfKey};
 ghost use Rattle.tc_server.specs.Faults.{fault_in, gave_up, HasDiskCause, IsNoDamage, IsOfStore};
 ghost use Rattle.tc_server.specs.Holds.{worlds_at, AreAnswered, IsLeft};
+ghost use Rattle.tc_server.specs.Calls.{faults_of, IsSpent, KeepsAt, MayAsk, HoldsAt};
 ghost use Rattle.tc_server.specs.Window.{mixed, reply_refused, request_refused, requests_of, IsSoundWindow};
 
 use crate::answer::{Action, push_reply};
-use crate::keeper::Keeper;
 use crate::outcome::RunFault;
+use crate::partitions::Partitions;
 use std::alloc::{AllocError, Global};
 use tc_command::{Command, Refusal, Reply};
 use tc_route::{Placed, Routed};
+use tc_store::Store;
 
 /// Bytes of lines that close a window, at least.
 pub const MAX_WINDOW: usize = 4_194_304;
@@ -119,27 +121,27 @@ impl Window {
     }
 
     /// Answers the lines, and leaves the window without lines and the reply lines in `replies`, in whose place others stood.
-    pub fn answer<K: Keeper>(
+    pub fn answer<S: Store>(
         &mut self,
         alloc: Global,
-        keeper: &mut K,
+        keeper: &mut Partitions<S>,
         replies: &mut Vec<u8>,
     ) -> Result<(), RunFault>
         requires sound { IsSoundWindow self.old }
         requires few { length self.old.refusals.items ≤ 4096 }
         requires bytes { self.old.bytes ≤ max_window + max_line }
-        requires works { K.works keeper.old }
-        ensures works { OnOk result (K.works keeper.new) }
-        ensures answered { (known : Option World) → K.holds keeper.old known → OnOk result (AreAnswered K.holds known (requests_of self.old) replies.new.items keeper.new) }
+        requires works { MayAsk S.history S.Device.history S.Frozen.content keeper.old }
+        ensures works { OnOk result (MayAsk S.history S.Device.history S.Frozen.content keeper.new) }
+        ensures answered { (known : Option World) → HoldsAt S.history S.Device.history S.Frozen.content keeper.old known → OnOk result (AreAnswered (HoldsAt S.history S.Device.history S.Frozen.content) known (requests_of self.old) replies.new.items keeper.new) }
         ensures requests { OnOk result (requests_of self.new ≡ []) }
         ensures lines { OnOk result (length self.new.refusals.items ≡ 0) }
         ensures sound { OnOk result (IsSoundWindow self.new) }
         ensures bytes { OnOk result (self.new.bytes ≡ 0) }
         ensures limit { OnOk result (self.new.limit ≡ self.old.limit) }
-        ensures left { (known : Option World) → K.holds keeper.old known → OnErr result (IsLeft K.holds K.keeps keeper.new (option_map (worlds_at gave_up (requests_of self.old)) known)) }
-        ensures undamaged { (w : World) → K.holds keeper.old (Some w) → IfErr result IsNoDamage }
+        ensures left { (known : Option World) → HoldsAt S.history S.Device.history S.Frozen.content keeper.old known → OnErr result (IsLeft (HoldsAt S.history S.Device.history S.Frozen.content) (KeepsAt S.history S.Device.history S.Frozen.content) keeper.new (option_map (worlds_at gave_up (requests_of self.old)) known)) }
+        ensures undamaged { (w : World) → HoldsAt S.history S.Device.history S.Frozen.content keeper.old (Some w) → IfErr result IsNoDamage }
         ensures kinds { IfErr result IsOfStore }
-        ensures cause { HasDiskCause (K.faults keeper.old) (K.faults keeper.new) (K.spent keeper.new) (fault_in result) }
+        ensures cause { HasDiskCause (faults_of (λ w. S.Watch.counts w) keeper.old) (faults_of (λ w. S.Watch.counts w) keeper.new) (IsSpent S.history S.Device.history S.Frozen.content keeper.new) (fault_in result) }
     {
         let answers = keeper.window(alloc, self.commands.as_slice())?;
         replies.clear();

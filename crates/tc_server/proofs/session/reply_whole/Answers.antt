@@ -3,6 +3,7 @@ use Rattle.tc_model.specs.Reply.{turned_down}
 use Rattle.tc_model.specs.Request.{not_built}
 use Rattle.tc_run_model.specs.Known.{MayReply}
 use Rattle.tc_server.specs.Asked.{request_whole}
+use Rattle.tc_server.specs.Calls.{faults_of, IsSpent}
 use Rattle.tc_server.proofs.Answering.{unbuilt_replied}
 use Rattle.tc_server.proofs.Causes.{nothing_counted}
 use Rattle.tc_server.proofs.session.reply_whole.Goals as goal
@@ -12,4 +13,4 @@ returns-in-NotBuilt-clause-reply g c = λ known holds.
     subst (λ control. MayReply (request_whole control ∷ []) known (turned_down not_built ∷ [])) (sym c.in-NotBuilt.is) (unbuilt_replied known)
 
 pub returns-in-NotBuilt-clause-cause : goal.returns-in-NotBuilt-clause-cause
-returns-in-NotBuilt-clause-cause g c = nothing_counted (g.K.Keeper.faults c.args.keeper.now) (g.K.Keeper.spent c.args.keeper.now)
+returns-in-NotBuilt-clause-cause g c = nothing_counted ((faults_of g.S.Watch.Watch.counts) c.args.keeper.now) (IsSpent g.S.Store.history g.S.Device.Device.history g.S.Frozen.Frozen.content c.args.keeper.now)

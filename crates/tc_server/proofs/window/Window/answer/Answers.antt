@@ -10,34 +10,35 @@ use Rattle.tc_run_model.specs.Known.{MayReply, known_after}
 use Rattle.tc_run_model.specs.World.{after_all}
 use Rattle.tc_server.specs.Faults.{gave_up}
 use Rattle.tc_server.specs.Window.{mixed, reply_refused, requests_of, requests_routed, AreTogether}
+use Rattle.tc_server.specs.Calls.{faults_of, IsSpent, KeepsAt, HoldsAt}
 use Rattle.tc_server.proofs.Answering.{left_failed, left_standing}
 use Rattle.tc_server.proofs.Causes.{call_without_memory}
 use Rattle.tc_server.proofs.Mixing.{are_together, mixed_given, mixed_known, mixed_leaves, values_of_replies}
 use Rattle.tc_server.proofs.window.Window.answer.Goals as goal
 
 pub window-requires-clause-together : goal.window-requires-clause-together
-window-requires-clause-together g c = subst AreTogether (sym c.as_slice.ensures.value) (are_together c.args.self.now c.requires.sound c.requires.few c.requires.bytes)
+window-requires-clause-together g c κs within = subst AreTogether (sym c.as_slice.ensures.value) (are_together c.args.self.now c.requires.sound c.requires.few c.requires.bytes)
 
 pub returns-in_err-answers-clause-left : goal.returns-in_err-answers-clause-left
 returns-in_err-answers-clause-left g c =
     let p = err_from_is_err_and c.from_residual.result c.from_residual.ensures.1 in
     let w = c.args.self.now in
-    λ known holds. rw p.1 (left_failed g.K.Keeper.holds g.K.Keeper.keeps c.window.new.self (requests_of w) known
-    (λ v is. subst (g.K.Keeper.keeps c.window.new.self v) (sym (mixed_leaves w.refusals.items (requests_routed w.commands.items) v (c.requires.sound.whole ∙ sym (length-map w.commands.items _))))
-    (subst (λ list. g.K.Keeper.keeps c.window.new.self v (after_all (requests_routed list) v)) c.as_slice.ensures.value (c.in_err-answers.ensures.failed v (subst (g.K.Keeper.holds c.args.keeper.now) is holds)))))
+    λ known holds. rw p.1 (left_failed (HoldsAt g.S.Store.history g.S.Device.Device.history g.S.Frozen.Frozen.content) (KeepsAt g.S.Store.history g.S.Device.Device.history g.S.Frozen.Frozen.content) c.window.new.self (requests_of w) known
+    (λ v is. subst ((KeepsAt g.S.Store.history g.S.Device.Device.history g.S.Frozen.Frozen.content) c.window.new.self v) (sym (mixed_leaves w.refusals.items (requests_routed w.commands.items) v (c.requires.sound.whole ∙ sym (length-map w.commands.items _))))
+    (subst (λ list. (KeepsAt g.S.Store.history g.S.Device.Device.history g.S.Frozen.Frozen.content) c.window.new.self v (after_all (requests_routed list) v)) c.as_slice.ensures.value (c.in_err-answers.ensures.failed v (subst ((HoldsAt g.S.Store.history g.S.Device.Device.history g.S.Frozen.Frozen.content) c.args.keeper.now) is holds)))))
 
 pub returns-in_err-push_all-clause-left : goal.returns-in_err-push_all-clause-left
 returns-in_err-push_all-clause-left g c =
     let p = err_from_is_err_and c.from_residual-in_err-push_all.result c.from_residual-in_err-push_all.ensures.1 in
     let w = c.args.self.now in
-    λ known holds. rw p.1 (left_standing g.K.Keeper.holds g.K.Keeper.keeps c.window.new.self gave_up (requests_of w) known
-    (subst (g.K.Keeper.holds c.window.new.self) (sym (mixed_known w.refusals.items (requests_routed w.commands.items) known (c.requires.sound.whole ∙ sym (length-map w.commands.items _))))
-    (subst (λ list. g.K.Keeper.holds c.window.new.self (known_after (requests_routed list) known)) c.as_slice.ensures.value (c.in_ok-answers.ensures.held known holds))))
+    λ known holds. rw p.1 (left_standing (HoldsAt g.S.Store.history g.S.Device.Device.history g.S.Frozen.Frozen.content) (KeepsAt g.S.Store.history g.S.Device.Device.history g.S.Frozen.Frozen.content) c.window.new.self gave_up (requests_of w) known
+    (subst ((HoldsAt g.S.Store.history g.S.Device.Device.history g.S.Frozen.Frozen.content) c.window.new.self) (sym (mixed_known w.refusals.items (requests_routed w.commands.items) known (c.requires.sound.whole ∙ sym (length-map w.commands.items _))))
+    (subst (λ list. (HoldsAt g.S.Store.history g.S.Device.Device.history g.S.Frozen.Frozen.content) c.window.new.self (known_after (requests_routed list) known)) c.as_slice.ensures.value (c.in_ok-answers.ensures.held known holds))))
 
 pub returns-in_err-push_all-clause-cause : goal.returns-in_err-push_all-clause-cause
 returns-in_err-push_all-clause-cause g c =
     let p = err_from_is_err_and c.from_residual-in_err-push_all.result c.from_residual-in_err-push_all.ensures.1 in
-    rw (p.1, p.2) (call_without_memory (g.K.Keeper.faults c.args.keeper.now) (g.K.Keeper.faults c.window.new.self) _ (g.K.Keeper.spent c.window.new.self) c.in_ok-answers.ensures.cause)
+    rw (p.1, p.2) (call_without_memory ((faults_of g.S.Watch.Watch.counts) c.args.keeper.now) ((faults_of g.S.Watch.Watch.counts) c.window.new.self) _ (IsSpent g.S.Store.history g.S.Device.Device.history g.S.Frozen.Frozen.content c.window.new.self) c.in_ok-answers.ensures.cause)
 
 pub returns-clause-answered : goal.returns-clause-answered
 returns-clause-answered g c = λ known holds.
@@ -52,6 +53,6 @@ returns-clause-answered g c = λ known holds.
           ∙ ap (λ lines. c.clear.new.self.items ++ each_line (mixed reply_refused lines (map (λ (a : Placed). reply_of a.reply) c.as_slice-3.result.now))) c.as_slice-2.ensures.value
           ∙ ap (λ list. c.clear.new.self.items ++ each_line (mixed reply_refused w.refusals.items (map (λ (a : Placed). reply_of a.reply) list))) c.as_slice-3.ensures
           ∙ ap (λ bytes. bytes ++ each_line (mixed reply_refused w.refusals.items (map (λ (a : Placed). reply_of a.reply) c.in_ok-answers.answers))) c.clear.ensures.items;
-      held = subst (g.K.Keeper.holds c.window.new.self) (sym (mixed_known w.refusals.items rs known same))
-          (subst (λ list. g.K.Keeper.holds c.window.new.self (known_after (requests_routed list) known)) c.as_slice.ensures.value (c.in_ok-answers.ensures.held known holds));
+      held = subst ((HoldsAt g.S.Store.history g.S.Device.Device.history g.S.Frozen.Frozen.content) c.window.new.self) (sym (mixed_known w.refusals.items rs known same))
+          (subst (λ list. (HoldsAt g.S.Store.history g.S.Device.Device.history g.S.Frozen.Frozen.content) c.window.new.self (known_after (requests_routed list) known)) c.as_slice.ensures.value (c.in_ok-answers.ensures.held known holds));
     }

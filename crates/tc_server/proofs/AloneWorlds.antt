@@ -1,0 +1,95 @@
+-- A world of one partition replies and leaves what that partition does.
+use Rattle.std.proofs.Common.{◌≡◌, ◌∙◌, ℕ, List, [], ◌∷◌, length, map, refl, ap, sym, arith}
+use Rattle.std.specs.Prelude.{◌%◌, slice_get, unwrap_or}
+use Rattle.std.specs.List.{AllByRecursion}
+use Rattle.tc_command.specs.Commands.{request_of_command}
+use Rattle.tc_model.specs.Keyed.{values_in}
+use Rattle.tc_model.specs.Request.{Request, upsert, delete, get, query, flush, schema, scan, collect, refused}
+use Rattle.tc_model.specs.Reply.{schemas}
+use Rattle.tc_schema_model.specs.SchemaText.{schema_text}
+use Rattle.tc_plain_model.specs.Store.{Store, empty, documents}
+use Rattle.tc_plain_model.specs.Part.{Limits, part_left, part_left_all, part_reply, part_replies}
+use Rattle.tc_run_model.specs.World.{Part, World, home_of, store_at, part_after, changed_at, after, after_all}
+use Rattle.tc_run_model.specs.Replies.{IsReply, AreReplies}
+use Rattle.tc_route.specs.Answers.{answered}
+use Rattle.tc_route.specs.Meaning.{routed_of}
+use Rattle.tc_route.specs.declared.placed.Routed.{Routed}
+use Rattle.tc_server.specs.Asked.{IsOfKey}
+use Rattle.tc_server.specs.Window.{requests_routed}
+
+-- the only partition of the world stores this, under these limits
+pub record IsAlone (w : World) (limits : Limits) (s : Store) : Type 0 where
+  pub part : Part
+  pub alone : w.parts ≡ part ∷ []
+  pub stores : part.now ≡ s
+  pub under : w.limits ≡ limits
+
+-- ---- replies
+
+only_store : (n : ℕ) (part : Part) → unwrap_or (slice_get (map (λ p. p.now) (part ∷ [])) (n % 1)) empty ≡ part.now
+only_store n part = let here : n % 1 ≡ 0 = omega arith in rw here refl
+
+home_store : (n : ℕ) (w : World) (limits : Limits) (s : Store) → IsAlone w limits s → store_at (home_of n w) w ≡ s
+home_store n w limits s is =
+    ap (λ parts. unwrap_or (slice_get (map (λ p. p.now) parts) (n % length parts)) empty) is.alone ∙ only_store n is.part ∙ is.stores
+
+same_reply : (r : Request) (a b : Limits) (s t : Store) → a ≡ b → s ≡ t → part_reply a r s ≡ part_reply b r t
+same_reply r a b s t limits stores = rw (limits, stores) refl
+
+at_home : (n : ℕ) (r : Request) (w : World) (limits : Limits) (s : Store) → IsAlone w limits s → part_reply w.limits r (store_at (home_of n w) w) ≡ part_reply limits r s
+at_home n r w limits s is = same_reply r w.limits limits (store_at (home_of n w) w) s is.under (home_store n w limits s is)
+
+-- a request for a key
+replies_as : (r : Request) (w : World) (limits : Limits) (s : Store) → IsOfKey r → IsAlone w limits s → IsReply r w (part_reply limits r s)
+replies_as (upsert n d) w limits s of_key is = sym (at_home n (upsert n d) w limits s is)
+replies_as (delete n) w limits s of_key is = sym (at_home n (delete n) w limits s is)
+replies_as (get n) w limits s of_key is = sym (at_home n (get n) w limits s is)
+replies_as (query ask) w limits s of_key is = absurd of_key
+replies_as flush w limits s of_key is = absurd of_key
+replies_as schema w limits s of_key is = absurd of_key
+replies_as (scan ask) w limits s of_key is = absurd of_key
+replies_as collect w limits s of_key is = absurd of_key
+replies_as (refused r) w limits s of_key is = absurd of_key
+
+pub schemas_as : (w : World) (limits : Limits) (s : Store) → IsAlone w limits s → IsReply schema w (schemas (schema_text (documents s) ∷ []))
+schemas_as w limits s is =
+    sym (ap (λ parts. schemas (map (λ part. schema_text (documents part.now)) parts)) is.alone ∙ ap (λ store. schemas (schema_text (documents store) ∷ [])) is.stores)
+
+-- ---- what is left
+
+only_changed : (n : ℕ) (f : Part → Part) (part : Part) → changed_at (n % 1) f (part ∷ []) ≡ f part ∷ []
+only_changed n f part = let here : n % 1 ≡ 0 = omega arith in rw here refl
+
+-- a request for the partition of a key
+changes : (n : ℕ) (r : Request) (w : World) (limits : Limits) (s : Store) (is : IsAlone w limits s) → changed_at (home_of n w) (part_after w.limits r) w.parts ≡ part_after limits r is.part ∷ []
+changes n r w limits s is =
+    ap (λ parts. changed_at (n % length parts) (part_after w.limits r) parts) is.alone ∙ only_changed n (part_after w.limits r) is.part ∙ ap (λ limits. part_after limits r is.part ∷ []) is.under
+
+leaves_as : (r : Request) (w : World) (limits : Limits) (s : Store) → IsOfKey r → IsAlone w limits s → IsAlone (after r w) limits (part_left limits r s)
+leaves_as (upsert n d) w limits s of_key is =
+    record { part = part_after limits (upsert n d) is.part; alone = changes n (upsert n d) w limits s is; stores = ap (part_left limits (upsert n d)) is.stores; under = is.under }
+leaves_as (delete n) w limits s of_key is =
+    record { part = part_after limits (delete n) is.part; alone = changes n (delete n) w limits s is; stores = ap (part_left limits (delete n)) is.stores; under = is.under }
+leaves_as (get n) w limits s of_key is = record { part = is.part; alone = is.alone; stores = is.stores; under = is.under }
+leaves_as (query ask) w limits s of_key is = absurd of_key
+leaves_as flush w limits s of_key is = absurd of_key
+leaves_as schema w limits s of_key is = absurd of_key
+leaves_as (scan ask) w limits s of_key is = absurd of_key
+leaves_as collect w limits s of_key is = absurd of_key
+leaves_as (refused r) w limits s of_key is = absurd of_key
+
+-- ---- one request after the other
+
+pub all_reply_as : (rs : List Request) (w : World) (limits : Limits) (s : Store) → AllByRecursion IsOfKey rs → IsAlone w limits s → AreReplies rs w (part_replies limits rs s)
+all_reply_as [] w limits s of_key is = tt
+all_reply_as (r ∷ rs) w limits s of_key is = (replies_as r w limits s of_key.0 is, all_reply_as rs (after r w) limits (part_left limits r s) of_key.1 (leaves_as r w limits s of_key.0 is))
+
+pub all_leave_as : (rs : List Request) (w : World) (limits : Limits) (s : Store) → AllByRecursion IsOfKey rs → IsAlone w limits s → IsAlone (after_all rs w) limits (part_left_all limits rs s)
+all_leave_as [] w limits s of_key is = is
+all_leave_as (r ∷ rs) w limits s of_key is = all_leave_as rs (after r w) limits (part_left limits r s) of_key.1 (leaves_as r w limits s of_key.0 is)
+
+-- the replies of a partition to routed commands, without their places
+pub answered_values : (limits : Limits) (list : List Routed) (s : Store) → values_in (answered limits (map routed_of list) s) ≡ part_replies limits (requests_routed list) s
+answered_values limits [] s = refl
+answered_values limits (r ∷ list) s =
+    ap (λ replies. part_reply limits (request_of_command r.command) s ∷ replies) (answered_values limits list (part_left limits (request_of_command r.command) s))
