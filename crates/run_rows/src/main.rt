@@ -1,10 +1,14 @@
-//! Layer 6, programs: runs the server over streams in memory, as the rows of standard input say, and prints how each run
-//! ends. A row is a word and its argument, between them a space. `words` are those of the command line; `reads` and
-//! `writes` say how many bytes a call takes at most and, behind that, the number of the call that fails; `text`, `line`,
-//! `lines`, `padded` and `repeated` make the input; `serve` runs, and `faults` prints the texts of all faults. A row that
+//! Layer 6, programs: runs the server over streams and files in memory, as the rows of standard input say, and prints how
+//! each run ends. A row is a word and its argument, between them a space. `words` are those of the command line, without the
+//! folder; `reads` and `writes` say how many bytes a call takes at most and, behind that, the number of the call that fails;
+//! `text`, `line`, `lines`, `padded` and `repeated` make the input. A run begins without files, unless `file` gives it some,
+//! by name and bytes, or `again` has it begin with what a stop leaves of the last run's, by the number that chooses; `fails`
+//! says which calls on them fail, behind who makes them: `main`, `flusher` or `merger`. `serve` runs, `files` shows what a
+//! stop leaves of the last run's files, by the number that chooses, and `faults` prints the texts of all faults. A row that
 //! begins with `#` is a note, and is printed as it is; `no answer` stands for a row out of form.
 #![tactic(auto)]
 
+mod files;
 mod run;
 mod shown;
 
@@ -33,6 +37,7 @@ fn answer_of(rt: &(impl Print + AllocGlobal), run: &mut Run, row: &str) -> Optio
     match call {
         "#" => format!(in alloc; "{row}\n").ok(),
         "serve" => run.serve(rt),
+        "files" => run.files(alloc, argument),
         "faults" => shown::faults(alloc),
         _ => {
             run.prepare(alloc, call, argument)?;

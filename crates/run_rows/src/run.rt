@@ -1,9 +1,11 @@
 //! A run that is made ready row by row, and then served.
 
+use crate::files::Files;
 use crate::shown::{OnOutput, shown};
 use std::alloc::Global;
 use tc_edge::{MemSink, MemSource};
-use tc_server::run_program;
+use tc_server::{Served, run_program};
+use tc_store::MemShelf;
 use tc_value::Text;
 
 // The bytes that a call takes at most, and the number of the call that fails.
@@ -18,23 +20,25 @@ const SOUND: Edge = Edge {
     failing: None,
 };
 
-/// The words, the input, and how the streams behave.
+/// The words, the input, how the streams behave, and the files.
 #[derive(Drop)]
 pub(crate) struct Run {
     words: String,
     input: Vec<u8>,
     reads: Edge,
     writes: Edge,
+    files: Files,
 }
 
 impl Run {
-    /// A run without words or input, over streams that do not fail.
+    /// A run without words, input or files, over streams that do not fail.
     pub(crate) fn new(alloc: Global) -> Run {
         Run {
             words: String::new(alloc),
             input: Vec::new(alloc),
             reads: SOUND,
             writes: SOUND,
+            files: Files::new(alloc),
         }
     }
 
@@ -44,6 +48,9 @@ impl Run {
             "words" => self.words = String::from_str(alloc, argument).ok()?,
             "reads" => self.reads = edge_of(argument)?,
             "writes" => self.writes = edge_of(argument)?,
+            "again" => self.files.again(argument)?,
+            "file" => self.files.give(alloc, argument)?,
+            "fails" => self.files.fail(argument)?,
             _ => self.add(call, argument)?,
         }
         Some(())
@@ -94,8 +101,8 @@ impl Run {
         Some(())
     }
 
-    /// Runs the program, which says on standard output how it ended, and shows its exit and what was accepted. The next run
-    /// has these words, no input, and streams that do not fail.
+    /// Runs the program, which says on standard output how it ended, and shows its status and what was accepted. The next run
+    /// has these words, no input, no file, and no call fails.
     pub(crate) fn serve<R: Print + AllocGlobal>(&mut self, rt: &R) -> Option<String> {
         let alloc = rt.alloc();
         let words = words_of(alloc, self.words.as_str())?;
@@ -105,11 +112,21 @@ impl Run {
             calls(alloc, self.reads)?,
         );
         let mut sink = MemSink::new(alloc, self.writes.piece, calls(alloc, self.writes)?);
-        let exit = run_program(&OnOutput { rt }, Ok(words), &mut source, &mut sink);
+        let mut shelf = MemShelf::new(self.files.kits(alloc)?);
+        let output = OnOutput { rt };
+        let served = run_program(&output, Ok(words), &mut source, &mut sink, &mut shelf);
         self.input.clear();
         self.reads = SOUND;
         self.writes = SOUND;
-        shown(alloc, exit, sink.taken())
+        let Served { status, kits, .. } = served;
+        let text = shown(alloc, status, kits.len(), sink.taken());
+        self.files.keep(kits);
+        text
+    }
+
+    /// Shows the files that the last run left.
+    pub(crate) fn files(&mut self, alloc: Global, argument: &str) -> Option<String> {
+        self.files.shown(alloc, argument)
     }
 }
 

@@ -3,7 +3,6 @@
 use std::alloc::Global;
 use std::fmt::{Display, Write};
 use std::io::Eprint;
-use std::process::ExitCode;
 use std::{io, str};
 use tc_bytes::Bytes;
 use tc_server::{RunFault, fault_text};
@@ -33,9 +32,9 @@ impl<R: AllocGlobal> Alloc for OnOutput<'_, R> {
     }
 }
 
-/// The exit, and then the lines that were accepted, and how many times each came behind itself.
-pub(crate) fn shown(alloc: Global, exit: ExitCode, accepted: &[u8]) -> Option<String> {
-    let mut text = format!(in alloc; "{exit:?}\n").ok()?;
+/// The status, how many kits were asked for, and then the lines that were accepted, and how many times each came behind itself.
+pub(crate) fn shown(alloc: Global, status: u8, kits: usize, accepted: &[u8]) -> Option<String> {
+    let mut text = format!(in alloc; "status {status}, kits {kits}\n").ok()?;
     push_lines(&mut text, str::from_utf8(accepted).ok()?)?;
     Some(text)
 }
