@@ -4,12 +4,15 @@
     bench/kill.py [STORE] [ROUNDS] [SEED]
 
 STORE is the program, or else that of crates/tuple_store/out. In each of ROUNDS rounds (100 if not said) over one folder a
-program gets upserts and deletes without an end, and is killed by SIGKILL at a random moment. Then another one is started
-over the folder, and every key is read back. What it answers has to be what a prefix of the writes leaves that has each one
-in it whose reply line came whole, and of the others whole windows: the one that was running, or none of it. Windows and
-the words for the memory and the merges change from round to round, so that the moments fall into frames, flushes,
-merges and openings; in every fourth round openings are killed too, before anything is read.
+program gets upserts and deletes without an end, and is killed by SIGKILL at a random moment behind a random number of
+replies. Then another one is started over the folder, and every key is read back. What it answers has to be what those
+writes leave whose windows were answered, or these and the window behind them as a whole. Windows and the words for the
+memory and the merges change from round to round, so that the moments fall into frames, flushes, merges and openings; in
+every third round openings are killed too, before anything is read. What each kill left half done is counted.
+
+A kill takes nothing from what the system has in its memory: what a power cut may take, no run of this script shows.
 """
+import collections
 import json
 import os
 import random
@@ -23,6 +26,8 @@ import time
 HERE = os.path.dirname(os.path.abspath(__file__))
 STORE = os.path.join(HERE, '..', 'crates', 'tuple_store', 'out', 'tuple_store')
 KEYS = 300
+# bytes of a log in front of its frames, and of a frame in front of its body
+HEAD, FRAME = 21, 9
 
 
 def words_of(choice):
@@ -62,37 +67,39 @@ def after(stored, writes):
     return left
 
 
-def run_killed(store, folder, words, choice, rounds_seen):
-    """Feeds writes until the program is killed. Answers the writes sent and how many reply lines came whole."""
-    program = started(store, folder, words)
-    sent, acked = [], []
+class Acknowledged:
+    """Counts the reply lines that come whole, and kills the program a moment behind so many of them."""
 
-    def read():
-        for line in program.stdout:
+    def __init__(self, program, most, delay):
+        self.program, self.most, self.delay, self.count = program, most, delay, 0
+        self.thread = threading.Thread(target=self.read)
+        self.thread.start()
+
+    def read(self):
+        for line in self.program.stdout:
             if not line.endswith(b'\n'):
                 return
-            acked.append(line)
+            self.count += 1
+            if self.count == self.most:
+                threading.Timer(self.delay, self.program.kill).start()
 
-    reader = threading.Thread(target=read)
-    reader.start()
-    # Up to a fifth of a second, and now and then at once, so that an opening is hit.
-    moment = time.time() + (choice.random() ** 2) * 0.2
-    killer = threading.Timer(max(0, moment - time.time()), program.kill)
-    killer.start()
-    number = rounds_seen * 1000000
+
+def run_killed(store, folder, words, choice, number):
+    """Feeds writes until the program is killed. Answers the writes sent, and how many were acknowledged."""
+    program = started(store, folder, words)
+    acknowledged = Acknowledged(program, choice.choice([1, 10, 100, 300]) * choice.randrange(1, 4), choice.random() * 0.01)
+    sent = []
     try:
-        while program.poll() is None and len(sent) < 200000:
-            line, key, doc = write_of(choice, number)
-            number += 1
+        while program.poll() is None:
+            line, key, doc = write_of(choice, number * 1000000 + len(sent))
+            sent.append((key, doc))
             program.stdin.write((json.dumps(line) + '\n').encode())
             if choice.random() < 0.05:
                 program.stdin.flush()
-            sent.append((key, doc))
-    except (BrokenPipeError, OSError):
+    except OSError:
         pass
-    program.kill()
     program.wait()
-    reader.join()
+    acknowledged.thread.join()
     try:
         program.stdin.close()
     except OSError:
@@ -100,7 +107,35 @@ def run_killed(store, folder, words, choice, rounds_seen):
     said = program.stderr.read().decode()
     if said:
         sys.exit('the program said: ' + said)
-    return sent, len(acked)
+    return sent, acknowledged.count
+
+
+def has_cut_frame(log):
+    """Whether bytes stand behind the first gate of a frame that is not open."""
+    at = HEAD
+    while log[at:at + 1] == b'\x01':
+        at += FRAME + int.from_bytes(log[at + 5:at + FRAME], 'big')
+    return len(log) > at + 1
+
+
+def half_done(folder):
+    """What a kill left half done: a word for each kind."""
+    seen = collections.Counter()
+    place = os.path.join(folder, 'p0')
+    for name in os.listdir(place) if os.path.isdir(place) else []:
+        with open(os.path.join(place, name), 'rb') as file:
+            content = file.read()
+        is_log = name.startswith('l-')
+        if content[:1] != b'\x01':
+            seen['closed logs' if is_log else 'closed components'] += 1
+        elif is_log:
+            seen['logs'] += 1
+            seen['cut frames'] += has_cut_frame(content)
+        else:
+            seen['components'] += 1
+            seen['merged components'] += len(set(name.split('-')[1:])) == 2
+    seen['logs beside the active one'] = max(0, seen.pop('logs', 0) - 1)
+    return seen
 
 
 def read_back(store, folder):
@@ -110,20 +145,17 @@ def read_back(store, folder):
                           stdout=subprocess.PIPE, stderr=subprocess.PIPE)
     if done.returncode != 0:
         sys.exit('status %d after a kill: %s' % (done.returncode, done.stderr.decode()))
-    stored = {}
-    for key, line in enumerate(done.stdout.decode().splitlines()):
-        doc = json.loads(line)['doc']
-        if doc is not None:
-            stored[key] = doc
-    return stored
+    docs = [json.loads(line)['doc'] for line in done.stdout.decode().splitlines()]
+    return {key: doc for key, doc in enumerate(docs) if doc is not None}
 
 
-def prefix_of(before, sent, acked, window, found):
-    """How many of the writes sent are there, if it is a count that is allowed."""
-    # The windows whose replies came are there; of the one behind them all or nothing.
-    whole = acked - acked % window
-    for count in (acked, whole, whole + window, whole + 2 * window):
-        if acked <= count <= len(sent) and after(before, sent[:count]) == found:
+def kept(before, sent, acknowledged, window, found):
+    """How many of the writes sent are there, if it is a number that may be."""
+    # A window is answered once it is committed, so no write behind the next one is there.
+    answered = acknowledged - acknowledged % window
+    counts = (answered, answered + window) if acknowledged == answered else (answered + window,)
+    for count in counts:
+        if count <= len(sent) and after(before, sent[:count]) == found:
             return count
     return None
 
@@ -131,37 +163,31 @@ def prefix_of(before, sent, acked, window, found):
 def main():
     store = os.path.abspath(sys.argv[1] if len(sys.argv) > 1 else STORE)
     rounds = int(sys.argv[2]) if len(sys.argv) > 2 else 100
-    seed = int(sys.argv[3]) if len(sys.argv) > 3 else 1
-    choice = random.Random(seed)
+    choice = random.Random(int(sys.argv[3]) if len(sys.argv) > 3 else 1)
     folder = tempfile.mkdtemp(prefix='tuple_store_kill_')
-    stored, writes, unacked, files = {}, 0, 0, set()
-    try:
-        for number in range(rounds):
-            window, words = words_of(choice)
-            sent, acked = run_killed(store, folder, words, choice, number)
-            if number % 4 == 3:
-                opening = started(store, folder, words)
-                time.sleep(choice.random() * 0.01)
-                opening.kill()
-                opening.wait()
-            files.update(os.listdir(os.path.join(folder, 'p0')) if os.path.isdir(os.path.join(folder, 'p0')) else [])
-            found = read_back(store, folder)
-            count = prefix_of(stored, sent, acked, window, found)
-            if count is None:
-                sys.exit('round %d (window %d): %d acknowledged of %d sent, and what is read back is no such prefix; see %s'
-                         % (number, window, acked, len(sent), folder))
-            stored = found
-            writes += acked
-            unacked += count - acked
-    except SystemExit:
-        raise
-    else:
-        shutil.rmtree(folder)
-    merged = sum(1 for f in files if f.startswith('c-') and len(set(f.split('-')[1:])) == 2)
-    print('%d kills: %d writes were acknowledged, and all of them were read back; %d more had been written without a reply'
-          % (rounds, writes, unacked))
-    print('files seen: %d components, %d of them merged or of several logs; %d logs'
-          % (sum(1 for f in files if f.startswith('c-')), merged, sum(1 for f in files if f.startswith('l-'))))
+    stored, writes, more, seen, opening = {}, 0, 0, collections.Counter(), 0.05
+    for number in range(rounds):
+        window, words = words_of(choice)
+        sent, acknowledged = run_killed(store, folder, words, choice, number)
+        seen += half_done(folder)
+        for _ in range(3 if number % 3 == 2 else 0):
+            again = started(store, folder, words)
+            time.sleep(choice.random() * opening)
+            again.kill()
+            again.wait()
+            seen += half_done(folder)
+        begun = time.time()
+        found = read_back(store, folder)
+        opening = time.time() - begun
+        count = kept(stored, sent, acknowledged, window, found)
+        if count is None:
+            sys.exit('round %d (window %d): %d acknowledged of %d sent, and what is read back is not what they leave; see %s'
+                     % (number, window, acknowledged, len(sent), folder))
+        stored, writes, more = found, writes + acknowledged, more + count - acknowledged
+    shutil.rmtree(folder)
+    print('%d kills, and %d of openings: %d writes were acknowledged, and all were read back, with %d more that were committed'
+          % (rounds, rounds // 3 * 3, writes, more))
+    print('left by the kills: ' + ', '.join('%d %s' % (many, what) for what, many in sorted(seen.items())))
 
 
 main()
