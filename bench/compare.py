@@ -27,7 +27,7 @@ def inputs(count):
 
 
 def command(program, window):
-    return [program, "run", "--partitions", "1", "--window", str(window)]
+    return [program, ":memory:", "run", "--partitions", "1", "--window", str(window)]
 
 
 def seconds(program, window, path):

@@ -1,77 +1,250 @@
 #!/usr/bin/env python3
-"""Measures the built program: CPU time and lines a second, for each data set and order of keys.
+"""Measures the built program over folders, beside SQLite, and prints the tables of docs/performance.md.
 
-    bench/run.py [N ..]      N lines a run, 10000 100000 by default
+    bench/run.py [--program FILE] [--documents N] [--large N] [--rounds N] [PART ..]
 
-The program is crates/tuple_store/out/tuple_store, which `rt run` in crates/tuple_store builds. Each figure is the CPU
-time of the whole program, its start included, over the lines of the run; times of reading the feed from a file and of
-writing the replies to one are in it. A `schema` is measured by the difference of runs.
+Parts: loads, gets, opening, calls, growth, and lines, all but the last by default. The program is
+crates/tuple_store/out/tuple_store, which `rt run` in crates/tuple_store builds, or FILE. N documents are 40,000, and a
+tenth of that of readings; the large store has 1,000,000. Runs take turns, so that other load meets all of them; a time is
+the least of the rounds, 3 by default, and a ratio the median of those of the rounds, each of two runs one after the other.
+
+Times are processor time, user and system, in microseconds a line. That of the store is of the whole program, its start
+and its reading and writing of files included. That of SQLite's bound values is of its calls alone, over lines that were
+taken apart before (sqlite.c); that of its text is of the whole `sqlite3` command line, which reads a statement a line and
+parses the JSON that it stores, as the store does. Both keep a log that is synced at each transaction of a window's lines.
+
+    loads    a store of each data set is made, with --memory 16777216
+    gets     a get of each key in random order, by the difference of runs with and without, from the table and from a component
+    opening  the large store is opened, which growth made; where strace is there, how many bytes are read for it
+    calls    calls on the log for a window of upserts, where strace is there
+    growth   messages with --memory 4194304 --limit 67108864, up to the large store
+    lines    documents in memory, and nothing else: orders of keys, gets of absent keys, windows, schemas
 """
 
+import argparse
 import os
+import re
 import resource
+import shutil
+import statistics
 import subprocess
-import sys
 import tempfile
 
 import feeds
+import sqlite
 
-PROGRAM = os.path.join(os.path.dirname(__file__), "..", "crates", "tuple_store", "out", "tuple_store")
-
-
-def run(lines, window=64):
-    """Runs the program over lines, and answers their count, their bytes and the CPU seconds."""
-    with tempfile.TemporaryDirectory() as folder:
-        path = os.path.join(folder, "input")
-        count = size = 0
-        with open(path, "w", encoding="utf-8") as feed:
-            for line in lines:
-                feed.write(line)
-                count += 1
-                size += len(line.encode())
-        before = resource.getrusage(resource.RUSAGE_CHILDREN)
-        with open(path, "rb") as feed, open(os.path.join(folder, "output"), "wb") as replies:
-            words = ["run", "--partitions", "1", "--window", str(window)]
-            subprocess.run([PROGRAM, *words], stdin=feed, stdout=replies, check=True)
-        after = resource.getrusage(resource.RUSAGE_CHILDREN)
-        with open(os.path.join(folder, "output"), "rb") as replies:
-            written = sum(1 for _ in replies)
-        assert written == count, (written, count)
-        return count, size, after.ru_utime + after.ru_stime - before.ru_utime - before.ru_stime
+BUILT = os.path.join(os.path.dirname(os.path.abspath(__file__)), "..", "crates", "tuple_store", "out", "tuple_store")
+PARTS = ("loads", "gets", "opening", "calls", "growth")
+LOADED = ("--memory", "16777216")
+GROWN = ("--memory", "4194304", "--limit", "67108864")
 
 
-def show(name, measured):
-    count, size, seconds = measured
-    print(f"{name:44} {count:9} lines {size / count:7.0f} B {seconds * 1e6 / count:8.2f} us {count / seconds:11.0f} lines/s", flush=True)
+def processor():
+    used = resource.getrusage(resource.RUSAGE_CHILDREN)
+    return used.ru_utime + used.ru_stime
 
 
-def both(first, second):
-    yield from first
-    yield from second
+class Bench:
+    """The program, a folder for its inputs and stores, and how much is measured."""
+
+    def __init__(self, words, folder):
+        self.words, self.folder = words, folder
+
+    def path(self, name):
+        return os.path.join(self.folder, name)
+
+    def write(self, name, *feeds_of):
+        """Writes lines into a file, and answers its path and their count."""
+        count = 0
+        with open(self.path(name), "w", encoding="utf-8") as file:
+            for lines in feeds_of:
+                for line in lines:
+                    file.write(line)
+                    count += 1
+        return self.path(name), count
+
+    def command(self, store, words=(), window=64):
+        return [self.words.program, store, "run", "--partitions", "1", "--window", str(window), *words]
+
+    def empty(self, name="store"):
+        """An empty folder for a store."""
+        shutil.rmtree(self.path(name), ignore_errors=True)
+        os.mkdir(self.path(name))
+        return self.path(name)
+
+    def run(self, source, store, words=(), window=64):
+        """The processor seconds of the program over the lines of a file."""
+        before = processor()
+        with open(source, "rb") as lines, open(self.path("replies"), "wb") as replies:
+            subprocess.run(self.command(store, words, window), stdin=lines, stdout=replies, check=True)
+        return processor() - before
+
+    def traced(self, calls, source, store, words=()):
+        """What strace tells of these calls of a run."""
+        told = self.path("told")
+        with open(source, "rb") as lines, open(self.path("replies"), "wb") as replies:
+            tracing = ["strace", "-f", "-e", f"trace={','.join(calls)}", "-o", told]
+            subprocess.run([*tracing, *self.command(store, words)], stdin=lines, stdout=replies, check=True)
+        with open(told, encoding="utf-8", errors="replace") as lines:
+            return lines.read()
 
 
-def show_schema(name, lines, schemas=20_000):
-    """Shows what a `schema` costs behind these lines: the difference of runs with so many of them and runs without, of which
-    the least of five counts, since one run differs from the next by more than that."""
-    lines = list(lines)
-    without = min(run(lines)[2] for _ in range(5))
-    whole = min(run(both(lines, feeds.schemas(schemas)))[2] for _ in range(5))
-    print(f"{name:44} {schemas:9} schemas {(whole - without) * 1e6 / schemas:14.2f} us", flush=True)
+def data_sets(documents):
+    """The loads: a name, and a function that makes the lines."""
+    yield "messages", lambda: feeds.upserts(documents, "ascending", feeds.message)
+    yield "churn", lambda: feeds.churn(documents)
+    yield "readings", lambda: feeds.upserts(documents // 10, "ascending", feeds.readings)
+    yield "profiles", lambda: feeds.upserts(documents, "ascending", feeds.profile)
+
+
+def micros(seconds, count):
+    return seconds * 1e6 / count
+
+
+def beside(ours, theirs, count):
+    """Two cells of a row: their least time, and how many times it ours is."""
+    if not theirs:
+        return "- | -"
+    times = statistics.median(one / other for one, other in zip(ours, theirs))
+    return f"{micros(min(theirs), count):.2f} | {times:.1f}"
+
+
+def loads(bench):
+    print("| load | lines | this store | SQLite, bound values | times | SQLite, text | times |")
+    print("|---|--:|--:|--:|--:|--:|--:|")
+    program = sqlite.compiled(bench.folder)
+    for name, lines in data_sets(bench.words.documents):
+        source, count = bench.write("lines", lines())
+        script = bench.path("script")
+        sqlite.write_script(lines(), script, 64)
+        ours, bound, text = [], [], []
+        for _ in range(bench.words.rounds):
+            ours.append(bench.run(source, bench.empty(), LOADED))
+            if program:
+                bound.append(sqlite.bound(program, bench.path("database"), source, 64))
+            if shutil.which("sqlite3"):
+                text.append(sqlite.told(bench.path("database"), script, bench.path("replies")))
+        print(f"| {name} | {count:,} | {micros(min(ours), count):.2f} | {beside(ours, bound, count)} | {beside(ours, text, count)} |", flush=True)
+
+
+def gets(bench):
+    print("| get of | from the table | from a component | times |")
+    print("|---|--:|--:|--:|")
+    documents = bench.words.documents
+    for name, made, count in (
+        ("a message", feeds.message, documents),
+        ("a profile", feeds.profile, documents),
+        ("readings", feeds.readings, documents // 10),
+    ):
+        upserts, asked = list(feeds.upserts(count, "ascending", made)), list(feeds.gets(count, "random"))
+        load, _ = bench.write("load", upserts, ['{"op":"flush"}\n'])
+        bench.run(load, bench.empty(), LOADED)
+        plain, _ = bench.write("plain", upserts)
+        both, _ = bench.write("both", upserts, asked)
+        none, _ = bench.write("none")
+        only, _ = bench.write("only", asked)
+        table, component = [], []
+        for _ in range(bench.words.rounds):
+            table.append(bench.run(both, ":memory:", LOADED) - bench.run(plain, ":memory:", LOADED))
+            component.append(bench.run(only, bench.path("store"), LOADED) - bench.run(none, bench.path("store"), LOADED))
+        least = [micros(min(it), count) for it in (table, component)]
+        print(f"| {name} | {least[0]:.2f} | {least[1]:.2f} | {least[1] / least[0]:.2f} |", flush=True)
+
+
+def growth(bench):
+    print("| messages | " + " | ".join(f"{it:,}" for it in bench.sizes) + " |")
+    print("|---|" + "--:|" * len(bench.sizes))
+    cells = []
+    for count in bench.sizes:
+        source, _ = bench.write("lines", feeds.upserts(count, "ascending", feeds.message))
+        rounds = bench.words.rounds if count < 1_000_000 else 1
+        cells.append(min(micros(bench.run(source, bench.empty("large"), GROWN), count) for _ in range(rounds)))
+    print("| a document | " + " | ".join(f"{it:.2f}" for it in cells) + " |", flush=True)
+
+
+def opening(bench):
+    if not os.path.isdir(bench.path("large")):
+        source, _ = bench.write("lines", feeds.upserts(bench.sizes[-1], "ascending", feeds.message))
+        bench.run(source, bench.empty("large"), GROWN)
+    store = bench.path("large")
+    partition = os.path.join(store, "p0")
+    logs = sum(os.path.getsize(os.path.join(partition, it)) for it in os.listdir(partition) if it.startswith("l-"))
+    whole = sum(os.path.getsize(os.path.join(partition, it)) for it in os.listdir(partition))
+    none, _ = bench.write("none")
+    shutil.copytree(store, bench.path("copy"))
+    read = "-"
+    if shutil.which("strace"):
+        told = bench.traced(("pread64",), none, bench.path("copy"), GROWN)
+        read = f"{sum(int(it) for it in re.findall(r'pread64.* = ([0-9]+)$', told, re.M)):,}"
+    seconds = bench.run(none, store, GROWN)
+    print("| opening of | bytes of files | of logs | bytes read | processor seconds |")
+    print("|---|--:|--:|--:|--:|")
+    print(f"| {bench.sizes[-1]:,} messages | {whole:,} | {logs:,} | {read} | {seconds:.2f} |", flush=True)
+
+
+def calls(bench):
+    if not shutil.which("strace"):
+        print("calls: strace is not there")
+        return
+    windows = 100
+    names = ("pwrite64", "fdatasync", "fsync")
+    counts = []
+    for frames in (0, windows):
+        source, _ = bench.write("lines", feeds.upserts(64 * frames, "ascending", feeds.message))
+        told = bench.traced(names, source, bench.empty(), LOADED)
+        counts.append({it: len(re.findall(rf"\b{it}\(", told)) for it in names})
+    print("| calls for a window of 64 upserts | " + " | ".join(names) + " |")
+    print("|---|" + "--:|" * len(names))
+    print("| a window | " + " | ".join(f"{(counts[1][it] - counts[0][it]) / windows:.2f}" for it in names) + " |", flush=True)
+
+
+def show(bench, name, count, seconds):
+    print(f"| {name} | {count:,} | {micros(seconds, count):.2f} | {count / seconds:,.0f} |", flush=True)
+
+
+def lines(bench):
+    print("| lines in memory | lines | µs | lines a second |")
+    print("|---|--:|--:|--:|")
+    count = bench.words.documents
+    for order in ("ascending", "random"):
+        upserts = list(feeds.upserts(count, order, feeds.message))
+        show(bench, f"messages, {order} keys", *measured(bench, upserts))
+        show(bench, f"the same, then a get of each, {order} keys", *measured(bench, [*upserts, *feeds.gets(count, order)]))
+    for window in (1, 64, 4096):
+        show(bench, f"gets of absent keys, windows of {window}", *measured(bench, feeds.gets(count, "random"), window))
+    show_schema(bench, "schema behind messages", feeds.upserts(count, "ascending", feeds.message))
+    show_schema(bench, "schema behind changing documents", feeds.upserts(count, "ascending", feeds.changing))
+
+
+def measured(bench, made, window=64):
+    source, count = bench.write("lines", made)
+    return count, min(bench.run(source, ":memory:", (), window) for _ in range(bench.words.rounds))
+
+
+def show_schema(bench, name, made, schemas=20_000):
+    """What a `schema` costs behind these lines, by the difference of runs with so many of them and without."""
+    made = list(made)
+    show(bench, name, schemas, measured(bench, [*made, *feeds.schemas(schemas)])[1] - measured(bench, made)[1])
 
 
 def main():
-    for count in [int(word) for word in sys.argv[1:]] or [10_000, 100_000]:
-        for order in ("ascending", "random"):
-            show(f"messages, {order}", run(feeds.upserts(count, order, feeds.message)))
-            show(f"messages and gets, {order}", run(both(feeds.upserts(count, order, feeds.message), feeds.gets(count, order))))
-        show("readings, ascending", run(feeds.upserts(min(count // 10, 10_000), "ascending", feeds.readings)))
-        for window in (1, 64, 4096):
-            show(f"gets of absent keys, windows of {window}", run(feeds.gets(count, "random"), window))
-        show("overwrites and deletes of 1,000 keys", run(feeds.churn(count)))
-        show_schema("schema after messages", feeds.upserts(count, "ascending", feeds.message))
-        show_schema("schema after readings", feeds.upserts(min(count // 10, 10_000), "ascending", feeds.readings))
-        show_schema("schema after profiles", feeds.upserts(count, "ascending", feeds.profile))
-        show_schema("schema after changing documents", feeds.upserts(count, "ascending", feeds.changing))
+    parser = argparse.ArgumentParser(description=__doc__, formatter_class=argparse.RawDescriptionHelpFormatter)
+    parser.add_argument("--program", type=os.path.abspath, default=BUILT)
+    parser.add_argument("--documents", type=int, default=40_000)
+    parser.add_argument("--large", type=int, default=1_000_000)
+    parser.add_argument("--rounds", type=int, default=3)
+    parser.add_argument("parts", nargs="*", metavar="PART")
+    words = parser.parse_args()
+    known = {"loads": loads, "gets": gets, "growth": growth, "opening": opening, "calls": calls, "lines": lines}
+    for part in words.parts:
+        if part not in known:
+            parser.error(f"there is no part {part}")
+    with tempfile.TemporaryDirectory() as folder:
+        bench = Bench(words, folder)
+        bench.sizes = [it for it in (10_000, 100_000) if it < words.large] + [words.large]
+        for part in [it for it in known if it in (words.parts or PARTS)]:
+            known[part](bench)
+            print()
 
 
 main()

@@ -1,0 +1,61 @@
+"""SQLite beside the store: the same lines, with its log and synced, so many of them a transaction."""
+
+import os
+import resource
+import shutil
+import subprocess
+
+FRONT = '{"op":"upsert","doc":'
+
+PRAGMAS = "pragma journal_mode = wal; pragma synchronous = full; create table docs (id integer primary key, doc text);\n"
+
+
+def compiled(folder):
+    """The program of sqlite.c, or None where there is no compiler or no library."""
+    program = os.path.join(folder, "sqlite")
+    source = os.path.join(os.path.dirname(os.path.abspath(__file__)), "sqlite.c")
+    if not shutil.which("cc"):
+        return None
+    made = subprocess.run(["cc", "-O2", source, "-lsqlite3", "-o", program], stderr=subprocess.DEVNULL)
+    return program if made.returncode == 0 else None
+
+
+def removed(database):
+    for end in ("", "-wal", "-shm"):
+        if os.path.exists(database + end):
+            os.remove(database + end)
+    return database
+
+
+def bound(program, database, path, window):
+    """The processor seconds of SQLite's calls alone, with values bound to prepared statements."""
+    ran = subprocess.run([program, removed(database), path, str(window)], stdout=subprocess.PIPE, check=True)
+    return float(ran.stdout)
+
+
+def statement(line):
+    """The SQL of a line: its document is parsed as JSON, and kept as text."""
+    key = line[line.index('"id":') + len('"id":'):].split(",")[0].rstrip("}\n")
+    if line.startswith(FRONT):
+        document = line[len(FRONT):-2].replace("'", "''")
+        return f"insert or replace into docs values ({key}, json('{document}'));\n"
+    return f"delete from docs where id = {key};\n" if '"op":"delete"' in line else f"select doc from docs where id = {key};\n"
+
+
+def write_script(lines, path, window):
+    with open(path, "w", encoding="utf-8") as script:
+        script.write(PRAGMAS)
+        for at, line in enumerate(lines):
+            if at % window == 0:
+                script.write("commit; begin;\n" if at else "begin;\n")
+            script.write(statement(line))
+        script.write("commit;\n")
+
+
+def told(database, script, replies):
+    """The processor seconds of the command line, which reads a statement a line."""
+    before = resource.getrusage(resource.RUSAGE_CHILDREN)
+    with open(script, "rb") as source, open(replies, "wb") as sink:
+        subprocess.run(["sqlite3", "-batch", removed(database)], stdin=source, stdout=sink, check=True)
+    after = resource.getrusage(resource.RUSAGE_CHILDREN)
+    return after.ru_utime + after.ru_stime - before.ru_utime - before.ru_stime
