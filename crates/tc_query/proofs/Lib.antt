@@ -1,0 +1,11 @@
+pub mod ReachedValues
+pub mod BelowKeys
+pub mod AheadKeys
+pub mod ShownKeys
+pub mod StoredKeys
+pub mod RowSteps
+pub mod Spelled
+pub mod WalkSteps
+pub mod ListedRows
+pub mod WalkedKeys
+pub mod KeyRows

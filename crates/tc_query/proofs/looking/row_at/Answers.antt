@@ -1,0 +1,29 @@
+use Rattle.std.proofs.Common.{◌∙◌, Some, option_map, sym, ap, subst}
+use Rattle.std.proofs.lemmas.Result.{IfOk-weaker}
+use Rattle.tc_command.specs.Commands.{ask_of}
+use Rattle.tc_memory.specs.Meaning.{held_of, IsLawfulHeld}
+use Rattle.tc_query.proofs.RowSteps.{rows_of_one, rows_of_none, rows_alike}
+use Rattle.tc_query.proofs.StoredKeys.{stored_live, stored_gone, stored_listed}
+use Rattle.tc_record.specs.Record.{IsRecordOf}
+use Rattle.tc_query.proofs.looking.row_at.Goals as goal
+
+pub returns-in_ok-row_held-in-Some-Live-clause-row : goal.returns-in_ok-row_held-in-Some-Live-clause-row
+returns-in_ok-row_held-in-Some-Live-clause-row g c = λ pairs h.
+    let held = c.in-Some-Live.ensures in
+    let at = stored_live g.F.Frozen.content c.args.list.now _ c.args.active.now pairs h held.sealed held.active c.args.key c.in-Some-Live.bytes.now (sym held.held ∙ ap (λ what. Some (held_of what)) c.in-Some-Live.field-0-is)
+    (subst IsLawfulHeld c.in-Some-Live.field-0-is held.lawful) in
+    c.in_ok-row_held-in-Some-Live.ensures.row at.document (subst (IsRecordOf at.document) (sym c.as_slice.ensures.same) at.spells)
+    ∙ rows_of_one (ask_of c.args.ask.now) c.args.key pairs at.document at.stored
+
+pub returns-in-Some-Gone-clause-row : goal.returns-in-Some-Gone-clause-row
+returns-in-Some-Gone-clause-row g c = λ pairs h.
+    let held = c.newest_held.ensures in
+    rows_of_none (ask_of c.args.ask.now) c.args.key pairs
+    (stored_gone g.F.Frozen.content c.args.list.now _ c.args.active.now pairs h held.sealed held.active c.args.key (sym held.held ∙ ap (option_map held_of) c.in-Some-Gone.is ∙ ap (λ what. Some (held_of what)) c.in-Some-Gone.field-0-is))
+
+pub returns-in-None-clause-row : goal.returns-in-None-clause-row
+returns-in-None-clause-row g c = λ pairs h.
+    let held = c.newest_held.ensures in
+    let ask = ask_of c.args.ask.now in
+    let same = stored_listed g.F.Frozen.content c.args.list.now _ c.args.active.now pairs h held.sealed held.active c.args.key (sym held.held ∙ ap (option_map held_of) c.in-None.is) in
+    IfOk-weaker c.row_listed.result _ _ (λ row is. is ∙ sym (rows_alike ask c.args.key pairs _ same)) (c.row_listed.ensures.row h.part h.contents h.list h.loaded)

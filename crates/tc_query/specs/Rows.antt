@@ -1,0 +1,16 @@
+-- The rows of one key, and those of the keys below one.
+use Rattle.std.specs.Prelude.{ℕ, nat_lt, List, filter, flat_map, option_to_list}
+use Rattle.tc_model.specs.Keyed.{Keyed, value_of}
+use Rattle.tc_model.specs.Reply.{Row}
+use Rattle.tc_model.specs.Request.{Ask}
+use Rattle.tc_plain_model.specs.Paths.{reached}
+use Rattle.tc_plain_model.specs.Rows.{row_of}
+use Rattle.tc_plain_model.specs.Writes.{Pairs}
+
+-- the row of a stored key: one, or none
+abbrev pub rows_at : Ask → ℕ → Pairs → List Row
+rows_at ask key pairs = flat_map (λ d. row_of ask.equal_to key (reached ask.path d)) (option_to_list (value_of key pairs))
+
+-- the entries of lesser keys
+abbrev pub below : {V : Type 0} → ℕ → Keyed V → Keyed V
+below n es = filter (λ e. nat_lt e.0 n) es

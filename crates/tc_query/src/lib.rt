@@ -1,0 +1,16 @@
+//! Layer 4, partition: the rows that a query gets over what a partition stores.
+#![tactic(auto)]
+
+mod ahead;
+mod fault;
+mod looking;
+mod record;
+mod row;
+mod rows;
+#[cfg(test)]
+mod tests;
+mod walk;
+
+pub use fault::QueryFault;
+pub use row::{row_of_known, row_of_record};
+pub use rows::rows_over;
