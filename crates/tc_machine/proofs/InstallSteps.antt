@@ -20,7 +20,7 @@ use Rattle.tc_machine.specs.Components.{HasComponentHead, IsStillComponent, Leav
 use Rattle.tc_machine.specs.Events.{flush_installed, merge_installed, step}
 use Rattle.tc_machine.specs.Kept.{IsKept}
 use Rattle.tc_machine.specs.Sound.{Flushes, IsExplained, LeavesActive, LeavesLogs, LeavesOf}
-use Rattle.tc_machine.specs.State.{Flushing, Merging, Sealed, State, active_generation, active_logs, flush_name, next_generation, sealed_logs}
+use Rattle.tc_machine.specs.State.{Flushing, Merging, Sealed, State, active_generation, active_logs, flush_name, logs, next_generation, sealed_logs}
 use Rattle.tc_machine.specs.Steps.{InstallsFlush, InstallsMerge, IsExpected, IsFlushed, IsShutOrHas, nothing_held}
 use Rattle.tc_machine.proofs.ComponentHeads.{component_has_head}
 use Rattle.tc_machine.proofs.FilesMade.{log_there}
@@ -56,6 +56,7 @@ flush_install part s d j c k f is_still = record {
     merge_file = k.files.merge_file;
   };
   expected = λ running sound name there. expected name (k.expected running sound name there);
+  next_log = λ running sound not_made. subst (λ g. LeavesOf s.files (Log g) (IsShutOrHas (λ b. ⊥))) (sym next) (k.next_log running sound not_made);
 }
   where
     new : State
@@ -142,6 +143,7 @@ merge_install part s m k is_still = record {
     merge_file = tt;
   };
   expected = λ running sound name there. expected name (k.expected running sound name there);
+  next_log = λ running sound not_made. subst (λ g. LeavesOf s.files (Log (g + length (logs s) + 1)) (IsShutOrHas (λ b. ⊥))) (sym r.last) (k.next_log running sound not_made);
 }
   where
     cs : List Content

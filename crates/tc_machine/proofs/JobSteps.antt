@@ -16,12 +16,12 @@ use Rattle.tc_machine.specs.Components.{file_of}
 use Rattle.tc_machine.specs.Events.{flush_begun, made, merge_begun, step, with_made}
 use Rattle.tc_machine.specs.Kept.{IsKept, IsMemoryKept, MergeFits}
 use Rattle.tc_machine.specs.Sound.{AreFilesSound, IsExplained, IsFlushTarget, IsMergeTarget, LeavesOf}
-use Rattle.tc_machine.specs.State.{Flushing, Merging, Sealed, State, flush_name, flushing_of, sealed_logs}
+use Rattle.tc_machine.specs.State.{Flushing, Merging, Sealed, State, flush_name, flushing_of, next_generation, sealed_logs}
 use Rattle.tc_machine.specs.Steps.{BeginsFlush, BeginsMerge, IsExpected, IsFlushed, IsOfFlush, IsOfMerge, IsShutOrHas, nothing_held}
-use Rattle.tc_machine.proofs.FilesLeft.{at_name}
+use Rattle.tc_machine.proofs.FilesLeft.{LeavesOf-other, at_name}
 use Rattle.tc_machine.proofs.FilesMade.{file_made_keeps, made_at}
 use Rattle.tc_machine.proofs.MemorySteps.{flush_begun_memory, merge_begun_memory, no_flush, same_memory}
-use Rattle.tc_machine.proofs.Targets.{FlushTarget, MergeTarget, flush_target, merge_target}
+use Rattle.tc_machine.proofs.Targets.{FlushTarget, MergeTarget, file_not_log, flush_target, merge_target}
 
 -- ---- a fresh device
 
@@ -66,6 +66,7 @@ flush_begins part s d is_sealed none_out before absent k = record {
   };
   expected = λ running sound name. at_name (flush_name f) name (made (s.files (flush_name f))) s.files (λ e. IsThere e → IsExpected (step flush_begun s) name)
       (λ same there. subst (λ n. IsExpected (step flush_begun s) n) same (inr (inl (refl, refl)))) (λ apart there. expected name (k.expected running sound name there));
+  next_log = λ running sound not_made. LeavesOf-other (flush_name f) (Log (next_generation s)) (made (s.files (flush_name f))) s.files (IsShutOrHas (λ b. ⊥)) (file_not_log f.from f.to (next_generation s)) (k.next_log running sound not_made);
 }
   where
     f : Flushing
@@ -132,6 +133,7 @@ merge_begun_keeps part s run c k m = record {
   };
   expected = λ running sound name. at_name (file_of c) name (made (s.files (file_of c))) s.files (λ e. IsThere e → IsExpected (step (merge_begun run c) s) name)
       (λ same there. subst (λ n. IsExpected (step (merge_begun run c) s) n) same (inr (inr (refl, refl)))) (λ apart there. expected name (k.expected running sound name there));
+  next_log = λ running sound not_made. LeavesOf-other (file_of c) (Log (next_generation s)) (made (s.files (file_of c))) s.files (IsShutOrHas (λ b. ⊥)) (file_not_log c.from c.to (next_generation s)) (k.next_log running sound not_made);
 }
   where
     now : IsMemoryKept part (record s { merge = Some (record { run = run; target = c }) })

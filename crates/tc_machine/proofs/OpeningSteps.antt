@@ -57,6 +57,7 @@ opened_is_kept part picture cs ls o = record {
     merge_file = tt;
   };
   expected = λ is. absurd (false≢true is);
+  next_log = λ is. absurd (false≢true is);
 }
   where
     explained : (name : FileName) (b : List ℕ) → MayLeaveAt (nothing_held name) (left_disk picture name) (Some b) → is_open_file b ≡ true → IsExplained part (opened picture cs ls) name b

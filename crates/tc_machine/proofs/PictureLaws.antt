@@ -28,9 +28,9 @@ use Rattle.tc_component.specs.Rows.{IsComponent}
 use Rattle.tc_machine.specs.Components.{HasComponentHead, LeavesComponent, file_of}
 use Rattle.tc_machine.specs.Kept.{IsKept, MergeFits}
 use Rattle.tc_machine.specs.Logs.{HasLogHead, IsLog, LeavesLog, all_writes}
-use Rattle.tc_machine.specs.Pictures.{HasLogs, IfOpen, Recovers, recovered}
+use Rattle.tc_machine.specs.Pictures.{HasLogs, IfOpen, Opens, Recovers, recovered}
 use Rattle.tc_machine.specs.Sound.{Flushes, IsExplained, IsFlushOf, IsFlushTarget, IsMergeTarget, IsWithOrWithout, LeavesActive, LeavesLogs, LeavesOf}
-use Rattle.tc_machine.specs.State.{Active, Flushing, Merging, Sealed, State, active_generation, active_logs, active_table, below_active, flush_name, frame_writes, history, next_generation, sealed_logs, sealed_table}
+use Rattle.tc_machine.specs.State.{Active, Flushing, IsIdle, Merging, Sealed, State, active_generation, active_logs, active_table, below_active, flush_name, frame_writes, history, logs, next_generation, sealed_logs, sealed_table}
 use Rattle.tc_machine.specs.Steps.{IsFlushed, IsShutOrHas, nothing_held}
 use Rattle.tc_machine.specs.Writes.{AreFew, HasRoom, IsStorableWrite}
 use Rattle.tc_machine.proofs.ComponentHeads.{component_has_head}
@@ -38,6 +38,7 @@ use Rattle.tc_machine.proofs.FilesMade.{closed_or_open, log_there}
 use Rattle.tc_machine.proofs.Holding.{all_writes-append, all_writes-one, sealed_is}
 use Rattle.tc_machine.proofs.InstallSteps.{All-swapped, IsFlush-same, flushed_head}
 use Rattle.tc_machine.proofs.LogHeads.{log_has_head}
+use Rattle.tc_machine.proofs.NextLogs.{shut_is_not_open}
 use Rattle.tc_machine.proofs.Options.{All-back, All-front}
 
 -- the file of a name is there and open
@@ -409,26 +410,25 @@ module _ (part : Partition) (s : State) (k : IsKept part s) (picture : Picture) 
   room_of store (inl is) = subst (λ p. HasRoom p) (sym is) k.memory.room
   room_of store (inr is) = subst (λ p. HasRoom p) (sym is) k.memory.frame_room
 
-  opens_as : (cs : List Content) (ls tail : List (List Write)) → (f : Flushed cs ls) → all_writes tail ≡ [] → (a : ActiveLogs tail) → Recovers part picture (IsWithOrWithout (after_writes s.base (history s)) s.frame)
-  opens_as cs ls tail f no_more a =
-      let found : List (List Write) = ls ++ (a.logs ++ tail) in
+  opened_as : (cs : List Content) (ls tail : List (List Write)) → (f : Flushed cs ls) → all_writes tail ≡ [] → (a : ActiveLogs tail) → Opens part picture cs (ls ++ (a.logs ++ tail))
+  opened_as cs ls tail f no_more a =
       let c : Comes cs (ls ++ (a.logs ++ tail)) = comes cs ls tail f no_more a in
       record {
-        lawful = record {
-          contents = cs;
-          logs = found;
-          opens = record {
-            list = f.list;
-            there = f.there;
-            components = components cs ls f;
-            heads = log_head_at;
-            logs_there = whole cs ls tail f a;
-            writes = c.writes;
-            room = room_of (recovered cs found).pairs c.store;
-            few = c.few;
-          };
-        };
-        holds = with_or_without s.frame (recovered cs found).pairs (after_writes s.base (history s)) c.store;
+        list = f.list;
+        there = f.there;
+        components = components cs ls f;
+        heads = log_head_at;
+        logs_there = whole cs ls tail f a;
+        writes = c.writes;
+        room = room_of (recovered cs (ls ++ (a.logs ++ tail))).pairs c.store;
+        few = c.few;
+      }
+
+  opens_as : (cs : List Content) (ls tail : List (List Write)) → (f : Flushed cs ls) → all_writes tail ≡ [] → (a : ActiveLogs tail) → Recovers part picture (IsWithOrWithout (after_writes s.base (history s)) s.frame)
+  opens_as cs ls tail f no_more a =
+      let found : List (List Write) = ls ++ (a.logs ++ tail) in record {
+        lawful = record { contents = cs; logs = found; opens = opened_as cs ls tail f no_more a };
+        holds = with_or_without s.frame (recovered cs found).pairs (after_writes s.base (history s)) (comes cs ls tail f no_more a).store;
       }
 
   pub picture_recovers : Recovers part picture (IsWithOrWithout (after_writes s.base (history s)) s.frame)
@@ -437,3 +437,34 @@ module _ (part : Partition) (s : State) (k : IsKept part s) (picture : Picture) 
       let f = flush_or_not m.0 m.1 s.flush s.sealed refl refl in
       let n = next_or_not in
       opens_as f.0 f.1 n.0 f.2 n.2 (active_has n.0 s.active refl n.1)
+
+  -- ---- where nothing goes on
+
+  no_next_log : IsIdle s → HasLogs part picture (next_generation s) []
+  no_next_log idle g from b there is_open = elim (cases_lt (next_generation s) g) [
+    | inl far ↦ beyond g far b there is_open
+    | inr at ↦
+        let same : g ≡ next_generation s = omega (arith, from) in
+        shut_is_not_open b is_open (k.next_log idle.running idle.sound idle.no_next (Some b)
+        (subst (λ (n : ℕ). MayLeaveAt (nothing_held (Log n)) (s.files (Log n)) (Some b)) same (subst (λ o. MayLeaveAt (nothing_held (Log g)) (s.files (Log g)) o) there (left.each (Log g)))))
+  ]
+
+  active_itself : (a : Option Active) → s.active ≡ a → s.frame ≡ None → HasLogs part picture (next_generation s) [] → HasLogs part picture (active_generation s) (active_logs a ++ [])
+  active_itself None is no_frame has =
+      subst (λ g. HasLogs part picture g []) (let e : next_generation s ≡ active_generation s = omega (arith, length-append (sealed_logs s.sealed) (active_logs s.active), ap (λ a. length (active_logs a)) is) in e) has
+  active_itself (Some d) is no_frame has =
+      let leaves : LeavesOf s.files (Log (active_generation s)) (LeavesActive part (active_generation s) d.writes s.frame) =
+      subst (λ a. IfSome a (λ d. LeavesOf s.files (Log (active_generation s)) (LeavesActive part (active_generation s) d.writes s.frame))) is k.files.active_log in (
+        log_at (active_generation s) d.writes (bytes_at picture (Log (active_generation s)))
+            (subst (λ f. LeavesActive part (active_generation s) d.writes f (bytes_at picture (Log (active_generation s)))) no_frame (there_at (Log (active_generation s)) (LeavesActive part (active_generation s) d.writes s.frame) leaves)),
+        subst (λ g. HasLogs part picture g []) (let e : next_generation s ≡ active_generation s + 1 = omega (arith, length-append (sealed_logs s.sealed) (active_logs s.active), ap (λ a. length (active_logs a)) is) in e) has,
+      )
+
+  as_it_is : IsIdle s → Flushed s.list (sealed_logs s.sealed)
+  as_it_is idle = unflushed s.list (as_listed (λ from to b target there is_open. absurd (subst (λ o. IsMergeTarget o from to b) idle.no_merge target)))
+      (λ from to b target there is_open. absurd ((subst (λ o. IsFlushTarget part s.list s.sealed o from to b) idle.no_flush target).0))
+
+  pub opens_as_it_is : IsIdle s → Opens part picture s.list (logs s)
+  opens_as_it_is idle =
+      subst (λ l. Opens part picture s.list (sealed_logs s.sealed ++ l)) (append-nil (active_logs s.active))
+      (opened_as s.list (sealed_logs s.sealed) [] (as_it_is idle) refl (record { logs = active_logs s.active; has = active_itself s.active refl idle.no_frame (no_next_log idle); writes = inl refl }))

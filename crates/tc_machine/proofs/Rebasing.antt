@@ -12,4 +12,5 @@ rebased_is_kept part s k = record {
   memory = rebased_memory part s k.memory;
   files = same_files part s (rebased s) refl refl refl refl refl refl refl refl k.files;
   expected = λ running sound name there. expected_same s (rebased s) refl refl refl refl (λ is. is) name (k.expected running sound name there);
+  next_log = k.next_log;
 }

@@ -1,5 +1,5 @@
 -- The events of a run: frames, the sealing of the table, snapshots, devices given up, and changes of files alone.
-use Rattle.std.proofs.Common.{◌≡◌, ◌+◌, ℕ, true, false, List, [], ◌∷◌, ◌++◌, length, refl, sym, ap, ◌∙◌, subst, arith, inl, inr, Option, Some, None, length-append}
+use Rattle.std.proofs.Common.{◌≡◌, ◌≢◌, ◌+◌, ℕ, true, false, List, [], ◌∷◌, ◌++◌, length, refl, sym, ap, ◌∙◌, subst, arith, inl, inr, Option, Some, None, length-append}
 use Rattle.std.specs.Prelude.{All, IfSome, IsSome}
 use Rattle.std.proofs.lemmas.Bool.{true≢false, false≢true}
 use Rattle.tc_plain_model.specs.Writes.{Write}
@@ -17,8 +17,9 @@ use Rattle.tc_machine.specs.Logs.{LeavesLog}
 use Rattle.tc_machine.specs.Sound.{AreFilesSound, IsExplained, LeavesActive, LeavesOf}
 use Rattle.tc_machine.specs.State.{Active, Flushing, State, active_generation, active_logs, flush_name, next_generation, sealed_logs}
 use Rattle.tc_machine.specs.Steps.{AreExpected, CommitsFrame, IsExpected, IsFlushed, IsShutOrHas, IsWritten, SealsTable, StartsFrame, StartsPart, nothing_held}
-use Rattle.tc_machine.proofs.FilesLeft.{LeavesOf-weaker, LeavesOf-written, at_name}
+use Rattle.tc_machine.proofs.FilesLeft.{LeavesOf-other, LeavesOf-weaker, LeavesOf-written, at_name}
 use Rattle.tc_machine.proofs.MemorySteps.{after_commit, after_seal, committed_is, frame_committed_memory, frame_started_memory, no_flush, same_memory, sealed_step, sealing_memory, snapshot_taken_memory, starting_memory, unsealed, unsealed_is, unstarted, unstarted_is}
+use Rattle.tc_machine.proofs.NextLogs.{beyond_is_shut}
 use Rattle.tc_machine.proofs.Options.{if_some_map}
 
 -- ---- files that stay explained
@@ -64,6 +65,7 @@ frame_started_keeps part s ws k m = record {
     merge_file = k.files.merge_file;
   };
   expected = λ running sound name there. expected_same s (step (frame_started ws) s) refl refl refl refl (λ is. is) name (k.expected running sound name there);
+  next_log = k.next_log;
 }
   where
     without : (g : ℕ) (old : List Write) (image : Image) → LeavesLog part g old image → LeavesActive part g old (Some ws) image
@@ -86,6 +88,7 @@ committing part s d ws k is_active is_frame durable = record {
     merge_file = k.files.merge_file;
   };
   expected = λ running sound name there. expected_same s (after_commit s d ws) refl refl refl next (λ is. is) name (k.expected (subst (λ a. IsSome a) (sym is_active) refl) sound name there);
+  next_log = λ running sound not_made. subst (λ g. LeavesOf s.files (Log g) (IsShutOrHas (λ b. ⊥))) (sym next) (k.next_log (subst (λ a. IsSome a) (sym is_active) refl) sound not_made);
 }
   where
     next : next_generation (after_commit s d ws) ≡ next_generation s
@@ -110,6 +113,7 @@ sealing part s d k ready = record {
     merge_file = k.files.merge_file;
   };
   expected = λ running sound name there. expected name (k.expected refl sound name there);
+  next_log = λ running sound not_made. beyond_is_shut part (unsealed s d) (next_generation (after_seal (unsealed s d) d)) k.files (omega arith);
 }
   where
     expected : (name : FileName) → IsExpected (unsealed s d) name → IsExpected (after_seal (unsealed s d) d) name
@@ -169,6 +173,7 @@ starting part s k ready all_still all_expected = record {
     merge_file = k.files.merge_file;
   };
   expected = λ running sound name there. expected name (all_expected name there);
+  next_log = λ running sound not_made. beyond_is_shut part (unstarted s) (next_generation (step part_started (unstarted s))) k.files (omega arith);
 }
   where
     expected : (name : FileName) → IsExpected (unstarted s) name → IsExpected (step part_started (unstarted s)) name
@@ -205,6 +210,7 @@ snapshot_taken_keeps part s k running = record {
   memory = snapshot_taken_memory part s k.memory running;
   files = same_files part s (step snapshot_taken s) refl refl refl refl refl refl refl refl k.files;
   expected = λ running sound name there. expected_same s (step snapshot_taken s) refl refl refl refl (λ is. is) name (k.expected running sound name there);
+  next_log = k.next_log;
 }
 
 -- ---- a device is given up, and the next log is made
@@ -214,6 +220,7 @@ part_failed_keeps part s k = record {
   memory = same_memory part s s.files s.making true k.memory;
   files = same_files part s (step part_failed s) refl refl refl refl refl refl refl refl k.files;
   expected = λ running sound. absurd (true≢false sound);
+  next_log = λ running sound. absurd (true≢false sound);
 }
 
 pub making_keeps : (part : Partition) (s : State) → IsKept part s → IsKept part (record s { making = true })
@@ -221,16 +228,19 @@ making_keeps part s k = record {
   memory = same_memory part s s.files true s.failed k.memory;
   files = same_files part s (record s { making = true }) refl refl refl refl refl refl refl refl k.files;
   expected = λ running sound name there. expected_same s (record s { making = true }) refl refl refl refl (λ is. refl) name (k.expected running sound name there);
+  next_log = λ running sound not_made. absurd (true≢false not_made);
 }
 
 -- ---- a file alone
 
--- the files where one changes under a name that is expected
+-- The files where one changes under a name that is expected. Where no next log is made, the name is not that of the next log.
 pub with_one_file : (part : Partition) (s : State) (name : FileName) (entry : Entry) → IsKept part s → AreFilesSound part (record s { files = put name entry s.files }) → (IsSome s.active → s.failed ≡ false → IsThere entry → IsExpected s name)
+    → (IsSome s.active → s.failed ≡ false → s.making ≡ false → name ≢ Log (next_generation s))
     → IsKept part (record s { files = put name entry s.files })
-with_one_file part s name entry k sound here = record {
+with_one_file part s name entry k sound here apart = record {
   memory = same_memory part s (put name entry s.files) s.making s.failed k.memory;
   files = sound;
   expected = λ running fine other there. expected_same s (record s { files = put name entry s.files }) refl refl refl refl (λ is. is) other
-      (at_name name other entry s.files (λ e. IsThere e → IsExpected s other) (λ same there. subst (λ n. IsExpected s n) same (here running fine there)) (λ apart there. k.expected running fine other there) there);
+      (at_name name other entry s.files (λ e. IsThere e → IsExpected s other) (λ same there. subst (λ n. IsExpected s n) same (here running fine there)) (λ differ there. k.expected running fine other there) there);
+  next_log = λ running fine not_made. LeavesOf-other name (Log (next_generation s)) entry s.files (IsShutOrHas (λ b. ⊥)) (apart running fine not_made) (k.next_log running fine not_made);
 }

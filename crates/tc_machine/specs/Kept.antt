@@ -2,6 +2,7 @@
 -- logs make over the list.
 use Rattle.std.specs.Prelude.{◌≡◌, ◌≢◌, ◌≤◌, ◌<◌, ◌+◌, false, List, [], length, take, None, All, IfSome, IsSome}
 use Rattle.tc_model.specs.Keyed.{Ascends}
+use Rattle.tc_store.specs.declared.file_name.FileName.TheVariants.{Log}
 use Rattle.tc_plain_model.specs.Writes.{Pairs, Write, after_writes}
 use Rattle.tc_lsm_model.specs.Contents.{Partition, Content}
 use Rattle.tc_lsm_model.specs.Lists.{live, IsList}
@@ -10,9 +11,9 @@ use Rattle.tc_lsm_model.specs.Merges.{in_run, IsMerge}
 use Rattle.tc_machine.specs.Writes.{IsStorableWrite, HasRoom, AreFew}
 use Rattle.tc_machine.specs.Logs.{all_writes}
 use Rattle.tc_machine.specs.Components.{file_of}
-use Rattle.tc_machine.specs.State.{Merging, Snapshot, State, logs, history, stored_in, below_active, held_in, names_held, frame_writes}
-use Rattle.tc_machine.specs.Steps.{AreExpected}
-use Rattle.tc_machine.specs.Sound.{IsFlushOf, AreFilesSound}
+use Rattle.tc_machine.specs.State.{Merging, Snapshot, State, logs, history, stored_in, below_active, held_in, names_held, frame_writes, next_generation}
+use Rattle.tc_machine.specs.Steps.{AreExpected, IsShutOrHas}
+use Rattle.tc_machine.specs.Sound.{IsFlushOf, AreFilesSound, LeavesOf}
 
 -- a merge of two neighbours of the list or more, whose name no listed component has
 pub record MergeFits (cs : List Content) (m : Merging) : Type 0 where
@@ -48,8 +49,13 @@ pub record IsMemoryKept (part : Partition) (s : State) : Type 0 where
   pub merge : IfSome s.merge (MergeFits s.list)
   pub snapshots : All (SnapshotFits s.base (history s)) s.snapshots
 
+-- no file in the place of the next log is open, nor may one come back that is
+abbrev pub IsNextLogShut : State → Type 0
+IsNextLogShut s = LeavesOf s.files (Log (next_generation s)) (IsShutOrHas (λ bytes. ⊥))
+
 pub record IsKept (part : Partition) (s : State) : Type 0 where
   pub memory : IsMemoryKept part s
   pub files : AreFilesSound part s
   -- in a run that has not failed, no other file is there
   pub expected : IsSome s.active → s.failed ≡ false → AreExpected s
+  pub next_log : IsSome s.active → s.failed ≡ false → s.making ≡ false → IsNextLogShut s

@@ -1,5 +1,5 @@
 -- A partition at a moment: what it has in memory, and what its store has under each name.
-use Rattle.std.specs.Prelude.{ℕ, ◌+◌, Bool, List, [], ◌∷◌, ◌++◌, length, fold, Option, Some, None}
+use Rattle.std.specs.Prelude.{◌≡◌, ℕ, ◌+◌, Bool, false, List, [], ◌∷◌, ◌++◌, length, fold, Option, Some, None, IsSome}
 use Rattle.tc_model.specs.Document.{Name}
 use Rattle.tc_store.specs.declared.file_name.FileName.{FileName}
 use Rattle.tc_store.specs.declared.file_name.FileName.TheVariants.{Component}
@@ -121,6 +121,17 @@ names_held s more = names_after (names_after (names_of s.list) (writes_of (seale
 abbrev pub frame_writes : Option (List Write) → List Write
 frame_writes None = []
 frame_writes (Some ws) = ws
+
+-- ---- what goes on
+
+-- Nothing does, in a run that has not failed: no frame is appended, no job is out, and no next log is made.
+pub record IsIdle (s : State) : Type 0 where
+  pub running : IsSome s.active
+  pub sound : s.failed ≡ false
+  pub no_frame : s.frame ≡ None
+  pub no_flush : s.flush ≡ None
+  pub no_merge : s.merge ≡ None
+  pub no_next : s.making ≡ false
 
 -- ---- generations
 

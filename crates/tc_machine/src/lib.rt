@@ -10,4 +10,6 @@ mod stops;
 pub use files::{calls_are_moments, names_are_free};
 pub use memory::{memory_is_kept, stored_stays};
 pub use runs::{events_keep, every_run_is_sound, kept_is_sound, openings_are_kept};
-pub use stops::{listed_are_maximal, pictures_open_one_way, stops_keep_stored};
+pub use stops::{
+    idle_states_open_as_they_are, listed_are_maximal, pictures_open_one_way, stops_keep_stored,
+};

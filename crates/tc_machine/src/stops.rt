@@ -9,7 +9,7 @@ ghost use Rattle.tc_store.specs.declared.file_name.FileName.TheVariants.{Compone
 ghost use Rattle.tc_plain_model.specs.Writes.{Write};
 ghost use Rattle.tc_lsm_model.specs.Contents.{Partition, Content};
 ghost use Rattle.tc_machine.specs.Pictures.{Opens, Recovers, recovered, IsMaximal, IsListed};
-ghost use Rattle.tc_machine.specs.State.{State, stored_in};
+ghost use Rattle.tc_machine.specs.State.{State, stored_in, logs, IsIdle};
 ghost use Rattle.tc_machine.specs.Events.{Event, step, device_called};
 ghost use Rattle.tc_machine.specs.Steps.{May, Stops, CallsDevice, nothing_held};
 ghost use Rattle.tc_machine.specs.Sound.{IsWithOrWithout};
@@ -32,6 +32,11 @@ pub fn stops_keep_stored()
 {
     components_are_contents();
 }
+
+/// A law, and no work. Where nothing goes on, whatever a stop leaves opens as the list and the logs of the state.
+pub fn idle_states_open_as_they_are()
+    ensures { (part : Partition) (s : State) (picture : Picture) → IsKept part s → IsIdle s → IsPictureOf nothing_held s.files picture → Opens part picture s.list (logs s) }
+{}
 
 /// A law, and no work. A picture opens as one list of components and logs.
 pub fn pictures_open_one_way()
