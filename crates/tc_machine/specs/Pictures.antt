@@ -1,9 +1,10 @@
--- Which pictures of a partition's files are lawful, and what is stored in them.
-use Rattle.std.specs.Prelude.{◌≡◌, ◌≤◌, ◌⊎◌, ℕ, ◌+◌, true, List, [], ◌∷◌, Some, All}
+-- Which pictures of a partition's files are lawful, what is stored in them, and how long their logs are.
+use Rattle.std.specs.Prelude.{◌≡◌, ◌≤◌, ◌⊎◌, ℕ, ◌+◌, true, List, [], ◌∷◌, length, Some, None, All}
 use Rattle.tc_store.specs.declared.file_name.FileName.{FileName}
 use Rattle.tc_store.specs.declared.file_name.FileName.TheVariants.{Component, Log}
 use Rattle.tc_store.specs.Disk.{Picture, bytes_at}
 use Rattle.tc_store.specs.Gate.{is_open_file}
+use Rattle.tc_store.specs.Images.{Image}
 use Rattle.tc_plain_model.specs.Writes.{Pairs, Write}
 use Rattle.tc_plain_model.specs.Store.{Store, reopened}
 use Rattle.tc_lsm_model.specs.Contents.{Partition, Content}
@@ -37,6 +38,16 @@ pub record Opens (part : Partition) (picture : Picture) (cs : List Content) (log
   pub writes : All IsStorableWrite (all_writes logs)
   pub room : HasRoom (recovered cs logs).pairs
   pub few : AreFew (recovered cs logs).taken
+
+-- how many bytes a file has, where it is there
+abbrev pub image_size : Image → ℕ
+image_size None = 0
+image_size (Some bytes) = length bytes
+
+-- how many bytes the files of logs have together, of which the first is of this generation
+abbrev pub logs_size : Picture → ℕ → List (List Write) → ℕ
+logs_size picture generation [] = 0
+logs_size picture generation (ws ∷ logs) = image_size (bytes_at picture (Log generation)) + logs_size picture (generation + 1) logs
 
 pub record IsLawful (part : Partition) (picture : Picture) : Type 0 where
   pub contents : List Content

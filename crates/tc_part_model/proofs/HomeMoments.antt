@@ -75,14 +75,14 @@ module _ (p : PartView) (failed : Bool) (frame : Option (List Write)) where
     both_moments (disk ∷ past) (f ∷ fs) (h ∷ hs) kept = λ g is.
         let k = kept g is in
         let one = put (active_name p) (home f) disk in
-        let held : one (sealed_name p) ≡ out = at_name (active_name p) (sealed_name p) (home f) disk (λ e. e ≡ out) (λ same. absurd (apart p failed frame some logs same)) (λ differ. k.sealed_out some) in
+        let held : one (sealed_name p) ≡ out = at_name (active_name p) (sealed_name p) (home f) disk (λ e. e ≡ out) (λ same. absurd (apart p some logs same)) (λ differ. k.sealed_out some) in
         subst (λ ds. EachSince (λ d. Leaves d f g) (disk ∷ past) ds)
         (sym (ap (comes_home (sealed_name p) (λ x. home x) (h ∷ hs)) (returned (active_name p) (home f) disk past k.log_out) ∙ returned (sealed_name p) (home h) one (disk ∷ past) held))
         (EachSince-trans (λ d. Leaves d f g) (disk ∷ past) (one ∷ disk ∷ past) (put (sealed_name p) (home h) one ∷ one ∷ disk ∷ past)
         (EachSince-one (λ d. Leaves d f g) (put (active_name p) (home f)) (disk ∷ past) (same_leaves p failed frame disk one f g k (λ job. home_seen (active_name p) f disk f g job (active_device p f g job) k.log_out)))
         (EachSince-one (λ d. Leaves d f g) (put (sealed_name p) (home h)) (one ∷ disk ∷ past)
         (same_leaves p failed frame disk (put (sealed_name p) (home h) one) f g k
-        (λ job. home_seen (sealed_name p) h one f g job (sealed_device p (later p failed frame some logs) f g job ∙ is) held ∙ home_seen (active_name p) f disk f g job (active_device p f g job) k.log_out))))
+        (λ job. home_seen (sealed_name p) h one f g job (sealed_device p (later p some logs) f g job ∙ is) held ∙ home_seen (active_name p) f disk f g job (active_device p f g job) k.log_out))))
 
 -- ---- a part
 

@@ -23,6 +23,7 @@ pub mod ToldFlushes
 pub mod FlushedParts
 pub mod FailedParts
 pub mod Closes
+pub mod ClosedPictures
 pub mod MergeInstalls
 pub mod MergedParts
 pub mod CountedDocuments

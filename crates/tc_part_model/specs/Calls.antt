@@ -1,5 +1,5 @@
 -- What the calls of logs and stores promise that the calls of a part make: the premises of the laws of a part.
-use Rattle.std.specs.Prelude.{◌≡◌, ◌≢◌, ◌⊎◌, List, [], ◌∷◌, ◌++◌, length, All, Some, IfSome}
+use Rattle.std.specs.Prelude.{◌≡◌, ◌≢◌, ◌⊎◌, ℕ, List, [], ◌∷◌, ◌++◌, length, All, Some, IfSome}
 use Rattle.tc_model.specs.Document.{Name}
 use Rattle.tc_schema_model.specs.Counted.{Counted}
 use Rattle.tc_store.specs.declared.file_name.FileName.{FileName}
@@ -45,6 +45,10 @@ pub record Creates (head : LogHead) (device new : List DiskFile) : Type 0 where
 pub record HasCreated (head : LogHead) (device new : List DiskFile) : Type 0 where
   pub creates : Creates head device new
   pub content : IfTold new (λ f. f ≡ settled_file (log_at_rest head []))
+
+-- a log on which nothing is pending, of so many bytes
+abbrev pub RestsWith : ℕ → DiskFile → Type 0
+RestsWith bytes f = IsSettled f × (bytes ≡ length f.content)
 
 -- ---- jobs
 

@@ -1,5 +1,5 @@
 -- What a stop at the moments of a call leaves: the store, or the store with the frame that is appended.
-use Rattle.std.specs.Prelude.{◌⊎◌, List, [], Option, Some, None, All, false, if◌then◌else◌}
+use Rattle.std.specs.Prelude.{◌≡◌, ◌⊎◌, ℕ, ◌+◌, List, [], Option, Some, None, All, false, if◌then◌else◌}
 use Rattle.tc_store.specs.declared.file_name.FileName.{FileName}
 use Rattle.tc_store.specs.declared.file_name.FileName.TheVariants.{Log}
 use Rattle.tc_store.specs.Disk.{Disk, Picture, same_name}
@@ -7,9 +7,10 @@ use Rattle.tc_store.specs.Pictures.{LeavesPictures}
 use Rattle.tc_store.specs.DiskFile.{DiskFile, empty_file}
 use Rattle.tc_store.specs.Moments.{IfTold, EachSince, LeavesAt}
 use Rattle.tc_plain_model.specs.Writes.{Pairs, Write}
-use Rattle.tc_lsm_model.specs.Contents.{Partition}
+use Rattle.tc_lsm_model.specs.Contents.{Partition, Content}
+use Rattle.tc_lsm_model.specs.Lists.{last_of}
 use Rattle.tc_machine.specs.Logs.{IsLog}
-use Rattle.tc_machine.specs.Pictures.{Recovers}
+use Rattle.tc_machine.specs.Pictures.{Opens, Recovers, logs_size}
 use Rattle.tc_machine.specs.Steps.{IsShutOrHas, nothing_held}
 use Rattle.tc_machine.specs.Sound.{IsWithOrWithout}
 use Rattle.tc_machine.specs.Beside.{IsPictureBeside}
@@ -63,3 +64,7 @@ NextLogMoments p log = All (NextLogLeaves p) log
 -- each picture of these files holds these documents, without the frame or with it
 abbrev pub KeepsStore : Partition → Pairs → Option (List Write) → Disk → Type 0
 KeepsStore part pairs frame disk = LeavesPictures nothing_held (λ picture. Recovers part picture (IsWithOrWithout pairs frame)) disk
+
+-- each picture of these files opens as these components and logs, and the files of the logs have so many bytes together
+abbrev pub OpensAs : Partition → List Content → List (List Write) → ℕ → Disk → Type 0
+OpensAs part list logs bytes disk = LeavesPictures nothing_held (λ picture. Opens part picture list logs × (logs_size picture (last_of list + 1) logs ≡ bytes)) disk

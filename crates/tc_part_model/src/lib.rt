@@ -14,7 +14,7 @@ mod sealing;
 mod staging;
 mod starting;
 
-pub use closing::{closed_parts_keep_store, closings_leave_store};
+pub use closing::{closed_parts_keep_store, closed_parts_open_as_they_are, closings_leave_store};
 pub use commit::commits_are_kept;
 pub use failing::{failed_devices_leave_store, failed_parts_keep_files, failures_are_kept};
 pub use flushing::{
