@@ -1,13 +1,13 @@
 -- A partition of a world stores what its writes leave of what it stored when the run began.
 use Rattle.std.proofs.Common.{◌≡◌, ℕ, zero, suc, Bool, true, false, List, [], ◌∷◌, refl, ap, sym, ◌∙◌}
-use Rattle.std.specs.Prelude.{Option, Some, is_some, length, map, if◌then◌else◌}
+use Rattle.std.specs.Prelude.{◌==◌, ◌&&◌, Option, Some, is_some, length, map, if◌then◌else◌}
 use Rattle.std.specs.List.{AllByRecursion}
 use Rattle.tc_model.specs.Request.{Request, upsert, delete, get, query, flush, schema, scan, collect, refused}
-use Rattle.tc_plain_model.specs.Writes.{after_writes}
+use Rattle.tc_plain_model.specs.Writes.{Write, after_writes}
 use Rattle.tc_plain_model.specs.Store.{Store}
 use Rattle.tc_plain_model.specs.Part.{Limits, part_writes}
 use Rattle.tc_plain_model.proofs.WriteLaws.{part_left-writes, after_writes-append}
-use Rattle.tc_run_model.specs.World.{Part, Scan, World, first_world, home_of, part_after, changed_at, after, after_all}
+use Rattle.tc_run_model.specs.World.{Part, Scan, World, first_world, home_of, store_at, part_after, with_part, changed_at, after, after_all}
 
 abbrev pub StandsOnWrites : Part → Type 0
 StandsOnWrites part = part.now.pairs ≡ after_writes part.opened part.writes
@@ -47,3 +47,20 @@ after_stands (refused r) w all = all
 pub after_all_stands : (rs : List Request) (w : World) → AllStand w → AllStand (after_all rs w)
 after_all_stands [] w all = all
 after_all_stands (r ∷ rs) w all = after_all_stands rs (after r w) (after_stands r w all)
+
+-- ---- what was flushed
+
+both_true : (a b : Bool) → (a && b) ≡ true → (a ≡ true) × (b ≡ true)
+both_true true true is = (refl, refl)
+both_true true false is = absurd (cc)
+both_true false b is = absurd (cc)
+
+nothing : (ws : List Write) → (length ws == 0) ≡ true → ws ≡ []
+nothing [] is = refl
+nothing (w ∷ ws) is = absurd (cc)
+
+-- Where all was flushed behind a request for a key, so it was before, and the request wrote nothing.
+pub flushed_before : (p : ℕ) (r : Request) (w : World) → (with_part p r w).flushed ≡ true → (w.flushed ≡ true) × (part_writes w.limits r (store_at p w) ≡ [])
+flushed_before p r w is =
+    let both = both_true w.flushed (length (part_writes w.limits r (store_at p w)) == 0) is in
+    (both.0, nothing (part_writes w.limits r (store_at p w)) both.1)

@@ -1,5 +1,5 @@
--- The plain world: its partitions, and the scan that was started and not collected yet.
-use Rattle.std.specs.Prelude.{ℕ, zero, suc, ◌%◌, length, List, [], ◌∷◌, ◌++◌, map, fold, flat_map, take, is_some, Option, Some, None, slice_get, unwrap_or, if◌then◌else◌}
+-- The plain world: its partitions, the scan that was started and not collected yet, and whether all writes were flushed.
+use Rattle.std.specs.Prelude.{ℕ, zero, suc, ◌%◌, ◌==◌, ◌&&◌, Bool, true, false, length, List, [], ◌∷◌, ◌++◌, map, fold, flat_map, take, is_some, Option, Some, None, slice_get, unwrap_or, if◌then◌else◌}
 use Rattle.tc_model.specs.Keyed.{with_value}
 use Rattle.tc_model.specs.Request.{Request, upsert, delete, get, query, flush, schema, scan, collect, refused, Ask}
 use Rattle.tc_plain_model.specs.Writes.{Pairs, Write, after_writes}
@@ -21,6 +21,8 @@ pub record World : Type 0 where
   pub limits : Limits
   pub parts : List Part
   pub running : Option Scan
+  -- a flush or the schema was asked for, and nothing was written since
+  pub flushed : Bool
 
 -- a partition that stores this when a run begins
 abbrev pub part_of : Store → Part
@@ -28,7 +30,7 @@ part_of s = record { opened = s.pairs; writes = []; now = s }
 
 -- the world in which a run begins over such partitions
 abbrev pub first_world : Limits → List Store → World
-first_world limits stores = record { limits = limits; parts = map part_of stores; running = None }
+first_world limits stores = record { limits = limits; parts = map part_of stores; running = None; flushed = false }
 
 -- ---- partitions
 
@@ -56,7 +58,10 @@ changed_at (suc n) f (x ∷ xs) = x ∷ changed_at n f xs
 
 -- the world after a request for the partition of a number
 abbrev pub with_part : ℕ → Request → World → World
-with_part p r w = record w { parts = changed_at p (part_after w.limits r) w.parts }
+with_part p r w = record w {
+  parts = changed_at p (part_after w.limits r) w.parts;
+  flushed = w.flushed && (length (part_writes w.limits r (store_at p w)) == 0);
+}
 
 -- the pairs of all partitions together, in ascending key
 abbrev pub united : List Pairs → Pairs
@@ -79,8 +84,8 @@ after (upsert n d) w = with_part (home_of n w) (upsert n d) w
 after (delete n) w = with_part (home_of n w) (delete n) w
 after (get n) w = w
 after (query ask) w = w
-after flush w = w
-after schema w = w
+after flush w = record w { flushed = true }
+after schema w = record w { flushed = true }
 after (scan ask) w = with_scan ask w
 after collect w = record w { running = None }
 after (refused r) w = w
