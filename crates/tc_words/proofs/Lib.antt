@@ -1,3 +1,3 @@
 mod GrammarLemmas
 mod OptionsLemmas
-pub mod WindowRange
+pub mod OptionRanges

@@ -1,5 +1,6 @@
--- A window of a run has one line at least, and no more lines than words may ask for.
-use Rattle.std.proofs.Common.{◌≡◌, ◌<◌, ◌≤◌, ℕ, Bool, true, false, List, refl, ap, arith}
+-- The numbers of a run are in the ranges of their options: a window has a line at least and no more than words may ask for, the
+-- bytes at which a table is sealed are many, and few components are merged.
+use Rattle.std.proofs.Common.{◌≡◌, ◌≤◌, ℕ, Bool, true, false, List, refl, arith}
 use Rattle.std.specs.Prelude.{◌&&◌, nat_le, is_some, unwrap_or, option_and_then, Option, Some, None, IfSome, if◌then◌else◌}
 use Rattle.std.specs.Option.{option_map_or}
 use Rattle.std.proofs.lemmas.Bool.Decides.{nat_tests}
@@ -9,30 +10,29 @@ use Rattle.tc_words.specs.Grammar.{partitions, memory, names, docs, window, merg
 use Rattle.tc_words.specs.Options.{number_in, options_in, options_of}
 use Rattle.tc_words.specs.declared.run.Options.{Options}
 
--- a number of lines that a window may have
-abbrev pub IsWindow : ℕ → Type 0
-IsWindow n = (0 < n) × (n ≤ 4096)
+abbrev pub IsBetween : ℕ → ℕ → ℕ → Type 0
+IsBetween least most n = (least ≤ n) × (n ≤ most)
 
 -- ---- the number that an option gives
 
-if_within : (b : Bool) (n : ℕ) → (b ≡ true → IsWindow n) → IfSome (if b then Some n else None) IsWindow
-if_within true n is = is refl
-if_within false n is = tt
+if_within : (least most : ℕ) (b : Bool) (n : ℕ) → (b ≡ true → IsBetween least most n) → IfSome (if b then Some n else None) (IsBetween least most)
+if_within least most true n is = is refl
+if_within least most false n is = tt
 
-within : (n : ℕ) → (nat_le 1 n && nat_le n 4096) ≡ true → IsWindow n
-within n both = (grind (arith, nat_tests), grind (arith, nat_tests))
+within : (least most n : ℕ) → (nat_le least n && nat_le n most) ≡ true → IsBetween least most n
+within least most n both = (grind (arith, nat_tests), grind (arith, nat_tests))
 
-read_within : (o : Option ℕ) → IfSome (option_and_then (λ n. if nat_le 1 n && nat_le n 4096 then Some n else None) o) IsWindow
-read_within None = tt
-read_within (Some n) = if_within (nat_le 1 n && nat_le n 4096) n (within n)
+read_within : (least most : ℕ) (o : Option ℕ) → IfSome (option_and_then (λ n. if nat_le least n && nat_le n most then Some n else None) o) (IsBetween least most)
+read_within least most None = tt
+read_within least most (Some n) = if_within least most (nat_le least n && nat_le n most) n (within least most n)
 
-given_within : (o : Option Text) → IfSome (option_map_or (number_between 1 4096) o (Some 64)) IsWindow
-given_within None = (omega arith, omega arith)
-given_within (Some text) = read_within (number_of text)
+given_within : (least most default : ℕ) → IsBetween least most default → (o : Option Text) → IfSome (option_map_or (number_between least most) o (Some default)) (IsBetween least most)
+given_within least most default is None = is
+given_within least most default is (Some text) = read_within least most (number_of text)
 
-there_within : (o : Option ℕ) → is_some o ≡ true → IfSome o IsWindow → IsWindow (unwrap_or o 0)
-there_within None there is = absurd (cc)
-there_within (Some n) there is = is
+there_within : (least most : ℕ) (o : Option ℕ) → is_some o ≡ true → IfSome o (IsBetween least most) → IsBetween least most (unwrap_or o 0)
+there_within least most None there is = absurd (cc)
+there_within least most (Some n) there is = is
 
 -- ---- the options
 
@@ -44,25 +44,51 @@ and_rest : (a b : Bool) → (a && b) ≡ true → b ≡ true
 and_rest true b both = both
 and_rest false b both = absurd (cc)
 
-fifth : (a b c d e f : Bool) → (a && (b && (c && (d && (e && f))))) ≡ true → e ≡ true
-fifth a b c d e f all = and_first e f (and_rest d (e && f) (and_rest c (d && (e && f)) (and_rest b (c && (d && (e && f))) (and_rest a (b && (c && (d && (e && f)))) all))))
-
 some_if : (b : Bool) (x y : Options) → (if b then Some x else None) ≡ Some y → (b ≡ true) × (x ≡ y)
 some_if true x y same = (refl, cc)
 some_if false x y same = absurd (cc)
 
-in_rows : (rows : List Row) (o : Options) → options_in rows ≡ Some o → IsWindow o.window
+pub record AreInRange (o : Options) : Type 0 where
+  pub window : IsBetween 1 4096 o.window
+  pub memory : IsBetween 4096 16777216 o.memory
+  pub merge : IsBetween 2 8 o.merge
+
+module _ (a b c d e f g : Bool) (all : (a && (b && (c && (d && (e && (f && g)))))) ≡ true) where
+  from_second : (b && (c && (d && (e && (f && g))))) ≡ true
+  from_second = and_rest a (b && (c && (d && (e && (f && g))))) all
+
+  second : b ≡ true
+  second = and_first b (c && (d && (e && (f && g)))) from_second
+
+  from_fifth : (e && (f && g)) ≡ true
+  from_fifth = and_rest d (e && (f && g)) (and_rest c (d && (e && (f && g))) (and_rest b (c && (d && (e && (f && g)))) from_second))
+
+  fifth : e ≡ true
+  fifth = and_first e (f && g) from_fifth
+
+  sixth : f ≡ true
+  sixth = and_first f g (and_rest e (f && g) from_fifth)
+
+in_rows : (rows : List Row) (o : Options) → options_in rows ≡ Some o → AreInRange o
 in_rows rows o same =
     let read = some_if _ _ o same in
-    let there : is_some (number_in rows window) ≡ true =
-    fifth (is_some (number_in rows partitions)) (is_some (number_in rows memory)) (is_some (number_in rows names)) (is_some (number_in rows docs)) (is_some (number_in rows window))
-    (is_some (number_in rows merge) && (is_some (number_in rows limit) && true)) read.0 in
-    rw (← read.1) (there_within (number_in rows window) there (given_within (first_of window.name rows)))
+    let p = is_some (number_in rows partitions) in
+    let m = is_some (number_in rows memory) in
+    let n = is_some (number_in rows names) in
+    let d = is_some (number_in rows docs) in
+    let w = is_some (number_in rows window) in
+    let g = is_some (number_in rows merge) in
+    let l = is_some (number_in rows limit) && true in
+    rw (← read.1) (record {
+      window = there_within 1 4096 (number_in rows window) (fifth p m n d w g l read.0) (given_within 1 4096 64 (omega arith, omega arith) (first_of window.name rows));
+      memory = there_within 4096 16777216 (number_in rows memory) (second p m n d w g l read.0) (given_within 4096 16777216 262144 (omega arith, omega arith) (first_of memory.name rows));
+      merge = there_within 2 8 (number_in rows merge) (sixth p m n d w g l read.0) (given_within 2 8 4 (omega arith, omega arith) (first_of merge.name rows));
+    })
 
-in_matches : (matches : Option (List Row)) (o : Options) → option_and_then options_in matches ≡ Some o → IsWindow o.window
+in_matches : (matches : Option (List Row)) (o : Options) → option_and_then options_in matches ≡ Some o → AreInRange o
 in_matches None o same = absurd (cc)
 in_matches (Some rows) o same = in_rows rows o same
 
-pub window_within : (words : List Text) (o : Options) → options_of words ≡ Some o → IsWindow o.window
+pub in_range : (words : List Text) (o : Options) → options_of words ≡ Some o → AreInRange o
 unfolding options_of
-window_within words o same = in_matches (run_matches words) o same
+in_range words o same = in_matches (run_matches words) o same
