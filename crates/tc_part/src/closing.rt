@@ -1,16 +1,18 @@
 //! A partition ends.
 
-ghost use Rattle.std.specs.Prelude.{◌≡◌, ◌-◌, List, Option, Some, None, true, false, is_some, option_map};
+ghost use Rattle.std.specs.Prelude.{◌≡◌, ◌-◌, List, Option, Some, None, true, false, is_some, option_map, IfSome};
 ghost use Rattle.tc_store.specs.declared.file_name.FileName.{FileName};
 ghost use Rattle.tc_store.specs.declared.file_name.FileName.TheVariants.{Log as log_name};
 ghost use Rattle.tc_store.specs.Disk.{is_out};
 ghost use Rattle.tc_store.specs.Moments.{IfTold};
+ghost use Rattle.tc_machine.specs.State.{logs};
 ghost use Rattle.tc_plain_model.specs.Writes.{Write as PlainWrite};
-ghost use Rattle.tc_part_model.specs.Leaving.{FailedMomentsLeaveStore, KeepsStore};
+ghost use Rattle.tc_part_model.specs.Calls.{RestsWith};
+ghost use Rattle.tc_part_model.specs.Leaving.{FailedMomentsLeaveStore, KeepsStore, OpensAs};
 ghost use Rattle.tc_part_model.specs.Meaning.{IsPart, HasFailedAs};
 ghost use Rattle.tc_part_model.specs.PartState.{told};
-ghost use Rattle.tc_part_model.specs.PartView.{PartView, store_of};
-ghost use Rattle.tc_part.specs.Closing.{brought_home, HasLogsOf};
+ghost use Rattle.tc_part_model.specs.PartView.{PartView, state_of, store_of};
+ghost use Rattle.tc_part.specs.Closing.{brought_home, logs_length, HasLogsOf};
 ghost use Rattle.tc_part.specs.FilesOut.{OnlyDevicesOut, TellsLogs};
 
 use crate::part::Part;
@@ -32,6 +34,10 @@ impl<S: Store> Part<S> {
         ensures kept { (p : PartView) → IsPart (told S.history S.Device.history S.Frozen.content self) p → IfTold (S.history result.store) (KeepsStore p.part (store_of p) None) }
         ensures failed { (p : PartView) (frame : Option (List PlainWrite)) → HasFailedAs (told S.history S.Device.history S.Frozen.content self) p frame → HasLogsOf (told S.history S.Device.history S.Frozen.content self) p
             → IfTold (S.history result.store) (KeepsStore p.part (store_of p) frame) }
+
+        // Of a part that has not failed it opens as the components that are listed and as the logs of the tables, which are as long
+        // as their devices are.
+        ensures opens { (p : PartView) → IsPart (told S.history S.Device.history S.Frozen.content self) p → IfTold (S.history result.store) (OpensAs p.part p.list (logs (state_of p)) (logs_length (λ d. S.Device.size d) self.log self.sealed_log)) }
 
         // At each moment of the call a stop leaves the same.
         ensures moments { (p : PartView) → IsPart (told S.history S.Device.history S.Frozen.content self) p → FailedMomentsLeaveStore p None (told S.history S.Device.history S.Frozen.content self) (S.history result.store) }
@@ -89,7 +95,9 @@ fn kit_of<S: Store>(
 
 /// Brings the devices of both logs home.
 fn bring_home<S: Store>(store: &mut S, log: Log<S::Device>, sealed_log: Option<Log<S::Device>>)
-    ensures { S.history store.new ≡ brought_home (S.Device.name log.device) (S.Device.history log.device) (option_map (λ l. (S.Device.name l.device, S.Device.history l.device)) sealed_log) (S.history store.old) }
+    ensures home { S.history store.new ≡ brought_home (S.Device.name log.device) (S.Device.history log.device) (option_map (λ l. (S.Device.name l.device, S.Device.history l.device)) sealed_log) (S.history store.old) }
+    ensures rests { log.failed ≡ false → IfTold (S.Device.history log.device) (RestsWith (S.Device.size log.device)) }
+    ensures sealed_rests { IfSome sealed_log (λ l. l.failed ≡ false → IfTold (S.Device.history l.device) (RestsWith (S.Device.size l.device))) }
 {
     store.abandon(log.give_back());
     if let Some(sealed_log) = sealed_log {
