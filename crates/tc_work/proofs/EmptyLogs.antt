@@ -1,12 +1,14 @@
 -- A part whose log has no frame: its active table is empty, and what it stores is in its components.
-use Rattle.std.proofs.Common.{◌≡◌, ◌∙◌, ◌≤◌, ℕ, List, [], ◌∷◌, ◌++◌, Option, Some, None, length, map, false, refl, sym, ap, arith, length-append}
+use Rattle.std.proofs.Common.{◌≡◌, ◌∙◌, ◌≤◌, ℕ, List, [], ◌∷◌, ◌++◌, Option, Some, None, is_some, option_map, length, map, false, refl, sym, ap, subst, arith, length-append}
 use Rattle.std.specs.Prelude.{flat_map}
+use Rattle.std.proofs.lemmas.Bool.{true≢false}
 use Rattle.tc_store.specs.Disk.{Disk}
 use Rattle.tc_store.specs.DiskFile.{DiskFile}
 use Rattle.tc_store.specs.Images.{IsImageOf}
 use Rattle.tc_store.specs.Moments.{IfTold}
 use Rattle.tc_log.specs.declared.head.LogHead.{LogHead}
 use Rattle.tc_log.specs.declared.write.Write as log
+use Rattle.tc_log.specs.Appending.{LogState}
 use Rattle.tc_log.specs.Layout.{empty_size}
 use Rattle.tc_log.specs.Spelling.{frame_bytes, head_bytes, log_bytes, writes_of, Means}
 use Rattle.tc_memory.specs.DocumentTables.{kept_table}
@@ -14,8 +16,10 @@ use Rattle.tc_memory.specs.Table as memory
 use Rattle.tc_lsm_model.specs.Lists.{live}
 use Rattle.tc_lsm_model.specs.Tables.{Table, table_over}
 use Rattle.tc_machine.specs.Logs.{all_writes, kept_write}
-use Rattle.tc_machine.specs.State.{Sealed, below_active, sealed_logs, table_after}
+use Rattle.tc_machine.specs.State.{Sealed, below_active, logs, sealed_logs, table_after}
 use Rattle.tc_plain_model.specs.Writes.{Write, after_writes}
+use Rattle.tc_part.specs.Closing.{logs_length}
+use Rattle.tc_part_model.specs.Leaving.{OpensAs}
 use Rattle.tc_part_model.specs.Meaning.{IsPart, KeepsSealed}
 use Rattle.tc_part_model.specs.PartFiles.{AreKeptAt, IfFiles}
 use Rattle.tc_part_model.specs.PartState.{AreTold, IsTold, Told}
@@ -64,3 +68,11 @@ pub all_listed : (t : Told) (p : PartView) → IsPart t p → t.sealed ≡ None 
 all_listed t p is sealed none =
     ap (λ (o : Option Sealed). after_writes (live p.list) (all_writes (sealed_logs o ++ p.active.writes ∷ []))) (none_sealed (AreTold t.components) p.sealed t.sealed is.view.sealed sealed)
     ∙ ap (λ (ws : List Write). after_writes (live p.list) (all_writes (ws ∷ []))) none
+
+-- where no table is sealed there is one log, which is as long as its device is
+pub one_log_opens : {D : Type 0} (t : Told) (p : PartView) (size : D → ℕ) (moments : D → List DiskFile) (log : LogState D) (covered : Option (LogState D)) (disks : List Disk) → IsPart t p → t.sealed ≡ None
+    → t.sealed_log ≡ option_map (λ l. moments l.device) covered → IfTold disks (OpensAs p.part p.list (logs (state_of p)) (logs_length size log covered)) → IfTold disks (OpensAs p.part p.list (p.active.writes ∷ []) (size log.device))
+one_log_opens t p size moments log None disks is none same opens =
+    subst (λ (o : Option Sealed). IfTold disks (OpensAs p.part p.list (sealed_logs o ++ p.active.writes ∷ []) (size log.device))) (none_sealed (AreTold t.components) p.sealed t.sealed is.view.sealed none) opens
+one_log_opens t p size moments log (Some l) disks is none same opens =
+    absurd (true≢false (sym (ap (λ o. is_some o) same) ∙ is.view.sealed_log ∙ ap (λ (o : Option Sealed). is_some o) (none_sealed (AreTold t.components) p.sealed t.sealed is.view.sealed none)))

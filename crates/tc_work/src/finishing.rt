@@ -1,10 +1,11 @@
 //! An engine ends.
 
-ghost use Rattle.std.specs.Prelude.{◌≡◌, ◌-◌, false, List, Ok, Option, Some, None, option_map};
+ghost use Rattle.std.specs.Prelude.{◌≡◌, ◌≤◌, ◌-◌, false, List, [], ◌∷◌, Ok, Option, Some, None, option_map};
+ghost use Rattle.tc_log.specs.Layout.{empty_size};
 ghost use Rattle.tc_lsm_model.specs.Contents.{Partition};
 ghost use Rattle.tc_part.specs.Closing.{brought_home};
 ghost use Rattle.tc_part.specs.FilesOut.{OnlyDevicesOut, TellsLogs};
-ghost use Rattle.tc_part_model.specs.Leaving.{FailedMomentsLeaveStore, KeepsStore};
+ghost use Rattle.tc_part_model.specs.Leaving.{FailedMomentsLeaveStore, KeepsStore, OpensAs};
 ghost use Rattle.tc_part_model.specs.Meaning.{IsPart};
 ghost use Rattle.tc_part_model.specs.PartState.{told};
 ghost use Rattle.tc_part_model.specs.PartView.{PartView, store_of};
@@ -14,6 +15,7 @@ ghost use Rattle.tc_store.specs.declared.file_name.FileName.TheVariants.{Log as 
 ghost use Rattle.tc_store.specs.Disk.{is_out};
 ghost use Rattle.tc_store.specs.Moments.{IfTold};
 ghost use Rattle.tc_work.specs.Failing.{HasFailedKeeping};
+ghost use Rattle.tc_work.specs.Settling.{TellsFiles};
 
 use crate::engine::Engine;
 use crate::fault::EngineFault;
@@ -37,6 +39,11 @@ impl<S: Store> Engine<S> {
         // Whatever a stop leaves from then on is what was stored, of an engine that failed what it kept.
         ensures kept { (p : PartView) → IsPart (told S.history S.Device.history S.Frozen.content self.part) p → IfTold (S.history result.kit.store) (KeepsStore p.part (store_of p) None) }
         ensures failed { (part : Partition) (pairs : Pairs) (frame : Option (List PlainWrite)) → HasFailedKeeping (told S.history S.Device.history S.Frozen.content self.part) part pairs frame → IfTold (S.history result.kit.store) (KeepsStore part pairs frame) }
+
+        // Of an engine that has not failed it opens as the components that are listed and as one log, which is as long as its device
+        // is. Where it has no frame it has no write.
+        ensures opens { (p : PartView) → IsPart (told S.history S.Device.history S.Frozen.content self.part) p → IfTold (S.history result.kit.store) (OpensAs p.part p.list (p.active.writes ∷ []) (S.Device.size self.part.log.device)) }
+        ensures unwritten { (p : PartView) → IsPart (told S.history S.Device.history S.Frozen.content self.part) p → TellsFiles (told S.history S.Device.history S.Frozen.content self.part) → S.Device.size self.part.log.device ≤ empty_size → p.active.writes ≡ [] }
 
         // At each moment of the call a stop leaves the same.
         ensures moments { (p : PartView) → IsPart (told S.history S.Device.history S.Frozen.content self.part) p → FailedMomentsLeaveStore p None (told S.history S.Device.history S.Frozen.content self.part) (S.history result.kit.store) }
