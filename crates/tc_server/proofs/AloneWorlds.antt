@@ -1,5 +1,5 @@
 -- A world of one partition replies and leaves what that partition does.
-use Rattle.std.proofs.Common.{◌≡◌, ◌∙◌, ℕ, List, [], ◌∷◌, length, map, refl, ap, sym, arith}
+use Rattle.std.proofs.Common.{◌≡◌, ◌∙◌, ℕ, true, List, [], ◌∷◌, ◌++◌, length, map, refl, ap, sym, arith}
 use Rattle.std.specs.Prelude.{◌%◌, slice_get, unwrap_or}
 use Rattle.std.specs.List.{AllByRecursion}
 use Rattle.tc_command.specs.Commands.{request_of_command}
@@ -8,8 +8,9 @@ use Rattle.tc_model.specs.Request.{Request, upsert, delete, get, query, flush, s
 use Rattle.tc_model.specs.Reply.{schemas}
 use Rattle.tc_schema_model.specs.SchemaText.{schema_text}
 use Rattle.tc_plain_model.specs.Store.{Store, empty, documents}
-use Rattle.tc_plain_model.specs.Part.{Limits, part_left, part_left_all, part_reply, part_replies}
-use Rattle.tc_run_model.specs.World.{Part, World, home_of, store_at, part_after, changed_at, after, after_all}
+use Rattle.tc_plain_model.specs.Part.{Limits, part_left, part_left_all, part_reply, part_replies, part_writes, part_writes_all}
+use Rattle.tc_run_model.specs.World.{Part, World, home_of, store_at, part_after, with_part, changed_at, after, after_all}
+use Rattle.tc_run_model.proofs.WorldLaws.{flushed_before}
 use Rattle.tc_run_model.specs.Replies.{IsReply, AreReplies}
 use Rattle.tc_route.specs.Answers.{answered}
 use Rattle.tc_route.specs.Meaning.{routed_of}
@@ -87,6 +88,35 @@ all_reply_as (r ∷ rs) w limits s of_key is = (replies_as r w limits s of_key.0
 pub all_leave_as : (rs : List Request) (w : World) (limits : Limits) (s : Store) → AllByRecursion IsOfKey rs → IsAlone w limits s → IsAlone (after_all rs w) limits (part_left_all limits rs s)
 all_leave_as [] w limits s of_key is = is
 all_leave_as (r ∷ rs) w limits s of_key is = all_leave_as rs (after r w) limits (part_left limits r s) of_key.1 (leaves_as r w limits s of_key.0 is)
+
+-- ---- what was flushed
+
+same_writes : (r : Request) (a b : Limits) (s t : Store) → a ≡ b → s ≡ t → part_writes a r s ≡ part_writes b r t
+same_writes r a b s t limits stores = rw (limits, stores) refl
+
+write_flushed : (n : ℕ) (r : Request) (w : World) (limits : Limits) (s : Store) → IsAlone w limits s → (with_part (home_of n w) r w).flushed ≡ true → (w.flushed ≡ true) × (part_writes limits r s ≡ [])
+write_flushed n r w limits s is flushed =
+    let before = flushed_before (home_of n w) r w flushed in
+    (before.0, sym (same_writes r w.limits limits (store_at (home_of n w) w) s is.under (home_store n w limits s is)) ∙ before.1)
+
+one_flushed : (r : Request) (w : World) (limits : Limits) (s : Store) → IsOfKey r → IsAlone w limits s → (after r w).flushed ≡ true → (w.flushed ≡ true) × (part_writes limits r s ≡ [])
+one_flushed (upsert n d) w limits s of_key is flushed = write_flushed n (upsert n d) w limits s is flushed
+one_flushed (delete n) w limits s of_key is flushed = write_flushed n (delete n) w limits s is flushed
+one_flushed (get n) w limits s of_key is flushed = (flushed, refl)
+one_flushed (query ask) w limits s of_key is flushed = absurd of_key
+one_flushed flush w limits s of_key is flushed = absurd of_key
+one_flushed schema w limits s of_key is flushed = absurd of_key
+one_flushed (scan ask) w limits s of_key is flushed = absurd of_key
+one_flushed collect w limits s of_key is flushed = absurd of_key
+one_flushed (refused r) w limits s of_key is flushed = absurd of_key
+
+-- Where all was flushed behind requests for keys, so it was before them, and they wrote nothing.
+pub all_flushed : (rs : List Request) (w : World) (limits : Limits) (s : Store) → AllByRecursion IsOfKey rs → IsAlone w limits s → (after_all rs w).flushed ≡ true → (w.flushed ≡ true) × (part_writes_all limits rs s ≡ [])
+all_flushed [] w limits s of_key is flushed = (flushed, refl)
+all_flushed (r ∷ rs) w limits s of_key is flushed =
+    let rest = all_flushed rs (after r w) limits (part_left limits r s) of_key.1 (leaves_as r w limits s of_key.0 is) flushed in
+    let first = one_flushed r w limits s of_key.0 is rest.0 in
+    (first.0, ap (λ ws. ws ++ part_writes_all limits rs (part_left limits r s)) first.1 ∙ rest.1)
 
 -- the replies of a partition to routed commands, without their places
 pub answered_values : (limits : Limits) (list : List Routed) (s : Store) → values_in (answered limits (map routed_of list) s) ≡ part_replies limits (requests_routed list) s

@@ -1,29 +1,21 @@
 -- What answering requests leaves, and what is written of it.
-use Rattle.std.proofs.Common.{◌≡◌, ℕ, ◌<◌, length, take, List, [], ◌∷◌, inl, inr, refl, ap, subst}
+use Rattle.std.proofs.Common.{◌≡◌, ℕ, ◌<◌, length, take, List, [], ◌∷◌, inl, inr, refl, subst}
 use Rattle.std.specs.Prelude.{Option, Some, None, option_map, IfSome}
 use Rattle.std.specs.Io.KnownBytes.{Appends, Keeps}
 use Rattle.tc_model.specs.Request.{Request, refused, not_built}
 use Rattle.tc_model.specs.Reply.{turned_down}
 use Rattle.tc_run_model.specs.World.{World, after_all}
 use Rattle.tc_run_model.specs.Known.{MayReply, known_after}
-use Rattle.tc_server.specs.Asked.{request_whole}
 use Rattle.tc_server.specs.Faults.{Stop, failed_writing, gave_up, stop_of, IsNoDamage, IsOfStore}
 use Rattle.tc_server.specs.Holds.{AreAnswered, AreWritten, IsLeft, worlds_at, HaveFailed}
-use Rattle.tc_server.specs.declared.answer.Control.{Control}
-use Rattle.tc_server.specs.declared.answer.Control.TheVariants.{Flush, Schema, NotBuilt}
 use Rattle.tc_server.specs.declared.outcome.RunFault.{RunFault}
 use Rattle.tc_server.specs.declared.outcome.RunFault.TheVariants.{Usage, Read, Write, Spent, Disk, Damaged, Memory, Layout}
 
 -- ---- requests for the whole store
 
-pub whole_leaves : (control : Control) (w : World) → after_all (request_whole control ∷ []) w ≡ w
-whole_leaves Flush w = refl
-whole_leaves Schema w = refl
-whole_leaves NotBuilt w = refl
-
-pub whole_known : (control : Control) (known : Option World) → known_after (request_whole control ∷ []) known ≡ known
-whole_known control (Some w) = ap Some (whole_leaves control w)
-whole_known control None = refl
+pub unbuilt_known : (known : Option World) → known_after (refused not_built ∷ []) known ≡ known
+unbuilt_known (Some w) = refl
+unbuilt_known None = refl
 
 pub unbuilt_replied : (known : Option World) → MayReply (refused not_built ∷ []) known (turned_down not_built ∷ [])
 unbuilt_replied (Some w) = (refl, tt)
@@ -36,6 +28,12 @@ pub left_failed : {K : Type 0} (holds : K → Option World → Type 0) (keeps : 
     → ((w : World) → known ≡ Some w → keeps k w (after_all rs w)) → IsLeft holds keeps k (option_map (worlds_at gave_up rs) known)
 left_failed holds keeps k rs (Some w) fails = record { one = w; other = after_all rs w; one_of = inl refl; other_of = inr (inl refl); left = inr (fails w refl) }
 left_failed holds keeps k rs None fails = tt
+
+-- it failed before the requests
+pub left_before : {K : Type 0} (holds : K → Option World → Type 0) (keeps : K → World → World → Type 0) (k : K) (rs : List Request) (known : Option World)
+    → ((w : World) → known ≡ Some w → keeps k w w) → IsLeft holds keeps k (option_map (worlds_at gave_up rs) known)
+left_before holds keeps k rs (Some w) fails = record { one = w; other = w; one_of = inl refl; other_of = inl refl; left = inr (fails w refl) }
+left_before holds keeps k rs None fails = tt
 
 -- it failed behind the requests
 pub left_behind : {K : Type 0} (holds : K → Option World → Type 0) (keeps : K → World → World → Type 0) (k : K) (rs : List Request) (known : Option World)

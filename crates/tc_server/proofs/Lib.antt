@@ -12,6 +12,7 @@ pub mod SessionLemmas
 pub mod RunLemmas
 pub mod KitCounts
 pub mod LeftFiles
+pub mod SmallFiles
 pub mod NotOpened
 pub mod OverPart
 pub mod OpenedRuns

@@ -36,7 +36,7 @@ use Rattle.tc_server.proofs.LeftFiles.{only_kit, recovers_more}
 
 -- ---- nothing was read nor written
 
-ran_unread : (first : Option World) (most : ℕ) (left taken : Option (List ℕ)) → Ran each_line first most unopened left left taken taken
+ran_unread : (first : Option World) (most memory : ℕ) (left taken : Option (List ℕ)) → Ran each_line first most unopened left left taken taken
 ran_unread first most left taken = record {
   input = [];
   consumed = Consumes-nil left;
@@ -58,24 +58,30 @@ sound_always : (first : Option World) (fault : RunFault) → IsNoDamage fault �
 sound_always None fault sound here = tt
 sound_always (Some w) fault sound here = (sound, here)
 
-ran_without_kit : (fault : RunFault) (first : Option World) (most : ℕ) (left taken : Option (List ℕ)) → EndsOver (Some fault) unopened → IsNoDamage fault → IsHere fault → RanOver (Some fault) first most left left taken taken []
-ran_without_kit fault first most left taken by sound here = record {
+-- a run that ended by a fault is none that ended well
+ended_by_fault : {X : World → Type 0} (fault : RunFault) (first : Option World) → IfSome first (λ w. Some fault ≡ None → X w)
+ended_by_fault fault None = tt
+ended_by_fault fault (Some w) = λ none. absurd (cc)
+
+ran_without_kit : (fault : RunFault) (first : Option World) (most memory : ℕ) (left taken : Option (List ℕ)) → EndsOver (Some fault) unopened → IsNoDamage fault → IsHere fault → RanOver (Some fault) first most memory left left taken taken []
+ran_without_kit fault first most memory left taken by sound here = record {
   ending = unopened;
   by = by;
   ran = ran_unread first most left taken;
   sound = sound_always first fault sound here;
   needs = λ none. refl;
   exits = no_exits first;
+  small = ended_by_fault fault first;
 }
 
 -- memory was wanting before a kit was asked for
-pub ran_without_room : (first : Option World) (most : ℕ) (left taken : Option (List ℕ)) → RanOver (Some Memory) first most left left taken taken []
-ran_without_room first most left taken = ran_without_kit Memory first most left taken (inr refl) tt tt
+pub ran_without_room : (first : Option World) (most memory : ℕ) (left taken : Option (List ℕ)) → RanOver (Some Memory) first most memory left left taken taken []
+ran_without_room first most memory left taken = ran_without_kit Memory first most memory left taken (inr refl) tt tt
 
 -- the shelf gave none
-pub ran_without : (fault : ShelfFault) (first : Option World) (most : ℕ) (left taken : Option (List ℕ)) → RanOver (Some (fault_of_shelf 0 fault)) first most left left taken taken []
-ran_without shelf.Fault first most left taken = ran_without_kit (DiskFault 0) first most left taken (inr refl) tt tt
-ran_without shelf.Memory first most left taken = ran_without_room first most left taken
+pub ran_without : (fault : ShelfFault) (first : Option World) (most memory : ℕ) (left taken : Option (List ℕ)) → RanOver (Some (fault_of_shelf 0 fault)) first most memory left left taken taken []
+ran_without shelf.Fault first most memory left taken = ran_without_kit (DiskFault 0) first most memory left taken (inr refl) tt tt
+ran_without shelf.Memory first most memory left taken = ran_without_room first most memory left taken
 
 -- ---- for words that are no run
 
@@ -125,25 +131,27 @@ exits_unopened limits w old new disk o kept = only_kit (LeavesOneOf (w ∷ [])) 
 abbrev pub OfLawful : List Disk → (List Content → List (List PlainWrite) → Type 0) → Type 0
 OfLawful disks P = IfTold disks (λ disk. (cs : List Content) (logs : List (List PlainWrite)) → DiskOpens the_only disk cs logs → P cs logs)
 
-pub ran_unopened : (cause : OpenCause) (limits : Limits) (first : Option World) (most : ℕ) (left taken : Option (List ℕ)) (old new : List Disk)
+pub ran_unopened : (cause : OpenCause) (limits : Limits) (first : Option World) (most memory : ℕ) (left taken : Option (List ℕ)) (old new : List Disk)
     → OfLawful old (λ cs logs. causes.IfLayout cause ⊥) → OfLawful old (λ cs logs. causes.IfDamaged cause (λ damage. ⊥)) → OfLawful old (λ cs logs. step.Keeps the_only (recovered cs logs).pairs old new)
-    → BeginsAs limits old first → RanOver (Some (fault_of_opening 0 1 cause)) first most left left taken taken (new ∷ [])
-ran_unopened cause limits None most left taken old new here undamaged keeps begins = record {
+    → BeginsAs limits old first → RanOver (Some (fault_of_opening 0 1 cause)) first most memory left left taken taken (new ∷ [])
+ran_unopened cause limits None most memory left taken old new here undamaged keeps begins = record {
   ending = unopened;
   by = ends_unopened cause;
   ran = ran_unread None most left taken;
   sound = tt;
   needs = λ none. refl;
   exits = tt;
+  small = tt;
 }
-ran_unopened cause limits (Some w) most left taken [] new here undamaged keeps begins = absurd begins
-ran_unopened cause limits (Some w) most left taken (disk ∷ past) new here undamaged keeps o = record {
+ran_unopened cause limits (Some w) most memory left taken [] new here undamaged keeps begins = absurd begins
+ran_unopened cause limits (Some w) most memory left taken (disk ∷ past) new here undamaged keeps o = record {
   ending = unopened;
   by = ends_unopened cause;
   ran = ran_unread (Some w) most left taken;
   sound = (opening_undamaged cause (undamaged o.contents o.logs o.opens), opening_here cause (here o.contents o.logs o.opens));
   needs = λ none. refl;
   exits = exits_unopened limits w (disk ∷ past) new disk o (keeps o.contents o.logs o.opens);
+  small = λ none. absurd (cc);
 }
 
 -- ---- why

@@ -1,5 +1,6 @@
 -- A part that was opened holds the world in which a run begins.
 use Rattle.std.proofs.Common.{◌≡◌, List, [], ◌∷◌, refl, subst, sym}
+use Rattle.std.proofs.lemmas.Bool.{false≢true}
 use Rattle.tc_store.specs.Disk.{Disk}
 use Rattle.tc_lsm_model.specs.Contents.{Content}
 use Rattle.tc_machine.specs.Pictures.{recovered}
@@ -23,6 +24,7 @@ first_held limits cs logs t is unstaged = record {
   unstaged = unstaged;
   stores = is.plain;
   under = refl;
+  flushed = λ never. absurd (false≢true never);
 }
 
 pub opened_holds : (limits : Limits) (disk : Disk) (w : World) (t : Told) (o : OpensAs limits disk w) → IsOpenedAs the_only o.contents o.logs t → t.staged ≡ [] → HoldsWorld t limits w

@@ -3,6 +3,7 @@ use Rattle.std.specs.Prelude.{◌≡◌, ◌-◌, ◌^◌, ◌<◌, ℕ, false, 
 use Rattle.tc_store.specs.Counted.{Counts}
 use Rattle.tc_store.specs.Disk.{Disk}
 use Rattle.tc_store.specs.DiskFile.{DiskFile}
+use Rattle.tc_list.specs.declared.policy.Policy.{Policy}
 use Rattle.tc_log.specs.Layout.{empty_size}
 use Rattle.tc_part.specs.FilesOut.{LogIsOut}
 use Rattle.tc_part_model.specs.PartState.{PartState, Told, told}
@@ -22,8 +23,10 @@ pub record MayBeAsked {S D F W : Type 0} (t : Told) (part : PartState S D F W) :
   pub ready : MaySettle t
   pub log : LogIsOut t
 
--- Its log is shorter than makes a table be sealed, where a log without a frame is, and the policy picks no merge.
+-- It has not failed, its log is shorter than makes a table be sealed, where a log without a frame is, and the policy picks no
+-- merge.
 pub record IsSettled {S D F W : Type 0} (size : D → ℕ) (e : EngineState S D F W) : Type 0 where
+  pub sound : e.part.failed ≡ false
   pub short : empty_size < e.part.memory → size e.part.log.device < e.part.memory
   pub none : PicksNone e.policy e.part.list
 
@@ -46,6 +49,10 @@ KeepsAt disks moments content p w v = KeepsWorlds (told disks moments content p.
 -- it is as `settle` leaves it
 unfoldable pub Rests : {S W D F : Type 0} → (D → ℕ) → Partitions S W D F → Type 0
 Rests size p = IsSettled size p.engine
+
+-- when a table is sealed, and by which policy components are merged, which no call changes
+abbrev pub settings_of : {S W D F : Type 0} → Partitions S W D F → ℕ × Policy
+settings_of p = (p.engine.part.memory, p.engine.policy)
 
 -- what was counted, by the partition
 unfoldable pub faults_of : {S W D F : Type 0} → (W → Counts) → Partitions S W D F → DiskFaults

@@ -1,15 +1,16 @@
 -- A run over the files of a shelf: the world in which it begins, how it ends, and what is left of the files.
-use Rattle.std.specs.Prelude.{◌≡◌, ◌⊎◌, ◌-◌, ◌^◌, ℕ, List, [], ◌∷◌, length, All, Option, Some, None, IfSome, Err}
+use Rattle.std.specs.Prelude.{◌≡◌, ◌≤◌, ◌<◌, ◌⊎◌, ◌+◌, ◌-◌, ◌^◌, ℕ, Bool, true, List, [], ◌∷◌, length, All, Option, Some, None, IfSome, Err}
 use Rattle.std.specs.Io.KnownBytes.{Consumes, Keeps}
 use Rattle.tc_bytes.specs.Counts.{Rose}
-use Rattle.tc_store.specs.Disk.{Disk, IsThere}
+use Rattle.tc_store.specs.Disk.{Disk, IsThere, Picture}
 use Rattle.tc_store.specs.Moments.{IfTold}
 use Rattle.tc_store.specs.Pictures.{LeavesPictures}
 use Rattle.tc_store.specs.KitFaults.{KitFaults}
 use Rattle.tc_store.specs.declared.file_name.FileName.{FileName}
 use Rattle.tc_store.specs.declared.file_name.FileName.TheVariants.{Component, Log}
 use Rattle.tc_lsm_model.specs.Contents.{Content}
-use Rattle.tc_machine.specs.Pictures.{Recovers, recovered}
+use Rattle.tc_lsm_model.specs.Lists.{last_of}
+use Rattle.tc_machine.specs.Pictures.{Opens, Recovers, logs_size, recovered}
 use Rattle.tc_machine.specs.Steps.{nothing_held}
 use Rattle.tc_plain_model.specs.Part.{Limits}
 use Rattle.tc_plain_model.specs.Writes.{Pairs, Write as PlainWrite}
@@ -20,7 +21,7 @@ use Rattle.tc_recover.specs.Refusals.{strays}
 use Rattle.tc_replay.specs.Openings.{AreIn}
 use Rattle.tc_open.specs.Judged.{refusal_of, AreSpent, IsOfFiles, Passes}
 use Rattle.tc_run_model.specs.World.{World, first_world}
-use Rattle.tc_run_model.specs.Course.{Ending, finished, input_failed, input_spent, output_failed, stopped, unopened, max_input, each_line, Ran, worlds_left}
+use Rattle.tc_run_model.specs.Course.{Ending, finished, input_failed, input_spent, output_failed, stopped, unopened, max_input, behind, each_line, Ran, worlds_left}
 use Rattle.tc_server.specs.Ending.{limits_of}
 use Rattle.tc_server.specs.Faults.{IsNoDamage, OneRose}
 use Rattle.tc_server.specs.Partitions.{the_only}
@@ -94,19 +95,35 @@ LeavesOneOf worlds disks = IfTold disks (λ disk. AreIn disk × LeavesPictures n
 abbrev pub LeaveOneOf : List World → List (List Disk) → Type 0
 LeaveOneOf worlds kits = All (LeavesOneOf worlds) kits
 
+-- A picture of files that were left small: it opens as at most eight components, and as logs that have together fewer bytes than
+-- make a table be sealed. Where all writes were flushed none of the logs has a frame, and so no write.
+pub record OpensSmall (memory : ℕ) (flushed : Bool) (picture : Picture) : Type 0 where
+  pub contents : List Content
+  pub logs : List (List PlainWrite)
+  pub opens : Opens the_only picture contents logs
+  pub few : length contents ≤ 8
+  pub short : logs_size picture (last_of contents + 1) logs < memory
+  pub no_frame : flushed ≡ true → All (λ ws. ws ≡ []) logs
+
+abbrev pub LeavesSmall : ℕ → Bool → List Disk → Type 0
+LeavesSmall memory flushed disks = IfTold disks (LeavesPictures nothing_held (OpensSmall memory flushed))
+
 -- A run over files, from a first world where it is known, that ended by this fault or by none, and gave these files back. Where
 -- the world is known nothing is damaged, of another partition, or of another number of partitions. Without a kit no line is read.
-pub record RanOver (fault : Option RunFault) (first : Option World) (most : ℕ) (left left' taken taken' : Option (List ℕ)) (kits : List (List Disk)) : Type 0 where
+-- Where it ended by none the files are left small: no log has a frame where a flush or the schema was asked for, and nothing was
+-- written since.
+pub record RanOver (fault : Option RunFault) (first : Option World) (most memory : ℕ) (left left' taken taken' : Option (List ℕ)) (kits : List (List Disk)) : Type 0 where
   pub ending : Ending
   pub by : EndsOver fault ending
   pub ran : Ran each_line first most ending left left' taken taken'
   pub sound : IfSome first (λ w. IfSome fault IsNoDamage × IfSome fault IsHere)
   pub needs : kits ≡ [] → ending ≡ unopened
   pub exits : IfSome first (λ w. LeaveOneOf (worlds_left ending w ran.answered ran.last) kits)
+  pub small : IfSome first (λ w. fault ≡ None → All (LeavesSmall memory (behind w ran.answered).flushed) kits)
 
 -- A run for these options, or for words that are none, which reads and writes nothing and asks for no kit.
 abbrev pub ServedOver : Option Options → Option RunFault → Option World → Option (List ℕ) → Option (List ℕ) → Option (List ℕ) → Option (List ℕ) → List (List Disk) → Type 0
-ServedOver (Some options) fault first left left' taken taken' kits = RanOver fault first options.window left left' taken taken' kits
+ServedOver (Some options) fault first left left' taken taken' kits = RanOver fault first options.window options.memory left left' taken taken' kits
 ServedOver None (Some Usage) first left left' taken taken' kits = Keeps left left' × Keeps taken taken' × (kits ≡ [])
 ServedOver None (Some Memory) first left left' taken taken' kits = Keeps left left' × Keeps taken taken' × (kits ≡ [])
 ServedOver None _ first left left' taken taken' kits = ⊥

@@ -1,5 +1,8 @@
 -- How the engine of the only partition stands to a world, by what it tells of its files, and how a run ends by its faults.
-use Rattle.std.specs.Prelude.{◌≡◌, ◌⊎◌, ℕ, List, [], ◌∷◌, Option, Some, None}
+use Rattle.std.specs.Prelude.{◌≡◌, ◌≤◌, ◌⊎◌, ℕ, true, List, [], ◌∷◌, length, Option, Some, None}
+use Rattle.tc_store.specs.DiskFile.{DiskFile}
+use Rattle.tc_store.specs.Moments.{IfTold}
+use Rattle.tc_log.specs.Layout.{empty_size}
 use Rattle.tc_lsm_model.specs.Contents.{Partition}
 use Rattle.tc_plain_model.specs.Part.{Limits}
 use Rattle.tc_plain_model.specs.Writes.{Write, after_writes}
@@ -21,8 +24,12 @@ the_only = record { number = 0; count = 1 }
 
 -- ---- worlds
 
+-- the log has no frame
+abbrev pub HasNoFrame : List DiskFile → Type 0
+HasNoFrame log = IfTold log (λ f. length f.content ≤ empty_size)
+
 -- It stores what the only partition of the world stores, with the names that this has taken, under the world's limits. Nothing
--- is staged.
+-- is staged. Where all writes of the world were flushed, its log has no frame.
 pub record HoldsWorld (t : Told) (limits : Limits) (w : World) : Type 0 where
   pub part : Part
   pub alone : w.parts ≡ part ∷ []
@@ -33,6 +40,7 @@ pub record HoldsWorld (t : Told) (limits : Limits) (w : World) : Type 0 where
   pub unstaged : t.staged ≡ []
   pub stores : plain_of t view ≡ part.now
   pub under : w.limits ≡ limits
+  pub flushed : w.flushed ≡ true → HasNoFrame t.log
 
 -- where the world is known
 abbrev pub StandsAt : Told → Limits → Option World → Type 0

@@ -1,7 +1,8 @@
 //! The engine of the only partition answers windows.
 
-ghost use Rattle.std.specs.Prelude.{◌≡◌, ◌≤◌, ◌∷◌, [], map, IfErr, IfOk};
+ghost use Rattle.std.specs.Prelude.{◌≡◌, ◌≤◌, ◌<◌, ◌∷◌, [], map, IfErr, IfOk};
 ghost use Rattle.serde_json.specs.View.{view};
+ghost use Rattle.tc_list.specs.Policies.{listed_least};
 ghost use Rattle.tc_log.specs.Layout.{empty_size};
 ghost use Rattle.tc_model.specs.Keyed.{values_in};
 ghost use Rattle.tc_part_model.specs.Meaning.{IsPart};
@@ -30,14 +31,14 @@ pub struct Partitions<S: Store> {
 impl<S: Store> Partitions<S> {
     ghost use Rattle.std.specs.Prelude.{Ok, Option, Some, OnErr, OnOk};
     ghost use Rattle.tc_model.specs.Reply.{schemas};
-    ghost use Rattle.tc_model.specs.Request.{schema};
+    ghost use Rattle.tc_model.specs.Request.{flush, schema};
     ghost use Rattle.tc_route.specs.Meaning.{replies_in};
     ghost use Rattle.tc_run_model.specs.Known.{MayReply, known_after};
     ghost use Rattle.tc_run_model.specs.World.{World, after_all};
     ghost use Rattle.tc_store.specs.Moments.{IfTold};
-    ghost use Rattle.tc_server.specs.Calls.{faults_of, HoldsAt, IsSpent, KeepsAt, MayAsk, Rests};
+    ghost use Rattle.tc_server.specs.Calls.{faults_of, settings_of, HoldsAt, IsSpent, KeepsAt, MayAsk, Rests};
     ghost use Rattle.tc_server.specs.Faults.{fault_in, HasDiskCause, IsNoDamage, IsOfStore};
-    ghost use Rattle.tc_server.specs.OverFiles.{HasLastGeneration, LeavesOneOf};
+    ghost use Rattle.tc_server.specs.OverFiles.{HasLastGeneration, LeavesOneOf, LeavesSmall};
     ghost use Rattle.tc_server.specs.Window.{requests_routed, AreTogether};
 
     /// The only partition.
@@ -57,6 +58,7 @@ impl<S: Store> Partitions<S> {
         ensures failed { (w : World) → HoldsAt S.history S.Device.history S.Frozen.content self.old (Some w) → OnErr result (KeepsAt S.history S.Device.history S.Frozen.content self.new w (after_all (requests_routed list.now) w)) }
         ensures undamaged { (w : World) → HoldsAt S.history S.Device.history S.Frozen.content self.old (Some w) → IfErr result IsNoDamage }
         ensures kinds { IfErr result IsOfStore }
+        ensures settings { settings_of self.new ≡ settings_of self.old }
         ensures cause { HasDiskCause (faults_of (λ w. S.Watch.counts w) self.old) (faults_of (λ w. S.Watch.counts w) self.new) (IsSpent S.history S.Device.history S.Frozen.content self.new) (fault_in result) }
     {
         record_within_weight();
@@ -76,6 +78,7 @@ impl<S: Store> Partitions<S> {
         ensures failed { (w : World) → HoldsAt S.history S.Device.history S.Frozen.content self.old (Some w) → OnErr result (KeepsAt S.history S.Device.history S.Frozen.content self.new w w) }
         ensures undamaged { (w : World) → HoldsAt S.history S.Device.history S.Frozen.content self.old (Some w) → IfErr result IsNoDamage }
         ensures kinds { IfErr result IsOfStore }
+        ensures settings { settings_of self.new ≡ settings_of self.old }
         ensures cause { HasDiskCause (faults_of (λ w. S.Watch.counts w) self.old) (faults_of (λ w. S.Watch.counts w) self.new) (IsSpent S.history S.Device.history S.Frozen.content self.new) (fault_in result) }
     {
         parts_hold_devices();
@@ -90,10 +93,11 @@ impl<S: Store> Partitions<S> {
         requires works { MayAsk S.history S.Device.history S.Frozen.content self.old }
         ensures works { OnOk result (MayAsk S.history S.Device.history S.Frozen.content self.new) }
         ensures emptied { OnOk result (S.Device.size self.new.engine.part.log.device ≤ empty_size) }
-        ensures held { (known : Option World) → HoldsAt S.history S.Device.history S.Frozen.content self.old known → OnOk result (HoldsAt S.history S.Device.history S.Frozen.content self.new known) }
+        ensures held { (known : Option World) → HoldsAt S.history S.Device.history S.Frozen.content self.old known → OnOk result (HoldsAt S.history S.Device.history S.Frozen.content self.new (known_after (flush ∷ []) known)) }
         ensures failed { (w : World) → HoldsAt S.history S.Device.history S.Frozen.content self.old (Some w) → OnErr result (KeepsAt S.history S.Device.history S.Frozen.content self.new w w) }
         ensures undamaged { (w : World) → HoldsAt S.history S.Device.history S.Frozen.content self.old (Some w) → IfErr result IsNoDamage }
         ensures kinds { IfErr result IsOfStore }
+        ensures settings { settings_of self.new ≡ settings_of self.old }
         ensures cause { HasDiskCause (faults_of (λ w. S.Watch.counts w) self.old) (faults_of (λ w. S.Watch.counts w) self.new) (IsSpent S.history S.Device.history S.Frozen.content self.new) (fault_in result) }
     {
         parts_hold_devices();
@@ -108,10 +112,11 @@ impl<S: Store> Partitions<S> {
         requires works { MayAsk S.history S.Device.history S.Frozen.content self.old }
         ensures works { OnOk result (MayAsk S.history S.Device.history S.Frozen.content self.new) }
         ensures shown { (known : Option World) → HoldsAt S.history S.Device.history S.Frozen.content self.old known → IfOk result (λ shown. MayReply (schema ∷ []) known (schemas (map view shown) ∷ [])) }
-        ensures held { (known : Option World) → HoldsAt S.history S.Device.history S.Frozen.content self.old known → OnOk result (HoldsAt S.history S.Device.history S.Frozen.content self.new known) }
+        ensures held { (known : Option World) → HoldsAt S.history S.Device.history S.Frozen.content self.old known → OnOk result (HoldsAt S.history S.Device.history S.Frozen.content self.new (known_after (schema ∷ []) known)) }
         ensures failed { (w : World) → HoldsAt S.history S.Device.history S.Frozen.content self.old (Some w) → OnErr result (KeepsAt S.history S.Device.history S.Frozen.content self.new w w) }
         ensures undamaged { (w : World) → HoldsAt S.history S.Device.history S.Frozen.content self.old (Some w) → IfErr result IsNoDamage }
         ensures kinds { IfErr result IsOfStore }
+        ensures settings { settings_of self.new ≡ settings_of self.old }
         ensures cause { HasDiskCause (faults_of (λ w. S.Watch.counts w) self.old) (faults_of (λ w. S.Watch.counts w) self.new) (IsSpent S.history S.Device.history S.Frozen.content self.new) (fault_in result) }
     {
         match self.flush(alloc) {
@@ -126,6 +131,10 @@ impl<S: Store> Partitions<S> {
         // two worlds does that it kept.
         ensures held { (w : World) → HoldsAt S.history S.Device.history S.Frozen.content self (Some w) → LeavesOneOf (w ∷ []) (S.history result.kit.store) }
         ensures kept { (w v : World) → KeepsAt S.history S.Device.history S.Frozen.content self w v → LeavesOneOf (w ∷ v ∷ []) (S.history result.kit.store) }
+
+        // Of one that was settled each picture opens as few components and a short log, which has no frame where all was flushed.
+        ensures small { (w : World) → HoldsAt S.history S.Device.history S.Frozen.content self (Some w) → Rests (λ d. S.Device.size d) self → listed_least self.engine.policy ≤ 9 → empty_size < self.engine.part.memory
+            → LeavesSmall self.engine.part.memory w.flushed (S.history result.kit.store) }
 
         // The log of the last generation is among them, where that is spent.
         ensures last { IsSpent S.history S.Device.history S.Frozen.content self → IfTold (S.history result.kit.store) HasLastGeneration }

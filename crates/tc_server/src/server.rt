@@ -3,6 +3,7 @@
 ghost use Rattle.std.specs.Prelude.{◌≡◌, ◌≢◌, ℕ, ◌<◌, ◌≤◌, ◌⊎◌, List, [], ◌∷◌, true, false, length, map, All, Ok, Option, Some, None, vec_capacity, vec_len, IfOk, IfErr, IfSome, IsErrOf, OnOk};
 ghost use Rattle.tc_bytes.specs.Counts.{Rose};
 ghost use Rattle.tc_list.specs.Policies.{listed_least};
+ghost use Rattle.tc_log.specs.Layout.{empty_size};
 ghost use Rattle.tc_part.specs.FilesOut.{LogIsOut};
 ghost use Rattle.tc_part_model.specs.PartState.{told};
 ghost use Rattle.tc_run_model.specs.World.{World};
@@ -13,7 +14,7 @@ ghost use Rattle.tc_server.specs.Ending.{limits_of, RanLeaving, ReadsPromptly, S
 ghost use Rattle.tc_server.specs.Faults.{fault_in, faults_in, faults_of_part, status_of, HasRunCauses, IfDisk, IsOfRun, IsWrite, NoneFell, OneRose};
 ghost use Rattle.tc_server.specs.OverFiles.{AreGenerationsSpent, BeginsAs, BeginsFor, HasDiskCauseOver, HasLastGeneration, HasLayoutCause, HasSpentInput, IsJudged, IsOfTheOnly, RanOver, ServedOver};
 ghost use Rattle.tc_server.specs.Partitions.{StandsAt};
-ghost use Rattle.tc_server.specs.Calls.{faults_of, IsSpent, KeepsAt, MayAsk, Rests, HoldsAt};
+ghost use Rattle.tc_server.specs.Calls.{faults_of, settings_of, IsSpent, KeepsAt, MayAsk, Rests, HoldsAt};
 ghost use Rattle.tc_server.specs.Progress.{AsksPromptly, Ends, Goes};
 ghost use Rattle.tc_server.specs.Stage.{IsReady};
 ghost use Rattle.tc_server.specs.Window.{requests_of};
@@ -88,9 +89,11 @@ fn serve_run<I: Source<O>, O: Sink, H: Shelf>(
 ) -> Served<H::Store>
     requires some { 0 < options.now.window }
     requires limit { options.now.window ≤ 4096 }
+    requires merge { options.now.merge ≤ 9 }
+    requires memory { empty_size < options.now.memory }
     ensures status { result.status ≡ status_of result.fault }
     ensures ran { (first : Option World) → BeginsAs (limits_of options.now) (H.files shelf.old 0) first
-        → RanOver result.fault first options.now.window (I.left source.old) (I.left source.new) (O.taken sink.old) (O.taken sink.new) (map (λ kit. H.Store.history kit.store) result.kits.items) }
+        → RanOver result.fault first options.now.window options.now.memory (I.left source.old) (I.left source.new) (O.taken sink.old) (O.taken sink.new) (map (λ kit. H.Store.history kit.store) result.kits.items) }
     ensures prompt { (first : Option World) → BeginsAs (limits_of options.now) (H.files shelf.old 0) first
         → ReadsPromptly first options.now.window (O.taken sink.old) (I.moments source.old) (I.moments source.new) }
     ensures kits { length result.kits.items ≤ 1 }
@@ -145,8 +148,10 @@ fn serve_kit<I: Source<O>, O: Sink, S: Store>(
     requires at_rest { IfTold (S.history kit.store) IsAtRest }
     requires some { 0 < options.now.window }
     requires limit { options.now.window ≤ 4096 }
+    requires merge { options.now.merge ≤ 9 }
+    requires memory { empty_size < options.now.memory }
     ensures ran { (first : Option World) → BeginsAs (limits_of options.now) (S.history kit.store) first
-        → RanOver result.1 first options.now.window (I.left source.old) (I.left source.new) (O.taken sink.old) (O.taken sink.new) (S.history result.0.store ∷ []) }
+        → RanOver result.1 first options.now.window options.now.memory (I.left source.old) (I.left source.new) (O.taken sink.old) (O.taken sink.new) (S.history result.0.store ∷ []) }
     ensures prompt { (first : Option World) → BeginsAs (limits_of options.now) (S.history kit.store) first
         → ReadsPromptly first options.now.window (O.taken sink.old) (I.moments source.old) (I.moments source.new) }
     ensures counts { NoneFell (faults_in (λ w. S.Watch.counts w) kit) (faults_in (λ w. S.Watch.counts w) result.0) }
@@ -181,7 +186,10 @@ fn serve_part<I: Source<O>, O: Sink, S: Store>(
 ) -> (Kit<S>, Option<RunFault>)
     requires some { 0 < options.now.window }
     requires limit { options.now.window ≤ 4096 }
+    requires merge { options.now.merge ≤ 9 }
+    requires memory { empty_size < options.now.memory }
     requires sound { part.failed ≡ false }
+    requires sealed_at { part.memory ≡ options.now.memory }
     requires nothing_staged { part.staged ≡ [] }
     requires none_sealed { part.sealed ≡ None }
     requires no_flush { part.flushing ≡ false }
@@ -189,7 +197,7 @@ fn serve_part<I: Source<O>, O: Sink, S: Store>(
     requires ready { MaySettle (told S.history S.Device.history S.Frozen.content part) }
     requires log { LogIsOut (told S.history S.Device.history S.Frozen.content part) }
     ensures ran { (first : Option World) → StandsAt (told S.history S.Device.history S.Frozen.content part) part.limits first
-        → RanOver result.1 first options.now.window (I.left source.old) (I.left source.new) (O.taken sink.old) (O.taken sink.new) (S.history result.0.store ∷ []) }
+        → RanOver result.1 first options.now.window options.now.memory (I.left source.old) (I.left source.new) (O.taken sink.old) (O.taken sink.new) (S.history result.0.store ∷ []) }
     ensures prompt { (first : Option World) → StandsAt (told S.history S.Device.history S.Frozen.content part) part.limits first
         → ReadsPromptly first options.now.window (O.taken sink.old) (I.moments source.old) (I.moments source.new) }
     ensures counts { NoneFell (faults_of_part (λ w. S.Watch.counts w) part) (faults_in (λ w. S.Watch.counts w) result.0) }
@@ -264,6 +272,7 @@ pub fn answer_lines<I: Source<O>, O: Sink, S: Store>(
     ensures prompt { (first : Option World) → HoldsAt S.history S.Device.history S.Frozen.content session.old.keeper first → ReadsPromptly first session.old.window.limit (O.taken sink.old)
         (I.moments source.old) (I.moments source.new) }
     ensures rests { OnOk result (Rests (λ d. S.Device.size d) session.new.keeper) }
+    ensures settings { settings_of session.new.keeper ≡ settings_of session.old.keeper }
     ensures cause { HasRunCauses (I.faults source.old) (I.faults source.new) (O.faults sink.old) (O.faults sink.new) (faults_of (λ w. S.Watch.counts w) session.old.keeper) (faults_of (λ w. S.Watch.counts w) session.new.keeper) (fault_in result) }
 {
     let mut lines = Lines::new(alloc, MAX_LINE);
@@ -306,6 +315,7 @@ fn answer_line<I: Source<O>, O: Sink, S: Store>(
     ensures prompt { AsksPromptly (HoldsAt S.history S.Device.history S.Frozen.content) lines.old session.old (I.left source.old) (O.taken sink.old)
         (I.moments source.old) (I.moments source.new) }
 
+    ensures settings { settings_of session.new.keeper ≡ settings_of session.old.keeper }
     ensures cause { HasRunCauses (I.faults source.old) (I.faults source.new) (O.faults sink.old) (O.faults sink.new) (faults_of (λ w. S.Watch.counts w) session.old.keeper) (faults_of (λ w. S.Watch.counts w) session.new.keeper) (fault_in result) }
 {
     match lines.next(source, sink) {

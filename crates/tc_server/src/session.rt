@@ -11,7 +11,7 @@ ghost use Rattle.tc_run_model.specs.World.{World};
 ghost use Rattle.tc_server.specs.Asked.{is_whole, request_asked, request_whole, IsRunOfKey};
 ghost use Rattle.tc_server.specs.Faults.{fault_in, gave_up, HasCauses, HasDiskCause, IsNoDamage, IsOfStore};
 ghost use Rattle.tc_server.specs.Holds.{worlds_at, AreAnswered, AreWritten, HaveFailed, IsLeft};
-ghost use Rattle.tc_server.specs.Calls.{faults_of, IsSpent, KeepsAt, MayAsk, Rests, HoldsAt};
+ghost use Rattle.tc_server.specs.Calls.{faults_of, settings_of, IsSpent, KeepsAt, MayAsk, Rests, HoldsAt};
 ghost use Rattle.tc_server.specs.Stage.{AsksFor, FailsAtLine, IsReady, TakesLine};
 ghost use Rattle.tc_server.specs.Window.{requests_of, IsSoundWindow};
 ghost use Rattle.tc_server.specs.declared.answer.Action.TheVariants.{Whole as whole};
@@ -75,6 +75,7 @@ impl<S: Store> Session<Partitions<S>> {
         ensures failed { (w : World) → HoldsAt S.history S.Device.history S.Frozen.content self.old.keeper (Some w) → OnErr result (KeepsAt S.history S.Device.history S.Frozen.content self.new.keeper w w) }
         ensures undamaged { (w : World) → HoldsAt S.history S.Device.history S.Frozen.content self.old.keeper (Some w) → IfErr result IsNoDamage }
         ensures kinds { IfErr result IsOfStore }
+        ensures settings { settings_of self.new.keeper ≡ settings_of self.old.keeper }
         ensures cause { HasDiskCause (faults_of (λ w. S.Watch.counts w) self.old.keeper) (faults_of (λ w. S.Watch.counts w) self.new.keeper) (IsSpent S.history S.Device.history S.Frozen.content self.new.keeper) (fault_in result) }
     {
         self.keeper.settle(alloc)
@@ -97,6 +98,7 @@ impl<S: Store> Session<Partitions<S>> {
         ensures limit { OnOk result (self.new.window.limit ≡ self.old.window.limit) }
         ensures fault { IfErr result (λ fault. (known : Option World) → HoldsAt S.history S.Device.history S.Frozen.content self.old.keeper known
             → HaveFailed (HoldsAt S.history S.Device.history S.Frozen.content) (KeepsAt S.history S.Device.history S.Frozen.content) fault known (requests_of self.old.window) (O.taken sink.old) (O.taken sink.new) self.new.keeper) }
+        ensures settings { settings_of self.new.keeper ≡ settings_of self.old.keeper }
         ensures cause { HasCauses (O.faults sink.old) (O.faults sink.new) (faults_of (λ w. S.Watch.counts w) self.old.keeper) (faults_of (λ w. S.Watch.counts w) self.new.keeper) (IsSpent S.history S.Device.history S.Frozen.content self.new.keeper) (fault_in result) }
     {
         self.window
@@ -114,6 +116,7 @@ impl<S: Store> Session<Partitions<S>> {
             → AreWritten (HoldsAt S.history S.Device.history S.Frozen.content) known rs (O.taken sink.old) (O.taken sink.new) self.new.keeper) }
         ensures fault { IfErr result (λ fault. (known : Option World) (rs : List Request) → AreAnswered (HoldsAt S.history S.Device.history S.Frozen.content) known rs self.old.replies.items self.old.keeper
             → HaveFailed (HoldsAt S.history S.Device.history S.Frozen.content) (KeepsAt S.history S.Device.history S.Frozen.content) fault known rs (O.taken sink.old) (O.taken sink.new) self.new.keeper) }
+        ensures settings { settings_of self.new.keeper ≡ settings_of self.old.keeper }
         ensures cause { HasCauses (O.faults sink.old) (O.faults sink.new) (faults_of (λ w. S.Watch.counts w) self.old.keeper) (faults_of (λ w. S.Watch.counts w) self.new.keeper) (IsSpent S.history S.Device.history S.Frozen.content self.new.keeper) (fault_in result) }
     {
         self.keeper.settle(alloc)?;
@@ -141,6 +144,7 @@ impl<S: Store> Session<Partitions<S>> {
         ensures limit { OnOk result (self.new.window.limit ≡ self.old.window.limit) }
         ensures fault { IfErr result (λ fault. (line : List ℕ) → AsksFor line action size
             → FailsAtLine (HoldsAt S.history S.Device.history S.Frozen.content) (KeepsAt S.history S.Device.history S.Frozen.content) fault line self.old (O.taken sink.old) self.new (O.taken sink.new)) }
+        ensures settings { settings_of self.new.keeper ≡ settings_of self.old.keeper }
         ensures cause { HasCauses (O.faults sink.old) (O.faults sink.new) (faults_of (λ w. S.Watch.counts w) self.old.keeper) (faults_of (λ w. S.Watch.counts w) self.new.keeper) (IsSpent S.history S.Device.history S.Frozen.content self.new.keeper) (fault_in result) }
     {
         self.window.push(action, size)?;
@@ -166,6 +170,7 @@ impl<S: Store> Session<Partitions<S>> {
         ensures limit { OnOk result (self.new.window.limit ≡ self.old.window.limit) }
         ensures fault { IfErr result (λ fault. (line : List ℕ) → AsksFor line (whole control) size
             → FailsAtLine (HoldsAt S.history S.Device.history S.Frozen.content) (KeepsAt S.history S.Device.history S.Frozen.content) fault line self.old (O.taken sink.old) self.new (O.taken sink.new)) }
+        ensures settings { settings_of self.new.keeper ≡ settings_of self.old.keeper }
         ensures cause { HasCauses (O.faults sink.old) (O.faults sink.new) (faults_of (λ w. S.Watch.counts w) self.old.keeper) (faults_of (λ w. S.Watch.counts w) self.new.keeper) (IsSpent S.history S.Device.history S.Frozen.content self.new.keeper) (fault_in result) }
     {
         self.close(alloc, sink)?;
@@ -187,6 +192,7 @@ impl<S: Store> Session<Partitions<S>> {
             → AreWritten (HoldsAt S.history S.Device.history S.Frozen.content) known (request_whole control ∷ []) (O.taken sink.old) (O.taken sink.new) self.new.keeper) }
         ensures fault { IfErr result (λ fault. (known : Option World) → HoldsAt S.history S.Device.history S.Frozen.content self.old.keeper known
             → HaveFailed (HoldsAt S.history S.Device.history S.Frozen.content) (KeepsAt S.history S.Device.history S.Frozen.content) fault known (request_whole control ∷ []) (O.taken sink.old) (O.taken sink.new) self.new.keeper) }
+        ensures settings { settings_of self.new.keeper ≡ settings_of self.old.keeper }
         ensures cause { HasCauses (O.faults sink.old) (O.faults sink.new) (faults_of (λ w. S.Watch.counts w) self.old.keeper) (faults_of (λ w. S.Watch.counts w) self.new.keeper) (IsSpent S.history S.Device.history S.Frozen.content self.new.keeper) (fault_in result) }
     {
         answer_whole(alloc, &mut self.keeper, control, &mut self.replies)?;
@@ -210,6 +216,7 @@ impl<S: Store> Session<Partitions<S>> {
         ensures limit { OnOk result (self.new.window.limit ≡ self.old.window.limit) }
         ensures fault { IfErr result (λ fault. (line : List ℕ) → AsksFor line asked size
             → FailsAtLine (HoldsAt S.history S.Device.history S.Frozen.content) (KeepsAt S.history S.Device.history S.Frozen.content) fault line self.old (O.taken sink.old) self.new (O.taken sink.new)) }
+        ensures settings { settings_of self.new.keeper ≡ settings_of self.old.keeper }
         ensures cause { HasCauses (O.faults sink.old) (O.faults sink.new) (faults_of (λ w. S.Watch.counts w) self.old.keeper) (faults_of (λ w. S.Watch.counts w) self.new.keeper) (IsSpent S.history S.Device.history S.Frozen.content self.new.keeper) (fault_in result) }
     {
         match asked.into_action() {
@@ -231,6 +238,7 @@ impl<S: Store> Session<Partitions<S>> {
         ensures ready { OnOk result (IsReady (MayAsk S.history S.Device.history S.Frozen.content) self.new) }
         ensures limit { OnOk result (self.new.window.limit ≡ self.old.window.limit) }
         ensures fault { IfErr result (λ fault. FailsAtLine (HoldsAt S.history S.Device.history S.Frozen.content) (KeepsAt S.history S.Device.history S.Frozen.content) fault line self.old (O.taken sink.old) self.new (O.taken sink.new)) }
+        ensures settings { settings_of self.new.keeper ≡ settings_of self.old.keeper }
         ensures cause { HasCauses (O.faults sink.old) (O.faults sink.new) (faults_of (λ w. S.Watch.counts w) self.old.keeper) (faults_of (λ w. S.Watch.counts w) self.new.keeper) (IsSpent S.history S.Device.history S.Frozen.content self.new.keeper) (fault_in result) }
     {
         self.take_slice(alloc, line.as_slice(), sink)
@@ -249,6 +257,7 @@ impl<S: Store> Session<Partitions<S>> {
         ensures ready { OnOk result (IsReady (MayAsk S.history S.Device.history S.Frozen.content) self.new) }
         ensures limit { OnOk result (self.new.window.limit ≡ self.old.window.limit) }
         ensures fault { IfErr result (λ fault. FailsAtLine (HoldsAt S.history S.Device.history S.Frozen.content) (KeepsAt S.history S.Device.history S.Frozen.content) fault line.now self.old (O.taken sink.old) self.new (O.taken sink.new)) }
+        ensures settings { settings_of self.new.keeper ≡ settings_of self.old.keeper }
         ensures cause { HasCauses (O.faults sink.old) (O.faults sink.new) (faults_of (λ w. S.Watch.counts w) self.old.keeper) (faults_of (λ w. S.Watch.counts w) self.new.keeper) (IsSpent S.history S.Device.history S.Frozen.content self.new.keeper) (fault_in result) }
     {
         let asked = Asked::of(alloc, line)?;
@@ -264,6 +273,7 @@ impl<S: Store> Session<Partitions<S>> {
         ensures limit { OnOk result (self.new.window.limit ≡ self.old.window.limit) }
         ensures fault { IfErr result (λ fault. (line : List ℕ) → max_line < length line
             → FailsAtLine (HoldsAt S.history S.Device.history S.Frozen.content) (KeepsAt S.history S.Device.history S.Frozen.content) fault line self.old (O.taken sink.old) self.new (O.taken sink.new)) }
+        ensures settings { settings_of self.new.keeper ≡ settings_of self.old.keeper }
         ensures cause { HasCauses (O.faults sink.old) (O.faults sink.new) (faults_of (λ w. S.Watch.counts w) self.old.keeper) (faults_of (λ w. S.Watch.counts w) self.new.keeper) (IsSpent S.history S.Device.history S.Frozen.content self.new.keeper) (fault_in result) }
     {
         self.take(alloc, Asked::refused(Refusal::Oversized), 0, sink)
@@ -283,6 +293,7 @@ fn answer_whole<S: Store>(
     ensures left { (known : Option World) → HoldsAt S.history S.Device.history S.Frozen.content keeper.old known → OnErr result (IsLeft (HoldsAt S.history S.Device.history S.Frozen.content) (KeepsAt S.history S.Device.history S.Frozen.content) keeper.new (option_map (worlds_at gave_up (request_whole control ∷ [])) known)) }
     ensures undamaged { (w : World) → HoldsAt S.history S.Device.history S.Frozen.content keeper.old (Some w) → IfErr result IsNoDamage }
     ensures kinds { IfErr result IsOfStore }
+    ensures settings { settings_of keeper.new ≡ settings_of keeper.old }
     ensures cause { HasDiskCause (faults_of (λ w. S.Watch.counts w) keeper.old) (faults_of (λ w. S.Watch.counts w) keeper.new) (IsSpent S.history S.Device.history S.Frozen.content keeper.new) (fault_in result) }
 {
     replies.clear();
@@ -300,10 +311,11 @@ fn reply_whole<S: Store>(
     requires works { MayAsk S.history S.Device.history S.Frozen.content keeper.old }
     ensures works { OnOk result (MayAsk S.history S.Device.history S.Frozen.content keeper.new) }
     ensures reply { (known : Option World) → HoldsAt S.history S.Device.history S.Frozen.content keeper.old known → IfOk result (λ reply. MayReply (request_whole control ∷ []) known (reply_of reply ∷ [])) }
-    ensures held { (known : Option World) → HoldsAt S.history S.Device.history S.Frozen.content keeper.old known → OnOk result (HoldsAt S.history S.Device.history S.Frozen.content keeper.new known) }
+    ensures held { (known : Option World) → HoldsAt S.history S.Device.history S.Frozen.content keeper.old known → OnOk result (HoldsAt S.history S.Device.history S.Frozen.content keeper.new (known_after (request_whole control ∷ []) known)) }
     ensures failed { (w : World) → HoldsAt S.history S.Device.history S.Frozen.content keeper.old (Some w) → OnErr result (KeepsAt S.history S.Device.history S.Frozen.content keeper.new w w) }
     ensures undamaged { (w : World) → HoldsAt S.history S.Device.history S.Frozen.content keeper.old (Some w) → IfErr result IsNoDamage }
     ensures kinds { IfErr result IsOfStore }
+    ensures settings { settings_of keeper.new ≡ settings_of keeper.old }
     ensures cause { HasDiskCause (faults_of (λ w. S.Watch.counts w) keeper.old) (faults_of (λ w. S.Watch.counts w) keeper.new) (IsSpent S.history S.Device.history S.Frozen.content keeper.new) (fault_in result) }
 {
     match control {

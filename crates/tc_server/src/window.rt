@@ -11,7 +11,7 @@ ghost use Rattle.tc_run_model.specs.World.{World};
 ghost use Rattle.tc_server.specs.Asked.{is_whole, request_asked, IsOfKey, IsRunOfKey};
 ghost use Rattle.tc_server.specs.Faults.{fault_in, gave_up, HasDiskCause, IsNoDamage, IsOfStore};
 ghost use Rattle.tc_server.specs.Holds.{worlds_at, AreAnswered, IsLeft};
-ghost use Rattle.tc_server.specs.Calls.{faults_of, IsSpent, KeepsAt, MayAsk, HoldsAt};
+ghost use Rattle.tc_server.specs.Calls.{faults_of, settings_of, IsSpent, KeepsAt, MayAsk, HoldsAt};
 ghost use Rattle.tc_server.specs.Window.{mixed, reply_refused, request_refused, requests_of, IsSoundWindow};
 
 use crate::answer::{Action, push_reply};
@@ -141,6 +141,7 @@ impl Window {
         ensures left { (known : Option World) → HoldsAt S.history S.Device.history S.Frozen.content keeper.old known → OnErr result (IsLeft (HoldsAt S.history S.Device.history S.Frozen.content) (KeepsAt S.history S.Device.history S.Frozen.content) keeper.new (option_map (worlds_at gave_up (requests_of self.old)) known)) }
         ensures undamaged { (w : World) → HoldsAt S.history S.Device.history S.Frozen.content keeper.old (Some w) → IfErr result IsNoDamage }
         ensures kinds { IfErr result IsOfStore }
+        ensures settings { settings_of keeper.new ≡ settings_of keeper.old }
         ensures cause { HasDiskCause (faults_of (λ w. S.Watch.counts w) keeper.old) (faults_of (λ w. S.Watch.counts w) keeper.new) (IsSpent S.history S.Device.history S.Frozen.content keeper.new) (fault_in result) }
     {
         let answers = keeper.window(alloc, self.commands.as_slice())?;

@@ -1,15 +1,21 @@
-use Rattle.std.proofs.Common.{◌∙◌, ap}
+use Rattle.std.proofs.Common.{◌∙◌, ap, arith}
 use Rattle.std.specs.Prelude.{Err}
-use Rattle.tc_words.proofs.WindowRange.{window_within}
+use Rattle.tc_words.proofs.OptionRanges.{in_range}
 use Rattle.tc_words.specs.Options.{options_of}
 use Rattle.tc_server.proofs.NotOpened.{served_nothing}
 use Rattle.tc_server.proofs.server.serve.Goals as goal
 
 pub serve_run-requires-clause-some : goal.serve_run-requires-clause-some
-serve_run-requires-clause-some g c κs within = (window_within c.args.words.now c.in-Ok.options c.in-Ok.ensures.ok).0
+serve_run-requires-clause-some g c κs within = (in_range c.args.words.now c.in-Ok.options c.in-Ok.ensures.ok).window.0
 
 pub serve_run-requires-clause-limit : goal.serve_run-requires-clause-limit
-serve_run-requires-clause-limit g c κs within = (window_within c.args.words.now c.in-Ok.options c.in-Ok.ensures.ok).1
+serve_run-requires-clause-limit g c κs within = (in_range c.args.words.now c.in-Ok.options c.in-Ok.ensures.ok).window.1
+
+pub serve_run-requires-clause-merge : goal.serve_run-requires-clause-merge
+serve_run-requires-clause-merge g c κs within = let is = (in_range c.args.words.now c.in-Ok.options c.in-Ok.ensures.ok).merge in omega (arith, is.1)
+
+pub serve_run-requires-clause-memory : goal.serve_run-requires-clause-memory
+serve_run-requires-clause-memory g c κs within = let is = (in_range c.args.words.now c.in-Ok.options c.in-Ok.ensures.ok).memory in omega (arith, is.0)
 
 pub returns-in-Err-clause-served : goal.returns-in-Err-clause-served
 returns-in-Err-clause-served g c =

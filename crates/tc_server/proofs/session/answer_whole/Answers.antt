@@ -5,21 +5,21 @@ use Rattle.tc_model.specs.Reply.{reply_line}
 use Rattle.tc_server.specs.Asked.{request_whole}
 use Rattle.tc_server.specs.Faults.{gave_up}
 use Rattle.tc_server.specs.Calls.{faults_of, IsSpent, KeepsAt, HoldsAt}
-use Rattle.tc_server.proofs.Answering.{left_failed, left_standing, whole_known, whole_leaves}
+use Rattle.tc_server.proofs.Answering.{left_before, left_standing}
 use Rattle.tc_server.proofs.Causes.{call_without_memory}
 use Rattle.tc_server.proofs.session.answer_whole.Goals as goal
 
 pub returns-in_err-reply-clause-left : goal.returns-in_err-reply-clause-left
 returns-in_err-reply-clause-left g c =
     let p = err_from_is_err_and c.from_residual.result c.from_residual.ensures.1 in
-    λ known holds. rw p.1 (left_failed (HoldsAt g.S.Store.history g.S.Device.Device.history g.S.Frozen.Frozen.content) (KeepsAt g.S.Store.history g.S.Device.Device.history g.S.Frozen.Frozen.content) c.reply_whole.new.keeper (request_whole c.args.control ∷ []) known
-    (λ w is. subst ((KeepsAt g.S.Store.history g.S.Device.Device.history g.S.Frozen.Frozen.content) c.reply_whole.new.keeper w) (sym (whole_leaves c.args.control w)) (c.in_err-reply.ensures.failed w (subst ((HoldsAt g.S.Store.history g.S.Device.Device.history g.S.Frozen.Frozen.content) c.args.keeper.now) is holds))))
+    λ known holds. rw p.1 (left_before (HoldsAt g.S.Store.history g.S.Device.Device.history g.S.Frozen.Frozen.content) (KeepsAt g.S.Store.history g.S.Device.Device.history g.S.Frozen.Frozen.content) c.reply_whole.new.keeper (request_whole c.args.control ∷ []) known
+    (λ w is. c.in_err-reply.ensures.failed w (subst ((HoldsAt g.S.Store.history g.S.Device.Device.history g.S.Frozen.Frozen.content) c.args.keeper.now) is holds)))
 
 pub returns-in_err-push_reply-clause-left : goal.returns-in_err-push_reply-clause-left
 returns-in_err-push_reply-clause-left g c =
     let p = err_from_is_err_and c.from_residual-in_err-push_reply.result c.from_residual-in_err-push_reply.ensures.1 in
     λ known holds. rw p.1 (left_standing (HoldsAt g.S.Store.history g.S.Device.Device.history g.S.Frozen.Frozen.content) (KeepsAt g.S.Store.history g.S.Device.Device.history g.S.Frozen.Frozen.content) c.reply_whole.new.keeper gave_up (request_whole c.args.control ∷ []) known
-    (subst ((HoldsAt g.S.Store.history g.S.Device.Device.history g.S.Frozen.Frozen.content) c.reply_whole.new.keeper) (sym (whole_known c.args.control known)) (c.in_ok-reply.ensures.held known holds)))
+    (c.in_ok-reply.ensures.held known holds))
 
 pub returns-in_err-push_reply-clause-cause : goal.returns-in_err-push_reply-clause-cause
 returns-in_err-push_reply-clause-cause g c =
@@ -32,5 +32,5 @@ returns-clause-answered g c = λ known holds.
       replies = a ∷ [];
       given = c.in_ok-reply.ensures.reply known holds;
       lines = c.in_ok-push_reply.ensures ∙ ap (λ bytes. bytes ++ reply_line a) c.clear.ensures.items ∙ sym (append-nil (reply_line a));
-      held = subst ((HoldsAt g.S.Store.history g.S.Device.Device.history g.S.Frozen.Frozen.content) c.reply_whole.new.keeper) (sym (whole_known c.args.control known)) (c.in_ok-reply.ensures.held known holds);
+      held = c.in_ok-reply.ensures.held known holds;
     }

@@ -1,4 +1,4 @@
-use Rattle.std.proofs.Common.{◌≡◌, ap, inr, map, subst}
+use Rattle.std.proofs.Common.{◌≡◌, [], ap, inr, map, subst, sym}
 use Rattle.std.specs.Prelude.{Result, IfOk}
 use Rattle.tc_part_model.specs.Meaning.{plain_of}
 use Rattle.tc_part_model.specs.PartState.{PartState, told}
@@ -33,6 +33,7 @@ returns-in-Ok-clause-held g c = λ known stands.
     window_stands (told g.S.Store.history g.S.Device.Device.history g.S.Frozen.Frozen.content c.args.self.now.engine.part) (told g.S.Store.history g.S.Device.Device.history g.S.Frozen.Frozen.content c.window.new.self.part) c.args.self.now.engine.part.limits c.window.new.self.part.limits (requests_routed c.args.list.now) known stands (all_keyed c.args.list.now c.requires.together)
     (λ p is. subst (λ rs. IsWindowed c.args.self.now.engine.part.limits rs (told g.S.Store.history g.S.Device.Device.history g.S.Frozen.Frozen.content c.args.self.now.engine.part) p (told g.S.Store.history g.S.Device.Device.history g.S.Frozen.Frozen.content c.window.new.self.part)) (requests_same c.args.list.now) (c.in-Ok.ensures.windowed p is))
     c.in-Ok.ensures.tells (ap (λ (s : PartState _ _ _ _). s.staged) c.in-Ok.ensures.same) (ap (λ (s : PartState _ _ _ _). s.limits) c.in-Ok.ensures.same)
+    (λ p is none. ap (λ l. g.S.Device.Device.history l.device) (c.in-Ok.ensures.unwritten p is (subst (λ rs. part_writes_all c.args.self.now.engine.part.limits rs (plain_of (told g.S.Store.history g.S.Device.Device.history g.S.Frozen.Frozen.content c.args.self.now.engine.part) p) ≡ []) (sym (requests_same c.args.list.now)) none)))
 
 pub returns-in-Err-clause-failed : goal.returns-in-Err-clause-failed
 unfolding HoldsAt KeepsAt
