@@ -24,9 +24,6 @@ ANSWERS = ("Answers.antt", "Invariants.antt", "Proof.antt")
 ROWS = "Rows.antt"
 # Definitions, and laws that no clause can state, which crates to come stand on. A name leaves this list once it is used.
 AWAITED = {
-    "tc_model": ("FitsLine", "all_with", "all_without", "items_names_weight", "items_size_weight", "light_names", "light_names_are_few",
-        "members_names_weight", "members_size_weight", "names_weight", "option_map-copied", "shape_items_size", "shape_members_size",
-        "shape_size_weight", "size_weight", "value_weight"),
     "tc_run_model": ("AreReplies-replies_to", "after_all_stands", "built_replies", "first_stands", "known_after-append", "lines_in-windows",
         "replies_have_kinds", "windows_are_cut"),
     "tc_store": ("picture_before",),

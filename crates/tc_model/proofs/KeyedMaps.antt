@@ -32,11 +32,6 @@ is_some-option_map f (Some x) = refl
 pub is_some-lookup : {X V : Type 0} (f : X → V) (n : ℕ) (es : List (ℕ × X)) → is_some (lookup (is_at (nat_cmp n)) es) ≡ is_some (value_of n (map (on_value f) es))
 is_some-lookup f n es = is_some-option_map f (lookup (is_at (nat_cmp n)) es) ∙ ap is_some (option_map-lookup f n es)
 
--- the value behind a reference
-pub option_map-copied : {X V : Type 0} (f : X → V) (o : Option (Bor X)) → option_map (λ x. f x.now) o ≡ option_map f (option_copied o)
-option_map-copied f None = refl
-option_map-copied f (Some x) = refl
-
 -- ---- changes
 
 insert_step : {X V : Type 0} (f : X → V) (less same : Bool) (e : ℕ × X) (n : ℕ) (x : X) (es more : List (ℕ × X)) (meant : Keyed V) → map (on_value f) more ≡ meant

@@ -55,22 +55,3 @@ below_all n k (p ∷ ps) below all = cases (n == p.0) (apart n p.0 (omega (arith
     cases : (here : Bool) → here ≡ false → without_key n ps ≡ ps → (if here then ps else p ∷ without_key n ps) ≡ p ∷ ps
     cases true h more = absurd (cc)
     cases false h more = ap (λ qs. p ∷ qs) more
-
--- ---- what holds of each
-
-pub all_with : {V : Type 0} (P : V → Type 0) (n : ℕ) (d : V) (ps : Keyed V) → P d → AllByRecursion P (values_in ps) → AllByRecursion P (values_in (with_value n d ps))
-all_with P n d [] here all = (here, tt)
-all_with P n d (p ∷ ps) here all = cases (nat_lt n p.0) (n == p.0) (all_with P n d ps here all.1)
-  where
-    cases : (first same : Bool) → AllByRecursion P (values_in (with_value n d ps)) → AllByRecursion P (values_in (if first then (n, d) ∷ p ∷ ps else (if same then (p.0, d) ∷ ps else p ∷ with_value n d ps)))
-    cases true same more = (here, all)
-    cases false true more = (here, all.1)
-    cases false false more = (all.0, more)
-
-pub all_without : {V : Type 0} (P : V → Type 0) (n : ℕ) (ps : Keyed V) → AllByRecursion P (values_in ps) → AllByRecursion P (values_in (without_key n ps))
-all_without P n [] all = tt
-all_without P n (p ∷ ps) all = cases (n == p.0) (all_without P n ps all.1)
-  where
-    cases : (here : Bool) → AllByRecursion P (values_in (without_key n ps)) → AllByRecursion P (values_in (if here then ps else p ∷ without_key n ps))
-    cases true more = all.1
-    cases false more = (all.0, more)

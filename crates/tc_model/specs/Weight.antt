@@ -2,7 +2,6 @@
 use Rattle.std.specs.Prelude.{ℕ, ◌+◌, ◌≤◌, length}
 use Rattle.tc_model.specs.Tree.{leaf, array, object, Items, no_items, item, Members, no_members, member}
 use Rattle.tc_model.specs.Document.{Name, Document, Scalar, null, boolean, integer, text}
-use Rattle.tc_model.specs.Limits.{max_line}
 use Rattle.tc_model.specs.Request.{Request, upsert, delete, get, query, flush, schema, scan, collect, refused}
 
 abbrev pub scalar_weight : Scalar → ℕ
@@ -24,10 +23,6 @@ abbrev mutual
   pub members_weight : Members Name Scalar → ℕ
   members_weight no_members = 0
   members_weight (member name d ms) = length name + weight d + members_weight ms
-
--- no heavier than a line may be long
-abbrev pub FitsLine : Document → Type 0
-FitsLine d = weight d ≤ max_line
 
 -- the document of an upsert weighs at most so much
 abbrev pub IsLight : ℕ → Request → Type 0
