@@ -6,7 +6,6 @@ use Rattle.tc_store.specs.declared.file_name.FileName.{FileName}
 use Rattle.tc_store.specs.declared.file_name.FileName.TheVariants.{Log}
 use Rattle.tc_store.specs.Disk.{Disk, IsThere, MayLeaveAt, home, is_out, out, put}
 use Rattle.tc_store.specs.DiskFile.{DiskFile, IsSettled, settled_file}
-use Rattle.tc_store.specs.Images.{Image}
 use Rattle.tc_store.specs.Moments.{IfTold}
 use Rattle.tc_store.specs.StoreCalls.{makes, fresh_file_at}
 use Rattle.tc_store.proofs.GateLemmas.{settled_leaves}
@@ -18,8 +17,8 @@ use Rattle.tc_lsm_model.specs.Contents.{Partition}
 use Rattle.tc_machine.specs.Kept.{IsKept}
 use Rattle.tc_machine.specs.Logs.{IsLog, LeavesLog}
 use Rattle.tc_machine.specs.Sound.{IsExplained}
-use Rattle.tc_machine.specs.Steps.{IsExpected, IsShutOrHas, nothing_held}
-use Rattle.tc_machine.proofs.FilesLeft.{LeavesOf-here, at_name}
+use Rattle.tc_machine.specs.Steps.{IsExpected, nothing_held}
+use Rattle.tc_machine.proofs.FilesLeft.{LeavesOf-here, at_name, nothing_left}
 use Rattle.tc_machine.proofs.MemorySteps.{same_memory}
 use Rattle.tc_part_model.specs.PartState.{IsTold}
 use Rattle.tc_part_model.specs.PartView.{no_files, state_of, state_with}
@@ -51,10 +50,6 @@ module _ (bytes : List ℕ) (is_log : IsLog only_part 1 [] bytes) where
       (λ same there. subst (λ n. IsExpected (state_with (started_part only_part []) false None files) n) same (inl (omega arith)))
       (λ apart. at_name (Log 1) name out no_files (λ e. IsThere e → IsExpected (state_with (started_part only_part []) false None files) name) (λ same. absurd (apart same)) (λ other there. absurd there))
 
-  no_next : (image : Image) → MayLeaveAt (nothing_held (Log 2)) (files (Log 2)) image → IsShutOrHas (λ b. ⊥) image
-  no_next None left = tt
-  no_next (Some b) left = absurd (cc)
-
   first_kept : IsKept only_part (state_with (started_part only_part []) false None files)
   first_kept = record {
     memory = same_memory only_part (state_of (started_part only_part [])) files false false (started_memory only_part [] tt);
@@ -68,7 +63,7 @@ module _ (bytes : List ℕ) (is_log : IsLog only_part 1 [] bytes) where
       merge_file = tt;
     };
     expected = λ some sound. expected;
-    next_log = λ some sound not_made. no_next;
+    next_log = λ some sound not_made. nothing_left (Log 2);
   }
 
   first_opened : IsOpenedAt only_part [] disk (settled_file bytes)

@@ -61,7 +61,7 @@ shown_at (t ∷ slots) (e ∷ entries) (suc at) s shows here =
     let found = shown_at slots entries at s rest here in
     record { entry = found.entry; here = found.here; key = found.key; mark = found.mark }
 
-is_none : {X : Type 0} (o : Option X) → is_some o ≡ false → o ≡ None
+pub is_none : {X : Type 0} (o : Option X) → is_some o ≡ false → o ≡ None
 is_none None is = refl
 is_none (Some x) is = cc
 

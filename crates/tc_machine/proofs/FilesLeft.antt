@@ -1,16 +1,16 @@
 -- What a stop leaves under one name, when the files of other names change.
-use Rattle.std.proofs.Common.{◌≡◌, ◌≢◌, ◌<◌, ◌≤◌, ◌+◌, ℕ, List, [], ◌∷◌, length, refl, sym, ap, ◌∙◌, subst, arith, inl, inr}
+use Rattle.std.proofs.Common.{◌≡◌, ◌≢◌, ◌<◌, ◌≤◌, ◌+◌, ℕ, List, [], ◌∷◌, length, refl, sym, ap, ◌∙◌, subst, arith, inl, inr, None, Some}
 use Rattle.std.proofs.lemmas.Bool.{cases_Bool, cases_lt, true≢false}
 use Rattle.tc_plain_model.specs.Writes.{Write}
 use Rattle.tc_lsm_model.specs.Contents.{Partition}
-use Rattle.tc_store.specs.Disk.{Disk, Entry, MayLeaveAt, put, same_name}
+use Rattle.tc_store.specs.Disk.{Disk, Entry, MayLeaveAt, none, put, same_name}
 use Rattle.tc_store.specs.Images.{Image}
 use Rattle.tc_store.specs.declared.file_name.FileName.{FileName}
 use Rattle.tc_store.specs.declared.file_name.FileName.TheVariants.{Log}
 use Rattle.tc_store.proofs.NameLemmas.{put_there, same_name-is, same_name-refl}
 use Rattle.tc_machine.specs.Logs.{LeavesLog}
 use Rattle.tc_machine.specs.Sound.{LeavesLogs, LeavesOf}
-use Rattle.tc_machine.specs.Steps.{IsWritten, nothing_held}
+use Rattle.tc_machine.specs.Steps.{IsShutOrHas, IsWritten, nothing_held}
 
 -- ---- names
 
@@ -38,6 +38,11 @@ LeavesOf-written name files P (f, is, leaves) image left = leaves image (subst (
 
 pub LeavesOf-weaker : (name : FileName) (files : Disk) (P Q : Image → Type 0) → ((image : Image) → P image → Q image) → LeavesOf files name P → LeavesOf files name Q
 LeavesOf-weaker name files P Q go leaves image left = go image (leaves image left)
+
+-- where nothing is there, and nothing that was removed comes back, a stop leaves nothing that is open
+pub nothing_left : (name : FileName) (image : Image) → MayLeaveAt (nothing_held name) (none None) image → IsShutOrHas (λ bytes. ⊥) image
+nothing_left name None left = tt
+nothing_left name (Some bytes) left = absurd (cc)
 
 -- ---- logs
 

@@ -1,11 +1,10 @@
 -- A part of which a flush or a merge begins: done, at each moment, and where its file was not made.
-use Rattle.std.proofs.Common.{◌≡◌, ◌≤◌, ◌+◌, ◌-◌, ◌⊎◌, ℕ, List, [], ◌∷◌, length, refl, sym, ap, ◌∙◌, subst, inl, arith, Option, Some, None, false, true, is_some}
+use Rattle.std.proofs.Common.{◌≡◌, ◌≤◌, ◌+◌, ◌-◌, ◌⊎◌, ℕ, List, length, refl, sym, ap, ◌∙◌, subst, inl, arith, Option, Some, None, false, true, is_some}
 use Rattle.std.specs.Prelude.{IfSome, IsSome, option_map}
 use Rattle.tc_store.specs.declared.file_name.FileName.{FileName}
 use Rattle.tc_store.specs.declared.file_name.FileName.TheVariants.{Component}
 use Rattle.tc_store.specs.Disk.{Disk, IsThere, out, put}
 use Rattle.tc_store.specs.DiskFile.{DiskFile}
-use Rattle.tc_store.specs.Moments.{IfTold}
 use Rattle.tc_store.specs.StoreCalls.{FailsMaking, makes}
 use Rattle.tc_store.proofs.MomentLemmas.{told-goes_on, told_map}
 use Rattle.tc_store.proofs.NameLemmas.{put_there}
@@ -21,11 +20,11 @@ use Rattle.tc_machine.proofs.Options.{if_some_map}
 use Rattle.tc_part_model.specs.Changes.{flushing_part, merging_part}
 use Rattle.tc_part_model.specs.Leaving.{LeavesStoreAt, StoreMomentsLeaveStore}
 use Rattle.tc_part_model.specs.Meaning.{HasFailedAs, IsPart, KeepsSealed}
-use Rattle.tc_part_model.specs.PartFiles.{AreJobsOut, AreKeptAt, IfFiles}
-use Rattle.tc_part_model.specs.PartState.{AreTold, IsTold, Told}
+use Rattle.tc_part_model.specs.PartFiles.{AreJobsOut, AreKeptAt}
+use Rattle.tc_part_model.specs.PartState.{AreTold, Told}
 use Rattle.tc_part_model.specs.PartView.{PartView, state_of}
 use Rattle.tc_part_model.proofs.Beginnings.{flush_begins, flush_free, kept_leaves, merge_begins, merge_free, waste_keeps}
-use Rattle.tc_part_model.proofs.DeviceFiles.{logs_tell, some_sealed}
+use Rattle.tc_part_model.proofs.DeviceFiles.{logs_tell}
 use Rattle.tc_part_model.proofs.Failures.{failing_keeps}
 use Rattle.tc_part_model.proofs.ToldFiles.{if_files_goes_on, if_files_unmade, moments_goes_on, moments_unmade, unmade_untold, wasted}
 
@@ -53,14 +52,6 @@ flush_still name disk o all = if_some_map (λ j. disk (flush_name j) ≡ out) (�
 
 module _ (t : Told) (p : PartView) (is : IsPart t p) where
   -- ---- a file that was to be made
-
-  free_told : (name : FileName) → ((disk : Disk) (f g : DiskFile) → AreKeptAt p false None disk f g → IsThere (disk name) → ⊥) → IfTold t.disks (λ disk. IsThere (disk name) → ⊥)
-  free_told name free = at t.disks t.log is.tells.active is.files.kept
-    where
-      at : (disks : List Disk) (log : List DiskFile) → IfTold disks (λ disk. IsTold log) → IfFiles disks log t.sealed_log (AreKeptAt p false None) → IfTold disks (λ disk. IsThere (disk name) → ⊥)
-      at [] log tells kept = tt
-      at (disk ∷ before) [] tells kept = absurd tells
-      at (disk ∷ before) (f ∷ past) tells kept = let any = some_sealed t.sealed_log in free disk f any.0 (kept any.0 any.1)
 
   unmade : (from to : ℕ) → ((disk : Disk) (f g : DiskFile) → AreKeptAt p false None disk f g → IsThere (disk (Component from to)) → ⊥) → (u : Told) → u.failed ≡ true → u.log ≡ t.log → u.sealed_log ≡ t.sealed_log
       → FailsMaking (Component from to) t.disks u.disks → HasFailedAs u p None
@@ -90,9 +81,6 @@ module _ (t : Told) (p : PartView) (is : IsPart t p) where
 
     named : Component (t.generation - 1) (t.generation - 1) ≡ flush_name (flushing_of (state_of p))
     named = ap (λ n. Component n (t.generation - 1)) (omega (arith, is.view.generation, one_log)) ∙ ap (λ n. Component (last_of p.list + 1) n) (omega (arith, is.view.generation, one_log))
-
-    pub flush_name_free : IfTold t.disks (λ disk. IsThere (disk (Component (t.generation - 1) (t.generation - 1))) → ⊥)
-    flush_name_free = subst (λ n. IfTold t.disks (λ disk. IsThere (disk n) → ⊥)) (sym named) (free_told (flush_name (flushing_of (state_of p))) (λ disk f g k. flush_free p disk f g k (sealed_found kept some).0 (sealed_found kept some).1 none_out))
 
     flush_told : IsPart (record t { disks = makes (flush_name (flushing_of (state_of p))) t.disks; flushing = true }) (flushing_part p)
     flush_told =
@@ -149,9 +137,6 @@ module _ (t : Told) (p : PartView) (is : IsPart t p) where
 
     merge_free_at : (disk : Disk) (f g : DiskFile) → AreKeptAt p false None disk f g → IsThere (disk (file_of c)) → ⊥
     merge_free_at disk f g k = merge_free p disk f g k run c two within is_merge none_merging
-
-    pub merge_name_free : IfTold t.disks (λ disk. IsThere (disk (file_of c)) → ⊥)
-    merge_name_free = free_told (file_of c) merge_free_at
 
     merge_told : IsPart (record t { disks = makes (file_of c) t.disks; merging = Some run }) (merging_part run c p)
     merge_told = record {

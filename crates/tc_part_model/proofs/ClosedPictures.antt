@@ -1,7 +1,6 @@
 -- A part without jobs is closed: each picture of the store opens as its own components and logs.
 use Rattle.std.proofs.Common.{◌≡◌, ◌∙◌, ◌<◌, ◌+◌, ℕ, List, [], ◌∷◌, ◌++◌, length, arith, refl, sym, ap, subst, Option, Some, None, false, is_some}
 use Rattle.std.specs.Prelude.{IfSome, IsSome, option_map}
-use Rattle.std.proofs.lemmas.Bool.{true≢false}
 use Rattle.tc_store.specs.declared.file_name.FileName.{FileName}
 use Rattle.tc_store.specs.declared.file_name.FileName.TheVariants.{Log}
 use Rattle.tc_store.specs.Disk.{Disk, Entry, IsPictureOf, MayLeaveAt, Picture, bytes_at, home, put}
@@ -11,6 +10,7 @@ use Rattle.tc_store.specs.Moments.{IfTold}
 use Rattle.tc_store.specs.StoreCalls.{comes_home}
 use Rattle.tc_store.proofs.GateLemmas.{settled_leaves}
 use Rattle.tc_store.proofs.NameLemmas.{put_there}
+use Rattle.tc_list.proofs.Shown.{is_none}
 use Rattle.tc_plain_model.specs.Writes.{Write}
 use Rattle.tc_lsm_model.specs.Lists.{last_of}
 use Rattle.tc_machine.specs.Pictures.{Opens, image_size, logs_size}
@@ -79,10 +79,6 @@ module _ (p : PartView) (no_flush : p.flush ≡ None) (no_merge : p.merge ≡ No
 
 -- ---- a part
 
-none_of : {A : Type 0} (o : Option A) → is_some o ≡ false → o ≡ None
-none_of None is = refl
-none_of (Some a) is = absurd (true≢false is)
-
 none_from : {A B : Type 0} (f : A → B) (o : Option A) → option_map f o ≡ None → o ≡ None
 none_from f None is = refl
 none_from f (Some a) is = absurd (cc)
@@ -91,8 +87,8 @@ pub close_opens : (t : Told) (p : PartView) (bytes : ℕ) → IsPart t p → t.f
     → IfTold (comes_home (active_name p) (λ x. home x) t.log t.disks) (OpensAs p.part p.list (logs (state_of p)) bytes)
 close_opens t p bytes is no_flush no_merge no_sealed rests =
     closed_told p false None (OpensAs p.part p.list (logs (state_of p)) bytes) (RestsWith bytes)
-    (λ disk f g rests k. one_opens p (none_of p.flush (sym is.view.flushing ∙ no_flush)) (none_from (λ m. m.run) p.merge (sym is.view.merging ∙ no_merge)) disk f g k bytes
-    (none_of p.sealed (sym is.view.sealed_log ∙ ap (λ o. is_some o) no_sealed)) rests)
+    (λ disk f g rests k. one_opens p (is_none p.flush (sym is.view.flushing ∙ no_flush)) (none_from (λ m. m.run) p.merge (sym is.view.merging ∙ no_merge)) disk f g k bytes
+    (is_none p.sealed (sym is.view.sealed_log ∙ ap (λ o. is_some o) no_sealed)) rests)
     t.disks t.log t.sealed_log is.tells.active rests is.files.kept
 
 pub close_both_open : (t : Told) (p : PartView) (bytes more : ℕ) (covered : List DiskFile) → IsPart t p → t.flushing ≡ false → t.merging ≡ None → t.sealed_log ≡ Some covered → IsSome p.sealed → length (sealed_logs p.sealed) ≡ 1
@@ -100,6 +96,6 @@ pub close_both_open : (t : Told) (p : PartView) (bytes more : ℕ) (covered : Li
     → IfTold (comes_home (sealed_name p) (λ x. home x) covered (comes_home (active_name p) (λ x. home x) t.log t.disks)) (OpensAs p.part p.list (logs (state_of p)) (more + bytes))
 close_both_open t p bytes more covered is no_flush no_merge sealed some one rests also =
     closed_both p false None (OpensAs p.part p.list (logs (state_of p)) (more + bytes)) some (omega (arith, one)) (RestsWith bytes) (RestsWith more)
-    (λ disk f g rests also k. both_open p (none_of p.flush (sym is.view.flushing ∙ no_flush)) (none_from (λ m. m.run) p.merge (sym is.view.merging ∙ no_merge)) disk f g k bytes more some one rests also)
+    (λ disk f g rests also k. both_open p (is_none p.flush (sym is.view.flushing ∙ no_flush)) (none_from (λ m. m.run) p.merge (sym is.view.merging ∙ no_merge)) disk f g k bytes more some one rests also)
     t.disks t.log covered is.tells.active (subst (λ o. IfTold t.disks (λ disk. IfSome o (λ moments. IsTold moments))) sealed is.tells.sealed) rests also
     (subst (λ o. IfFiles t.disks t.log o (AreKeptAt p false None)) sealed is.files.kept)

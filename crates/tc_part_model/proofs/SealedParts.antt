@@ -3,7 +3,7 @@ use Rattle.std.proofs.Common.{◌≡◌, ◌+◌, List, [], refl, sym, ap, ◌�
 use Rattle.std.proofs.lemmas.List.Elements.{All-nil}
 use Rattle.tc_model.specs.KnownNames.{HasEach}
 use Rattle.tc_store.specs.declared.file_name.FileName.TheVariants.{Log}
-use Rattle.tc_store.specs.Disk.{Disk, IsThere, home, out, put}
+use Rattle.tc_store.specs.Disk.{Disk, home, out, put}
 use Rattle.tc_store.specs.DiskFile.{DiskFile, settled_file}
 use Rattle.tc_store.specs.Moments.{IfTold}
 use Rattle.tc_store.specs.StoreCalls.{FailsMaking, comes_home, fresh_file_at, makes}
@@ -31,7 +31,7 @@ use Rattle.tc_part_model.specs.PartView.{PartView, state_of, generation_of, next
 use Rattle.tc_part_model.proofs.DeviceFiles.{comes_untold, logs_tell}
 use Rattle.tc_part_model.proofs.Seals.{bare, next_name}
 use Rattle.tc_part_model.proofs.ToldFiles.{unmade_untold}
-use Rattle.tc_part_model.proofs.ToldSeals.{broken_failed, broken_moments, created_moments, created_tells, made_moments, sealed_told, told_free, unmade_failed, unmade_moments}
+use Rattle.tc_part_model.proofs.ToldSeals.{broken_failed, broken_moments, created_moments, created_tells, made_moments, sealed_told, unmade_failed, unmade_moments}
 use Rattle.tc_part_model.proofs.ViewLaws.{none_kept, nothing_starts}
 
 -- ---- what may seal is bare
@@ -65,9 +65,6 @@ module _ (t : Told) (p : PartView) (is : IsPart t (bare p)) where
 
   of_head : (P : LogHead → Type 0) → P (log_head t.part (t.generation + 1)) → P (log_head p.part (next_of (bare p)))
   of_head P h = subst (λ n. P (log_head p.part n)) next (subst (λ part. P (log_head part (t.generation + 1))) is.view.part h)
-
-  bare_free : IfTold t.disks (λ disk. IsThere (disk (Log (t.generation + 1))) → ⊥)
-  bare_free = subst (λ n. IfTold t.disks (λ disk. IsThere (disk (Log n)) → ⊥)) (sym next) (told_free p t.disks t.log t.sealed_log is.tells.active is.files.kept)
 
   module _ (device : List DiskFile) (fresh : device ≡ fresh_file_at (Log (t.generation + 1)) t.disks) where
     -- the creation, as one of the next log of the part
@@ -155,9 +152,6 @@ module _ (t : Told) (p : PartView) (is : IsPart t p) (none : t.sealed ≡ None) 
 
   is_bare_part : IsPart t (bare p)
   is_bare_part = subst (λ q. IsPart t q) (sym same) is
-
-  pub next_log_free : IfTold t.disks (λ disk. IsThere (disk (Log (t.generation + 1))) → ⊥)
-  next_log_free = bare_free t p is_bare_part
 
   pub seal_stored : store_of (sealed_part p) ≡ store_of p
   seal_stored = subst (λ q. store_of (sealed_part q) ≡ store_of q) same refl

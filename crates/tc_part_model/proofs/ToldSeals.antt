@@ -2,7 +2,7 @@
 use Rattle.std.proofs.Common.{◌≡◌, ◌++◌, ◌<◌, ◌^◌, ◌⊎◌, List, [], ◌∷◌, refl, sym, ap, ◌∙◌, subst, inl, inr, Option, Some, None, false, true, if◌then◌else◌}
 use Rattle.std.specs.Prelude.{All}
 use Rattle.std.proofs.lemmas.List.Elements.{All-nil, All-cons, All-append, All-weaker}
-use Rattle.tc_store.specs.Disk.{Disk, IsThere, home, is_out, out, put, removed_of}
+use Rattle.tc_store.specs.Disk.{Disk, home, is_out, out, put, removed_of}
 use Rattle.tc_store.specs.DiskFile.{DiskFile, empty_file, settled_file}
 use Rattle.tc_store.specs.Gate.{IsShutOr, IsShutOrWhole}
 use Rattle.tc_store.specs.Images.{Image}
@@ -24,7 +24,7 @@ use Rattle.tc_part_model.specs.PartView.{PartView, next_of}
 use Rattle.tc_part_model.proofs.DeviceFiles.{comes_untold, some_sealed}
 use Rattle.tc_part_model.proofs.ToldFiles.{MomentsSince, if_files_unmade, moments_goes_on, moments_unmade, wasted}
 use Rattle.tc_part_model.proofs.Failures.{failing_keeps}
-use Rattle.tc_part_model.proofs.Seals.{bare, created_next, empty_next, free, home_kept, home_leaves, next_name, out_leaves, seal_keeps}
+use Rattle.tc_part_model.proofs.Seals.{bare, created_next, empty_next, home_kept, home_leaves, next_name, out_leaves, seal_keeps}
 
 -- a device that was just made leaves what was there before, or nothing open
 fresh_shut : (before : Image) → LeavesAt (IsShutOr before) (empty_file before)
@@ -49,13 +49,6 @@ module _ (p : PartView) where
 
   abbrev Moments : List Disk → List DiskFile → Option (List DiskFile) → List Disk → Type 0
   Moments disks log sealed new = MomentsSince Leaves disks log sealed new
-
-  -- ---- before the call
-
-  pub told_free : (disks : List Disk) (log : List DiskFile) (sealed : Option (List DiskFile)) → Tells disks log → Kept disks log sealed → IfTold disks (λ disk. IsThere (disk (next_name p)) → ⊥)
-  told_free [] log sealed tells kept = tt
-  told_free (disk ∷ before) [] sealed tells kept = absurd tells
-  told_free (disk ∷ before) (f ∷ past) sealed tells kept = let any = some_sealed sealed in free p disk f any.0 (kept any.0 any.1)
 
   -- ---- moments of the store
 

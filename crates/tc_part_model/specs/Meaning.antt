@@ -82,11 +82,6 @@ pub record IsPart (t : Told) (p : PartView) : Type 0 where
   pub tells : LogsTell t.disks t.log t.sealed_log
   pub files : HasFiles t p
 
--- Where the store tells its files, the part means something. A store that tells nothing may hold anything, so that nothing is
--- asked over it.
-abbrev pub Stands : Told → Type 0
-Stands t = IfTold t.disks (λ disk. (p : PartView) × IsPart t p)
-
 -- It has failed. Its files keep what is stored, with the frame whose append failed or without it. What it has in memory means
 -- nothing any more.
 pub record HasFailed (t : Told) (part : Partition) (pairs : Pairs) (frame : Option (List Write)) : Type 0 where

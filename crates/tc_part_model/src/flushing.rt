@@ -2,7 +2,7 @@
 
 ghost use Rattle.std.specs.Prelude.{◌≡◌, ◌-◌, ◌++◌, ◌∷◌, true, false, List, [], Some, None};
 ghost use Rattle.tc_store.specs.declared.file_name.FileName.TheVariants.{Component, Log};
-ghost use Rattle.tc_store.specs.Disk.{Disk, IsThere, home};
+ghost use Rattle.tc_store.specs.Disk.{Disk, home};
 ghost use Rattle.tc_store.specs.DiskFile.{DiskFile, IsSettled};
 ghost use Rattle.tc_store.specs.Moments.{IfTold};
 ghost use Rattle.tc_store.specs.StoreCalls.{FailsMaking, comes_home, frozen_entry, makes, removes};
@@ -15,10 +15,9 @@ ghost use Rattle.tc_part_model.specs.Meaning.{IsPart, IsOfContent, HasFailed, Ha
 ghost use Rattle.tc_part_model.specs.PartState.{Told, ToldComponent};
 ghost use Rattle.tc_part_model.specs.PartView.{PartView, store_of};
 
-/// A law, and no work. Where a table is sealed and no flush is out, the name of its component is free. Once that is out, the
-/// part is the one whose flush is out. At each moment, and where the file was not made, a stop leaves what was stored.
+/// A law, and no work. Where a table is sealed and no flush is out, the part is the one whose flush is out once the file of its
+/// component is out. At each moment, and where the file was not made, a stop leaves what was stored.
 pub fn flushes_begin()
-    ensures free { (t : Told) (p : PartView) (table : Table) → IsPart t p → t.sealed ≡ Some table → t.flushing ≡ false → IfTold t.disks (λ disk. IsThere (disk (Component (t.generation - 1) (t.generation - 1))) → ⊥) }
     ensures begun { (t u : Told) (p : PartView) (table : Table) → IsPart t p → t.sealed ≡ Some table → t.flushing ≡ false
         → u ≡ record t { disks = makes (Component (t.generation - 1) (t.generation - 1)) t.disks; flushing = true } → IsPart u (flushing_part p) }
     ensures moments { (t : Told) (p : PartView) (table : Table) → IsPart t p → t.sealed ≡ Some table → t.flushing ≡ false

@@ -2,9 +2,8 @@
 
 ghost use Rattle.std.specs.Prelude.{◌≡◌, ◌≤◌, ◌+◌, true, List, length, Some, None};
 ghost use Rattle.std.specs.List.{AllZip};
-ghost use Rattle.tc_store.specs.Disk.{Disk, IsThere};
+ghost use Rattle.tc_store.specs.Disk.{Disk};
 ghost use Rattle.tc_store.specs.DiskFile.{DiskFile};
-ghost use Rattle.tc_store.specs.Moments.{IfTold};
 ghost use Rattle.tc_store.specs.StoreCalls.{FailsMaking, comes_home, frozen_entry, makes};
 ghost use Rattle.tc_lsm_model.specs.Contents.{Content};
 ghost use Rattle.tc_lsm_model.specs.Merges.{IsMerge, Run, in_run};
@@ -17,11 +16,9 @@ ghost use Rattle.tc_part_model.specs.Meaning.{IsPart, IsOfContent, HasFailed, Ha
 ghost use Rattle.tc_part_model.specs.PartState.{Told, AreTold};
 ghost use Rattle.tc_part_model.specs.PartView.{PartView, store_of};
 
-/// A law, and no work. Where no merge is out, the name of the component that a run of two or more makes is free. Once that is
-/// out, the part is the one whose merge is out. At each moment, and where the file was not made, a stop leaves what was stored.
+/// A law, and no work. Where no merge is out, the part is the one whose merge is out once the file of the component is out
+/// that a run of two or more makes. At each moment, and where the file was not made, a stop leaves what was stored.
 pub fn merges_begin()
-    ensures free { (t : Told) (p : PartView) (run : Run) (c : Content) → IsPart t p → 2 ≤ run.length → run.first + run.length ≤ length p.list → IsMerge (in_run run p.list) c → t.merging ≡ None
-        → IfTold t.disks (λ disk. IsThere (disk (file_of c)) → ⊥) }
     ensures begun { (t u : Told) (p : PartView) (run : Run) (c : Content) → IsPart t p → 2 ≤ run.length → run.first + run.length ≤ length p.list → IsMerge (in_run run p.list) c → t.merging ≡ None
         → u ≡ record t { disks = makes (file_of c) t.disks; merging = Some run } → IsPart u (merging_part run c p) }
     ensures moments { (t : Told) (p : PartView) (run : Run) (c : Content) → IsPart t p → 2 ≤ run.length → run.first + run.length ≤ length p.list → IsMerge (in_run run p.list) c → t.merging ≡ None

@@ -2,9 +2,8 @@
 
 ghost use Rattle.std.specs.Prelude.{◌≡◌, ◌+◌, true, List, [], Some, None};
 ghost use Rattle.tc_store.specs.declared.file_name.FileName.TheVariants.{Log};
-ghost use Rattle.tc_store.specs.Disk.{Disk, IsThere, home};
+ghost use Rattle.tc_store.specs.Disk.{Disk, home};
 ghost use Rattle.tc_store.specs.DiskFile.{DiskFile};
-ghost use Rattle.tc_store.specs.Moments.{IfTold};
 ghost use Rattle.tc_store.specs.StoreCalls.{FailsMaking, comes_home, fresh_file_at, makes};
 ghost use Rattle.tc_log.specs.Spelling.{IsHead};
 ghost use Rattle.tc_machine.specs.Logs.{log_head};
@@ -15,10 +14,9 @@ ghost use Rattle.tc_part_model.specs.Meaning.{IsPart, HasFailed, HasFailedAs};
 ghost use Rattle.tc_part_model.specs.PartState.{Told};
 ghost use Rattle.tc_part_model.specs.PartView.{PartView, store_of};
 
-/// A law, and no work. Where no table is sealed and nothing is staged, the name of the next log is free. Once the log is
-/// there, the part is the one whose active table is sealed, and stores what it stored.
+/// A law, and no work. Where no table is sealed and nothing is staged, the part is the one whose active table is sealed once
+/// the next log is there, and stores what it stored.
 pub fn seals_are_kept()
-    ensures free { (t : Told) (p : PartView) → IsPart t p → t.sealed ≡ None → t.staged ≡ [] → IfTold t.disks (λ disk. IsThere (disk (Log (t.generation + 1))) → ⊥) }
     ensures sealed { (t u : Told) (p : PartView) (device : List DiskFile) → IsPart t p → t.sealed ≡ None → t.staged ≡ [] → device ≡ fresh_file_at (Log (t.generation + 1)) t.disks → IsHead (log_head t.part (t.generation + 1))
         → HasCreated (log_head t.part (t.generation + 1)) device u.log
         → u ≡ record t { disks = makes (Log (t.generation + 1)) t.disks; log = u.log; sealed_log = Some t.log; generation = t.generation + 1; sealed = Some t.active; active = [] }

@@ -1,7 +1,8 @@
 -- A partition of a world stores what its writes leave of what it stored when the run began.
-use Rattle.std.proofs.Common.{◌≡◌, ℕ, zero, suc, Bool, true, false, List, [], ◌∷◌, refl, ap, sym, ◌∙◌}
+use Rattle.std.proofs.Common.{◌≡◌, ℕ, zero, suc, Bool, true, false, List, [], ◌∷◌, refl, ap, sym, ◌∙◌, arith}
 use Rattle.std.specs.Prelude.{◌==◌, ◌&&◌, Option, Some, is_some, length, map, if◌then◌else◌}
 use Rattle.std.specs.List.{AllByRecursion}
+use Rattle.std.proofs.lemmas.Bool.{eqb-true}
 use Rattle.tc_model.specs.Request.{Request, upsert, delete, get, query, flush, schema, scan, collect, refused}
 use Rattle.tc_plain_model.specs.Writes.{Write, after_writes}
 use Rattle.tc_plain_model.specs.Store.{Store}
@@ -50,17 +51,11 @@ after_all_stands (r ∷ rs) w all = after_all_stands rs (after r w) (after_stand
 
 -- ---- what was flushed
 
-both_true : (a b : Bool) → (a && b) ≡ true → (a ≡ true) × (b ≡ true)
-both_true true true is = (refl, refl)
-both_true true false is = absurd (cc)
-both_true false b is = absurd (cc)
-
-nothing : (ws : List Write) → (length ws == 0) ≡ true → ws ≡ []
-nothing [] is = refl
-nothing (w ∷ ws) is = absurd (cc)
+all_written : (flushed : Bool) (ws : List Write) → (flushed && (length ws == 0)) ≡ true → (flushed ≡ true) × (ws ≡ [])
+all_written true [] is = (refl, refl)
+all_written true (w ∷ ws) is = absurd (omega (arith, eqb-true (length (w ∷ ws)) 0 is))
+all_written false ws is = absurd (cc)
 
 -- Where all was flushed behind a request for a key, so it was before, and the request wrote nothing.
 pub flushed_before : (p : ℕ) (r : Request) (w : World) → (with_part p r w).flushed ≡ true → (w.flushed ≡ true) × (part_writes w.limits r (store_at p w) ≡ [])
-flushed_before p r w is =
-    let both = both_true w.flushed (length (part_writes w.limits r (store_at p w)) == 0) is in
-    (both.0, nothing (part_writes w.limits r (store_at p w)) both.1)
+flushed_before p r w is = all_written w.flushed (part_writes w.limits r (store_at p w)) is

@@ -1,10 +1,7 @@
 use Rattle.std.proofs.Common.{None}
-use Rattle.tc_part_model.proofs.BegunParts.{flush_is_part, flush_moments, flush_name_free, flush_unmade, flush_unmade_moments}
+use Rattle.tc_part_model.proofs.BegunParts.{flush_is_part, flush_moments, flush_unmade, flush_unmade_moments}
 use Rattle.tc_part_model.proofs.FailedParts.{failed_stores}
 use Rattle.tc_part_model.proofs.flushing.flushes_begin.Goals as goal
-
-pub returns-clause-free : goal.returns-clause-free
-returns-clause-free c = λ t p table is. flush_name_free t p is table
 
 pub returns-clause-begun : goal.returns-clause-begun
 returns-clause-begun c = λ t u p table is some none. flush_is_part t p is table some none u

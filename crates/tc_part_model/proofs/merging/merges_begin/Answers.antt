@@ -1,10 +1,7 @@
 use Rattle.std.proofs.Common.{None}
-use Rattle.tc_part_model.proofs.BegunParts.{merge_is_part, merge_moments, merge_name_free, merge_unmade, merge_unmade_moments}
+use Rattle.tc_part_model.proofs.BegunParts.{merge_is_part, merge_moments, merge_unmade, merge_unmade_moments}
 use Rattle.tc_part_model.proofs.FailedParts.{failed_stores}
 use Rattle.tc_part_model.proofs.merging.merges_begin.Goals as goal
-
-pub returns-clause-free : goal.returns-clause-free
-returns-clause-free c = λ t p run content is two within is_merge none. merge_name_free t p is run content two within is_merge none
 
 pub returns-clause-begun : goal.returns-clause-begun
 returns-clause-begun c = λ t u p run content is two within is_merge none. merge_is_part t p is run content two within is_merge none u
