@@ -1,5 +1,5 @@
 -- What a cursor holds of the records of a component.
-use Rattle.std.specs.Prelude.{◌≡◌, ◌≤◌, ◌+◌, ◌-◌, ℕ, max, List, [], length, take, drop, Option, IfSome}
+use Rattle.std.specs.Prelude.{◌≡◌, ◌≤◌, ◌+◌, ◌-◌, ℕ, max, min, List, [], length, take, drop, Option, IfSome}
 use Rattle.tc_component.specs.Fetching.{record_place, length_at}
 use Rattle.tc_component.specs.Layout.{window_size, directory_place}
 use Rattle.tc_component.specs.Spelling.{Index, sizes_in}
@@ -21,11 +21,12 @@ abbrev pub HasBytes : ℕ → ℕ → CursorState → Type 0
 HasBytes place count cursor = (cursor.from ≤ place) × (place + count ≤ cursor.from + length cursor.held)
 
 -- They begin at a place, where so many are wanted, and end before another. They are no more than one window, or than those
--- that are wanted.
+-- that are wanted, and no less than one window, or than all up to that end.
 pub record IsWindow (place count end : ℕ) (cursor : CursorState) : Type 0 where
   pub begins : cursor.from ≡ place
   pub within : cursor.from + length cursor.held ≤ end
   pub short : length cursor.held ≤ max window_size count
+  pub full : min (end - place) window_size ≤ length cursor.held
 
 -- the whole record of the entry at a position is among them
 abbrev pub HasRecord : Index → ℕ → CursorState → Type 0

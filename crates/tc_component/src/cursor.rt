@@ -1,6 +1,6 @@
 //! Records of a component, read through a window.
 
-ghost use Rattle.std.specs.Prelude.{◌≡◌, ◌<◌, ◌≤◌, ◌+◌, ◌-◌, ◌^◌, ◌↔◌, max, length, take, drop, IfSome, IsErrOf, IsTrue, OnOk};
+ghost use Rattle.std.specs.Prelude.{◌≡◌, ◌<◌, ◌≤◌, ◌+◌, ◌-◌, ◌^◌, ◌↔◌, max, min, length, take, drop, IfSome, IsErrOf, IsTrue, OnOk};
 ghost use Rattle.std.specs.Result.{IsOk};
 ghost use Rattle.tc_store.specs.Counted.{IsCountedOnce};
 ghost use Rattle.tc_store.specs.Judging.{IfDamaged, IsNoDamage};
@@ -165,6 +165,7 @@ fn window_len(left: u64, count: u32) -> usize
     ensures enough { count ≤ result }
     ensures within { result ≤ left }
     ensures short { result ≤ max window_size count }
+    ensures full { min left window_size ≤ result }
 {
     left.min(WINDOW_LEN as u64).max(u64::from(count)) as usize
 }
