@@ -69,3 +69,12 @@ returns-in-Err-clause-reads g c = one_read _ _ c.in-Err.ensures.counted.reads
 
 pub returns-clause-reads : goal.returns-clause-reads
 returns-clause-reads g c = let read = one_read _ _ c.in_default.ensures.counted.reads in omega (arith, read, c.push.ensures.watched.reads)
+
+pub returns-clause-watched : goal.returns-clause-watched
+returns-clause-watched g c =
+    let read = c.in_default.ensures.counted in
+    let pushed = c.push.ensures.watched in
+    record {
+      faults = omega (arith, read.faults, pushed.faults);
+      cause = λ failed. omega (arith, read.faults, pushed.cause failed);
+    }
