@@ -14,12 +14,13 @@ use Rattle.tc_plain_model.specs.Store.{Store}
 use Rattle.tc_plain_model.specs.Rows.{rows_over}
 use Rattle.tc_plain_model.specs.Part.{Limits}
 use Rattle.tc_run_model.specs.World.{united}
+use Rattle.tc_run_model.proofs.UnitedPairs.{AreBehind, with_all, Ascends-with_all, with_all-ascending}
 use Rattle.tc_route.specs.Shares.{share}
 use Rattle.tc_route.specs.Gathered.{with_reply, joined, beside}
 use Rattle.tc_route.specs.Answers.{answered, shares_answered, KeepOwn}
-use Rattle.tc_route.proofs.Fronts.{AreBehind, fold-behind}
+use Rattle.tc_route.proofs.Fronts.{fold-behind}
 use Rattle.tc_route.proofs.Homes.{all_of, AreBehind-answered, AreBehind-share}
-use Rattle.tc_route.proofs.OrderedRows.{with_all, Ascends-with_all, with_all-ascending, in_order-rows}
+use Rattle.tc_route.proofs.OrderedRows.{in_order-rows}
 
 -- a further reply at the least place
 with_reply-same : (at : ℕ) (first a : Reply) (all : Keyed Reply) → with_reply ((at, first) ∷ all) (at, a) ≡ (at, joined first a) ∷ all

@@ -1,38 +1,21 @@
 -- A reply at the least place stands in front, whenever it comes.
 use Rattle.std.proofs.Common.{◌≡◌, ◌∙◌, ap, refl, ℕ, ◌<◌, false, [], ◌∷◌, arith}
-use Rattle.std.specs.Prelude.{None, nat_lt, ◌==◌, fold, All}
-use Rattle.std.proofs.lemmas.Bool.{lt-ltb}
+use Rattle.std.specs.Prelude.{None, ◌==◌, fold}
 use Rattle.std.proofs.lemmas.Bool.Decides.{nat_tests}
 use Rattle.std.proofs.lemmas.List.Elements.{All-head, All-tail}
 use Rattle.tc_model.specs.Keyed.{Keyed, value_of, with_value}
 use Rattle.tc_model.specs.Reply.{Reply}
 use Rattle.tc_model.proofs.KeyedOrder.{All-with_value}
+use Rattle.tc_run_model.proofs.UnitedPairs.{AreBehind, apart_back, with_value-front, with_value-behind}
 use Rattle.tc_route.specs.Gathered.{beside, with_reply}
 
--- each place is behind this one
-abbrev pub AreBehind : {V : Type 0} → ℕ → Keyed V → Type 0
-AreBehind at xs = All (λ e. at < e.0) xs
-
-apart_back : (a b : ℕ) → a < b → (b == a) ≡ false
-apart_back a b less = grind (arith, nat_tests, less)
-
-not_less : (a b : ℕ) → a < b → nat_lt b a ≡ false
-not_less a b less = grind (arith, nat_tests, less)
-
--- ---- one value put in
-
-pub with_value-front : {V : Type 0} (at : ℕ) (v : V) (all : Keyed V) → AreBehind at all → with_value at v all ≡ (at, v) ∷ all
-with_value-front at v [] behind = refl
-with_value-front at v (e ∷ es) behind = rw (lt-ltb at e.0 (All-head (λ e. at < e.0) e es behind)) refl
+-- ---- one value looked up
 
 pub value_of-front : {V : Type 0} (at : ℕ) (all : Keyed V) → AreBehind at all → value_of at all ≡ None
 value_of-front at [] behind = refl
 value_of-front at (e ∷ es) behind =
     let apart : (at == e.0) ≡ false = grind (arith, nat_tests, All-head (λ e. at < e.0) e es behind) in
     rw apart (value_of-front at es (All-tail (λ e. at < e.0) e es behind))
-
-pub with_value-behind : {V : Type 0} (at n : ℕ) (first v : V) (all : Keyed V) → at < n → with_value n v ((at, first) ∷ all) ≡ (at, first) ∷ with_value n v all
-with_value-behind at n first v all less = rw (not_less at n less, apart_back at n less) refl
 
 value_of-behind : {V : Type 0} (at n : ℕ) (first : V) (all : Keyed V) → at < n → value_of n ((at, first) ∷ all) ≡ value_of n all
 value_of-behind at n first all less = rw (apart_back at n less) refl

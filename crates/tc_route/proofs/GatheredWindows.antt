@@ -13,10 +13,10 @@ use Rattle.tc_plain_model.specs.Store.{Store, with_pair, without_pair}
 use Rattle.tc_plain_model.specs.Rows.{rows_over}
 use Rattle.tc_plain_model.specs.Part.{Limits, part_reply, part_left, upsert_refusal, unless_refused}
 use Rattle.tc_run_model.specs.World.{Part, World, home_of, store_at, united, part_after, with_part, changed_at}
+use Rattle.tc_run_model.proofs.UnitedPairs.{behind_first, rest_ascends}
 use Rattle.tc_route.specs.Gathered.{with_reply, gathered}
 use Rattle.tc_route.specs.Answers.{shares_answered, window_answered, stores_of, IsForParts, KeepOwn, AreGathered}
 use Rattle.tc_route.proofs.Homes.{all_of, IsForOne, homed}
-use Rattle.tc_route.proofs.OrderedRows.{behind_first, rest_ascends}
 use Rattle.tc_route.proofs.AskedAll.{asked_all}
 
 -- ---- a change at a place

@@ -10,10 +10,11 @@ use Rattle.tc_model.specs.Reply.{Reply}
 use Rattle.tc_plain_model.specs.Store.{Store, empty}
 use Rattle.tc_plain_model.specs.Part.{Limits, part_reply, part_left}
 use Rattle.tc_run_model.specs.World.{changed_at}
+use Rattle.tc_run_model.proofs.UnitedPairs.{AreBehind}
 use Rattle.tc_route.specs.Shares.{is_for, share}
 use Rattle.tc_route.specs.Gathered.{with_reply}
 use Rattle.tc_route.specs.Answers.{answered, shares_answered}
-use Rattle.tc_route.proofs.Fronts.{AreBehind, with_reply-front, fold-behind, AreBehind-fold}
+use Rattle.tc_route.proofs.Fronts.{with_reply-front, fold-behind, AreBehind-fold}
 
 -- ---- places of replies are those of requests
 

@@ -1,56 +1,20 @@
 -- Rows of several partitions in ascending key are the rows of what they store together.
 use Rattle.std.proofs.Common.{◌≡◌, ◌∙◌, ap, sym, refl, ℕ, ◌<◌, Bool, true, false, List, [], ◌∷◌, ◌++◌, map, arith}
 use Rattle.std.specs.Prelude.{Option, Some, None, nat_lt, ◌==◌, fold, All, if◌then◌else◌}
-use Rattle.std.specs.declared.cmp.Ordering.TheVariants.{Less}
-use Rattle.std.specs.Ordering.{nat_cmp}
-use Rattle.std.specs.Cmp.{ranked}
-use Rattle.std.specs.Map.{keys_of}
 use Rattle.std.proofs.lemmas.Bool.Decides.{nat_tests}
 use Rattle.std.proofs.lemmas.List.Elements.{All-nil, All-cons, All-head, All-tail}
 use Rattle.std.proofs.lemmas.List.Sums.{fold-append}
-use Rattle.std.proofs.lemmas.Map.Keys.{sorted_head, sorted_tail}
 use Rattle.tc_model.specs.Document.{Document}
 use Rattle.tc_model.specs.Keyed.{Keyed, Ascends, value_of, with_value, values_in}
 use Rattle.tc_model.specs.Request.{Ask}
 use Rattle.tc_model.specs.Reply.{Row}
-use Rattle.tc_model.proofs.KeyedOrder.{sorted-with_value, sorted_nil, AreAbove}
+use Rattle.tc_model.proofs.KeyedOrder.{sorted-with_value, sorted_nil}
 use Rattle.tc_model.proofs.KeyedLookups.{value_of-with_value}
 use Rattle.tc_plain_model.specs.Writes.{Pairs}
 use Rattle.tc_plain_model.specs.Paths.{reached}
 use Rattle.tc_plain_model.specs.Rows.{row_of, rows_over, meets}
+use Rattle.tc_run_model.proofs.UnitedPairs.{AreBehind, with_value-front, with_value-behind, behind_first, rest_ascends, with_all, with_all-ascending}
 use Rattle.tc_route.specs.Gathered.{with_row, in_order}
-use Rattle.tc_route.proofs.Fronts.{AreBehind, with_value-front, with_value-behind}
-
--- ---- values put in, in ascending key
-
-abbrev pub with_all : {V : Type 0} → Keyed V → Keyed V → Keyed V
-with_all all more = fold (λ xs p. with_value p.0 p.1 xs) all more
-
-pub Ascends-with_all : {V : Type 0} (all more : Keyed V) → Ascends all → Ascends (with_all all more)
-Ascends-with_all all [] ascends = ascends
-Ascends-with_all all (e ∷ more) ascends = Ascends-with_all (with_value e.0 e.1 all) more (sorted-with_value e.0 e.1 all ascends)
-
-above_behind : {V : Type 0} (n : ℕ) (es : Keyed V) → AreAbove n (keys_of es) → AreBehind n es
-above_behind n [] above = All-nil (λ e. n < e.0)
-above_behind n (e ∷ es) above = All-cons (λ e. n < e.0) e es (ranked n e.0 Less (sym above.0)) (above_behind n es above.1)
-
--- what stands behind the first one is greater
-pub behind_first : {V : Type 0} (e : ℕ × V) (es : Keyed V) → Ascends (e ∷ es) → AreBehind e.0 es
-behind_first e es ascends = above_behind e.0 es (sorted_head nat_cmp e.0 (keys_of es) ascends)
-
-pub rest_ascends : {V : Type 0} (e : ℕ × V) (es : Keyed V) → Ascends (e ∷ es) → Ascends es
-rest_ascends e es ascends = sorted_tail nat_cmp e.0 (keys_of es) ascends
-
-with_all-behind : {V : Type 0} (n : ℕ) (first : V) (all more : Keyed V) → AreBehind n more → with_all ((n, first) ∷ all) more ≡ (n, first) ∷ with_all all more
-with_all-behind n first all [] behind = refl
-with_all-behind n first all (e ∷ more) behind =
-    ap (λ xs. with_all xs more) (with_value-behind n e.0 first e.1 all (All-head (λ e. n < e.0) e more behind))
-    ∙ with_all-behind n first (with_value e.0 e.1 all) more (All-tail (λ e. n < e.0) e more behind)
-
-pub with_all-ascending : {V : Type 0} (es : Keyed V) → Ascends es → with_all [] es ≡ es
-with_all-ascending [] ascends = refl
-with_all-ascending (e ∷ es) ascends =
-    with_all-behind e.0 e.1 [] es (behind_first e es ascends) ∙ ap (λ more. e ∷ more) (with_all-ascending es (rest_ascends e es ascends))
 
 -- ---- the row of a document
 

@@ -13,13 +13,12 @@ use Rattle.tc_model.specs.Reply.{Row, Reply}
 use Rattle.tc_model.proofs.KeyedOrder.{sorted-with_value, sorted_nil}
 use Rattle.tc_model.proofs.KeyedMaps.{option_map-lookup, map-insert_entry, map-remove_entry}
 use Rattle.tc_model.proofs.Replacing.{below_all}
+use Rattle.tc_run_model.proofs.UnitedPairs.{with_value-front, behind_first, rest_ascends}
 use Rattle.tc_command.specs.declared.replies.Reply.{Reply as KeptReply}
 use Rattle.tc_command.specs.Replies.{reply_of}
 use Rattle.tc_route.specs.declared.placed.Placed.{Placed}
 use Rattle.tc_route.specs.Gathered.{beside, with_reply, gathered, with_row, in_order}
 use Rattle.tc_route.specs.Meaning.{replies_in}
-use Rattle.tc_route.proofs.Fronts.{with_value-front}
-use Rattle.tc_route.proofs.OrderedRows.{behind_first, rest_ascends}
 
 -- one more of what is read by f
 pub fold_more : {X Y S : Type 0} (step : S → Y → S) (f : X → Y) (s : S) (xs : List X) (x : X) → fold step s (map f (xs ++ x ∷ [])) ≡ step (fold step s (map f xs)) (f x)

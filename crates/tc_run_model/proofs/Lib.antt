@@ -1,6 +1,7 @@
 pub mod WindowLaws
 pub mod WindowCuts
 pub mod WorldLaws
+pub mod UnitedPairs
 pub mod ReplyLaws
 pub mod KindLaws
 mod LineRows

@@ -111,3 +111,9 @@ pub documents_that_are_full :
     output_of (record { names = 10; docs = 1 }) (fed (codes "{\"op\":\"upsert\",\"doc\":{\"id\":1}}") ++ fed (codes "{\"op\":\"upsert\",\"doc\":{\"id\":2}}") ++ fed (codes "{\"op\":\"upsert\",\"doc\":{\"id\":1,\"z\":1}}") ++ fed (codes "{\"op\":\"delete\",\"id\":1}") ++ codes "{\"op\":\"upsert\",\"doc\":{\"id\":2}}") ≡ fed (codes "{\"id\":1,\"replaced\":false}") ++ fed (codes "{\"refused\":\"full\"}") ++ fed (codes "{\"id\":1,\"replaced\":true}") ++ fed (codes "{\"found\":true,\"id\":1}") ++ fed (codes "{\"id\":2,\"replaced\":false}")
 unfolding serde_json_on_literals is_utf8 chars digits
 documents_that_are_full = refl
+
+-- a query sees the writes in front of it; of the documents without their keys
+pub queries_between_writes :
+    output_of ample (fed (codes "{\"op\":\"upsert\",\"doc\":{\"id\":2,\"a\":[1,null,true]}}") ++ fed (codes "{\"op\":\"query\",\"path\":[\"a\",0]}") ++ fed (codes "{\"op\":\"upsert\",\"doc\":{\"id\":1,\"a\":[true,1]}}") ++ fed (codes "{\"op\":\"query\",\"path\":[\"a\",0]}") ++ fed (codes "{\"op\":\"query\",\"path\":[\"a\",null],\"eq\":1}") ++ fed (codes "{\"op\":\"query\",\"path\":[]}") ++ fed (codes "{\"op\":\"query\",\"path\":[\"id\"]}")) ≡ fed (codes "{\"id\":2,\"replaced\":false}") ++ fed (codes "{\"rows\":[{\"id\":2,\"values\":[1]}]}") ++ fed (codes "{\"id\":1,\"replaced\":false}") ++ fed (codes "{\"rows\":[{\"id\":1,\"values\":[true]},{\"id\":2,\"values\":[1]}]}") ++ fed (codes "{\"rows\":[{\"id\":1,\"values\":[true,1]},{\"id\":2,\"values\":[1,null,true]}]}") ++ fed (codes "{\"rows\":[{\"id\":1,\"values\":[{\"a\":[true,1]}]},{\"id\":2,\"values\":[{\"a\":[1,null,true]}]}]}") ++ fed (codes "{\"rows\":[]}")
+unfolding serde_json_on_literals is_utf8 chars digits
+queries_between_writes = refl

@@ -6,7 +6,7 @@ abbrev pub is_built : Request → Bool
 is_built (upsert n d) = true
 is_built (delete n) = true
 is_built (get n) = true
-is_built (query ask) = false
+is_built (query ask) = true
 is_built flush = true
 is_built schema = true
 is_built (scan ask) = false
