@@ -1,11 +1,11 @@
 -- A part that is closed leaves what was stored in its store.
-use Rattle.std.proofs.Common.{◌≡◌, ◌∙◌, ◌<◌, ◌+◌, ◌-◌, ℕ, true, false, List, [], ◌∷◌, Option, Some, None, length, is_some, option_map, refl, sym, ap, subst, arith}
+use Rattle.std.proofs.Common.{◌≡◌, ◌∙◌, ◌<◌, ◌+◌, ◌-◌, ℕ, true, false, List, Option, Some, None, length, is_some, option_map, refl, sym, ap, subst, arith}
 use Rattle.std.specs.Prelude.{IfSome, IsSome, not}
 use Rattle.std.proofs.lemmas.Option.{same_Some}
 use Rattle.tc_store.specs.declared.file_name.FileName.{FileName}
 use Rattle.tc_store.specs.declared.file_name.FileName.TheVariants.{Log}
 use Rattle.tc_store.specs.Disk.{Disk, home}
-use Rattle.tc_store.specs.DiskFile.{DiskFile, IsSettled}
+use Rattle.tc_store.specs.DiskFile.{DiskFile}
 use Rattle.tc_store.specs.Moments.{IfTold}
 use Rattle.tc_store.specs.StoreCalls.{comes_home}
 use Rattle.tc_log.specs.Appending.{LogState}
@@ -93,11 +93,6 @@ pub closed_run_moments : (t : Told) (p : PartView) → IsPart t p
 closed_run_moments t p is = let fails = fails_whole t p is in closed_moments (record t { failed = true }) p None fails.0 fails.1
 
 -- ---- as what the store opens
-
--- a log on which nothing is pending has the bytes of its device
-pub rest_told : (bytes : ℕ) (log : List DiskFile) → IfTold log IsSettled → IfTold log (λ f. bytes ≡ length f.content) → IfTold log (RestsWith bytes)
-rest_told bytes [] settled sized = tt
-rest_told bytes (f ∷ past) settled sized = (settled, sized)
 
 pub some_then : {A : Type 0} (P Q : A → Type 0) (o : Option A) → IfSome o P → IfSome o (λ a. P a → Q a) → IfSome o Q
 some_then P Q None is goes = tt
