@@ -1,13 +1,16 @@
--- The numbers of a run are in the ranges of their options: a window has a line at least and no more than words may ask for, the
+-- The numbers that words ask for are in their ranges: a window has a line at least and no more than words may ask for, the
 -- bytes at which a table is sealed are many, and few components are merged.
-use Rattle.std.proofs.Common.{◌≡◌, ◌≤◌, ℕ, Bool, true, false, List, refl, arith}
-use Rattle.std.specs.Prelude.{◌&&◌, nat_le, is_some, unwrap_or, option_and_then, Option, Some, None, IfSome, if◌then◌else◌}
+use Rattle.std.proofs.Common.{◌≡◌, ◌≤◌, ℕ, Bool, true, false, List, refl, ap, subst, arith, codes}
+use Rattle.std.specs.Prelude.{◌&&◌, nat_le, is_some, unwrap_or, option_and_then, option_map, Option, Some, None, IfSome, if◌then◌else◌}
+use Rattle.std.specs.Str.{bytes_eq}
 use Rattle.std.specs.Option.{option_map_or}
 use Rattle.std.proofs.lemmas.Bool.Decides.{nat_tests}
 use Rattle.clap.specs.Words.{Row, Text, first_of}
 use Rattle.tc_number.specs.Number.{number_between, number_of}
-use Rattle.tc_words.specs.Grammar.{partitions, memory, names, docs, window, merge, limit, run_matches}
-use Rattle.tc_words.specs.Options.{number_in, options_in, options_of}
+use Rattle.tc_words.specs.Grammar.{partitions, memory, names, docs, window, merge, limit, commands_name, named_matches}
+use Rattle.tc_words.specs.Options.{number_in, options_in, options_of, options_asked, demo_options, commands_in, if_run, invocation_in, invocation_of}
+use Rattle.tc_words.specs.declared.asked.Invocation.{Invocation}
+use Rattle.tc_words.specs.declared.asked.Invocation.TheVariants.{Run, Demo}
 use Rattle.tc_words.specs.declared.run.Options.{Options}
 
 abbrev pub IsBetween : ℕ → ℕ → ℕ → Type 0
@@ -85,10 +88,54 @@ in_rows rows o same =
       merge = there_within 2 8 (number_in rows merge) (sixth p m n d w g l read.0) (given_within 2 8 4 (omega arith, omega arith) (first_of merge.name rows));
     })
 
-in_matches : (matches : Option (List Row)) (o : Options) → option_and_then options_in matches ≡ Some o → AreInRange o
-in_matches None o same = absurd (cc)
-in_matches (Some rows) o same = in_rows rows o same
+-- ---- what words ask for
+
+-- a demonstration has a command at least, and no more than words may ask for
+abbrev pub HasFewCommands : Invocation → Type 0
+HasFewCommands (Run options) = Unit {0}
+HasFewCommands (Demo n options) = IsBetween 1 1000000 n
+
+pub record IsInRange (asked : Invocation) : Type 0 where
+  pub options : AreInRange (options_asked asked)
+  pub commands : HasFewCommands asked
+
+asks_run : (o : Option Options) (asked : Invocation) → ((options : Options) → o ≡ Some options → AreInRange options) → option_map Run o ≡ Some asked → IsInRange asked
+asks_run None asked ranges same = absurd (cc)
+asks_run (Some options) asked ranges same =
+    let is : Run options ≡ asked = cc in
+    subst IsInRange is (record { options = ranges options refl; commands = tt })
+
+demo_in_range : AreInRange demo_options
+demo_in_range = record { window = (omega arith, omega arith); memory = (omega arith, omega arith); merge = (omega arith, omega arith) }
+
+asks_demo : (o : Option ℕ) (asked : Invocation) → IfSome o (IsBetween 1 1000000) → option_map (λ n. Demo n demo_options) o ≡ Some asked → IsInRange asked
+asks_demo None asked few same = absurd (cc)
+asks_demo (Some n) asked few same =
+    let is : Demo n demo_options ≡ asked = cc in
+    subst IsInRange is (record { options = demo_in_range; commands = few })
+
+commands_within : (o : Option Text) → IfSome (option_and_then (number_between 1 1000000) o) (IsBetween 1 1000000)
+commands_within None = tt
+commands_within (Some text) = read_within 1 1000000 (number_of text)
+
+asks_named : (run demo : Bool) (rows : List Row) (asked : Invocation)
+    → (if run then option_map Run (options_in rows) else (if demo then option_map (λ n. Demo n demo_options) (commands_in rows) else None)) ≡ Some asked → IsInRange asked
+asks_named true demo rows asked same = asks_run (options_in rows) asked (in_rows rows) same
+asks_named false true rows asked same = asks_demo (commands_in rows) asked (commands_within (first_of commands_name rows)) same
+asks_named false false rows asked same = absurd (cc)
+
+in_matches : (matches : Option (Text × List Row)) (asked : Invocation) → option_and_then invocation_in matches ≡ Some asked → IsInRange asked
+in_matches None asked same = absurd (cc)
+in_matches (Some named) asked same = asks_named (bytes_eq named.0 (codes "run")) (bytes_eq named.0 (codes "demo")) named.1 asked same
+
+pub asked_in_range : (words : List Text) (asked : Invocation) → invocation_of words ≡ Some asked → IsInRange asked
+unfolding invocation_of
+asked_in_range words asked same = in_matches (named_matches words) asked same
+
+run_asked : (asked : Option Invocation) (o : Options) → option_and_then if_run asked ≡ Some o → asked ≡ Some (Run o)
+run_asked None o same = absurd (cc)
+run_asked (Some (Run options)) o same = let is : options ≡ o = cc in ap (λ x. Some (Run x)) is
+run_asked (Some (Demo n options)) o same = absurd (cc)
 
 pub in_range : (words : List Text) (o : Options) → options_of words ≡ Some o → AreInRange o
-unfolding options_of
-in_range words o same = in_matches (run_matches words) o same
+in_range words o same = (asked_in_range words (Run o) (run_asked (invocation_of words) o same)).options

@@ -5,18 +5,18 @@ use Rattle.clap.specs.Words.{Row, Text}
 use Rattle.clap.specs.declared.error.kind.ErrorKind.{ErrorKind}
 use Rattle.clap.specs.declared.error.kind.ErrorKind.TheVariants.{OutOfMemory}
 use Rattle.tc_words.specs.Fault.{fault_of_kind}
-use Rattle.tc_words.specs.Grammar.{run_matches}
-use Rattle.tc_words.specs.Options.{options_in, options_of}
+use Rattle.tc_words.specs.Grammar.{named_matches}
+use Rattle.tc_words.specs.Options.{invocation_in, invocation_of}
 use Rattle.tc_words.specs.declared.fault.WordsFault.{WordsFault}
 use Rattle.tc_words.specs.declared.fault.WordsFault.TheVariants.{Usage, Memory}
 
-pub no_run : (words : List Text) → run_matches words ≡ None → options_of words ≡ None
-unfolding options_of
-no_run words none = ap (option_and_then options_in) none
+pub nothing_asked : (words : List Text) → named_matches words ≡ None → invocation_of words ≡ None
+unfolding invocation_of
+nothing_asked words none = ap (option_and_then invocation_in) none
 
-pub a_run : (words : List Text) (rows : List Row) → run_matches words ≡ Some rows → options_of words ≡ options_in rows
-unfolding options_of
-a_run words rows is = ap (option_and_then options_in) is
+pub is_asked : (words : List Text) (met : Option (Text × List Row)) → named_matches words ≡ met → invocation_of words ≡ option_and_then invocation_in met
+unfolding invocation_of
+is_asked words met is = ap (option_and_then invocation_in) is
 
 -- an error that is handed on as words that are no run is not want of memory
 pub not_memory : {T : Type 0} (r : Result T WordsFault) (kind : ErrorKind) → IsErrAnd r (λ fault. fault ≡ fault_of_kind kind)

@@ -1,7 +1,5 @@
--- The command line, as clap's grammar has it, and the options of `run`.
+-- The command line, as clap's grammar has it: the options of `run`, and the number of `demo`.
 use Rattle.std.specs.Prelude.{ℕ, Bool, true, List, [], ◌∷◌, map, Option, Some, None, is_some, not, codes}
-use Rattle.std.specs.Prelude.{if◌then◌else◌}
-use Rattle.std.specs.Str.{bytes_eq}
 use Rattle.clap.specs.Words.{App, Kinds, Row, Rule, Shape, Text, fault_of, new_app, new_rule, subcommand_of, with_subcommand}
 use Rattle.clap.specs.Simple.{new_shape, on_top}
 use Rattle.clap.specs.declared.builder.action.ArgAction.TheVariants.{Set}
@@ -53,21 +51,30 @@ run_shape = record (new_shape (codes "run")) {
   rules = map (λ s. option_rule s.name (not (is_some s.default))) settings;
 }
 
+-- the number of commands of a demonstration, which stands by itself
+abbrev pub commands_name : Text
+commands_name = codes "commands"
+
+abbrev pub max_commands : ℕ
+max_commands = 1000000
+
+abbrev pub commands_rule : Rule
+commands_rule = record (new_rule commands_name) { action = Some Set; required = true }
+
+-- the subcommand `demo`
+abbrev pub demo_shape : Shape
+demo_shape = record (new_shape (codes "demo")) { rules = commands_rule ∷ [] }
+
 -- the command line: a subcommand, with no program's name before it
 unfoldable pub grammar : App
-grammar = with_subcommand (on_top (λ s. record s { no_binary_name = true; subcommand_required = true })
-    (new_app (codes "tuple_store"))) run_shape
+grammar = with_subcommand (with_subcommand (on_top (λ s. record s { no_binary_name = true; subcommand_required = true })
+    (new_app (codes "tuple_store"))) run_shape) demo_shape
 
--- the matches of the subcommand that the words name, where that is `run`
-abbrev pub if_run : Option (Text × List Row) → Option (List Row)
-if_run None = None
-if_run (Some named) = if bytes_eq named.0 (codes "run") then Some named.1 else None
-
--- and none where clap has a kind of error for the words
-abbrev pub unless_refused : Kinds → Option (List Row) → Option (List Row)
+-- the matches, and none where clap has a kind of error for the words
+abbrev pub unless_refused : Kinds → Option (Text × List Row) → Option (Text × List Row)
 unless_refused [] matches = matches
 unless_refused (kind ∷ kinds) matches = None
 
--- the matches of `run`, where clap takes the words and they name it
-unfoldable pub run_matches : List Text → Option (List Row)
-run_matches words = unless_refused (fault_of grammar words) (if_run (subcommand_of grammar words))
+-- the subcommand that the words name, with its matches, where clap takes the words
+unfoldable pub named_matches : List Text → Option (Text × List Row)
+named_matches words = unless_refused (fault_of grammar words) (subcommand_of grammar words)

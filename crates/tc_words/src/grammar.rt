@@ -3,17 +3,17 @@ ghost use Rattle.std.specs.Prelude.{◌≡◌, ◌≢◌, IfOk, IfErr, None, fal
 ghost use Rattle.clap.specs.Words.{app_of, kind_of, rule_of, shape_of, subcommand_rows_of};
 ghost use Rattle.clap.specs.declared.builder.command.Command.TheViews.{out-Command as fields_of};
 ghost use Rattle.clap.specs.declared.error.kind.ErrorKind.TheVariants.{OutOfMemory};
-ghost use Rattle.tc_words.specs.Grammar.{grammar, if_run, option_rule, run_matches, run_shape};
+ghost use Rattle.tc_words.specs.Grammar.{commands_rule, demo_shape, grammar, named_matches, option_rule, run_shape};
 
 use clap::{Arg, ArgAction, ArgMatches, Command, Error};
 use std::alloc::{AllocError, Global};
 
 /// What `clap` makes of the words, of which the first names a subcommand.
 pub fn matches_of<'a>(alloc: Global, words: &'a [&'a str]) -> Result<ArgMatches<'a>, Error>
-    ensures taken { IfOk result (λ matches. run_matches (map (λ word. word.now) words.entry.now)
-        ≡ if_run (subcommand_rows_of matches)) }
+    ensures taken { IfOk result (λ matches. named_matches (map (λ word. word.now) words.entry.now)
+        ≡ subcommand_rows_of matches) }
     ensures refused { IfErr result (λ error. kind_of error ≢ OutOfMemory
-        → run_matches (map (λ word. word.now) words.entry.now) ≡ None) }
+        → named_matches (map (λ word. word.now) words.entry.now) ≡ None) }
 {
     command_line(alloc)?.try_get_matches_from(words)
 }
@@ -25,7 +25,8 @@ fn command_line<'a>(alloc: Global) -> Result<Command<'a>, AllocError>
     Command::new(alloc, "tuple_store")
         .no_binary_name(true)
         .subcommand_required(true)
-        .subcommand(run(alloc)?)
+        .subcommand(run(alloc)?)?
+        .subcommand(demo(alloc)?)
 }
 
 // The subcommand `run`.
@@ -41,6 +42,24 @@ fn run<'a>(alloc: Global) -> Result<Command<'a>, AllocError>
         .arg(option(alloc, "window"))?
         .arg(option(alloc, "merge"))?
         .arg(option(alloc, "limit"))
+}
+
+// The subcommand `demo`.
+fn demo<'a>(alloc: Global) -> Result<Command<'a>, AllocError>
+    ensures local { IfOk result (λ command. (fields_of command).has_globals ≡ false) }
+    ensures shape { IfOk result (λ command. shape_of command ≡ demo_shape) }
+{
+    Command::new(alloc, "demo").arg(commands(alloc))
+}
+
+// The number of commands, which stands by itself.
+fn commands<'a>(alloc: Global) -> Arg<'a>
+    ensures local { result.global ≡ false }
+    ensures rule { rule_of result ≡ commands_rule }
+{
+    Arg::new(alloc, "commands")
+        .required(true)
+        .action(ArgAction::Set)
 }
 
 // The option `--name`, with one value.

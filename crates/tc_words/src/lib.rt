@@ -1,11 +1,13 @@
-//! Layer 2, text: the words of the command line, and which run they ask for.
+//! Layer 2, text: the words of the command line, and what they ask for.
 #![tactic(auto)]
 
+mod asked;
 mod fault;
 mod grammar;
 mod run;
 mod words;
 
+pub use asked::Invocation;
 pub use fault::WordsFault;
 pub use run::Options;
-pub use words::options;
+pub use words::{invocation, options};

@@ -1,7 +1,7 @@
 //! The options of a run.
 ghost use Rattle.std.specs.Prelude.{◌≡◌};
 ghost use Rattle.clap.specs.Words.{found_of, rows_of};
-ghost use Rattle.tc_words.specs.Options.{number_in, options_in};
+ghost use Rattle.tc_words.specs.Options.{demo_options, number_in, options_in};
 
 use clap::ArgMatches;
 use tc_number::number_between;
@@ -31,14 +31,42 @@ pub fn options_in(run: &ArgMatches<'_>) -> Option<Options>
 {
     Some(Options {
         partitions: number_in(run, "partitions", 1, 1, None)? as u32,
-        memory: number_in(run, "memory", 4_096, 16_777_216, Some(262_144))?,
-        names: number_in(run, "names", 1, 16_777_216, Some(1_000_000))? as u32,
-        docs: number_in(run, "docs", 1, 4_000_000_000, Some(4_000_000_000))? as u32,
-        window: number_in(run, "window", 1, 4_096, Some(64))? as u32,
-        merge: number_in(run, "merge", 2, 8, Some(4))? as u32,
-        limit: number_in(run, "limit", 0, 1_099_511_627_776, Some(0))?,
+        memory: number_in(run, "memory", 4_096, 16_777_216, Some(MEMORY))?,
+        names: number_in(run, "names", 1, 16_777_216, Some(NAMES))? as u32,
+        docs: number_in(run, "docs", 1, 4_000_000_000, Some(DOCS))? as u32,
+        window: number_in(run, "window", 1, 4_096, Some(WINDOW))? as u32,
+        merge: number_in(run, "merge", 2, 8, Some(MERGE))? as u32,
+        limit: number_in(run, "limit", 0, 1_099_511_627_776, Some(LIMIT))?,
     })
 }
+
+/// The options of a demonstration: the defaults, and one partition.
+pub fn demo_options() -> Options
+    ensures { result ≡ demo_options }
+{
+    Options {
+        partitions: 1,
+        memory: MEMORY,
+        names: NAMES as u32,
+        docs: DOCS as u32,
+        window: WINDOW as u32,
+        merge: MERGE as u32,
+        limit: LIMIT,
+    }
+}
+
+// The defaults.
+const MEMORY: u64 = 262_144;
+
+const NAMES: u64 = 1_000_000;
+
+const DOCS: u64 = 4_000_000_000;
+
+const WINDOW: u64 = 64;
+
+const MERGE: u64 = 4;
+
+const LIMIT: u64 = 0;
 
 // The number of an option, from `least` to `most`, or the default where the option is left out.
 fn number_in(

@@ -1,12 +1,23 @@
-//! The options that words ask for.
+//! What words ask for.
 ghost use Rattle.std.specs.Prelude.{◌≡◌, Some, None, IfOk, IsErrOf, map};
-ghost use Rattle.tc_words.specs.Options.{options_of};
+ghost use Rattle.tc_words.specs.Options.{invocation_of, options_of};
 
+use crate::asked::{Invocation, invocation_in};
 use crate::fault::WordsFault;
 use crate::grammar::matches_of;
-use crate::run::{Options, options_in};
+use crate::run::Options;
 use std::alloc::{AllocError, Global};
 use tc_value::Text;
+
+/// What the words ask for, of which the first names the subcommand. Errs where they are no command line, and for want of
+/// memory.
+pub fn invocation(alloc: Global, words: &[Text]) -> Result<Invocation, WordsFault>
+    ensures ok { IfOk result (λ invocation. invocation_of words.now ≡ Some invocation) }
+    ensures usage { IsErrOf result WordsFault.Usage → invocation_of words.now ≡ None }
+{
+    let texts = texts_of(alloc, words)?;
+    invocation_of(alloc, texts.as_slice())
+}
 
 /// The options of the run that the words ask for, of which the first names the subcommand. Errs where the words are no
 /// run, and for want of memory.
@@ -14,20 +25,20 @@ pub fn options(alloc: Global, words: &[Text]) -> Result<Options, WordsFault>
     ensures ok { IfOk result (λ options. options_of words.now ≡ Some options) }
     ensures usage { IsErrOf result WordsFault.Usage → options_of words.now ≡ None }
 {
-    let texts = texts_of(alloc, words)?;
-    options_of(alloc, texts.as_slice())
+    match invocation(alloc, words) {
+        Ok(Invocation::Run(options)) => Ok(options),
+        Ok(Invocation::Demo { .. }) => Err(WordsFault::Usage),
+        Err(fault) => Err(fault),
+    }
 }
 
 // The same of words that are borrowed.
-fn options_of<'a>(alloc: Global, words: &'a [&'a str]) -> Result<Options, WordsFault>
-    ensures ok { IfOk result (λ options. options_of (map (λ word. word.now) words.entry.now) ≡ Some options) }
-    ensures usage { IsErrOf result WordsFault.Usage → options_of (map (λ word. word.now) words.entry.now) ≡ None }
+fn invocation_of<'a>(alloc: Global, words: &'a [&'a str]) -> Result<Invocation, WordsFault>
+    ensures ok { IfOk result (λ invocation. invocation_of (map (λ word. word.now) words.entry.now) ≡ Some invocation) }
+    ensures usage { IsErrOf result WordsFault.Usage → invocation_of (map (λ word. word.now) words.entry.now) ≡ None }
 {
     let matches = matches_of(alloc, words)?;
-    let Some(run) = matches.subcommand_matches("run") else {
-        return Err(WordsFault::Usage);
-    };
-    options_in(run).ok_or(WordsFault::Usage)
+    invocation_in(&matches).ok_or(WordsFault::Usage)
 }
 
 // The words as `clap` takes them.
