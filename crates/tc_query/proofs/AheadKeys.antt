@@ -1,12 +1,15 @@
 -- Keys of which a source has nothing, by what a walk has before it.
-use Rattle.std.proofs.Common.{◌≡◌, ◌<◌, ◌≤◌, ◌+◌, ℕ, zero, suc, List, [], ◌∷◌, ◌++◌, Option, Some, None, map, drop, append_assoc, refl, sym, ap, ◌∙◌, subst, arith}
-use Rattle.std.specs.Prelude.{Bool, slice_get, option_map, unwrap_or, IfSome}
+use Rattle.std.proofs.Common.{◌≡◌, ◌<◌, ◌≤◌, ◌+◌, ℕ, zero, suc, List, [], ◌∷◌, ◌++◌, Option, Some, None, true, false, map, drop, length, append_assoc, refl, sym, ap, ◌∙◌, subst, arith, inl, inr}
+use Rattle.std.specs.Prelude.{◌==◌, Bool, not, slice_get, option_map, unwrap_or, IfSome}
 use Rattle.std.specs.List.{AllByRecursion}
 use Rattle.std.specs.List.Sorted.{IsStrictlySortedBy}
 use Rattle.std.specs.Map.{keys_of}
+use Rattle.std.specs.Option.{option_eq}
 use Rattle.std.specs.Ordering.{nat_cmp}
+use Rattle.std.proofs.lemmas.Bool.{cases_lt}
+use Rattle.std.proofs.lemmas.Bool.Decides.{nat_tests}
 use Rattle.std.proofs.lemmas.Map.Keys.{sorted_tail}
-use Rattle.std.proofs.lemmas.Option.{none-some, slice_get-map}
+use Rattle.std.proofs.lemmas.Option.{none-some, same_Some, slice_get-map, slice_get_past}
 use Rattle.tc_component.specs.Columns.{IsFound}
 use Rattle.tc_component.specs.Spelling.{Ascend}
 use Rattle.tc_component.specs.declared.found.Found.TheVariants.{Absent}
@@ -15,7 +18,7 @@ use Rattle.tc_list.specs.Contents.{marks}
 use Rattle.tc_list.proofs.KeyedPlaces.{value_of-at}
 use Rattle.tc_model.specs.Keyed.{Keyed, Ascends, value_of}
 use Rattle.tc_model.proofs.KeyedEquality.{value_of-below}
-use Rattle.tc_query.specs.Walking.{first_key, IsAhead, IsBefore, IsNext}
+use Rattle.tc_query.specs.Walking.{first_key, IsAhead, IsFrom, IsBefore, IsNext}
 use Rattle.tc_query.proofs.BelowKeys.{value_of-behind}
 
 -- ---- what is ahead
@@ -97,3 +100,30 @@ next_slot slots at low next up a from is = (
   subst (λ o. IfSome o (λ key. low ≤ key)) (sym is) from,
   λ k least before. not_found slots k up (none_between low k (marks slots) (drop at (marks slots)) (marks_up slots up) a least (subst (IsBefore k) (is ∙ sym (first_marked slots at)) before)),
 )
+
+-- ---- one key, by the first entry from it on
+
+above : (key : ℕ) (o : Option ℕ) → IfSome o (λ first. key ≤ first) → (o ≡ Some key → ⊥) → IsBefore key o
+above key None from apart = tt
+above key (Some first) from apart = elim (cases_lt key first) [
+  | inl less ↦ less
+  | inr most ↦ let same : first ≡ key = omega (arith, from, most) in absurd (apart (ap Some same))
+]
+
+pub absent_at : (slots : List Slot) (at key : ℕ) → Ascend slots → IsAhead key (marks slots) (drop at (marks slots)) → IsFrom key slots at → (option_map (λ s. s.key) (slice_get slots at) ≡ Some key → ⊥) → IsFound slots key Absent
+absent_at slots at key up ahead from apart =
+    not_found slots key up (none_between key key (marks slots) (drop at (marks slots)) (marks_up slots up) ahead (omega arith) (subst (IsBefore key) (sym (first_marked slots at)) (above key (option_map (λ s. s.key) (slice_get slots at)) from apart)))
+
+-- whether a key is that of an entry
+pub other_first : (o : Option ℕ) (key : ℕ) → not (option_eq (λ a b. a == b) o (Some key)) ≡ true → o ≡ Some key → ⊥
+other_first None key test same = cc
+other_first (Some first) key test same = let is = same_Some first key same in grind (arith, nat_tests)
+
+pub first_within : (slots : List Slot) (at key : ℕ) (o : Option ℕ) → o ≡ option_map (λ s. s.key) (slice_get slots at) → not (option_eq (λ a b. a == b) o (Some key)) ≡ false → at < length slots
+first_within slots at key o is test = elim (cases_lt at (length slots)) [
+  | inl less ↦ less
+  | inr past ↦ let none : o ≡ None = is ∙ ap (option_map (λ s. s.key)) (slice_get_past slots at past) in absurd (nothing none)
+]
+  where
+    nothing : o ≡ None → ⊥
+    nothing none = let same : not (option_eq (λ a b. a == b) None (Some key)) ≡ false = subst (λ x. not (option_eq (λ a b. a == b) x (Some key)) ≡ false) none test in cc

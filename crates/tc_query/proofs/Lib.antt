@@ -6,6 +6,7 @@ pub mod StoredKeys
 pub mod RowSteps
 pub mod Spelled
 pub mod WalkSteps
+pub mod WindowReads
 pub mod ListedRows
 pub mod WalkedKeys
 pub mod KeyRows

@@ -2,9 +2,11 @@
 use Rattle.std.proofs.Common.{◌≡◌, ◌∙◌, ℕ, List, Option, Some, slice_get, sym, subst}
 use Rattle.std.specs.Prelude.{IfSome}
 use Rattle.std.proofs.lemmas.Option.{same_Some}
+use Rattle.tc_component.specs.Columns.{IsFound}
 use Rattle.tc_component.specs.Fetching.{IsPlace, record_at}
 use Rattle.tc_component.specs.Loading.{ComponentState}
 use Rattle.tc_component.specs.Meaning.{IsRecordOfOne}
+use Rattle.tc_component.specs.declared.found.Found.TheVariants.{At as FoundAt}
 use Rattle.tc_component.specs.declared.found.Place.{Place}
 use Rattle.tc_list.specs.Loaded.{HoldsLive}
 use Rattle.tc_list.specs.Lookups.{IsWhere}
@@ -22,6 +24,9 @@ use Rattle.tc_query.specs.Rows.{rows_at}
 -- the place that was found is one of the component there
 pub place_there : {F : Type 0} (cs : List (ComponentState F)) (key n : ℕ) (m : ComponentState F) (place : Place) → slice_get cs n ≡ Some m → IsWhere cs key (At n place) → IsPlace m.index.slots place
 place_there cs key n m place here newest = subst (λ (c : ComponentState _). IsPlace c.index.slots place) (same_Some newest.component m (sym newest.here ∙ here)) (key, newest.has)
+
+pub found_there : {F : Type 0} (cs : List (ComponentState F)) (key n : ℕ) (m : ComponentState F) (place : Place) → slice_get cs n ≡ Some m → IsWhere cs key (At n place) → IsFound m.index.slots key (FoundAt place)
+found_there cs key n m place here newest = subst (λ (c : ComponentState _). IsFound c.index.slots key (FoundAt place)) (same_Some newest.component m (sym newest.here ∙ here)) newest.has
 
 -- the row of the record there is that of the live document
 pub listed_row : {F : Type 0} (told : F → Option (List ℕ)) (cs : List (ComponentState F)) (contents : List Content) (key n : ℕ) (place : Place) (m : ComponentState F) (ask : Ask) (rows : List Row)

@@ -1,32 +1,43 @@
 -- One step of a walk: the places that it moves, and the keys that it finds nowhere.
-use Rattle.std.proofs.Common.{◌≡◌, ◌<◌, ◌≤◌, ◌+◌, ◌-◌, ◌⊎◌, ℕ, zero, suc, List, [], ◌∷◌, ◌++◌, Option, Some, None, length, map, get_or, set, take, drop, replicate, refl, sym, ap, ◌∙◌, subst, arith, inl, inr}
+use Rattle.std.proofs.Common.{◌≡◌, ◌<◌, ◌≤◌, ◌+◌, ◌-◌, ◌⊎◌, ℕ, zero, suc, List, [], ◌∷◌, ◌++◌, Option, Some, None, length, map, get_or, set, take, drop, replicate, append_assoc, append-nil, length-append, refl, sym, ap, ◌∙◌, subst, arith, inl, inr}
 use Rattle.std.specs.Map.Iter.{TakesFirst}
 use Rattle.std.specs.Prelude.{All, IfSome, slice_get, option_map}
 use Rattle.std.specs.Option.{option_or}
-use Rattle.std.proofs.lemmas.List.{length-map, length-set, length-replicate, take_all, take_more}
+use Rattle.std.proofs.Math.Seq.{get_or-append_seam}
+use Rattle.std.proofs.lemmas.Bool.{cases_lt}
+use Rattle.std.proofs.lemmas.List.{length-map, length-set, length-replicate, drop_all, take_all, take_more}
 use Rattle.std.proofs.lemmas.List.Elements.{All-push}
 use Rattle.std.proofs.lemmas.Option.{get_or_from_slice_get, same_Some, slice_get-get_or, slice_get-map, slice_get_read, slice_get_within}
+use Rattle.tc_component.specs.Columns.{IsFound}
 use Rattle.tc_component.specs.Loading.{ComponentState}
+use Rattle.tc_component.specs.declared.found.Found.TheVariants.{Absent}
+use Rattle.tc_component.specs.declared.slot.Slot.{Slot}
 use Rattle.tc_list.specs.Contents.{marks}
+use Rattle.tc_list.proofs.Walks.{Walked}
+use Rattle.tc_list.specs.Lookups.{HaveNone}
 use Rattle.tc_memory.specs.Meaning.{entry_of}
 use Rattle.tc_memory.specs.Table.{Table, IsTable}
 use Rattle.tc_memory.specs.declared.held.Entry.{Entry}
 use Rattle.tc_query.proofs.AheadKeys.{starts_ahead, later_ahead, none_between}
 use Rattle.tc_query.specs.Shown.{held_in, held_sealed, held_newest}
-use Rattle.tc_query.specs.Walking.{first_key, from_next, entries_ahead, IsAhead, AreAhead, IsSealedAhead, IsWalk, IsBefore, IsNext}
+use Rattle.tc_query.specs.Walking.{first_key, from_next, entries_ahead, IsAhead, AreAhead, IsFrom, AreFrom, StandAt, IsSealedAhead, IsWalk, IsBefore, IsNext}
 use Rattle.tc_query.specs.declared.ahead.Ahead.{Ahead}
 use Rattle.tc_query.specs.declared.walk.Walk.{Walk}
 
 -- ---- places
 
-get_set : {X : Type 0} (xs : List X) (n k : ℕ) (x y : X) → slice_get (set xs n x) k ≡ Some y → ((k ≡ n) × (x ≡ y)) ⊎ (slice_get xs k ≡ Some y)
-get_set [] n k x y here = inr here
+-- the entries at the places of the first components have this key or a greater one
+abbrev pub AreFromUpTo : {F : Type 0} → ℕ → ℕ → List (ComponentState F) → List ℕ → Type 0
+AreFromUpTo {F} count low cs places = (n at : ℕ) (c : ComponentState F) → n < count → slice_get cs n ≡ Some c → slice_get places n ≡ Some at → IsFrom low c.index.slots at
+
+pub get_set : {X : Type 0} (xs : List X) (n k : ℕ) (x y : X) → slice_get (set xs n x) k ≡ Some y → ((k ≡ n) × (x ≡ y)) ⊎ ((k ≡ n → ⊥) × (slice_get xs k ≡ Some y))
+get_set [] n k x y here = absurd (cc)
 get_set (z ∷ xs) zero zero x y here = inl (refl, same_Some x y here)
-get_set (z ∷ xs) zero (suc k) x y here = inr here
-get_set (z ∷ xs) (suc n) zero x y here = inr here
+get_set (z ∷ xs) zero (suc k) x y here = inr (λ same. cc, here)
+get_set (z ∷ xs) (suc n) zero x y here = inr (λ same. cc, here)
 get_set (z ∷ xs) (suc n) (suc k) x y here = elim (get_set xs n k x y here) [
   | inl same ↦ inl (ap suc same.0, same.1)
-  | inr there ↦ inr there
+  | inr there ↦ inr (λ same. there.0 (omega (arith, same)), there.1)
 ]
 
 -- the place of a component is where its entries ahead begin
@@ -43,15 +54,56 @@ set_ahead low cs places at place c are here ahead = record {
     | inl same ↦
         let one : c ≡ m = same_Some c m (sym here ∙ ap (slice_get cs) (sym same.0) ∙ there) in
         subst (λ q. IsAhead low (marks m.index.slots) (drop q (marks m.index.slots))) same.1 (subst (λ x. IsAhead low (marks x.index.slots) (drop place (marks x.index.slots))) one ahead)
-    | inr old ↦ are.each n p m there old
+    | inr old ↦ are.each n p m there old.1
   ];
 }
+
+-- so are the first keys there
+pub set_from : {F : Type 0} (low : ℕ) (cs : List (ComponentState F)) (places : List ℕ) (at place : ℕ) (c : ComponentState F) → slice_get cs at ≡ Some c → IsFrom low c.index.slots place → AreFromUpTo at low cs places
+    → AreFromUpTo (at + 1) low cs (set places at place)
+set_from low cs places at place c here from are = λ n p m within there now. elim (get_set places at n place p now) [
+  | inl same ↦
+      let one : c ≡ m = same_Some c m (sym here ∙ ap (slice_get cs) (sym same.0) ∙ there) in
+      subst (IsFrom low m.index.slots) same.1 (subst (λ x. IsFrom low x.index.slots place) one from)
+  | inr old ↦ are n p m (let apart = old.0 in before n at within apart) there old.1
+]
+  where
+    before : (n at : ℕ) → n < at + 1 → (n ≡ at → ⊥) → n < at
+    before n at within apart = elim (cases_lt n at) [
+      | inl less ↦ less
+      | inr more ↦ absurd (apart (omega (arith, within, more)))
+    ]
+
+pub all_from : {F : Type 0} (i low : ℕ) (cs : List (ComponentState F)) (places : List ℕ) → length cs ≤ i → AreFromUpTo i low cs places → AreFrom low cs places
+all_from i low cs places end are = λ n at c here there. let within = slice_get_within cs n c here in are n at c (omega (arith, within, end)) here there
 
 pub later_places : {F : Type 0} (low high : ℕ) (cs : List (ComponentState F)) (places : List ℕ) → low ≤ high → AreAhead low cs places → AreAhead high cs places
 later_places low high cs places order are = record {
   many = are.many;
   each = λ n at c here there. later_ahead low high (marks c.index.slots) (drop at (marks c.index.slots)) order (are.each n at c here there);
 }
+
+all_at : {X : Type 0} (P : X → Type 0) (xs : List X) (n : ℕ) (x : X) → slice_get xs n ≡ Some x → All P xs → P x
+all_at P xs n x here all = subst P (get_or_from_slice_get xs n x x here) (all n x (slice_get_within xs n x here))
+
+-- where no component has a lesser key from one on, their next entries have this key or a greater one
+stand : {F : Type 0} (low key : ℕ) (cs : List (ComponentState F)) (places : List ℕ) → low ≤ key → AreAhead low cs places → AreFrom low cs places → ((k : ℕ) → low ≤ k → k < key → HaveNone cs k) → StandAt key cs places
+stand {F} low key cs places order are from none = record {
+  ahead = later_places low key cs places order are;
+  from = λ n at c here there. higher (slice_get c.index.slots at) n at c here refl (from n at c here there);
+}
+  where
+    higher : (o : Option Slot) → (n at : ℕ) (c : ComponentState F) → slice_get cs n ≡ Some c → slice_get c.index.slots at ≡ o → IfSome (option_map (λ s. s.key) o) (λ first. low ≤ first) → IfSome (option_map (λ s. s.key) o) (λ first. key ≤ first)
+    higher None n at c here is least = tt
+    higher (Some s) n at c here is least = elim (cases_lt s.key key) [
+      | inl less ↦ absurd (all_at (λ (m : ComponentState F). IsFound m.index.slots s.key Absent) cs n c here (none s.key least less) at s is refl)
+      | inr more ↦ more
+    ]
+
+pub stand_next : {F : Type 0} (low : ℕ) (next : Option ℕ) (cs : List (ComponentState F)) (places : List ℕ) → IfSome next (λ key. low ≤ key) → AreAhead low cs places → AreFrom low cs places
+    → ((k : ℕ) → low ≤ k → IsBefore k next → HaveNone cs k) → IfSome next (λ key. StandAt key cs places)
+stand_next low None cs places order are from none = tt
+stand_next low (Some key) cs places order are from none = stand low key cs places order are from none
 
 later_sealed : (low high : ℕ) (sealed : Option Table) (a : Option Ahead) → low ≤ high → IsSealedAhead low sealed a → IsSealedAhead high sealed a
 later_sealed low high None None order is = tt
@@ -81,6 +133,38 @@ taken_whole f items xs i same end =
     let long : length (map f items) ≡ length xs = ap (λ (ys : List _). length ys) same in
     let many = length-map items f in
     take_all i xs (omega (arith, end, long, many))
+
+pub long_walked : {A X : Type 0} (f : A → X) (items : List A) (xs : List X) (i : ℕ) → map f items ≡ xs → length items ≤ i → length xs ≤ i
+long_walked f items xs i same end =
+    let long : length (map f items) ≡ length xs = ap (λ (ys : List _). length ys) same in
+    let many = length-map items f in
+    omega (arith, end, long, many)
+
+-- the last component of those that a walk from the newest one has left
+pub last_left : {A F : Type 0} (f : A → ComponentState F) (all left older : List A) (newest : A) (key : ℕ) (cs : List (ComponentState F)) → map f all ≡ cs → Walked f all left key → left ≡ older ++ newest ∷ [] → slice_get cs (length older) ≡ Some (f newest)
+last_left f all left older newest key cs same walked last =
+    let parts : all ≡ older ++ newest ∷ walked.passed = walked.is ∙ ap (λ xs. xs ++ walked.passed) last ∙ append_assoc older (newest ∷ []) walked.passed in
+    let one : length (newest ∷ walked.passed) ≡ suc (length walked.passed) = refl in
+    let long = length-append older (newest ∷ walked.passed) in
+    let within : length older < length (older ++ newest ∷ walked.passed) = omega (arith, one, long) in
+    ap (λ ys. slice_get ys (length older)) (sym same) ∙ slice_get-map f all (length older) ∙ ap (option_map f) (ap (λ ys. slice_get ys (length older)) parts ∙ slice_get-get_or (older ++ newest ∷ walked.passed) (length older) newest within ∙ ap Some (get_or-append_seam older newest walked.passed newest))
+
+none_more : {F : Type 0} (c : ComponentState F) (cs : List (ComponentState F)) (key : ℕ) → IsFound c.index.slots key Absent → HaveNone cs key → HaveNone (c ∷ cs) key
+none_more c cs key here rest zero d within = here
+none_more c cs key here rest (suc i) d within = rest i d (omega (arith, within))
+
+pub walked_on : {A F : Type 0} (f : A → ComponentState F) (all left older : List A) (newest : A) (key : ℕ) → Walked f all left key → left ≡ older ++ newest ∷ [] → IsFound (f newest).index.slots key Absent → Walked f all older key
+walked_on f all left older newest key walked last here = record {
+  passed = newest ∷ walked.passed;
+  is = walked.is ∙ ap (λ xs. xs ++ walked.passed) last ∙ append_assoc older (newest ∷ []) walked.passed;
+  none = none_more (f newest) (map f walked.passed) key here walked.none;
+}
+
+-- what is written back of a slice of a whole vector
+pub written_back : {X : Type 0} (new old : List X) (len : ℕ) → length new ≡ length old → len ≡ length old → take len (new ++ drop (length new) old) ≡ new
+written_back new old len same long =
+    let empty : drop (length new) old ≡ [] = drop_all (length new) old (omega (arith, same)) in
+    ap (λ xs. take len (new ++ xs)) empty ∙ ap (take len) (append-nil new) ∙ take_all len new (omega (arith, same, long))
 
 -- ---- the lesser of two keys
 
@@ -121,7 +205,7 @@ take_none : (n : ℕ) → take {A = ℕ} n [] ≡ []
 take_none zero = refl
 take_none (suc n) = refl
 
-get_zeros : (n k at : ℕ) → slice_get (replicate n 0) k ≡ Some at → at ≡ 0
+pub get_zeros : (n k at : ℕ) → slice_get (replicate n 0) k ≡ Some at → at ≡ 0
 get_zeros zero k at here = absurd (cc)
 get_zeros (suc n) zero at here = sym (same_Some 0 at here)
 get_zeros (suc n) (suc k) at here = get_zeros n k at here

@@ -1,5 +1,6 @@
 pub mod Stored
 pub mod Shown
 pub mod Walking
+pub mod Windows
 pub mod Faults
 pub mod Rows

@@ -1,7 +1,8 @@
 -- A walk over the keys of components and tables in ascending order: what is ahead of it, and what is its next key.
-use Rattle.std.specs.Prelude.{◌≡◌, ◌<◌, ◌≤◌, ◌+◌, ℕ, List, [], ◌∷◌, ◌++◌, length, drop, slice_get, Option, Some, None, IfSome}
+use Rattle.std.specs.Prelude.{◌≡◌, ◌<◌, ◌≤◌, ◌+◌, ℕ, List, [], ◌∷◌, ◌++◌, length, drop, slice_get, Option, Some, None, option_map, IfSome}
 use Rattle.std.specs.List.{AllByRecursion}
 use Rattle.tc_component.specs.Loading.{ComponentState}
+use Rattle.tc_component.specs.declared.slot.Slot.{Slot}
 use Rattle.tc_list.specs.Contents.{marks}
 use Rattle.tc_list.specs.Lookups.{HaveNone}
 use Rattle.tc_memory.specs.Meaning.{entry_of}
@@ -43,6 +44,19 @@ entries_ahead a = from_next a.next a.behind
 pub record AreAhead {F : Type 0} (low : ℕ) (components : List (ComponentState F)) (places : List ℕ) : Type 0 where
   pub many : length places ≡ length components
   pub each : (n at : ℕ) (c : ComponentState F) → slice_get components n ≡ Some c → slice_get places n ≡ Some at → IsAhead low (marks c.index.slots) (drop at (marks c.index.slots))
+
+-- the entry at a place, if there is one, has this key or a greater one
+abbrev pub IsFrom : ℕ → List Slot → ℕ → Type 0
+IsFrom low slots at = IfSome (option_map (λ s. s.key) (slice_get slots at)) (λ key. low ≤ key)
+
+-- so of each component
+abbrev pub AreFrom : {F : Type 0} → ℕ → List (ComponentState F) → List ℕ → Type 0
+AreFrom {F} low components places = (n at : ℕ) (c : ComponentState F) → slice_get components n ≡ Some c → slice_get places n ≡ Some at → IsFrom low c.index.slots at
+
+-- of each component this is the place of its first entry of this key or a greater one
+pub record StandAt {F : Type 0} (key : ℕ) (components : List (ComponentState F)) (places : List ℕ) : Type 0 where
+  pub ahead : AreAhead key components places
+  pub from : AreFrom key components places
 
 abbrev pub IsSealedAhead : ℕ → Option Table → Option Ahead → Type 0
 IsSealedAhead low None None = Unit {0}

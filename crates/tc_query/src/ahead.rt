@@ -6,9 +6,9 @@ ghost use Rattle.tc_component.specs.Spelling.{IsIndex};
 ghost use Rattle.tc_component.specs.declared.found.Found.TheVariants.{Absent as NotFound};
 ghost use Rattle.tc_list.specs.Contents.{marks};
 ghost use Rattle.tc_memory.specs.Table.{Table};
-ghost use Rattle.tc_query.specs.Walking.{least_left, first_key, entries_ahead, IsAhead, IsNext};
+ghost use Rattle.tc_query.specs.Walking.{least_left, first_key, entries_ahead, IsAhead, IsFrom, IsNext};
 
-use tc_component::Component;
+use tc_component::{Component, Found};
 use tc_memory::{Entries, Entry};
 use tc_store::Frozen;
 
@@ -63,6 +63,7 @@ pub(crate) fn next_in<F: Frozen>(
 ) -> Option<u64>
     requires ahead { IsAhead (least_left last) (marks component.now.index.slots) (drop place.old (marks component.now.index.slots)) }
     ensures ahead { IsAhead (least_left last) (marks component.now.index.slots) (drop place.new (marks component.now.index.slots)) }
+    ensures from { IsFrom (least_left last) component.now.index.slots place.new }
     ensures next { IsNext (least_left last) result (λ key. IsFound component.now.index.slots key NotFound) }
     ensures lawful { IsIndex component.now.index }
 {
@@ -75,7 +76,7 @@ pub(crate) fn next_in<F: Frozen>(
 fn place_behind<F: Frozen>(component: &Component<F>, from: usize, last: Option<u64>) -> usize
     requires ahead { IsAhead (least_left last) (marks component.now.index.slots) (drop from (marks component.now.index.slots)) }
     ensures ahead { IsAhead (least_left last) (marks component.now.index.slots) (drop result (marks component.now.index.slots)) }
-    ensures from { IfSome (option_map (λ s. s.key) (slice_get component.now.index.slots result)) (λ key. least_left last ≤ key) }
+    ensures from { IsFrom (least_left last) component.now.index.slots result }
 {
     let mut at = from;
     while at < component.len() {
@@ -85,6 +86,22 @@ fn place_behind<F: Frozen>(component: &Component<F>, from: usize, last: Option<u
         at += 1;
     }
     at
+}
+
+/// What a component has of a key, whose place is that of the first entry of this key or a greater one.
+pub(crate) fn found_at<F: Frozen>(component: &Component<F>, at: usize, key: u64) -> Found
+    requires ahead { IsAhead key (marks component.now.index.slots) (drop at (marks component.now.index.slots)) }
+    requires from { IsFrom key component.now.index.slots at }
+    ensures { IsFound component.now.index.slots key result }
+{
+    let _lawful = component.file_len();
+    if key_at(component, at) != Some(key) {
+        return Found::Absent;
+    }
+    match component.entry(at).place {
+        None => Found::Gone,
+        Some(place) => Found::At(place),
+    }
 }
 
 /// The key of the entry at a position of the directory, or `None` behind the last.

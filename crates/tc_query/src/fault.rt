@@ -3,12 +3,10 @@
 ghost use Rattle.std.specs.Prelude.{◌≡◌};
 ghost use Rattle.tc_query.specs.Faults.{OfDamage};
 ghost use Rattle.tc_query.specs.declared.fault.QueryFault.TheVariants.{Memory as no_memory, Disk as disk_fault};
-ghost use Rattle.tc_record.specs.declared.fault.RecordFault.TheVariants.{NotARecord as not_a_record};
 ghost use Rattle.tc_store.specs.declared.damage.ReadFault.TheVariants.{Disk as read_fault, Damaged as damage_read};
 
 use std::alloc::{AllocError, AllocFailed};
 use tc_bytes::Bytes;
-use tc_record::RecordFault;
 use tc_store::{FileName, ReadFault};
 use thiserror::Error;
 
@@ -52,16 +50,5 @@ pub(crate) fn of_read(file: FileName, fault: ReadFault) -> QueryFault
         ReadFault::Disk => QueryFault::Disk,
         ReadFault::Damaged { place, bytes } => QueryFault::Damaged { file, place, bytes },
         ReadFault::Memory => QueryFault::Memory,
-    }
-}
-
-/// The same fault, of the bytes that stand at a place of a file.
-pub(crate) fn of_record(file: FileName, place: u64, bytes: Bytes, fault: RecordFault) -> QueryFault
-    ensures cause { result ≡ disk_fault → ⊥ }
-    ensures harmed { OfDamage result (λ of at kept. (of ≡ file) × (at ≡ place) × (kept ≡ bytes) × (fault ≡ not_a_record)) }
-{
-    match fault {
-        RecordFault::NotARecord => QueryFault::Damaged { file, place, bytes },
-        RecordFault::Memory => QueryFault::Memory,
     }
 }

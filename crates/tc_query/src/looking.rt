@@ -1,10 +1,11 @@
 //! The row of a key, of which the newest entry decides.
 
-ghost use Rattle.std.specs.Prelude.{◌≡◌, ◌<◌, ℕ, List, Some, IfOk, IfErr, IfSome, IsErrOf, length, slice_get, option_map, option_to_list};
+ghost use Rattle.std.specs.Prelude.{◌≡◌, ◌<◌, ◌≤◌, ◌+◌, ℕ, List, Some, IfOk, IfErr, IfSome, IsErrOf, length, slice_get, option_map, option_to_list};
 ghost use Rattle.std.specs.List.{AllZip};
 ghost use Rattle.tc_command.specs.Commands.{ask_of};
 ghost use Rattle.tc_command.specs.Rows.{row_of};
 ghost use Rattle.tc_component.specs.Loaded.{IsLoadedOf};
+ghost use Rattle.tc_component.specs.Spelling.{IsIndex};
 ghost use Rattle.tc_list.specs.Lookups.{IsWhere};
 ghost use Rattle.tc_list.specs.declared.whereabouts.Whereabouts.TheVariants.{At as listed_at};
 ghost use Rattle.tc_component.specs.declared.found.Place.{Place as OnePlace};
@@ -20,40 +21,52 @@ ghost use Rattle.tc_query.specs.Faults.{OfDamage, IsHarmIn, IsReadIf, IsWatched}
 ghost use Rattle.tc_query.specs.Rows.{rows_at};
 ghost use Rattle.tc_query.specs.Shown.{held_newest, IsListed};
 ghost use Rattle.tc_query.specs.Stored.{Holds};
+ghost use Rattle.tc_query.specs.Walking.{StandAt};
+ghost use Rattle.tc_query.specs.Windows.{most_windows, AreCursors, AreRead};
 ghost use Rattle.tc_record.specs.Record.{IsRecordOf};
 ghost use Rattle.tc_record.specs.StoredRecord.{IsStoredRecord};
 
+use crate::ahead::found_at;
 use crate::fault::QueryFault;
 use crate::record::row_stored;
 use crate::row::row_of_known;
 use std::alloc::{AllocError, Global};
 use tc_command::{Ask, Row};
-use tc_component::Component;
+use tc_component::{Component, Found, RecordCursor};
 use tc_list::{ComponentList, Whereabouts, loaded_components_show_contents};
 use tc_memory::{Held, Memtable, Sealed};
 use tc_names::Names;
 use tc_record::RecordRef;
 use tc_store::Frozen;
 
-/// The row that an ask gets of a key, if it gets one, by at most one read.
+/// The row that an ask gets of a key, if it gets one, by at most one read. The places are those of the first entries of this
+/// key or a greater one.
 pub(crate) fn row_at<F: Frozen>(
     alloc: Global,
     list: &ComponentList<F>,
+    places: &[usize],
+    cursors: &mut [RecordCursor],
     sealed: Option<&Sealed>,
     active: &Memtable,
     key: u64,
     ask: &Ask,
     watch: &mut F::Watch,
 ) -> Result<Option<Row>, QueryFault>
+    requires stand { StandAt key list.now places.now }
+    requires of { AreCursors F.content list.now cursors.old }
+
+    ensures of { AreCursors F.content list.now cursors.new }
     ensures row { (pairs : Pairs) → Holds F.content list.now (option_map (λ t. t.now) sealed.entry) active.now pairs → IfOk result (λ row. option_to_list (option_map row_of row) ≡ rows_at (ask_of ask.now) key pairs) }
     ensures harmed { IfErr result (λ fault. OfDamage fault (λ file at bytes. IsHarmIn (λ file. F.content file) list.now file at bytes)) }
     ensures reads { IsReadIf (IsListed list.now (option_map (λ t. t.now) sealed.entry) active.now key) (F.Watch.counts watch.old) (F.Watch.counts watch.new) }
+    ensures read { IfOk result (λ row. (low first : ℕ) → low ≤ key → AreRead low list.now cursors.old first (F.Watch.counts watch.old).reads → AreRead (key + 1) list.now cursors.new first (F.Watch.counts watch.new).reads) }
+    ensures windows { (low first : ℕ) → low ≤ key → AreRead low list.now cursors.old first (F.Watch.counts watch.old).reads → (F.Watch.counts watch.new).reads ≤ first + most_windows list.now }
     ensures watched { IsWatched (IsErrOf result QueryFault.Disk) (F.Watch.counts watch.old) (F.Watch.counts watch.new) }
 {
     match newest_held(sealed, active, key) {
         Some(Held::Live(bytes)) => Ok(row_held(alloc, bytes.as_slice(), key, ask)?),
         Some(Held::Gone) => Ok(None),
-        None => row_listed(alloc, list, key, ask, watch),
+        None => row_listed(alloc, list, places, cursors, key, ask, watch),
     }
 }
 
@@ -91,29 +104,64 @@ fn row_held(alloc: Global, bytes: &[u8], key: u64, ask: &Ask) -> Result<Option<R
 fn row_listed<F: Frozen>(
     alloc: Global,
     list: &ComponentList<F>,
+    places: &[usize],
+    cursors: &mut [RecordCursor],
     key: u64,
     ask: &Ask,
     watch: &mut F::Watch,
 ) -> Result<Option<Row>, QueryFault>
+    requires stand { StandAt key list.now places.now }
+    requires of { AreCursors F.content list.now cursors.old }
+
+    ensures of { AreCursors F.content list.now cursors.new }
     ensures row { (part : Partition) (cs : List Content) → IsList part cs → AllZip (IsLoadedOf F.content) list.now cs → IfOk result (λ row. option_to_list (option_map row_of row) ≡ rows_at (ask_of ask.now) key (live cs)) }
     ensures harmed { IfErr result (λ fault. OfDamage fault (λ file at bytes. IsHarmIn (λ file. F.content file) list.now file at bytes)) }
     ensures reads { IsReadIf ((at : ℕ) × (place : OnePlace) × IsWhere list.now key (listed_at at place)) (F.Watch.counts watch.old) (F.Watch.counts watch.new) }
+    ensures read { IfOk result (λ row. (low first : ℕ) → low ≤ key → AreRead low list.now cursors.old first (F.Watch.counts watch.old).reads → AreRead (key + 1) list.now cursors.new first (F.Watch.counts watch.new).reads) }
+    ensures windows { (low first : ℕ) → low ≤ key → AreRead low list.now cursors.old first (F.Watch.counts watch.old).reads → (F.Watch.counts watch.new).reads ≤ first + most_windows list.now }
     ensures watched { IsWatched (IsErrOf result QueryFault.Disk) (F.Watch.counts watch.old) (F.Watch.counts watch.new) }
 {
     loaded_components_show_contents::<F>();
-    match list.find(key) {
+    match newest_at(list, places, key) {
         Whereabouts::Absent => Ok(None),
-        Whereabouts::At { component, place } => {
-            let component = component_at(list, component);
-            row_stored(alloc, component, place, key, ask, watch)
+        Whereabouts::At {
+            component: at,
+            place,
+        } => {
+            let component = component_at(list, at);
+            row_stored(alloc, component, &mut cursors[at], place, key, ask, watch)
         }
     }
+}
+
+/// Where the document of a key is, by the places of the first entries of this key or a greater one.
+fn newest_at<F: Frozen>(list: &ComponentList<F>, places: &[usize], key: u64) -> Whereabouts
+    requires { StandAt key list.now places.now }
+    ensures { IsWhere list.now key result }
+{
+    let mut rest = list.as_slice();
+    while let Some((newest, older)) = rest.split_last() {
+        match found_at(newest, places[older.len()], key) {
+            Found::Absent => rest = older,
+            Found::Gone => return Whereabouts::Absent,
+            Found::At(place) => {
+                return Whereabouts::At {
+                    component: older.len(),
+                    place,
+                };
+            }
+        }
+    }
+    Whereabouts::Absent
 }
 
 /// The component at a position of the list.
 fn component_at<F: Frozen>(list: &ComponentList<F>, at: usize) -> &Component<F>
     requires { at < length list.now }
-    ensures { slice_get list.now at ≡ Some result.now }
+    ensures there { slice_get list.now at ≡ Some result.now }
+    ensures lawful { IsIndex result.now.index }
 {
-    &list.as_slice()[at]
+    let component = &list.as_slice()[at];
+    let _lawful = component.file_len();
+    component
 }

@@ -1,9 +1,10 @@
 //! The rows over what a partition stores.
 
-ghost use Rattle.std.specs.Prelude.{◌≡◌, ◌≤◌, ◌+◌, ◌++◌, List, map, IfOk, IfErr, OnOk, IsErrOf, option_map, option_to_list};
+ghost use Rattle.std.specs.Prelude.{◌≡◌, ◌≤◌, ◌+◌, ◌++◌, List, map, replicate, IfOk, IfErr, OnOk, IsErrOf, option_map, option_to_list};
 ghost use Rattle.std.specs.List.{AllZip};
 ghost use Rattle.tc_command.specs.Commands.{ask_of};
 ghost use Rattle.tc_command.specs.Rows.{row_of};
+ghost use Rattle.tc_component.specs.Cursors.{holds_nothing};
 ghost use Rattle.tc_component.specs.Loaded.{IsLoadedOf};
 ghost use Rattle.tc_lsm_model.specs.Contents.{Content};
 ghost use Rattle.tc_plain_model.specs.Rows.{rows_over as rows_of_pairs};
@@ -11,20 +12,21 @@ ghost use Rattle.tc_plain_model.specs.Writes.{Pairs};
 ghost use Rattle.tc_query.specs.Faults.{OfDamage, IsUnharmed, IsHarmIn, IsWatched};
 ghost use Rattle.tc_query.specs.Shown.{live_keys};
 ghost use Rattle.tc_query.specs.Stored.{Holds};
+ghost use Rattle.tc_query.specs.Windows.{most_windows};
 
 use crate::fault::QueryFault;
 use crate::looking::row_at;
 use crate::walk::{next_key, walk_of};
 use std::alloc::{AllocError, Global};
 use tc_command::{Ask, Row, Rows};
-use tc_component::components_are_contents;
+use tc_component::{RecordCursor, components_are_contents};
 use tc_list::{ComponentList, loaded_components_show_contents};
 use tc_memory::{Memtable, Sealed};
 use tc_store::Frozen;
 
 /// The rows that an ask gets over components, a sealed table over them, if there is one, and the active table over both, in
-/// ascending key. The newest entry of a key decides. At most one read is made for a document that is live, and none for one
-/// that a table holds. `Disk` comes only where a read failed, and `Damaged` where a record spells no document under the names
+/// ascending key. The newest entry of a key decides. Records are read by windows, at most one a document that is live, and none
+/// for one that a table holds. `Disk` comes only where a read failed, and `Damaged` where a record spells no document under the names
 /// of its component.
 pub fn rows_over<F: Frozen>(
     alloc: Global,
@@ -41,19 +43,42 @@ pub fn rows_over<F: Frozen>(
     // Over every store.
     ensures harmed { IfErr result (λ fault. OfDamage fault (λ file at bytes. IsHarmIn (λ file. F.content file) list.now file at bytes)) }
     ensures reads { (F.Watch.counts watch.new).reads ≤ (F.Watch.counts watch.old).reads + live_keys list.now (option_map (λ t. t.now) sealed.entry) active.now }
+    ensures windows { (F.Watch.counts watch.new).reads ≤ (F.Watch.counts watch.old).reads + most_windows list.now }
     ensures watched { IsWatched (IsErrOf result QueryFault.Disk) (F.Watch.counts watch.old) (F.Watch.counts watch.new) }
 {
     components_are_contents();
     loaded_components_show_contents::<F>();
     let mut walk = walk_of(alloc, list, sealed, active)?;
+    let mut cursors = cursors_of(alloc, list.len())?;
     let mut rows = Vec::new(alloc);
     let mut last = None;
     while let Some(key) = next_key(&mut walk, list, last) {
-        let row = row_at(alloc, list, sealed, active, key, ask, watch)?;
+        let row = row_at(
+            alloc,
+            list,
+            &walk.places,
+            &mut cursors,
+            sealed,
+            active,
+            key,
+            ask,
+            watch,
+        )?;
         push_row(&mut rows, row)?;
         last = Some(key);
     }
     Ok(Rows::of(rows))
+}
+
+/// So many cursors that hold no byte.
+fn cursors_of(alloc: Global, count: usize) -> Result<Vec<RecordCursor>, AllocError>
+    ensures { IfOk result (λ cursors. cursors.items ≡ replicate count holds_nothing) }
+{
+    let mut cursors = Vec::with_capacity(alloc, count)?;
+    for _ in 0..count {
+        cursors.push(RecordCursor::new(alloc))?;
+    }
+    Ok(cursors)
 }
 
 /// Adds a row behind the others, if there is one. Errs only for want of memory.

@@ -4,7 +4,7 @@ ghost use Rattle.std.specs.Prelude.{◌≡◌, ◌≤◌, ℕ, All, List, Option
 ghost use Rattle.tc_component.specs.Spelling.{IsIndex};
 ghost use Rattle.tc_list.specs.Lookups.{HaveNone};
 ghost use Rattle.tc_memory.specs.Table.{Table, IsTable};
-ghost use Rattle.tc_query.specs.Walking.{least_left, AreAhead, IsWalk, IsBefore, IsNext, HasNoneIn};
+ghost use Rattle.tc_query.specs.Walking.{least_left, AreAhead, AreFrom, StandAt, IsWalk, IsBefore, IsNext, HasNoneIn};
 
 use crate::ahead::{Ahead, next_in};
 use std::alloc::{AllocError, Global};
@@ -55,6 +55,7 @@ pub(crate) fn next_key<F: Frozen>(
     ensures walk { (sealed : Option Table) (active : Table) → IsWalk (least_left last) list.now sealed active walk.old → IsWalk (least_left last) list.now sealed active walk.new }
     ensures next { (sealed : Option Table) (active : Table) → IfSome sealed IsTable → IsTable active → IsWalk (least_left last) list.now sealed active walk.old
         → IsNext (least_left last) result (HasNoneIn list.now sealed active) }
+    ensures stand { IfSome result (λ key. StandAt key list.now walk.new.places.items) }
     ensures lawful { All (λ c. IsIndex c.index) list.now }
 {
     let listed = next_listed(list, &mut walk.places, last);
@@ -74,6 +75,7 @@ fn next_listed<F: Frozen>(
 ) -> Option<u64>
     requires { AreAhead (least_left last) list.now places.old }
     ensures ahead { AreAhead (least_left last) list.now places.new }
+    ensures from { AreFrom (least_left last) list.now places.new }
     ensures next { IsNext (least_left last) result (HaveNone list.now) }
     ensures lawful { All (λ c. IsIndex c.index) list.now }
 {

@@ -1,9 +1,10 @@
-use Rattle.std.proofs.Common.{◌∙◌, Some, option_map, sym, ap, subst}
+use Rattle.std.proofs.Common.{◌+◌, ◌∙◌, Some, option_map, sym, ap, subst, arith}
 use Rattle.std.proofs.lemmas.Result.{IfOk-weaker}
 use Rattle.tc_command.specs.Commands.{ask_of}
 use Rattle.tc_memory.specs.Meaning.{held_of, IsLawfulHeld}
 use Rattle.tc_query.proofs.RowSteps.{rows_of_one, rows_of_none, rows_alike}
 use Rattle.tc_query.proofs.StoredKeys.{stored_live, stored_gone, stored_listed}
+use Rattle.tc_query.proofs.WindowReads.{later_reads, reads_few}
 use Rattle.tc_record.specs.Record.{IsRecordOf}
 use Rattle.tc_query.proofs.looking.row_at.Goals as goal
 
@@ -14,6 +15,21 @@ returns-in_ok-row_held-in-Some-Live-clause-row g c = λ pairs h.
     (subst IsLawfulHeld c.in-Some-Live.field-0-is held.lawful) in
     c.in_ok-row_held-in-Some-Live.ensures.row at.document (subst (IsRecordOf at.document) (sym c.as_slice.ensures.same) at.spells)
     ∙ rows_of_one (ask_of c.args.ask.now) c.args.key pairs at.document at.stored
+
+pub returns-in_err-row_held-in-Some-Live-clause-windows : goal.returns-in_err-row_held-in-Some-Live-clause-windows
+returns-in_err-row_held-in-Some-Live-clause-windows g c = λ low first order a. reads_few low c.args.list.now c.args.cursors.now first (g.F.Watch.Watch.counts c.args.watch.now).reads c.requires.of.many a
+
+pub returns-in_ok-row_held-in-Some-Live-clause-read : goal.returns-in_ok-row_held-in-Some-Live-clause-read
+returns-in_ok-row_held-in-Some-Live-clause-read g c = λ low first order a. later_reads low (c.args.key + 1) c.args.list.now c.args.cursors.now first (g.F.Watch.Watch.counts c.args.watch.now).reads (omega (arith, order)) a
+
+pub returns-in_ok-row_held-in-Some-Live-clause-windows : goal.returns-in_ok-row_held-in-Some-Live-clause-windows
+returns-in_ok-row_held-in-Some-Live-clause-windows g c = λ low first order a. reads_few low c.args.list.now c.args.cursors.now first (g.F.Watch.Watch.counts c.args.watch.now).reads c.requires.of.many a
+
+pub returns-in-Some-Gone-clause-read : goal.returns-in-Some-Gone-clause-read
+returns-in-Some-Gone-clause-read g c = λ low first order a. later_reads low (c.args.key + 1) c.args.list.now c.args.cursors.now first (g.F.Watch.Watch.counts c.args.watch.now).reads (omega (arith, order)) a
+
+pub returns-in-Some-Gone-clause-windows : goal.returns-in-Some-Gone-clause-windows
+returns-in-Some-Gone-clause-windows g c = λ low first order a. reads_few low c.args.list.now c.args.cursors.now first (g.F.Watch.Watch.counts c.args.watch.now).reads c.requires.of.many a
 
 pub returns-in-Some-Gone-clause-row : goal.returns-in-Some-Gone-clause-row
 returns-in-Some-Gone-clause-row g c = λ pairs h.

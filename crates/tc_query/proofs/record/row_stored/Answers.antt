@@ -1,24 +1,43 @@
-use Rattle.std.proofs.Common.{◌∙◌, sym, ap, subst}
+use Rattle.std.proofs.Common.{◌≡◌, ◌∙◌, Err, length, inr, sym, ap, subst}
+use Rattle.std.specs.Prelude.{IfSome}
 use Rattle.std.proofs.lemmas.Option.{IfSome_then}
 use Rattle.tc_command.specs.Commands.{ask_of}
 use Rattle.tc_compact.specs.Meant.{IsRecordUnder}
+use Rattle.tc_component.specs.Fetching.{record_at, IsRecordWithin}
 use Rattle.tc_component.specs.Meaning.{IsRecordOfOne}
 use Rattle.tc_plain_model.specs.Paths.{reached}
 use Rattle.tc_plain_model.specs.Rows.{row_of}
 use Rattle.tc_query.proofs.Spelled.{means_one}
 use Rattle.tc_query.proofs.record.row_stored.Goals as goal
 
+pub known-requires : goal.known-requires
+known-requires g c =
+    let found : IsRecordWithin (length c.args.component.now.index.names) c.record-bytes.result.now = subst (IsRecordWithin (length c.args.component.now.index.names)) (sym c.record-bytes.ensures.same) c.in_ok-hold.ensures.found in
+    inr (found.tree, found.is_record)
+
+pub no_document-requires-clause-read : goal.no_document-requires-clause-read
+no_document-requires-clause-read g c κs within =
+    let component = c.args.component.now in
+    subst (λ b. IfSome (g.F.Frozen.content component.file) (λ whole. b ≡ record_at component.index.slots c.args.place.at whole)) (sym c.record-bytes.ensures.same) c.in_ok-hold.ensures.read
+
+pub no_document-requires-clause-cause : goal.no_document-requires-clause-cause
+no_document-requires-clause-cause g c κs within = λ is d under.
+    c.in-Err.ensures.refused (ap Err is) d (subst (λ names. IsRecordUnder names d c.known.result.bytes) (sym c.names.ensures) (subst (IsRecordUnder c.args.component.now.index.names d) (sym c.known.ensures.bytes) under))
+
+pub returns-in-Ok-clause-watched : goal.returns-in-Ok-clause-watched
+returns-in-Ok-clause-watched g c = record { faults = c.hold.ensures.watched.faults; cause = λ e. absurd (cc) }
+
 pub returns-in-Ok-clause-row : goal.returns-in-Ok-clause-row
 returns-in-Ok-clause-row g c = λ d.
     let component = c.args.component.now in
     let ask = ask_of c.args.ask.now in
-    let bytes = c.as_slice.result.now in
+    let bytes = c.record-bytes.result.now in
     let found = c.in-Ok.ensures.document in
     let e = found.0 in
     let under = subst (IsRecordUnder component.index.names e) c.known.ensures.bytes (subst (λ names. IsRecordUnder names e c.known.result.bytes) c.names.ensures found.1) in
-    IfSome_then (g.F.Frozen.content component.file) c.in_ok-bytes.ensures.read
+    IfSome_then (g.F.Frozen.content component.file) c.in_ok-hold.ensures.read
     (λ whole read one.
     c.in-Ok.ensures.row e found.1
     ∙ ap (λ x. row_of ask.equal_to c.args.key (reached ask.path x))
     (means_one component.index.names bytes c.known.result.named d e (λ x is. (c.known.ensures.document x is).0) (λ n is. (c.known.ensures.numbered n is).0) under
-    (subst (IsRecordOfOne component.index.names d) (sym (c.as_slice.ensures.same ∙ read)) one)))
+    (subst (IsRecordOfOne component.index.names d) (sym (c.record-bytes.ensures.same ∙ read)) one)))

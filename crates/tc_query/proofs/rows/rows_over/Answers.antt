@@ -1,14 +1,17 @@
-use Rattle.std.proofs.Common.{◌+◌, ◌∙◌, Err, map, option_map, sym, ap, subst, arith}
+use Rattle.std.proofs.Common.{◌+◌, ◌∙◌, Err, List, length, map, option_map, sym, ap, subst, arith}
 use Rattle.std.proofs.lemmas.Result.{err_from_is_err_and}
 use Rattle.std.specs.Prelude.{IfErr, option_to_list}
 use Rattle.tc_command.specs.Commands.{ask_of}
 use Rattle.tc_command.specs.Rows.{row_of}
+use Rattle.tc_component.specs.Cursors.{CursorState}
 use Rattle.tc_query.proofs.KeyRows.{reads_more, reads_within, reads_ended, rows_more, rows_whole}
 use Rattle.tc_query.proofs.RowSteps.{rows-start}
 use Rattle.tc_query.proofs.Spelled.{unharmed}
-use Rattle.tc_query.proofs.WalkSteps.{later_walk}
+use Rattle.tc_query.proofs.WalkSteps.{later_walk, written_back}
+use Rattle.tc_query.proofs.WindowReads.{start_cursors, start_read, reads_few}
 use Rattle.tc_query.specs.Faults.{IsUnharmed}
 use Rattle.tc_query.specs.Walking.{least_left, IsNext, HasNoneIn}
+use Rattle.tc_query.specs.Windows.{AreRead, AreCursors}
 use Rattle.tc_query.proofs.rows.rows_over.Goals as goal
 
 pub loop-key-init : goal.loop-key-init
@@ -16,6 +19,8 @@ loop-key-init g c = record {
   walk = c.in_ok-walk.ensures.walk;
   rows = λ pairs h. ap (map row_of) c.new-rows.ensures.items ∙ sym (rows-start (ask_of c.args.ask.now) pairs);
   reads = omega arith;
+  cursors = start_cursors g.F.Frozen.content c.args.list.now _ _ c.in_ok-cursors.ensures c.len.ensures;
+  read = start_read c.args.list.now _ _;
   faults = omega arith;
 }
 
@@ -45,6 +50,30 @@ returns-in_err-push_row-clause-reads g c =
     reads_ended g.F.Frozen.content c.args.list.now sealed c.args.active.now (least_left l.last) c.in-Some.key (counts c.args.watch.now).reads (counts l.watch) (counts c.row_at.new.watch)
     c.next_key.ensures.lawful (c.in-Some.ensures.next sealed c.args.active.now tables.sealed tables.active l.invariant.walk) c.row_at.ensures.reads l.invariant.reads
 
+pub returns-in_err-row-clause-windows : goal.returns-in_err-row-clause-windows
+returns-in_err-row-clause-windows g c =
+    let l = c.loop-key in
+    let counts = g.F.Watch.Watch.counts in
+    let tables = c.in_ok-walk.ensures in
+    let sealed = option_map (λ t. t.now) c.args.sealed in
+    let next = c.in-Some.ensures.next sealed c.args.active.now tables.sealed tables.active l.invariant.walk in
+    c.row_at.ensures.windows (least_left l.last) (counts c.args.watch.now).reads next.0 (subst (λ ks. AreRead (least_left l.last) c.args.list.now ks (counts c.args.watch.now).reads (counts l.watch).reads) (sym c.deref_mut.ensures.value) l.invariant.read)
+
+pub returns-in_err-push_row-clause-windows : goal.returns-in_err-push_row-clause-windows
+returns-in_err-push_row-clause-windows g c =
+    let l = c.loop-key in
+    let counts = g.F.Watch.Watch.counts in
+    let tables = c.in_ok-walk.ensures in
+    let sealed = option_map (λ t. t.now) c.args.sealed in
+    let next = c.in-Some.ensures.next sealed c.args.active.now tables.sealed tables.active l.invariant.walk in
+    c.row_at.ensures.windows (least_left l.last) (counts c.args.watch.now).reads next.0 (subst (λ ks. AreRead (least_left l.last) c.args.list.now ks (counts c.args.watch.now).reads (counts l.watch).reads) (sym c.deref_mut.ensures.value) l.invariant.read)
+
+pub returns-clause-windows : goal.returns-clause-windows
+returns-clause-windows g c =
+    let l = c.loop-key in
+    let counts = g.F.Watch.Watch.counts in
+    reads_few (least_left l.last) c.args.list.now l.cursors.items (counts c.args.watch.now).reads (counts l.watch).reads l.invariant.cursors.many l.invariant.read
+
 pub loop-key-preserved : goal.loop-key-preserved
 loop-key-preserved g c =
     let l = c.loop-key in
@@ -56,12 +85,16 @@ loop-key-preserved g c =
     let low = least_left l.last in
     let key = c.in-Some.key in
     let next = c.in-Some.ensures.next sealed active tables.sealed tables.active l.invariant.walk in
+    let written = written_back c.row_at.new.cursors l.cursors.items _ (c.row_at.ensures.of.many ∙ sym l.invariant.cursors.many) (sym c.deref_mut.ensures.len ∙ ap (λ (ks : List CursorState). length ks) c.deref_mut.ensures.value) in
     record {
       walk = let least = next.0 in later_walk low (key + 1) cs sealed active c.next_key.new.walk (omega (arith, least)) (c.in-Some.ensures.walk sealed active l.invariant.walk);
       rows = λ pairs h.
           rows_more g.F.Frozen.content cs sealed active pairs h tables.sealed tables.active (c.loaded_components_show_contents.ensures.shown cs h.contents h.loaded) (ask_of c.args.ask.now) low key
           (map row_of l.rows.items) (option_to_list (option_map row_of c.in_ok-row.row)) (map row_of c.push_row.new.rows.items) next (l.invariant.rows pairs h) (c.in_ok-row.ensures.row pairs h) c.in_ok-push_row.ensures;
       reads = reads_more g.F.Frozen.content cs sealed active low key (counts c.args.watch.now).reads (counts l.watch) (counts c.row_at.new.watch) c.next_key.ensures.lawful next c.row_at.ensures.reads l.invariant.reads;
+      cursors = subst (λ ks. AreCursors g.F.Frozen.content cs ks) (sym written) c.row_at.ensures.of;
+      read = subst (λ ks. AreRead (key + 1) cs ks (counts c.args.watch.now).reads (counts c.row_at.new.watch).reads) (sym written)
+          (c.in_ok-row.ensures.read low (counts c.args.watch.now).reads next.0 (subst (λ ks. AreRead low cs ks (counts c.args.watch.now).reads (counts l.watch).reads) (sym c.deref_mut.ensures.value) l.invariant.read));
       faults = let before = l.invariant.faults in let more = c.row_at.ensures.watched.faults in omega (arith, before, more);
     }
 
