@@ -13,6 +13,8 @@ mod ListedContents
 mod BelowKeys
 pub mod ListedDocuments
 mod Refusals
+mod QueriedRows
+mod LiveCounts
 mod Handing
 mod StagedWrites
 mod Creations

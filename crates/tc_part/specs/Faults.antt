@@ -2,7 +2,10 @@
 use Rattle.std.specs.Prelude.{Result, Ok, Err}
 use Rattle.tc_jobs.specs.declared.fault.JobFault.{JobFault}
 use Rattle.tc_jobs.specs.declared.fault.JobFault.TheVariants as job
+use Rattle.tc_query.specs.declared.fault.QueryFault.{QueryFault}
+use Rattle.tc_query.specs.declared.fault.QueryFault.TheVariants as query
 use Rattle.tc_store.specs.declared.damage.Damage.{Damage}
+use Rattle.tc_store.specs.declared.damage.Damage.TheVariants.{Bytes}
 use Rattle.tc_store.specs.declared.fault.DeviceFault.{DeviceFault}
 use Rattle.tc_store.specs.declared.fault.DeviceFault.TheVariants as device
 use Rattle.tc_store.specs.declared.fault.StoreFault.{StoreFault}
@@ -22,6 +25,11 @@ abbrev pub of_job : JobFault → PartFault
 of_job job.Disk = part.Disk
 of_job (job.Damaged damage) = part.Damaged damage
 of_job job.Memory = part.Memory
+
+abbrev pub of_query : QueryFault → PartFault
+of_query query.Disk = part.Disk
+of_query (query.Damaged file place bytes) = part.Damaged (Bytes file place bytes)
+of_query query.Memory = part.Memory
 
 -- of damage this holds
 abbrev pub IfDamaged : {X : Type 0} → Result X PartFault → (Damage → Type 0) → Type 0

@@ -5,12 +5,13 @@ ghost use Rattle.tc_record.specs.declared.fault.RecordFault.TheVariants.{NotARec
 ghost use Rattle.tc_store.specs.declared.damage.Damage.TheVariants.{Bytes as damage_of};
 ghost use Rattle.tc_store.specs.declared.damage.ReadFault.TheVariants.{Disk as read_fault, Damaged as damage_read};
 ghost use Rattle.tc_part.specs.declared.fault.PartFault.TheVariants.{Memory as no_memory, Disk as disk_fault, Damaged as damage_found};
-ghost use Rattle.tc_part.specs.Faults.{of_device, of_job, of_store};
+ghost use Rattle.tc_part.specs.Faults.{of_device, of_job, of_query as query_fault, of_store};
 ghost use Rattle.tc_part.specs.Harms.{IsOfRead};
 
 use std::alloc::{AllocError, AllocFailed};
 use tc_bytes::Bytes;
 use tc_jobs::JobFault;
+use tc_query::QueryFault;
 use tc_record::RecordFault;
 use tc_store::{Damage, DeviceFault, FileName, ReadFault, StoreFault};
 use thiserror::Error;
@@ -98,6 +99,17 @@ pub(crate) fn of_record(file: FileName, place: u64, bytes: Bytes, fault: RecordF
     match fault {
         RecordFault::NotARecord => damaged(file, place, bytes),
         RecordFault::Memory => PartFault::Memory,
+    }
+}
+
+/// The same fault, of a query.
+pub(crate) fn of_query(fault: QueryFault) -> PartFault
+    ensures { result ≡ query_fault fault }
+{
+    match fault {
+        QueryFault::Disk => PartFault::Disk,
+        QueryFault::Damaged { file, place, bytes } => damaged(file, place, bytes),
+        QueryFault::Memory => PartFault::Memory,
     }
 }
 

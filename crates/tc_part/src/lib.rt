@@ -1,5 +1,5 @@
 //! Layer 5, engine: one partition of the store, in memory and in its files. It begins with what was opened, writes are staged
-//! and committed, keys are looked up, a table is sealed and flushed, neighbours are merged, and it is closed.
+//! and committed, keys are looked up, queries get their rows, a table is sealed and flushed, neighbours are merged, and it is closed.
 #![tactic(auto)]
 
 mod below;
@@ -16,6 +16,7 @@ mod merging;
 mod names;
 mod own_files;
 mod part;
+mod querying;
 mod records;
 mod schema_text;
 mod sealing;

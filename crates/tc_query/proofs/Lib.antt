@@ -2,6 +2,7 @@ pub mod ReachedValues
 pub mod BelowKeys
 pub mod AheadKeys
 pub mod ShownKeys
+pub mod LiveKeys
 pub mod StoredKeys
 pub mod RowSteps
 pub mod Spelled
