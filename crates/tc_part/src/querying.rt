@@ -11,6 +11,7 @@ ghost use Rattle.tc_part.specs.Faults.{IsUndamaged};
 ghost use Rattle.tc_part.specs.Harms.{IsHarmIn, IsOfRead};
 ghost use Rattle.tc_query.specs.Faults.{IsWatched};
 ghost use Rattle.tc_query.specs.Shown.{live_keys};
+ghost use Rattle.tc_query.specs.Windows.{most_windows};
 
 use crate::fault::{PartFault, of_query};
 use crate::part::Part;
@@ -42,8 +43,10 @@ impl<S: Store> Part<S> {
 
         ensures harmed { IfErr result (λ fault. IsOfRead fault (λ file at bytes. IsHarmIn (λ file. S.Frozen.content file) self.old.list file at bytes)) }
 
-        // So many keys have a document as directories and tables show, which is how many documents are live.
+        // So many keys have a document as directories and tables show, which is how many documents are live. Nor are there more
+        // reads than windows of the components' records.
         ensures reads { (S.Watch.counts self.new.main).reads ≤ (S.Watch.counts self.old.main).reads + live_keys self.old.list self.old.sealed self.old.active }
+        ensures windows { (S.Watch.counts self.new.main).reads ≤ (S.Watch.counts self.old.main).reads + most_windows self.old.list }
         ensures live { (p : PartView) → IsPart (told S.history S.Device.history S.Frozen.content self.old) p → live_keys self.old.list self.old.sealed self.old.active ≡ self.old.live }
         ensures watched { IsWatched (IsErrOf result PartFault.Disk) (S.Watch.counts self.old.main) (S.Watch.counts self.new.main) }
     {
@@ -66,6 +69,7 @@ impl<S: Store> Part<S> {
         ensures same { self.new ≡ record self.old { main = self.new.main } }
         ensures harmed { IfErr result (λ fault. IsOfRead fault (λ file at bytes. IsHarmIn (λ file. S.Frozen.content file) self.old.list file at bytes)) }
         ensures reads { (S.Watch.counts self.new.main).reads ≤ (S.Watch.counts self.old.main).reads + live_keys self.old.list self.old.sealed self.old.active }
+        ensures windows { (S.Watch.counts self.new.main).reads ≤ (S.Watch.counts self.old.main).reads + most_windows self.old.list }
         ensures live { (p : PartView) → IsPart (told S.history S.Device.history S.Frozen.content self.old) p → live_keys self.old.list self.old.sealed self.old.active ≡ self.old.live }
         ensures watched { IsWatched (IsErrOf result PartFault.Disk) (S.Watch.counts self.old.main) (S.Watch.counts self.new.main) }
     {

@@ -1,5 +1,5 @@
 -- What a request does to a part and what it is answered, by what the call of the part answered.
-use Rattle.std.proofs.Common.{◌≡◌, ◌∙◌, ℕ, Bool, true, false, List, [], ◌∷◌, ◌++◌, Option, Some, None, if◌then◌else◌, inl, inr, refl, sym, ap, subst, append-nil}
+use Rattle.std.proofs.Common.{◌≡◌, ◌≤◌, ◌+◌, ◌∙◌, ℕ, Bool, true, false, List, [], ◌∷◌, ◌++◌, Option, Some, None, if◌then◌else◌, inl, inr, refl, sym, ap, subst, arith, append-nil}
 use Rattle.std.specs.Prelude.{◌⊎◌, is_some}
 use Rattle.tc_model.specs.Document.{Name, Document}
 use Rattle.tc_model.specs.Keyed.{value_of}
@@ -20,6 +20,10 @@ use Rattle.tc_part_model.specs.Staging.{taken_with}
 use Rattle.tc_part.specs.declared.staging.Staged.{Staged}
 use Rattle.tc_part.specs.declared.staging.Staged.TheVariants.{Done, NamesFull, Full}
 use Rattle.tc_part.specs.Stages.{answer_to, stages, HasStaged}
+use Rattle.tc_memory.specs.Table.{upserted as table_upserted, deleted as table_deleted}
+use Rattle.tc_query.proofs.LiveKeys.{one_more_upserted, one_more_deleted}
+use Rattle.tc_query.specs.Shown.{live_keys}
+use Rattle.tc_work.specs.Reads.{live_in}
 use Rattle.tc_work.specs.Replied.{reply_to_upsert}
 use Rattle.tc_work.specs.Windowed.{staged_as, HasOnlyStaged, IsStagedAs}
 
@@ -124,3 +128,23 @@ still_sound {S = S} {D = D} {F = F} {W = W} (Done true) (Delete key) old new has
 still_sound {S = S} {D = D} {F = F} {W = W} (Done false) (Delete key) old new has = ap (λ (s : PartState S D F W). s.failed) has
 still_sound {S = S} {D = D} {F = F} {W = W} NamesFull w old new has = ap (λ (s : PartState S D F W). s.failed) has
 still_sound {S = S} {D = D} {F = F} {W = W} Full w old new has = ap (λ (s : PartState S D F W). s.failed) has
+
+-- ---- how many keys have a document
+
+-- nothing changed but what the watch counted
+pub still_live : {S D F W : Type 0} (more : ℕ) (old new : PartState S D F W) → new ≡ record old { main = new.main } → live_in new ≤ live_in old + more
+still_live {S = S} {D = D} {F = F} {W = W} more old new same = let alike = ap (λ (s : PartState S D F W). live_in s) same in omega (arith, alike)
+
+not_more_live : {S D F W : Type 0} (old new : PartState S D F W) → new ≡ old → live_in new ≤ live_in old + 1
+not_more_live {S = S} {D = D} {F = F} {W = W} old new same = let alike = ap (λ (s : PartState S D F W). live_in s) same in omega (arith, alike)
+
+pub one_more_live : {S D F W : Type 0} (answer : Staged) (w : log.Write) (old new : PartState S D F W) → HasStaged answer w old new → live_in new ≤ live_in old + 1
+one_more_live {S = S} {D = D} {F = F} {W = W} (Done was_live) (Upsert key bytes) old new has =
+    let is : live_in new ≡ live_keys old.list old.sealed (table_upserted key bytes has.0 old.active) = ap (λ (s : PartState S D F W). live_in s) has.1 in
+    omega (arith, is, one_more_upserted old.list old.sealed key bytes has.0 old.active)
+one_more_live {S = S} {D = D} {F = F} {W = W} (Done true) (Delete key) old new has =
+    let is : live_in new ≡ live_keys old.list old.sealed (table_deleted key has.0 old.active) = ap (λ (s : PartState S D F W). live_in s) has.1 in
+    omega (arith, is, one_more_deleted old.list old.sealed key has.0 old.active)
+one_more_live (Done false) (Delete key) old new has = not_more_live old new has
+one_more_live NamesFull w old new has = not_more_live old new has
+one_more_live Full w old new has = not_more_live old new has

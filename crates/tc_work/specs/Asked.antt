@@ -11,17 +11,18 @@ use Rattle.tc_route.specs.Meaning.{routed_of}
 abbrev pub requests_in : List Routed → List Request
 requests_in list = values_in (map routed_of list)
 
--- It is for one key below 2^63. A document may be stored, and its record is short enough to be compacted.
-abbrev pub IsOfKey : Request → Type 0
-IsOfKey (upsert n d) = (n < 2 ^ 63) × IsStorable d × (length (record_of d) < 2 ^ 30)
-IsOfKey (delete n) = n < 2 ^ 63
-IsOfKey (get n) = n < 2 ^ 63
-IsOfKey (query ask) = ⊥
-IsOfKey flush = ⊥
-IsOfKey schema = ⊥
-IsOfKey (scan ask) = ⊥
-IsOfKey collect = ⊥
-IsOfKey (refused r) = ⊥
+-- It is for a partition: a query, or for one key below 2^63. A document may be stored, and its record is short enough to be
+-- compacted.
+abbrev pub IsForPart : Request → Type 0
+IsForPart (upsert n d) = (n < 2 ^ 63) × IsStorable d × (length (record_of d) < 2 ^ 30)
+IsForPart (delete n) = n < 2 ^ 63
+IsForPart (get n) = n < 2 ^ 63
+IsForPart (query ask) = Unit {0}
+IsForPart flush = ⊥
+IsForPart schema = ⊥
+IsForPart (scan ask) = ⊥
+IsForPart collect = ⊥
+IsForPart (refused r) = ⊥
 
 -- the most writes that a request makes
 abbrev pub writes_for : Request → ℕ
@@ -58,5 +59,5 @@ most_bytes (r ∷ rs) = bytes_for r + most_bytes rs
 -- a window whose writes one frame can hold
 pub record IsWindow (list : List Routed) : Type 0 where
   pub few : length list ≤ 4096
-  pub each : All (λ r. IsOfKey (request_of_command r.command)) list
+  pub each : All (λ r. IsForPart (request_of_command r.command)) list
   pub short : most_bytes (requests_in list) < 2 ^ 32

@@ -1,9 +1,9 @@
-//! One command of a window: its write is staged, or its key is looked up.
+//! One command of a window: its write is staged, its key is looked up, or a query gets its rows.
 
-ghost use Rattle.std.specs.Prelude.{◌≡◌, false, IfErr, IfOk, OnOk, IsErrOf};
-ghost use Rattle.tc_model.specs.Request.{upsert, delete, get};
+ghost use Rattle.std.specs.Prelude.{◌≡◌, ◌≤◌, ◌+◌, false, IfErr, IfOk, OnOk, IsErrOf};
+ghost use Rattle.tc_model.specs.Request.{upsert, delete, get, query};
 ghost use Rattle.tc_value.specs.Meaning.{tree_of};
-ghost use Rattle.tc_command.specs.Commands.{request_of_command};
+ghost use Rattle.tc_command.specs.Commands.{ask_of, request_of_command};
 ghost use Rattle.tc_command.specs.Replies.{reply_of};
 ghost use Rattle.tc_run_model.specs.Kinds.{IsOfKind};
 ghost use Rattle.tc_plain_model.specs.Part.{part_left, part_reply, part_writes};
@@ -11,16 +11,16 @@ ghost use Rattle.tc_part_model.specs.Meaning.{IsPart, plain_of};
 ghost use Rattle.tc_part_model.specs.PartState.{told, AreTold};
 ghost use Rattle.tc_part_model.specs.PartView.{PartView};
 ghost use Rattle.tc_part.specs.Harms.{IsHarmIn};
-ghost use Rattle.tc_work.specs.Asked.{IsOfKey};
+ghost use Rattle.tc_work.specs.Asked.{writes_for, IsForPart};
 ghost use Rattle.tc_work.specs.Faults.{IfDamage};
 ghost use Rattle.tc_work.specs.Frames.{HasGrown, HasRoomFor};
-ghost use Rattle.tc_work.specs.Reads.{IsCountedWithin};
+ghost use Rattle.tc_work.specs.Reads.{live_in, reads_for, IsCountedWithin};
 ghost use Rattle.tc_work.specs.Replied.{reply_to_delete, reply_to_upsert};
 ghost use Rattle.tc_work.specs.Windowed.{HasOnlyStaged, IsStagedAs};
 
 use crate::fault::EngineFault;
 use std::alloc::Global;
-use tc_command::{Command, Refusal, Reply};
+use tc_command::{Ask, Command, Refusal, Reply};
 use tc_log::Write;
 use tc_part::{Part, Staged};
 use tc_part_model::staged_is_kept;
@@ -35,7 +35,7 @@ pub(crate) fn answer<S: Store>(
     command: &Command,
 ) -> Result<Reply, EngineFault>
     requires sound { part.old.failed ≡ false }
-    requires asked { IsOfKey (request_of_command command.now) }
+    requires asked { IsForPart (request_of_command command.now) }
     requires frame { HasRoomFor (request_of_command command.now) part.old.staged }
     ensures staged { (p : PartView) → IsPart (told S.history S.Device.history S.Frozen.content part.old) p
         → OnOk result (IsStagedAs (part_writes part.old.limits (request_of_command command.now) (plain_of (told S.history S.Device.history S.Frozen.content part.old) p)) (part_left part.old.limits (request_of_command command.now) (plain_of (told S.history S.Device.history S.Frozen.content part.old) p)) p (told S.history S.Device.history S.Frozen.content part.new)) }
@@ -47,12 +47,14 @@ pub(crate) fn answer<S: Store>(
     ensures sound { OnOk result (part.new.failed ≡ false) }
     ensures harmed { IfErr result (λ fault. IfDamage fault (λ file at bytes. IsHarmIn (λ file. S.Frozen.content file) part.old.list file at bytes)) }
     ensures unspent { IsErrOf result EngineFault.Spent → ⊥ }
-    ensures counted { IsCountedWithin 1 (IsErrOf result EngineFault.Disk) (S.Watch.counts part.old.main) (S.Watch.counts part.new.main) }
+    ensures live { OnOk result (live_in part.new ≤ live_in part.old + writes_for (request_of_command command.now)) }
+    ensures counted { IsCountedWithin (reads_for (live_in part.old) (request_of_command command.now)) (IsErrOf result EngineFault.Disk) (S.Watch.counts part.old.main) (S.Watch.counts part.new.main) }
 {
     match command {
         Command::Upsert { key, doc } => upsert(alloc, part, *key, doc),
         Command::Delete { key } => delete(alloc, part, *key),
         Command::Get { key } => get(alloc, part, *key),
+        Command::Query(ask) => query(alloc, part, ask),
         _other => unreachable!(),
     }
 }
@@ -64,7 +66,7 @@ fn upsert<S: Store>(
     doc: &Doc,
 ) -> Result<Reply, EngineFault>
     requires sound { part.old.failed ≡ false }
-    requires asked { IsOfKey (upsert key (tree_of doc.now)) }
+    requires asked { IsForPart (upsert key (tree_of doc.now)) }
     requires frame { HasRoomFor (upsert key (tree_of doc.now)) part.old.staged }
     ensures staged { (p : PartView) → IsPart (told S.history S.Device.history S.Frozen.content part.old) p
         → OnOk result (IsStagedAs (part_writes part.old.limits (upsert key (tree_of doc.now)) (plain_of (told S.history S.Device.history S.Frozen.content part.old) p)) (part_left part.old.limits (upsert key (tree_of doc.now)) (plain_of (told S.history S.Device.history S.Frozen.content part.old) p)) p (told S.history S.Device.history S.Frozen.content part.new)) }
@@ -76,7 +78,8 @@ fn upsert<S: Store>(
     ensures sound { OnOk result (part.new.failed ≡ false) }
     ensures harmed { IfErr result (λ fault. IfDamage fault (λ file at bytes. IsHarmIn (λ file. S.Frozen.content file) part.old.list file at bytes)) }
     ensures unspent { IsErrOf result EngineFault.Spent → ⊥ }
-    ensures counted { IsCountedWithin 1 (IsErrOf result EngineFault.Disk) (S.Watch.counts part.old.main) (S.Watch.counts part.new.main) }
+    ensures live { OnOk result (live_in part.new ≤ live_in part.old + writes_for (upsert key (tree_of doc.now))) }
+    ensures counted { IsCountedWithin (reads_for (live_in part.old) (upsert key (tree_of doc.now))) (IsErrOf result EngineFault.Disk) (S.Watch.counts part.old.main) (S.Watch.counts part.new.main) }
 {
     staged_is_kept();
     // The walk shows that the names of the document ascend at each level.
@@ -102,7 +105,7 @@ fn upserted(key: u64, staged: Staged) -> Reply
 
 fn delete<S: Store>(alloc: Global, part: &mut Part<S>, key: u64) -> Result<Reply, EngineFault>
     requires sound { part.old.failed ≡ false }
-    requires asked { IsOfKey (delete key) }
+    requires asked { IsForPart (delete key) }
     requires frame { HasRoomFor (delete key) part.old.staged }
     ensures staged { (p : PartView) → IsPart (told S.history S.Device.history S.Frozen.content part.old) p
         → OnOk result (IsStagedAs (part_writes part.old.limits (delete key) (plain_of (told S.history S.Device.history S.Frozen.content part.old) p)) (part_left part.old.limits (delete key) (plain_of (told S.history S.Device.history S.Frozen.content part.old) p)) p (told S.history S.Device.history S.Frozen.content part.new)) }
@@ -114,7 +117,8 @@ fn delete<S: Store>(alloc: Global, part: &mut Part<S>, key: u64) -> Result<Reply
     ensures sound { OnOk result (part.new.failed ≡ false) }
     ensures harmed { IfErr result (λ fault. IfDamage fault (λ file at bytes. IsHarmIn (λ file. S.Frozen.content file) part.old.list file at bytes)) }
     ensures unspent { IsErrOf result EngineFault.Spent → ⊥ }
-    ensures counted { IsCountedWithin 1 (IsErrOf result EngineFault.Disk) (S.Watch.counts part.old.main) (S.Watch.counts part.new.main) }
+    ensures live { OnOk result (live_in part.new ≤ live_in part.old + writes_for (delete key)) }
+    ensures counted { IsCountedWithin (reads_for (live_in part.old) (delete key)) (IsErrOf result EngineFault.Disk) (S.Watch.counts part.old.main) (S.Watch.counts part.new.main) }
 {
     staged_is_kept();
     let staged = part.stage(alloc, Write::Delete { key })?;
@@ -139,7 +143,7 @@ fn deleted(key: u64, staged: Staged) -> Reply
 
 fn get<S: Store>(alloc: Global, part: &mut Part<S>, key: u64) -> Result<Reply, EngineFault>
     requires sound { part.old.failed ≡ false }
-    requires asked { IsOfKey (get key) }
+    requires asked { IsForPart (get key) }
     requires frame { HasRoomFor (get key) part.old.staged }
     ensures staged { (p : PartView) → IsPart (told S.history S.Device.history S.Frozen.content part.old) p
         → OnOk result (IsStagedAs (part_writes part.old.limits (get key) (plain_of (told S.history S.Device.history S.Frozen.content part.old) p)) (part_left part.old.limits (get key) (plain_of (told S.history S.Device.history S.Frozen.content part.old) p)) p (told S.history S.Device.history S.Frozen.content part.new)) }
@@ -151,8 +155,30 @@ fn get<S: Store>(alloc: Global, part: &mut Part<S>, key: u64) -> Result<Reply, E
     ensures sound { OnOk result (part.new.failed ≡ false) }
     ensures harmed { IfErr result (λ fault. IfDamage fault (λ file at bytes. IsHarmIn (λ file. S.Frozen.content file) part.old.list file at bytes)) }
     ensures unspent { IsErrOf result EngineFault.Spent → ⊥ }
-    ensures counted { IsCountedWithin 1 (IsErrOf result EngineFault.Disk) (S.Watch.counts part.old.main) (S.Watch.counts part.new.main) }
+    ensures live { OnOk result (live_in part.new ≤ live_in part.old + writes_for (get key)) }
+    ensures counted { IsCountedWithin (reads_for (live_in part.old) (get key)) (IsErrOf result EngineFault.Disk) (S.Watch.counts part.old.main) (S.Watch.counts part.new.main) }
 {
     let doc = part.lookup(alloc, key)?;
     Ok(Reply::Got { id: key, doc })
+}
+
+fn query<S: Store>(alloc: Global, part: &mut Part<S>, ask: &Ask) -> Result<Reply, EngineFault>
+    requires sound { part.old.failed ≡ false }
+    requires asked { IsForPart (query (ask_of ask.now)) }
+    requires frame { HasRoomFor (query (ask_of ask.now)) part.old.staged }
+    ensures staged { (p : PartView) → IsPart (told S.history S.Device.history S.Frozen.content part.old) p
+        → OnOk result (IsStagedAs (part_writes part.old.limits (query (ask_of ask.now)) (plain_of (told S.history S.Device.history S.Frozen.content part.old) p)) (part_left part.old.limits (query (ask_of ask.now)) (plain_of (told S.history S.Device.history S.Frozen.content part.old) p)) p (told S.history S.Device.history S.Frozen.content part.new)) }
+    ensures reply { (p : PartView) → IsPart (told S.history S.Device.history S.Frozen.content part.old) p → AreTold (told S.history S.Device.history S.Frozen.content part.old).components
+        → IfOk result (λ reply. reply_of reply ≡ part_reply part.old.limits (query (ask_of ask.now)) (plain_of (told S.history S.Device.history S.Frozen.content part.old) p)) }
+    ensures kind { IfOk result (λ reply. IsOfKind (query (ask_of ask.now)) (reply_of reply)) }
+    ensures grown { OnOk result (HasGrown (query (ask_of ask.now)) part.old.staged part.new.staged) }
+    ensures same { HasOnlyStaged part.old part.new }
+    ensures sound { OnOk result (part.new.failed ≡ false) }
+    ensures harmed { IfErr result (λ fault. IfDamage fault (λ file at bytes. IsHarmIn (λ file. S.Frozen.content file) part.old.list file at bytes)) }
+    ensures unspent { IsErrOf result EngineFault.Spent → ⊥ }
+    ensures live { OnOk result (live_in part.new ≤ live_in part.old + writes_for (query (ask_of ask.now))) }
+    ensures counted { IsCountedWithin (reads_for (live_in part.old) (query (ask_of ask.now))) (IsErrOf result EngineFault.Disk) (S.Watch.counts part.old.main) (S.Watch.counts part.new.main) }
+{
+    let rows = part.rows(alloc, ask)?;
+    Ok(Reply::Rows(rows))
 }

@@ -1,6 +1,6 @@
 //! The commands of a window, one after the other: their writes are staged, and their replies put together.
 
-ghost use Rattle.std.specs.Prelude.{◌≡◌, [], false, length, map, IfErr, IfOk, OnOk, IsErrOf};
+ghost use Rattle.std.specs.Prelude.{◌≡◌, [], false, map, IfErr, IfOk, OnOk, IsErrOf};
 ghost use Rattle.tc_model.specs.Keyed.{values_in};
 ghost use Rattle.tc_run_model.specs.Kinds.{AreOfKinds};
 ghost use Rattle.tc_plain_model.specs.Part.{part_left_all, part_writes_all};
@@ -13,7 +13,7 @@ ghost use Rattle.tc_route.specs.Meaning.{replies_in, routed_of};
 ghost use Rattle.tc_work.specs.Asked.{most_bytes, most_writes, requests_in, IsWindow};
 ghost use Rattle.tc_work.specs.Faults.{IfDamage};
 ghost use Rattle.tc_work.specs.Frames.{AreWithin};
-ghost use Rattle.tc_work.specs.Reads.{IsCountedWithin};
+ghost use Rattle.tc_work.specs.Reads.{live_in, most_reads, IsCountedWithin};
 ghost use Rattle.tc_work.specs.Windowed.{HasOnlyStaged, IsStagedAs};
 
 use crate::answering::answer;
@@ -43,7 +43,7 @@ pub(crate) fn answer_all<S: Store>(
     ensures sound { OnOk result (part.new.failed ≡ false) }
     ensures harmed { IfErr result (λ fault. IfDamage fault (λ file at bytes. IsHarmIn (λ file. S.Frozen.content file) part.old.list file at bytes)) }
     ensures unspent { IsErrOf result EngineFault.Spent → ⊥ }
-    ensures counted { IsCountedWithin (length list.now) (IsErrOf result EngineFault.Disk) (S.Watch.counts part.old.main) (S.Watch.counts part.new.main) }
+    ensures counted { IsCountedWithin (most_reads (live_in part.old) (requests_in list.now)) (IsErrOf result EngineFault.Disk) (S.Watch.counts part.old.main) (S.Watch.counts part.new.main) }
 {
     let mut replies = Vec::with_capacity(alloc, list.len())?;
     for routed in list {

@@ -15,7 +15,7 @@ ghost use Rattle.tc_route.specs.Meaning.{replies_in, routed_of};
 ghost use Rattle.tc_work.specs.Asked.{most_writes, requests_in, IsWindow};
 ghost use Rattle.tc_work.specs.Failing.{HasFailedWith};
 ghost use Rattle.tc_work.specs.Faults.{IfDamage, IfDamaged};
-ghost use Rattle.tc_work.specs.Reads.{IsCountedWithin};
+ghost use Rattle.tc_work.specs.Reads.{live_in, most_reads, IsCountedWithin};
 ghost use Rattle.tc_work.specs.Settling.{MaySettle, TellsFiles};
 ghost use Rattle.tc_work.specs.Windowed.{staged_as, IsWindowed};
 
@@ -31,8 +31,9 @@ use tc_store::Store;
 
 impl<S: Store> Engine<S> {
     /// Runs the commands of a window, and commits their writes as one frame: one reply a command, in order and with its place,
-    /// in which a get sees the writes before it. A refused upsert is a reply, and no fault. At most one read is made for a
-    /// command. `Spent` comes only where there would be more than 2^63 - 1 writes of this run; then nothing is written.
+    /// in which a get or a query sees the writes before it. A refused upsert is a reply, and no fault. At most one read is made
+    /// for a command with a key, and for a query one for each key that has a document then. `Spent` comes only where there would
+    /// be more than 2^63 - 1 writes of this run; then nothing is written.
     pub fn window(&mut self, alloc: Global, list: &[Routed]) -> Result<Replies, EngineFault>
         requires sound { self.old.part.failed ≡ false }
         requires window { IsWindow list.now }
@@ -76,7 +77,7 @@ impl<S: Store> Engine<S> {
         ensures undamaged { (p : PartView) → IsPart (told S.history S.Device.history S.Frozen.content self.old.part) p → AreTold (told S.history S.Device.history S.Frozen.content self.old.part).components → IfErr result (λ fault. IfDamaged fault (λ damage. ⊥)) }
         ensures spent { IsErrOf result EngineFault.Spent → 2 ^ 63 ≤ self.old.part.writes + most_writes (requests_in list.now) }
         ensures unspent { IsErrOf result EngineFault.Spent → self.new.part.log ≡ self.old.part.log }
-        ensures counted { IsCountedWithin (length list.now) (IsErrOf result EngineFault.Disk) (S.Watch.counts self.old.part.main) (S.Watch.counts self.new.part.main) }
+        ensures counted { IsCountedWithin (most_reads (live_in self.old.part) (requests_in list.now)) (IsErrOf result EngineFault.Disk) (S.Watch.counts self.old.part.main) (S.Watch.counts self.new.part.main) }
     {
         components_are_contents();
         self.failed = true;
@@ -108,7 +109,7 @@ fn run<S: Store>(alloc: Global, part: &mut Part<S>, list: &[Routed]) -> Result<R
     ensures harmed { IfErr result (λ fault. IfDamage fault (λ file at bytes. IsHarmIn (λ file. S.Frozen.content file) part.old.list file at bytes)) }
     ensures spent { IsErrOf result EngineFault.Spent → 2 ^ 63 ≤ part.old.writes + most_writes (requests_in list.now) }
     ensures unspent { IsErrOf result EngineFault.Spent → part.new.log ≡ part.old.log }
-    ensures counted { IsCountedWithin (length list.now) (IsErrOf result EngineFault.Disk) (S.Watch.counts part.old.main) (S.Watch.counts part.new.main) }
+    ensures counted { IsCountedWithin (most_reads (live_in part.old) (requests_in list.now)) (IsErrOf result EngineFault.Disk) (S.Watch.counts part.old.main) (S.Watch.counts part.new.main) }
     ensures sound { OnOk result (part.new.failed ≡ false) }
 {
     commits_are_kept();

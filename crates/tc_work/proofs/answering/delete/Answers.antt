@@ -9,7 +9,7 @@ use Rattle.tc_work.specs.Replied.{reply_to_delete}
 use Rattle.tc_work.proofs.GrownFrames.{goes_in, grown}
 use Rattle.tc_work.proofs.HandedFaults.{harmed, unspent, disk_below}
 use Rattle.tc_work.proofs.ReadCounts.{one_lookup}
-use Rattle.tc_work.proofs.StagedAnswers.{delete_staged, delete_taken, only_staged, still_sound, staged_or_not}
+use Rattle.tc_work.proofs.StagedAnswers.{delete_staged, delete_taken, one_more_live, only_staged, still_sound, staged_or_not}
 use Rattle.tc_work.proofs.StorableAsks.{storable_delete, delete_for}
 use Rattle.tc_run_model.specs.Kinds.{IsOfKind}
 use Rattle.tc_work.proofs.ReplyKinds.{kind_of_delete}
@@ -62,3 +62,6 @@ returns-clause-counted g c = one_lookup _ _ _ _ _ (λ failed. absurd (cc)) c.sta
 
 pub returns-clause-kind : goal.returns-clause-kind
 returns-clause-kind g c = subst (IsOfKind (delete c.args.key)) (sym c.deleted.ensures) (kind_of_delete c.args.key c.in_ok-staged.staged)
+
+pub returns-clause-live : goal.returns-clause-live
+returns-clause-live g c = one_more_live c.in_ok-staged.staged (Delete c.args.key) c.args.part.now c.stage.new.self c.in_ok-staged.ensures.same

@@ -5,7 +5,7 @@ use Rattle.tc_part_model.specs.PartState.{PartState, told}
 use Rattle.tc_work.proofs.GrownFrames.{not_grown}
 use Rattle.tc_work.proofs.HandedFaults.{harmed, unspent, disk_below}
 use Rattle.tc_work.proofs.ReadCounts.{one_lookup}
-use Rattle.tc_work.proofs.StagedAnswers.{stages_nothing}
+use Rattle.tc_work.proofs.StagedAnswers.{stages_nothing, still_live}
 use Rattle.tc_work.proofs.answering.get.Goals as goal
 
 pub returns-in_err-doc-clause-harmed : goal.returns-in_err-doc-clause-harmed
@@ -32,3 +32,6 @@ returns-clause-counted g c = one_lookup _ _ _ _ _ (λ failed. absurd (cc)) c.loo
 
 pub returns-clause-kind : goal.returns-clause-kind
 returns-clause-kind g c = (_, refl)
+
+pub returns-clause-live : goal.returns-clause-live
+returns-clause-live g c = still_live 0 c.args.part.now c.lookup.new.self c.in_ok-doc.ensures.same

@@ -11,7 +11,7 @@ use Rattle.tc_work.specs.Replied.{reply_to_upsert}
 use Rattle.tc_work.proofs.GrownFrames.{goes_in, grown}
 use Rattle.tc_work.proofs.HandedFaults.{harmed, unspent, disk_below, no_memory}
 use Rattle.tc_work.proofs.ReadCounts.{none_counted, one_lookup}
-use Rattle.tc_work.proofs.StagedAnswers.{upsert_replied, upsert_staged, upsert_taken, only_staged, still_sound, staged_or_not}
+use Rattle.tc_work.proofs.StagedAnswers.{upsert_replied, upsert_staged, upsert_taken, one_more_live, only_staged, still_sound, staged_or_not}
 use Rattle.tc_work.proofs.StorableAsks.{storable_upsert, short_record, record_upserted, upsert_for}
 use Rattle.tc_run_model.specs.Kinds.{IsOfKind}
 use Rattle.tc_work.proofs.ReplyKinds.{kind_of_upsert}
@@ -88,3 +88,6 @@ returns-clause-counted g c = one_lookup _ _ _ _ _ (λ failed. absurd (cc)) c.sta
 
 pub returns-clause-kind : goal.returns-clause-kind
 returns-clause-kind g c = subst (IsOfKind (upsert c.args.key (tree_of c.args.doc.now))) (sym c.upserted.ensures) (kind_of_upsert c.args.key (tree_of c.args.doc.now) c.in_ok-staged.staged)
+
+pub returns-clause-live : goal.returns-clause-live
+returns-clause-live g c = one_more_live c.in_ok-staged.staged (Upsert c.args.key c.in_ok-bytes.bytes) c.args.part.now c.stage.new.self c.in_ok-staged.ensures.same

@@ -1,4 +1,4 @@
-use Rattle.std.proofs.Common.{◌≡◌, ◌∙◌, ◌+◌, ◌++◌, ◌∷◌, [], map, drop, length, ap, subst, sym, refl, arith, drop_of_length-le}
+use Rattle.std.proofs.Common.{◌≡◌, ◌∙◌, ◌+◌, ◌++◌, ◌∷◌, [], map, drop, ap, subst, sym, refl, arith, drop_of_length-le}
 use Rattle.std.proofs.lemmas.List.Elements.{All-get_or}
 use Rattle.std.proofs.lemmas.List.{map-append, append-nil}
 use Rattle.tc_value.proofs.Sizes.{from_place}
@@ -11,13 +11,14 @@ use Rattle.tc_part_model.specs.Meaning.{plain_of}
 use Rattle.tc_part_model.specs.PartState.{PartState, told, AreTold}
 use Rattle.tc_route.specs.declared.placed.Placed.{Placed}
 use Rattle.tc_route.specs.Meaning.{placed_of, replies_in, routed_of}
-use Rattle.tc_work.specs.Asked.{most_bytes, most_writes, requests_in, IsOfKey}
+use Rattle.tc_work.specs.Asked.{most_bytes, most_writes, requests_in, IsForPart}
 use Rattle.tc_work.specs.Faults.{IfDamage}
 use Rattle.tc_work.specs.Frames.{AreWithin}
+use Rattle.tc_work.specs.Reads.{live_in, most_reads}
 use Rattle.tc_work.specs.Windowed.{staged_as}
 use Rattle.tc_work.proofs.GrownFrames.{room_for_next, still_within}
 use Rattle.tc_work.proofs.HandedFaults.{same_fault, same_harm, no_memory}
-use Rattle.tc_work.proofs.ReadCounts.{none_counted, then_counted, counted_weaker}
+use Rattle.tc_work.proofs.ReadCounts.{none_counted, none_read, read_on, read_ended, read_within, HaveRead}
 use Rattle.tc_work.proofs.Underway.{begins, goes_on, ends_staged, ends_replied, place_moves, IsUnderway}
 use Rattle.tc_work.proofs.WindowSizes.{few_writes}
 use Rattle.tc_work.proofs.Windows.{staged_again}
@@ -52,7 +53,9 @@ loop-routed-preserved g c =
           (subst (λ xs. AreWithin (most_writes (requests_in list)) (most_bytes (requests_in list)) l.part.staged (requests_in xs)) step l.invariant.within) c.in_ok-reply.ensures.grown;
       same = staged_again c.args.part.now l.part c.answer.new.part l.invariant.same c.answer.ensures.same;
       sound = c.in_ok-reply.ensures.sound;
-      counted = then_counted i 1 ⊥ ⊥ _ (g.S.Watch.Watch.counts c.args.part.now.main) (g.S.Watch.Watch.counts l.part.main) (g.S.Watch.Watch.counts c.answer.new.part.main) l.invariant.counted c.answer.ensures.counted (λ failed. absurd failed);
+      counted = read_on _ (live_in l.part) (live_in c.answer.new.part) (routed_of r).1 (requests_in (drop (i + 1) list)) _ (g.S.Watch.Watch.counts c.args.part.now.main) (g.S.Watch.Watch.counts l.part.main) (g.S.Watch.Watch.counts c.answer.new.part.main)
+          (subst (λ xs. HaveRead (most_reads (live_in c.args.part.now) (requests_in list)) (most_reads (live_in l.part) (requests_in xs)) (g.S.Watch.Watch.counts c.args.part.now.main) (g.S.Watch.Watch.counts l.part.main)) step l.invariant.counted)
+          c.answer.ensures.counted c.in_ok-reply.ensures.live;
     }
 
 pub loop-routed-init : goal.loop-routed-init
@@ -69,12 +72,12 @@ loop-routed-init g c =
       within = subst (λ ws. AreWithin (most_writes (requests_in list)) (most_bytes (requests_in list)) ws (requests_in list)) (sym c.requires.nothing_staged) (record { each = tt; few = omega arith; short = omega arith });
       same = refl;
       sound = c.requires.sound;
-      counted = none_counted 0 ⊥ (g.S.Watch.Watch.counts c.args.part.now.main) (λ failed. failed);
+      counted = none_read (most_reads (live_in c.args.part.now) (requests_in list)) (g.S.Watch.Watch.counts c.args.part.now.main);
     }
 
 pub answer-requires-clause-asked : goal.answer-requires-clause-asked
 answer-requires-clause-asked g c κs within =
-    subst (λ r. IsOfKey (request_of_command r.command)) (sym c.routed-item.is) (All-get_or (λ r. IsOfKey (request_of_command r.command)) c.args.list.now c.loop-routed.routed-index c.routed-item.result c.loop-routed-test.true c.requires.window.each)
+    subst (λ r. IsForPart (request_of_command r.command)) (sym c.routed-item.is) (All-get_or (λ r. IsForPart (request_of_command r.command)) c.args.list.now c.loop-routed.routed-index c.routed-item.result c.loop-routed-test.true c.requires.window.each)
 
 pub answer-requires-clause-frame : goal.answer-requires-clause-frame
 answer-requires-clause-frame g c κs within =
@@ -90,7 +93,7 @@ pub returns-in_err-replies-clause-unspent : goal.returns-in_err-replies-clause-u
 returns-in_err-replies-clause-unspent g c = no_memory c.from_residual.result _ c.from_residual.ensures.1 (λ same. absurd (cc))
 
 pub returns-in_err-replies-clause-counted : goal.returns-in_err-replies-clause-counted
-returns-in_err-replies-clause-counted g c = none_counted (length c.args.list.now) _ (g.S.Watch.Watch.counts c.args.part.now.main) (no_memory c.from_residual.result _ c.from_residual.ensures.1 (λ same. absurd (cc)))
+returns-in_err-replies-clause-counted g c = none_counted (most_reads (live_in c.args.part.now) (requests_in c.args.list.now)) _ (g.S.Watch.Watch.counts c.args.part.now.main) (no_memory c.from_residual.result _ c.from_residual.ensures.1 (λ same. absurd (cc)))
 
 -- ---- a command fails
 
@@ -107,10 +110,14 @@ returns-in_err-reply-clause-unspent g c = λ spent. c.answer.ensures.unspent (sa
 
 pub returns-in_err-reply-clause-counted : goal.returns-in_err-reply-clause-counted
 returns-in_err-reply-clause-counted g c =
-    let i = c.loop-routed.routed-index in
-    counted_weaker (i + 1) (length c.args.list.now) _ _ (g.S.Watch.Watch.counts c.args.part.now.main) (g.S.Watch.Watch.counts c.answer.new.part.main) (omega (arith, c.loop-routed-test.true))
-    (same_fault c.from_residual-in_err-reply.result c.answer.result c.in_err-reply.field-0.0 _ c.from_residual-in_err-reply.ensures.1 c.in_err-reply.was)
-    (then_counted i 1 ⊥ _ _ (g.S.Watch.Watch.counts c.args.part.now.main) (g.S.Watch.Watch.counts c.loop-routed.part.main) (g.S.Watch.Watch.counts c.answer.new.part.main) c.loop-routed.invariant.counted c.answer.ensures.counted (λ failed. failed))
+    let l = c.loop-routed in
+    let list = c.args.list.now in
+    let i = l.routed-index in
+    let r = c.routed-item.result in
+    let step : drop i list ≡ r ∷ drop (i + 1) list = from_place list i r c.loop-routed-test.true c.routed-item.is in
+    read_ended _ (live_in l.part) (routed_of r).1 (requests_in (drop (i + 1) list)) _ _ (g.S.Watch.Watch.counts c.args.part.now.main) (g.S.Watch.Watch.counts l.part.main) (g.S.Watch.Watch.counts c.answer.new.part.main)
+    (subst (λ xs. HaveRead (most_reads (live_in c.args.part.now) (requests_in list)) (most_reads (live_in l.part) (requests_in xs)) (g.S.Watch.Watch.counts c.args.part.now.main) (g.S.Watch.Watch.counts l.part.main)) step l.invariant.counted)
+    c.answer.ensures.counted (same_fault c.from_residual-in_err-reply.result c.answer.result c.in_err-reply.field-0.0 _ c.from_residual-in_err-reply.ensures.1 c.in_err-reply.was)
 
 -- ---- no memory for a reply
 
@@ -122,10 +129,14 @@ returns-in_err-push-clause-unspent g c = no_memory c.from_residual-in_err-push.r
 
 pub returns-in_err-push-clause-counted : goal.returns-in_err-push-clause-counted
 returns-in_err-push-clause-counted g c =
-    let i = c.loop-routed.routed-index in
-    counted_weaker (i + 1) (length c.args.list.now) _ ⊥ (g.S.Watch.Watch.counts c.args.part.now.main) (g.S.Watch.Watch.counts c.answer.new.part.main) (omega (arith, c.loop-routed-test.true))
-    (no_memory c.from_residual-in_err-push.result _ c.from_residual-in_err-push.ensures.1 (λ same. absurd (cc)))
-    (then_counted i 1 ⊥ ⊥ _ (g.S.Watch.Watch.counts c.args.part.now.main) (g.S.Watch.Watch.counts c.loop-routed.part.main) (g.S.Watch.Watch.counts c.answer.new.part.main) c.loop-routed.invariant.counted c.answer.ensures.counted (λ failed. absurd failed))
+    let l = c.loop-routed in
+    let list = c.args.list.now in
+    let i = l.routed-index in
+    let r = c.routed-item.result in
+    let step : drop i list ≡ r ∷ drop (i + 1) list = from_place list i r c.loop-routed-test.true c.routed-item.is in
+    read_ended _ (live_in l.part) (routed_of r).1 (requests_in (drop (i + 1) list)) _ _ (g.S.Watch.Watch.counts c.args.part.now.main) (g.S.Watch.Watch.counts l.part.main) (g.S.Watch.Watch.counts c.answer.new.part.main)
+    (subst (λ xs. HaveRead (most_reads (live_in c.args.part.now) (requests_in list)) (most_reads (live_in l.part) (requests_in xs)) (g.S.Watch.Watch.counts c.args.part.now.main) (g.S.Watch.Watch.counts l.part.main)) step l.invariant.counted)
+    c.answer.ensures.counted (λ failed. absurd (no_memory c.from_residual-in_err-push.result _ c.from_residual-in_err-push.ensures.1 (λ same. absurd (cc)) failed))
 
 -- ---- all commands were run
 
@@ -161,7 +172,8 @@ returns-clause-grown g c =
 
 pub returns-clause-counted : goal.returns-clause-counted
 returns-clause-counted g c =
-    counted_weaker c.loop-routed.routed-index (length c.args.list.now) _ ⊥ (g.S.Watch.Watch.counts c.args.part.now.main) (g.S.Watch.Watch.counts c.loop-routed.part.main) (search) (λ failed. absurd (cc)) c.loop-routed.invariant.counted
+    read_within (most_reads (live_in c.args.part.now) (requests_in c.args.list.now)) (most_reads (live_in c.loop-routed.part) (requests_in (drop c.loop-routed.routed-index c.args.list.now))) _ (g.S.Watch.Watch.counts c.args.part.now.main)
+    (g.S.Watch.Watch.counts c.loop-routed.part.main) c.loop-routed.invariant.counted (λ failed. absurd (cc))
 
 pub returns-clause-kinds : goal.returns-clause-kinds
 returns-clause-kinds g c =

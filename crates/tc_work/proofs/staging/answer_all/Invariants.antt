@@ -8,8 +8,9 @@ use Rattle.tc_part_model.specs.PartView.{PartView}
 use Rattle.tc_route.specs.Meaning.{replies_in, routed_of}
 use Rattle.tc_work.specs.Asked.{most_bytes, most_writes, requests_in}
 use Rattle.tc_work.specs.Frames.{AreWithin}
-use Rattle.tc_work.specs.Reads.{IsCountedWithin}
+use Rattle.tc_work.specs.Reads.{live_in, most_reads}
 use Rattle.tc_work.specs.Windowed.{HasOnlyStaged}
+use Rattle.tc_work.proofs.ReadCounts.{HaveRead}
 use Rattle.tc_work.proofs.Underway.{IsUnderway}
 use Rattle.tc_work.proofs.staging.answer_all.Given as goal
 
@@ -25,5 +26,5 @@ invariant-loop-routed g l =
       within : AreWithin (most_writes (requests_in l.list)) (most_bytes (requests_in l.list)) l.part.staged (requests_in (drop l.routed-index l.list));
       same : HasOnlyStaged l.fn.part l.part;
       sound : l.part.failed ≡ false;
-      counted : IsCountedWithin l.routed-index ⊥ (g.S.Watch.Watch.counts l.fn.part.main) (g.S.Watch.Watch.counts l.part.main);
+      counted : HaveRead (most_reads (live_in l.fn.part) (requests_in l.list)) (most_reads (live_in l.part) (requests_in (drop l.routed-index l.list))) (g.S.Watch.Watch.counts l.fn.part.main) (g.S.Watch.Watch.counts l.part.main);
     }

@@ -5,6 +5,7 @@ use Rattle.tc_part_model.specs.Meaning.{plain_of, HasFailedAs}
 use Rattle.tc_part_model.specs.PartState.{PartState, Told, told}
 use Rattle.tc_plain_model.specs.Part.{part_writes_all}
 use Rattle.tc_work.specs.Asked.{most_writes, requests_in}
+use Rattle.tc_work.specs.Reads.{live_in, most_reads}
 use Rattle.tc_work.specs.Windowed.{staged_as}
 use Rattle.tc_work.proofs.HandedFaults.{not_harmed, disk_below, spent_below, same_fault, same_harm}
 use Rattle.tc_work.proofs.ReadCounts.{committed_counted, counted_weaker}
@@ -42,7 +43,7 @@ returns-in_err-replies-clause-unspent g c = λ spent. ap (λ (s : PartState _ _ 
 
 pub returns-in_err-replies-clause-counted : goal.returns-in_err-replies-clause-counted
 returns-in_err-replies-clause-counted g c =
-    counted_weaker (length c.args.list.now) (length c.args.list.now) _ _ _ _ (omega arith) (same_fault c.from_residual.result c.answer_all.result c.in_err-replies.field-0.0 _ c.from_residual.ensures.1 c.in_err-replies.was) c.answer_all.ensures.counted
+    counted_weaker (most_reads (live_in c.args.part.now) (requests_in c.args.list.now)) (most_reads (live_in c.args.part.now) (requests_in c.args.list.now)) _ _ _ _ (omega arith) (same_fault c.from_residual.result c.answer_all.result c.in_err-replies.field-0.0 _ c.from_residual.ensures.1 c.in_err-replies.was) c.answer_all.ensures.counted
 
 -- ---- the commit fails
 
@@ -83,7 +84,7 @@ returns-in_err-commit-clause-unspent g c = λ spent.
 
 pub returns-in_err-commit-clause-counted : goal.returns-in_err-commit-clause-counted
 returns-in_err-commit-clause-counted g c =
-    committed_counted (length c.args.list.now) _ _ _ (g.S.Watch.Watch.counts c.args.part.now.main) (g.S.Watch.Watch.counts c.answer_all.new.part.main) (g.S.Watch.Watch.counts c.commit.new.self.main) c.answer_all.ensures.counted c.commit.ensures.counted
+    committed_counted (most_reads (live_in c.args.part.now) (requests_in c.args.list.now)) _ _ _ (g.S.Watch.Watch.counts c.args.part.now.main) (g.S.Watch.Watch.counts c.answer_all.new.part.main) (g.S.Watch.Watch.counts c.commit.new.self.main) c.answer_all.ensures.counted c.commit.ensures.counted
     (disk_below c.from_residual-in_err-commit.result c.commit.result c.in_err-commit.field-0.0 c.from_residual-in_err-commit.ensures.1 c.in_err-commit.was)
 
 -- ---- the writes are committed
@@ -116,7 +117,7 @@ returns-clause-moments g c = λ p is.
 
 pub returns-clause-counted : goal.returns-clause-counted
 returns-clause-counted g c =
-    committed_counted (length c.args.list.now) _ _ _ (g.S.Watch.Watch.counts c.args.part.now.main) (g.S.Watch.Watch.counts c.answer_all.new.part.main) (g.S.Watch.Watch.counts c.commit.new.self.main) c.answer_all.ensures.counted c.commit.ensures.counted (λ failed. absurd (cc))
+    committed_counted (most_reads (live_in c.args.part.now) (requests_in c.args.list.now)) _ _ _ (g.S.Watch.Watch.counts c.args.part.now.main) (g.S.Watch.Watch.counts c.answer_all.new.part.main) (g.S.Watch.Watch.counts c.commit.new.self.main) c.answer_all.ensures.counted c.commit.ensures.counted (λ failed. absurd (cc))
 
 pub returns-clause-sound : goal.returns-clause-sound
 returns-clause-sound g c = ap (λ (s : PartState _ _ _ _). s.failed) c.in_ok-commit.ensures.same ∙ c.in_ok-replies.ensures.sound

@@ -56,7 +56,7 @@ returns-clause-same g c = sym (closed_sound c.run.new.part c.in_ok-replies.ensur
     (c.in_ok-replies.ensures.same)
 
 pub returns-clause-counted : goal.returns-clause-counted
-returns-clause-counted g c = counted_inside g.S.Watch.Watch.counts (length c.args.list.now) _ _ c.self.inside.part c.args.self.now.part c.run.new.part (inside_is c.self.inside.part c.self.inside.failed c.args.self.now.part (ap (λ (e : EngineState _ _ _ _). e.part) c.self.view_is) c.requires.sound c.self.invariant.awake) c.run.ensures.counted (λ failed. absurd (cc))
+returns-clause-counted g c = counted_inside g.S.Watch.Watch.counts (requests_in c.args.list.now) _ _ c.self.inside.part c.args.self.now.part c.run.new.part (inside_is c.self.inside.part c.self.inside.failed c.args.self.now.part (ap (λ (e : EngineState _ _ _ _). e.part) c.self.view_is) c.requires.sound c.self.invariant.awake) c.run.ensures.counted (λ failed. absurd (cc))
 
 -- ---- it fails
 
@@ -92,7 +92,7 @@ returns-in_err-replies-clause-unspent g c = λ spent.
 
 pub returns-in_err-replies-clause-counted : goal.returns-in_err-replies-clause-counted
 returns-in_err-replies-clause-counted g c =
-    counted_inside g.S.Watch.Watch.counts (length c.args.list.now) _ _ c.self.inside.part c.args.self.now.part c.run.new.part (inside_is c.self.inside.part c.self.inside.failed c.args.self.now.part (ap (λ (e : EngineState _ _ _ _). e.part) c.self.view_is) c.requires.sound c.self.invariant.awake) c.run.ensures.counted
+    counted_inside g.S.Watch.Watch.counts (requests_in c.args.list.now) _ _ c.self.inside.part c.args.self.now.part c.run.new.part (inside_is c.self.inside.part c.self.inside.failed c.args.self.now.part (ap (λ (e : EngineState _ _ _ _). e.part) c.self.view_is) c.requires.sound c.self.invariant.awake) c.run.ensures.counted
     (same_fault c.from_residual.result c.run.result c.in_err-replies.field-0.0 _ c.from_residual.ensures.1 c.in_err-replies.was)
 
 pub returns-clause-unwritten : goal.returns-clause-unwritten
