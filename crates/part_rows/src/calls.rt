@@ -1,4 +1,4 @@
-//! Writes that are staged, and runs of components that are merged.
+//! Writes that are staged, queries, and runs of components that are merged.
 
 ghost use Rattle.std.specs.Prelude.{IfSome};
 ghost use Rattle.part_rows.specs.Waiting.{IsShortWrite};
@@ -7,6 +7,7 @@ use crate::arguments::{bytes, numbers};
 use crate::desk::Desk;
 use std::alloc::Global;
 use tc_bytes::Bytes;
+use tc_command::{Command, parse};
 use tc_list::Run;
 use tc_log::{MAX_NUMBER, Write};
 use tc_record::is_stored_record;
@@ -24,6 +25,14 @@ pub(crate) fn put(alloc: Global, desk: &mut Desk, argument: &str) -> Option<Stri
 pub(crate) fn delete(alloc: Global, desk: &mut Desk, argument: &str) -> Option<String> {
     let write = deletion(argument)?;
     desk.stage(alloc, write)
+}
+
+/// Asks for rows, by the line of a query.
+pub(crate) fn query(alloc: Global, desk: &mut Desk, argument: &str) -> Option<String> {
+    match parse(alloc, argument.as_bytes()) {
+        Ok(Command::Query(ask)) => desk.query(alloc, &ask),
+        _ => None,
+    }
 }
 
 /// Merges a run of components: the places of its first and of its last one.

@@ -9,6 +9,8 @@ use crate::steps;
 use std::alloc::Global;
 use std::fmt::Write as _;
 use std::marker::Model;
+use std::str;
+use tc_command::{Ask, Reply, Rows, reply_text};
 use tc_list::Run;
 use tc_log::Write;
 use tc_part::{Limits, Opened, Part, PartFault, Staged};
@@ -174,6 +176,17 @@ impl Desk {
         }
     }
 
+    /// The reply to an ask, as its line without the line feed.
+    pub(crate) fn query(&mut self, alloc: Global, ask: &Ask) -> Option<String> {
+        if self.part.failed() {
+            return word(alloc, "failed");
+        }
+        match steps::rows(alloc, &mut self.part, ask, self.waiting, self.stands) {
+            Ok(rows) => rows_text(alloc, rows),
+            Err(fault) => fault_word(alloc, fault),
+        }
+    }
+
     /// What is told of the partition.
     pub(crate) fn tell(&self, alloc: Global) -> Option<String> {
         let part = &self.part;
@@ -239,6 +252,12 @@ fn record_of(alloc: Global, doc: &Doc) -> Option<String> {
     let _length = size(doc)?;
     let record = encode(alloc, doc).ok()?;
     shown(alloc, record.as_slice())
+}
+
+fn rows_text(alloc: Global, rows: Rows) -> Option<String> {
+    let line = reply_text(alloc, &Reply::Rows(rows)).ok()?;
+    let text = str::from_utf8(line.as_slice()).ok()?;
+    String::from_str(alloc, text.trim_end()).ok()
 }
 
 fn push_numbers(text: &mut String, numbers: &[u64]) -> Option<()> {

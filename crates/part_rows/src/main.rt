@@ -136,6 +136,7 @@ fn answer_of(alloc: Global, desk: &mut Desk, call: &str) -> Option<String> {
         "put" => calls::put(alloc, desk, argument),
         "delete" => calls::delete(alloc, desk, argument),
         "get" => desk.get(alloc, argument.parse::<u64>().ok()?),
+        "query" => calls::query(alloc, desk, argument),
         "commit" => desk.commit(alloc),
         "seal" => desk.seal(alloc),
         "flush" => desk.flush(alloc),

@@ -6,6 +6,7 @@ ghost use Rattle.part_rows.specs.Standing.{IsAtDesk};
 ghost use Rattle.part_rows.specs.Waiting.{IsShortWrite};
 
 use std::alloc::Global;
+use tc_command::{Ask, Rows};
 use tc_list::Run;
 use tc_log::Write;
 use tc_part::{Part, PartFault, Staged, parts_own_files};
@@ -76,6 +77,21 @@ pub(crate) fn lookup(
     ensures { IsAtDesk part.new waiting stands }
 {
     part.lookup(alloc, key)
+}
+
+/// Asks for rows.
+pub(crate) fn rows(
+    alloc: Global,
+    part: &mut Part<MemStore>,
+    ask: &Ask,
+    waiting: u32,
+    stands: bool,
+) -> Result<Rows, PartFault>
+    requires desk { IsAtDesk part.old waiting stands }
+    requires sound { part.old.failed ≡ false }
+    ensures { IsAtDesk part.new waiting stands }
+{
+    part.rows(alloc, ask)
 }
 
 /// Flushes the sealed table on this thread.
