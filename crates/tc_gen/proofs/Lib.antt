@@ -1,2 +1,5 @@
 mod GeneratedRows
 mod LinesLeft
+pub mod OneLine
+pub mod LineLengths
+mod Hearing

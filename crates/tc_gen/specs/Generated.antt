@@ -1,6 +1,7 @@
 -- The generated input: upserts and deletes of documents of four forms, and a command for the schema behind them.
-use Rattle.std.specs.Prelude.{ℕ, zero, suc, ◌+◌, ◌*◌, ◌%◌, ◌==◌, List, [], ◌∷◌, ◌++◌, codes, Option, Some, None, if◌then◌else◌}
+use Rattle.std.specs.Prelude.{ℕ, zero, suc, ◌+◌, ◌*◌, ◌%◌, ◌==◌, List, [], ◌∷◌, ◌++◌, codes, Option, Some, None, if◌then◌else◌, flat_map}
 use Rattle.std.specs.Fmt.{decimal}
+use Rattle.tc_model.specs.Lines.{feed}
 
 -- ---- keys
 
@@ -57,6 +58,10 @@ lines_from k (suc more) = line_of k (key_at k) ∷ lines_from (suc k) more
 -- the generated input of so many lines
 abbrev pub generated : ℕ → List (List ℕ)
 generated n = lines_from 1 n
+
+-- the same as the bytes of a file
+abbrev pub input_of : ℕ → List ℕ
+input_of n = flat_map (λ line. line ++ feed ∷ []) (generated n)
 
 -- the lines behind those that were given, of which so many are left before the last one, or not that one either
 abbrev pub lines_left : ℕ → Option ℕ → List (List ℕ)

@@ -66,8 +66,13 @@ fn put_tags_and_user(line: &mut Vec<u8>, number: u32) -> Result<(), Memory>
     put_number(line, b",\"user\":{\"name\":\"u", number % 10, b"\"}")
 }
 
-// Appends a number between two texts.
-fn put_number(line: &mut Vec<u8>, before: &[u8], number: u32, after: &[u8]) -> Result<(), Memory>
+/// Appends a number between two texts.
+pub(crate) fn put_number(
+    line: &mut Vec<u8>,
+    before: &[u8],
+    number: u32,
+    after: &[u8],
+) -> Result<(), Memory>
     ensures { IfOk result (λ _. line.new.items ≡ line.old.items ++ (before.now ++ (decimal number ++ after.now))) }
 {
     let mut digits = Buffer::new();
