@@ -185,7 +185,7 @@ module _ (head : Head) (cs : List Content) (ws : List Write) (more : List (List 
 -- ---- what the calls of a flush of logs answer, put together
 
 -- what follows where a call succeeded, and where it did not
-pub in_both : {E : Type 0} (r : Result (Unit {0}) E) (P Q R : Type 0) → (P → R) → (Q → R) → OnOk r P → OnErr r Q → R
+pub in_both : {X E : Type 0} (r : Result X E) (P Q R : Type 0) → (P → R) → (Q → R) → OnOk r P → OnErr r Q → R
 in_both (Ok done) P Q R f h p q = f p
 in_both (Err fault) P Q R f h p q = h q
 

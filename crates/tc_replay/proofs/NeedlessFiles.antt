@@ -10,14 +10,14 @@ use Rattle.tc_store.specs.StoreCalls.{removes}
 use Rattle.tc_store.proofs.MomentLemmas.{EachSince-none, EachSince-one, EachSince-trans}
 use Rattle.tc_plain_model.specs.Writes.{Write}
 use Rattle.tc_lsm_model.specs.Contents.{Content, Partition}
-use Rattle.tc_machine.specs.Events.{file_removed}
+use Rattle.tc_machine.specs.Events.{file_removed, replayed}
 use Rattle.tc_machine.specs.Kept.{IsKept}
-use Rattle.tc_machine.specs.Steps.{IsSpare}
+use Rattle.tc_machine.specs.Steps.{IsFlushed, IsSpare}
 use Rattle.tc_machine.proofs.Events.{event_keeps}
 use Rattle.tc_machine.proofs.FilesLeft.{at_name}
 use Rattle.tc_part_model.specs.Calls.{RemovesSome}
 use Rattle.tc_part_model.proofs.Removals.{without}
-use Rattle.tc_replay.specs.Openings.{AreIn, AreNeedless, IsOpening, LeavesLogged, opening_at}
+use Rattle.tc_replay.specs.Openings.{AreIn, AreNeedless, IsOpening, LeavesLogged, opening_at, stored_by}
 use Rattle.tc_replay.proofs.OpeningPictures.{keeps_store, leaves_in, put_in_place}
 
 still_file : (disk : Disk) (name : FileName) → is_still (disk name) ≡ true → (bytes : List ℕ) × (disk name ≡ still bytes)
@@ -48,7 +48,7 @@ module _ (part : Partition) (cs : List Content) (logs : List (List Write)) where
       }
 
   leaves : (disk : Disk) → IsOpenedOn disk → LeavesLogged part cs logs disk
-  leaves disk is = leaves_in part cs logs disk is.home (keeps_store part cs logs None disk is.kept)
+  leaves disk is = leaves_in part (stored_by cs logs) (IsFlushed part cs (replayed cs logs)) disk is.home (keeps_store part cs logs None None disk is.kept)
 
   -- what is needless is so of fewer files
   needless_without : (name : FileName) (disk : Disk) (names : List FileName) → AreNeedless cs disk names → AreNeedless cs (without name disk) names

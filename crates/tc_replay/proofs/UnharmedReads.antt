@@ -25,7 +25,10 @@ use Rattle.tc_list.proofs.LoadedContents.{FindsContent}
 use Rattle.tc_lsm_model.specs.Contents.{Content, IsEntry}
 use Rattle.tc_jobs.specs.declared.fault.JobFault.{JobFault}
 use Rattle.tc_jobs.specs.declared.fault.JobFault.TheVariants as job
-use Rattle.tc_jobs.specs.Faults.{IfDamaged, IfHarmed}
+use Rattle.tc_jobs.specs.Faults.{IfDamaged, IfHarmed, of_merge}
+use Rattle.tc_merge.specs.declared.fault.MergeFault.{MergeFault}
+use Rattle.tc_merge.specs.declared.fault.MergeFault.TheVariants as merge_fault
+use Rattle.tc_merge.specs.Faults as merge
 use Rattle.tc_part.specs.Harms.{IsHarmIn, IsHarmOf}
 
 -- where at the place of a document stands its record
@@ -59,6 +62,15 @@ module _ {F : Type 0} (content : F → Option (List ℕ)) (finds : FindsContent)
       at (Some k) l = sound_of h.component k file place bytes l h.harm
   sound_fault X list cs (job.Damaged (Files names)) all harmed = harmed
   sound_fault X list cs job.Memory all harmed = tt
+
+  -- nor is a record that a merge reads
+  pub sound_merge : (X : Type 0) (list : List (ComponentState F)) (cs : List Content) (fault : MergeFault) → AllZip (IsLoadedOf content) list cs → merge.IfHarmed fault (merge.IsHarmIn content list) → IfDamaged {X = X} (Err (of_merge fault)) (λ damage. ⊥)
+  sound_merge X list cs merge_fault.Disk all harmed = tt
+  sound_merge X list cs (merge_fault.Damaged file place bytes) all h =
+      let m = h.harm in
+      sound_fault X list cs (job.Damaged (Bytes file place bytes)) all
+      (record { at = h.at; component = h.component; here = h.here; harm = record { entry = m.entry; there = m.there; file_is = m.file_is; place_is = m.place_is; long = m.long; broken = inl m.broken; told = m.told } })
+  sound_merge X list cs merge_fault.Memory all harmed = tt
 
   -- a call that only reads them tells no damage
   pub sound_reads : {X : Type 0} (list : List (ComponentState F)) (cs : List Content) (r : Result X JobFault) (fault : JobFault) → r ≡ Err fault → AllZip (IsLoadedOf content) list cs → IfHarmed fault (IsHarmIn content list) → IfDamaged r (λ damage. ⊥)

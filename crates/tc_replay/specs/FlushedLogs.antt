@@ -34,12 +34,16 @@ log_names generation (suc n) = Log generation ∷ log_names (generation + 1) n
 
 -- ---- over every store
 
+-- a device of the component's name was made, and came home still
+abbrev pub IsMadeStill : Head → List DiskFile → List Disk → List Disk → Type 0
+IsMadeStill head device disks later = later ≡ comes_home (name_of head) frozen_entry device (makes (name_of head) disks)
+
 -- a device of the component's name was made, which tells where the store does, and came home still; the component that it has is
 -- listed behind the others
 pub record IsFlushListed {F : Type 0} (content : F → Option (List ℕ)) (name : F → FileName) (head : Head) (old new : List (ComponentState F)) (disks later : List Disk) : Type 0 where
   pub device : List DiskFile
   pub listed : IsListed (IsReadBack content name head (name_of head) device) (FitsBehind old) (behind old) new
-  pub still : later ≡ comes_home (name_of head) frozen_entry device (makes (name_of head) disks)
+  pub still : IsMadeStill head device disks later
   pub tells : IfTold disks (λ disk. IsTold device)
 
 -- nothing was made, or a device that came home again, still or as it is

@@ -5,3 +5,4 @@ pub mod Replays
 pub mod Openings
 pub mod LogFlushes
 pub mod FlushedLogs
+pub mod Merges

@@ -1,17 +1,16 @@
 -- The flush of the logs of a partition that is being opened: its name, its device, and what is kept where it is given up.
-use Rattle.std.specs.Prelude.{◌≡◌, ◌+◌, List, ◌∷◌, length, None}
+use Rattle.std.specs.Prelude.{◌+◌, List, length}
 use Rattle.tc_store.specs.declared.file_name.FileName.{FileName}
 use Rattle.tc_store.specs.declared.file_name.FileName.TheVariants.{Component}
 use Rattle.tc_store.specs.Disk.{Disk}
 use Rattle.tc_store.specs.DiskFile.{DiskFile}
-use Rattle.tc_store.specs.Moments.{EachSince, IfTold, LeavesAt}
+use Rattle.tc_store.specs.Moments.{LeavesAt}
 use Rattle.tc_plain_model.specs.Writes.{Write}
 use Rattle.tc_lsm_model.specs.Contents.{Content, Partition}
 use Rattle.tc_lsm_model.specs.Lists.{last_of}
 use Rattle.tc_machine.specs.Events.{replayed}
 use Rattle.tc_machine.specs.Steps.{IsFlushed, IsShutOrHas}
-use Rattle.tc_part_model.specs.Leaving.{KeepsStore}
-use Rattle.tc_replay.specs.Openings.{AreIn, LeavesLogged, stored_by}
+use Rattle.tc_replay.specs.Openings.{IsKeptWriting, IsWritingNow, stored_by}
 
 -- the component that the logs become: it has a generation for each of them
 abbrev pub made_name : List Content → List (List Write) → FileName
@@ -21,14 +20,10 @@ made_name cs logs = Component (last_of cs + 1) (last_of cs + length logs)
 abbrev pub LeavesFlush : Partition → List Content → List (List Write) → DiskFile → Type 0
 LeavesFlush part cs logs x = LeavesAt (IsShutOrHas (IsFlushed part cs (replayed cs logs))) x
 
--- the device tells, and so it is at its newest moment
-pub record IsDeviceNow (part : Partition) (cs : List Content) (logs : List (List Write)) (device : List DiskFile) : Type 0 where
-  pub now : DiskFile
-  pub past : List DiskFile
-  pub is : device ≡ now ∷ past
-  pub leaves : LeavesFlush part cs logs now
+-- its device is at its newest moment
+abbrev pub IsDeviceNow : Partition → List Content → List (List Write) → List DiskFile → Type 0
+IsDeviceNow part cs logs device = IsWritingNow (IsFlushed part cs (replayed cs logs)) device
 
--- At each moment a stop leaves what was stored, and so it does behind the last one, where no file is out.
-pub record IsKeptBehind (part : Partition) (cs : List Content) (logs : List (List Write)) (disks later : List Disk) : Type 0 where
-  pub moments : EachSince (LeavesLogged part cs logs) disks later
-  pub kept : IfTold later (λ disk. AreIn disk × KeepsStore part (stored_by cs logs) None disk)
+-- at each moment a stop leaves what was stored, and so it does behind the last one, where no file is out
+abbrev pub IsKeptBehind : Partition → List Content → List (List Write) → List Disk → List Disk → Type 0
+IsKeptBehind part cs logs disks later = IsKeptWriting part (stored_by cs logs) (IsFlushed part cs (replayed cs logs)) disks later

@@ -1,9 +1,9 @@
 -- A partition that is being opened, between two calls, and what a stop leaves of it.
-use Rattle.std.specs.Prelude.{◌≡◌, ℕ, false, List, [], None, All}
+use Rattle.std.specs.Prelude.{◌≡◌, ℕ, false, List, [], ◌∷◌, None, All}
 use Rattle.tc_store.specs.declared.file_name.FileName.{FileName}
 use Rattle.tc_store.specs.Disk.{Disk, is_out, still}
 use Rattle.tc_store.specs.DiskFile.{DiskFile}
-use Rattle.tc_store.specs.Moments.{IfTold, LeavesAt}
+use Rattle.tc_store.specs.Moments.{EachSince, IfTold, LeavesAt}
 use Rattle.tc_plain_model.specs.Writes.{Pairs, Write, after_writes}
 use Rattle.tc_lsm_model.specs.Contents.{Partition, Content}
 use Rattle.tc_lsm_model.specs.Lists.{live}
@@ -34,10 +34,26 @@ pub record IsOpening (part : Partition) (cs : List Content) (logs : List (List W
   pub kept : IfTold disks (λ disk. IsKept part (opening_at cs logs disk))
   pub home : IfTold disks AreIn
 
--- A stop leaves what is stored, whatever the flush of the logs had done by then, if its device is out.
+-- A stop leaves these documents, whatever a job had done by then to its device, if that is out: its file is absent, closed, or
+-- whole.
+abbrev pub LeavesWriting : Partition → Pairs → (List ℕ → Type 0) → Disk → Type 0
+LeavesWriting part pairs Whole disk = (x : DiskFile) → LeavesAt (IsShutOrHas Whole) x → KeepsStore part pairs None (λ name. seen_entry x (disk name))
+
+-- what is stored, while the logs are flushed
 abbrev pub LeavesLogged : Partition → List Content → List (List Write) → Disk → Type 0
-LeavesLogged part cs logs disk =
-    (x : DiskFile) → LeavesAt (IsShutOrHas (IsFlushed part cs (replayed cs logs))) x → KeepsStore part (stored_by cs logs) None (λ name. seen_entry x (disk name))
+LeavesLogged part cs logs disk = LeavesWriting part (stored_by cs logs) (IsFlushed part cs (replayed cs logs)) disk
+
+-- the device tells, and so it is at its newest moment
+pub record IsWritingNow (Whole : List ℕ → Type 0) (device : List DiskFile) : Type 0 where
+  pub now : DiskFile
+  pub past : List DiskFile
+  pub is : device ≡ now ∷ past
+  pub leaves : LeavesAt (IsShutOrHas Whole) now
+
+-- At each moment a stop leaves these documents, and so it does behind the last one, where no file is out.
+pub record IsKeptWriting (part : Partition) (pairs : Pairs) (Whole : List ℕ → Type 0) (disks later : List Disk) : Type 0 where
+  pub moments : EachSince (LeavesWriting part pairs Whole) disks later
+  pub kept : IfTold later (λ disk. AreIn disk × KeepsStore part pairs None disk)
 
 -- each of these files, where it is still, is a component that is not listed, a log that the components cover, or a closed one
 abbrev pub AreNeedless : List Content → Disk → List FileName → Type 0
