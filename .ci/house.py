@@ -25,7 +25,7 @@ ROWS = "Rows.antt"
 # Definitions, and laws that no clause can state, which crates to come stand on. A name leaves this list once it is used.
 AWAITED = {
     "tc_run_model": ("AreReplies-replies_to", "after_all_stands", "built_replies", "first_stands", "known_after-append", "lines_in-windows",
-        "queried_alone", "replies_have_kinds", "windows_are_cut"),
+        "replies_have_kinds", "windows_are_cut"),
     "tc_store": ("picture_before",),
     "tc_gen": ("two_lines",),
 }

@@ -22,7 +22,7 @@ use Rattle.tc_run_model.specs.World.{World, after_all}
 use Rattle.tc_work.specs.Failing.{HasFailedKeeping, HasFailedWith}
 use Rattle.tc_work.specs.Settling.{StoresStill, TellsFiles}
 use Rattle.tc_work.specs.Windowed.{windowed, IsWindowed}
-use Rattle.tc_server.specs.Asked.{IsOfKey}
+use Rattle.tc_server.specs.Asked.{IsForPart}
 use Rattle.tc_server.specs.Partitions.{the_only, FailsAt, HasNoFrame, HoldsWorld, KeepsWorlds, StandsAt}
 use Rattle.tc_server.proofs.AloneWorlds.{IsAlone, all_flushed, all_leave_as}
 
@@ -42,10 +42,10 @@ committed t limits w h =
 
 -- ---- a window
 
-pub window_holds : (t u : Told) (limits most : Limits) (rs : List Request) (w : World) (h : HoldsWorld t limits w) → AllByRecursion IsOfKey rs → IsWindowed limits rs t h.view u → TellsFiles u → u.staged ≡ t.staged → most ≡ limits
+pub window_holds : (t u : Told) (limits most : Limits) (rs : List Request) (w : World) (h : HoldsWorld t limits w) → AllByRecursion IsForPart rs → IsWindowed limits rs t h.view u → TellsFiles u → u.staged ≡ t.staged → most ≡ limits
     → (part_writes_all limits rs (plain_of t h.view) ≡ [] → u.log ≡ t.log) → HoldsWorld u most (after_all rs w)
-window_holds t u limits most rs w h keyed is tells staged same unwritten =
-    let left = all_leave_as rs w limits (plain_of t h.view) keyed (stands_alone t limits w h) in record {
+window_holds t u limits most rs w h for_parts is tells staged same unwritten =
+    let left = all_leave_as rs w limits (plain_of t h.view) for_parts (stands_alone t limits w h) in record {
       part = left.part;
       alone = left.alone;
       view = windowed (part_writes_all limits rs (plain_of t h.view)) h.view;
@@ -56,20 +56,20 @@ window_holds t u limits most rs w h keyed is tells staged same unwritten =
       stores = is.plain ∙ sym left.stores;
       under = left.under ∙ sym same;
       flushed = λ now.
-          let before = all_flushed rs w limits (plain_of t h.view) keyed (stands_alone t limits w h) now in
+          let before = all_flushed rs w limits (plain_of t h.view) for_parts (stands_alone t limits w h) now in
           subst HasNoFrame (sym (unwritten before.1)) (h.flushed before.0);
     }
 
-pub window_stands : (t u : Told) (limits most : Limits) (rs : List Request) (known : Option World) → StandsAt t limits known → AllByRecursion IsOfKey rs → ((p : PartView) → IsPart t p → IsWindowed limits rs t p u) → (TellsFiles t → TellsFiles u) → u.staged ≡ t.staged → most ≡ limits
+pub window_stands : (t u : Told) (limits most : Limits) (rs : List Request) (known : Option World) → StandsAt t limits known → AllByRecursion IsForPart rs → ((p : PartView) → IsPart t p → IsWindowed limits rs t p u) → (TellsFiles t → TellsFiles u) → u.staged ≡ t.staged → most ≡ limits
     → ((p : PartView) → IsPart t p → part_writes_all limits rs (plain_of t p) ≡ [] → u.log ≡ t.log) → StandsAt u most (known_after rs known)
-window_stands t u limits most rs None stands keyed windowed tells staged same unwritten = tt
-window_stands t u limits most rs (Some w) h keyed windowed tells staged same unwritten = window_holds t u limits most rs w h keyed (windowed h.view h.is) (tells h.tells) staged same (unwritten h.view h.is)
+window_stands t u limits most rs None stands for_parts windowed tells staged same unwritten = tt
+window_stands t u limits most rs (Some w) h for_parts windowed tells staged same unwritten = window_holds t u limits most rs w h for_parts (windowed h.view h.is) (tells h.tells) staged same (unwritten h.view h.is)
 
 keeping : (t : Told) (limits : Limits) (w : World) (h : HoldsWorld t limits w) (u : Told) (frame : Option (List Write)) → HasFailedKeeping u h.view.part (store_of h.view) frame → HasFailedKeeping u the_only h.part.now.pairs frame
 keeping t limits w h u frame k = record { view = k.view; here = k.here ∙ h.here; holds = k.holds ∙ committed t limits w h; files = k.files; logs = k.logs }
 
-pub window_fails : (t u : Told) (limits : Limits) (rs : List Request) (w : World) (h : HoldsWorld t limits w) → AllByRecursion IsOfKey rs → AreDevicesOut → (OnlyDevicesOut t → OnlyDevicesOut u) → ((p : PartView) → IsPart t p → HasFailedWith (part_writes_all limits rs (plain_of t p)) u p) → FailsAt u w (after_all rs w)
-window_fails t u limits rs w h keyed law devices failed = record {
+pub window_fails : (t u : Told) (limits : Limits) (rs : List Request) (w : World) (h : HoldsWorld t limits w) → AllByRecursion IsForPart rs → AreDevicesOut → (OnlyDevicesOut t → OnlyDevicesOut u) → ((p : PartView) → IsPart t p → HasFailedWith (part_writes_all limits rs (plain_of t p)) u p) → FailsAt u w (after_all rs w)
+window_fails t u limits rs w h for_parts law devices failed = record {
   before = h.part;
   after = left.part;
   one = h.alone;
@@ -82,7 +82,7 @@ window_fails t u limits rs w h keyed law devices failed = record {
     ws = part_writes_all limits rs (plain_of t h.view)
 
     left : IsAlone (after_all rs w) limits (part_left_all limits rs (plain_of t h.view))
-    left = all_leave_as rs w limits (plain_of t h.view) keyed (stands_alone t limits w h)
+    left = all_leave_as rs w limits (plain_of t h.view) for_parts (stands_alone t limits w h)
 
     writes : after_writes h.part.now.pairs ws ≡ left.part.now.pairs
     writes =

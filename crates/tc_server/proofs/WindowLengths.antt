@@ -9,33 +9,33 @@ use Rattle.tc_model.specs.Request.{Request, upsert, delete, get, query, flush, s
 use Rattle.tc_model.specs.Weight.{weight, IsLight}
 use Rattle.tc_record.specs.Record.{header_size, record_of}
 use Rattle.tc_route.specs.declared.placed.Routed.{Routed}
-use Rattle.tc_server.specs.Asked.{IsOfKey}
-use Rattle.tc_server.specs.Window.{requests_routed, weight_of, weight_in, IsRoutedKey, AreTogether}
-use Rattle.tc_work.specs.Asked.{IsOfKey as IsRunOfKey, bytes_for, most_bytes, requests_in, IsWindow}
+use Rattle.tc_server.specs.Asked.{IsForPart}
+use Rattle.tc_server.specs.Window.{requests_routed, weight_of, weight_in, IsRouted, AreTogether}
+use Rattle.tc_work.specs.Asked.{IsForPart as IsRunForPart, bytes_for, most_bytes, requests_in, IsWindow}
 
 -- the requests of routed commands
 pub requests_same : (list : List Routed) → requests_in list ≡ requests_routed list
 requests_same [] = refl
 requests_same (r ∷ list) = ap (λ rs. request_of_command r.command ∷ rs) (requests_same list)
 
-keyed_requests : (list : List Routed) → AllByRecursion IsRoutedKey list → AllByRecursion IsOfKey (requests_routed list)
-keyed_requests [] each = tt
-keyed_requests (r ∷ rs) each = (each.0.0, keyed_requests rs each.1)
+requests_for_part : (list : List Routed) → AllByRecursion IsRouted list → AllByRecursion IsForPart (requests_routed list)
+requests_for_part [] each = tt
+requests_for_part (r ∷ rs) each = (each.0.0, requests_for_part rs each.1)
 
-pub all_keyed : (list : List Routed) → AreTogether list → AllByRecursion IsOfKey (requests_routed list)
-all_keyed list together = keyed_requests list (recursion_from_All IsRoutedKey list together.each)
+pub all_for_part : (list : List Routed) → AreTogether list → AllByRecursion IsForPart (requests_routed list)
+all_for_part list together = requests_for_part list (recursion_from_All IsRouted list together.each)
 
 module _ (within : (d : Document) → length (record_of d) ≤ header_size + 14 * weight d) where
-  run_key : (r : Request) → IsOfKey r → IsLight max_line r → IsRunOfKey r
-  run_key (upsert n d) of_key light = (omega (arith, of_key.0), of_key.1, omega (arith, light, within d))
-  run_key (delete n) of_key light = omega (arith, of_key)
-  run_key (get n) of_key light = omega (arith, of_key)
-  run_key (query ask) of_key light = absurd of_key
-  run_key flush of_key light = absurd of_key
-  run_key schema of_key light = absurd of_key
-  run_key (scan ask) of_key light = absurd of_key
-  run_key collect of_key light = absurd of_key
-  run_key (refused r) of_key light = absurd of_key
+  run_for_part : (r : Request) → IsForPart r → IsLight max_line r → IsRunForPart r
+  run_for_part (upsert n d) for_part light = (omega (arith, for_part.0), for_part.1, omega (arith, light, within d))
+  run_for_part (delete n) for_part light = omega (arith, for_part)
+  run_for_part (get n) for_part light = omega (arith, for_part)
+  run_for_part (query ask) for_part light = tt
+  run_for_part flush for_part light = absurd for_part
+  run_for_part schema for_part light = absurd for_part
+  run_for_part (scan ask) for_part light = absurd for_part
+  run_for_part collect for_part light = absurd for_part
+  run_for_part (refused r) for_part light = absurd for_part
 
   bytes_by_weight : (r : Request) → bytes_for r ≤ 32 + 14 * weight_of r
   bytes_by_weight (upsert n d) = omega (arith, within d)
@@ -55,6 +55,6 @@ module _ (within : (d : Document) → length (record_of d) ≤ header_size + 14 
   pub is_window : (list : List Routed) → AreTogether list → IsWindow list
   is_window list together = record {
     few = together.few;
-    each = All-weaker IsRoutedKey (λ r. IsRunOfKey (request_of_command r.command)) (λ r key. run_key (request_of_command r.command) key.0 key.1) list together.each;
+    each = All-weaker IsRouted (λ r. IsRunForPart (request_of_command r.command)) (λ r is. run_for_part (request_of_command r.command) is.0 is.1) list together.each;
     short = omega (arith, together.few, together.light, all_bytes list);
   }

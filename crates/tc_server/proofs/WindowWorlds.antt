@@ -14,6 +14,7 @@ use Rattle.tc_plain_model.specs.Writes.{Pairs}
 use Rattle.tc_part_model.specs.Meaning.{IsPart, plain_of}
 use Rattle.tc_part_model.specs.PartState.{AreTold, Told}
 use Rattle.tc_part_model.specs.PartView.{PartView, store_of}
+use Rattle.tc_part_model.proofs.HeldKeys.{Ascends-stored}
 use Rattle.tc_run_model.specs.Kinds.{AreOfKinds}
 use Rattle.tc_run_model.specs.Known.{MayReply}
 use Rattle.tc_run_model.specs.Replies.{AreReplies, IsReply}
@@ -23,19 +24,19 @@ use Rattle.tc_route.specs.Meaning.{routed_of}
 use Rattle.tc_route.specs.declared.placed.Routed.{Routed}
 use Rattle.tc_work.specs.Asked.{requests_in}
 use Rattle.tc_work.specs.Settling.{TellsFiles}
-use Rattle.tc_server.specs.Asked.{IsOfKey}
+use Rattle.tc_server.specs.Asked.{IsForPart}
 use Rattle.tc_server.specs.Partitions.{StandsAt}
 use Rattle.tc_server.specs.Window.{requests_routed}
 use Rattle.tc_server.proofs.AloneWorlds.{all_reply_as, answered_values, schemas_as}
 use Rattle.tc_server.proofs.KeptWorlds.{committed, stands_alone}
 use Rattle.tc_server.proofs.WindowLengths.{requests_same}
 
-pub window_replied : (t : Told) (limits : Limits) (list : List Routed) (known : Option World) (replies : Keyed Reply) → StandsAt t limits known → AllByRecursion IsOfKey (requests_routed list) → AreOfKinds (requests_in list) (values_in replies)
+pub window_replied : (t : Told) (limits : Limits) (list : List Routed) (known : Option World) (replies : Keyed Reply) → StandsAt t limits known → AllByRecursion IsForPart (requests_routed list) → AreOfKinds (requests_in list) (values_in replies)
     → ((p : PartView) → IsPart t p → AreTold t.components → replies ≡ answered limits (map routed_of list) (plain_of t p)) → MayReply (requests_routed list) known (values_in replies)
-window_replied t limits list None replies stands keyed kinds exact = subst (λ rs. AreOfKinds rs (values_in replies)) (requests_same list) kinds
-window_replied t limits list (Some w) replies h keyed kinds exact =
+window_replied t limits list None replies stands for_parts kinds exact = subst (λ rs. AreOfKinds rs (values_in replies)) (requests_same list) kinds
+window_replied t limits list (Some w) replies h for_parts kinds exact =
     subst (AreReplies (requests_routed list) w) (sym (ap values_in (exact h.view h.is h.tells.components) ∙ answered_values limits list (plain_of t h.view)))
-    (all_reply_as (requests_routed list) w limits (plain_of t h.view) keyed (stands_alone t limits w h))
+    (all_reply_as (requests_routed list) w limits (plain_of t h.view) for_parts (Ascends-stored h.view) (stands_alone t limits w h))
 
 -- the schema of the only partition, behind a flush
 schema_replied : (t : Told) (limits : Limits) (known : Option World) (shown : List Data) → StandsAt t limits known → ((p : PartView) → IsPart t p → TellsFiles t → shown ≡ schema_text (values_in (store_of p)) ∷ []) → MayReply (schema ∷ []) known (schemas shown ∷ [])

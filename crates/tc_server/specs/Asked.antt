@@ -27,25 +27,25 @@ is_whole (Run command) = false
 is_whole (Whole control) = true
 is_whole (Refuse refusal) = false
 
--- a request for one key, whose document may be stored
-abbrev pub IsOfKey : Request → Type 0
-IsOfKey (upsert n d) = (n ≤ max_key) × IsStorable d
-IsOfKey (delete n) = n ≤ max_key
-IsOfKey (get n) = n ≤ max_key
-IsOfKey (query ask) = ⊥
-IsOfKey flush = ⊥
-IsOfKey schema = ⊥
-IsOfKey (scan ask) = ⊥
-IsOfKey collect = ⊥
-IsOfKey (refused r) = ⊥
+-- a request for a partition: a query, or for one key, whose document may be stored
+abbrev pub IsForPart : Request → Type 0
+IsForPart (upsert n d) = (n ≤ max_key) × IsStorable d
+IsForPart (delete n) = n ≤ max_key
+IsForPart (get n) = n ≤ max_key
+IsForPart (query ask) = Unit {0}
+IsForPart flush = ⊥
+IsForPart schema = ⊥
+IsForPart (scan ask) = ⊥
+IsForPart collect = ⊥
+IsForPart (refused r) = ⊥
 
--- a command that is run is for one key
-abbrev pub IsRunOfKey : Action → Type 0
-IsRunOfKey (Run command) = IsOfKey (request_of_command command)
-IsRunOfKey (Whole control) = Unit {0}
-IsRunOfKey (Refuse refusal) = Unit {0}
+-- a command that is run is for a partition
+abbrev pub IsRunForPart : Action → Type 0
+IsRunForPart (Run command) = IsForPart (request_of_command command)
+IsRunForPart (Whole control) = Unit {0}
+IsRunForPart (Refuse refusal) = Unit {0}
 
 -- and its document is no heavier than a line
 pub record IsSoundAction (action : Action) : Type 0 where
-  pub of_key : IsRunOfKey action
+  pub for_part : IsRunForPart action
   pub light : IsLight max_line (request_asked action)

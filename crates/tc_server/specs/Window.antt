@@ -1,4 +1,4 @@
--- What the lines of a window ask for: some are refused, and the others are commands for single keys.
+-- What the lines of a window ask for: some are refused, and the others are commands for partitions.
 use Rattle.std.specs.Prelude.{◌≡◌, ◌≤◌, ℕ, ◌+◌, suc, List, [], ◌∷◌, length, map, All, Option, Some, None}
 use Rattle.tc_model.specs.Limits.{max_line}
 use Rattle.tc_model.specs.Reply.{Reply, turned_down}
@@ -9,7 +9,7 @@ use Rattle.tc_command.specs.Refusals.{refusal_of}
 use Rattle.tc_command.specs.declared.refusals.Refusal.{Refusal}
 use Rattle.tc_route.specs.declared.placed.Routed.{Routed}
 use Rattle.tc_run_model.specs.Windows.{max_window}
-use Rattle.tc_server.specs.Asked.{IsOfKey}
+use Rattle.tc_server.specs.Asked.{IsForPart}
 use Rattle.tc_server.specs.declared.window.Window.{Window}
 
 -- ---- lines of which some are refused
@@ -56,18 +56,18 @@ abbrev pub weight_in : List Request → ℕ
 weight_in [] = 0
 weight_in (r ∷ rs) = weight_of r + weight_in rs
 
--- each is for one key, with a document that fits a line
-abbrev pub IsRoutedKey : Routed → Type 0
-IsRoutedKey r = IsOfKey (request_of_command r.command) × IsLight max_line (request_of_command r.command)
+-- each is for a partition, with a document that fits a line
+abbrev pub IsRouted : Routed → Type 0
+IsRouted r = IsForPart (request_of_command r.command) × IsLight max_line (request_of_command r.command)
 
 -- commands that are answered together
 pub record AreTogether (list : List Routed) : Type 0 where
   pub few : length list ≤ 4096
-  pub each : All IsRoutedKey list
+  pub each : All IsRouted list
   pub light : weight_in (requests_routed list) ≤ max_window + max_line
 
 -- A line that is not refused has its command. The documents weigh no more than the lines.
 pub record IsSoundWindow (w : Window) : Type 0 where
-  pub each : All IsRoutedKey w.commands.items
+  pub each : All IsRouted w.commands.items
   pub whole : count_asked w.refusals.items ≡ length w.commands.items
   pub light : weight_in (requests_routed w.commands.items) ≤ w.bytes

@@ -8,7 +8,7 @@ ghost use Rattle.tc_model.specs.Request.{request_of};
 ghost use Rattle.tc_model.specs.Weight.{IsLight};
 ghost use Rattle.tc_run_model.specs.Built.{if_built};
 ghost use Rattle.tc_run_model.specs.Windows.{is_control};
-ghost use Rattle.tc_server.specs.Asked.{is_whole, request_asked, IsRunOfKey};
+ghost use Rattle.tc_server.specs.Asked.{is_whole, request_asked, IsRunForPart};
 ghost use Rattle.tc_server.specs.declared.answer.Action.TheVariants.{Refuse};
 
 use std::alloc::{AllocError, Global};
@@ -24,7 +24,7 @@ pub enum Control {
     NotBuilt,
 }
 
-/// A command for one key, one for the whole store, or why there is none.
+/// A command for a partition, one for the whole store, or why there is none.
 #[derive(Drop)]
 pub enum Action {
     Run(Command),
@@ -54,7 +54,7 @@ impl Model for Asked {
 }
 
 impl Asked {
-    /// What a line asks for. A query, which is not built, is refused. Errs only for want of memory.
+    /// What a line asks for. Errs only for want of memory.
     pub fn of(alloc: Global, line: &[u8]) -> Result<Asked, AllocError>
         ensures request { IfOk result (λ asked. request_asked asked ≡ if_built (request_of line.now)) }
         ensures whole { IfOk result (λ asked. is_whole asked ≡ is_control (request_of line.now)) }
@@ -81,7 +81,7 @@ impl Asked {
     /// The command, or why there is none.
     pub fn into_action(self) -> Action
         ensures action { result ≡ self }
-        ensures of_key { IsRunOfKey result }
+        ensures for_part { IsRunForPart result }
     {
         self.action
     }
@@ -91,13 +91,12 @@ impl Asked {
 fn action_of(command: Command) -> Action
     ensures request { request_asked result ≡ if_built (request_of_command command) }
     ensures whole { is_whole result ≡ is_control (request_of_command command) }
-    ensures of_key { IsLawful command → IsRunOfKey result }
+    ensures for_part { IsLawful command → IsRunForPart result }
 {
     match command {
         Command::Flush => Action::Whole(Control::Flush),
         Command::Schema => Action::Whole(Control::Schema),
         Command::Scan(_) | Command::Collect => Action::Whole(Control::NotBuilt),
-        Command::Query(_) => Action::Refuse(Refusal::NotBuilt),
         command => Action::Run(command),
     }
 }

@@ -48,7 +48,8 @@ impl<S: Store> Partitions<S> {
         Partitions { engine }
     }
 
-    /// Answers commands for single keys, one reply a command and in their order, and keeps what they write.
+    /// Answers commands for a partition, one reply a command and in their order, in which a get or a query sees the writes
+    /// before it, and keeps what they write.
     pub fn window(&mut self, alloc: Global, list: &[Routed]) -> Result<Replies, RunFault>
         requires works { MayAsk S.history S.Device.history S.Frozen.content self.old }
         requires together { AreTogether list.now }

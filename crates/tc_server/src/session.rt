@@ -8,7 +8,7 @@ ghost use Rattle.tc_model.specs.Weight.{IsLight};
 ghost use Rattle.tc_run_model.specs.Known.{MayReply, known_after};
 ghost use Rattle.tc_run_model.specs.Windows.{is_control, max_window};
 ghost use Rattle.tc_run_model.specs.World.{World};
-ghost use Rattle.tc_server.specs.Asked.{is_whole, request_asked, request_whole, IsRunOfKey};
+ghost use Rattle.tc_server.specs.Asked.{is_whole, request_asked, request_whole, IsRunForPart};
 ghost use Rattle.tc_server.specs.Faults.{fault_in, gave_up, HasCauses, HasDiskCause, IsNoDamage, IsOfStore};
 ghost use Rattle.tc_server.specs.Holds.{worlds_at, AreAnswered, AreWritten, HaveFailed, IsLeft};
 ghost use Rattle.tc_server.specs.Calls.{faults_of, settings_of, IsSpent, KeepsAt, MayAsk, Rests, HoldsAt};
@@ -135,7 +135,7 @@ impl<S: Store> Session<Partitions<S>> {
     ) -> Result<(), RunFault>
         requires ready { IsReady (MayAsk S.history S.Device.history S.Frozen.content) self.old }
         requires size { size ≤ max_line }
-        requires of_key { IsRunOfKey action }
+        requires for_part { IsRunForPart action }
         requires plain { is_whole action ≡ false }
         requires light { IsLight size (request_asked action) }
         ensures ok { OnOk result ((line : List ℕ) → AsksFor line action size

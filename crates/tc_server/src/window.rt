@@ -8,7 +8,7 @@ ghost use Rattle.tc_model.specs.Weight.{IsLight};
 ghost use Rattle.tc_run_model.specs.Course.{each_line};
 ghost use Rattle.tc_run_model.specs.Windows.{max_window};
 ghost use Rattle.tc_run_model.specs.World.{World};
-ghost use Rattle.tc_server.specs.Asked.{is_whole, request_asked, IsOfKey, IsRunOfKey};
+ghost use Rattle.tc_server.specs.Asked.{is_whole, request_asked, IsForPart, IsRunForPart};
 ghost use Rattle.tc_server.specs.Faults.{fault_in, gave_up, HasDiskCause, IsNoDamage, IsOfStore};
 ghost use Rattle.tc_server.specs.Holds.{worlds_at, AreAnswered, IsLeft};
 ghost use Rattle.tc_server.specs.Calls.{faults_of, settings_of, IsSpent, KeepsAt, MayAsk, HoldsAt};
@@ -61,7 +61,7 @@ impl Window {
         requires room { self.old.bytes + size < 2 ^ 64 }
         requires lines { length self.old.refusals.items < 2 ^ 32 }
         requires size { size ≤ max_line }
-        requires of_key { IsRunOfKey action }
+        requires for_part { IsRunForPart action }
         requires plain { is_whole action ≡ false }
         requires light { IsLight size (request_asked action) }
         ensures requests { OnOk result (requests_of self.new ≡ requests_of self.old ++ request_asked action ∷ []) }
@@ -92,13 +92,13 @@ impl Window {
         Ok(())
     }
 
-    // Adds a line of this many bytes that has a command for one key. Errs only for want of memory.
+    // Adds a line of this many bytes that has a command for a partition. Errs only for want of memory.
     fn push_command(&mut self, command: Command, size: usize) -> Result<(), AllocError>
         requires sound { IsSoundWindow self.old }
         requires room { self.old.bytes + size < 2 ^ 64 }
         requires lines { length self.old.refusals.items < 2 ^ 32 }
         requires size { size ≤ max_line }
-        requires of_key { IsOfKey (request_of_command command) }
+        requires for_part { IsForPart (request_of_command command) }
         requires light { IsLight size (request_of_command command) }
         ensures requests { OnOk result (requests_of self.new ≡ requests_of self.old ++ request_of_command command ∷ []) }
         ensures lines { OnOk result (length self.new.refusals.items ≡ length self.old.refusals.items + 1) }

@@ -8,7 +8,7 @@ use Rattle.tc_server.proofs.answer.Asked.of.Goals as goal
 
 pub invariant_of-result : goal.invariant_of-result
 invariant_of-result c = record {
-  of_key = c.action_of.ensures.of_key c.in-Ok.ensures.lawful;
+  for_part = c.action_of.ensures.for_part c.in-Ok.ensures.lawful;
   light = subst (IsLight max_line) (ap if_built c.in-Ok.ensures.asked ∙ sym c.action_of.ensures.request) (built_light max_line _ (request_weight c.args.line.now));
 }
 

@@ -5,7 +5,7 @@ use Rattle.std.proofs.lemmas.List.Elements.{All-push}
 use Rattle.tc_command.specs.Commands.{request_of_command}
 use Rattle.tc_model.specs.Limits.{max_line}
 use Rattle.tc_route.specs.declared.placed.Routed.{Routed}
-use Rattle.tc_server.specs.Window.{count_asked, mixed, request_refused, requests_routed, weight_in, IsRoutedKey}
+use Rattle.tc_server.specs.Window.{count_asked, mixed, request_refused, requests_routed, weight_in, IsRouted}
 use Rattle.tc_server.proofs.Mixing.{count_asked-append, lighter, mixed-asked, weight_pushed}
 use Rattle.tc_server.proofs.window.Window.push_command.Goals as goal
 
@@ -25,7 +25,7 @@ returns-clause-sound c =
     let w = c.args.self.now in
     let items = c.in_ok-push.ensures.items in
     record {
-      each = subst (All IsRoutedKey) (sym items) (All-push IsRoutedKey w.commands.items _ c.requires.sound.each (c.requires.of_key, lighter c.args.size max_line (request_of_command c.args.command) c.requires.size c.requires.light));
+      each = subst (All IsRouted) (sym items) (All-push IsRouted w.commands.items _ c.requires.sound.each (c.requires.for_part, lighter c.args.size max_line (request_of_command c.args.command) c.requires.size c.requires.light));
       whole = omega (arith, ap count_asked c.in_ok-push-2.ensures.items, count_asked-append w.refusals.items (None ∷ []), c.requires.sound.whole, ap length items ∙ length-append w.commands.items _);
       light = subst (λ list. weight_in (requests_routed list) ≤ w.bytes + c.args.size) (sym items) (weight_pushed w.commands.items _ w.bytes c.args.size c.requires.sound.light c.requires.light);
     }
