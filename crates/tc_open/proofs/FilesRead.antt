@@ -189,7 +189,7 @@ module _ {F W : Type 0} (name : F → FileName) where
       each [] is = tt
       each (disk ∷ past) is = record {
         taken = λ n. done (disk n) n (is.waits n);
-        listed_out = λ n held. absurd (false≢true (sym (is.is_in n) ∙ held));
+        is_in = is.is_in;
         own = λ n there. known n (is.there n there);
       }
 

@@ -1,19 +1,19 @@
 -- The logs above listed components were flushed under a header, and then their files are removed.
-use Rattle.std.proofs.Common.{◌≡◌, ◌∙◌, ◌+◌, ◌<◌, ◌++◌, ℕ, List, [], ◌∷◌, filter, length, refl, sym, ap, subst, arith, Option}
-use Rattle.std.specs.Prelude.{All}
+use Rattle.std.proofs.Common.{◌≡◌, ◌∙◌, ◌+◌, ◌<◌, ◌++◌, ℕ, List, [], ◌∷◌, filter, length, map, refl, sym, ap, subst, arith, Option}
+use Rattle.std.specs.Prelude.{All, Contains}
 use Rattle.tc_store.specs.declared.damage.Damage.{Damage}
 use Rattle.tc_store.specs.declared.file_name.FileName.{FileName}
 use Rattle.tc_store.specs.Disk.{Disk}
 use Rattle.tc_store.specs.Moments.{IfTold}
 use Rattle.tc_store.specs.StoreCalls.{comes_home, frozen_entry, makes}
 use Rattle.tc_component.specs.declared.head.Head.{Head}
-use Rattle.tc_component.specs.Loading.{ComponentState}
+use Rattle.tc_component.specs.Loading.{ComponentState, index_in}
 use Rattle.tc_component.specs.Rows.{part_of}
 use Rattle.tc_component.specs.Spelling.{name_of}
 use Rattle.tc_log.specs.declared.write.Write as log
 use Rattle.tc_list.specs.Intervals.{last_of}
 use Rattle.tc_lsm_model.specs.Contents.{Content}
-use Rattle.tc_jobs.specs.Lists.{IsListOf}
+use Rattle.tc_jobs.specs.Lists.{IsListOf, file_names}
 use Rattle.tc_plain_model.specs.Writes.{Write}
 use Rattle.tc_recover.specs.declared.taken.Taken.{Taken}
 use Rattle.tc_recover.specs.Loads.{is_log}
@@ -24,14 +24,16 @@ use Rattle.tc_replay.specs.Openings.{AreNeedless}
 use Rattle.tc_open.specs.declared.fault.OpenCause.{OpenCause}
 use Rattle.tc_open.specs.declared.fault.OpenCause.TheVariants as cause
 use Rattle.tc_open.specs.Judged.{IsOfLogs}
+use Rattle.tc_open.specs.Listed.{AreFlushed, end_by}
 use Rattle.tc_open.specs.OpenCauses.{IfDamaged}
 use Rattle.tc_open.specs.Resting.{AreOwn}
 use Rattle.tc_open.specs.Steps.{AreAbove, AreListed, IsLogUpTo, Stands}
 use Rattle.tc_open.proofs.FlushedOpenings.{reaches}
-use Rattle.tc_open.proofs.LogsCovered.{covered_needless, last_longer, list_longer, none_stay}
-use Rattle.tc_open.proofs.OwnFiles.{own_flushed}
+use Rattle.tc_open.proofs.ListedIntervals.{ends_as, flushed_some, one_interval}
+use Rattle.tc_open.proofs.LogsCovered.{covered_needless, list_longer, none_stay}
+use Rattle.tc_open.proofs.OwnFiles.{newest_longer, others_longer, own_listed}
 
-damage_weaker : (P Q : Damage → Type 0) (c : OpenCause) → ((damage : Damage) → P damage → Q damage) → IfDamaged c P → IfDamaged c Q
+pub damage_weaker : (P Q : Damage → Type 0) (c : OpenCause) → ((damage : Damage) → P damage → Q damage) → IfDamaged c P → IfDamaged c Q
 damage_weaker P Q cause.Disk weaker harmed = tt
 damage_weaker P Q (cause.Damaged damage) weaker harmed = weaker damage harmed
 damage_weaker P Q (cause.Layout found found_of) weaker harmed = tt
@@ -75,11 +77,24 @@ module _ {F W : Type 0} (content : F → Option (List ℕ)) (name : F → FileNa
         subst (λ cs. AreListed name (part_of head) cs) (sym l.listed)
         (list_longer content name (part_of head) list l.component head listed.device before l.made (subst (λ cs. IsListOf head.number head.count cs) l.listed of) behind (omega (arith, from, to, count_is, some)))
 
-    pub ends_longer : last_of longer ≡ last + length writes
-    ends_longer = ap last_of listed.listed.listed ∙ last_longer content name (part_of head) list listed.listed.component head listed.listed.made.has_head ∙ to ∙ sym same
+    pub flushed_longer : 0 < length writes → AreFlushed (found_in list writes) longer
+    flushed_longer some =
+        let l = listed.listed in
+        let e = end_by 0 (map index_in list) in
+        let last_is : last ≡ e = above.last_is ∙ ends_as 0 list in
+        let begins : head.from ≡ e + 1 = from ∙ ap (λ n. n + 1) last_is in
+        let ends : head.to ≡ e + length writes = omega (arith, to, count_is, last_is) in
+        record {
+          older = list;
+          newer = l.component ∷ [];
+          is = l.listed;
+          read = refl;
+          flushed = ap (λ (h : Head). one_interval h.from h.to) l.made.has_head ∙ ap (λ n. one_interval n head.to) begins ∙ ap (λ n. one_interval (e + 1) n) ends ∙ sym (flushed_some e (length writes) some);
+        }
 
     pub own_longer : (others : List FileName) → IfTold old (AreOwn list others) → IfTold later (AreOwn longer others)
     own_longer others own =
         let l = listed.listed in
         subst (λ disks. IfTold disks (AreOwn longer others)) (sym listed.still)
-        (subst (λ cs. IfTold (comes_home (name_of head) frozen_entry listed.device (makes (name_of head) old)) (AreOwn cs others)) (sym l.listed) (own_flushed list l.component others (name_of head) listed.device old (ap name_of (sym l.made.has_head)) own))
+        (subst (λ cs. IfTold (comes_home (name_of head) frozen_entry listed.device (makes (name_of head) old)) (AreOwn cs others)) (sym l.listed) (own_listed list (list ++ l.component ∷ []) others others (name_of head) (subst (λ (h : Head). Contains (file_names (list ++ l.component ∷ [])) (name_of h)) l.made.has_head (newest_longer list l.component))
+        (others_longer list l.component others) listed.device old own listed.tells))

@@ -1,5 +1,5 @@
 -- The logs of an opening were flushed: what is stored is in the components alone, and the logs are needless.
-use Rattle.std.proofs.Common.{◌≡◌, ◌∙◌, ◌+◌, ◌≤◌, ◌++◌, ℕ, List, [], ◌∷◌, length, map, refl, ap, subst, arith, inl, inr, Option, None}
+use Rattle.std.proofs.Common.{◌≡◌, ◌∙◌, ◌+◌, ◌<◌, ◌≤◌, ◌++◌, ℕ, List, [], ◌∷◌, length, map, refl, sym, ap, subst, arith, inl, inr, Option, None}
 use Rattle.std.specs.Prelude.{Result, Err}
 use Rattle.std.specs.List.{AllZip}
 use Rattle.std.proofs.lemmas.List.{length-map}
@@ -15,6 +15,7 @@ use Rattle.tc_component.specs.Rows.{part_of}
 use Rattle.tc_component.specs.Spelling.{Index}
 use Rattle.tc_log.specs.declared.write.Write as log
 use Rattle.tc_lsm_model.specs.Contents.{Content, Partition}
+use Rattle.tc_lsm_model.specs.Flushes.{IsFlush}
 use Rattle.tc_lsm_model.specs.Lists as contents
 use Rattle.tc_lsm_model.specs.Tables.{table_over}
 use Rattle.tc_lsm_model.proofs.WrittenNames.{names_of_table}
@@ -31,6 +32,7 @@ use Rattle.tc_replay.specs.FlushedLogs.{IsLogsFlushed}
 use Rattle.tc_replay.specs.Openings.{AreIn, IsOpening, LeavesLogged, stored_by}
 use Rattle.tc_open.specs.declared.fault.OpenCause.{OpenCause}
 use Rattle.tc_open.specs.declared.fault.OpenCause.TheVariants as cause
+use Rattle.tc_open.specs.Listed.{AreFlushedFrom}
 use Rattle.tc_open.specs.OpenCauses.{IfDamaged, IsOfCall, IsOfNoFile, of_job}
 use Rattle.tc_open.specs.Openings.{LeavesStored}
 use Rattle.tc_open.specs.Steps.{Keeps, Rests, Stands}
@@ -74,6 +76,24 @@ no_file_sound cause.Memory is = tt
 
 -- ---- the logs are in a component
 
+come_from : (part : Partition) (cs : List Content) (logs : List (List Write)) (c : Content) → 0 < length logs → IsFlush part cs (table_over (contents.live cs) (all_writes logs)) (length logs) c → AreFlushedFrom part cs logs (cs ++ c ∷ [])
+come_from part cs [] c some is = absurd (omega (arith, some))
+come_from part cs (ws ∷ logs) c some is = (c, is, refl)
+
+-- without a log the components stay
+pub none_rest : {F : Type 0} (content : F → Option (List ℕ)) (part : Partition) (cs : List Content) (logs : List (List Write)) (list : List (ComponentState F)) (writes : List (List log.Write)) (disks : List Disk) → writes ≡ [] → Stands content part cs logs list writes disks
+    → Rests content part (AreFlushedFrom part cs logs) (recovered cs logs) list disks
+none_rest content part cs [] list writes disks none stands = record {
+  contents = cs;
+  are = refl;
+  stands = record { tells = stands.tells; opening = stands.opening; loaded = stands.loaded; written = refl };
+  same = refl;
+}
+none_rest content part cs (ws ∷ logs) list writes disks none stands = absurd (apart (map kept_write ws) (map (λ (others : List Write). map kept_write others) logs) (sym none ∙ stands.written))
+  where
+    apart : (first : List log.Write) (more : List (List log.Write)) → [] ≡ first ∷ more → ⊥
+    apart first more same = cc
+
 module _ {F : Type 0} (content : F → Option (List ℕ)) where
   loaded_last : (g : ℕ) (list : List (ComponentState F)) (cs : List Content) → AllZip (IsLoadedOf content) list cs → last_after g list ≡ contents.last_after g cs
   loaded_last g [] [] all = refl
@@ -90,10 +110,12 @@ module _ {F : Type 0} (content : F → Option (List ℕ)) where
     abbrev pub flushed_list : List Content
     flushed_list = cs ++ flushed.made ∷ []
 
+    count : length writes ≡ length logs
+    count = ap (λ (ls : List (List log.Write)). length ls) stands.written ∙ length-map logs (λ (ws : List Write). map kept_write ws)
+
     pub reaches : (last : ℕ) → last ≡ last_of list → last + length writes ≤ contents.last_of flushed_list
     reaches last is =
         let before = loaded_last 0 list cs stands.loaded in
-        let count : length writes ≡ length logs = ap (λ (ls : List (List log.Write)). length ls) stands.written ∙ length-map logs (λ (ws : List Write). map kept_write ws) in
         let to = flushed.is_flush.to in
         let at_end = last_behind 0 cs flushed.made in
         omega (arith, is, before, count, to, at_end)
@@ -101,9 +123,10 @@ module _ {F : Type 0} (content : F → Option (List ℕ)) where
     pub same_store : recovered flushed_list [] ≡ recovered cs logs
     same_store = stored_behind cs logs flushed.made flushed.stored (flushed.is_flush.names ∙ names_of_table (contents.names_of cs) (contents.live cs) (table_over (contents.live cs) (all_writes logs)) (all_writes logs) refl)
 
-    pub flushed_rests : (new : List Disk) → IsTold later → IsTold new → IsOpening (part_of head) flushed_list [] new → Rests content (part_of head) (recovered cs logs) longer new
-    flushed_rests new told tells opening = record {
+    pub flushed_rests : 0 < length writes → (new : List Disk) → IsTold later → IsTold new → IsOpening (part_of head) flushed_list [] new → Rests content (part_of head) (AreFlushedFrom (part_of head) cs logs) (recovered cs logs) longer new
+    flushed_rests some new told tells opening = record {
       contents = flushed_list;
+      are = come_from (part_of head) cs logs flushed.made (subst (λ n. 0 < n) count some) flushed.is_flush;
       stands = record { tells = tells; opening = opening; loaded = if_tells (AllZip (IsLoadedOf content) longer flushed_list) later told flushed.loaded; written = refl };
       same = same_store;
     }

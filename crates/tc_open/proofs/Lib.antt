@@ -5,9 +5,11 @@ mod OwnFiles
 mod FilesRead
 mod OpenStates
 mod LogsCovered
+mod ListedIntervals
 mod ReadKits
 mod FlushedOpenings
 mod Lawfully
+mod MergedOpenings
 mod CreatedLogs
 mod StartedLogs
 mod StartedFiles

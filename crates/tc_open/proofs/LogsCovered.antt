@@ -18,7 +18,6 @@ use Rattle.tc_lsm_model.specs.Lists as contents
 use Rattle.tc_list.specs.Intervals.{last_after, last_of}
 use Rattle.tc_jobs.specs.Listing.{IsReadBack}
 use Rattle.tc_jobs.specs.Lists.{IsListOf, file_names}
-use Rattle.tc_jobs.proofs.ListEnds.{last_pushed}
 use Rattle.tc_recover.specs.declared.interval.Interval.{Interval}
 use Rattle.tc_recover.specs.declared.taken.Taken.{Taken}
 use Rattle.tc_recover.specs.Files.{names_in}
@@ -36,7 +35,7 @@ use Rattle.tc_open.proofs.FilesRead.{file_names_are, second_false}
 
 -- ---- listed components
 
-interval_listed : {F : Type 0} (list : List (ComponentState F)) (from to : ℕ) → Contains (file_names list) (Component from to) → Contains (map interval_of list) (record { from = from; to = to })
+pub interval_listed : {F : Type 0} (list : List (ComponentState F)) (from to : ℕ) → Contains (file_names list) (Component from to) → Contains (map interval_of list) (record { from = from; to = to })
 interval_listed [] from to among = absurd (no_member (Component from to) among)
 interval_listed (c ∷ list) from to among = elim (member_cases (name_of c.index.head) (file_names list) (Component from to) among) [
   | inl same ↦
@@ -97,9 +96,6 @@ module _ {F : Type 0} (content : F → Option (List ℕ)) (name : F → FileName
       ends : c.index.head.from ≤ c.index.head.to
       ends = subst (λ (h : Head). h.from ≤ h.to) (sym read.has_head) order
 
-  pub last_longer : (head : Head) → c.index.head ≡ head → last_of (list ++ c ∷ []) ≡ head.to
-  last_longer head has = last_pushed 0 list c ∙ ap (λ (h : Head). h.to) has
-
 -- ---- covered logs
 
 not_above : (most g : ℕ) → g ≤ most → nat_lt most g ≡ false
@@ -114,7 +110,7 @@ spare_log : (cs : List Content) (most : ℕ) (disk : Disk) (n : FileName) → mo
 spare_log cs most disk (Component from to) within is bytes there = absurd is
 spare_log cs most disk (Log g) within is bytes there = inl (omega (arith, is, within))
 
-abbrev IsSpareAt : List Content → Disk → FileName → Type 0
+abbrev pub IsSpareAt : List Content → Disk → FileName → Type 0
 IsSpareAt cs disk n = (bytes : List ℕ) → disk n ≡ still bytes → IsSpare (opening_at cs [] disk) n bytes
 
 module _ {F W : Type 0} (name : F → FileName) where

@@ -64,7 +64,7 @@ all_some : (names : List FileName) (disks : List Disk) → RemovesSome names dis
 all_some [] disks = refl
 all_some (name ∷ names) disks = inr (all_some names (removes name disks))
 
-none_some : (names : List FileName) (old new : List Disk) → new ≡ old → RemovesSome names old new
+pub none_some : (names : List FileName) (old new : List Disk) → new ≡ old → RemovesSome names old new
 none_some [] old new same = same
 none_some (name ∷ names) old new same = inl (none_some names old new same)
 

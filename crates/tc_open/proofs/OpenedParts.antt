@@ -31,6 +31,7 @@ use Rattle.tc_recover.proofs.Members.{no_member}
 use Rattle.tc_replay.specs.Openings.{AreIn}
 use Rattle.tc_replay.proofs.CountedLogs.{loaded_are, loaded_tell}
 use Rattle.tc_open.specs.FirstLog.{EachHolds, Holds, MakesLog, held_under}
+use Rattle.tc_open.specs.Listed.{AreOpenedFrom}
 use Rattle.tc_open.specs.Openings.{IsOpenedAs, LeavesStored}
 use Rattle.tc_open.specs.Resting.{AreOwn, IsTidy}
 use Rattle.tc_open.specs.Steps.{Keeps, Rests}
@@ -67,7 +68,7 @@ both_told P Q (disk ∷ past) p q = (p, q)
 -- ---- where the files were lawful
 
 module _ {F : Type 0} (content : F → Option (List ℕ)) where
-  module _ (part : Partition) (cs : List Content) (logs : List (List Write)) (list : List (ComponentState F)) (disks : List Disk) (rests : Rests content part (recovered cs logs) list disks) (own : IfTold disks (AreOwn list [])) where
+  module _ (part : Partition) (cs : List Content) (logs : List (List Write)) (list : List (ComponentState F)) (disks : List Disk) (rests : Rests content part (AreOpenedFrom part cs logs) (recovered cs logs) list disks) (own : IfTold disks (AreOwn list [])) where
     pub rest_tidy : IfTold disks (IsTidy part rests.contents [])
     rest_tidy = tidy_at_last content part rests.contents list disks rests.stands own
 
@@ -85,6 +86,7 @@ module _ {F : Type 0} (content : F → Option (List ℕ)) where
     pub opened_as : (t : Told) → IsPart t (started_part part rests.contents) → t.taken ≡ names_by (newest_index None (map (told_component content) list)) → t.components ≡ map (told_component content) list → (name : FileName) → t.disks ≡ makes name disks → IsOpenedAs part cs logs t
     opened_as t is taken components name made = record {
       list = rests.contents;
+      opened = rests.are;
       is = is;
       plain = ap (λ ns. record { pairs = live rests.contents; taken = ns }) (taken ∙ names_are None [] (map (told_component content) list) rests.contents refl rest_are) ∙ rests.same;
       store = made_tells name disks t.disks made rests.stands.tells;
@@ -98,7 +100,7 @@ module _ {F : Type 0} (content : F → Option (List ℕ)) where
 
     starts_store : (new : List Disk) → Starts new → EachSince (LeavesStored part (recovered cs logs).pairs) disks new
     starts_store new since = since_weaker (Holds part (live rests.contents) (held_under (first_log rests.contents) (MakesLog part rests.contents))) (LeavesStored part (recovered cs logs).pairs) disks new
-        (λ disk leaves. inr (inr (record { list = rests.contents; holds = same_pairs; leaves = subst (λ pairs. Holds part pairs (held_under (first_log rests.contents) (MakesLog part rests.contents)) disk) same_pairs leaves }))) since
+        (λ disk leaves. inr (inr (inl (record { list = rests.contents; holds = same_pairs; leaves = subst (λ pairs. Holds part pairs (held_under (first_log rests.contents) (MakesLog part rests.contents)) disk) same_pairs leaves })))) since
 
     pub starts_log : (generation : ℕ) (log : List DiskFile) → generation ≡ listed.last_of list + 1 → IfTold disks (λ disk. All (LeavesAt (MakesLog part rests.contents)) log) → All (LeavesAt (IsShutOrHas (IsLog part generation []))) log
     starts_log generation log is leaves =

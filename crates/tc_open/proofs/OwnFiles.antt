@@ -14,6 +14,8 @@ use Rattle.tc_component.specs.Loading.{ComponentState}
 use Rattle.tc_component.specs.Spelling.{name_of}
 use Rattle.tc_jobs.specs.Lists.{file_names}
 use Rattle.tc_machine.proofs.FilesLeft.{at_name}
+use Rattle.tc_machine.proofs.Moments.{put_twice}
+use Rattle.tc_part_model.specs.PartState.{IsTold}
 use Rattle.tc_part_model.proofs.DeviceFiles.{comes_untold}
 use Rattle.tc_recover.specs.Removing.{removes_all}
 use Rattle.tc_recover.proofs.Members.{member_cases, member_first}
@@ -40,7 +42,7 @@ module _ {F : Type 0} (list : List (ComponentState F)) where
   gone : (name : FileName) (rest : List FileName) (disk : Disk) (before : Option (List ℕ)) → AreOwn list (name ∷ rest) disk → AreOwn list rest (put name (none before) disk)
   gone name rest disk before is = record {
     taken = λ n. at_name name n (none before) disk IsTaken (λ same. tt) (λ apart. is.taken n);
-    listed_out = λ n. at_name name n (none before) disk (λ e. is_out e ≡ true → Contains (file_names list) n) (λ same held. absurd (false≢true held)) (λ apart held. is.listed_out n held);
+    is_in = λ n. at_name name n (none before) disk (λ e. is_out e ≡ false) (λ same. refl) (λ apart. is.is_in n);
     own = λ n. at_name name n (none before) disk (λ e. IsThere e → Contains (file_names list) n ⊎ Contains rest n) (λ same there. absurd there) (λ apart there. others n apart (is.own n there));
   }
     where
@@ -51,14 +53,14 @@ module _ {F : Type 0} (list : List (ComponentState F)) where
         | inr further ↦ inr further
       ]
 
-  -- what is not still stays, and then it is out, so that it is listed
+  -- what is not still is not there
   stays : (name : FileName) (rest : List FileName) (disk : Disk) → is_still (disk name) ≡ false → AreOwn list (name ∷ rest) disk → AreOwn list rest disk
-  stays name rest disk other is = record { taken = is.taken; listed_out = is.listed_out; own = λ n there. others n there (is.own n there) }
+  stays name rest disk other is = record { taken = is.taken; is_in = is.is_in; own = λ n there. others n there (is.own n there) }
     where
       others : (n : FileName) → IsThere (disk n) → Contains (file_names list) n ⊎ Contains (name ∷ rest) n → Contains (file_names list) n ⊎ Contains rest n
       others n there (inl listed) = inl listed
       others n there (inr among) = elim (member_cases name rest n among) [
-        | inl same ↦ inl (is.listed_out n (is_out_then (disk n) (is.taken n) there (ap (λ m. is_still (disk m)) (sym same) ∙ other)))
+        | inl same ↦ absurd (false≢true (sym (is.is_in n) ∙ is_out_then (disk n) (is.taken n) there (ap (λ m. is_still (disk m)) (sym same) ∙ other)))
         | inr further ↦ inr further
       ]
 
@@ -74,7 +76,7 @@ module _ {F : Type 0} (list : List (ComponentState F)) where
   all_removed (name ∷ names) rest disks is = all_removed names rest (removes name disks) (one_removed name (names ++ rest) disks is)
 
   more_names : (fewer more : List FileName) → ((n : FileName) → Contains fewer n → Contains more n) → (disk : Disk) → AreOwn list fewer disk → AreOwn list more disk
-  more_names fewer more among disk is = record { taken = is.taken; listed_out = is.listed_out; own = λ n there. wider n (is.own n there) }
+  more_names fewer more among disk is = record { taken = is.taken; is_in = is.is_in; own = λ n there. wider n (is.own n there) }
     where
       wider : (n : FileName) → Contains (file_names list) n ⊎ Contains fewer n → Contains (file_names list) n ⊎ Contains more n
       wider n (inl listed) = inl listed
@@ -88,43 +90,30 @@ module _ {F : Type 0} (list : List (ComponentState F)) where
   pub own_removed : (all names rest : List FileName) → ((n : FileName) → Contains all n → Contains (names ++ rest) n) → (disks : List Disk) → IfTold disks (AreOwn list all) → IfTold (removes_all names disks) (AreOwn list rest)
   own_removed all names rest among disks is = all_removed names rest disks (told_more all (names ++ rest) among disks is)
 
--- ---- a component more
+-- ---- a component is listed behind the others
 
-module _ {F : Type 0} (list : List (ComponentState F)) (c : ComponentState F) (others : List FileName) where
-  abbrev longer : List (ComponentState F)
-  longer = list ++ c ∷ []
+pub newest_longer : {F : Type 0} (list : List (ComponentState F)) (c : ComponentState F) → Contains (file_names (list ++ c ∷ [])) (name_of c.index.head)
+newest_longer list c =
+    subst (λ ns. Contains ns (name_of c.index.head)) (sym (map-append (λ (d : ComponentState _). name_of d.index.head) list (c ∷ [])))
+    (Contains-append_right (file_names list) (name_of c.index.head ∷ []) (name_of c.index.head) (member_first (name_of c.index.head) []))
 
-  names_longer : file_names longer ≡ file_names list ++ name_of c.index.head ∷ []
-  names_longer = map-append (λ (d : ComponentState F). name_of d.index.head) list (c ∷ [])
+pub others_longer : {F : Type 0} (list : List (ComponentState F)) (c : ComponentState F) (others : List FileName) (n : FileName) → Contains (file_names list) n ⊎ Contains others n → Contains (file_names (list ++ c ∷ [])) n ⊎ Contains others n
+others_longer list c others n (inl listed) =
+    inl (subst (λ ns. Contains ns n) (sym (map-append (λ (d : ComponentState _). name_of d.index.head) list (c ∷ []))) (Contains-append_left (file_names list) (name_of c.index.head ∷ []) n listed))
+others_longer list c others n (inr other) = inr other
 
-  still_listed : (n : FileName) → Contains (file_names list) n → Contains (file_names longer) n
-  still_listed n listed = subst (λ ns. Contains ns n) (sym names_longer) (Contains-append_left (file_names list) (name_of c.index.head ∷ []) n listed)
+-- ---- a file more, which is listed
 
-  newest_listed : Contains (file_names longer) (name_of c.index.head)
-  newest_listed = subst (λ ns. Contains ns (name_of c.index.head)) (sym names_longer) (Contains-append_right (file_names list) (name_of c.index.head ∷ []) (name_of c.index.head) (member_first (name_of c.index.head) []))
-
-  own_longer : (disk : Disk) → AreOwn list others disk → AreOwn longer others disk
-  own_longer disk is = record { taken = is.taken; listed_out = λ n held. still_listed n (is.listed_out n held); own = λ n there. wider n (is.own n there) }
-    where
-      wider : (n : FileName) → Contains (file_names list) n ⊎ Contains others n → Contains (file_names longer) n ⊎ Contains others n
-      wider n (inl listed) = inl (still_listed n listed)
-      wider n (inr other) = inr other
-
-  -- whatever stands under its name, but for a file at home
-  own_put : (disk : Disk) (e : Entry) → IsTaken e → AreOwn longer others disk → AreOwn longer others (put (name_of c.index.head) e disk)
-  own_put disk e ok is = record {
-    taken = λ n. at_name (name_of c.index.head) n e disk IsTaken (λ same. ok) (λ apart. is.taken n);
-    listed_out = λ n. at_name (name_of c.index.head) n e disk (λ x. is_out x ≡ true → Contains (file_names longer) n) (λ same held. subst (λ m. Contains (file_names longer) m) same newest_listed) (λ apart held. is.listed_out n held);
-    own = λ n. at_name (name_of c.index.head) n e disk (λ x. IsThere x → Contains (file_names longer) n ⊎ Contains others n) (λ same there. inl (subst (λ m. Contains (file_names longer) m) same newest_listed)) (λ apart there. is.own n there);
+module _ {F : Type 0} (list newer : List (ComponentState F)) (others more : List FileName) (name : FileName) (newest : Contains (file_names newer) name)
+    (wider : (n : FileName) → Contains (file_names list) n ⊎ Contains others n → Contains (file_names newer) n ⊎ Contains more n) where
+  own_put : (bytes : List ℕ) (disk : Disk) → AreOwn list others disk → AreOwn newer more (put name (still bytes) disk)
+  own_put bytes disk is = record {
+    taken = λ n. at_name name n (still bytes) disk IsTaken (λ same. tt) (λ apart. is.taken n);
+    is_in = λ n. at_name name n (still bytes) disk (λ e. is_out e ≡ false) (λ same. refl) (λ apart. is.is_in n);
+    own = λ n. at_name name n (still bytes) disk (λ e. IsThere e → Contains (file_names newer) n ⊎ Contains more n) (λ same there. inl (subst (λ m. Contains (file_names newer) m) same newest)) (λ apart there. wider n (is.own n there));
   }
 
-  pub own_flushed : (name : FileName) (device : List DiskFile) (disks : List Disk) → name ≡ name_of c.index.head → IfTold disks (AreOwn list others) → IfTold (comes_home name frozen_entry device (makes name disks)) (AreOwn longer others)
-  own_flushed name device [] same is = subst (λ ds. IfTold ds (AreOwn longer others)) (sym (comes_untold name frozen_entry device)) tt
-  own_flushed name device (disk ∷ past) same is = subst (λ n. IfTold (comes_home n frozen_entry device (makes n (disk ∷ past))) (AreOwn longer others)) (sym same) (back device)
-    where
-      made : AreOwn longer others (put (name_of c.index.head) out disk)
-      made = own_put disk out tt (own_longer disk is)
-
-      back : (device : List DiskFile) → IfTold (comes_home (name_of c.index.head) frozen_entry device (makes (name_of c.index.head) (disk ∷ past))) (AreOwn longer others)
-      back [] = made
-      back (f ∷ earlier) = rw (ap is_out (put_there (name_of c.index.head) out disk)) (own_put (put (name_of c.index.head) out disk) (still f.content) tt made)
+  pub own_listed : (device : List DiskFile) (disks : List Disk) → IfTold disks (AreOwn list others) → IfTold disks (λ disk. IsTold device) → IfTold (comes_home name frozen_entry device (makes name disks)) (AreOwn newer more)
+  own_listed device [] is tells = subst (λ ds. IfTold ds (AreOwn newer more)) (sym (comes_untold name frozen_entry device)) tt
+  own_listed [] (disk ∷ past) is tells = absurd tells
+  own_listed (f ∷ earlier) (disk ∷ past) is tells = rw (ap is_out (put_there name out disk)) (subst (λ d. AreOwn newer more d) (sym (put_twice name out (still f.content) disk)) (own_put f.content disk is))

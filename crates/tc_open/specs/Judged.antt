@@ -1,5 +1,5 @@
 -- Which files are why a partition is not opened.
-use Rattle.std.specs.Prelude.{◌≡◌, ◌⊎◌, ◌+◌, ◌^◌, ℕ, List, [], ◌∷◌, Option, map, length, Ok, Err}
+use Rattle.std.specs.Prelude.{◌≡◌, ◌⊎◌, ◌<◌, ◌+◌, ◌^◌, ℕ, List, Option, map, length, Ok, Err}
 use Rattle.tc_store.specs.declared.damage.Damage.{Damage}
 use Rattle.tc_store.specs.declared.damage.Damage.TheVariants.{Bytes, Files}
 use Rattle.tc_store.specs.declared.file_name.FileName.{FileName}
@@ -8,7 +8,6 @@ use Rattle.tc_store.specs.Judging as judging
 use Rattle.tc_component.specs.declared.head.Head.{Head}
 use Rattle.tc_component.specs.Loading.{ComponentState, index_in}
 use Rattle.tc_component.specs.Rows.{part_of}
-use Rattle.tc_component.specs.Spelling.{Index}
 use Rattle.tc_list.specs.Intervals.{last_of}
 use Rattle.tc_lsm_model.specs.Contents.{Partition}
 use Rattle.tc_recover.specs.declared.cause.FilesCause.{FilesCause}
@@ -18,6 +17,8 @@ use Rattle.tc_recover.specs.Files.{AreNamed}
 use Rattle.tc_recover.specs.Opening.{DiskJudged, Found, IsReadCause}
 use Rattle.tc_recover.specs.Refusals.{Refusal, breaks, strays, clashes}
 use Rattle.tc_replay.specs.FlushedLogs.{IsReplayDamage}
+use Rattle.tc_replay.specs.Merges.{IsMergeDamage, head_over}
+use Rattle.tc_open.specs.Listed.{AreFlushed, end_by, most_listed}
 use Rattle.tc_open.specs.declared.fault.OpenCause.{OpenCause}
 use Rattle.tc_open.specs.declared.fault.OpenCause.TheVariants.{Disk as DiskFault, Damaged, Layout, Spent, Memory}
 
@@ -39,18 +40,24 @@ pub record IsOfLogs {F : Type 0} (content : F → Option (List ℕ)) (name : F �
   pub to : head.to ≡ last_of list + length found.logs
   pub harm : IsReplayDamage content name head list damage
 
--- Damage is of some files, or was found while the logs were flushed; other numbers are of some files.
+-- the damage was found while the components were merged, which were too many once the logs had been flushed
+pub record IsOfMerge {F : Type 0} (content : F → Option (List ℕ)) (name : F → FileName) (part : Partition) (found : Found) (damage : Damage) : Type 0 where
+  pub list : List (ComponentState F)
+  pub flushed : AreFlushed found list
+  pub many : most_listed < length list
+  pub harm : IsMergeDamage content name (head_over part.number part.count list) list damage
+
+-- once all of this had been read
+abbrev pub IsOfFound : {F : Type 0} → (F → Option (List ℕ)) → (F → FileName) → Partition → Found → Damage → Type 0
+IsOfFound content name part found damage = IsOfLogs content name part found damage ⊎ IsOfMerge content name part found damage
+
+-- Damage is of some files, or was found while the logs were flushed or the components merged; other numbers are of some files.
 abbrev pub IsOpenCause : {F : Type 0} → Type 0 → (F → ℕ) → (F → Option (List ℕ)) → (F → FileName) → Partition → OpenCause → Type 0
 IsOpenCause W size content name part DiskFault = Unit {0}
-IsOpenCause W size content name part (Damaged damage) = IsOfFiles W size name part (files.Damaged damage) ⊎ ((found : Found) × IsOfLogs content name part found damage)
+IsOpenCause W size content name part (Damaged damage) = IsOfFiles W size name part (files.Damaged damage) ⊎ ((found : Found) × IsOfFound content name part found damage)
 IsOpenCause W size content name part (Layout found found_of) = IsOfFiles W size name part (files.Layout found found_of)
 IsOpenCause W size content name part Spent = Unit {0}
 IsOpenCause W size content name part Memory = Unit {0}
-
--- the last generation of these components, which stand behind one
-abbrev pub end_by : ℕ → List Index → ℕ
-end_by generation [] = generation
-end_by generation (i ∷ is) = end_by i.head.to is
 
 -- no generation is left behind those of these components and logs
 abbrev pub AreSpent : Found → Type 0
@@ -67,11 +74,12 @@ refusal_of (Files names) = clashes names
 abbrev pub Passes : Partition → Disk → (Found → Type 0) → Type 0
 Passes part disk P = (found : Found) × DiskJudged part disk (Ok found) × P found
 
--- What is answered is what is judged of the files; only damage that is found while the logs are flushed, and that no generation
--- is left, come where they are not refused. Of a fault of the disk and of want of memory nothing is said here.
+-- What is answered is what is judged of the files; only damage that is found while the logs are flushed or the components
+-- merged, and that no generation is left, come where they are not refused. Of a fault of the disk and of want of memory nothing
+-- is said here.
 abbrev pub CauseJudged : {F : Type 0} → (F → Option (List ℕ)) → (F → FileName) → Partition → Disk → OpenCause → Type 0
 CauseJudged content name part disk DiskFault = Unit {0}
-CauseJudged content name part disk (Damaged damage) = DiskJudged part disk (Err (refusal_of damage)) ⊎ Passes part disk (λ found. IsOfLogs content name part found damage)
+CauseJudged content name part disk (Damaged damage) = DiskJudged part disk (Err (refusal_of damage)) ⊎ Passes part disk (λ found. IsOfFound content name part found damage)
 CauseJudged content name part disk (Layout found found_of) = DiskJudged part disk (Err (strays found found_of))
 CauseJudged content name part disk Spent = Passes part disk AreSpent
 CauseJudged content name part disk Memory = Unit {0}

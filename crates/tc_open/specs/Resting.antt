@@ -1,5 +1,5 @@
 -- The store of a partition between two steps of its opening: which files it has, and what the machine keeps of them.
-use Rattle.std.specs.Prelude.{◌≡◌, ◌⊎◌, Contains, List, true}
+use Rattle.std.specs.Prelude.{◌≡◌, ◌⊎◌, Contains, List, false}
 use Rattle.tc_store.specs.declared.file_name.FileName.{FileName}
 use Rattle.tc_store.specs.Disk.{Disk, Entry, none, home, still, out, is_out, IsThere}
 use Rattle.tc_component.specs.Loading.{ComponentState}
@@ -26,11 +26,10 @@ IsTaken out = Unit {0}
 
 -- ---- over every store that tells its files
 
--- All files were taken. Each that is there is that of a listed component, or has one of the other names; and only the file of a
--- listed component may be out.
+-- All files were taken, and none is out. Each that is there is that of a listed component, or has one of the other names.
 pub record AreOwn {F : Type 0} (list : List (ComponentState F)) (others : List FileName) (disk : Disk) : Type 0 where
   pub taken : (name : FileName) → IsTaken (disk name)
-  pub listed_out : (name : FileName) → is_out (disk name) ≡ true → Contains (file_names list) name
+  pub is_in : (name : FileName) → is_out (disk name) ≡ false
   pub own : (name : FileName) → IsThere (disk name) → Contains (file_names list) name ⊎ Contains others name
 
 -- ---- the machine

@@ -58,9 +58,10 @@ pub record Stands {F : Type 0} (content : F → Option (List ℕ)) (part : Parti
   pub loaded : AllZip (IsLoadedOf content) list cs
   pub written : writes ≡ map (λ ws. map kept_write ws) logs
 
--- no log is above the components, in which this is stored
-pub record Rests {F : Type 0} (content : F → Option (List ℕ)) (part : Partition) (stored : Store) (list : List (ComponentState F)) (disks : List Disk) : Type 0 where
+-- no log is above the components, which hold what is so, and in which this is stored
+pub record Rests {F : Type 0} (content : F → Option (List ℕ)) (part : Partition) (Are : List Content → Type 0) (stored : Store) (list : List (ComponentState F)) (disks : List Disk) : Type 0 where
   pub contents : List Content
+  pub are : Are contents
   pub stands : Stands content part contents [] list [] disks
   pub same : recovered contents [] ≡ stored
 

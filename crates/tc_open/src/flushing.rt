@@ -22,6 +22,7 @@ ghost use Rattle.tc_part_model.specs.PartState.{AreTold, told_component};
 ghost use Rattle.tc_replay.specs.FlushedLogs.{IsFlushListed, IsLogsFlushed, IsReplayDamage};
 ghost use Rattle.tc_replay.specs.Openings.{AreIn, AreNeedless, IsOpening, LeavesLogged, stored_by};
 ghost use Rattle.tc_open.specs.Judged.{IsOfLogs};
+ghost use Rattle.tc_open.specs.Listed.{AreFlushed, AreFlushedFrom};
 ghost use Rattle.tc_open.specs.OpenCauses.{IfDamaged, IsOfJob};
 ghost use Rattle.tc_open.specs.Resting.{AreOwn};
 ghost use Rattle.tc_open.specs.Steps.{AreAbove, AreListed, Keeps, Rests, Stands};
@@ -50,7 +51,7 @@ pub(crate) fn flush_above<S: Store>(
 
     // What was stored is then in the components alone, and a stop leaves it at each moment.
     ensures rests { (cs : List Content) (logs : List (List PlainWrite)) → Stands (λ file. S.Frozen.content file) (asked part) cs logs tidied.list tidied.writes.items (S.history tidied.kit.store)
-        → IfOk result (λ r. Rests (λ file. S.Frozen.content file) (asked part) (recovered cs logs) r.list (S.history r.kit.store)) }
+        → IfOk result (λ r. Rests (λ file. S.Frozen.content file) (asked part) (AreFlushedFrom (asked part) cs logs) (recovered cs logs) r.list (S.history r.kit.store)) }
     ensures keeps { (cs : List Content) (logs : List (List PlainWrite)) → Stands (λ file. S.Frozen.content file) (asked part) cs logs tidied.list tidied.writes.items (S.history tidied.kit.store)
         → IfOk result (λ r. Keeps (asked part) (recovered cs logs).pairs (S.history tidied.kit.store) (S.history r.kit.store)) }
     ensures kept { (cs : List Content) (logs : List (List PlainWrite)) → Stands (λ file. S.Frozen.content file) (asked part) cs logs tidied.list tidied.writes.items (S.history tidied.kit.store)
@@ -62,9 +63,10 @@ pub(crate) fn flush_above<S: Store>(
     ensures components { IfTold (S.history tidied.kit.store) (λ disk. AreTold (map (told_component S.Frozen.content) tidied.list))
         → IfOk result (λ r. IfTold (S.history r.kit.store) (λ disk. AreTold (map (told_component S.Frozen.content) r.list))) }
 
-    // So it is over every store: the components reach up to the last log, and no other file is left.
+    // So it is over every store: behind the components that there were one has the generations of the logs, and no other file is
+    // left.
     ensures listed { IfOk result (λ r. AreListed (λ file. S.Frozen.name file) (asked part) r.list) }
-    ensures last { IfOk result (λ r. last_of r.list ≡ tidied.last + length tidied.writes.items) }
+    ensures flushed { IfOk result (λ r. AreFlushed (found_in tidied.list tidied.writes.items) r.list) }
     ensures own { IfOk result (λ r. IfTold (S.history r.kit.store) (AreOwn r.list [])) }
 
     ensures damaged { IfErr result (λ fault. IfDamaged fault.cause (IsOfLogs (λ file. S.Frozen.content file) (λ file. S.Frozen.name file) (asked part) (found_in tidied.list tidied.writes.items))) }

@@ -1,6 +1,6 @@
 //! A partition is opened.
 
-ghost use Rattle.std.specs.Prelude.{◌≡◌, ◌⊎◌, ◌+◌, [], false, Contains, List, None, Some, All, IfErr, IfOk};
+ghost use Rattle.std.specs.Prelude.{◌≡◌, ◌⊎◌, ◌+◌, ◌≤◌, [], false, length, map, Contains, List, None, Some, All, IfErr, IfOk};
 ghost use Rattle.tc_store.specs.declared.file_name.FileName.{FileName};
 ghost use Rattle.tc_store.specs.declared.file_name.FileName.TheVariants.{Log as log_name};
 ghost use Rattle.tc_store.specs.Disk.{IsAtRest, IsThere};
@@ -20,7 +20,9 @@ ghost use Rattle.tc_part_model.specs.PartState.{AreTold, told};
 ghost use Rattle.tc_plain_model.specs.Writes.{Write as PlainWrite};
 ghost use Rattle.tc_recover.specs.Files.{TakesSome};
 ghost use Rattle.tc_recover.specs.Lawful.{DiskOpens};
+ghost use Rattle.tc_recover.specs.Loading.{interval_of};
 ghost use Rattle.tc_open.specs.Judged.{CauseJudged, IsOpenCause, Passes};
+ghost use Rattle.tc_open.specs.Listed.{listed_as, most_listed};
 ghost use Rattle.tc_open.specs.OpenCauses.{IfDamaged, IfLayout};
 ghost use Rattle.tc_open.specs.Openings.{IsOpenedAs, LeavesStored};
 ghost use Rattle.tc_open.specs.Steps.{Keeps};
@@ -35,9 +37,9 @@ use tc_recover::Partition;
 use tc_store::{Kit, Store};
 
 /// Opens the partition of this number among so many, whose files are those of the kit's store, at rest: reads them, removes those
-/// that nobody needs, flushes the logs above the components as one component, and starts the partition with a new log. The first
-/// refusal decides, as in `read_files`. `Disk` comes only where a call of the store, a device or a read failed, `Spent` where no
-/// generation is left. After an `Err` the kit is given back.
+/// that nobody needs, flushes the logs above the components as one component, merges all where more than eight are listed, and
+/// starts the partition with a new log. The first refusal decides, as in `read_files`. `Disk` comes only where a call of the store,
+/// a device or a read failed, `Spent` where no generation is left. After an `Err` the kit is given back.
 pub fn open_part<S: Store>(
     alloc: Global,
     kit: Kit<S>,
@@ -73,6 +75,10 @@ pub fn open_part<S: Store>(
 
     // Where its store tells its files, so do those of its components.
     ensures components { IfOk result (λ p. IfTold (S.history p.store) (λ disk. AreTold (told S.history S.Device.history S.Frozen.content p).components)) }
+
+    // It lists the components that were read, with one more of the logs above them, or one of all where these are more than eight.
+    ensures listed { IfTold (S.history kit.store) (λ disk. IfOk result (λ p. Passes (record { number = number; count = count }) disk (λ found. map interval_of p.list ≡ listed_as found))) }
+    ensures few { IfOk result (λ p. length p.list ≤ most_listed) }
 
     // Over every store nothing is in its tables, nothing is staged, no job is out, and no other file is left.
     ensures begun { IfOk result (λ p. p ≡ record { number = number; count = count; limits = record { names = limits.names; docs = limits.docs }; memory = limits.memory; store = p.store; main = p.main; flusher = Some kit.flusher; merger = Some kit.merger; reader = Some kit.reader; list = p.list; sealed = None; sealed_log = None; active = []; log = p.log; generation = last_of p.list + 1; staged = []; taken = names_by (newest_in S.Frozen.content p.list); live = p.live; writes = 0; flushing = false; merging = None; failed = false }) }

@@ -1,9 +1,8 @@
 //! All that is done with the files of a partition before it starts.
 
-ghost use Rattle.std.specs.Prelude.{◌≡◌, ◌+◌, [], List, length, map, IfErr, IfOk};
+ghost use Rattle.std.specs.Prelude.{◌≡◌, ◌≤◌, [], List, length, map, IfErr, IfOk};
 ghost use Rattle.tc_store.specs.Disk.{IsAtRest};
 ghost use Rattle.tc_store.specs.Moments.{IfTold};
-ghost use Rattle.tc_list.specs.Intervals.{last_of};
 ghost use Rattle.tc_lsm_model.specs.Contents.{Content};
 ghost use Rattle.tc_machine.specs.Pictures.{recovered};
 ghost use Rattle.tc_merge.specs.Faults.{IsWatched};
@@ -11,21 +10,23 @@ ghost use Rattle.tc_part_model.specs.PartState.{AreTold, told_component};
 ghost use Rattle.tc_plain_model.specs.Writes.{Write as PlainWrite};
 ghost use Rattle.tc_recover.specs.Files.{TakesSome};
 ghost use Rattle.tc_recover.specs.Lawful.{DiskOpens};
+ghost use Rattle.tc_recover.specs.Loading.{interval_of};
 ghost use Rattle.tc_recover.specs.Refusals.{asked};
-ghost use Rattle.tc_open.specs.Judged.{CauseJudged, IsOpenCause, Passes, end_by};
+ghost use Rattle.tc_open.specs.Judged.{CauseJudged, IsOpenCause, Passes};
+ghost use Rattle.tc_open.specs.Listed.{AreOpenedFrom, listed_as, most_listed};
 ghost use Rattle.tc_open.specs.OpenCauses.{IfDamaged, IfLayout};
 ghost use Rattle.tc_open.specs.Resting.{AreOwn};
 ghost use Rattle.tc_open.specs.Steps.{AreListed, Keeps, Rests};
 
+use crate::clearing::clear_logs;
 use crate::fault::{OpenCause, OpenFault};
-use crate::flushing::flush_above;
+use crate::merging::merge_many;
 use crate::steps::Rested;
-use crate::tidying::tidy;
 use std::alloc::Global;
 use tc_recover::Partition;
 use tc_store::{Kit, Store};
 
-/// Reads the files, removes those that nobody needs, and flushes the logs above the components.
+/// Reads the files, removes those that nobody needs, flushes the logs above the components, and merges these where there are many.
 pub(crate) fn bring_to_rest<S: Store>(
     alloc: Global,
     kit: Kit<S>,
@@ -33,9 +34,9 @@ pub(crate) fn bring_to_rest<S: Store>(
 ) -> Result<Rested<S>, OpenFault<S>>
     requires at_rest { IfTold (S.history kit.store) IsAtRest }
 
-    // What lawful files hold is then in the components alone.
+    // What lawful files hold is then in the components alone, of which there are few.
     ensures rests { IfTold (S.history kit.store) (λ disk. (cs : List Content) (logs : List (List PlainWrite)) → DiskOpens (asked part) disk cs logs
-        → IfOk result (λ r. Rests (λ file. S.Frozen.content file) (asked part) (recovered cs logs) r.list (S.history r.kit.store))) }
+        → IfOk result (λ r. Rests (λ file. S.Frozen.content file) (asked part) (AreOpenedFrom (asked part) cs logs) (recovered cs logs) r.list (S.history r.kit.store))) }
     ensures keeps { IfTold (S.history kit.store) (λ disk. (cs : List Content) (logs : List (List PlainWrite)) → DiskOpens (asked part) disk cs logs
         → IfOk result (λ r. Keeps (asked part) (recovered cs logs).pairs (S.history kit.store) (S.history r.kit.store))) }
     ensures kept { IfTold (S.history kit.store) (λ disk. (cs : List Content) (logs : List (List PlainWrite)) → DiskOpens (asked part) disk cs logs
@@ -46,7 +47,7 @@ pub(crate) fn bring_to_rest<S: Store>(
         → IfErr result (λ fault. IfDamaged fault.cause (λ damage. ⊥))) }
 
     // Where the store tells its files, the answer is what is judged of them.
-    ensures judged { IfTold (S.history kit.store) (λ disk. IfOk result (λ r. Passes (asked part) disk (λ found. last_of r.list ≡ end_by 0 found.components + length found.logs))) }
+    ensures judged { IfTold (S.history kit.store) (λ disk. IfOk result (λ r. Passes (asked part) disk (λ found. map interval_of r.list ≡ listed_as found))) }
     ensures refused { IfTold (S.history kit.store) (λ disk. IfErr result (λ fault. CauseJudged (λ file. S.Frozen.content file) (λ file. S.Frozen.name file) (asked part) disk fault.cause)) }
     ensures causes { IfErr result (λ fault. IsOpenCause S.Watch (λ file. S.Frozen.size file) (λ file. S.Frozen.content file) (λ file. S.Frozen.name file) (asked part) fault.cause) }
     ensures layout { IfErr result (λ fault. IfLayout fault.cause (TakesSome (S.history kit.store) (S.history fault.kit.store))) }
@@ -56,14 +57,15 @@ pub(crate) fn bring_to_rest<S: Store>(
 
     // So it is over every store.
     ensures listed { IfOk result (λ r. AreListed (λ file. S.Frozen.name file) (asked part) r.list) }
+    ensures few { IfOk result (λ r. length r.list ≤ most_listed) }
     ensures own { IfOk result (λ r. IfTold (S.history r.kit.store) (AreOwn r.list [])) }
     ensures kit { IfOk result (λ r. r.kit ≡ record kit { store = r.kit.store; main = r.kit.main }) }
     ensures given_back { IfErr result (λ fault. fault.kit ≡ record kit { store = fault.kit.store; main = fault.kit.main }) }
     ensures watched { IfOk result (λ r. IsWatched ⊥ (S.Watch.counts kit.main) (S.Watch.counts r.kit.main)) }
     ensures failed { IfErr result (λ fault. IsWatched (fault.cause ≡ OpenCause.Disk) (S.Watch.counts kit.main) (S.Watch.counts fault.kit.main)) }
 {
-    match tidy(alloc, kit, part) {
-        Ok(tidied) => flush_above(alloc, part, tidied),
+    match clear_logs(alloc, kit, part) {
+        Ok(rested) => merge_many(alloc, part, rested),
         Err(fault) => Err(fault),
     }
 }

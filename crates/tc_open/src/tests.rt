@@ -34,6 +34,13 @@ fn log(alloc: Global, generation: u64, bytes: &[u8]) -> Result<MemFile, AllocErr
     file(alloc, FileName::Log { generation }, bytes)
 }
 
+// A log without a frame.
+fn empty_log(alloc: Global, generation: u64) -> Result<MemFile, AllocError> {
+    let mut bytes = SECOND;
+    bytes[13..21].copy_from_slice(&generation.to_be_bytes());
+    log(alloc, generation, &bytes)
+}
+
 // A component without an entry or a name.
 fn component(alloc: Global, from: u64, to: u64) -> Result<MemFile, AllocError> {
     let mut bytes = [0; 66];
@@ -45,6 +52,15 @@ fn component(alloc: Global, from: u64, to: u64) -> Result<MemFile, AllocError> {
     bytes[52] = 4;
     bytes[60] = 1;
     file(alloc, FileName::Component { from, to }, &bytes)
+}
+
+// A component without an entry for each generation below this one.
+fn components_below(alloc: Global, next: u64) -> Result<Vec<MemFile>, AllocError> {
+    let mut files = Vec::new(alloc);
+    for generation in 1..next {
+        files.push(component(alloc, generation, generation)?)?;
+    }
+    Ok(files)
 }
 
 fn kit(alloc: Global, files: Vec<MemFile>, failing: Vec<u64>) -> Kit<MemStore>
@@ -147,6 +163,26 @@ fn components_stay_below_the_logs(rt: HostRuntime) -> Result<(), Fail> {
 }
 
 #[test]
+fn nine_components_become_one(rt: HostRuntime) -> Result<(), Fail> {
+    let alloc = rt.alloc();
+    let eight = components_below(alloc, 9)?;
+    assert!(rt; told(alloc, 1, eight)?.as_str().starts_with("8 22 "));
+    let nine = components_below(alloc, 10)?;
+    assert_eq!(rt;
+        told(alloc, 1, nine)?.as_str(),
+        "1 22 [Component { from: 1, to: 9 }, Log { generation: 10 }]"
+    );
+    // The ninth is that of the log.
+    let mut logged = components_below(alloc, 9)?;
+    logged.push(empty_log(alloc, 9)?)?;
+    assert_eq!(rt;
+        told(alloc, 1, logged)?.as_str(),
+        "1 22 [Component { from: 1, to: 9 }, Log { generation: 10 }]"
+    );
+    Ok(())
+}
+
+#[test]
 fn what_does_not_count_is_removed(rt: HostRuntime) -> Result<(), Fail> {
     let alloc = rt.alloc();
     let closed = FileName::Component { from: 3, to: 3 };
@@ -222,20 +258,32 @@ fn no_generation_is_left(rt: HostRuntime) -> Result<(), Fail> {
     Ok(())
 }
 
+// How many of the first calls of an opening are faults of the disk where they fail, over a log of this generation and a component
+// for each one below: none where one of them is no fault, and a later one is.
+fn calls_over(alloc: Global, generation: u64, most: u64) -> Result<u64, AllocError> {
+    let mut calls = 0;
+    for number in 0..most {
+        let mut files = components_below(alloc, generation)?;
+        files.push(empty_log(alloc, generation)?)?;
+        if fails(alloc, files, number)? {
+            if calls != number {
+                return Ok(0);
+            }
+            calls = number + 1;
+        }
+    }
+    Ok(calls)
+}
+
 #[test]
 fn each_call_that_fails_is_a_fault(rt: HostRuntime) -> Result<(), Fail> {
     let alloc = rt.alloc();
-    let mut calls = 0;
-    for number in 0..60 {
-        let mut files = Vec::new(alloc);
-        files.push(component(alloc, 1, 1)?)?;
-        files.push(log(alloc, 2, &SECOND)?)?;
-        if fails(alloc, files, number)? {
-            assert_eq!(rt; calls, number);
-            calls += 1;
-        }
-    }
-    assert!(rt; calls > 20);
-    assert!(rt; calls < 60);
+    let few = calls_over(alloc, 2, 60)?;
+    assert!(rt; 20 < few && few < 60);
+    let eight = calls_over(alloc, 8, 200)?;
+    let nine = calls_over(alloc, 9, 200)?;
+    // The merge of nine makes a file, reads it back and removes nine.
+    assert!(rt; eight < 180 && nine < 200);
+    assert!(rt; eight + 16 < nine);
     Ok(())
 }

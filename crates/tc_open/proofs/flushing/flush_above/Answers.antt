@@ -1,13 +1,18 @@
-use Rattle.std.proofs.Common.{rules, ◌≡◌, ◌∙◌, ◌+◌, ◌<◌, ◌++◌, [], ◌∷◌, length, map, refl, sym, ap, subst}
+use Rattle.std.proofs.Common.{rules, ◌≡◌, ◌∙◌, ◌+◌, ◌<◌, ◌++◌, List, [], ◌∷◌, length, map, refl, sym, ap, subst}
+use Rattle.std.proofs.lemmas.List.{nil_from_length}
 use Rattle.tc_store.specs.Moments.{IfTold}
 use Rattle.tc_component.specs.declared.head.Head.{Head}
+use Rattle.tc_log.specs.declared.write.Write.{Write}
 use Rattle.tc_machine.specs.Pictures.{recovered}
+use Rattle.tc_recover.specs.Opening.{found_in}
 use Rattle.tc_recover.specs.Refusals.{asked}
 use Rattle.tc_replay.proofs.ToldMoments.{tells_on}
+use Rattle.tc_open.specs.Listed.{AreFlushed}
 use Rattle.tc_open.specs.Openings.{LeavesStored}
 use Rattle.tc_open.specs.Resting.{AreOwn}
-use Rattle.tc_open.proofs.FlushedAbove.{covered, ends_longer, harmed_logs, listed_longer, none_left, own_longer}
-use Rattle.tc_open.proofs.FlushedOpenings.{call_sound, covered_keeps, flushed_rests, same_keeps}
+use Rattle.tc_open.proofs.FlushedAbove.{covered, flushed_longer, harmed_logs, listed_longer, none_left, own_longer}
+use Rattle.tc_open.proofs.FlushedOpenings.{call_sound, covered_keeps, flushed_rests, none_rest, same_keeps}
+use Rattle.tc_open.proofs.ListedIntervals.{none_flushed}
 use Rattle.tc_open.proofs.LogsCovered.{free_behind}
 use Rattle.tc_open.proofs.OpenStates.{if_tells, keeps_on}
 use Rattle.tc_open.proofs.ToldOpenings.{flushed_tells}
@@ -15,6 +20,18 @@ use Rattle.tc_open.proofs.flushing.flush_above.Goals as goal
 
 pub returns-then-is_empty-clause-keeps : goal.returns-then-is_empty-clause-keeps
 returns-then-is_empty-clause-keeps g c = λ cs logs stands. same_keeps (asked c.args.part) cs logs (g.S.Store.history c.args.tidied.kit.store) stands.opening
+
+pub returns-then-is_empty-clause-rests : goal.returns-then-is_empty-clause-rests
+returns-then-is_empty-clause-rests g c = λ cs logs stands.
+    let t = c.args.tidied in
+    let none : t.writes.items ≡ [] = nil_from_length t.writes.items (search rules) in
+    none_rest g.S.Frozen.Frozen.content (asked c.args.part) cs logs t.list t.writes.items (g.S.Store.history t.kit.store) none stands
+
+pub returns-then-is_empty-clause-flushed : goal.returns-then-is_empty-clause-flushed
+returns-then-is_empty-clause-flushed g c =
+    let t = c.args.tidied in
+    let none : t.writes.items ≡ [] = nil_from_length t.writes.items (search rules) in
+    subst (λ (ws : List (List Write)). AreFlushed (found_in t.list ws) t.list) (sym none) (none_flushed t.list)
 
 pub flush_kit-requires-clause-free : goal.flush_kit-requires-clause-free
 flush_kit-requires-clause-free g c κs within =
@@ -81,7 +98,8 @@ returns-in-Ok-remove_files-clause-rests g c = λ cs logs stands.
     let first = c.in-Ok.ensures.keeps cs logs stands.opening stands.loaded same in
     let told = tells_on (LeavesStored (asked c.args.part) (recovered cs logs).pairs) before mid stands.tells first.moments in
     let needless = covered content (λ file. g.S.Frozen.Frozen.name file) head t.list t.logs.items t.writes.items t.last c.len.result c.requires.above count refl refl cs logs longer before mid stands flushed in
-    flushed_rests content head cs logs t.list longer t.writes.items before mid stands flushed after told (c.in-Ok-remove_files.ensures.tells told) (c.in-Ok-remove_files.ensures.opening (asked c.args.part) (cs ++ flushed.made ∷ []) [] flushed.opening needless)
+    let some : 0 < length t.writes.items = search rules in
+    flushed_rests content head cs logs t.list longer t.writes.items before mid stands flushed some after told (c.in-Ok-remove_files.ensures.tells told) (c.in-Ok-remove_files.ensures.opening (asked c.args.part) (cs ++ flushed.made ∷ []) [] flushed.opening needless)
 
 pub returns-in-Ok-remove_files-clause-listed : goal.returns-in-Ok-remove_files-clause-listed
 returns-in-Ok-remove_files-clause-listed g c =
@@ -92,12 +110,14 @@ returns-in-Ok-remove_files-clause-listed g c =
     listed_longer (λ file. g.S.Frozen.Frozen.content file) (λ file. g.S.Frozen.Frozen.name file) head t.list t.logs.items t.writes.items t.last c.len.result c.requires.above count refl refl c.in-Ok.field-0.list (g.S.Store.history t.kit.store) (g.S.Store.history c.in-Ok.field-0.kit.store)
     c.in-Ok.ensures.listed c.requires.listed (c.in-Ok.ensures.partition c.requires.listed.of) some
 
-pub returns-in-Ok-remove_files-clause-last : goal.returns-in-Ok-remove_files-clause-last
-returns-in-Ok-remove_files-clause-last g c =
+pub returns-in-Ok-remove_files-clause-flushed : goal.returns-in-Ok-remove_files-clause-flushed
+returns-in-Ok-remove_files-clause-flushed g c =
     let t = c.args.tidied in
     let head : Head = record { number = c.args.part.number; count = c.args.part.count; from = t.last + 1; to = t.last + c.len.result } in
     let count : c.len.result ≡ length t.writes.items = c.len.ensures ∙ sym c.deref.ensures.len ∙ ap length c.deref.ensures.value in
-    ends_longer (λ file. g.S.Frozen.Frozen.content file) (λ file. g.S.Frozen.Frozen.name file) head t.list t.logs.items t.writes.items t.last c.len.result c.requires.above count refl refl c.in-Ok.field-0.list (g.S.Store.history t.kit.store) (g.S.Store.history c.in-Ok.field-0.kit.store) c.in-Ok.ensures.listed
+    let some : 0 < length t.writes.items = search rules in
+    flushed_longer (λ file. g.S.Frozen.Frozen.content file) (λ file. g.S.Frozen.Frozen.name file) head t.list t.logs.items t.writes.items t.last c.len.result c.requires.above count refl refl c.in-Ok.field-0.list (g.S.Store.history t.kit.store) (g.S.Store.history c.in-Ok.field-0.kit.store) c.in-Ok.ensures.listed
+    some
 
 pub returns-in-Ok-remove_files-clause-own : goal.returns-in-Ok-remove_files-clause-own
 returns-in-Ok-remove_files-clause-own g c =

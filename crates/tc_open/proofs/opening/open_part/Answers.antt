@@ -1,4 +1,4 @@
-use Rattle.std.proofs.Common.{◌+◌, ap, sym, subst, ◌≡◌, ◌⊎◌, map}
+use Rattle.std.proofs.Common.{◌∙◌, ◌+◌, ap, sym, subst, ◌≡◌, ◌⊎◌, map}
 use Rattle.std.specs.Prelude.{Contains}
 use Rattle.std.proofs.lemmas.Result.{IfErr-weaker, IfOk-weaker}
 use Rattle.tc_store.specs.declared.file_name.FileName.{FileName}
@@ -9,11 +9,13 @@ use Rattle.tc_jobs.specs.Lists.{file_names}
 use Rattle.tc_list.specs.Intervals.{last_of}
 use Rattle.tc_lsm_model.specs.Contents.{Partition}
 use Rattle.tc_part_model.specs.PartState.{AreTold, told, told_component}
+use Rattle.tc_recover.specs.Loading.{interval_of}
+use Rattle.tc_store.proofs.MomentLemmas.{told_map}
 use Rattle.tc_store.specs.StoreCalls.{makes}
 use Rattle.tc_open.proofs.FlushedOpenings.{no_file_sound}
 use Rattle.tc_open.proofs.Lawfully.{both_lawful}
 use Rattle.tc_open.proofs.OpenedParts.{made_own, no_log_there, opened_as, rest_are, rest_lawful, rest_tidy, start_kept, start_moments, starts_log}
-use Rattle.tc_open.proofs.RestedOpenings.{err_joined, ok_joined}
+use Rattle.tc_open.proofs.RestedOpenings.{err_joined, err_tells, ok_joined, start_judged}
 use Rattle.tc_open.proofs.ToldOpenings.{told_still}
 use Rattle.tc_open.proofs.opening.open_part.Goals as goal
 
@@ -94,3 +96,14 @@ returns-in-Ok-clause-components g c =
     subst (λ l. IfTold (g.S.Store.history p.store) (λ disk. AreTold (map (told_component content) l))) (sym (ap (λ q. q.list) is.0))
     (subst (λ ds. IfTold ds (λ (disk : Disk). AreTold (map (told_component content) list))) (sym is.1) (told_still (AreTold (map (told_component content) list)) mid (makes log mid) (λ none. ap (makes log) none) c.in-Ok.ensures.components)))
     (ok_joined c.start_part.result _ _ c.start_part.ensures.begun c.start_part.ensures.made)
+
+pub returns-in-Ok-clause-listed : goal.returns-in-Ok-clause-listed
+returns-in-Ok-clause-listed g c =
+    told_map _ _ (g.S.Store.history c.args.kit.store) (λ disk passes. IfOk-weaker c.start_part.result _ _ (λ p is. (passes.0, passes.1, ap (λ q. map interval_of q.list) is ∙ passes.2)) c.start_part.ensures.begun) c.in-Ok.ensures.judged
+
+pub returns-in-Ok-clause-refused : goal.returns-in-Ok-clause-refused
+returns-in-Ok-clause-refused g c =
+    let part : Partition = record { number = c.args.number; count = c.args.count } in
+    let list = c.in-Ok.field-0.list in
+    told_map _ _ (g.S.Store.history c.args.kit.store) (λ disk passes. IfErr-weaker c.start_part.result _ _ (λ fault is. start_judged (λ file. g.S.Frozen.Frozen.content file) (λ file. g.S.Frozen.Frozen.name file) part list disk fault.cause passes is.0 is.1)
+    (err_joined c.start_part.result _ _ c.start_part.ensures.causes (err_tells c.start_part.result _ _ c.start_part.ensures.spent.0))) c.in-Ok.ensures.judged
