@@ -90,14 +90,14 @@ fresh_flush_told t p kept is sealed in_store =
     none_out None is = refl
     none_out (Some f) is = absurd (cc)
 
+pub none_out : (o : Option Merging) → option_map (λ m. m.run) o ≡ None → o ≡ None
+none_out None is = refl
+none_out (Some m) is = absurd (cc)
+
 pub fresh_merge_told : (t : Told) (p : PartView) (run : Run) (c : Content) → IsPart t p → 2 ≤ run.length → run.first + run.length ≤ length p.list → IsMerge (in_run run p.list) c → t.merging ≡ None
     → IfTold (fresh_file_at (file_of c) t.disks) (LeavesAt (IsShutOrHas (IsComponent c)))
 fresh_merge_told t p run c is two within is_merge in_store =
     fresh_at t p (file_of c) (LeavesAt (IsShutOrHas (IsComponent c))) is (λ disk f g k. fresh_merge p disk f g k run c two within is_merge (none_out p.merge (sym is.view.merging ∙ in_store)))
-  where
-    none_out : (o : Option Merging) → option_map (λ m. m.run) o ≡ None → o ≡ None
-    none_out None is = refl
-    none_out (Some m) is = absurd (cc)
 
 -- ---- as the job leaves it
 

@@ -25,12 +25,14 @@ use Rattle.tc_machine.specs.Steps.{IsShutOrHas}
 use Rattle.tc_part_model.specs.Calls.{HasMade}
 use Rattle.tc_part_model.specs.Changes.{merging_part}
 use Rattle.tc_part_model.specs.Meaning.{IsPart}
+use Rattle.tc_part_model.specs.PartFiles.{AreKeptAt, IfFiles}
 use Rattle.tc_part_model.specs.PartState.{Told, IsTold}
 use Rattle.tc_part_model.specs.PartView.{PartView}
-use Rattle.tc_part_model.proofs.BegunParts.{merge_name_free}
+use Rattle.tc_part_model.proofs.Beginnings.{merge_free}
+use Rattle.tc_part_model.proofs.DeviceFiles.{some_sealed}
 use Rattle.tc_work.proofs.FlushRuns.{has_component, short_file}
 use Rattle.tc_work.proofs.Settled.{told_now}
-use Rattle.tc_work.proofs.FreshDevices.{fresh_merge_told, ran_leaves}
+use Rattle.tc_work.proofs.FreshDevices.{fresh_merge_told, none_out, ran_leaves}
 use Rattle.tc_part.proofs.FreshFiles.{before_in, fresh_shut, fresh_tells, since_tells}
 
 -- the files of components that were loaded are told
@@ -52,10 +54,22 @@ made_out name other disk is free = elim (cases_Bool (same_name name other)) [
     at : same_name name other ≡ false → disk other ≡ out
     at apart = let e : put name out disk other ≡ disk other = rw apart refl in sym e ∙ is
 
+-- before a merge makes it, what it makes is not there
+name_is_free : (t : Told) (p : PartView) (run : Run) (c : Content) → IsPart t p → 2 ≤ run.length → run.first + run.length ≤ length p.list → IsMerge (in_run run p.list) c → t.merging ≡ None
+    → IfTold t.disks (λ disk. IsThere (disk (file_of c)) → ⊥)
+name_is_free t p run c is two within is_merge none = at t.disks t.log is.tells.active is.files.kept
+  where
+    at : (disks : List Disk) (log : List DiskFile) → IfTold disks (λ disk. IsTold log) → IfFiles disks log t.sealed_log (AreKeptAt p false None) → IfTold disks (λ disk. IsThere (disk (file_of c)) → ⊥)
+    at [] log tells kept = tt
+    at (disk ∷ before) [] tells kept = absurd tells
+    at (disk ∷ before) (f ∷ past) tells kept =
+        let any = some_sealed t.sealed_log in
+        merge_free p disk f any.0 (kept any.0 any.1) run c two within is_merge (none_out p.merge (sym is.view.merging ∙ none))
+
 -- the device of a merge has the name of what it makes
 pub merge_device : (t u : Told) (p : PartView) (run : Run) (c : Content) (name : FileName) → IsPart t p → IsPart u (merging_part run c p) → 2 ≤ run.length → run.first + run.length ≤ length p.list → IsMerge (in_run run p.list) c → t.merging ≡ None
     → IsTold t.disks → u.disks ≡ makes name t.disks → name ≡ file_of c
-merge_device t u p run c name is begun two within is_merge in_store tells made = at t.disks tells (merge_name_free t p is run c two within is_merge in_store) (subst (λ (ds : List Disk). IfTold ds (λ disk. disk (file_of c) ≡ out)) made (told_map _ _ u.disks (λ disk jobs. jobs.merge_out) begun.files.jobs))
+merge_device t u p run c name is begun two within is_merge in_store tells made = at t.disks tells (name_is_free t p run c is two within is_merge in_store) (subst (λ (ds : List Disk). IfTold ds (λ disk. disk (file_of c) ≡ out)) made (told_map _ _ u.disks (λ disk jobs. jobs.merge_out) begun.files.jobs))
   where
     at : (disks : List Disk) → IsTold disks → IfTold disks (λ disk. IsThere (disk (file_of c)) → ⊥) → IfTold (makes name disks) (λ disk. disk (file_of c) ≡ out) → name ≡ file_of c
     at [] told free is_out = absurd told
