@@ -1,13 +1,10 @@
 -- What is left of the files of the only partition when it is closed.
-use Rattle.std.proofs.Common.{◌≡◌, ◌∙◌, ◌≤◌, ◌<◌, ◌-◌, ◌^◌, ℕ, Bool, true, false, List, [], ◌∷◌, All, length, map, Option, Some, None, arith, sym, subst, inl, inr}
+use Rattle.std.proofs.Common.{◌≡◌, ◌⊎◌, ◌∙◌, ◌≤◌, ◌<◌, ◌-◌, ◌^◌, ℕ, Bool, true, false, List, [], ◌∷◌, All, length, map, Option, Some, None, arith, sym, subst, inl, inr}
 use Rattle.std.specs.Prelude.{if◌then◌else◌}
 use Rattle.std.proofs.lemmas.List.Elements.{All-cons, All-nil}
 use Rattle.std.proofs.lemmas.List.{length-map}
 use Rattle.std.proofs.lemmas.Slice.Zip.{AllZip-long}
 use Rattle.std.specs.List.{AllZip}
-use Rattle.tc_component.specs.Loading.{ComponentState}
-use Rattle.tc_list.specs.Policies.{listed_least}
-use Rattle.tc_list.specs.declared.policy.Policy.{Policy}
 use Rattle.tc_log.specs.Layout.{empty_size}
 use Rattle.tc_lsm_model.specs.Contents.{Content}
 use Rattle.tc_machine.specs.Pictures.{Opens}
@@ -22,14 +19,13 @@ use Rattle.tc_part.specs.Closing.{brought_home}
 use Rattle.tc_part.specs.FilesOut.{LogIsOut, OnlyDevicesOut, TellsLogs}
 use Rattle.tc_part_model.specs.Leaving.{KeepsStore, OpensAs}
 use Rattle.tc_part_model.specs.Meaning.{IsOfContent}
-use Rattle.tc_part_model.specs.PartState.{Told, IsTold, told_component}
+use Rattle.tc_part_model.specs.PartState.{Told, ToldComponent, IsTold}
 use Rattle.tc_part_model.specs.PartView.{store_of}
 use Rattle.tc_plain_model.specs.Part.{Limits}
 use Rattle.tc_plain_model.specs.Writes.{Pairs, Write}
 use Rattle.tc_replay.specs.Openings.{AreIn}
 use Rattle.tc_run_model.specs.World.{Part, World}
 use Rattle.tc_work.specs.Failing.{HasFailedKeeping}
-use Rattle.tc_work.specs.Settling.{PicksNone}
 use Rattle.tc_server.specs.OverFiles.{HasLastGeneration, IsPairsOfOne, LeavesOneOf, LeavesSmall, PairsOf}
 use Rattle.tc_server.specs.Partitions.{the_only, FailsAt, HoldsWorld, KeepsWorlds}
 use Rattle.tc_server.proofs.KeptWorlds.{committed, short_log, AreDevicesOut}
@@ -73,24 +69,25 @@ kept_left t limits w v disks (inr k) held failed = failed k
 
 -- ---- what is left small
 
-pub held_small : (t : Told) (limits : Limits) (w : World) (h : HoldsWorld t limits w) (memory size : ℕ) (disks : List Disk) → IfTold t.log (λ f. size ≡ length f.content) → size < memory → length h.view.list ≤ 8
-    → IfTold disks (OpensAs h.view.part h.view.list (h.view.active.writes ∷ []) size) → (size ≤ empty_size → h.view.active.writes ≡ []) → LeavesSmall memory w.flushed disks
-held_small t limits w h memory size [] sized short few opens unwritten = tt
-held_small t limits w h memory size (disk ∷ past) sized short few opens unwritten = λ picture left.
+pub held_small : (t : Told) (limits : Limits) (w : World) (h : HoldsWorld t limits w) (memory merge size : ℕ) (disks : List Disk) → IfTold t.log (λ f. size ≡ length f.content) → size < memory → length h.view.list < merge → merge ≤ 9
+    → IfTold disks (OpensAs h.view.part h.view.list (h.view.active.writes ∷ []) size) → (size ≤ empty_size → h.view.active.writes ≡ []) → LeavesSmall memory merge w.flushed disks
+held_small t limits w h memory merge size [] sized short few least opens unwritten = tt
+held_small t limits w h memory merge size (disk ∷ past) sized short few least opens unwritten = λ picture left.
     let is = opens picture left in record {
       contents = h.view.list;
       logs = h.view.active.writes ∷ [];
       opens = subst (λ part. Opens part picture h.view.list (h.view.active.writes ∷ [])) h.here is.0;
-      few = few;
+      few = omega (arith, few, least);
+      merged = few;
       short = omega (arith, is.1, short);
       no_frame = λ flushed. All-cons (λ ws. ws ≡ []) h.view.active.writes [] (unwritten (short_log t h.view size h.is h.tells sized (h.flushed flushed))) (All-nil (λ ws. ws ≡ []));
     }
 
--- so few are listed that none is merged
-pub few_listed : {F : Type 0} (policy : Policy) (list : List (ComponentState F)) (contents : List Content) (content : F → Option (List ℕ)) → listed_least policy ≤ 9 → PicksNone policy list → AllZip IsOfContent (map (told_component content) list) contents → length contents ≤ 8
-few_listed policy list contents content least none zipped =
-    let same : length list ≡ length contents = sym (length-map list (told_component content)) ∙ sym (AllZip-long IsOfContent (map (told_component content) list) contents zipped) in
-    elim none [ inl below ↦ omega (arith, same, below, least) | inr one ↦ omega (arith, same, one) ]
+-- fewer are listed than make some be merged
+pub few_listed : {C : Type 0} (least : ℕ) (list : List C) (tell : C → ToldComponent) (contents : List Content) → 2 ≤ least → (length list < least) ⊎ (length list < 2) → AllZip IsOfContent (map tell list) contents → length contents < least
+few_listed least list tell contents two none zipped =
+    let same : length list ≡ length contents = sym (length-map list tell) ∙ sym (AllZip-long IsOfContent (map tell list) contents zipped) in
+    elim none [ inl below ↦ omega (arith, same, below) | inr one ↦ omega (arith, same, one, two) ]
 
 -- ---- the log of the greatest generation
 

@@ -95,41 +95,41 @@ sound_here (Some w) None kind sound = (tt, tt)
 sound_here (Some w) (Some f) kind sound = (sound, run_is_here f kind)
 
 -- what is left of a run that ended well
-small_left : {K : Type 0} (holds : K → Option World → Type 0) (keeps : K → World → World → Type 0) (k : K) (w : World) (memory : ℕ) (disks : List Disk)
-    → ((v : World) → holds k (Some v) → LeavesSmall memory v.flushed disks) → ((v u : World) → keeps k v u → holds k (Some v)) → IsLeftAt holds keeps k (w ∷ []) → LeavesSmall memory w.flushed disks
-small_left holds keeps k w memory disks small stands left =
-    subst (λ v. LeavesSmall memory v.flushed disks) (only left.one_of) (elim left.left [ inl held ↦ small left.one held | inr kept ↦ small left.one (stands left.one left.other kept) ])
+small_left : {K : Type 0} (holds : K → Option World → Type 0) (keeps : K → World → World → Type 0) (k : K) (w : World) (memory merge : ℕ) (disks : List Disk)
+    → ((v : World) → holds k (Some v) → LeavesSmall memory merge v.flushed disks) → ((v u : World) → keeps k v u → holds k (Some v)) → IsLeftAt holds keeps k (w ∷ []) → LeavesSmall memory merge w.flushed disks
+small_left holds keeps k w memory merge disks small stands left =
+    subst (λ v. LeavesSmall memory merge v.flushed disks) (only left.one_of) (elim left.left [ inl held ↦ small left.one held | inr kept ↦ small left.one (stands left.one left.other kept) ])
   where
     only : {v : World} → IsOneOf v (w ∷ []) → v ≡ w
     only (inl same) = same
     only (inr no_more) = absurd no_more
 
 -- it has not failed, and its files are small
-pub record EndsSmall {K : Type 0} (holds : K → Option World → Type 0) (keeps : K → World → World → Type 0) (k : K) (memory : ℕ) (disks : List Disk) : Type 0 where
-  pub small : (v : World) → holds k (Some v) → LeavesSmall memory v.flushed disks
+pub record EndsSmall {K : Type 0} (holds : K → Option World → Type 0) (keeps : K → World → World → Type 0) (k : K) (memory merge : ℕ) (disks : List Disk) : Type 0 where
+  pub small : (v : World) → holds k (Some v) → LeavesSmall memory merge v.flushed disks
   pub stands : (v u : World) → keeps k v u → holds k (Some v)
 
-small_over : {K : Type 0} (holds : K → Option World → Type 0) (keeps : K → World → World → Type 0) (spent : K → Type 0) (fault : Option RunFault) (first : Option World) (memory : ℕ) (ending : Ending) (answered : List Window) (last : Window) (k : K) (disks : List Disk)
-    → (fault ≡ None → EndsSmall holds keeps k memory disks) → EndsAs (spent k) fault ending → IsLeft holds keeps k (option_map (λ w. worlds_left ending w answered last) first)
-    → IfSome first (λ w. fault ≡ None → All (LeavesSmall memory (behind w answered).flushed) (disks ∷ []))
-small_over holds keeps spent fault None memory ending answered last k disks ends by left = tt
-small_over holds keeps spent fault (Some w) memory ending answered last k disks ends by left = λ none.
+small_over : {K : Type 0} (holds : K → Option World → Type 0) (keeps : K → World → World → Type 0) (spent : K → Type 0) (fault : Option RunFault) (first : Option World) (memory merge : ℕ) (ending : Ending) (answered : List Window) (last : Window) (k : K) (disks : List Disk)
+    → (fault ≡ None → EndsSmall holds keeps k memory merge disks) → EndsAs (spent k) fault ending → IsLeft holds keeps k (option_map (λ w. worlds_left ending w answered last) first)
+    → IfSome first (λ w. fault ≡ None → All (LeavesSmall memory merge (behind w answered).flushed) (disks ∷ []))
+small_over holds keeps spent fault None memory merge ending answered last k disks ends by left = tt
+small_over holds keeps spent fault (Some w) memory merge ending answered last k disks ends by left = λ none.
     let over : ending ≡ finished = subst (λ f. EndsAs (spent k) f ending) none by in
-    only_kit (LeavesSmall memory (behind w answered).flushed) disks
-    (small_left holds keeps k (behind w answered) memory disks (ends none).small (ends none).stands (subst (λ e. IsLeftAt holds keeps k (worlds_left e w answered last)) over left))
+    only_kit (LeavesSmall memory merge (behind w answered).flushed) disks
+    (small_left holds keeps k (behind w answered) memory merge disks (ends none).small (ends none).stands (subst (λ e. IsLeftAt holds keeps k (worlds_left e w answered last)) over left))
 
 -- a run over an open partition, whose files are these where it is closed
-pub ran_over : {K : Type 0} (holds : K → Option World → Type 0) (keeps : K → World → World → Type 0) (spent : K → Type 0) (fault : Option RunFault) (first : Option World) (most memory : ℕ) (left left' taken taken' : Option (List ℕ)) (k : K) (disks : List Disk)
-    → (fault ≡ None → EndsSmall holds keeps k memory disks) → ((w : World) → holds k (Some w) → LeavesOneOf (w ∷ []) disks) → ((w v : World) → keeps k w v → LeavesOneOf (w ∷ v ∷ []) disks)
-    → IfSome fault IsOfRun → RanLeaving holds keeps spent fault first most left left' taken taken' k → RanOver fault first most memory left left' taken taken' (disks ∷ [])
-ran_over holds keeps spent fault first most memory left left' taken taken' k disks ends held kept kind r = record {
+pub ran_over : {K : Type 0} (holds : K → Option World → Type 0) (keeps : K → World → World → Type 0) (spent : K → Type 0) (fault : Option RunFault) (first : Option World) (most memory merge : ℕ) (left left' taken taken' : Option (List ℕ)) (k : K) (disks : List Disk)
+    → (fault ≡ None → EndsSmall holds keeps k memory merge disks) → ((w : World) → holds k (Some w) → LeavesOneOf (w ∷ []) disks) → ((w v : World) → keeps k w v → LeavesOneOf (w ∷ v ∷ []) disks)
+    → IfSome fault IsOfRun → RanLeaving holds keeps spent fault first most left left' taken taken' k → RanOver fault first most memory merge left left' taken taken' (disks ∷ [])
+ran_over holds keeps spent fault first most memory merge left left' taken taken' k disks ends held kept kind r = record {
   ending = r.run.ending;
   by = ends_over (spent k) fault r.run.ending r.run.by;
   ran = r.run.ran;
   sound = sound_here first fault kind r.sound;
   needs = λ none. absurd (cc);
   exits = exits_left holds keeps k first (λ w. worlds_left r.run.ending w r.run.ran.answered r.run.ran.last) disks held kept r.left;
-  small = small_over holds keeps spent fault first memory r.run.ending r.run.ran.answered r.run.ran.last k disks ends r.run.by r.left;
+  small = small_over holds keeps spent fault first memory merge r.run.ending r.run.ran.answered r.run.ran.last k disks ends r.run.by r.left;
 }
 
 -- ---- numbers were spent

@@ -1,5 +1,5 @@
 -- A run that comes to no line: no kit was given, or its partition was not opened.
-use Rattle.std.proofs.Common.{◌≡◌, ◌⊎◌, ℕ, List, [], ◌∷◌, refl, sym, subst, inl, inr}
+use Rattle.std.proofs.Common.{◌≡◌, ◌⊎◌, ℕ, List, [], ◌∷◌, All, refl, sym, subst, inl, inr}
 use Rattle.std.specs.Prelude.{Option, Some, None, IfSome}
 use Rattle.std.proofs.KnownBytes.{Consumes-nil, Appends-nil, Keeps-refl}
 use Rattle.std.proofs.lemmas.List.Elements.{All-cons, All-nil}
@@ -17,7 +17,7 @@ use Rattle.tc_plain_model.specs.Store.{Store}
 use Rattle.tc_plain_model.specs.Writes.{Pairs, Write as PlainWrite}
 use Rattle.tc_recover.specs.Lawful.{DiskOpens}
 use Rattle.tc_replay.specs.Openings.{AreIn}
-use Rattle.tc_run_model.specs.Course.{unopened, each_line, Ran}
+use Rattle.tc_run_model.specs.Course.{behind, unopened, each_line, Ran}
 use Rattle.tc_run_model.specs.World.{World, first_world, part_of}
 use Rattle.tc_run_model.proofs.ReplyLaws.{MayReply-none}
 use Rattle.tc_store.specs.Disk.{Disk}
@@ -28,7 +28,7 @@ use Rattle.tc_store.specs.declared.fault.ShelfFault.TheVariants as shelf
 use Rattle.tc_store.specs.declared.file_name.FileName.{FileName}
 use Rattle.tc_words.specs.declared.run.Options.{Options}
 use Rattle.tc_server.specs.Faults.{fault_of_opening, fault_of_shelf, IsNoDamage}
-use Rattle.tc_server.specs.OverFiles.{BeginsAs, EndsOver, IsHere, IsJudged, LeaveOneOf, LeavesOneOf, OpensAs, PairsOf, IsPairsOfOne, RanOver, ServedOver}
+use Rattle.tc_server.specs.OverFiles.{BeginsAs, EndsOver, IsHere, IsJudged, LeaveOneOf, LeavesOneOf, LeavesSmall, OpensAs, PairsOf, IsPairsOfOne, RanOver, ServedOver}
 use Rattle.tc_server.specs.Partitions.{the_only}
 use Rattle.tc_server.specs.declared.outcome.RunFault.{RunFault}
 use Rattle.tc_server.specs.declared.outcome.RunFault.TheVariants.{Usage, Disk as DiskFault, Memory}
@@ -36,7 +36,7 @@ use Rattle.tc_server.proofs.LeftFiles.{only_kit, recovers_more}
 
 -- ---- nothing was read nor written
 
-ran_unread : (first : Option World) (most memory : ℕ) (left taken : Option (List ℕ)) → Ran each_line first most unopened left left taken taken
+ran_unread : (first : Option World) (most : ℕ) (left taken : Option (List ℕ)) → Ran each_line first most unopened left left taken taken
 ran_unread first most left taken = record {
   input = [];
   consumed = Consumes-nil left;
@@ -59,35 +59,35 @@ sound_always None fault sound here = tt
 sound_always (Some w) fault sound here = (sound, here)
 
 -- a run that ended by a fault is none that ended well
-ended_by_fault : {X : World → Type 0} (fault : RunFault) (first : Option World) → IfSome first (λ w. Some fault ≡ None → X w)
-ended_by_fault fault None = tt
-ended_by_fault fault (Some w) = λ none. absurd (cc)
+ended_by_fault : (X : World → Type 0) (fault : RunFault) (first : Option World) → IfSome first (λ w. Some fault ≡ None → X w)
+ended_by_fault X fault None = tt
+ended_by_fault X fault (Some w) = λ none. absurd (cc)
 
-ran_without_kit : (fault : RunFault) (first : Option World) (most memory : ℕ) (left taken : Option (List ℕ)) → EndsOver (Some fault) unopened → IsNoDamage fault → IsHere fault → RanOver (Some fault) first most memory left left taken taken []
-ran_without_kit fault first most memory left taken by sound here = record {
+ran_without_kit : (fault : RunFault) (first : Option World) (most memory merge : ℕ) (left taken : Option (List ℕ)) → EndsOver (Some fault) unopened → IsNoDamage fault → IsHere fault → RanOver (Some fault) first most memory merge left left taken taken []
+ran_without_kit fault first most memory merge left taken by sound here = record {
   ending = unopened;
   by = by;
   ran = ran_unread first most left taken;
   sound = sound_always first fault sound here;
   needs = λ none. refl;
   exits = no_exits first;
-  small = ended_by_fault fault first;
+  small = ended_by_fault (λ w. All (LeavesSmall memory merge (behind w (ran_unread first most left taken).answered).flushed) []) fault first;
 }
 
 -- memory was wanting before a kit was asked for
-pub ran_without_room : (first : Option World) (most memory : ℕ) (left taken : Option (List ℕ)) → RanOver (Some Memory) first most memory left left taken taken []
-ran_without_room first most memory left taken = ran_without_kit Memory first most memory left taken (inr refl) tt tt
+pub ran_without_room : (first : Option World) (most memory merge : ℕ) (left taken : Option (List ℕ)) → RanOver (Some Memory) first most memory merge left left taken taken []
+ran_without_room first most memory merge left taken = ran_without_kit Memory first most memory merge left taken (inr refl) tt tt
 
 -- the shelf gave none
-pub ran_without : (fault : ShelfFault) (first : Option World) (most memory : ℕ) (left taken : Option (List ℕ)) → RanOver (Some (fault_of_shelf 0 fault)) first most memory left left taken taken []
-ran_without shelf.Fault first most memory left taken = ran_without_kit (DiskFault 0) first most memory left taken (inr refl) tt tt
-ran_without shelf.Memory first most memory left taken = ran_without_room first most memory left taken
+pub ran_without : (fault : ShelfFault) (first : Option World) (most memory merge : ℕ) (left taken : Option (List ℕ)) → RanOver (Some (fault_of_shelf 0 fault)) first most memory merge left left taken taken []
+ran_without shelf.Fault first most memory merge left taken = ran_without_kit (DiskFault 0) first most memory merge left taken (inr refl) tt tt
+ran_without shelf.Memory first most memory merge left taken = ran_without_room first most memory merge left taken
 
 -- ---- for words that are no run
 
 by_options : (o : Option Options) (first : Option World) (left taken : Option (List ℕ)) → ServedOver o (Some Memory) first left left taken taken []
 by_options None first left taken = (Keeps-refl left, Keeps-refl taken, refl)
-by_options (Some options) first left taken = ran_without_room first options.window left taken
+by_options (Some options) first left taken = ran_without_room first options.window options.memory options.merge left taken
 
 pub served_nothing : (o : Option Options) (fault : RunFault) (first : Option World) (left taken : Option (List ℕ)) → (fault ≡ Usage) ⊎ (fault ≡ Memory) → (fault ≡ Usage → o ≡ None) → ServedOver o (Some fault) first left left taken taken []
 served_nothing o fault first left taken (inl usage) none = rw (none usage, usage) (Keeps-refl left, Keeps-refl taken, refl)
@@ -131,10 +131,10 @@ exits_unopened limits w old new disk o kept = only_kit (LeavesOneOf (w ∷ [])) 
 abbrev pub OfLawful : List Disk → (List Content → List (List PlainWrite) → Type 0) → Type 0
 OfLawful disks P = IfTold disks (λ disk. (cs : List Content) (logs : List (List PlainWrite)) → DiskOpens the_only disk cs logs → P cs logs)
 
-pub ran_unopened : (cause : OpenCause) (limits : Limits) (first : Option World) (most memory : ℕ) (left taken : Option (List ℕ)) (old new : List Disk)
+pub ran_unopened : (cause : OpenCause) (limits : Limits) (first : Option World) (most memory merge : ℕ) (left taken : Option (List ℕ)) (old new : List Disk)
     → OfLawful old (λ cs logs. causes.IfLayout cause ⊥) → OfLawful old (λ cs logs. causes.IfDamaged cause (λ damage. ⊥)) → OfLawful old (λ cs logs. step.Keeps the_only (recovered cs logs).pairs old new)
-    → BeginsAs limits old first → RanOver (Some (fault_of_opening 0 1 cause)) first most memory left left taken taken (new ∷ [])
-ran_unopened cause limits None most memory left taken old new here undamaged keeps begins = record {
+    → BeginsAs limits old first → RanOver (Some (fault_of_opening 0 1 cause)) first most memory merge left left taken taken (new ∷ [])
+ran_unopened cause limits None most memory merge left taken old new here undamaged keeps begins = record {
   ending = unopened;
   by = ends_unopened cause;
   ran = ran_unread None most left taken;
@@ -143,8 +143,8 @@ ran_unopened cause limits None most memory left taken old new here undamaged kee
   exits = tt;
   small = tt;
 }
-ran_unopened cause limits (Some w) most memory left taken [] new here undamaged keeps begins = absurd begins
-ran_unopened cause limits (Some w) most memory left taken (disk ∷ past) new here undamaged keeps o = record {
+ran_unopened cause limits (Some w) most memory merge left taken [] new here undamaged keeps begins = absurd begins
+ran_unopened cause limits (Some w) most memory merge left taken (disk ∷ past) new here undamaged keeps o = record {
   ending = unopened;
   by = ends_unopened cause;
   ran = ran_unread (Some w) most left taken;

@@ -95,35 +95,37 @@ LeavesOneOf worlds disks = IfTold disks (λ disk. AreIn disk × LeavesPictures n
 abbrev pub LeaveOneOf : List World → List (List Disk) → Type 0
 LeaveOneOf worlds kits = All (LeavesOneOf worlds) kits
 
--- A picture of files that were left small: it opens as at most eight components, and as logs that have together fewer bytes than
--- make a table be sealed. Where all writes were flushed none of the logs has a frame, and so no write.
-pub record OpensSmall (memory : ℕ) (flushed : Bool) (picture : Picture) : Type 0 where
+-- A picture of files that were left small: it opens as at most eight components, which are fewer than make some be merged, and as
+-- logs that have together fewer bytes than make a table be sealed. Where all writes were flushed none of the logs has a write, and
+-- so no frame.
+pub record OpensSmall (memory merge : ℕ) (flushed : Bool) (picture : Picture) : Type 0 where
   pub contents : List Content
   pub logs : List (List PlainWrite)
   pub opens : Opens the_only picture contents logs
   pub few : length contents ≤ 8
+  pub merged : length contents < merge
   pub short : logs_size picture (last_of contents + 1) logs < memory
   pub no_frame : flushed ≡ true → All (λ ws. ws ≡ []) logs
 
-abbrev pub LeavesSmall : ℕ → Bool → List Disk → Type 0
-LeavesSmall memory flushed disks = IfTold disks (LeavesPictures nothing_held (OpensSmall memory flushed))
+abbrev pub LeavesSmall : ℕ → ℕ → Bool → List Disk → Type 0
+LeavesSmall memory merge flushed disks = IfTold disks (LeavesPictures nothing_held (OpensSmall memory merge flushed))
 
 -- A run over files, from a first world where it is known, that ended by this fault or by none, and gave these files back. Where
 -- the world is known nothing is damaged, of another partition, or of another number of partitions. Without a kit no line is read.
 -- Where it ended by none the files are left small: no log has a frame where a flush or the schema was asked for, and nothing was
 -- written since.
-pub record RanOver (fault : Option RunFault) (first : Option World) (most memory : ℕ) (left left' taken taken' : Option (List ℕ)) (kits : List (List Disk)) : Type 0 where
+pub record RanOver (fault : Option RunFault) (first : Option World) (most memory merge : ℕ) (left left' taken taken' : Option (List ℕ)) (kits : List (List Disk)) : Type 0 where
   pub ending : Ending
   pub by : EndsOver fault ending
   pub ran : Ran each_line first most ending left left' taken taken'
   pub sound : IfSome first (λ w. IfSome fault IsNoDamage × IfSome fault IsHere)
   pub needs : kits ≡ [] → ending ≡ unopened
   pub exits : IfSome first (λ w. LeaveOneOf (worlds_left ending w ran.answered ran.last) kits)
-  pub small : IfSome first (λ w. fault ≡ None → All (LeavesSmall memory (behind w ran.answered).flushed) kits)
+  pub small : IfSome first (λ w. fault ≡ None → All (LeavesSmall memory merge (behind w ran.answered).flushed) kits)
 
 -- A run for these options, or for words that are none, which reads and writes nothing and asks for no kit.
 abbrev pub ServedOver : Option Options → Option RunFault → Option World → Option (List ℕ) → Option (List ℕ) → Option (List ℕ) → Option (List ℕ) → List (List Disk) → Type 0
-ServedOver (Some options) fault first left left' taken taken' kits = RanOver fault first options.window options.memory left left' taken taken' kits
+ServedOver (Some options) fault first left left' taken taken' kits = RanOver fault first options.window options.memory options.merge left left' taken taken' kits
 ServedOver None (Some Usage) first left left' taken taken' kits = Keeps left left' × Keeps taken taken' × (kits ≡ [])
 ServedOver None (Some Memory) first left left' taken taken' kits = Keeps left left' × Keeps taken taken' × (kits ≡ [])
 ServedOver None _ first left left' taken taken' kits = ⊥

@@ -134,8 +134,8 @@ impl<S: Store> Partitions<S> {
         ensures kept { (w v : World) → KeepsAt S.history S.Device.history S.Frozen.content self w v → LeavesOneOf (w ∷ v ∷ []) (S.history result.kit.store) }
 
         // Of one that was settled each picture opens as few components and a short log, which has no frame where all was flushed.
-        ensures small { (w : World) → HoldsAt S.history S.Device.history S.Frozen.content self (Some w) → Rests (λ d. S.Device.size d) self → listed_least self.engine.policy ≤ 9 → empty_size < self.engine.part.memory
-            → LeavesSmall self.engine.part.memory w.flushed (S.history result.kit.store) }
+        ensures small { (w : World) → HoldsAt S.history S.Device.history S.Frozen.content self (Some w) → Rests (λ d. S.Device.size d) self → 2 ≤ listed_least self.engine.policy → listed_least self.engine.policy ≤ 9 → empty_size < self.engine.part.memory
+            → LeavesSmall self.engine.part.memory (listed_least self.engine.policy) w.flushed (S.history result.kit.store) }
 
         // The log of the last generation is among them, where that is spent.
         ensures last { IsSpent S.history S.Device.history S.Frozen.content self → IfTold (S.history result.kit.store) HasLastGeneration }

@@ -89,11 +89,11 @@ fn serve_run<I: Source<O>, O: Sink, H: Shelf>(
 ) -> Served<H::Store>
     requires some { 0 < options.now.window }
     requires limit { options.now.window ≤ 4096 }
-    requires merge { options.now.merge ≤ 9 }
+    requires merge { (2 ≤ options.now.merge) × (options.now.merge ≤ 9) }
     requires memory { empty_size < options.now.memory }
     ensures status { result.status ≡ status_of result.fault }
     ensures ran { (first : Option World) → BeginsAs (limits_of options.now) (H.files shelf.old 0) first
-        → RanOver result.fault first options.now.window options.now.memory (I.left source.old) (I.left source.new) (O.taken sink.old) (O.taken sink.new) (map (λ kit. H.Store.history kit.store) result.kits.items) }
+        → RanOver result.fault first options.now.window options.now.memory options.now.merge (I.left source.old) (I.left source.new) (O.taken sink.old) (O.taken sink.new) (map (λ kit. H.Store.history kit.store) result.kits.items) }
     ensures prompt { (first : Option World) → BeginsAs (limits_of options.now) (H.files shelf.old 0) first
         → ReadsPromptly first options.now.window (O.taken sink.old) (I.moments source.old) (I.moments source.new) }
     ensures kits { length result.kits.items ≤ 1 }
@@ -148,10 +148,10 @@ fn serve_kit<I: Source<O>, O: Sink, S: Store>(
     requires at_rest { IfTold (S.history kit.store) IsAtRest }
     requires some { 0 < options.now.window }
     requires limit { options.now.window ≤ 4096 }
-    requires merge { options.now.merge ≤ 9 }
+    requires merge { (2 ≤ options.now.merge) × (options.now.merge ≤ 9) }
     requires memory { empty_size < options.now.memory }
     ensures ran { (first : Option World) → BeginsAs (limits_of options.now) (S.history kit.store) first
-        → RanOver result.1 first options.now.window options.now.memory (I.left source.old) (I.left source.new) (O.taken sink.old) (O.taken sink.new) (S.history result.0.store ∷ []) }
+        → RanOver result.1 first options.now.window options.now.memory options.now.merge (I.left source.old) (I.left source.new) (O.taken sink.old) (O.taken sink.new) (S.history result.0.store ∷ []) }
     ensures prompt { (first : Option World) → BeginsAs (limits_of options.now) (S.history kit.store) first
         → ReadsPromptly first options.now.window (O.taken sink.old) (I.moments source.old) (I.moments source.new) }
     ensures counts { NoneFell (faults_in (λ w. S.Watch.counts w) kit) (faults_in (λ w. S.Watch.counts w) result.0) }
@@ -186,7 +186,7 @@ fn serve_part<I: Source<O>, O: Sink, S: Store>(
 ) -> (Kit<S>, Option<RunFault>)
     requires some { 0 < options.now.window }
     requires limit { options.now.window ≤ 4096 }
-    requires merge { options.now.merge ≤ 9 }
+    requires merge { (2 ≤ options.now.merge) × (options.now.merge ≤ 9) }
     requires memory { empty_size < options.now.memory }
     requires sound { part.failed ≡ false }
     requires sealed_at { part.memory ≡ options.now.memory }
@@ -197,7 +197,7 @@ fn serve_part<I: Source<O>, O: Sink, S: Store>(
     requires ready { MaySettle (told S.history S.Device.history S.Frozen.content part) }
     requires log { LogIsOut (told S.history S.Device.history S.Frozen.content part) }
     ensures ran { (first : Option World) → StandsAt (told S.history S.Device.history S.Frozen.content part) part.limits first
-        → RanOver result.1 first options.now.window options.now.memory (I.left source.old) (I.left source.new) (O.taken sink.old) (O.taken sink.new) (S.history result.0.store ∷ []) }
+        → RanOver result.1 first options.now.window options.now.memory options.now.merge (I.left source.old) (I.left source.new) (O.taken sink.old) (O.taken sink.new) (S.history result.0.store ∷ []) }
     ensures prompt { (first : Option World) → StandsAt (told S.history S.Device.history S.Frozen.content part) part.limits first
         → ReadsPromptly first options.now.window (O.taken sink.old) (I.moments source.old) (I.moments source.new) }
     ensures counts { NoneFell (faults_of_part (λ w. S.Watch.counts w) part) (faults_in (λ w. S.Watch.counts w) result.0) }

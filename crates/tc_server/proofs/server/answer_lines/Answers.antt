@@ -30,6 +30,7 @@ loop-init g c = record {
   most = ap (λ r. r.limit) c.new-lines.ensures;
   ready = c.in_ok-begin.ensures.ready;
   limit = ap (λ (w : Window). w.limit) c.begin.ensures.window;
+  settings = c.begin.ensures.settings;
   come = λ first holds.
       begins (HoldsAt g.S.Store.history g.S.Device.Device.history g.S.Frozen.Frozen.content) first 1048576 c.new-lines.result c.begin.new.self (g.I.Source.left c.args.source.now) (g.O.Sink.taken c.args.sink.now) (g.I.Source.moments c.args.source.now) c.new-lines.ensures
       (c.in_ok-begin.ensures.held first holds) (ap requests_of c.begin.ensures.window ∙ c.requires.requests) (ap (λ (w : Window). w.bytes) c.begin.ensures.window ∙ c.requires.bytes);
@@ -43,6 +44,7 @@ loop-preserved g c =
       most = c.answer_line.ensures.limit;
       ready = c.in_ok-answer_line.ensures.ready c.if-not-branch.false;
       limit = c.in_ok-answer_line.ensures.window ∙ l.invariant.limit;
+      settings = c.answer_line.ensures.settings ∙ l.invariant.settings;
       come = λ first holds.
           let goes = rw c.if-not-branch.false at c.in_ok-answer_line.ensures.more in
           goes first (g.I.Source.left c.args.source.now) (g.O.Sink.taken c.args.sink.now) (g.I.Source.moments c.args.source.now) (l.invariant.come first holds);
@@ -63,6 +65,9 @@ returns-in_err-answer_line-clause-cause g c =
     let p = err_from_is_err_and c.from_residual-in_err-answer_line.result c.from_residual-in_err-answer_line.ensures.1 in
     rw (p.1, p.2) (runs_follow (Some c.in_err-answer_line.field-0.0) _ _ _ _ _ _ _ _ _ c.loop.invariant.cause c.in_err-answer_line.ensures.cause)
 
+pub returns-in_err-answer_line-clause-settings : goal.returns-in_err-answer_line-clause-settings
+returns-in_err-answer_line-clause-settings g c = c.answer_line.ensures.settings ∙ c.loop.invariant.settings
+
 pub returns-then-not-branch-clause-ran : goal.returns-then-not-branch-clause-ran
 returns-then-not-branch-clause-ran g c = λ first holds.
     let ended = rw c.if-not-branch.true at c.in_ok-answer_line.ensures.more in
@@ -75,6 +80,9 @@ returns-then-not-branch-clause-prompt g c = λ first holds.
 pub returns-then-not-branch-clause-cause : goal.returns-then-not-branch-clause-cause
 returns-then-not-branch-clause-cause g c = runs_follow None _ _ _ _ _ _ _ _ _ c.loop.invariant.cause c.in_ok-answer_line.ensures.cause
 
+pub returns-then-not-branch-clause-settings : goal.returns-then-not-branch-clause-settings
+returns-then-not-branch-clause-settings g c = c.answer_line.ensures.settings ∙ c.loop.invariant.settings
+
 pub returns-clause-ran : goal.returns-clause-ran
 returns-clause-ran g c = λ first holds.
     rw (← c.loop.invariant.limit) (gives_up (HoldsAt g.S.Store.history g.S.Device.Device.history g.S.Frozen.Frozen.content) (KeepsAt g.S.Store.history g.S.Device.Device.history g.S.Frozen.Frozen.content) (IsSpent g.S.Store.history g.S.Device.Device.history g.S.Frozen.Frozen.content) first c.loop.lines c.loop.session (g.I.Source.left c.args.source.now) (g.I.Source.left c.loop.source) (g.O.Sink.taken c.args.sink.now) (g.O.Sink.taken c.loop.sink) (c.loop.invariant.come first holds))
@@ -84,3 +92,6 @@ returns-clause-prompt g c = λ first holds. rw (← c.loop.invariant.limit) (let
 
 pub returns-clause-cause : goal.returns-clause-cause
 returns-clause-cause g c = run_without_memory _ _ _ _ _ _ c.loop.invariant.cause
+
+pub returns-clause-settings : goal.returns-clause-settings
+returns-clause-settings g c = c.loop.invariant.settings

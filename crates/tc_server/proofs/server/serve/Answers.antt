@@ -12,7 +12,7 @@ pub serve_run-requires-clause-limit : goal.serve_run-requires-clause-limit
 serve_run-requires-clause-limit g c κs within = (in_range c.args.words.now c.in-Ok.options c.in-Ok.ensures.ok).window.1
 
 pub serve_run-requires-clause-merge : goal.serve_run-requires-clause-merge
-serve_run-requires-clause-merge g c κs within = let is = (in_range c.args.words.now c.in-Ok.options c.in-Ok.ensures.ok).merge in omega (arith, is.1)
+serve_run-requires-clause-merge g c κs within = let is = (in_range c.args.words.now c.in-Ok.options c.in-Ok.ensures.ok).merge in (is.0, omega (arith, is.1))
 
 pub serve_run-requires-clause-memory : goal.serve_run-requires-clause-memory
 serve_run-requires-clause-memory g c κs within = let is = (in_range c.args.words.now c.in-Ok.options c.in-Ok.ensures.ok).memory in omega (arith, is.0)

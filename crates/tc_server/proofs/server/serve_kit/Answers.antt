@@ -23,7 +23,7 @@ returns-in-Ok-clause-spent g c = λ same. ⊎_elim (λ input. inl input) (λ las
 
 pub returns-in-Err-clause-ran : goal.returns-in-Err-clause-ran
 returns-in-Err-clause-ran g c =
-    rw (c.of_opening.ensures) (λ first begins. ran_unopened c.in-Err.field-0.cause (limits_of c.args.options.now) first c.args.options.now.window c.args.options.now.memory (g.I.Source.left c.args.source.now) (g.O.Sink.taken c.args.sink.now) (g.S.Store.history c.args.kit.store) (g.S.Store.history c.in-Err.field-0.kit.store)
+    rw (c.of_opening.ensures) (λ first begins. ran_unopened c.in-Err.field-0.cause (limits_of c.args.options.now) first c.args.options.now.window c.args.options.now.memory c.args.options.now.merge (g.I.Source.left c.args.source.now) (g.O.Sink.taken c.args.sink.now) (g.S.Store.history c.args.kit.store) (g.S.Store.history c.in-Err.field-0.kit.store)
     c.in-Err.ensures.lawful c.in-Err.ensures.undamaged c.in-Err.ensures.kept begins)
 
 pub returns-in-Err-clause-judged : goal.returns-in-Err-clause-judged

@@ -1,4 +1,4 @@
-use Rattle.std.proofs.Common.{◌∙◌, ap, arith, sym, subst}
+use Rattle.std.proofs.Common.{◌∙◌, ap, sym, subst}
 use Rattle.std.specs.Prelude.{None, Some}
 use Rattle.tc_server.specs.Calls.{HoldsAt, IsSpent, KeepsAt}
 use Rattle.tc_server.specs.Faults.{fault_in}
@@ -17,9 +17,9 @@ returns-clause-ran g c =
     let policy = c.policy_of.result in
     let begun = c.new-session.ensures.keeper ∙ c.of-partitions.ensures ∙ ap (λ e. record { engine = e }) c.new-engine.ensures in
     rw (c.fault_of.ensures c.finish-kit.ensures.outcome, ← c.new-session.ensures.limit) (λ first stands.
-    ran_over (HoldsAt g.S.Store.history g.S.Device.Device.history g.S.Frozen.Frozen.content) (KeepsAt g.S.Store.history g.S.Device.Device.history g.S.Frozen.Frozen.content) (IsSpent g.S.Store.history g.S.Device.Device.history g.S.Frozen.Frozen.content) (fault_in c.answer_lines-answer.result) first c.new-session.result.window.limit c.args.options.now.memory (g.I.Source.left c.args.source.now) (g.I.Source.left c.answer_lines-answer.new.source) (g.O.Sink.taken c.args.sink.now) (g.O.Sink.taken c.answer_lines-answer.new.sink) c.answer_lines-answer.new.session.keeper (g.S.Store.history c.finish-kit.result.kit.store)
-    (λ none. ends_small g.S.Store.history g.S.Device.Device.history g.S.Frozen.Frozen.content g.S.Device.Device.size c.args.part policy c.new-session.result.keeper c.answer_lines-answer.new.session.keeper c.into_keeper.result c.args.options.now.memory (g.S.Store.history c.finish-kit.result.kit.store)
-    begun c.answer_lines-answer.ensures.settings c.into_keeper.ensures c.requires.sealed_at c.requires.memory (let e = c.policy_of.ensures in omega (arith, e, c.requires.merge)) (ok_where c.answer_lines-answer.result none c.answer_lines-answer.ensures.rests) c.finish-kit.ensures.small)
+    ran_over (HoldsAt g.S.Store.history g.S.Device.Device.history g.S.Frozen.Frozen.content) (KeepsAt g.S.Store.history g.S.Device.Device.history g.S.Frozen.Frozen.content) (IsSpent g.S.Store.history g.S.Device.Device.history g.S.Frozen.Frozen.content) (fault_in c.answer_lines-answer.result) first c.new-session.result.window.limit c.args.options.now.memory c.args.options.now.merge (g.I.Source.left c.args.source.now) (g.I.Source.left c.answer_lines-answer.new.source) (g.O.Sink.taken c.args.sink.now) (g.O.Sink.taken c.answer_lines-answer.new.sink) c.answer_lines-answer.new.session.keeper (g.S.Store.history c.finish-kit.result.kit.store)
+    (λ none. ends_small g.S.Store.history g.S.Device.Device.history g.S.Frozen.Frozen.content g.S.Device.Device.size c.args.part policy c.new-session.result.keeper c.answer_lines-answer.new.session.keeper c.into_keeper.result c.args.options.now.memory c.args.options.now.merge (g.S.Store.history c.finish-kit.result.kit.store)
+    begun c.answer_lines-answer.ensures.settings c.into_keeper.ensures c.requires.sealed_at c.requires.memory c.policy_of.ensures c.requires.merge.0 c.requires.merge.1 (ok_where c.answer_lines-answer.result none c.answer_lines-answer.ensures.rests) c.finish-kit.ensures.small)
     (λ w at. c.finish-kit.ensures.held w (subst (λ p. HoldsAt g.S.Store.history g.S.Device.Device.history g.S.Frozen.Frozen.content p (Some w)) (sym c.into_keeper.ensures) at))
     (λ w v at. c.finish-kit.ensures.kept w v (subst (λ p. KeepsAt g.S.Store.history g.S.Device.Device.history g.S.Frozen.Frozen.content p w v) (sym c.into_keeper.ensures) at))
     c.answer_lines-answer.ensures.cause.kind (c.answer_lines-answer.ensures.ran first (begins_held g.S.Store.history g.S.Device.Device.history g.S.Frozen.Frozen.content c.args.part policy c.new-session.result.keeper first begun stands)))

@@ -7,7 +7,7 @@ use Rattle.tc_server.proofs.server.serve_run.Goals as goal
 pub returns-in-Err-clause-ran : goal.returns-in-Err-clause-ran
 returns-in-Err-clause-ran g c =
     let none = ap (λ kits. kits.items) c.of.ensures.kits ∙ c.new.ensures.items in
-    rw (c.of.ensures.fault, none) (λ first begins. ran_without_room first c.args.options.now.window c.args.options.now.memory (g.I.Source.left c.args.source.now) (g.O.Sink.taken c.args.sink.now))
+    rw (c.of.ensures.fault, none) (λ first begins. ran_without_room first c.args.options.now.window c.args.options.now.memory c.args.options.now.merge (g.I.Source.left c.args.source.now) (g.O.Sink.taken c.args.sink.now))
 
 pub returns-in-Ok-kit-clause-ran : goal.returns-in-Ok-kit-clause-ran
 returns-in-Ok-kit-clause-ran g c =
@@ -22,4 +22,4 @@ returns-in-Ok-kit-clause-spent g c =
 pub returns-in-Err-kit-clause-ran : goal.returns-in-Err-kit-clause-ran
 returns-in-Err-kit-clause-ran g c =
     let none = ap (λ kits. kits.items) c.of-in-Err-kit.ensures.kits ∙ c.in-Ok.ensures.items in
-    rw (c.of-in-Err-kit.ensures.fault, none, c.of_shelf.ensures) (λ first begins. ran_without c.in-Err-kit.fault first c.args.options.now.window c.args.options.now.memory (g.I.Source.left c.args.source.now) (g.O.Sink.taken c.args.sink.now))
+    rw (c.of-in-Err-kit.ensures.fault, none, c.of_shelf.ensures) (λ first begins. ran_without c.in-Err-kit.fault first c.args.options.now.window c.args.options.now.memory c.args.options.now.merge (g.I.Source.left c.args.source.now) (g.O.Sink.taken c.args.sink.now))

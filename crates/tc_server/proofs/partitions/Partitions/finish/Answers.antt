@@ -1,4 +1,5 @@
-use Rattle.tc_part_model.specs.PartState.{told}
+use Rattle.tc_list.specs.Policies.{listed_least}
+use Rattle.tc_part_model.specs.PartState.{told, told_component}
 use Rattle.tc_server.specs.Calls.{HoldsAt, IsSpent, KeepsAt, Rests}
 use Rattle.tc_server.specs.Partitions.{the_only}
 use Rattle.tc_server.proofs.FinishedFiles.{failed_left, few_listed, held_left, held_small, kept_left, last_home}
@@ -23,9 +24,9 @@ returns-clause-last g c = λ spent. last_home (told g.S.Store.history g.S.Device
 
 pub returns-clause-small : goal.returns-clause-small
 unfolding HoldsAt Rests
-returns-clause-small g c = λ w h rests least memory.
+returns-clause-small g c = λ w h rests two few memory.
     let laws = g.met.S.Device.Device g.world.𝓛 g.world.𝓜 g.world.𝓡 ((λ s x. x), (λ x. x), (λ x. x), λ x. x) in
     let part = c.args.self.engine.part in
     let t = told g.S.Store.history g.S.Device.Device.history g.S.Frozen.Frozen.content part in
-    held_small t part.limits w h part.memory (g.S.Device.Device.size part.log.device) (g.S.Store.history c.finish.result.kit.store) (laws.told_size part.log.device) (rests.short memory)
-    (few_listed c.args.self.engine.policy part.list h.view.list g.S.Frozen.Frozen.content least rests.none h.is.view.components) (c.finish.ensures.opens h.view h.is) (c.finish.ensures.unwritten h.view h.is h.tells)
+    held_small t part.limits w h part.memory (listed_least c.args.self.engine.policy) (g.S.Device.Device.size part.log.device) (g.S.Store.history c.finish.result.kit.store) (laws.told_size part.log.device) (rests.short memory)
+    (few_listed (listed_least c.args.self.engine.policy) part.list (told_component g.S.Frozen.Frozen.content) h.view.list two rests.none h.is.view.components) few (c.finish.ensures.opens h.view h.is) (c.finish.ensures.unwritten h.view h.is h.tells)

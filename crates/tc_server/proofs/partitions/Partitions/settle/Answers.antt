@@ -21,7 +21,7 @@ returns-in-Ok-clause-held g c = λ known stands.
     moved_stands (told g.S.Store.history g.S.Device.Device.history g.S.Frozen.Frozen.content c.args.self.now.engine.part) (told g.S.Store.history g.S.Device.Device.history g.S.Frozen.Frozen.content c.settle.new.self.part) c.args.self.now.engine.part.limits c.settle.new.self.part.limits known stands c.in-Ok.ensures.stores
     (ap (λ (s : PartState _ _ _ _). s.staged) c.settle.ensures.moved) (ap (λ (s : PartState _ _ _ _). s.limits) c.settle.ensures.moved)
     (λ p. no_frame_stays (told g.S.Store.history g.S.Device.Device.history g.S.Frozen.Frozen.content c.args.self.now.engine.part) p (g.S.Device.Device.size device) (IsDue g.S.Device.Device.size c.args.self.now.engine.part) (g.S.Device.Device.history c.settle.new.self.part.log.device) (laws.told_size device) (λ due. due.written)
-    (λ never. ap (λ l. g.S.Device.Device.history l.device) (c.in-Ok.ensures.stays never).1.0))
+    (λ never. ap (λ l. g.S.Device.Device.history l.device) (c.in-Ok.ensures.stays never).1))
 
 pub returns-in-Err-clause-failed : goal.returns-in-Err-clause-failed
 unfolding HoldsAt KeepsAt
