@@ -88,3 +88,10 @@ def schemas(count):
 def gets(count, order):
     for key in keys(count, order):
         yield f'{{"op":"get","id":{key}}}\n'
+
+
+def queries(count, path, equal_to=None):
+    """The same query, so many times."""
+    asked = {"op": "query", "path": path} if equal_to is None else {"op": "query", "path": path, "eq": equal_to}
+    for _ in range(count):
+        yield json.dumps(asked, separators=(",", ":")) + "\n"

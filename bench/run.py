@@ -3,7 +3,7 @@
 
     bench/run.py [--program FILE] [--documents N] [--large N] [--rounds N] [PART ..]
 
-Parts: loads, gets, opening, calls, growth, and lines, all but the last by default. The program is
+Parts: loads, gets, queries, opening, calls, growth, and lines, all but the last by default. The program is
 crates/tuple_store/out/tuple_store, which `rt run` in crates/tuple_store builds, or FILE. N documents are 40,000, and a
 tenth of that of readings; the large store has 1,000,000. Runs take turns, so that other load meets all of them; a time is
 the least of the rounds, 3 by default, and a ratio the median of those of the rounds, each of two runs one after the other.
@@ -15,6 +15,7 @@ parses the JSON that it stores, as the store does. Both keep a log that is synce
 
     loads    a store of each data set is made, with --memory 16777216
     gets     a get of each key in random order, by the difference of runs with and without, from the table and from a component
+    queries  paths with and without a value, over the table and over one component, by the difference of runs with and without
     opening  the large store is opened, which growth made; where strace is there, how many bytes are read for it
     calls    calls on the log for a window of upserts, where strace is there
     growth   messages with --memory 4194304 --limit 67108864, up to the large store
@@ -22,6 +23,7 @@ parses the JSON that it stores, as the store does. Both keep a log that is synce
 """
 
 import argparse
+import json
 import os
 import re
 import resource
@@ -34,7 +36,7 @@ import feeds
 import sqlite
 
 BUILT = os.path.join(os.path.dirname(os.path.abspath(__file__)), "..", "crates", "tuple_store", "out", "tuple_store")
-PARTS = ("loads", "gets", "opening", "calls", "growth")
+PARTS = ("loads", "gets", "queries", "opening", "calls", "growth")
 LOADED = ("--memory", "16777216")
 GROWN = ("--memory", "4194304", "--limit", "67108864")
 
@@ -151,6 +153,47 @@ def gets(bench):
         print(f"| {name} | {least[0]:.2f} | {least[1]:.2f} | {least[1] / least[0]:.2f} |", flush=True)
 
 
+# Documents of a kind, and what is asked of them: a field that few have equal, one that all have, what all items of an array have.
+ASKED = (
+    ("messages", lambda n: feeds.upserts(n, "ascending", feeds.message), 1, ["user", "name"], "user 3"),
+    ("messages", lambda n: feeds.upserts(n, "ascending", feeds.message), 1, ["user", "name"], None),
+    ("messages", lambda n: feeds.upserts(n, "ascending", feeds.message), 1, ["tags", None], "t2"),
+    ("readings", lambda n: feeds.upserts(n, "ascending", feeds.readings), 20, ["sensor"], "s7"),
+    ("readings", lambda n: feeds.upserts(n, "ascending", feeds.readings), 20, ["readings", None, "value"], 7),
+    ("profiles", lambda n: feeds.upserts(n, "ascending", feeds.profile), 4, ["level"], 7),
+    ("profiles", lambda n: feeds.upserts(n, "ascending", feeds.profile), 4, ["level"], None),
+    ("changing", lambda n: feeds.upserts(n, "ascending", feeds.changing), 1, ["a"], 7),
+)
+
+
+def queries(bench):
+    print("| query of | path | value | documents | from the table | from a component | SQLite, text | times |")
+    print("|---|---|---|--:|--:|--:|--:|--:|")
+    times = 10
+    for name, made, part, path, equal_to in ASKED:
+        count = bench.words.documents // part
+        upserts, asked = list(made(count)), list(feeds.queries(times, path, equal_to))
+        load, _ = bench.write("load", upserts, ['{"op":"flush"}\n'])
+        bench.run(load, bench.empty(), LOADED)
+        plain, _ = bench.write("plain", upserts)
+        both, _ = bench.write("both", upserts, asked)
+        none, _ = bench.write("none")
+        only, _ = bench.write("only", asked)
+        if shutil.which("sqlite3"):
+            sqlite.write_script(upserts, bench.path("script"), 64)
+            sqlite.told(bench.path("database"), bench.path("script"), bench.path("replies"))
+            sqlite.write_queries(bench.path("script"), times, path, equal_to)
+        table, component, text = [], [], []
+        for _ in range(bench.words.rounds):
+            table.append(bench.run(both, ":memory:", LOADED) - bench.run(plain, ":memory:", LOADED))
+            component.append(bench.run(only, bench.path("store"), LOADED) - bench.run(none, bench.path("store"), LOADED))
+            if shutil.which("sqlite3"):
+                text.append(sqlite.asked(bench.path("database"), bench.path("script"), bench.path("replies")) - sqlite.asked(bench.path("database"), none, bench.path("replies")))
+        least = [micros(min(it), times * count) for it in (table, component)]
+        shown = "-" if equal_to is None else f"`{json.dumps(equal_to)}`"
+        print(f"| {name} | `{json.dumps(path)}` | {shown} | {count:,} | {least[0]:.2f} | {least[1]:.2f} | {beside(component, text, times * count)} |", flush=True)
+
+
 def growth(bench):
     print("| messages | " + " | ".join(f"{it:,}" for it in bench.sizes) + " |")
     print("|---|" + "--:|" * len(bench.sizes))
@@ -235,7 +278,7 @@ def main():
     parser.add_argument("--rounds", type=int, default=3)
     parser.add_argument("parts", nargs="*", metavar="PART")
     words = parser.parse_args()
-    known = {"loads": loads, "gets": gets, "growth": growth, "opening": opening, "calls": calls, "lines": lines}
+    known = {"loads": loads, "gets": gets, "queries": queries, "growth": growth, "opening": opening, "calls": calls, "lines": lines}
     for part in words.parts:
         if part not in known:
             parser.error(f"there is no part {part}")

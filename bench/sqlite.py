@@ -59,3 +59,36 @@ def told(database, script, replies):
         subprocess.run(["sqlite3", "-batch", removed(database)], stdin=source, stdout=sink, check=True)
     after = resource.getrusage(resource.RUSAGE_CHILDREN)
     return after.ru_utime + after.ru_stime - before.ru_utime - before.ru_stime
+
+
+def extraction(path):
+    """A path without wildcards, as `json_extract` writes it."""
+    return "$" + "".join(f'."{hop}"' if isinstance(hop, str) else f"[{hop}]" for hop in path)
+
+
+def literal(value):
+    return "'" + value.replace("'", "''") + "'" if isinstance(value, str) else str(value)
+
+
+def write_queries(path, count, hops, equal_to=None):
+    """A script that asks so many times what a query of the store asks: what a path reaches, by key."""
+    if None in hops:
+        at = hops.index(None)
+        reached = f"json_extract(each.value, '{extraction(hops[at + 1:])}')" if hops[at + 1:] else "each.value"
+        asked = f"select docs.id, {reached} from docs, json_each(docs.doc, '{extraction(hops[:at])}') as each"
+        asked += "" if equal_to is None else f" where {reached} = {literal(equal_to)}"
+    else:
+        reached = f"json_extract(doc, '{extraction(hops)}')"
+        asked = f"select id, {reached} from docs where {reached} "
+        asked += "is not null" if equal_to is None else f"= {literal(equal_to)}"
+    with open(path, "w", encoding="utf-8") as script:
+        script.write(f"{asked} order by docs.id;\n" * count)
+
+
+def asked(database, script, replies):
+    """The processor seconds of the command line over a database that is there."""
+    before = resource.getrusage(resource.RUSAGE_CHILDREN)
+    with open(script, "rb") as source, open(replies, "wb") as sink:
+        subprocess.run(["sqlite3", "-batch", database], stdin=source, stdout=sink, check=True)
+    after = resource.getrusage(resource.RUSAGE_CHILDREN)
+    return after.ru_utime + after.ru_stime - before.ru_utime - before.ru_stime
