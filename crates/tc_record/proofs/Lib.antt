@@ -1,4 +1,6 @@
+pub mod Folds
 pub mod Measuring
+pub mod Writing
 pub mod NumberLengths
 pub mod Lengths
 pub mod Weights

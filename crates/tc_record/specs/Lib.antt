@@ -5,7 +5,7 @@ pub mod StoredTest
 pub mod Rows
 pub mod Measured
 pub mod Widths
-pub mod ColumnBytes
+pub mod Written
 pub mod Walk
 pub mod WalkView
 pub mod Moves

@@ -1,36 +1,25 @@
-//! The record of a document, written column by column.
+//! The record of a document, written by one walk into all columns at once.
 
 ghost use Rattle.std.specs.Prelude.{◌≡◌, ◌≤◌, ◌<◌, ◌^◌, ◌+◌, ◌++◌, ◌∷◌, [], OnOk, IfOk, length, map};
 ghost use Rattle.std.specs.Int.{w32, to_be_bytes};
 ghost use Rattle.tc_model.specs.Tree.{items_of, members_of, depth};
-ghost use Rattle.tc_model.specs.Document.{null, boolean, integer, text, IsDocument};
-ghost use Rattle.tc_record.specs.Preorder.{scalar, array_opened, object_opened, closed, preorder, items_preorder, members_preorder};
+ghost use Rattle.tc_model.specs.Document.{IsDocument};
+ghost use Rattle.tc_record.specs.Preorder.{preorder, items_preorder, members_preorder};
 ghost use Rattle.tc_value.specs.Meaning.{tree_of, member_of};
 ghost use Rattle.tc_record.specs.Record.{record_of, named_form, IsRecordOf};
 ghost use Rattle.tc_model.specs.Limits.{max_depth};
 ghost use Rattle.tc_model.specs.Stored.{IsObject};
-ghost use Rattle.tc_record.specs.ColumnBytes.{column_label, column_piece, column_bytes, value_bytes};
+ghost use Rattle.tc_record.specs.Written.{written, with_tokens};
 ghost use Rattle.tc_record.specs.Measured.{column_width};
 
+use crate::columns::Columns;
 use crate::header::NAMED_FORM;
 use crate::measure::{Measure, measure_document};
 use crate::sizing::{len_of_record, width_of_column};
-use crate::tags::{ARRAY_TAG, BOOLEAN_TAG, CLOSE_TAG, INTEGER_TAG, NULL_TAG, OBJECT_TAG, TEXT_TAG};
-use crate::widths::{Width, put_number};
+use crate::tags::{ARRAY_TAG, BOOLEAN_TAG, CLOSE_TAG, INTEGER_TAG, NULL_TAG, OBJECT_TAG};
 use std::alloc::{AllocError, Global};
 use tc_bytes::{Bytes, put_u32};
 use tc_value::{Doc, Member};
-
-/// A column of a record.
-#[derive(Clone, Copy)]
-enum Column {
-    Tags,
-    Fixed,
-    TextLengths(Width),
-    Texts,
-    NameLengths(Width),
-    Names,
-}
 
 /// The record of form 0 of an object. Errs only for want of memory.
 pub fn encode(alloc: Global, doc: &Doc) -> Result<Bytes, AllocError>
@@ -43,15 +32,9 @@ pub fn encode(alloc: Global, doc: &Doc) -> Result<Bytes, AllocError>
     let len = len_of_record(measure);
     let mut out = Vec::with_capacity(alloc, len as usize)?;
     put_header(len, measure, &mut out)?;
-    let text_width = width_of_column(measure.texts);
-    let name_width = width_of_column(measure.names);
-    put_value(doc, Column::Tags, &mut out)?;
-    put_value(doc, Column::Fixed, &mut out)?;
-    put_value(doc, Column::TextLengths(text_width), &mut out)?;
-    put_value(doc, Column::Texts, &mut out)?;
-    put_value(doc, Column::NameLengths(name_width), &mut out)?;
-    put_value(doc, Column::Names, &mut out)?;
-    Ok(Bytes::of(out))
+    let mut columns = Columns::behind(alloc, out, measure)?;
+    put_value(doc, &mut columns)?;
+    Ok(Bytes::of(columns.into_row()?))
 }
 
 /// The header of form 0.
@@ -74,87 +57,45 @@ fn put_header(len: u64, measure: Measure, out: &mut Vec<u8>) -> Result<(), Alloc
     Ok(())
 }
 
-/// Appends what a value without a text adds to a column.
-fn put_plain(column: Column, tag: u8, fixed: &[u8], out: &mut Vec<u8>) -> Result<(), AllocError>
-    ensures { OnOk result (out.new.items ≡ out.old.items ++ value_bytes column tag fixed.now) }
-{
-    match column {
-        Column::Tags => Ok(out.push(tag)?),
-        Column::Fixed => out.extend_from_slice(fixed),
-        Column::TextLengths(_) => Ok(()),
-        Column::Texts => Ok(()),
-        Column::NameLengths(_) => Ok(()),
-        Column::Names => Ok(()),
-    }
-}
-
-/// Appends what a text adds to a column.
-fn put_text(column: Column, value: &str, out: &mut Vec<u8>) -> Result<(), AllocError>
-    ensures { OnOk result (out.new.items ≡ out.old.items ++ column_piece column (scalar (text value.now))) }
-{
-    match column {
-        Column::Tags => Ok(out.push(TEXT_TAG)?),
-        Column::Fixed => Ok(()),
-        Column::TextLengths(width) => put_number(width, value.len(), out),
-        Column::Texts => out.extend_from_slice(value.as_bytes()),
-        Column::NameLengths(_) => Ok(()),
-        Column::Names => Ok(()),
-    }
-}
-
-/// Appends what a member's name adds to a column.
-fn put_name(column: Column, name: &str, out: &mut Vec<u8>) -> Result<(), AllocError>
-    ensures { OnOk result (out.new.items ≡ out.old.items ++ column_label column (Some name.now)) }
-{
-    match column {
-        Column::Tags => Ok(()),
-        Column::Fixed => Ok(()),
-        Column::TextLengths(_) => Ok(()),
-        Column::Texts => Ok(()),
-        Column::NameLengths(width) => put_number(width, name.len(), out),
-        Column::Names => out.extend_from_slice(name.as_bytes()),
-    }
-}
-
 #[cycle(encode)]
-fn put_value(doc: &Doc, column: Column, out: &mut Vec<u8>) -> Result<(), AllocError>
-    ensures { OnOk result (out.new.items ≡ out.old.items ++ column_bytes column (preorder None (tree_of doc.now))) }
+fn put_value(doc: &Doc, columns: &mut Columns) -> Result<(), AllocError>
+    ensures { OnOk result (written columns.new ≡ with_tokens (written columns.old) (preorder None (tree_of doc.now))) }
 {
     match doc {
-        Doc::Null => put_plain(column, NULL_TAG, &[], out),
-        Doc::Bool(value) => put_plain(column, BOOLEAN_TAG, &[u8::from(*value)], out),
-        Doc::Int(value) => put_plain(column, INTEGER_TAG, &value.to_be_bytes(), out),
-        Doc::Text(value) => put_text(column, value.as_str(), out),
+        Doc::Null => columns.put_tag(NULL_TAG),
+        Doc::Bool(value) => columns.put_fixed(BOOLEAN_TAG, &[u8::from(*value)]),
+        Doc::Int(value) => columns.put_fixed(INTEGER_TAG, &value.to_be_bytes()),
+        Doc::Text(value) => columns.put_text(value.as_str()),
         Doc::Array(items) => {
-            put_plain(column, ARRAY_TAG, &[], out)?;
-            put_items(items.as_slice(), column, out)?;
-            put_plain(column, CLOSE_TAG, &[], out)
+            columns.put_tag(ARRAY_TAG)?;
+            put_items(items.as_slice(), columns)?;
+            columns.put_tag(CLOSE_TAG)
         }
         Doc::Object(members) => {
-            put_plain(column, OBJECT_TAG, &[], out)?;
-            put_members(members.as_slice(), column, out)?;
-            put_plain(column, CLOSE_TAG, &[], out)
+            columns.put_tag(OBJECT_TAG)?;
+            put_members(members.as_slice(), columns)?;
+            columns.put_tag(CLOSE_TAG)
         }
     }
 }
 
 #[cycle(encode)]
-fn put_items(items: &[Doc], column: Column, out: &mut Vec<u8>) -> Result<(), AllocError>
-    ensures { OnOk result (out.new.items ≡ out.old.items ++ column_bytes column (items_preorder (items_of (map tree_of items.now)))) }
+fn put_items(items: &[Doc], columns: &mut Columns) -> Result<(), AllocError>
+    ensures { OnOk result (written columns.new ≡ with_tokens (written columns.old) (items_preorder (items_of (map tree_of items.now)))) }
 {
     for item in items {
-        put_value(item, column, out)?;
+        put_value(item, columns)?;
     }
     Ok(())
 }
 
 #[cycle(encode)]
-fn put_members(members: &[Member], column: Column, out: &mut Vec<u8>) -> Result<(), AllocError>
-    ensures { OnOk result (out.new.items ≡ out.old.items ++ column_bytes column (members_preorder (members_of (map member_of members.now)))) }
+fn put_members(members: &[Member], columns: &mut Columns) -> Result<(), AllocError>
+    ensures { OnOk result (written columns.new ≡ with_tokens (written columns.old) (members_preorder (members_of (map member_of members.now)))) }
 {
     for member in members {
-        put_name(column, member.name.as_str(), out)?;
-        put_value(&member.value, column, out)?;
+        columns.put_name(member.name.as_str())?;
+        put_value(&member.value, columns)?;
     }
     Ok(())
 }

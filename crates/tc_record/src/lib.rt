@@ -2,6 +2,7 @@
 #![tactic(auto)]
 
 mod building;
+mod columns;
 mod cursor;
 mod decoding;
 mod encoding;

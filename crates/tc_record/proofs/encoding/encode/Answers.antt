@@ -3,7 +3,9 @@ use Rattle.tc_value.specs.Meaning.{tree_of}
 use Rattle.tc_record.specs.Record.{record_of}
 use Rattle.tc_record.specs.Measured.{record_len}
 use Rattle.tc_record.proofs.Lengths.{IsExactMeasure, exact_measure, few_tags, few_fixed, few_texts, few_names}
-use Rattle.tc_record.proofs.Encoded.{begun, encoded}
+use Rattle.tc_record.specs.Preorder.{tokens_of}
+use Rattle.tc_record.specs.Written.{with_tokens, in_a_row}
+use Rattle.tc_record.proofs.Encoded.{headed, encoded}
 use Rattle.tc_record.proofs.encoding.encode.Goals as goal
 
 pub put_header-requires-clause-len : goal.put_header-requires-clause-len
@@ -42,8 +44,8 @@ returns-clause-spelled c =
     let d = tree_of c.args.doc.now in
     let exact = exact_measure d c.requires.short in
     let exact_here : IsExactMeasure d c.measure_document-measure.result = rw c.measure_document-measure.ensures exact in
-    c.of.ensures.same ∙ encoded d c.measure_document-measure.result c.width_of_column-text_width.result c.width_of_column-name_width.result _ _ _ _ _ _ _ exact_here c.width_of_column-text_width.ensures c.width_of_column-name_width.ensures
-    (begun c.put_header.new.out.items c.in_ok-out.out.items _ _ _ _ _ _ _ _ c.in_ok-put_header.ensures c.in_ok-out.ensures.items c.len_of_record-len.ensures) c.in_ok-put_value.ensures c.in_ok-put_value-2.ensures c.in_ok-put_value-3.ensures c.in_ok-put_value-4.ensures c.in_ok-put_value-5.ensures c.in_ok-put_value-6.ensures
+    let front = headed c.put_header.new.out.items c.in_ok-out.out.items _ _ _ _ _ _ _ _ c.in_ok-put_header.ensures c.in_ok-out.ensures.items c.len_of_record-len.ensures in
+    c.of.ensures.same ∙ encoded d c.measure_document-measure.result c.put_header.new.out.items _ exact_here front (c.in_ok-into_row.ensures ∙ ap in_a_row (c.in_ok-put_value.ensures ∙ ap (λ w. with_tokens w (tokens_of d)) c.in_ok-columns.ensures))
 
 pub returns-clause-is_record : goal.returns-clause-is_record
 returns-clause-is_record c =

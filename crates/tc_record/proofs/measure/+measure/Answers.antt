@@ -2,7 +2,9 @@ use Rattle.std.proofs.Common.{rules, arith, ◌∙◌, ◌≤◌, ◌<◌, ◌+�
 use Rattle.tc_value.specs.Meaning.{tree_of, member_of}
 use Rattle.tc_model.specs.TreeSize.{tree_size, trees_size, labelled_size}
 use Rattle.tc_value.proofs.Sizes.{item_size, member_size}
-use Rattle.tc_record.proofs.Measuring.{measured-append, measured-item, measured-member}
+use Rattle.tc_record.specs.Measured.{measured, with_label}
+use Rattle.tc_record.proofs.Folds.{fold-item, fold-member}
+use Rattle.tc_record.proofs.Measuring.{measured-append, measured-labelled}
 use Rattle.tc_record.proofs.measure.+measure.Goals as goal
 
 pub with_value-with_items-requires : goal.with_value-with_items-requires
@@ -33,8 +35,8 @@ with_value-returns-in-Object t c = search (rules, measured-append)
 
 pub with_items-loop-item-preserved : goal.with_items-loop-item-preserved
 with_items-loop-item-preserved t c =
-    measured-item c.args.items.now c.loop-item.item-index c.item-item.result c.loop-item.measure _ (search rules) (search rules) (search rules) ∙ c.loop-item.invariant
+    fold-item measured measured-append c.args.items.now c.loop-item.item-index c.item-item.result c.loop-item.measure _ (search rules) (search rules) (search rules) ∙ c.loop-item.invariant
 
 pub with_members-loop-member-preserved : goal.with_members-loop-member-preserved
 with_members-loop-member-preserved t c =
-    measured-member c.args.members.now c.loop-member.member-index c.member-item.result c.loop-member.measure _ (search rules) (search rules) (search rules) ∙ c.loop-member.invariant
+    fold-member measured with_label measured-append measured-labelled c.args.members.now c.loop-member.member-index c.member-item.result c.loop-member.measure _ (search rules) (search rules) (search rules) ∙ c.loop-member.invariant
