@@ -1,5 +1,5 @@
 -- What the header and the slots of a record tell of its tokens.
-use Rattle.std.proofs.Common.{◌≡◌, ◌∙◌, ◌<◌, ◌≤◌, ◌+◌, ◌↔◌, suc, ◌^◌, ◌==◌, ◌||◌, nat_lt, ℕ, Bool, true, false, List, [], ◌∷◌, Option, None, Some, IsTrue, unwrap_or, is_some, length, map, inl, inr, refl, sym, ap, subst, arith, append-nil}
+use Rattle.std.proofs.Common.{◌≡◌, ◌∙◌, ◌<◌, ◌≤◌, ◌+◌, ◌↔◌, suc, ◌^◌, ◌==◌, ◌||◌, nat_lt, ℕ, Bool, true, false, List, [], ◌∷◌, Option, None, Some, option_map, IfSome, IsTrue, unwrap_or, is_some, length, map, inl, inr, refl, sym, ap, subst, arith, append-nil}
 use Rattle.std.specs.List.{AllByRecursion}
 use Rattle.std.proofs.lemmas.Bool.{both_ways}
 use Rattle.std.proofs.lemmas.Bool.Decides.{nat_tests}
@@ -14,7 +14,7 @@ use Rattle.tc_record.specs.Widths.{width_bytes}
 use Rattle.tc_record.specs.Record.{NumberedTree, piece_tag, labels, greatest, numbers, header_size, body, record_bytes}
 use Rattle.tc_record.specs.Walk.{Key, name, number}
 use Rattle.tc_record.specs.Walk as walk
-use Rattle.tc_record.specs.Held.{tokens_held}
+use Rattle.tc_record.specs.Held.{tokens_held, TellsGreatest}
 use Rattle.tc_record.specs.Sections as cut
 use Rattle.tc_record.specs.SectionsView.{sections_of}
 use Rattle.tc_record.specs.Borrowed.{Record, Spells, IsBelow, named_tokens, numbered_tokens}
@@ -90,6 +90,15 @@ scanned_held bytes s (Some ts) count each cut_is is some many =
     let read = slots_read bytes (sections_of s) ts each cut_is is in
     scan_slots s.format.slot_width (slots ts) s.columns.slots.now count read.1 read.0 (many ∙ sym (length-map (labels ts) _))
 
+-- the greatest that a header lets tell is that of the slots
+pub greatest_held : (r : Record) (s : Sections) (held : Option Tokens) → Spells r → IsBytes r.bytes → cut.sections_in r.bytes ≡ Some (sections_of s) → tokens_held s ≡ held → true ≡ is_some held → r.tokens ≡ unwrap_or held []
+    → IfSome (cut.header_at r.bytes) (λ h. TellsGreatest h.0.names s) → s.greatest_slot ≡ greatest_from 0 (slots (unwrap_or held []))
+greatest_held r s held spells each cut_is is some tokens greatest =
+    let told = header_told r spells in
+    let here : TellsGreatest told.0.0.names s = subst (λ o. IfSome o (λ h. TellsGreatest h.0.names s)) told.1 greatest in
+    let scan = scanned_held r.bytes s held told.0.0.names each cut_is is some (told.2.members ∙ ap (λ ts. length (labels ts)) tokens) in
+    same_Some _ _ (sym here ∙ ap (option_map (λ (p : ℕ × ℕ). p.0)) scan)
+
 -- numbers below a limit have their greatest there
 all_below : (limit : ℕ) (ks : List ℕ) → IsTrue ((length ks == 0) || nat_lt (greatest ks) limit) → AllByRecursion (IsBelow limit) (map number ks)
 all_below limit [] below = tt
@@ -130,7 +139,7 @@ names_below limit r (inl (d, (named, is, tokens))) told = subst (AllByRecursion 
 names_below limit r (inr (n, (named, is, tokens))) told = absurd (both_ways r.named named told)
 
 -- what was scanned of the slots of a record of form 1 tells whether its numbers are below a limit
-pub numbers_told : (limit count : ℕ) (r : Record) (b : Bool) → Spells r → r.named ≡ false → count ≡ length (labels r.tokens) → b ≡ cut.is_scan_below limit count (Some (greatest_from 0 (slots r.tokens), sum_from 0 (slots r.tokens)))
+pub numbers_told : (limit count : ℕ) (r : Record) (b : Bool) → Spells r → r.named ≡ false → count ≡ length (labels r.tokens) → b ≡ cut.are_below limit count (greatest_from 0 (slots r.tokens))
     → IsTrue b ↔ AllByRecursion (IsBelow limit) (labels r.tokens)
 numbers_told limit count r b (inl (d, (named, is, tokens))) told many scan = absurd (both_ways r.named told named)
 numbers_told limit count r b (inr (n, (named, is, tokens))) told many scan =

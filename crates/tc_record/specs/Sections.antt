@@ -37,10 +37,9 @@ scan_at w zero greatest total bytes = Some (greatest, total)
 scan_at w (suc n) greatest total bytes =
     sized_number_at w bytes >>= λ x. scan_at w n (max greatest x.0) (min (total + x.0) (2 ^ 32 - 1)) x.1
 
--- whether each of so many numbers that were scanned is below a limit
-abbrev pub is_scan_below : ℕ → ℕ → Option (ℕ × ℕ) → Bool
-is_scan_below limit count None = false
-is_scan_below limit count (Some s) = (count == 0) || nat_lt s.0 limit
+-- whether each of so many numbers, of which the greatest is given, is below a limit
+abbrev pub are_below : ℕ → ℕ → ℕ → Bool
+are_below limit count greatest = (count == 0) || nat_lt greatest limit
 
 -- numbers of the width that is told, where it is the least
 pub record Numbers : Type 0 where

@@ -4,15 +4,14 @@ ghost use Rattle.std.specs.Prelude.{◌≡◌, ◌↔◌, ◌∷◌, [], None, I
 ghost use Rattle.std.specs.List.{AllByRecursion};
 ghost use Rattle.tc_model.specs.Document.{Document};
 ghost use Rattle.tc_record.specs.Record.{labels, NumberedTree, IsRecordOf, IsNumberedRecordOf};
-ghost use Rattle.tc_record.specs.Sections.{scan_at, is_scan_below};
+ghost use Rattle.tc_record.specs.Sections.{are_below};
 ghost use Rattle.tc_record.specs.Borrowed.{Spells, IsRecord, IsBelow, named_tokens, numbered_tokens};
 
 use crate::cursor::Cursor;
 use crate::header::header_in;
 use crate::judging::has_tokens;
-use crate::sections::{Sections, scanned, sections_of_record};
+use crate::sections::{Sections, sections_of_record};
 use crate::walking::Walk;
-use crate::widths::Width;
 use std::marker::Model;
 
 /// A record that is borrowed. Contracts see its bytes, whether members carry names, and its tokens.
@@ -23,7 +22,7 @@ pub struct RecordRef<'a> {
 }
 
 impl<'a> Model for RecordRef<'a> {
-    ghost use Rattle.std.specs.Prelude.{◌≡◌, Some, IsTrue, is_some, unwrap_or, []};
+    ghost use Rattle.std.specs.Prelude.{◌≡◌, Some, IfSome, IsTrue, is_some, unwrap_or, []};
     ghost use Rattle.tc_bytes.specs.Codec.{IsBytes};
     ghost use Rattle.tc_record.specs.Borrowed.{Record};
 
@@ -33,10 +32,11 @@ impl<'a> Model for RecordRef<'a> {
 
     ghost view = { λ r. record { bytes = r.bytes.now; named = r.sections.format.named; tokens = unwrap_or (tokens_held r.sections) [] } };
 
-    ghost use Rattle.tc_record.specs.Sections.{sections_in};
+    ghost use Rattle.tc_record.specs.Held.{TellsGreatest};
+    ghost use Rattle.tc_record.specs.Sections.{header_at, sections_in};
     ghost use Rattle.tc_record.specs.SectionsView.{sections_of};
 
-    ghost invariant = { λ r. IsBytes r.bytes.now × (sections_in r.bytes.now ≡ Some (sections_of r.sections)) × IsTrue (is_some (tokens_held r.sections)) };
+    ghost invariant = { λ r. IsBytes r.bytes.now × (sections_in r.bytes.now ≡ Some (sections_of r.sections)) × IsTrue (is_some (tokens_held r.sections)) × IfSome (header_at r.bytes.now) (λ h. TellsGreatest h.0.names r.sections) };
 }
 
 impl<'a> RecordRef<'a> {
@@ -108,18 +108,12 @@ impl<'a> RecordRef<'a> {
     }
 
     /// Whether each number that a member carries in place of its name is below a limit. Takes no memory, and looks at
-    /// the column of slots alone.
+    /// the greatest of them alone, which was found when the bytes were judged.
     pub fn numbers_below(&self, limit: u32) -> bool
         ensures { IsTrue result ↔ AllByRecursion (IsBelow limit) (labels self.now.tokens) }
     {
-        let sections = self.sections;
-        self.named()
-            || slots_below(
-                limit,
-                self.member_count(),
-                sections.format.slot_width,
-                sections.columns.slots,
-            )
+        let greatest = self.sections.greatest_slot;
+        self.named() || slots_below(limit, self.member_count(), greatest)
     }
 
     /// The same record, borrowed once more. Takes no memory.
@@ -144,12 +138,9 @@ impl<'a> RecordRef<'a> {
     }
 }
 
-/// Whether so many slots are below a limit.
-fn slots_below(limit: u32, count: u32, width: Width, slots: &[u8]) -> bool
-    ensures { result ≡ is_scan_below limit count (scan_at width count 0 0 slots.now) }
+/// Whether so many slots are below a limit, as their greatest tells.
+fn slots_below(limit: u32, count: u32, greatest: u32) -> bool
+    ensures { result ≡ are_below limit count greatest }
 {
-    match scanned(width, count, slots) {
-        Some((greatest, _)) => count == 0 || greatest < limit,
-        None => false,
-    }
+    count == 0 || greatest < limit
 }

@@ -1,8 +1,9 @@
 //! The bytes of a record, cut into its columns.
 
-ghost use Rattle.std.specs.Prelude.{◌≡◌, max, option_map, length, IfSome, IfNone};
+ghost use Rattle.std.specs.Prelude.{◌≡◌, max, option_map, length, Some, IfSome, IfNone};
 ghost use Rattle.std.specs.Str.{IsUtf8};
-ghost use Rattle.tc_record.specs.Sections.{scan_at, least_width, numbers_at, columns_behind, sections_in};
+ghost use Rattle.tc_record.specs.Held.{TellsGreatest};
+ghost use Rattle.tc_record.specs.Sections.{header_at, scan_at, least_width, numbers_at, columns_behind, sections_in};
 ghost use Rattle.tc_record.specs.SectionsView.{header_of, numbers_of, cut_columns_of, sections_of};
 ghost use Rattle.tc_record.specs.WalkView.{columns_of};
 
@@ -12,11 +13,12 @@ use crate::widths::Width;
 use std::str;
 use tc_bytes::slice_at;
 
-/// Numbers of one width, which is the least, and their sum.
+/// Numbers of one width, which is the least, the greatest of them, and their sum.
 #[derive(Clone, Copy)]
 pub(crate) struct Numbers<'a> {
     pub(crate) width: Width,
     pub(crate) bytes: &'a [u8],
+    pub(crate) greatest: u32,
     pub(crate) total: u32,
 }
 
@@ -35,11 +37,13 @@ pub(crate) struct Sections<'a> {
     pub(crate) format: Format,
     pub(crate) tags: &'a [u8],
     pub(crate) columns: ColumnBytes<'a>,
+    pub(crate) greatest_slot: u32,
 }
 
 /// The parts of a record, or `None` where the header and the bytes do not fit together.
 pub(crate) fn sections_of_record(bytes: &[u8]) -> Option<Sections<'_>>
-    ensures { option_map sections_of result ≡ sections_in bytes.now }
+    ensures cut { option_map sections_of result ≡ sections_in bytes.now }
+    ensures greatest { IfSome result (λ s. IfSome (header_at bytes.now) (λ h. TellsGreatest h.0.names s)) }
 {
     let (header, rest) = header_in(bytes)?;
     if header.total as usize != bytes.len() {
@@ -50,7 +54,8 @@ pub(crate) fn sections_of_record(bytes: &[u8]) -> Option<Sections<'_>>
 }
 
 fn columns_in(header: Header, named: bool, bytes: &[u8]) -> Option<Sections<'_>>
-    ensures { option_map sections_of result ≡ columns_behind (header_of header) named bytes.now }
+    ensures cut { option_map sections_of result ≡ columns_behind (header_of header) named bytes.now }
+    ensures greatest { IfSome result (TellsGreatest header.names) }
 {
     let (tags, bytes) = slice_at(bytes, header.tags as usize)?;
     let (fixed, bytes) = slice_at(bytes, header.fixed as usize)?;
@@ -73,6 +78,7 @@ fn columns_in(header: Header, named: bool, bytes: &[u8]) -> Option<Sections<'_>>
         format,
         tags,
         columns,
+        greatest_slot: slots.greatest,
     })
 }
 
@@ -118,7 +124,8 @@ impl<'a> ColumnBytes<'a> {
 
 /// So many numbers, if the width that is told is the least one.
 fn numbers_in(told: u8, count: u32, bytes: &[u8]) -> Option<(Numbers<'_>, &[u8])>
-    ensures { option_map (λ x. (numbers_of x.0, x.1.now)) result ≡ numbers_at told count bytes.now }
+    ensures read { option_map (λ x. (numbers_of x.0, x.1.now)) result ≡ numbers_at told count bytes.now }
+    ensures greatest { IfSome result (λ x. option_map (λ s. s.0) (scan_at x.0.width count 0 0 x.0.bytes.now) ≡ Some x.0.greatest) }
 {
     let width = width_told(told)?;
     let (numbers, rest) = slice_at(bytes, count as usize * width.bytes() as usize)?;
@@ -129,6 +136,7 @@ fn numbers_in(told: u8, count: u32, bytes: &[u8]) -> Option<(Numbers<'_>, &[u8])
     let numbers = Numbers {
         width,
         bytes: numbers,
+        greatest,
         total,
     };
     Some((numbers, rest))
@@ -145,7 +153,7 @@ fn least(count: u32, greatest: u32) -> u8
 }
 
 /// The greatest of so many numbers, and their sum, which stands still at the end of its type.
-pub(crate) fn scanned(width: Width, count: u32, numbers: &[u8]) -> Option<(u32, u32)>
+fn scanned(width: Width, count: u32, numbers: &[u8]) -> Option<(u32, u32)>
     ensures { result ≡ scan_at width count 0 0 numbers.now }
 {
     let mut left = count;
