@@ -10,4 +10,5 @@ pub mod Agreeing
 mod Sizes
 mod NamedSizes
 mod Orders
+mod Passing
 mod Meanings

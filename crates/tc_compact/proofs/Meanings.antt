@@ -1,5 +1,5 @@
 -- What a record of either form means under a dictionary: the tokens and the document.
-use Rattle.std.proofs.Common.{◌≡◌, ◌∙◌, ℕ, zero, suc, ◌<◌, ◌≤◌, ◌^◌, false, List, [], ◌∷◌, ◌++◌, Option, None, Some, option_map, option_to_list, unwrap_or, IsUtf8, length, map, slice_get, inl, inr, refl, sym, ap, subst, arith}
+use Rattle.std.proofs.Common.{◌≡◌, ◌∙◌, ℕ, zero, suc, ◌<◌, ◌≤◌, ◌^◌, true, false, List, [], ◌∷◌, ◌++◌, Option, None, Some, IfSome, option_map, option_to_list, unwrap_or, IsUtf8, length, map, slice_get, inl, inr, refl, sym, ap, subst, arith}
 use Rattle.std.specs.List.{AllByRecursion}
 use Rattle.std.proofs.lemmas.Bool.{both_ways}
 use Rattle.std.proofs.lemmas.List.{length-map}
@@ -213,3 +213,16 @@ means_shape names r shape dictionary spells room ordered meant = at (document_re
     at (Some d) read given =
         let same : shape ≡ document_shape d = same_Some shape (document_shape d) (sym given) in
         (d, means names r d dictionary spells room (ordered_by_shape d (subst IsOrdered same ordered)) read, same)
+
+-- ---- whether there is a document
+
+pub named_under : (names : List Name) (r : Record) → Spells r → r.named ≡ true → (d : Document) × IsRecordUnder names d r.bytes
+named_under names r (inl (d, (named, is, tokens))) holds = (d, inl is)
+named_under names r (inr (n, (unnamed, is, tokens))) holds = absurd (both_ways r.named unnamed holds)
+
+pub means_one : (names : List Name) (r : Record) → IsDictionary names → Spells r → (r.named ≡ false → HasRoom names r) → IfSome (document_read (tokens_meant names r.tokens)) IsOrdered → (d : Document) × IsRecordUnder names d r.bytes
+means_one names r dictionary (inl (d, (named, is, tokens))) room ordered = (d, inl is)
+means_one names r dictionary (inr (n, (unnamed, is, tokens))) room ordered =
+    let d = expanded names n in
+    let read : document_read (tokens_meant names r.tokens) ≡ Some d = ap (λ ts. document_read (tokens_meant names ts)) tokens ∙ ap document_read (numbered_meant names n) ∙ document_again d in
+    (d, numbered_under names r n dictionary is tokens (room unnamed) (subst (λ o. IfSome o IsOrdered) read ordered))

@@ -15,6 +15,7 @@ mod order;
 mod shaping;
 mod sizing;
 mod slot_sum;
+mod spelling;
 
 pub use compacting::{compact, compact_numbered};
 pub use decoding::{document_of, value_behind};
@@ -22,3 +23,4 @@ pub use expanding::expand;
 pub use law::{document_meant, names_agree, round_trip};
 pub use shaping::shape_of;
 pub use sizing::{compact_into, compacted_size, expanded_size};
+pub use spelling::spells_document;

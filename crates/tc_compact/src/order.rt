@@ -64,7 +64,7 @@ fn shapes_ascend(members: &[ShapeMember]) -> bool
 }
 
 /// Whether a name stands above the one before it, if there is one.
-fn is_above(last: Option<&str>, name: &str) -> bool
+pub(crate) fn is_above(last: Option<&str>, name: &str) -> bool
     ensures { result ≡ stands_above (option_map (λ n. n.now) last.entry) name.now }
 {
     match last {
