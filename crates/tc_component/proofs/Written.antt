@@ -20,13 +20,11 @@ use Rattle.tc_component.specs.Spelling.{head_bytes, Row, held_bytes, records, sl
 -- ---- one entry more
 
 pub pushed_slots : (rows : List Row) (key : ℕ) (held : Option (List ℕ))
-    → (directory (slots_of rows) ++ to_be_bytes w64 key) ++ to_be_bytes w32 (length (held_bytes held)) ≡ directory (slots_of (rows ++ (key, held) ∷ []))
-pushed_slots [] key held = sym (append-nil (to_be_bytes w64 key ++ to_be_bytes w32 (length (held_bytes held))))
+    → directory (slots_of rows) ++ slot_bytes (record { key = key; length = length (held_bytes held) }) ≡ directory (slots_of (rows ++ (key, held) ∷ []))
+pushed_slots [] key held = sym (append-nil (slot_bytes (record { key = key; length = length (held_bytes held) })))
 pushed_slots (row ∷ rows) key held =
     let first = slot_bytes (record { key = row.0; length = length (held_bytes row.1) }) in
-    ap (λ (bytes : List ℕ). bytes ++ to_be_bytes w32 (length (held_bytes held))) (append_assoc first (directory (slots_of rows)) (to_be_bytes w64 key))
-    ∙ append_assoc first (directory (slots_of rows) ++ to_be_bytes w64 key) (to_be_bytes w32 (length (held_bytes held)))
-    ∙ ap (λ (bytes : List ℕ). first ++ bytes) (pushed_slots rows key held)
+    append_assoc first (directory (slots_of rows)) (slot_bytes (record { key = key; length = length (held_bytes held) })) ∙ ap (λ (bytes : List ℕ). first ++ bytes) (pushed_slots rows key held)
 
 pub pushed_records : (rows : List Row) (key : ℕ) (held : Option (List ℕ)) → unheaded (records rows) ++ held_bytes held ≡ unheaded (records (rows ++ (key, held) ∷ []))
 pushed_records rows key held =

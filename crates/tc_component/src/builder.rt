@@ -13,10 +13,10 @@ ghost use Rattle.tc_component.specs.Spelling.{Row, held_bytes, records, slots_of
 
 use crate::head::{Head, Sizes, bytes_of_head};
 use crate::layout::{HEAD_LEN, HEAD_PLACE, RECORDS_PLACE, SLOT_LEN};
+use crate::slot::{Slot, put_slot};
 use crate::spool::Spool;
 use std::alloc::Global;
 use std::marker::Model;
-use tc_bytes::{put_u32, put_u64};
 use tc_names::Names;
 use tc_schema::Schema;
 use tc_store::{Broken, Device, DeviceFault, Gated};
@@ -116,8 +116,8 @@ impl<D: Device> Builder<D> {
     {
         let bytes = bytes_held(record_bytes);
         self.failed = true;
-        put_u64(&mut self.directory, key)?;
-        put_u32(&mut self.directory, bytes.len() as u32)?;
+        let length = bytes.len() as u32;
+        put_slot(Slot { key, length }, &mut self.directory)?;
         self.spool.put(bytes, watch)?;
         self.failed = false;
         Ok(())

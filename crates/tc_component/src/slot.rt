@@ -1,19 +1,32 @@
 //! The slots of a directory.
 
-ghost use Rattle.std.specs.Prelude.{◌≡◌, ◌<◌, option_map, IfSome};
+ghost use Rattle.std.specs.Prelude.{◌≡◌, ◌<◌, ◌++◌, option_map, IfSome, OnOk};
 ghost use Rattle.std.specs.Int.{w32, w64};
 ghost use Rattle.tc_bytes.specs.Reading.{number_at, passing_at};
 ghost use Rattle.tc_component.specs.Layout.{number_end};
 ghost use Rattle.tc_component.specs.Reading.{is_key, is_length, slot_at};
+ghost use Rattle.tc_component.specs.Spelling.{slot_bytes};
 
 use crate::layout::{LEAST_RECORD, MAX_NUMBER};
-use tc_bytes::{u32_at, u64_at};
+use tc_bytes::{Memory, u32_at, u64_at};
 
 /// What a directory has of an entry: its key, and how many bytes its record has, which are none where it is gone.
 #[derive(Clone, Copy, Debug, PartialEq, Eq)]
 pub struct Slot {
     pub key: u64,
     pub length: u32,
+}
+
+/// Appends a slot to the bytes of a directory.
+pub(crate) fn put_slot(slot: Slot, directory: &mut Vec<u8>) -> Result<(), Memory>
+    ensures { OnOk result (directory.new.items ≡ directory.old.items ++ slot_bytes slot) }
+{
+    let key = slot.key.to_be_bytes();
+    let length = slot.length.to_be_bytes();
+    directory.extend_from_slice(&[
+        key[0], key[1], key[2], key[3], key[4], key[5], key[6], key[7], length[0], length[1],
+        length[2], length[3],
+    ])
 }
 
 /// A slot from the front of the bytes.
