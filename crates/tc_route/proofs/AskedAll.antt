@@ -23,7 +23,7 @@ use Rattle.tc_route.proofs.Homes.{all_of, AreBehind-answered, AreBehind-share}
 use Rattle.tc_route.proofs.OrderedRows.{in_order-rows}
 
 -- a further reply at the least place
-with_reply-same : (at : ℕ) (first a : Reply) (all : Keyed Reply) → with_reply ((at, first) ∷ all) (at, a) ≡ (at, joined first a) ∷ all
+pub with_reply-same : (at : ℕ) (first a : Reply) (all : Keyed Reply) → with_reply ((at, first) ∷ all) (at, a) ≡ (at, joined first a) ∷ all
 with_reply-same at first a all =
     let not_before : nat_lt at at ≡ false = grind (arith, nat_tests) in
     let itself : (at == at) ≡ true = grind (arith, nat_tests) in

@@ -3,5 +3,6 @@ mod Homes
 mod OrderedRows
 mod AskedAll
 mod GatheredWindows
+mod KindsGathered
 mod PartsGiven
 mod RepliesPut

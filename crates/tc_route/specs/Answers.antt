@@ -6,6 +6,7 @@ use Rattle.tc_model.specs.Request.{Request, upsert, delete, get, query, flush, s
 use Rattle.tc_model.specs.Reply.{Reply}
 use Rattle.tc_plain_model.specs.Store.{Store}
 use Rattle.tc_plain_model.specs.Part.{Limits, part_reply, part_left}
+use Rattle.tc_run_model.specs.Kinds.{IsOfKind}
 use Rattle.tc_run_model.specs.World.{World, after}
 use Rattle.tc_run_model.specs.Replies.{reply_to}
 use Rattle.tc_route.specs.Shares.{share}
@@ -52,3 +53,22 @@ stores_of w = map (λ part. part.now) w.parts
 abbrev pub AreGathered : Type 0
 AreGathered = (w : World) (window : Keyed Request) → 0 < length w.parts → KeepOwn (length w.parts) 0 (stores_of w) → Ascends window → All (λ r. IsForParts r.1) window
     → gathered (shares_answered w.limits (length w.parts) 0 window (stores_of w)) ≡ window_answered window w
+
+-- ---- over stores that are not known
+
+-- these replies may be given to requests, each at the place of its own, and of its kind
+abbrev pub AreAnswers : Keyed Request → Keyed Reply → Type 0
+AreAnswers [] [] = Unit {0}
+AreAnswers [] (a ∷ more) = ⊥
+AreAnswers (r ∷ rs) [] = ⊥
+AreAnswers (r ∷ rs) (a ∷ more) = (a.0 ≡ r.0) × IsOfKind r.1 a.1 × AreAnswers rs more
+
+-- partitions, of so many, from the one of a number on may have given these to their shares of a window
+abbrev pub AreOfShares : ℕ → ℕ → Keyed Request → List (Keyed Reply) → Type 0
+AreOfShares count p window [] = Unit {0}
+AreOfShares count p window (replies ∷ more) = AreAnswers (share count p window) replies × AreOfShares count (suc p) window more
+
+-- What partitions may reply to their shares of a window, put together, may be replied to the window, in its order.
+abbrev pub AreKindsGathered : Type 0
+AreKindsGathered = (window : Keyed Request) (parts : List (Keyed Reply)) → 0 < length parts → Ascends window → All (λ r. IsForParts r.1) window
+    → AreOfShares (length parts) 0 window parts → AreAnswers window (gathered parts)
