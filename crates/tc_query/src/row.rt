@@ -13,7 +13,7 @@ ghost use Rattle.tc_command.specs.Rows.{row_of};
 
 use std::alloc::{AllocError, Global};
 use tc_command::{Ask, Row};
-use tc_compact::shape_of;
+use tc_compact::spells_document;
 use tc_names::Names;
 use tc_path::{ValueRef, select};
 use tc_record::{RecordFault, RecordRef};
@@ -21,7 +21,7 @@ use tc_value::{Doc, Items};
 
 /// The row that an ask gets of a key's document, by a record of either form whose numbers mean names of the dictionary;
 /// `None` where the document gives none. `NotARecord` comes exactly where the record spells no document under the
-/// dictionary. Takes memory for the shape of the document, and for the values of a row.
+/// dictionary. Takes memory for the values of a row alone.
 pub fn row_of_record(
     alloc: Global,
     key: u64,
@@ -33,13 +33,10 @@ pub fn row_of_record(
     ensures document { IfOk result (λ row. (d : Document) × IsRecordUnder names.now d of.entry.bytes) }
     ensures refused { IsErrOf result RecordFault.NotARecord → (d : Document) → IsRecordUnder names.now d of.entry.bytes → ⊥ }
 {
-    match shape_of(alloc, of.again(), names) {
-        Ok(shape) => {
-            drop(shape);
-            Ok(row_of_known(alloc, key, of, names, ask)?)
-        }
-        Err(fault) => Err(fault),
+    if !spells_document(of.again(), names) {
+        return Err(RecordFault::NotARecord);
     }
+    Ok(row_of_known(alloc, key, of, names, ask)?)
 }
 
 /// The row that an ask gets of a key's document, by a record that is known to spell one under the dictionary; `None`
