@@ -26,14 +26,14 @@ use Rattle.tc_query.proofs.BelowKeys.{value_of-behind}
 pub starts_ahead : {V : Type 0} (es : Keyed V) → IsAhead 0 es es
 starts_ahead es = record { behind = []; parts = refl; lesser = tt }
 
-all_lesser : {V : Type 0} (low high : ℕ) (es : Keyed V) → low ≤ high → AllByRecursion (λ e. e.0 < low) es → AllByRecursion (λ e. e.0 < high) es
+pub all_lesser : {V : Type 0} (low high : ℕ) (es : Keyed V) → low ≤ high → AllByRecursion (λ e. e.0 < low) es → AllByRecursion (λ e. e.0 < high) es
 all_lesser low high [] order all = tt
 all_lesser low high (e ∷ es) order all = (omega (arith, order, all.0), all_lesser low high es order all.1)
 
 pub later_ahead : {V : Type 0} (low high : ℕ) (es ahead : Keyed V) → low ≤ high → IsAhead low es ahead → IsAhead high es ahead
 later_ahead low high es ahead order a = record { behind = a.behind; parts = a.parts; lesser = all_lesser low high a.behind order a.lesser }
 
-all_push : {V : Type 0} (low : ℕ) (es : Keyed V) (e : ℕ × V) → AllByRecursion (λ e. e.0 < low) es → e.0 < low → AllByRecursion (λ e. e.0 < low) (es ++ e ∷ [])
+pub all_push : {V : Type 0} (low : ℕ) (es : Keyed V) (e : ℕ × V) → AllByRecursion (λ e. e.0 < low) es → e.0 < low → AllByRecursion (λ e. e.0 < low) (es ++ e ∷ [])
 all_push low [] e all less = (less, tt)
 all_push low (f ∷ es) e all less = (all.0, all_push low es e all.1 less)
 

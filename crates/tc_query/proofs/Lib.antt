@@ -11,3 +11,4 @@ pub mod WindowReads
 pub mod ListedRows
 pub mod WalkedKeys
 pub mod KeyRows
+pub mod HeldBelow

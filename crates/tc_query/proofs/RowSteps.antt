@@ -12,7 +12,7 @@ use Rattle.tc_plain_model.specs.Rows.{row_of, rows_over}
 use Rattle.tc_plain_model.specs.Writes.{Pairs}
 use Rattle.tc_query.proofs.BelowKeys.{below-next, below-start, below-end}
 use Rattle.tc_query.specs.Faults.{IsReadIf}
-use Rattle.tc_query.specs.Rows.{rows_at, below}
+use Rattle.tc_query.specs.Rows.{rows_with, rows_at, below}
 use Rattle.tc_store.specs.Counted.{Counts}
 
 one_key : (ask : Ask) (key : ℕ) (o : Option Document) → rows_over ask (option_to_list (option_map (λ d. (key, d)) o)) ≡ flat_map (λ d. row_of ask.equal_to key (reached ask.path d)) (option_to_list o)
@@ -60,9 +60,11 @@ reads-next low key pairs Wanted first old new up order gap live before (inr read
 abbrev row_at : Ask → ℕ → Document → List Row
 row_at ask key d = row_of ask.equal_to key (reached ask.path d)
 
+pub rows_with_one : (ask : Ask) (key : ℕ) (d : Document) → row_of ask.equal_to key (reached ask.path d) ≡ rows_with ask key (Some d)
+rows_with_one ask key d = sym (flat_map-cons (row_at ask key) d [] ∙ append-nil (row_at ask key d))
+
 pub rows_of_one : (ask : Ask) (key : ℕ) (pairs : Pairs) (d : Document) → value_of key pairs ≡ Some d → row_of ask.equal_to key (reached ask.path d) ≡ rows_at ask key pairs
-rows_of_one ask key pairs d there =
-    sym (ap (λ o. flat_map (row_at ask key) (option_to_list o)) there ∙ flat_map-cons (row_at ask key) d [] ∙ append-nil (row_at ask key d))
+rows_of_one ask key pairs d there = rows_with_one ask key d ∙ sym (ap (rows_with ask key) there)
 
 pub rows_of_none : (ask : Ask) (key : ℕ) (pairs : Pairs) → value_of key pairs ≡ None → [] ≡ rows_at ask key pairs
 rows_of_none ask key pairs none = sym (ap (λ o. flat_map (row_at ask key) (option_to_list o)) none)

@@ -1,5 +1,6 @@
 -- The rows of one key, and those of the keys below one.
-use Rattle.std.specs.Prelude.{ℕ, nat_lt, List, filter, flat_map, option_to_list}
+use Rattle.std.specs.Prelude.{ℕ, nat_lt, List, filter, flat_map, Option, option_to_list}
+use Rattle.tc_model.specs.Document.{Document}
 use Rattle.tc_model.specs.Keyed.{Keyed, value_of}
 use Rattle.tc_model.specs.Reply.{Row}
 use Rattle.tc_model.specs.Request.{Ask}
@@ -7,9 +8,13 @@ use Rattle.tc_plain_model.specs.Paths.{reached}
 use Rattle.tc_plain_model.specs.Rows.{row_of}
 use Rattle.tc_plain_model.specs.Writes.{Pairs}
 
--- the row of a stored key: one, or none
+-- the row of a key that has this document, if it has one: one, or none
+abbrev pub rows_with : Ask → ℕ → Option Document → List Row
+rows_with ask key document = flat_map (λ d. row_of ask.equal_to key (reached ask.path d)) (option_to_list document)
+
+-- the row of a stored key
 abbrev pub rows_at : Ask → ℕ → Pairs → List Row
-rows_at ask key pairs = flat_map (λ d. row_of ask.equal_to key (reached ask.path d)) (option_to_list (value_of key pairs))
+rows_at ask key pairs = rows_with ask key (value_of key pairs)
 
 -- the entries of lesser keys
 abbrev pub below : {V : Type 0} → ℕ → Keyed V → Keyed V

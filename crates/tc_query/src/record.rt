@@ -13,6 +13,7 @@ ghost use Rattle.tc_model.specs.Document.{Document};
 ghost use Rattle.tc_plain_model.specs.Paths.{reached};
 ghost use Rattle.tc_plain_model.specs.Rows.{row_of as row_reached};
 ghost use Rattle.tc_query.specs.Faults.{OfDamage, IsHarmOf, IsWatched};
+ghost use Rattle.tc_query.specs.Shown.{IsReadOf};
 
 use crate::fault::{QueryFault, of_read};
 use crate::row::row_of_record;
@@ -39,6 +40,7 @@ pub(crate) fn row_stored<F: Frozen>(
     ensures of { HoldsPart (F.content component.now.file) cursor.new }
     ensures row { IfOk result (λ row. (d : Document) → IfSome (F.content component.now.file) (λ whole. IsRecordOfOne component.now.index.names d (bytes_of_record component.now.index.slots place.at whole)
         → option_to_list (option_map row_of row) ≡ row_reached (ask_of ask.now).equal_to key (reached (ask_of ask.now).path d))) }
+    ensures document { IfOk result (λ row. (d : Document) × IsReadOf (λ file. F.content file) component.now place d × (option_to_list (option_map row_of row) ≡ row_reached (ask_of ask.now).equal_to key (reached (ask_of ask.now).path d))) }
     ensures harmed { IfErr result (λ fault. OfDamage fault (λ file at bytes. IsHarmOf (λ file. F.content file) component.now file at bytes)) }
     ensures held { HasRecord component.now.index place.at cursor.old → (cursor.new ≡ cursor.old) × (F.Watch.counts watch.new ≡ F.Watch.counts watch.old) }
     ensures window { IfOk result (λ row. (HasRecord component.now.index place.at cursor.old → ⊥) → BeginsAtRecord component.now.index place.at cursor.new) }

@@ -1,4 +1,4 @@
-use Rattle.std.proofs.Common.{◌<◌, ◌+◌, length, get_or, sym, subst, arith}
+use Rattle.std.proofs.Common.{◌<◌, ◌+◌, ◌∙◌, Some, None, length, get_or, refl, sym, subst, arith}
 use Rattle.std.proofs.lemmas.Option.{slice_get-get_or, slice_get_within}
 use Rattle.std.proofs.lemmas.Result.{IfOk-weaker, IfErr-weaker}
 use Rattle.tc_command.specs.Commands.{ask_of}
@@ -6,7 +6,7 @@ use Rattle.tc_list.proofs.Shown.{where_live}
 use Rattle.tc_list.specs.declared.whereabouts.Whereabouts.TheVariants.{Absent}
 use Rattle.tc_lsm_model.specs.Lists.{live}
 use Rattle.tc_query.proofs.ListedRows.{place_there, found_there, listed_row}
-use Rattle.tc_query.proofs.RowSteps.{rows_of_none}
+use Rattle.tc_query.proofs.RowSteps.{rows_with_one, rows_of_none}
 use Rattle.tc_query.proofs.Spelled.{of_damage_then}
 use Rattle.tc_query.proofs.WindowReads.{later_reads, reads_few, set_cursors, record_read, record_few}
 use Rattle.tc_query.proofs.looking.row_listed.Goals as goal
@@ -71,3 +71,10 @@ returns-in-At-clause-windows g c =
     let told = c.row_stored.ensures in
     λ low first order a. record_few cs cursors c.args.key at m c.in-At.place (get_or cursors at c.index-cursors-at.result) c.row_stored.new.cursor (counts c.args.watch.now) (counts c.row_stored.new.watch) c.component_at-component.ensures.lawful.ascend
     (found_there cs c.args.key at m c.in-At.place here c.in-At.ensures) here there told.held told.once c.requires.of.many low first order a
+
+pub returns-in-Absent-clause-shown : goal.returns-in-Absent-clause-shown
+returns-in-Absent-clause-shown g c = (None, c.in-Absent.ensures, refl)
+
+pub returns-in-At-clause-shown : goal.returns-in-At-clause-shown
+returns-in-At-clause-shown g c =
+    IfOk-weaker c.row_stored.result _ _ (λ row is. (Some is.0, record { at = c.in-At.at; place = c.in-At.place; newest = c.in-At.ensures; component = c.component_at-component.result.now; here = c.component_at-component.ensures.there; read = is.1 }, is.2 ∙ rows_with_one (ask_of c.args.ask.now) c.args.key is.0)) c.row_stored.ensures.document

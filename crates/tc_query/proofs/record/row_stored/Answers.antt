@@ -41,3 +41,21 @@ returns-in-Ok-clause-row g c = λ d.
     ∙ ap (λ x. row_of ask.equal_to c.args.key (reached ask.path x))
     (means_one component.index.names bytes c.known.result.named d e (λ x is. (c.known.ensures.document x is).0) (λ n is. (c.known.ensures.numbered n is).0) under
     (subst (IsRecordOfOne component.index.names d) (sym (c.record-bytes.ensures.same ∙ read)) one)))
+
+pub returns-in-Ok-clause-document : goal.returns-in-Ok-clause-document
+returns-in-Ok-clause-document g c =
+    let component = c.args.component.now in
+    let slots = component.index.slots in
+    let at = c.args.place.at in
+    let bytes = c.record-bytes.result.now in
+    let found = c.in-Ok.ensures.document in
+    let e = found.0 in (
+      e,
+      record {
+        bytes = bytes;
+        long = c.record-bytes.ensures.length;
+        spells = subst (IsRecordUnder component.index.names e) c.known.ensures.bytes (subst (λ names. IsRecordUnder names e c.known.result.bytes) c.names.ensures found.1);
+        stands = subst (λ b. IfSome (g.F.Frozen.content component.file) (λ whole. b ≡ record_at slots at whole)) (sym c.record-bytes.ensures.same) c.in_ok-hold.ensures.read;
+      },
+      c.in-Ok.ensures.row e found.1,
+    )
