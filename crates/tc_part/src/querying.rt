@@ -4,13 +4,14 @@ ghost use Rattle.std.specs.Arc.{arc_value};
 ghost use Rattle.std.specs.Prelude.{◌≡◌, ◌≤◌, ◌+◌, false, true, None, option_map, IfErr, IfOk, OnErr, OnOk, IsErrOf};
 ghost use Rattle.tc_command.specs.Commands.{ask_of};
 ghost use Rattle.tc_plain_model.specs.Rows.{rows_over as rows_of_pairs};
+ghost use Rattle.tc_plain_model.specs.Writes.{Pairs};
 ghost use Rattle.tc_part_model.specs.PartState.{told, AreTold};
 ghost use Rattle.tc_part_model.specs.PartView.{PartView, stored_with};
 ghost use Rattle.tc_part_model.specs.Meaning.{IsPart, HasFailedAs};
 ghost use Rattle.tc_part.specs.Faults.{IsUndamaged};
 ghost use Rattle.tc_part.specs.Harms.{IsHarmIn, IsOfRead};
 ghost use Rattle.tc_query.specs.Faults.{IsWatched};
-ghost use Rattle.tc_query.specs.Shown.{live_keys};
+ghost use Rattle.tc_query.specs.Shown.{MayHold, live_keys};
 ghost use Rattle.tc_query.specs.Windows.{most_windows};
 
 use crate::fault::{PartFault, of_query};
@@ -41,6 +42,9 @@ impl<S: Store> Part<S> {
             → HasFailedAs (told S.history S.Device.history S.Frozen.content self.new) p None) }
         ensures left { OnErr result (self.new ≡ record self.old { main = self.new.main; failed = true }) }
 
+        // Whatever they tell, the newest entry of a key decides: by the record that a table keeps, or by one that was read.
+        ensures shown { IfOk result (λ rows. (pairs : Pairs) × MayHold (λ file. S.Frozen.content file) self.old.list self.old.sealed self.old.active pairs × (rows ≡ rows_of_pairs (ask_of ask.now) pairs)) }
+
         ensures harmed { IfErr result (λ fault. IsOfRead fault (λ file at bytes. IsHarmIn (λ file. S.Frozen.content file) self.old.list file at bytes)) }
 
         // So many keys have a document as directories and tables show, which is how many documents are live. Nor are there more
@@ -67,6 +71,7 @@ impl<S: Store> Part<S> {
         ensures undamaged { (p : PartView) → IsPart (told S.history S.Device.history S.Frozen.content self.old) p → AreTold (told S.history S.Device.history S.Frozen.content self.old).components
             → IfErr result IsUndamaged }
         ensures same { self.new ≡ record self.old { main = self.new.main } }
+        ensures shown { IfOk result (λ rows. (pairs : Pairs) × MayHold (λ file. S.Frozen.content file) self.old.list self.old.sealed self.old.active pairs × (rows ≡ rows_of_pairs (ask_of ask.now) pairs)) }
         ensures harmed { IfErr result (λ fault. IsOfRead fault (λ file at bytes. IsHarmIn (λ file. S.Frozen.content file) self.old.list file at bytes)) }
         ensures reads { (S.Watch.counts self.new.main).reads ≤ (S.Watch.counts self.old.main).reads + live_keys self.old.list self.old.sealed self.old.active }
         ensures windows { (S.Watch.counts self.new.main).reads ≤ (S.Watch.counts self.old.main).reads + most_windows self.old.list }

@@ -1,6 +1,10 @@
-use Rattle.std.proofs.Common.{subst, sym}
+use Rattle.std.proofs.Common.{◌≡◌, subst, sym}
+use Rattle.tc_command.specs.Commands.{ask_of}
 use Rattle.tc_part_model.specs.PartState.{told}
 use Rattle.tc_part_model.specs.PartView.{stored_with}
+use Rattle.tc_plain_model.specs.Rows.{rows_over}
+use Rattle.tc_plain_model.specs.Writes.{Pairs}
+use Rattle.tc_query.specs.Shown.{MayHold}
 use Rattle.tc_query.specs.Stored.{Holds}
 use Rattle.tc_part.specs.Faults.{IsUndamaged}
 use Rattle.tc_part.specs.Harms.{IsHarmIn, IsOfRead}
@@ -34,6 +38,18 @@ returns-clause-undamaged g c =
           rw w.result-is
           (subst IsUndamaged (sym w.of_query.ensures) (unharmed_so w.in-Err.fault (w.in-Err.ensures.unharmed p.list (all_loaded content list p.list is.view.components files))))
     ]
+
+pub returns-clause-shown : goal.returns-clause-shown
+returns-clause-shown g c =
+    let content = g.S.Frozen.Frozen.content in
+    let list = c.self.inside.list in
+    rw (← c.self.view_is)
+    (elim c.match-rows_over.branch [
+      | in-Ok w ↦
+          rw w.result-is
+          (subst (λ sealed. (pairs : Pairs) × MayHold content list sealed c.self.inside.active pairs × (w.in-Ok.rows ≡ rows_over (ask_of c.args.ask.now) pairs)) c.table_of-sealed.ensures w.in-Ok.ensures.shown)
+      | in-Err w ↦ rw w.result-is tt
+    ])
 
 pub returns-clause-harmed : goal.returns-clause-harmed
 returns-clause-harmed g c =
