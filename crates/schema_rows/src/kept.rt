@@ -16,7 +16,7 @@ use crate::records::record_of_document;
 use std::alloc::Global;
 use std::marker::Model;
 use tc_anti::{shapes_fit, subtract};
-use tc_count::{infer, shapes_of};
+use tc_count::{Inferred, infer, shapes_of};
 use tc_infer::{add, tally};
 use tc_names::Names;
 use tc_record::{RecordRef, one_document};
@@ -50,6 +50,17 @@ impl Kept {
             schema: Schema::empty(alloc),
             docs: Vec::new(alloc),
         }
+    }
+
+    /// Documents, and the schema that is inferred from them.
+    pub(crate) fn inferred(alloc: Global, docs: Vec<Doc>) -> Result<Kept, NoAnswer> {
+        let _size = size_of_all(docs.as_slice(), alloc)?;
+        let Inferred { names, schema } = infer(alloc, docs.as_slice())?;
+        Ok(Kept {
+            names,
+            schema,
+            docs,
+        })
     }
 
     /// One document more.

@@ -1,12 +1,14 @@
 //! Layer 6, programs: keeps the schema of documents, one row of standard input at a time, and prints its text. A row is
 //! a call and its argument, between them a space. The schema is added to and subtracted from, and the text of what is
 //! inferred from all documents stands beside it where it differs. `met` adds a document by its record, and tells whether
-//! each of its values had a counter already. `no answer` stands for a row out of form, and no document is left then. A row
+//! each of its values had a counter already. `generated` has the documents that so many generated commands leave, carried out
+//! plainly, and their schema inferred: a demonstration in `run_rows` has the same text. `no answer` stands for a row out of form, and no document is left then. A row
 //! that begins with `#` is a note, and is printed as it is.
 #![tactic(auto)]
 
 mod bytes;
 mod chance;
+mod generated;
 mod kept;
 mod no_answer;
 mod records;
@@ -59,6 +61,7 @@ fn answer_of(alloc: Global, kept: Kept, row: &str) -> Result<(Kept, String), NoA
         "met" => met(alloc, kept, argument),
         "less" => shown(alloc, kept.without(alloc, place(argument)?)?),
         "random" => shown(alloc, at_random(alloc, argument)?),
+        "generated" => shown(alloc, after_generated(alloc, argument)?),
         "bytes" => bytes::shown(alloc, kept),
         _ => Err(NoAnswer),
     }
@@ -116,6 +119,14 @@ fn at_random(alloc: Global, argument: &str) -> Result<Kept, NoAnswer> {
         }
     }
     Ok(kept)
+}
+
+// The documents behind so many generated commands.
+fn after_generated(alloc: Global, commands: &str) -> Result<Kept, NoAnswer> {
+    match commands.parse::<u32>() {
+        Ok(commands) => Kept::inferred(alloc, generated::documents(alloc, commands)?),
+        Err(_fault) => Err(NoAnswer),
+    }
 }
 
 fn stepped(alloc: Global, kept: Kept, chance: &mut Chance) -> Result<Kept, NoAnswer> {
