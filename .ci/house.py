@@ -24,10 +24,9 @@ ANSWERS = ("Answers.antt", "Invariants.antt", "Proof.antt")
 ROWS = "Rows.antt"
 # Definitions, and laws that no clause can state, which crates to come stand on. A name leaves this list once it is used.
 AWAITED = {
-    "tc_run_model": ("AreReplies-replies_to", "after_all_stands", "built_replies", "first_stands", "known_after-append", "lines_in-windows",
+    "tc_run_model": ("AreReplies-replies_to", "after_all_stands", "built_replies", "first_stands", "lines_in-windows",
         "replies_have_kinds", "windows_are_cut"),
     "tc_store": ("picture_before",),
-    "tc_gen": ("two_lines",),
 }
 
 

@@ -152,6 +152,14 @@ window_behind_call fault y z a b c first spent one two = record {
   disks = calls_follow fault a b c first spent one two.disks;
 }
 
+if_spent : (fault : Option RunFault) (spent : Type 0) → IfSome fault (λ f. f ≡ Spent → spent) → fault ≡ Some Spent → spent
+if_spent None spent cause same = absurd (cc)
+if_spent (Some f) spent cause same = cause (cc)
+
+-- why no generation was left
+pub window_spent : (fault : Option RunFault) (before now : ℕ) (a b : DiskFaults) (spent : Type 0) → HasCauses before now a b spent fault → fault ≡ Some Spent → spent
+window_spent fault before now a b spent cause same = if_spent fault spent cause.disks.spent same
+
 -- ---- runs
 
 run_kind : (f : RunFault) → IsOfWindow f → IsOfRun f

@@ -5,14 +5,14 @@ use Rattle.std.proofs.lemmas.List.Elements.{All-cons, All-nil}
 use Rattle.tc_machine.specs.Pictures.{Recovers}
 use Rattle.tc_plain_model.specs.Writes.{Pairs}
 use Rattle.tc_run_model.specs.World.{World}
-use Rattle.tc_run_model.specs.Course.{Ending, behind, finished, input_spent, worlds_left, IsReached}
+use Rattle.tc_run_model.specs.Course.{Ending, Shown, behind, each_line, finished, input_spent, worlds_left, IsReached}
 use Rattle.tc_run_model.specs.Windows.{Window}
 use Rattle.tc_store.specs.Disk.{Disk, Picture}
 use Rattle.tc_store.specs.Moments.{IfTold}
 use Rattle.tc_server.specs.Ending.{RanLeaving, RanTo}
 use Rattle.tc_server.specs.Faults.{EndsAs, IsNoDamage, IsOfRun}
 use Rattle.tc_server.specs.Holds.{IsOneOf, IsLeftAt, IsLeft}
-use Rattle.tc_server.specs.OverFiles.{EndsOver, HasLastGeneration, HasSpentInput, IsHere, IsPairsOfOne, LeaveOneOf, LeavesOneOf, LeavesSmall, PairsOf, RanOver}
+use Rattle.tc_server.specs.OverFiles.{EndsOver, HasSpentInput, IsHere, IsPairsOfOne, LeaveOneOf, LeavesOneOf, LeavesSmall, PairsOf, RanOver}
 use Rattle.tc_server.specs.Partitions.{the_only}
 use Rattle.tc_server.specs.declared.outcome.RunFault.{RunFault}
 use Rattle.tc_server.specs.declared.outcome.RunFault.TheVariants.{Usage, Read, Write, Spent, Disk as DiskFault, Damaged, Memory, Layout}
@@ -119,10 +119,10 @@ small_over holds keeps spent fault (Some w) memory merge ending answered last k 
     (small_left holds keeps k (behind w answered) memory merge disks (ends none).small (ends none).stands (subst (λ e. IsLeftAt holds keeps k (worlds_left e w answered last)) over left))
 
 -- a run over an open partition, whose files are these where it is closed
-pub ran_over : {K : Type 0} (holds : K → Option World → Type 0) (keeps : K → World → World → Type 0) (spent : K → Type 0) (fault : Option RunFault) (first : Option World) (most memory merge : ℕ) (left left' taken taken' : Option (List ℕ)) (k : K) (disks : List Disk)
+pub ran_over : {K : Type 0} (shown : Shown) (holds : K → Option World → Type 0) (keeps : K → World → World → Type 0) (spent : K → Type 0) (fault : Option RunFault) (first : Option World) (most memory merge : ℕ) (left left' taken taken' : Option (List ℕ)) (k : K) (disks : List Disk)
     → (fault ≡ None → EndsSmall holds keeps k memory merge disks) → ((w : World) → holds k (Some w) → LeavesOneOf (w ∷ []) disks) → ((w v : World) → keeps k w v → LeavesOneOf (w ∷ v ∷ []) disks)
-    → IfSome fault IsOfRun → RanLeaving holds keeps spent fault first most left left' taken taken' k → RanOver fault first most memory merge left left' taken taken' (disks ∷ [])
-ran_over holds keeps spent fault first most memory merge left left' taken taken' k disks ends held kept kind r = record {
+    → IfSome fault IsOfRun → RanLeaving shown holds keeps spent fault first most left left' taken taken' k → RanOver shown fault first most memory merge left left' taken taken' (disks ∷ [])
+ran_over shown holds keeps spent fault first most memory merge left left' taken taken' k disks ends held kept kind r = record {
   ending = r.run.ending;
   by = ends_over (spent k) fault r.run.ending r.run.by;
   ran = r.run.ran;
@@ -135,12 +135,11 @@ ran_over holds keeps spent fault first most memory merge left left' taken taken'
 -- ---- numbers were spent
 
 -- they are those of the input, or the generations
-pub spent_over : (spent : Type 0) (fault : Option RunFault) (first : Option World) (most : ℕ) (left left' taken taken' : Option (List ℕ)) (disks : List Disk)
-    → (spent → IfTold disks HasLastGeneration) → RanTo spent fault first most left left' taken taken' → fault ≡ Some Spent → HasSpentInput left left' ⊎ IfTold disks HasLastGeneration
-spent_over spent fault first most left left' taken taken' disks last r same =
+pub spent_by : (spent : Type 0) (fault : Option RunFault) (first : Option World) (most : ℕ) (left left' taken taken' : Option (List ℕ)) → RanTo each_line spent fault first most left left' taken taken' → fault ≡ Some Spent → HasSpentInput left left' ⊎ spent
+spent_by spent fault first most left left' taken taken' r same =
     ⊎_elim
     (λ input.
     let reached : IsReached input_spent most r.ran.input left' r.ran.answered r.ran.last = subst (λ ending. IsReached ending most r.ran.input left' r.ran.answered r.ran.last) input r.ran.reached in
     inl (r.ran.input, r.ran.consumed, reached.0))
-    (λ generation. inr (last generation.1))
+    (λ generation. inr generation.1)
     (subst (λ f. EndsAs spent f r.ending) same r.by)

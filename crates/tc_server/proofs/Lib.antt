@@ -13,6 +13,12 @@ pub mod RunLemmas
 pub mod KitCounts
 pub mod LeftFiles
 pub mod SmallFiles
+pub mod AskedRuns
 pub mod NotOpened
 pub mod OverPart
 pub mod OpenedRuns
+pub mod DemoWindows
+pub mod DemoLemmas
+pub mod DemoLoops
+pub mod DemoRuns
+pub mod DemoCauses

@@ -1,6 +1,6 @@
 -- A session over the engine of a part: where it begins, and what is given back at its end.
 use Rattle.std.proofs.Common.{◌≡◌, ◌∙◌, ℕ, List, ap, sym, subst}
-use Rattle.std.specs.Prelude.{false, Option, Some}
+use Rattle.std.specs.Prelude.{false, Option, Some, None}
 use Rattle.tc_list.specs.declared.policy.Policy.{Policy}
 use Rattle.tc_part.specs.FilesOut.{LogIsOut}
 use Rattle.tc_part_model.specs.PartState.{PartState, told}
@@ -30,6 +30,10 @@ pub begins_held : {S W D F : Type 0} (disks : S → List Disk) (moments : D → 
     → StandsAt (told disks moments content part) part.limits first → HoldsAt disks moments content k first
 unfolding HoldsAt
 begins_held disks moments content part policy k first begun stands = subst (λ p. HoldsAt disks moments content p first) (sym begun) stands
+
+pub held_unknown : {S W D F : Type 0} (disks : S → List Disk) (moments : D → List DiskFile) (content : F → Option (List ℕ)) (k : Partitions S W D F) → HoldsAt disks moments content k None
+unfolding HoldsAt
+held_unknown disks moments content k = tt
 
 -- what counts over the session is what counts from the part to the kit that is given back
 pub causes_over : {S W D F : Type 0} (counts : W → Counts) (part : PartState S D F W) (policy : Policy) (k k' : Partitions S W D F) (kit : Kit S W D F) (reads reads' before now : ℕ) (fault : Option RunFault) → k ≡ begun_over part policy

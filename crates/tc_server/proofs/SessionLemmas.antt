@@ -35,7 +35,7 @@ use Rattle.tc_server.specs.declared.window.Window.{Window as CodeWindow}
 
 -- ---- windows, behind which one more stands
 
-requests-unless_empty : (closed : List Window) (window : Window) → requests_in (closed ++ unless_empty window) ≡ requests_in closed ++ requests_for window
+pub requests-unless_empty : (closed : List Window) (window : Window) → requests_in (closed ++ unless_empty window) ≡ requests_in closed ++ requests_for window
 requests-unless_empty closed window =
     ap requests_for (lines_in-append closed (unless_empty window) ∙ ap (λ lines. lines_in closed ++ lines) (lines_in-unless_empty window))
     ∙ ap (map if_built) (map-append request_of (lines_in closed) window)

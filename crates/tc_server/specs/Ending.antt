@@ -1,24 +1,30 @@
 -- What a run read and wrote, by the way in which it ended.
-use Rattle.std.specs.Prelude.{◌≡◌, ℕ, List, Option, Some, None, option_map, IfSome}
+use Rattle.std.specs.Prelude.{◌≡◌, ◌≤◌, ℕ, List, Option, Some, None, option_map, IfSome}
 use Rattle.tc_edge.specs.Moments.{Moment, IsPrompt}
+use Rattle.tc_gen.specs.Generated.{input_of}
+use Rattle.tc_gen.specs.TwoLines.{two_lines}
 use Rattle.tc_plain_model.specs.Part.{Limits}
 use Rattle.tc_run_model.specs.World.{World}
-use Rattle.tc_run_model.specs.Course.{Ending, each_line, IsDue, Ran, worlds_left}
+use Rattle.tc_run_model.specs.Course.{Ending, Shown, each_line, IsDue, Ran, worlds_left}
 use Rattle.tc_server.specs.Faults.{EndsAs, IsNoDamage}
 use Rattle.tc_server.specs.Holds.{IsLeft}
 use Rattle.tc_server.specs.declared.outcome.RunFault.{RunFault}
+use Rattle.tc_words.specs.Grammar.{max_commands}
+use Rattle.tc_words.specs.Options.{options_asked}
+use Rattle.tc_words.specs.declared.asked.Invocation.{Invocation}
+use Rattle.tc_words.specs.declared.asked.Invocation.TheVariants.{Run, Demo}
 use Rattle.tc_words.specs.declared.run.Options.{Options}
 
--- A run from a first world, over windows of at most so many lines, that ended by this fault or by none. Where it ended by a
--- generation that is not there, `spent` holds.
-pub record RanTo (spent : Type 0) (fault : Option RunFault) (first : Option World) (most : ℕ) (left left' taken taken' : Option (List ℕ)) : Type 0 where
+-- A run from a first world, over windows of at most so many lines, of whose replies so much is shown, that ended by this fault or
+-- by none. Where it ended by a generation that is not there, `spent` holds.
+pub record RanTo (shown : Shown) (spent : Type 0) (fault : Option RunFault) (first : Option World) (most : ℕ) (left left' taken taken' : Option (List ℕ)) : Type 0 where
   pub ending : Ending
   pub by : EndsAs spent fault ending
-  pub ran : Ran each_line first most ending left left' taken taken'
+  pub ran : Ran shown first most ending left left' taken taken'
 
 -- The same, and what it left. Where it was known what is stored, it did not end by damage.
-pub record RanLeaving {K : Type 0} (holds : K → Option World → Type 0) (keeps : K → World → World → Type 0) (spent : K → Type 0) (fault : Option RunFault) (first : Option World) (most : ℕ) (unread unread' taken taken' : Option (List ℕ)) (k : K) : Type 0 where
-  pub run : RanTo (spent k) fault first most unread unread' taken taken'
+pub record RanLeaving {K : Type 0} (shown : Shown) (holds : K → Option World → Type 0) (keeps : K → World → World → Type 0) (spent : K → Type 0) (fault : Option RunFault) (first : Option World) (most : ℕ) (unread unread' taken taken' : Option (List ℕ)) (k : K) : Type 0 where
+  pub run : RanTo shown (spent k) fault first most unread unread' taken taken'
   pub sound : IfSome first (λ w. IfSome fault IsNoDamage)
   pub left : IsLeft holds keeps k (option_map (λ w. worlds_left run.ending w run.ran.answered run.ran.last) first)
 
@@ -31,7 +37,31 @@ limits_of options = record { names = options.names; docs = options.docs }
 abbrev pub ReadsPromptly : Option World → ℕ → Option (List ℕ) → Option (List Moment) → Option (List Moment) → Type 0
 ReadsPromptly first most base told told' = IsPrompt (IsDue each_line first most base) told told'
 
--- the reads of a run for these options were prompt, and for words that are none there was no read
-abbrev pub ServedPromptly : Option World → Option Options → Option (List ℕ) → Option (List Moment) → Option (List Moment) → Type 0
-ServedPromptly first (Some options) base told told' = ReadsPromptly first options.window base told told'
+-- ---- what is asked for
+
+-- the words ask for a run
+abbrev pub IsRun : Option Invocation → Type 0
+IsRun (Some (Run options)) = Unit {0}
+IsRun (Some (Demo n options)) = ⊥
+IsRun None = ⊥
+
+-- a demonstration has no more commands than words may ask for
+abbrev pub AreFewCommands : Invocation → Type 0
+AreFewCommands (Run options) = Unit {0}
+AreFewCommands (Demo n options) = n ≤ max_commands
+
+-- What is asked for is a run over the input, of whose replies each line is shown, or a demonstration: a run over the generated
+-- input, of whose replies two lines are shown, and nothing before all replies are there.
+abbrev pub RunsOver : Invocation → Option (List ℕ) → Option (List ℕ) → (Shown → Option (List ℕ) → Option (List ℕ) → Type 0) → Type 0
+RunsOver (Run options) left left' RunOf = RunOf each_line left left'
+RunsOver (Demo n options) left left' RunOf = (rest : Option (List ℕ)) × RunOf (two_lines n) (Some (input_of n)) rest
+
+-- the reads of a run, over windows of at most so many lines, were prompt; a demonstration reads nothing
+abbrev pub AskedPromptly : Invocation → Option World → ℕ → Option (List ℕ) → Option (List Moment) → Option (List Moment) → Type 0
+AskedPromptly (Run options) first most base told told' = ReadsPromptly first most base told told'
+AskedPromptly (Demo n options) first most base told told' = told' ≡ told
+
+-- the same for what the words ask for; where they are no command line there was no read
+abbrev pub ServedPromptly : Option World → Option Invocation → Option (List ℕ) → Option (List Moment) → Option (List Moment) → Type 0
+ServedPromptly first (Some asked) base told told' = AskedPromptly asked first (options_asked asked).window base told told'
 ServedPromptly first None base told told' = told' ≡ told

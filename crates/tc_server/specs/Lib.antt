@@ -10,3 +10,4 @@ pub mod OverFiles
 pub mod Calls
 pub mod Program
 pub mod Progress
+pub mod Demo

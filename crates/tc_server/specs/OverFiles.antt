@@ -21,13 +21,14 @@ use Rattle.tc_recover.specs.Refusals.{strays}
 use Rattle.tc_replay.specs.Openings.{AreIn}
 use Rattle.tc_open.specs.Judged.{refusal_of, AreSpent, IsOfFiles, Passes}
 use Rattle.tc_run_model.specs.World.{World, first_world}
-use Rattle.tc_run_model.specs.Course.{Ending, finished, input_failed, input_spent, output_failed, stopped, unopened, max_input, behind, each_line, Ran, worlds_left}
-use Rattle.tc_server.specs.Ending.{limits_of}
+use Rattle.tc_run_model.specs.Course.{Ending, finished, input_failed, input_spent, output_failed, stopped, unopened, max_input, behind, Ran, Shown, worlds_left}
+use Rattle.tc_server.specs.Ending.{limits_of, IsRun, RunsOver}
 use Rattle.tc_server.specs.Faults.{IsNoDamage, OneRose}
 use Rattle.tc_server.specs.Partitions.{the_only}
 use Rattle.tc_server.specs.declared.outcome.RunFault.{RunFault}
 use Rattle.tc_server.specs.declared.outcome.RunFault.TheVariants.{Usage, Read, Write, Spent, Disk as DiskFault, Damaged, Memory, Layout}
-use Rattle.tc_words.specs.declared.run.Options.{Options}
+use Rattle.tc_words.specs.Options.{options_asked}
+use Rattle.tc_words.specs.declared.asked.Invocation.{Invocation}
 
 -- ---- the first world
 
@@ -46,8 +47,8 @@ BeginsAs limits disks None = Unit {0}
 BeginsAs limits [] (Some w) = ⊥
 BeginsAs limits (disk ∷ past) (Some w) = OpensAs limits disk w
 
-abbrev pub BeginsFor : Option Options → List Disk → Option World → Type 0
-BeginsFor (Some options) disks first = BeginsAs (limits_of options) disks first
+abbrev pub BeginsFor : Option Invocation → List Disk → Option World → Type 0
+BeginsFor (Some asked) disks first = BeginsAs (limits_of (options_asked asked)) disks first
 BeginsFor None disks first = Unit {0}
 
 -- ---- how a run ends
@@ -110,22 +111,27 @@ pub record OpensSmall (memory merge : ℕ) (flushed : Bool) (picture : Picture) 
 abbrev pub LeavesSmall : ℕ → ℕ → Bool → List Disk → Type 0
 LeavesSmall memory merge flushed disks = IfTold disks (LeavesPictures nothing_held (OpensSmall memory merge flushed))
 
--- A run over files, from a first world where it is known, that ended by this fault or by none, and gave these files back. Where
+-- A run over files, from a first world where it is known, of whose replies so much is shown, that ended by this fault or by none, and gave these files back. Where
 -- the world is known nothing is damaged, of another partition, or of another number of partitions. Without a kit no line is read.
 -- Where it ended by none the files are left small: no log has a frame where a flush or the schema was asked for, and nothing was
 -- written since.
-pub record RanOver (fault : Option RunFault) (first : Option World) (most memory merge : ℕ) (left left' taken taken' : Option (List ℕ)) (kits : List (List Disk)) : Type 0 where
+pub record RanOver (shown : Shown) (fault : Option RunFault) (first : Option World) (most memory merge : ℕ) (left left' taken taken' : Option (List ℕ)) (kits : List (List Disk)) : Type 0 where
   pub ending : Ending
   pub by : EndsOver fault ending
-  pub ran : Ran each_line first most ending left left' taken taken'
+  pub ran : Ran shown first most ending left left' taken taken'
   pub sound : IfSome first (λ w. IfSome fault IsNoDamage × IfSome fault IsHere)
   pub needs : kits ≡ [] → ending ≡ unopened
   pub exits : IfSome first (λ w. LeaveOneOf (worlds_left ending w ran.answered ran.last) kits)
   pub small : IfSome first (λ w. fault ≡ None → All (LeavesSmall memory merge (behind w ran.answered).flushed) kits)
 
--- A run for these options, or for words that are none, which reads and writes nothing and asks for no kit.
-abbrev pub ServedOver : Option Options → Option RunFault → Option World → Option (List ℕ) → Option (List ℕ) → Option (List ℕ) → Option (List ℕ) → List (List Disk) → Type 0
-ServedOver (Some options) fault first left left' taken taken' kits = RanOver fault first options.window options.memory options.merge left left' taken taken' kits
+-- what was asked for, with its options
+abbrev pub AskedOver : Invocation → Option RunFault → Option World → Option (List ℕ) → Option (List ℕ) → Option (List ℕ) → Option (List ℕ) → List (List Disk) → Type 0
+AskedOver asked fault first left left' taken taken' kits =
+    RunsOver asked left left' (λ shown unread unread'. RanOver shown fault first (options_asked asked).window (options_asked asked).memory (options_asked asked).merge unread unread' taken taken' kits)
+
+-- The same for words; where they are no command line nothing is read or written, and no kit is asked for.
+abbrev pub ServedOver : Option Invocation → Option RunFault → Option World → Option (List ℕ) → Option (List ℕ) → Option (List ℕ) → Option (List ℕ) → List (List Disk) → Type 0
+ServedOver (Some asked) fault first left left' taken taken' kits = AskedOver asked fault first left left' taken taken' kits
 ServedOver None (Some Usage) first left left' taken taken' kits = Keeps left left' × Keeps taken taken' × (kits ≡ [])
 ServedOver None (Some Memory) first left left' taken taken' kits = Keeps left left' × Keeps taken taken' × (kits ≡ [])
 ServedOver None _ first left left' taken taken' kits = ⊥
@@ -164,6 +170,10 @@ HasLayoutCause W size name fault = Unit {0}
 -- as many bytes were read as can be
 abbrev pub HasSpentInput : Option (List ℕ) → Option (List ℕ) → Type 0
 HasSpentInput left left' = (input : List ℕ) × Consumes left left' input × (length input ≡ max_input)
+
+-- the numbers of the input were spent, which only a run reads
+abbrev pub IsInputSpent : Option Invocation → Option (List ℕ) → Option (List ℕ) → Type 0
+IsInputSpent asked left left' = IsRun asked × HasSpentInput left left'
 
 -- a file has the greatest generation
 abbrev pub HasLastGeneration : Disk → Type 0

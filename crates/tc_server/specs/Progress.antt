@@ -40,7 +40,7 @@ pub record HasCome {K : Type 0} (holds : K → Option World → Type 0) (first :
 -- a run goes on where more lines may come, or has ended
 abbrev pub ComesTo : {K : Type 0} → (K → Option World → Type 0) → (K → World → World → Type 0) → (K → Type 0) → Option World → Bool → ℕ → Reading → Session K → Option (List ℕ) → Option (List ℕ) → Option (List ℕ) → Option (List ℕ) → Option (List Moment) → Option (List Moment) → Type 0
 ComesTo holds keeps spent first true most reading session begun left base taken told told' = HasCome holds first reading session begun left base taken told told'
-ComesTo holds keeps spent first false most reading session begun left base taken told told' = RanLeaving holds keeps spent None first most begun left base taken session.keeper
+ComesTo holds keeps spent first false most reading session begun left base taken told told' = RanLeaving each_line holds keeps spent None first most begun left base taken session.keeper
 
 -- one more line was taken, or the input has ended
 abbrev pub Goes : {K : Type 0} → (K → Option World → Type 0) → (K → World → World → Type 0) → (K → Type 0) → Bool → Reading → Session K → Option (List ℕ) → Option (List ℕ) → Option (List Moment) → Reading → Session K → Option (List ℕ) → Option (List ℕ) → Option (List Moment) → Type 0
@@ -52,7 +52,7 @@ Goes holds keeps spent more reading session left taken told reading' session' le
 abbrev pub Ends : {K : Type 0} → (K → Option World → Type 0) → (K → World → World → Type 0) → (K → Type 0) → RunFault → Reading → Session K → Option (List ℕ) → Option (List ℕ) → Option (List ℕ) → Option (List ℕ) → Option (List Moment) → Session K → Type 0
 Ends holds keeps spent fault reading session left left' taken taken' told session' =
     (first : Option World) (begun base : Option (List ℕ)) (before : Option (List Moment)) → HasCome holds first reading session begun left base taken before told
-    → RanLeaving holds keeps spent (Some fault) first session.window.limit begun left' base taken' session'.keeper
+    → RanLeaving each_line holds keeps spent (Some fault) first session.window.limit begun left' base taken' session'.keeper
 
 -- behind any lines that came, the reads that were made now were prompt
 abbrev pub AsksPromptly : {K : Type 0} → (K → Option World → Type 0) → Reading → Session K → Option (List ℕ) → Option (List ℕ) → Option (List Moment) → Option (List Moment) → Type 0

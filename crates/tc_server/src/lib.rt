@@ -2,6 +2,7 @@
 #![tactic(auto)]
 
 mod answer;
+mod demo;
 mod outcome;
 mod partitions;
 mod program;

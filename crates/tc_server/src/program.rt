@@ -5,10 +5,10 @@ ghost use Rattle.std.specs.Result.{result_ok};
 ghost use Rattle.tc_bytes.specs.Counts.{Rose};
 ghost use Rattle.tc_run_model.specs.World.{World};
 ghost use Rattle.tc_store.specs.Moments.{IfTold};
-ghost use Rattle.tc_server.specs.Ending.{ServedPromptly};
+ghost use Rattle.tc_server.specs.Ending.{IsRun, ServedPromptly};
 ghost use Rattle.tc_server.specs.Faults.{faults_in, status_of, IfDisk, IsWrite, NoneFell};
-ghost use Rattle.tc_server.specs.OverFiles.{AreGenerationsSpent, BeginsFor, HasDiskCauseOver, HasLayoutCause, HasSpentInput, IsJudged, IsOfTheOnly, ServedOver};
-ghost use Rattle.tc_server.specs.Program.{fault_of_words, options_given};
+ghost use Rattle.tc_server.specs.OverFiles.{AreGenerationsSpent, BeginsFor, HasDiskCauseOver, HasLayoutCause, IsInputSpent, IsJudged, IsOfTheOnly, ServedOver};
+ghost use Rattle.tc_server.specs.Program.{fault_of_words, invocation_given};
 
 use crate::outcome::{RunFault, Served};
 use crate::server::serve;
@@ -55,13 +55,14 @@ pub fn run_program<R: Eprint + AllocGlobal, I: Source<O>, O: Sink, H: Shelf>(
     ensures status { result.status ≡ status_of result.fault }
 
     // What was read and written, and what is left of the files, from each first world that the files give, and from none.
-    ensures served { (first : Option World) → BeginsFor (options_given (option_map (λ words. words.items) (result_ok words))) (H.files shelf.old 0) first
-        → ServedOver (options_given (option_map (λ words. words.items) (result_ok words))) result.fault first (I.left source.old) (I.left source.new) (O.taken sink.old) (O.taken sink.new) (map (λ kit. H.Store.history kit.store) result.kits.items) }
+    ensures served { (first : Option World) → BeginsFor (invocation_given (option_map (λ words. words.items) (result_ok words))) (H.files shelf.old 0) first
+        → ServedOver (invocation_given (option_map (λ words. words.items) (result_ok words))) result.fault first (I.left source.old) (I.left source.new) (O.taken sink.old) (O.taken sink.new) (map (λ kit. H.Store.history kit.store) result.kits.items) }
 
-    // At each read the sink had accepted the replies to the windows that had closed among what was
+    // Only a run reads. At each of its reads the sink had accepted the replies to the windows that had closed among what was
     // given before it, and no more.
-    ensures prompt { (first : Option World) → BeginsFor (options_given (option_map (λ words. words.items) (result_ok words))) (H.files shelf.old 0) first
-        → ServedPromptly first (options_given (option_map (λ words. words.items) (result_ok words))) (O.taken sink.old) (I.moments source.old) (I.moments source.new) }
+    ensures unread { IsRun (invocation_given (option_map (λ words. words.items) (result_ok words))) ⊎ (source.new ≡ source.old) }
+    ensures prompt { (first : Option World) → BeginsFor (invocation_given (option_map (λ words. words.items) (result_ok words))) (H.files shelf.old 0) first
+        → ServedPromptly first (invocation_given (option_map (λ words. words.items) (result_ok words))) (O.taken sink.old) (I.moments source.old) (I.moments source.new) }
 
     // One kit at most was asked for, and is given back. Where none is, the shelf is as it was, or has failed. No count falls.
     ensures kits { length result.kits.items ≤ 1 }
@@ -71,15 +72,15 @@ pub fn run_program<R: Eprint + AllocGlobal, I: Source<O>, O: Sink, H: Shelf>(
 
     // When a fault may be answered.
     ensures words { IfErr words (λ fault. result.fault ≡ Some (fault_of_words fault)) }
-    ensures usage { result.fault ≡ Some RunFault.Usage → options_given (option_map (λ words. words.items) (result_ok words)) ≡ None }
+    ensures usage { result.fault ≡ Some RunFault.Usage → invocation_given (option_map (λ words. words.items) (result_ok words)) ≡ None }
     ensures read { result.fault ≡ Some RunFault.Read → Rose (I.faults source.old) (I.faults source.new) }
     ensures write { IfSome result.fault (λ fault. IsWrite fault → Rose (O.faults sink.old) (O.faults sink.new)) }
     ensures disk { IfSome result.fault (λ fault. IfDisk fault (λ p. HasDiskCauseOver (H.faults shelf.old) (H.faults shelf.new) (H.kit_faults shelf.old 0) (map (faults_in (λ w. H.Store.Watch.counts w)) result.kits.items))) }
     ensures partition { IfSome result.fault IsOfTheOnly }
-    ensures judged { options_given (option_map (λ words. words.items) (result_ok words)) ≢ None → IfTold (H.files shelf.old 0) (λ disk. IsJudged disk result.fault) }
+    ensures judged { invocation_given (option_map (λ words. words.items) (result_ok words)) ≢ None → IfTold (H.files shelf.old 0) (λ disk. IsJudged disk result.fault) }
     ensures layout { IfSome result.fault (HasLayoutCause H.Store.Watch (λ file. H.Store.Frozen.size file) (λ file. H.Store.Frozen.name file)) }
     ensures spent { result.fault ≡ Some RunFault.Spent
-        → HasSpentInput (I.left source.old) (I.left source.new) ⊎ AreGenerationsSpent (H.files shelf.old 0) (map (λ kit. H.Store.history kit.store) result.kits.items) }
+        → IsInputSpent (invocation_given (option_map (λ words. words.items) (result_ok words))) (I.left source.old) (I.left source.new) ⊎ AreGenerationsSpent (H.files shelf.old 0) (map (λ kit. H.Store.history kit.store) result.kits.items) }
 {
     let served = served_for(rt.alloc(), words, source, sink, shelf);
     report(rt, &served.fault);
@@ -95,24 +96,25 @@ fn served_for<I: Source<O>, O: Sink, H: Shelf>(
     shelf: &mut H,
 ) -> Served<H::Store>
     ensures status { result.status ≡ status_of result.fault }
-    ensures served { (first : Option World) → BeginsFor (options_given (option_map (λ words. words.items) (result_ok words))) (H.files shelf.old 0) first
-        → ServedOver (options_given (option_map (λ words. words.items) (result_ok words))) result.fault first (I.left source.old) (I.left source.new) (O.taken sink.old) (O.taken sink.new) (map (λ kit. H.Store.history kit.store) result.kits.items) }
-    ensures prompt { (first : Option World) → BeginsFor (options_given (option_map (λ words. words.items) (result_ok words))) (H.files shelf.old 0) first
-        → ServedPromptly first (options_given (option_map (λ words. words.items) (result_ok words))) (O.taken sink.old) (I.moments source.old) (I.moments source.new) }
+    ensures served { (first : Option World) → BeginsFor (invocation_given (option_map (λ words. words.items) (result_ok words))) (H.files shelf.old 0) first
+        → ServedOver (invocation_given (option_map (λ words. words.items) (result_ok words))) result.fault first (I.left source.old) (I.left source.new) (O.taken sink.old) (O.taken sink.new) (map (λ kit. H.Store.history kit.store) result.kits.items) }
+    ensures unread { IsRun (invocation_given (option_map (λ words. words.items) (result_ok words))) ⊎ (source.new ≡ source.old) }
+    ensures prompt { (first : Option World) → BeginsFor (invocation_given (option_map (λ words. words.items) (result_ok words))) (H.files shelf.old 0) first
+        → ServedPromptly first (invocation_given (option_map (λ words. words.items) (result_ok words))) (O.taken sink.old) (I.moments source.old) (I.moments source.new) }
     ensures kits { length result.kits.items ≤ 1 }
     ensures unasked { result.kits.items ≡ [] → (shelf.new ≡ shelf.old) ⊎ Rose (H.faults shelf.old) (H.faults shelf.new) }
     ensures other_kits { (other : ℕ) → other ≢ 0 → (H.files shelf.new other ≡ H.files shelf.old other) × (H.kit_faults shelf.new other ≡ H.kit_faults shelf.old other) }
     ensures counts { (H.faults shelf.old ≤ H.faults shelf.new) × All (λ kit. NoneFell (H.kit_faults shelf.old 0) (faults_in (λ w. H.Store.Watch.counts w) kit)) result.kits.items }
     ensures words { IfErr words (λ fault. result.fault ≡ Some (fault_of_words fault)) }
-    ensures usage { result.fault ≡ Some RunFault.Usage → options_given (option_map (λ words. words.items) (result_ok words)) ≡ None }
+    ensures usage { result.fault ≡ Some RunFault.Usage → invocation_given (option_map (λ words. words.items) (result_ok words)) ≡ None }
     ensures read { result.fault ≡ Some RunFault.Read → Rose (I.faults source.old) (I.faults source.new) }
     ensures write { IfSome result.fault (λ fault. IsWrite fault → Rose (O.faults sink.old) (O.faults sink.new)) }
     ensures disk { IfSome result.fault (λ fault. IfDisk fault (λ p. HasDiskCauseOver (H.faults shelf.old) (H.faults shelf.new) (H.kit_faults shelf.old 0) (map (faults_in (λ w. H.Store.Watch.counts w)) result.kits.items))) }
     ensures partition { IfSome result.fault IsOfTheOnly }
-    ensures judged { options_given (option_map (λ words. words.items) (result_ok words)) ≢ None → IfTold (H.files shelf.old 0) (λ disk. IsJudged disk result.fault) }
+    ensures judged { invocation_given (option_map (λ words. words.items) (result_ok words)) ≢ None → IfTold (H.files shelf.old 0) (λ disk. IsJudged disk result.fault) }
     ensures layout { IfSome result.fault (HasLayoutCause H.Store.Watch (λ file. H.Store.Frozen.size file) (λ file. H.Store.Frozen.name file)) }
     ensures spent { result.fault ≡ Some RunFault.Spent
-        → HasSpentInput (I.left source.old) (I.left source.new) ⊎ AreGenerationsSpent (H.files shelf.old 0) (map (λ kit. H.Store.history kit.store) result.kits.items) }
+        → IsInputSpent (invocation_given (option_map (λ words. words.items) (result_ok words))) (I.left source.old) (I.left source.new) ⊎ AreGenerationsSpent (H.files shelf.old 0) (map (λ kit. H.Store.history kit.store) result.kits.items) }
 {
     match words {
         Ok(words) => serve(alloc, words.as_slice(), source, sink, shelf),

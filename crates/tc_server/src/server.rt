@@ -1,4 +1,4 @@
-//! A run: the words, the partition, the lines, and how it ends.
+//! A run, or a demonstration: the words, the partition, the lines, and how it ends.
 
 ghost use Rattle.std.specs.Prelude.{◌≡◌, ◌≢◌, ℕ, ◌<◌, ◌≤◌, ◌⊎◌, List, [], ◌∷◌, true, false, length, map, All, Ok, Option, Some, None, vec_capacity, vec_len, IfOk, IfErr, IfSome, IsErrOf, OnOk};
 ghost use Rattle.tc_bytes.specs.Counts.{Rose};
@@ -10,16 +10,18 @@ ghost use Rattle.tc_run_model.specs.World.{World};
 ghost use Rattle.tc_store.specs.Disk.{IsAtRest};
 ghost use Rattle.tc_store.specs.Moments.{IfTold};
 ghost use Rattle.tc_work.specs.Settling.{MaySettle};
-ghost use Rattle.tc_server.specs.Ending.{limits_of, RanLeaving, ReadsPromptly, ServedPromptly};
+ghost use Rattle.tc_run_model.specs.Course.{each_line};
+ghost use Rattle.tc_server.specs.Ending.{limits_of, AreFewCommands, AskedPromptly, IsRun, RanLeaving, ReadsPromptly, RunsOver, ServedPromptly};
 ghost use Rattle.tc_server.specs.Faults.{fault_in, faults_in, faults_of_part, status_of, HasRunCauses, IfDisk, IsOfRun, IsWrite, NoneFell, OneRose};
-ghost use Rattle.tc_server.specs.OverFiles.{AreGenerationsSpent, BeginsAs, BeginsFor, HasDiskCauseOver, HasLastGeneration, HasLayoutCause, HasSpentInput, IsJudged, IsOfTheOnly, RanOver, ServedOver};
+ghost use Rattle.tc_server.specs.OverFiles.{AreGenerationsSpent, AskedOver, BeginsFor, HasDiskCauseOver, HasLastGeneration, HasLayoutCause, IsInputSpent, IsJudged, IsOfTheOnly, ServedOver};
 ghost use Rattle.tc_server.specs.Partitions.{StandsAt};
 ghost use Rattle.tc_server.specs.Calls.{faults_of, settings_of, IsSpent, KeepsAt, MayAsk, Rests, HoldsAt};
 ghost use Rattle.tc_server.specs.Progress.{AsksPromptly, Ends, Goes};
 ghost use Rattle.tc_server.specs.Stage.{IsReady};
 ghost use Rattle.tc_server.specs.Window.{requests_of};
-ghost use Rattle.tc_words.specs.Options.{options_of};
+ghost use Rattle.tc_words.specs.Options.{invocation_of, options_asked};
 
+use crate::demo::answer_demo;
 use crate::outcome::{RunFault, Served, of_engine, of_opening, of_shelf};
 use crate::partitions::Partitions;
 use crate::session::Session;
@@ -32,12 +34,12 @@ use tc_open::{OpenFault, open_part};
 use tc_part::{Limits, Part};
 use tc_store::{Kit, Shelf, Store};
 use tc_value::Text;
-use tc_words::{Options, WordsFault, options};
+use tc_words::{Invocation, Options, WordsFault, invocation};
 use tc_work::{Engine, EngineFault, Finished};
 
-/// Answers the lines of the source for the words of the command line, which stand behind the folder, over the partition
-/// that the shelf keeps. The kit is asked for, and the partition opened, before a line is read; behind each window, and before
-/// the first one, it is settled.
+/// Answers the lines of the source, or those of a demonstration, for the words of the command line, which stand behind the
+/// folder, over the partition that the shelf keeps. The kit is asked for, and the partition opened, before a line is read;
+/// behind each window, and before the first one, it is settled.
 pub fn serve<I: Source<O>, O: Sink, H: Shelf>(
     alloc: Global,
     words: &[Text],
@@ -48,13 +50,14 @@ pub fn serve<I: Source<O>, O: Sink, H: Shelf>(
     ensures status { result.status ≡ status_of result.fault }
 
     // What was read and written, and what is left of the files, from each first world that the files give, and from none.
-    ensures served { (first : Option World) → BeginsFor (options_of words.now) (H.files shelf.old 0) first
-        → ServedOver (options_of words.now) result.fault first (I.left source.old) (I.left source.new) (O.taken sink.old) (O.taken sink.new) (map (λ kit. H.Store.history kit.store) result.kits.items) }
+    ensures served { (first : Option World) → BeginsFor (invocation_of words.now) (H.files shelf.old 0) first
+        → ServedOver (invocation_of words.now) result.fault first (I.left source.old) (I.left source.new) (O.taken sink.old) (O.taken sink.new) (map (λ kit. H.Store.history kit.store) result.kits.items) }
 
-    // At each read the sink had accepted the replies to the windows that had closed among what was
+    // Only a run reads. At each of its reads the sink had accepted the replies to the windows that had closed among what was
     // given before it, and no more.
-    ensures prompt { (first : Option World) → BeginsFor (options_of words.now) (H.files shelf.old 0) first
-        → ServedPromptly first (options_of words.now) (O.taken sink.old) (I.moments source.old) (I.moments source.new) }
+    ensures unread { IsRun (invocation_of words.now) ⊎ (source.new ≡ source.old) }
+    ensures prompt { (first : Option World) → BeginsFor (invocation_of words.now) (H.files shelf.old 0) first
+        → ServedPromptly first (invocation_of words.now) (O.taken sink.old) (I.moments source.old) (I.moments source.new) }
 
     // One kit at most was asked for, and is given back. Where none is, the shelf is as it was, or has failed. No count falls.
     ensures kits { length result.kits.items ≤ 1 }
@@ -63,39 +66,41 @@ pub fn serve<I: Source<O>, O: Sink, H: Shelf>(
     ensures counts { (H.faults shelf.old ≤ H.faults shelf.new) × All (λ kit. NoneFell (H.kit_faults shelf.old 0) (faults_in (λ w. H.Store.Watch.counts w) kit)) result.kits.items }
 
     // When a fault may be answered.
-    ensures usage { result.fault ≡ Some RunFault.Usage → options_of words.now ≡ None }
+    ensures usage { result.fault ≡ Some RunFault.Usage → invocation_of words.now ≡ None }
     ensures read { result.fault ≡ Some RunFault.Read → Rose (I.faults source.old) (I.faults source.new) }
     ensures write { IfSome result.fault (λ fault. IsWrite fault → Rose (O.faults sink.old) (O.faults sink.new)) }
     ensures disk { IfSome result.fault (λ fault. IfDisk fault (λ p. HasDiskCauseOver (H.faults shelf.old) (H.faults shelf.new) (H.kit_faults shelf.old 0) (map (faults_in (λ w. H.Store.Watch.counts w)) result.kits.items))) }
     ensures partition { IfSome result.fault IsOfTheOnly }
-    ensures judged { options_of words.now ≢ None → IfTold (H.files shelf.old 0) (λ disk. IsJudged disk result.fault) }
+    ensures judged { invocation_of words.now ≢ None → IfTold (H.files shelf.old 0) (λ disk. IsJudged disk result.fault) }
     ensures layout { IfSome result.fault (HasLayoutCause H.Store.Watch (λ file. H.Store.Frozen.size file) (λ file. H.Store.Frozen.name file)) }
     ensures spent { result.fault ≡ Some RunFault.Spent
-        → HasSpentInput (I.left source.old) (I.left source.new) ⊎ AreGenerationsSpent (H.files shelf.old 0) (map (λ kit. H.Store.history kit.store) result.kits.items) }
+        → IsInputSpent (invocation_of words.now) (I.left source.old) (I.left source.new) ⊎ AreGenerationsSpent (H.files shelf.old 0) (map (λ kit. H.Store.history kit.store) result.kits.items) }
 {
-    match options_of(alloc, words) {
-        Ok(options) => serve_run(alloc, &options, source, sink, shelf),
+    match asked_by(alloc, words) {
+        Ok(asked) => serve_asked(alloc, &asked, source, sink, shelf),
         Err(fault) => Served::of(Some(fault), Vec::new(alloc)),
     }
 }
 
 // Asks for the kit, and serves over it.
-fn serve_run<I: Source<O>, O: Sink, H: Shelf>(
+fn serve_asked<I: Source<O>, O: Sink, H: Shelf>(
     alloc: Global,
-    options: &Options,
+    asked: &Invocation,
     source: &mut I,
     sink: &mut O,
     shelf: &mut H,
 ) -> Served<H::Store>
-    requires some { 0 < options.now.window }
-    requires limit { options.now.window ≤ 4096 }
-    requires merge { (2 ≤ options.now.merge) × (options.now.merge ≤ 9) }
-    requires memory { empty_size < options.now.memory }
+    requires some { 0 < (options_asked asked.now).window }
+    requires limit { (options_asked asked.now).window ≤ 4096 }
+    requires merge { (2 ≤ (options_asked asked.now).merge) × ((options_asked asked.now).merge ≤ 9) }
+    requires memory { empty_size < (options_asked asked.now).memory }
+    requires few { AreFewCommands asked.now }
     ensures status { result.status ≡ status_of result.fault }
-    ensures ran { (first : Option World) → BeginsAs (limits_of options.now) (H.files shelf.old 0) first
-        → RanOver result.fault first options.now.window options.now.memory options.now.merge (I.left source.old) (I.left source.new) (O.taken sink.old) (O.taken sink.new) (map (λ kit. H.Store.history kit.store) result.kits.items) }
-    ensures prompt { (first : Option World) → BeginsAs (limits_of options.now) (H.files shelf.old 0) first
-        → ReadsPromptly first options.now.window (O.taken sink.old) (I.moments source.old) (I.moments source.new) }
+    ensures ran { (first : Option World) → BeginsFor (Some asked.now) (H.files shelf.old 0) first
+        → AskedOver asked.now result.fault first (I.left source.old) (I.left source.new) (O.taken sink.old) (O.taken sink.new) (map (λ kit. H.Store.history kit.store) result.kits.items) }
+    ensures unread { IsRun (Some asked.now) ⊎ (source.new ≡ source.old) }
+    ensures prompt { (first : Option World) → BeginsFor (Some asked.now) (H.files shelf.old 0) first
+        → AskedPromptly asked.now first (options_asked asked.now).window (O.taken sink.old) (I.moments source.old) (I.moments source.new) }
     ensures kits { length result.kits.items ≤ 1 }
     ensures unasked { result.kits.items ≡ [] → (shelf.new ≡ shelf.old) ⊎ Rose (H.faults shelf.old) (H.faults shelf.new) }
     ensures other_kits { (other : ℕ) → other ≢ 0 → (H.files shelf.new other ≡ H.files shelf.old other) × (H.kit_faults shelf.new other ≡ H.kit_faults shelf.old other) }
@@ -108,7 +113,7 @@ fn serve_run<I: Source<O>, O: Sink, H: Shelf>(
     ensures judged { IfTold (H.files shelf.old 0) (λ disk. IsJudged disk result.fault) }
     ensures layout { IfSome result.fault (HasLayoutCause H.Store.Watch (λ file. H.Store.Frozen.size file) (λ file. H.Store.Frozen.name file)) }
     ensures spent { result.fault ≡ Some RunFault.Spent
-        → HasSpentInput (I.left source.old) (I.left source.new) ⊎ AreGenerationsSpent (H.files shelf.old 0) (map (λ kit. H.Store.history kit.store) result.kits.items) }
+        → IsInputSpent (Some asked.now) (I.left source.old) (I.left source.new) ⊎ AreGenerationsSpent (H.files shelf.old 0) (map (λ kit. H.Store.history kit.store) result.kits.items) }
 {
     // The room for the kit is taken before the kit is.
     let kits = match Vec::with_capacity(alloc, 1) {
@@ -117,7 +122,7 @@ fn serve_run<I: Source<O>, O: Sink, H: Shelf>(
     };
     match shelf.kit(alloc, 0) {
         Ok(kit) => {
-            let (kit, fault) = serve_kit(alloc, options, source, sink, kit);
+            let (kit, fault) = serve_kit(alloc, asked, source, sink, kit);
             Served::of(fault, with_kit(kits, kit))
         }
         Err(fault) => Served::of(Some(of_shelf(0, fault)), kits),
@@ -140,20 +145,22 @@ fn with_kit<S: Store>(kits: Vec<Kit<S>>, kit: Kit<S>) -> Vec<Kit<S>>
 // Opens the partition of a kit, and serves over it.
 fn serve_kit<I: Source<O>, O: Sink, S: Store>(
     alloc: Global,
-    options: &Options,
+    asked: &Invocation,
     source: &mut I,
     sink: &mut O,
     kit: Kit<S>,
 ) -> (Kit<S>, Option<RunFault>)
     requires at_rest { IfTold (S.history kit.store) IsAtRest }
-    requires some { 0 < options.now.window }
-    requires limit { options.now.window ≤ 4096 }
-    requires merge { (2 ≤ options.now.merge) × (options.now.merge ≤ 9) }
-    requires memory { empty_size < options.now.memory }
-    ensures ran { (first : Option World) → BeginsAs (limits_of options.now) (S.history kit.store) first
-        → RanOver result.1 first options.now.window options.now.memory options.now.merge (I.left source.old) (I.left source.new) (O.taken sink.old) (O.taken sink.new) (S.history result.0.store ∷ []) }
-    ensures prompt { (first : Option World) → BeginsAs (limits_of options.now) (S.history kit.store) first
-        → ReadsPromptly first options.now.window (O.taken sink.old) (I.moments source.old) (I.moments source.new) }
+    requires some { 0 < (options_asked asked.now).window }
+    requires limit { (options_asked asked.now).window ≤ 4096 }
+    requires merge { (2 ≤ (options_asked asked.now).merge) × ((options_asked asked.now).merge ≤ 9) }
+    requires memory { empty_size < (options_asked asked.now).memory }
+    requires few { AreFewCommands asked.now }
+    ensures ran { (first : Option World) → BeginsFor (Some asked.now) (S.history kit.store) first
+        → AskedOver asked.now result.1 first (I.left source.old) (I.left source.new) (O.taken sink.old) (O.taken sink.new) (S.history result.0.store ∷ []) }
+    ensures unread { IsRun (Some asked.now) ⊎ (source.new ≡ source.old) }
+    ensures prompt { (first : Option World) → BeginsFor (Some asked.now) (S.history kit.store) first
+        → AskedPromptly asked.now first (options_asked asked.now).window (O.taken sink.old) (I.moments source.old) (I.moments source.new) }
     ensures counts { NoneFell (faults_in (λ w. S.Watch.counts w) kit) (faults_in (λ w. S.Watch.counts w) result.0) }
     ensures usage { result.1 ≢ Some RunFault.Usage }
     ensures read { result.1 ≡ Some RunFault.Read → Rose (I.faults source.old) (I.faults source.new) }
@@ -163,33 +170,35 @@ fn serve_kit<I: Source<O>, O: Sink, S: Store>(
     ensures judged { IfTold (S.history kit.store) (λ disk. IsJudged disk result.1) }
     ensures layout { IfSome result.1 (HasLayoutCause S.Watch (λ file. S.Frozen.size file) (λ file. S.Frozen.name file)) }
     ensures spent { result.1 ≡ Some RunFault.Spent
-        → HasSpentInput (I.left source.old) (I.left source.new) ⊎ AreGenerationsSpent (S.history kit.store) (S.history result.0.store ∷ []) }
+        → IsInputSpent (Some asked.now) (I.left source.old) (I.left source.new) ⊎ AreGenerationsSpent (S.history kit.store) (S.history result.0.store ∷ []) }
 {
+    let options = options_asked(asked);
     let limits = Limits {
         names: options.names,
         docs: options.docs,
         memory: options.memory,
     };
     match open_part(alloc, kit, 0, 1, limits) {
-        Ok(part) => serve_part(alloc, options, source, sink, part),
+        Ok(part) => serve_part(alloc, asked, source, sink, part),
         Err(OpenFault { kit, cause }) => (kit, Some(of_opening(0, 1, cause))),
     }
 }
 
-// Answers the lines over an open partition, and closes it.
+// Answers what is asked for over an open partition, and closes it.
 fn serve_part<I: Source<O>, O: Sink, S: Store>(
     alloc: Global,
-    options: &Options,
+    asked: &Invocation,
     source: &mut I,
     sink: &mut O,
     part: Part<S>,
 ) -> (Kit<S>, Option<RunFault>)
-    requires some { 0 < options.now.window }
-    requires limit { options.now.window ≤ 4096 }
-    requires merge { (2 ≤ options.now.merge) × (options.now.merge ≤ 9) }
-    requires memory { empty_size < options.now.memory }
+    requires some { 0 < (options_asked asked.now).window }
+    requires limit { (options_asked asked.now).window ≤ 4096 }
+    requires merge { (2 ≤ (options_asked asked.now).merge) × ((options_asked asked.now).merge ≤ 9) }
+    requires memory { empty_size < (options_asked asked.now).memory }
+    requires few { AreFewCommands asked.now }
     requires sound { part.failed ≡ false }
-    requires sealed_at { part.memory ≡ options.now.memory }
+    requires sealed_at { part.memory ≡ (options_asked asked.now).memory }
     requires nothing_staged { part.staged ≡ [] }
     requires none_sealed { part.sealed ≡ None }
     requires no_flush { part.flushing ≡ false }
@@ -197,21 +206,23 @@ fn serve_part<I: Source<O>, O: Sink, S: Store>(
     requires ready { MaySettle (told S.history S.Device.history S.Frozen.content part) }
     requires log { LogIsOut (told S.history S.Device.history S.Frozen.content part) }
     ensures ran { (first : Option World) → StandsAt (told S.history S.Device.history S.Frozen.content part) part.limits first
-        → RanOver result.1 first options.now.window options.now.memory options.now.merge (I.left source.old) (I.left source.new) (O.taken sink.old) (O.taken sink.new) (S.history result.0.store ∷ []) }
+        → AskedOver asked.now result.1 first (I.left source.old) (I.left source.new) (O.taken sink.old) (O.taken sink.new) (S.history result.0.store ∷ []) }
+    ensures unread { IsRun (Some asked.now) ⊎ (source.new ≡ source.old) }
     ensures prompt { (first : Option World) → StandsAt (told S.history S.Device.history S.Frozen.content part) part.limits first
-        → ReadsPromptly first options.now.window (O.taken sink.old) (I.moments source.old) (I.moments source.new) }
+        → AskedPromptly asked.now first (options_asked asked.now).window (O.taken sink.old) (I.moments source.old) (I.moments source.new) }
     ensures counts { NoneFell (faults_of_part (λ w. S.Watch.counts w) part) (faults_in (λ w. S.Watch.counts w) result.0) }
     ensures kind { IfSome result.1 IsOfRun }
     ensures read { IfSome result.1 (λ fault. fault ≡ RunFault.Read → Rose (I.faults source.old) (I.faults source.new)) }
     ensures write { IfSome result.1 (λ fault. IsWrite fault → Rose (O.faults sink.old) (O.faults sink.new)) }
     ensures disk { IfSome result.1 (λ fault. IfDisk fault (λ p. OneRose (faults_of_part (λ w. S.Watch.counts w) part) (faults_in (λ w. S.Watch.counts w) result.0))) }
     ensures partition { IfSome result.1 IsOfTheOnly }
-    ensures spent { result.1 ≡ Some RunFault.Spent → HasSpentInput (I.left source.old) (I.left source.new) ⊎ IfTold (S.history result.0.store) HasLastGeneration }
+    ensures spent { result.1 ≡ Some RunFault.Spent → IsInputSpent (Some asked.now) (I.left source.old) (I.left source.new) ⊎ IfTold (S.history result.0.store) HasLastGeneration }
 {
-    let engine = Engine::new(part, policy_of(options));
+    let options = options_asked(asked);
+    let engine = Engine::new(part, policy_of(&options));
     let partitions = Partitions::of(engine);
     let mut session = Session::new(alloc, partitions, options.window as usize);
-    let answer = answer_lines(alloc, &mut session, source, sink);
+    let answer = answer_asked(alloc, asked, &mut session, source, sink);
     let Finished { kit, outcome } = session.into_keeper().finish();
     (kit, fault_of(answer, outcome))
 }
@@ -243,15 +254,53 @@ fn policy_of(options: &Options) -> Policy
 }
 
 // What the words ask for.
-fn options_of(alloc: Global, words: &[Text]) -> Result<Options, RunFault>
-    ensures ok { IfOk result (λ options. options_of words.now ≡ Some options) }
-    ensures usage { IsErrOf result RunFault.Usage → options_of words.now ≡ None }
+fn asked_by(alloc: Global, words: &[Text]) -> Result<Invocation, RunFault>
+    ensures ok { IfOk result (λ asked. invocation_of words.now ≡ Some asked) }
+    ensures usage { IsErrOf result RunFault.Usage → invocation_of words.now ≡ None }
     ensures kinds { IfErr result (λ fault. (fault ≡ RunFault.Usage) ⊎ (fault ≡ RunFault.Memory)) }
 {
-    match options(alloc, words) {
-        Ok(options) => Ok(options),
+    match invocation(alloc, words) {
+        Ok(asked) => Ok(asked),
         Err(WordsFault::Usage) => Err(RunFault::Usage),
         Err(WordsFault::Memory) => Err(RunFault::Memory),
+    }
+}
+
+// The options of what is asked for.
+fn options_asked(asked: &Invocation) -> Options
+    ensures { result ≡ options_asked asked.now }
+{
+    match asked {
+        Invocation::Run(options) => *options,
+        Invocation::Demo { options, .. } => *options,
+    }
+}
+
+// Answers the lines of a run, or those of a demonstration.
+fn answer_asked<I: Source<O>, O: Sink, S: Store>(
+    alloc: Global,
+    asked: &Invocation,
+    session: &mut Session<Partitions<S>>,
+    source: &mut I,
+    sink: &mut O,
+) -> Result<(), RunFault>
+    requires few { AreFewCommands asked.now }
+    requires ready { IsReady (MayAsk S.history S.Device.history S.Frozen.content) session.old }
+    requires requests { requests_of session.old.window ≡ [] }
+    requires bytes { session.old.window.bytes ≡ 0 }
+    ensures ran { (first : Option World) → HoldsAt S.history S.Device.history S.Frozen.content session.old.keeper first → RunsOver asked.now (I.left source.old) (I.left source.new)
+        (λ shown unread unread'. RanLeaving shown (HoldsAt S.history S.Device.history S.Frozen.content) (KeepsAt S.history S.Device.history S.Frozen.content) (IsSpent S.history S.Device.history S.Frozen.content) (fault_in result) first session.old.window.limit unread unread' (O.taken sink.old) (O.taken sink.new) session.new.keeper) }
+    ensures unread { IsRun (Some asked.now) ⊎ (source.new ≡ source.old) }
+    ensures prompt { (first : Option World) → HoldsAt S.history S.Device.history S.Frozen.content session.old.keeper first → AskedPromptly asked.now first session.old.window.limit (O.taken sink.old)
+        (I.moments source.old) (I.moments source.new) }
+    ensures rests { OnOk result (Rests (λ d. S.Device.size d) session.new.keeper) }
+    ensures settings { settings_of session.new.keeper ≡ settings_of session.old.keeper }
+    ensures cause { HasRunCauses (I.faults source.old) (I.faults source.new) (O.faults sink.old) (O.faults sink.new) (faults_of (λ w. S.Watch.counts w) session.old.keeper) (faults_of (λ w. S.Watch.counts w) session.new.keeper) (fault_in result) }
+    ensures spent { fault_in result ≡ Some RunFault.Spent → IsInputSpent (Some asked.now) (I.left source.old) (I.left source.new) ⊎ IsSpent S.history S.Device.history S.Frozen.content session.new.keeper }
+{
+    match asked {
+        Invocation::Run(_) => answer_lines(alloc, session, source, sink),
+        Invocation::Demo { commands, .. } => answer_demo(alloc, *commands, session, sink),
     }
 }
 
@@ -267,7 +316,7 @@ pub fn answer_lines<I: Source<O>, O: Sink, S: Store>(
     requires bytes { session.old.window.bytes ≡ 0 }
 
     // What was read and written, and what is left of the store, from whatever world it stood at.
-    ensures ran { (first : Option World) → HoldsAt S.history S.Device.history S.Frozen.content session.old.keeper first → RanLeaving (HoldsAt S.history S.Device.history S.Frozen.content) (KeepsAt S.history S.Device.history S.Frozen.content) (IsSpent S.history S.Device.history S.Frozen.content) (fault_in result) first session.old.window.limit
+    ensures ran { (first : Option World) → HoldsAt S.history S.Device.history S.Frozen.content session.old.keeper first → RanLeaving each_line (HoldsAt S.history S.Device.history S.Frozen.content) (KeepsAt S.history S.Device.history S.Frozen.content) (IsSpent S.history S.Device.history S.Frozen.content) (fault_in result) first session.old.window.limit
         (I.left source.old) (I.left source.new) (O.taken sink.old) (O.taken sink.new) session.new.keeper }
     ensures prompt { (first : Option World) → HoldsAt S.history S.Device.history S.Frozen.content session.old.keeper first → ReadsPromptly first session.old.window.limit (O.taken sink.old)
         (I.moments source.old) (I.moments source.new) }

@@ -1,0 +1,164 @@
+//! A demonstration: generated commands, answered as the lines of an input are, and two lines about their replies.
+
+ghost use Rattle.std.specs.Prelude.{◌≡◌, ◌≤◌, ◌<◌, [], length, Option, Some, IfErr, IfOk, OnErr, OnOk};
+ghost use Rattle.std.specs.Io.KnownBytes.{Appends};
+ghost use Rattle.tc_bytes.specs.Counts.{Rose};
+ghost use Rattle.tc_gen.specs.Generated.{generated};
+ghost use Rattle.tc_gen.specs.TwoLines.{lines_for};
+ghost use Rattle.tc_model.specs.Limits.{max_line};
+ghost use Rattle.tc_run_model.specs.Windows.{windows_of};
+ghost use Rattle.tc_run_model.specs.World.{World};
+ghost use Rattle.tc_server.specs.Calls.{faults_of, settings_of, IsSpent, KeepsAt, MayAsk, Rests, HoldsAt};
+ghost use Rattle.tc_server.specs.Demo.{ended, fault_in_memory, DemoLeaving, GivesUpAtEnd, GivesUpAtLine, HasGivenUp, HasHeardAll, HearsEnd, HearsLine, HearsReplies, WroteSome};
+ghost use Rattle.tc_server.specs.Faults.{fault_in, HasCauses, HasDiskCause, IsOfStore, IsWrite};
+ghost use Rattle.tc_server.specs.Stage.{IsReady};
+ghost use Rattle.tc_server.specs.Window.{requests_of};
+
+use crate::outcome::RunFault;
+use crate::partitions::Partitions;
+use crate::session::Session;
+use std::alloc::Global;
+use tc_bytes::Bytes;
+use tc_edge::{MemSink, Sink, write_all};
+use tc_gen::{Feed, Tally};
+use tc_store::Store;
+
+/// Answers a demonstration of so many commands, in the windows of the session, and writes its two lines.
+pub fn answer_demo<O: Sink, S: Store>(
+    alloc: Global,
+    commands: u32,
+    session: &mut Session<Partitions<S>>,
+    sink: &mut O,
+) -> Result<(), RunFault>
+    requires few { commands ≤ 1000000 }
+    requires ready { IsReady (MayAsk S.history S.Device.history S.Frozen.content) session.old }
+    requires requests { requests_of session.old.window ≡ [] }
+    requires bytes { session.old.window.bytes ≡ 0 }
+
+    // What was written, and what is left of the store, from whatever world it stood at.
+    ensures ran { (first : Option World) → HoldsAt S.history S.Device.history S.Frozen.content session.old.keeper first
+        → DemoLeaving (HoldsAt S.history S.Device.history S.Frozen.content) (KeepsAt S.history S.Device.history S.Frozen.content) (IsSpent S.history S.Device.history S.Frozen.content) commands (fault_in result) first session.old.window.limit
+        (O.taken sink.old) (O.taken sink.new) session.new.keeper }
+    ensures rests { OnOk result (Rests (λ d. S.Device.size d) session.new.keeper) }
+    ensures settings { settings_of session.new.keeper ≡ settings_of session.old.keeper }
+    ensures cause { HasCauses (O.faults sink.old) (O.faults sink.new) (faults_of (λ w. S.Watch.counts w) session.old.keeper) (faults_of (λ w. S.Watch.counts w) session.new.keeper) (IsSpent S.history S.Device.history S.Frozen.content session.new.keeper) (fault_in result) }
+{
+    session.begin(alloc)?;
+    let tally = hear_all(alloc, commands, session)?;
+    write_lines(alloc, commands, &tally, sink)
+}
+
+// Writes the two lines.
+fn write_lines<O: Sink>(
+    alloc: Global,
+    commands: u32,
+    tally: &Tally,
+    sink: &mut O,
+) -> Result<(), RunFault>
+    ensures ok { OnOk result (Appends (O.taken sink.old) (O.taken sink.new) (lines_for commands tally.now)) }
+    ensures fault { IfErr result (λ fault. WroteSome fault (lines_for commands tally.now) (O.taken sink.old) (O.taken sink.new)) }
+    ensures kept { O.faults sink.old ≤ O.faults sink.new }
+    ensures cause { IfErr result (λ fault. IsWrite fault → Rose (O.faults sink.old) (O.faults sink.new)) }
+{
+    let lines = tally.lines(alloc, commands)?;
+    write_all(sink, lines.as_slice())?;
+    Ok(())
+}
+
+// Hands the lines of a demonstration to the session, and keeps what it replies.
+fn hear_all<S: Store>(
+    alloc: Global,
+    commands: u32,
+    session: &mut Session<Partitions<S>>,
+) -> Result<Tally, RunFault>
+    requires few { commands ≤ 1000000 }
+    requires ready { IsReady (MayAsk S.history S.Device.history S.Frozen.content) session.old }
+    requires requests { requests_of session.old.window ≡ [] }
+    requires bytes { session.old.window.bytes ≡ 0 }
+    ensures heard { IfOk result (λ tally. (first : Option World) → HoldsAt S.history S.Device.history S.Frozen.content session.old.keeper first
+        → HasHeardAll (HoldsAt S.history S.Device.history S.Frozen.content) first (generated commands) session.new.keeper tally) }
+    ensures fault { IfErr result (λ fault. (first : Option World) → HoldsAt S.history S.Device.history S.Frozen.content session.old.keeper first
+        → HasGivenUp (HoldsAt S.history S.Device.history S.Frozen.content) (KeepsAt S.history S.Device.history S.Frozen.content) first fault (ended (windows_of session.old.window.limit (generated commands))) session.new.keeper) }
+    ensures rests { OnOk result (Rests (λ d. S.Device.size d) session.new.keeper) }
+    ensures kinds { IfErr result IsOfStore }
+    ensures settings { settings_of session.new.keeper ≡ settings_of session.old.keeper }
+    ensures cause { HasDiskCause (faults_of (λ w. S.Watch.counts w) session.old.keeper) (faults_of (λ w. S.Watch.counts w) session.new.keeper) (IsSpent S.history S.Device.history S.Frozen.content session.new.keeper) (fault_in result) }
+{
+    let mut feed = Feed::new(commands);
+    let mut tally = Tally::new(alloc);
+    // There are far fewer lines.
+    for _ in 0..u64::MAX {
+        match feed.next(alloc)? {
+            Some(line) => hear_line(alloc, line, session, &mut tally)?,
+            None => {
+                hear_end(alloc, session, &mut tally)?;
+                return Ok(tally);
+            }
+        }
+    }
+    Err(RunFault::Memory)
+}
+
+// Hands a line to the session, and hears the replies that it writes.
+fn hear_line<S: Store>(
+    alloc: Global,
+    line: Bytes,
+    session: &mut Session<Partitions<S>>,
+    tally: &mut Tally,
+) -> Result<(), RunFault>
+    requires ready { IsReady (MayAsk S.history S.Device.history S.Frozen.content) session.old }
+    requires size { length line ≤ max_line }
+    ensures heard { OnOk result (HearsLine (HoldsAt S.history S.Device.history S.Frozen.content) line session.old tally.old session.new tally.new) }
+    ensures ready { OnOk result (IsReady (MayAsk S.history S.Device.history S.Frozen.content) session.new) }
+    ensures limit { OnOk result (session.new.window.limit ≡ session.old.window.limit) }
+    ensures fault { IfErr result (λ fault. GivesUpAtLine (HoldsAt S.history S.Device.history S.Frozen.content) (KeepsAt S.history S.Device.history S.Frozen.content) fault line session.old tally.old session.new) }
+    ensures kinds { IfErr result IsOfStore }
+    ensures settings { settings_of session.new.keeper ≡ settings_of session.old.keeper }
+    ensures cause { HasDiskCause (faults_of (λ w. S.Watch.counts w) session.old.keeper) (faults_of (λ w. S.Watch.counts w) session.new.keeper) (IsSpent S.history S.Device.history S.Frozen.content session.new.keeper) (fault_in result) }
+{
+    let mut replies = MemSink::new(alloc, usize::MAX, Vec::new(alloc));
+    match session.take_whole(alloc, line, &mut replies) {
+        Ok(()) => heard(tally, &replies),
+        Err(fault) => Err(in_memory(fault)),
+    }
+}
+
+// Has the session answer the window that is open, and hears the replies.
+fn hear_end<S: Store>(
+    alloc: Global,
+    session: &mut Session<Partitions<S>>,
+    tally: &mut Tally,
+) -> Result<(), RunFault>
+    requires ready { IsReady (MayAsk S.history S.Device.history S.Frozen.content) session.old }
+    ensures heard { OnOk result (HearsEnd (HoldsAt S.history S.Device.history S.Frozen.content) session.old tally.old session.new tally.new) }
+    ensures rests { OnOk result (Rests (λ d. S.Device.size d) session.new.keeper) }
+    ensures fault { IfErr result (λ fault. GivesUpAtEnd (HoldsAt S.history S.Device.history S.Frozen.content) (KeepsAt S.history S.Device.history S.Frozen.content) fault session.old tally.old session.new) }
+    ensures kinds { IfErr result IsOfStore }
+    ensures settings { settings_of session.new.keeper ≡ settings_of session.old.keeper }
+    ensures cause { HasDiskCause (faults_of (λ w. S.Watch.counts w) session.old.keeper) (faults_of (λ w. S.Watch.counts w) session.new.keeper) (IsSpent S.history S.Device.history S.Frozen.content session.new.keeper) (fault_in result) }
+{
+    let mut replies = MemSink::new(alloc, usize::MAX, Vec::new(alloc));
+    match session.close(alloc, &mut replies) {
+        Ok(()) => heard(tally, &replies),
+        Err(fault) => Err(in_memory(fault)),
+    }
+}
+
+// Hears the replies in memory. Errs only for want of memory.
+fn heard(tally: &mut Tally, replies: &MemSink) -> Result<(), RunFault>
+    ensures ok { OnOk result (HearsReplies tally.old replies.now.taken tally.new) }
+    ensures memory { IfErr result (λ fault. fault ≡ RunFault.Memory) }
+{
+    tally.hear(replies.taken())?;
+    Ok(())
+}
+
+// The fault of a session whose sink is in memory.
+fn in_memory(fault: RunFault) -> RunFault
+    ensures { result ≡ fault_in_memory fault }
+{
+    match fault {
+        RunFault::Write { .. } => RunFault::Memory,
+        other => other,
+    }
+}
