@@ -2,9 +2,9 @@
 
 use std::alloc::Global;
 use tc_value::Text;
-use tc_words::{WordsFault, options};
+use tc_words::{WordsFault, invocation};
 
-/// The options that words ask for, which stand between single spaces.
+/// What words ask for, which stand between single spaces.
 pub(crate) fn asked(alloc: Global, line: &str) -> Option<String> {
     let mut words = Vec::new(alloc);
     for word in line.split(' ') {
@@ -15,10 +15,10 @@ pub(crate) fn asked(alloc: Global, line: &str) -> Option<String> {
     shown(alloc, words.as_slice())
 }
 
-/// The options that words ask for, or why they ask for none.
+/// What words ask for, or why they are no command line.
 pub(crate) fn shown(alloc: Global, words: &[Text]) -> Option<String> {
-    match options(alloc, words) {
-        Ok(options) => format!(in alloc; "{options:?}\n").ok(),
+    match invocation(alloc, words) {
+        Ok(asked) => format!(in alloc; "{asked:?}\n").ok(),
         Err(WordsFault::Memory) => None,
         Err(fault) => format!(in alloc; "{fault}\n").ok(),
     }
