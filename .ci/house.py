@@ -22,6 +22,8 @@ FEWEST_WORDS = 14
 ANSWERS = ("Answers.antt", "Invariants.antt", "Proof.antt")
 # In a file of proofs/ whose name ends so the checker computes rows of examples, which nothing cites.
 ROWS = "Rows.antt"
+# What the toolchain writes of each type, as that it may cross to a thread, is no file of proofs/, and may be cited.
+WRITTEN = re.compile(r"\.(?:TheSendSync|TheLaws)\b")
 # Definitions, and laws that no clause can state, which crates to come stand on. A name leaves this list once it is used.
 AWAITED = {
     "tc_run_model": ("AreReplies-replies_to", "after_all_stands", "built_replies", "first_stands", "lines_in-windows",
@@ -160,7 +162,9 @@ def proofs_stay_private(house):
     """No crate imports a module of another's proofs/ that the Lib.antt there does not declare `pub mod`."""
     public = {it: set(re.findall(r"^pub mod (\w+)", house.text.get(f"crates/{it}/proofs/Lib.antt", ""), re.M)) for it in house.stands}
     for path, text in house.text.items():
-        for it in re.finditer(r"\bRattle\.(\w+)\.proofs\.(\w+)", text):
+        for it in re.finditer(r"\bRattle\.(\w+)\.proofs\.(\w+)((?:\.\w+)*)", text):
+            if WRITTEN.search(it[3]):
+                continue
             if it[1] in public and it[1] != path.split("/")[1] and it[2] not in public[it[1]]:
                 yield f"{path}:{line_of(text, it.start())}: {it[0]} is private to {it[1]}"
 

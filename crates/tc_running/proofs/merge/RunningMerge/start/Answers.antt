@@ -1,0 +1,31 @@
+use denote.Param.{param}
+use denote.Param.Send.{IsSend, IsSync, sendable}
+use Rattle.std.proofs.Crossing.{crosses}
+use Rattle.tc_component.proofs.directory.Directory.TheSendSync.{the_send as directory_send, the_sync as directory_sync}
+use Rattle.tc_component.specs.contracts.component.Component as Component
+use Rattle.tc_component.specs.contracts.loading.Loaded as Loaded
+use Rattle.tc_component.specs.contracts.reading.Parts as Parts
+use Rattle.tc_merge.specs.contracts.job.MergeJob as MergeJob
+use Rattle.tc_merge.specs.contracts.job.MergeParts as MergeParts
+use Rattle.tc_names.proofs.dictionary.Names.TheSendSync.{the_send as names_send, the_sync as names_sync}
+use Rattle.tc_schema.proofs.counters.Counts.TheSendSync.{the_send as counts_send, the_sync as counts_sync}
+use Rattle.tc_schema.proofs.place.Field.TheLaws.TheKnot.{both_send-Node, both_sync-Node}
+use Rattle.tc_schema.specs.contracts.whole.Schema as Schema
+use Rattle.tc_running.specs.contracts.beginning.Start as Start
+use Rattle.tc_running.proofs.merge.RunningMerge.start.Goals as goal
+
+-- the parts of a job one after the other, since a search that goes down through all of them runs out of steps
+pub spawn_with-begun-requires-send-F : goal.spawn_with-begun-requires-send-F
+spawn_with-begun-requires-send-F g c κs within =
+    let schema_send : IsSend (Schema.the_field).row = search (sendable, crosses, counts_send, counts_sync, both_send-Node) depth 20 in
+    let schema_sync : IsSync (Schema.the_field).row = search (sendable, crosses, counts_send, counts_sync, both_sync-Node) depth 20 in
+    let parts_send : IsSend (Parts.the_field).row = search (sendable, directory_send, names_send) depth 20 in
+    let parts_sync : IsSync (Parts.the_field).row = search (sendable, directory_sync, names_sync) depth 20 in
+    let loaded_send : IsSend (Loaded.the_field).row = search sendable depth 20 in
+    let loaded_sync : IsSync (Loaded.the_field).row = search sendable depth 20 in
+    let component_send : IsSend (Component.the_field (param 3 g.row.S-Frozen) (param 1 g.row.S-Watch) g.S.Frozen.Frozen g.S.Watch.Watch).row = search sendable depth 20 in
+    let component_sync : IsSync (Component.the_field (param 3 g.row.S-Frozen) (param 1 g.row.S-Watch) g.S.Frozen.Frozen g.S.Watch.Watch).row = search sendable depth 20 in
+    let parts : IsSend (MergeParts.the_field (param 0 g.row.S) (param 1 g.row.S-Watch) (param 2 g.row.S-Device) (param 3 g.row.S-Frozen) g.S.Watch.Watch g.S.Frozen.Frozen).row = search (sendable, crosses) depth 20 in
+    let job : IsSend (MergeJob.the_field (param 0 g.row.S) (param 1 g.row.S-Watch) (param 2 g.row.S-Device) (param 3 g.row.S-Frozen) g.S.Store g.S.Watch.Watch g.S.Device.Device g.S.Frozen.Frozen).row = search sendable depth 20 in
+    let begin : IsSend (Start.the_field (param 5 g.row.P)).row = search (sendable, crosses) depth 20 in
+    search (sendable, crosses) depth 20
