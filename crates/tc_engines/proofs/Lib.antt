@@ -1,0 +1,13 @@
+mod PlaceLaws
+mod SharesLeft
+mod OwnKeys
+mod EnginesHeld
+mod WindowsHeld
+mod ShareWindows
+mod EnginesRun
+mod KindsGiven
+mod NothingRun
+mod AnswersTaken
+mod SharesRun
+mod EngineRan
+mod WindowEnds

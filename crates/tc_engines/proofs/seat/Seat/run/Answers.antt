@@ -1,0 +1,31 @@
+use Rattle.tc_engines.proofs.EngineRan.{left_failed, only_run, places_read, still_sound, still_staged}
+use Rattle.tc_engines.proofs.seat.Seat.run.Goals as goal
+
+pub returns : goal.returns
+returns g c =
+    let ran = c.window.ensures in record {
+      replies = ran.replies;
+      places = places_read c.window.result c.args.list.now ran.places;
+      kinds = ran.kinds;
+      windowed = ran.windowed;
+      sound = still_sound c.window.result c.args.self.now.engine.part c.window.new.self.part c.requires.sound ran.same;
+      same = only_run c.window.result c.args.self.now.engine.part c.window.new.self.part ran.same ran.left;
+      unstaged = still_staged c.window.result c.args.self.now.engine.part c.window.new.self.part ran.same;
+      policy = ran.policy;
+      ready = ran.ready;
+      tells = ran.tells;
+      devices = ran.devices;
+      log_out = ran.log_out;
+      log_out_spent = ran.log_out_spent;
+      unwritten = ran.unwritten;
+      looked_up = ran.looked_up;
+      few_writes = ran.few_writes;
+      at_moments = ran.moments;
+      failed = ran.failed;
+      left = left_failed c.window.result c.args.self.now.engine.part c.window.new.self.part ran.left;
+      harmed = ran.harmed;
+      undamaged = ran.undamaged;
+      spent = ran.spent;
+      unspent = ran.unspent;
+      counted = ran.counted;
+    }

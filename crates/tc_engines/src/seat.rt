@@ -1,0 +1,57 @@
+//! The seat of an engine: what it answered in a window stands beside it.
+
+ghost use Rattle.std.specs.Prelude.{◌≡◌, false, map};
+ghost use Rattle.tc_part_model.specs.PartState.{told};
+ghost use Rattle.tc_route.specs.Meaning.{routed_of};
+ghost use Rattle.tc_work.specs.Asked.{IsWindow};
+ghost use Rattle.tc_engines.specs.Running.{HasRun};
+
+use std::alloc::Global;
+use std::mem;
+use tc_route::{Replies, Routed};
+use tc_store::Store;
+use tc_work::{Engine, EngineFault};
+
+/// An engine, and its answer to its commands of a window, until that is taken.
+#[derive(Drop)]
+pub(crate) struct Seat<S: Store> {
+    pub(crate) engine: Engine<S>,
+    pub(crate) answer: Result<Replies, EngineFault>,
+}
+
+impl<S: Store> Seat<S> {
+    /// A seat without an answer.
+    pub(crate) fn of(alloc: Global, engine: Engine<S>) -> Seat<S>
+        ensures { result.engine ≡ engine }
+    {
+        Seat {
+            engine,
+            answer: Ok(Replies::of(Vec::new(alloc))),
+        }
+    }
+
+    /// The engine, without its answer.
+    pub(crate) fn into_engine(self) -> Engine<S>
+        ensures { result ≡ self.engine }
+    {
+        let Seat { engine, .. } = self;
+        engine
+    }
+
+    /// Answers these commands.
+    pub(crate) fn run(&mut self, alloc: Global, list: &[Routed])
+        requires sound { self.old.engine.part.failed ≡ false }
+        requires window { IsWindow list.now }
+        ensures { HasRun (λ part. told S.history S.Device.history S.Frozen.content part) (λ d. S.Device.history d) (λ f. S.Frozen.content f) (λ w. S.Watch.counts w) (map routed_of list.now) self.old.engine self.new.engine self.new.answer }
+    {
+        self.answer = self.engine.window(alloc, list);
+    }
+
+    /// The answer, which is taken.
+    pub(crate) fn take_answer(&mut self, alloc: Global) -> Result<Replies, EngineFault>
+        ensures answer { result ≡ self.old.answer }
+        ensures same { self.new.engine ≡ self.old.engine }
+    {
+        mem::replace(&mut self.answer, Ok(Replies::of(Vec::new(alloc))))
+    }
+}
