@@ -10,5 +10,6 @@ pub mod Agreeing
 mod Sizes
 mod NamedSizes
 mod Orders
-mod Passing
+mod OutlineSteps
+mod Outlines
 mod Meanings

@@ -1,5 +1,5 @@
 -- What a record of either form means under a dictionary: the tokens and the document.
-use Rattle.std.proofs.Common.{◌≡◌, ◌∙◌, ℕ, zero, suc, ◌<◌, ◌≤◌, ◌^◌, true, false, List, [], ◌∷◌, ◌++◌, Option, None, Some, IfSome, option_map, option_to_list, unwrap_or, IsUtf8, length, map, slice_get, inl, inr, refl, sym, ap, subst, arith}
+use Rattle.std.proofs.Common.{◌≡◌, ◌∙◌, ℕ, zero, suc, ◌<◌, ◌≤◌, ◌^◌, true, false, List, [], ◌∷◌, ◌++◌, Option, None, Some, option_map, option_to_list, unwrap_or, IsUtf8, length, map, slice_get, inl, inr, refl, sym, ap, subst, arith}
 use Rattle.std.specs.List.{AllByRecursion}
 use Rattle.std.proofs.lemmas.Bool.{both_ways}
 use Rattle.std.proofs.lemmas.List.{length-map}
@@ -21,7 +21,7 @@ use Rattle.tc_compact.specs.Compacted.{compacted}
 use Rattle.tc_compact.specs.Slots.{names_in, numbers_in, names_of}
 use Rattle.tc_compact.specs.Meant.{name_at, expanded, key_meant, tokens_meant, levels_meant, shape_meant, IsOrdered, AreItemsOrdered, AreMembersOrdered, IsRecordUnder, HasRoom}
 use Rattle.tc_compact.proofs.Relabelled.{relabel-relabel, tokens-numbered, names_in-to_names, numbers_in-to_numbers, record-named}
-use Rattle.tc_compact.proofs.Orders.{ordered_by_shape}
+use Rattle.tc_compact.proofs.Orders.{ordered_by_shape, document_ordered}
 use Rattle.tc_compact.proofs.Named.{names_found}
 use Rattle.tc_compact.proofs.Compacts.{document_tokens, document_names, compacted_record}
 use Rattle.tc_compact.proofs.Expands.{numbered_tree, built_record, named_laid, tree_tokens, numbers_are, expands}
@@ -220,9 +220,10 @@ pub named_under : (names : List Name) (r : Record) → Spells r → r.named ≡ 
 named_under names r (inl (d, (named, is, tokens))) holds = (d, inl is)
 named_under names r (inr (n, (unnamed, is, tokens))) holds = absurd (both_ways r.named unnamed holds)
 
-pub means_one : (names : List Name) (r : Record) → IsDictionary names → Spells r → (r.named ≡ false → HasRoom names r) → IfSome (document_read (tokens_meant names r.tokens)) IsOrdered → (d : Document) × IsRecordUnder names d r.bytes
-means_one names r dictionary (inl (d, (named, is, tokens))) room ordered = (d, inl is)
-means_one names r dictionary (inr (n, (unnamed, is, tokens))) room ordered =
-    let d = expanded names n in
-    let read : document_read (tokens_meant names r.tokens) ≡ Some d = ap (λ ts. document_read (tokens_meant names ts)) tokens ∙ ap document_read (numbered_meant names n) ∙ document_again d in
-    (d, numbered_under names r n dictionary is tokens (room unnamed) (subst (λ o. IfSome o IsOrdered) read ordered))
+pub ordered_under : (names : List Name) (r : Record) (n : NumberedTree) → IsDictionary names → Spells r → IsNumberedRecordOf n r.bytes → HasRoom names r → IsOrdered (expanded names n) → (d : Document) × IsRecordUnder names d r.bytes
+ordered_under names r n dictionary spells is room ordered = (expanded names n, numbered_under names r n dictionary is (tree_tokens r n spells is) room ordered)
+
+pub under_ordered : (names : List Name) (r : Record) (n : NumberedTree) (d : Document) → Spells r → IsNumberedRecordOf n r.bytes → IsRecordUnder names d r.bytes → IsOrdered (expanded names n)
+under_ordered names r n d spells numbered_is is =
+    let read : document_read (tokens_meant names r.tokens) ≡ Some (expanded names n) = ap (λ ts. document_read (tokens_meant names ts)) (tree_tokens r n spells numbered_is) ∙ ap document_read (numbered_meant names n) ∙ document_again (expanded names n) in
+    subst IsOrdered (document_is names r d (expanded names n) spells is read) (document_ordered d (lawful_under names d r.bytes is).1.document)

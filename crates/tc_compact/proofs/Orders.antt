@@ -4,7 +4,7 @@ use Rattle.std.specs.List.{AllByRecursion}
 use Rattle.std.specs.List.Sorted.{IsStrictlySortedBy}
 use Rattle.std.proofs.lemmas.Bool.{and_parts}
 use Rattle.tc_model.specs.Tree.{Tree, leaf, array, object, Items, no_items, item, Members, no_members, member, items_of, members_of, items_relabel, members_relabel, listed_members}
-use Rattle.tc_model.specs.Document.{Name, Document, Scalar, scalar_kind, name_cmp, document_shape}
+use Rattle.tc_model.specs.Document.{Name, Document, Scalar, scalar_kind, name_cmp, document_shape, IsScalar, IsDocument, AreItemsOf, AreMembersOf}
 use Rattle.tc_value.specs.Meaning.{member_of}
 use Rattle.tc_value.specs.ShapeMeaning.{shape_member}
 use Rattle.tc_value.specs.declared.document.Member.{Member}
@@ -60,3 +60,18 @@ mutual
   members_by_shape : (ms : Members Name Scalar) → AreMembersOrdered (members_relabel (λ n. n) scalar_kind ms) → AreMembersOrdered ms
   members_by_shape no_members ordered = tt
   members_by_shape (member n t ms) ordered = (ordered_by_shape t ordered.0, members_by_shape ms ordered.1)
+
+-- a document is ordered
+mutual
+  pub document_ordered : (d : Document) → IsDocument d → IsOrdered d
+  document_ordered (leaf s) is = tt
+  document_ordered (array xs) is = document_items xs is
+  document_ordered (object ms) is = (is.0, document_members ms is.1)
+
+  document_items : (xs : Items Name Scalar) → AreItemsOf IsScalar xs → AreItemsOrdered xs
+  document_items no_items is = tt
+  document_items (item t ts) is = (document_ordered t is.0, document_items ts is.1)
+
+  document_members : (ms : Members Name Scalar) → AreMembersOf IsScalar ms → AreMembersOrdered ms
+  document_members no_members is = tt
+  document_members (member n t ms) is = (document_ordered t is.1, document_members ms is.2)

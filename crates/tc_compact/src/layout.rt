@@ -14,7 +14,7 @@ use tc_record::{HEADER_SIZE, Width, put_number};
 const COUNTS_PLACE: usize = 5;
 
 /// Where the width of a slot stands, which is the last byte of a header.
-const SLOT_WIDTH_PLACE: usize = 22;
+pub(crate) const SLOT_WIDTH_PLACE: usize = 22;
 
 /// The counts of a header, and the columns before the slots.
 #[derive(Clone, Copy)]

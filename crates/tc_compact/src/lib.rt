@@ -12,6 +12,7 @@ mod layout;
 mod learning;
 mod meaning;
 mod order;
+mod outline;
 mod shaping;
 mod sizing;
 mod slot_sum;

@@ -1,18 +1,27 @@
-//! Whether a record spells a document, seen by the names of its objects alone.
+//! Whether a record spells a document, seen by the tags and the slots alone.
 
-ghost use Rattle.std.specs.Prelude.{◌≡◌, ◌≤◌, ◌∷◌, IsTrue, IfSome, false, is_some, length, map};
-ghost use Rattle.tc_model.specs.Tree.{object, array, items_of, members_of};
-ghost use Rattle.tc_model.specs.Document.{Document, IsAscending};
-ghost use Rattle.tc_record.specs.WalkView.{token_of, piece_of};
-ghost use Rattle.tc_record.specs.Building.{Levels, innermost, outer, value_in, member_in, value_read, document_read, HoldDocuments};
-ghost use Rattle.tc_compact.specs.Meant.{tokens_meant, levels_meant, IsOrdered, IsRecordUnder};
+ghost use Rattle.std.specs.Prelude.{◌≡◌, ◌≤◌, ◌∷◌, ◌++◌, ℕ, List, None, IsTrue, false, length};
+ghost use Rattle.tc_model.specs.Tree.{Items, Members};
+ghost use Rattle.tc_model.specs.Document.{Document, Scalar};
+ghost use Rattle.tc_record.specs.Preorder.{Token as TreeToken, token, closed, tokens_of, items_preorder, members_preorder};
+ghost use Rattle.tc_record.specs.Record.{NumberedTree, piece_tag};
+ghost use Rattle.tc_compact.specs.Meant.{IsRecordUnder};
+ghost use Rattle.tc_compact.specs.Outline.{IsOutlineOf, first_piece, behind_first, is_ordered, are_items_ordered, are_members_ordered};
 
 use crate::dictionary::is_dictionary;
-use crate::meaning::label_meant;
+use crate::meaning::name_meant;
 use crate::order::is_above;
+use crate::outline::Outline;
 use crate::sizing::has_room;
 use tc_names::Names;
-use tc_record::{Cursor, Piece, RecordRef, Token};
+use tc_record::RecordRef;
+
+/// The tags of what a token opens or closes.
+const ARRAY_TAG: u8 = 5;
+
+const OBJECT_TAG: u8 = 6;
+
+const CLOSE_TAG: u8 = 7;
 
 /// Whether a record of either form spells a document under a dictionary. One of form 0 does. One of form 1 does not exactly
 /// where a number has no name, the names of an object do not ascend, or the record of form 0 would have 4,294,967,296 bytes
@@ -29,49 +38,48 @@ pub fn spells_document(of: RecordRef<'_>, names: &Names) -> bool
     if !has_room(&of, names) {
         return false;
     }
-    is_ordered(of.cursor(), names)
+    passes_all(Outline::of(&of), names)
 }
 
-/// Whether the names ascend in each object of the value whose tokens these are.
-fn is_ordered(tokens: Cursor<'_>, names: &Names) -> bool
-    ensures ordered { IsTrue result → IfSome (document_read (tokens_meant names.now tokens.entry)) IsOrdered }
-    ensures refused { result ≡ false → HoldDocuments (levels_meant names.now tokens.entry) → ⊥ }
+/// Whether the names ascend in each object of a tree.
+fn passes_all(outline: Outline<'_>, names: &Names) -> bool
+    ensures { (n : NumberedTree) → IsOutlineOf (tokens_of n) outline.entry → result ≡ is_ordered names.now n }
 {
-    let mut cursor = tokens;
-    match cursor.next() {
+    let mut left = outline;
+    match left.tag() {
         None => true,
-        Some(token) => passes_value(&mut cursor, token, names),
+        Some(tag) => passes_value(&mut left, tag, names),
     }
 }
 
-/// Whether the names ascend in each object of the value that a token is or opens. If they do, the cursor stands behind it.
+/// Whether the names ascend in each object of the value whose first tag was taken. If they do, the outline stands behind it.
 #[cycle(spelling)]
-fn passes_value(cursor: &mut Cursor<'_>, token: Token<'_>, names: &Names) -> bool
-    ensures ordered { IsTrue result → IfSome (value_read (piece_of token.entry.value) (levels_meant names.now cursor.old)).0 IsOrdered }
-    ensures behind { IsTrue result → levels_meant names.now cursor.new ≡ (value_read (piece_of token.entry.value) (levels_meant names.now cursor.old)).1 }
-    ensures refused { result ≡ false → HoldDocuments (levels_meant names.now (token_of token.entry ∷ cursor.old)) → ⊥ }
-    ensures shorter { length cursor.new ≤ length cursor.old }
+fn passes_value(outline: &mut Outline<'_>, tag: u8, names: &Names) -> bool
+    ensures passes { (t : NumberedTree) (more : List (TreeToken ℕ Scalar)) → tag ≡ piece_tag (first_piece t) → IsOutlineOf (behind_first t more) outline.old → result ≡ is_ordered names.now t }
+    ensures behind { (t : NumberedTree) (more : List (TreeToken ℕ Scalar)) → tag ≡ piece_tag (first_piece t) → IsOutlineOf (behind_first t more) outline.old → IsTrue result → IsOutlineOf more outline.new }
+    ensures shorter { length outline.new.tags ≤ length outline.old.tags }
 {
-    match token.value {
-        Piece::Array => passes_items(cursor, names),
-        Piece::Object => passes_members(cursor, names),
-        _scalar => true,
+    if tag == ARRAY_TAG {
+        passes_items(outline, names)
+    } else if tag == OBJECT_TAG {
+        passes_members(outline, names)
+    } else {
+        true
     }
 }
 
 /// Whether the names ascend in each object up to the close of an array.
 #[cycle(spelling)]
-fn passes_items(cursor: &mut Cursor<'_>, names: &Names) -> bool
-    ensures ordered { IsTrue result → IsOrdered (array (items_of (map value_in (innermost (levels_meant names.now cursor.old))))) }
-    ensures behind { IsTrue result → levels_meant names.now cursor.new ≡ outer (levels_meant names.now cursor.old) }
-    ensures refused { result ≡ false → HoldDocuments (levels_meant names.now cursor.old) → ⊥ }
-    ensures shorter { length cursor.new ≤ length cursor.old }
+fn passes_items(outline: &mut Outline<'_>, names: &Names) -> bool
+    ensures passes { (xs : Items ℕ Scalar) (more : List (TreeToken ℕ Scalar)) → IsOutlineOf (items_preorder xs ++ token None closed ∷ more) outline.old → result ≡ are_items_ordered names.now xs }
+    ensures behind { (xs : Items ℕ Scalar) (more : List (TreeToken ℕ Scalar)) → IsOutlineOf (items_preorder xs ++ token None closed ∷ more) outline.old → IsTrue result → IsOutlineOf more outline.new }
+    ensures shorter { length outline.new.tags ≤ length outline.old.tags }
 {
-    while let Some(token) = cursor.next() {
-        if !begins_value(token.value) {
+    while let Some(tag) = outline.tag() {
+        if tag == CLOSE_TAG {
             return true;
         }
-        if !passes_value(cursor, token, names) {
+        if !passes_value(outline, tag, names) {
             return false;
         }
     }
@@ -80,40 +88,24 @@ fn passes_items(cursor: &mut Cursor<'_>, names: &Names) -> bool
 
 /// Whether the names ascend, up to the close of their object and in each object there.
 #[cycle(spelling)]
-fn passes_members(cursor: &mut Cursor<'_>, names: &Names) -> bool
-    ensures ordered { IsTrue result → IsOrdered (object (members_of (map member_in (innermost (levels_meant names.now cursor.old))))) }
-    ensures behind { IsTrue result → levels_meant names.now cursor.new ≡ outer (levels_meant names.now cursor.old) }
-    ensures refused { result ≡ false → HoldDocuments (levels_meant names.now cursor.old) → IsAscending (map member_in (innermost (levels_meant names.now cursor.old))) → ⊥ }
-    ensures shorter { length cursor.new ≤ length cursor.old }
+fn passes_members(outline: &mut Outline<'_>, names: &Names) -> bool
+    ensures passes { (ms : Members ℕ Scalar) (more : List (TreeToken ℕ Scalar)) → IsOutlineOf (members_preorder ms ++ token None closed ∷ more) outline.old → result ≡ are_members_ordered names.now None ms }
+    ensures behind { (ms : Members ℕ Scalar) (more : List (TreeToken ℕ Scalar)) → IsOutlineOf (members_preorder ms ++ token None closed ∷ more) outline.old → IsTrue result → IsOutlineOf more outline.new }
+    ensures shorter { length outline.new.tags ≤ length outline.old.tags }
 {
     let mut last = None;
-    while let Some(token) = cursor.next() {
-        if !begins_value(token.value) {
+    while let Some(tag) = outline.tag() {
+        if tag == CLOSE_TAG {
             return true;
         }
-        let name = label_meant(token.label, names);
+        let name = name_meant(names, outline.number());
         if !is_above(last, name) {
             return false;
         }
         last = Some(name);
-        if !passes_value(cursor, token, names) {
+        if !passes_value(outline, tag, names) {
             return false;
         }
     }
     true
-}
-
-/// Whether a piece is a value or opens one: all do but a close.
-fn begins_value(piece: Piece<'_>) -> bool
-    ensures { (levels : Levels) → is_some (value_read (piece_of piece.entry) levels).0 ≡ result }
-{
-    match piece {
-        Piece::Close => false,
-        Piece::Null => true,
-        Piece::Bool(_) => true,
-        Piece::Int(_) => true,
-        Piece::Text(_) => true,
-        Piece::Array => true,
-        Piece::Object => true,
-    }
 }

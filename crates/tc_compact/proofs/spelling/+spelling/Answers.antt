@@ -1,46 +1,88 @@
-use Rattle.std.proofs.Common.{◌≡◌, ◌∙◌, ◌∷◌, false, option_map, map, refl, sym, ap, subst}
-use Rattle.tc_record.specs.Preorder.{token, array_opened, object_opened}
+use Rattle.std.proofs.Common.{◌≡◌, ◌∙◌, false, true, Some, option_map, length, sym, ap, arith}
 use Rattle.tc_record.specs.Walk.{is_above}
-use Rattle.tc_record.specs.WalkView.{key_of, piece_of, token_of}
-use Rattle.tc_record.specs.Building.{innermost, member_in, name_told, levels_of, HoldDocuments}
-use Rattle.tc_record.proofs.Built.{array_holds, object_holds, object_ascends}
-use Rattle.tc_compact.specs.Meant.{key_meant, tokens_meant, levels_meant}
-use Rattle.tc_compact.proofs.Passing.{names_left, none_left, ordered_whole, not_ascending}
+use Rattle.tc_compact.specs.Meant.{name_at}
+use Rattle.tc_compact.specs.Outline.{are_members_ordered}
+use Rattle.tc_compact.proofs.OutlineSteps.{IsBehindTag, IsBehindNumber, items_done, items_fail, items_next, members_done, names_fail, members_fail, members_next}
 use Rattle.tc_compact.proofs.spelling.+spelling.Goals as goal
 
-pub passes_members-returns-then-not-begins_value-clause-ordered : goal.passes_members-returns-then-not-begins_value-clause-ordered
-passes_members-returns-then-not-begins_value-clause-ordered t c = λ _.
+pub passes_items-returns-then-tag-eq-CLOSE_TAG-clause-passes : goal.passes_items-returns-then-tag-eq-CLOSE_TAG-clause-passes
+passes_items-returns-then-tag-eq-CLOSE_TAG-clause-passes t c = λ xs more is.
     let names = c.args.names.now in
-    let l = c.loop-token in
-    let none = none_left names l.cursor c.next.new.self (token_of c.in-Some.token) c.in-Some.ensures.taken (c.begins_value.ensures (levels_meant names c.next.new.self) ∙ c.if-not-begins_value.true) in
-    ordered_whole (innermost (levels_meant names c.args.cursor.now)) (innermost (levels_meant names l.cursor)) (option_map (λ n. n.now) l.last) none l.invariant.ascending l.invariant.ordered
+    let left = c.loop-tag.invariant.left xs more is in
+    let step : IsBehindTag c.loop-tag.outline c.in-Some.tag c.tag.new.self = record { taken = c.in-Some.ensures.taken; slots = c.tag.ensures.slots; width = c.tag.ensures.width } in
+    (items_done names more c.loop-tag.outline c.in-Some.tag c.tag.new.self step left.0 left.2 c.if-tag-eq-CLOSE_TAG.true).0 ∙ left.1
 
-pub passes_members-returns-then-not-is_above-clause-refused : goal.passes_members-returns-then-not-is_above-clause-refused
-passes_members-returns-then-not-is_above-clause-refused t c = λ _ holds.
+pub passes_items-returns-then-tag-eq-CLOSE_TAG-clause-behind : goal.passes_items-returns-then-tag-eq-CLOSE_TAG-clause-behind
+passes_items-returns-then-tag-eq-CLOSE_TAG-clause-behind t c = λ xs more is _.
     let names = c.args.names.now in
-    let l = c.loop-token in
-    let last = option_map (λ n. n.now) l.last in
-    let left = names_left names l.cursor c.next.new.self (token_of c.in-Some.token) c.in-Some.ensures.taken (c.begins_value.ensures (levels_meant names c.next.new.self) ∙ c.if-not-begins_value.false) in
-    let name = name_told (option_map (key_meant names) (key_of c.in-Some.token.label)) in
-    let above : is_above last name ≡ false = ap (is_above last) (sym c.label_meant-name.ensures) ∙ sym c.is_above.ensures ∙ c.if-not-is_above.true in
-    not_ascending (innermost (levels_meant names c.args.cursor.now)) last name _ _ left above l.invariant.ascending
+    let left = c.loop-tag.invariant.left xs more is in
+    let step : IsBehindTag c.loop-tag.outline c.in-Some.tag c.tag.new.self = record { taken = c.in-Some.ensures.taken; slots = c.tag.ensures.slots; width = c.tag.ensures.width } in
+    (items_done names more c.loop-tag.outline c.in-Some.tag c.tag.new.self step left.0 left.2 c.if-tag-eq-CLOSE_TAG.true).1
 
-pub passes_members-returns-clause-ordered : goal.passes_members-returns-clause-ordered
-passes_members-returns-clause-ordered t c = λ _.
+pub passes_items-returns-then-not-passes_value-clause-passes : goal.passes_items-returns-then-not-passes_value-clause-passes
+passes_items-returns-then-not-passes_value-clause-passes t c = λ xs more is.
     let names = c.args.names.now in
-    let l = c.loop-token in
-    ordered_whole (innermost (levels_meant names c.args.cursor.now)) (innermost (levels_meant names l.cursor)) (option_map (λ n. n.now) l.last) (ap (λ ts. innermost (levels_meant names ts)) c.in_default.ensures.end) l.invariant.ascending l.invariant.ordered
+    let left = c.loop-tag.invariant.left xs more is in
+    let step : IsBehindTag c.loop-tag.outline c.in-Some.tag c.tag.new.self = record { taken = c.in-Some.ensures.taken; slots = c.tag.ensures.slots; width = c.tag.ensures.width } in
+    items_fail names more c.loop-tag.outline c.in-Some.tag c.tag.new.self step c.passes_value.result c.passes_value.new.outline c.passes_value.ensures.passes c.passes_value.ensures.behind c.if-tag-eq-CLOSE_TAG.false left.0 left.2 c.if-not-passes_value.true ∙ left.1
 
-pub passes_value-returns-in-Array-clause-refused : goal.passes_value-returns-in-Array-clause-refused
-passes_value-returns-in-Array-clause-refused t c = λ is holds.
-    let label = option_map (key_meant c.args.names.now) (key_of c.args.token.label) in
-    let left = tokens_meant c.args.names.now c.args.cursor.now in
-    let here : HoldDocuments (levels_of (token label array_opened ∷ left)) = subst (λ v. HoldDocuments (levels_of (token label (piece_of v) ∷ left))) c.in-Array.is holds in
-    c.passes_items.ensures.refused is (array_holds label left here)
+pub passes_items-loop-tag-preserved : goal.passes_items-loop-tag-preserved
+passes_items-loop-tag-preserved t c =
+    let names = c.args.names.now in
+    let step : IsBehindTag c.loop-tag.outline c.in-Some.tag c.tag.new.self = record { taken = c.in-Some.ensures.taken; slots = c.tag.ensures.slots; width = c.tag.ensures.width } in
+    record {
+      left = λ xs more is.
+          let left = c.loop-tag.invariant.left xs more is in
+          let next = items_next names more c.loop-tag.outline c.in-Some.tag c.tag.new.self step c.passes_value.result c.passes_value.new.outline c.passes_value.ensures.passes c.passes_value.ensures.behind c.if-tag-eq-CLOSE_TAG.false left.0 left.2 c.if-not-passes_value.false in
+          (next.0, next.1 ∙ left.1, next.2);
+      shorter = let taken = ap length c.in-Some.ensures.taken in let before = c.loop-tag.invariant.shorter in let further = c.passes_value.ensures.shorter in omega (arith, taken, before, further);
+    }
 
-pub passes_value-returns-in-Object-clause-refused : goal.passes_value-returns-in-Object-clause-refused
-passes_value-returns-in-Object-clause-refused t c = λ is holds.
-    let label = option_map (key_meant c.args.names.now) (key_of c.args.token.label) in
-    let left = tokens_meant c.args.names.now c.args.cursor.now in
-    let here : HoldDocuments (levels_of (token label object_opened ∷ left)) = subst (λ v. HoldDocuments (levels_of (token label (piece_of v) ∷ left))) c.in-Object.is holds in
-    c.passes_members.ensures.refused is (object_holds label left here) (object_ascends label left (map member_in (innermost (levels_of left))) here refl)
+pub passes_members-returns-then-tag-eq-CLOSE_TAG-clause-passes : goal.passes_members-returns-then-tag-eq-CLOSE_TAG-clause-passes
+passes_members-returns-then-tag-eq-CLOSE_TAG-clause-passes t c = λ ms more is.
+    let names = c.args.names.now in
+    let left = c.loop-tag.invariant.left ms more is in
+    let step : IsBehindTag c.loop-tag.outline c.in-Some.tag c.tag.new.self = record { taken = c.in-Some.ensures.taken; slots = c.tag.ensures.slots; width = c.tag.ensures.width } in
+    (members_done names more c.loop-tag.outline c.in-Some.tag c.tag.new.self step (option_map (λ n. n.now) c.loop-tag.last) left.0 left.2 c.if-tag-eq-CLOSE_TAG.true).0 ∙ left.1
+
+pub passes_members-returns-then-tag-eq-CLOSE_TAG-clause-behind : goal.passes_members-returns-then-tag-eq-CLOSE_TAG-clause-behind
+passes_members-returns-then-tag-eq-CLOSE_TAG-clause-behind t c = λ ms more is _.
+    let names = c.args.names.now in
+    let left = c.loop-tag.invariant.left ms more is in
+    let step : IsBehindTag c.loop-tag.outline c.in-Some.tag c.tag.new.self = record { taken = c.in-Some.ensures.taken; slots = c.tag.ensures.slots; width = c.tag.ensures.width } in
+    (members_done names more c.loop-tag.outline c.in-Some.tag c.tag.new.self step (option_map (λ n. n.now) c.loop-tag.last) left.0 left.2 c.if-tag-eq-CLOSE_TAG.true).1
+
+pub passes_members-returns-then-not-is_above-clause-passes : goal.passes_members-returns-then-not-is_above-clause-passes
+passes_members-returns-then-not-is_above-clause-passes t c = λ ms more is.
+    let names = c.args.names.now in
+    let last = option_map (λ n. n.now) c.loop-tag.last in
+    let left = c.loop-tag.invariant.left ms more is in
+    let step : IsBehindTag c.loop-tag.outline c.in-Some.tag c.tag.new.self = record { taken = c.in-Some.ensures.taken; slots = c.tag.ensures.slots; width = c.tag.ensures.width } in
+    let next : IsBehindNumber c.tag.new.self c.number.result c.number.new.self = record { taken = c.number.ensures.taken; tags = c.number.ensures.tags; width = c.number.ensures.width } in
+    let above : is_above last (name_at names c.number.result) ≡ false = ap (is_above last) (sym c.name_meant-name.ensures) ∙ sym c.is_above.ensures ∙ c.if-not-is_above.true in
+    names_fail names more c.loop-tag.outline c.in-Some.tag c.tag.new.self step last c.number.result c.number.new.self next c.if-tag-eq-CLOSE_TAG.false left.0 left.2 above ∙ left.1
+
+pub passes_members-returns-then-not-passes_value-clause-passes : goal.passes_members-returns-then-not-passes_value-clause-passes
+passes_members-returns-then-not-passes_value-clause-passes t c = λ ms more is.
+    let names = c.args.names.now in
+    let last = option_map (λ n. n.now) c.loop-tag.last in
+    let left = c.loop-tag.invariant.left ms more is in
+    let step : IsBehindTag c.loop-tag.outline c.in-Some.tag c.tag.new.self = record { taken = c.in-Some.ensures.taken; slots = c.tag.ensures.slots; width = c.tag.ensures.width } in
+    let next : IsBehindNumber c.tag.new.self c.number.result c.number.new.self = record { taken = c.number.ensures.taken; tags = c.number.ensures.tags; width = c.number.ensures.width } in
+    let above : is_above last (name_at names c.number.result) ≡ true = ap (is_above last) (sym c.name_meant-name.ensures) ∙ sym c.is_above.ensures ∙ c.if-not-is_above.false in
+    members_fail names more c.loop-tag.outline c.in-Some.tag c.tag.new.self step last c.number.result c.number.new.self next c.if-tag-eq-CLOSE_TAG.false c.passes_value.result c.passes_value.new.outline c.passes_value.ensures.passes c.passes_value.ensures.behind above left.0 left.2 c.if-not-passes_value.true ∙ left.1
+
+pub passes_members-loop-tag-preserved : goal.passes_members-loop-tag-preserved
+passes_members-loop-tag-preserved t c =
+    let names = c.args.names.now in
+    let last = option_map (λ n. n.now) c.loop-tag.last in
+    let step : IsBehindTag c.loop-tag.outline c.in-Some.tag c.tag.new.self = record { taken = c.in-Some.ensures.taken; slots = c.tag.ensures.slots; width = c.tag.ensures.width } in
+    let next : IsBehindNumber c.tag.new.self c.number.result c.number.new.self = record { taken = c.number.ensures.taken; tags = c.number.ensures.tags; width = c.number.ensures.width } in
+    let above : is_above last (name_at names c.number.result) ≡ true = ap (is_above last) (sym c.name_meant-name.ensures) ∙ sym c.is_above.ensures ∙ c.if-not-is_above.false in
+    record {
+      left = λ ms more is.
+          let left = c.loop-tag.invariant.left ms more is in
+          let further = members_next names more c.loop-tag.outline c.in-Some.tag c.tag.new.self step last c.number.result c.number.new.self next c.if-tag-eq-CLOSE_TAG.false c.passes_value.result c.passes_value.new.outline c.passes_value.ensures.passes c.passes_value.ensures.behind above left.0 left.2 c.if-not-passes_value.false in
+          (further.0, ap (λ n. are_members_ordered names (Some n) further.0) c.name_meant-name.ensures ∙ further.1 ∙ left.1, further.2);
+      shorter = let taken = ap length c.in-Some.ensures.taken in let before = c.loop-tag.invariant.shorter in let later = c.passes_value.ensures.shorter in let same = ap length c.number.ensures.tags in omega (arith, taken, before, later, same);
+    }

@@ -1,37 +1,36 @@
-use Rattle.std.proofs.Common.{◌≡◌, ◌≤◌, ◌+◌, ◌*◌, None, length, map, option_map}
-use Rattle.tc_model.specs.Tree.{items_of, members_of}
-use Rattle.tc_record.specs.Building.{innermost, outer, value_in, member_in, HoldDocuments}
-use Rattle.tc_compact.specs.Meant.{levels_meant, ascend_behind, AreItemsOrdered, AreMembersOrdered}
+use Rattle.std.proofs.Common.{◌≡◌, ◌≤◌, ◌+◌, ◌*◌, ℕ, List, ◌∷◌, ◌++◌, None, length, option_map}
+use Rattle.tc_model.specs.Document.{Scalar}
+use Rattle.tc_model.specs.Tree.{Items, Members}
+use Rattle.tc_record.specs.Preorder.{Token, token, closed, items_preorder, members_preorder}
+use Rattle.tc_compact.specs.Outline.{IsOutlineOf, are_items_ordered, are_members_ordered}
 use Rattle.tc_compact.proofs.spelling.+spelling.Given as goal
 
 abbrev pub decreases-passes_value : goal.decreases-passes_value
-decreases-passes_value l = 2 * length l.cursor.now + 1
+decreases-passes_value l = 2 * length l.outline.now.tags + 1
 
 abbrev pub decreases-passes_items : goal.decreases-passes_items
-decreases-passes_items l = 2 * length l.cursor.now
+decreases-passes_items l = 2 * length l.outline.now.tags
 
 abbrev pub decreases-passes_members : goal.decreases-passes_members
-decreases-passes_members l = 2 * length l.cursor.now
+decreases-passes_members l = 2 * length l.outline.now.tags
 
-abbrev pub invariant-passes_items-loop-token : goal.invariant-passes_items-loop-token
-invariant-passes_items-loop-token l = record {
-  ordered : AreItemsOrdered (items_of (map value_in (innermost (levels_meant l.names l.cursor)))) → AreItemsOrdered (items_of (map value_in (innermost (levels_meant l.names l.fn.cursor))));
-  outer : outer (levels_meant l.names l.cursor) ≡ outer (levels_meant l.names l.fn.cursor);
-  lawful : HoldDocuments (levels_meant l.names l.fn.cursor) → HoldDocuments (levels_meant l.names l.cursor);
-  shorter : length l.cursor ≤ length l.fn.cursor;
+-- the items that are left are ordered just where all are
+abbrev pub invariant-passes_items-loop-tag : goal.invariant-passes_items-loop-tag
+invariant-passes_items-loop-tag l = record {
+  left : (xs : Items ℕ Scalar) (more : List (Token ℕ Scalar)) → IsOutlineOf (items_preorder xs ++ token None closed ∷ more) l.fn.outline
+      → (ys : Items ℕ Scalar) × (are_items_ordered l.names ys ≡ are_items_ordered l.names xs) × IsOutlineOf (items_preorder ys ++ token None closed ∷ more) l.outline;
+  shorter : length l.outline.tags ≤ length l.fn.outline.tags;
 }
 
-abbrev pub decreases-passes_items-loop-token : goal.decreases-passes_items-loop-token
-decreases-passes_items-loop-token l = length l.cursor
+abbrev pub decreases-passes_items-loop-tag : goal.decreases-passes_items-loop-tag
+decreases-passes_items-loop-tag l = length l.outline.tags
 
-abbrev pub invariant-passes_members-loop-token : goal.invariant-passes_members-loop-token
-invariant-passes_members-loop-token l = record {
-  ascending : ascend_behind (option_map (λ n. n.now) l.last) (map (λ m. m.0) (map member_in (innermost (levels_meant l.names l.cursor)))) ≡ ascend_behind None (map (λ m. m.0) (map member_in (innermost (levels_meant l.names l.fn.cursor))));
-  ordered : AreMembersOrdered (members_of (map member_in (innermost (levels_meant l.names l.cursor)))) → AreMembersOrdered (members_of (map member_in (innermost (levels_meant l.names l.fn.cursor))));
-  outer : outer (levels_meant l.names l.cursor) ≡ outer (levels_meant l.names l.fn.cursor);
-  lawful : HoldDocuments (levels_meant l.names l.fn.cursor) → HoldDocuments (levels_meant l.names l.cursor);
-  shorter : length l.cursor ≤ length l.fn.cursor;
+abbrev pub invariant-passes_members-loop-tag : goal.invariant-passes_members-loop-tag
+invariant-passes_members-loop-tag l = record {
+  left : (ms : Members ℕ Scalar) (more : List (Token ℕ Scalar)) → IsOutlineOf (members_preorder ms ++ token None closed ∷ more) l.fn.outline
+      → (ns : Members ℕ Scalar) × (are_members_ordered l.names (option_map (λ n. n.now) l.last) ns ≡ are_members_ordered l.names None ms) × IsOutlineOf (members_preorder ns ++ token None closed ∷ more) l.outline;
+  shorter : length l.outline.tags ≤ length l.fn.outline.tags;
 }
 
-abbrev pub decreases-passes_members-loop-token : goal.decreases-passes_members-loop-token
-decreases-passes_members-loop-token l = length l.cursor
+abbrev pub decreases-passes_members-loop-tag : goal.decreases-passes_members-loop-tag
+decreases-passes_members-loop-tag l = length l.outline.tags

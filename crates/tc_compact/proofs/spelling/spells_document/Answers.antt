@@ -1,7 +1,9 @@
-use Rattle.std.proofs.Common.{◌∙◌, IfSome, sym, subst}
-use Rattle.tc_record.specs.Building.{document_read, HoldDocuments}
-use Rattle.tc_compact.specs.Meant.{tokens_meant, levels_meant, IsOrdered}
-use Rattle.tc_compact.proofs.Meanings.{meant_holds, has_room, named_under, means_one}
+use Rattle.std.proofs.Common.{◌≡◌, ◌∙◌, true, false, sym}
+use Rattle.std.proofs.lemmas.Bool.{both_ways}
+use Rattle.tc_compact.proofs.Meanings.{has_room, named_under, ordered_under, under_ordered}
+use Rattle.tc_compact.specs.Outline.{is_ordered}
+use Rattle.tc_compact.proofs.Expands.{numbered_tree}
+use Rattle.tc_compact.proofs.Outlines.{ordered-from_test, test-from_ordered}
 use Rattle.tc_compact.proofs.spelling.spells_document.Goals as goal
 
 pub returns-then-named-clause-found : goal.returns-then-named-clause-found
@@ -13,12 +15,18 @@ returns-then-not-has_room-clause-none c = λ refused d is.
     none.1 (has_room c.args.names.now c.args.of d c.bytes-bytes.ensures.spells none.0 is)
 
 pub returns-clause-found : goal.returns-clause-found
-returns-clause-found c = λ is.
+returns-clause-found c = λ passes.
     let names = c.args.names.now in
-    means_one names c.args.of c.is_dictionary.ensures c.bytes-bytes.ensures.spells (c.has_room.ensures.room c.if-not-has_room.false)
-    (subst (λ ts. IfSome (document_read (tokens_meant names ts)) IsOrdered) c.cursor.ensures (c.is_ordered.ensures.ordered is))
+    let r = c.args.of in
+    let unnamed : r.named ≡ false = sym c.named.ensures ∙ c.if-named.false in
+    let tree = numbered_tree r c.bytes-bytes.ensures.spells unnamed in
+    let test : is_ordered names tree.0 ≡ true = sym (c.passes_all.ensures tree.0 (c.of.ensures tree.0 tree.1)) ∙ passes in
+    ordered_under names r tree.0 c.is_dictionary.ensures c.bytes-bytes.ensures.spells tree.1 (c.has_room.ensures.room c.if-not-has_room.false unnamed) (ordered-from_test names tree.0 test)
 
 pub returns-clause-none : goal.returns-clause-none
 returns-clause-none c = λ refused d is.
     let names = c.args.names.now in
-    c.is_ordered.ensures.refused refused (subst (λ ts. HoldDocuments (levels_meant names ts)) (sym c.cursor.ensures) (meant_holds names c.args.of d c.bytes-bytes.ensures.spells is))
+    let r = c.args.of in
+    let tree = numbered_tree r c.bytes-bytes.ensures.spells (sym c.named.ensures ∙ c.if-named.false) in
+    let test : is_ordered names tree.0 ≡ false = sym (c.passes_all.ensures tree.0 (c.of.ensures tree.0 tree.1)) ∙ refused in
+    both_ways (is_ordered names tree.0) test (test-from_ordered names tree.0 (under_ordered names r tree.0 d c.bytes-bytes.ensures.spells tree.1 is))
