@@ -1,7 +1,7 @@
-mod PlaceLaws
-mod SharesLeft
+pub mod PlaceLaws
+pub mod SharesLeft
 mod OwnKeys
-mod EnginesHeld
+pub mod EnginesHeld
 mod WindowsHeld
 mod ShareWindows
 mod EnginesRun
@@ -11,3 +11,8 @@ mod AnswersTaken
 mod SharesRun
 mod EngineRan
 mod WindowEnds
+mod CallsInTurn
+mod EnginesMoved
+mod EnginesSettled
+mod EnginesFlushed
+mod SchemasShown

@@ -2,3 +2,5 @@ pub mod Places
 pub mod Standing
 pub mod Running
 pub mod Faults
+pub mod Moving
+pub mod SchemaTexts

@@ -3,7 +3,10 @@
 
 mod engines;
 mod fault;
+mod flushing;
+mod schema_texts;
 mod seat;
+mod settling;
 mod window;
 
 pub use engines::Engines;
