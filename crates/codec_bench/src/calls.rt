@@ -1,7 +1,9 @@
 //! Calls on all documents of standard input, as memory tables of a partition.
 
 use crate::flushes::{Below, asked, flushed, flushed_again};
-use crate::merges::{Records, Shared, components_of, judged_again, merged_again, records_of};
+use crate::merges::{
+    Records, Shared, components_of, copied_again, judged_again, merged_again, records_of,
+};
 use crate::tables::tables_of;
 use anyhow::{Context, Result, bail};
 use serde_json::Value;
@@ -63,6 +65,10 @@ impl Work {
                 let made = merged_again(alloc, &self.run, rounds)?;
                 Ok(format!(in alloc; "{} reads, {} bytes", made.reads, made.bytes)?)
             }
+            "copy" => {
+                let made = copied_again(alloc, &self.records, rounds)?;
+                Ok(format!(in alloc; "{} reads, {} bytes", made.reads, made.bytes)?)
+            }
             other => bail!("no call {other}"),
         }
     }
@@ -83,7 +89,7 @@ impl Work {
 
 /// Whether the call is one on all documents.
 pub(crate) fn is_of_tables(call: &str) -> bool {
-    ["parse", "counted", "flush", "judge", "merge"].contains(&call)
+    ["parse", "counted", "flush", "judge", "merge", "copy"].contains(&call)
 }
 
 /// Reads each line of the newest table as JSON.

@@ -9,7 +9,7 @@ use tc_component::{Component, Found, Head};
 use tc_memory::Sealed;
 use tc_merge::{MergeJob, MergeParts, can_merge};
 use tc_record::RecordRef;
-use tc_store::{Device, FileName, Store};
+use tc_store::{Device, FileName, Frozen, Store};
 
 /// A component that jobs share.
 pub(crate) type Shared = Arc<Component<SilentFile>>;
@@ -89,6 +89,79 @@ pub(crate) fn judged_again(records: &Records, rounds: u32) -> Result<u64> {
         }
     }
     Ok(count)
+}
+
+/// Takes as many bytes as a merge out of a file and into another so often, as a merge takes them: what a window reads of each
+/// of four places in turn, and a piece as long. What a file in memory does for a merge takes so long, and is no part of it.
+pub(crate) fn copied_again(alloc: Global, records: &Records, rounds: u32) -> Result<Merged> {
+    let name = FileName::Component { from: 1, to: 1 };
+    let mut watch = Tally::none();
+    let mut source = SilentDevice::within(name, Vec::new(alloc));
+    source.write_at(0, &records.bytes, &mut watch)?;
+    let file = SilentStore {}.freeze(alloc, source, &mut watch)?;
+    let mut windows = Vec::new(alloc);
+    for _ in 0..STREAMS {
+        windows.push(filled(alloc, WINDOW_LEN)?)?;
+    }
+    let mut made = Merged { reads: 0, bytes: 0 };
+    let mut room = Vec::new(alloc);
+    for _ in 0..rounds {
+        let mut device = SilentDevice::within(name, room);
+        copy(&file, &mut windows, &mut device, &mut watch)?;
+        made.bytes = made.bytes.wrapping_add(device.len());
+        room = device.into_room();
+    }
+    made.reads = watch.reads;
+    Ok(made)
+}
+
+/// How many components a merge of the benchmark has.
+const STREAMS: usize = 4;
+
+/// How many bytes a merge reads and writes together.
+const WINDOW_LEN: usize = 65_536;
+
+fn filled(alloc: Global, len: usize) -> Result<Vec<u8>> {
+    let mut bytes = Vec::new(alloc);
+    bytes.resize(len, 0)?;
+    Ok(bytes)
+}
+
+/// Takes a file into a device, by one window of each of its parts in turn.
+fn copy(
+    file: &SilentFile,
+    windows: &mut Vec<Vec<u8>>,
+    device: &mut SilentDevice,
+    watch: &mut Tally,
+) -> Result<()> {
+    let part = file.len() / STREAMS as u64;
+    let turns = (part / WINDOW_LEN as u64).saturating_add(1);
+    for turn in 0..turns {
+        let mut begin = turn.saturating_mul(WINDOW_LEN as u64);
+        let count = part.saturating_sub(begin).min(WINDOW_LEN as u64);
+        for window in windows.iter_mut() {
+            window.resize(count as usize, 0)?;
+            copy_window(file, begin, window, device, watch)?;
+            begin = begin.wrapping_add(part);
+        }
+    }
+    Ok(())
+}
+
+fn copy_window(
+    file: &SilentFile,
+    begin: u64,
+    window: &mut [u8],
+    device: &mut SilentDevice,
+    watch: &mut Tally,
+) -> Result<()> {
+    if begin > file.len() || window.len() as u64 > file.len() - begin {
+        bail!("a window ends behind the file");
+    }
+    file.read(begin, window, watch)?;
+    let end = device.len();
+    device.write_at(end, window, watch)?;
+    Ok(())
 }
 
 /// The file of their merge, which is whole, in this room.
