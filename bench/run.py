@@ -3,7 +3,7 @@
 
     bench/run.py [--program FILE] [--documents N] [--large N] [--rounds N] [PART ..]
 
-Parts: loads, gets, queries, opening, calls, growth, and lines, all but the last by default. The program is
+Parts: loads, gets, queries, opening, calls, growth, partitions, and lines, all but the last two by default. The program is
 crates/tuple_store/out/tuple_store, which `rt run` in crates/tuple_store builds, or FILE. N documents are 40,000, and a
 tenth of that of readings; the large store has 1,000,000. Runs take turns, so that other load meets all of them; a time is
 the least of the rounds, 3 by default, and a ratio the median of those of the rounds, each of two runs one after the other.
@@ -19,6 +19,9 @@ parses the JSON that it stores, as the store does. Both keep a log that is synce
     opening  the large store is opened, which growth made; where strace is there, how many bytes are read for it
     calls    calls on the log for a window of upserts, where strace is there
     growth   messages with --memory 4194304 --limit 67108864, up to the large store
+    partitions
+             loads into 1, 2, 4 and 8 partitions, in windows of 64 and of 4,096 lines, over files in memory (/dev/shm), by
+             the processor and by the clock; it wants a machine that does nothing else
     lines    documents in memory, and nothing else: orders of keys, gets of absent keys, windows, schemas
 """
 
@@ -31,6 +34,7 @@ import shutil
 import statistics
 import subprocess
 import tempfile
+import time
 
 import feeds
 import sqlite
@@ -65,8 +69,8 @@ class Bench:
                     count += 1
         return self.path(name), count
 
-    def command(self, store, words=(), window=64):
-        return [self.words.program, store, "run", "--partitions", "1", "--window", str(window), *words]
+    def command(self, store, words=(), window=64, partitions=1):
+        return [self.words.program, store, "run", "--partitions", str(partitions), "--window", str(window), *words]
 
     def empty(self, name="store"):
         """An empty folder for a store."""
@@ -74,12 +78,18 @@ class Bench:
         os.mkdir(self.path(name))
         return self.path(name)
 
-    def run(self, source, store, words=(), window=64):
+    def run(self, source, store, words=(), window=64, partitions=1):
         """The processor seconds of the program over the lines of a file."""
         before = processor()
         with open(source, "rb") as lines, open(self.path("replies"), "wb") as replies:
-            subprocess.run(self.command(store, words, window), stdin=lines, stdout=replies, check=True)
+            subprocess.run(self.command(store, words, window, partitions), stdin=lines, stdout=replies, check=True)
         return processor() - before
+
+    def timed(self, *run):
+        """The processor seconds of a run, and those of the clock."""
+        before = time.monotonic()
+        used = self.run(*run)
+        return used, time.monotonic() - before
 
     def traced(self, calls, source, store, words=()):
         """What strace tells of these calls of a run."""
@@ -270,6 +280,34 @@ def show_schema(bench, name, made, schemas=20_000):
     show(bench, name, schemas, measured(bench, [*made, *feeds.schemas(schemas)])[1] - measured(bench, made)[1])
 
 
+def partitions(bench):
+    print("| load | window | partitions | processor, µs a line | times that of one | clock, µs a line | times as fast as one |")
+    print("|---|--:|--:|--:|--:|--:|--:|")
+    folder = "/dev/shm" if os.path.isdir("/dev/shm") else bench.folder
+    with tempfile.TemporaryDirectory(dir=folder) as stores:
+        for name, made, part in (("messages", feeds.message, 1), ("profiles", feeds.profile, 4)):
+            source, count = bench.write("lines", feeds.upserts(10 * bench.words.documents // part, "ascending", made))
+            for window in (64, 4096):
+                load_parts(bench, name, source, count, window, stores)
+
+
+def load_parts(bench, name, source, count, window, stores):
+    """A row for each number of partitions; the runs of a round follow each other."""
+    numbers = (1, 2, 4, 8)
+    times = {it: [] for it in numbers}
+    for _ in range(bench.words.rounds):
+        for number in numbers:
+            store = os.path.join(stores, "store")
+            shutil.rmtree(store, ignore_errors=True)
+            os.mkdir(store)
+            times[number].append(bench.timed(source, store, LOADED, window, number))
+    for number in numbers:
+        used, clock = (min(it) for it in zip(*times[number]))
+        more = statistics.median(many[0] / one[0] for many, one in zip(times[number], times[1]))
+        faster = statistics.median(one[1] / many[1] for many, one in zip(times[number], times[1]))
+        print(f"| {name} | {window:,} | {number} | {micros(used, count):.2f} | {more:.2f} | {micros(clock, count):.2f} | {faster:.2f} |", flush=True)
+
+
 def main():
     parser = argparse.ArgumentParser(description=__doc__, formatter_class=argparse.RawDescriptionHelpFormatter)
     parser.add_argument("--program", type=os.path.abspath, default=BUILT)
@@ -278,7 +316,7 @@ def main():
     parser.add_argument("--rounds", type=int, default=3)
     parser.add_argument("parts", nargs="*", metavar="PART")
     words = parser.parse_args()
-    known = {"loads": loads, "gets": gets, "queries": queries, "growth": growth, "opening": opening, "calls": calls, "lines": lines}
+    known = {"loads": loads, "gets": gets, "queries": queries, "growth": growth, "opening": opening, "calls": calls, "partitions": partitions, "lines": lines}
     for part in words.parts:
         if part not in known:
             parser.error(f"there is no part {part}")
