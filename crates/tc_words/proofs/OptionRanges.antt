@@ -1,6 +1,6 @@
--- The numbers that words ask for are in their ranges: a window has a line at least and no more than words may ask for, the
--- bytes at which a table is sealed are many, and few components are merged.
-use Rattle.std.proofs.Common.{◌≡◌, ◌≤◌, ℕ, Bool, true, false, List, refl, ap, subst, arith, codes}
+-- The numbers that words ask for are in their ranges: there are 1 to 16 partitions, a window has a line at least and no more than
+-- words may ask for, the bytes at which a table is sealed are many, and few components are merged.
+use Rattle.std.proofs.Common.{◌≡◌, ◌≤◌, ℕ, Bool, true, false, List, refl, subst, arith, codes}
 use Rattle.std.specs.Prelude.{◌&&◌, nat_le, is_some, unwrap_or, option_and_then, option_map, Option, Some, None, IfSome, if◌then◌else◌}
 use Rattle.std.specs.Str.{bytes_eq}
 use Rattle.std.specs.Option.{option_map_or}
@@ -8,7 +8,7 @@ use Rattle.std.proofs.lemmas.Bool.Decides.{nat_tests}
 use Rattle.clap.specs.Words.{Row, Text, first_of}
 use Rattle.tc_number.specs.Number.{number_between, number_of}
 use Rattle.tc_words.specs.Grammar.{partitions, memory, names, docs, window, merge, limit, commands_name, named_matches}
-use Rattle.tc_words.specs.Options.{number_in, options_in, options_of, options_asked, demo_options, commands_in, if_run, invocation_in, invocation_of}
+use Rattle.tc_words.specs.Options.{number_in, options_in, options_asked, demo_options, commands_in, invocation_in, invocation_of}
 use Rattle.tc_words.specs.declared.asked.Invocation.{Invocation}
 use Rattle.tc_words.specs.declared.asked.Invocation.TheVariants.{Run, Demo}
 use Rattle.tc_words.specs.declared.run.Options.{Options}
@@ -52,6 +52,7 @@ some_if true x y same = (refl, cc)
 some_if false x y same = absurd (cc)
 
 pub record AreInRange (o : Options) : Type 0 where
+  pub partitions : IsBetween 1 16 o.partitions
   pub window : IsBetween 1 4096 o.window
   pub memory : IsBetween 4096 16777216 o.memory
   pub merge : IsBetween 2 8 o.merge
@@ -83,6 +84,7 @@ in_rows rows o same =
     let g = is_some (number_in rows merge) in
     let l = is_some (number_in rows limit) && true in
     rw (← read.1) (record {
+      partitions = there_within 1 16 (number_in rows partitions) (and_first p (m && (n && (d && (w && (g && l))))) read.0) (given_within 1 16 2 (omega arith, omega arith) (first_of partitions.name rows));
       window = there_within 1 4096 (number_in rows window) (fifth p m n d w g l read.0) (given_within 1 4096 64 (omega arith, omega arith) (first_of window.name rows));
       memory = there_within 4096 16777216 (number_in rows memory) (second p m n d w g l read.0) (given_within 4096 16777216 262144 (omega arith, omega arith) (first_of memory.name rows));
       merge = there_within 2 8 (number_in rows merge) (sixth p m n d w g l read.0) (given_within 2 8 4 (omega arith, omega arith) (first_of merge.name rows));
@@ -106,7 +108,7 @@ asks_run (Some options) asked ranges same =
     subst IsInRange is (record { options = ranges options refl; commands = tt })
 
 demo_in_range : AreInRange demo_options
-demo_in_range = record { window = (omega arith, omega arith); memory = (omega arith, omega arith); merge = (omega arith, omega arith) }
+demo_in_range = record { partitions = (omega arith, omega arith); window = (omega arith, omega arith); memory = (omega arith, omega arith); merge = (omega arith, omega arith) }
 
 asks_demo : (o : Option ℕ) (asked : Invocation) → IfSome o (IsBetween 1 1000000) → option_map (λ n. Demo n demo_options) o ≡ Some asked → IsInRange asked
 asks_demo None asked few same = absurd (cc)
@@ -131,11 +133,3 @@ in_matches (Some named) asked same = asks_named (bytes_eq named.0 (codes "run"))
 pub asked_in_range : (words : List Text) (asked : Invocation) → invocation_of words ≡ Some asked → IsInRange asked
 unfolding invocation_of
 asked_in_range words asked same = in_matches (named_matches words) asked same
-
-run_asked : (asked : Option Invocation) (o : Options) → option_and_then if_run asked ≡ Some o → asked ≡ Some (Run o)
-run_asked None o same = absurd (cc)
-run_asked (Some (Run options)) o same = let is : options ≡ o = cc in ap (λ x. Some (Run x)) is
-run_asked (Some (Demo n options)) o same = absurd (cc)
-
-pub in_range : (words : List Text) (o : Options) → options_of words ≡ Some o → AreInRange o
-in_range words o same = (asked_in_range words (Run o) (run_asked (invocation_of words) o same)).options

@@ -16,7 +16,7 @@ abbrev pub setting : Text → ℕ → ℕ → Option ℕ → Setting
 setting name least most default = record { name = name; least = least; most = most; default = default }
 
 abbrev pub partitions : Setting
-partitions = setting (codes "partitions") 1 1 None
+partitions = setting (codes "partitions") 1 16 (Some 2)
 
 abbrev pub memory : Setting
 memory = setting (codes "memory") 4096 16777216 (Some 262144)

@@ -63,15 +63,6 @@ invocation_in named =
 unfoldable pub invocation_of : List Text → Option Invocation
 invocation_of words = option_and_then invocation_in (named_matches words)
 
--- the options, where a run is asked for
-abbrev pub if_run : Invocation → Option Options
-if_run (Run options) = Some options
-if_run (Demo n options) = None
-
--- the options of the run that the words ask for; none where they are no run
-abbrev pub options_of : List Text → Option Options
-options_of words = option_and_then if_run (invocation_of words)
-
 -- the options of what is asked for
 abbrev pub options_asked : Invocation → Options
 options_asked (Run options) = options

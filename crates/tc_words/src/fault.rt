@@ -12,7 +12,7 @@ use thiserror::Error;
 #[derive(Clone, Copy, Debug, PartialEq, Eq, Error)]
 pub enum WordsFault {
     /// The words are no command line: they name no subcommand, ask for help, or have an option or a number out of form.
-    #[error("the words are no run")]
+    #[error("the words are no command line")]
     Usage,
     /// No memory was left.
     #[error("no memory")]

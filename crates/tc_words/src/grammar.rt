@@ -35,7 +35,7 @@ fn run<'a>(alloc: Global) -> Result<Command<'a>, AllocError>
     ensures shape { IfOk result (λ command. shape_of command ≡ run_shape) }
 {
     Command::new(alloc, "run")
-        .arg(option(alloc, "partitions").required(true))?
+        .arg(option(alloc, "partitions"))?
         .arg(option(alloc, "memory"))?
         .arg(option(alloc, "names"))?
         .arg(option(alloc, "docs"))?

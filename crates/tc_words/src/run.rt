@@ -30,7 +30,7 @@ pub fn options_in(run: &ArgMatches<'_>) -> Option<Options>
     ensures { result ≡ options_in (rows_of (found_of run.now)) }
 {
     Some(Options {
-        partitions: number_in(run, "partitions", 1, 1, None)? as u32,
+        partitions: number_in(run, "partitions", 1, 16, Some(PARTITIONS))? as u32,
         memory: number_in(run, "memory", 4_096, 16_777_216, Some(MEMORY))?,
         names: number_in(run, "names", 1, 16_777_216, Some(NAMES))? as u32,
         docs: number_in(run, "docs", 1, 4_000_000_000, Some(DOCS))? as u32,
@@ -40,12 +40,12 @@ pub fn options_in(run: &ArgMatches<'_>) -> Option<Options>
     })
 }
 
-/// The options of a demonstration: the defaults, and one partition.
+/// The options of a demonstration: the defaults.
 pub fn demo_options() -> Options
     ensures { result ≡ demo_options }
 {
     Options {
-        partitions: 1,
+        partitions: PARTITIONS as u32,
         memory: MEMORY,
         names: NAMES as u32,
         docs: DOCS as u32,
@@ -56,6 +56,8 @@ pub fn demo_options() -> Options
 }
 
 // The defaults.
+const PARTITIONS: u64 = 2;
+
 const MEMORY: u64 = 262_144;
 
 const NAMES: u64 = 1_000_000;

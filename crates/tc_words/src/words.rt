@@ -1,11 +1,10 @@
 //! What words ask for.
 ghost use Rattle.std.specs.Prelude.{◌≡◌, Some, None, IfOk, IsErrOf, map};
-ghost use Rattle.tc_words.specs.Options.{invocation_of, options_of};
+ghost use Rattle.tc_words.specs.Options.{invocation_of};
 
 use crate::asked::{Invocation, invocation_in};
 use crate::fault::WordsFault;
 use crate::grammar::matches_of;
-use crate::run::Options;
 use std::alloc::{AllocError, Global};
 use tc_value::Text;
 
@@ -17,19 +16,6 @@ pub fn invocation(alloc: Global, words: &[Text]) -> Result<Invocation, WordsFaul
 {
     let texts = texts_of(alloc, words)?;
     invocation_of(alloc, texts.as_slice())
-}
-
-/// The options of the run that the words ask for, of which the first names the subcommand. Errs where the words are no
-/// run, and for want of memory.
-pub fn options(alloc: Global, words: &[Text]) -> Result<Options, WordsFault>
-    ensures ok { IfOk result (λ options. options_of words.now ≡ Some options) }
-    ensures usage { IsErrOf result WordsFault.Usage → options_of words.now ≡ None }
-{
-    match invocation(alloc, words) {
-        Ok(Invocation::Run(options)) => Ok(options),
-        Ok(Invocation::Demo { .. }) => Err(WordsFault::Usage),
-        Err(fault) => Err(fault),
-    }
 }
 
 // The same of words that are borrowed.

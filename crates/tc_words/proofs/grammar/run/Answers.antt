@@ -1,14 +1,11 @@
-use Rattle.std.proofs.Common.{rules, ◌≡◌, ap, codes, true}
+use Rattle.std.proofs.Common.{ap}
 use Rattle.std.proofs.lemmas.Result.{IfOk-weaker}
-use Rattle.clap.specs.Words.{rule_of}
-use Rattle.tc_words.specs.Grammar.{option_rule}
 use Rattle.tc_words.proofs.GrammarLemmas.{IsLocal, with_option}
 use Rattle.tc_words.proofs.grammar.run.Goals as goal
 
 pub returns : goal.returns
 returns c =
-    let rule : rule_of c.required.result ≡ option_rule (codes "partitions") true = search rules in
-    let one = with_option _ _ _ _ _ c.in_ok-arg.ensures (search rules) rule (c.new.ensures.app, c.new.ensures.local) in
+    let one = with_option _ _ _ _ _ c.in_ok-arg.ensures c.option.ensures.local c.option.ensures.rule (c.new.ensures.app, c.new.ensures.local) in
     let two = with_option _ _ _ _ _ c.in_ok-arg-2.ensures c.option-2.ensures.local c.option-2.ensures.rule one in
     let three = with_option _ _ _ _ _ c.in_ok-arg-3.ensures c.option-3.ensures.local c.option-3.ensures.rule two in
     let four = with_option _ _ _ _ _ c.in_ok-arg-4.ensures c.option-4.ensures.local c.option-4.ensures.rule three in
