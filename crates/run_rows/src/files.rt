@@ -1,6 +1,6 @@
-//! The files that a run is over, and those that it leaves.
+//! The files of a partition that a run is over, and those that it leaves.
 
-ghost use Rattle.std.specs.Prelude.{All, IfOk, IfSome};
+ghost use Rattle.std.specs.Prelude.{IfOk, IfSome};
 ghost use Rattle.tc_store.specs.Disk.{IsAtRest, IsThere};
 ghost use Rattle.tc_store.specs.Memory.Store.{store_disks};
 ghost use Rattle.tc_store.specs.Moments.{IfTold};
@@ -63,20 +63,16 @@ impl Files {
     }
 
     /// The kit of the next run. The run behind it has no file, and no call on its files fails.
-    pub(crate) fn kits(&mut self, alloc: Global) -> Option<Vec<Kit<MemStore>>>
-        ensures { IfSome result (λ kits. All (λ kit. IfTold (store_disks kit.store) IsAtRest) kits.items) }
+    pub(crate) fn kit(&mut self, alloc: Global) -> Option<Kit<MemStore>>
+        ensures { IfSome result (λ kit. IfTold (store_disks kit.store) IsAtRest) }
     {
-        let store = self.store(alloc)?;
-        let mut kits = Vec::new(alloc);
-        kits.push(Kit {
-            store,
+        Some(Kit {
+            store: self.store(alloc)?,
             main: watch_of(alloc, &mut self.main),
             flusher: watch_of(alloc, &mut self.flusher),
             merger: watch_of(alloc, &mut self.merger),
             reader: MemWatch::new(Vec::new(alloc)),
         })
-        .ok()?;
-        Some(kits)
     }
 
     fn store(&mut self, alloc: Global) -> Option<MemStore>
@@ -98,11 +94,9 @@ impl Files {
     }
 
     /// Keeps the files of a run that has ended.
-    pub(crate) fn keep(&mut self, kits: Vec<Kit<MemStore>>) {
-        for kit in kits {
-            let Kit { store, .. } = kit;
-            self.left = store;
-        }
+    pub(crate) fn keep(&mut self, kit: Kit<MemStore>) {
+        let Kit { store, .. } = kit;
+        self.left = store;
     }
 
     /// A line for each file that a stop leaves of the last run's, chosen by a number: components first, by generation. From

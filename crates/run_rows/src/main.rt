@@ -3,27 +3,34 @@
 //! folder; `reads` and `writes` say how many bytes a call takes at most and, behind that, the number of the call that fails;
 //! `text`, `line`, `lines`, `padded` and `repeated` make the input. A run begins without files, unless `file` gives it some,
 //! by name and bytes, or `again` has it begin with what a stop leaves of the last run's, by the number that chooses; `fails`
-//! says which calls on them fail, behind who makes them: `main`, `flusher` or `merger`. `serve` runs, `files` shows what a
+//! says which calls on them fail, behind who makes them: `main`, `flusher` or `merger`; `partition` says of which partition
+//! these rows are, which is the first one where none was chosen since the last run. `serve` runs, `files` shows what a
 //! stop leaves of the last run's files, by the number that chooses, and `faults` prints the texts of all faults. A row that
 //! begins with `#` is a note, and is printed as it is; `no answer` stands for a row out of form.
 #![tactic(auto)]
 
 mod files;
+mod parts;
 mod run;
 mod shown;
 
 use run::Run;
 use std::io;
+use std::thread::Threads;
 
 fn main(rt: HostRuntime) -> io::Result<()> {
-    let mut run = Run::new(rt.alloc());
+    let mut run = Run::new(rt.alloc())?;
     for row in rt.lines(rt.alloc()) {
         answer(&rt, &mut run, row?.as_str())?;
     }
     Ok(())
 }
 
-fn answer(rt: &(impl Print + AllocGlobal), run: &mut Run, row: &str) -> io::Result<()> {
+fn answer(
+    rt: &(impl Print + AllocGlobal + Threads + Sync),
+    run: &mut Run,
+    row: &str,
+) -> io::Result<()> {
     match answer_of(rt, run, row) {
         Some(answer) => print!(rt; "{}", answer.as_str()),
         None => println!(rt; "no answer"),
@@ -31,7 +38,11 @@ fn answer(rt: &(impl Print + AllocGlobal), run: &mut Run, row: &str) -> io::Resu
 }
 
 // The lines that answer a row.
-fn answer_of(rt: &(impl Print + AllocGlobal), run: &mut Run, row: &str) -> Option<String> {
+fn answer_of(
+    rt: &(impl Print + AllocGlobal + Threads + Sync),
+    run: &mut Run,
+    row: &str,
+) -> Option<String> {
     let alloc = rt.alloc();
     let (call, argument) = row.split_once(' ').unwrap_or((row, ""));
     match call {

@@ -1,8 +1,9 @@
 //! A run that is made ready row by row, and then served.
 
-use crate::files::Files;
+use crate::parts::Parts;
 use crate::shown::{OnOutput, shown};
-use std::alloc::Global;
+use std::alloc::{AllocError, Global};
+use std::thread::Threads;
 use tc_edge::{MemSink, MemSource};
 use tc_server::{Served, run_program};
 use tc_store::MemShelf;
@@ -20,26 +21,26 @@ const SOUND: Edge = Edge {
     failing: None,
 };
 
-/// The words, the input, how the streams behave, and the files.
+/// The words, the input, how the streams behave, and the files of the partitions.
 #[derive(Drop)]
 pub(crate) struct Run {
     words: String,
     input: Vec<u8>,
     reads: Edge,
     writes: Edge,
-    files: Files,
+    parts: Parts,
 }
 
 impl Run {
     /// A run without words, input or files, over streams that do not fail.
-    pub(crate) fn new(alloc: Global) -> Run {
-        Run {
+    pub(crate) fn new(alloc: Global) -> Result<Run, AllocError> {
+        Ok(Run {
             words: String::new(alloc),
             input: Vec::new(alloc),
             reads: SOUND,
             writes: SOUND,
-            files: Files::new(alloc),
-        }
+            parts: Parts::new(alloc)?,
+        })
     }
 
     /// Makes a part of the run ready.
@@ -48,9 +49,10 @@ impl Run {
             "words" => self.words = String::from_str(alloc, argument).ok()?,
             "reads" => self.reads = edge_of(argument)?,
             "writes" => self.writes = edge_of(argument)?,
-            "again" => self.files.again(argument)?,
-            "file" => self.files.give(alloc, argument)?,
-            "fails" => self.files.fail(argument)?,
+            "partition" => self.parts.choose(argument)?,
+            "again" => self.parts.chosen()?.again(argument)?,
+            "file" => self.parts.chosen()?.give(alloc, argument)?,
+            "fails" => self.parts.chosen()?.fail(argument)?,
             _ => self.add(call, argument)?,
         }
         Some(())
@@ -103,7 +105,10 @@ impl Run {
 
     /// Runs the program, which says on standard output how it ended, and shows its status and what was accepted. The next run
     /// has these words, no input, no file, and no call fails.
-    pub(crate) fn serve<R: Print + AllocGlobal>(&mut self, rt: &R) -> Option<String> {
+    pub(crate) fn serve<R: Print + AllocGlobal + Threads + Sync>(
+        &mut self,
+        rt: &R,
+    ) -> Option<String> {
         let alloc = rt.alloc();
         let words = words_of(alloc, self.words.as_str())?;
         let mut source = MemSource::new(
@@ -112,7 +117,7 @@ impl Run {
             calls(alloc, self.reads)?,
         );
         let mut sink = MemSink::new(alloc, self.writes.piece, calls(alloc, self.writes)?);
-        let mut shelf = MemShelf::new(self.files.kits(alloc)?);
+        let mut shelf = MemShelf::new(self.parts.kits(alloc)?);
         let output = OnOutput { rt };
         let served = run_program(&output, Ok(words), &mut source, &mut sink, &mut shelf);
         self.input.clear();
@@ -120,13 +125,13 @@ impl Run {
         self.writes = SOUND;
         let Served { status, kits, .. } = served;
         let text = shown(alloc, status, kits.len(), sink.taken());
-        self.files.keep(kits);
+        self.parts.keep(kits);
         text
     }
 
     /// Shows the files that the last run left.
     pub(crate) fn files(&mut self, alloc: Global, argument: &str) -> Option<String> {
-        self.files.shown(alloc, argument)
+        self.parts.chosen()?.shown(alloc, argument)
     }
 }
 

@@ -1,23 +1,25 @@
-//! Layer 6, programs: fails each call on files of a run in turn, stops the store behind it, opens it again, and compares what
-//! is read with a plain store. A row of standard input is a word and its argument. `words` are those of the command line,
-//! without the folder, and begin a script; `put`, with a key and the members of a document, `take`, with a key, and `flush`
-//! are its lines. `stops`, with whose calls fail (`main`, `flusher` or `merger`) and a number, runs the script once for each
-//! of these calls and each choice of a stop below the number. `twice` has the opening behind that fail too, at each of its
-//! calls in turn, and stops it there. Both say how many calls failed, how many stops there were, or how many openings had too
-//! few calls, behind how many stops something else was read than the windows that were answered leave, or these and the next
-//! one, and which of the two were seen. A row that begins with `#` is a note, and is printed as it is; `no answer` stands for
-//! a row out of form.
+//! Layer 6, programs: fails each call on files of a run in turn, stops the store behind it, opens it again, and compares
+//! what is read with a plain store. A row of standard input is a word and its argument. `words` are those of the command
+//! line, without the folder, and begin a script; `put`, with a key and the members of a document, `take`, with a key, and
+//! `flush` are its lines; `partition` says of which one, 0 or 1, a call fails. `stops`, with whose calls fail (`main`,
+//! `flusher` or `merger`) and a number, runs the script once for each of these calls and each choice of a stop below the
+//! number. `twice` has the opening behind that fail too, at each of its calls in turn, and stops it there. Both say how
+//! many calls failed, how many stops there were, or how many openings had too few calls, behind how many stops something
+//! else was read than the windows that were answered leave, or these and the next one, of each partition by itself, and
+//! which of these were seen. A row that begins with `#` is a note, and is printed as it is; `no answer` stands for a row
+//! out of form.
 #![tactic(auto)]
 
+mod files;
 mod running;
 mod script;
 mod stops;
 mod twice;
 
-use running::Who;
+use files::Who;
 use script::Script;
-use std::alloc::Global;
 use std::io;
+use std::thread::Threads;
 
 fn main(rt: HostRuntime) -> io::Result<()> {
     let mut script = Script::new(rt.alloc());
@@ -27,23 +29,38 @@ fn main(rt: HostRuntime) -> io::Result<()> {
     Ok(())
 }
 
-fn answer(rt: &(impl Print + AllocGlobal), script: &mut Script, row: &str) -> io::Result<()> {
-    match answer_of(rt.alloc(), script, row) {
+fn answer<R: Print + AllocGlobal + Threads + Sync>(
+    rt: &R,
+    script: &mut Script,
+    row: &str,
+) -> io::Result<()> {
+    match answer_of(rt, script, row) {
         Some(answer) => print!(rt; "{}", answer.as_str()),
         None => println!(rt; "no answer"),
     }
 }
 
 // The line that answers a row, if one does.
-fn answer_of(alloc: Global, script: &mut Script, row: &str) -> Option<String> {
+fn answer_of<R: AllocGlobal + Threads + Sync>(
+    rt: &R,
+    script: &mut Script,
+    row: &str,
+) -> Option<String> {
+    let alloc = rt.alloc();
     let (call, argument) = row.split_once(' ').unwrap_or((row, ""));
     match call {
         "#" => format!(in alloc; "{row}\n").ok(),
         "stops" => {
             let (who, choices) = argument.split_once(' ')?;
-            stops::answer(alloc, script, who_of(who)?, choices.parse::<u64>().ok()?)
+            stops::answer(
+                rt,
+                alloc,
+                script,
+                who_of(who)?,
+                choices.parse::<u64>().ok()?,
+            )
         }
-        "twice" => twice::answer(alloc, script, who_of(argument)?),
+        "twice" => twice::answer(rt, alloc, script, who_of(argument)?),
         _ => {
             script.prepare(alloc, call, argument)?;
             Some(String::new(alloc))

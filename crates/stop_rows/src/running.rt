@@ -1,102 +1,58 @@
 //! Runs over stores in memory.
 
-ghost use Rattle.std.specs.Prelude.{All, IfSome};
-ghost use Rattle.tc_store.specs.Disk.{IsAtRest};
-ghost use Rattle.tc_store.specs.Memory.Store.{store_disks};
-ghost use Rattle.tc_store.specs.Moments.{IfTold};
+ghost use Rattle.std.specs.Prelude.{IfSome};
+ghost use Rattle.stop_rows.specs.Rests.{AreAtRest};
 
-use crate::script::{KEYS, Script};
+use crate::files::{Failing, Files, Who};
+use crate::script::{Counts, KEYS, Script};
 use std::alloc::Global;
 use std::fmt::Write;
+use std::thread::Threads;
 use tc_edge::{MemSink, MemSource};
 use tc_server::{Served, serve};
-use tc_store::{Kit, MemShelf, MemStore, MemWatch};
+use tc_store::MemShelf;
 use tc_value::Text;
 
 /// Bytes that a read or a write of a stream moves at most.
 const PIECE: usize = 65_536;
 
-/// Who makes calls on files.
-#[derive(Clone, Copy, PartialEq, Eq)]
-pub(crate) enum Who {
-    Main,
-    Flusher,
-    Merger,
-}
-
-/// A call on files that fails: who makes it, and its number among theirs.
-#[derive(Clone, Copy)]
-pub(crate) struct Failing {
-    pub(crate) who: Who,
-    pub(crate) call: u64,
-}
-
 /// How a run ended: its status, what it wrote, and its files.
 #[derive(Drop)]
-pub(crate) struct Ran {
-    pub(crate) status: u8,
-    pub(crate) written: Vec<u8>,
-    pub(crate) store: MemStore,
+struct Ran {
+    status: u8,
+    written: Vec<u8>,
+    files: Files,
 }
 
 /// Runs lines over a store.
-pub(crate) fn run(
+fn run<R: Threads + Sync>(
+    rt: &R,
     alloc: Global,
     words: &[Text],
     input: &str,
-    store: MemStore,
+    files: Files,
     failing: Option<Failing>,
 ) -> Option<Ran>
-    requires at_rest { IfTold (store_disks store) IsAtRest }
+    requires at_rest { AreAtRest files }
 {
+    let are_two = files.second.is_some();
     let input = Vec::from_slice(alloc, input.as_bytes()).ok()?;
     let mut source = MemSource::new(input, PIECE, Vec::new(alloc));
     let mut sink = MemSink::new(alloc, PIECE, Vec::new(alloc));
-    let mut shelf = MemShelf::new(kits_of(alloc, store, failing)?);
-    let served = serve(alloc, words, &mut source, &mut sink, &mut shelf);
+    let mut shelf = MemShelf::new(files.into_kits(alloc, failing)?);
+    let served = serve(rt, alloc, words, &mut source, &mut sink, &mut shelf);
     let Served { status, kits, .. } = served;
     Some(Ran {
         status,
         written: Vec::from_slice(alloc, sink.taken()).ok()?,
-        store: store_of(kits)?,
+        files: Files::of(alloc, kits, &mut shelf, are_two)?,
     })
-}
-
-fn kits_of(alloc: Global, store: MemStore, failing: Option<Failing>) -> Option<Vec<Kit<MemStore>>>
-    requires at_rest { IfTold (store_disks store) IsAtRest }
-    ensures { IfSome result (λ kits. All (λ kit. IfTold (store_disks kit.store) IsAtRest) kits.items) }
-{
-    let mut kits = Vec::new(alloc);
-    kits.push(Kit {
-        store,
-        main: watch_of(alloc, Who::Main, failing)?,
-        flusher: watch_of(alloc, Who::Flusher, failing)?,
-        merger: watch_of(alloc, Who::Merger, failing)?,
-        reader: MemWatch::new(Vec::new(alloc)),
-    })
-    .ok()?;
-    Some(kits)
-}
-
-fn watch_of(alloc: Global, who: Who, failing: Option<Failing>) -> Option<MemWatch> {
-    let mut numbers = Vec::new(alloc);
-    if let Some(failing) = failing {
-        if failing.who == who {
-            numbers.push(failing.call).ok()?;
-        }
-    }
-    Some(MemWatch::new(numbers))
-}
-
-fn store_of(kits: Vec<Kit<MemStore>>) -> Option<MemStore> {
-    let mut kits = kits;
-    let Kit { store, .. } = kits.pop()?;
-    Some(store)
 }
 
 /// A script that is ready to run, what its run writes where nothing fails, and what is read behind each number of its lines.
 #[derive(Drop)]
-pub(crate) struct Trial<'a> {
+pub(crate) struct Trial<'a, R> {
+    rt: &'a R,
     pub(crate) script: &'a Script,
     pub(crate) window: usize,
     words: Vec<Text>,
@@ -113,6 +69,8 @@ pub(crate) enum Found {
     Answered,
     /// What these and the next one leave.
     Next,
+    /// What these leave of one partition, and these and the next one of the other.
+    Apart,
     Wrong,
 }
 
@@ -120,14 +78,15 @@ pub(crate) enum Found {
 #[derive(Drop)]
 pub(crate) struct Stopped {
     pub(crate) status: u8,
-    pub(crate) answered: usize,
-    pub(crate) store: MemStore,
+    answered: usize,
+    files: Files,
 }
 
-impl<'a> Trial<'a> {
+impl<'a, R: Threads + Sync> Trial<'a, R> {
     /// Runs the script where nothing fails.
-    pub(crate) fn of(alloc: Global, script: &'a Script) -> Option<Trial<'a>> {
+    pub(crate) fn of(rt: &'a R, alloc: Global, script: &'a Script) -> Option<Trial<'a, R>> {
         let mut trial = Trial {
+            rt,
             script,
             window: script.window()?,
             words: script.words(alloc).ok()?,
@@ -136,45 +95,47 @@ impl<'a> Trial<'a> {
             whole: Vec::new(alloc),
             reads: Vec::new(alloc),
         };
-        let ran = trial.run(alloc, trial.input.as_str(), MemStore::new(alloc), None)?;
+        let ran = trial.run(alloc, trial.input.as_str(), trial.no_files(alloc), None)?;
         trial.whole = ran.written;
         for count in 0..script.len().saturating_add(1) {
-            let reads = trial.reads_behind(alloc, count)?;
+            let reads = trial.reads_behind(alloc, [count, count])?;
             trial.reads.push(reads).ok()?;
         }
         Some(trial)
     }
 
-    fn run(
-        &self,
-        alloc: Global,
-        input: &str,
-        store: MemStore,
-        failing: Option<Failing>,
-    ) -> Option<Ran>
-        requires at_rest { IfTold (store_disks store) IsAtRest }
+    // No file of any partition.
+    fn no_files(&self, alloc: Global) -> Files
+        ensures { AreAtRest result }
     {
-        run(alloc, self.words.as_slice(), input, store, failing)
+        Files::none(alloc, self.script.are_two())
     }
 
-    // What is read behind so many lines: what a plain store answers, and the schema of a store that got its documents alone.
-    fn reads_behind(&self, alloc: Global, count: usize) -> Option<Vec<u8>> {
-        let mut reads = self.script.answers(alloc, count)?;
-        let mut input = self.script.rebuilt(alloc, count)?;
+    fn run(&self, alloc: Global, input: &str, files: Files, failing: Option<Failing>) -> Option<Ran>
+        requires at_rest { AreAtRest files }
+    {
+        run(self.rt, alloc, self.words.as_slice(), input, files, failing)
+    }
+
+    // What is read behind so many lines, of each partition: what a plain store answers, and the schema of a store that got its
+    // documents alone.
+    fn reads_behind(&self, alloc: Global, counts: Counts) -> Option<Vec<u8>> {
+        let mut reads = self.script.answers(alloc, counts)?;
+        let mut input = self.script.rebuilt(alloc, counts)?;
         input.push_str("{\"op\":\"schema\"}\n").ok()?;
-        let ran = self.run(alloc, input.as_str(), MemStore::new(alloc), None)?;
+        let ran = self.run(alloc, input.as_str(), self.no_files(alloc), None)?;
         push_last_line(&mut reads, ran.written.as_slice())?;
         Some(reads.into_bytes())
     }
 
     /// Runs the script where a call fails, and stops its store then.
     pub(crate) fn stopped(&self, alloc: Global, failing: Failing, choice: u64) -> Option<Stopped>
-        ensures { IfSome result (λ stopped. IfTold (store_disks stopped.store) IsAtRest) }
+        ensures { IfSome result (λ stopped. AreAtRest stopped.files) }
     {
         let ran = self.run(
             alloc,
             self.input.as_str(),
-            MemStore::new(alloc),
+            self.no_files(alloc),
             Some(failing),
         )?;
         if !self.whole.as_slice().starts_with(ran.written.as_slice()) {
@@ -183,7 +144,7 @@ impl<'a> Trial<'a> {
         Some(Stopped {
             status: ran.status,
             answered: lines_of(ran.written.as_slice()),
-            store: ran.store.stop(choice).ok()?,
+            files: ran.files.stop(choice)?,
         })
     }
 
@@ -195,38 +156,41 @@ impl<'a> Trial<'a> {
         call: u64,
         choice: u64,
     ) -> Option<Stopped>
-        requires at_rest { IfTold (store_disks stopped.store) IsAtRest }
-        ensures { IfSome result (λ stopped. IfTold (store_disks stopped.store) IsAtRest) }
+        requires at_rest { AreAtRest stopped.files }
+        ensures { IfSome result (λ stopped. AreAtRest stopped.files) }
     {
-        let who = Who::Main;
         let Stopped {
             answered,
-            store,
+            files,
             ..
         } = stopped;
         let ran = self.run(
             alloc,
             self.gets.as_str(),
-            store,
-            Some(Failing { who, call }),
+            files,
+            Some(Failing {
+                partition: self.script.failing(),
+                who: Who::Main,
+                call,
+            }),
         )?;
         Some(Stopped {
             status: ran.status,
             answered,
-            store: ran.store.stop(choice).ok()?,
+            files: ran.files.stop(choice)?,
         })
     }
 
     /// What is read of a store that a stop left.
     pub(crate) fn found(&self, alloc: Global, stopped: Stopped) -> Option<Found>
-        requires at_rest { IfTold (store_disks stopped.store) IsAtRest }
+        requires at_rest { AreAtRest stopped.files }
     {
         let Stopped {
             answered,
-            store,
+            files,
             ..
         } = stopped;
-        let ran = self.run(alloc, self.gets.as_str(), store, None)?;
+        let ran = self.run(alloc, self.gets.as_str(), files, None)?;
         let read = ran.written.as_slice();
         let next = self.script.window_end(answered, self.window);
         if ran.status != 0 {
@@ -235,9 +199,21 @@ impl<'a> Trial<'a> {
             Some(Found::Answered)
         } else if self.is_behind(next, read) {
             Some(Found::Next)
+        } else if self.is_apart(alloc, answered, next, read)? {
+            Some(Found::Apart)
         } else {
             Some(Found::Wrong)
         }
+    }
+
+    // Whether this is read of two partitions, of which the lines of one are fewer than those of the other.
+    fn is_apart(&self, alloc: Global, answered: usize, next: usize, read: &[u8]) -> Option<bool> {
+        if !self.script.are_two() {
+            return Some(false);
+        }
+        let more = self.reads_behind(alloc, [answered, next])?;
+        let less = self.reads_behind(alloc, [next, answered])?;
+        Some(more.as_slice() == read || less.as_slice() == read)
     }
 
     fn is_behind(&self, count: usize, read: &[u8]) -> bool {

@@ -7,6 +7,9 @@ use tc_value::Text;
 /// The keys of scripts are below this.
 pub(crate) const KEYS: u64 = 4;
 
+/// So many lines, of each partition: of the even keys, and of the odd ones where there are two.
+pub(crate) type Counts = [usize; 2];
+
 /// A line of a script.
 #[derive(Drop)]
 enum Step {
@@ -16,10 +19,11 @@ enum Step {
     Flush,
 }
 
-/// The words of the command line, and lines.
+/// The words of the command line, of which partition a call fails, and lines.
 #[derive(Drop)]
 pub(crate) struct Script {
     words: String,
+    failing: u32,
     steps: Vec<Step>,
 }
 
@@ -27,6 +31,7 @@ impl Script {
     pub(crate) fn new(alloc: Global) -> Script {
         Script {
             words: String::new(alloc),
+            failing: 0,
             steps: Vec::new(alloc),
         }
     }
@@ -36,8 +41,10 @@ impl Script {
         match call {
             "words" => {
                 self.words = String::from_str(alloc, argument).ok()?;
+                self.failing = 0;
                 self.steps.clear();
             }
+            "partition" => self.failing = argument.parse::<u32>().ok()?,
             "put" => {
                 let (key, members) = argument.split_once(' ').unwrap_or((argument, ""));
                 let key = key.parse::<u64>().ok()?;
@@ -52,6 +59,16 @@ impl Script {
             _ => return None,
         }
         Some(())
+    }
+
+    /// Of which partition a call fails.
+    pub(crate) fn failing(&self) -> u32 {
+        self.failing
+    }
+
+    /// Whether the words ask for two partitions, and not for one.
+    pub(crate) fn are_two(&self) -> bool {
+        !self.words.as_str().contains("--partitions 1")
     }
 
     /// How many lines there are.
@@ -97,10 +114,10 @@ impl Script {
     }
 
     /// Upserts of the documents that a plain store has behind so many lines.
-    pub(crate) fn rebuilt(&self, alloc: Global, count: usize) -> Option<String> {
+    pub(crate) fn rebuilt(&self, alloc: Global, counts: Counts) -> Option<String> {
         let mut input = String::new(alloc);
         for key in 0..KEYS {
-            if let Some(members) = self.left(count, key) {
+            if let Some(members) = self.left(self.count_of(counts, key), key) {
                 push_put(&mut input, key, members)?;
             }
         }
@@ -108,12 +125,26 @@ impl Script {
     }
 
     /// What a plain store answers behind so many lines to gets of all keys.
-    pub(crate) fn answers(&self, alloc: Global, count: usize) -> Option<String> {
+    pub(crate) fn answers(&self, alloc: Global, counts: Counts) -> Option<String> {
         let mut answers = String::new(alloc);
         for key in 0..KEYS {
-            push_answer(&mut answers, key, self.left(count, key))?;
+            push_answer(
+                &mut answers,
+                key,
+                self.left(self.count_of(counts, key), key),
+            )?;
         }
         Some(answers)
+    }
+
+    // How many lines count for a key.
+    fn count_of(&self, counts: Counts, key: u64) -> usize {
+        let [even, odd] = counts;
+        if self.are_two() && key % 2 == 1 {
+            odd
+        } else {
+            even
+        }
     }
 
     // The members of the document that a key has behind so many lines: the plain store.

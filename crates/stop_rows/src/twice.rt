@@ -1,13 +1,13 @@
 //! An opening behind a stop fails too, at each of its calls in turn, and is stopped there.
 
-ghost use Rattle.tc_store.specs.Disk.{IsAtRest};
-ghost use Rattle.tc_store.specs.Memory.Store.{store_disks};
-ghost use Rattle.tc_store.specs.Moments.{IfTold};
+ghost use Rattle.stop_rows.specs.Rests.{AreAtRest};
 
-use crate::running::{Failing, Found, Stopped, Trial, Who};
+use crate::files::{Failing, Who};
+use crate::running::{Found, Stopped, Trial};
 use crate::script::Script;
-use crate::stops::{MOST_CALLS, Seen};
+use crate::stops::{MOST_CALLS, Seen, failing_at};
 use std::alloc::Global;
+use std::thread::Threads;
 
 /// Stops are chosen among so many.
 const CHOICES: u64 = 64;
@@ -16,13 +16,18 @@ const CHOICES: u64 = 64;
 const FEWEST: u64 = 8;
 
 /// The line that answers a row of stops that come twice.
-pub(crate) fn answer(alloc: Global, script: &Script, who: Who) -> Option<String> {
-    let trial = Trial::of(alloc, script)?;
+pub(crate) fn answer<R: Threads + Sync>(
+    rt: &R,
+    alloc: Global,
+    script: &Script,
+    who: Who,
+) -> Option<String> {
+    let trial = Trial::of(rt, alloc, script)?;
     let mut seen = Seen::nothing();
     let mut calls = 0u64;
     let mut short = 0u64;
     for call in 0..MOST_CALLS {
-        let openings = stop_openings(alloc, &trial, Failing { who, call }, &mut seen)?;
+        let openings = stop_openings(alloc, &trial, failing_at(script, who, call), &mut seen)?;
         if openings == 0 {
             break;
         }
@@ -40,9 +45,9 @@ pub(crate) fn answer(alloc: Global, script: &Script, who: Who) -> Option<String>
 }
 
 // Fails an opening at each of its calls. Answers how many it has, or 0 where the run before it does not fail.
-fn stop_openings(
+fn stop_openings<R: Threads + Sync>(
     alloc: Global,
-    trial: &Trial<'_>,
+    trial: &Trial<'_, R>,
     failing: Failing,
     seen: &mut Seen,
 ) -> Option<u64> {
@@ -57,14 +62,14 @@ fn stop_openings(
 }
 
 // Fails an opening at a call, and stops it there. Tells whether there is such a call.
-fn stop_opening(
+fn stop_opening<R: Threads + Sync>(
     alloc: Global,
-    trial: &Trial<'_>,
+    trial: &Trial<'_, R>,
     stopped: Stopped,
     call: u64,
     seen: &mut Seen,
 ) -> Option<bool>
-    requires at_rest { IfTold (store_disks stopped.store) IsAtRest }
+    requires at_rest { AreAtRest stopped.files }
 {
     let choice = call.wrapping_mul(5) % CHOICES;
     let again = trial.stopped_again(alloc, stopped, call, choice)?;

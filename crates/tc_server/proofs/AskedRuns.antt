@@ -1,5 +1,5 @@
 -- A run and a demonstration, of which the same is said.
-use Rattle.std.proofs.Common.{◌≡◌, ℕ, List, [], ◌∷◌, refl, subst, arith}
+use Rattle.std.proofs.Common.{◌≡◌, ℕ, List, [], length, refl, subst, arith}
 use Rattle.std.specs.Prelude.{Option, Some, None, IfSome}
 use Rattle.tc_gen.specs.Generated.{input_of}
 use Rattle.tc_gen.specs.TwoLines.{two_lines}
@@ -12,14 +12,14 @@ use Rattle.tc_words.specs.declared.asked.Invocation.{Invocation}
 use Rattle.tc_words.specs.declared.asked.Invocation.TheVariants.{Run, Demo}
 use Rattle.tc_server.specs.Ending.{AreFewCommands, RanLeaving, RunsOver}
 use Rattle.tc_server.specs.Faults.{IsOfRun}
-use Rattle.tc_server.specs.OverFiles.{AskedOver, LeavesOneOf, RanOver}
+use Rattle.tc_server.specs.OverFiles.{AskedOver, RanOver}
 use Rattle.tc_server.specs.declared.outcome.RunFault.{RunFault}
 use Rattle.tc_server.proofs.DemoRuns.{nothing_shown}
-use Rattle.tc_server.proofs.LeftFiles.{ran_over, EndsSmall}
+use Rattle.tc_server.proofs.LeftFiles.{ran_over, LeavesKits}
 
 -- what is said of a run over files with the options of what is asked for
-abbrev pub OverOf : Invocation → Option RunFault → Option World → Option (List ℕ) → Option (List ℕ) → List (List Disk) → Shown → Option (List ℕ) → Option (List ℕ) → Type 0
-OverOf asked fault first taken taken' kits shown unread unread' = RanOver shown fault first (options_asked asked).window (options_asked asked).memory (options_asked asked).merge unread unread' taken taken' kits
+abbrev pub OverOf : Invocation → Option RunFault → Option World → (ℕ → List Disk) → Option (List ℕ) → Option (List ℕ) → List (List Disk) → Shown → Option (List ℕ) → Option (List ℕ) → Type 0
+OverOf asked fault first files taken taken' kits shown unread unread' = RanOver shown fault first (options_asked asked) files unread unread' taken taken' kits
 
 -- what follows of both
 pub runs_so : (asked : Invocation) (left left' : Option (List ℕ)) (P Q : Shown → Option (List ℕ) → Option (List ℕ) → Type 0) → ((shown : Shown) (unread unread' : Option (List ℕ)) → P shown unread unread' → Q shown unread unread') → RunsOver asked left left' P → RunsOver asked left left' Q
@@ -36,13 +36,12 @@ pub few_commands : (asked : Invocation) → words.HasFewCommands asked → AreFe
 few_commands (Run options) few = tt
 few_commands (Demo n options) few = few.1
 
--- over an open partition, whose files are these where it is closed
-pub asked_over : {K : Type 0} (holds : K → Option World → Type 0) (keeps : K → World → World → Type 0) (spent : K → Type 0) (asked : Invocation) (fault : Option RunFault) (first : Option World) (most : ℕ) (left left' taken taken' : Option (List ℕ)) (k : K) (disks : List Disk)
-    → most ≡ (options_asked asked).window → (fault ≡ None → EndsSmall holds keeps k (options_asked asked).memory (options_asked asked).merge disks)
-    → ((w : World) → holds k (Some w) → LeavesOneOf (w ∷ []) disks) → ((w v : World) → keeps k w v → LeavesOneOf (w ∷ v ∷ []) disks) → IfSome fault IsOfRun
-    → RunsOver asked left left' (λ shown unread unread'. RanLeaving shown holds keeps spent fault first most unread unread' taken taken' k) → AskedOver asked fault first left left' taken taken' (disks ∷ [])
-asked_over holds keeps spent asked fault first most left left' taken taken' k disks same ends held kept kind ran =
-    let options = options_asked asked in
-    runs_so asked left left' (λ shown unread unread'. RanLeaving shown holds keeps spent fault first most unread unread' taken taken' k) (OverOf asked fault first taken taken' (disks ∷ []))
-    (λ shown unread unread' r. subst (λ m. RanOver shown fault first m options.memory options.merge unread unread' taken taken' (disks ∷ [])) same (ran_over shown holds keeps spent fault first most options.memory options.merge unread unread' taken taken' k disks ends held kept kind r))
+-- over open partitions, whose files are these where they are closed
+pub asked_over : {K : Type 0} (holds : K → Option World → Type 0) (keeps : K → World → World → Type 0) (rests : Type 0) (spent : K → Type 0) (asked : Invocation) (fault : Option RunFault) (first : Option World) (files : ℕ → List Disk) (most : ℕ) (left left' taken taken' : Option (List ℕ)) (k : K) (kits : List (List Disk))
+    → most ≡ (options_asked asked).window → LeavesKits holds keeps rests (options_asked asked) k kits → (fault ≡ None → rests) → IfSome first (λ w. length w.parts ≡ (options_asked asked).partitions) → IfSome fault IsOfRun
+    → RunsOver asked left left' (λ shown unread unread'. RanLeaving shown holds keeps spent fault first most unread unread' taken taken' k) → AskedOver asked fault first files left left' taken taken' kits
+asked_over holds keeps rests spent asked fault first files most left left' taken taken' k kits same leaves rest many kind ran =
+    runs_so asked left left' (λ shown unread unread'. RanLeaving shown holds keeps spent fault first most unread unread' taken taken' k) (OverOf asked fault first files taken taken' kits)
+    (λ shown unread unread' r. ran_over shown holds keeps rests spent fault first (options_asked asked) files unread unread' taken taken' k kits leaves rest many kind
+    (subst (λ m. RanLeaving shown holds keeps spent fault first m unread unread' taken taken' k) same r))
     ran

@@ -12,7 +12,7 @@ use Rattle.tc_server.specs.declared.outcome.RunFault.TheVariants.{Usage, Read, W
 none_fell : (k : KitFaults) → NoneFell k k
 none_fell k = record { main = omega arith; flusher = omega arith; merger = omega arith; reader = omega arith }
 
-none_fell_twice : (a b c : KitFaults) → NoneFell a b → NoneFell b c → NoneFell a c
+pub none_fell_twice : (a b c : KitFaults) → NoneFell a b → NoneFell b c → NoneFell a c
 none_fell_twice a b c one two = record {
   main = omega (arith, one.main, two.main);
   flusher = omega (arith, one.flusher, two.flusher);
@@ -31,7 +31,7 @@ both_stayed (Some a) None c one two = absurd one
 both_stayed (Some a) (Some b) None one two = absurd two
 both_stayed (Some a) (Some b) (Some c) one two = none_fell_twice a b c one two
 
-one_rose : (a b c : KitFaults) → NoneFell a b → OneRose b c → OneRose a c
+pub one_rose : (a b c : KitFaults) → NoneFell a b → OneRose b c → OneRose a c
 one_rose a b c stayed (inl rose) = inl (omega (arith, stayed.main, rose))
 one_rose a b c stayed (inr (inl rose)) = inr (inl (omega (arith, stayed.flusher, rose)))
 one_rose a b c stayed (inr (inr (inl rose))) = inr (inr (inl (omega (arith, stayed.merger, rose))))

@@ -1,8 +1,7 @@
 -- What a demonstration does with a line, and at the end of its lines, said of the windows of the lines that came.
-use Rattle.std.proofs.Common.{◌≡◌, ℕ, ◌+◌, ◌<◌, ◌≤◌, List, [], ◌∷◌, ◌++◌, length, length-append, refl, ap, ap₂, sym, ◌∙◌, subst, append_assoc, append-nil, inl, inr, arith}
+use Rattle.std.proofs.Common.{◌≡◌, ℕ, List, [], ◌∷◌, ◌++◌, length-append, refl, ap, ap₂, sym, ◌∙◌, subst, append_assoc, append-nil, inl, inr, arith}
 use Rattle.std.specs.Prelude.{Option, Some, None, option_map, sum_by, IfSome}
-use Rattle.tc_gen.specs.TwoLines.{Heard, heard_of}
-use Rattle.tc_model.specs.Request.{Request}
+use Rattle.tc_gen.specs.TwoLines.{Heard}
 use Rattle.tc_model.specs.Reply.{Reply}
 use Rattle.tc_run_model.specs.World.{World, after_all}
 use Rattle.tc_run_model.specs.Known.{MayReply, known_after}
@@ -11,17 +10,17 @@ use Rattle.tc_run_model.specs.Windows.{BeginsWith, Window, Windows, line_size, u
 use Rattle.tc_run_model.specs.Course.{behind, known_behind, requests_in, stopped, worlds_left}
 use Rattle.tc_run_model.proofs.WindowLaws.{lines_held-windows_of, lines_in-append}
 use Rattle.tc_run_model.proofs.ReplyLaws.{after_all-append, known_after-append, MayReply-append, MayReply-none}
-use Rattle.tc_server.specs.Demo.{ended, fault_in_memory, AreFew, HasGivenUp, HasHeard, HasHeardAll, HearsLine, HearsReplies}
+use Rattle.tc_server.specs.Demo.{ended, fault_in_memory, AreFew, HasGivenUp, HasHeard, HasHeardAll, HearsReplies}
 use Rattle.tc_server.specs.Faults.{Stop, failed_writing, gave_up, ending_at, IsNoDamage}
 use Rattle.tc_server.specs.Holds.{worlds_at, AreWritten, HaveFailed, IsLeft, IsLeftAt, IsOneOf}
-use Rattle.tc_server.specs.Stage.{up_to, EndsAmong, IsAt, StopsIn}
+use Rattle.tc_server.specs.Stage.{up_to, IsAt, StopsIn}
 use Rattle.tc_server.specs.Window.{requests_of}
 use Rattle.tc_server.specs.declared.outcome.RunFault.{RunFault}
 use Rattle.tc_server.specs.declared.outcome.RunFault.TheVariants.{Usage, Read, Write, Spent, Disk, Damaged, Memory, Layout}
 use Rattle.tc_server.specs.declared.session.Session.{Session}
 use Rattle.tc_server.proofs.Answering.{if_known}
 use Rattle.tc_server.proofs.SessionLemmas.{BeginsWith-refl}
-use Rattle.tc_server.proofs.DemoWindows.{few_answered, fresh, known_more, known_none, lines_ended, next_windows, replies_to_lines, requests_for-append, requests_in-append, same_lines, shifted, behind_more}
+use Rattle.tc_server.proofs.DemoWindows.{few_answered, fresh, known_more, known_none, lines_ended, next_windows, replies_to_lines, requests_for-append, requests_in-append, same_lines, behind_more}
 
 -- ---- the session from the windows that it stands behind on
 

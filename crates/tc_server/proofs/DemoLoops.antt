@@ -1,11 +1,10 @@
 -- The lines of a demonstration, one after the other.
 use Rattle.std.proofs.Common.{◌≡◌, ℕ, ◌+◌, ◌<◌, ◌^◌, List, [], ◌∷◌, ◌++◌, length, length-append, refl, ap, sym, ◌∙◌, subst, append_assoc, append-nil, arith}
-use Rattle.std.specs.Prelude.{Option, Some, None}
+use Rattle.std.specs.Prelude.{Option}
 use Rattle.std.specs.List.{AllByRecursion}
 use Rattle.tc_gen.specs.TwoLines.{Heard, heard_of}
 use Rattle.tc_run_model.specs.World.{World}
 use Rattle.tc_run_model.specs.Windows.{BeginsWith, Window, unless_empty, windows_of}
-use Rattle.tc_run_model.specs.Course.{known_behind}
 use Rattle.tc_run_model.proofs.WindowLaws.{closed-windows_of-append, BeginsWith-trans}
 use Rattle.tc_run_model.proofs.ReplyLaws.{MayReply-none}
 use Rattle.tc_server.specs.Demo.{ended, GivesUpAtEnd, GivesUpAtLine, HasGivenUp, HasHeard, HasHeardAll, HearsEnd, HearsLine}

@@ -1,5 +1,5 @@
 -- How a demonstration ends, by what became of its lines.
-use Rattle.std.proofs.Common.{◌≡◌, ◌≢◌, ◌⊎◌, ℕ, suc, ◌+◌, ◌<◌, ◌≤◌, ◌==◌, true, false, List, [], ◌∷◌, ◌++◌, length, length-append, take, refl, ap, sym, ◌∙◌, subst, append-nil, inl, inr, ⊎_elim, arith}
+use Rattle.std.proofs.Common.{◌≡◌, ◌≢◌, ℕ, suc, ◌+◌, ◌<◌, ◌≤◌, ◌==◌, List, [], ◌∷◌, ◌++◌, length, length-append, take, refl, ap, sym, ◌∙◌, subst, append-nil, inl, inr, ⊎_elim, arith}
 use Rattle.std.specs.Prelude.{Option, Some, None, option_map, IfSome}
 use Rattle.std.specs.Io.KnownBytes.{Appends, Keeps}
 use Rattle.std.proofs.KnownBytes.{Appends-kept, Appends-nil}
@@ -8,13 +8,12 @@ use Rattle.tc_gen.specs.Generated.{generated, input_of}
 use Rattle.tc_gen.specs.TwoLines.{Heard, heard_of, lines_for, two_lines}
 use Rattle.tc_gen.proofs.OneLine.{lines_of_input}
 use Rattle.tc_gen.proofs.LineLengths.{generated_count}
-use Rattle.tc_model.specs.Lines.{lines_of}
 use Rattle.tc_model.specs.Reply.{Reply}
 use Rattle.tc_run_model.specs.World.{World}
 use Rattle.tc_run_model.specs.Known.{MayReply, known_after}
 use Rattle.tc_run_model.specs.Built.{requests_for}
 use Rattle.tc_run_model.specs.Windows.{BeginsWith, Window, unless_empty, windows, windows_of, lines_in}
-use Rattle.tc_run_model.specs.Course.{behind, finished, known_behind, output_failed, requests_in, stopped, worlds_left, HaveClosed, IsReached}
+use Rattle.tc_run_model.specs.Course.{behind, finished, output_failed, requests_in, stopped, worlds_left, HaveClosed}
 use Rattle.tc_run_model.proofs.WindowLaws.{BeginsWith-trans}
 use Rattle.tc_server.specs.Demo.{ended, DemoLeaving, HasGivenUp, HasHeardAll}
 use Rattle.tc_server.specs.Faults.{EndsAs, IsNoDamage, IsOfStore}

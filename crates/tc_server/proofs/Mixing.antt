@@ -145,6 +145,7 @@ built_light limit (refused r) light = tt
 pub are_together : (w : Window) → IsSoundWindow w → length w.refusals.items ≤ 4096 → w.bytes ≤ max_window + max_line → AreTogether w.commands.items
 are_together w sound few bytes = record {
   few = omega (arith, count_asked-le w.refusals.items, sound.whole, few);
+  ascending = sound.ascending;
   each = sound.each;
   light = omega (arith, sound.light, bytes);
 }

@@ -1,5 +1,6 @@
 -- What the calls of partitions ask for, and how they leave them.
-use Rattle.std.specs.Prelude.{◌≡◌, ◌-◌, ◌^◌, ◌<◌, ℕ, false, List, Option}
+use Rattle.std.specs.Prelude.{◌≡◌, ◌-◌, ◌^◌, ◌<◌, ◌≤◌, ℕ, false, List, All, length, map, Option, option_map, slice_get}
+use Rattle.tc_engines.specs.Standing.{KeepWorlds}
 use Rattle.tc_store.specs.Counted.{Counts}
 use Rattle.tc_store.specs.Disk.{Disk}
 use Rattle.tc_store.specs.DiskFile.{DiskFile}
@@ -10,11 +11,12 @@ use Rattle.tc_part_model.specs.PartState.{PartState, Told, told}
 use Rattle.tc_run_model.specs.World.{World}
 use Rattle.tc_work.specs.EngineState.{EngineState}
 use Rattle.tc_work.specs.Settling.{MaySettle, PicksNone}
-use Rattle.tc_server.specs.Faults.{DiskFaults, faults_of_part, of_only}
-use Rattle.tc_server.specs.Partitions.{KeepsWorlds, StandsAt}
+use Rattle.tc_server.specs.Faults.{DiskFaults, faults_of_part}
+use Rattle.tc_server.specs.Partitions.{StandAt}
+use Rattle.tc_server.specs.Places.{SomeFrom}
 use Rattle.tc_server.specs.declared.partitions.Partitions.{Partitions}
 
--- ---- the only engine
+-- ---- one engine
 
 -- It may be asked: it has not failed, its files are its own, and it tells those of its components where the store tells its own.
 -- That of its log is out.
@@ -37,26 +39,29 @@ pub record IsSpentAt {S D F W : Type 0} (t : Told) (part : PartState S D F W) : 
 
 -- ---- partitions, where the traits of the store tell the moments of a store and of a device, and a file's content
 
+-- there are 1 to 16, and each may be asked
 unfoldable pub MayAsk : {S W D F : Type 0} → (S → List Disk) → (D → List DiskFile) → (F → Option (List ℕ)) → Partitions S W D F → Type 0
-MayAsk disks moments content p = MayBeAsked (told disks moments content p.engine.part) p.engine.part
+MayAsk disks moments content p =
+    (0 < length p.engines) × (length p.engines ≤ 16) × All (λ e. MayBeAsked (told disks moments content e.part) e.part) p.engines
 
 unfoldable pub HoldsAt : {S W D F : Type 0} → (S → List Disk) → (D → List DiskFile) → (F → Option (List ℕ)) → Partitions S W D F → Option World → Type 0
-HoldsAt disks moments content p known = StandsAt (told disks moments content p.engine.part) p.engine.part.limits known
+HoldsAt disks moments content p known = StandAt (λ part. told disks moments content part) p.engines known
 
 unfoldable pub KeepsAt : {S W D F : Type 0} → (S → List Disk) → (D → List DiskFile) → (F → Option (List ℕ)) → Partitions S W D F → World → World → Type 0
-KeepsAt disks moments content p w v = KeepsWorlds (told disks moments content p.engine.part) p.engine.part.limits w v
+KeepsAt disks moments content p w v = KeepWorlds (λ part. told disks moments content part) p.engines w v
 
--- it is as `settle` leaves it
+-- each is as `settle` leaves it
 unfoldable pub Rests : {S W D F : Type 0} → (D → ℕ) → Partitions S W D F → Type 0
-Rests size p = IsSettled size p.engine
+Rests size p = All (IsSettled size) p.engines
 
--- when a table is sealed, and by which policy components are merged, which no call changes
-abbrev pub settings_of : {S W D F : Type 0} → Partitions S W D F → ℕ × Policy
-settings_of p = (p.engine.part.memory, p.engine.policy)
+-- of each when a table is sealed, and by which policy components are merged, which no call changes
+abbrev pub settings_of : {S W D F : Type 0} → Partitions S W D F → List (ℕ × Policy)
+settings_of p = map (λ e. (e.part.memory, e.policy)) p.engines
 
 -- what was counted, by the partition
 unfoldable pub faults_of : {S W D F : Type 0} → (W → Counts) → Partitions S W D F → DiskFaults
-faults_of counts p = of_only (faults_of_part counts p.engine.part)
+faults_of counts p = λ q. option_map (λ e. faults_of_part counts e.part) (slice_get p.engines q)
 
+-- one of them has no generation left
 unfoldable pub IsSpent : {S W D F : Type 0} → (S → List Disk) → (D → List DiskFile) → (F → Option (List ℕ)) → Partitions S W D F → Type 0
-IsSpent disks moments content p = IsSpentAt (told disks moments content p.engine.part) p.engine.part
+IsSpent disks moments content p = SomeFrom (λ q e. IsSpentAt (told disks moments content e.part) e.part) 0 p.engines

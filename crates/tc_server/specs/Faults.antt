@@ -1,5 +1,5 @@
 -- Faults of a run: what kind each is, and what counts where it comes.
-use Rattle.std.specs.Prelude.{◌≡◌, ◌⊎◌, ◌≤◌, ℕ, zero, suc, Option, Some, None, Result, Ok, Err, option_map, unwrap_or, IfSome, IsSome}
+use Rattle.std.specs.Prelude.{◌≡◌, ◌⊎◌, ◌≤◌, ℕ, Option, Some, None, Result, Ok, Err, option_map, unwrap_or, IfSome, IsSome}
 use Rattle.tc_bytes.specs.Counts.{Rose}
 use Rattle.tc_open.specs.declared.fault.OpenCause.{OpenCause}
 use Rattle.tc_open.specs.declared.fault.OpenCause.TheVariants as opening
@@ -173,11 +173,6 @@ IsOfRun (Layout p found found_of asked_of) = ⊥
 -- the counts of the watches of each partition that there is
 abbrev pub DiskFaults : Type 0
 DiskFaults = ℕ → Option KitFaults
-
--- of the only partition
-abbrev pub of_only : KitFaults → DiskFaults
-of_only counts zero = Some counts
-of_only counts (suc p) = None
 
 -- the counts of faults of a kit's watches
 abbrev pub faults_in : {S W D F : Type 0} → (W → Counts) → Kit S W D F → KitFaults

@@ -1,4 +1,5 @@
 pub mod Asked
+pub mod Places
 pub mod Faults
 pub mod FaultText
 pub mod Holds
@@ -7,6 +8,8 @@ pub mod Stage
 pub mod Ending
 pub mod Partitions
 pub mod OverFiles
+pub mod KitCauses
+pub mod Kits
 pub mod Calls
 pub mod Program
 pub mod Progress

@@ -1,5 +1,5 @@
 -- What the lines of a window ask for: some are refused, and the others are commands for partitions.
-use Rattle.std.specs.Prelude.{◌≡◌, ◌≤◌, ℕ, ◌+◌, suc, List, [], ◌∷◌, length, map, All, Option, Some, None}
+use Rattle.std.specs.Prelude.{◌≡◌, ◌≤◌, ◌<◌, ℕ, ◌+◌, suc, List, [], ◌∷◌, length, map, All, Option, Some, None}
 use Rattle.tc_model.specs.Limits.{max_line}
 use Rattle.tc_model.specs.Reply.{Reply, turned_down}
 use Rattle.tc_model.specs.Request.{Request, upsert, delete, get, query, flush, schema, scan, collect, refused}
@@ -7,6 +7,8 @@ use Rattle.tc_model.specs.Weight.{weight, IsLight}
 use Rattle.tc_command.specs.Commands.{request_of_command}
 use Rattle.tc_command.specs.Refusals.{refusal_of}
 use Rattle.tc_command.specs.declared.refusals.Refusal.{Refusal}
+use Rattle.tc_model.specs.Keyed.{Ascends}
+use Rattle.tc_route.specs.Meaning.{routed_of}
 use Rattle.tc_route.specs.declared.placed.Routed.{Routed}
 use Rattle.tc_run_model.specs.Windows.{max_window}
 use Rattle.tc_server.specs.Asked.{IsForPart}
@@ -60,14 +62,17 @@ weight_in (r ∷ rs) = weight_of r + weight_in rs
 abbrev pub IsRouted : Routed → Type 0
 IsRouted r = IsForPart (request_of_command r.command) × IsLight max_line (request_of_command r.command)
 
--- commands that are answered together
+-- commands that are answered together, in the order of their lines
 pub record AreTogether (list : List Routed) : Type 0 where
   pub few : length list ≤ 4096
+  pub ascending : Ascends (map routed_of list)
   pub each : All IsRouted list
   pub light : weight_in (requests_routed list) ≤ max_window + max_line
 
--- A line that is not refused has its command. The documents weigh no more than the lines.
+-- A line that is not refused has its command, at the place of the line. The documents weigh no more than the lines.
 pub record IsSoundWindow (w : Window) : Type 0 where
   pub each : All IsRouted w.commands.items
+  pub ascending : Ascends (map routed_of w.commands.items)
+  pub below : All (λ r. r.at < length w.refusals.items) w.commands.items
   pub whole : count_asked w.refusals.items ≡ length w.commands.items
   pub light : weight_in (requests_routed w.commands.items) ≤ w.bytes

@@ -18,13 +18,15 @@ use crate::outcome::RunFault;
 use crate::partitions::Partitions;
 use crate::session::Session;
 use std::alloc::Global;
+use std::thread::Threads;
 use tc_bytes::Bytes;
 use tc_edge::{MemSink, Sink, write_all};
 use tc_gen::{Feed, Tally};
 use tc_store::Store;
 
 /// Answers a demonstration of so many commands, in the windows of the session, and writes its two lines.
-pub fn answer_demo<O: Sink, S: Store>(
+pub fn answer_demo<R: Threads + Sync, O: Sink, S: Store>(
+    rt: &R,
     alloc: Global,
     commands: u32,
     session: &mut Session<Partitions<S>>,
@@ -44,7 +46,7 @@ pub fn answer_demo<O: Sink, S: Store>(
     ensures cause { HasCauses (O.faults sink.old) (O.faults sink.new) (faults_of (λ w. S.Watch.counts w) session.old.keeper) (faults_of (λ w. S.Watch.counts w) session.new.keeper) (IsSpent S.history S.Device.history S.Frozen.content session.new.keeper) (fault_in result) }
 {
     session.begin(alloc)?;
-    let tally = hear_all(alloc, commands, session)?;
+    let tally = hear_all(rt, alloc, commands, session)?;
     write_lines(alloc, commands, &tally, sink)
 }
 
@@ -66,7 +68,8 @@ fn write_lines<O: Sink>(
 }
 
 // Hands the lines of a demonstration to the session, and keeps what it replies.
-fn hear_all<S: Store>(
+fn hear_all<R: Threads + Sync, S: Store>(
+    rt: &R,
     alloc: Global,
     commands: u32,
     session: &mut Session<Partitions<S>>,
@@ -89,9 +92,9 @@ fn hear_all<S: Store>(
     // There are far fewer lines.
     for _ in 0..u64::MAX {
         match feed.next(alloc)? {
-            Some(line) => hear_line(alloc, line, session, &mut tally)?,
+            Some(line) => hear_line(rt, alloc, line, session, &mut tally)?,
             None => {
-                hear_end(alloc, session, &mut tally)?;
+                hear_end(rt, alloc, session, &mut tally)?;
                 return Ok(tally);
             }
         }
@@ -100,7 +103,8 @@ fn hear_all<S: Store>(
 }
 
 // Hands a line to the session, and hears the replies that it writes.
-fn hear_line<S: Store>(
+fn hear_line<R: Threads + Sync, S: Store>(
+    rt: &R,
     alloc: Global,
     line: Bytes,
     session: &mut Session<Partitions<S>>,
@@ -117,14 +121,15 @@ fn hear_line<S: Store>(
     ensures cause { HasDiskCause (faults_of (λ w. S.Watch.counts w) session.old.keeper) (faults_of (λ w. S.Watch.counts w) session.new.keeper) (IsSpent S.history S.Device.history S.Frozen.content session.new.keeper) (fault_in result) }
 {
     let mut replies = MemSink::new(alloc, usize::MAX, Vec::new(alloc));
-    match session.take_whole(alloc, line, &mut replies) {
+    match session.take_whole(rt, alloc, line, &mut replies) {
         Ok(()) => heard(tally, &replies),
         Err(fault) => Err(in_memory(fault)),
     }
 }
 
 // Has the session answer the window that is open, and hears the replies.
-fn hear_end<S: Store>(
+fn hear_end<R: Threads + Sync, S: Store>(
+    rt: &R,
     alloc: Global,
     session: &mut Session<Partitions<S>>,
     tally: &mut Tally,
@@ -138,7 +143,7 @@ fn hear_end<S: Store>(
     ensures cause { HasDiskCause (faults_of (λ w. S.Watch.counts w) session.old.keeper) (faults_of (λ w. S.Watch.counts w) session.new.keeper) (IsSpent S.history S.Device.history S.Frozen.content session.new.keeper) (fault_in result) }
 {
     let mut replies = MemSink::new(alloc, usize::MAX, Vec::new(alloc));
-    match session.close(alloc, &mut replies) {
+    match session.close(rt, alloc, &mut replies) {
         Ok(()) => heard(tally, &replies),
         Err(fault) => Err(in_memory(fault)),
     }

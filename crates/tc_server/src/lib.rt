@@ -2,7 +2,10 @@
 #![tactic(auto)]
 
 mod answer;
+mod closing;
 mod demo;
+mod laws;
+mod opening;
 mod outcome;
 mod partitions;
 mod program;
@@ -11,6 +14,7 @@ mod session;
 mod texts;
 mod window;
 
+pub use laws::own_keys_stay;
 pub use outcome::{RunFault, Served};
 pub use program::{run_program, words};
 pub use server::serve;

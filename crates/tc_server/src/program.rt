@@ -1,13 +1,13 @@
 //! All that a program does between its words and its exit.
 
-ghost use Rattle.std.specs.Prelude.{◌≡◌, ◌≢◌, ℕ, ◌≤◌, ◌⊎◌, [], length, map, All, Option, Some, None, option_map, IfErr, IfSome};
+ghost use Rattle.std.specs.Prelude.{◌≡◌, ℕ, ◌<◌, ◌≤◌, ◌⊎◌, [], length, map, Option, Some, None, option_map, IfErr, IfSome};
 ghost use Rattle.std.specs.Result.{result_ok};
 ghost use Rattle.tc_bytes.specs.Counts.{Rose};
 ghost use Rattle.tc_run_model.specs.World.{World};
-ghost use Rattle.tc_store.specs.Moments.{IfTold};
 ghost use Rattle.tc_server.specs.Ending.{IsRun, ServedPromptly};
-ghost use Rattle.tc_server.specs.Faults.{faults_in, status_of, IfDisk, IsWrite, NoneFell};
-ghost use Rattle.tc_server.specs.OverFiles.{AreGenerationsSpent, BeginsFor, HasDiskCauseOver, HasLayoutCause, IsInputSpent, IsJudged, IsOfTheOnly, ServedOver};
+ghost use Rattle.tc_server.specs.Faults.{faults_in, status_of, IfDisk, IsWrite};
+ghost use Rattle.tc_server.specs.KitCauses.{AreAsked, AreGenerationsSpent, AreJudged, HasDiskCauseOver, HasLayoutCause, IsInputSpent, NoneFellOf};
+ghost use Rattle.tc_server.specs.OverFiles.{partitions_asked, BeginsFor, ServedOver};
 ghost use Rattle.tc_server.specs.Program.{fault_of_words, invocation_given};
 
 use crate::outcome::{RunFault, Served};
@@ -17,6 +17,7 @@ use std::alloc::Global;
 use std::env;
 use std::env::Env;
 use std::io::{Eprint, Error, ErrorKind};
+use std::thread::Threads;
 use tc_edge::{Sink, Source};
 use tc_store::Shelf;
 use tc_value::Text;
@@ -45,7 +46,7 @@ fn refusal_of(error: &Error) -> WordsFault {
 
 /// Serves the lines of the source for these words, and says on standard error by which fault the run ended, if by any. What is
 /// answered is what `serve` answers for the words, of whose contract these are the clauses.
-pub fn run_program<R: Eprint + AllocGlobal, I: Source<O>, O: Sink, H: Shelf>(
+pub fn run_program<R: Eprint + AllocGlobal + Threads + Sync, I: Source<O>, O: Sink, H: Shelf>(
     rt: &R,
     words: Result<Vec<Text>, WordsFault>,
     source: &mut I,
@@ -55,40 +56,45 @@ pub fn run_program<R: Eprint + AllocGlobal, I: Source<O>, O: Sink, H: Shelf>(
     ensures status { result.status ≡ status_of result.fault }
 
     // What was read and written, and what is left of the files, from each first world that the files give, and from none.
-    ensures served { (first : Option World) → BeginsFor (invocation_given (option_map (λ words. words.items) (result_ok words))) (H.files shelf.old 0) first
-        → ServedOver (invocation_given (option_map (λ words. words.items) (result_ok words))) result.fault first (I.left source.old) (I.left source.new) (O.taken sink.old) (O.taken sink.new) (map (λ kit. H.Store.history kit.store) result.kits.items) }
+    ensures served { (first : Option World) → BeginsFor (invocation_given (option_map (λ words. words.items) (result_ok words))) (H.files shelf.old) first
+        → ServedOver (invocation_given (option_map (λ words. words.items) (result_ok words))) result.fault first (H.files shelf.old) (I.left source.old) (I.left source.new) (O.taken sink.old) (O.taken sink.new) (map (λ kit. H.Store.history kit.store) result.kits.items) }
 
     // Only a run reads. At each of its reads the sink had accepted the replies to the windows that had closed among what was
     // given before it, and no more.
     ensures unread { IsRun (invocation_given (option_map (λ words. words.items) (result_ok words))) ⊎ (source.new ≡ source.old) }
-    ensures prompt { (first : Option World) → BeginsFor (invocation_given (option_map (λ words. words.items) (result_ok words))) (H.files shelf.old 0) first
+    ensures prompt { (first : Option World) → BeginsFor (invocation_given (option_map (λ words. words.items) (result_ok words))) (H.files shelf.old) first
         → ServedPromptly first (invocation_given (option_map (λ words. words.items) (result_ok words))) (O.taken sink.old) (I.moments source.old) (I.moments source.new) }
 
-    // One kit at most was asked for, and is given back. Where none is, the shelf is as it was, or has failed. No count falls.
-    ensures kits { length result.kits.items ≤ 1 }
+    // The kits that were asked for are given back, in ascending number: all where a line may have been read. No count falls.
+    ensures kits { length result.kits.items ≤ (partitions_asked (invocation_given (option_map (λ words. words.items) (result_ok words)))) }
+    ensures asked { AreAsked (partitions_asked (invocation_given (option_map (λ words. words.items) (result_ok words)))) result.fault (length result.kits.items) }
+    ensures counts { (H.faults shelf.old ≤ H.faults shelf.new) × NoneFellOf (H.kit_faults shelf.old) (map (faults_in (λ w. H.Store.Watch.counts w)) result.kits.items) }
+
+    // Behind them none was asked for but the next one, where the shelf failed. Where there is none, the shelf is as it was, or has
+    // failed.
+    ensures other_kits { (other : ℕ) → length result.kits.items < other → (H.files shelf.new other ≡ H.files shelf.old other) × (H.kit_faults shelf.new other ≡ H.kit_faults shelf.old other) }
+    ensures next_kit { ((H.files shelf.new (length result.kits.items) ≡ H.files shelf.old (length result.kits.items)) × (H.kit_faults shelf.new (length result.kits.items) ≡ H.kit_faults shelf.old (length result.kits.items))) ⊎ ((length result.kits.items < (partitions_asked (invocation_given (option_map (λ words. words.items) (result_ok words))))) × Rose (H.faults shelf.old) (H.faults shelf.new)) }
     ensures unasked { result.kits.items ≡ [] → (shelf.new ≡ shelf.old) ⊎ Rose (H.faults shelf.old) (H.faults shelf.new) }
-    ensures other_kits { (other : ℕ) → other ≢ 0 → (H.files shelf.new other ≡ H.files shelf.old other) × (H.kit_faults shelf.new other ≡ H.kit_faults shelf.old other) }
-    ensures counts { (H.faults shelf.old ≤ H.faults shelf.new) × All (λ kit. NoneFell (H.kit_faults shelf.old 0) (faults_in (λ w. H.Store.Watch.counts w) kit)) result.kits.items }
 
     // When a fault may be answered.
     ensures words { IfErr words (λ fault. result.fault ≡ Some (fault_of_words fault)) }
     ensures usage { result.fault ≡ Some RunFault.Usage → invocation_given (option_map (λ words. words.items) (result_ok words)) ≡ None }
     ensures read { result.fault ≡ Some RunFault.Read → Rose (I.faults source.old) (I.faults source.new) }
     ensures write { IfSome result.fault (λ fault. IsWrite fault → Rose (O.faults sink.old) (O.faults sink.new)) }
-    ensures disk { IfSome result.fault (λ fault. IfDisk fault (λ p. HasDiskCauseOver (H.faults shelf.old) (H.faults shelf.new) (H.kit_faults shelf.old 0) (map (faults_in (λ w. H.Store.Watch.counts w)) result.kits.items))) }
-    ensures partition { IfSome result.fault IsOfTheOnly }
-    ensures judged { invocation_given (option_map (λ words. words.items) (result_ok words)) ≢ None → IfTold (H.files shelf.old 0) (λ disk. IsJudged disk result.fault) }
+    ensures disk { IfSome result.fault (λ fault. IfDisk fault (HasDiskCauseOver (H.faults shelf.old) (H.faults shelf.new) (H.kit_faults shelf.old) (map (faults_in (λ w. H.Store.Watch.counts w)) result.kits.items))) }
+    ensures judged { AreJudged (partitions_asked (invocation_given (option_map (λ words. words.items) (result_ok words)))) (length result.kits.items) (H.files shelf.old) result.fault }
     ensures layout { IfSome result.fault (HasLayoutCause H.Store.Watch (λ file. H.Store.Frozen.size file) (λ file. H.Store.Frozen.name file)) }
     ensures spent { result.fault ≡ Some RunFault.Spent
-        → IsInputSpent (invocation_given (option_map (λ words. words.items) (result_ok words))) (I.left source.old) (I.left source.new) ⊎ AreGenerationsSpent (H.files shelf.old 0) (map (λ kit. H.Store.history kit.store) result.kits.items) }
+        → IsInputSpent (invocation_given (option_map (λ words. words.items) (result_ok words))) (I.left source.old) (I.left source.new) ⊎ AreGenerationsSpent (partitions_asked (invocation_given (option_map (λ words. words.items) (result_ok words)))) (H.files shelf.old) (map (λ kit. H.Store.history kit.store) result.kits.items) }
 {
-    let served = served_for(rt.alloc(), words, source, sink, shelf);
+    let served = served_for(rt, rt.alloc(), words, source, sink, shelf);
     report(rt, &served.fault);
     served
 }
 
 // How the run for these words ends.
-fn served_for<I: Source<O>, O: Sink, H: Shelf>(
+fn served_for<R: Threads + Sync, I: Source<O>, O: Sink, H: Shelf>(
+    rt: &R,
     alloc: Global,
     words: Result<Vec<Text>, WordsFault>,
     source: &mut I,
@@ -96,28 +102,29 @@ fn served_for<I: Source<O>, O: Sink, H: Shelf>(
     shelf: &mut H,
 ) -> Served<H::Store>
     ensures status { result.status ≡ status_of result.fault }
-    ensures served { (first : Option World) → BeginsFor (invocation_given (option_map (λ words. words.items) (result_ok words))) (H.files shelf.old 0) first
-        → ServedOver (invocation_given (option_map (λ words. words.items) (result_ok words))) result.fault first (I.left source.old) (I.left source.new) (O.taken sink.old) (O.taken sink.new) (map (λ kit. H.Store.history kit.store) result.kits.items) }
+    ensures served { (first : Option World) → BeginsFor (invocation_given (option_map (λ words. words.items) (result_ok words))) (H.files shelf.old) first
+        → ServedOver (invocation_given (option_map (λ words. words.items) (result_ok words))) result.fault first (H.files shelf.old) (I.left source.old) (I.left source.new) (O.taken sink.old) (O.taken sink.new) (map (λ kit. H.Store.history kit.store) result.kits.items) }
     ensures unread { IsRun (invocation_given (option_map (λ words. words.items) (result_ok words))) ⊎ (source.new ≡ source.old) }
-    ensures prompt { (first : Option World) → BeginsFor (invocation_given (option_map (λ words. words.items) (result_ok words))) (H.files shelf.old 0) first
+    ensures prompt { (first : Option World) → BeginsFor (invocation_given (option_map (λ words. words.items) (result_ok words))) (H.files shelf.old) first
         → ServedPromptly first (invocation_given (option_map (λ words. words.items) (result_ok words))) (O.taken sink.old) (I.moments source.old) (I.moments source.new) }
-    ensures kits { length result.kits.items ≤ 1 }
+    ensures kits { length result.kits.items ≤ (partitions_asked (invocation_given (option_map (λ words. words.items) (result_ok words)))) }
+    ensures asked { AreAsked (partitions_asked (invocation_given (option_map (λ words. words.items) (result_ok words)))) result.fault (length result.kits.items) }
+    ensures counts { (H.faults shelf.old ≤ H.faults shelf.new) × NoneFellOf (H.kit_faults shelf.old) (map (faults_in (λ w. H.Store.Watch.counts w)) result.kits.items) }
+    ensures other_kits { (other : ℕ) → length result.kits.items < other → (H.files shelf.new other ≡ H.files shelf.old other) × (H.kit_faults shelf.new other ≡ H.kit_faults shelf.old other) }
+    ensures next_kit { ((H.files shelf.new (length result.kits.items) ≡ H.files shelf.old (length result.kits.items)) × (H.kit_faults shelf.new (length result.kits.items) ≡ H.kit_faults shelf.old (length result.kits.items))) ⊎ ((length result.kits.items < (partitions_asked (invocation_given (option_map (λ words. words.items) (result_ok words))))) × Rose (H.faults shelf.old) (H.faults shelf.new)) }
     ensures unasked { result.kits.items ≡ [] → (shelf.new ≡ shelf.old) ⊎ Rose (H.faults shelf.old) (H.faults shelf.new) }
-    ensures other_kits { (other : ℕ) → other ≢ 0 → (H.files shelf.new other ≡ H.files shelf.old other) × (H.kit_faults shelf.new other ≡ H.kit_faults shelf.old other) }
-    ensures counts { (H.faults shelf.old ≤ H.faults shelf.new) × All (λ kit. NoneFell (H.kit_faults shelf.old 0) (faults_in (λ w. H.Store.Watch.counts w) kit)) result.kits.items }
     ensures words { IfErr words (λ fault. result.fault ≡ Some (fault_of_words fault)) }
     ensures usage { result.fault ≡ Some RunFault.Usage → invocation_given (option_map (λ words. words.items) (result_ok words)) ≡ None }
     ensures read { result.fault ≡ Some RunFault.Read → Rose (I.faults source.old) (I.faults source.new) }
     ensures write { IfSome result.fault (λ fault. IsWrite fault → Rose (O.faults sink.old) (O.faults sink.new)) }
-    ensures disk { IfSome result.fault (λ fault. IfDisk fault (λ p. HasDiskCauseOver (H.faults shelf.old) (H.faults shelf.new) (H.kit_faults shelf.old 0) (map (faults_in (λ w. H.Store.Watch.counts w)) result.kits.items))) }
-    ensures partition { IfSome result.fault IsOfTheOnly }
-    ensures judged { invocation_given (option_map (λ words. words.items) (result_ok words)) ≢ None → IfTold (H.files shelf.old 0) (λ disk. IsJudged disk result.fault) }
+    ensures disk { IfSome result.fault (λ fault. IfDisk fault (HasDiskCauseOver (H.faults shelf.old) (H.faults shelf.new) (H.kit_faults shelf.old) (map (faults_in (λ w. H.Store.Watch.counts w)) result.kits.items))) }
+    ensures judged { AreJudged (partitions_asked (invocation_given (option_map (λ words. words.items) (result_ok words)))) (length result.kits.items) (H.files shelf.old) result.fault }
     ensures layout { IfSome result.fault (HasLayoutCause H.Store.Watch (λ file. H.Store.Frozen.size file) (λ file. H.Store.Frozen.name file)) }
     ensures spent { result.fault ≡ Some RunFault.Spent
-        → IsInputSpent (invocation_given (option_map (λ words. words.items) (result_ok words))) (I.left source.old) (I.left source.new) ⊎ AreGenerationsSpent (H.files shelf.old 0) (map (λ kit. H.Store.history kit.store) result.kits.items) }
+        → IsInputSpent (invocation_given (option_map (λ words. words.items) (result_ok words))) (I.left source.old) (I.left source.new) ⊎ AreGenerationsSpent (partitions_asked (invocation_given (option_map (λ words. words.items) (result_ok words)))) (H.files shelf.old) (map (λ kit. H.Store.history kit.store) result.kits.items) }
 {
     match words {
-        Ok(words) => serve(alloc, words.as_slice(), source, sink, shelf),
+        Ok(words) => serve(rt, alloc, words.as_slice(), source, sink, shelf),
         Err(WordsFault::Usage) => Served::of(Some(RunFault::Usage), Vec::new(alloc)),
         Err(WordsFault::Memory) => Served::of(Some(RunFault::Memory), Vec::new(alloc)),
     }

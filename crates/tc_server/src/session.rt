@@ -21,6 +21,7 @@ use crate::outcome::RunFault;
 use crate::partitions::Partitions;
 use crate::window::Window;
 use std::alloc::Global;
+use std::thread::Threads;
 use tc_bytes::Bytes;
 use tc_command::{Refusal, Reply};
 use tc_edge::{Sink, write_all};
@@ -82,7 +83,12 @@ impl<S: Store> Session<Partitions<S>> {
     }
 
     /// Answers the window that is open, and writes the replies. Errs where the store or the sink fails, and for want of memory.
-    pub fn close<O: Sink>(&mut self, alloc: Global, sink: &mut O) -> Result<(), RunFault>
+    pub fn close<R: Threads + Sync, O: Sink>(
+        &mut self,
+        rt: &R,
+        alloc: Global,
+        sink: &mut O,
+    ) -> Result<(), RunFault>
         requires sound { IsSoundWindow self.old.window }
         requires few { length self.old.window.refusals.items ≤ 4096 }
         requires bytes { self.old.window.bytes ≤ max_window + max_line }
@@ -102,7 +108,7 @@ impl<S: Store> Session<Partitions<S>> {
         ensures cause { HasCauses (O.faults sink.old) (O.faults sink.new) (faults_of (λ w. S.Watch.counts w) self.old.keeper) (faults_of (λ w. S.Watch.counts w) self.new.keeper) (IsSpent S.history S.Device.history S.Frozen.content self.new.keeper) (fault_in result) }
     {
         self.window
-            .answer(alloc, &mut self.keeper, &mut self.replies)?;
+            .answer(rt, alloc, &mut self.keeper, &mut self.replies)?;
         self.settle_and_write(alloc, sink)
     }
 
@@ -126,8 +132,9 @@ impl<S: Store> Session<Partitions<S>> {
     }
 
     /// Takes a line that is answered in its window, and closes the window where it is full.
-    pub fn take_line<O: Sink>(
+    pub fn take_line<R: Threads + Sync, O: Sink>(
         &mut self,
+        rt: &R,
         alloc: Global,
         action: Action,
         size: usize,
@@ -151,13 +158,14 @@ impl<S: Store> Session<Partitions<S>> {
         if !self.window.is_full() {
             return Ok(());
         }
-        self.close(alloc, sink)?;
+        self.close(rt, alloc, sink)?;
         Ok(())
     }
 
     /// Takes a line that is a window of its own: answers the window before it, and then the line.
-    pub fn take_control<O: Sink>(
+    pub fn take_control<R: Threads + Sync, O: Sink>(
         &mut self,
+        rt: &R,
         alloc: Global,
         control: Control,
         size: usize,
@@ -173,7 +181,7 @@ impl<S: Store> Session<Partitions<S>> {
         ensures settings { settings_of self.new.keeper ≡ settings_of self.old.keeper }
         ensures cause { HasCauses (O.faults sink.old) (O.faults sink.new) (faults_of (λ w. S.Watch.counts w) self.old.keeper) (faults_of (λ w. S.Watch.counts w) self.new.keeper) (IsSpent S.history S.Device.history S.Frozen.content self.new.keeper) (fault_in result) }
     {
-        self.close(alloc, sink)?;
+        self.close(rt, alloc, sink)?;
         self.close_control(alloc, control, sink)
     }
 
@@ -200,8 +208,9 @@ impl<S: Store> Session<Partitions<S>> {
     }
 
     /// Takes a line, by what it asks for and its size.
-    fn take<O: Sink>(
+    fn take<R: Threads + Sync, O: Sink>(
         &mut self,
+        rt: &R,
         alloc: Global,
         asked: Asked,
         size: usize,
@@ -220,14 +229,15 @@ impl<S: Store> Session<Partitions<S>> {
         ensures cause { HasCauses (O.faults sink.old) (O.faults sink.new) (faults_of (λ w. S.Watch.counts w) self.old.keeper) (faults_of (λ w. S.Watch.counts w) self.new.keeper) (IsSpent S.history S.Device.history S.Frozen.content self.new.keeper) (fault_in result) }
     {
         match asked.into_action() {
-            Action::Whole(control) => self.take_control(alloc, control, size, sink),
-            action => self.take_line(alloc, action, size, sink),
+            Action::Whole(control) => self.take_control(rt, alloc, control, size, sink),
+            action => self.take_line(rt, alloc, action, size, sink),
         }
     }
 
     /// Takes a line that is not oversized.
-    pub fn take_whole<O: Sink>(
+    pub fn take_whole<R: Threads + Sync, O: Sink>(
         &mut self,
+        rt: &R,
         alloc: Global,
         line: Bytes,
         sink: &mut O,
@@ -241,12 +251,13 @@ impl<S: Store> Session<Partitions<S>> {
         ensures settings { settings_of self.new.keeper ≡ settings_of self.old.keeper }
         ensures cause { HasCauses (O.faults sink.old) (O.faults sink.new) (faults_of (λ w. S.Watch.counts w) self.old.keeper) (faults_of (λ w. S.Watch.counts w) self.new.keeper) (IsSpent S.history S.Device.history S.Frozen.content self.new.keeper) (fault_in result) }
     {
-        self.take_slice(alloc, line.as_slice(), sink)
+        self.take_slice(rt, alloc, line.as_slice(), sink)
     }
 
     // Takes a line that is not oversized, borrowed.
-    fn take_slice<O: Sink>(
+    fn take_slice<R: Threads + Sync, O: Sink>(
         &mut self,
+        rt: &R,
         alloc: Global,
         line: &[u8],
         sink: &mut O,
@@ -261,11 +272,16 @@ impl<S: Store> Session<Partitions<S>> {
         ensures cause { HasCauses (O.faults sink.old) (O.faults sink.new) (faults_of (λ w. S.Watch.counts w) self.old.keeper) (faults_of (λ w. S.Watch.counts w) self.new.keeper) (IsSpent S.history S.Device.history S.Frozen.content self.new.keeper) (fault_in result) }
     {
         let asked = Asked::of(alloc, line)?;
-        self.take(alloc, asked, line.len(), sink)
+        self.take(rt, alloc, asked, line.len(), sink)
     }
 
     /// Takes a line that is oversized.
-    pub fn take_oversized<O: Sink>(&mut self, alloc: Global, sink: &mut O) -> Result<(), RunFault>
+    pub fn take_oversized<R: Threads + Sync, O: Sink>(
+        &mut self,
+        rt: &R,
+        alloc: Global,
+        sink: &mut O,
+    ) -> Result<(), RunFault>
         requires ready { IsReady (MayAsk S.history S.Device.history S.Frozen.content) self.old }
         ensures ok { OnOk result ((line : List ℕ) → max_line < length line
             → TakesLine (HoldsAt S.history S.Device.history S.Frozen.content) line self.old (O.taken sink.old) self.new (O.taken sink.new)) }
@@ -276,7 +292,7 @@ impl<S: Store> Session<Partitions<S>> {
         ensures settings { settings_of self.new.keeper ≡ settings_of self.old.keeper }
         ensures cause { HasCauses (O.faults sink.old) (O.faults sink.new) (faults_of (λ w. S.Watch.counts w) self.old.keeper) (faults_of (λ w. S.Watch.counts w) self.new.keeper) (IsSpent S.history S.Device.history S.Frozen.content self.new.keeper) (fault_in result) }
     {
-        self.take(alloc, Asked::refused(Refusal::Oversized), 0, sink)
+        self.take(rt, alloc, Asked::refused(Refusal::Oversized), 0, sink)
     }
 }
 

@@ -18,6 +18,8 @@ use crate::answer::{Action, push_reply};
 use crate::outcome::RunFault;
 use crate::partitions::Partitions;
 use std::alloc::{AllocError, Global};
+use std::mem;
+use std::thread::Threads;
 use tc_command::{Command, Refusal, Reply};
 use tc_route::{Placed, Routed};
 use tc_store::Store;
@@ -121,8 +123,9 @@ impl Window {
     }
 
     /// Answers the lines, and leaves the window without lines and the reply lines in `replies`, in whose place others stood.
-    pub fn answer<S: Store>(
+    pub fn answer<R: Threads + Sync, S: Store>(
         &mut self,
+        rt: &R,
         alloc: Global,
         keeper: &mut Partitions<S>,
         replies: &mut Vec<u8>,
@@ -144,11 +147,11 @@ impl Window {
         ensures settings { settings_of keeper.new ≡ settings_of keeper.old }
         ensures cause { HasDiskCause (faults_of (λ w. S.Watch.counts w) keeper.old) (faults_of (λ w. S.Watch.counts w) keeper.new) (IsSpent S.history S.Device.history S.Frozen.content keeper.new) (fault_in result) }
     {
-        let answers = keeper.window(alloc, self.commands.as_slice())?;
+        let commands = mem::replace(&mut self.commands, Vec::new(alloc));
+        let answers = keeper.window(rt, alloc, commands)?;
         replies.clear();
         push_all(alloc, self.refusals.as_slice(), answers.as_slice(), replies)?;
         self.refusals.clear();
-        self.commands.clear();
         self.bytes = 0;
         Ok(())
     }

@@ -4,6 +4,7 @@ use crate::kits::empty_kits;
 use crate::tests::words_of;
 use std::alloc::{AllocError, Global};
 use std::test::Fail;
+use std::thread::Threads;
 use tc_edge::{MemSink, MemSource};
 use tc_server::serve;
 use tc_store::MemShelf;
@@ -47,13 +48,25 @@ fn upsert(alloc: Global, key: u64, number: u64) -> Result<String, AllocError> {
 }
 
 // The last line of a run for these words that ends with a schema.
-fn schema_behind(alloc: Global, words: &str, mut input: Vec<u8>) -> Result<Vec<u8>, AllocError> {
+fn schema_behind(
+    rt: &(impl Threads + Sync),
+    alloc: Global,
+    words: &str,
+    mut input: Vec<u8>,
+) -> Result<Vec<u8>, AllocError> {
     input.extend_from_slice(b"{\"op\":\"schema\"}\n")?;
     let words = words_of(alloc, words)?;
     let mut source = MemSource::new(input, 1_048_576, Vec::new(alloc));
     let mut sink = MemSink::new(alloc, 1_048_576, Vec::new(alloc));
     let mut shelf = MemShelf::new(empty_kits(alloc)?);
-    serve(alloc, words.as_slice(), &mut source, &mut sink, &mut shelf);
+    serve(
+        rt,
+        alloc,
+        words.as_slice(),
+        &mut source,
+        &mut sink,
+        &mut shelf,
+    );
     let text = sink.taken();
     let mut start = 0;
     for (place, byte) in text.iter().enumerate() {
@@ -94,8 +107,8 @@ fn running_schema(rt: HostRuntime) -> Result<(), Fail> {
         key = key.wrapping_add(1);
     }
     let often = "run --partitions 1 --memory 4096 --merge 2";
-    let running = schema_behind(alloc, often, input)?;
-    let want = schema_behind(alloc, "run --partitions 1", fresh)?;
+    let running = schema_behind(&rt, alloc, often, input)?;
+    let want = schema_behind(&rt, alloc, "run --partitions 1", fresh)?;
     assert!(rt; want.as_slice().starts_with(b"{\"schemas\":[{"));
     assert_eq!(rt; running.as_slice(), want.as_slice());
     Ok(())

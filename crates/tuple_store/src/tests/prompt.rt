@@ -6,6 +6,7 @@ use crate::kits::empty_kits;
 use crate::tests::words_of;
 use std::alloc::{AllocError, Global};
 use std::test::Fail;
+use std::thread::Threads;
 use tc_edge::{EdgeFault, MemSink, Source};
 use tc_server::serve;
 use tc_store::MemShelf;
@@ -56,6 +57,7 @@ const SCHEMA: &str = "{\"op\":\"schema\"}\n";
 
 // The status of a run whose source waits for so many replies before each line, and before the end.
 fn run_waiting(
+    rt: &(impl Threads + Sync),
     alloc: Global,
     words: &str,
     lines: &[&'static str],
@@ -70,7 +72,14 @@ fn run_waiting(
     };
     let mut sink = MemSink::new(alloc, 1_048_576, Vec::new(alloc));
     let mut shelf = MemShelf::new(empty_kits(alloc)?);
-    let served = serve(alloc, words.as_slice(), &mut source, &mut sink, &mut shelf);
+    let served = serve(
+        rt,
+        alloc,
+        words.as_slice(),
+        &mut source,
+        &mut sink,
+        &mut shelf,
+    );
     Ok(served.status)
 }
 
@@ -82,7 +91,7 @@ fn replies_before_the_next_line(rt: HostRuntime) -> Result<(), Fail> {
         ("run --partitions 1 --window 2", [0, 0, 2, 2, 4, 4]),
         ("run --partitions 1", [0, 0, 0, 0, 4, 4]),
     ] {
-        let status = run_waiting(rt.alloc(), words, lines.as_slice(), due.as_slice())?;
+        let status = run_waiting(&rt, rt.alloc(), words, lines.as_slice(), due.as_slice())?;
         assert_eq!(rt; status, 0u8, "{words}");
     }
     Ok(())

@@ -5,7 +5,7 @@ use Rattle.std.proofs.lemmas.Result.{err_from_is_err_and}
 use Rattle.tc_gen.specs.Generated.{generated}
 use Rattle.tc_gen.specs.TwoLines.{lines_for}
 use Rattle.tc_run_model.specs.Windows.{windows_of}
-use Rattle.tc_server.specs.Calls.{faults_of, IsSpent, KeepsAt, HoldsAt}
+use Rattle.tc_server.specs.Calls.{IsSpent, KeepsAt, HoldsAt}
 use Rattle.tc_server.specs.Demo.{ended}
 use Rattle.tc_server.specs.Window.{requests_of}
 use Rattle.tc_server.specs.declared.window.Window.{Window}

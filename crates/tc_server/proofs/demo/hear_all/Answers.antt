@@ -1,11 +1,10 @@
-use Rattle.std.proofs.Common.{◌≡◌, ◌≤◌, ◌<◌, ◌+◌, ◌^◌, ◌++◌, length, ap, refl, sym, subst, ◌∙◌, arith}
+use Rattle.std.proofs.Common.{◌≤◌, ◌++◌, length, ap, refl, ◌∙◌, arith}
 use Rattle.std.specs.Prelude.{None, Some, option_to_list}
 use Rattle.std.proofs.lemmas.Result.{err_from_is_err_and}
 use Rattle.tc_gen.specs.Generated.{generated}
 use Rattle.tc_gen.proofs.LineLengths.{generated_count, generated_short}
 use Rattle.tc_model.specs.Limits.{max_line}
 use Rattle.tc_server.specs.Calls.{faults_of, IsSpent, KeepsAt, HoldsAt}
-use Rattle.tc_server.specs.Faults.{fault_in}
 use Rattle.tc_server.proofs.Causes.{call_without_memory, calls_follow, nothing_counted}
 use Rattle.tc_server.proofs.DemoLoops.{comes_first, comes_next, ends_at_end, ends_at_line, ends_between, ends_well, line_is}
 use Rattle.tc_server.proofs.demo.hear_all.Goals as goal

@@ -1,5 +1,5 @@
 use Rattle.std.proofs.Common.{[], ap, sym, subst}
-use Rattle.std.specs.Prelude.{Option, Some}
+use Rattle.std.specs.Prelude.{Some}
 use Rattle.std.proofs.lemmas.Result.{IfErr-weaker, on_ok_weaker}
 use Rattle.tc_edge.specs.Memory.{MemoryOutput}
 use Rattle.tc_run_model.specs.Course.{known_behind}

@@ -1,15 +1,18 @@
-use Rattle.std.proofs.Common.{◌≡◌, ◌∙◌, ◌∷◌, ◌++◌, [], false, All, ap, sym, subst}
-use Rattle.std.proofs.lemmas.List.Elements.{All-cons, All-nil}
+use Rattle.std.proofs.Common.{◌≡◌, ◌∙◌, false, map, ap}
 use Rattle.serde_json.specs.View.{view}
 use Rattle.serde_json.specs.Written.{has_float}
+use Rattle.tc_engines.proofs.PlaceLaws.{all_read, all_second, at_each-so}
+use Rattle.tc_engines.specs.SchemaTexts.{IsSchemaText}
 use Rattle.tc_part.specs.Openings.{newest_in}
 use Rattle.tc_part_model.specs.Newest.{names_by, schema_by}
+use Rattle.tc_part_model.specs.PartState.{told}
 use Rattle.tc_schema_model.specs.SchemaTree.{schema_tree}
 use Rattle.tc_server.proofs.SchemaFloats.{schemas_have_no_floats}
 use Rattle.tc_server.proofs.partitions.schemas_of.Goals as goal
 
 pub of-requires : goal.of-requires
 of-requires g c =
-    let newest = newest_in g.S.Frozen.Frozen.content c.args.engine.now.part.list in
-    subst (All (λ v. has_float (view v) ≡ false)) (sym (c.in_ok-push.ensures.items ∙ ap (λ shown. shown ++ c.in-Ok.schema ∷ []) c.in_ok-schemas.ensures.items))
-    (All-cons (λ v. has_float (view v) ≡ false) c.in-Ok.schema [] (ap has_float c.in-Ok.ensures.tree ∙ schemas_have_no_floats (names_by newest) (schema_tree (schema_by newest))) (All-nil (λ v. has_float (view v) ≡ false)))
+    let es = c.args.engines.now in
+    let texts = map view c.in-Ok.texts.items in
+    all_read view (λ text. has_float text ≡ false) c.in-Ok.texts.items (all_second (λ text. has_float text ≡ false) 0 es texts
+    (at_each-so (λ p e text. IsSchemaText (λ part. told g.S.Store.history g.S.Device.Device.history g.S.Frozen.Frozen.content part) g.S.Frozen.Frozen.content g.S.Device.Device.size e text) (λ p e text. has_float text ≡ false) 0 es texts (λ p e text is. ap has_float is.counts ∙ schemas_have_no_floats (names_by (newest_in g.S.Frozen.Frozen.content e.part.list)) (schema_tree (schema_by (newest_in g.S.Frozen.Frozen.content e.part.list)))) c.in-Ok.ensures.each))

@@ -4,7 +4,7 @@ use Rattle.tc_server.specs.Calls.{IsSpent}
 use Rattle.tc_server.specs.Faults.{fault_in}
 use Rattle.tc_server.proofs.Causes.{run_by_window, window_spent}
 use Rattle.tc_server.proofs.LeftFiles.{spent_by}
-use Rattle.tc_server.proofs.OverPart.{held_unknown}
+use Rattle.tc_server.proofs.OverEngines.{held_unknown}
 use Rattle.tc_server.proofs.server.answer_asked.Goals as goal
 
 -- ---- a run

@@ -6,6 +6,9 @@ use Rattle.tc_server.proofs.AskedRuns.{few_commands}
 use Rattle.tc_server.proofs.NotOpened.{served_nothing}
 use Rattle.tc_server.proofs.server.serve.Goals as goal
 
+pub serve_asked-requires-clause-partitions : goal.serve_asked-requires-clause-partitions
+serve_asked-requires-clause-partitions g c κs within = let is = (asked_in_range c.args.words.now c.in-Ok.asked c.in-Ok.ensures.ok).options.partitions in (omega (arith, is.0), is.1)
+
 pub serve_asked-requires-clause-some : goal.serve_asked-requires-clause-some
 serve_asked-requires-clause-some g c κs within = (asked_in_range c.args.words.now c.in-Ok.asked c.in-Ok.ensures.ok).options.window.0
 
@@ -24,4 +27,4 @@ serve_asked-requires-clause-few g c κs within = few_commands c.in-Ok.asked (ask
 pub returns-in-Err-clause-served : goal.returns-in-Err-clause-served
 returns-in-Err-clause-served g c =
     let none = ap (λ kits. kits.items) c.of.ensures.kits ∙ c.new.ensures.items in
-    rw (c.of.ensures.fault, none) (λ first begins. served_nothing (invocation_of c.args.words.now) c.in-Err.fault first (g.I.Source.left c.args.source.now) (g.O.Sink.taken c.args.sink.now) c.in-Err.ensures.kinds (λ same. c.in-Err.ensures.usage (ap Err same)))
+    rw (c.of.ensures.fault, none) (λ first begins. served_nothing (invocation_of c.args.words.now) c.in-Err.fault first (g.H.Shelf.files c.args.shelf.now) (g.I.Source.left c.args.source.now) (g.O.Sink.taken c.args.sink.now) begins c.in-Err.ensures.kinds (λ same. c.in-Err.ensures.usage (ap Err same)))

@@ -1,4 +1,4 @@
-use Rattle.std.proofs.Common.{◌∙◌, ◌++◌, map, ap, sym, subst}
+use Rattle.std.proofs.Common.{rules, ◌∙◌, ◌++◌, map, ap, sym, subst}
 use Rattle.std.proofs.lemmas.List.{length-map}
 use Rattle.std.proofs.lemmas.Result.{err_from_is_err_and}
 use Rattle.tc_command.specs.Replies.{reply_of}
@@ -13,11 +13,12 @@ use Rattle.tc_server.specs.Window.{mixed, reply_refused, requests_of, requests_r
 use Rattle.tc_server.specs.Calls.{faults_of, IsSpent, KeepsAt, HoldsAt}
 use Rattle.tc_server.proofs.Answering.{left_failed, left_standing}
 use Rattle.tc_server.proofs.Causes.{call_without_memory}
+use Rattle.tc_server.proofs.CommandPlaces.{sound_empty}
 use Rattle.tc_server.proofs.Mixing.{are_together, mixed_given, mixed_known, mixed_leaves, values_of_replies}
 use Rattle.tc_server.proofs.window.Window.answer.Goals as goal
 
 pub window-requires-clause-together : goal.window-requires-clause-together
-window-requires-clause-together g c κs within = subst AreTogether (sym c.as_slice.ensures.value) (are_together c.args.self.now c.requires.sound c.requires.few c.requires.bytes)
+window-requires-clause-together g c κs within = subst AreTogether (sym (ap (λ v. v.items) c.replace-commands.ensures.value)) (are_together c.args.self.now c.requires.sound c.requires.few c.requires.bytes)
 
 pub returns-in_err-answers-clause-left : goal.returns-in_err-answers-clause-left
 returns-in_err-answers-clause-left g c =
@@ -25,7 +26,7 @@ returns-in_err-answers-clause-left g c =
     let w = c.args.self.now in
     λ known holds. rw p.1 (left_failed (HoldsAt g.S.Store.history g.S.Device.Device.history g.S.Frozen.Frozen.content) (KeepsAt g.S.Store.history g.S.Device.Device.history g.S.Frozen.Frozen.content) c.window.new.self (requests_of w) known
     (λ v is. subst ((KeepsAt g.S.Store.history g.S.Device.Device.history g.S.Frozen.Frozen.content) c.window.new.self v) (sym (mixed_leaves w.refusals.items (requests_routed w.commands.items) v (c.requires.sound.whole ∙ sym (length-map w.commands.items _))))
-    (subst (λ list. (KeepsAt g.S.Store.history g.S.Device.Device.history g.S.Frozen.Frozen.content) c.window.new.self v (after_all (requests_routed list) v)) c.as_slice.ensures.value (c.in_err-answers.ensures.failed v (subst ((HoldsAt g.S.Store.history g.S.Device.Device.history g.S.Frozen.Frozen.content) c.args.keeper.now) is holds)))))
+    (subst (λ list. (KeepsAt g.S.Store.history g.S.Device.Device.history g.S.Frozen.Frozen.content) c.window.new.self v (after_all (requests_routed list) v)) (ap (λ v. v.items) c.replace-commands.ensures.value) (c.in_err-answers.ensures.failed v (subst ((HoldsAt g.S.Store.history g.S.Device.Device.history g.S.Frozen.Frozen.content) c.args.keeper.now) is holds)))))
 
 pub returns-in_err-push_all-clause-left : goal.returns-in_err-push_all-clause-left
 returns-in_err-push_all-clause-left g c =
@@ -33,7 +34,7 @@ returns-in_err-push_all-clause-left g c =
     let w = c.args.self.now in
     λ known holds. rw p.1 (left_standing (HoldsAt g.S.Store.history g.S.Device.Device.history g.S.Frozen.Frozen.content) (KeepsAt g.S.Store.history g.S.Device.Device.history g.S.Frozen.Frozen.content) c.window.new.self gave_up (requests_of w) known
     (subst ((HoldsAt g.S.Store.history g.S.Device.Device.history g.S.Frozen.Frozen.content) c.window.new.self) (sym (mixed_known w.refusals.items (requests_routed w.commands.items) known (c.requires.sound.whole ∙ sym (length-map w.commands.items _))))
-    (subst (λ list. (HoldsAt g.S.Store.history g.S.Device.Device.history g.S.Frozen.Frozen.content) c.window.new.self (known_after (requests_routed list) known)) c.as_slice.ensures.value (c.in_ok-answers.ensures.held known holds))))
+    (subst (λ list. (HoldsAt g.S.Store.history g.S.Device.Device.history g.S.Frozen.Frozen.content) c.window.new.self (known_after (requests_routed list) known)) (ap (λ v. v.items) c.replace-commands.ensures.value) (c.in_ok-answers.ensures.held known holds))))
 
 pub returns-in_err-push_all-clause-cause : goal.returns-in_err-push_all-clause-cause
 returns-in_err-push_all-clause-cause g c =
@@ -45,14 +46,17 @@ returns-clause-answered g c = λ known holds.
     let w = c.args.self.now in
     let rs = requests_routed w.commands.items in
     let same = c.requires.sound.whole ∙ sym (length-map w.commands.items _) in
-    let given = subst (λ list. MayReply (requests_routed list) known (values_in (replies_in c.in_ok-answers.answers))) c.as_slice.ensures.value (c.in_ok-answers.ensures.replies known holds) in
+    let given = subst (λ list. MayReply (requests_routed list) known (values_in (replies_in c.in_ok-answers.answers))) (ap (λ v. v.items) c.replace-commands.ensures.value) (c.in_ok-answers.ensures.replies known holds) in
     record {
       replies = mixed reply_refused w.refusals.items (map (λ a. reply_of a.reply) c.in_ok-answers.answers);
       given = mixed_given w.refusals.items rs known _ same (subst (MayReply rs known) (values_of_replies _) given);
       lines = c.in_ok-push_all.ensures
-          ∙ ap (λ lines. c.clear.new.self.items ++ each_line (mixed reply_refused lines (map (λ (a : Placed). reply_of a.reply) c.as_slice-3.result.now))) c.as_slice-2.ensures.value
-          ∙ ap (λ list. c.clear.new.self.items ++ each_line (mixed reply_refused w.refusals.items (map (λ (a : Placed). reply_of a.reply) list))) c.as_slice-3.ensures
+          ∙ ap (λ lines. c.clear.new.self.items ++ each_line (mixed reply_refused lines (map (λ (a : Placed). reply_of a.reply) c.as_slice-2.result.now))) c.as_slice.ensures.value
+          ∙ ap (λ list. c.clear.new.self.items ++ each_line (mixed reply_refused w.refusals.items (map (λ (a : Placed). reply_of a.reply) list))) c.as_slice-2.ensures
           ∙ ap (λ bytes. bytes ++ each_line (mixed reply_refused w.refusals.items (map (λ (a : Placed). reply_of a.reply) c.in_ok-answers.answers))) c.clear.ensures.items;
       held = subst ((HoldsAt g.S.Store.history g.S.Device.Device.history g.S.Frozen.Frozen.content) c.window.new.self) (sym (mixed_known w.refusals.items rs known same))
-          (subst (λ list. (HoldsAt g.S.Store.history g.S.Device.Device.history g.S.Frozen.Frozen.content) c.window.new.self (known_after (requests_routed list) known)) c.as_slice.ensures.value (c.in_ok-answers.ensures.held known holds));
+          (subst (λ list. (HoldsAt g.S.Store.history g.S.Device.Device.history g.S.Frozen.Frozen.content) c.window.new.self (known_after (requests_routed list) known)) (ap (λ v. v.items) c.replace-commands.ensures.value) (c.in_ok-answers.ensures.held known holds));
     }
+
+pub returns-clause-sound : goal.returns-clause-sound
+returns-clause-sound g c = sound_empty _ (search rules) (search rules)

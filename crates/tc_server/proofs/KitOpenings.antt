@@ -1,0 +1,223 @@
+-- What comes of a kit: the engine of its partition, or the kit again, since the partition was not opened.
+use Rattle.std.proofs.Common.{◌≡◌, ◌≤◌, ℕ, List, [], ◌∷◌, arith, refl, ap, sym, subst, inl, inr}
+use Rattle.std.specs.Prelude.{Option, Some, None, IfSome, IsSome, IfErr, Result, Ok, Err, option_map, unwrap_or}
+use Rattle.tc_bytes.specs.Counts.{Rose}
+use Rattle.tc_engines.specs.Standing.{partition_at}
+use Rattle.tc_list.specs.Policies.{listed_least}
+use Rattle.tc_list.specs.declared.policy.Policy.{Policy}
+use Rattle.tc_lsm_model.specs.Contents.{Content, Partition}
+use Rattle.tc_machine.specs.Pictures.{recovered}
+use Rattle.tc_merge.specs.Faults.{IsWatched}
+use Rattle.tc_open.specs.declared.fault.OpenCause.{OpenCause}
+use Rattle.tc_open.specs.declared.fault.OpenCause.TheVariants as opening
+use Rattle.tc_open.specs.Judged.{AreSpent, CauseJudged, IsOpenCause, Passes}
+use Rattle.tc_open.specs.OpenCauses as causes
+use Rattle.tc_open.specs.Openings.{IsOpenedAs}
+use Rattle.tc_open.specs.Steps as step
+use Rattle.tc_part_model.specs.PartState.{PartState, Told}
+use Rattle.tc_plain_model.specs.Writes.{Write as PlainWrite}
+use Rattle.tc_recover.specs.Lawful.{DiskOpens}
+use Rattle.tc_run_model.specs.Course.{input_failed, output_failed, unopened}
+use Rattle.tc_store.specs.Counted.{Counts}
+use Rattle.tc_store.specs.Disk.{Disk}
+use Rattle.tc_store.specs.KitFaults.{KitFaults}
+use Rattle.tc_store.specs.Moments.{IfTold}
+use Rattle.tc_store.specs.declared.file_name.FileName.{FileName}
+use Rattle.tc_store.specs.declared.kit.Kit.{Kit}
+use Rattle.tc_store.specs.declared.fault.ShelfFault.{ShelfFault}
+use Rattle.tc_store.specs.declared.fault.ShelfFault.TheVariants as shelf
+use Rattle.tc_store.proofs.MomentLemmas.{told_map}
+use Rattle.tc_work.specs.EngineState.{EngineState}
+use Rattle.tc_words.specs.declared.run.Options.{Options}
+use Rattle.tc_server.specs.Calls.{MayBeAsked}
+use Rattle.tc_server.specs.Ending.{limits_of}
+use Rattle.tc_server.specs.Faults.{fault_of_opening, fault_of_shelf, faults_in, faults_of_part, IfDisk, IsNoDamage, IsWrite, NoneFell, OneRose}
+use Rattle.tc_server.specs.KitCauses.{ArePassed, HasLayoutCause, IsJudged}
+use Rattle.tc_server.specs.Kits.{IsClosed, IsGivenBack, IsNotGiven, IsOfOpening, IsOpened}
+use Rattle.tc_server.specs.OverFiles.{EndsOver, IsHere}
+use Rattle.tc_server.specs.declared.outcome.RunFault.{RunFault}
+use Rattle.tc_server.specs.declared.outcome.RunFault.TheVariants.{Usage, Read, Write, Spent, Disk as DiskFault, Damaged, Memory, Layout}
+use Rattle.tc_server.proofs.NotOpened.{opened_keeps}
+
+-- what holds always holds where files are told
+told_always : {X : Type 0} (P : X → Type 0) (xs : List X) → ((x : X) → P x) → IfTold xs P
+told_always P [] always = tt
+told_always P (x ∷ xs) always = always x
+
+-- ---- the kit of a partition that was not opened
+
+is_of_opening : (p count : ℕ) (cause : OpenCause) → IsOfOpening (partition_at p count) (fault_of_opening p count cause)
+is_of_opening p count opening.Disk = refl
+is_of_opening p count (opening.Damaged damage) = refl
+is_of_opening p count (opening.Layout found found_of) = (refl, refl)
+is_of_opening p count opening.Spent = tt
+is_of_opening p count opening.Memory = tt
+
+undamaged_here : (p count : ℕ) (cause : OpenCause) → causes.IfLayout cause ⊥ → causes.IfDamaged cause (λ damage. ⊥) → IsNoDamage (fault_of_opening p count cause) × IsHere (fault_of_opening p count cause)
+undamaged_here p count opening.Disk here sound = (tt, tt)
+undamaged_here p count (opening.Damaged damage) here sound = absurd sound
+undamaged_here p count (opening.Layout found found_of) here sound = absurd here
+undamaged_here p count opening.Spent here sound = (tt, tt)
+undamaged_here p count opening.Memory here sound = (tt, tt)
+
+refused_by : {F : Type 0} (content : F → Option (List ℕ)) (name : F → FileName) (p count : ℕ) (cause : OpenCause) (disk : Disk) → CauseJudged content name (partition_at p count) disk cause → IsJudged (partition_at p count) disk (Some (fault_of_opening p count cause))
+refused_by content name p count opening.Disk disk judged = tt
+refused_by content name p count (opening.Damaged damage) disk (inl refused) = inl (refl, refused)
+refused_by content name p count (opening.Damaged damage) disk (inr found) = inr (found.0, found.1, tt)
+refused_by content name p count (opening.Layout found found_of) disk judged = judged
+refused_by content name p count opening.Spent disk judged = (judged.0, judged.1, tt)
+refused_by content name p count opening.Memory disk judged = tt
+
+spent_by : {F : Type 0} (content : F → Option (List ℕ)) (name : F → FileName) (p count : ℕ) (cause : OpenCause) (disk : Disk) → fault_of_opening p count cause ≡ Spent → CauseJudged content name (partition_at p count) disk cause → Passes (partition_at p count) disk AreSpent
+spent_by content name p count opening.Disk disk same judged = absurd (cc)
+spent_by content name p count (opening.Damaged damage) disk same judged = absurd (cc)
+spent_by content name p count (opening.Layout found found_of) disk same judged = absurd (cc)
+spent_by content name p count opening.Spent disk same judged = judged
+spent_by content name p count opening.Memory disk same judged = absurd (cc)
+
+pub layout_of : {F : Type 0} (W : Type 0) (size : F → ℕ) (content : F → Option (List ℕ)) (name : F → FileName) (p count : ℕ) (cause : OpenCause) → IsOpenCause W size content name (partition_at p count) cause → HasLayoutCause W size name (fault_of_opening p count cause)
+layout_of W size content name p count opening.Disk is = tt
+layout_of W size content name p count (opening.Damaged damage) is = tt
+layout_of W size content name p count (opening.Layout found found_of) is = is
+layout_of W size content name p count opening.Spent is = tt
+layout_of W size content name p count opening.Memory is = tt
+
+-- what the first watch of a kit counted is what all four did
+watched_stay : {S W D F : Type 0} (counts : W → Counts) (kit back : Kit S W D F) (failed : Type 0) → back ≡ record kit { store = back.store; main = back.main } → IsWatched failed (counts kit.main) (counts back.main) → NoneFell (faults_in counts kit) (faults_in counts back)
+watched_stay {S = S} {W = W} {D = D} {F = F} counts kit back failed same watched = record {
+  main = watched.faults;
+  flusher = let is : back.flusher ≡ kit.flusher = ap (λ (k : Kit S W D F). k.flusher) same in subst (λ w. (counts kit.flusher).faults ≤ (counts w).faults) (sym is) (omega arith);
+  merger = let is : back.merger ≡ kit.merger = ap (λ (k : Kit S W D F). k.merger) same in subst (λ w. (counts kit.merger).faults ≤ (counts w).faults) (sym is) (omega arith);
+  reader = let is : back.reader ≡ kit.reader = ap (λ (k : Kit S W D F). k.reader) same in subst (λ w. (counts kit.reader).faults ≤ (counts w).faults) (sym is) (omega arith);
+}
+
+disk_of : (p count : ℕ) (cause : OpenCause) (old new : KitFaults) → (cause ≡ opening.Disk → Rose old.main new.main) → IfDisk (fault_of_opening p count cause) (λ q. OneRose old new)
+disk_of p count opening.Disk old new rose = inl (rose refl)
+disk_of p count (opening.Damaged damage) old new rose = tt
+disk_of p count (opening.Layout found found_of) old new rose = tt
+disk_of p count opening.Spent old new rose = tt
+disk_of p count opening.Memory old new rose = tt
+
+-- what is said of lawful files
+abbrev pub OfLawful : Partition → List Disk → (List Content → List (List PlainWrite) → Type 0) → Type 0
+OfLawful here came P = IfTold came (λ disk. (cs : List Content) (logs : List (List PlainWrite)) → DiskOpens here disk cs logs → P cs logs)
+
+lawful_both : (here : Partition) (came : List Disk) (P Q : List Content → List (List PlainWrite) → Type 0) (R : List Content → List (List PlainWrite) → Type 0) → ((cs : List Content) (logs : List (List PlainWrite)) → P cs logs → Q cs logs → R cs logs) → OfLawful here came P → OfLawful here came Q → OfLawful here came R
+lawful_both here [] P Q R both p q = tt
+lawful_both here (disk ∷ past) P Q R both p q = λ cs logs opens. both cs logs (p cs logs opens) (q cs logs opens)
+
+pub given_back : {S W D F : Type 0} (disks : S → List Disk) (counts : W → Counts) (content : F → Option (List ℕ)) (name : F → FileName) (p count : ℕ) (cause : OpenCause) (kit back : Kit S W D F)
+    → OfLawful (partition_at p count) (disks kit.store) (λ cs logs. causes.IfLayout cause ⊥) → OfLawful (partition_at p count) (disks kit.store) (λ cs logs. causes.IfDamaged cause (λ damage. ⊥))
+    → OfLawful (partition_at p count) (disks kit.store) (λ cs logs. step.Keeps (partition_at p count) (recovered cs logs).pairs (disks kit.store) (disks back.store))
+    → IfTold (disks kit.store) (λ disk. CauseJudged content name (partition_at p count) disk cause) → back ≡ record kit { store = back.store; main = back.main } → IsWatched (cause ≡ opening.Disk) (counts kit.main) (counts back.main)
+    → IsGivenBack (partition_at p count) (disks kit.store) (faults_in counts kit) (fault_of_opening p count cause) (disks back.store) (faults_in counts back)
+given_back disks counts content name p count cause kit back here undamaged keeps judged same watched = record {
+  of = is_of_opening p count cause;
+  keeps = told_map (λ disk. (cs : List Content) (logs : List (List PlainWrite)) → DiskOpens (partition_at p count) disk cs logs → step.Keeps (partition_at p count) (recovered cs logs).pairs (disks kit.store) (disks back.store)) _ (disks kit.store)
+      (λ disk all cs logs opens. (all cs logs opens).kept) keeps;
+  sound = lawful_both (partition_at p count) (disks kit.store) (λ cs logs. causes.IfLayout cause ⊥) (λ cs logs. causes.IfDamaged cause (λ damage. ⊥)) (λ cs logs. IsNoDamage (fault_of_opening p count cause) × IsHere (fault_of_opening p count cause)) (λ cs logs. undamaged_here p count cause) here undamaged;
+  judged = told_map (λ disk. CauseJudged content name (partition_at p count) disk cause) (λ disk. IsJudged (partition_at p count) disk (Some (fault_of_opening p count cause))) (disks kit.store) (refused_by content name p count cause) judged;
+  spent = λ is. told_map (λ disk. CauseJudged content name (partition_at p count) disk cause) (λ disk. Passes (partition_at p count) disk AreSpent) (disks kit.store) (λ disk. spent_by content name p count cause disk is) judged;
+  none_fell = watched_stay counts kit back (cause ≡ opening.Disk) same watched;
+  disk = disk_of p count cause (faults_in counts kit) (faults_in counts back) watched.cause;
+}
+
+-- ---- there was no room for the engine of a partition that was opened, which is closed again
+
+pub pushed_back : {S D F W : Type 0} (tell : PartState S D F W → Told) (counts : W → Counts) (size : D → ℕ) (options : Options) (here : Partition) (came : List Disk) (counted : KitFaults) (e : EngineState S D F W) (disks : List Disk) (left : KitFaults)
+    → IsOpened tell counts options here came counted e → IsClosed tell counts size e disks left → IsGivenBack here came counted Memory disks left
+pushed_back tell counts size options here came counted e disks left i c = record {
+  of = tt;
+  keeps = opened_keeps tell counts size options here came counted e disks left i c;
+  sound = told_always (λ disk. (cs : List Content) (logs : List (List PlainWrite)) → DiskOpens here disk cs logs → IsNoDamage Memory × IsHere Memory) came (λ disk cs logs opens. (tt, tt));
+  judged = told_always (λ disk. IsJudged here disk (Some Memory)) came (λ disk. tt);
+  spent = λ never. absurd (cc);
+  none_fell = subst (NoneFell counted) (sym c.same) i.none_fell;
+  disk = tt;
+}
+
+-- ---- how a run ends that opens no partition
+
+pub ends_of_opening : (here : Partition) (fault : RunFault) → IsOfOpening here fault → EndsOver (Some fault) unopened
+ends_of_opening here Usage is = is
+ends_of_opening here Read is = absurd is
+ends_of_opening here (Write n) is = absurd is
+ends_of_opening here Spent is = inr (inr refl)
+ends_of_opening here (DiskFault p) is = inr refl
+ends_of_opening here (Damaged p damage) is = inr refl
+ends_of_opening here Memory is = inr refl
+ends_of_opening here (Layout p found found_of asked_of) is = refl
+
+pub ends_not_given : (rose : Type 0) (p : ℕ) (fault : RunFault) → IsNotGiven rose p fault → EndsOver (Some fault) unopened
+ends_not_given rose p fault n = elim n.is [ inl disk ↦ subst (λ f. EndsOver (Some f) unopened) (sym disk) (inr refl) | inr memory ↦ subst (λ f. EndsOver (Some f) unopened) (sym memory) (inr refl) ]
+
+pub sound_not_given : (rose : Type 0) (p : ℕ) (fault : RunFault) → IsNotGiven rose p fault → IsNoDamage fault × IsHere fault
+sound_not_given rose p fault n = elim n.is [ inl disk ↦ subst (λ f. IsNoDamage f × IsHere f) (sym disk) (tt, tt) | inr memory ↦ subst (λ f. IsNoDamage f × IsHere f) (sym memory) (tt, tt) ]
+
+-- so it is no fault of the words, of the source, or of the sink
+pub ends_unopened : {K : Type 0} (rose : Type 0) (here : Partition) (p : ℕ) (fault : RunFault) (Back : K → Type 0) (kit : Option K) → ((k : K) → Back k → IsOfOpening here fault) → IfSome kit Back → (kit ≡ None → IsNotGiven rose p fault)
+    → EndsOver (Some fault) unopened
+ends_unopened rose here p fault Back None of back not_given = ends_not_given rose p fault (not_given refl)
+ends_unopened rose here p fault Back (Some k) of back not_given = ends_of_opening here fault (of k back)
+
+pub no_usage : (fault : RunFault) → EndsOver (Some fault) unopened → Some fault ≡ Some Usage → ⊥
+no_usage fault ends same = subst (λ f. EndsOver f unopened) same ends
+
+pub no_read : {P : Type 0} (fault : RunFault) → EndsOver (Some fault) unopened → Some fault ≡ Some Read → P
+no_read fault ends same = let never : unopened ≡ input_failed = subst (λ f. EndsOver f unopened) same ends in absurd (cc)
+
+pub no_write : {P : Type 0} (fault : RunFault) → EndsOver (Some fault) unopened → IsWrite fault → P
+no_write Usage ends is = absurd is
+no_write Read ends is = absurd is
+no_write (Write n) ends is = let never : unopened ≡ output_failed n = ends in absurd (cc)
+no_write Spent ends is = absurd is
+no_write (DiskFault p) ends is = absurd is
+no_write (Damaged p damage) ends is = absurd is
+no_write Memory ends is = absurd is
+no_write (Layout p found found_of asked_of) ends is = absurd is
+
+-- ---- the engine of the part that was opened
+
+none_fell_opened : {S D F W : Type 0} (counts : W → Counts) (kit : Kit S W D F) (part : PartState S D F W) → IsWatched ⊥ (counts kit.main) (counts part.main) → part.flusher ≡ Some kit.flusher → part.merger ≡ Some kit.merger → part.reader ≡ Some kit.reader
+    → NoneFell (faults_in counts kit) (faults_of_part counts part)
+none_fell_opened counts kit part watched flusher merger reader = record {
+  main = watched.faults;
+  flusher = subst (λ o. (counts kit.flusher).faults ≤ unwrap_or (option_map (λ w. (counts w).faults) o) 0) (sym flusher) (omega arith);
+  merger = subst (λ o. (counts kit.merger).faults ≤ unwrap_or (option_map (λ w. (counts w).faults) o) 0) (sym merger) (omega arith);
+  reader = subst (λ o. (counts kit.reader).faults ≤ unwrap_or (option_map (λ w. (counts w).faults) o) 0) (sym reader) (omega arith);
+}
+
+pub engine_opened : {S D F W : Type 0} (tell : PartState S D F W → Told) (counts : W → Counts) (options : Options) (here : Partition) (came : List Disk) (kit : Kit S W D F) (part : PartState S D F W) (policy : Policy)
+    → MayBeAsked (tell part) part → (tell part).staged ≡ [] → part.limits ≡ limits_of options → part.memory ≡ options.memory → listed_least policy ≡ options.merge
+    → IfTold came (λ disk. (cs : List Content) (logs : List (List PlainWrite)) → DiskOpens here disk cs logs → IsOpenedAs here cs logs (tell part)) → IfTold came (ArePassed here)
+    → IsWatched ⊥ (counts kit.main) (counts part.main) → part.flusher ≡ Some kit.flusher → part.merger ≡ Some kit.merger → part.reader ≡ Some kit.reader
+    → IsOpened tell counts options here came (faults_in counts kit) (record { part = part; policy = policy })
+engine_opened tell counts options here came kit part policy ready unstaged limits memory merges opened passed watched flusher merger reader = record {
+  begun = record { ready = ready; unstaged = unstaged; limits = limits; memory = memory; merges = merges };
+  opened = opened;
+  passed = passed;
+  none_fell = none_fell_opened counts kit part watched flusher merger reader;
+}
+
+-- ---- the kit was not given
+
+pub shelf_not_given : (rose : Type 0) (p : ℕ) (fault : ShelfFault) → (fault ≡ shelf.Fault → rose) → IsNotGiven rose p (fault_of_shelf p fault)
+shelf_not_given rose p shelf.Fault cause = record { is = inl refl; cause = λ same. cause refl }
+shelf_not_given rose p shelf.Memory cause = record { is = inr refl; cause = λ never. absurd (cc) }
+
+pub shelf_memory : (p : ℕ) (fault : ShelfFault) → fault_of_shelf p fault ≡ Memory → fault ≡ shelf.Memory
+shelf_memory p shelf.Fault is = absurd (cc)
+shelf_memory p shelf.Memory is = refl
+
+pub shelf_layout : {F : Type 0} (W : Type 0) (size : F → ℕ) (name : F → FileName) (p : ℕ) (fault : ShelfFault) → HasLayoutCause W size name (fault_of_shelf p fault)
+shelf_layout W size name p shelf.Fault = tt
+shelf_layout W size name p shelf.Memory = tt
+
+-- a refusal that has its kit
+none_there : {K : Type 0} (o : Option K) → o ≡ None → IsSome o → ⊥
+none_there None none some = absurd (cc)
+none_there (Some k) none some = absurd (cc)
+
+pub never_none : {T E K : Type 0} (kit : E → Option K) (P : E → Type 0) (r : Result T E) → IfErr r (λ e. IsSome (kit e)) → IfErr r (λ e. kit e ≡ None → P e)
+never_none kit P (Ok x) some = tt
+never_none kit P (Err e) some = λ none. absurd (none_there (kit e) none some)

@@ -1,0 +1,116 @@
+-- A run over partitions that were all opened: what is said of its kits, by what is said of their engines.
+use Rattle.std.proofs.Common.{◌≡◌, ◌⊎◌, ◌∙◌, ◌<◌, ℕ, List, All, map, length, arith, refl, ap, sym, subst, inr}
+use Rattle.std.specs.Prelude.{Option, Some, None, IfSome, IsSomeAnd, option_map, slice_get}
+use Rattle.std.proofs.lemmas.Option.{slice_get-map}
+use Rattle.tc_engines.specs.Places.{AtEach}
+use Rattle.tc_engines.specs.Standing.{partition_at}
+use Rattle.tc_lsm_model.specs.Contents.{Partition}
+use Rattle.tc_open.specs.Judged.{AreSpent, Passes}
+use Rattle.tc_part_model.specs.PartState.{PartState, Told}
+use Rattle.tc_store.specs.Counted.{Counts}
+use Rattle.tc_store.specs.Disk.{Disk}
+use Rattle.tc_store.specs.KitFaults.{KitFaults}
+use Rattle.tc_store.specs.Moments.{IfTold}
+use Rattle.tc_store.specs.declared.file_name.FileName.{FileName}
+use Rattle.tc_store.proofs.MomentLemmas.{told_map}
+use Rattle.tc_work.specs.EngineState.{EngineState}
+use Rattle.tc_words.specs.declared.run.Options.{Options}
+use Rattle.tc_server.specs.Faults.{faults_of_part, IfDamaged, IfDisk, IsOfRun, NoneFell, OneRose}
+use Rattle.tc_server.specs.KitCauses.{AreAsked, AreGenerationsSpent, AreJudged, ArePassed, HasDiskCauseOver, HasLastGeneration, HasLayoutCause, IsJudged, NoneFellOf}
+use Rattle.tc_server.specs.Kits.{AreOpened, IsBegun, IsOpened}
+use Rattle.tc_server.specs.Places.{SomeFrom}
+use Rattle.tc_server.specs.declared.outcome.RunFault.{RunFault}
+use Rattle.tc_server.specs.declared.outcome.RunFault.TheVariants.{Usage, Read, Write, Spent, Disk as DiskFault, Damaged, Memory, Layout}
+use Rattle.tc_server.proofs.Causes.{none_fell_twice, one_rose}
+use Rattle.tc_server.proofs.EachLaws.{at_each-at, each-all, each-at, each-beside, each-map, each-so, some-map, some-so, there}
+
+pub asked_all : (count : ℕ) (fault : Option RunFault) → 0 < count → IfSome fault IsOfRun → IfSome fault (λ f. IfDisk f (λ q. q < count)) → IfSome fault (λ f. IfDamaged f (λ q. q < count)) → AreAsked count fault count
+asked_all count None some kind disk damaged = refl
+asked_all count (Some Usage) some kind disk damaged = absurd kind
+asked_all count (Some Read) some kind disk damaged = refl
+asked_all count (Some (Write n)) some kind disk damaged = refl
+asked_all count (Some Spent) some kind disk damaged = some
+asked_all count (Some (DiskFault p)) some kind disk damaged = (omega (arith, disk), disk)
+asked_all count (Some (Damaged p damage)) some kind disk damaged = damaged
+asked_all count (Some Memory) some kind disk damaged = tt
+asked_all count (Some (Layout p found found_of asked_of)) some kind disk damaged = absurd kind
+
+judged_run : (here : Partition) (disk : Disk) (fault : Option RunFault) → IfSome fault IsOfRun → ArePassed here disk → IsJudged here disk fault
+judged_run here disk None kind passed = passed
+judged_run here disk (Some Usage) kind passed = tt
+judged_run here disk (Some Read) kind passed = passed
+judged_run here disk (Some (Write n)) kind passed = passed
+judged_run here disk (Some Spent) kind passed = passed
+judged_run here disk (Some (DiskFault p)) kind passed = tt
+judged_run here disk (Some (Damaged p damage)) kind passed = inr passed
+judged_run here disk (Some Memory) kind passed = tt
+judged_run here disk (Some (Layout p found found_of asked_of)) kind passed = absurd kind
+
+pub layout_run : {F : Type 0} (W : Type 0) (size : F → ℕ) (name : F → FileName) (fault : Option RunFault) → IfSome fault IsOfRun → IfSome fault (HasLayoutCause W size name)
+layout_run W size name None kind = tt
+layout_run W size name (Some Usage) kind = tt
+layout_run W size name (Some Read) kind = tt
+layout_run W size name (Some (Write n)) kind = tt
+layout_run W size name (Some Spent) kind = tt
+layout_run W size name (Some (DiskFault p)) kind = tt
+layout_run W size name (Some (Damaged p damage)) kind = tt
+layout_run W size name (Some Memory) kind = tt
+layout_run W size name (Some (Layout p found found_of asked_of)) kind = absurd kind
+
+pub usage_run : (fault : Option RunFault) → IfSome fault IsOfRun → fault ≡ Some Usage → ⊥
+usage_run fault kind is = subst (λ f. IfSome f IsOfRun) is kind
+
+pub disk_within : (P Q : ℕ → Type 0) (fault : Option RunFault) → ((q : ℕ) → P q → Q q) → IfSome fault (λ f. IfDisk f P) → IfSome fault (λ f. IfDisk f Q)
+disk_within P Q None so is = tt
+disk_within P Q (Some Usage) so is = tt
+disk_within P Q (Some Read) so is = tt
+disk_within P Q (Some (Write n)) so is = tt
+disk_within P Q (Some Spent) so is = tt
+disk_within P Q (Some (DiskFault p)) so is = so p is
+disk_within P Q (Some (Damaged p damage)) so is = tt
+disk_within P Q (Some Memory) so is = tt
+disk_within P Q (Some (Layout p found found_of asked_of)) so is = tt
+
+module _ {S D F W K : Type 0} (tell : PartState S D F W → Told) (counts : W → Counts) (disks : K → List Disk) (faults : K → KitFaults) (options : Options) (files : ℕ → List Disk) (came : ℕ → KitFaults) (es : List (EngineState S D F W)) (opened : AreOpened tell counts options files came es) where
+  pub all_begun : All (IsBegun tell options) es
+  all_begun = each-all (IsBegun tell options) 0 es (each-so (λ p e. IsOpened tell counts options (partition_at p options.partitions) (files p) (came p) e) (λ p e. IsBegun tell options e) 0 es (λ p e i. i.begun) opened)
+
+  pub none_fell_all : (ks : List K) → AtEach (λ p e k. NoneFell (faults_of_part counts e.part) (faults k)) 0 es ks → NoneFellOf came (map faults ks)
+  none_fell_all ks fell =
+      each-map faults (λ p left. NoneFell (came p) left) 0 ks
+      (each-beside (λ p e. IsOpened tell counts options (partition_at p options.partitions) (files p) (came p) e) (λ p e k. NoneFell (faults_of_part counts e.part) (faults k)) (λ p k. NoneFell (came p) (faults k)) 0 es ks
+      (λ p e k i f. none_fell_twice (came p) (faults_of_part counts e.part) (faults k) i.none_fell f) opened fell)
+
+  -- the watches of the kit of a partition counted a fault
+  rose_all : (before now q : ℕ) (ks : List K) → q < length es → AtEach (λ p e k. p ≡ q → OneRose (faults_of_part counts e.part) (faults k)) 0 es ks → HasDiskCauseOver before now came (map faults ks) q
+  rose_all before now q ks below rose =
+      let e = there es q below in
+      let i = each-at (λ p e. IsOpened tell counts options (partition_at p options.partitions) (files p) (came p) e) q es e.0 opened e.1 in
+      let k = at_each-at (λ p e k. p ≡ q → OneRose (faults_of_part counts e.part) (faults k)) q es ks e.0 rose e.1 in
+      let at : slice_get (map faults ks) q ≡ Some (faults k.0) = slice_get-map faults ks q ∙ ap (option_map faults) k.1 in
+      inr (subst (λ o. IsSomeAnd o (OneRose (came q))) (sym at) (one_rose (came q) (faults_of_part counts e.0.part) (faults k.0) i.none_fell (k.2 refl)))
+
+  pub disk_all : (before now : ℕ) (ks : List K) (fault : Option RunFault) → IfSome fault (λ f. IfDisk f (λ q. (q < length es) × AtEach (λ p e k. p ≡ q → OneRose (faults_of_part counts e.part) (faults k)) 0 es ks)) → IfSome fault (λ f. IfDisk f (HasDiskCauseOver before now came (map faults ks)))
+  disk_all before now ks None is = tt
+  disk_all before now ks (Some Usage) is = tt
+  disk_all before now ks (Some Read) is = tt
+  disk_all before now ks (Some (Write n)) is = tt
+  disk_all before now ks (Some Spent) is = tt
+  disk_all before now ks (Some (DiskFault p)) is = rose_all before now p ks is.0 is.1
+  disk_all before now ks (Some (Damaged p damage)) is = tt
+  disk_all before now ks (Some Memory) is = tt
+  disk_all before now ks (Some (Layout p found found_of asked_of)) is = tt
+
+  passed_at : (p : ℕ) → p < length es → IfTold (files p) (ArePassed (partition_at p options.partitions))
+  passed_at p below = let e = there es p below in (each-at (λ p e. IsOpened tell counts options (partition_at p options.partitions) (files p) (came p) e) p es e.0 opened e.1).passed
+
+  pub judged_all : (kits : ℕ) (fault : Option RunFault) → length es ≡ kits → IfSome fault IsOfRun → AreJudged options.partitions kits files fault
+  judged_all kits fault all kind = record {
+    opened = λ p lower. passed_at p (omega (arith, lower, all));
+    last = λ p is. told_map (ArePassed (partition_at p options.partitions)) (λ disk. IsJudged (partition_at p options.partitions) disk fault) (files p) (λ disk. judged_run (partition_at p options.partitions) disk fault kind) (passed_at p (omega (arith, is, all)));
+  }
+
+  pub spent_all : (ks : List K) → SomeFrom (λ p k. IfTold (disks k) HasLastGeneration) 0 ks → AreGenerationsSpent options.partitions files (map disks ks)
+  spent_all ks some =
+      some-map disks (λ p left. IfTold (files p) (λ disk. Passes (partition_at p options.partitions) disk AreSpent) ⊎ IfTold left HasLastGeneration) 0 ks
+      (some-so (λ p k. IfTold (disks k) HasLastGeneration) (λ p k. IfTold (files p) (λ disk. Passes (partition_at p options.partitions) disk AreSpent) ⊎ IfTold (disks k) HasLastGeneration) 0 ks (λ p k last. inr last) some)

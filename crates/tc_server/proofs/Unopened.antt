@@ -1,0 +1,225 @@
+-- The kits that are given back where not all partitions were opened: those of the engines that were, and behind them the one that
+-- came last, where it was given.
+use Rattle.std.proofs.Common.{◌≡◌, ◌⊎◌, ◌∙◌, ◌≤◌, ◌<◌, ◌+◌, ℕ, suc, List, [], ◌∷◌, ◌++◌, map, length, append-nil, length-append, arith, refl, ap, sym, subst, inl, inr}
+use Rattle.std.proofs.lemmas.List.{length-map, map-append, nil_from_length}
+use Rattle.std.specs.Prelude.{Option, Some, None, IfSome, IsSomeAnd, option_to_list, slice_get}
+use Rattle.tc_bytes.specs.Counts.{Rose}
+use Rattle.tc_engines.specs.Places.{AtEach}
+use Rattle.tc_engines.specs.Standing.{partition_at}
+use Rattle.tc_engines.proofs.PlaceLaws.{at_each-length}
+use Rattle.tc_open.specs.Judged.{AreSpent, Passes}
+use Rattle.tc_part_model.specs.PartState.{PartState, Told}
+use Rattle.tc_run_model.specs.Course.{unopened}
+use Rattle.tc_run_model.specs.World.{World}
+use Rattle.tc_store.specs.Counted.{Counts}
+use Rattle.tc_store.specs.Disk.{Disk}
+use Rattle.tc_store.specs.KitFaults.{KitFaults}
+use Rattle.tc_store.specs.Moments.{IfTold}
+use Rattle.tc_work.specs.EngineState.{EngineState}
+use Rattle.tc_words.specs.declared.run.Options.{Options}
+use Rattle.tc_server.specs.Ending.{limits_of}
+use Rattle.tc_server.specs.Faults.{IfDisk, IsNoDamage, NoneFell, OneRose}
+use Rattle.tc_server.specs.KitCauses.{AreAsked, AreGenerationsSpent, AreJudged, ArePassed, HasDiskCauseOver, HasLastGeneration, IsJudged, NoneFellOf}
+use Rattle.tc_server.specs.Kits.{AreOpened, IsClosed, IsGivenBack, IsNotGiven, IsOfOpening, IsOpened}
+use Rattle.tc_server.specs.OverFiles.{BeginsAs, EndsOver, IsHere, KeepsOpened}
+use Rattle.tc_server.specs.Places.{EachFrom, SomeFrom}
+use Rattle.tc_server.specs.declared.outcome.RunFault.{RunFault}
+use Rattle.tc_server.specs.declared.outcome.RunFault.TheVariants.{Usage, Read, Write, Spent, Disk as DiskFault, Damaged, Memory, Layout}
+use Rattle.tc_server.proofs.EachLaws.{behind_front, each-append, each-at, each-beside, each-map, some-append, there}
+use Rattle.tc_server.proofs.KitOpenings.{ends_not_given, ends_of_opening, sound_not_given}
+use Rattle.tc_server.proofs.NotOpened.{lawful_first, opened_keeps}
+
+-- what is asked for by the kit that came back, of the partition of this number
+asked_back : (count p : ℕ) (fault : RunFault) → p < count → IsOfOpening (partition_at p count) fault → AreAsked count (Some fault) (suc p)
+asked_back count p Usage below is = absurd is
+asked_back count p Read below is = absurd is
+asked_back count p (Write n) below is = absurd is
+asked_back count p Spent below is = omega arith
+asked_back count p (DiskFault q) below is = (omega (arith, is), omega (arith, is, below))
+asked_back count p (Damaged q damage) below is = omega (arith, is)
+asked_back count p Memory below is = tt
+asked_back count p (Layout q found found_of asked_of) below is = (ap suc is.0, is.1)
+
+asked_not_given : (rose : Type 0) (count p : ℕ) (fault : RunFault) → p < count → IsNotGiven rose p fault → AreAsked count (Some fault) p
+asked_not_given rose count p fault below n = elim n.is [
+  | inl disk ↦ subst (λ f. AreAsked count (Some f) p) (sym disk) (omega arith, below)
+  | inr memory ↦ subst (λ f. AreAsked count (Some f) p) (sym memory) tt
+]
+
+-- a fault of the disk of the partition of a number
+disk_back : (before now count p : ℕ) (came : ℕ → KitFaults) (left : List KitFaults) (counted : KitFaults) (fault : RunFault) → slice_get left p ≡ Some counted → IsOfOpening (partition_at p count) fault → IfDisk fault (λ q. OneRose (came p) counted)
+    → IfDisk fault (HasDiskCauseOver before now came left)
+disk_back before now count p came left counted Usage at is rose = tt
+disk_back before now count p came left counted Read at is rose = tt
+disk_back before now count p came left counted (Write n) at is rose = tt
+disk_back before now count p came left counted Spent at is rose = tt
+disk_back before now count p came left counted (DiskFault q) at is rose = inr (subst (λ q. IsSomeAnd (slice_get left q) (OneRose (came q))) (sym is) (subst (λ o. IsSomeAnd o (OneRose (came p))) (sym at) rose))
+disk_back before now count p came left counted (Damaged q damage) at is rose = tt
+disk_back before now count p came left counted Memory at is rose = tt
+disk_back before now count p came left counted (Layout q found found_of asked_of) at is rose = tt
+
+disk_not_given : (before now p : ℕ) (came : ℕ → KitFaults) (left : List KitFaults) (fault : RunFault) → length left ≡ p → IsNotGiven (Rose before now) p fault → IfDisk fault (HasDiskCauseOver before now came left)
+disk_not_given before now p came left fault many n = elim n.is [
+  | inl disk ↦ subst (λ f. IfDisk f (HasDiskCauseOver before now came left)) (sym disk) (inl (sym many, n.cause disk))
+  | inr memory ↦ subst (λ f. IfDisk f (HasDiskCauseOver before now came left)) (sym memory) tt
+]
+
+-- What is said of the kits that are given back where not all partitions were opened.
+pub record AreGivenBack (options : Options) (before now : ℕ) (files : ℕ → List Disk) (came : ℕ → KitFaults) (fault : RunFault) (kits : List (List Disk)) (counted : List KitFaults) : Type 0 where
+  pub few : length kits ≤ options.partitions
+  pub asked : AreAsked options.partitions (Some fault) (length kits)
+  pub by : EndsOver (Some fault) unopened
+  pub sound : (first : Option World) → BeginsAs (limits_of options) options.partitions files first → IfSome first (λ w. IsNoDamage fault × IsHere fault)
+  pub keep : EachFrom (λ p. KeepsOpened (partition_at p options.partitions) (files p)) 0 kits
+  pub none_fell : NoneFellOf came counted
+  pub disk : IfDisk fault (HasDiskCauseOver before now came counted)
+  pub judged : AreJudged options.partitions (length kits) files (Some fault)
+  pub spent : fault ≡ Spent → AreGenerationsSpent options.partitions files kits
+
+module _ {S D F W K : Type 0} (tell : PartState S D F W → Told) (counts : W → Counts) (size : D → ℕ) (disks : K → List Disk) (faults : K → KitFaults) (options : Options) (files : ℕ → List Disk) (came : ℕ → KitFaults) where
+  keep_closed : (es : List (EngineState S D F W)) (ks : List K) → AreOpened tell counts options files came es → AtEach (λ p e k. IsClosed tell counts size e (disks k) (faults k)) 0 es ks
+      → EachFrom (λ p. KeepsOpened (partition_at p options.partitions) (files p)) 0 (map disks ks)
+  keep_closed es ks opened closed =
+      each-map disks (λ p. KeepsOpened (partition_at p options.partitions) (files p)) 0 ks
+      (each-beside (λ p e. IsOpened tell counts options (partition_at p options.partitions) (files p) (came p) e) (λ p e k. IsClosed tell counts size e (disks k) (faults k)) (λ p k. KeepsOpened (partition_at p options.partitions) (files p) (disks k)) 0 es ks
+      (λ p e k i c. opened_keeps tell counts size options (partition_at p options.partitions) (files p) (came p) e (disks k) (faults k) i c) opened closed)
+
+  none_closed : (es : List (EngineState S D F W)) (ks : List K) → AreOpened tell counts options files came es → AtEach (λ p e k. IsClosed tell counts size e (disks k) (faults k)) 0 es ks → NoneFellOf came (map faults ks)
+  none_closed es ks opened closed =
+      each-map faults (λ p left. NoneFell (came p) left) 0 ks
+      (each-beside (λ p e. IsOpened tell counts options (partition_at p options.partitions) (files p) (came p) e) (λ p e k. IsClosed tell counts size e (disks k) (faults k)) (λ p k. NoneFell (came p) (faults k)) 0 es ks
+      (λ p e k i c. subst (NoneFell (came p)) (sym c.same) i.none_fell) opened closed)
+
+  -- the files of the partitions that were opened were not refused
+  pub passed_at : (es : List (EngineState S D F W)) (p : ℕ) → AreOpened tell counts options files came es → p < length es → IfTold (files p) (ArePassed (partition_at p options.partitions))
+  passed_at es p opened below =
+      let e = there es p below in
+      (each-at (λ p e. IsOpened tell counts options (partition_at p options.partitions) (files p) (came p) e) p es e.0 opened e.1).passed
+
+  -- the last kit was not given
+  pub not_given_back : (before now : ℕ) (es : List (EngineState S D F W)) (ks : List K) (fault : RunFault) → length es < options.partitions → AreOpened tell counts options files came es → AtEach (λ p e k. IsClosed tell counts size e (disks k) (faults k)) 0 es ks
+      → IsNotGiven (Rose before now) (length es) fault → AreGivenBack options before now files came fault (map disks ks) (map faults ks)
+  not_given_back before now es ks fault below opened closed n = record {
+    few = omega (arith, many, below);
+    asked = subst (AreAsked options.partitions (Some fault)) (sym many) (asked_not_given (Rose before now) options.partitions (length es) fault below n);
+    by = ends_not_given (Rose before now) (length es) fault n;
+    sound = always;
+    keep = keep_closed es ks opened closed;
+    none_fell = none_closed es ks opened closed;
+    disk = disk_not_given before now (length es) came (map faults ks) fault (length-map ks faults ∙ sym same) n;
+    judged = record {
+      opened = λ p lower. passed_at es p opened (omega (arith, lower, many));
+      last = λ p is. judged_last (files p) (partition_at p options.partitions) (passed_at es p opened (omega (arith, is, many)));
+    };
+    spent = λ is. absurd (elim n.is [ inl disk ↦ let never : Spent ≡ DiskFault (length es) = sym is ∙ disk in absurd (cc) | inr memory ↦ let never : Spent ≡ Memory = sym is ∙ memory in absurd (cc) ]);
+  }
+    where
+      same : length es ≡ length ks
+      same = at_each-length (λ p e k. IsClosed tell counts size e (disks k) (faults k)) 0 es ks closed
+
+      many : length (map disks ks) ≡ length es
+      many = length-map ks disks ∙ sym same
+
+      always : (first : Option World) → BeginsAs (limits_of options) options.partitions files first → IfSome first (λ w. IsNoDamage fault × IsHere fault)
+      always None begins = tt
+      always (Some w) begins = sound_not_given (Rose before now) (length es) fault n
+
+      judged_last : (given : List Disk) (here : _) → IfTold given (ArePassed here) → IfTold given (λ disk. IsJudged here disk (Some fault))
+      judged_last [] here passed = tt
+      judged_last (disk ∷ past) here passed = elim n.is [ inl is ↦ subst (λ f. IsJudged here disk (Some f)) (sym is) tt | inr is ↦ subst (λ f. IsJudged here disk (Some f)) (sym is) tt ]
+
+  -- it came back
+  pub kit_back : (before now : ℕ) (es : List (EngineState S D F W)) (ks : List K) (k : K) (fault : RunFault) → length es < options.partitions → AreOpened tell counts options files came es → AtEach (λ p e k. IsClosed tell counts size e (disks k) (faults k)) 0 es ks
+      → IsGivenBack (partition_at (length es) options.partitions) (files (length es)) (came (length es)) fault (disks k) (faults k) → AreGivenBack options before now files came fault (map disks (ks ++ k ∷ [])) (map faults (ks ++ k ∷ []))
+  kit_back before now es ks k fault below opened closed b = record {
+    few = omega (arith, many, below);
+    asked = subst (AreAsked options.partitions (Some fault)) (sym many) (asked_back options.partitions (length es) fault below b.of);
+    by = ends_of_opening (partition_at (length es) options.partitions) fault b.of;
+    sound = λ first begins. lawful_first (limits_of options) options.partitions (length es) files first (IsNoDamage fault × IsHere fault) below begins b.sound;
+    keep = subst (EachFrom Keeps 0) (sym (map-append disks ks (k ∷ []))) (each-append Keeps 0 (map disks ks) (disks k ∷ []) (keep_closed es ks opened closed) (subst (λ n. EachFrom Keeps n (disks k ∷ [])) at_disks (b.keeps, tt)));
+    none_fell = subst (EachFrom Fell 0) (sym (map-append faults ks (k ∷ []))) (each-append Fell 0 (map faults ks) (faults k ∷ []) (none_closed es ks opened closed) (subst (λ n. EachFrom Fell n (faults k ∷ [])) at_faults (b.none_fell, tt)));
+    disk = disk_back before now options.partitions (length es) came (map faults (ks ++ k ∷ [])) (faults k) fault last_counted b.of b.disk;
+    judged = record {
+      opened = λ p lower. passed_at es p opened (omega (arith, lower, many));
+      last = λ p is. let same_place : length es ≡ p = omega (arith, is, many) in subst (λ p. IfTold (files p) (λ disk. IsJudged (partition_at p options.partitions) disk (Some fault))) same_place b.judged;
+    };
+    spent = λ is. subst (SomeFrom Spends 0) (sym (map-append disks ks (k ∷ []))) (some-append Spends 0 (map disks ks) (disks k ∷ []) (subst (λ n. SomeFrom Spends n (disks k ∷ [])) at_disks (inl (inl (b.spent is)))));
+  }
+    where
+      Keeps : ℕ → List Disk → Type 0
+      Keeps p = KeepsOpened (partition_at p options.partitions) (files p)
+
+      Fell : ℕ → KitFaults → Type 0
+      Fell p left = NoneFell (came p) left
+
+      Spends : ℕ → List Disk → Type 0
+      Spends p left = IfTold (files p) (λ disk. Passes (partition_at p options.partitions) disk AreSpent) ⊎ IfTold left HasLastGeneration
+
+      same : length es ≡ length ks
+      same = at_each-length (λ p e k. IsClosed tell counts size e (disks k) (faults k)) 0 es ks closed
+
+      many : length (map disks (ks ++ k ∷ [])) ≡ suc (length es)
+      many = length-map (ks ++ k ∷ []) disks ∙ omega (arith, length-append ks (k ∷ []), same)
+
+      at_disks : length es ≡ 0 + length (map disks ks)
+      at_disks = omega (arith, length-map ks disks, same)
+
+      at_faults : length es ≡ 0 + length (map faults ks)
+      at_faults = omega (arith, length-map ks faults, same)
+
+      at_last : length es ≡ length (map faults ks)
+      at_last = omega (arith, length-map ks faults, same)
+
+      last_counted : slice_get (map faults (ks ++ k ∷ [])) (length es) ≡ Some (faults k)
+      last_counted = subst (λ xs. slice_get xs (length es) ≡ Some (faults k)) (sym (map-append faults ks (k ∷ []))) (behind_front (map faults ks) (faults k) [] (length es) at_last)
+
+  -- either of them
+  pub given_back_all : (before now : ℕ) (es : List (EngineState S D F W)) (ks : List K) (last : Option K) (fault : RunFault) → length es < options.partitions → AreOpened tell counts options files came es → AtEach (λ p e k. IsClosed tell counts size e (disks k) (faults k)) 0 es ks
+      → IfSome last (λ k. IsGivenBack (partition_at (length es) options.partitions) (files (length es)) (came (length es)) fault (disks k) (faults k)) → (last ≡ None → IsNotGiven (Rose before now) (length es) fault)
+      → AreGivenBack options before now files came fault (map disks (ks ++ option_to_list last)) (map faults (ks ++ option_to_list last))
+  given_back_all before now es ks None fault below opened closed back not_given =
+      subst (λ xs. AreGivenBack options before now files came fault (map disks xs) (map faults xs)) (sym (append-nil ks)) (not_given_back before now es ks fault below opened closed (not_given refl))
+  given_back_all before now es ks (Some k) fault below opened closed back not_given = kit_back before now es ks k fault below opened closed back
+
+-- ---- how many kits there are, and what became of the shelf
+
+pub last_many : {E X : Type 0} (R : ℕ → E → X → Type 0) (es : List E) (ks : List X) (last : Option X) (all : List X) → all ≡ ks ++ option_to_list last → AtEach R 0 es ks → length all ≡ length es + length (option_to_list last)
+last_many R es ks last all same closed = ap length same ∙ omega (arith, length-append ks (option_to_list last), at_each-length R 0 es ks closed)
+
+-- the number behind the kits was not asked for, or its kit was not given, since the faults of the shelf rose
+pub next_back : {K : Type 0} (P : ℕ → Type 0) (rose : Type 0) (count p n : ℕ) (fault : RunFault) (last : Option K) → n ≡ p + length (option_to_list last) → p < count → ((other : ℕ) → p < other → P other)
+    → (last ≡ None → fault ≡ Memory → P p) → (last ≡ None → IsNotGiven rose p fault) → P n ⊎ ((n < count) × rose)
+next_back P rose count p n fault None many below others unasked not_given =
+    let same : n ≡ p = omega (arith, many) in
+    elim (not_given refl).is [
+      | inl disk ↦ inr (omega (arith, same, below), (not_given refl).cause disk)
+      | inr memory ↦ inl (subst P (sym same) (unasked refl memory))
+    ]
+next_back P rose count p n fault (Some k) many below others unasked not_given = inl (others n (omega (arith, many)))
+
+pub others_back : {K : Type 0} (P : ℕ → Type 0) (p n : ℕ) (last : Option K) → n ≡ p + length (option_to_list last) → ((other : ℕ) → p < other → P other) → (other : ℕ) → n < other → P other
+others_back P p n last many others other behind = others other (omega (arith, many, behind))
+
+-- no kit came
+none_came : {K : Type 0} (last : Option K) → length (option_to_list last) ≡ 0 → last ≡ None
+none_came None none = refl
+none_came (Some k) none = absurd (cc)
+
+pub unasked_back : {E K : Type 0} (same rose : Type 0) (es : List E) (kits : List K) (p : ℕ) (fault : RunFault) (last : Option K) → p ≡ length es → length kits ≡ length es + length (option_to_list last) → (last ≡ None → IsNotGiven rose p fault) → (last ≡ None → fault ≡ Memory → es ≡ [] → same)
+    → kits ≡ [] → same ⊎ rose
+unasked_back same rose es kits p fault last place many not_given unasked none =
+    let nothing : length kits ≡ 0 = ap length none in
+    let nobody = none_came last (omega (arith, nothing, many)) in
+    let empty : es ≡ [] = nil_from_length es (omega (arith, nothing, many)) in
+    elim (not_given nobody).is [
+      | inl disk ↦ inr ((not_given nobody).cause disk)
+      | inr memory ↦ inl (unasked nobody memory empty)
+    ]
+
+-- ---- where no kit was asked for
+
+pub judged_nothing : (count : ℕ) (files : ℕ → List Disk) (fault : Option RunFault) → AreJudged count 0 files fault
+judged_nothing count files fault = record {
+  opened = λ p lower. absurd (omega (arith, lower));
+  last = λ p is. absurd (cc);
+}

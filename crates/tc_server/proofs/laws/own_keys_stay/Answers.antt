@@ -1,0 +1,5 @@
+use Rattle.tc_server.proofs.OwnWorlds.{own_after}
+use Rattle.tc_server.proofs.laws.own_keys_stay.Goals as goal
+
+pub returns : goal.returns
+returns c = own_after

@@ -1,0 +1,34 @@
+use Rattle.std.proofs.Common.{◌∙◌, ap, sym, subst}
+use Rattle.tc_engines.specs.Standing.{partition_at}
+use Rattle.tc_part_model.specs.PartState.{told}
+use Rattle.tc_server.specs.Faults.{faults_in}
+use Rattle.tc_server.specs.Kits.{IsOpened}
+use Rattle.tc_server.proofs.KitOpenings.{engine_opened, given_back, layout_of, pushed_back}
+use Rattle.tc_server.proofs.opening.open_kit.Goals as goal
+
+pub returns-in-Err-clause-back : goal.returns-in-Err-clause-back
+returns-in-Err-clause-back g c =
+    rw c.of_opening.ensures (given_back g.S.Store.history g.S.Watch.Watch.counts g.S.Frozen.Frozen.content g.S.Frozen.Frozen.name c.args.number c.args.options.now.partitions c.in-Err.field-0.cause c.args.kit c.in-Err.field-0.kit
+    c.in-Err.ensures.lawful c.in-Err.ensures.undamaged c.in-Err.ensures.kept c.in-Err.ensures.refused c.in-Err.ensures.given_back c.in-Err.ensures.failed)
+
+pub returns-in-Err-clause-layout : goal.returns-in-Err-clause-layout
+returns-in-Err-clause-layout g c =
+    rw c.of_opening.ensures (layout_of g.row.S-Watch.Denot g.S.Frozen.Frozen.size g.S.Frozen.Frozen.content g.S.Frozen.Frozen.name c.args.number c.args.options.now.partitions c.in-Err.field-0.cause c.in-Err.ensures.causes)
+
+pub returns-in-Ok-push-clause-opened : goal.returns-in-Ok-push-clause-opened
+returns-in-Ok-push-clause-opened g c = (
+  c.new.result,
+  c.in-Ok-push.ensures.pushed,
+  subst (IsOpened (λ part. told g.S.Store.history g.S.Device.Device.history g.S.Frozen.Frozen.content part) g.S.Watch.Watch.counts c.args.options.now (partition_at c.args.number c.args.options.now.partitions) (g.S.Store.history c.args.kit.store) (faults_in g.S.Watch.Watch.counts c.args.kit)) (sym c.new.ensures) (engine_opened (λ part. told g.S.Store.history g.S.Device.Device.history g.S.Frozen.Frozen.content part) g.S.Watch.Watch.counts c.args.options.now (partition_at c.args.number c.args.options.now.partitions) (g.S.Store.history c.args.kit.store) c.args.kit c.in-Ok.part c.policy_of.result
+      (record { sound = ap (λ p. p.failed) c.in-Ok.ensures.begun; ready = record { own = c.in-Ok.ensures.has_own; components = c.in-Ok.ensures.components }; log = c.in-Ok.ensures.log_out })
+      (ap (λ p. p.staged) c.in-Ok.ensures.begun) (ap (λ p. p.limits) c.in-Ok.ensures.begun) (ap (λ p. p.memory) c.in-Ok.ensures.begun) c.policy_of.ensures c.in-Ok.ensures.opened c.in-Ok.ensures.judged c.in-Ok.ensures.watched
+      (ap (λ p. p.flusher) c.in-Ok.ensures.begun) (ap (λ p. p.merger) c.in-Ok.ensures.begun) (ap (λ p. p.reader) c.in-Ok.ensures.begun)),
+)
+
+pub returns-in-Err-push-clause-back : goal.returns-in-Err-push-clause-back
+returns-in-Err-push-clause-back g c =
+    pushed_back (λ part. told g.S.Store.history g.S.Device.Device.history g.S.Frozen.Frozen.content part) g.S.Watch.Watch.counts g.S.Device.Device.size c.args.options.now (partition_at c.args.number c.args.options.now.partitions) (g.S.Store.history c.args.kit.store) (faults_in g.S.Watch.Watch.counts c.args.kit) c.in-Err-push.engine (g.S.Store.history c.close.result.store) (faults_in g.S.Watch.Watch.counts c.close.result)
+    (subst (IsOpened (λ part. told g.S.Store.history g.S.Device.Device.history g.S.Frozen.Frozen.content part) g.S.Watch.Watch.counts c.args.options.now (partition_at c.args.number c.args.options.now.partitions) (g.S.Store.history c.args.kit.store) (faults_in g.S.Watch.Watch.counts c.args.kit)) (sym (c.in-Err-push.ensures.back ∙ c.new.ensures)) (engine_opened (λ part. told g.S.Store.history g.S.Device.Device.history g.S.Frozen.Frozen.content part) g.S.Watch.Watch.counts c.args.options.now (partition_at c.args.number c.args.options.now.partitions) (g.S.Store.history c.args.kit.store) c.args.kit c.in-Ok.part c.policy_of.result
+    (record { sound = ap (λ p. p.failed) c.in-Ok.ensures.begun; ready = record { own = c.in-Ok.ensures.has_own; components = c.in-Ok.ensures.components }; log = c.in-Ok.ensures.log_out })
+    (ap (λ p. p.staged) c.in-Ok.ensures.begun) (ap (λ p. p.limits) c.in-Ok.ensures.begun) (ap (λ p. p.memory) c.in-Ok.ensures.begun) c.policy_of.ensures c.in-Ok.ensures.opened c.in-Ok.ensures.judged c.in-Ok.ensures.watched
+    (ap (λ p. p.flusher) c.in-Ok.ensures.begun) (ap (λ p. p.merger) c.in-Ok.ensures.begun) (ap (λ p. p.reader) c.in-Ok.ensures.begun))) c.close.ensures

@@ -1,0 +1,98 @@
+-- When a fault of a run over a shelf may be answered, by the kits that it gave: how many there are, how their files were judged,
+-- and what their watches counted.
+use Rattle.std.specs.Prelude.{◌≡◌, ◌≤◌, ◌<◌, ◌⊎◌, ◌-◌, ◌^◌, ℕ, suc, List, length, Option, Some, None, Err, slice_get, IsSomeAnd}
+use Rattle.std.specs.Io.KnownBytes.{Consumes}
+use Rattle.tc_bytes.specs.Counts.{Rose}
+use Rattle.tc_engines.specs.Standing.{partition_at}
+use Rattle.tc_store.specs.Disk.{Disk, IsThere}
+use Rattle.tc_store.specs.KitFaults.{KitFaults}
+use Rattle.tc_store.specs.Moments.{IfTold}
+use Rattle.tc_store.specs.declared.file_name.FileName.{FileName}
+use Rattle.tc_store.specs.declared.file_name.FileName.TheVariants.{Component, Log}
+use Rattle.tc_lsm_model.specs.Contents.{Partition}
+use Rattle.tc_recover.specs.declared.cause.FilesCause.TheVariants as files
+use Rattle.tc_recover.specs.Opening.{DiskJudged}
+use Rattle.tc_recover.specs.Refusals.{strays}
+use Rattle.tc_open.specs.Judged.{refusal_of, AreSpent, IsOfFiles, Passes}
+use Rattle.tc_run_model.specs.Course.{max_input}
+use Rattle.tc_server.specs.Ending.{IsRun}
+use Rattle.tc_server.specs.Faults.{NoneFell, OneRose}
+use Rattle.tc_server.specs.Places.{EachFrom, SomeFrom}
+use Rattle.tc_server.specs.declared.outcome.RunFault.{RunFault}
+use Rattle.tc_server.specs.declared.outcome.RunFault.TheVariants.{Usage, Read, Write, Spent, Disk as DiskFault, Damaged, Memory, Layout}
+use Rattle.tc_words.specs.declared.asked.Invocation.{Invocation}
+
+-- ---- which kits were given
+
+-- So many of `count` kits were given in a run that ended so: all where a line may have been read, and none behind that of a
+-- partition that was not opened. A fault of a partition is one of a kit that was given; that of a disk may be of the next one.
+abbrev pub AreAsked : ℕ → Option RunFault → ℕ → Type 0
+AreAsked count None kits = kits ≡ count
+AreAsked count (Some Usage) kits = kits ≡ 0
+AreAsked count (Some Read) kits = kits ≡ count
+AreAsked count (Some (Write n)) kits = kits ≡ count
+AreAsked count (Some Spent) kits = 0 < kits
+AreAsked count (Some (DiskFault p)) kits = (p ≤ kits) × (p < count)
+AreAsked count (Some (Damaged p damage)) kits = p < kits
+AreAsked count (Some Memory) kits = Unit {0}
+AreAsked count (Some (Layout p found found_of asked_of)) kits = (suc p ≡ kits) × (asked_of ≡ count)
+
+-- ---- files
+
+-- the files of a partition are not refused
+abbrev pub ArePassed : Partition → Disk → Type 0
+ArePassed here disk = Passes here disk (λ found. Unit {0})
+
+-- What is judged of the files of the last kit as they were given. A run comes to its lines only over files that are not refused,
+-- and what is refused of them is what is judged. Of a fault of the disk and of want of memory nothing is said here.
+abbrev pub IsJudged : Partition → Disk → Option RunFault → Type 0
+IsJudged here disk None = ArePassed here disk
+IsJudged here disk (Some Usage) = Unit {0}
+IsJudged here disk (Some Read) = ArePassed here disk
+IsJudged here disk (Some (Write n)) = ArePassed here disk
+IsJudged here disk (Some Spent) = ArePassed here disk
+IsJudged here disk (Some (DiskFault p)) = Unit {0}
+IsJudged here disk (Some (Damaged p damage)) = ((p ≡ here.number) × DiskJudged here disk (Err (refusal_of damage))) ⊎ ArePassed here disk
+IsJudged here disk (Some Memory) = Unit {0}
+IsJudged here disk (Some (Layout p found found_of asked_of)) = DiskJudged here disk (Err (strays found found_of))
+
+-- Of so many kits the last one is judged so; the others were opened, since a further one was asked for.
+pub record AreJudged (count kits : ℕ) (files : ℕ → List Disk) (fault : Option RunFault) : Type 0 where
+  pub opened : (p : ℕ) → suc p < kits → IfTold (files p) (ArePassed (partition_at p count))
+  pub last : (p : ℕ) → suc p ≡ kits → IfTold (files p) (λ disk. IsJudged (partition_at p count) disk fault)
+
+-- other numbers of partitions are those that a file keeps, also over files that are not told
+abbrev pub HasLayoutCause : {F : Type 0} → Type 0 → (F → ℕ) → (F → FileName) → RunFault → Type 0
+HasLayoutCause W size name (Layout p found found_of asked_of) = IsOfFiles W size name (partition_at p asked_of) (files.Layout found found_of)
+HasLayoutCause W size name fault = Unit {0}
+
+-- ---- numbers that are spent
+
+-- as many bytes were read as can be
+abbrev pub HasSpentInput : Option (List ℕ) → Option (List ℕ) → Type 0
+HasSpentInput left left' = (input : List ℕ) × Consumes left left' input × (length input ≡ max_input)
+
+-- the numbers of the input were spent, which only a run reads
+abbrev pub IsInputSpent : Option Invocation → Option (List ℕ) → Option (List ℕ) → Type 0
+IsInputSpent asked left left' = IsRun asked × HasSpentInput left left'
+
+-- a file has the greatest generation
+abbrev pub HasLastGeneration : Disk → Type 0
+HasLastGeneration disk = IsThere (disk (Log (2 ^ 63 - 1))) ⊎ ((from : ℕ) × IsThere (disk (Component from (2 ^ 63 - 1))))
+
+-- Generations are spent only with a kit: none was left behind its files as they were given, or it has the greatest as it is given
+-- back.
+abbrev pub AreGenerationsSpent : ℕ → (ℕ → List Disk) → List (List Disk) → Type 0
+AreGenerationsSpent count files kits =
+    SomeFrom (λ p left. IfTold (files p) (λ disk. Passes (partition_at p count) disk AreSpent) ⊎ IfTold left HasLastGeneration) 0 kits
+
+-- ---- counts
+
+-- no count of a kit fell below that with which it came
+abbrev pub NoneFellOf : (ℕ → KitFaults) → List KitFaults → Type 0
+NoneFellOf came kits = EachFrom (λ p left. NoneFell (came p) left) 0 kits
+
+-- A fault of the disk of a partition comes only where one of the four watches of its kit counted one, which is given back, or
+-- where its kit was not given and the faults of the shelf rose.
+abbrev pub HasDiskCauseOver : ℕ → ℕ → (ℕ → KitFaults) → List KitFaults → ℕ → Type 0
+HasDiskCauseOver before now came kits p = ((p ≡ length kits) × Rose before now) ⊎ IsSomeAnd (slice_get kits p) (OneRose (came p))
