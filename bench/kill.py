@@ -1,12 +1,13 @@
 #!/usr/bin/env python3
 """Kills the store at random moments, and compares what is read back with what was acknowledged.
 
-    bench/kill.py [STORE] [ROUNDS] [SEED]
+    bench/kill.py [STORE] [ROUNDS] [SEED] [PARTITIONS]
 
-STORE is the program, or else that of crates/tuple_store/out. In each of ROUNDS rounds (100 if not said) over one folder a
+STORE is the program, or else that of crates/tuple_store/out, and its store has one partition if not said. In each of ROUNDS rounds (100 if not said) over one folder a
 program gets upserts and deletes without an end, and is killed by SIGKILL at a random moment behind a random number of
 replies. Then another one is started over the folder, and every key is read back. What it answers has to be what those
-writes leave whose windows were answered, or these and the window behind them as a whole. Windows and the words for the
+writes leave whose windows were answered, or these and the window behind them: of each partition all of its writes there, or none.
+Windows and the words for the
 memory and the merges change from round to round, so that the moments fall into frames, flushes, merges and openings; in
 every third round openings are killed too, before anything is read. What each kill left half done is counted.
 
@@ -28,6 +29,7 @@ STORE = os.path.join(HERE, '..', 'crates', 'tuple_store', 'out', 'tuple_store')
 KEYS = 300
 # bytes of a log in front of its frames, and of a frame in front of its body
 HEAD, FRAME = 21, 9
+PARTITIONS = int(sys.argv[4]) if len(sys.argv) > 4 else 1
 
 
 def words_of(choice):
@@ -36,7 +38,7 @@ def words_of(choice):
     merge = choice.choice([2, 4, 8])
     limit = choice.choice([0, 0, 20000])
     window = choice.choice([1, 1, 7, 64])
-    return window, ['run', '--partitions', '1', '--memory', str(memory), '--merge', str(merge),
+    return window, ['run', '--partitions', str(PARTITIONS), '--memory', str(memory), '--merge', str(merge),
                     '--limit', str(limit), '--window', str(window)]
 
 
@@ -119,9 +121,12 @@ def has_cut_frame(log):
 
 
 def half_done(folder):
-    """What a kill left half done: a word for each kind."""
+    """What a kill left half done, in all partitions: a word for each kind."""
+    return sum((half_done_in(os.path.join(folder, 'p%d' % number)) for number in range(PARTITIONS)), collections.Counter())
+
+
+def half_done_in(place):
     seen = collections.Counter()
-    place = os.path.join(folder, 'p0')
     for name in os.listdir(place) if os.path.isdir(place) else []:
         with open(os.path.join(place, name), 'rb') as file:
             content = file.read()
@@ -141,7 +146,7 @@ def half_done(folder):
 def read_back(store, folder):
     """The documents that a fresh program answers."""
     lines = ''.join(json.dumps({'op': 'get', 'id': key}) + '\n' for key in range(KEYS))
-    done = subprocess.run([store, folder, 'run', '--partitions', '1'], input=lines.encode(),
+    done = subprocess.run([store, folder, 'run', '--partitions', str(PARTITIONS)], input=lines.encode(),
                           stdout=subprocess.PIPE, stderr=subprocess.PIPE)
     if done.returncode != 0:
         sys.exit('status %d after a kill: %s' % (done.returncode, done.stderr.decode()))
@@ -149,15 +154,17 @@ def read_back(store, folder):
     return {key: doc for key, doc in enumerate(docs) if doc is not None}
 
 
+def part_of(docs, number):
+    return {key: doc for key, doc in docs.items() if key % PARTITIONS == number}
+
+
 def kept(before, sent, acknowledged, window, found):
-    """How many of the writes sent are there, if it is a number that may be."""
-    # A window is answered once it is committed, so no write behind the next one is there.
+    """How many of the writes sent may be there, by the partition: each number that fits what was found of it."""
+    # A window is answered once it is committed in each partition, so no write behind the next one is there.
     answered = acknowledged - acknowledged % window
     counts = (answered, answered + window) if acknowledged == answered else (answered + window,)
-    for count in counts:
-        if count <= len(sent) and after(before, sent[:count]) == found:
-            return count
-    return None
+    left = [(count, after(before, sent[:count])) for count in counts if count <= len(sent)]
+    return [[count for count, docs in left if part_of(docs, number) == part_of(found, number)] for number in range(PARTITIONS)]
 
 
 def main():
@@ -165,7 +172,7 @@ def main():
     rounds = int(sys.argv[2]) if len(sys.argv) > 2 else 100
     choice = random.Random(int(sys.argv[3]) if len(sys.argv) > 3 else 1)
     folder = tempfile.mkdtemp(prefix='tuple_store_kill_')
-    stored, writes, more, seen, opening = {}, 0, 0, collections.Counter(), 0.05
+    stored, writes, more, apart, seen, opening = {}, 0, 0, 0, collections.Counter(), 0.05
     for number in range(rounds):
         window, words = words_of(choice)
         sent, acknowledged = run_killed(store, folder, words, choice, number)
@@ -179,14 +186,18 @@ def main():
         begun = time.time()
         found = read_back(store, folder)
         opening = time.time() - begun
-        count = kept(stored, sent, acknowledged, window, found)
-        if count is None:
+        counts = kept(stored, sent, acknowledged, window, found)
+        if [] in counts:
             sys.exit('round %d (window %d): %d acknowledged of %d sent, and what is read back is not what they leave; see %s'
                      % (number, window, acknowledged, len(sent), folder))
-        stored, writes, more = found, writes + acknowledged, more + count - acknowledged
+        least = max(min(it) for it in counts)
+        apart += min(max(it) for it in counts) < least
+        stored, writes, more = found, writes + acknowledged, more + least - acknowledged
     shutil.rmtree(folder)
     print('%d kills, and %d of openings: %d writes were acknowledged, and all were read back, with %d more that were committed'
           % (rounds, rounds // 3 * 3, writes, more))
+    if PARTITIONS > 1:
+        print('%d kills left the window behind in some partitions and not in others' % apart)
     print('left by the kills: ' + ', '.join('%d %s' % (many, what) for what, many in sorted(seen.items())))
 
 
