@@ -7,6 +7,7 @@ use kits::empty_kits;
 use std::alloc::Global;
 use std::io::{Eprint, Error, ErrorKind};
 use std::process::ExitCode;
+use std::thread::Threads;
 use tc_edge::{StdSink, StdSource};
 use tc_files::{FileShelf, FileStore};
 use tc_server::{RunFault, Served, run_program, words};
@@ -19,18 +20,23 @@ const IN_MEMORY: &str = ":memory:";
 
 fn main(rt: HostRuntime) -> ExitCode {
     match words(&rt) {
-        Ok(words) => run_in(rt, words),
-        Err(fault) => run_in_memory(rt, Err(fault)),
+        Ok(words) => run_in(rt, &rt, words),
+        Err(fault) => run_in_memory(rt, &rt, Err(fault)),
     }
 }
 
-// Runs the words behind the first one, which is the folder. Without a word there is none behind it either.
-fn run_in(rt: HostRuntime, words: Vec<Text>) -> ExitCode {
+// Runs the words behind the first one, which is the folder. Without a word there is none behind it either. Threads come as a
+// handle of their own, since only `main` has them to give.
+fn run_in(
+    rt: HostRuntime,
+    threads: &(impl Eprint + AllocGlobal + Threads + Sync),
+    words: Vec<Text>,
+) -> ExitCode {
     let (folder, rest) = split_folder(rt.alloc(), words);
     if folder.as_str() == IN_MEMORY {
-        run_in_memory(rt, Ok(rest))
+        run_in_memory(rt, threads, Ok(rest))
     } else {
-        run_in_folder(rt, folder, rest)
+        run_in_folder(rt, threads, folder, rest)
     }
 }
 
@@ -43,21 +49,30 @@ fn split_folder(alloc: Global, mut words: Vec<Text>) -> (Text, Vec<Text>) {
     (folder, words)
 }
 
-fn run_in_memory(rt: HostRuntime, words: Result<Vec<Text>, WordsFault>) -> ExitCode {
+fn run_in_memory(
+    rt: HostRuntime,
+    threads: &(impl Eprint + AllocGlobal + Threads + Sync),
+    words: Result<Vec<Text>, WordsFault>,
+) -> ExitCode {
     let alloc = rt.alloc();
     let served = match empty_kits(alloc) {
-        Ok(kits) => served_over(rt, words, &mut MemShelf::new(kits)),
+        Ok(kits) => served_over(rt, threads, words, &mut MemShelf::new(kits)),
         Err(_) => {
             let words = Err(WordsFault::Memory);
-            served_over(rt, words, &mut MemShelf::new(Vec::new(alloc)))
+            served_over(rt, threads, words, &mut MemShelf::new(Vec::new(alloc)))
         }
     };
     ExitCode::from(served.status)
 }
 
-fn run_in_folder(rt: HostRuntime, folder: Text, words: Vec<Text>) -> ExitCode {
+fn run_in_folder(
+    rt: HostRuntime,
+    threads: &(impl Eprint + AllocGlobal + Threads + Sync),
+    folder: Text,
+    words: Vec<Text>,
+) -> ExitCode {
     let mut shelf = FileShelf::new(rt, folder);
-    let served = served_over(rt, Ok(words), &mut shelf);
+    let served = served_over(rt, threads, Ok(words), &mut shelf);
     report_reason(rt, &shelf, &served);
     ExitCode::from(served.status)
 }
@@ -65,12 +80,13 @@ fn run_in_folder(rt: HostRuntime, folder: Text, words: Vec<Text>) -> ExitCode {
 // Serves standard input over the stores of a shelf.
 fn served_over<H: Shelf>(
     rt: HostRuntime,
+    threads: &(impl Eprint + AllocGlobal + Threads + Sync),
     words: Result<Vec<Text>, WordsFault>,
     shelf: &mut H,
 ) -> Served<H::Store> {
     let mut source = StdSource::new(rt.stdin());
     let mut sink = StdSink::new(rt.stdout());
-    run_program(&rt, words, &mut source, &mut sink, shelf)
+    run_program(threads, words, &mut source, &mut sink, shelf)
 }
 
 // Where a call on files failed, says on a second line of standard error why the system refused it.
