@@ -75,10 +75,11 @@ impl Files {
     {
         let Files { first, second } = self;
         let mut kits = Vec::new(alloc);
-        kits.push(kit_of(alloc, 0, first, failing)?).ok()?;
-        if let Some(second) = second {
-            kits.push(kit_of(alloc, 1, second, failing)?).ok()?;
-        }
+        push_kit(&mut kits, kit_of(alloc, 0, first, failing)?)?;
+        let Some(second) = second else {
+            return Some(kits);
+        };
+        push_kit(&mut kits, kit_of(alloc, 1, second, failing)?)?;
         Some(kits)
     }
 
@@ -98,6 +99,15 @@ impl Files {
         };
         Some(Files { first, second })
     }
+}
+
+// Adds a kit behind the others.
+fn push_kit(kits: &mut Vec<Kit<MemStore>>, kit: Kit<MemStore>) -> Option<()>
+    requires rest { All (λ kit. IfTold (store_disks kit.store) IsAtRest) kits.old.items }
+    requires one { IfTold (store_disks kit.store) IsAtRest }
+    ensures { IfSome result (λ done. All (λ kit. IfTold (store_disks kit.store) IsAtRest) kits.new.items) }
+{
+    kits.push(kit).ok()
 }
 
 fn kit_of(
