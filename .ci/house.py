@@ -26,9 +26,8 @@ ROWS = "Rows.antt"
 WRITTEN = re.compile(r"\.(?:TheSendSync|TheLaws)\b")
 # Definitions, and laws that no clause can state, which crates to come stand on. A name leaves this list once it is used.
 AWAITED = {
-    "tc_plain_model": ("part_replies",),
-    "tc_run_model": ("after_all_stands", "built_replies", "first_stands", "lines_in-windows", "queried_alone",
-        "replies_have_kinds", "united_alone", "windows_are_cut"),
+    "tc_run_model": ("after_all_stands", "built_replies", "first_stands", "lines_in-windows",
+        "replies_have_kinds", "windows_are_cut"),
     "tc_store": ("picture_before",),
 }
 

@@ -9,7 +9,7 @@ use Rattle.tc_model.specs.Request.{Request, upsert, delete, get, query, flush, s
 use Rattle.tc_plain_model.specs.Store.{Store, empty}
 use Rattle.tc_plain_model.specs.Part.{Limits, part_left, part_left_all, part_writes, part_writes_all}
 use Rattle.tc_run_model.specs.World.{Part, World, home_of, store_at, part_after, with_part, changed_at, after, after_all}
-use Rattle.tc_run_model.proofs.WorldLaws.{flushed_before}
+use Rattle.tc_run_model.proofs.WorldLaws.{flushed_before, length-changed_at}
 use Rattle.tc_route.specs.Answers.{IsForParts}
 use Rattle.tc_route.specs.Shares.{is_for, share}
 use Rattle.tc_engines.specs.Places.{AtEach}
@@ -26,11 +26,6 @@ pub record AreLeft (count : ℕ) (rs : Keyed Request) (w v : World) : Type 0 whe
   pub many : length v.parts ≡ length w.parts
   pub each : AtEach (λ p old new. IsLeft w.limits v.flushed (values_in (share count p rs)) old new) 0 w.parts v.parts
   pub flushed : v.flushed ≡ true → w.flushed ≡ true
-
-as_many_changed : (k : ℕ) (f : Part → Part) (parts : List Part) → length (changed_at k f parts) ≡ length parts
-as_many_changed k f [] = refl
-as_many_changed zero f (x ∷ xs) = refl
-as_many_changed (suc k) f (x ∷ xs) = ap suc (as_many_changed k f xs)
 
 -- ---- one request for the partition of a number
 
@@ -80,7 +75,7 @@ home_left : (count n : ℕ) (r : ℕ × Request) (rs : Keyed Request) (w v : Wor
     → AreLeft count rs (with_part (home_of n w) r.1 w) v → AreLeft count (r ∷ rs) w v
 home_left count n r rs w v many one left = record {
   limits = left.limits;
-  many = left.many ∙ as_many_changed (home_of n w) (part_after w.limits r.1) w.parts;
+  many = left.many ∙ length-changed_at (home_of n w) (part_after w.limits r.1) w.parts;
   each = at_each-join Changed Left Both 0 (changed_at (home_of n w) (part_after w.limits r.1) w.parts) w.parts v.parts step
       (at_each-turned (λ p old mid. Changed p mid old) 0 w.parts (changed_at (home_of n w) (part_after w.limits r.1) w.parts) (changed_each (part_after w.limits r.1) (home_of n w) 0 (home_of n w) w.parts (omega arith)))
       left.each;
@@ -131,10 +126,10 @@ shares_left count [] w many parts = record {
 }
 shares_left count ((at, upsert n d) ∷ rs) w many parts =
     home_left count n (at, upsert n d) rs w (after_all (values_in rs) (after (upsert n d) w)) many (λ p. refl)
-    (shares_left count rs (with_part (home_of n w) (upsert n d) w) (as_many_changed (home_of n w) (part_after w.limits (upsert n d)) w.parts ∙ many) (All-tail (λ r. IsForParts r.1) (at, upsert n d) rs parts))
+    (shares_left count rs (with_part (home_of n w) (upsert n d) w) (length-changed_at (home_of n w) (part_after w.limits (upsert n d)) w.parts ∙ many) (All-tail (λ r. IsForParts r.1) (at, upsert n d) rs parts))
 shares_left count ((at, delete n) ∷ rs) w many parts =
     home_left count n (at, delete n) rs w (after_all (values_in rs) (after (delete n) w)) many (λ p. refl)
-    (shares_left count rs (with_part (home_of n w) (delete n) w) (as_many_changed (home_of n w) (part_after w.limits (delete n)) w.parts ∙ many) (All-tail (λ r. IsForParts r.1) (at, delete n) rs parts))
+    (shares_left count rs (with_part (home_of n w) (delete n) w) (length-changed_at (home_of n w) (part_after w.limits (delete n)) w.parts ∙ many) (All-tail (λ r. IsForParts r.1) (at, delete n) rs parts))
 shares_left count ((at, get n) ∷ rs) w many parts =
     still_left count (at, get n) rs w (after_all (values_in rs) w) (λ s. refl) (λ s. refl) (shares_left count rs w many (All-tail (λ r. IsForParts r.1) (at, get n) rs parts))
 shares_left count ((at, query ask) ∷ rs) w many parts =

@@ -77,10 +77,6 @@ part_left limits (refused r) s = s
 abbrev pub part_left_all : Limits → List Request → Store → Store
 part_left_all limits rs s = fold (λ t r. part_left limits r t) s rs
 
-abbrev pub part_replies : Limits → List Request → Store → List Reply
-part_replies limits [] s = []
-part_replies limits (r ∷ rs) s = part_reply limits r s ∷ part_replies limits rs (part_left limits r s)
-
 abbrev pub part_writes_all : Limits → List Request → Store → List Write
 part_writes_all limits [] s = []
 part_writes_all limits (r ∷ rs) s = part_writes limits r s ++ part_writes_all limits rs (part_left limits r s)

@@ -14,17 +14,13 @@ use Rattle.tc_plain_model.specs.Rows.{rows_over}
 use Rattle.tc_plain_model.specs.Part.{Limits, part_reply, part_left, upsert_refusal, unless_refused}
 use Rattle.tc_run_model.specs.World.{Part, World, home_of, store_at, united, part_after, with_part, changed_at}
 use Rattle.tc_run_model.proofs.UnitedPairs.{behind_first, rest_ascends}
+use Rattle.tc_run_model.proofs.WorldLaws.{length-changed_at}
 use Rattle.tc_route.specs.Gathered.{with_reply, gathered}
 use Rattle.tc_route.specs.Answers.{shares_answered, window_answered, stores_of, IsForParts, KeepOwn, AreGathered}
 use Rattle.tc_route.proofs.Homes.{all_of, IsForOne, homed}
 use Rattle.tc_route.proofs.AskedAll.{asked_all}
 
 -- ---- a change at a place
-
-length-changed_at : {A : Type 0} (k : ℕ) (f : A → A) (xs : List A) → length (changed_at k f xs) ≡ length xs
-length-changed_at k f [] = refl
-length-changed_at zero f (x ∷ xs) = refl
-length-changed_at (suc k) f (x ∷ xs) = ap suc (length-changed_at k f xs)
 
 unchanged_at : {A : Type 0} (k : ℕ) (xs : List A) → changed_at k (λ x. x) xs ≡ xs
 unchanged_at k [] = refl

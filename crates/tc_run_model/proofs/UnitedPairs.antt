@@ -1,5 +1,5 @@
--- Values by key put together. What the only partition of a world stores is what all store.
-use Rattle.std.proofs.Common.{◌≡◌, ◌∙◌, ap, sym, refl, ℕ, ◌<◌, false, [], ◌∷◌, map, append-nil, arith}
+-- Values by key put together.
+use Rattle.std.proofs.Common.{◌≡◌, ◌∙◌, ap, sym, refl, ℕ, ◌<◌, false, [], ◌∷◌, arith}
 use Rattle.std.specs.Prelude.{nat_lt, ◌==◌, fold, All}
 use Rattle.std.specs.declared.cmp.Ordering.TheVariants.{Less}
 use Rattle.std.specs.Ordering.{nat_cmp}
@@ -10,14 +10,7 @@ use Rattle.std.proofs.lemmas.Bool.Decides.{nat_tests}
 use Rattle.std.proofs.lemmas.List.Elements.{All-nil, All-cons, All-head, All-tail}
 use Rattle.std.proofs.lemmas.Map.Keys.{sorted_head, sorted_tail}
 use Rattle.tc_model.specs.Keyed.{Keyed, Ascends, with_value}
-use Rattle.tc_model.specs.Request.{Ask, query}
-use Rattle.tc_model.specs.Reply.{rows}
 use Rattle.tc_model.proofs.KeyedOrder.{sorted-with_value, AreAbove}
-use Rattle.tc_plain_model.specs.Part.{part_reply}
-use Rattle.tc_plain_model.specs.Rows.{rows_over}
-use Rattle.tc_plain_model.specs.Writes.{Pairs}
-use Rattle.tc_run_model.specs.Replies.{reply_to}
-use Rattle.tc_run_model.specs.World.{Part, World, united}
 
 -- ---- keys behind another
 
@@ -68,13 +61,3 @@ pub with_all-ascending : {V : Type 0} (es : Keyed V) → Ascends es → with_all
 with_all-ascending [] ascends = refl
 with_all-ascending (e ∷ es) ascends =
     with_all-behind e.0 e.1 [] es (behind_first e es ascends) ∙ ap (λ more. e ∷ more) (with_all-ascending es (rest_ascends e es ascends))
-
--- ---- a world of one partition
-
-united_alone : (ps : Pairs) → Ascends ps → united (ps ∷ []) ≡ ps
-united_alone ps ascends = ap (with_all []) (append-nil ps) ∙ with_all-ascending ps ascends
-
--- A query has the reply of the only partition.
-pub queried_alone : (ask : Ask) (w : World) (part : Part) → w.parts ≡ part ∷ [] → Ascends part.now.pairs → reply_to (query ask) w ≡ part_reply w.limits (query ask) part.now
-queried_alone ask w part alone ascends =
-    ap (λ parts. rows (rows_over ask (united (map (λ p. p.now.pairs) parts)))) alone ∙ ap (λ ps. rows (rows_over ask ps)) (united_alone part.now.pairs ascends)

@@ -59,3 +59,10 @@ all_written false ws is = absurd (cc)
 -- Where all was flushed behind a request for a key, so it was before, and the request wrote nothing.
 pub flushed_before : (p : ℕ) (r : Request) (w : World) → (with_part p r w).flushed ≡ true → (w.flushed ≡ true) × (part_writes w.limits r (store_at p w) ≡ [])
 flushed_before p r w is = all_written w.flushed (part_writes w.limits r (store_at p w)) is
+
+-- ---- a changed part leaves as many
+
+pub length-changed_at : {A : Type 0} (k : ℕ) (f : A → A) (xs : List A) → length (changed_at k f xs) ≡ length xs
+length-changed_at k f [] = refl
+length-changed_at zero f (x ∷ xs) = refl
+length-changed_at (suc k) f (x ∷ xs) = ap suc (length-changed_at k f xs)

@@ -3,15 +3,11 @@ use Rattle.std.proofs.Common.{◌≡◌, ◌∙◌, ℕ, zero, suc, List, [], �
 use Rattle.std.specs.Prelude.{is_some, Bool, true, false, Some, if◌then◌else◌}
 use Rattle.tc_model.specs.Request.{Request, Ask, upsert, delete, get, query, flush, schema, scan, collect, refused}
 use Rattle.tc_plain_model.specs.Part.{Limits}
-use Rattle.tc_run_model.specs.World.{Part, World, after, after_all, changed_at, part_after, with_scan}
+use Rattle.tc_run_model.specs.World.{Part, World, after, after_all, part_after, with_scan}
 use Rattle.tc_run_model.specs.Course.{Ending, finished, input_failed, input_spent, output_failed, stopped, unopened, behind, requests_in, worlds_left}
 use Rattle.tc_run_model.specs.Windows.{Window, unless_empty}
+use Rattle.tc_run_model.proofs.WorldLaws.{length-changed_at}
 use Rattle.tc_server.specs.Holds.{IsOneOf}
-
-written_many : (limits : Limits) (r : Request) (n : ℕ) (parts : List Part) → length (changed_at n (part_after limits r) parts) ≡ length parts
-written_many limits r n [] = refl
-written_many limits r zero (x ∷ xs) = refl
-written_many limits r (suc n) (x ∷ xs) = ap suc (written_many limits r n xs)
 
 either_many : (b : Bool) (v w : World) → length v.parts ≡ length w.parts → length (if b then w else v).parts ≡ length w.parts
 either_many true v w same = refl
@@ -21,8 +17,8 @@ scan_many : (ask : Ask) (w : World) → length (with_scan ask w).parts ≡ lengt
 scan_many ask w = either_many (is_some w.running) (record w { running = Some (record { ask = ask; seen = map (λ part. length part.writes) w.parts }) }) w refl
 
 pub one_many : (r : Request) (w : World) → length (after r w).parts ≡ length w.parts
-one_many (upsert n d) w = written_many w.limits (upsert n d) _ w.parts
-one_many (delete n) w = written_many w.limits (delete n) _ w.parts
+one_many (upsert n d) w = length-changed_at _ (part_after w.limits (upsert n d)) w.parts
+one_many (delete n) w = length-changed_at _ (part_after w.limits (delete n)) w.parts
 one_many (get n) w = refl
 one_many (query ask) w = refl
 one_many flush w = refl
