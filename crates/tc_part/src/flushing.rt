@@ -64,6 +64,9 @@ impl<S: Store> Part<S> {
         // Each name that is there still is one of its own.
         ensures own { OnOk result (HasOwnFiles (told S.history S.Device.history S.Frozen.content self.new)) }
 
+        // A store that tells nothing goes on so, behind a fault too.
+        ensures untold { S.history self.old.store ≡ [] → S.history self.new.store ≡ [] }
+
         // No file is out but those of its devices, behind a fault too. That of the active log stays out.
         ensures devices { OnlyDevicesOut (told S.history S.Device.history S.Frozen.content self.old) → OnlyDevicesOut (told S.history S.Device.history S.Frozen.content self.new) }
         ensures log_out { OnOk result (LogIsOut (told S.history S.Device.history S.Frozen.content self.old) → LogIsOut (told S.history S.Device.history S.Frozen.content self.new)) }

@@ -2,7 +2,7 @@
 
 ghost use Rattle.std.specs.Arc.{arc_value};
 ghost use Rattle.std.specs.List.{AllZip};
-ghost use Rattle.std.specs.Prelude.{◌≡◌, ◌<◌, Some, None, false, true, is_some, length, map, IfErr, IfOk, IsErrOf, OnOk, OnErr};
+ghost use Rattle.std.specs.Prelude.{◌≡◌, ◌<◌, [], Some, None, false, true, is_some, length, map, IfErr, IfOk, IsErrOf, OnOk, OnErr};
 ghost use Rattle.tc_store.specs.Counted.{IsCounted};
 ghost use Rattle.tc_store.specs.Disk.{IsThere};
 ghost use Rattle.tc_store.specs.Moments.{IfTold};
@@ -63,6 +63,9 @@ impl<S: Store> Part<S> {
 
         // Each name that is there still is one of its own.
         ensures own { OnOk result (HasOwnFiles (told S.history S.Device.history S.Frozen.content self.new)) }
+
+        // A store that tells nothing goes on so, behind a fault too.
+        ensures untold { S.history self.old.store ≡ [] → S.history self.new.store ≡ [] }
 
         // No file is out but those of its devices, behind a fault too. That of the active log stays out.
         ensures devices { OnlyDevicesOut (told S.history S.Device.history S.Frozen.content self.old) → OnlyDevicesOut (told S.history S.Device.history S.Frozen.content self.new) }

@@ -92,7 +92,31 @@ impl<S: Store> Model for Part<S> {
 }
 
 impl<S: Store> Part<S> {
-    ghost use Rattle.std.specs.Prelude.{◌≡◌, length, map, is_some, IfOk};
+    ghost use Rattle.std.specs.Prelude.{◌≡◌, true, false, length, map, is_some, IfOk};
+    ghost use Rattle.tc_part.specs.Ready.{active_generation};
+
+    /// Which partition it is.
+    pub fn number(&self) -> u32
+        ensures { result ≡ self.now.number }
+    {
+        self.number
+    }
+
+    /// Gives the partition up: it counts as failed from then on, so that no job that is out is listed.
+    pub fn fail(&mut self)
+        ensures { self.new ≡ record self.old { failed = true } }
+    {
+        self.failed = true;
+    }
+
+    /// A law, and no work. The active table has the generation behind those of the components, or behind the one of the table that
+    /// waits for its flush.
+    pub fn generations_follow(&self)
+        ensures { self.now.failed ≡ false → self.now.generation ≡ active_generation self.now.list (is_some self.now.sealed) }
+    {
+        // A look into the part, of which its invariant then tells.
+        let _looked = self.failed;
+    }
 
     /// Whether a call answered a fault.
     pub fn failed(&self) -> bool

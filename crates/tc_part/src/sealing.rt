@@ -46,6 +46,10 @@ impl<S: Store> Part<S> {
         // Each name that is there still is one of its own.
         ensures own { OnOk result (HasOwnFiles (told S.history S.Device.history S.Frozen.content self.new)) }
 
+        // A store that tells nothing goes on so, behind a fault too, and then the next log tells nothing.
+        ensures untold { S.history self.old.store ≡ [] → S.history self.new.store ≡ [] }
+        ensures untold_log { OnOk result (S.history self.old.store ≡ [] → S.Device.history self.new.log.device ≡ []) }
+
         // No file is out but those of its devices, and its logs go on to tell, behind a fault too. That of the next log is out.
         ensures devices { OnlyDevicesOut (told S.history S.Device.history S.Frozen.content self.old) → OnlyDevicesOut (told S.history S.Device.history S.Frozen.content self.new) }
         ensures log_out { OnOk result (LogIsOut (told S.history S.Device.history S.Frozen.content self.new)) }

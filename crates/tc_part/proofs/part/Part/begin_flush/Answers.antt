@@ -14,6 +14,7 @@ use Rattle.tc_part_model.specs.Calls.{FlushesBehind}
 use Rattle.tc_part_model.specs.Changes.{flushing_part}
 use Rattle.tc_part.specs.OwnFiles.{HasOwnFiles}
 use Rattle.tc_part_model.specs.PartState.{PartState, told, told_component}
+use Rattle.tc_part_model.proofs.ToldFiles.{unmade_untold}
 use Rattle.tc_part.proofs.OwnNames.{flush_begun_own, flush_is_free}
 use Rattle.tc_part.specs.Ready.{active_generation}
 use Rattle.tc_part.proofs.Handing.{still_some}
@@ -132,3 +133,14 @@ returns-clause-log_out g c =
     let named : c.name_of_head.result ≡ Component (c.self.inside.generation - 1) (c.self.inside.generation - 1) = c.name_of_head.ensures ∙ ap name_of c.flush_head-head.ensures in
     let name = Component (t.generation - 1) (t.generation - 1) in
     rw (← c.self.view_is, c.flush_with.ensures.same, c.in_ok-device.ensures.made, named) (log_out_on t (makes name t.disks) (other_made name (Log t.generation) t.disks (λ same. absurd (cc))))
+
+-- ---- where nothing is told
+
+pub returns-in_err-inputs-clause-untold : goal.returns-in_err-inputs-clause-untold
+returns-in_err-inputs-clause-untold g c = rw (← c.self.view_is) λ untold. untold
+
+pub returns-in_err-device-clause-untold : goal.returns-in_err-device-clause-untold
+returns-in_err-device-clause-untold g c = rw (← c.self.view_is) (unmade_untold c.name_of_head.result (g.S.Store.history c.self.inside.store) (g.S.Store.history c.fresh.new.self) c.in_err-device.ensures.failed)
+
+pub returns-clause-untold : goal.returns-clause-untold
+returns-clause-untold g c = rw (← c.self.view_is, c.flush_with.ensures.same, c.in_ok-device.ensures.made) (ap (makes c.name_of_head.result))

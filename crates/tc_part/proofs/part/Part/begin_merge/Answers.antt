@@ -1,4 +1,4 @@
-use Rattle.std.proofs.Common.{◌∙◌, Some, map, option_map, refl, sym, ap, subst}
+use Rattle.std.proofs.Common.{◌≡◌, ◌∙◌, [], Some, map, option_map, refl, sym, ap, subst}
 use Rattle.tc_store.specs.declared.file_name.FileName.TheVariants.{Log}
 use Rattle.tc_store.specs.StoreCalls.{FailsMaking, makes}
 use Rattle.tc_list.specs.Runs.{neighbours}
@@ -6,6 +6,7 @@ use Rattle.tc_part_model.specs.Changes.{merging_part}
 use Rattle.tc_part_model.specs.Leaving.{StoreMomentsLeaveStore}
 use Rattle.tc_machine.specs.Components.{file_of}
 use Rattle.tc_part_model.specs.PartState.{PartState, told, told_component}
+use Rattle.tc_part_model.proofs.ToldFiles.{unmade_untold}
 use Rattle.tc_part.proofs.OwnNames.{merge_begun_own, merge_is_free}
 use Rattle.tc_part.specs.FilesOut.{LogIsOut, OnlyDevicesOut}
 use Rattle.tc_part.specs.JobHeads.{merged_head}
@@ -115,3 +116,13 @@ returns-in-Ok-clause-log_out g c = λ is.
     let new = g.S.Store.history c.merge_job.new.self.store in
     let stays : StaysOut (Log t.generation) t.disks new = subst (StaysOut (Log t.generation) t.disks) (sym c.in-Ok.ensures.made) (other_made (merged_name c.args.run s) (Log t.generation) t.disks (λ same. absurd (cc))) in
     subst (λ (x : PartState _ _ _ _). LogIsOut (told g.S.Store.history g.S.Device.Device.history g.S.Frozen.Frozen.content x)) (sym c.in-Ok.ensures.same) (log_out_on t new stays is)
+
+-- ---- where nothing is told
+
+pub returns-in-Ok-clause-untold : goal.returns-in-Ok-clause-untold
+returns-in-Ok-clause-untold g c = λ untold. c.in-Ok.ensures.made ∙ ap (makes (merged_name c.args.run c.args.self.now)) untold
+
+pub returns-in-Err-clause-untold : goal.returns-in-Err-clause-untold
+returns-in-Err-clause-untold g c = λ untold.
+    subst (λ (s : PartState _ _ _ _). g.S.Store.history s.store ≡ []) (sym (c.self.view_is ∙ c.in-Err.ensures.left))
+    (unmade_untold (merged_name c.args.run c.args.self.now) (g.S.Store.history c.args.self.now.store) (g.S.Store.history c.merge_job.new.self.store) c.in-Err.ensures.unmade untold)

@@ -1,8 +1,9 @@
 use Rattle.std.proofs.Common.{rules, ◌≡◌, ◌∙◌, ◌+◌, false, [], inl, is_some, map, refl, sym, ap, subst, arith}
 use Rattle.std.proofs.lemmas.Grind.{common_steps}
 use Rattle.std.specs.Arc.{arc_value}
-use Rattle.tc_store.specs.Disk.{IsThere}
+use Rattle.tc_store.specs.Disk.{IsThere, home}
 use Rattle.tc_store.specs.Moments.{IfTold}
+use Rattle.tc_store.specs.StoreCalls.{comes_home, fresh_file_at, makes}
 use Rattle.tc_store.specs.declared.file_name.FileName.TheVariants.{Log}
 use Rattle.tc_log.specs.declared.head.LogHead.{LogHead}
 use Rattle.tc_log.specs.Appending.{created}
@@ -10,6 +11,8 @@ use Rattle.tc_log.specs.Spelling.{IsHead}
 use Rattle.tc_part_model.specs.Calls.{HasCreated}
 use Rattle.tc_part.specs.OwnFiles.{HasOwnFiles}
 use Rattle.tc_part_model.specs.PartState.{IsTold, PartState, told, told_component}
+use Rattle.tc_part_model.proofs.DeviceFiles.{comes_untold}
+use Rattle.tc_part_model.proofs.ToldFiles.{unmade_untold}
 use Rattle.tc_part.proofs.OwnNames.{next_log_is_free, sealed_own}
 use Rattle.tc_part.proofs.Outcomes.{err_always}
 use Rattle.tc_part.proofs.OwnOutcomes.{no_flush_out}
@@ -197,3 +200,30 @@ returns-in-Ok-clause-log_out g c =
     let log = g.S.Device.Device.history c.in-Ok.log.device in
     let new_tells = created_tells name t.disks head device log c.in_ok-device.ensures.file (creates head device log c.in-Ok.ensures.moments (λ untold. c.in-Ok.ensures.created ∙ ap (created head) untold)) in
     rw (c.put_behind.ensures, c.in_ok-device.ensures.made) (next_log_out name log t.disks new_tells)
+
+-- ---- where nothing is told
+
+pub returns-then-self-eq-MAX_NUMBER-clause-untold : goal.returns-then-self-eq-MAX_NUMBER-clause-untold
+returns-then-self-eq-MAX_NUMBER-clause-untold g c = rw (← c.self.view_is) λ untold. untold
+
+pub returns-in_err-new-clause-untold : goal.returns-in_err-new-clause-untold
+returns-in_err-new-clause-untold g c = rw (← c.self.view_is) λ untold. untold
+
+pub returns-in_err-device-clause-untold : goal.returns-in_err-device-clause-untold
+returns-in_err-device-clause-untold g c = rw (← c.self.view_is) (unmade_untold (Log (c.self.inside.generation + 1)) (g.S.Store.history c.self.inside.store) (g.S.Store.history c.fresh.new.self) c.in_err-device.ensures.failed)
+
+pub returns-in-Ok-clause-untold : goal.returns-in-Ok-clause-untold
+returns-in-Ok-clause-untold g c = rw (← c.self.view_is, c.put_behind.ensures, c.in_ok-device.ensures.made) (ap (makes (Log (c.self.inside.generation + 1))))
+
+pub returns-in-Err-clause-untold : goal.returns-in-Err-clause-untold
+returns-in-Err-clause-untold g c =
+    let name = Log (c.self.inside.generation + 1) in
+    let broken = g.S.Device.Device.history c.in-Err.broken.device in
+    let named = c.in-Err.ensures.broken_name ∙ c.in_ok-device.ensures.name in
+    rw (← c.self.view_is, c.abandon.ensures.home, named, c.in_ok-device.ensures.made) λ untold. ap (λ ds. comes_home name (λ f. home f) broken (makes name ds)) untold ∙ comes_untold name (λ f. home f) broken
+
+pub returns-in-Ok-clause-untold_log : goal.returns-in-Ok-clause-untold_log
+returns-in-Ok-clause-untold_log g c =
+    let name = Log (c.self.inside.generation + 1) in
+    let head : LogHead = record { number = c.self.inside.number; count = c.self.inside.count; generation = c.self.inside.generation + 1 } in
+    rw (← c.self.view_is, c.put_behind.ensures) λ none. c.in-Ok.ensures.created ∙ ap (created head) (c.in_ok-device.ensures.file ∙ ap (fresh_file_at name) none)
