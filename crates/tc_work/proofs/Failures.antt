@@ -21,15 +21,16 @@ logs_stay t u p is generation sealed_log = record { generation = generation ∙ 
     one (Some d) (Some kept) keeps = keeps.0
 
 -- a window that fails before its commit
-pub failed_without : (t u : Told) (p : PartView) (ws : List Write) → IsPart t p → HasFailedAs u p None → u.generation ≡ t.generation → u.sealed_log ≡ t.sealed_log → HasFailedWith ws u p
-failed_without t u p ws is files generation sealed_log = inl (record { view = p; here = refl; holds = refl; files = files; logs = logs_stay t u p is generation sealed_log })
+pub failed_without : (Works : PartView → Type 0) (t u : Told) (p : PartView) (ws : List Write) → IsPart t p → HasFailedAs u p None → u.generation ≡ t.generation → u.sealed_log ≡ t.sealed_log → Works p → HasFailedWith Works ws u p
+failed_without Works t u p ws is files generation sealed_log jobs = inl (record { view = p; here = refl; holds = refl; files = files; logs = logs_stay t u p is generation sealed_log; jobs = jobs })
 
 -- and one whose commit fails
-pub failed_with : (t u : Told) (p : PartView) (ws : List Write) → p.staged ≡ [] → IsPart t (staged_as ws p) → HasFailedAs u (staged_as ws p) (Some (staged_as ws p).staged) → u.generation ≡ t.generation → u.sealed_log ≡ t.sealed_log → HasFailedWith ws u p
-failed_with t u p ws none is files generation sealed_log = inr (record {
+pub failed_with : (Works : PartView → Type 0) (t u : Told) (p : PartView) (ws : List Write) → p.staged ≡ [] → IsPart t (staged_as ws p) → HasFailedAs u (staged_as ws p) (Some (staged_as ws p).staged) → u.generation ≡ t.generation → u.sealed_log ≡ t.sealed_log → Works (staged_as ws p) → HasFailedWith Works ws u p
+failed_with Works t u p ws none is files generation sealed_log jobs = inr (record {
   view = staged_as ws p;
   here = refl;
   holds = refl;
   files = subst (λ (frame : List Write). HasFailedAs u (staged_as ws p) (Some frame)) (ap (λ (staged : List Write). staged ++ ws) none) files;
   logs = logs_stay t u (staged_as ws p) is generation sealed_log;
+  jobs = jobs;
 })

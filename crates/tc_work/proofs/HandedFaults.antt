@@ -110,3 +110,11 @@ undamaged_so (Err e) fault Q is un = rw is (at fault un)
     at (part.Damaged damage) u = absurd u
     at part.Spent u = tt
     at part.Memory u = tt
+
+-- where no damage is told, none is of anything
+pub undamaged_any : {X : Type 0} (r : Result X EngineFault) (Q : Damage → Type 0) → IfErr r (λ e. IfDamaged e (λ damage. ⊥)) → IfErr r (λ e. IfDamaged e Q)
+undamaged_any (Ok x) Q is = tt
+undamaged_any (Err engine.Disk) Q is = tt
+undamaged_any (Err (engine.Damaged damage)) Q is = absurd is
+undamaged_any (Err engine.Spent) Q is = tt
+undamaged_any (Err engine.Memory) Q is = tt

@@ -16,7 +16,6 @@ mod SealedFlushes
 mod Watches
 mod JobEnds
 mod OnResults
-mod SealedTables
 mod ReplyKinds
 mod UnharmedRecords
 mod EmptyLogs
@@ -27,3 +26,14 @@ mod MergeFaults
 mod StayingStores
 mod PickedMerges
 mod FilesOut
+mod JobsGoOn
+mod KeptJobs
+mod StartedFlushes
+mod InstalledFlushes
+mod StartedMerges
+mod InstalledMerges
+mod SealedTables
+mod HandedJobs
+mod MovingCalls
+mod GivenBack
+mod EndedParts

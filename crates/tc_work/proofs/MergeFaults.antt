@@ -71,3 +71,7 @@ of_components list from to (Bytes file place bytes) (inl files) = absurd files
 of_components list from to (Bytes file place bytes) (inr is) = subst IsComponentName (sym is) tt
 of_components list from to (Files names) (inl is) = subst (λ (found : List FileName). All IsComponentName found) (sym is) (component_names list)
 of_components list from to (Files names) (inr is) = absurd is
+
+pub of_bytes : (damage : Damage) (from to : ℕ) (P : FileName → ℕ → List ℕ → Type 0) → AreBytes (λ file place bytes. (file ≡ Component from to) × P file place bytes) damage → AreOfComponents damage
+of_bytes (Bytes file place bytes) from to P is = subst IsComponentName (sym is.0) tt
+of_bytes (Files names) from to P is = absurd is

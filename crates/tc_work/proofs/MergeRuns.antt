@@ -1,14 +1,14 @@
--- What the job of a merge leaves of its device, behind a part whose files are told.
+-- What the job of a merge leaves of its device, once it has run for a part.
 use Rattle.std.proofs.Common.{◌≡◌, ◌∙◌, ◌≤◌, ◌<◌, ◌+◌, ℕ, List, [], ◌∷◌, Option, None, length, refl, sym, ap, subst, inl, inr, false}
-use Rattle.std.specs.Prelude.{◌^◌, All, IsSome}
+use Rattle.std.specs.Prelude.{◌^◌, All, IsOk, IsSome, Result}
 use Rattle.std.specs.List.{AllZip}
 use Rattle.std.proofs.lemmas.Bool.{cases_Bool}
 use Rattle.std.proofs.lemmas.List.Elements.{All-nil, All-cons}
+use Rattle.tc_store.specs.Counted.{Counts}
 use Rattle.tc_store.specs.declared.file_name.FileName.{FileName}
 use Rattle.tc_store.specs.Disk.{Disk, IsThere, out, put, same_name}
 use Rattle.tc_store.specs.DiskFile.{DiskFile, settled_file}
 use Rattle.tc_store.specs.Gate.{IsShutOr, IsShutOrWhole}
-use Rattle.tc_store.specs.Images.{Image}
 use Rattle.tc_store.specs.Moments.{IfTold, LeavesAt, LeavesOnly}
 use Rattle.tc_store.specs.StoreCalls.{fresh_file_at, makes}
 use Rattle.tc_store.proofs.MomentLemmas.{told_map}
@@ -16,11 +16,14 @@ use Rattle.tc_store.proofs.NameLemmas.{same_name-is}
 use Rattle.tc_component.specs.Loaded.{IsLoadedOf}
 use Rattle.tc_component.specs.Loading.{ComponentState}
 use Rattle.tc_component.specs.Rows.{IsComponent, IsShortWrite, component_bytes}
-use Rattle.tc_lsm_model.specs.Contents.{Content, IsContent}
+use Rattle.tc_lsm_model.specs.Contents.{Content}
 use Rattle.tc_lsm_model.specs.Merges.{IsMerge, Run, in_run}
-use Rattle.tc_lsm_model.proofs.MergeLaws.{swapped_replaces}
-use Rattle.tc_merge.specs.Merging.{AreTold as AreRunTold}
+use Rattle.tc_lsm_model.proofs.MergeLaws.{one_merge}
+use Rattle.tc_merge.specs.declared.fault.MergeFault.{MergeFault}
+use Rattle.tc_merge.specs.Jobs.{JobState}
+use Rattle.tc_merge.specs.Merging.{AreTold as AreRunTold, merge_bytes}
 use Rattle.tc_machine.specs.Components.{file_of}
+use Rattle.tc_machine.specs.State.{Merging}
 use Rattle.tc_machine.specs.Steps.{IsShutOrHas}
 use Rattle.tc_part_model.specs.Calls.{HasMade}
 use Rattle.tc_part_model.specs.Changes.{merging_part}
@@ -32,7 +35,10 @@ use Rattle.tc_part_model.proofs.Beginnings.{merge_free}
 use Rattle.tc_part_model.proofs.DeviceFiles.{some_sealed}
 use Rattle.tc_work.proofs.FlushRuns.{has_component, short_file}
 use Rattle.tc_work.proofs.Settled.{told_now}
-use Rattle.tc_work.proofs.FreshDevices.{fresh_merge_told, none_out, ran_leaves}
+use Rattle.tc_running.specs.Ran.{HasMerged}
+use Rattle.tc_work.specs.JobsOut.{IsMadeIn, MergesFor}
+use Rattle.tc_work.proofs.FreshDevices.{none_out, ran_leaves}
+use Rattle.tc_work.proofs.StoredMoments.{where_told}
 use Rattle.tc_part.proofs.FreshFiles.{before_in, fresh_shut, fresh_tells, since_tells}
 
 -- the files of components that were loaded are told
@@ -82,31 +88,45 @@ pub record RanMerge (c : Content) (disks : List Disk) (device : List DiskFile) (
   pub made : Ended → HasMade c disks device
   pub leaves : IfTold device (LeavesAt (IsShutOrHas (IsComponent c)))
 
--- what a call of the job promises
-pub record MergeCall (bytes : List ℕ) (old new : List DiskFile) (size : ℕ) (Ended : Type 0) : Type 0 where
-  pub whole : Ended → IfTold new (λ f. f ≡ settled_file bytes)
-  pub moments : (before : Image) → IfTold old (LeavesAt (IsShutOr before)) → LeavesOnly (IsShutOrWhole before bytes) old new
-  pub fits : Ended → size < 2 ^ 63
-  pub sized : IfTold new (λ f. size ≡ length f.content)
+-- a merge that has run, and that works for a part
+module _ {F D W : Type 0} (content : F → Option (List ℕ)) (history : D → List DiskFile) (length_of : D → ℕ) (name_of : D → FileName) (counts : W → Counts) (list : List Content) (o : Option Merging) (name : FileName) (disks : List Disk) (job : JobState F D W) (works : MergesFor content history name_of list o job) (own : IsMadeIn name disks (history job.device))
+    (watch : W) (device : D) (outcome : Result (Unit {0}) MergeFault) (ran : HasMerged content history length_of name_of counts job watch device outcome) where
+  abbrev c : Content
+  c = works.merging.target
 
-pub ran_merge : (t : Told) (p : PartView) (run : Run) (c : Content) (bytes : List ℕ) (disks : List Disk) (old new : List DiskFile) (size : ℕ) (Ended : Type 0)
-    → IsPart t p → IsTold t.disks → 2 ≤ run.length → run.first + run.length ≤ length p.list → IsMerge (in_run run p.list) c → t.merging ≡ None → old ≡ fresh_file_at (file_of c) t.disks
-    → All IsShortWrite c.entries → component_bytes c ≡ bytes → MergeCall bytes old new size Ended → RanMerge c disks new Ended
-ran_merge t p run c bytes disks old new size Ended is tells two within is_merge in_store fresh records spelled call = record {
-  made = λ ended.
-      let content = told_map (λ f. f ≡ settled_file bytes) (λ f. f ≡ settled_file (component_bytes c)) new (λ f same. same ∙ ap settled_file (sym spelled)) (call.whole ended) in
-      let fits = short_file size new (component_bytes c) new_tells call.sized content (call.fits ended) in
-      record { whole = has_component c is_content records fits; tells = told_now disks (λ d. IsTold new) (λ told d. new_tells); content = content };
-  leaves = ran_leaves (file_of c) t.disks (IsComponent c) bytes new (fresh_merge_told t p run c is two within is_merge in_store) moments
-      (λ short. subst (IsComponent c) spelled (has_component c is_content records (subst (λ (bs : List ℕ). length bs < 2 ^ 63) (sym spelled) short)));
-}
-  where
-    is_content : IsContent c
-    is_content = (swapped_replaces p.part run p.list c is.memory.list is_merge).content
+  abbrev bytes : List ℕ
+  bytes = merge_bytes content job.head job.run
 
-    moments : LeavesOnly (IsShutOrWhole (before_in (file_of c) t.disks) bytes) (fresh_file_at (file_of c) t.disks) new
-    moments = subst (λ (fs : List DiskFile). LeavesOnly (IsShutOrWhole (before_in (file_of c) t.disks) bytes) fs new) fresh
-        (call.moments (before_in (file_of c) t.disks) (subst (λ (fs : List DiskFile). IfTold fs (LeavesAt (IsShutOr (before_in (file_of c) t.disks)))) (sym fresh) (fresh_shut (file_of c) t.disks)))
+  run_is_told : AreRunTold content job.run
+  run_is_told = loaded_told content job.run (in_run works.merging.run list) works.loaded
 
-    new_tells : IsTold new
-    new_tells = since_tells (LeavesAt (IsShutOrWhole (before_in (file_of c) t.disks) bytes)) (fresh_file_at (file_of c) t.disks) new moments (fresh_tells (file_of c) t.disks tells)
+  same : (ran.merged (in_run works.merging.run list) works.loaded).0 ≡ c
+  same = one_merge (in_run works.merging.run list) (ran.merged (in_run works.merging.run list) works.loaded).0 c (ran.merged (in_run works.merging.run list) works.loaded).1 works.is_merge
+
+  records : All IsShortWrite c.entries
+  records = subst (λ (x : Content). All IsShortWrite x.entries) same (ran.merged (in_run works.merging.run list) works.loaded).2
+
+  spelled : component_bytes c ≡ bytes
+  spelled = subst (λ (x : Content). component_bytes x ≡ bytes) same (ran.merged (in_run works.merging.run list) works.loaded).3
+
+  moments : LeavesOnly (IsShutOrWhole (before_in name own.was) bytes) (fresh_file_at name own.was) (history device)
+  moments = subst (λ (fs : List DiskFile). LeavesOnly (IsShutOrWhole (before_in name own.was) bytes) fs (history device)) own.made
+      (ran.moments (before_in name own.was) run_is_told (subst (λ (fs : List DiskFile). IfTold fs (LeavesAt (IsShutOr (before_in name own.was)))) (sym own.made) (fresh_shut name own.was)))
+
+  -- whatever came of it
+  pub merge_leaves : IfTold (history device) (LeavesAt (IsShutOrHas (IsComponent c)))
+  merge_leaves = ran_leaves name own.was (IsComponent c) bytes (history device) (subst (λ (fs : List DiskFile). IfTold fs (LeavesAt (IsShutOrHas (IsComponent c)))) own.made works.device) moments
+      (λ short. subst (IsComponent c) spelled (has_component c works.is_content records (subst (λ (bs : List ℕ). length bs < 2 ^ 63) (sym spelled) short)))
+
+  -- over a store that tells its files
+  pub ran_merge : IsTold disks → IfTold (history device) (λ f. length_of device ≡ length f.content) → RanMerge c disks (history device) (IsOk outcome)
+  ran_merge tells sized = record {
+    made = λ ended.
+        let is = told_map (λ f. f ≡ settled_file bytes) (λ f. f ≡ settled_file (component_bytes c)) (history device) (λ f same. same ∙ ap settled_file (sym spelled)) (ran.whole ended run_is_told) in
+        let fits = short_file (length_of device) (history device) (component_bytes c) new_tells sized is (ran.size ended) in
+        record { whole = has_component c works.is_content records fits; tells = told_now disks (λ d. IsTold (history device)) (λ told d. new_tells); content = is };
+    leaves = merge_leaves;
+  }
+    where
+      new_tells : IsTold (history device)
+      new_tells = since_tells (LeavesAt (IsShutOrWhole (before_in name own.was) bytes)) (fresh_file_at name own.was) (history device) moments (fresh_tells name own.was (where_told disks (IsTold own.was) tells own.told))

@@ -1,5 +1,5 @@
--- A part of which a run is merged on this thread: what stays, over every store.
-use Rattle.std.proofs.Common.{◌≡◌, ◌∙◌, ◌≤◌, ◌<◌, ◌+◌, ◌-◌, ℕ, List, [], ◌∷◌, ◌++◌, Option, Some, None, length, map, take, drop, refl, sym, ap, subst, arith, length-append, inl, inr}
+-- A part of which a run is merged: what stays, over every store.
+use Rattle.std.proofs.Common.{◌≡◌, ◌∙◌, ◌≤◌, ◌<◌, ◌+◌, ◌-◌, ℕ, List, [], ◌∷◌, ◌++◌, Option, length, map, take, drop, refl, sym, ap, subst, arith, length-append}
 use Rattle.std.specs.Prelude.{IsSome}
 use Rattle.std.proofs.lemmas.List.{drop-map, length-drop, length-map, length-take-le, map-append, take-map}
 use Rattle.std.proofs.lemmas.Slice.Zip.{AllZip-long}
@@ -7,7 +7,7 @@ use Rattle.std.proofs.lemmas.List.Elements.{All-append, All-cons, All-drop, All-
 use Rattle.tc_store.specs.declared.file_name.FileName.{FileName}
 use Rattle.tc_store.specs.Disk.{Disk}
 use Rattle.tc_store.specs.DiskFile.{DiskFile}
-use Rattle.tc_store.specs.StoreCalls.{comes_home, frozen_entry, makes}
+use Rattle.tc_store.specs.StoreCalls.{comes_home, frozen_entry}
 use Rattle.tc_component.specs.Loading.{ComponentState}
 use Rattle.tc_list.specs.declared.run.Run.{Run}
 use Rattle.tc_list.specs.Runs.{in_run, neighbours, swapped}
@@ -15,42 +15,18 @@ use Rattle.tc_lsm_model.specs.Contents.{Content}
 use Rattle.tc_lsm_model.specs.Lists as contents
 use Rattle.tc_lsm_model.specs.Merges.{IsMerge, merged_entries, in_run as contents_in_run, Run as Neighbours}
 use Rattle.tc_merge.specs.Merging.{AreTold as AreRunTold}
-use Rattle.tc_part.specs.MergeEnds.{HasRemovedRun, merged_name}
 use Rattle.tc_part.specs.Ready.{LiesIn}
 use Rattle.tc_part_model.specs.Calls.{RemovesSome}
 use Rattle.tc_part_model.specs.Meaning.{IsOfContent, IsPart}
 use Rattle.tc_part_model.specs.PartState.{PartState, Told, ToldComponent, AreTold, told_component}
 use Rattle.tc_part_model.specs.PartView.{PartView}
 use Rattle.tc_part_model.proofs.DeviceFiles.{comes_untold}
+use Rattle.tc_part_model.proofs.Removals.{removal_untold}
 
-module _ {S D F W : Type 0} (old mid new : PartState S D F W) where
-  -- a merge is out, and then it is back
-  pub merged_same : (w : W) (r : Neighbours) → old.merging ≡ None → mid ≡ record old { store = mid.store; main = mid.main; merger = None; merging = Some r } → new ≡ record mid { store = new.store; main = new.main; merger = Some w; merging = None; list = new.list }
-      → new ≡ record old { store = new.store; main = new.main; merger = new.merger; list = new.list }
-  merged_same w r out one two =
-      let here : new ≡ record old { store = new.store; main = new.main; merger = Some w; merging = None; list = new.list } =
-      two ∙ ap (λ (s : PartState S D F W). record s { store = new.store; main = new.main; merger = Some w; merging = None; list = new.list }) one in
-      let there : new ≡ record old { store = new.store; main = new.main; merger = Some w; list = new.list } =
-      here ∙ ap (λ (o : Option Neighbours). record old { store = new.store; main = new.main; merger = Some w; merging = o; list = new.list }) (sym out) in
-      subst (λ (s : PartState S D F W). s ≡ record old { store = s.store; main = s.main; merger = s.merger; list = s.list }) (sym there) refl
-
-  -- two runs, one after the other
-  pub merged_again : mid ≡ record old { store = mid.store; main = mid.main; merger = mid.merger; list = mid.list } → new ≡ record mid { store = new.store; main = new.main; merger = new.merger; list = new.list }
-      → new ≡ record old { store = new.store; main = new.main; merger = new.merger; list = new.list }
-  merged_again one two = two ∙ ap (λ (s : PartState S D F W). record s { store = new.store; main = new.main; merger = new.merger; list = new.list }) one
-
-  removes_untold : (names : List FileName) (disks : List Disk) → RemovesSome names [] disks → disks ≡ []
-  removes_untold [] disks is = is
-  removes_untold (name ∷ names) disks (inl is) = removes_untold names disks is
-  removes_untold (name ∷ names) disks (inr is) = removes_untold names disks is
-
-  -- a store that tells nothing tells nothing behind it
-  pub merged_untold : (disks : S → List Disk) (file_name : F → FileName) (name : FileName) (device : List DiskFile) (run : Run) → disks mid.store ≡ makes name (disks old.store) → HasRemovedRun disks file_name device run mid (disks new.store) → disks old.store ≡ [] → disks new.store ≡ []
-  merged_untold disks file_name name device run made removed untold =
-      let none : disks mid.store ≡ [] = made ∙ ap (makes name) untold in
-      removes_untold (map (λ (c : ComponentState F). file_name c.file) (in_run run mid.list)) (disks new.store)
-      (subst (λ (ds : List Disk). RemovesSome (map (λ (c : ComponentState F). file_name c.file) (in_run run mid.list)) ds (disks new.store))
-      (ap (λ (ds : List Disk). comes_home (merged_name run mid) frozen_entry device ds) none ∙ comes_untold (merged_name run mid) frozen_entry device) removed)
+-- a store that tells nothing tells nothing behind it
+pub removed_untold : {S D F W : Type 0} (old : PartState S D F W) (disks : S → List Disk) (file_name : F → FileName) (name : FileName) (device : List DiskFile) (run : Run) {now : List Disk} → disks old.store ≡ [] → RemovesSome (map (λ (c : ComponentState F). file_name c.file) (in_run run old.list)) (comes_home name frozen_entry device (disks old.store)) now → now ≡ []
+removed_untold old disks file_name name device run {now} none removed =
+    removal_untold (map (λ c. file_name c.file) (in_run run old.list)) (comes_home name frozen_entry device (disks old.store)) now removed (ap (λ ds. comes_home name frozen_entry device ds) none ∙ comes_untold name frozen_entry device)
 
 -- ---- the list
 

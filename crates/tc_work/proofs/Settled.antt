@@ -26,19 +26,18 @@ same_plain t v p q stores staged taken = ap (λ (pairs : Pairs). record { pairs 
     ∙ ap (λ (ws : List Write). record { pairs = after_writes (store_of p) ws; taken = v.taken }) staged
     ∙ ap (λ (names : List Name). record { pairs = stored_with p; taken = names }) taken
 
-pub still : (t v : Told) (p q : PartView) → IsPart v q → q.part ≡ p.part → store_of q ≡ store_of p → q.staged ≡ p.staged → v.taken ≡ t.taken → TellsFiles v → StoresStill t p v
-still t v p q is here stores staged taken tells = record { view = q; is = is; here = here; stores = stores; plain = same_plain t v p q stores staged taken; tells = tells }
-
--- a call of the part that came to be, which stores the same
-pub still_behind : (t u v : Told) (p q : PartView) → IsPart u q → q.part ≡ p.part → store_of q ≡ store_of p → q.staged ≡ p.staged → u.taken ≡ t.taken → TellsFiles u → StoresStill u q v → StoresStill t p v
-still_behind t u v p q is here stores staged taken tells two =
-    record { view = two.view; is = two.is; here = two.here ∙ here; stores = two.stores ∙ stores; plain = two.plain ∙ same_plain t u p q stores staged taken; tells = two.tells }
+pub still : (Works : PartView → Type 0) (t v : Told) (p q : PartView) → IsPart v q → q.part ≡ p.part → store_of q ≡ store_of p → q.staged ≡ p.staged → v.taken ≡ t.taken → TellsFiles v → Works q → StoresStill Works t p v
+still Works t v p q is here stores staged taken tells jobs = record { view = q; is = is; here = here; stores = stores; plain = same_plain t v p q stores staged taken; tells = tells; jobs = jobs }
 
 -- behind two calls
-pub still_then : (t u v : Told) (p : PartView) (one : StoresStill t p u) → StoresStill u one.view v → StoresStill t p v
-still_then t u v p one two = record { view = two.view; is = two.is; here = two.here ∙ one.here; stores = two.stores ∙ one.stores; plain = two.plain ∙ one.plain; tells = two.tells }
+pub still_then : (Works WorksNow : PartView → Type 0) (t u v : Told) (p : PartView) (one : StoresStill Works t p u) → StoresStill WorksNow u one.view v → StoresStill WorksNow t p v
+still_then Works WorksNow t u v p one two = record { view = two.view; is = two.is; here = two.here ∙ one.here; stores = two.stores ∙ one.stores; plain = two.plain ∙ one.plain; tells = two.tells; jobs = two.jobs }
 
 -- ---- where the store tells, so do its components
+
+-- a store that tells nothing goes on so
+abbrev pub GoesOnUntold : List Disk → List Disk → Type 0
+GoesOnUntold old new = old ≡ [] → new ≡ []
 
 pub told_now : {X : Type 0} (xs : List X) (P : X → Type 0) → (IsTold xs → (x : X) → P x) → IfTold xs P
 told_now [] P give = tt
@@ -54,26 +53,27 @@ components_still t u untold are_told go = at t.disks refl are_told
 
 -- ---- where a call fails
 
-pub as_failed : (t : Told) (part : Partition) (pairs : Pairs) (frame : Option (List Write)) → HasFailedKeeping t part pairs frame → HasFailedKeeping (record t { failed = true }) part pairs frame
-as_failed t part pairs frame has = record {
+pub as_failed : (Works : PartView → Type 0) (t : Told) (part : Partition) (pairs : Pairs) (frame : Option (List Write)) → HasFailedKeeping Works t part pairs frame → HasFailedKeeping Works (record t { failed = true }) part pairs frame
+as_failed Works t part pairs frame has = record {
   view = has.view;
   here = has.here;
   holds = has.holds;
   files = record { failed = refl; tells = has.files.tells; files = has.files.files };
   logs = record { generation = has.logs.generation; sealed_log = has.logs.sealed_log; one = has.logs.one };
+  jobs = has.jobs;
 }
 
 -- what failed as a part that stores the same keeps that
-pub whole_keeps : (t : Told) (p q : PartView) → q.part ≡ p.part → store_of q ≡ store_of p → HasFailedWhole t q → HasFailedKeeping (record t { failed = true }) p.part (store_of p) None
-whole_keeps t p q here holds has = as_failed t p.part (store_of p) None (record { view = q; here = here; holds = holds; files = has.0; logs = has.1 })
+pub whole_keeps : (Works : PartView → Type 0) (t : Told) (p q : PartView) → q.part ≡ p.part → store_of q ≡ store_of p → HasFailedWhole t q → Works q → HasFailedKeeping Works (record t { failed = true }) p.part (store_of p) None
+whole_keeps Works t p q here holds has jobs = as_failed Works t p.part (store_of p) None (record { view = q; here = here; holds = holds; files = has.0; logs = has.1; jobs = jobs })
 
 -- a call that fails as the part that it was, whose logs are as they were
-pub failed_keeps : (t u : Told) (p q : PartView) → IsPart t q → q.part ≡ p.part → store_of q ≡ store_of p → HasFailedAs u q None → u.generation ≡ t.generation → u.sealed_log ≡ t.sealed_log → HasFailedKeeping (record u { failed = true }) p.part (store_of p) None
-failed_keeps t u p q is here holds files generation sealed_log = whole_keeps u p q here holds (files, logs_stay t u q is generation sealed_log)
+pub failed_keeps : (Works : PartView → Type 0) (t u : Told) (p q : PartView) → IsPart t q → q.part ≡ p.part → store_of q ≡ store_of p → HasFailedAs u q None → u.generation ≡ t.generation → u.sealed_log ≡ t.sealed_log → Works q → HasFailedKeeping Works (record u { failed = true }) p.part (store_of p) None
+failed_keeps Works t u p q is here holds files generation sealed_log jobs = whole_keeps Works u p q here holds (files, logs_stay t u q is generation sealed_log) jobs
 
 -- and of one that stores the same
-pub keeps_of : (t : Told) (p q : PartView) → q.part ≡ p.part → store_of q ≡ store_of p → HasFailedKeeping t q.part (store_of q) None → HasFailedKeeping t p.part (store_of p) None
-keeps_of t p q here holds has = record { view = has.view; here = has.here ∙ here; holds = has.holds ∙ holds; files = has.files; logs = has.logs }
+pub keeps_of : (Works : PartView → Type 0) (t : Told) (p q : PartView) → q.part ≡ p.part → store_of q ≡ store_of p → HasFailedKeeping Works t q.part (store_of q) None → HasFailedKeeping Works t p.part (store_of p) None
+keeps_of Works t p q here holds has = record { view = has.view; here = has.here ∙ here; holds = has.holds ∙ holds; files = has.files; logs = has.logs; jobs = has.jobs }
 
 -- ---- components that are told
 

@@ -42,6 +42,9 @@ store_moments t p q disks here holds moments = at t.log moments
 pub moments_of : (t : Told) (p q : PartView) (disks : List Disk) → q.part ≡ p.part → store_of q ≡ store_of p → MomentsLeavePairs q.part (store_of q) t disks → MomentsLeavePairs p.part (store_of p) t disks
 moments_of t p q disks here holds moments = subst (λ (pairs : Pairs). MomentsLeavePairs p.part pairs t disks) holds (subst (λ (part : Partition). MomentsLeavePairs part (store_of q) t disks) here moments)
 
+pub over_of : (t : Told) (p q : PartView) (log : List DiskFile) (disks : List Disk) → q.part ≡ p.part → store_of q ≡ store_of p → MomentsLeavePairsOver q.part (store_of q) t log disks → MomentsLeavePairsOver p.part (store_of p) t log disks
+over_of t p q log disks here holds moments = subst (λ (pairs : Pairs). MomentsLeavePairsOver p.part pairs t log disks) holds (subst (λ (part : Partition). MomentsLeavePairsOver part (store_of q) t log disks) here moments)
+
 pub store_tells : (part : Partition) (pairs : Pairs) (t : Told) (p : PartView) (disks : List Disk) → IsPart t p → IsTold t.disks → MomentsLeavePairs part pairs t disks → IsTold disks
 store_tells part pairs t p disks is tells moments = at t.log (where_told t.disks (IsTold t.log) tells is.tells.active) moments
   where
@@ -85,16 +88,26 @@ module _ (part : Partition) (pairs : Pairs) where
           EachSince-trans (Over (h ∷ more) g f) t.disks u.disks disks (since_weaker (LeavesPairs part pairs g f) (Over (h ∷ more) g f) t.disks u.disks (λ disk leaves. inl leaves) (first g is))
           (since_weaker (LeavesPairs part pairs f h) (Over (h ∷ more) g f) u.disks disks (λ disk leaves. inr leaves) (second f refl))
 
-  -- what was sealed is flushed, and the next log stays
-  pub over_then : (t u : Told) (disks : List Disk) → u.sealed_log ≡ None → IsTold u.log → MomentsLeavePairsOver part pairs t u.log u.disks → MomentsLeavePairs part pairs u disks → MomentsLeavePairsOver part pairs t u.log disks
-  over_then t u disks flushed tells one two = at t.log u.log tells one (subst (λ (o : Option (List DiskFile)). MomentsSince (λ disk f g. LeavesPairs part pairs g f disk) u.disks u.log o disks) flushed two)
+  -- so it is behind calls over the logs as they were
+  pub before_over : (t v : Told) (log : List DiskFile) (disks : List Disk) → v.log ≡ t.log → ((g : DiskFile) → IsSealedFile t.sealed_log g → IsSealedFile v.sealed_log g) → MomentsLeavePairs part pairs t v.disks → MomentsLeavePairsOver part pairs v log disks
+      → MomentsLeavePairsOver part pairs t log disks
+  before_over t v log disks same sealed one two = at t.log one (subst (λ (fs : List DiskFile). MomentsSince (λ disk f g. Over log g f disk) v.disks fs v.sealed_log disks) same two)
     where
-      at : (fs hs : List DiskFile) → IsTold hs → MomentsSince (λ disk f g. Over hs g f disk) t.disks fs t.sealed_log u.disks → MomentsSince (λ disk f g. LeavesPairs part pairs g f disk) u.disks hs None disks
+      at : (fs : List DiskFile) → MomentsSince (λ disk f g. LeavesPairs part pairs g f disk) t.disks fs t.sealed_log v.disks → MomentsSince (λ disk f g. Over log g f disk) v.disks fs v.sealed_log disks
+          → MomentsSince (λ disk f g. Over log g f disk) t.disks fs t.sealed_log disks
+      at [] first second = tt
+      at (f ∷ past) first second = λ g is. EachSince-trans (Over log g f) t.disks v.disks disks (since_weaker (LeavesPairs part pairs g f) (Over log g f) t.disks v.disks (λ disk leaves. inl leaves) (first g is)) (second g (sealed g is))
+
+  -- and so while the next log stays, and what was sealed does or is flushed
+  pub over_then : (t u : Told) (disks : List Disk) → u.sealed_log ≡ Some t.log → IsTold u.log → MomentsLeavePairsOver part pairs t u.log u.disks → MomentsLeavePairs part pairs u disks → MomentsLeavePairsOver part pairs t u.log disks
+  over_then t u disks sealed tells one two = at t.log u.log tells one (subst (λ (o : Option (List DiskFile)). MomentsSince (λ disk f g. LeavesPairs part pairs g f disk) u.disks u.log o disks) sealed two)
+    where
+      at : (fs hs : List DiskFile) → IsTold hs → MomentsSince (λ disk f g. Over hs g f disk) t.disks fs t.sealed_log u.disks → MomentsSince (λ disk f g. LeavesPairs part pairs g f disk) u.disks hs (Some fs) disks
           → MomentsSince (λ disk f g. Over hs g f disk) t.disks fs t.sealed_log disks
       at [] hs told first second = tt
       at (f ∷ past) [] told first second = absurd told
       at (f ∷ past) (h ∷ more) told first second = λ g is.
-          EachSince-trans (Over (h ∷ more) g f) t.disks u.disks disks (first g is) (since_weaker (LeavesPairs part pairs f h) (Over (h ∷ more) g f) u.disks disks (λ disk leaves. inr leaves) (second f tt))
+          EachSince-trans (Over (h ∷ more) g f) t.disks u.disks disks (first g is) (since_weaker (LeavesPairs part pairs f h) (Over (h ∷ more) g f) u.disks disks (λ disk leaves. inr leaves) (second f refl))
 
 -- no moment more
 pub no_moments : (part : Partition) (pairs : Pairs) (t : Told) → MomentsLeavePairs part pairs t t.disks

@@ -1,5 +1,5 @@
 -- The faults that calls which follow each other count on the watches of a partition.
-use Rattle.std.proofs.Common.{◌≡◌, Bool, Option, Some, None, refl, sym, subst, arith, inl, inr}
+use Rattle.std.proofs.Common.{◌≡◌, Option, Some, None, refl, sym, subst, arith, inl, inr}
 use Rattle.std.specs.Prelude.{◌⊎◌, Result, Ok, Err, IfErr, IsErrOf, IsOk, option_map}
 use Rattle.tc_bytes.specs.Counts.{Rose}
 use Rattle.tc_store.specs.Counted.{Counts, IsCounted}
@@ -47,9 +47,25 @@ then_watched counts First Second Failed old mid new one two cause = record {
     at (inr (inl rose)) = inr (inl (rose_behind (option_map counts old.flusher) (option_map counts mid.flusher) (option_map counts new.flusher) one.flusher rose))
     at (inr (inr rose)) = inr (inr (rose_behind (option_map counts old.merger) (option_map counts mid.merger) (option_map counts new.merger) one.merger rose))
 
--- a call whose fault is handed on
-pub watched_so : {S D F W : Type 0} (counts : W → Counts) (Failed Cause : Type 0) (old new : PartState S D F W) → IsWatchedIn counts Cause old new → (Failed → Cause) → IsWatchedIn counts Failed old new
-watched_so counts Failed Cause old new is cause = record { main = is.main; flusher = is.flusher; merger = is.merger; cause = λ fails. is.cause (cause fails) }
+-- two calls, of which the first fails
+pub watched_before : {S D F W : Type 0} (counts : W → Counts) (Failed Second : Type 0) (old mid new : PartState S D F W) → IsWatchedIn counts Failed old mid → IsWatchedIn counts Second mid new → IsWatchedIn counts Failed old new
+watched_before counts Failed Second old mid new one two = record {
+  main = omega (arith, one.main, two.main);
+  flusher = faults_then (option_map counts old.flusher) (option_map counts mid.flusher) (option_map counts new.flusher) one.flusher two.flusher;
+  merger = faults_then (option_map counts old.merger) (option_map counts mid.merger) (option_map counts new.merger) one.merger two.merger;
+  cause = λ failed. at (one.cause failed);
+}
+  where
+    stays : (a b c : Option Counts) → FaultsRose a b → FaultsStay b c → FaultsRose a c
+    stays None b c rose stay = absurd rose
+    stays (Some a) None c rose stay = absurd rose
+    stays (Some a) (Some b) None rose stay = absurd stay
+    stays (Some a) (Some b) (Some c) rose stay = omega (arith, rose, stay)
+
+    at : Rose (counts old.main).faults (counts mid.main).faults ⊎ (FaultsRose (option_map counts old.flusher) (option_map counts mid.flusher) ⊎ FaultsRose (option_map counts old.merger) (option_map counts mid.merger)) → Rose (counts old.main).faults (counts new.main).faults ⊎ (FaultsRose (option_map counts old.flusher) (option_map counts new.flusher) ⊎ FaultsRose (option_map counts old.merger) (option_map counts new.merger))
+    at (inl rose) = inl (omega (arith, rose, two.main))
+    at (inr (inl rose)) = inr (inl (stays (option_map counts old.flusher) (option_map counts mid.flusher) (option_map counts new.flusher) rose two.flusher))
+    at (inr (inr rose)) = inr (inr (stays (option_map counts old.merger) (option_map counts mid.merger) (option_map counts new.merger) rose two.merger))
 
 -- a call that is handed the main watch alone
 pub main_watched : {S D F W : Type 0} (counts : W → Counts) (Failed Cause : Type 0) (old new : PartState S D F W) → IsCounted Cause (counts old.main) (counts new.main) → new.flusher ≡ old.flusher → new.merger ≡ old.merger → (Failed → Cause) → IsWatchedIn counts Failed old new
@@ -60,12 +76,7 @@ main_watched {W = W} counts Failed Cause old new is flusher merger cause = recor
   cause = λ failed. inl (is.cause (cause failed));
 }
 
--- the call is made of the part of an engine, which has failed or not when it is back
-pub watched_inside : {S D F W : Type 0} (counts : W → Counts) (Failed Cause : Type 0) (old seen new : PartState S D F W) (failed : Bool) → old ≡ seen → IsWatchedIn counts Cause old new → (Failed → Cause) → IsWatchedIn counts Failed seen (record new { failed = failed })
-watched_inside {S = S} {D = D} {F = F} {W = W} counts Failed Cause old seen new failed same is cause =
-    subst (λ (s : PartState S D F W). IsWatchedIn counts Failed s (record new { failed = failed })) same (record { main = is.main; flusher = is.flusher; merger = is.merger; cause = λ fails. is.cause (cause fails) })
-
--- ---- a job is run on this thread, with the watch of its kind
+-- ---- a job is begun, run and handed back, with the watch of its kind
 
 module _ {S D F W : Type 0} (counts : W → Counts) (Failed First Cause Job : Type 0) (old mid new : PartState S D F W) (w done : W) (begun : IsCounted First (counts old.main) (counts mid.main)) (ended : IsWatched Cause (counts mid.main) (counts new.main)) (ran : IsWatched Job (counts w) (counts done))
     (cause : Failed → Cause ⊎ Job) where
@@ -99,6 +110,18 @@ module _ {S D F W : Type 0} (counts : W → Counts) (Failed First Cause Job : Ty
     merger = job_stays old.merger new.merger before after;
     cause = λ failed. elim (rose failed) [ inl up ↦ inl up | inr up ↦ inr (inr (job_rose old.merger new.merger before after up)) ];
   }
+
+-- ---- what is left of a job is handed back, with its watch
+
+module _ {S D F W : Type 0} (counts : W → Counts) (Failed Cause Job : Type 0) (old new : PartState S D F W) (w done : W) (ended : IsWatched Cause (counts old.main) (counts new.main)) (ran : IsWatched Job (counts w) (counts done)) (cause : Failed → Cause ⊎ Job) where
+  still : IsCounted ⊥ (counts old.main) (counts old.main)
+  still = record { faults = omega arith; cause = λ never. absurd never; reads = refl }
+
+  pub flush_handed : old.flusher ≡ Some w → new.flusher ≡ Some done → new.merger ≡ old.merger → IsWatchedIn counts Failed old new
+  flush_handed before after other = flush_watched counts Failed ⊥ Cause Job old old new w done still ended ran cause (sym before) after other
+
+  pub merge_handed : old.merger ≡ Some w → new.merger ≡ Some done → new.flusher ≡ old.flusher → IsWatchedIn counts Failed old new
+  merge_handed before after other = merge_watched counts Failed ⊥ Cause Job old old new w done still ended ran cause (sym before) after other
 
 -- what a job counts
 pub as_watched : (Failed : Type 0) (old new : Counts) → IsCounted Failed old new → IsWatched Failed old new

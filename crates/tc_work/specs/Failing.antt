@@ -9,18 +9,19 @@ use Rattle.tc_part_model.specs.PartView.{PartView, store_of}
 use Rattle.tc_work.specs.Settling.{TellsFiles}
 
 -- It has failed. Its files keep what is stored, with the frame whose append failed or without it, and its logs are those that
--- a part has which stores that, so that the same is kept when it is closed.
-pub record HasFailedKeeping (t : Told) (part : Partition) (pairs : Pairs) (frame : Option (List Write)) : Type 0 where
+-- a part has which stores that, so that the same is kept when it is closed. The jobs that are out work for that part.
+pub record HasFailedKeeping (Works : PartView → Type 0) (t : Told) (part : Partition) (pairs : Pairs) (frame : Option (List Write)) : Type 0 where
   pub view : PartView
   pub here : view.part ≡ part
   pub holds : store_of view ≡ pairs
   pub files : HasFailedAs t view frame
   pub logs : HasLogsOf t view
+  pub jobs : Works view
 
 -- where its files were told, with what it stored
-abbrev pub FailsKeeping : Told → Told → Type 0
-FailsKeeping old new = (p : PartView) → IsPart old p → TellsFiles old → HasFailedKeeping (record new { failed = true }) p.part (store_of p) None
+abbrev pub FailsKeeping : (PartView → Type 0) → (PartView → Type 0) → Told → Told → Type 0
+FailsKeeping Works WorksNow old new = (p : PartView) → IsPart old p → TellsFiles old → Works p → HasFailedKeeping WorksNow (record new { failed = true }) p.part (store_of p) None
 
 -- without these writes, or with all of them
-abbrev pub HasFailedWith : List Write → Told → PartView → Type 0
-HasFailedWith ws t p = HasFailedKeeping t p.part (store_of p) None ⊎ HasFailedKeeping t p.part (store_of p) (Some ws)
+abbrev pub HasFailedWith : (PartView → Type 0) → List Write → Told → PartView → Type 0
+HasFailedWith Works ws t p = HasFailedKeeping Works t p.part (store_of p) None ⊎ HasFailedKeeping Works t p.part (store_of p) (Some ws)

@@ -7,3 +7,6 @@ pub mod Windowed
 pub mod Reads
 pub mod Replied
 pub mod Settling
+pub mod JobsOut
+pub mod Moving
+pub mod Ending

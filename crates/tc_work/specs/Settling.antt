@@ -1,5 +1,5 @@
 -- What a call leaves that moves documents from a table into a component: what is stored.
-use Rattle.std.specs.Prelude.{◌≡◌, ◌<◌, ◌≤◌, ◌⊎◌, ℕ, List, [], ◌∷◌, length, map, All, Option, None, Some, option_map}
+use Rattle.std.specs.Prelude.{◌≡◌, ◌<◌, ◌≤◌, ◌⊎◌, ◌+◌, ℕ, List, [], ◌∷◌, ◌++◌, length, All, Option, None, Some, option_map}
 use Rattle.tc_bytes.specs.Counts.{Rose}
 use Rattle.tc_store.specs.Counted.{Counts}
 use Rattle.tc_store.specs.Disk.{Disk}
@@ -7,7 +7,7 @@ use Rattle.tc_store.specs.DiskFile.{DiskFile}
 use Rattle.tc_store.specs.Moments.{IfTold, EachSince, LeavesAt}
 use Rattle.tc_log.specs.Layout.{empty_size}
 use Rattle.tc_component.specs.Loading.{ComponentState}
-use Rattle.tc_list.specs.Policies.{listed_least, IsPicked}
+use Rattle.tc_list.specs.Policies.{listed_least}
 use Rattle.tc_list.specs.Runs.{swapped}
 use Rattle.tc_list.specs.declared.policy.Policy.{Policy}
 use Rattle.tc_list.specs.declared.run.Run.{Run}
@@ -21,6 +21,7 @@ use Rattle.tc_part_model.specs.Meaning.{IsPart, plain_of}
 use Rattle.tc_part_model.specs.PartFiles.{IsSealedFile}
 use Rattle.tc_part_model.specs.PartState.{PartState, Told, AreTold, IsTold}
 use Rattle.tc_part_model.specs.PartView.{PartView, store_of}
+use Rattle.tc_work.specs.JobsOut.{IsPickedFrom}
 
 -- it tells its files, and those of its components
 pub record TellsFiles (t : Told) : Type 0 where
@@ -32,25 +33,27 @@ pub record MaySettle (t : Told) : Type 0 where
   pub own : HasOwnFiles t
   pub components : IfTold t.disks (λ disk. AreTold t.components)
 
--- It is a part in which the same is stored, which is the same plain store, and which tells its files.
-pub record StoresStill (old : Told) (p : PartView) (new : Told) : Type 0 where
+-- It is a part in which the same is stored, which is the same plain store, which tells its files, and for which the jobs work
+-- that are out then.
+pub record StoresStill (Works : PartView → Type 0) (old : Told) (p : PartView) (new : Told) : Type 0 where
   pub view : PartView
   pub is : IsPart new view
   pub here : view.part ≡ p.part
   pub stores : store_of view ≡ store_of p
   pub plain : plain_of new view ≡ plain_of old p
   pub tells : TellsFiles new
+  pub jobs : Works view
 
 -- what a call keeps that moves documents and ends well
-pub record StaysStored (old new : Told) : Type 0 where
-  pub stores : (p : PartView) → IsPart old p → TellsFiles old → StoresStill old p new
+pub record StaysStored (Works WorksNow : PartView → Type 0) (old new : Told) : Type 0 where
+  pub stores : (p : PartView) → IsPart old p → TellsFiles old → Works p → StoresStill WorksNow old p new
   pub ready : MaySettle new
   pub untold : old.disks ≡ [] → new.disks ≡ []
 
--- Nothing changed but where the documents are, and what the watches counted.
+-- Nothing changed but where the documents are, which jobs are out, and what the watches counted.
 abbrev pub HasOnlyMoved : {S D F W : Type 0} → PartState S D F W → PartState S D F W → Type 0
 HasOnlyMoved old new =
-    new ≡ record old { store = new.store; main = new.main; flusher = new.flusher; merger = new.merger; list = new.list; sealed = new.sealed; sealed_log = new.sealed_log; active = new.active; log = new.log; generation = new.generation; failed = new.failed }
+    new ≡ record old { store = new.store; main = new.main; flusher = new.flusher; merger = new.merger; list = new.list; sealed = new.sealed; sealed_log = new.sealed_log; active = new.active; log = new.log; generation = new.generation; flushing = new.flushing; merging = new.merging; failed = new.failed }
 
 -- ---- when
 
@@ -63,15 +66,35 @@ pub record IsDue {S D F W : Type 0} (size : D → ℕ) (part : PartState S D F W
 abbrev pub PicksNone : {F : Type 0} → Policy → List (ComponentState F) → Type 0
 PicksNone policy list = (length list < listed_least policy) ⊎ (length list < 2)
 
--- Merges one after another: each of a run that a policy picks by the sizes of the files, in whose place this component is listed.
-abbrev pub AreMerged : {F : Type 0} → Policy → (F → ℕ) → List (Run × ComponentState F) → List (ComponentState F) → List (ComponentState F) → Type 0
-AreMerged policy size [] old new = new ≡ old
-AreMerged policy size (m ∷ merges) old new = IsPicked policy (map (λ c. size c.file) old) m.0 × AreMerged policy size merges (swapped m.0 m.1 old) new
+-- What is listed of what a job made: of a flush behind all, or of a merge in place of its run.
+pub data Listed (F : Type 0) : Type 0 where
+  flushed : ComponentState F → Listed F
+  merged : Run → ComponentState F → Listed F
 
--- the list comes to be by such merges alone
-pub record IsMergedBy {F : Type 0} (policy : Policy) (size : F → ℕ) (old new : List (ComponentState F)) : Type 0 where
-  pub merges : List (Run × ComponentState F)
-  pub are : AreMerged policy size merges old new
+-- One after another. A policy picks a run by the sizes of the files that are listed when its merge begins. Behind them flushes are
+-- listed while that is out.
+abbrev pub AreListed : {F : Type 0} → Policy → (F → ℕ) → List (Listed F) → List (ComponentState F) → List (ComponentState F) → Type 0
+AreListed policy size [] old new = new ≡ old
+AreListed policy size (flushed c ∷ more) old new = AreListed policy size more (old ++ c ∷ []) new
+AreListed policy size (merged run c ∷ more) old new = IsPickedFrom policy size old run × AreListed policy size more (swapped run c old) new
+
+-- how many of them were flushed
+abbrev pub flushes : {F : Type 0} → List (Listed F) → ℕ
+flushes [] = 0
+flushes (flushed c ∷ more) = flushes more + 1
+flushes (merged run c ∷ more) = flushes more
+
+-- a table that waits for its flush counts as one
+abbrev pub waiting : {T : Type 0} → Option T → ℕ
+waiting None = 0
+waiting (Some table) = 1
+
+-- The list comes to be by such flushes and merges alone. A flush is listed for each table that was sealed, but for the one that is
+-- sealed still: a generation begins where a table is sealed.
+pub record IsListedBy {S D F W : Type 0} (policy : Policy) (size : F → ℕ) (old new : PartState S D F W) : Type 0 where
+  pub jobs : List (Listed F)
+  pub are : AreListed policy size jobs old.list new.list
+  pub flushed : flushes jobs + waiting new.sealed + old.generation ≡ waiting old.sealed + new.generation
 
 -- ---- moments
 
@@ -88,8 +111,8 @@ MomentsLeavePairs part pairs old disks =
     IfTold old.log λ f. (g : DiskFile) → IsSealedFile old.sealed_log g → EachSince (LeavesPairs part pairs g f) old.disks disks
 
 -- So it is of whatever is stored, where the files are told.
-abbrev pub MomentsStay : Told → List Disk → Type 0
-MomentsStay old disks = (p : PartView) → IsPart old p → TellsFiles old → MomentsLeavePairs p.part (store_of p) old disks
+abbrev pub MomentsStay : (PartView → Type 0) → Told → List Disk → Type 0
+MomentsStay Works old disks = (p : PartView) → IsPart old p → TellsFiles old → Works p → MomentsLeavePairs p.part (store_of p) old disks
 
 -- And so while the log is sealed once, and the next one takes its place.
 abbrev pub MomentsLeavePairsOver : Partition → Pairs → Told → List DiskFile → List Disk → Type 0
@@ -97,8 +120,8 @@ MomentsLeavePairsOver part pairs old log disks =
     IfTold old.log λ f. (g : DiskFile) → IsSealedFile old.sealed_log g
     → EachSince (λ disk. LeavesPairs part pairs g f disk ⊎ IfTold log (λ h. LeavesPairs part pairs f h disk)) old.disks disks
 
-abbrev pub MomentsStayOver : Told → List DiskFile → List Disk → Type 0
-MomentsStayOver old log disks = (p : PartView) → IsPart old p → TellsFiles old → MomentsLeavePairsOver p.part (store_of p) old log disks
+abbrev pub MomentsStayOver : (PartView → Type 0) → Told → List DiskFile → List Disk → Type 0
+MomentsStayOver Works old log disks = (p : PartView) → IsPart old p → TellsFiles old → Works p → MomentsLeavePairsOver p.part (store_of p) old log disks
 
 -- each moment of the next log, which a call made: its file is absent, closed, or a log without a frame
 abbrev pub NextLogs : Partition → ℕ → List DiskFile → Type 0

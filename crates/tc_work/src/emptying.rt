@@ -1,49 +1,78 @@
-//! The log of the active table is emptied: the table is sealed, and flushed.
+//! The log of the active table is emptied: the table is sealed, and its flush begins.
 
-ghost use Rattle.std.specs.Prelude.{◌≡◌, ◌≤◌, ◌<◌, ◌+◌, ◌^◌, ◌++◌, ◌∷◌, [], None, true, false, length, IfErr, IsErrOf, OnErr, OnOk};
+ghost use Rattle.std.specs.Prelude.{◌≡◌, ◌≤◌, ◌<◌, ◌+◌, ◌^◌, ◌++◌, ◌∷◌, [], None, Ok, true, false, is_some, length, IfErr, IsErrOf, OnErr, OnOk};
 ghost use Rattle.tc_component.specs.Loading.{ComponentState};
+ghost use Rattle.tc_jobs.specs.Faults.{AreFiles};
 ghost use Rattle.tc_jobs.specs.Lists.{file_names};
+ghost use Rattle.tc_list.specs.declared.policy.Policy.{Policy};
 ghost use Rattle.tc_log.specs.Layout.{empty_size};
 ghost use Rattle.tc_part.specs.FilesOut.{LogIsOut, OnlyDevicesOut, TellsLogs};
+ghost use Rattle.tc_part.specs.FlushEnds.{flushed_name};
 ghost use Rattle.tc_part_model.specs.Meaning.{IsPart};
 ghost use Rattle.tc_part_model.specs.PartState.{told};
 ghost use Rattle.tc_part_model.specs.PartView.{PartView, store_of};
 ghost use Rattle.tc_store.specs.declared.file_name.FileName.TheVariants.{Component as component_name};
 ghost use Rattle.tc_work.specs.Failing.{HasFailedKeeping};
-ghost use Rattle.tc_work.specs.Faults.{AreOfFiles, IfDamaged};
-ghost use Rattle.tc_work.specs.Settling.{HasOnlyMoved, IsWatchedIn, MaySettle, MomentsLeavePairsOver, NextLogs, StoresStill, TellsFiles};
+ghost use Rattle.tc_work.specs.Faults.{AreOfComponents, AreOfFiles, IfDamaged};
+ghost use Rattle.tc_work.specs.JobsOut.{watched_part, AreOut, WorkFor};
+ghost use Rattle.tc_work.specs.Moving.{beside, eyes, IsPickedBy, ListsPicked, MayMove, Moves, MovesOver};
+ghost use Rattle.tc_work.specs.Settling.{HasOnlyMoved, IsListedBy, IsWatchedIn, MaySettle, MomentsLeavePairsOver, NextLogs, StoresStill, TellsFiles};
 
 use crate::engine::Engine;
 use crate::fault::EngineFault;
-use crate::flushing::flush_sealed;
+use crate::flushing::{install_flush, start_flush};
+use crate::merging::start_merge;
+use crate::room::{MOST_LISTED, make_room};
 use std::alloc::Global;
+use std::sync::Arc;
+use std::thread::Threads;
+use tc_list::Policy;
 use tc_part::Part;
-use tc_part_model::{failed_parts_keep_files, moments_follow};
+use tc_running::{Pace, Running};
 use tc_store::Store;
 
 /// The length of a log without a frame.
 pub(crate) const EMPTY_LOG: u64 = 22;
 
-impl<S: Store> Engine<S> {
-    /// Seals the active table, and flushes it on this thread: one more component is listed, and both tables are empty. Does
-    /// nothing where the log has no frame. Merges nothing. `Spent` comes only where the active log has the generation 2^63 - 1.
-    pub fn force_flush(&mut self, alloc: Global) -> Result<(), EngineFault>
+impl<S: Store, P: Pace> Engine<S, P> {
+    /// Flushes both tables, and waits until they are: what they hold is in components, which are listed. Does nothing where the
+    /// log has no frame and no table is sealed. `Spent` comes only where the active log has the generation 2^63 - 1.
+    pub fn force_flush<R: Threads>(
+        &mut self,
+        rt: &R,
+        alloc: Global,
+        jobs: &mut Running<S>,
+    ) -> Result<(), EngineFault>
+    where
+        S: 'static,
+        S::Device: 'static,
+        S::Frozen: 'static,
+        S::Watch: 'static,
+        P: 'static,
         requires sound { self.old.part.failed ≡ false }
         requires ready { MaySettle (told S.history S.Device.history S.Frozen.content self.old.part) }
+        requires jobs { AreOut S.history S.Device.history S.Frozen.content S.Device.name self.old.part jobs.old }
+
+        // Whatever it answers, the jobs are those of the engine that are out.
+        ensures jobs { AreOut S.history S.Device.history S.Frozen.content S.Device.name self.new.part jobs.new }
 
         // Where the files are told the engine stores what it stored.
-        ensures stores { OnOk result ((p : PartView) → IsPart (told S.history S.Device.history S.Frozen.content self.old.part) p → TellsFiles (told S.history S.Device.history S.Frozen.content self.old.part) → StoresStill (told S.history S.Device.history S.Frozen.content self.old.part) p (told S.history S.Device.history S.Frozen.content self.new.part)) }
+        ensures stores { OnOk result ((p : PartView) → IsPart (told S.history S.Device.history S.Frozen.content self.old.part) p → TellsFiles (told S.history S.Device.history S.Frozen.content self.old.part) → WorkFor S.Frozen.content S.Device.history S.Device.name jobs.old p → StoresStill (WorkFor S.Frozen.content S.Device.history S.Device.name jobs.new) (told S.history S.Device.history S.Frozen.content self.old.part) p (told S.history S.Device.history S.Frozen.content self.new.part)) }
         ensures sound { OnOk result (self.new.part.failed ≡ false) }
         ensures ready { OnOk result (MaySettle (told S.history S.Device.history S.Frozen.content self.new.part)) }
 
-        // So it is over every store: a log without a frame stays, and all else with it. Where it has one, the table is in one more
-        // component, no table is left, and the next log has no frame.
-        ensures nothing { S.Device.size self.old.part.log.device ≤ empty_size → self.new ≡ self.old }
-        ensures flushed { OnOk result (empty_size < S.Device.size self.old.part.log.device → self.new.part ≡ record self.old.part { store = self.new.part.store; main = self.new.part.main; flusher = self.new.part.flusher; list = self.new.part.list; sealed = None; sealed_log = None; active = []; log = self.new.part.log; generation = self.old.part.generation + 1 }) }
-        ensures listed { OnOk result (empty_size < S.Device.size self.old.part.log.device → length self.new.part.list ≡ length self.old.part.list + 1) }
+        // So it is over every store: where the log has no frame and no table is sealed, all stays. Else what both tables hold is in
+        // components, no table is left, and the log has no frame.
+        ensures nothing { S.Device.size self.old.part.log.device ≤ empty_size → self.old.part.sealed ≡ None → (self.new ≡ self.old) × (jobs.new ≡ jobs.old) }
+        ensures written { OnOk result (empty_size < S.Device.size self.old.part.log.device → (self.new.part.active ≡ []) × (self.new.part.sealed_log ≡ None) × (self.new.part.generation ≡ self.old.part.generation + 1)) }
+        ensures unwritten { OnOk result (S.Device.size self.old.part.log.device ≤ empty_size → (self.new.part.active ≡ self.old.part.active) × (self.new.part.log ≡ self.old.part.log) × (self.new.part.generation ≡ self.old.part.generation)) }
+        ensures listed { OnOk result (IsListedBy self.old.policy (λ f. S.Frozen.size f) self.old.part self.new.part) }
         ensures empty { OnOk result (S.Device.size self.new.part.log.device ≤ empty_size) }
-        ensures none_sealed { OnOk result (self.new.part.sealed ≡ None) }
-        ensures emptied { OnOk result ((p : PartView) → IsPart (told S.history S.Device.history S.Frozen.content self.old.part) p → TellsFiles (told S.history S.Device.history S.Frozen.content self.old.part) → self.new.part.active ≡ []) }
+        ensures none_sealed { OnOk result ((self.new.part.sealed ≡ None) × (self.new.part.flushing ≡ false)) }
+
+        // Where no table was sealed, and there was room for one more component, nothing is merged meanwhile.
+        ensures flushed { OnOk result (empty_size < S.Device.size self.old.part.log.device → self.old.part.sealed ≡ None → length self.old.part.list < 8 → (c : ComponentState S.Frozen) × (self.new.part.list ≡ self.old.part.list ++ c ∷ [])) }
+        ensures emptied { OnOk result ((p : PartView) → IsPart (told S.history S.Device.history S.Frozen.content self.old.part) p → TellsFiles (told S.history S.Device.history S.Frozen.content self.old.part) → WorkFor S.Frozen.content S.Device.history S.Device.name jobs.old p → self.new.part.active ≡ []) }
         ensures moved { HasOnlyMoved self.old.part self.new.part }
         ensures policy { self.new.policy ≡ self.old.policy }
         ensures untold { OnOk result (S.history self.old.part.store ≡ [] → S.history self.new.part.store ≡ []) }
@@ -56,63 +85,163 @@ impl<S: Store> Engine<S> {
         ensures log_out_spent { IsErrOf result EngineFault.Spent → LogIsOut (told S.history S.Device.history S.Frozen.content self.old.part) → LogIsOut (told S.history S.Device.history S.Frozen.content self.new.part) }
 
         // At each moment of the call a stop leaves what was stored, and so it does behind a fault.
-        ensures moments { (p : PartView) → IsPart (told S.history S.Device.history S.Frozen.content self.old.part) p → TellsFiles (told S.history S.Device.history S.Frozen.content self.old.part) → MomentsLeavePairsOver p.part (store_of p) (told S.history S.Device.history S.Frozen.content self.old.part) (S.Device.history self.new.part.log.device) (S.history self.new.part.store) }
-        ensures next_log { (p : PartView) → IsPart (told S.history S.Device.history S.Frozen.content self.old.part) p → self.new.part.generation ≡ self.old.part.generation + 1 → NextLogs p.part self.new.part.generation (S.Device.history self.new.part.log.device) }
-        ensures failed { OnErr result ((p : PartView) → IsPart (told S.history S.Device.history S.Frozen.content self.old.part) p → TellsFiles (told S.history S.Device.history S.Frozen.content self.old.part) → HasFailedKeeping (told S.history S.Device.history S.Frozen.content self.new.part) p.part (store_of p) None) }
+        ensures moments { (p : PartView) → IsPart (told S.history S.Device.history S.Frozen.content self.old.part) p → TellsFiles (told S.history S.Device.history S.Frozen.content self.old.part) → WorkFor S.Frozen.content S.Device.history S.Device.name jobs.old p → MomentsLeavePairsOver p.part (store_of p) (told S.history S.Device.history S.Frozen.content self.old.part) (S.Device.history self.new.part.log.device) (S.history self.new.part.store) }
+        ensures next_log { (p : PartView) → IsPart (told S.history S.Device.history S.Frozen.content self.old.part) p → WorkFor S.Frozen.content S.Device.history S.Device.name jobs.old p → self.new.part.generation ≡ self.old.part.generation + 1 → NextLogs p.part self.new.part.generation (S.Device.history self.new.part.log.device) }
+        ensures failed { OnErr result ((p : PartView) → IsPart (told S.history S.Device.history S.Frozen.content self.old.part) p → TellsFiles (told S.history S.Device.history S.Frozen.content self.old.part) → WorkFor S.Frozen.content S.Device.history S.Device.name jobs.old p → HasFailedKeeping (WorkFor S.Frozen.content S.Device.history S.Device.name jobs.new) (told S.history S.Device.history S.Frozen.content self.new.part) p.part (store_of p) None) }
         ensures left { OnErr result (self.new.part.failed ≡ true) }
 
-        // Damage is that the listed components do not go together with the table, or is in the file that the flush made. Where the
-        // files are told there is none.
-        ensures damaged { IfErr result (λ fault. IfDamaged fault (AreOfFiles (file_names self.old.part.list) (component_name self.old.part.generation self.old.part.generation))) }
-        ensures undamaged { (p : PartView) → IsPart (told S.history S.Device.history S.Frozen.content self.old.part) p → TellsFiles (told S.history S.Device.history S.Frozen.content self.old.part) → IfErr result (λ fault. IfDamaged fault (λ damage. ⊥)) }
+        // Damage is of a component, or components do not go together: where nothing is merged, the listed ones with the table, or with
+        // the one that the flush made. Where the files are told there is none.
+        ensures damaged { IfErr result (λ fault. IfDamaged fault AreOfComponents) }
+        ensures damaged_alone { self.old.part.sealed ≡ None → length self.old.part.list < 8 → IfErr result (λ fault. IfDamaged fault (AreOfFiles (file_names self.old.part.list) (component_name self.old.part.generation self.old.part.generation))) }
+        ensures undamaged { (p : PartView) → IsPart (told S.history S.Device.history S.Frozen.content self.old.part) p → TellsFiles (told S.history S.Device.history S.Frozen.content self.old.part) → WorkFor S.Frozen.content S.Device.history S.Device.name jobs.old p → IfErr result (λ fault. IfDamaged fault (λ damage. ⊥)) }
         ensures spent { IsErrOf result EngineFault.Spent → self.old.part.generation + 1 ≡ 2 ^ 63 }
         ensures unmoved { IsErrOf result EngineFault.Spent → self.new.part.generation ≡ self.old.part.generation }
-        ensures watched { IsWatchedIn (λ w. S.Watch.counts w) (IsErrOf result EngineFault.Disk) self.old.part self.new.part }
+        ensures watched { IsWatchedIn (λ w. S.Watch.counts w) (IsErrOf result EngineFault.Disk) (watched_part self.old.part jobs.old) (watched_part self.new.part jobs.new) }
     {
-        if self.part.log_len() <= EMPTY_LOG {
-            return Ok(());
-        }
         self.failed = true;
-        seal_and_flush(alloc, &mut self.part)?;
+        flush_both(
+            rt,
+            alloc,
+            &mut self.part,
+            jobs,
+            self.policy,
+            &self.progress.pace,
+        )?;
         self.failed = false;
         Ok(())
     }
 }
 
-/// Seals the active table, and flushes it.
-pub(crate) fn seal_and_flush<S: Store>(alloc: Global, part: &mut Part<S>) -> Result<(), EngineFault>
-    requires sound { part.old.failed ≡ false }
-    requires none_flushing { part.old.flushing ≡ false }
-    requires none_merging { part.old.merging ≡ None }
+/// Flushes the sealed table, and then the active one where its log has a frame.
+fn flush_both<S: Store + 'static, P: Pace + 'static, R: Threads>(
+    rt: &R,
+    alloc: Global,
+    part: &mut Part<S>,
+    jobs: &mut Running<S>,
+    policy: Policy,
+    pace: &Arc<P>,
+) -> Result<(), EngineFault>
+where
+    S::Device: 'static,
+    S::Frozen: 'static,
+    S::Watch: 'static,
+    requires may { MayMove (eyes S.history S.Device.history S.Frozen.content S.Device.name S.Frozen.size S.Watch.counts) (beside part.old jobs.old) }
+    requires nothing_staged { part.old.staged ≡ [] }
+    requires flushing { part.old.flushing ≡ is_some part.old.sealed }
+    requires picked { IsPickedBy (eyes S.history S.Device.history S.Frozen.content S.Device.name S.Frozen.size S.Watch.counts) policy (beside part.old jobs.old) }
+    ensures ended { OnOk result ((part.new.sealed ≡ None) × (part.new.flushing ≡ false) × (S.Device.size part.new.log.device ≤ empty_size)) }
+    ensures nothing { S.Device.size part.old.log.device ≤ empty_size → part.old.sealed ≡ None → (result ≡ Ok tt) × (part.new ≡ part.old) × (jobs.new ≡ jobs.old) }
+    ensures written { OnOk result (empty_size < S.Device.size part.old.log.device → (part.new.active ≡ []) × (part.new.sealed_log ≡ None) × (part.new.generation ≡ part.old.generation + 1)) }
+    ensures unwritten { OnOk result (S.Device.size part.old.log.device ≤ empty_size → (part.new.active ≡ part.old.active) × (part.new.log ≡ part.old.log) × (part.new.generation ≡ part.old.generation)) }
+    ensures flushed { OnOk result (empty_size < S.Device.size part.old.log.device → part.old.sealed ≡ None → length part.old.list < 8 → (c : ComponentState S.Frozen) × (part.new.list ≡ part.old.list ++ c ∷ [])) }
+    ensures moves { MovesOver (eyes S.history S.Device.history S.Frozen.content S.Device.name S.Frozen.size S.Watch.counts) result (beside part.old jobs.old) (beside part.new jobs.new) }
+    ensures listed { OnOk result (ListsPicked (eyes S.history S.Device.history S.Frozen.content S.Device.name S.Frozen.size S.Watch.counts) policy (beside part.old jobs.old) (beside part.new jobs.new)) }
+
+    // Where nothing is merged damage is that the listed components do not go together with the table, or with the one that the flush
+    // made, or is in the file of that.
+    ensures damaged { part.old.sealed ≡ None → length part.old.list < 8 → IfErr result (λ fault. IfDamaged fault (AreOfFiles (file_names part.old.list) (component_name part.old.generation part.old.generation))) }
+{
+    end_flush(rt, alloc, part, jobs, policy, pace)?;
+    if part.log_len() <= EMPTY_LOG {
+        return Ok(());
+    }
+    flush_active(rt, alloc, part, jobs, policy, pace)
+}
+
+/// Seals the active table, and waits for its flush.
+fn flush_active<S: Store + 'static, P: Pace + 'static, R: Threads>(
+    rt: &R,
+    alloc: Global,
+    part: &mut Part<S>,
+    jobs: &mut Running<S>,
+    policy: Policy,
+    pace: &Arc<P>,
+) -> Result<(), EngineFault>
+where
+    S::Device: 'static,
+    S::Frozen: 'static,
+    S::Watch: 'static,
+    requires may { MayMove (eyes S.history S.Device.history S.Frozen.content S.Device.name S.Frozen.size S.Watch.counts) (beside part.old jobs.old) }
     requires nothing_staged { part.old.staged ≡ [] }
     requires none_sealed { part.old.sealed ≡ None }
-    requires ready { MaySettle (told S.history S.Device.history S.Frozen.content part.old) }
-    ensures stores { OnOk result ((p : PartView) → IsPart (told S.history S.Device.history S.Frozen.content part.old) p → TellsFiles (told S.history S.Device.history S.Frozen.content part.old) → StoresStill (told S.history S.Device.history S.Frozen.content part.old) p (told S.history S.Device.history S.Frozen.content part.new)) }
-    ensures ready { OnOk result (MaySettle (told S.history S.Device.history S.Frozen.content part.new)) }
-    ensures same { OnOk result (part.new ≡ record part.old { store = part.new.store; main = part.new.main; flusher = part.new.flusher; list = part.new.list; sealed = None; sealed_log = None; active = []; log = part.new.log; generation = part.old.generation + 1 }) }
-    ensures behind { OnOk result ((c : ComponentState S.Frozen) × (part.new.list ≡ part.old.list ++ c ∷ [])) }
-    ensures listed { OnOk result (length part.new.list ≡ length part.old.list + 1) }
-    ensures empty { OnOk result (S.Device.size part.new.log.device ≡ empty_size) }
-    ensures untold { OnOk result (S.history part.old.store ≡ [] → S.history part.new.store ≡ []) }
+    requires none_out { part.old.flushing ≡ false }
+    requires picked { IsPickedBy (eyes S.history S.Device.history S.Frozen.content S.Device.name S.Frozen.size S.Watch.counts) policy (beside part.old jobs.old) }
+    ensures ended { OnOk result ((part.new.sealed ≡ None) × (part.new.sealed_log ≡ None) × (part.new.flushing ≡ false)) }
+    ensures emptied { OnOk result ((part.new.active ≡ []) × (S.Device.size part.new.log.device ≡ empty_size) × (part.new.generation ≡ part.old.generation + 1)) }
+    ensures flushed { OnOk result (length part.old.list < 8 → (c : ComponentState S.Frozen) × (part.new.list ≡ part.old.list ++ c ∷ [])) }
+    ensures moves { MovesOver (eyes S.history S.Device.history S.Frozen.content S.Device.name S.Frozen.size S.Watch.counts) result (beside part.old jobs.old) (beside part.new jobs.new) }
+    ensures listed { OnOk result (ListsPicked (eyes S.history S.Device.history S.Frozen.content S.Device.name S.Frozen.size S.Watch.counts) policy (beside part.old jobs.old) (beside part.new jobs.new)) }
 
-    // At each moment of the call a stop leaves what was stored, and so it does behind a fault.
-    ensures moments { (p : PartView) → IsPart (told S.history S.Device.history S.Frozen.content part.old) p → TellsFiles (told S.history S.Device.history S.Frozen.content part.old) → MomentsLeavePairsOver p.part (store_of p) (told S.history S.Device.history S.Frozen.content part.old) (S.Device.history part.new.log.device) (S.history part.new.store) }
-    ensures failed { OnErr result ((p : PartView) → IsPart (told S.history S.Device.history S.Frozen.content part.old) p → TellsFiles (told S.history S.Device.history S.Frozen.content part.old) → HasFailedKeeping (record (told S.history S.Device.history S.Frozen.content part.new) { failed = true }) p.part (store_of p) None) }
-    ensures moved { HasOnlyMoved part.old part.new }
-    ensures devices { TellsLogs (told S.history S.Device.history S.Frozen.content part.old) → OnlyDevicesOut (told S.history S.Device.history S.Frozen.content part.old) → OnlyDevicesOut (told S.history S.Device.history S.Frozen.content part.new) }
-    ensures log_out { OnOk result (LogIsOut (told S.history S.Device.history S.Frozen.content part.old) → LogIsOut (told S.history S.Device.history S.Frozen.content part.new)) }
-    ensures log_out_spent { IsErrOf result EngineFault.Spent → LogIsOut (told S.history S.Device.history S.Frozen.content part.old) → LogIsOut (told S.history S.Device.history S.Frozen.content part.new) }
-    ensures no_flush { part.new.flushing ≡ false }
-    ensures no_merge { part.new.merging ≡ None }
-    ensures next_log { (p : PartView) → IsPart (told S.history S.Device.history S.Frozen.content part.old) p → part.new.generation ≡ part.old.generation + 1 → NextLogs p.part part.new.generation (S.Device.history part.new.log.device) }
-    ensures damaged { IfErr result (λ fault. IfDamaged fault (AreOfFiles (file_names part.old.list) (component_name part.old.generation part.old.generation))) }
-    ensures undamaged { (p : PartView) → IsPart (told S.history S.Device.history S.Frozen.content part.old) p → TellsFiles (told S.history S.Device.history S.Frozen.content part.old) → IfErr result (λ fault. IfDamaged fault (λ damage. ⊥)) }
-    ensures spent { IsErrOf result EngineFault.Spent → part.old.generation + 1 ≡ 2 ^ 63 }
-    ensures unmoved { IsErrOf result EngineFault.Spent → part.new.generation ≡ part.old.generation }
-    ensures watched { IsWatchedIn (λ w. S.Watch.counts w) (IsErrOf result EngineFault.Disk) part.old part.new }
+    // Where nothing is merged damage is that the listed components do not go together with the table, or with the one that the flush
+    // made, or is in the file of that.
+    ensures damaged { length part.old.list < 8 → IfErr result (λ fault. IfDamaged fault (AreOfFiles (file_names part.old.list) (component_name part.old.generation part.old.generation))) }
 {
-    failed_parts_keep_files();
-    moments_follow();
+    seal_and_start(rt, alloc, part, jobs, pace)?;
+    end_flush(rt, alloc, part, jobs, policy, pace)
+}
+
+/// Lists what the flush makes that is out, for which room is made, and starts the merge that the policy picks then. Does nothing
+/// where none is out.
+pub(crate) fn end_flush<S: Store + 'static, P: Pace + 'static, R: Threads>(
+    rt: &R,
+    alloc: Global,
+    part: &mut Part<S>,
+    jobs: &mut Running<S>,
+    policy: Policy,
+    pace: &Arc<P>,
+) -> Result<(), EngineFault>
+where
+    S::Device: 'static,
+    S::Frozen: 'static,
+    S::Watch: 'static,
+    requires may { MayMove (eyes S.history S.Device.history S.Frozen.content S.Device.name S.Frozen.size S.Watch.counts) (beside part.old jobs.old) }
+    requires picked { IsPickedBy (eyes S.history S.Device.history S.Frozen.content S.Device.name S.Frozen.size S.Watch.counts) policy (beside part.old jobs.old) }
+    ensures ended { OnOk result (part.old.flushing ≡ true → (part.new.sealed ≡ None) × (part.new.sealed_log ≡ None)) }
+    ensures none_out { OnOk result (part.new.flushing ≡ false) }
+    ensures installed { OnOk result (part.new ≡ record part.old { store = part.new.store; main = part.new.main; flusher = part.new.flusher; merger = part.new.merger; list = part.new.list; sealed = part.new.sealed; sealed_log = part.new.sealed_log; flushing = part.new.flushing; merging = part.new.merging }) }
+    ensures nothing { part.old.flushing ≡ false → (result ≡ Ok tt) × (part.new ≡ part.old) × (jobs.new ≡ jobs.old) }
+    ensures behind { OnOk result (part.old.flushing ≡ true → length part.old.list < 8 → (c : ComponentState S.Frozen) × (part.new.list ≡ part.old.list ++ c ∷ [])) }
+    ensures moves { Moves (eyes S.history S.Device.history S.Frozen.content S.Device.name S.Frozen.size S.Watch.counts) result (beside part.old jobs.old) (beside part.new jobs.new) }
+    ensures listed { OnOk result (ListsPicked (eyes S.history S.Device.history S.Frozen.content S.Device.name S.Frozen.size S.Watch.counts) policy (beside part.old jobs.old) (beside part.new jobs.new)) }
+
+    // Where nothing is merged damage is that the listed components do not go together with the one that the flush made, or is in the
+    // file of that.
+    ensures damaged { length part.old.list < 8 → IfErr result (λ fault. IfDamaged fault (AreOfFiles (file_names part.old.list) (flushed_name part.old))) }
+{
+    if !jobs.is_flushing() {
+        return Ok(());
+    }
+    make_room(rt, alloc, part, jobs, policy, pace, MOST_LISTED - 1)?;
+    install_flush(rt, alloc, part, jobs)?;
+    start_merge(rt, alloc, part, jobs, policy, pace)
+}
+
+/// Seals the active table, and starts its flush.
+pub(crate) fn seal_and_start<S: Store + 'static, P: Pace + 'static, R: Threads>(
+    rt: &R,
+    alloc: Global,
+    part: &mut Part<S>,
+    jobs: &mut Running<S>,
+    pace: &Arc<P>,
+) -> Result<(), EngineFault>
+where
+    S::Device: 'static,
+    S::Frozen: 'static,
+    S::Watch: 'static,
+    requires may { MayMove (eyes S.history S.Device.history S.Frozen.content S.Device.name S.Frozen.size S.Watch.counts) (beside part.old jobs.old) }
+    requires nothing_staged { part.old.staged ≡ [] }
+    requires none_sealed { part.old.sealed ≡ None }
+    requires none_out { part.old.flushing ≡ false }
+    ensures sealed { OnOk result ((part.new.flushing ≡ true) × (is_some part.new.sealed ≡ true) × (part.new.sealed_log ≡ Some part.old.log)) }
+    ensures emptied { OnOk result ((part.new.active ≡ []) × (S.Device.size part.new.log.device ≡ empty_size) × (part.new.generation ≡ part.old.generation + 1)) }
+    ensures list { OnOk result (part.new.list ≡ part.old.list) }
+    ensures moves { MovesOver (eyes S.history S.Device.history S.Frozen.content S.Device.name S.Frozen.size S.Watch.counts) result (beside part.old jobs.old) (beside part.new jobs.new) }
+    ensures listed { OnOk result ((policy : Policy) → IsPickedBy (eyes S.history S.Device.history S.Frozen.content S.Device.name S.Frozen.size S.Watch.counts) policy (beside part.old jobs.old) → ListsPicked (eyes S.history S.Device.history S.Frozen.content S.Device.name S.Frozen.size S.Watch.counts) policy (beside part.old jobs.old) (beside part.new jobs.new)) }
+
+    // Damage is that the listed components do not go together with the table.
+    ensures damaged { IfErr result (λ fault. IfDamaged fault (AreFiles (file_names part.old.list))) }
+{
     part.seal(alloc)?;
-    flush_sealed(alloc, part)
+    start_flush(rt, alloc, part, jobs, pace)
 }

@@ -1,20 +1,25 @@
 //! The engine: one partition, how its components are merged, and whether a call failed.
 
+use crate::progress::Progress;
 use std::marker::Model;
+use std::sync::Arc;
 use tc_list::Policy;
 use tc_part::Part;
+use tc_running::Pace;
 use tc_store::Store;
 
-/// An engine over one partition. Between two calls nothing is staged, and no job of the partition is out: a flush or a merge is
-/// run by the call that begins it. After a call that answers a fault the engine has failed, and takes no more windows.
+/// An engine over one partition. Between two calls nothing is staged, and a flush is out where a table is sealed; a merge may be
+/// out too. The jobs that are out stand beside the engine, and are handed to the calls that begin and end them. After a call that
+/// answers a fault the engine has failed, and takes no more windows.
 #[derive(Drop)]
-pub struct Engine<S: Store> {
+pub struct Engine<S: Store, P: Pace> {
     pub(crate) part: Part<S>,
     pub(crate) policy: Policy,
+    pub(crate) progress: Progress<P>,
     pub(crate) failed: bool,
 }
 
-impl<S: Store> Model for Engine<S> {
+impl<S: Store, P: Pace> Model for Engine<S, P> {
     ghost use Rattle.std.specs.Coded.{codes};
     ghost use Rattle.tc_memory.specs.Table.{coded_table};
     ghost use Rattle.tc_schema_model.specs.CountedCode.{coded_counted};
@@ -26,24 +31,27 @@ impl<S: Store> Model for Engine<S> {
 
     ghost view = { λ e. record { part = record e.part { failed = e.failed }; policy = e.policy } };
 
-    ghost invariant = { λ e. IsBetweenCalls e.part e.failed };
+    ghost invariant = { λ e. IsBetweenCalls (λ f. S.Frozen.size f) e.policy e.part e.failed };
 }
 
-impl<S: Store> Engine<S> {
+impl<S: Store, P: Pace> Engine<S, P> {
     ghost use Rattle.std.specs.Prelude.{◌≡◌, [], None, false, is_some, length};
+    ghost use Rattle.tc_work.specs.JobsOut.{AreOut};
 
-    /// The engine of a part, whose components are merged by this policy. Starts nothing.
-    pub fn new(part: Part<S>, policy: Policy) -> Engine<S>
+    /// The engine of a part, whose components are merged by this policy, and whose run comes to points of this pace. Starts nothing.
+    pub fn new(part: Part<S>, policy: Policy, pace: Arc<P>) -> Engine<S, P>
         requires nothing_staged { part.staged ≡ [] }
         requires none_sealed { part.sealed ≡ None }
         requires no_flush { part.flushing ≡ false }
         requires no_merge { part.merging ≡ None }
-        ensures { result ≡ record { part = part; policy = policy } }
+        ensures made { result ≡ record { part = part; policy = policy } }
+        ensures jobs { AreOut S.history S.Device.history S.Frozen.content S.Device.name result.part (record { flush = None; merge = None }) }
     {
         Engine {
             failed: part.failed(),
             part,
             policy,
+            progress: Progress::new(pace),
         }
     }
 

@@ -1,10 +1,11 @@
 //! An engine ends.
 
-ghost use Rattle.std.specs.Prelude.{◌≡◌, ◌≤◌, ◌-◌, false, List, [], ◌∷◌, Ok, Option, Some, None, option_map};
+ghost use Rattle.std.specs.Prelude.{◌≡◌, ◌≤◌, ◌-◌, false, true, List, [], ◌∷◌, Ok, Option, Some, None, is_some, option_map, IfErr, IsErrOf, OnErr, OnOk};
+ghost use Rattle.tc_list.specs.declared.policy.Policy.{Policy};
 ghost use Rattle.tc_log.specs.Layout.{empty_size};
 ghost use Rattle.tc_lsm_model.specs.Contents.{Partition};
 ghost use Rattle.tc_part.specs.Closing.{brought_home};
-ghost use Rattle.tc_part.specs.FilesOut.{OnlyDevicesOut, TellsLogs};
+ghost use Rattle.tc_part.specs.FilesOut.{LogIsOut, OnlyDevicesOut, TellsLogs};
 ghost use Rattle.tc_part_model.specs.Leaving.{FailedMomentsLeaveStore, KeepsStore, OpensAs};
 ghost use Rattle.tc_part_model.specs.Meaning.{IsPart};
 ghost use Rattle.tc_part_model.specs.PartState.{told};
@@ -12,53 +13,270 @@ ghost use Rattle.tc_part_model.specs.PartView.{PartView, store_of};
 ghost use Rattle.tc_plain_model.specs.Writes.{Pairs, Write as PlainWrite};
 ghost use Rattle.tc_store.specs.declared.file_name.FileName.{FileName};
 ghost use Rattle.tc_store.specs.declared.file_name.FileName.TheVariants.{Log as log_name};
-ghost use Rattle.tc_store.specs.Disk.{is_out};
+ghost use Rattle.tc_store.specs.Disk.{is_out, IsThere};
 ghost use Rattle.tc_store.specs.Moments.{IfTold};
+ghost use Rattle.tc_work.specs.Ending.{EndsSmall, Finishes, GivesBack, HasNothingToDo};
 ghost use Rattle.tc_work.specs.Failing.{HasFailedKeeping};
-ghost use Rattle.tc_work.specs.Settling.{TellsFiles};
+ghost use Rattle.tc_work.specs.Faults.{AreOfComponents, IfDamaged};
+ghost use Rattle.tc_work.specs.JobsOut.{watched_part, AreOut, WorkFor};
+ghost use Rattle.tc_work.specs.Moving.{beside, eyes, told_by, works_by, IsOutBy, IsPickedBy, KeepsJobs, MayMove, Moves};
+ghost use Rattle.tc_work.specs.Settling.{IsWatchedIn, MaySettle, MomentsLeavePairs, PicksNone, TellsFiles};
 
 use crate::engine::Engine;
 use crate::fault::EngineFault;
+use crate::flushing::install_flush;
+use crate::merging::install_merge;
+use crate::room::make_room;
+use std::alloc::Global;
+use std::sync::Arc;
+use std::thread::Threads;
+use tc_list::Policy;
+use tc_memory::tables_keep_documents;
+use tc_part::Part;
+use tc_running::{Pace, Running};
 use tc_store::{Kit, Store};
 
-/// What is left of an engine: its store with the watches, and what came of the jobs that were out. None is, so that it is Ok.
+/// What is left of an engine: its store with the watches, and what came of the jobs that were out.
 #[derive(Drop)]
 pub struct Finished<S: Store> {
     pub kit: Kit<S>,
     pub outcome: Result<(), EngineFault>,
 }
 
-impl<S: Store> Engine<S> {
-    /// Gives the store and the watches back, of an engine that failed too. The devices of its logs come home.
-    pub fn finish(self) -> Finished<S>
-        ensures home { S.history result.kit.store ≡ brought_home (log_name self.part.generation) (S.Device.history self.part.log.device) (option_map (λ moments. (log_name (self.part.generation - 1), moments)) (option_map (λ l. S.Device.history l.device) self.part.sealed_log)) (S.history self.part.store) }
+impl<S: Store, P: Pace> Engine<S, P> {
+    /// Waits for the jobs that are out, and lists what they make, if the engine has not failed; then it merges components until the
+    /// policy picks none. It gives the store and the watches back. The devices of its logs come home.
+    pub fn finish<R: Threads>(self, rt: &R, alloc: Global, jobs: Running<S>) -> Finished<S>
+    where
+        S: 'static,
+        S::Device: 'static,
+        S::Frozen: 'static,
+        S::Watch: 'static,
+        P: 'static,
+        requires ready { self.part.failed ≡ false → MaySettle (told S.history S.Device.history S.Frozen.content self.part) }
+        requires jobs { AreOut S.history S.Device.history S.Frozen.content S.Device.name self.part jobs }
 
         // Where no file is out but those of the part's devices, none is out any more.
         ensures brought_in { TellsLogs (told S.history S.Device.history S.Frozen.content self.part) → OnlyDevicesOut (told S.history S.Device.history S.Frozen.content self.part) → IfTold (S.history result.kit.store) (λ disk. (name : FileName) → is_out (disk name) ≡ false) }
 
-        // Whatever a stop leaves from then on is what was stored, of an engine that failed what it kept.
-        ensures kept { (p : PartView) → IsPart (told S.history S.Device.history S.Frozen.content self.part) p → IfTold (S.history result.kit.store) (KeepsStore p.part (store_of p) None) }
-        ensures failed { (part : Partition) (pairs : Pairs) (frame : Option (List PlainWrite)) → HasFailedKeeping (told S.history S.Device.history S.Frozen.content self.part) part pairs frame → IfTold (S.history result.kit.store) (KeepsStore part pairs frame) }
+        // The log is among the files, where it was out.
+        ensures log { OnOk result.outcome (LogIsOut (told S.history S.Device.history S.Frozen.content self.part) → IfTold (S.history result.kit.store) (λ disk. IsThere (disk (log_name self.part.generation)))) }
 
-        // Of an engine that has not failed it opens as the components that are listed and as one log, which is as long as its device
-        // is. Where it has no frame it has no write.
-        ensures opens { (p : PartView) → IsPart (told S.history S.Device.history S.Frozen.content self.part) p → IfTold (S.history result.kit.store) (OpensAs p.part p.list (p.active.writes ∷ []) (S.Device.size self.part.log.device)) }
-        ensures unwritten { (p : PartView) → IsPart (told S.history S.Device.history S.Frozen.content self.part) p → TellsFiles (told S.history S.Device.history S.Frozen.content self.part) → S.Device.size self.part.log.device ≤ empty_size → p.active.writes ≡ [] }
+        // Whatever a stop leaves from then on is what was stored, of an engine that failed what it kept.
+        ensures kept { (p : PartView) → IsPart (told S.history S.Device.history S.Frozen.content self.part) p → WorkFor S.Frozen.content S.Device.history S.Device.name jobs p → IfTold (S.history result.kit.store) (KeepsStore p.part (store_of p) None) }
+        ensures failed { (part : Partition) (pairs : Pairs) (frame : Option (List PlainWrite)) → HasFailedKeeping (WorkFor S.Frozen.content S.Device.history S.Device.name jobs) (told S.history S.Device.history S.Frozen.content self.part) part pairs frame → IfTold (S.history result.kit.store) (KeepsStore part pairs frame) }
+
+        // Of an engine that has not failed it opens as so few components that the policy picks none, and as one log, which is as long
+        // as its device is. Where it has no frame it has no write.
+        ensures opens { (p : PartView) → IsPart (told S.history S.Device.history S.Frozen.content self.part) p → WorkFor S.Frozen.content S.Device.history S.Device.name jobs p → OnOk result.outcome (EndsSmall p.part self.policy (S.Device.size self.part.log.device) (S.history result.kit.store)) }
+        ensures unwritten { (p : PartView) → IsPart (told S.history S.Device.history S.Frozen.content self.part) p → TellsFiles (told S.history S.Device.history S.Frozen.content self.part) → WorkFor S.Frozen.content S.Device.history S.Device.name jobs p → S.Device.size self.part.log.device ≤ empty_size → p.active.writes ≡ [] }
 
         // At each moment of the call a stop leaves the same.
-        ensures moments { (p : PartView) → IsPart (told S.history S.Device.history S.Frozen.content self.part) p → FailedMomentsLeaveStore p None (told S.history S.Device.history S.Frozen.content self.part) (S.history result.kit.store) }
-        ensures failed_moments { (part : Partition) (pairs : Pairs) (frame : Option (List PlainWrite)) (has : HasFailedKeeping (told S.history S.Device.history S.Frozen.content self.part) part pairs frame) → FailedMomentsLeaveStore has.view frame (told S.history S.Device.history S.Frozen.content self.part) (S.history result.kit.store) }
+        ensures moments { (p : PartView) → IsPart (told S.history S.Device.history S.Frozen.content self.part) p → WorkFor S.Frozen.content S.Device.history S.Device.name jobs p → MomentsLeavePairs p.part (store_of p) (told S.history S.Device.history S.Frozen.content self.part) (S.history result.kit.store) }
+        ensures failed_moments { (part : Partition) (pairs : Pairs) (frame : Option (List PlainWrite)) (has : HasFailedKeeping (WorkFor S.Frozen.content S.Device.history S.Device.name jobs) (told S.history S.Device.history S.Frozen.content self.part) part pairs frame) → FailedMomentsLeaveStore has.view frame (told S.history S.Device.history S.Frozen.content self.part) (S.history result.kit.store) }
 
-        ensures outcome { result.outcome ≡ Ok tt }
-        ensures main { result.kit.main ≡ self.part.main }
-        ensures flusher { Some result.kit.flusher ≡ self.part.flusher }
-        ensures merger { Some result.kit.merger ≡ self.part.merger }
+        // Nothing that a job makes is listed of an engine that failed, and no fault of it is told. Damage is of a component. Where the
+        // files are told there is none.
+        ensures outcome { self.part.failed ≡ true → result.outcome ≡ Ok tt }
+        ensures damaged { IfErr result.outcome (λ fault. IfDamaged fault AreOfComponents) }
+        ensures undamaged { (p : PartView) → IsPart (told S.history S.Device.history S.Frozen.content self.part) p → TellsFiles (told S.history S.Device.history S.Frozen.content self.part) → WorkFor S.Frozen.content S.Device.history S.Device.name jobs p → IfErr result.outcome (λ fault. IfDamaged fault (λ damage. ⊥)) }
+        ensures unspent { IsErrOf result.outcome EngineFault.Spent → ⊥ }
+
+        // Where no job is out and the policy picks none, nothing is done but that the devices come home, and so it is of an engine
+        // that failed: what is listed is what it opens as, over every store.
+        ensures idle { HasNothingToDo self.policy self.part jobs → OnOk result.outcome ((result.kit.main ≡ self.part.main) × (Some result.kit.flusher ≡ self.part.flusher) × (Some result.kit.merger ≡ self.part.merger)) }
+        ensures home { HasNothingToDo self.policy self.part jobs → OnOk result.outcome (S.history result.kit.store ≡ brought_home (log_name self.part.generation) (S.Device.history self.part.log.device) (option_map (λ moments. (log_name (self.part.generation - 1), moments)) (option_map (λ l. S.Device.history l.device) self.part.sealed_log)) (S.history self.part.store)) }
+        ensures listed { HasNothingToDo self.policy self.part jobs → (p : PartView) → IsPart (told S.history S.Device.history S.Frozen.content self.part) p → OnOk result.outcome (IfTold (S.history result.kit.store) (OpensAs p.part p.list (p.active.writes ∷ []) (S.Device.size self.part.log.device))) }
+        ensures watched { IsWatchedIn (λ w. S.Watch.counts w) (IsErrOf result.outcome EngineFault.Disk) (watched_part self.part jobs) (record self.part { main = result.kit.main; flusher = Some result.kit.flusher; merger = Some result.kit.merger }) }
         ensures reader { Some result.kit.reader ≡ self.part.reader }
     {
-        let Engine { part, .. } = self;
-        Finished {
-            kit: part.close(),
-            outcome: Ok(()),
+        let Engine {
+            part,
+            policy,
+            progress,
+            failed,
+        } = self;
+        if failed {
+            Finished {
+                kit: close_failed(rt, alloc, part, jobs),
+                outcome: Ok(()),
+            }
+        } else {
+            finish_part(rt, alloc, part, jobs, policy, &progress.pace)
         }
+    }
+}
+
+/// Closes a part whose engine failed, with its jobs: nothing that they make is listed.
+fn close_failed<S: Store, R: Threads>(
+    rt: &R,
+    alloc: Global,
+    part: Part<S>,
+    jobs: Running<S>,
+) -> Kit<S>
+    requires jobs { IsOutBy (eyes S.history S.Device.history S.Frozen.content S.Device.name S.Frozen.size S.Watch.counts) (beside part jobs) }
+    ensures ends { (policy : Policy) → Finishes (eyes S.history S.Device.history S.Frozen.content S.Device.name S.Frozen.size S.Watch.counts) (λ d. S.Device.size d) policy (beside (record part { failed = true }) jobs) (Ok tt) result.store result.main result.flusher result.merger result.reader }
+{
+    let mut part = part;
+    let mut jobs = jobs;
+    part.fail();
+    give_back(rt, alloc, &mut part, &mut jobs);
+    part.close()
+}
+
+/// Lists what the jobs make of a part, and closes it.
+fn finish_part<S: Store + 'static, P: Pace + 'static, R: Threads>(
+    rt: &R,
+    alloc: Global,
+    part: Part<S>,
+    jobs: Running<S>,
+    policy: Policy,
+    pace: &Arc<P>,
+) -> Finished<S>
+where
+    S::Device: 'static,
+    S::Frozen: 'static,
+    S::Watch: 'static,
+    requires may { MayMove (eyes S.history S.Device.history S.Frozen.content S.Device.name S.Frozen.size S.Watch.counts) (beside part jobs) }
+    requires flushing { part.flushing ≡ is_some part.sealed }
+    requires picked { IsPickedBy (eyes S.history S.Device.history S.Frozen.content S.Device.name S.Frozen.size S.Watch.counts) policy (beside part jobs) }
+    ensures ends { Finishes (eyes S.history S.Device.history S.Frozen.content S.Device.name S.Frozen.size S.Watch.counts) (λ d. S.Device.size d) policy (beside part jobs) result.outcome result.kit.store result.kit.main result.kit.flusher result.kit.merger result.kit.reader }
+{
+    let mut part = part;
+    let mut jobs = jobs;
+    let outcome = end_jobs(rt, alloc, &mut part, &mut jobs, policy, pace);
+    Finished {
+        kit: part.close(),
+        outcome,
+    }
+}
+
+/// Lists what the jobs make that are out. Behind a fault the part has failed, and what is left of them is given back.
+fn end_jobs<S: Store + 'static, P: Pace + 'static, R: Threads>(
+    rt: &R,
+    alloc: Global,
+    part: &mut Part<S>,
+    jobs: &mut Running<S>,
+    policy: Policy,
+    pace: &Arc<P>,
+) -> Result<(), EngineFault>
+where
+    S::Device: 'static,
+    S::Frozen: 'static,
+    S::Watch: 'static,
+    requires may { MayMove (eyes S.history S.Device.history S.Frozen.content S.Device.name S.Frozen.size S.Watch.counts) (beside part.old jobs.old) }
+    requires picked { IsPickedBy (eyes S.history S.Device.history S.Frozen.content S.Device.name S.Frozen.size S.Watch.counts) policy (beside part.old jobs.old) }
+    ensures none_out { (part.new.flushing ≡ false) × (part.new.merging ≡ None) }
+    ensures none_left { (jobs.new.flush ≡ None) × (jobs.new.merge ≡ None) }
+    ensures left { OnErr result (part.new.failed ≡ true) }
+    ensures ended { OnOk result (part.new ≡ record part.old { store = part.new.store; main = part.new.main; flusher = part.new.flusher; merger = part.new.merger; list = part.new.list; sealed = part.new.sealed; sealed_log = part.new.sealed_log; flushing = false; merging = None }) }
+    ensures none_sealed { OnOk result (part.old.flushing ≡ is_some part.old.sealed → part.new.sealed ≡ None) }
+    ensures none { OnOk result (PicksNone policy part.new.list) }
+    ensures nothing { jobs.old.flush ≡ None → jobs.old.merge ≡ None → PicksNone policy part.old.list → OnOk result ((part.new ≡ part.old) × (jobs.new ≡ jobs.old)) }
+    ensures moves { Moves (eyes S.history S.Device.history S.Frozen.content S.Device.name S.Frozen.size S.Watch.counts) result (beside part.old jobs.old) (beside part.new jobs.new) }
+{
+    match install_both(rt, alloc, part, jobs, policy, pace) {
+        Ok(()) => Ok(()),
+        Err(fault) => {
+            part.fail();
+            give_back(rt, alloc, part, jobs);
+            Err(fault)
+        }
+    }
+}
+
+/// Lists what the merge makes that is out, and what the flush does, and merges what the policy picks then.
+fn install_both<S: Store + 'static, P: Pace + 'static, R: Threads>(
+    rt: &R,
+    alloc: Global,
+    part: &mut Part<S>,
+    jobs: &mut Running<S>,
+    policy: Policy,
+    pace: &Arc<P>,
+) -> Result<(), EngineFault>
+where
+    S::Device: 'static,
+    S::Frozen: 'static,
+    S::Watch: 'static,
+    requires may { MayMove (eyes S.history S.Device.history S.Frozen.content S.Device.name S.Frozen.size S.Watch.counts) (beside part.old jobs.old) }
+    requires picked { IsPickedBy (eyes S.history S.Device.history S.Frozen.content S.Device.name S.Frozen.size S.Watch.counts) policy (beside part.old jobs.old) }
+    ensures ended { OnOk result (part.new ≡ record part.old { store = part.new.store; main = part.new.main; flusher = part.new.flusher; merger = part.new.merger; list = part.new.list; sealed = part.new.sealed; sealed_log = part.new.sealed_log; flushing = false; merging = None }) }
+    ensures none_sealed { OnOk result (part.old.flushing ≡ is_some part.old.sealed → part.new.sealed ≡ None) }
+    ensures none { OnOk result (PicksNone policy part.new.list) }
+    ensures nothing { jobs.old.flush ≡ None → jobs.old.merge ≡ None → PicksNone policy part.old.list → OnOk result ((part.new ≡ part.old) × (jobs.new ≡ jobs.old)) }
+    ensures moves { Moves (eyes S.history S.Device.history S.Frozen.content S.Device.name S.Frozen.size S.Watch.counts) result (beside part.old jobs.old) (beside part.new jobs.new) }
+{
+    install_merge(rt, alloc, part, jobs)?;
+    install_flush(rt, alloc, part, jobs)?;
+    make_room(rt, alloc, part, jobs, policy, pace, 0)
+}
+
+/// Brings home what is left of the jobs that are out, and takes their watches back, of a part that has failed.
+fn give_back<S: Store, R: Threads>(rt: &R, alloc: Global, part: &mut Part<S>, jobs: &mut Running<S>)
+    requires failed { part.old.failed ≡ true }
+    requires jobs { IsOutBy (eyes S.history S.Device.history S.Frozen.content S.Device.name S.Frozen.size S.Watch.counts) (beside part.old jobs.old) }
+    ensures none_left { (jobs.new.flush ≡ None) × (jobs.new.merge ≡ None) }
+    ensures nothing { jobs.old.flush ≡ None → jobs.old.merge ≡ None → (part.new ≡ part.old) × (jobs.new ≡ jobs.old) }
+    ensures given { part.new ≡ record part.old { store = part.new.store; flusher = part.new.flusher; merger = part.new.merger; flushing = false; merging = None } }
+    ensures log_out { LogIsOut (told_by (eyes S.history S.Device.history S.Frozen.content S.Device.name S.Frozen.size S.Watch.counts) (beside part.old jobs.old)) → LogIsOut (told_by (eyes S.history S.Device.history S.Frozen.content S.Device.name S.Frozen.size S.Watch.counts) (beside part.new jobs.new)) }
+    ensures keeps { KeepsJobs (eyes S.history S.Device.history S.Frozen.content S.Device.name S.Frozen.size S.Watch.counts) ⊥ (beside part.old jobs.old) (beside part.new jobs.new) }
+
+    // It keeps what it kept, at each moment too.
+    ensures stays { (p : PartView) (frame : Option (List PlainWrite)) → GivesBack (works_by (eyes S.history S.Device.history S.Frozen.content S.Device.name S.Frozen.size S.Watch.counts) (beside part.old jobs.old)) (works_by (eyes S.history S.Device.history S.Frozen.content S.Device.name S.Frozen.size S.Watch.counts) (beside part.new jobs.new)) p frame (told_by (eyes S.history S.Device.history S.Frozen.content S.Device.name S.Frozen.size S.Watch.counts) (beside part.old jobs.old)) (told_by (eyes S.history S.Device.history S.Frozen.content S.Device.name S.Frozen.size S.Watch.counts) (beside part.new jobs.new)) }
+{
+    give_back_merge(rt, alloc, part, jobs);
+    give_back_flush(rt, alloc, part, jobs);
+}
+
+/// Brings home what is left of the merge that is out, if there is one.
+fn give_back_merge<S: Store, R: Threads>(
+    rt: &R,
+    alloc: Global,
+    part: &mut Part<S>,
+    jobs: &mut Running<S>,
+)
+    requires failed { part.old.failed ≡ true }
+    requires jobs { IsOutBy (eyes S.history S.Device.history S.Frozen.content S.Device.name S.Frozen.size S.Watch.counts) (beside part.old jobs.old) }
+    ensures none_left { (jobs.new.flush ≡ jobs.old.flush) × (jobs.new.merge ≡ None) }
+    ensures nothing { jobs.old.merge ≡ None → (part.new ≡ part.old) × (jobs.new ≡ jobs.old) }
+    ensures given { part.new ≡ record part.old { store = part.new.store; merger = part.new.merger; merging = None } }
+    ensures log_out { LogIsOut (told_by (eyes S.history S.Device.history S.Frozen.content S.Device.name S.Frozen.size S.Watch.counts) (beside part.old jobs.old)) → LogIsOut (told_by (eyes S.history S.Device.history S.Frozen.content S.Device.name S.Frozen.size S.Watch.counts) (beside part.new jobs.new)) }
+    ensures keeps { KeepsJobs (eyes S.history S.Device.history S.Frozen.content S.Device.name S.Frozen.size S.Watch.counts) ⊥ (beside part.old jobs.old) (beside part.new jobs.new) }
+
+    // It keeps what it kept, at each moment too.
+    ensures stays { (p : PartView) (frame : Option (List PlainWrite)) → GivesBack (works_by (eyes S.history S.Device.history S.Frozen.content S.Device.name S.Frozen.size S.Watch.counts) (beside part.old jobs.old)) (works_by (eyes S.history S.Device.history S.Frozen.content S.Device.name S.Frozen.size S.Watch.counts) (beside part.new jobs.new)) p frame (told_by (eyes S.history S.Device.history S.Frozen.content S.Device.name S.Frozen.size S.Watch.counts) (beside part.old jobs.old)) (told_by (eyes S.history S.Device.history S.Frozen.content S.Device.name S.Frozen.size S.Watch.counts) (beside part.new jobs.new)) }
+{
+    match jobs.join_merge(rt) {
+        Some(out) => {
+            let _given = part.finish_merge(alloc, out);
+        }
+        None => {}
+    }
+}
+
+/// Brings home what is left of the flush that is out, if there is one.
+fn give_back_flush<S: Store, R: Threads>(
+    rt: &R,
+    alloc: Global,
+    part: &mut Part<S>,
+    jobs: &mut Running<S>,
+)
+    requires failed { part.old.failed ≡ true }
+    requires jobs { IsOutBy (eyes S.history S.Device.history S.Frozen.content S.Device.name S.Frozen.size S.Watch.counts) (beside part.old jobs.old) }
+    ensures none_left { (jobs.new.flush ≡ None) × (jobs.new.merge ≡ jobs.old.merge) }
+    ensures nothing { jobs.old.flush ≡ None → (part.new ≡ part.old) × (jobs.new ≡ jobs.old) }
+    ensures given { part.new ≡ record part.old { store = part.new.store; flusher = part.new.flusher; flushing = false } }
+    ensures log_out { LogIsOut (told_by (eyes S.history S.Device.history S.Frozen.content S.Device.name S.Frozen.size S.Watch.counts) (beside part.old jobs.old)) → LogIsOut (told_by (eyes S.history S.Device.history S.Frozen.content S.Device.name S.Frozen.size S.Watch.counts) (beside part.new jobs.new)) }
+    ensures keeps { KeepsJobs (eyes S.history S.Device.history S.Frozen.content S.Device.name S.Frozen.size S.Watch.counts) ⊥ (beside part.old jobs.old) (beside part.new jobs.new) }
+
+    // It keeps what it kept, at each moment too.
+    ensures stays { (p : PartView) (frame : Option (List PlainWrite)) → GivesBack (works_by (eyes S.history S.Device.history S.Frozen.content S.Device.name S.Frozen.size S.Watch.counts) (beside part.old jobs.old)) (works_by (eyes S.history S.Device.history S.Frozen.content S.Device.name S.Frozen.size S.Watch.counts) (beside part.new jobs.new)) p frame (told_by (eyes S.history S.Device.history S.Frozen.content S.Device.name S.Frozen.size S.Watch.counts) (beside part.old jobs.old)) (told_by (eyes S.history S.Device.history S.Frozen.content S.Device.name S.Frozen.size S.Watch.counts) (beside part.new jobs.new)) }
+{
+    tables_keep_documents();
+    match jobs.join_flush(rt) {
+        Some(out) => {
+            let _given = part.finish_flush(alloc, out);
+        }
+        None => {}
     }
 }

@@ -1,5 +1,5 @@
 //! Layer 5, engine: the commands of a window run over one partition, and its writes made one frame; the log is emptied into a
-//! component, and components are merged.
+//! component, and components are merged, by jobs on threads beside the windows.
 #![tactic(auto)]
 
 mod answering;
@@ -9,7 +9,8 @@ mod fault;
 mod finishing;
 mod flushing;
 mod merging;
-mod picking;
+mod progress;
+mod room;
 mod schema_text;
 mod settling;
 mod staging;
@@ -18,3 +19,4 @@ mod window;
 pub use engine::Engine;
 pub use fault::EngineFault;
 pub use finishing::Finished;
+pub use tc_running::{Free, Pace, Point, Running};

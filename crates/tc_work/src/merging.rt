@@ -1,66 +1,121 @@
-//! A run of components is merged on this thread.
+//! Runs of components are merged on a thread.
 
-ghost use Rattle.std.specs.Prelude.{◌≡◌, ◌+◌, None, false, length, IfErr, IsErrOf, OnErr, OnOk};
-ghost use Rattle.tc_component.specs.Loading.{ComponentState};
-ghost use Rattle.tc_list.specs.Runs.{swapped};
-ghost use Rattle.tc_part.specs.FilesOut.{LogIsOut, OnlyDevicesOut};
-ghost use Rattle.tc_part_model.specs.Meaning.{IsPart};
-ghost use Rattle.tc_part_model.specs.PartState.{told};
-ghost use Rattle.tc_part_model.specs.PartView.{PartView};
+ghost use Rattle.std.specs.Prelude.{◌≡◌, ◌<◌, ◌↔◌, None, Some, true, is_some, length, map, IfErr, IfOk, IfSome, OnOk};
+ghost use Rattle.tc_list.specs.Policies.{IsPicked};
+ghost use Rattle.tc_list.specs.declared.policy.Policy.{Policy};
+ghost use Rattle.tc_list.specs.Runs.{neighbours};
 ghost use Rattle.tc_part.specs.Ready.{LiesIn};
-ghost use Rattle.tc_work.specs.Failing.{FailsKeeping};
-ghost use Rattle.tc_work.specs.Faults.{AreOfComponents, IfDamaged};
-ghost use Rattle.tc_work.specs.Settling.{HasOnlyMoved, IsWatchedIn, MaySettle, MomentsStay, StaysStored, TellsFiles};
+ghost use Rattle.tc_work.specs.Faults.{IfDamaged};
+ghost use Rattle.tc_work.specs.Moving.{beside, eyes, IsPickedBy, ListsPicked, MayMove, Moves};
+ghost use Rattle.tc_work.specs.Settling.{PicksNone};
 
 use crate::fault::EngineFault;
 use std::alloc::Global;
+use std::sync::Arc;
+use std::thread::Threads;
 use tc_component::components_are_contents;
-use tc_list::Run;
+use tc_list::{Policy, Run};
 use tc_part::Part;
-use tc_part_model::{failed_parts_keep_files, moments_follow};
+use tc_part_model::failed_parts_keep_files;
+use tc_running::{Beginning, Pace, Point, Running};
 use tc_store::Store;
 
-/// Merges a run of the list: its component is listed in place of the run.
-pub(crate) fn merge_run<S: Store>(
+/// Starts the merge of a run that the policy picks, if none is out and it picks one.
+pub(crate) fn start_merge<S: Store + 'static, P: Pace + 'static, R: Threads>(
+    rt: &R,
     alloc: Global,
     part: &mut Part<S>,
-    run: Run,
+    jobs: &mut Running<S>,
+    policy: Policy,
+    pace: &Arc<P>,
 ) -> Result<(), EngineFault>
-    requires sound { part.old.failed ≡ false }
+where
+    S::Device: 'static,
+    S::Frozen: 'static,
+    S::Watch: 'static,
+    requires may { MayMove (eyes S.history S.Device.history S.Frozen.content S.Device.name S.Frozen.size S.Watch.counts) (beside part.old jobs.old) }
+    requires picked { IsPickedBy (eyes S.history S.Device.history S.Frozen.content S.Device.name S.Frozen.size S.Watch.counts) policy (beside part.old jobs.old) }
+    ensures none { OnOk result (part.new.merging ≡ None → PicksNone policy part.new.list) }
+    ensures nothing { PicksNone policy part.old.list → OnOk result ((part.new ≡ part.old) × (jobs.new ≡ jobs.old)) }
+    ensures begun { OnOk result (part.new ≡ record part.old { store = part.new.store; main = part.new.main; merger = part.new.merger; merging = part.new.merging }) }
+    ensures flush { jobs.new.flush ≡ jobs.old.flush }
+    ensures undamaged { IfErr result (λ fault. IfDamaged fault (λ damage. ⊥)) }
+    ensures moves { Moves (eyes S.history S.Device.history S.Frozen.content S.Device.name S.Frozen.size S.Watch.counts) result (beside part.old jobs.old) (beside part.new jobs.new) }
+    ensures listed { OnOk result (ListsPicked (eyes S.history S.Device.history S.Frozen.content S.Device.name S.Frozen.size S.Watch.counts) policy (beside part.old jobs.old) (beside part.new jobs.new)) }
+{
+    failed_parts_keep_files();
+    if jobs.is_merging() {
+        return Ok(());
+    }
+    match picked(alloc, part, policy)? {
+        Some(run) => start_merge_of(rt, alloc, part, jobs, run, pace),
+        None => Ok(()),
+    }
+}
+
+/// Starts the merge of a run.
+fn start_merge_of<S: Store + 'static, P: Pace + 'static, R: Threads>(
+    rt: &R,
+    alloc: Global,
+    part: &mut Part<S>,
+    jobs: &mut Running<S>,
+    run: Run,
+    pace: &Arc<P>,
+) -> Result<(), EngineFault>
+where
+    S::Device: 'static,
+    S::Frozen: 'static,
+    S::Watch: 'static,
+    requires may { MayMove (eyes S.history S.Device.history S.Frozen.content S.Device.name S.Frozen.size S.Watch.counts) (beside part.old jobs.old) }
     requires none_out { part.old.merging ≡ None }
-    requires none_flushing { part.old.flushing ≡ false }
     requires run { LiesIn part.old.list run }
-    requires ready { MaySettle (told S.history S.Device.history S.Frozen.content part.old) }
+    ensures begun { OnOk result (part.new ≡ record part.old { store = part.new.store; main = part.new.main; merger = None; merging = Some (neighbours run) }) }
+    ensures flush { jobs.new.flush ≡ jobs.old.flush }
+    ensures undamaged { IfErr result (λ fault. IfDamaged fault (λ damage. ⊥)) }
+    ensures moves { Moves (eyes S.history S.Device.history S.Frozen.content S.Device.name S.Frozen.size S.Watch.counts) result (beside part.old jobs.old) (beside part.new jobs.new) }
+    ensures listed { OnOk result ((policy : Policy) → IsPicked policy (map (λ c. S.Frozen.size c.file) part.old.list) run → ListsPicked (eyes S.history S.Device.history S.Frozen.content S.Device.name S.Frozen.size S.Watch.counts) policy (beside part.old jobs.old) (beside part.new jobs.new)) }
+{
+    failed_parts_keep_files();
+    let partition = part.number();
+    let beginning = Beginning::new(alloc, pace, Point::MergeStarted { partition })?;
+    let job = part.begin_merge(alloc, run)?;
+    jobs.start_merge(rt, alloc, job, beginning);
+    Ok(())
+}
 
-    // Where the files are told the part stores what it stored.
-    ensures stays { OnOk result (StaysStored (told S.history S.Device.history S.Frozen.content part.old) (told S.history S.Device.history S.Frozen.content part.new)) }
-
-    // Over every store one component is listed in place of the run.
-    ensures same { OnOk result (part.new ≡ record part.old { store = part.new.store; main = part.new.main; merger = part.new.merger; list = part.new.list }) }
-    ensures swapped { OnOk result ((c : ComponentState S.Frozen) × (part.new.list ≡ swapped run c part.old.list)) }
-    ensures listed { OnOk result (length part.new.list + run.last ≡ length part.old.list + run.first) }
-    ensures moved { HasOnlyMoved part.old part.new }
-    ensures devices { OnlyDevicesOut (told S.history S.Device.history S.Frozen.content part.old) → OnlyDevicesOut (told S.history S.Device.history S.Frozen.content part.new) }
-    ensures log_out { OnOk result (LogIsOut (told S.history S.Device.history S.Frozen.content part.old) → LogIsOut (told S.history S.Device.history S.Frozen.content part.new)) }
-    ensures logs { (part.new.log ≡ part.old.log) × (part.new.generation ≡ part.old.generation) }
-    ensures no_flush { part.new.flushing ≡ false }
-    ensures no_merge { part.new.merging ≡ None }
-
-    // At each moment of the call a stop leaves what was stored, and so it does behind a fault.
-    ensures moments { MomentsStay (told S.history S.Device.history S.Frozen.content part.old) (S.history part.new.store) }
-    ensures failed { OnErr result (FailsKeeping (told S.history S.Device.history S.Frozen.content part.old) (told S.history S.Device.history S.Frozen.content part.new)) }
-
-    // Damage is of a component of the run, or of what was made of them. Where the files are told there is none.
-    ensures damaged { IfErr result (λ fault. IfDamaged fault AreOfComponents) }
-    ensures undamaged { (p : PartView) → IsPart (told S.history S.Device.history S.Frozen.content part.old) p → TellsFiles (told S.history S.Device.history S.Frozen.content part.old) → IfErr result (λ fault. IfDamaged fault (λ damage. ⊥)) }
-    ensures unspent { IsErrOf result EngineFault.Spent → ⊥ }
-    ensures watched { IsWatchedIn (λ w. S.Watch.counts w) (IsErrOf result EngineFault.Disk) part.old part.new }
+/// Lists what the merge makes that is out, once it has run, in place of its run. Does nothing where none is out.
+pub(crate) fn install_merge<S: Store, R: Threads>(
+    rt: &R,
+    alloc: Global,
+    part: &mut Part<S>,
+    jobs: &mut Running<S>,
+) -> Result<(), EngineFault>
+    requires may { MayMove (eyes S.history S.Device.history S.Frozen.content S.Device.name S.Frozen.size S.Watch.counts) (beside part.old jobs.old) }
+    ensures nothing { jobs.old.merge ≡ None → OnOk result ((part.new ≡ part.old) × (jobs.new ≡ jobs.old)) }
+    ensures installed { OnOk result (part.new ≡ record part.old { store = part.new.store; main = part.new.main; merger = part.new.merger; list = part.new.list; merging = None }) }
+    ensures fewer { OnOk result (is_some part.old.merging ≡ true → length part.new.list < length part.old.list) }
+    ensures flush { jobs.new.flush ≡ jobs.old.flush }
+    ensures moves { Moves (eyes S.history S.Device.history S.Frozen.content S.Device.name S.Frozen.size S.Watch.counts) result (beside part.old jobs.old) (beside part.new jobs.new) }
+    ensures listed { OnOk result ((policy : Policy) → IsPickedBy (eyes S.history S.Device.history S.Frozen.content S.Device.name S.Frozen.size S.Watch.counts) policy (beside part.old jobs.old) → ListsPicked (eyes S.history S.Device.history S.Frozen.content S.Device.name S.Frozen.size S.Watch.counts) policy (beside part.old jobs.old) (beside part.new jobs.new)) }
 {
     components_are_contents();
-    failed_parts_keep_files();
-    moments_follow();
-    let job = part.begin_merge(alloc, run)?;
-    let out = job.run(alloc);
-    part.finish_merge(alloc, out)?;
-    Ok(())
+    match jobs.join_merge(rt) {
+        Some(out) => Ok(part.finish_merge(alloc, out)?),
+        None => Ok(()),
+    }
+}
+
+/// The run that the policy picks. Errs only for want of memory.
+fn picked<S: Store>(
+    alloc: Global,
+    part: &Part<S>,
+    policy: Policy,
+) -> Result<Option<Run>, EngineFault>
+    ensures run { IfOk result (λ run. IfSome run (LiesIn part.now.list)) }
+    ensures picked { IfOk result (λ run. IfSome run (IsPicked policy (map (λ c. S.Frozen.size c.file) part.now.list))) }
+    ensures none { IfOk result (λ run. run ≡ None ↔ PicksNone policy part.now.list) }
+    ensures no_memory { IfErr result (λ fault. fault ≡ EngineFault.Memory) }
+{
+    let sizes = part.sizes(alloc)?;
+    Ok(policy.pick(sizes.as_slice()))
 }

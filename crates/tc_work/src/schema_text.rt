@@ -1,6 +1,6 @@
 //! The text of the schema of an engine.
 
-ghost use Rattle.std.specs.Prelude.{◌≡◌, ◌≤◌, IfOk};
+ghost use Rattle.std.specs.Prelude.{◌≡◌, ◌≤◌, None, IfOk};
 ghost use Rattle.serde_json.specs.View.{view};
 ghost use Rattle.tc_log.specs.Layout.{empty_size};
 ghost use Rattle.tc_lsm_model.specs.Lists.{live};
@@ -18,14 +18,15 @@ use crate::engine::Engine;
 use serde_json::Value;
 use std::alloc::Global;
 use tc_bytes::Memory;
+use tc_running::Pace;
 use tc_store::Store;
 
-impl<S: Store> Engine<S> {
-    /// The text of the schema of the documents in the components, which are all where the log has no frame. Errs only for want
-    /// of memory.
+impl<S: Store, P: Pace> Engine<S, P> {
+    /// The text of the schema of the documents in the components, which are all where no table is sealed and the log has no frame.
+    /// Errs only for want of memory.
     pub fn schema(&self, alloc: Global) -> Result<Value, Memory>
         ensures documents { (p : PartView) → IsPart (told S.history S.Device.history S.Frozen.content self.now.part) p → IfOk result (λ v. view v ≡ schema_text (values_in (live p.list))) }
-        ensures text { (p : PartView) → IsPart (told S.history S.Device.history S.Frozen.content self.now.part) p → TellsFiles (told S.history S.Device.history S.Frozen.content self.now.part) → S.Device.size self.now.part.log.device ≤ empty_size → IfOk result (λ v. view v ≡ schema_text (values_in (store_of p))) }
+        ensures text { (p : PartView) → IsPart (told S.history S.Device.history S.Frozen.content self.now.part) p → TellsFiles (told S.history S.Device.history S.Frozen.content self.now.part) → self.now.part.sealed ≡ None → S.Device.size self.now.part.log.device ≤ empty_size → IfOk result (λ v. view v ≡ schema_text (values_in (store_of p))) }
 
         // Over every store it is that of the newest component's counts.
         ensures tree { IfOk result (λ v. view v ≡ tree_text (names_by (newest_in S.Frozen.content self.now.part.list)) (schema_tree (schema_by (newest_in S.Frozen.content self.now.part.list)))) }

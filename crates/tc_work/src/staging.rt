@@ -18,15 +18,19 @@ ghost use Rattle.tc_work.specs.Windowed.{HasOnlyStaged, IsStagedAs};
 
 use crate::answering::answer;
 use crate::fault::EngineFault;
+use crate::progress::Progress;
 use std::alloc::Global;
 use tc_part::Part;
 use tc_route::{Placed, Replies, Routed};
+use tc_running::Pace;
 use tc_store::Store;
 
-/// The replies to the commands of a window, whose writes are staged. Where this errs the part may have failed or not.
-pub(crate) fn answer_all<S: Store>(
+/// The replies to the commands of a window, whose writes are staged. The run comes to a point behind each. Where this errs the
+/// part may have failed or not.
+pub(crate) fn answer_all<S: Store, P: Pace>(
     alloc: Global,
     part: &mut Part<S>,
+    progress: &mut Progress<P>,
     list: &[Routed],
 ) -> Result<Replies, EngineFault>
     requires sound { part.old.failed ≡ false }
@@ -48,6 +52,7 @@ pub(crate) fn answer_all<S: Store>(
     let mut replies = Vec::with_capacity(alloc, list.len())?;
     for routed in list {
         let reply = answer(alloc, part, &routed.command)?;
+        progress.replied(part.number());
         replies.push(Placed {
             at: routed.at,
             reply,

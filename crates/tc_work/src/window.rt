@@ -13,23 +13,27 @@ ghost use Rattle.tc_part.specs.Harms.{IsHarmIn};
 ghost use Rattle.tc_route.specs.Answers.{answered};
 ghost use Rattle.tc_route.specs.Meaning.{replies_in, routed_of};
 ghost use Rattle.tc_work.specs.Asked.{most_writes, requests_in, IsWindow};
+ghost use Rattle.tc_running.specs.Jobs.{JobsState};
 ghost use Rattle.tc_work.specs.Failing.{HasFailedWith};
 ghost use Rattle.tc_work.specs.Faults.{IfDamage, IfDamaged};
+ghost use Rattle.tc_work.specs.JobsOut.{AreOut, WorkFor};
 ghost use Rattle.tc_work.specs.Reads.{live_in, most_reads, IsCountedWithin};
 ghost use Rattle.tc_work.specs.Settling.{MaySettle, TellsFiles};
 ghost use Rattle.tc_work.specs.Windowed.{staged_as, IsWindowed};
 
 use crate::engine::Engine;
 use crate::fault::EngineFault;
+use crate::progress::Progress;
 use crate::staging::answer_all;
 use std::alloc::Global;
 use tc_component::components_are_contents;
 use tc_part::Part;
 use tc_part_model::{commits_are_kept, failed_parts_keep_files};
 use tc_route::{Replies, Routed};
+use tc_running::Pace;
 use tc_store::Store;
 
-impl<S: Store> Engine<S> {
+impl<S: Store, P: Pace> Engine<S, P> {
     /// Runs the commands of a window, and commits their writes as one frame: one reply a command, in order and with its place,
     /// in which a get or a query sees the writes before it. A refused upsert is a reply, and no fault. At most one read is made
     /// for a command with a key, and for a query one for each key that has a document then. `Spent` comes only where there would
@@ -55,6 +59,9 @@ impl<S: Store> Engine<S> {
         ensures tells { OnOk result (TellsFiles (told S.history S.Device.history S.Frozen.content self.old.part) → TellsFiles (told S.history S.Device.history S.Frozen.content self.new.part)) }
         ensures policy { self.new.policy ≡ self.old.policy }
 
+        // The jobs that are out stay those of the engine, behind a fault too.
+        ensures jobs { (jobs : JobsState S.Frozen S.Device S.Watch) → AreOut S.history S.Device.history S.Frozen.content S.Device.name self.old.part jobs → AreOut S.history S.Device.history S.Frozen.content S.Device.name self.new.part jobs }
+
         // No file is out but those of the part's devices, behind a fault too.
         ensures devices { OnlyDevicesOut (told S.history S.Device.history S.Frozen.content self.old.part) → OnlyDevicesOut (told S.history S.Device.history S.Frozen.content self.new.part) }
 
@@ -69,7 +76,7 @@ impl<S: Store> Engine<S> {
         // At each moment of the call a stop leaves what is stored, without the writes of the window or with all of them, and so it
         // does behind a fault.
         ensures moments { (p : PartView) → IsPart (told S.history S.Device.history S.Frozen.content self.old.part) p → LogMomentsLeaveStore (staged_as (part_writes_all self.old.part.limits (requests_in list.now) (plain_of (told S.history S.Device.history S.Frozen.content self.old.part) p)) p) (told S.history S.Device.history S.Frozen.content self.old.part) (S.Device.history self.new.part.log.device) }
-        ensures failed { OnErr result ((p : PartView) → IsPart (told S.history S.Device.history S.Frozen.content self.old.part) p → HasFailedWith (part_writes_all self.old.part.limits (requests_in list.now) (plain_of (told S.history S.Device.history S.Frozen.content self.old.part) p)) (told S.history S.Device.history S.Frozen.content self.new.part) p) }
+        ensures failed { OnErr result ((p : PartView) (jobs : JobsState S.Frozen S.Device S.Watch) → IsPart (told S.history S.Device.history S.Frozen.content self.old.part) p → WorkFor S.Frozen.content S.Device.history S.Device.name jobs p → HasFailedWith (WorkFor S.Frozen.content S.Device.history S.Device.name jobs) (part_writes_all self.old.part.limits (requests_in list.now) (plain_of (told S.history S.Device.history S.Frozen.content self.old.part) p)) (told S.history S.Device.history S.Frozen.content self.new.part) p) }
         ensures left { OnErr result (self.new.part ≡ record self.old.part { main = self.new.part.main; active = self.new.part.active; staged = self.new.part.staged; taken = self.new.part.taken; live = self.new.part.live; log = self.new.part.log; failed = true }) }
 
         // Damage is that of a record of a listed component. Where the files of these are told there is none.
@@ -81,14 +88,19 @@ impl<S: Store> Engine<S> {
     {
         components_are_contents();
         self.failed = true;
-        let replies = run(alloc, &mut self.part, list)?;
+        let replies = run(alloc, &mut self.part, &mut self.progress, list)?;
         self.failed = false;
         Ok(replies)
     }
 }
 
 /// Runs the commands of a window over its part. Where this errs the part may have failed or not.
-fn run<S: Store>(alloc: Global, part: &mut Part<S>, list: &[Routed]) -> Result<Replies, EngineFault>
+fn run<S: Store, P: Pace>(
+    alloc: Global,
+    part: &mut Part<S>,
+    progress: &mut Progress<P>,
+    list: &[Routed],
+) -> Result<Replies, EngineFault>
     requires sound { part.old.failed ≡ false }
     requires nothing_staged { part.old.staged ≡ [] }
     requires window { IsWindow list.now }
@@ -104,7 +116,7 @@ fn run<S: Store>(alloc: Global, part: &mut Part<S>, list: &[Routed]) -> Result<R
     ensures looked_up { OnOk result (most_writes (requests_in list.now) ≡ 0 → part.new.log ≡ part.old.log) }
     ensures log_out { OnOk result (LogIsOut (told S.history S.Device.history S.Frozen.content part.old) → LogIsOut (told S.history S.Device.history S.Frozen.content part.new)) }
     ensures moments { (p : PartView) → IsPart (told S.history S.Device.history S.Frozen.content part.old) p → LogMomentsLeaveStore (staged_as (part_writes_all part.old.limits (requests_in list.now) (plain_of (told S.history S.Device.history S.Frozen.content part.old) p)) p) (told S.history S.Device.history S.Frozen.content part.old) (S.Device.history part.new.log.device) }
-    ensures failed { OnErr result ((p : PartView) → IsPart (told S.history S.Device.history S.Frozen.content part.old) p → HasFailedWith (part_writes_all part.old.limits (requests_in list.now) (plain_of (told S.history S.Device.history S.Frozen.content part.old) p)) (record (told S.history S.Device.history S.Frozen.content part.new) { failed = true }) p) }
+    ensures failed { OnErr result ((p : PartView) (jobs : JobsState S.Frozen S.Device S.Watch) → IsPart (told S.history S.Device.history S.Frozen.content part.old) p → WorkFor S.Frozen.content S.Device.history S.Device.name jobs p → HasFailedWith (WorkFor S.Frozen.content S.Device.history S.Device.name jobs) (part_writes_all part.old.limits (requests_in list.now) (plain_of (told S.history S.Device.history S.Frozen.content part.old) p)) (record (told S.history S.Device.history S.Frozen.content part.new) { failed = true }) p) }
     ensures left { OnErr result (part.new ≡ record part.old { main = part.new.main; active = part.new.active; staged = part.new.staged; taken = part.new.taken; live = part.new.live; log = part.new.log; failed = part.new.failed }) }
     ensures harmed { IfErr result (λ fault. IfDamage fault (λ file at bytes. IsHarmIn (λ file. S.Frozen.content file) part.old.list file at bytes)) }
     ensures spent { IsErrOf result EngineFault.Spent → 2 ^ 63 ≤ part.old.writes + most_writes (requests_in list.now) }
@@ -114,7 +126,7 @@ fn run<S: Store>(alloc: Global, part: &mut Part<S>, list: &[Routed]) -> Result<R
 {
     commits_are_kept();
     failed_parts_keep_files();
-    let replies = answer_all(alloc, part, list)?;
+    let replies = answer_all(alloc, part, progress, list)?;
     part.commit(alloc)?;
     Ok(replies)
 }

@@ -24,10 +24,10 @@ returns-in_err-replies-clause-failed g c =
     let old = told g.S.Store.history g.S.Device.Device.history g.S.Frozen.Frozen.content c.args.part.now in
     let new = told g.S.Store.history g.S.Device.Device.history g.S.Frozen.Frozen.content c.answer_all.new.part in
     let same = c.answer_all.ensures.same in
-    err_always c.from_residual.result _ (λ p is. failed_without old (record new { failed = true }) p _ is
+    err_always c.from_residual.result _ (λ p jobs is works. failed_without _ old (record new { failed = true }) p _ is
     (c.failed_parts_keep_files.ensures.fails old (record new { failed = true }) p is refl (ap (λ (s : PartState _ _ _ _). g.S.Store.history s.store) same) (ap (λ (s : PartState _ _ _ _). g.S.Device.Device.history s.log.device) same)
     (ap (λ (s : PartState _ _ _ _). (told g.S.Store.history g.S.Device.Device.history g.S.Frozen.Frozen.content s).sealed_log) same))
-    (ap (λ (s : PartState _ _ _ _). s.generation) same) (ap (λ (s : PartState _ _ _ _). (told g.S.Store.history g.S.Device.Device.history g.S.Frozen.Frozen.content s).sealed_log) same))
+    (ap (λ (s : PartState _ _ _ _). s.generation) same) (ap (λ (s : PartState _ _ _ _). (told g.S.Store.history g.S.Device.Device.history g.S.Frozen.Frozen.content s).sealed_log) same) works)
 
 pub returns-in_err-replies-clause-left : goal.returns-in_err-replies-clause-left
 returns-in_err-replies-clause-left g c = err_always c.from_residual.result _ (left_staged c.args.part.now c.answer_all.new.part c.answer_all.ensures.same)
@@ -54,7 +54,7 @@ returns-in_err-commit-clause-moments g c = λ p is.
 
 pub returns-in_err-commit-clause-failed : goal.returns-in_err-commit-clause-failed
 returns-in_err-commit-clause-failed g c =
-    err_always c.from_residual-in_err-commit.result _ (λ p is.
+    err_always c.from_residual-in_err-commit.result _ (λ p jobs is works.
     let old = told g.S.Store.history g.S.Device.Device.history g.S.Frozen.Frozen.content c.args.part.now in
     let mid = told g.S.Store.history g.S.Device.Device.history g.S.Frozen.Frozen.content c.answer_all.new.part in
     let new = told g.S.Store.history g.S.Device.Device.history g.S.Frozen.Frozen.content c.commit.new.self in
@@ -62,9 +62,9 @@ returns-in_err-commit-clause-failed g c =
     let q = staged_as ws p in
     let staged = (c.in_ok-replies.ensures.staged p is).part in
     let left = c.in_err-commit.ensures.left in
-    failed_with mid (record new { failed = true }) p ws (none_staged_in old p is c.requires.nothing_staged) staged
+    failed_with _ mid (record new { failed = true }) p ws (none_staged_in old p is c.requires.nothing_staged) staged
     (subst (λ b. HasFailedAs (record new { failed = b }) q (Some q.staged)) (ap (λ (s : PartState _ _ _ _). s.failed) left) (c.in_err-commit.ensures.failed q staged))
-    (ap (λ (s : PartState _ _ _ _). s.generation) left) (ap (λ (s : PartState _ _ _ _). (told g.S.Store.history g.S.Device.Device.history g.S.Frozen.Frozen.content s).sealed_log) left))
+    (ap (λ (s : PartState _ _ _ _). s.generation) left) (ap (λ (s : PartState _ _ _ _). (told g.S.Store.history g.S.Device.Device.history g.S.Frozen.Frozen.content s).sealed_log) left) works)
 
 pub returns-in_err-commit-clause-left : goal.returns-in_err-commit-clause-left
 returns-in_err-commit-clause-left g c = err_always c.from_residual-in_err-commit.result _ (left_uncommitted c.args.part.now c.answer_all.new.part c.commit.new.self c.answer_all.ensures.same c.in_err-commit.ensures.left)

@@ -1,78 +1,225 @@
-use Rattle.std.proofs.Common.{◌∙◌, ◌-◌, None, option_map, refl, ap, subst, sym}
-use Rattle.tc_lsm_model.specs.Contents.{Partition}
-use Rattle.tc_part.proofs.ClosedParts.{closed_keeps, closed_moments, closed_run_moments, closed_runs}
-use Rattle.tc_part.specs.Closing.{brought_home, logs_length}
-use Rattle.tc_store.specs.declared.file_name.FileName.TheVariants.{Log}
-use Rattle.tc_machine.specs.State.{logs}
-use Rattle.tc_part_model.specs.Leaving.{FailedMomentsLeaveStore, KeepsStore, OpensAs}
-use Rattle.tc_part_model.specs.Meaning.{IsPart}
+use Rattle.std.proofs.Common.{◌≡◌, ◌∙◌, true, ap, sym, subst}
+use Rattle.std.specs.Prelude.{Ok}
+use Rattle.tc_list.specs.declared.policy.Policy.{Policy}
 use Rattle.tc_part_model.specs.PartState.{PartState, told}
-use Rattle.tc_part_model.specs.PartView.{state_of, store_of}
-use Rattle.tc_plain_model.specs.Writes.{Pairs}
-use Rattle.tc_store.specs.Moments.{IfTold}
+use Rattle.tc_work.specs.Ending.{Finishes}
 use Rattle.tc_work.specs.EngineState.{EngineState}
-use Rattle.tc_work.proofs.EmptyLogs.{one_log_opens, unwritten}
+use Rattle.tc_work.specs.Moving.{beside, eyes, IsOutBy, MayMove}
+use Rattle.tc_work.proofs.EmptyLogs.{unwritten}
+use Rattle.tc_work.proofs.GivenBack.{out_inside}
 use Rattle.tc_work.proofs.OpenEngines.{inside_is}
 use Rattle.tc_work.proofs.engine.Engine.finish.Goals as goal
 
-pub close-requires-clause-no_flush : goal.close-requires-clause-no_flush
-close-requires-clause-no_flush g c = λ κs lives. c.self.invariant.no_flush
+-- ---- of an engine that failed
 
-pub close-requires-clause-no_merge : goal.close-requires-clause-no_merge
-close-requires-clause-no_merge g c = λ κs lives. c.self.invariant.no_merge
+pub close_failed-requires-clause-jobs : goal.close_failed-requires-clause-jobs
+close_failed-requires-clause-jobs g c κs within =
+    out_inside (eyes g.S.Store.history g.S.Device.Device.history g.S.Frozen.Frozen.content g.S.Device.Device.name g.S.Frozen.Frozen.size g.S.Watch.Watch.counts) c.self.inside.part c.self.inside.failed c.args.jobs (subst (λ (s : PartState _ _ _ _). IsOutBy (eyes g.S.Store.history g.S.Device.Device.history g.S.Frozen.Frozen.content g.S.Device.Device.name g.S.Frozen.Frozen.size g.S.Watch.Watch.counts) (beside s c.args.jobs)) (sym (ap (λ (x : EngineState _ _ _ _). x.part) c.self.view_is)) c.requires.jobs)
 
-pub returns-clause-home : goal.returns-clause-home
-returns-clause-home g c = rw (← c.self.view_is) c.close.ensures.home
+pub returns-then-failed-clause-brought_in : goal.returns-then-failed-clause-brought_in
+returns-then-failed-clause-brought_in g c =
+    let same : record c.self.inside.part { failed = true } ≡ c.args.self.part = ap (λ b. record c.self.inside.part { failed = b }) (sym c.if-failed.true) ∙ ap (λ (x : EngineState _ _ _ _). x.part) c.self.view_is in
+    let f = subst (λ (s : PartState _ _ _ _). Finishes (eyes g.S.Store.history g.S.Device.Device.history g.S.Frozen.Frozen.content g.S.Device.Device.name g.S.Frozen.Frozen.size g.S.Watch.Watch.counts) g.S.Device.Device.size c.args.self.policy (beside s c.args.jobs) (Ok tt) c.close_failed.result.store c.close_failed.result.main c.close_failed.result.flusher c.close_failed.result.merger c.close_failed.result.reader) same (c.close_failed.ensures.ends c.args.self.policy) in
+    f.brought_in
 
-pub returns-clause-kept : goal.returns-clause-kept
-returns-clause-kept g c = λ p is.
-    subst (λ disks. IfTold disks (KeepsStore p.part (store_of p) None)) (sym (returns-clause-home g c)) (closed_runs (told g.S.Store.history g.S.Device.Device.history g.S.Frozen.Frozen.content c.args.self.part) p is)
+pub returns-then-failed-clause-log : goal.returns-then-failed-clause-log
+returns-then-failed-clause-log g c =
+    let same : record c.self.inside.part { failed = true } ≡ c.args.self.part = ap (λ b. record c.self.inside.part { failed = b }) (sym c.if-failed.true) ∙ ap (λ (x : EngineState _ _ _ _). x.part) c.self.view_is in
+    let f = subst (λ (s : PartState _ _ _ _). Finishes (eyes g.S.Store.history g.S.Device.Device.history g.S.Frozen.Frozen.content g.S.Device.Device.name g.S.Frozen.Frozen.size g.S.Watch.Watch.counts) g.S.Device.Device.size c.args.self.policy (beside s c.args.jobs) (Ok tt) c.close_failed.result.store c.close_failed.result.main c.close_failed.result.flusher c.close_failed.result.merger c.close_failed.result.reader) same (c.close_failed.ensures.ends c.args.self.policy) in
+    f.log
 
-pub returns-clause-failed : goal.returns-clause-failed
-returns-clause-failed g c = λ part pairs frame has.
+pub returns-then-failed-clause-kept : goal.returns-then-failed-clause-kept
+returns-then-failed-clause-kept g c =
+    let same : record c.self.inside.part { failed = true } ≡ c.args.self.part = ap (λ b. record c.self.inside.part { failed = b }) (sym c.if-failed.true) ∙ ap (λ (x : EngineState _ _ _ _). x.part) c.self.view_is in
+    let f = subst (λ (s : PartState _ _ _ _). Finishes (eyes g.S.Store.history g.S.Device.Device.history g.S.Frozen.Frozen.content g.S.Device.Device.name g.S.Frozen.Frozen.size g.S.Watch.Watch.counts) g.S.Device.Device.size c.args.self.policy (beside s c.args.jobs) (Ok tt) c.close_failed.result.store c.close_failed.result.main c.close_failed.result.flusher c.close_failed.result.merger c.close_failed.result.reader) same (c.close_failed.ensures.ends c.args.self.policy) in
+    f.kept
+
+pub returns-then-failed-clause-failed : goal.returns-then-failed-clause-failed
+returns-then-failed-clause-failed g c =
+    let same : record c.self.inside.part { failed = true } ≡ c.args.self.part = ap (λ b. record c.self.inside.part { failed = b }) (sym c.if-failed.true) ∙ ap (λ (x : EngineState _ _ _ _). x.part) c.self.view_is in
+    let f = subst (λ (s : PartState _ _ _ _). Finishes (eyes g.S.Store.history g.S.Device.Device.history g.S.Frozen.Frozen.content g.S.Device.Device.name g.S.Frozen.Frozen.size g.S.Watch.Watch.counts) g.S.Device.Device.size c.args.self.policy (beside s c.args.jobs) (Ok tt) c.close_failed.result.store c.close_failed.result.main c.close_failed.result.flusher c.close_failed.result.merger c.close_failed.result.reader) same (c.close_failed.ensures.ends c.args.self.policy) in
+    f.failed
+
+pub returns-then-failed-clause-opens : goal.returns-then-failed-clause-opens
+returns-then-failed-clause-opens g c =
+    let same : record c.self.inside.part { failed = true } ≡ c.args.self.part = ap (λ b. record c.self.inside.part { failed = b }) (sym c.if-failed.true) ∙ ap (λ (x : EngineState _ _ _ _). x.part) c.self.view_is in
+    let f = subst (λ (s : PartState _ _ _ _). Finishes (eyes g.S.Store.history g.S.Device.Device.history g.S.Frozen.Frozen.content g.S.Device.Device.name g.S.Frozen.Frozen.size g.S.Watch.Watch.counts) g.S.Device.Device.size c.args.self.policy (beside s c.args.jobs) (Ok tt) c.close_failed.result.store c.close_failed.result.main c.close_failed.result.flusher c.close_failed.result.merger c.close_failed.result.reader) same (c.close_failed.ensures.ends c.args.self.policy) in
+    f.opens
+
+pub returns-then-failed-clause-moments : goal.returns-then-failed-clause-moments
+returns-then-failed-clause-moments g c =
+    let same : record c.self.inside.part { failed = true } ≡ c.args.self.part = ap (λ b. record c.self.inside.part { failed = b }) (sym c.if-failed.true) ∙ ap (λ (x : EngineState _ _ _ _). x.part) c.self.view_is in
+    let f = subst (λ (s : PartState _ _ _ _). Finishes (eyes g.S.Store.history g.S.Device.Device.history g.S.Frozen.Frozen.content g.S.Device.Device.name g.S.Frozen.Frozen.size g.S.Watch.Watch.counts) g.S.Device.Device.size c.args.self.policy (beside s c.args.jobs) (Ok tt) c.close_failed.result.store c.close_failed.result.main c.close_failed.result.flusher c.close_failed.result.merger c.close_failed.result.reader) same (c.close_failed.ensures.ends c.args.self.policy) in
+    f.moments
+
+pub returns-then-failed-clause-failed_moments : goal.returns-then-failed-clause-failed_moments
+returns-then-failed-clause-failed_moments g c =
+    let same : record c.self.inside.part { failed = true } ≡ c.args.self.part = ap (λ b. record c.self.inside.part { failed = b }) (sym c.if-failed.true) ∙ ap (λ (x : EngineState _ _ _ _). x.part) c.self.view_is in
+    let f = subst (λ (s : PartState _ _ _ _). Finishes (eyes g.S.Store.history g.S.Device.Device.history g.S.Frozen.Frozen.content g.S.Device.Device.name g.S.Frozen.Frozen.size g.S.Watch.Watch.counts) g.S.Device.Device.size c.args.self.policy (beside s c.args.jobs) (Ok tt) c.close_failed.result.store c.close_failed.result.main c.close_failed.result.flusher c.close_failed.result.merger c.close_failed.result.reader) same (c.close_failed.ensures.ends c.args.self.policy) in
+    f.failed_moments
+
+pub returns-then-failed-clause-idle : goal.returns-then-failed-clause-idle
+returns-then-failed-clause-idle g c =
+    let same : record c.self.inside.part { failed = true } ≡ c.args.self.part = ap (λ b. record c.self.inside.part { failed = b }) (sym c.if-failed.true) ∙ ap (λ (x : EngineState _ _ _ _). x.part) c.self.view_is in
+    let f = subst (λ (s : PartState _ _ _ _). Finishes (eyes g.S.Store.history g.S.Device.Device.history g.S.Frozen.Frozen.content g.S.Device.Device.name g.S.Frozen.Frozen.size g.S.Watch.Watch.counts) g.S.Device.Device.size c.args.self.policy (beside s c.args.jobs) (Ok tt) c.close_failed.result.store c.close_failed.result.main c.close_failed.result.flusher c.close_failed.result.merger c.close_failed.result.reader) same (c.close_failed.ensures.ends c.args.self.policy) in
+    f.idle
+
+pub returns-then-failed-clause-home : goal.returns-then-failed-clause-home
+returns-then-failed-clause-home g c =
+    let same : record c.self.inside.part { failed = true } ≡ c.args.self.part = ap (λ b. record c.self.inside.part { failed = b }) (sym c.if-failed.true) ∙ ap (λ (x : EngineState _ _ _ _). x.part) c.self.view_is in
+    let f = subst (λ (s : PartState _ _ _ _). Finishes (eyes g.S.Store.history g.S.Device.Device.history g.S.Frozen.Frozen.content g.S.Device.Device.name g.S.Frozen.Frozen.size g.S.Watch.Watch.counts) g.S.Device.Device.size c.args.self.policy (beside s c.args.jobs) (Ok tt) c.close_failed.result.store c.close_failed.result.main c.close_failed.result.flusher c.close_failed.result.merger c.close_failed.result.reader) same (c.close_failed.ensures.ends c.args.self.policy) in
+    f.home
+
+pub returns-then-failed-clause-listed : goal.returns-then-failed-clause-listed
+returns-then-failed-clause-listed g c =
+    let same : record c.self.inside.part { failed = true } ≡ c.args.self.part = ap (λ b. record c.self.inside.part { failed = b }) (sym c.if-failed.true) ∙ ap (λ (x : EngineState _ _ _ _). x.part) c.self.view_is in
+    let f = subst (λ (s : PartState _ _ _ _). Finishes (eyes g.S.Store.history g.S.Device.Device.history g.S.Frozen.Frozen.content g.S.Device.Device.name g.S.Frozen.Frozen.size g.S.Watch.Watch.counts) g.S.Device.Device.size c.args.self.policy (beside s c.args.jobs) (Ok tt) c.close_failed.result.store c.close_failed.result.main c.close_failed.result.flusher c.close_failed.result.merger c.close_failed.result.reader) same (c.close_failed.ensures.ends c.args.self.policy) in
+    f.listed
+
+pub returns-then-failed-clause-watched : goal.returns-then-failed-clause-watched
+returns-then-failed-clause-watched g c =
+    let same : record c.self.inside.part { failed = true } ≡ c.args.self.part = ap (λ b. record c.self.inside.part { failed = b }) (sym c.if-failed.true) ∙ ap (λ (x : EngineState _ _ _ _). x.part) c.self.view_is in
+    let f = subst (λ (s : PartState _ _ _ _). Finishes (eyes g.S.Store.history g.S.Device.Device.history g.S.Frozen.Frozen.content g.S.Device.Device.name g.S.Frozen.Frozen.size g.S.Watch.Watch.counts) g.S.Device.Device.size c.args.self.policy (beside s c.args.jobs) (Ok tt) c.close_failed.result.store c.close_failed.result.main c.close_failed.result.flusher c.close_failed.result.merger c.close_failed.result.reader) same (c.close_failed.ensures.ends c.args.self.policy) in
+    f.watched
+
+pub returns-then-failed-clause-reader : goal.returns-then-failed-clause-reader
+returns-then-failed-clause-reader g c =
+    let same : record c.self.inside.part { failed = true } ≡ c.args.self.part = ap (λ b. record c.self.inside.part { failed = b }) (sym c.if-failed.true) ∙ ap (λ (x : EngineState _ _ _ _). x.part) c.self.view_is in
+    let f = subst (λ (s : PartState _ _ _ _). Finishes (eyes g.S.Store.history g.S.Device.Device.history g.S.Frozen.Frozen.content g.S.Device.Device.name g.S.Frozen.Frozen.size g.S.Watch.Watch.counts) g.S.Device.Device.size c.args.self.policy (beside s c.args.jobs) (Ok tt) c.close_failed.result.store c.close_failed.result.main c.close_failed.result.flusher c.close_failed.result.merger c.close_failed.result.reader) same (c.close_failed.ensures.ends c.args.self.policy) in
+    f.reader
+
+pub returns-then-failed-clause-unwritten : goal.returns-then-failed-clause-unwritten
+returns-then-failed-clause-unwritten g c = λ p is tells works short.
     let t = told g.S.Store.history g.S.Device.Device.history g.S.Frozen.Frozen.content c.args.self.part in
-    let disks = brought_home (Log t.generation) t.log (option_map (λ moments. (Log (t.generation - 1), moments)) t.sealed_log) t.disks in
-    subst (λ ds. IfTold ds (KeepsStore part pairs frame)) (sym (returns-clause-home g c))
-    (subst (λ (x : Partition). IfTold disks (KeepsStore x pairs frame)) has.here
-    (subst (λ (x : Pairs). IfTold disks (KeepsStore has.view.part x frame)) has.holds (closed_keeps t has.view frame has.files has.logs)))
+    let laws = g.met.S.Device.Device g.world.𝓛 g.world.𝓜 g.world.𝓡 ((λ s x. x), (λ x. x), (λ x. x), λ x. x) in
+    let device = c.args.self.part.log.device in
+    unwritten t p (g.S.Device.Device.size device) is tells.store (laws.told_size device) (laws.content_may_stay device) short
 
-pub returns-clause-moments : goal.returns-clause-moments
-returns-clause-moments g c = λ p is.
-    let t = told g.S.Store.history g.S.Device.Device.history g.S.Frozen.Frozen.content c.args.self.part in
-    subst (λ disks. FailedMomentsLeaveStore p None t disks) (sym (returns-clause-home g c)) (closed_run_moments t p is)
+-- ---- of one that had not
 
-pub returns-clause-failed_moments : goal.returns-clause-failed_moments
-returns-clause-failed_moments g c = λ part pairs frame has.
-    let t = told g.S.Store.history g.S.Device.Device.history g.S.Frozen.Frozen.content c.args.self.part in
-    subst (λ disks. FailedMomentsLeaveStore has.view frame t disks) (sym (returns-clause-home g c)) (closed_moments t has.view frame has.files has.logs)
+pub finish_part-requires-clause-may : goal.finish_part-requires-clause-may
+finish_part-requires-clause-may g c κs within = subst (λ (s : PartState _ _ _ _). MayMove (eyes g.S.Store.history g.S.Device.Device.history g.S.Frozen.Frozen.content g.S.Device.Device.name g.S.Frozen.Frozen.size g.S.Watch.Watch.counts) (beside s c.args.jobs)) (sym (inside_is c.self.inside.part c.self.inside.failed c.args.self.part (ap (λ (x : EngineState _ _ _ _). x.part) c.self.view_is) (sym (ap (λ (x : EngineState _ _ _ _). x.part.failed) c.self.view_is) ∙ c.if-failed.false) c.self.invariant)) (record { sound = (sym (ap (λ (x : EngineState _ _ _ _). x.part.failed) c.self.view_is) ∙ c.if-failed.false); ready = c.requires.ready (sym (ap (λ (x : EngineState _ _ _ _). x.part.failed) c.self.view_is) ∙ c.if-failed.false); jobs = c.requires.jobs })
 
-pub returns-clause-main : goal.returns-clause-main
-returns-clause-main g c = rw (← c.self.view_is) c.close.ensures.main
+pub finish_part-requires-clause-flushing : goal.finish_part-requires-clause-flushing
+finish_part-requires-clause-flushing g c κs within = (c.self.invariant c.if-failed.false).flushing
 
-pub returns-clause-flusher : goal.returns-clause-flusher
-returns-clause-flusher g c = rw (← c.self.view_is) c.close.ensures.flusher
-
-pub returns-clause-merger : goal.returns-clause-merger
-returns-clause-merger g c = rw (← c.self.view_is) c.close.ensures.merger
-
-pub returns-clause-reader : goal.returns-clause-reader
-returns-clause-reader g c = rw (← c.self.view_is) c.close.ensures.reader
+pub finish_part-requires-clause-picked : goal.finish_part-requires-clause-picked
+finish_part-requires-clause-picked g c κs within = (c.self.invariant c.if-failed.false).picked
 
 pub returns-clause-brought_in : goal.returns-clause-brought_in
-returns-clause-brought_in g c = rw (← c.self.view_is) c.close.ensures.brought_in
+returns-clause-brought_in g c =
+    let result = c.finish_part.result in
+    let f = subst (λ (policy : Policy). Finishes (eyes g.S.Store.history g.S.Device.Device.history g.S.Frozen.Frozen.content g.S.Device.Device.name g.S.Frozen.Frozen.size g.S.Watch.Watch.counts) g.S.Device.Device.size policy (beside c.args.self.part c.args.jobs) result.outcome result.kit.store result.kit.main result.kit.flusher result.kit.merger result.kit.reader) (ap (λ (x : EngineState _ _ _ _). x.policy) c.self.view_is)
+    (subst (λ (s : PartState _ _ _ _). Finishes (eyes g.S.Store.history g.S.Device.Device.history g.S.Frozen.Frozen.content g.S.Device.Device.name g.S.Frozen.Frozen.size g.S.Watch.Watch.counts) g.S.Device.Device.size c.self.inside.policy (beside s c.args.jobs) result.outcome result.kit.store result.kit.main result.kit.flusher result.kit.merger result.kit.reader) (inside_is c.self.inside.part c.self.inside.failed c.args.self.part (ap (λ (x : EngineState _ _ _ _). x.part) c.self.view_is) (sym (ap (λ (x : EngineState _ _ _ _). x.part.failed) c.self.view_is) ∙ c.if-failed.false) c.self.invariant) c.finish_part.ensures.ends) in
+    f.brought_in
+
+pub returns-clause-log : goal.returns-clause-log
+returns-clause-log g c =
+    let result = c.finish_part.result in
+    let f = subst (λ (policy : Policy). Finishes (eyes g.S.Store.history g.S.Device.Device.history g.S.Frozen.Frozen.content g.S.Device.Device.name g.S.Frozen.Frozen.size g.S.Watch.Watch.counts) g.S.Device.Device.size policy (beside c.args.self.part c.args.jobs) result.outcome result.kit.store result.kit.main result.kit.flusher result.kit.merger result.kit.reader) (ap (λ (x : EngineState _ _ _ _). x.policy) c.self.view_is)
+    (subst (λ (s : PartState _ _ _ _). Finishes (eyes g.S.Store.history g.S.Device.Device.history g.S.Frozen.Frozen.content g.S.Device.Device.name g.S.Frozen.Frozen.size g.S.Watch.Watch.counts) g.S.Device.Device.size c.self.inside.policy (beside s c.args.jobs) result.outcome result.kit.store result.kit.main result.kit.flusher result.kit.merger result.kit.reader) (inside_is c.self.inside.part c.self.inside.failed c.args.self.part (ap (λ (x : EngineState _ _ _ _). x.part) c.self.view_is) (sym (ap (λ (x : EngineState _ _ _ _). x.part.failed) c.self.view_is) ∙ c.if-failed.false) c.self.invariant) c.finish_part.ensures.ends) in
+    f.log
+
+pub returns-clause-kept : goal.returns-clause-kept
+returns-clause-kept g c =
+    let result = c.finish_part.result in
+    let f = subst (λ (policy : Policy). Finishes (eyes g.S.Store.history g.S.Device.Device.history g.S.Frozen.Frozen.content g.S.Device.Device.name g.S.Frozen.Frozen.size g.S.Watch.Watch.counts) g.S.Device.Device.size policy (beside c.args.self.part c.args.jobs) result.outcome result.kit.store result.kit.main result.kit.flusher result.kit.merger result.kit.reader) (ap (λ (x : EngineState _ _ _ _). x.policy) c.self.view_is)
+    (subst (λ (s : PartState _ _ _ _). Finishes (eyes g.S.Store.history g.S.Device.Device.history g.S.Frozen.Frozen.content g.S.Device.Device.name g.S.Frozen.Frozen.size g.S.Watch.Watch.counts) g.S.Device.Device.size c.self.inside.policy (beside s c.args.jobs) result.outcome result.kit.store result.kit.main result.kit.flusher result.kit.merger result.kit.reader) (inside_is c.self.inside.part c.self.inside.failed c.args.self.part (ap (λ (x : EngineState _ _ _ _). x.part) c.self.view_is) (sym (ap (λ (x : EngineState _ _ _ _). x.part.failed) c.self.view_is) ∙ c.if-failed.false) c.self.invariant) c.finish_part.ensures.ends) in
+    f.kept
+
+pub returns-clause-failed : goal.returns-clause-failed
+returns-clause-failed g c =
+    let result = c.finish_part.result in
+    let f = subst (λ (policy : Policy). Finishes (eyes g.S.Store.history g.S.Device.Device.history g.S.Frozen.Frozen.content g.S.Device.Device.name g.S.Frozen.Frozen.size g.S.Watch.Watch.counts) g.S.Device.Device.size policy (beside c.args.self.part c.args.jobs) result.outcome result.kit.store result.kit.main result.kit.flusher result.kit.merger result.kit.reader) (ap (λ (x : EngineState _ _ _ _). x.policy) c.self.view_is)
+    (subst (λ (s : PartState _ _ _ _). Finishes (eyes g.S.Store.history g.S.Device.Device.history g.S.Frozen.Frozen.content g.S.Device.Device.name g.S.Frozen.Frozen.size g.S.Watch.Watch.counts) g.S.Device.Device.size c.self.inside.policy (beside s c.args.jobs) result.outcome result.kit.store result.kit.main result.kit.flusher result.kit.merger result.kit.reader) (inside_is c.self.inside.part c.self.inside.failed c.args.self.part (ap (λ (x : EngineState _ _ _ _). x.part) c.self.view_is) (sym (ap (λ (x : EngineState _ _ _ _). x.part.failed) c.self.view_is) ∙ c.if-failed.false) c.self.invariant) c.finish_part.ensures.ends) in
+    f.failed
 
 pub returns-clause-opens : goal.returns-clause-opens
-returns-clause-opens g c = λ p is.
-    let t = told g.S.Store.history g.S.Device.Device.history g.S.Frozen.Frozen.content c.args.self.part in
-    let same = inside_is c.self.inside.part c.self.inside.failed c.args.self.part (ap (λ (e : EngineState _ _ _ _). e.part) c.self.view_is) is.sound c.self.invariant.awake in
-    let awake = c.self.invariant.awake (ap (λ (e : EngineState _ _ _ _). e.part.failed) c.self.view_is ∙ is.sound) in
-    let disks = g.S.Store.history c.close.result.store in
-    let size = g.S.Device.Device.size in
-    one_log_opens t p size g.S.Device.Device.history c.args.self.part.log c.args.self.part.sealed_log disks is (sym (ap (λ (s : PartState _ _ _ _). s.sealed) same) ∙ awake.none_sealed) refl
-    (subst (λ (s : PartState _ _ _ _). IsPart (told g.S.Store.history g.S.Device.Device.history g.S.Frozen.Frozen.content s) p → IfTold disks (OpensAs p.part p.list (logs (state_of p)) (logs_length size s.log s.sealed_log))) same (c.close.ensures.opens p) is)
+returns-clause-opens g c =
+    let result = c.finish_part.result in
+    let f = subst (λ (policy : Policy). Finishes (eyes g.S.Store.history g.S.Device.Device.history g.S.Frozen.Frozen.content g.S.Device.Device.name g.S.Frozen.Frozen.size g.S.Watch.Watch.counts) g.S.Device.Device.size policy (beside c.args.self.part c.args.jobs) result.outcome result.kit.store result.kit.main result.kit.flusher result.kit.merger result.kit.reader) (ap (λ (x : EngineState _ _ _ _). x.policy) c.self.view_is)
+    (subst (λ (s : PartState _ _ _ _). Finishes (eyes g.S.Store.history g.S.Device.Device.history g.S.Frozen.Frozen.content g.S.Device.Device.name g.S.Frozen.Frozen.size g.S.Watch.Watch.counts) g.S.Device.Device.size c.self.inside.policy (beside s c.args.jobs) result.outcome result.kit.store result.kit.main result.kit.flusher result.kit.merger result.kit.reader) (inside_is c.self.inside.part c.self.inside.failed c.args.self.part (ap (λ (x : EngineState _ _ _ _). x.part) c.self.view_is) (sym (ap (λ (x : EngineState _ _ _ _). x.part.failed) c.self.view_is) ∙ c.if-failed.false) c.self.invariant) c.finish_part.ensures.ends) in
+    f.opens
+
+pub returns-clause-moments : goal.returns-clause-moments
+returns-clause-moments g c =
+    let result = c.finish_part.result in
+    let f = subst (λ (policy : Policy). Finishes (eyes g.S.Store.history g.S.Device.Device.history g.S.Frozen.Frozen.content g.S.Device.Device.name g.S.Frozen.Frozen.size g.S.Watch.Watch.counts) g.S.Device.Device.size policy (beside c.args.self.part c.args.jobs) result.outcome result.kit.store result.kit.main result.kit.flusher result.kit.merger result.kit.reader) (ap (λ (x : EngineState _ _ _ _). x.policy) c.self.view_is)
+    (subst (λ (s : PartState _ _ _ _). Finishes (eyes g.S.Store.history g.S.Device.Device.history g.S.Frozen.Frozen.content g.S.Device.Device.name g.S.Frozen.Frozen.size g.S.Watch.Watch.counts) g.S.Device.Device.size c.self.inside.policy (beside s c.args.jobs) result.outcome result.kit.store result.kit.main result.kit.flusher result.kit.merger result.kit.reader) (inside_is c.self.inside.part c.self.inside.failed c.args.self.part (ap (λ (x : EngineState _ _ _ _). x.part) c.self.view_is) (sym (ap (λ (x : EngineState _ _ _ _). x.part.failed) c.self.view_is) ∙ c.if-failed.false) c.self.invariant) c.finish_part.ensures.ends) in
+    f.moments
+
+pub returns-clause-failed_moments : goal.returns-clause-failed_moments
+returns-clause-failed_moments g c =
+    let result = c.finish_part.result in
+    let f = subst (λ (policy : Policy). Finishes (eyes g.S.Store.history g.S.Device.Device.history g.S.Frozen.Frozen.content g.S.Device.Device.name g.S.Frozen.Frozen.size g.S.Watch.Watch.counts) g.S.Device.Device.size policy (beside c.args.self.part c.args.jobs) result.outcome result.kit.store result.kit.main result.kit.flusher result.kit.merger result.kit.reader) (ap (λ (x : EngineState _ _ _ _). x.policy) c.self.view_is)
+    (subst (λ (s : PartState _ _ _ _). Finishes (eyes g.S.Store.history g.S.Device.Device.history g.S.Frozen.Frozen.content g.S.Device.Device.name g.S.Frozen.Frozen.size g.S.Watch.Watch.counts) g.S.Device.Device.size c.self.inside.policy (beside s c.args.jobs) result.outcome result.kit.store result.kit.main result.kit.flusher result.kit.merger result.kit.reader) (inside_is c.self.inside.part c.self.inside.failed c.args.self.part (ap (λ (x : EngineState _ _ _ _). x.part) c.self.view_is) (sym (ap (λ (x : EngineState _ _ _ _). x.part.failed) c.self.view_is) ∙ c.if-failed.false) c.self.invariant) c.finish_part.ensures.ends) in
+    f.failed_moments
+
+pub returns-clause-outcome : goal.returns-clause-outcome
+returns-clause-outcome g c =
+    let result = c.finish_part.result in
+    let f = subst (λ (policy : Policy). Finishes (eyes g.S.Store.history g.S.Device.Device.history g.S.Frozen.Frozen.content g.S.Device.Device.name g.S.Frozen.Frozen.size g.S.Watch.Watch.counts) g.S.Device.Device.size policy (beside c.args.self.part c.args.jobs) result.outcome result.kit.store result.kit.main result.kit.flusher result.kit.merger result.kit.reader) (ap (λ (x : EngineState _ _ _ _). x.policy) c.self.view_is)
+    (subst (λ (s : PartState _ _ _ _). Finishes (eyes g.S.Store.history g.S.Device.Device.history g.S.Frozen.Frozen.content g.S.Device.Device.name g.S.Frozen.Frozen.size g.S.Watch.Watch.counts) g.S.Device.Device.size c.self.inside.policy (beside s c.args.jobs) result.outcome result.kit.store result.kit.main result.kit.flusher result.kit.merger result.kit.reader) (inside_is c.self.inside.part c.self.inside.failed c.args.self.part (ap (λ (x : EngineState _ _ _ _). x.part) c.self.view_is) (sym (ap (λ (x : EngineState _ _ _ _). x.part.failed) c.self.view_is) ∙ c.if-failed.false) c.self.invariant) c.finish_part.ensures.ends) in
+    f.outcome
+
+pub returns-clause-damaged : goal.returns-clause-damaged
+returns-clause-damaged g c =
+    let result = c.finish_part.result in
+    let f = subst (λ (policy : Policy). Finishes (eyes g.S.Store.history g.S.Device.Device.history g.S.Frozen.Frozen.content g.S.Device.Device.name g.S.Frozen.Frozen.size g.S.Watch.Watch.counts) g.S.Device.Device.size policy (beside c.args.self.part c.args.jobs) result.outcome result.kit.store result.kit.main result.kit.flusher result.kit.merger result.kit.reader) (ap (λ (x : EngineState _ _ _ _). x.policy) c.self.view_is)
+    (subst (λ (s : PartState _ _ _ _). Finishes (eyes g.S.Store.history g.S.Device.Device.history g.S.Frozen.Frozen.content g.S.Device.Device.name g.S.Frozen.Frozen.size g.S.Watch.Watch.counts) g.S.Device.Device.size c.self.inside.policy (beside s c.args.jobs) result.outcome result.kit.store result.kit.main result.kit.flusher result.kit.merger result.kit.reader) (inside_is c.self.inside.part c.self.inside.failed c.args.self.part (ap (λ (x : EngineState _ _ _ _). x.part) c.self.view_is) (sym (ap (λ (x : EngineState _ _ _ _). x.part.failed) c.self.view_is) ∙ c.if-failed.false) c.self.invariant) c.finish_part.ensures.ends) in
+    f.damaged
+
+pub returns-clause-undamaged : goal.returns-clause-undamaged
+returns-clause-undamaged g c =
+    let result = c.finish_part.result in
+    let f = subst (λ (policy : Policy). Finishes (eyes g.S.Store.history g.S.Device.Device.history g.S.Frozen.Frozen.content g.S.Device.Device.name g.S.Frozen.Frozen.size g.S.Watch.Watch.counts) g.S.Device.Device.size policy (beside c.args.self.part c.args.jobs) result.outcome result.kit.store result.kit.main result.kit.flusher result.kit.merger result.kit.reader) (ap (λ (x : EngineState _ _ _ _). x.policy) c.self.view_is)
+    (subst (λ (s : PartState _ _ _ _). Finishes (eyes g.S.Store.history g.S.Device.Device.history g.S.Frozen.Frozen.content g.S.Device.Device.name g.S.Frozen.Frozen.size g.S.Watch.Watch.counts) g.S.Device.Device.size c.self.inside.policy (beside s c.args.jobs) result.outcome result.kit.store result.kit.main result.kit.flusher result.kit.merger result.kit.reader) (inside_is c.self.inside.part c.self.inside.failed c.args.self.part (ap (λ (x : EngineState _ _ _ _). x.part) c.self.view_is) (sym (ap (λ (x : EngineState _ _ _ _). x.part.failed) c.self.view_is) ∙ c.if-failed.false) c.self.invariant) c.finish_part.ensures.ends) in
+    f.undamaged
+
+pub returns-clause-unspent : goal.returns-clause-unspent
+returns-clause-unspent g c =
+    let result = c.finish_part.result in
+    let f = subst (λ (policy : Policy). Finishes (eyes g.S.Store.history g.S.Device.Device.history g.S.Frozen.Frozen.content g.S.Device.Device.name g.S.Frozen.Frozen.size g.S.Watch.Watch.counts) g.S.Device.Device.size policy (beside c.args.self.part c.args.jobs) result.outcome result.kit.store result.kit.main result.kit.flusher result.kit.merger result.kit.reader) (ap (λ (x : EngineState _ _ _ _). x.policy) c.self.view_is)
+    (subst (λ (s : PartState _ _ _ _). Finishes (eyes g.S.Store.history g.S.Device.Device.history g.S.Frozen.Frozen.content g.S.Device.Device.name g.S.Frozen.Frozen.size g.S.Watch.Watch.counts) g.S.Device.Device.size c.self.inside.policy (beside s c.args.jobs) result.outcome result.kit.store result.kit.main result.kit.flusher result.kit.merger result.kit.reader) (inside_is c.self.inside.part c.self.inside.failed c.args.self.part (ap (λ (x : EngineState _ _ _ _). x.part) c.self.view_is) (sym (ap (λ (x : EngineState _ _ _ _). x.part.failed) c.self.view_is) ∙ c.if-failed.false) c.self.invariant) c.finish_part.ensures.ends) in
+    f.unspent
+
+pub returns-clause-idle : goal.returns-clause-idle
+returns-clause-idle g c =
+    let result = c.finish_part.result in
+    let f = subst (λ (policy : Policy). Finishes (eyes g.S.Store.history g.S.Device.Device.history g.S.Frozen.Frozen.content g.S.Device.Device.name g.S.Frozen.Frozen.size g.S.Watch.Watch.counts) g.S.Device.Device.size policy (beside c.args.self.part c.args.jobs) result.outcome result.kit.store result.kit.main result.kit.flusher result.kit.merger result.kit.reader) (ap (λ (x : EngineState _ _ _ _). x.policy) c.self.view_is)
+    (subst (λ (s : PartState _ _ _ _). Finishes (eyes g.S.Store.history g.S.Device.Device.history g.S.Frozen.Frozen.content g.S.Device.Device.name g.S.Frozen.Frozen.size g.S.Watch.Watch.counts) g.S.Device.Device.size c.self.inside.policy (beside s c.args.jobs) result.outcome result.kit.store result.kit.main result.kit.flusher result.kit.merger result.kit.reader) (inside_is c.self.inside.part c.self.inside.failed c.args.self.part (ap (λ (x : EngineState _ _ _ _). x.part) c.self.view_is) (sym (ap (λ (x : EngineState _ _ _ _). x.part.failed) c.self.view_is) ∙ c.if-failed.false) c.self.invariant) c.finish_part.ensures.ends) in
+    f.idle
+
+pub returns-clause-home : goal.returns-clause-home
+returns-clause-home g c =
+    let result = c.finish_part.result in
+    let f = subst (λ (policy : Policy). Finishes (eyes g.S.Store.history g.S.Device.Device.history g.S.Frozen.Frozen.content g.S.Device.Device.name g.S.Frozen.Frozen.size g.S.Watch.Watch.counts) g.S.Device.Device.size policy (beside c.args.self.part c.args.jobs) result.outcome result.kit.store result.kit.main result.kit.flusher result.kit.merger result.kit.reader) (ap (λ (x : EngineState _ _ _ _). x.policy) c.self.view_is)
+    (subst (λ (s : PartState _ _ _ _). Finishes (eyes g.S.Store.history g.S.Device.Device.history g.S.Frozen.Frozen.content g.S.Device.Device.name g.S.Frozen.Frozen.size g.S.Watch.Watch.counts) g.S.Device.Device.size c.self.inside.policy (beside s c.args.jobs) result.outcome result.kit.store result.kit.main result.kit.flusher result.kit.merger result.kit.reader) (inside_is c.self.inside.part c.self.inside.failed c.args.self.part (ap (λ (x : EngineState _ _ _ _). x.part) c.self.view_is) (sym (ap (λ (x : EngineState _ _ _ _). x.part.failed) c.self.view_is) ∙ c.if-failed.false) c.self.invariant) c.finish_part.ensures.ends) in
+    f.home
+
+pub returns-clause-listed : goal.returns-clause-listed
+returns-clause-listed g c =
+    let result = c.finish_part.result in
+    let f = subst (λ (policy : Policy). Finishes (eyes g.S.Store.history g.S.Device.Device.history g.S.Frozen.Frozen.content g.S.Device.Device.name g.S.Frozen.Frozen.size g.S.Watch.Watch.counts) g.S.Device.Device.size policy (beside c.args.self.part c.args.jobs) result.outcome result.kit.store result.kit.main result.kit.flusher result.kit.merger result.kit.reader) (ap (λ (x : EngineState _ _ _ _). x.policy) c.self.view_is)
+    (subst (λ (s : PartState _ _ _ _). Finishes (eyes g.S.Store.history g.S.Device.Device.history g.S.Frozen.Frozen.content g.S.Device.Device.name g.S.Frozen.Frozen.size g.S.Watch.Watch.counts) g.S.Device.Device.size c.self.inside.policy (beside s c.args.jobs) result.outcome result.kit.store result.kit.main result.kit.flusher result.kit.merger result.kit.reader) (inside_is c.self.inside.part c.self.inside.failed c.args.self.part (ap (λ (x : EngineState _ _ _ _). x.part) c.self.view_is) (sym (ap (λ (x : EngineState _ _ _ _). x.part.failed) c.self.view_is) ∙ c.if-failed.false) c.self.invariant) c.finish_part.ensures.ends) in
+    f.listed
+
+pub returns-clause-watched : goal.returns-clause-watched
+returns-clause-watched g c =
+    let result = c.finish_part.result in
+    let f = subst (λ (policy : Policy). Finishes (eyes g.S.Store.history g.S.Device.Device.history g.S.Frozen.Frozen.content g.S.Device.Device.name g.S.Frozen.Frozen.size g.S.Watch.Watch.counts) g.S.Device.Device.size policy (beside c.args.self.part c.args.jobs) result.outcome result.kit.store result.kit.main result.kit.flusher result.kit.merger result.kit.reader) (ap (λ (x : EngineState _ _ _ _). x.policy) c.self.view_is)
+    (subst (λ (s : PartState _ _ _ _). Finishes (eyes g.S.Store.history g.S.Device.Device.history g.S.Frozen.Frozen.content g.S.Device.Device.name g.S.Frozen.Frozen.size g.S.Watch.Watch.counts) g.S.Device.Device.size c.self.inside.policy (beside s c.args.jobs) result.outcome result.kit.store result.kit.main result.kit.flusher result.kit.merger result.kit.reader) (inside_is c.self.inside.part c.self.inside.failed c.args.self.part (ap (λ (x : EngineState _ _ _ _). x.part) c.self.view_is) (sym (ap (λ (x : EngineState _ _ _ _). x.part.failed) c.self.view_is) ∙ c.if-failed.false) c.self.invariant) c.finish_part.ensures.ends) in
+    f.watched
+
+pub returns-clause-reader : goal.returns-clause-reader
+returns-clause-reader g c =
+    let result = c.finish_part.result in
+    let f = subst (λ (policy : Policy). Finishes (eyes g.S.Store.history g.S.Device.Device.history g.S.Frozen.Frozen.content g.S.Device.Device.name g.S.Frozen.Frozen.size g.S.Watch.Watch.counts) g.S.Device.Device.size policy (beside c.args.self.part c.args.jobs) result.outcome result.kit.store result.kit.main result.kit.flusher result.kit.merger result.kit.reader) (ap (λ (x : EngineState _ _ _ _). x.policy) c.self.view_is)
+    (subst (λ (s : PartState _ _ _ _). Finishes (eyes g.S.Store.history g.S.Device.Device.history g.S.Frozen.Frozen.content g.S.Device.Device.name g.S.Frozen.Frozen.size g.S.Watch.Watch.counts) g.S.Device.Device.size c.self.inside.policy (beside s c.args.jobs) result.outcome result.kit.store result.kit.main result.kit.flusher result.kit.merger result.kit.reader) (inside_is c.self.inside.part c.self.inside.failed c.args.self.part (ap (λ (x : EngineState _ _ _ _). x.part) c.self.view_is) (sym (ap (λ (x : EngineState _ _ _ _). x.part.failed) c.self.view_is) ∙ c.if-failed.false) c.self.invariant) c.finish_part.ensures.ends) in
+    f.reader
 
 pub returns-clause-unwritten : goal.returns-clause-unwritten
-returns-clause-unwritten g c = λ p is tells short.
+returns-clause-unwritten g c = λ p is tells works short.
     let t = told g.S.Store.history g.S.Device.Device.history g.S.Frozen.Frozen.content c.args.self.part in
     let laws = g.met.S.Device.Device g.world.𝓛 g.world.𝓜 g.world.𝓡 ((λ s x. x), (λ x. x), (λ x. x), λ x. x) in
     let device = c.args.self.part.log.device in

@@ -1,4 +1,4 @@
-use Rattle.std.proofs.Common.{◌≡◌, ◌∙◌, ap, subst, sym}
+use Rattle.std.proofs.Common.{◌≡◌, ap, subst, sym}
 use Rattle.std.specs.Prelude.{IfOk}
 use Rattle.serde_json.specs.View.{view}
 use Rattle.tc_model.specs.Keyed.{values_in}
@@ -13,18 +13,16 @@ use Rattle.tc_work.proofs.engine.Engine.schema.Goals as goal
 
 pub returns-clause-documents : goal.returns-clause-documents
 returns-clause-documents g c = λ p is.
-    let same = inside_is c.self.inside.part c.self.inside.failed c.args.self.now.part (ap (λ (e : EngineState _ _ _ _). e.part) c.self.view_is) is.sound c.self.invariant.awake in
+    let same = inside_is c.self.inside.part c.self.inside.failed c.args.self.now.part (ap (λ (e : EngineState _ _ _ _). e.part) c.self.view_is) is.sound c.self.invariant in
     c.schema.ensures.documents p (subst (λ (s : PartState _ _ _ _). IsPart (told g.S.Store.history g.S.Device.Device.history g.S.Frozen.Frozen.content s) p) (sym same) is)
 
 pub returns-clause-text : goal.returns-clause-text
-returns-clause-text g c = λ p is tells short.
+returns-clause-text g c = λ p is tells none_sealed short.
     let t = told g.S.Store.history g.S.Device.Device.history g.S.Frozen.Frozen.content c.args.self.now.part in
     let laws = g.met.S.Device.Device g.world.𝓛 g.world.𝓜 g.world.𝓡 ((λ s x. x), (λ x. x), (λ x. x), λ x. x) in
-    let same = inside_is c.self.inside.part c.self.inside.failed c.args.self.now.part (ap (λ (e : EngineState _ _ _ _). e.part) c.self.view_is) is.sound c.self.invariant.awake in
-    let awake = c.self.invariant.awake (ap (λ (e : EngineState _ _ _ _). e.part.failed) c.self.view_is ∙ is.sound) in
     let device = c.args.self.now.part.log.device in
     let none = unwritten t p (g.S.Device.Device.size device) is tells.store (laws.told_size device) (laws.content_may_stay device) short in
-    subst (λ (pairs : Pairs). IfOk c.schema.result (λ v. view v ≡ schema_text (values_in pairs))) (sym (all_listed t p is (sym (ap (λ (s : PartState _ _ _ _). s.sealed) same) ∙ awake.none_sealed) none)) (returns-clause-documents g c p is)
+    subst (λ (pairs : Pairs). IfOk c.schema.result (λ v. view v ≡ schema_text (values_in pairs))) (sym (all_listed t p is none_sealed none)) (returns-clause-documents g c p is)
 
 pub returns-clause-tree : goal.returns-clause-tree
 returns-clause-tree g c = rw (← c.self.view_is) c.schema.ensures.tree

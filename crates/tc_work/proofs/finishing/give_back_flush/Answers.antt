@@ -1,0 +1,60 @@
+use Rattle.std.proofs.Common.{◌≡◌, ◌∙◌, false, Some, refl, sym, ap, subst, inl, inr}
+use Rattle.std.specs.Prelude.{IfSome}
+use Rattle.std.proofs.lemmas.Bool.{true≢false}
+use Rattle.tc_flush.specs.Jobs as flush
+use Rattle.tc_part.specs.FlushEnds.{flushed_name}
+use Rattle.tc_running.specs.Ran.{HasFlushed}
+use Rattle.tc_work.specs.JobsOut.{FlushesFor, IsFlushOf}
+use Rattle.tc_work.proofs.FlushRuns.{flush_leaves}
+use Rattle.tc_work.proofs.InstalledFlushes.{HasFallen, IsBack, IsHandedBack, fallen_keeps}
+use Rattle.tc_part_model.specs.PartState.{PartState}
+use Rattle.tc_running.specs.Jobs.{JobsState}
+use Rattle.tc_work.specs.Moving.{beside, eyes, told_by, works_by, KeepsJobs}
+use Rattle.tc_work.proofs.GivenBack.{failed_none}
+use Rattle.tc_work.proofs.HandedJobs.{job_back, job_of_part, job_ran, none_back}
+use Rattle.tc_work.proofs.KeptJobs.{keeps_same}
+use Rattle.tc_work.proofs.finishing.give_back_flush.Goals as goal
+
+-- ---- it is given back
+
+pub returns-in-Some-clause-keeps : goal.returns-in-Some-clause-keeps
+returns-in-Some-clause-keeps g c =
+    let e = eyes g.S.Store.history g.S.Device.Device.history g.S.Frozen.Frozen.content g.S.Device.Device.name g.S.Frozen.Frozen.size g.S.Watch.Watch.counts in
+    let out = c.in-Some.out in
+    let laws = g.met.S.Device.Device g.world.𝓛 g.world.𝓜 g.world.𝓡 ((λ s x. x), (λ x. x), (λ x. x), λ x. x) in
+    let found = job_back c.args.jobs.now.flush c.in-Some.ensures.some in
+    let of = job_of_part c.args.part.now.flushing c.args.jobs.now.flush found.0 (IsFlushOf e.disks e.history e.name_of c.args.part.now) found.1 c.requires.jobs.flush in
+    let ran = job_ran c.args.jobs.now.flush found.0 (λ (job : flush.JobState _ _). HasFlushed e.history g.S.Device.Device.size e.name_of e.counts job out.watch out.device out.outcome) found.1 c.in-Some.ensures.ran in
+    let documents = c.tables_keep_documents.ensures.some found.0.kept of.1.lawful in
+    let back : IsBack e g.S.Frozen.Frozen.name g.S.Device.Device.size c.args.part.now c.finish_flush-given.new.self c.args.jobs.now found.0 out.watch out.device out.outcome = record { is_job = found.1; of = of.1; ran = ran; sized = laws.told_size out.device } in
+    let handed : IsHandedBack e g.S.Frozen.Frozen.name g.S.Device.Device.size c.args.part.now c.finish_flush-given.new.self c.args.jobs.now found.0 out.watch out.device out.outcome = record { devices = c.finish_flush-given.ensures.devices; merge_named = c.finish_flush-given.ensures.merge_named } in
+    let home = c.finish_flush-given.ensures.home c.requires.failed in
+    let f : HasFallen e g.S.Frozen.Frozen.name g.S.Device.Device.size c.args.part.now c.finish_flush-given.new.self c.args.jobs.now found.0 out.watch out.device out.outcome = record { left = inl (record { same = subst (λ (s : PartState _ _ _ _). s ≡ record c.args.part.now { store = s.store; main = s.main; flusher = Some out.watch; flushing = false; failed = s.failed }) (sym home.1) refl; home = inr home.2 }); failed = λ p content part makes made. absurd (true≢false (sym c.requires.failed ∙ part.sound)); moments = c.finish_flush-given.ensures.moments; unmade_failed = c.finish_flush-given.ensures.unmade_failed; unmade_moments = c.finish_flush-given.ensures.unmade_moments } in
+    subst (λ (j : JobsState _ _ _). KeepsJobs e ⊥ (beside c.args.part.now c.args.jobs.now) (beside c.finish_flush-given.new.self j)) (sym c.join_flush.ensures.taken) (fallen_keeps e g.S.Frozen.Frozen.name g.S.Device.Device.size c.args.part.now c.finish_flush-given.new.self c.args.jobs.now found.0 out.watch out.device out.outcome back handed f of.1.log of.0 c.requires.jobs documents.table documents.of ⊥ _ c.finish_flush-given.ensures.watched (λ never. absurd never))
+
+pub returns-in-Some-clause-stays : goal.returns-in-Some-clause-stays
+returns-in-Some-clause-stays g c = λ p frame has works.
+    let e = eyes g.S.Store.history g.S.Device.Device.history g.S.Frozen.Frozen.content g.S.Device.Device.name g.S.Frozen.Frozen.size g.S.Watch.Watch.counts in
+    let out = c.in-Some.out in
+    let found = job_back c.args.jobs.now.flush c.in-Some.ensures.some in
+    let of = job_of_part c.args.part.now.flushing c.args.jobs.now.flush found.0 (IsFlushOf e.disks e.history e.name_of c.args.part.now) found.1 c.requires.jobs.flush in
+    let ran = job_ran c.args.jobs.now.flush found.0 (λ (job : flush.JobState _ _). HasFlushed e.history g.S.Device.Device.size e.name_of e.counts job out.watch out.device out.outcome) found.1 c.in-Some.ensures.ran in
+    let m = subst (λ o. IfSome o (FlushesFor e.history e.name_of p.part p.list p.sealed p.flush)) found.1 works.0 in
+    let named = m.name ∙ of.1.name in
+    let leaves = flush_leaves e.history g.S.Device.Device.size e.name_of e.counts p (flushed_name c.args.part.now) (e.disks c.args.part.now.store) found.0 m of.1.device out.watch out.device out.outcome ran in (
+      c.finish_flush-given.ensures.stays c.requires.failed p frame m.flushing has m.is_out named leaves,
+      subst (λ (j : JobsState _ _ _). works_by e (beside c.finish_flush-given.new.self j) p) (sym c.join_flush.ensures.taken) (tt, works.1),
+      c.finish_flush-given.ensures.stays_moments c.requires.failed p frame m.flushing has m.is_out named leaves,
+    )
+
+-- ---- none was out
+
+pub returns-in-None-clause-keeps : goal.returns-in-None-clause-keeps
+returns-in-None-clause-keeps g c =
+    let e = eyes g.S.Store.history g.S.Device.Device.history g.S.Frozen.Frozen.content g.S.Device.Device.name g.S.Frozen.Frozen.size g.S.Watch.Watch.counts in
+    subst (λ (j : JobsState _ _ _). KeepsJobs e ⊥ (beside c.args.part.now c.args.jobs.now) (beside c.args.part.now j)) (sym (c.join_flush.ensures.taken ∙ ap (λ o. record c.args.jobs.now { flush = o }) (sym (none_back c.args.jobs.now.flush c.in-None.ensures.some)))) (keeps_same e (beside c.args.part.now c.args.jobs.now) ⊥ c.requires.jobs (λ never. never))
+
+pub returns-in-None-clause-stays : goal.returns-in-None-clause-stays
+returns-in-None-clause-stays g c = λ p frame has works.
+    let e = eyes g.S.Store.history g.S.Device.Device.history g.S.Frozen.Frozen.content g.S.Device.Device.name g.S.Frozen.Frozen.size g.S.Watch.Watch.counts in
+    (has, subst (λ (j : JobsState _ _ _). works_by e (beside c.args.part.now j) p) (sym (c.join_flush.ensures.taken ∙ ap (λ o. record c.args.jobs.now { flush = o }) (sym (none_back c.args.jobs.now.flush c.in-None.ensures.some)))) works, failed_none p frame (told_by e (beside c.args.part.now c.args.jobs.now)))
