@@ -3,7 +3,7 @@
 
     bench/run.py [--program FILE] [--documents N] [--large N] [--rounds N] [PART ..]
 
-Parts: loads, gets, queries, opening, calls, growth, partitions, and lines, all but the last two by default. The program is
+Parts: loads, gets, queries, opening, calls, growth, partitions, pauses, and lines, all but the last three by default. The program is
 crates/tuple_store/out/tuple_store, which `rt run` in crates/tuple_store builds, or FILE. N documents are 40,000, and a
 tenth of that of readings; the large store has 1,000,000. Runs take turns, so that other load meets all of them; a time is
 the least of the rounds, 3 by default, and a ratio the median of those of the rounds, each of two runs one after the other.
@@ -22,6 +22,8 @@ parses the JSON that it stores, as the store does. Both keep a log that is synce
     partitions
              loads into 1, 2, 4 and 8 partitions, in windows of 64 and of 4,096 lines, over files in memory (/dev/shm), by
              the processor and by the clock; it wants a machine that does nothing else
+    pauses   the longest times between two replies of loads with flushes and merges, over files in memory: with jobs on threads, and,
+             by turns, where the system refuses threads, so that each job is run in place; wants a machine that does nothing else
     lines    documents in memory, and nothing else: orders of keys, gets of absent keys, windows, schemas
 """
 
@@ -43,6 +45,8 @@ BUILT = os.path.join(os.path.dirname(os.path.abspath(__file__)), "..", "crates",
 PARTS = ("loads", "gets", "queries", "opening", "calls", "growth")
 LOADED = ("--memory", "16777216")
 GROWN = ("--memory", "4194304", "--limit", "67108864")
+PAUSED = ("run", "--partitions", "1", "--window", "64", "--memory", "1048576", "--merge", "8")
+NOBODY = 65534
 
 
 def processor():
@@ -308,6 +312,48 @@ def load_parts(bench, name, source, count, window, stores):
         print(f"| {name} | {window:,} | {number} | {micros(used, count):.2f} | {more:.2f} | {micros(clock, count):.2f} | {faster:.2f} |", flush=True)
 
 
+def pauses(bench):
+    print("| load | jobs | longest pause, ms | the next longest | clock, µs a line |")
+    print("|---|---|--:|--:|--:|")
+    folder = "/dev/shm" if os.path.isdir("/dev/shm") else bench.folder
+    kinds = (("on threads", None), ("in place", refuse_threads))
+    with tempfile.TemporaryDirectory(dir=folder) as stores:
+        os.chmod(stores, 0o777)
+        for name, made, part in (("messages", feeds.message, 1), ("profiles", feeds.profile, 4)):
+            source, count = bench.write("lines", feeds.upserts(10 * bench.words.documents // part, "ascending", made))
+            told = {kind: [] for kind, _ in kinds}
+            for _ in range(bench.words.rounds):
+                for kind, first in kinds:
+                    store = os.path.join(stores, "store")
+                    shutil.rmtree(store, ignore_errors=True)
+                    told[kind].append(paused([bench.words.program, store, *PAUSED], source, first))
+            for kind, _ in kinds:
+                longest, behind, clock = (min(it) for it in zip(*told[kind]))
+                print(f"| {name} | {kind} | {longest * 1e3:.1f} | {behind * 1e3:.1f} | {micros(clock, count):.2f} |", flush=True)
+
+
+def refuse_threads():
+    """Has the system refuse each further thread of this process, which it never does to the superuser."""
+    if os.getuid() == 0:
+        os.setgid(NOBODY)
+        os.setuid(NOBODY)
+    resource.setrlimit(resource.RLIMIT_NPROC, (1, 1))
+
+
+def paused(words, source, first):
+    """The two longest times between replies of a run, and its whole time, by the clock."""
+    begun = last = time.monotonic()
+    longest = [0.0, 0.0]
+    with open(source, "rb") as lines, subprocess.Popen(words, stdin=lines, stdout=subprocess.PIPE, preexec_fn=first) as running:
+        while os.read(running.stdout.fileno(), 1 << 20):
+            now = time.monotonic()
+            longest = sorted([*longest, now - last])[-2:]
+            last = now
+    if running.returncode:
+        raise subprocess.CalledProcessError(running.returncode, words)
+    return longest[1], longest[0], last - begun
+
+
 def main():
     parser = argparse.ArgumentParser(description=__doc__, formatter_class=argparse.RawDescriptionHelpFormatter)
     parser.add_argument("--program", type=os.path.abspath, default=BUILT)
@@ -316,7 +362,7 @@ def main():
     parser.add_argument("--rounds", type=int, default=3)
     parser.add_argument("parts", nargs="*", metavar="PART")
     words = parser.parse_args()
-    known = {"loads": loads, "gets": gets, "queries": queries, "growth": growth, "opening": opening, "calls": calls, "partitions": partitions, "lines": lines}
+    known = {"loads": loads, "gets": gets, "queries": queries, "growth": growth, "opening": opening, "calls": calls, "partitions": partitions, "pauses": pauses, "lines": lines}
     for part in words.parts:
         if part not in known:
             parser.error(f"there is no part {part}")
