@@ -1,5 +1,6 @@
 pub mod PlaceLaws
 pub mod SharesLeft
+mod JobsBeside
 mod OwnKeys
 pub mod EnginesHeld
 mod WindowsHeld

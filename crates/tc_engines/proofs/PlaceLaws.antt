@@ -1,5 +1,5 @@
 -- Laws of two lists, place by place.
-use Rattle.std.proofs.Common.{◌≡◌, ◌∙◌, ℕ, zero, suc, ◌+◌, ◌<◌, List, [], ◌∷◌, ◌++◌, drop, take, map, length, arith, refl, ap, subst, sym}
+use Rattle.std.proofs.Common.{◌≡◌, ℕ, zero, suc, ◌+◌, ◌<◌, List, [], ◌∷◌, ◌++◌, drop, take, map, length, arith, refl, ap, subst}
 use Rattle.std.specs.List.{AllByRecursion}
 use Rattle.std.specs.Prelude.{slice_index_or, zip, All}
 use Rattle.std.specs.Vec.{with_items}
@@ -131,11 +131,3 @@ take_front (suc n) (w ∷ ws) rest many = ap (λ xs. w ∷ xs) (take_front n ws 
 
 pub refilled : {X : Type 0} (room : Vec X Global) (ws : List X) → length ws ≡ room.len → (with_items room ws).items ≡ ws
 refilled room ws many = take_front room.len ws (drop (length ws) room.items) many
-
--- what f reads of the items that a vector had, and of those that were written over them
-pub through_vector : {X E : Type 0} (f : X → E) (R : ℕ → E → E → Type 0) (v : Vec X Global) (olds news : List X) (es : List E) → length v.items ≡ v.len → olds ≡ v.items → map f v.items ≡ es → AtEach (λ i x y. R i (f x) (f y)) 0 olds news
-    → AtEach R 0 es (map f (with_items v news).items)
-through_vector f R v olds news es full is seen all =
-    let many : length news ≡ v.len = sym (at_each-length (λ i x y. R i (f x) (f y)) 0 olds news all) ∙ ap length is ∙ full in
-    subst (λ xs. AtEach R 0 xs (map f (with_items v news).items)) (ap (map f) is ∙ seen)
-    (subst (λ ys. AtEach R 0 (map f olds) (map f ys)) (sym (refilled v news many)) (at_each-read f f R 0 olds news all))

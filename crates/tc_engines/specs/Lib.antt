@@ -1,4 +1,5 @@
 pub mod Places
+pub mod WithJobs
 pub mod Standing
 pub mod Running
 pub mod Faults

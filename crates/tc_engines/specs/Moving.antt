@@ -1,96 +1,102 @@
--- What a call leaves of an engine that moves its documents into files, and how it fails.
-use Rattle.std.specs.Prelude.{◌≡◌, ◌≤◌, ◌<◌, ◌+◌, ◌^◌, ◌++◌, ℕ, true, false, List, [], ◌∷◌, None, length}
+-- What a call leaves of an engine that moves its documents into files by jobs, and how it fails.
+use Rattle.std.specs.Prelude.{◌≡◌, ◌≤◌, ◌<◌, ◌+◌, ◌^◌, ◌++◌, ℕ, true, false, [], ◌∷◌, None, is_some, length}
 use Rattle.tc_component.specs.Loading.{ComponentState}
 use Rattle.tc_jobs.specs.Lists.{file_names}
+use Rattle.tc_list.specs.Intervals.{last_of}
 use Rattle.tc_list.specs.Policies.{listed_least}
 use Rattle.tc_log.specs.Layout.{empty_size}
 use Rattle.tc_part.specs.FilesOut.{LogIsOut, OnlyDevicesOut, TellsLogs}
 use Rattle.tc_part_model.specs.Meaning.{IsPart}
-use Rattle.tc_part_model.specs.PartState.{PartState, Told}
 use Rattle.tc_part_model.specs.PartView.{PartView, store_of}
-use Rattle.tc_store.specs.Counted.{Counts}
-use Rattle.tc_store.specs.Disk.{Disk}
-use Rattle.tc_store.specs.DiskFile.{DiskFile}
-use Rattle.tc_store.specs.declared.damage.Damage.{Damage}
 use Rattle.tc_store.specs.declared.file_name.FileName.TheVariants.{Component as component_name}
-use Rattle.tc_work.specs.EngineState.{EngineState}
 use Rattle.tc_work.specs.Failing.{HasFailedKeeping}
 use Rattle.tc_work.specs.Faults.{AreOfComponents, AreOfFiles, IfDamaged}
-use Rattle.tc_work.specs.Settling.{HasOnlyMoved, IsDue, IsMergedBy, IsWatchedIn, MaySettle, MomentsStayOver, NextLogs, PicksNone, StoresStill, TellsFiles}
+use Rattle.tc_work.specs.JobsOut.{watched_part}
+use Rattle.tc_work.specs.Moving.{Eyes}
+use Rattle.tc_work.specs.Settling.{HasOnlyMoved, IsDue, IsListedBy, IsWatchedIn, MaySettle, MomentsStayOver, NextLogs, PicksNone, StoresStill, TellsFiles}
 use Rattle.tc_work.specs.declared.fault.EngineFault.{EngineFault}
 use Rattle.tc_work.specs.declared.fault.EngineFault.TheVariants.{Disk as disk_fault, Spent}
+use Rattle.tc_engines.specs.WithJobs.{told_of, works_of, WithJobs}
 
 -- ---- an engine
 
 -- Behind such a call that ended well: where the files are told it stores what it stored, and it may run on.
-pub record HasStayed {S D F W : Type 0} (tell : PartState S D F W → Told) (disks : S → List Disk) (old new : EngineState S D F W) : Type 0 where
-  pub stores : (p : PartView) → IsPart (tell old.part) p → TellsFiles (tell old.part) → StoresStill (tell old.part) p (tell new.part)
-  pub sound : new.part.failed ≡ false
-  pub ready : MaySettle (tell new.part)
-  pub log_out : LogIsOut (tell old.part) → LogIsOut (tell new.part)
-  pub none_sealed : new.part.sealed ≡ None
-  pub untold : disks old.part.store ≡ [] → disks new.part.store ≡ []
+pub record HasStayed {S D F W : Type 0} (eyes : Eyes S D F W) (old new : WithJobs S D F W) : Type 0 where
+  pub stores : (p : PartView) → IsPart (told_of eyes old) p → TellsFiles (told_of eyes old) → works_of eyes old p → StoresStill (works_of eyes new) (told_of eyes old) p (told_of eyes new)
+  pub sound : new.engine.part.failed ≡ false
+  pub ready : MaySettle (told_of eyes new)
+  pub log_out : LogIsOut (told_of eyes old) → LogIsOut (told_of eyes new)
+  pub untold : eyes.disks old.engine.part.store ≡ [] → eyes.disks new.engine.part.store ≡ []
 
--- Whether it ended well or not, nothing changed but where the documents are. No file is out but those of its devices, at each
--- moment a stop leaves what was stored, and a watch counted a fault where the call failed for one.
-pub record HasMoved {S D F W : Type 0} (tell : PartState S D F W → Told) (disks : S → List Disk) (logs : D → List DiskFile) (counts : W → Counts) (Failed : Type 0) (old new : EngineState S D F W) : Type 0 where
-  pub moved : HasOnlyMoved old.part new.part
-  pub policy : new.policy ≡ old.policy
-  pub devices : TellsLogs (tell old.part) → OnlyDevicesOut (tell old.part) → OnlyDevicesOut (tell new.part)
-  pub at_moments : MomentsStayOver (tell old.part) (logs new.part.log.device) (disks new.part.store)
-  pub next_log : (p : PartView) → IsPart (tell old.part) p → new.part.generation ≡ old.part.generation + 1 → NextLogs p.part new.part.generation (logs new.part.log.device)
-  pub watched : IsWatchedIn counts Failed old.part new.part
+-- Whether it ended well or not, nothing changed but where the documents are, and which jobs are out. No file is out but those of
+-- its devices, at each moment a stop leaves what was stored, and a watch counted a fault where the call failed for one. That of a
+-- job that is out counts as it went out with it.
+pub record HasMoved {S D F W : Type 0} (eyes : Eyes S D F W) (Failed : Type 0) (old new : WithJobs S D F W) : Type 0 where
+  pub moved : HasOnlyMoved old.engine.part new.engine.part
+  pub policy : new.engine.policy ≡ old.engine.policy
+  pub devices : TellsLogs (told_of eyes old) → OnlyDevicesOut (told_of eyes old) → OnlyDevicesOut (told_of eyes new)
+  pub at_moments : MomentsStayOver (works_of eyes old) (told_of eyes old) (eyes.history new.engine.part.log.device) (eyes.disks new.engine.part.store)
+  pub next_log : (p : PartView) → IsPart (told_of eyes old) p → works_of eyes old p → new.engine.part.generation ≡ old.engine.part.generation + 1 → NextLogs p.part new.engine.part.generation (eyes.history new.engine.part.log.device)
+  pub watched : IsWatchedIn eyes.counts Failed (watched_part old.engine.part old.jobs) (watched_part new.engine.part new.jobs)
 
--- Where that was due, the table is in a component, and the next log has no frame; else table and log are as they were. Only what
--- the policy picks was merged, until it picks none.
-pub record IsSettled {S D F W : Type 0} (size : D → ℕ) (length_of : F → ℕ) (old new : EngineState S D F W) : Type 0 where
-  pub emptied : IsDue size old.part → (new.part.active ≡ []) × (size new.part.log.device ≡ empty_size) × (new.part.generation ≡ old.part.generation + 1)
-  pub stays : (IsDue size old.part → ⊥) → (new.part.active ≡ old.part.active) × (new.part.log ≡ old.part.log) × (new.part.generation ≡ old.part.generation)
-  pub short : empty_size < old.part.memory → size new.part.log.device < old.part.memory
-  pub none : PicksNone old.policy new.part.list
-  pub flushed : IsDue size old.part → (c : ComponentState F) × IsMergedBy old.policy length_of (old.part.list ++ c ∷ []) new.part.list
-  pub merged : (IsDue size old.part → ⊥) → IsMergedBy old.policy length_of old.part.list new.part.list
-  pub few : listed_least old.policy ≤ 9 → length new.part.list ≤ 8
+-- Where that was due, the table is sealed, and the next log has no frame; else tables and log are as they were. A table that is
+-- sealed has its flush out. What is listed comes of flushes, and of merges that the policy picked; it picks none where none is out.
+pub record IsSettled {S D F W : Type 0} (eyes : Eyes S D F W) (size : D → ℕ) (old new : WithJobs S D F W) : Type 0 where
+  pub emptied : IsDue size old.engine.part → (new.engine.part.active ≡ []) × (size new.engine.part.log.device ≡ empty_size) × (new.engine.part.generation ≡ old.engine.part.generation + 1)
+  pub stays : (IsDue size old.engine.part → ⊥) → (new.engine.part.active ≡ old.engine.part.active) × (new.engine.part.log ≡ old.engine.part.log) × (new.engine.part.generation ≡ old.engine.part.generation) × (new.engine.part.sealed ≡ old.engine.part.sealed) × (new.jobs.flush ≡ old.jobs.flush)
+  pub short : empty_size < old.engine.part.memory → size new.engine.part.log.device < old.engine.part.memory
+  pub none : new.jobs.merge ≡ None → PicksNone old.engine.policy new.engine.part.list
+  pub outside : new.engine.part.generation ≤ last_of new.engine.part.list + 2
+  pub listed : IsListedBy old.engine.policy eyes.size old.engine.part new.engine.part
+  pub few : listed_least old.engine.policy ≤ 9 → length new.engine.part.list ≤ 8
+  pub flushing : new.engine.part.flushing ≡ is_some new.engine.part.sealed
 
--- A log without a frame stays, and all else with it. Where it had one, the table is in one more component, no table is left, and
--- the next log has no frame.
-pub record IsFlushed {S D F W : Type 0} (tell : PartState S D F W → Told) (size : D → ℕ) (old new : EngineState S D F W) : Type 0 where
-  pub nothing : size old.part.log.device ≤ empty_size → new ≡ old
-  pub flushed : empty_size < size old.part.log.device
-      → new.part ≡ record old.part { store = new.part.store; main = new.part.main; flusher = new.part.flusher; list = new.part.list; sealed = None; sealed_log = None; active = []; log = new.part.log; generation = old.part.generation + 1 }
-  pub listed : empty_size < size old.part.log.device → length new.part.list ≡ length old.part.list + 1
-  pub empty : size new.part.log.device ≤ empty_size
-  pub emptied : (p : PartView) → IsPart (tell old.part) p → TellsFiles (tell old.part) → new.part.active ≡ []
+-- A log without a frame stays, and all else with it where no table is sealed. Else what both tables hold is in components, no
+-- table is left, and the log has no frame.
+pub record IsFlushed {S D F W : Type 0} (eyes : Eyes S D F W) (size : D → ℕ) (old new : WithJobs S D F W) : Type 0 where
+  pub nothing : size old.engine.part.log.device ≤ empty_size → old.engine.part.sealed ≡ None → new ≡ old
+  pub written : empty_size < size old.engine.part.log.device → (new.engine.part.active ≡ []) × (new.engine.part.sealed_log ≡ None) × (new.engine.part.generation ≡ old.engine.part.generation + 1)
+  pub unwritten : size old.engine.part.log.device ≤ empty_size → (new.engine.part.active ≡ old.engine.part.active) × (new.engine.part.log ≡ old.engine.part.log) × (new.engine.part.generation ≡ old.engine.part.generation)
+  pub listed : IsListedBy old.engine.policy eyes.size old.engine.part new.engine.part
+  pub empty : size new.engine.part.log.device ≤ empty_size
+  pub none_sealed : (new.engine.part.sealed ≡ None) × (new.engine.part.flushing ≡ false)
+  pub emptied : (p : PartView) → IsPart (told_of eyes old) p → TellsFiles (told_of eyes old) → works_of eyes old p → new.engine.part.active ≡ []
+  -- where no table was sealed, and there was room for one more component, nothing is merged meanwhile
+  pub flushed : empty_size < size old.engine.part.log.device → old.engine.part.sealed ≡ None → length old.engine.part.list < 8 → (c : ComponentState F) × (new.engine.part.list ≡ old.engine.part.list ++ c ∷ [])
 
--- It failed by this fault, and its files keep what was stored. Damage is of this kind, and where the files are told there is none.
-pub record HasFailedMoving {S D F W : Type 0} (tell : PartState S D F W → Told) (IsDamage : Damage → Type 0) (why : EngineFault) (old new : EngineState S D F W) : Type 0 where
-  pub failed : new.part.failed ≡ true
-  pub kept : (p : PartView) → IsPart (tell old.part) p → TellsFiles (tell old.part) → HasFailedKeeping (tell new.part) p.part (store_of p) None
-  pub damaged : IfDamaged why IsDamage
-  pub undamaged : (p : PartView) → IsPart (tell old.part) p → TellsFiles (tell old.part) → IfDamaged why (λ damage. ⊥)
-  pub spent : why ≡ Spent → old.part.generation + 1 ≡ 2 ^ 63
-  pub unmoved : why ≡ Spent → new.part.generation ≡ old.part.generation
-  pub log_out_spent : why ≡ Spent → LogIsOut (tell old.part) → LogIsOut (tell new.part)
+-- It failed by this fault, and its files keep what was stored. Damage is of a component, or components do not go together, and
+-- where the files are told there is none.
+pub record HasFailedMoving {S D F W : Type 0} (eyes : Eyes S D F W) (why : EngineFault) (old new : WithJobs S D F W) : Type 0 where
+  pub failed : new.engine.part.failed ≡ true
+  pub kept : (p : PartView) → IsPart (told_of eyes old) p → TellsFiles (told_of eyes old) → works_of eyes old p → HasFailedKeeping (works_of eyes new) (told_of eyes new) p.part (store_of p) None
+  pub damaged : IfDamaged why AreOfComponents
+  pub undamaged : (p : PartView) → IsPart (told_of eyes old) p → TellsFiles (told_of eyes old) → works_of eyes old p → IfDamaged why (λ damage. ⊥)
+  pub spent : why ≡ Spent → old.engine.part.generation + 1 ≡ 2 ^ 63
+  pub unmoved : why ≡ Spent → new.engine.part.generation ≡ old.engine.part.generation
+  pub log_out_spent : why ≡ Spent → LogIsOut (told_of eyes old) → LogIsOut (told_of eyes new)
 
 -- ---- what a call leaves of an engine
 
-pub record Settles {S D F W : Type 0} (tell : PartState S D F W → Told) (disks : S → List Disk) (logs : D → List DiskFile) (counts : W → Counts) (size : D → ℕ) (length_of : F → ℕ) (old new : EngineState S D F W) : Type 0 where
-  pub stays : HasStayed tell disks old new
-  pub settled : IsSettled size length_of old new
-  pub moved : HasMoved tell disks logs counts ⊥ old new
+pub record Settles {S D F W : Type 0} (eyes : Eyes S D F W) (size : D → ℕ) (old new : WithJobs S D F W) : Type 0 where
+  pub stays : HasStayed eyes old new
+  pub settled : IsSettled eyes size old new
+  pub moved : HasMoved eyes ⊥ old new
 
-pub record FailsSettling {S D F W : Type 0} (tell : PartState S D F W → Told) (disks : S → List Disk) (logs : D → List DiskFile) (counts : W → Counts) (why : EngineFault) (old new : EngineState S D F W) : Type 0 where
-  pub fails : HasFailedMoving tell AreOfComponents why old new
-  pub moved : HasMoved tell disks logs counts (why ≡ disk_fault) old new
+pub record FailsSettling {S D F W : Type 0} (eyes : Eyes S D F W) (why : EngineFault) (old new : WithJobs S D F W) : Type 0 where
+  pub fails : HasFailedMoving eyes why old new
+  pub moved : HasMoved eyes (why ≡ disk_fault) old new
 
-pub record Flushes {S D F W : Type 0} (tell : PartState S D F W → Told) (disks : S → List Disk) (logs : D → List DiskFile) (counts : W → Counts) (size : D → ℕ) (old new : EngineState S D F W) : Type 0 where
-  pub stays : HasStayed tell disks old new
-  pub flushed : IsFlushed tell size old new
-  pub moved : HasMoved tell disks logs counts ⊥ old new
+pub record Flushes {S D F W : Type 0} (eyes : Eyes S D F W) (size : D → ℕ) (old new : WithJobs S D F W) : Type 0 where
+  pub stays : HasStayed eyes old new
+  pub flushed : IsFlushed eyes size old new
+  pub moved : HasMoved eyes ⊥ old new
 
-pub record FailsFlushing {S D F W : Type 0} (tell : PartState S D F W → Told) (disks : S → List Disk) (logs : D → List DiskFile) (counts : W → Counts) (why : EngineFault) (old new : EngineState S D F W) : Type 0 where
-  pub fails : HasFailedMoving tell (AreOfFiles (file_names old.part.list) (component_name old.part.generation old.part.generation)) why old new
-  pub moved : HasMoved tell disks logs counts (why ≡ disk_fault) old new
+-- Where nothing is merged meanwhile damage is that the listed components do not go together with the table, or with the one that
+-- the flush made, or is in the file of that.
+pub record FailsFlushing {S D F W : Type 0} (eyes : Eyes S D F W) (why : EngineFault) (old new : WithJobs S D F W) : Type 0 where
+  pub fails : HasFailedMoving eyes why old new
+  pub damaged_alone : old.engine.part.sealed ≡ None → length old.engine.part.list < 8 → IfDamaged why (AreOfFiles (file_names old.engine.part.list) (component_name old.engine.part.generation old.engine.part.generation))
+  pub moved : HasMoved eyes (why ≡ disk_fault) old new
 
 -- ---- all engines, one after the other
 

@@ -4,63 +4,86 @@ use crate::seat::Seat;
 use std::alloc::Global;
 use std::marker::Model;
 use tc_bytes::Memory;
+use tc_running::{Pace, Running};
 use tc_store::Store;
 use tc_work::Engine;
 
-/// The engines of the partitions of a store, in ascending number. Contracts see them as a list.
+/// The engines of the partitions of a store, in ascending number, and the jobs of each that are out. Contracts see a list of
+/// engines, each with its jobs. The jobs stay on the thread that made them, and apart from the engines, which go to others.
 #[derive(Drop)]
-pub struct Engines<S: Store> {
-    pub(crate) seats: Vec<Seat<S>>,
+pub struct Engines<S: Store, P: Pace> {
+    pub(crate) seats: Vec<Seat<S, P>>,
+    pub(crate) running: Vec<Running<S>>,
 }
 
-impl<S: Store> Model for Engines<S> {
+impl<S: Store, P: Pace> Model for Engines<S, P> {
     ghost use Rattle.std.specs.Coded.{codes};
     ghost use Rattle.std.specs.Prelude.{List, map};
     ghost use Rattle.tc_memory.specs.Table.{coded_table};
     ghost use Rattle.tc_schema_model.specs.CountedCode.{coded_counted};
-    ghost use Rattle.tc_work.specs.EngineState.{EngineState};
+    ghost use Rattle.tc_work.specs.Moving.{eyes};
+    ghost use Rattle.tc_engines.specs.WithJobs.{with_jobs, AreStaffed, WithJobs};
 
-    ghost Value = { List (EngineState S S.Device S.Frozen S.Watch) };
+    ghost Value = { List (WithJobs S S.Device S.Frozen S.Watch) };
 
     ghost coded = { Prim.hlevel (codes, coded_table, coded_counted) };
 
-    ghost view = { λ e. map (λ seat. seat.engine) e.seats.items };
+    ghost view = { λ e. with_jobs (map (λ seat. seat.engine) e.seats.items) e.running.items };
+
+    ghost invariant = { λ e. AreStaffed (eyes S.history S.Device.history S.Frozen.content S.Device.name S.Frozen.size S.Watch.counts) (map (λ seat. seat.engine) e.seats.items) e.running.items };
 }
 
-impl<S: Store> Engines<S> {
-    ghost use Rattle.std.specs.Prelude.{◌≡◌, [], ◌∷◌, ◌++◌, None, IfErr, IfOk, IfSome, OnErr, OnOk, length};
+impl<S: Store, P: Pace> Engines<S, P> {
+    ghost use Rattle.std.specs.Prelude.{◌≡◌, [], ◌∷◌, ◌++◌, false, None, IfErr, IfOk, IfSome, OnErr, OnOk, length};
+    ghost use Rattle.tc_part_model.specs.PartState.{told};
+    ghost use Rattle.tc_work.specs.JobsOut.{AreOut};
+    ghost use Rattle.tc_work.specs.Settling.{MaySettle};
+    ghost use Rattle.tc_engines.specs.WithJobs.{engine_with, no_jobs};
 
     /// No engine, with room for so many. Errs only for want of memory.
-    pub fn with_capacity(alloc: Global, partitions: u32) -> Result<Engines<S>, Memory>
+    pub fn with_capacity(alloc: Global, partitions: u32) -> Result<Engines<S, P>, Memory>
         ensures { IfOk result (λ engines. engines ≡ []) }
     {
         Ok(Engines {
             seats: Vec::with_capacity(alloc, partitions as usize)?,
+            running: Vec::with_capacity(alloc, partitions as usize)?,
         })
     }
 
-    /// Adds the engine of the next partition. Gives it back for want of memory alone, which is not wanting where there is room.
-    pub fn push(&mut self, alloc: Global, engine: Engine<S>) -> Result<(), Engine<S>>
-        ensures pushed { OnOk result (self.new ≡ self.old ++ engine ∷ []) }
+    /// Adds the engine of the next partition, of which no job is out. Gives it back for want of memory alone, which is not wanting
+    /// where there is room.
+    pub fn push(&mut self, alloc: Global, engine: Engine<S, P>) -> Result<(), Engine<S, P>>
+        requires no_jobs { AreOut S.history S.Device.history S.Frozen.content S.Device.name engine.part no_jobs }
+        requires ready { engine.part.failed ≡ false → MaySettle (told S.history S.Device.history S.Frozen.content engine.part) }
+        ensures pushed { OnOk result (self.new ≡ self.old ++ engine_with engine no_jobs ∷ []) }
         ensures same { OnErr result (self.new ≡ self.old) }
         ensures back { IfErr result (λ back. back ≡ engine) }
     {
         match self.seats.reserve(1) {
-            Ok(()) => {
-                self.seats.push_reserved(Seat::of(alloc, engine));
-                Ok(())
-            }
+            Ok(()) => match self.running.reserve(1) {
+                Ok(()) => {
+                    self.seats.push_reserved(Seat::of(alloc, engine));
+                    self.running.push_reserved(Running::new());
+                    Ok(())
+                }
+                Err(_) => Err(engine),
+            },
             Err(_) => Err(engine),
         }
     }
 
-    /// Takes the engine of the greatest partition out, so that it can be finished. Takes no memory.
-    pub fn pop(&mut self) -> Option<Engine<S>>
-        ensures last { IfSome result (λ engine. self.old ≡ self.new ++ engine ∷ []) }
+    /// Takes the engine of the greatest partition out, with its jobs that are out, so that it can be finished. Takes no memory.
+    pub fn pop(&mut self) -> Option<(Engine<S, P>, Running<S>)>
+        ensures last { IfSome result (λ pair. self.old ≡ self.new ++ engine_with pair.0 pair.1 ∷ []) }
         ensures none { result ≡ None → (self.old ≡ []) × (self.new ≡ []) }
+        ensures jobs { IfSome result (λ pair. AreOut S.history S.Device.history S.Frozen.content S.Device.name pair.0.part pair.1) }
+        ensures ready { IfSome result (λ pair. pair.0.part.failed ≡ false → MaySettle (told S.history S.Device.history S.Frozen.content pair.0.part)) }
     {
         match self.seats.pop() {
-            Some(seat) => Some(seat.into_engine()),
+            Some(seat) => match self.running.pop() {
+                Some(running) => Some((seat.into_engine(), running)),
+                None => unreachable!(),
+            },
             None => None,
         }
     }

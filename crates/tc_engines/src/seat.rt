@@ -1,27 +1,28 @@
 //! The seat of an engine: what it answered in a window stands beside it.
 
 ghost use Rattle.std.specs.Prelude.{◌≡◌, false, map};
-ghost use Rattle.tc_part_model.specs.PartState.{told};
 ghost use Rattle.tc_route.specs.Meaning.{routed_of};
 ghost use Rattle.tc_work.specs.Asked.{IsWindow};
+ghost use Rattle.tc_work.specs.Moving.{eyes};
 ghost use Rattle.tc_engines.specs.Running.{HasRun};
 
 use std::alloc::Global;
 use std::mem;
 use tc_route::{Replies, Routed};
+use tc_running::Pace;
 use tc_store::Store;
 use tc_work::{Engine, EngineFault};
 
 /// An engine, and its answer to its commands of a window, until that is taken.
 #[derive(Drop)]
-pub(crate) struct Seat<S: Store> {
-    pub(crate) engine: Engine<S>,
+pub(crate) struct Seat<S: Store, P: Pace> {
+    pub(crate) engine: Engine<S, P>,
     pub(crate) answer: Result<Replies, EngineFault>,
 }
 
-impl<S: Store> Seat<S> {
+impl<S: Store, P: Pace> Seat<S, P> {
     /// A seat without an answer.
-    pub(crate) fn of(alloc: Global, engine: Engine<S>) -> Seat<S>
+    pub(crate) fn of(alloc: Global, engine: Engine<S, P>) -> Seat<S, P>
         ensures { result.engine ≡ engine }
     {
         Seat {
@@ -31,7 +32,7 @@ impl<S: Store> Seat<S> {
     }
 
     /// The engine, without its answer.
-    pub(crate) fn into_engine(self) -> Engine<S>
+    pub(crate) fn into_engine(self) -> Engine<S, P>
         ensures { result ≡ self.engine }
     {
         let Seat { engine, .. } = self;
@@ -42,7 +43,7 @@ impl<S: Store> Seat<S> {
     pub(crate) fn run(&mut self, alloc: Global, list: &[Routed])
         requires sound { self.old.engine.part.failed ≡ false }
         requires window { IsWindow list.now }
-        ensures { HasRun (λ part. told S.history S.Device.history S.Frozen.content part) (λ d. S.Device.history d) (λ f. S.Frozen.content f) (λ w. S.Watch.counts w) (map routed_of list.now) self.old.engine self.new.engine self.new.answer }
+        ensures { HasRun (eyes S.history S.Device.history S.Frozen.content S.Device.name S.Frozen.size S.Watch.counts) (map routed_of list.now) self.old.engine self.new.engine self.new.answer }
     {
         self.answer = self.engine.window(alloc, list);
     }

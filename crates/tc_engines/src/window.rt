@@ -1,6 +1,6 @@
 //! A window over all partitions: each engine answers its share, all at once, and the replies are put together.
 
-ghost use Rattle.std.specs.Prelude.{◌≡◌, ◌<◌, ◌≤◌, [], false, Ok, length, map, All, IfErr, IfOk, IsErrOf, OnErr, OnOk, vec_capacity, vec_len};
+ghost use Rattle.std.specs.Prelude.{◌≡◌, ◌<◌, ◌≤◌, ℕ, [], false, None, Ok, Option, length, map, All, IfErr, IfOk, IsErrOf, OnErr, OnOk, vec_capacity, vec_len};
 ghost use Rattle.std.specs.Map.{keys_of};
 ghost use Rattle.tc_model.specs.Keyed.{values_in, Ascends};
 ghost use Rattle.tc_run_model.specs.Kinds.{AreOfKinds};
@@ -11,6 +11,7 @@ ghost use Rattle.tc_route.specs.Answers.{window_answered};
 ghost use Rattle.tc_route.specs.Meaning.{replies_in, requests_at, routed_of};
 ghost use Rattle.tc_route.specs.Shares.{share};
 ghost use Rattle.tc_work.specs.Asked.{most_writes, requests_in, IsWindow};
+ghost use Rattle.tc_work.specs.Moving.{eyes};
 ghost use Rattle.tc_work.specs.Reads.{live_in, most_reads, IsCountedWithin};
 ghost use Rattle.tc_work.specs.Settling.{MaySettle};
 ghost use Rattle.tc_engines.specs.Faults.{IfOf, IsDiskOf, IsFirstFault, StopsFirst};
@@ -26,9 +27,10 @@ use std::thread;
 use std::thread::Threads;
 use tc_part::parts_hold_devices;
 use tc_route::{Replies, Routed, gather, kinds_are_gathered, replies_are_gathered, split};
+use tc_running::Pace;
 use tc_store::Store;
 
-impl<S: Store> Engines<S> {
+impl<S: Store, P: Pace> Engines<S, P> {
     /// Answers the commands of a window, all engines at once: each commits what its own commands write as one frame. One reply a
     /// command, in the order of these. A window for one partition is answered on this thread, and else each but one has a thread
     /// of its own. Where several engines fail, the fault is that of the least partition. After a fault no more windows are asked
@@ -41,39 +43,40 @@ impl<S: Store> Engines<S> {
     ) -> Result<Replies, EnginesFault>
         requires some { 0 < length self.old }
         requires few { length self.old ≤ 16 }
-        requires sound { All (λ e. e.part.failed ≡ false) self.old }
+        requires sound { All (λ e. e.engine.part.failed ≡ false) self.old }
         requires window { IsWindow commands.items }
         requires ascending { Ascends (map routed_of commands.items) }
 
-        // From a world at which the engines stand, the replies are the world's, and the engines stand at what it leaves.
-        ensures replies { (w : World) → HoldWorld (λ part. told S.history S.Device.history S.Frozen.content part) self.old w → IfOk result (λ replies. replies_in replies ≡ window_answered (map routed_of commands.items) w) }
-        ensures held { (w : World) → HoldWorld (λ part. told S.history S.Device.history S.Frozen.content part) self.old w → OnOk result (HoldWorld (λ part. told S.history S.Device.history S.Frozen.content part) self.new (after_all (requests_in commands.items) w)) }
+        // From a world at which the engines stand, the replies are the world's, and the engines stand at what it leaves. So does one
+        // engine by itself.
+        ensures replies { (w : World) → HoldWorld (eyes S.history S.Device.history S.Frozen.content S.Device.name S.Frozen.size S.Watch.counts) None self.old w → IfOk result (λ replies. replies_in replies ≡ window_answered (map routed_of commands.items) w) }
+        ensures held { (only : Option ℕ) (w : World) → HoldWorld (eyes S.history S.Device.history S.Frozen.content S.Device.name S.Frozen.size S.Watch.counts) only self.old w → OnOk result (HoldWorld (eyes S.history S.Device.history S.Frozen.content S.Device.name S.Frozen.size S.Watch.counts) only self.new (after_all (requests_in commands.items) w)) }
 
         // Behind a fault each engine by itself is as before its share or behind it, or has failed and its files keep one of these.
-        ensures kept { (w : World) → HoldWorld (λ part. told S.history S.Device.history S.Frozen.content part) self.old w → OnErr result (KeepWorlds (λ part. told S.history S.Device.history S.Frozen.content part) self.new w (after_all (requests_in commands.items) w)) }
+        ensures kept { (only : Option ℕ) (w : World) → HoldWorld (eyes S.history S.Device.history S.Frozen.content S.Device.name S.Frozen.size S.Watch.counts) only self.old w → OnErr result (KeepWorlds (eyes S.history S.Device.history S.Frozen.content S.Device.name S.Frozen.size S.Watch.counts) only self.new w (after_all (requests_in commands.items) w)) }
 
         // Over every store each reply is at the place of its command, and of its kind.
         ensures places { IfOk result (λ replies. keys_of (replies_in replies) ≡ keys_of (map routed_of commands.items)) }
         ensures kinds { IfOk result (λ replies. AreOfKinds (requests_in commands.items) (values_in (replies_in replies))) }
 
-        // Over every store each engine may run on, and only what a window writes has changed.
-        ensures sound { OnOk result (All (λ e. e.part.failed ≡ false) self.new) }
-        ensures ready { OnOk result (AtEach (λ p old new. MaySettle (told S.history S.Device.history S.Frozen.content old.part) → MaySettle (told S.history S.Device.history S.Frozen.content new.part)) 0 self.old self.new) }
-        ensures same { AtEach (λ p old new. HasOnlyRun old.part new.part × (new.policy ≡ old.policy)) 0 self.old self.new }
-        ensures looked_up { OnOk result (AtEach (λ p old new. most_writes (values_in (share (length self.old) p (map routed_of commands.items))) ≡ 0 → new.part.log ≡ old.part.log) 0 self.old self.new) }
+        // Over every store each engine may run on, and only what a window writes has changed. The jobs that are out stay.
+        ensures sound { OnOk result (All (λ e. e.engine.part.failed ≡ false) self.new) }
+        ensures ready { OnOk result (AtEach (λ p old new. MaySettle (told S.history S.Device.history S.Frozen.content old.engine.part) → MaySettle (told S.history S.Device.history S.Frozen.content new.engine.part)) 0 self.old self.new) }
+        ensures same { AtEach (λ p old new. HasOnlyRun old.engine.part new.engine.part × (new.engine.policy ≡ old.engine.policy) × (new.jobs ≡ old.jobs)) 0 self.old self.new }
+        ensures looked_up { OnOk result (AtEach (λ p old new. most_writes (values_in (share (length self.old) p (map routed_of commands.items))) ≡ 0 → new.engine.part.log ≡ old.engine.part.log) 0 self.old self.new) }
 
         // No file is out but those of each part's devices, behind a fault too, and that of its active log is out after Ok.
-        ensures devices { AtEach (λ p old new. OnlyDevicesOut (told S.history S.Device.history S.Frozen.content old.part) → OnlyDevicesOut (told S.history S.Device.history S.Frozen.content new.part)) 0 self.old self.new }
-        ensures log_out { OnOk result (AtEach (λ p old new. LogIsOut (told S.history S.Device.history S.Frozen.content old.part) → LogIsOut (told S.history S.Device.history S.Frozen.content new.part)) 0 self.old self.new) }
+        ensures devices { AtEach (λ p old new. OnlyDevicesOut (told S.history S.Device.history S.Frozen.content old.engine.part) → OnlyDevicesOut (told S.history S.Device.history S.Frozen.content new.engine.part)) 0 self.old self.new }
+        ensures log_out { OnOk result (AtEach (λ p old new. LogIsOut (told S.history S.Device.history S.Frozen.content old.engine.part) → LogIsOut (told S.history S.Device.history S.Frozen.content new.engine.part)) 0 self.old self.new) }
 
         // At each moment of the call a stop leaves of each partition what is stored, without the writes of its share or with them.
-        ensures moments { AtEach (λ p old new. RanMoments (λ part. told S.history S.Device.history S.Frozen.content part) (λ d. S.Device.history d) (share (length self.old) p (map routed_of commands.items)) old new) 0 self.old self.new }
+        ensures moments { AtEach (λ p old new. RanMoments (λ part. told S.history S.Device.history S.Frozen.content part) (λ d. S.Device.history d) (share (length self.old) p (map routed_of commands.items)) old.engine new.engine) 0 self.old self.new }
 
         // The fault is that of an engine which failed, and no engine of a lower partition did. Want of memory is told only where none
         // failed.
-        ensures first { IfErr result (λ fault. IfOf fault (λ p why. (p < length self.old) × AtEach (λ q old new. StopsFirst (λ part. told S.history S.Device.history S.Frozen.content part) (λ f. S.Frozen.content f) p why q (share (length self.old) q (map routed_of commands.items)) old new) 0 self.old self.new)) }
-        ensures memory { IsErrOf result EnginesFault.Memory → All (λ e. e.part.failed ≡ false) self.new }
-        ensures counted { AtEach (λ p old new. IsCountedWithin (most_reads (live_in old.part) (values_in (share (length self.old) p (map routed_of commands.items)))) (IsDiskOf p result) (S.Watch.counts old.part.main) (S.Watch.counts new.part.main)) 0 self.old self.new }
+        ensures first { IfErr result (λ fault. IfOf fault (λ p why. (p < length self.old) × AtEach (λ q old new. StopsFirst (λ part. told S.history S.Device.history S.Frozen.content part) (λ f. S.Frozen.content f) p why q (share (length self.old) q (map routed_of commands.items)) old.engine new.engine) 0 self.old self.new)) }
+        ensures memory { IsErrOf result EnginesFault.Memory → All (λ e. e.engine.part.failed ≡ false) self.new }
+        ensures counted { AtEach (λ p old new. IsCountedWithin (most_reads (live_in old.engine.part) (values_in (share (length self.old) p (map routed_of commands.items)))) (IsDiskOf p result) (S.Watch.counts old.engine.part.main) (S.Watch.counts new.engine.part.main)) 0 self.old self.new }
     {
         replies_are_gathered();
         kinds_are_gathered();
@@ -88,24 +91,24 @@ impl<S: Store> Engines<S> {
 }
 
 /// Runs each list in the engine at its place, at once where several have a command.
-fn run_lists<S: Store, R: Threads + Sync>(
+fn run_lists<S: Store, P: Pace, R: Threads + Sync>(
     rt: &R,
     alloc: Global,
     lists: &[Vec<Routed>],
-    seats: &mut [Seat<S>],
+    seats: &mut [Seat<S, P>],
 )
     requires as_many { length lists.now ≡ length seats.old }
     requires sound { All (λ s. s.engine.part.failed ≡ false) seats.old }
     requires window { All (λ list. IsWindow list.items) lists.now }
-    ensures { AtEach (λ p old new. HasRun (λ part. told S.history S.Device.history S.Frozen.content part) (λ d. S.Device.history d) (λ f. S.Frozen.content f) (λ w. S.Watch.counts w) (requests_at p lists.now) old.engine new.engine new.answer) 0 seats.old seats.new }
+    ensures { AtEach (λ p old new. HasRun (eyes S.history S.Device.history S.Frozen.content S.Device.name S.Frozen.size S.Watch.counts) (requests_at p lists.now) old.engine new.engine new.answer) 0 seats.old seats.new }
 {
     thread::for_each_mut(
         rt,
         seats,
         threads_for(lists),
-        &|at, seat: &mut Seat<S>|
+        &|at, seat: &mut Seat<S, P>|
             requires { (at < length lists.now) × (seat.now.engine.part.failed ≡ false) × All (λ list. IsWindow list.items) lists.now }
-            ensures { HasRun (λ part. told S.history S.Device.history S.Frozen.content part) (λ d. S.Device.history d) (λ f. S.Frozen.content f) (λ w. S.Watch.counts w) (requests_at at lists.entry.now) seat.entry.now.engine seat.exit.now.engine seat.exit.now.answer }
+            ensures { HasRun (eyes S.history S.Device.history S.Frozen.content S.Device.name S.Frozen.size S.Watch.counts) (requests_at at lists.entry.now) seat.entry.now.engine seat.exit.now.engine seat.exit.now.answer }
         { seat.run(alloc, &lists[at]) },
     );
 }
@@ -119,9 +122,9 @@ fn threads_for(lists: &[Vec<Routed>]) -> usize
 }
 
 /// Takes the answers of all into this empty list, which has room for them, or answers the first fault.
-fn take_answers<S: Store>(
+fn take_answers<S: Store, P: Pace>(
     alloc: Global,
-    seats: &mut [Seat<S>],
+    seats: &mut [Seat<S, P>],
     mut parts: Vec<Replies>,
 ) -> Result<Vec<Replies>, EnginesFault>
     requires few { length seats.old ≤ 16 }

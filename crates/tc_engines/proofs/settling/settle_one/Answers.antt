@@ -1,12 +1,16 @@
-use Rattle.std.proofs.Common.{◌∙◌, Err, ap}
+use Rattle.std.proofs.Common.{◌∙◌, Err, ap, sym}
+use Rattle.std.proofs.lemmas.Bool.{true≢false}
 use Rattle.tc_engines.proofs.settling.settle_one.Goals as goal
+
+pub returns-in-Ok-clause-staffed : goal.returns-in-Ok-clause-staffed
+returns-in-Ok-clause-staffed g c = record { out = c.settle.ensures.jobs; ready = λ is. c.in-Ok.ensures.ready }
 
 pub returns-in-Ok-clause-settled : goal.returns-in-Ok-clause-settled
 returns-in-Ok-clause-settled g c =
     let done = c.in-Ok.ensures in
     let all = c.settle.ensures in record {
-      stays = record { stores = done.stores; sound = done.sound; ready = done.ready; log_out = done.log_out; none_sealed = done.none_sealed; untold = done.untold };
-      settled = record { emptied = done.emptied; stays = done.stays; short = done.short; none = done.none; flushed = done.flushed; merged = done.merged; few = done.few };
+      stays = record { stores = done.stores; sound = done.sound; ready = done.ready; log_out = done.log_out; untold = done.untold };
+      settled = record { emptied = done.emptied; stays = done.stays; short = done.short; none = done.none; outside = done.outside; listed = done.listed; few = done.few; flushing = done.flushing };
       moved = record {
         moved = all.moved;
         policy = all.policy;
@@ -16,6 +20,9 @@ returns-in-Ok-clause-settled g c =
         watched = record { main = all.watched.main; flusher = all.watched.flusher; merger = all.watched.merger; cause = λ never. absurd never };
       };
     }
+
+pub returns-in-Err-clause-staffed : goal.returns-in-Err-clause-staffed
+returns-in-Err-clause-staffed g c = record { out = c.settle.ensures.jobs; ready = λ is. absurd (true≢false (sym c.in-Err.ensures.left ∙ is)) }
 
 pub returns-in-Err-clause-stopped : goal.returns-in-Err-clause-stopped
 returns-in-Err-clause-stopped g c =

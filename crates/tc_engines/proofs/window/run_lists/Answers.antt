@@ -4,11 +4,9 @@ use Rattle.std.proofs.MapsCrossing.{crosses as maps_cross}
 use denote.Param.{param}
 use denote.Param.Send.{IsSend, IsSync, sendable}
 use denote.Param.SendFields.{declared_send}
-use Rattle.serde_json.proofs.number.Number.TheSendSync.{the_send as number_send, the_sync as number_sync}
 use Rattle.serde_json.proofs.value.Value.TheLaws.TheKnot.{both_send-Value}
 use Rattle.serde_json.specs.contracts.value.Value as Value
 use Rattle.tc_command.proofs.asks.PathExpr.TheSendSync.{the_sync as path_sync}
-use Rattle.tc_command.proofs.refusals.Refusal.TheSendSync.{the_send as refusal_send}
 use Rattle.tc_command.proofs.replies.Counts.TheSendSync.{the_send as upto_send}
 use Rattle.tc_command.specs.contracts.asks.Ask as Ask
 use Rattle.tc_command.specs.contracts.commands.Command as Command
@@ -31,7 +29,6 @@ use Rattle.tc_memory.specs.contracts.slot.Slot as Slot
 use Rattle.tc_names.proofs.dictionary.Names.TheSendSync.{the_send as names_send, the_sync as names_sync}
 use Rattle.tc_part.specs.contracts.part.Part as Part
 use Rattle.tc_part.specs.contracts.part.Part.TheInside as InsidePart
-use Rattle.tc_part_model.specs.PartState.{told}
 use Rattle.tc_route.specs.Meaning.{requests_at}
 use Rattle.tc_route.specs.contracts.placed.Placed as Placed
 use Rattle.tc_route.specs.contracts.placed.Replies as Replies
@@ -48,6 +45,8 @@ use Rattle.tc_value.specs.contracts.shape_tree.Shape as Shape
 use Rattle.tc_work.proofs.fault.EngineFault.TheSendSync.{the_send as fault_send}
 use Rattle.tc_work.specs.contracts.engine.Engine as Engine
 use Rattle.tc_work.specs.contracts.engine.Engine.TheInside as InsideEngine
+use Rattle.tc_work.specs.Moving.{eyes}
+use Rattle.tc_work.specs.contracts.progress.Progress as Progress
 use Rattle.tc_engines.specs.Running.{HasRun}
 use Rattle.tc_engines.specs.contracts.seat.Seat as SeatRow
 use Rattle.tc_engines.specs.declared.seat.Seat.{Seat}
@@ -60,7 +59,7 @@ for_each_mut-requires-send-T g c κs within =
     let schema_send : IsSend (Schema.the_field).row = search (sendable, crosses, counts_send, counts_sync, both_send-Node) depth 20 in
     let parts_send : IsSend (Parts.the_field).row = search (sendable, directory_send, names_send) depth 20 in
     let loaded_send : IsSend (Loaded.the_field).row = search sendable depth 20 in
-    let component_send : IsSend (Component.the_field (param 4 g.row.S-Frozen) (param 2 g.row.S-Watch) g.S.Frozen.Frozen g.S.Watch.Watch).row = search sendable depth 20 in
+    let component_send : IsSend (Component.the_field (param 5 g.row.S-Frozen) (param 3 g.row.S-Watch) g.S.Frozen.Frozen g.S.Watch.Watch).row = search sendable depth 20 in
     let shape_send : IsSend (Shape.the_field).row = search (sendable, crosses, text_send, text_sync, both_send-Shape, both_send-ShapeItems, both_send-ShapeMembers) depth 20 in
     let slot_send : IsSend (Slot.the_field).row = search (sendable, version_send) depth 20 in
     let table_send : IsSend (Memtable.the_field).row = search (sendable, crosses, maps_cross) depth 20 in
@@ -68,34 +67,35 @@ for_each_mut-requires-send-T g c κs within =
     let schema_sync : IsSync (Schema.the_field).row = search (sendable, crosses, counts_send, counts_sync, both_sync-Node) depth 20 in
     let parts_sync : IsSync (Parts.the_field).row = search (sendable, directory_sync, names_sync) depth 20 in
     let loaded_sync : IsSync (Loaded.the_field).row = search sendable depth 20 in
-    let component_sync : IsSync (Component.the_field (param 4 g.row.S-Frozen) (param 2 g.row.S-Watch) g.S.Frozen.Frozen g.S.Watch.Watch).row = search sendable depth 20 in
+    let component_sync : IsSync (Component.the_field (param 5 g.row.S-Frozen) (param 3 g.row.S-Watch) g.S.Frozen.Frozen g.S.Watch.Watch).row = search sendable depth 20 in
     let shape_sync : IsSync (Shape.the_field).row = search (sendable, crosses, text_send, text_sync, both_sync-Shape, both_sync-ShapeItems, both_sync-ShapeMembers) depth 20 in
     let slot_sync : IsSync (Slot.the_field).row = search (sendable, version_sync) depth 20 in
     let table_sync : IsSync (Memtable.the_field).row = search (sendable, crosses, maps_cross) depth 20 in
     let sealed_sync : IsSync (Sealed.the_field).row = search sendable depth 20 in
-    let list : IsSend (ComponentList.the_field (param 4 g.row.S-Frozen) (param 2 g.row.S-Watch) g.S.Frozen.Frozen g.S.Watch.Watch).row = search (sendable, crosses) depth 20 in
-    let log : IsSend (Log.the_field (param 3 g.row.S-Device) (param 2 g.row.S-Watch) g.S.Device.Device g.S.Watch.Watch).row = search (sendable, log_send) depth 20 in
-    let inside : IsSend (InsidePart.the_row (param 0 g.row.S) (param 2 g.row.S-Watch) (param 3 g.row.S-Device) (param 4 g.row.S-Frozen) g.S.Store g.S.Watch.Watch g.S.Device.Device g.S.Frozen.Frozen) = declared_send (InsidePart.the_type (param 0 g.row.S) (param 2 g.row.S-Watch) (param 3 g.row.S-Device) (param 4 g.row.S-Frozen) g.S.Store g.S.Watch.Watch g.S.Device.Device g.S.Frozen.Frozen)
+    let list : IsSend (ComponentList.the_field (param 5 g.row.S-Frozen) (param 3 g.row.S-Watch) g.S.Frozen.Frozen g.S.Watch.Watch).row = search (sendable, crosses) depth 20 in
+    let log : IsSend (Log.the_field (param 4 g.row.S-Device) (param 3 g.row.S-Watch) g.S.Device.Device g.S.Watch.Watch).row = search (sendable, log_send) depth 20 in
+    let inside : IsSend (InsidePart.the_row (param 0 g.row.S) (param 3 g.row.S-Watch) (param 4 g.row.S-Device) (param 5 g.row.S-Frozen) g.S.Store g.S.Watch.Watch g.S.Device.Device g.S.Frozen.Frozen) = declared_send (InsidePart.the_type (param 0 g.row.S) (param 3 g.row.S-Watch) (param 4 g.row.S-Device) (param 5 g.row.S-Frozen) g.S.Store g.S.Watch.Watch g.S.Device.Device g.S.Frozen.Frozen)
     (search sendable depth 20, (search sendable depth 20, (search sendable depth 20, (search sendable depth 20, (search sendable depth 20, (search sendable depth 20, (search sendable depth 20, (search sendable depth 20, (search sendable depth 20, (search (sendable, crosses) depth 20, (search sendable depth 20, (search sendable depth 20, (search sendable depth 20, (search sendable depth 20, (search (sendable, crosses, write_send) depth 20, (search (sendable, names_send) depth 20, (search sendable depth 20, (search sendable depth 20, (search sendable depth 20, (search sendable depth 20, tt)))))))))))))))))))) in
-    let part : IsSend (Part.the_field (param 0 g.row.S) (param 2 g.row.S-Watch) (param 3 g.row.S-Device) (param 4 g.row.S-Frozen) g.S.Store g.S.Watch.Watch g.S.Device.Device g.S.Frozen.Frozen).row = search sendable depth 20 in
-    let engine_inside : IsSend (InsideEngine.the_row (param 0 g.row.S) (param 2 g.row.S-Watch) (param 3 g.row.S-Device) (param 4 g.row.S-Frozen) g.S.Store g.S.Watch.Watch g.S.Device.Device g.S.Frozen.Frozen) = declared_send (InsideEngine.the_type (param 0 g.row.S) (param 2 g.row.S-Watch) (param 3 g.row.S-Device) (param 4 g.row.S-Frozen) g.S.Store g.S.Watch.Watch g.S.Device.Device g.S.Frozen.Frozen) (search sendable depth 20, (search sendable depth 20, (search sendable depth 20, tt))) in
-    let engine : IsSend (Engine.the_field (param 0 g.row.S) (param 2 g.row.S-Watch) (param 3 g.row.S-Device) (param 4 g.row.S-Frozen) g.S.Store g.S.Watch.Watch g.S.Device.Device g.S.Frozen.Frozen).row = search sendable depth 20 in
+    let part : IsSend (Part.the_field (param 0 g.row.S) (param 3 g.row.S-Watch) (param 4 g.row.S-Device) (param 5 g.row.S-Frozen) g.S.Store g.S.Watch.Watch g.S.Device.Device g.S.Frozen.Frozen).row = search sendable depth 20 in
+    let progress : IsSend (Progress.the_field (param 1 g.row.P)).row = search (sendable, crosses) depth 20 in
+    let engine_inside : IsSend (InsideEngine.the_row (param 0 g.row.S) (param 1 g.row.P) (param 3 g.row.S-Watch) (param 4 g.row.S-Device) (param 5 g.row.S-Frozen) g.S.Store g.S.Watch.Watch g.S.Device.Device g.S.Frozen.Frozen) = declared_send (InsideEngine.the_type (param 0 g.row.S) (param 1 g.row.P) (param 3 g.row.S-Watch) (param 4 g.row.S-Device) (param 5 g.row.S-Frozen) g.S.Store g.S.Watch.Watch g.S.Device.Device g.S.Frozen.Frozen) (search sendable depth 20, (search sendable depth 20, (search sendable depth 20, (search sendable depth 20, tt)))) in
+    let engine : IsSend (Engine.the_field (param 0 g.row.S) (param 1 g.row.P) (param 3 g.row.S-Watch) (param 4 g.row.S-Device) (param 5 g.row.S-Frozen) g.S.Store g.S.Watch.Watch g.S.Device.Device g.S.Frozen.Frozen).row = search sendable depth 20 in
     let doc_send : IsSend (Doc.the_field).row = search (sendable, crosses, text_send, text_sync, both_send-Doc, both_send-Items, both_send-Members) depth 20 in
-    let items_send : IsSend (Items.the_field).row = search (sendable, crosses, text_send, text_sync, both_send-Doc, both_send-Items, both_send-Members) depth 20 in
-    let value : IsSend (Value.the_field).row = search (sendable, crosses, maps_cross, number_send, number_sync, both_send-Value) depth 20 in
+    let items_send : IsSend (Items.the_field).row = search (sendable, crosses, text_send, text_sync, both_send-Items) depth 20 in
+    let value : IsSend (Value.the_field).row = search (sendable, crosses, maps_cross, both_send-Value) depth 20 in
     let row : IsSend (Row.the_field).row = search sendable depth 20 in
     let rows : IsSend (Rows.the_field).row = search (sendable, crosses) depth 20 in
     let schemas : IsSend (Schemas.the_field).row = search (sendable, crosses) depth 20 in
-    let reply : IsSend (Reply.the_field).row = search (sendable, upto_send, refusal_send) depth 60 in
+    let reply : IsSend (Reply.the_field).row = search (sendable, upto_send) depth 60 in
     let placed : IsSend (Placed.the_field).row = search sendable depth 20 in
     let replies : IsSend (Replies.the_field).row = search (sendable, crosses) depth 20 in
-    let seat : IsSend (SeatRow.the_row (param 0 g.row.S) (param 2 g.row.S-Watch) (param 3 g.row.S-Device) (param 4 g.row.S-Frozen) g.S.Store g.S.Watch.Watch g.S.Device.Device g.S.Frozen.Frozen) = declared_send (SeatRow.the_type (param 0 g.row.S) (param 2 g.row.S-Watch) (param 3 g.row.S-Device) (param 4 g.row.S-Frozen) g.S.Store g.S.Watch.Watch g.S.Device.Device g.S.Frozen.Frozen) (search sendable depth 20, (search (sendable, fault_send) depth 20, tt)) in
+    let seat : IsSend (SeatRow.the_row (param 0 g.row.S) (param 1 g.row.P) (param 3 g.row.S-Watch) (param 4 g.row.S-Device) (param 5 g.row.S-Frozen) g.S.Store g.S.Watch.Watch g.S.Device.Device g.S.Frozen.Frozen) = declared_send (SeatRow.the_type (param 0 g.row.S) (param 1 g.row.P) (param 3 g.row.S-Watch) (param 4 g.row.S-Device) (param 5 g.row.S-Frozen) g.S.Store g.S.Watch.Watch g.S.Device.Device g.S.Frozen.Frozen) (search sendable depth 20, (search (sendable, fault_send) depth 20, tt)) in
     search sendable depth 20
 
 pub for_each_mut-requires-sync-F : goal.for_each_mut-requires-sync-F
 for_each_mut-requires-sync-F g c κs within =
     let doc_sync : IsSync (Doc.the_field).row = search (sendable, crosses, text_send, text_sync, both_sync-Doc, both_sync-Items, both_sync-Members) depth 20 in
-    let items_sync : IsSync (Items.the_field).row = search (sendable, crosses, text_send, text_sync, both_sync-Doc, both_sync-Items, both_sync-Members) depth 20 in
+    let items_sync : IsSync (Items.the_field).row = search (sendable, crosses, text_send, text_sync, both_sync-Items) depth 20 in
     let ask : IsSync (Ask.the_field).row = search (sendable, path_sync) depth 20 in
     let command : IsSync (Command.the_field).row = search sendable depth 20 in
     let routed : IsSync (Routed.the_field).row = search sendable depth 20 in
@@ -103,7 +103,7 @@ for_each_mut-requires-sync-F g c κs within =
 
 pub for_each_mut-requires-clause-accepts : goal.for_each_mut-requires-clause-accepts
 for_each_mut-requires-clause-accepts g c κs within = λ i p below is.
-    ((subst (λ n. i < n) (sym c.requires.as_many) below, subst (λ (s : Seat g.row.S.Denot g.row.S-Watch.Denot g.row.S-Device.Denot g.row.S-Frozen.Denot). s.engine.part.failed ≡ false) (sym is) (c.requires.sound i p.now below), c.requires.window), search sendable depth 20)
+    ((subst (λ n. i < n) (sym c.requires.as_many) below, subst (λ (s : Seat g.row.S.Denot g.row.P.Denot g.row.S-Watch.Denot g.row.S-Device.Denot g.row.S-Frozen.Denot). s.engine.part.failed ≡ false) (sym is) (c.requires.sound i p.now below), c.requires.window), search sendable depth 20)
 
 pub returns : goal.returns
 returns g c =
@@ -115,5 +115,5 @@ returns g c =
     subst (λ k. Ran k (slice_index_or c.args.seats.now i d) (slice_index_or c.for_each_mut.new.s i d)) here
     (subst (λ old. Ran i old (slice_index_or c.for_each_mut.new.s i d)) at.argument_is (subst (Ran i at.argument.now) at.left one)))
   where
-    Ran : ℕ → Seat g.row.S.Denot g.row.S-Watch.Denot g.row.S-Device.Denot g.row.S-Frozen.Denot → Seat g.row.S.Denot g.row.S-Watch.Denot g.row.S-Device.Denot g.row.S-Frozen.Denot → Type 0
-    Ran p old new = HasRun (told g.S.Store.history g.S.Device.Device.history g.S.Frozen.Frozen.content) g.S.Device.Device.history g.S.Frozen.Frozen.content g.S.Watch.Watch.counts (requests_at p c.args.lists.now) old.engine new.engine new.answer
+    Ran : ℕ → Seat g.row.S.Denot g.row.P.Denot g.row.S-Watch.Denot g.row.S-Device.Denot g.row.S-Frozen.Denot → Seat g.row.S.Denot g.row.P.Denot g.row.S-Watch.Denot g.row.S-Device.Denot g.row.S-Frozen.Denot → Type 0
+    Ran p old new = HasRun (eyes g.S.Store.history g.S.Device.Device.history g.S.Frozen.Frozen.content g.S.Device.Device.name g.S.Frozen.Frozen.size g.S.Watch.Watch.counts) (requests_at p c.args.lists.now) old.engine new.engine new.answer

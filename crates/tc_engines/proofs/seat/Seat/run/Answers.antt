@@ -1,4 +1,5 @@
-use Rattle.tc_engines.proofs.EngineRan.{left_failed, only_run, places_read, still_sound, still_staged}
+use Rattle.tc_work.specs.Moving.{eyes}
+use Rattle.tc_engines.proofs.EngineRan.{left_failed, only_run, places_read, run_staffed, still_sound, still_staged}
 use Rattle.tc_engines.proofs.seat.Seat.run.Goals as goal
 
 pub returns : goal.returns
@@ -12,6 +13,7 @@ returns g c =
       same = only_run c.window.result c.args.self.now.engine.part c.window.new.self.part ran.same ran.left;
       unstaged = still_staged c.window.result c.args.self.now.engine.part c.window.new.self.part ran.same;
       policy = ran.policy;
+      staffed = λ jobs. run_staffed c.window.result (eyes g.S.Store.history g.S.Device.Device.history g.S.Frozen.Frozen.content g.S.Device.Device.name g.S.Frozen.Frozen.size g.S.Watch.Watch.counts) c.args.self.now.engine c.window.new.self jobs c.requires.sound (ran.jobs jobs) ran.ready (left_failed c.window.result c.args.self.now.engine.part c.window.new.self.part ran.left);
       ready = ran.ready;
       tells = ran.tells;
       devices = ran.devices;
