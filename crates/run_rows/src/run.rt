@@ -5,6 +5,7 @@ use crate::shown::{OnOutput, shown};
 use std::alloc::{AllocError, Global};
 use std::thread::Threads;
 use tc_edge::{MemSink, MemSource};
+use tc_running::Free;
 use tc_server::{Served, run_program};
 use tc_store::MemShelf;
 use tc_value::Text;
@@ -119,7 +120,7 @@ impl Run {
         let mut sink = MemSink::new(alloc, self.writes.piece, calls(alloc, self.writes)?);
         let mut shelf = MemShelf::new(self.parts.kits(alloc)?);
         let output = OnOutput { rt };
-        let served = run_program(&output, Ok(words), &mut source, &mut sink, &mut shelf);
+        let served = run_program(&output, Ok(words), &mut source, &mut sink, &mut shelf, Free);
         self.input.clear();
         self.reads = SOUND;
         self.writes = SOUND;

@@ -9,6 +9,7 @@ use std::alloc::Global;
 use std::fmt::Write;
 use std::thread::Threads;
 use tc_edge::{MemSink, MemSource};
+use tc_running::Free;
 use tc_server::{Served, serve};
 use tc_store::MemShelf;
 use tc_value::Text;
@@ -40,7 +41,7 @@ fn run<R: Threads + Sync>(
     let mut source = MemSource::new(input, PIECE, Vec::new(alloc));
     let mut sink = MemSink::new(alloc, PIECE, Vec::new(alloc));
     let mut shelf = MemShelf::new(files.into_kits(alloc, failing)?);
-    let served = serve(rt, alloc, words, &mut source, &mut sink, &mut shelf);
+    let served = serve(rt, alloc, words, &mut source, &mut sink, &mut shelf, Free);
     let Served { status, kits, .. } = served;
     Some(Ran {
         status,

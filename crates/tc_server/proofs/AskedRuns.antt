@@ -13,12 +13,13 @@ use Rattle.tc_words.specs.declared.asked.Invocation.TheVariants.{Run, Demo}
 use Rattle.tc_server.specs.Ending.{AreFewCommands, RanLeaving, RunsOver}
 use Rattle.tc_server.specs.Faults.{IsOfRun}
 use Rattle.tc_server.specs.OverFiles.{AskedOver, RanOver}
+use Rattle.tc_server.specs.Sight.{IfKnown, Sight}
 use Rattle.tc_server.specs.declared.outcome.RunFault.{RunFault}
 use Rattle.tc_server.proofs.DemoRuns.{nothing_shown}
 use Rattle.tc_server.proofs.LeftFiles.{ran_over, LeavesKits}
 
 -- what is said of a run over files with the options of what is asked for
-abbrev pub OverOf : Invocation → Option RunFault → Option World → (ℕ → List Disk) → Option (List ℕ) → Option (List ℕ) → List (List Disk) → Shown → Option (List ℕ) → Option (List ℕ) → Type 0
+abbrev pub OverOf : Invocation → Option RunFault → Sight → (ℕ → List Disk) → Option (List ℕ) → Option (List ℕ) → List (List Disk) → Shown → Option (List ℕ) → Option (List ℕ) → Type 0
 OverOf asked fault first files taken taken' kits shown unread unread' = RanOver shown fault first (options_asked asked) files unread unread' taken taken' kits
 
 -- what follows of both
@@ -37,8 +38,8 @@ few_commands (Run options) few = tt
 few_commands (Demo n options) few = few.1
 
 -- over open partitions, whose files are these where they are closed
-pub asked_over : {K : Type 0} (holds : K → Option World → Type 0) (keeps : K → World → World → Type 0) (rests : Type 0) (spent : K → Type 0) (asked : Invocation) (fault : Option RunFault) (first : Option World) (files : ℕ → List Disk) (most : ℕ) (left left' taken taken' : Option (List ℕ)) (k : K) (kits : List (List Disk))
-    → most ≡ (options_asked asked).window → LeavesKits holds keeps rests (options_asked asked) k kits → (fault ≡ None → rests) → IfSome first (λ w. length w.parts ≡ (options_asked asked).partitions) → IfSome fault IsOfRun
+pub asked_over : {K : Type 0} (holds : K → Sight → Type 0) (keeps : K → Option ℕ → World → World → Type 0) (rests : Type 0) (spent : K → Type 0) (asked : Invocation) (fault : Option RunFault) (first : Sight) (files : ℕ → List Disk) (most : ℕ) (left left' taken taken' : Option (List ℕ)) (k : K) (kits : List (List Disk))
+    → most ≡ (options_asked asked).window → LeavesKits holds keeps rests (options_asked asked) k kits → (fault ≡ None → rests) → IfKnown first (λ only w. length w.parts ≡ (options_asked asked).partitions) → IfSome fault IsOfRun
     → RunsOver asked left left' (λ shown unread unread'. RanLeaving shown holds keeps spent fault first most unread unread' taken taken' k) → AskedOver asked fault first files left left' taken taken' kits
 asked_over holds keeps rests spent asked fault first files most left left' taken taken' k kits same leaves rest many kind ran =
     runs_so asked left left' (λ shown unread unread'. RanLeaving shown holds keeps spent fault first most unread unread' taken taken' k) (OverOf asked fault first files taken taken' kits)

@@ -1,31 +1,41 @@
 -- Engines are closed from the greatest on, each kit before those that are there.
-use Rattle.std.proofs.Common.{◌≡◌, ◌≤◌, ◌∙◌, ◌+◌, ℕ, List, [], ◌∷◌, ◌++◌, length, length-append, append_assoc, append-nil, arith, refl, ap, sym, subst}
+use Rattle.std.proofs.Common.{◌≡◌, ◌≤◌, ◌∙◌, ◌+◌, ℕ, suc, List, [], ◌∷◌, ◌++◌, map, length, length-append, append_assoc, append-nil, arith, refl, ap, sym, subst}
 use Rattle.std.proofs.lemmas.List.{nil_from_length}
+use Rattle.std.specs.Prelude.{None, Option, Result}
 use Rattle.tc_engines.specs.Places.{AtEach}
+use Rattle.tc_work.specs.declared.fault.EngineFault.{EngineFault}
+use Rattle.tc_server.specs.Kits.{fault_before, least_fault}
+use Rattle.tc_server.specs.declared.outcome.RunFault.{RunFault}
 use Rattle.tc_server.proofs.EachLaws.{at_each-shifted}
 
--- The last of the engines are closed, and their kits stand before those that were there.
-pub record Closing {E K : Type 0} (R : E → K → Type 0) (engines left : List E) (before now : List K) : Type 0 where
-  pub rest : List E
-  pub kits : List K
-  pub all : engines ≡ left ++ rest
-  pub put : now ≡ kits ++ before
-  pub closed : AtEach (λ p e k. R e k) 0 rest kits
+module _ {E F K : Type 0} (R : E → F → Type 0) (kit : F → K) (outcome : F → Result (Unit {0}) EngineFault) (engines : List E) (before : List K) where
+  -- The last of the engines are closed, and their kits stand before those that were there. The fault is that of the least of them.
+  pub record Closing (left : List E) (now : List K) (fault : Option RunFault) : Type 0 where
+    pub rest : List E
+    pub ended : List F
+    pub all : engines ≡ left ++ rest
+    pub put : now ≡ map kit ended ++ before
+    pub told : fault ≡ least_fault (length left) (map outcome ended)
+    pub closed : AtEach (λ p e f. R e f) 0 rest ended
 
-pub closing_none : {E K : Type 0} (R : E → K → Type 0) (engines : List E) (before : List K) → Closing R engines engines before before
-closing_none R engines before = record { rest = []; kits = []; all = sym (append-nil engines); put = refl; closed = tt }
+  pub closing_none : Closing engines before None
+  closing_none = record { rest = []; ended = []; all = sym (append-nil engines); put = refl; told = refl; closed = tt }
 
-pub closing_more : {E K : Type 0} (R : E → K → Type 0) (engines left left' : List E) (before now now' : List K) (e : E) (k : K) → Closing R engines left before now → left ≡ left' ++ e ∷ [] → now' ≡ k ∷ now → R e k → Closing R engines left' before now'
-closing_more R engines left left' before now now' e k c last put closed = record {
-  rest = e ∷ c.rest;
-  kits = k ∷ c.kits;
-  all = c.all ∙ ap (λ es. es ++ c.rest) last ∙ append_assoc left' (e ∷ []) c.rest;
-  put = put ∙ ap (λ ks. k ∷ ks) c.put;
-  closed = (closed, at_each-shifted R 0 1 c.rest c.kits c.closed);
-}
+  pub closing_more : (left left' : List E) (now now' : List K) (fault fault' : Option RunFault) (e : E) (f : F) → Closing left now fault → left ≡ left' ++ e ∷ [] → now' ≡ kit f ∷ now → fault' ≡ fault_before (length left') (outcome f) fault → R e f → Closing left' now' fault'
+  closing_more left left' now now' fault fault' e f c last put told closed = record {
+    rest = e ∷ c.rest;
+    ended = f ∷ c.ended;
+    all = c.all ∙ ap (λ es. es ++ c.rest) last ∙ append_assoc left' (e ∷ []) c.rest;
+    put = put ∙ ap (λ ks. kit f ∷ ks) c.put;
+    told = told ∙ ap (fault_before (length left') (outcome f)) (c.told ∙ ap (λ n. least_fault n (map outcome c.ended)) longer);
+    closed = (closed, at_each-shifted R 0 1 c.rest c.ended c.closed);
+  }
+    where
+      longer : length left ≡ suc (length left')
+      longer = ap length last ∙ omega (arith, length-append left' (e ∷ []))
 
-pub closing_all : {E K : Type 0} (R : E → K → Type 0) (engines : List E) (before now : List K) → Closing R engines [] before now → (closed : List K) × (now ≡ closed ++ before) × AtEach (λ p e k. R e k) 0 engines closed
-closing_all R engines before now c = (c.kits, c.put, subst (λ es. AtEach (λ p e k. R e k) 0 es c.kits) (sym c.all) c.closed)
+  pub closing_all : (now : List K) (fault : Option RunFault) → Closing [] now fault → (ended : List F) × (now ≡ map kit ended ++ before) × (fault ≡ least_fault 0 (map outcome ended)) × AtEach (λ p e f. R e f) 0 engines ended
+  closing_all now fault c = (c.ended, c.put, c.told, subst (λ es. AtEach (λ p e f. R e f) 0 es c.ended) (sym c.all) c.closed)
 
 -- the last of them was taken
 pub one_fewer : {E : Type 0} (old new : List E) (e : E) → old ≡ new ++ e ∷ [] → length old ≡ length new + 1

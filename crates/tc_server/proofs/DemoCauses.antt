@@ -8,6 +8,7 @@ use Rattle.tc_gen.specs.TwoLines.{Heard, lines_for}
 use Rattle.tc_run_model.specs.World.{World}
 use Rattle.tc_server.specs.Demo.{fault_in_memory, DemoLeaving, HasHeardAll, WroteSome}
 use Rattle.tc_server.specs.Faults.{fault_in, DiskFaults, HasCauses, HasDiskCause, IsOfStore, IsOfWindow, IsWrite}
+use Rattle.tc_server.specs.Sight.{Sight}
 use Rattle.tc_server.specs.declared.outcome.RunFault.{RunFault}
 use Rattle.tc_server.specs.declared.outcome.RunFault.TheVariants.{Usage, Read, Write, Spent, Disk, Damaged, Memory, Layout}
 use Rattle.tc_server.proofs.Causes.{all_done, call_without_memory, write_failed}
@@ -57,8 +58,8 @@ pub lines_cause : {T : Type 0} (r : Result T RunFault) (lines : List ℕ) (taken
 lines_cause (Ok x) lines taken taken' before now a b first spent one up rose wrote = all_done before now a b first spent one up
 lines_cause (Err f) lines taken taken' before now a b first spent one up rose wrote = fault_cause f lines taken taken' before now a b first spent one up rose wrote
 
-module _ {K : Type 0} (holds : K → Option World → Type 0) (keeps : K → World → World → Type 0) (spent : K → Type 0) where
-  fault_leaves : (n : ℕ) (f : RunFault) (first : Option World) (most : ℕ) (taken taken' : Option (List ℕ)) (k : K) (heard : Heard) → HasHeardAll holds first (generated n) k heard → WroteSome f (lines_for n heard) taken taken' → DemoLeaving holds keeps spent n (Some f) first most taken taken' k
+module _ {K : Type 0} (holds : K → Sight → Type 0) (keeps : K → Option ℕ → World → World → Type 0) (spent : K → Type 0) where
+  fault_leaves : (n : ℕ) (f : RunFault) (first : Sight) (most : ℕ) (taken taken' : Option (List ℕ)) (k : K) (heard : Heard) → HasHeardAll holds first (generated n) k heard → WroteSome f (lines_for n heard) taken taken' → DemoLeaving holds keeps spent n (Some f) first most taken taken' k
   fault_leaves n Usage first most taken taken' k heard a wrote = absurd wrote
   fault_leaves n Read first most taken taken' k heard a wrote = absurd wrote
   fault_leaves n (Write m) first most taken taken' k heard a wrote = writes_part holds keeps spent n m first most taken taken' k heard a wrote.0 wrote.1
@@ -68,7 +69,7 @@ module _ {K : Type 0} (holds : K → Option World → Type 0) (keeps : K → Wor
   fault_leaves n Memory first most taken taken' k heard a wrote = makes_no_lines holds keeps spent n first most taken taken' k heard wrote a
   fault_leaves n (Layout p found found_of asked_of) first most taken taken' k heard a wrote = absurd wrote
 
-  pub lines_leave : {T : Type 0} (r : Result T RunFault) (n : ℕ) (first : Option World) (most : ℕ) (taken taken' : Option (List ℕ)) (k : K) (heard : Heard) → HasHeardAll holds first (generated n) k heard → OnOk r (Appends taken taken' (lines_for n heard)) → IfErr r (λ f. WroteSome f (lines_for n heard) taken taken')
+  pub lines_leave : {T : Type 0} (r : Result T RunFault) (n : ℕ) (first : Sight) (most : ℕ) (taken taken' : Option (List ℕ)) (k : K) (heard : Heard) → HasHeardAll holds first (generated n) k heard → OnOk r (Appends taken taken' (lines_for n heard)) → IfErr r (λ f. WroteSome f (lines_for n heard) taken taken')
       → DemoLeaving holds keeps spent n (fault_in r) first most taken taken' k
   lines_leave (Ok x) n first most taken taken' k heard a whole part = writes_lines holds keeps spent n first most taken taken' k heard a whole
   lines_leave (Err f) n first most taken taken' k heard a whole part = fault_leaves n f first most taken taken' k heard a part

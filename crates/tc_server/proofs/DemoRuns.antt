@@ -1,6 +1,6 @@
 -- How a demonstration ends, by what became of its lines.
 use Rattle.std.proofs.Common.{◌≡◌, ◌≢◌, ℕ, suc, ◌+◌, ◌<◌, ◌≤◌, ◌==◌, List, [], ◌∷◌, ◌++◌, length, length-append, take, refl, ap, sym, ◌∙◌, subst, append-nil, inl, inr, ⊎_elim, arith}
-use Rattle.std.specs.Prelude.{Option, Some, None, option_map, IfSome}
+use Rattle.std.specs.Prelude.{Option, Some, None, IfSome}
 use Rattle.std.specs.Io.KnownBytes.{Appends, Keeps}
 use Rattle.std.proofs.KnownBytes.{Appends-kept, Appends-nil}
 use Rattle.std.proofs.lemmas.Bool.{eq-eqb, eqb-true, false_from_ne_true}
@@ -10,7 +10,7 @@ use Rattle.tc_gen.proofs.OneLine.{lines_of_input}
 use Rattle.tc_gen.proofs.LineLengths.{generated_count}
 use Rattle.tc_model.specs.Reply.{Reply}
 use Rattle.tc_run_model.specs.World.{World}
-use Rattle.tc_run_model.specs.Known.{MayReply, known_after}
+use Rattle.tc_run_model.specs.Known.{MayReply}
 use Rattle.tc_run_model.specs.Built.{requests_for}
 use Rattle.tc_run_model.specs.Windows.{BeginsWith, Window, unless_empty, windows, windows_of, lines_in}
 use Rattle.tc_run_model.specs.Course.{behind, finished, output_failed, requests_in, stopped, worlds_left, HaveClosed}
@@ -18,10 +18,12 @@ use Rattle.tc_run_model.proofs.WindowLaws.{BeginsWith-trans}
 use Rattle.tc_server.specs.Demo.{ended, DemoLeaving, HasGivenUp, HasHeardAll}
 use Rattle.tc_server.specs.Faults.{EndsAs, IsNoDamage, IsOfStore}
 use Rattle.tc_server.specs.Holds.{IsLeft, IsLeftAt, IsOneOf}
+use Rattle.tc_server.specs.Sight.{nothing, sees, sight_after, whole_of, Sight}
 use Rattle.tc_server.specs.declared.outcome.RunFault.{RunFault}
 use Rattle.tc_server.specs.declared.outcome.RunFault.TheVariants.{Usage, Read, Write, Spent, Disk, Damaged, Memory, Layout}
 use Rattle.tc_server.proofs.DemoLemmas.{all_unwritten}
 use Rattle.tc_server.proofs.SessionLemmas.{requests-unless_empty}
+use Rattle.tc_server.proofs.SightLaws.{if_whole}
 use Rattle.tc_server.proofs.DemoWindows.{cut, last_of, lines_ended, lines_with, no_more_lines, replies_to_lines, same_lines, AreCut, HasLast}
 
 -- ---- what is shown
@@ -54,14 +56,14 @@ ends_stopped spent (Damaged p damage) kind cause = refl
 ends_stopped spent Memory kind cause = refl
 ends_stopped spent (Layout p found found_of asked_of) kind cause = absurd kind
 
-module _ {K : Type 0} (holds : K → Option World → Type 0) (keeps : K → World → World → Type 0) (spent : K → Type 0) where
+module _ {K : Type 0} (holds : K → Sight → Type 0) (keeps : K → Option ℕ → World → World → Type 0) (spent : K → Type 0) where
   -- of fewer replies than all nothing is shown
-  stops_at : (n : ℕ) (fault : RunFault) (first : Option World) (most : ℕ) (taken taken' : Option (List ℕ)) (k : K) (answered : List Window) (last : Window) (replies : List Reply)
-      → IsOfStore fault → (fault ≡ Spent → spent k) → Keeps taken taken' → MayReply (requests_in answered) first replies → length (lines_in answered) ≢ suc n
-      → BeginsWith (ended (windows_of most (generated n))) (answered ++ unless_empty last) → IfSome first (λ w. IsNoDamage fault) → IsLeft holds keeps k (option_map (λ w. worlds_left stopped w answered last) first)
+  stops_at : (n : ℕ) (fault : RunFault) (first : Sight) (most : ℕ) (taken taken' : Option (List ℕ)) (k : K) (answered : List Window) (last : Window) (replies : List Reply)
+      → IsOfStore fault → (fault ≡ Spent → spent k) → Keeps taken taken' → MayReply (requests_in answered) (whole_of first) replies → length (lines_in answered) ≢ suc n
+      → BeginsWith (ended (windows_of most (generated n))) (answered ++ unless_empty last) → IfSome (whole_of first) (λ w. IsNoDamage fault) → IsLeft holds keeps k first (λ w. worlds_left stopped w answered last)
       → DemoLeaving holds keeps spent n (Some fault) first most taken taken' k
   stops_at n fault first most taken taken' k answered last replies kind cause kept given fewer among sound left =
-      let other : length replies ≢ suc n = λ is. fewer (sym (replies_to_lines (lines_in answered) first replies given) ∙ is) in record {
+      let other : length replies ≢ suc n = λ is. fewer (sym (replies_to_lines (lines_in answered) (whole_of first) replies given) ∙ is) in record {
         run = record {
           ending = stopped;
           by = ends_stopped (spent k) fault kind cause;
@@ -86,11 +88,11 @@ module _ {K : Type 0} (holds : K → Option World → Type 0) (keeps : K → Wor
   among_last w u v x same (inr (inl is)) = inr (inl (is ∙ same))
   among_last w u v x same (inr (inr none)) = absurd none
 
-  left_last : (first : Option World) (ws : List Window) (l : HasLast ws) (k : K) → IsLeft holds keeps k (option_map (λ w. worlds_left stopped w ws []) first) → IsLeft holds keeps k (option_map (λ w. worlds_left stopped w l.answered l.last) first)
-  left_last None ws l k left = tt
-  left_last (Some w) ws l k left =
+  left_last : (first : Sight) (ws : List Window) (l : HasLast ws) (k : K) → IsLeft holds keeps k first (λ w. worlds_left stopped w ws []) → IsLeft holds keeps k first (λ w. worlds_left stopped w l.answered l.last)
+  left_last nothing ws l k left = tt
+  left_last (sees only w) ws l k left =
       let same = same_lines ws (l.answered ++ unless_empty l.last) w l.lines in
-      let at : IsLeftAt holds keeps k (behind w ws ∷ behind w ws ∷ []) = subst (λ vs. IsLeftAt holds keeps k (behind w ws ∷ behind w vs ∷ [])) (append-nil ws) left in record {
+      let at : IsLeftAt holds keeps k only (behind w ws ∷ behind w ws ∷ []) = subst (λ vs. IsLeftAt holds keeps k only (behind w ws ∷ behind w vs ∷ [])) (append-nil ws) left in record {
         one = at.one;
         other = at.other;
         one_of = among_last at.one (behind w ws) (behind w (l.answered ++ unless_empty l.last)) (behind w l.answered) same at.one_of;
@@ -104,7 +106,7 @@ module _ {K : Type 0} (holds : K → Option World → Type 0) (keeps : K → Wor
       let size = ap length (l.lines ∙ lines_with l.answered l.last) ∙ length-append (lines_in l.answered) l.last in
       ⊎_elim (λ none. λ is. let nothing = ap length none in omega (arith, size, nothing, is)) (λ some. λ is. omega (arith, size, some, few, is)) l.some
 
-  gives_up_at : (n : ℕ) (fault : RunFault) (first : Option World) (most : ℕ) (taken taken' : Option (List ℕ)) (k : K) → IsOfStore fault → (fault ≡ Spent → spent k) → Keeps taken taken'
+  gives_up_at : (n : ℕ) (fault : RunFault) (first : Sight) (most : ℕ) (taken taken' : Option (List ℕ)) (k : K) → IsOfStore fault → (fault ≡ Spent → spent k) → Keeps taken taken'
       → (last : Window) (g : HasGivenUp holds keeps first fault (ended (windows_of most (generated n))) k) → g.last ≡ last → DemoLeaving holds keeps spent n (Some fault) first most taken taken' k
   gives_up_at n fault first most taken taken' k kind cause kept (line ∷ lines) g is =
       let few = no_more_lines (ended (windows_of most (generated n))) (g.answered ++ unless_empty g.last) g.among in
@@ -117,38 +119,36 @@ module _ {K : Type 0} (holds : K → Option World → Type 0) (keeps : K → Wor
       let l = last_of g.answered in
       let few = no_more_lines whole g.answered among in
       let split : requests_in g.answered ≡ requests_in l.answered ++ requests_for l.last = ap requests_for l.lines ∙ requests-unless_empty l.answered l.last in
-      let c : AreCut (requests_in l.answered) (requests_for l.last) first g.replies = cut (requests_in l.answered) (requests_for l.last) first g.replies (subst (λ rs. MayReply rs first g.replies) split g.given) in
+      let c : AreCut (requests_in l.answered) (requests_for l.last) (whole_of first) g.replies = cut (requests_in l.answered) (requests_for l.last) (whole_of first) g.replies (subst (λ rs. MayReply rs (whole_of first) g.replies) split g.given) in
       stops_at n fault first most taken taken' k l.answered l.last c.front kind cause kept c.given (fewer_before n g.answered l (omega (arith, few, all_lines most n)))
-      (BeginsWith-trans among l.among) g.sound (left_last first g.answered l k (subst (λ w. IsLeft holds keeps k (option_map (λ v. worlds_left stopped v g.answered w) first)) is g.left))
+      (BeginsWith-trans among l.among) g.sound (left_last first g.answered l k (subst (λ w. IsLeft holds keeps k first (λ v. worlds_left stopped v g.answered w)) is g.left))
 
-  pub gives_up : (n : ℕ) (fault : RunFault) (first : Option World) (most : ℕ) (taken taken' : Option (List ℕ)) (k : K) → IsOfStore fault → (fault ≡ Spent → spent k) → Keeps taken taken'
+  pub gives_up : (n : ℕ) (fault : RunFault) (first : Sight) (most : ℕ) (taken taken' : Option (List ℕ)) (k : K) → IsOfStore fault → (fault ≡ Spent → spent k) → Keeps taken taken'
       → HasGivenUp holds keeps first fault (ended (windows_of most (generated n))) k → DemoLeaving holds keeps spent n (Some fault) first most taken taken' k
   gives_up n fault first most taken taken' k kind cause kept g = gives_up_at n fault first most taken taken' k kind cause kept g.last g refl
 
   -- memory was wanting for the two lines
-  pub makes_no_lines : (n : ℕ) (first : Option World) (most : ℕ) (taken taken' : Option (List ℕ)) (k : K) (heard : Heard) → Keeps taken taken' → HasHeardAll holds first (generated n) k heard → DemoLeaving holds keeps spent n (Some Memory) first most taken taken' k
+  pub makes_no_lines : (n : ℕ) (first : Sight) (most : ℕ) (taken taken' : Option (List ℕ)) (k : K) (heard : Heard) → Keeps taken taken' → HasHeardAll holds first (generated n) k heard → DemoLeaving holds keeps spent n (Some Memory) first most taken taken' k
   makes_no_lines n first most taken taken' k heard kept a =
       gives_up n Memory first most taken taken' k tt (λ same. absurd (cc)) kept (all_unwritten holds keeps first most (generated n) k a.replies a.given a.store)
 
   -- ---- the two lines were written, or the first bytes of them
 
-  sound_none : (first : Option World) → IfSome first (λ w. IfSome None IsNoDamage)
-  sound_none (Some w) = tt
-  sound_none None = tt
+  sound_none : (first : Sight) → IfSome (whole_of first) (λ w. IfSome None IsNoDamage)
+  sound_none first = if_whole first (Unit {0}) (λ w is. tt)
 
-  sound_write : (m : ℕ) (first : Option World) → IfSome first (λ w. IfSome (Some (Write m)) IsNoDamage)
-  sound_write m (Some w) = tt
-  sound_write m None = tt
+  sound_write : (m : ℕ) (first : Sight) → IfSome (whole_of first) (λ w. IfSome (Some (Write m)) IsNoDamage)
+  sound_write m first = if_whole first (Unit {0}) (λ w is. tt)
 
-  stands_at : (first : Option World) (us : List Window) (lines : List (List ℕ)) (k : K) → lines_in us ≡ lines → holds k (known_after (requests_for lines) first) → IsLeft holds keeps k (option_map (λ w. behind w us ∷ []) first)
-  stands_at None us lines k same held = tt
-  stands_at (Some w) us lines k same held =
-      record { one = behind w us; other = behind w us; one_of = inl refl; other_of = inl refl; left = inl (subst (λ ls. holds k (known_after (requests_for ls) (Some w))) (sym same) held) }
+  stands_at : (first : Sight) (us : List Window) (lines : List (List ℕ)) (k : K) → lines_in us ≡ lines → holds k (sight_after (requests_for lines) first) → IsLeft holds keeps k first (λ w. behind w us ∷ [])
+  stands_at nothing us lines k same held = tt
+  stands_at (sees only w) us lines k same held =
+      record { one = behind w us; other = behind w us; one_of = inl refl; other_of = inl refl; left = inl (subst (λ ls. holds k (sight_after (requests_for ls) (sees only w))) (sym same) held) }
 
-  pub writes_lines : (n : ℕ) (first : Option World) (most : ℕ) (taken taken' : Option (List ℕ)) (k : K) (heard : Heard) → HasHeardAll holds first (generated n) k heard → Appends taken taken' (lines_for n heard) → DemoLeaving holds keeps spent n None first most taken taken' k
+  pub writes_lines : (n : ℕ) (first : Sight) (most : ℕ) (taken taken' : Option (List ℕ)) (k : K) (heard : Heard) → HasHeardAll holds first (generated n) k heard → Appends taken taken' (lines_for n heard) → DemoLeaving holds keeps spent n None first most taken taken' k
   writes_lines n first most taken taken' k heard a wrote =
       let whole = ended (windows_of most (generated n)) in
-      let count : length a.replies ≡ suc n = replies_to_lines (generated n) first a.replies a.given ∙ generated_count n in record {
+      let count : length a.replies ≡ suc n = replies_to_lines (generated n) (whole_of first) a.replies a.given ∙ generated_count n in record {
         run = record {
           ending = finished;
           by = refl;
@@ -158,7 +158,7 @@ module _ {K : Type 0} (holds : K → Option World → Type 0) (keeps : K → Wor
             answered = whole;
             last = [];
             replies = a.replies;
-            given = subst (λ rs. MayReply rs first a.replies) (sym (ap requests_for (lines_ended most (generated n)))) a.given;
+            given = subst (λ rs. MayReply rs (whole_of first) a.replies) (sym (ap requests_for (lines_ended most (generated n)))) a.given;
             reached = (refl, all_windows most n, refl);
             took = subst (Appends taken taken') (sym (all_shown n a.replies count ∙ ap (lines_for n) (sym a.kept))) wrote;
           };
@@ -172,7 +172,7 @@ module _ {K : Type 0} (holds : K → Option World → Type 0) (keeps : K → Wor
   one_window [] some = absurd (omega (arith, some))
   one_window (line ∷ lines) some = refl
 
-  pub writes_part : (n m : ℕ) (first : Option World) (most : ℕ) (taken taken' : Option (List ℕ)) (k : K) (heard : Heard) → HasHeardAll holds first (generated n) k heard → m < length (lines_for n heard) → Appends taken taken' (take m (lines_for n heard))
+  pub writes_part : (n m : ℕ) (first : Sight) (most : ℕ) (taken taken' : Option (List ℕ)) (k : K) (heard : Heard) → HasHeardAll holds first (generated n) k heard → m < length (lines_for n heard) → Appends taken taken' (take m (lines_for n heard))
       → DemoLeaving holds keeps spent n (Some (Write m)) first most taken taken' k
   writes_part n m first most taken taken' k heard a within wrote =
       let whole = ended (windows_of most (generated n)) in
@@ -181,10 +181,10 @@ module _ {K : Type 0} (holds : K → Option World → Type 0) (keeps : K → Wor
       let one = one_window l.last some in
       let lines : generated n ≡ lines_in (l.answered ++ unless_empty l.last) = sym (lines_ended most (generated n)) ∙ l.lines in
       let split : requests_for (generated n) ≡ requests_in l.answered ++ requests_for l.last = ap requests_for lines ∙ requests-unless_empty l.answered l.last in
-      let c : AreCut (requests_in l.answered) (requests_for l.last) first a.replies = cut (requests_in l.answered) (requests_for l.last) first a.replies (subst (λ rs. MayReply rs first a.replies) split a.given) in
+      let c : AreCut (requests_in l.answered) (requests_for l.last) (whole_of first) a.replies = cut (requests_in l.answered) (requests_for l.last) (whole_of first) a.replies (subst (λ rs. MayReply rs (whole_of first) a.replies) split a.given) in
       let fewer = fewer_before n whole l (omega (arith, all_lines most n)) in
-      let none : two_lines n c.front ≡ [] = nothing_shown n c.front (λ is. fewer (sym (replies_to_lines (lines_in l.answered) first c.front c.given) ∙ is)) in
-      let count : length a.replies ≡ suc n = replies_to_lines (generated n) first a.replies a.given ∙ generated_count n in
+      let none : two_lines n c.front ≡ [] = nothing_shown n c.front (λ is. fewer (sym (replies_to_lines (lines_in l.answered) (whole_of first) c.front c.given) ∙ is)) in
+      let count : length a.replies ≡ suc n = replies_to_lines (generated n) (whole_of first) a.replies a.given ∙ generated_count n in
       let nothing : 0 + m ≡ m = omega arith in
       let shown : two_lines n (c.front ++ c.back) ≡ lines_for n heard = ap (two_lines n) (sym c.all) ∙ all_shown n a.replies count ∙ ap (lines_for n) (sym a.kept) in record {
         run = record {

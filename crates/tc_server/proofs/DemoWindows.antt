@@ -10,10 +10,11 @@ use Rattle.tc_run_model.specs.Kinds.{AreOfKinds}
 use Rattle.tc_run_model.specs.Known.{MayReply, known_after}
 use Rattle.tc_run_model.specs.Built.{if_built, requests_for}
 use Rattle.tc_run_model.specs.Windows.{BeginsWith, Window, Windows, is_control, is_full, unless_empty, with_line, with_open, windows_of, lines_in}
-use Rattle.tc_run_model.specs.Course.{behind, known_behind, requests_in}
+use Rattle.tc_run_model.specs.Course.{behind, requests_in}
 use Rattle.tc_run_model.proofs.WindowLaws.{lines_held-windows_of, lines_in-append, lines_in-unless_empty, windows_of-push}
 use Rattle.tc_run_model.proofs.ReplyLaws.{after_all-append}
 use Rattle.tc_server.specs.Demo.{ended}
+use Rattle.tc_server.specs.Sight.{nothing, sees, sight_behind, Sight}
 
 -- ---- requests of windows
 
@@ -29,13 +30,9 @@ requests_count lines = length-map (map request_of lines) if_built ∙ length-map
 pub behind_more : (us vs : List Window) (w : World) → behind w (us ++ vs) ≡ behind (behind w us) vs
 behind_more us vs w = ap (λ rs. after_all rs w) (requests_in-append us vs) ∙ after_all-append (requests_in us) (requests_in vs) w
 
-pub known_more : (us vs : List Window) (first : Option World) → known_behind first (us ++ vs) ≡ known_behind (known_behind first us) vs
-known_more us vs (Some w) = ap Some (behind_more us vs w)
-known_more us vs None = refl
-
-pub known_none : (first : Option World) → known_behind first [] ≡ first
-known_none (Some w) = refl
-known_none None = refl
+pub sight_more : (us vs : List Window) (first : Sight) → sight_behind first (us ++ vs) ≡ sight_behind (sight_behind first us) vs
+sight_more us vs (sees only w) = ap (sees only) (behind_more us vs w)
+sight_more us vs nothing = refl
 
 -- all windows have all lines
 pub lines_ended : (most : ℕ) (lines : List (List ℕ)) → lines_in (ended (windows_of most lines)) ≡ lines

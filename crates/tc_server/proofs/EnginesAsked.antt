@@ -1,58 +1,53 @@
 -- Engines may be asked again behind a call that ended well, are settled, and keep their settings.
-use Rattle.std.proofs.Common.{◌≡◌, ◌<◌, ℕ, suc, false, List, [], ◌∷◌, All, map, length, refl, ap, sym, subst}
+use Rattle.std.proofs.Common.{◌≡◌, ◌<◌, ◌≤◌, ℕ, suc, false, List, [], ◌∷◌, None, All, map, length, refl, ap, sym, subst}
 use Rattle.std.proofs.lemmas.List.Elements.{All-cons, All-head, All-nil, All-tail, All-weaker}
 use Rattle.tc_engines.specs.Faults.{IfOf}
-use Rattle.tc_engines.specs.Moving.{HasMoved, HasStayed, Settles, StopsAt}
+use Rattle.tc_engines.specs.Moving.{Flushes, HasMoved, HasStayed, Settles, StopsAt}
 use Rattle.tc_engines.specs.Places.{AtEach}
 use Rattle.tc_engines.specs.Running.{HasOnlyRun}
 use Rattle.tc_engines.specs.declared.fault.EnginesFault.{EnginesFault}
 use Rattle.tc_engines.specs.declared.fault.EnginesFault.TheVariants as engines
+use Rattle.tc_engines.specs.WithJobs.{told_of, WithJobs}
 use Rattle.tc_engines.proofs.PlaceLaws.{at_each-so}
 use Rattle.tc_list.specs.declared.policy.Policy.{Policy}
 use Rattle.tc_log.specs.Layout.{empty_size}
 use Rattle.tc_part.specs.FilesOut.{LogIsOut}
-use Rattle.tc_part_model.specs.PartState.{PartState, Told}
-use Rattle.tc_store.specs.Counted.{Counts}
-use Rattle.tc_store.specs.Disk.{Disk}
-use Rattle.tc_store.specs.DiskFile.{DiskFile}
-use Rattle.tc_work.specs.EngineState.{EngineState}
-use Rattle.tc_work.specs.Settling.{HasOnlyMoved, MaySettle, PicksNone}
+use Rattle.tc_part_model.specs.PartState.{PartState}
+use Rattle.tc_work.specs.Moving.{Eyes}
+use Rattle.tc_work.specs.Settling.{HasOnlyMoved, PicksNone}
 use Rattle.tc_work.specs.declared.fault.EngineFault.{EngineFault}
 use Rattle.tc_server.specs.Calls.{IsSettled, MayBeAsked}
 use Rattle.tc_server.proofs.EngineCauses.{stops_so}
 
-module _ {S D F W : Type 0} (tell : PartState S D F W → Told) where
-  abbrev pub AreAskable : List (EngineState S D F W) → Type 0
-  AreAskable es = All (λ e. MayBeAsked (tell e.part) e.part) es
+module _ {S D F W : Type 0} (eyes : Eyes S D F W) where
+  abbrev pub AreAskable : List (WithJobs S D F W) → Type 0
+  AreAskable es = All (λ e. MayBeAsked (told_of eyes e) e.engine.part) es
 
-  abbrev pub AreSound : List (EngineState S D F W) → Type 0
-  AreSound es = All (λ e. e.part.failed ≡ false) es
+  abbrev pub AreSound : List (WithJobs S D F W) → Type 0
+  AreSound es = All (λ e. e.engine.part.failed ≡ false) es
 
-  pub sound_all : (es : List (EngineState S D F W)) → AreAskable es → AreSound es
-  sound_all es asked = All-weaker (λ e. MayBeAsked (tell e.part) e.part) (λ e. e.part.failed ≡ false) (λ e m. m.sound) es asked
-
-  pub ready_all : (es : List (EngineState S D F W)) → AreAskable es → All (λ e. MaySettle (tell e.part)) es
-  ready_all es asked = All-weaker (λ e. MayBeAsked (tell e.part) e.part) (λ e. MaySettle (tell e.part)) (λ e m. m.ready) es asked
+  pub sound_all : (es : List (WithJobs S D F W)) → AreAskable es → AreSound es
+  sound_all es asked = All-weaker (λ e. MayBeAsked (told_of eyes e) e.engine.part) (λ e. e.engine.part.failed ≡ false) (λ e m. m.sound) es asked
 
   -- behind a window
-  pub asked_after : (n : ℕ) (es es' : List (EngineState S D F W)) → AreAskable es → AreSound es' → AtEach (λ p old new. MaySettle (tell old.part) → MaySettle (tell new.part)) n es es' → AtEach (λ p old new. LogIsOut (tell old.part) → LogIsOut (tell new.part)) n es es' → AreAskable es'
-  asked_after n [] [] asked sound ready log = All-nil (λ e. MayBeAsked (tell e.part) e.part)
-  asked_after n [] (e' ∷ es') asked sound ready log = absurd ready
-  asked_after n (e ∷ es) [] asked sound ready log = absurd ready
-  asked_after n (e ∷ es) (e' ∷ es') asked sound ready log =
-      let before = All-head (λ e. MayBeAsked (tell e.part) e.part) e es asked in
-      All-cons (λ e. MayBeAsked (tell e.part) e.part) e' es' (record { sound = All-head (λ e. e.part.failed ≡ false) e' es' sound; ready = ready.0 before.ready; log = log.0 before.log })
-      (asked_after (suc n) es es' (All-tail (λ e. MayBeAsked (tell e.part) e.part) e es asked) (All-tail (λ e. e.part.failed ≡ false) e' es' sound) ready.1 log.1)
+  pub asked_after : (n : ℕ) (es es' : List (WithJobs S D F W)) → AreAskable es → AreSound es' → AtEach (λ p old new. LogIsOut (told_of eyes old) → LogIsOut (told_of eyes new)) n es es' → AreAskable es'
+  asked_after n [] [] asked sound log = All-nil (λ e. MayBeAsked (told_of eyes e) e.engine.part)
+  asked_after n [] (e' ∷ es') asked sound log = absurd log
+  asked_after n (e ∷ es) [] asked sound log = absurd log
+  asked_after n (e ∷ es) (e' ∷ es') asked sound log =
+      let before = All-head (λ e. MayBeAsked (told_of eyes e) e.engine.part) e es asked in
+      All-cons (λ e. MayBeAsked (told_of eyes e) e.engine.part) e' es' (record { sound = All-head (λ e. e.engine.part.failed ≡ false) e' es' sound; log = log.0 before.log })
+      (asked_after (suc n) es es' (All-tail (λ e. MayBeAsked (told_of eyes e) e.engine.part) e es asked) (All-tail (λ e. e.engine.part.failed ≡ false) e' es' sound) log.1)
 
   -- behind another call that ended well
-  pub asked_behind : (disks : S → List Disk) (Done : EngineState S D F W → EngineState S D F W → Type 0) (n : ℕ) (es es' : List (EngineState S D F W)) → ((old new : EngineState S D F W) → Done old new → HasStayed tell disks old new) → AreAskable es → AtEach (λ p old new. Done old new) n es es' → AreAskable es'
-  asked_behind disks Done n [] [] stays asked each = All-nil (λ e. MayBeAsked (tell e.part) e.part)
-  asked_behind disks Done n [] (e' ∷ es') stays asked each = absurd each
-  asked_behind disks Done n (e ∷ es) [] stays asked each = absurd each
-  asked_behind disks Done n (e ∷ es) (e' ∷ es') stays asked each =
+  pub asked_behind : (Done : WithJobs S D F W → WithJobs S D F W → Type 0) (n : ℕ) (es es' : List (WithJobs S D F W)) → ((old new : WithJobs S D F W) → Done old new → HasStayed eyes old new) → AreAskable es → AtEach (λ p old new. Done old new) n es es' → AreAskable es'
+  asked_behind Done n [] [] stays asked each = All-nil (λ e. MayBeAsked (told_of eyes e) e.engine.part)
+  asked_behind Done n [] (e' ∷ es') stays asked each = absurd each
+  asked_behind Done n (e ∷ es) [] stays asked each = absurd each
+  asked_behind Done n (e ∷ es) (e' ∷ es') stays asked each =
       let s = stays e e' each.0 in
-      All-cons (λ e. MayBeAsked (tell e.part) e.part) e' es' (record { sound = s.sound; ready = s.ready; log = s.log_out (All-head (λ e. MayBeAsked (tell e.part) e.part) e es asked).log })
-      (asked_behind disks Done (suc n) es es' stays (All-tail (λ e. MayBeAsked (tell e.part) e.part) e es asked) each.1)
+      All-cons (λ e. MayBeAsked (told_of eyes e) e.engine.part) e' es' (record { sound = s.sound; log = s.log_out (All-head (λ e. MayBeAsked (told_of eyes e) e.engine.part) e es asked).log })
+      (asked_behind Done (suc n) es es' stays (All-tail (λ e. MayBeAsked (told_of eyes e) e.engine.part) e es asked) each.1)
 
 -- ---- settings
 
@@ -62,28 +57,28 @@ map_same f n [] (y ∷ ys) each = absurd each
 map_same f n (x ∷ xs) [] each = absurd each
 map_same f n (x ∷ xs) (y ∷ ys) each = let here = each.0 in let more = map_same f (suc n) xs ys each.1 in rw (here, more) refl
 
-abbrev pub settings : {S D F W : Type 0} → EngineState S D F W → ℕ × Policy
-settings e = (e.part.memory, e.policy)
+abbrev pub settings : {S D F W : Type 0} → WithJobs S D F W → ℕ × Policy
+settings e = (e.engine.part.memory, e.engine.policy)
 
 same_pair : {A B : Type 0} (a a' : A) (b b' : B) → a' ≡ a → b' ≡ b → ◌≡◌ {A = A × B} (a', b') (a, b)
 same_pair a a' b b' one two = rw (one, two) refl
 
-pub ran_settings : {S D F W : Type 0} (es es' : List (EngineState S D F W)) → AtEach (λ p old new. HasOnlyRun old.part new.part × (new.policy ≡ old.policy)) 0 es es' → map settings es' ≡ map settings es
+pub ran_settings : {S D F W : Type 0} (es es' : List (WithJobs S D F W)) → AtEach (λ p old new. HasOnlyRun old.engine.part new.engine.part × (new.engine.policy ≡ old.engine.policy) × (new.jobs ≡ old.jobs)) 0 es es' → map settings es' ≡ map settings es
 ran_settings {S = S} {D = D} {F = F} {W = W} es es' same =
-    map_same settings 0 es es' (at_each-so (λ p (old : EngineState S D F W) (new : EngineState S D F W). HasOnlyRun old.part new.part × (new.policy ≡ old.policy)) (λ p old new. settings new ≡ settings old) 0 es es'
-    (λ p old new s. same_pair old.part.memory new.part.memory old.policy new.policy (ap (λ (q : PartState S D F W). q.memory) s.0) s.1) same)
+    map_same settings 0 es es' (at_each-so (λ p (old : WithJobs S D F W) (new : WithJobs S D F W). HasOnlyRun old.engine.part new.engine.part × (new.engine.policy ≡ old.engine.policy) × (new.jobs ≡ old.jobs)) (λ p old new. settings new ≡ settings old) 0 es es'
+    (λ p old new s. same_pair old.engine.part.memory new.engine.part.memory old.engine.policy new.engine.policy (ap (λ (q : PartState S D F W). q.memory) s.0) s.1) same)
 
-same_settings : {S D F W : Type 0} (old new : EngineState S D F W) → HasOnlyMoved old.part new.part → new.policy ≡ old.policy → settings new ≡ settings old
-same_settings {S = S} {D = D} {F = F} {W = W} old new moved policy = same_pair old.part.memory new.part.memory old.policy new.policy (ap (λ (q : PartState S D F W). q.memory) moved) policy
+same_settings : {S D F W : Type 0} (old new : WithJobs S D F W) → HasOnlyMoved old.engine.part new.engine.part → new.engine.policy ≡ old.engine.policy → settings new ≡ settings old
+same_settings {S = S} {D = D} {F = F} {W = W} old new moved policy = same_pair old.engine.part.memory new.engine.part.memory old.engine.policy new.engine.policy (ap (λ (q : PartState S D F W). q.memory) moved) policy
 
-module _ {S D F W : Type 0} (tell : PartState S D F W → Told) (disks : S → List Disk) (logs : D → List DiskFile) (counts : W → Counts) where
-  pub moved_settings : (Done : EngineState S D F W → EngineState S D F W → Type 0) (es es' : List (EngineState S D F W)) → ((old new : EngineState S D F W) → Done old new → HasMoved tell disks logs counts ⊥ old new) → AtEach (λ p old new. Done old new) 0 es es' → map settings es' ≡ map settings es
+module _ {S D F W : Type 0} (eyes : Eyes S D F W) where
+  pub moved_settings : (Done : WithJobs S D F W → WithJobs S D F W → Type 0) (es es' : List (WithJobs S D F W)) → ((old new : WithJobs S D F W) → Done old new → HasMoved eyes ⊥ old new) → AtEach (λ p old new. Done old new) 0 es es' → map settings es' ≡ map settings es
   moved_settings Done es es' moves each =
       map_same settings 0 es es' (at_each-so (λ p old new. Done old new) (λ p old new. settings new ≡ settings old) 0 es es' (λ p old new d. let m = moves old new d in same_settings old new m.moved m.policy) each)
 
   -- also where one failed
-  pub stopped_settings : (Done : EngineState S D F W → EngineState S D F W → Type 0) (Stopped : EngineFault → EngineState S D F W → EngineState S D F W → Type 0) (Failed : EngineFault → Type 0) (fault : EnginesFault) (es es' : List (EngineState S D F W))
-      → ((old new : EngineState S D F W) → Done old new → HasMoved tell disks logs counts ⊥ old new) → ((why : EngineFault) (old new : EngineState S D F W) → Stopped why old new → HasMoved tell disks logs counts (Failed why) old new)
+  pub stopped_settings : (Done : WithJobs S D F W → WithJobs S D F W → Type 0) (Stopped : EngineFault → WithJobs S D F W → WithJobs S D F W → Type 0) (Failed : EngineFault → Type 0) (fault : EnginesFault) (es es' : List (WithJobs S D F W))
+      → ((old new : WithJobs S D F W) → Done old new → HasMoved eyes ⊥ old new) → ((why : EngineFault) (old new : WithJobs S D F W) → Stopped why old new → HasMoved eyes (Failed why) old new)
       → (fault ≡ engines.Memory → ⊥) → IfOf fault (λ p why. (p < length es) × AtEach (StopsAt p Done (Stopped why)) 0 es es') → map settings es' ≡ map settings es
   stopped_settings Done Stopped Failed engines.Memory es es' done stopped never stops = absurd (never refl)
   stopped_settings Done Stopped Failed (engines.Of p why) es es' done stopped never stops =
@@ -91,17 +86,29 @@ module _ {S D F W : Type 0} (tell : PartState S D F W → Told) (disks : S → L
       (λ q old new s. stops_so p q Done (Stopped why) (λ old new. settings new ≡ settings old) old new s (λ d. let m = done old new d in same_settings old new m.moved m.policy) (λ here f. let m = stopped why old new f in same_settings old new m.moved m.policy) refl)
       stops.1)
 
+-- ---- flushed
+
+-- no table is sealed behind a flush, and no log has a frame
+pub flushed_all : {S D F W : Type 0} (eyes : Eyes S D F W) (size : D → ℕ) (n : ℕ) (es es' : List (WithJobs S D F W)) → AtEach (λ p old new. Flushes eyes size old new) n es es'
+    → All (λ e. e.engine.part.sealed ≡ None) es' × All (λ e. size e.engine.part.log.device ≤ empty_size) es'
+flushed_all eyes size n [] [] each = (All-nil (λ e. e.engine.part.sealed ≡ None), All-nil (λ e. size e.engine.part.log.device ≤ empty_size))
+flushed_all eyes size n [] (e' ∷ es') each = absurd each
+flushed_all eyes size n (e ∷ es) [] each = absurd each
+flushed_all eyes size n (e ∷ es) (e' ∷ es') each =
+    let more = flushed_all eyes size (suc n) es es' each.1 in
+    (All-cons (λ e. e.engine.part.sealed ≡ None) e' es' each.0.flushed.none_sealed.0 more.0, All-cons (λ e. size e.engine.part.log.device ≤ empty_size) e' es' each.0.flushed.empty more.1)
+
 -- ---- settled
 
-pub settled_all : {S D F W : Type 0} (tell : PartState S D F W → Told) (disks : S → List Disk) (logs : D → List DiskFile) (counts : W → Counts) (size : D → ℕ) (length_of : F → ℕ) (n : ℕ) (es es' : List (EngineState S D F W)) → AtEach (λ p old new. Settles tell disks logs counts size length_of old new) n es es' → All (IsSettled size) es'
-settled_all tell disks logs counts size length_of n [] [] each = All-nil (IsSettled size)
-settled_all tell disks logs counts size length_of n [] (e' ∷ es') each = absurd each
-settled_all tell disks logs counts size length_of n (e ∷ es) [] each = absurd each
-settled_all {S = S} {D = D} {F = F} {W = W} tell disks logs counts size length_of n (e ∷ es) (e' ∷ es') each =
-    let memory : e'.part.memory ≡ e.part.memory = ap (λ (q : PartState S D F W). q.memory) each.0.moved.moved in
+pub settled_all : {S D F W : Type 0} (eyes : Eyes S D F W) (size : D → ℕ) (n : ℕ) (es es' : List (WithJobs S D F W)) → AtEach (λ p old new. Settles eyes size old new) n es es' → All (IsSettled size) es'
+settled_all eyes size n [] [] each = All-nil (IsSettled size)
+settled_all eyes size n [] (e' ∷ es') each = absurd each
+settled_all eyes size n (e ∷ es) [] each = absurd each
+settled_all {S = S} {D = D} {F = F} {W = W} eyes size n (e ∷ es) (e' ∷ es') each =
+    let memory : e'.engine.part.memory ≡ e.engine.part.memory = ap (λ (q : PartState S D F W). q.memory) each.0.moved.moved in
     All-cons (IsSettled size) e' es' (record {
       sound = each.0.stays.sound;
-      short = subst (λ m. empty_size < m → size e'.part.log.device < m) (sym memory) each.0.settled.short;
-      none = subst (λ policy. PicksNone policy e'.part.list) (sym each.0.moved.policy) each.0.settled.none;
+      short = subst (λ m. empty_size < m → size e'.engine.part.log.device < m) (sym memory) each.0.settled.short;
+      none = λ alone. subst (λ policy. PicksNone policy e'.engine.part.list) (sym each.0.moved.policy) (each.0.settled.none alone);
     })
-    (settled_all tell disks logs counts size length_of (suc n) es es' each.1)
+    (settled_all eyes size (suc n) es es' each.1)

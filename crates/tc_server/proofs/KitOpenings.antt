@@ -3,6 +3,7 @@ use Rattle.std.proofs.Common.{◌≡◌, ◌≤◌, ℕ, List, [], ◌∷◌, ar
 use Rattle.std.specs.Prelude.{Option, Some, None, IfSome, IsSome, IfErr, Result, Ok, Err, option_map, unwrap_or}
 use Rattle.tc_bytes.specs.Counts.{Rose}
 use Rattle.tc_engines.specs.Standing.{partition_at}
+use Rattle.tc_engines.specs.WithJobs.{engine_with, no_jobs, told_part, WithJobs}
 use Rattle.tc_list.specs.Policies.{listed_least}
 use Rattle.tc_list.specs.declared.policy.Policy.{Policy}
 use Rattle.tc_lsm_model.specs.Contents.{Content, Partition}
@@ -14,7 +15,7 @@ use Rattle.tc_open.specs.Judged.{AreSpent, CauseJudged, IsOpenCause, Passes}
 use Rattle.tc_open.specs.OpenCauses as causes
 use Rattle.tc_open.specs.Openings.{IsOpenedAs}
 use Rattle.tc_open.specs.Steps as step
-use Rattle.tc_part_model.specs.PartState.{PartState, Told}
+use Rattle.tc_part_model.specs.PartState.{PartState}
 use Rattle.tc_plain_model.specs.Writes.{Write as PlainWrite}
 use Rattle.tc_recover.specs.Lawful.{DiskOpens}
 use Rattle.tc_run_model.specs.Course.{input_failed, output_failed, unopened}
@@ -27,9 +28,10 @@ use Rattle.tc_store.specs.declared.kit.Kit.{Kit}
 use Rattle.tc_store.specs.declared.fault.ShelfFault.{ShelfFault}
 use Rattle.tc_store.specs.declared.fault.ShelfFault.TheVariants as shelf
 use Rattle.tc_store.proofs.MomentLemmas.{told_map}
-use Rattle.tc_work.specs.EngineState.{EngineState}
+use Rattle.tc_work.specs.Moving.{Eyes}
+use Rattle.tc_work.specs.declared.fault.EngineFault.{EngineFault}
 use Rattle.tc_words.specs.declared.run.Options.{Options}
-use Rattle.tc_server.specs.Calls.{MayBeAsked}
+use Rattle.tc_server.specs.Calls.{faults_at, MayBeAsked}
 use Rattle.tc_server.specs.Ending.{limits_of}
 use Rattle.tc_server.specs.Faults.{fault_of_opening, fault_of_shelf, faults_in, faults_of_part, IfDisk, IsNoDamage, IsWrite, NoneFell, OneRose}
 use Rattle.tc_server.specs.KitCauses.{ArePassed, HasLayoutCause, IsJudged}
@@ -37,6 +39,7 @@ use Rattle.tc_server.specs.Kits.{IsClosed, IsGivenBack, IsNotGiven, IsOfOpening,
 use Rattle.tc_server.specs.OverFiles.{EndsOver, IsHere}
 use Rattle.tc_server.specs.declared.outcome.RunFault.{RunFault}
 use Rattle.tc_server.specs.declared.outcome.RunFault.TheVariants.{Usage, Read, Write, Spent, Disk as DiskFault, Damaged, Memory, Layout}
+use Rattle.tc_server.proofs.Causes.{none_fell_twice}
 use Rattle.tc_server.proofs.NotOpened.{opened_keeps}
 
 -- what holds always holds where files are told
@@ -124,15 +127,15 @@ given_back disks counts content name p count cause kit back here undamaged keeps
 
 -- ---- there was no room for the engine of a partition that was opened, which is closed again
 
-pub pushed_back : {S D F W : Type 0} (tell : PartState S D F W → Told) (counts : W → Counts) (size : D → ℕ) (options : Options) (here : Partition) (came : List Disk) (counted : KitFaults) (e : EngineState S D F W) (disks : List Disk) (left : KitFaults)
-    → IsOpened tell counts options here came counted e → IsClosed tell counts size e disks left → IsGivenBack here came counted Memory disks left
-pushed_back tell counts size options here came counted e disks left i c = record {
+pub pushed_back : {S D F W : Type 0} (eyes : Eyes S D F W) (size : D → ℕ) (options : Options) (here : Partition) (came : List Disk) (counted : KitFaults) (e : WithJobs S D F W) (outcome : Result (Unit {0}) EngineFault) (disks : List Disk) (left : KitFaults)
+    → IsOpened eyes options here came counted e → IsClosed eyes size e outcome disks left → IsGivenBack here came counted Memory disks left
+pushed_back eyes size options here came counted e outcome disks left i c = record {
   of = tt;
-  keeps = opened_keeps tell counts size options here came counted e disks left i c;
+  keeps = opened_keeps eyes size options here came counted e outcome disks left i c;
   sound = told_always (λ disk. (cs : List Content) (logs : List (List PlainWrite)) → DiskOpens here disk cs logs → IsNoDamage Memory × IsHere Memory) came (λ disk cs logs opens. (tt, tt));
   judged = told_always (λ disk. IsJudged here disk (Some Memory)) came (λ disk. tt);
   spent = λ never. absurd (cc);
-  none_fell = subst (NoneFell counted) (sym c.same) i.none_fell;
+  none_fell = none_fell_twice counted (faults_at eyes.counts e) left i.none_fell c.none_fell;
   disk = tt;
 }
 
@@ -187,16 +190,16 @@ none_fell_opened counts kit part watched flusher merger reader = record {
   reader = subst (λ o. (counts kit.reader).faults ≤ unwrap_or (option_map (λ w. (counts w).faults) o) 0) (sym reader) (omega arith);
 }
 
-pub engine_opened : {S D F W : Type 0} (tell : PartState S D F W → Told) (counts : W → Counts) (options : Options) (here : Partition) (came : List Disk) (kit : Kit S W D F) (part : PartState S D F W) (policy : Policy)
-    → MayBeAsked (tell part) part → (tell part).staged ≡ [] → part.limits ≡ limits_of options → part.memory ≡ options.memory → listed_least policy ≡ options.merge
-    → IfTold came (λ disk. (cs : List Content) (logs : List (List PlainWrite)) → DiskOpens here disk cs logs → IsOpenedAs here cs logs (tell part)) → IfTold came (ArePassed here)
-    → IsWatched ⊥ (counts kit.main) (counts part.main) → part.flusher ≡ Some kit.flusher → part.merger ≡ Some kit.merger → part.reader ≡ Some kit.reader
-    → IsOpened tell counts options here came (faults_in counts kit) (record { part = part; policy = policy })
-engine_opened tell counts options here came kit part policy ready unstaged limits memory merges opened passed watched flusher merger reader = record {
-  begun = record { ready = ready; unstaged = unstaged; limits = limits; memory = memory; merges = merges };
+pub engine_opened : {S D F W : Type 0} (eyes : Eyes S D F W) (options : Options) (here : Partition) (came : List Disk) (kit : Kit S W D F) (part : PartState S D F W) (policy : Policy)
+    → MayBeAsked (told_part eyes part) part → part.staged ≡ [] → part.limits ≡ limits_of options → part.memory ≡ options.memory → listed_least policy ≡ options.merge
+    → IfTold came (λ disk. (cs : List Content) (logs : List (List PlainWrite)) → DiskOpens here disk cs logs → IsOpenedAs here cs logs (told_part eyes part)) → IfTold came (ArePassed here)
+    → IsWatched ⊥ (eyes.counts kit.main) (eyes.counts part.main) → part.flusher ≡ Some kit.flusher → part.merger ≡ Some kit.merger → part.reader ≡ Some kit.reader
+    → IsOpened eyes options here came (faults_in eyes.counts kit) (engine_with (record { part = part; policy = policy }) no_jobs)
+engine_opened eyes options here came kit part policy ready unstaged limits memory merges opened passed watched flusher merger reader = record {
+  begun = record { ready = ready; unstaged = unstaged; limits = limits; memory = memory; merges = merges; alone = refl };
   opened = opened;
   passed = passed;
-  none_fell = none_fell_opened counts kit part watched flusher merger reader;
+  none_fell = none_fell_opened eyes.counts kit part watched flusher merger reader;
 }
 
 -- ---- the kit was not given

@@ -1,6 +1,6 @@
 -- What a run over engines leaves of the files of each kit, by the worlds at which its store was left.
 use Rattle.std.proofs.Common.{◌≡◌, ◌⊎◌, ℕ, List, [], ◌∷◌, length, arith, refl, subst, inl, inr, ⊎_elim}
-use Rattle.std.specs.Prelude.{Option, Some, None, option_map, IfSome}
+use Rattle.std.specs.Prelude.{Option, Some, None, IfSome}
 use Rattle.tc_run_model.specs.World.{World}
 use Rattle.tc_run_model.specs.Course.{Ending, Shown, behind, each_line, finished, input_spent, stopped, unopened, worlds_left, IsReached}
 use Rattle.tc_run_model.specs.Windows.{Window}
@@ -9,57 +9,61 @@ use Rattle.tc_server.specs.Ending.{RanLeaving, RanTo}
 use Rattle.tc_server.specs.Faults.{EndsAs, IsNoDamage, IsOfRun}
 use Rattle.tc_server.specs.Holds.{IsOneOf, IsLeftAt, IsLeft}
 use Rattle.tc_server.specs.KitCauses.{HasSpentInput}
-use Rattle.tc_server.specs.OverFiles.{EndsOver, IsHere, LeaveOneOf, LeavesSmall, RanOver}
-use Rattle.tc_server.specs.Places.{EachFrom}
+use Rattle.tc_server.specs.OverFiles.{EndsOver, IsHere, LeaveOneOf, LeaveSmall, RanOver}
+use Rattle.tc_server.specs.Sight.{nothing, sees, whole_of, IfKnown, Sight}
 use Rattle.tc_server.specs.declared.outcome.RunFault.{RunFault}
 use Rattle.tc_server.specs.declared.outcome.RunFault.TheVariants.{Usage, Read, Write, Spent, Disk as DiskFault, Damaged, Memory, Layout}
 use Rattle.tc_words.specs.declared.run.Options.{Options}
 use Rattle.tc_server.proofs.WorldCounts.{many_left}
 
--- What is left of partitions by how they stood: at one of these worlds, of so many partitions each; and where they rest, small.
-pub record LeavesKits {K : Type 0} (holds : K → Option World → Type 0) (keeps : K → World → World → Type 0) (rests : Type 0) (options : Options) (k : K) (kits : List (List Disk)) : Type 0 where
-  pub held : (w : World) (worlds : List World) → length w.parts ≡ options.partitions → IsOneOf w worlds → holds k (Some w) → LeaveOneOf options.partitions worlds kits
-  pub kept : (w v : World) (worlds : List World) → length w.parts ≡ options.partitions → IsOneOf w worlds → IsOneOf v worlds → keeps k w v → LeaveOneOf options.partitions worlds kits
-  pub small : rests → (w : World) → length w.parts ≡ options.partitions → holds k (Some w) ⊎ keeps k w w → EachFrom (LeavesSmall options w.flushed) 0 kits
+-- What is left of partitions by how they stood, all of them or one alone: at one of these worlds, of so many partitions each; and where
+-- they rest, small.
+pub record LeavesKits {K : Type 0} (holds : K → Sight → Type 0) (keeps : K → Option ℕ → World → World → Type 0) (rests : Type 0) (options : Options) (k : K) (kits : List (List Disk)) : Type 0 where
+  pub held : (only : Option ℕ) (w : World) (worlds : List World) → length w.parts ≡ options.partitions → IsOneOf w worlds → holds k (sees only w) → LeaveOneOf only options.partitions worlds kits
+  pub kept : (only : Option ℕ) (w v : World) (worlds : List World) → length w.parts ≡ options.partitions → IsOneOf w worlds → IsOneOf v worlds → keeps k only w v → LeaveOneOf only options.partitions worlds kits
+  pub small : rests → (only : Option ℕ) (w : World) → length w.parts ≡ options.partitions → holds k (sees only w) ⊎ keeps k only w w → LeaveSmall only options w.flushed kits
   pub as_many : length kits ≡ options.partitions
 
 -- ---- the store was left
 
-leaves_left : {K : Type 0} (holds : K → Option World → Type 0) (keeps : K → World → World → Type 0) (rests : Type 0) (options : Options) (k : K) (kits : List (List Disk)) (worlds : List World) → LeavesKits holds keeps rests options k kits
-    → ((u : World) → IsOneOf u worlds → length u.parts ≡ options.partitions) → IsLeftAt holds keeps k worlds → LeaveOneOf options.partitions worlds kits
-leaves_left holds keeps rests options k kits worlds leaves many at =
+leaves_left : {K : Type 0} (holds : K → Sight → Type 0) (keeps : K → Option ℕ → World → World → Type 0) (rests : Type 0) (options : Options) (k : K) (kits : List (List Disk)) (only : Option ℕ) (worlds : List World) → LeavesKits holds keeps rests options k kits
+    → ((u : World) → IsOneOf u worlds → length u.parts ≡ options.partitions) → IsLeftAt holds keeps k only worlds → LeaveOneOf only options.partitions worlds kits
+leaves_left holds keeps rests options k kits only worlds leaves many at =
     ⊎_elim
-    (λ stands. leaves.held at.one worlds (many at.one at.one_of) at.one_of stands)
-    (λ failed. leaves.kept at.one at.other worlds (many at.one at.one_of) at.one_of at.other_of failed)
+    (λ stands. leaves.held only at.one worlds (many at.one at.one_of) at.one_of stands)
+    (λ failed. leaves.kept only at.one at.other worlds (many at.one at.one_of) at.one_of at.other_of failed)
     at.left
 
-exits_left : {K : Type 0} (holds : K → Option World → Type 0) (keeps : K → World → World → Type 0) (rests : Type 0) (options : Options) (k : K) (kits : List (List Disk)) (first : Option World) (ending : Ending) (answered : List Window) (last : Window)
-    → LeavesKits holds keeps rests options k kits → IfSome first (λ w. length w.parts ≡ options.partitions) → IsLeft holds keeps k (option_map (λ w. worlds_left ending w answered last) first)
-    → IfSome first (λ w. LeaveOneOf options.partitions (worlds_left ending w answered last) kits)
-exits_left holds keeps rests options k kits None ending answered last leaves many left = tt
-exits_left holds keeps rests options k kits (Some w) ending answered last leaves many left =
-    leaves_left holds keeps rests options k kits (worlds_left ending w answered last) leaves (many_left options.partitions w ending answered last many) left
+exits_left : {K : Type 0} (holds : K → Sight → Type 0) (keeps : K → Option ℕ → World → World → Type 0) (rests : Type 0) (options : Options) (k : K) (kits : List (List Disk)) (first : Sight) (ending : Ending) (answered : List Window) (last : Window)
+    → LeavesKits holds keeps rests options k kits → IfKnown first (λ only w. length w.parts ≡ options.partitions) → IsLeft holds keeps k first (λ w. worlds_left ending w answered last)
+    → IfKnown first (λ only w. LeaveOneOf only options.partitions (worlds_left ending w answered last) kits)
+exits_left holds keeps rests options k kits nothing ending answered last leaves many left = tt
+exits_left holds keeps rests options k kits (sees only w) ending answered last leaves many left =
+    leaves_left holds keeps rests options k kits only (worlds_left ending w answered last) leaves (many_left options.partitions w ending answered last many) left
+
+-- at one world alone
+pub left_alone : {K : Type 0} (holds : K → Sight → Type 0) (keeps : K → Option ℕ → World → World → Type 0) (k : K) (only : Option ℕ) (w : World) → IsLeftAt holds keeps k only (w ∷ []) → holds k (sees only w) ⊎ keeps k only w w
+left_alone holds keeps k only w left = elim left.left [
+  | inl held ↦ inl (subst (λ v. holds k (sees only v)) (that left.one_of) held)
+  | inr kept ↦ inr (subst (λ v. keeps k only w v) (that left.other_of) (subst (λ v. keeps k only v left.other) (that left.one_of) kept))
+]
+  where
+    that : {v : World} → IsOneOf v (w ∷ []) → v ≡ w
+    that (inl same) = same
+    that (inr no_more) = absurd no_more
 
 -- what is left of a run that ended well
-small_left : {K : Type 0} (holds : K → Option World → Type 0) (keeps : K → World → World → Type 0) (rests : Type 0) (options : Options) (k : K) (kits : List (List Disk)) (w : World) → LeavesKits holds keeps rests options k kits → rests
-    → length w.parts ≡ options.partitions → IsLeftAt holds keeps k (w ∷ []) → EachFrom (LeavesSmall options w.flushed) 0 kits
-small_left holds keeps rests options k kits w leaves rest many left =
-    leaves.small rest w many (elim left.left [
-      | inl held ↦ inl (subst (λ v. holds k (Some v)) (only left.one_of) held)
-      | inr kept ↦ inr (subst (λ v. keeps k w v) (only left.other_of) (subst (λ v. keeps k v left.other) (only left.one_of) kept))
-    ])
-  where
-    only : {v : World} → IsOneOf v (w ∷ []) → v ≡ w
-    only (inl same) = same
-    only (inr no_more) = absurd no_more
+small_left : {K : Type 0} (holds : K → Sight → Type 0) (keeps : K → Option ℕ → World → World → Type 0) (rests : Type 0) (options : Options) (k : K) (kits : List (List Disk)) (only : Option ℕ) (w : World) → LeavesKits holds keeps rests options k kits → rests
+    → length w.parts ≡ options.partitions → IsLeftAt holds keeps k only (w ∷ []) → LeaveSmall only options w.flushed kits
+small_left holds keeps rests options k kits only w leaves rest many left = leaves.small rest only w many (left_alone holds keeps k only w left)
 
-small_over : {K : Type 0} (holds : K → Option World → Type 0) (keeps : K → World → World → Type 0) (rests : Type 0) (spent : K → Type 0) (fault : Option RunFault) (options : Options) (first : Option World) (ending : Ending) (answered : List Window) (last : Window) (k : K) (kits : List (List Disk))
-    → LeavesKits holds keeps rests options k kits → (fault ≡ None → rests) → IfSome first (λ w. (length w.parts ≡ options.partitions) × (length (behind w answered).parts ≡ options.partitions)) → EndsAs (spent k) fault ending
-    → IsLeft holds keeps k (option_map (λ w. worlds_left ending w answered last) first) → IfSome first (λ w. fault ≡ None → EachFrom (LeavesSmall options (behind w answered).flushed) 0 kits)
-small_over holds keeps rests spent fault options None ending answered last k kits leaves rest many by left = tt
-small_over holds keeps rests spent fault options (Some w) ending answered last k kits leaves rest many by left = λ none.
+small_over : {K : Type 0} (holds : K → Sight → Type 0) (keeps : K → Option ℕ → World → World → Type 0) (rests : Type 0) (spent : K → Type 0) (fault : Option RunFault) (options : Options) (first : Sight) (ending : Ending) (answered : List Window) (last : Window) (k : K) (kits : List (List Disk))
+    → LeavesKits holds keeps rests options k kits → (fault ≡ None → rests) → IfKnown first (λ only w. (length w.parts ≡ options.partitions) × (length (behind w answered).parts ≡ options.partitions)) → EndsAs (spent k) fault ending
+    → IsLeft holds keeps k first (λ w. worlds_left ending w answered last) → IfKnown first (λ only w. fault ≡ None → LeaveSmall only options (behind w answered).flushed kits)
+small_over holds keeps rests spent fault options nothing ending answered last k kits leaves rest many by left = tt
+small_over holds keeps rests spent fault options (sees only w) ending answered last k kits leaves rest many by left = λ none.
     let over : ending ≡ finished = subst (λ f. EndsAs (spent k) f ending) none by in
-    small_left holds keeps rests options k kits (behind w answered) leaves (rest none) many.1 (subst (λ e. IsLeftAt holds keeps k (worlds_left e w answered last)) over left)
+    small_left holds keeps rests options k kits only (behind w answered) leaves (rest none) many.1 (subst (λ e. IsLeftAt holds keeps k only (worlds_left e w answered last)) over left)
 
 -- ---- how it ended
 
@@ -103,19 +107,19 @@ sound_here None fault kind sound = tt
 sound_here (Some w) None kind sound = (tt, tt)
 sound_here (Some w) (Some f) kind sound = (sound, run_is_here f kind)
 
-both_many : (count : ℕ) (first : Option World) (answered : List Window) → IfSome first (λ w. length w.parts ≡ count) → IfSome first (λ w. (length w.parts ≡ count) × (length (behind w answered).parts ≡ count))
-both_many count None answered many = tt
-both_many count (Some w) answered many = (many, many_left count w finished answered [] many (behind w answered) (inl refl))
+both_many : (count : ℕ) (first : Sight) (answered : List Window) → IfKnown first (λ only w. length w.parts ≡ count) → IfKnown first (λ only w. (length w.parts ≡ count) × (length (behind w answered).parts ≡ count))
+both_many count nothing answered many = tt
+both_many count (sees only w) answered many = (many, many_left count w finished answered [] many (behind w answered) (inl refl))
 
 -- a run over open partitions, whose files are these where they are closed
-pub ran_over : {K : Type 0} (shown : Shown) (holds : K → Option World → Type 0) (keeps : K → World → World → Type 0) (rests : Type 0) (spent : K → Type 0) (fault : Option RunFault) (first : Option World) (options : Options) (files : ℕ → List Disk) (left left' taken taken' : Option (List ℕ)) (k : K) (kits : List (List Disk))
-    → LeavesKits holds keeps rests options k kits → (fault ≡ None → rests) → IfSome first (λ w. length w.parts ≡ options.partitions)
+pub ran_over : {K : Type 0} (shown : Shown) (holds : K → Sight → Type 0) (keeps : K → Option ℕ → World → World → Type 0) (rests : Type 0) (spent : K → Type 0) (fault : Option RunFault) (first : Sight) (options : Options) (files : ℕ → List Disk) (left left' taken taken' : Option (List ℕ)) (k : K) (kits : List (List Disk))
+    → LeavesKits holds keeps rests options k kits → (fault ≡ None → rests) → IfKnown first (λ only w. length w.parts ≡ options.partitions)
     → IfSome fault IsOfRun → RanLeaving shown holds keeps spent fault first options.window left left' taken taken' k → RanOver shown fault first options files left left' taken taken' kits
 ran_over shown holds keeps rests spent fault first options files left left' taken taken' k kits leaves rest many kind r = record {
   ending = r.run.ending;
   by = ends_over (spent k) fault r.run.ending r.run.by;
   ran = r.run.ran;
-  sound = sound_here first fault kind r.sound;
+  sound = sound_here (whole_of first) fault kind r.sound;
   needs = λ fewer. absurd (omega (arith, fewer, leaves.as_many));
   exits = exits_left holds keeps rests options k kits first r.run.ending r.run.ran.answered r.run.ran.last leaves many r.left;
   kept = λ never. absurd (opened_then (spent k) fault (subst (λ e. EndsAs (spent k) fault e) never r.run.by));
@@ -125,7 +129,7 @@ ran_over shown holds keeps rests spent fault first options files left left' take
 -- ---- numbers were spent
 
 -- they are those of the input, or the generations
-pub spent_by : (spent : Type 0) (fault : Option RunFault) (first : Option World) (most : ℕ) (left left' taken taken' : Option (List ℕ)) → RanTo each_line spent fault first most left left' taken taken' → fault ≡ Some Spent → HasSpentInput left left' ⊎ spent
+pub spent_by : (spent : Type 0) (fault : Option RunFault) (first : Sight) (most : ℕ) (left left' taken taken' : Option (List ℕ)) → RanTo each_line spent fault first most left left' taken taken' → fault ≡ Some Spent → HasSpentInput left left' ⊎ spent
 spent_by spent fault first most left left' taken taken' r same =
     ⊎_elim
     (λ input.

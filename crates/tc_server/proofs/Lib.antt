@@ -1,4 +1,5 @@
 pub mod SchemaFloats
+pub mod SightLaws
 pub mod Mixing
 pub mod Causes
 pub mod WindowLengths
@@ -12,6 +13,7 @@ pub mod OwnWorlds
 pub mod FinishedFiles
 pub mod ClosedFiles
 pub mod KitsLeft
+pub mod RunsFollow
 pub mod OpenedWorlds
 pub mod Answering
 pub mod SessionLemmas
@@ -19,6 +21,7 @@ pub mod RunLemmas
 pub mod KitCounts
 pub mod LeftFiles
 pub mod AskedRuns
+pub mod ClosingFaults
 pub mod NotOpened
 pub mod KitOpenings
 pub mod OpenLoops

@@ -17,8 +17,9 @@ use Rattle.tc_run_model.specs.World.{World, after, after_all}
 use Rattle.tc_run_model.specs.Replies.{AreReplies}
 use Rattle.tc_run_model.specs.Built.{if_built}
 use Rattle.tc_run_model.specs.Kinds.{AreOfKinds}
-use Rattle.tc_run_model.specs.Known.{MayReply, known_after}
+use Rattle.tc_run_model.specs.Known.{MayReply}
 use Rattle.tc_run_model.specs.Windows.{max_window}
+use Rattle.tc_server.specs.Sight.{nothing, sees, sight_after, Sight}
 use Rattle.tc_server.specs.Window.{mixed, count_asked, request_refused, reply_refused, requests_routed, weight_of, weight_in, AreTogether, IsSoundWindow}
 use Rattle.tc_server.specs.declared.window.Window.{Window}
 
@@ -65,9 +66,9 @@ mixed_leaves (Some q ∷ lines) rs w same = mixed_leaves lines rs w same
 mixed_leaves (None ∷ lines) [] w same = absurd (omega (arith, same))
 mixed_leaves (None ∷ lines) (r ∷ rs) w same = mixed_leaves lines rs (after r w) (omega (arith, same))
 
-pub mixed_known : (lines : List (Option Refusal)) (rs : List Request) (known : Option World) → count_asked lines ≡ length rs → known_after (mixed request_refused lines rs) known ≡ known_after rs known
-mixed_known lines rs (Some w) same = ap Some (mixed_leaves lines rs w same)
-mixed_known lines rs None same = refl
+pub mixed_known : (lines : List (Option Refusal)) (rs : List Request) (known : Sight) → count_asked lines ≡ length rs → sight_after (mixed request_refused lines rs) known ≡ sight_after rs known
+mixed_known lines rs (sees only w) same = ap (sees only) (mixed_leaves lines rs w same)
+mixed_known lines rs nothing same = refl
 
 mixed_replies : (lines : List (Option Refusal)) (rs : List Request) (w : World) (xs : List Reply) → count_asked lines ≡ length rs → AreReplies rs w xs → AreReplies (mixed request_refused lines rs) w (mixed reply_refused lines xs)
 mixed_replies [] [] w xs same given = tt

@@ -1,16 +1,16 @@
 -- A run that comes to no line: a kit was not given, or its partition was not opened.
 use Rattle.std.proofs.Common.{◌≡◌, ◌⊎◌, ◌∙◌, ◌≤◌, ◌<◌, ◌+◌, ℕ, List, [], ◌∷◌, map, length, arith, refl, ap, sym, subst, inl, inr}
-use Rattle.std.specs.Prelude.{Option, Some, None, IfSome, slice_get, unwrap_or}
+use Rattle.std.specs.Prelude.{Option, Some, None, IfSome, Result, slice_get, unwrap_or}
 use Rattle.std.specs.Io.KnownBytes.{Appends}
 use Rattle.std.proofs.KnownBytes.{Consumes-nil, Appends-nil, Keeps-refl}
 use Rattle.std.proofs.lemmas.Option.{slice_get-map}
-use Rattle.tc_engines.specs.Standing.{partition_at}
+use Rattle.tc_engines.specs.Standing.{partition_at, IsSeen}
+use Rattle.tc_engines.specs.WithJobs.{told_of, WithJobs}
 use Rattle.tc_lsm_model.specs.Contents.{Partition}
 use Rattle.tc_machine.specs.Pictures.{recovered}
 use Rattle.tc_machine.specs.Sound.{IsWithOrWithout}
 use Rattle.tc_open.specs.Openings.{IsOpenedAs}
 use Rattle.tc_part_model.specs.Leaving.{KeepsStore}
-use Rattle.tc_part_model.specs.PartState.{PartState, Told}
 use Rattle.tc_part_model.specs.PartView.{store_of}
 use Rattle.tc_part_model.specs.Starting.{started_part}
 use Rattle.tc_plain_model.specs.Part.{Limits}
@@ -19,25 +19,27 @@ use Rattle.tc_replay.specs.Openings.{AreIn}
 use Rattle.tc_run_model.specs.Course.{Shown, behind, unopened, Ran}
 use Rattle.tc_run_model.specs.World.{Part, World, first_world, part_of, store_at}
 use Rattle.tc_run_model.proofs.ReplyLaws.{MayReply-none}
-use Rattle.tc_store.specs.Counted.{Counts}
 use Rattle.tc_store.specs.Disk.{Disk}
 use Rattle.tc_store.specs.KitFaults.{KitFaults}
 use Rattle.tc_store.specs.Moments.{IfTold}
-use Rattle.tc_work.specs.EngineState.{EngineState}
+use Rattle.tc_work.specs.Moving.{Eyes}
+use Rattle.tc_work.specs.declared.fault.EngineFault.{EngineFault}
 use Rattle.tc_words.specs.Options.{options_asked}
 use Rattle.tc_words.specs.declared.asked.Invocation.{Invocation}
 use Rattle.tc_words.specs.declared.run.Options.{Options}
 use Rattle.tc_server.specs.Ending.{limits_of}
 use Rattle.tc_server.specs.Faults.{IsNoDamage}
 use Rattle.tc_server.specs.Kits.{IfLawful, IsClosed, IsOpened}
-use Rattle.tc_server.specs.OverFiles.{AreOwn, AskedOver, BeginsAs, BeginsFor, EndsOver, IsHere, IsStoredInOne, KeepsOpened, LeaveOneOf, LeavesOneOf, LeavesSmall, OpenAs, OpensAs, RanOver, ServedOver}
+use Rattle.tc_server.specs.OverFiles.{AreOwn, AskedOver, BeginsAs, BeginsFor, EndsOver, IsHere, IsStoredInOne, KeepsOpened, LeaveOneOf, LeavesOneOf, LeaveSmall, OpenAs, OpensAs, RanOver, ServedOver}
 use Rattle.tc_server.specs.Places.{EachFrom}
+use Rattle.tc_server.specs.Sight.{nothing, sees, whole_of, IfKnown, Sight}
 use Rattle.tc_server.specs.declared.outcome.RunFault.{RunFault}
 use Rattle.tc_server.specs.declared.outcome.RunFault.TheVariants.{Usage, Memory}
 use Rattle.tc_server.proofs.ClosedFiles.{stored_in}
 use Rattle.tc_server.proofs.AskedRuns.{runs_unread, OverOf}
 use Rattle.tc_server.proofs.ClosedFiles.{leaves_so}
 use Rattle.tc_server.proofs.EachLaws.{each-at, each-below, each-so, there}
+use Rattle.tc_server.proofs.OpenedWorlds.{works_alone}
 
 -- ---- nothing was read nor written
 
@@ -72,70 +74,71 @@ kept_left count p w stored (disk ∷ past) disks o same keeps =
     (λ pairs is. inl (is ∙ ap (λ (s : Store). s.pairs) (sym (same ∙ o.is))))
     (keeps o.contents o.logs o.opens)
 
-pub exits_kept : (limits : Limits) (count : ℕ) (files : ℕ → List Disk) (w : World) (kits : List (List Disk)) → OpenAs limits count files w → length kits ≤ count → EachFrom (λ p. KeepsOpened (partition_at p count) (files p)) 0 kits
-    → LeaveOneOf count (w ∷ []) kits
-exits_kept limits count files w kits o few keeps =
-    each-so (λ p disks. (p < 0 + length kits) × KeepsOpened (partition_at p count) (files p) disks) (LeavesOneOf count (w ∷ [])) 0 kits one
+pub exits_kept : (limits : Limits) (count : ℕ) (files : ℕ → List Disk) (only : Option ℕ) (w : World) (kits : List (List Disk)) → OpenAs limits count files only w → length kits ≤ count → EachFrom (λ p. KeepsOpened (partition_at p count) (files p)) 0 kits
+    → LeaveOneOf only count (w ∷ []) kits
+exits_kept limits count files only w kits o few keeps =
+    each-so (λ p disks. (p < 0 + length kits) × KeepsOpened (partition_at p count) (files p) disks) (λ p disks. IsSeen only p → LeavesOneOf count (w ∷ []) p disks) 0 kits one
     (each-below (λ p. KeepsOpened (partition_at p count) (files p)) 0 kits keeps)
   where
-    one : (p : ℕ) (disks : List Disk) → (p < 0 + length kits) × KeepsOpened (partition_at p count) (files p) disks → LeavesOneOf count (w ∷ []) p disks
-    one p disks (below, keeps) =
+    one : (p : ℕ) (disks : List Disk) → (p < 0 + length kits) × KeepsOpened (partition_at p count) (files p) disks → IsSeen only p → LeavesOneOf count (w ∷ []) p disks
+    one p disks (below, keeps) is =
         let here = there o.stores p (omega (arith, below, few, o.counted)) in
-        let opens = each-at (λ p stored. OpensAs (partition_at p count) (files p) stored × AreOwn count p stored.pairs) p o.stores here.0 o.each here.1 in
+        let opens = each-at (λ p stored. IsSeen only p → OpensAs (partition_at p count) (files p) stored × AreOwn count p stored.pairs) p o.stores here.0 o.each here.1 is in
         kept_left count p w here.0 (files p) disks opens.0 (subst (λ v. store_at p v ≡ here.0) (sym o.world) (first_stored limits o.stores p here.0 here.1)) keeps
 
-module _ {S D F W : Type 0} (tell : PartState S D F W → Told) (counts : W → Counts) (size : D → ℕ) where
-  -- an engine that was just opened keeps what its files held
-  pub opened_keeps : (options : Options) (here : Partition) (came : List Disk) (counted : KitFaults) (e : EngineState S D F W) (disks : List Disk) (left : KitFaults) → IsOpened tell counts options here came counted e → IsClosed tell counts size e disks left → KeepsOpened here came disks
-  opened_keeps options here [] counted e disks left i c = tt
-  opened_keeps options here (disk ∷ past) counted e disks left i c = λ cs logs opens.
-      let is : IsOpenedAs here cs logs (tell e.part) = i.opened cs logs opens in
-      let holds : store_of (started_part here is.list) ≡ (recovered cs logs).pairs = ap (λ (s : Store). s.pairs) is.plain in
-      subst (λ pairs. IfTold disks (λ left. AreIn left × KeepsStore here pairs None left)) holds (c.keeps (started_part here is.list) is.is)
+-- an engine that was just opened keeps what its files held
+pub opened_keeps : {S D F W : Type 0} (eyes : Eyes S D F W) (size : D → ℕ) (options : Options) (here : Partition) (came : List Disk) (counted : KitFaults) (e : WithJobs S D F W) (outcome : Result (Unit {0}) EngineFault) (disks : List Disk) (left : KitFaults)
+    → IsOpened eyes options here came counted e → IsClosed eyes size e outcome disks left → KeepsOpened here came disks
+opened_keeps eyes size options here [] counted e outcome disks left i c = tt
+opened_keeps eyes size options here (disk ∷ past) counted e outcome disks left i c = λ cs logs opens.
+    let is : IsOpenedAs here cs logs (told_of eyes e) = i.opened cs logs opens in
+    let holds : store_of (started_part here is.list) ≡ (recovered cs logs).pairs = ap (λ (s : Store). s.pairs) is.plain in
+    subst (λ pairs. IfTold disks (λ left. AreIn left × KeepsStore here pairs None left)) holds (c.keeps (started_part here is.list) is.is (works_alone eyes options e (started_part here is.list) i.begun.alone))
 
 -- ---- the run
 
-exits_first : (limits : Limits) (count : ℕ) (files : ℕ → List Disk) (first : Option World) (kits : List (List Disk)) → BeginsAs limits count files first → length kits ≤ count → EachFrom (λ p. KeepsOpened (partition_at p count) (files p)) 0 kits
-    → IfSome first (λ w. LeaveOneOf count (w ∷ []) kits)
-exits_first limits count files None kits begins few keeps = tt
-exits_first limits count files (Some w) kits begins few keeps = exits_kept limits count files w kits begins few keeps
+exits_first : (limits : Limits) (count : ℕ) (files : ℕ → List Disk) (first : Sight) (kits : List (List Disk)) → BeginsAs limits count files first → length kits ≤ count → EachFrom (λ p. KeepsOpened (partition_at p count) (files p)) 0 kits
+    → IfKnown first (λ only w. LeaveOneOf only count (w ∷ []) kits)
+exits_first limits count files nothing kits begins few keeps = tt
+exits_first limits count files (sees only w) kits begins few keeps = exits_kept limits count files only w kits begins few keeps
 
 -- where it is known what is stored, the files of a partition are lawful
-pub lawful_first : (limits : Limits) (count p : ℕ) (files : ℕ → List Disk) (first : Option World) (P : Type 0) → p < count → BeginsAs limits count files first → IfLawful (partition_at p count) (files p) P → IfSome first (λ w. P)
-lawful_first limits count p files None P below begins holds = tt
-lawful_first limits count p files (Some w) P below o holds =
+pub lawful_first : (limits : Limits) (count p : ℕ) (files : ℕ → List Disk) (first : Sight) (P : Type 0) → p < count → BeginsAs limits count files first → IfLawful (partition_at p count) (files p) P → IfSome (whole_of first) (λ w. P)
+lawful_first limits count p files nothing P below begins holds = tt
+lawful_first limits count p files (sees (Some q) w) P below begins holds = tt
+lawful_first limits count p files (sees None w) P below o holds =
     let here = there o.stores p (omega (arith, below, o.counted)) in
-    at (files p) here.0 (each-at (λ p stored. OpensAs (partition_at p count) (files p) stored × AreOwn count p stored.pairs) p o.stores here.0 o.each here.1).0 holds
+    at (files p) here.0 (each-at (λ p stored. Unit {0} → OpensAs (partition_at p count) (files p) stored × AreOwn count p stored.pairs) p o.stores here.0 o.each here.1 tt).0 holds
   where
     at : (came : List Disk) (stored : Store) → OpensAs (partition_at p count) came stored → IfLawful (partition_at p count) came P → P
     at [] stored opens holds = absurd opens
     at (disk ∷ past) stored opens holds = holds opens.contents opens.logs opens.opens
 
 -- a run that ended by a fault is none that ended well
-ended_by_fault : (X : World → Type 0) (fault : RunFault) (first : Option World) → IfSome first (λ w. Some fault ≡ None → X w)
-ended_by_fault X fault None = tt
-ended_by_fault X fault (Some w) = λ none. absurd (cc)
+ended_by_fault : (X : Option ℕ → World → Type 0) (fault : RunFault) (first : Sight) → IfKnown first (λ only w. Some fault ≡ None → X only w)
+ended_by_fault X fault nothing = tt
+ended_by_fault X fault (sees only w) = λ none. absurd (cc)
 
 sound_first : (fault : RunFault) (first : Option World) → IfSome first (λ w. IsNoDamage fault × IsHere fault) → IfSome first (λ w. IfSome (Some fault) IsNoDamage × IfSome (Some fault) IsHere)
 sound_first fault None sound = tt
 sound_first fault (Some w) sound = sound
 
-pub ran_unopened : (shown : Shown) → shown [] ≡ [] → (fault : RunFault) (first : Option World) (options : Options) (files : ℕ → List Disk) (left taken : Option (List ℕ)) (kits : List (List Disk))
-    → EndsOver (Some fault) unopened → BeginsAs (limits_of options) options.partitions files first → IfSome first (λ w. IsNoDamage fault × IsHere fault) → length kits ≤ options.partitions
+pub ran_unopened : (shown : Shown) → shown [] ≡ [] → (fault : RunFault) (first : Sight) (options : Options) (files : ℕ → List Disk) (left taken : Option (List ℕ)) (kits : List (List Disk))
+    → EndsOver (Some fault) unopened → BeginsAs (limits_of options) options.partitions files first → IfSome (whole_of first) (λ w. IsNoDamage fault × IsHere fault) → length kits ≤ options.partitions
     → EachFrom (λ p. KeepsOpened (partition_at p options.partitions) (files p)) 0 kits → RanOver shown (Some fault) first options files left left taken taken kits
 ran_unopened shown none fault first options files left taken kits by begins sound few keeps = record {
   ending = unopened;
   by = by;
-  ran = ran_unread shown none first options.window left taken;
-  sound = sound_first fault first sound;
+  ran = ran_unread shown none (whole_of first) options.window left taken;
+  sound = sound_first fault (whole_of first) sound;
   needs = λ fewer. refl;
   exits = exits_first (limits_of options) options.partitions files first kits begins few keeps;
   kept = λ is. keeps;
-  small = ended_by_fault (λ w. EachFrom (LeavesSmall options (behind w (ran_unread shown none first options.window left taken).answered).flushed) 0 kits) fault first;
+  small = ended_by_fault (λ only w. LeaveSmall only options (behind w (ran_unread shown none (whole_of first) options.window left taken).answered).flushed kits) fault first;
 }
 
-pub asked_unopened : (asked : Invocation) (fault : RunFault) (first : Option World) (files : ℕ → List Disk) (left taken : Option (List ℕ)) (kits : List (List Disk))
-    → EndsOver (Some fault) unopened → BeginsFor (Some asked) files first → IfSome first (λ w. IsNoDamage fault × IsHere fault) → length kits ≤ (options_asked asked).partitions
+pub asked_unopened : (asked : Invocation) (fault : RunFault) (first : Sight) (files : ℕ → List Disk) (left taken : Option (List ℕ)) (kits : List (List Disk))
+    → EndsOver (Some fault) unopened → BeginsFor (Some asked) files first → IfSome (whole_of first) (λ w. IsNoDamage fault × IsHere fault) → length kits ≤ (options_asked asked).partitions
     → EachFrom (λ p. KeepsOpened (partition_at p (options_asked asked).partitions) (files p)) 0 kits → AskedOver asked (Some fault) first files left left taken taken kits
 asked_unopened asked fault first files left taken kits by begins sound few keeps =
     runs_unread asked left (OverOf asked (Some fault) first files taken taken kits)
@@ -146,16 +149,16 @@ always None p = tt
 always (Some w) p = p
 
 -- memory was wanting before a kit was asked for
-pub asked_without_room : (asked : Invocation) (first : Option World) (files : ℕ → List Disk) (left taken : Option (List ℕ)) → BeginsFor (Some asked) files first → AskedOver asked (Some Memory) first files left left taken taken []
-asked_without_room asked first files left taken begins = asked_unopened asked Memory first files left taken [] (inr refl) begins (always first (tt, tt)) (omega arith) tt
+pub asked_without_room : (asked : Invocation) (first : Sight) (files : ℕ → List Disk) (left taken : Option (List ℕ)) → BeginsFor (Some asked) files first → AskedOver asked (Some Memory) first files left left taken taken []
+asked_without_room asked first files left taken begins = asked_unopened asked Memory first files left taken [] (inr refl) begins (always (whole_of first) (tt, tt)) (omega arith) tt
 
 -- ---- for words that are no command line
 
-by_words : (asked : Option Invocation) (first : Option World) (files : ℕ → List Disk) (left taken : Option (List ℕ)) → BeginsFor asked files first → ServedOver asked (Some Memory) first files left left taken taken []
+by_words : (asked : Option Invocation) (first : Sight) (files : ℕ → List Disk) (left taken : Option (List ℕ)) → BeginsFor asked files first → ServedOver asked (Some Memory) first files left left taken taken []
 by_words None first files left taken begins = (Keeps-refl left, Keeps-refl taken, refl)
 by_words (Some asked) first files left taken begins = asked_without_room asked first files left taken begins
 
-pub served_nothing : (asked : Option Invocation) (fault : RunFault) (first : Option World) (files : ℕ → List Disk) (left taken : Option (List ℕ)) → BeginsFor asked files first → (fault ≡ Usage) ⊎ (fault ≡ Memory) → (fault ≡ Usage → asked ≡ None)
+pub served_nothing : (asked : Option Invocation) (fault : RunFault) (first : Sight) (files : ℕ → List Disk) (left taken : Option (List ℕ)) → BeginsFor asked files first → (fault ≡ Usage) ⊎ (fault ≡ Memory) → (fault ≡ Usage → asked ≡ None)
     → ServedOver asked (Some fault) first files left left taken taken []
 served_nothing asked fault first files left taken begins (inl usage) none = rw (none usage, usage) (Keeps-refl left, Keeps-refl taken, refl)
 served_nothing asked fault first files left taken begins (inr memory) none = rw memory (by_words asked first files left taken begins)

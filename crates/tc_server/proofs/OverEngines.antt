@@ -1,35 +1,53 @@
 -- A session over engines: where it begins, what counts over it, and what is left when the engines are closed.
-use Rattle.std.proofs.Common.{◌≡◌, ◌∙◌, ◌≤◌, ◌<◌, ◌+◌, ℕ, zero, suc, List, [], ◌∷◌, All, map, length, arith, refl, ap, sym, subst, inl, inr}
-use Rattle.std.specs.Prelude.{Option, Some, None, IfSome, IsSome, option_map, slice_get, Result, Ok, Err, OnOk}
+use Rattle.std.proofs.Common.{◌≡◌, ◌⊎◌, ◌∙◌, ◌≤◌, ◌<◌, ◌+◌, ℕ, zero, suc, List, [], ◌∷◌, All, map, length, arith, refl, ap, sym, subst, inl, inr}
+use Rattle.std.specs.Prelude.{Option, Some, None, IfErr, IfSome, IsErrOf, IsSome, option_map, slice_get, Result, Ok, Err, OnOk}
 use Rattle.std.proofs.lemmas.List.{length-map}
-use Rattle.std.proofs.lemmas.List.Elements.{All-cons, All-head, All-nil, All-tail}
+use Rattle.std.proofs.lemmas.List.Elements.{All-cons, All-head, All-nil, All-tail, All-weaker}
 use Rattle.tc_engines.specs.Places.{AtEach}
-use Rattle.tc_engines.specs.Standing.{HoldsPart}
+use Rattle.tc_engines.specs.Standing.{partition_at, HoldsPart, IsSeen}
+use Rattle.tc_engines.specs.WithJobs.{told_of, works_of, WithJobs}
 use Rattle.tc_engines.proofs.PlaceLaws.{at_each-length}
 use Rattle.tc_list.specs.Policies.{listed_least}
 use Rattle.tc_list.specs.declared.policy.Policy.{Policy}
 use Rattle.tc_log.specs.Layout.{empty_size}
-use Rattle.tc_part_model.specs.PartState.{PartState, Told, told, told_component}
 use Rattle.tc_run_model.specs.World.{World}
 use Rattle.tc_store.specs.Counted.{Counts}
 use Rattle.tc_store.specs.Disk.{Disk}
-use Rattle.tc_store.specs.DiskFile.{DiskFile}
 use Rattle.tc_store.specs.KitFaults.{KitFaults}
 use Rattle.tc_store.specs.Moments.{IfTold}
-use Rattle.tc_work.specs.EngineState.{EngineState}
 use Rattle.tc_words.specs.declared.run.Options.{Options}
-use Rattle.tc_server.specs.Calls.{faults_of, settings_of, HoldsAt, IsSpent, IsSpentAt, KeepsAt, MayAsk, MayBeAsked, Rests}
-use Rattle.tc_server.specs.Faults.{fault_in, faults_of_part, HaveRisen, HaveStayed, IfDamaged, IfDisk, NoneFell, OneRose}
+use Rattle.tc_work.specs.Faults.{IfDamaged as IfEngineDamaged}
+use Rattle.tc_work.specs.Moving.{Eyes}
+use Rattle.tc_work.specs.declared.fault.EngineFault.{EngineFault}
+use Rattle.tc_work.specs.declared.fault.EngineFault.TheVariants as engine
+use Rattle.tc_server.specs.Calls.{faults_at, faults_of, settings_of, HoldsAt, IsSpent, IsSpentAt, KeepsAt, MayAsk, MayBeAsked, Rests}
+use Rattle.tc_server.specs.Faults.{fault_in, fault_of_engine, HaveRisen, HaveStayed, IfDamaged, IfDisk, IsNoDamage, NoneFell, OneRose}
 use Rattle.tc_server.specs.KitCauses.{HasLastGeneration}
-use Rattle.tc_server.specs.Kits.{IsBegun, IsClosed}
+use Rattle.tc_server.specs.Kits.{least_fault, IsBegun, IsClosed}
 use Rattle.tc_server.specs.Partitions.{StandAt}
 use Rattle.tc_server.specs.Places.{SomeFrom}
+use Rattle.tc_server.specs.Sight.{nothing, sees, IfKnown, Sight}
 use Rattle.tc_server.specs.declared.outcome.RunFault.{RunFault}
 use Rattle.tc_server.specs.declared.outcome.RunFault.TheVariants.{Usage, Read, Write, Spent, Disk as DiskFault, Damaged, Memory, Layout}
 use Rattle.tc_server.specs.declared.partitions.Partitions.{Partitions}
-use Rattle.tc_server.proofs.EachLaws.{at_each-from, at_each-then, each-map, some-beside, there}
+use Rattle.tc_server.proofs.Causes.{none_fell_twice, one_rose}
+use Rattle.tc_server.proofs.ClosingFaults.{all_well, ended_by, is_of_job, IsEndedBy, IsOfJob}
+use Rattle.tc_server.proofs.EachLaws.{at_each-at, at_each-from, at_each-then, each-map, some-beside, there}
+use Rattle.tc_server.proofs.EngineWorlds.{undamaged_at}
 use Rattle.tc_server.proofs.KitsLeft.{all_hold, held_kits, held_small, kept_kits, AreClosed, IsSet}
 use Rattle.tc_server.proofs.LeftFiles.{LeavesKits}
+
+below : {X : Type 0} (xs : List X) (p : ℕ) (x : X) → slice_get xs p ≡ Some x → p < length xs
+below [] p x is = absurd (cc)
+below (y ∷ xs) zero x is = omega arith
+below (y ∷ xs) (suc p) x is = let more = below xs p x is in omega (arith, more)
+
+if_some : {X : Type 0} {P : X → Type 0} (o : Option X) → ((x : X) → o ≡ Some x → P x) → IfSome o P
+if_some None so = tt
+if_some (Some x) so = so x refl
+
+is_err_of : {T E : Type 0} (r : Result T E) (e f : E) → r ≡ Err e → e ≡ f → IsErrOf r f
+is_err_of r e f is same = is ∙ ap Err same
 
 -- what is so where a run did not fail
 pub ok_where : {T P : Type 0} (r : Result T RunFault) → fault_in r ≡ None → OnOk r P → P
@@ -38,79 +56,104 @@ ok_where (Err fault) none p = absurd (cc)
 
 -- ---- where it begins
 
-all_asked : {S W D F : Type 0} (disks : S → List Disk) (moments : D → List DiskFile) (content : F → Option (List ℕ)) (options : Options) (es : List (EngineState S D F W)) → All (IsBegun (λ part. told disks moments content part) options) es
-    → All (λ e. MayBeAsked (told disks moments content e.part) e.part) es
-all_asked disks moments content options [] begun = All-nil (λ e. MayBeAsked (told disks moments content e.part) e.part)
-all_asked disks moments content options (e ∷ es) begun =
-    All-cons (λ e. MayBeAsked (told disks moments content e.part) e.part) e es (All-head (IsBegun (λ part. told disks moments content part) options) e es begun).ready
-    (all_asked disks moments content options es (All-tail (IsBegun (λ part. told disks moments content part) options) e es begun))
+all_asked : {S D F W : Type 0} (eyes : Eyes S D F W) (options : Options) (es : List (WithJobs S D F W)) → All (IsBegun eyes options) es → All (λ e. MayBeAsked (told_of eyes e) e.engine.part) es
+all_asked eyes options es begun = All-weaker (IsBegun eyes options) (λ e. MayBeAsked (told_of eyes e) e.engine.part) (λ e b. b.ready) es begun
 
-pub begins_asked : {S W D F : Type 0} (disks : S → List Disk) (moments : D → List DiskFile) (content : F → Option (List ℕ)) (options : Options) (es : List (EngineState S D F W)) (k : Partitions S W D F) → k ≡ record { engines = es } → length es ≡ options.partitions
-    → 0 < options.partitions → options.partitions ≤ 16 → All (IsBegun (λ part. told disks moments content part) options) es → MayAsk disks moments content k
+pub begins_asked : {S W D F P : Type 0} (eyes : Eyes S D F W) (options : Options) (es : List (WithJobs S D F W)) (k : Partitions S P W D F) → k ≡ record { engines = es } → length es ≡ options.partitions
+    → 0 < options.partitions → options.partitions ≤ 16 → All (IsBegun eyes options) es → MayAsk eyes.disks eyes.history eyes.content k
 unfolding MayAsk
-begins_asked disks moments content options es k is all some few begun = subst (MayAsk disks moments content) (sym is) (omega (arith, some, all), omega (arith, few, all), all_asked disks moments content options es begun)
+begins_asked eyes options es k is all some few begun = subst (MayAsk eyes.disks eyes.history eyes.content) (sym is) (omega (arith, some, all), omega (arith, few, all), all_asked eyes options es begun)
 
-pub begins_held : {S W D F : Type 0} (disks : S → List Disk) (moments : D → List DiskFile) (content : F → Option (List ℕ)) (es : List (EngineState S D F W)) (k : Partitions S W D F) (first : Option World) → k ≡ record { engines = es }
-    → StandAt (λ part. told disks moments content part) es first → HoldsAt disks moments content k first
+pub begins_held : {S W D F P : Type 0} (eyes : Eyes S D F W) (es : List (WithJobs S D F W)) (k : Partitions S P W D F) (first : Sight) → k ≡ record { engines = es } → StandAt eyes es first → HoldsAt eyes k first
 unfolding HoldsAt
-begins_held disks moments content es k first is stands = subst (λ p. HoldsAt disks moments content p first) (sym is) stands
+begins_held eyes es k first is stands = subst (λ p. HoldsAt eyes p first) (sym is) stands
 
-pub held_unknown : {S W D F : Type 0} (disks : S → List Disk) (moments : D → List DiskFile) (content : F → Option (List ℕ)) (k : Partitions S W D F) → HoldsAt disks moments content k None
+pub held_unknown : {S W D F P : Type 0} (eyes : Eyes S D F W) (k : Partitions S P W D F) → HoldsAt eyes k nothing
 unfolding HoldsAt
-held_unknown disks moments content k = tt
+held_unknown eyes k = tt
 
 -- a world at which engines stand has as many partitions
-pub as_many_parts : {S D F W : Type 0} (tell : PartState S D F W → Told) (count : ℕ) (es : List (EngineState S D F W)) (first : Option World) → length es ≡ count → StandAt tell es first → IfSome first (λ w. length w.parts ≡ count)
-as_many_parts tell count es None all stands = tt
-as_many_parts tell count es (Some w) all stands = sym (at_each-length (λ p e part. HoldsPart (tell e.part) e.part.limits _ w part) 0 es w.parts stands.each) ∙ all
+pub as_many_parts : {S D F W : Type 0} (eyes : Eyes S D F W) (count : ℕ) (es : List (WithJobs S D F W)) (first : Sight) → length es ≡ count → StandAt eyes es first → IfKnown first (λ only w. length w.parts ≡ count)
+as_many_parts eyes count es nothing all stands = tt
+as_many_parts eyes count es (sees only w) all stands = sym (at_each-length (λ p e part. IsSeen only p → HoldsPart _ (told_of eyes e) e.engine.part.limits _ w part) 0 es w.parts stands.each) ∙ all
 
 -- ---- settings
 
-pub as_many_engines : {S W D F : Type 0} (k k' : Partitions S W D F) → settings_of k' ≡ settings_of k → length k'.engines ≡ length k.engines
-as_many_engines k k' same = sym (length-map k'.engines (λ e. (e.part.memory, e.policy))) ∙ ap length same ∙ length-map k.engines (λ e. (e.part.memory, e.policy))
+pub as_many_engines : {S W D F P : Type 0} (k k' : Partitions S P W D F) → settings_of k' ≡ settings_of k → length k'.engines ≡ length k.engines
+as_many_engines k k' same = sym (length-map k'.engines (λ e. (e.engine.part.memory, e.engine.policy))) ∙ ap length same ∙ length-map k.engines (λ e. (e.engine.part.memory, e.engine.policy))
 
-set_begun : {S D F W : Type 0} (tell : PartState S D F W → Told) (options : Options) (es : List (EngineState S D F W)) → All (IsBegun tell options) es → All (λ (s : ℕ × Policy). (s.0 ≡ options.memory) × (listed_least s.1 ≡ options.merge)) (map (λ e. (e.part.memory, e.policy)) es)
-set_begun tell options [] begun = All-nil (λ (s : ℕ × Policy). (s.0 ≡ options.memory) × (listed_least s.1 ≡ options.merge))
-set_begun tell options (e ∷ es) begun =
-    let b = All-head (IsBegun tell options) e es begun in
-    All-cons (λ (s : ℕ × Policy). (s.0 ≡ options.memory) × (listed_least s.1 ≡ options.merge)) (e.part.memory, e.policy) (map (λ e. (e.part.memory, e.policy)) es) (b.memory, b.merges) (set_begun tell options es (All-tail (IsBegun tell options) e es begun))
+set_begun : {S D F W : Type 0} (eyes : Eyes S D F W) (options : Options) (es : List (WithJobs S D F W)) → All (IsBegun eyes options) es → All (λ (s : ℕ × Policy). (s.0 ≡ options.memory) × (listed_least s.1 ≡ options.merge)) (map (λ e. (e.engine.part.memory, e.engine.policy)) es)
+set_begun eyes options [] begun = All-nil (λ (s : ℕ × Policy). (s.0 ≡ options.memory) × (listed_least s.1 ≡ options.merge))
+set_begun eyes options (e ∷ es) begun =
+    let b = All-head (IsBegun eyes options) e es begun in
+    All-cons (λ (s : ℕ × Policy). (s.0 ≡ options.memory) × (listed_least s.1 ≡ options.merge)) (e.engine.part.memory, e.engine.policy) (map (λ e. (e.engine.part.memory, e.engine.policy)) es) (b.memory, b.merges) (set_begun eyes options es (All-tail (IsBegun eyes options) e es begun))
 
-set_read : {S D F W : Type 0} (options : Options) (es : List (EngineState S D F W)) → All (λ (s : ℕ × Policy). (s.0 ≡ options.memory) × (listed_least s.1 ≡ options.merge)) (map (λ e. (e.part.memory, e.policy)) es) → All (λ e. (e.part.memory ≡ options.memory) × (listed_least e.policy ≡ options.merge)) es
-set_read options [] sets = All-nil (λ e. (e.part.memory ≡ options.memory) × (listed_least e.policy ≡ options.merge))
+set_read : {S D F W : Type 0} (options : Options) (es : List (WithJobs S D F W)) → All (λ (s : ℕ × Policy). (s.0 ≡ options.memory) × (listed_least s.1 ≡ options.merge)) (map (λ e. (e.engine.part.memory, e.engine.policy)) es) → All (λ e. (e.engine.part.memory ≡ options.memory) × (listed_least e.engine.policy ≡ options.merge)) es
+set_read options [] sets = All-nil (λ e. (e.engine.part.memory ≡ options.memory) × (listed_least e.engine.policy ≡ options.merge))
 set_read options (e ∷ es) sets =
-    All-cons (λ e. (e.part.memory ≡ options.memory) × (listed_least e.policy ≡ options.merge)) e es
-    (All-head (λ (s : ℕ × Policy). (s.0 ≡ options.memory) × (listed_least s.1 ≡ options.merge)) (e.part.memory, e.policy) (map (λ e. (e.part.memory, e.policy)) es) sets)
-    (set_read options es (All-tail (λ (s : ℕ × Policy). (s.0 ≡ options.memory) × (listed_least s.1 ≡ options.merge)) (e.part.memory, e.policy) (map (λ e. (e.part.memory, e.policy)) es) sets))
+    All-cons (λ e. (e.engine.part.memory ≡ options.memory) × (listed_least e.engine.policy ≡ options.merge)) e es
+    (All-head (λ (s : ℕ × Policy). (s.0 ≡ options.memory) × (listed_least s.1 ≡ options.merge)) (e.engine.part.memory, e.engine.policy) (map (λ e. (e.engine.part.memory, e.engine.policy)) es) sets)
+    (set_read options es (All-tail (λ (s : ℕ × Policy). (s.0 ≡ options.memory) × (listed_least s.1 ≡ options.merge)) (e.engine.part.memory, e.engine.policy) (map (λ e. (e.engine.part.memory, e.engine.policy)) es) sets))
 
 -- ---- what is left
 
-pub kits_left : {S W D F K : Type 0} (disks : S → List Disk) (moments : D → List DiskFile) (content : F → Option (List ℕ)) (size : D → ℕ) (counts : W → Counts) (left : K → List Disk) (faults : K → KitFaults) (options : Options) (es : List (EngineState S D F W)) (k k' : Partitions S W D F) (ks : List K)
-    → ((d : D) → IfTold (moments d) (λ f. size d ≡ length f.content)) → k ≡ record { engines = es } → length es ≡ options.partitions → 2 ≤ options.merge → options.merge ≤ 9 → empty_size < options.memory → All (IsBegun (λ part. told disks moments content part) options) es
-    → settings_of k' ≡ settings_of k → AreClosed (λ part. told disks moments content part) counts size left faults k'.engines ks → LeavesKits (HoldsAt disks moments content) (KeepsAt disks moments content) (Rests size k') options k' (map left ks)
-unfolding HoldsAt KeepsAt Rests
-kits_left {S = S} {W = W} {D = D} {F = F} disks moments content size counts left faults options es k k' ks sized is all two nine long begun settings closed = record {
-  held = λ w worlds many one_of held. each-map left (λ p d. _) 0 ks (held_kits tell counts size left faults options.partitions w worlds k'.engines ks many one_of held closed);
-  kept = λ w v worlds many one_of other_of kept. each-map left (λ p d. _) 0 ks (kept_kits tell counts size left faults options.partitions w v worlds k'.engines ks many one_of other_of kept closed);
-  small = λ rests w many at. each-map left (λ p d. _) 0 ks (held_small tell counts size left faults (λ part. refl) (λ part. sized part.log.device) listed options w k'.engines ks many two nine long sets rests
-      (elim at [ inl held ↦ held.each | inr kept ↦ all_hold tell counts size left faults (λ part. refl) (λ part. sized part.log.device) listed w k'.engines rests kept ]) closed);
-  as_many = length-map ks left ∙ sym (at_each-length (λ p e k. IsClosed tell counts size e (left k) (faults k)) 0 k'.engines ks closed) ∙ as_many_engines k k' settings ∙ ap (λ (p : Partitions S W D F). length p.engines) is ∙ all;
-}
-  where
-    tell : PartState S D F W → Told
-    tell part = told disks moments content part
+module _ {S W D F P K : Type 0} (eyes : Eyes S D F W) (size : D → ℕ) (outcome : K → Result (Unit {0}) EngineFault) (left : K → List Disk) (faults : K → KitFaults) (k' : Partitions S P W D F) (ks : List K) (closed : AreClosed eyes size outcome left faults k'.engines ks) where
+  -- the fault with which the engines ended, if any did
+  abbrev Ended : Option RunFault
+  Ended = least_fault 0 (map outcome ks)
 
-    listed : (part : PartState S D F W) → length (tell part).components ≡ length part.list
-    listed part = length-map part.list (told_component content)
+  pub kits_left : (options : Options) (es : List (WithJobs S D F W)) (k : Partitions S P W D F) → ((e : WithJobs S D F W) → IfTold (told_of eyes e).log (λ f. size e.engine.part.log.device ≡ length f.content))
+      → k ≡ record { engines = es } → length es ≡ options.partitions → 2 ≤ options.merge → options.merge ≤ 9 → empty_size < options.memory → All (IsBegun eyes options) es
+      → settings_of k' ≡ settings_of k → LeavesKits (HoldsAt eyes) (KeepsAt eyes) (Rests size k' × (Ended ≡ None)) options k' (map left ks)
+  unfolding HoldsAt KeepsAt Rests
+  kits_left options es k sized is all two nine long begun settings = record {
+    held = λ only w worlds many one_of held. each-map left (λ p d. _) 0 ks (held_kits eyes size outcome left faults only options.partitions w worlds k'.engines ks many one_of held closed);
+    kept = λ only w v worlds many one_of other_of kept. each-map left (λ p d. _) 0 ks (kept_kits eyes size outcome left faults only options.partitions w v worlds k'.engines ks many one_of other_of kept closed);
+    small = λ rests only w many at. each-map left (λ p d. _) 0 ks (held_small eyes size outcome left faults sized only options w k'.engines ks many two nine long sets rests.0 (all_well outcome 0 ks rests.1)
+        (elim at [ inl held ↦ held.each | inr kept ↦ all_hold eyes size outcome left faults only w k'.engines rests.0 kept ]) closed);
+    as_many = length-map ks left ∙ sym (at_each-length (λ p e k. IsClosed eyes size e (outcome k) (left k) (faults k)) 0 k'.engines ks closed) ∙ as_many_engines k k' settings ∙ ap (λ (p : Partitions S P W D F). length p.engines) is ∙ all;
+  }
+    where
+      sets : All (IsSet eyes size outcome left faults options) k'.engines
+      sets = set_read options k'.engines (subst (All (λ (s : ℕ × Policy). (s.0 ≡ options.memory) × (listed_least s.1 ≡ options.merge))) (sym settings) (subst (λ (p : Partitions S P W D F). All (λ (s : ℕ × Policy). (s.0 ≡ options.memory) × (listed_least s.1 ≡ options.merge)) (settings_of p)) (sym is) (set_begun eyes options es begun)))
 
-    sets : All (IsSet tell counts size left faults options) k'.engines
-    sets = set_read options k'.engines (subst (All (λ (s : ℕ × Policy). (s.0 ≡ options.memory) × (listed_least s.1 ≡ options.merge))) (sym settings) (subst (λ (p : Partitions S W D F). All (λ (s : ℕ × Policy). (s.0 ≡ options.memory) × (listed_least s.1 ≡ options.merge)) (settings_of p)) (sym is) (set_begun tell options es begun)))
+  pub last_left : IsSpent eyes.disks eyes.history eyes.content k' → SomeFrom (λ p kit. IfTold (left kit) HasLastGeneration) 0 ks
+  unfolding IsSpent
+  last_left spent =
+      some-beside (λ q e. IsSpentAt (told_of eyes e) e.engine.part) (λ p e k. IsClosed eyes size e (outcome k) (left k) (faults k)) (λ p kit. IfTold (left kit) HasLastGeneration) 0 k'.engines ks
+      (λ p e kit spent c. c.last spent) spent closed
 
-pub last_left : {S W D F K : Type 0} (disks : S → List Disk) (moments : D → List DiskFile) (content : F → Option (List ℕ)) (size : D → ℕ) (counts : W → Counts) (left : K → List Disk) (faults : K → KitFaults) (k : Partitions S W D F) (ks : List K)
-    → AreClosed (λ part. told disks moments content part) counts size left faults k.engines ks → IsSpent disks moments content k → SomeFrom (λ p kit. IfTold (left kit) HasLastGeneration) 0 ks
-unfolding IsSpent
-last_left disks moments content size counts left faults k ks closed spent =
-    some-beside (λ q e. IsSpentAt (told disks moments content e.part) e.part) (λ p e k. IsClosed (λ part. told disks moments content part) counts size e (left k) (faults k)) (λ p kit. IfTold (left kit) HasLastGeneration) 0 k.engines ks
-    (λ p e kit spent c. c.last spent) spent closed
+  -- ---- a fault with which an engine ended
+
+  -- the engine of the kit at a place
+  ended_at : (p : ℕ) (kit : K) → slice_get ks p ≡ Some kit → (e : WithJobs S D F W) × (slice_get k'.engines p ≡ Some e) × IsClosed eyes size e (outcome kit) (left kit) (faults kit)
+  ended_at p kit is =
+      let many = at_each-length (λ p e k. IsClosed eyes size e (outcome k) (left k) (faults k)) 0 k'.engines ks closed in
+      let e = there k'.engines p (omega (arith, many, below ks p kit is)) in
+      let at = at_each-at (λ p e k. IsClosed eyes size e (outcome k) (left k) (faults k)) p k'.engines ks e.0 closed e.1 in
+      let same : at.0 ≡ kit = let one = at.1 in cc in
+      (e.0, e.1, subst (λ kit. IsClosed eyes size e.0 (outcome kit) (left kit) (faults kit)) same at.2)
+
+  is_job : (fault : RunFault) → IsEndedBy outcome 0 ks fault → IsOfJob fault
+  is_job fault b =
+      let c = (ended_at b.place b.ended b.at).2 in
+      subst IsOfJob b.is (is_of_job (0 + b.place) b.why (λ spent. c.unspent (is_err_of (outcome b.ended) b.why engine.Spent b.by spent)))
+
+  pub ended_of : IfSome Ended IsOfJob
+  ended_of = if_some Ended (λ fault is. is_job fault (ended_by outcome 0 ks fault is))
+
+  -- it is no damage where it is known what is stored
+  sound_at : (w : World) (fault : RunFault) → AtEach (λ p e part. IsSeen None p → HoldsPart (works_of eyes e) (told_of eyes e) e.engine.part.limits (partition_at p (length w.parts)) w part) 0 k'.engines w.parts → IsEndedBy outcome 0 ks fault → IsNoDamage fault
+  sound_at w fault held b =
+      let at = ended_at b.place b.ended b.at in
+      let part = at_each-at (λ p e part. IsSeen None p → HoldsPart (works_of eyes e) (told_of eyes e) e.engine.part.limits (partition_at p (length w.parts)) w part) b.place k'.engines w.parts at.0 held at.1 in
+      let h = part.2 tt in
+      subst IsNoDamage b.is (undamaged_at (0 + b.place) b.why (subst (λ r. IfErr r (λ fault. IfEngineDamaged fault (λ damage. ⊥))) b.by (at.2.undamaged h.view h.is h.tells h.jobs)))
+
+  pub ended_sound : Rests size k' → (w : World) → HoldsAt eyes k' (sees None w) ⊎ KeepsAt eyes k' None w w → IfSome Ended IsNoDamage
+  unfolding HoldsAt KeepsAt Rests
+  ended_sound rests w at =
+      if_some Ended (λ fault is. sound_at w fault (elim at [ inl held ↦ held.each | inr kept ↦ all_hold eyes size outcome left faults None w k'.engines rests kept ]) (ended_by outcome 0 ks fault is))
 
 -- ---- what counts
 
@@ -119,59 +162,65 @@ some_there [] p f is = absurd (cc)
 some_there (x ∷ xs) zero f is = omega arith
 some_there (x ∷ xs) (suc p) f is = let more = some_there xs p f is in omega (arith, more)
 
+one_rose_then : (a b c : KitFaults) → OneRose a b → NoneFell b c → OneRose a c
+one_rose_then a b c (inl rose) fell = inl (omega (arith, fell.main, rose))
+one_rose_then a b c (inr (inl rose)) fell = inr (inl (omega (arith, fell.flusher, rose)))
+one_rose_then a b c (inr (inr (inl rose))) fell = inr (inr (inl (omega (arith, fell.merger, rose))))
+one_rose_then a b c (inr (inr (inr rose))) fell = inr (inr (inr (omega (arith, fell.reader, rose))))
+
 shift : (p q : ℕ) → 0 + p ≡ q → p ≡ q
 shift p q same = omega (arith, same)
 
 module _ {S W D F K : Type 0} (counts : W → Counts) (faults : K → KitFaults) where
   -- from an engine to its kit
-  abbrev Counted : ℕ → EngineState S D F W → K → Type 0
-  Counted p e k = faults k ≡ faults_of_part counts e.part
+  abbrev Counted : ℕ → WithJobs S D F W → K → Type 0
+  Counted p e k = NoneFell (faults_at counts e) (faults k)
 
-  one_stayed : (es es' : List (EngineState S D F W)) (p : ℕ) (e e' : EngineState S D F W) → HaveStayed (option_map (λ e. faults_of_part counts e.part) (slice_get es p)) (option_map (λ e. faults_of_part counts e.part) (slice_get es' p)) → slice_get es p ≡ Some e → slice_get es' p ≡ Some e'
-      → NoneFell (faults_of_part counts e.part) (faults_of_part counts e'.part)
-  one_stayed es es' p e e' stayed is is' = subst (λ o. HaveStayed (Some (faults_of_part counts e.part)) (option_map (λ e. faults_of_part counts e.part) o)) is' (subst (λ o. HaveStayed (option_map (λ e. faults_of_part counts e.part) o) (option_map (λ e. faults_of_part counts e.part) (slice_get es' p))) is stayed)
+  one_stayed : (es es' : List (WithJobs S D F W)) (p : ℕ) (e e' : WithJobs S D F W) → HaveStayed (option_map (λ e. faults_at counts e) (slice_get es p)) (option_map (λ e. faults_at counts e) (slice_get es' p)) → slice_get es p ≡ Some e → slice_get es' p ≡ Some e'
+      → NoneFell (faults_at counts e) (faults_at counts e')
+  one_stayed es es' p e e' stayed is is' = subst (λ o. HaveStayed (Some (faults_at counts e)) (option_map (λ e. faults_at counts e) o)) is' (subst (λ o. HaveStayed (option_map (λ e. faults_at counts e) o) (option_map (λ e. faults_at counts e) (slice_get es' p))) is stayed)
 
-  pub counts_over : (k k' : Partitions S W D F) (ks : List K) → settings_of k' ≡ settings_of k → ((p : ℕ) → HaveStayed (faults_of counts k p) (faults_of counts k' p)) → AtEach Counted 0 k'.engines ks
-      → AtEach (λ p e kit. NoneFell (faults_of_part counts e.part) (faults kit)) 0 k.engines ks
+  pub counts_over : {P : Type 0} (k k' : Partitions S P W D F) (ks : List K) → settings_of k' ≡ settings_of k → ((p : ℕ) → HaveStayed (faults_of counts k p) (faults_of counts k' p)) → AtEach Counted 0 k'.engines ks
+      → AtEach (λ p e kit. NoneFell (faults_at counts e) (faults kit)) 0 k.engines ks
   unfolding faults_of
   counts_over k k' ks settings stayed closed =
-      at_each-then (λ p e e'. NoneFell (faults_of_part counts e.part) (faults_of_part counts e'.part)) Counted (λ p e kit. NoneFell (faults_of_part counts e.part) (faults kit)) 0 k.engines k'.engines ks
-      (λ p e e' kit fell same. subst (NoneFell (faults_of_part counts e.part)) (sym same) fell)
-      (at_each-from (λ p e e'. NoneFell (faults_of_part counts e.part) (faults_of_part counts e'.part)) 0 k.engines k'.engines (sym (as_many_engines k k' settings)) (λ p e e'. one_stayed k.engines k'.engines p e e' (stayed p)))
+      at_each-then (λ p e e'. NoneFell (faults_at counts e) (faults_at counts e')) Counted (λ p e kit. NoneFell (faults_at counts e) (faults kit)) 0 k.engines k'.engines ks
+      (λ p e e' kit fell more. none_fell_twice (faults_at counts e) (faults_at counts e') (faults kit) fell more)
+      (at_each-from (λ p e e'. NoneFell (faults_at counts e) (faults_at counts e')) 0 k.engines k'.engines (sym (as_many_engines k k' settings)) (λ p e e'. one_stayed k.engines k'.engines p e e' (stayed p)))
       closed
 
   -- the counts of the partition of a number rose
-  rose_there : (es es' : List (EngineState S D F W)) (q : ℕ) → HaveRisen (option_map (λ e. faults_of_part counts e.part) (slice_get es q)) (option_map (λ e. faults_of_part counts e.part) (slice_get es' q)) → q < length es
+  rose_there : (es es' : List (WithJobs S D F W)) (q : ℕ) → HaveRisen (option_map (λ e. faults_at counts e) (slice_get es q)) (option_map (λ e. faults_at counts e) (slice_get es' q)) → q < length es
   rose_there [] es' q risen = absurd risen
   rose_there (e ∷ es) [] zero risen = absurd risen
   rose_there (e ∷ es) (e' ∷ es') zero risen = omega arith
   rose_there (e ∷ es) [] (suc q) risen = absurd (none (slice_get es q) risen)
     where
-      none : (o : Option (EngineState S D F W)) → HaveRisen (option_map (λ e. faults_of_part counts e.part) o) None → ⊥
+      none : (o : Option (WithJobs S D F W)) → HaveRisen (option_map (λ e. faults_at counts e) o) None → ⊥
       none None risen = risen
       none (Some e) risen = risen
   rose_there (e ∷ es) (e' ∷ es') (suc q) risen = let more = rose_there es es' q risen in omega (arith, more)
 
-  one_rose_at : (es es' : List (EngineState S D F W)) (q p : ℕ) (e e' : EngineState S D F W) → HaveRisen (option_map (λ e. faults_of_part counts e.part) (slice_get es q)) (option_map (λ e. faults_of_part counts e.part) (slice_get es' q)) → slice_get es p ≡ Some e → slice_get es' p ≡ Some e'
-      → p ≡ q → OneRose (faults_of_part counts e.part) (faults_of_part counts e'.part)
+  one_rose_at : (es es' : List (WithJobs S D F W)) (q p : ℕ) (e e' : WithJobs S D F W) → HaveRisen (option_map (λ e. faults_at counts e) (slice_get es q)) (option_map (λ e. faults_at counts e) (slice_get es' q)) → slice_get es p ≡ Some e → slice_get es' p ≡ Some e'
+      → p ≡ q → OneRose (faults_at counts e) (faults_at counts e')
   one_rose_at es es' q p e e' risen is is' same =
       let here : slice_get es q ≡ Some e = subst (λ p. slice_get es p ≡ Some e) same is in
       let here' : slice_get es' q ≡ Some e' = subst (λ p. slice_get es' p ≡ Some e') same is' in
-      subst (λ o. HaveRisen (Some (faults_of_part counts e.part)) (option_map (λ e. faults_of_part counts e.part) o)) here' (subst (λ o. HaveRisen (option_map (λ e. faults_of_part counts e.part) o) (option_map (λ e. faults_of_part counts e.part) (slice_get es' q))) here risen)
+      subst (λ o. HaveRisen (Some (faults_at counts e)) (option_map (λ e. faults_at counts e) o)) here' (subst (λ o. HaveRisen (option_map (λ e. faults_at counts e) o) (option_map (λ e. faults_at counts e) (slice_get es' q))) here risen)
 
-  disk_at : (k k' : Partitions S W D F) (ks : List K) (q : ℕ) → settings_of k' ≡ settings_of k → HaveRisen (faults_of counts k q) (faults_of counts k' q) → AtEach Counted 0 k'.engines ks
-      → (q < length k.engines) × AtEach (λ p e kit. p ≡ q → OneRose (faults_of_part counts e.part) (faults kit)) 0 k.engines ks
+  disk_at : {P : Type 0} (k k' : Partitions S P W D F) (ks : List K) (q : ℕ) → settings_of k' ≡ settings_of k → HaveRisen (faults_of counts k q) (faults_of counts k' q) → AtEach Counted 0 k'.engines ks
+      → (q < length k.engines) × AtEach (λ p e kit. p ≡ q → OneRose (faults_at counts e) (faults kit)) 0 k.engines ks
   unfolding faults_of
   disk_at k k' ks q settings risen closed = (
     rose_there k.engines k'.engines q risen,
-    at_each-then (λ p e e'. p ≡ q → OneRose (faults_of_part counts e.part) (faults_of_part counts e'.part)) Counted (λ p e kit. p ≡ q → OneRose (faults_of_part counts e.part) (faults kit)) 0 k.engines k'.engines ks
-        (λ p e e' kit rose same here. subst (OneRose (faults_of_part counts e.part)) (sym same) (rose here))
-        (at_each-from (λ p e e'. p ≡ q → OneRose (faults_of_part counts e.part) (faults_of_part counts e'.part)) 0 k.engines k'.engines (sym (as_many_engines k k' settings)) (λ p e e' is is' same. one_rose_at k.engines k'.engines q p e e' risen is is' (shift p q same)))
+    at_each-then (λ p e e'. p ≡ q → OneRose (faults_at counts e) (faults_at counts e')) Counted (λ p e kit. p ≡ q → OneRose (faults_at counts e) (faults kit)) 0 k.engines k'.engines ks
+        (λ p e e' kit rose more here. one_rose_then (faults_at counts e) (faults_at counts e') (faults kit) (rose here) more)
+        (at_each-from (λ p e e'. p ≡ q → OneRose (faults_at counts e) (faults_at counts e')) 0 k.engines k'.engines (sym (as_many_engines k k' settings)) (λ p e e' is is' same. one_rose_at k.engines k'.engines q p e e' risen is is' (shift p q same)))
         closed,
   )
 
-  pub disk_over : (k k' : Partitions S W D F) (ks : List K) (fault : Option RunFault) → settings_of k' ≡ settings_of k → IfSome fault (λ f. IfDisk f (λ p. HaveRisen (faults_of counts k p) (faults_of counts k' p))) → AtEach Counted 0 k'.engines ks
-      → IfSome fault (λ f. IfDisk f (λ q. (q < length k.engines) × AtEach (λ p e kit. p ≡ q → OneRose (faults_of_part counts e.part) (faults kit)) 0 k.engines ks))
+  pub disk_over : {P : Type 0} (k k' : Partitions S P W D F) (ks : List K) (fault : Option RunFault) → settings_of k' ≡ settings_of k → IfSome fault (λ f. IfDisk f (λ p. HaveRisen (faults_of counts k p) (faults_of counts k' p))) → AtEach Counted 0 k'.engines ks
+      → IfSome fault (λ f. IfDisk f (λ q. (q < length k.engines) × AtEach (λ p e kit. p ≡ q → OneRose (faults_at counts e) (faults kit)) 0 k.engines ks))
   disk_over k k' ks None settings rose closed = tt
   disk_over k k' ks (Some Usage) settings rose closed = tt
   disk_over k k' ks (Some Read) settings rose closed = tt
@@ -182,7 +231,7 @@ module _ {S W D F K : Type 0} (counts : W → Counts) (faults : K → KitFaults)
   disk_over k k' ks (Some Memory) settings rose closed = tt
   disk_over k k' ks (Some (Layout p found found_of asked_of)) settings rose closed = tt
 
-pub damaged_over : {S W D F : Type 0} (counts : W → Counts) (k k' : Partitions S W D F) (fault : Option RunFault) → settings_of k' ≡ settings_of k → IfSome fault (λ f. IfDamaged f (λ p. IsSome (faults_of counts k' p))) → IfSome fault (λ f. IfDamaged f (λ q. q < length k.engines))
+pub damaged_over : {S W D F P : Type 0} (counts : W → Counts) (k k' : Partitions S P W D F) (fault : Option RunFault) → settings_of k' ≡ settings_of k → IfSome fault (λ f. IfDamaged f (λ p. IsSome (faults_of counts k' p))) → IfSome fault (λ f. IfDamaged f (λ q. q < length k.engines))
 unfolding faults_of
 damaged_over counts k k' None settings there = tt
 damaged_over counts k k' (Some Usage) settings there = tt
@@ -190,6 +239,53 @@ damaged_over counts k k' (Some Read) settings there = tt
 damaged_over counts k k' (Some (Write n)) settings there = tt
 damaged_over counts k k' (Some Spent) settings there = tt
 damaged_over counts k k' (Some (DiskFault p)) settings there = tt
-damaged_over counts k k' (Some (Damaged p damage)) settings there = let below = some_there k'.engines p (λ e. faults_of_part counts e.part) there in omega (arith, below, as_many_engines k k' settings)
+damaged_over counts k k' (Some (Damaged p damage)) settings there = let below = some_there k'.engines p (λ e. faults_at counts e) there in omega (arith, below, as_many_engines k k' settings)
 damaged_over counts k k' (Some Memory) settings there = tt
 damaged_over counts k k' (Some (Layout p found found_of asked_of)) settings there = tt
+
+-- ---- what counts of a fault with which an engine ended
+
+module _ {S W D F P K : Type 0} (eyes : Eyes S D F W) (size : D → ℕ) (outcome : K → Result (Unit {0}) EngineFault) (left : K → List Disk) (faults : K → KitFaults) (k k' : Partitions S P W D F) (ks : List K) (closed : AreClosed eyes size outcome left faults k'.engines ks) (settings : settings_of k' ≡ settings_of k) where
+  -- a fault of the disk: a watch of the kit at its place counted one more
+  abbrev Rises : ℕ → Type 0
+  Rises q = (q < length k.engines) × AtEach (λ p e kit. p ≡ q → OneRose (faults_at eyes.counts e) (faults kit)) 0 k.engines ks
+
+  as_many : length k.engines ≡ length ks
+  as_many = sym (as_many_engines k k' settings) ∙ at_each-length (λ p e k. IsClosed eyes size e (outcome k) (left k) (faults k)) 0 k'.engines ks closed
+
+  rises_at : ((p : ℕ) → HaveStayed (faults_of eyes.counts k p) (faults_of eyes.counts k' p)) → (q : ℕ) (ended : K) → slice_get ks q ≡ Some ended → IsErrOf (outcome ended) engine.Disk → Rises q
+  unfolding faults_of
+  rises_at stayed q ended at disk = (
+    omega (arith, as_many, below ks q ended at),
+    at_each-from (λ p e kit. p ≡ q → OneRose (faults_at eyes.counts e) (faults kit)) 0 k.engines ks as_many
+        (λ p e kit is_e is_kit same.
+        let e' = ended_at eyes size outcome left faults k' ks closed q ended at in
+        let place = shift p q same in
+        let here : slice_get k'.engines p ≡ Some e'.0 = subst (λ q. slice_get k'.engines q ≡ Some e'.0) (sym place) e'.1 in
+        let one : ended ≡ kit = let a = subst (λ q. slice_get ks q ≡ Some ended) (sym place) at in cc in
+        subst (λ kit. OneRose (faults_at eyes.counts e) (faults kit)) one
+        (one_rose (faults_at eyes.counts e) (faults_at eyes.counts e'.0) (faults ended) (one_stayed eyes.counts faults k.engines k'.engines p e e'.0 (stayed p) is_e here) (e'.2.disk disk))),
+  )
+
+  disk_by : (q : ℕ) (why : EngineFault) → (why ≡ engine.Disk → Rises q) → IfDisk (fault_of_engine q why) Rises
+  disk_by q engine.Disk rises = rises refl
+  disk_by q (engine.Damaged damage) rises = tt
+  disk_by q engine.Spent rises = tt
+  disk_by q engine.Memory rises = tt
+
+  pub disk_ended : ((p : ℕ) → HaveStayed (faults_of eyes.counts k p) (faults_of eyes.counts k' p)) → IfSome (least_fault 0 (map outcome ks)) (λ f. IfDisk f Rises)
+  disk_ended stayed = if_some (least_fault 0 (map outcome ks)) (λ fault is.
+      let b = ended_by outcome 0 ks fault is in
+      let same : 0 + b.place ≡ b.place = omega arith in
+      subst (λ f. IfDisk f Rises) b.is (disk_by (0 + b.place) b.why (λ disk. rises_at stayed (0 + b.place) b.ended (subst (λ q. slice_get ks q ≡ Some b.ended) (sym same) b.at) (is_err_of (outcome b.ended) b.why engine.Disk b.by disk))))
+
+  damaged_by : (q : ℕ) (why : EngineFault) → q < length k.engines → IfDamaged (fault_of_engine q why) (λ q. q < length k.engines)
+  damaged_by q engine.Disk within = tt
+  damaged_by q (engine.Damaged damage) within = within
+  damaged_by q engine.Spent within = tt
+  damaged_by q engine.Memory within = tt
+
+  pub damaged_ended : IfSome (least_fault 0 (map outcome ks)) (λ f. IfDamaged f (λ q. q < length k.engines))
+  damaged_ended = if_some (least_fault 0 (map outcome ks)) (λ fault is.
+      let b = ended_by outcome 0 ks fault is in
+      subst (λ f. IfDamaged f (λ q. q < length k.engines)) b.is (damaged_by (0 + b.place) b.why (omega (arith, as_many, below ks b.place b.ended b.at))))

@@ -6,16 +6,16 @@ use Rattle.tc_engines.specs.Places.{AtEach}
 use Rattle.tc_engines.specs.Standing.{partition_at}
 use Rattle.tc_lsm_model.specs.Contents.{Partition}
 use Rattle.tc_open.specs.Judged.{AreSpent, Passes}
-use Rattle.tc_part_model.specs.PartState.{PartState, Told}
-use Rattle.tc_store.specs.Counted.{Counts}
+use Rattle.tc_engines.specs.WithJobs.{WithJobs}
 use Rattle.tc_store.specs.Disk.{Disk}
 use Rattle.tc_store.specs.KitFaults.{KitFaults}
 use Rattle.tc_store.specs.Moments.{IfTold}
 use Rattle.tc_store.specs.declared.file_name.FileName.{FileName}
 use Rattle.tc_store.proofs.MomentLemmas.{told_map}
-use Rattle.tc_work.specs.EngineState.{EngineState}
+use Rattle.tc_work.specs.Moving.{Eyes}
 use Rattle.tc_words.specs.declared.run.Options.{Options}
-use Rattle.tc_server.specs.Faults.{faults_of_part, IfDamaged, IfDisk, IsOfRun, NoneFell, OneRose}
+use Rattle.tc_server.specs.Calls.{faults_at}
+use Rattle.tc_server.specs.Faults.{IfDamaged, IfDisk, IsOfRun, NoneFell, OneRose}
 use Rattle.tc_server.specs.KitCauses.{AreAsked, AreGenerationsSpent, AreJudged, ArePassed, HasDiskCauseOver, HasLastGeneration, HasLayoutCause, IsJudged, NoneFellOf}
 use Rattle.tc_server.specs.Kits.{AreOpened, IsBegun, IsOpened}
 use Rattle.tc_server.specs.Places.{SomeFrom}
@@ -71,26 +71,26 @@ disk_within P Q (Some (Damaged p damage)) so is = tt
 disk_within P Q (Some Memory) so is = tt
 disk_within P Q (Some (Layout p found found_of asked_of)) so is = tt
 
-module _ {S D F W K : Type 0} (tell : PartState S D F W → Told) (counts : W → Counts) (disks : K → List Disk) (faults : K → KitFaults) (options : Options) (files : ℕ → List Disk) (came : ℕ → KitFaults) (es : List (EngineState S D F W)) (opened : AreOpened tell counts options files came es) where
-  pub all_begun : All (IsBegun tell options) es
-  all_begun = each-all (IsBegun tell options) 0 es (each-so (λ p e. IsOpened tell counts options (partition_at p options.partitions) (files p) (came p) e) (λ p e. IsBegun tell options e) 0 es (λ p e i. i.begun) opened)
+module _ {S D F W K : Type 0} (eyes : Eyes S D F W) (disks : K → List Disk) (faults : K → KitFaults) (options : Options) (files : ℕ → List Disk) (came : ℕ → KitFaults) (es : List (WithJobs S D F W)) (opened : AreOpened eyes options files came es) where
+  pub all_begun : All (IsBegun eyes options) es
+  all_begun = each-all (IsBegun eyes options) 0 es (each-so (λ p e. IsOpened eyes options (partition_at p options.partitions) (files p) (came p) e) (λ p e. IsBegun eyes options e) 0 es (λ p e i. i.begun) opened)
 
-  pub none_fell_all : (ks : List K) → AtEach (λ p e k. NoneFell (faults_of_part counts e.part) (faults k)) 0 es ks → NoneFellOf came (map faults ks)
+  pub none_fell_all : (ks : List K) → AtEach (λ p e k. NoneFell (faults_at eyes.counts e) (faults k)) 0 es ks → NoneFellOf came (map faults ks)
   none_fell_all ks fell =
       each-map faults (λ p left. NoneFell (came p) left) 0 ks
-      (each-beside (λ p e. IsOpened tell counts options (partition_at p options.partitions) (files p) (came p) e) (λ p e k. NoneFell (faults_of_part counts e.part) (faults k)) (λ p k. NoneFell (came p) (faults k)) 0 es ks
-      (λ p e k i f. none_fell_twice (came p) (faults_of_part counts e.part) (faults k) i.none_fell f) opened fell)
+      (each-beside (λ p e. IsOpened eyes options (partition_at p options.partitions) (files p) (came p) e) (λ p e k. NoneFell (faults_at eyes.counts e) (faults k)) (λ p k. NoneFell (came p) (faults k)) 0 es ks
+      (λ p e k i f. none_fell_twice (came p) (faults_at eyes.counts e) (faults k) i.none_fell f) opened fell)
 
   -- the watches of the kit of a partition counted a fault
-  rose_all : (before now q : ℕ) (ks : List K) → q < length es → AtEach (λ p e k. p ≡ q → OneRose (faults_of_part counts e.part) (faults k)) 0 es ks → HasDiskCauseOver before now came (map faults ks) q
+  rose_all : (before now q : ℕ) (ks : List K) → q < length es → AtEach (λ p e k. p ≡ q → OneRose (faults_at eyes.counts e) (faults k)) 0 es ks → HasDiskCauseOver before now came (map faults ks) q
   rose_all before now q ks below rose =
       let e = there es q below in
-      let i = each-at (λ p e. IsOpened tell counts options (partition_at p options.partitions) (files p) (came p) e) q es e.0 opened e.1 in
-      let k = at_each-at (λ p e k. p ≡ q → OneRose (faults_of_part counts e.part) (faults k)) q es ks e.0 rose e.1 in
+      let i = each-at (λ p e. IsOpened eyes options (partition_at p options.partitions) (files p) (came p) e) q es e.0 opened e.1 in
+      let k = at_each-at (λ p e k. p ≡ q → OneRose (faults_at eyes.counts e) (faults k)) q es ks e.0 rose e.1 in
       let at : slice_get (map faults ks) q ≡ Some (faults k.0) = slice_get-map faults ks q ∙ ap (option_map faults) k.1 in
-      inr (subst (λ o. IsSomeAnd o (OneRose (came q))) (sym at) (one_rose (came q) (faults_of_part counts e.0.part) (faults k.0) i.none_fell (k.2 refl)))
+      inr (subst (λ o. IsSomeAnd o (OneRose (came q))) (sym at) (one_rose (came q) (faults_at eyes.counts e.0) (faults k.0) i.none_fell (k.2 refl)))
 
-  pub disk_all : (before now : ℕ) (ks : List K) (fault : Option RunFault) → IfSome fault (λ f. IfDisk f (λ q. (q < length es) × AtEach (λ p e k. p ≡ q → OneRose (faults_of_part counts e.part) (faults k)) 0 es ks)) → IfSome fault (λ f. IfDisk f (HasDiskCauseOver before now came (map faults ks)))
+  pub disk_all : (before now : ℕ) (ks : List K) (fault : Option RunFault) → IfSome fault (λ f. IfDisk f (λ q. (q < length es) × AtEach (λ p e k. p ≡ q → OneRose (faults_at eyes.counts e) (faults k)) 0 es ks)) → IfSome fault (λ f. IfDisk f (HasDiskCauseOver before now came (map faults ks)))
   disk_all before now ks None is = tt
   disk_all before now ks (Some Usage) is = tt
   disk_all before now ks (Some Read) is = tt
@@ -102,7 +102,7 @@ module _ {S D F W K : Type 0} (tell : PartState S D F W → Told) (counts : W �
   disk_all before now ks (Some (Layout p found found_of asked_of)) is = tt
 
   passed_at : (p : ℕ) → p < length es → IfTold (files p) (ArePassed (partition_at p options.partitions))
-  passed_at p below = let e = there es p below in (each-at (λ p e. IsOpened tell counts options (partition_at p options.partitions) (files p) (came p) e) p es e.0 opened e.1).passed
+  passed_at p below = let e = there es p below in (each-at (λ p e. IsOpened eyes options (partition_at p options.partitions) (files p) (came p) e) p es e.0 opened e.1).passed
 
   pub judged_all : (kits : ℕ) (fault : Option RunFault) → length es ≡ kits → IfSome fault IsOfRun → AreJudged options.partitions kits files fault
   judged_all kits fault all kind = record {

@@ -1,6 +1,6 @@
 -- How a run comes from line to line, and what it did where it ends.
 use Rattle.std.proofs.Common.{◌≡◌, ℕ, ◌+◌, Bool, true, false, List, [], ◌∷◌, ◌++◌, length, refl, ap, sym, subst, ◌∙◌, inl, inr, ⊎_elim, append_assoc, append-nil, length-append, arith}
-use Rattle.std.specs.Prelude.{Option, Some, None, option_map}
+use Rattle.std.specs.Prelude.{Option, Some, None}
 use Rattle.std.specs.Io.KnownBytes.{Consumes, IsAtEnd}
 use Rattle.std.proofs.KnownBytes.{Consumes-nil, Consumes-trans, Appends-nil}
 use Rattle.tc_edge.specs.Moments.{Moment, GavePromptly}
@@ -14,20 +14,22 @@ use Rattle.tc_model.specs.Lines.{lines_of, whole_lines}
 use Rattle.tc_run_model.specs.World.{World}
 use Rattle.tc_run_model.specs.Known.{MayReply}
 use Rattle.tc_run_model.specs.Windows.{BeginsWith, Window, Windows, windows_of, unless_empty, closed_windows, windows}
-use Rattle.tc_run_model.specs.Course.{finished, input_failed, input_spent, stopped, HaveClosed, IsReached, requests_in, behind, known_behind, each_line, worlds_left, IsDue}
+use Rattle.tc_run_model.specs.Course.{finished, input_failed, input_spent, stopped, HaveClosed, IsReached, requests_in, behind, each_line, worlds_left, IsDue}
 use Rattle.tc_run_model.proofs.ReplyLaws.{MayReply-none}
 use Rattle.tc_run_model.proofs.WindowLaws.{BeginsWith-trans, closed-windows_of-append, windows_of-push}
 use Rattle.tc_server.specs.Ending.{RanLeaving, ReadsPromptly}
 use Rattle.tc_server.specs.Faults.{Stop, failed_writing, gave_up, ending_at, stop_of, EndsAs, IsNoDamage, IsOfStore}
 use Rattle.tc_server.specs.Holds.{IsLeft}
 use Rattle.tc_server.specs.Progress.{StandsBehind, HasSeenAll, HasSeen, HasCome}
+use Rattle.tc_server.specs.Sight.{nothing, sees, sight_behind, whole_of, Sight}
 use Rattle.tc_server.specs.Window.{requests_of}
 use Rattle.tc_server.specs.Stage.{IsAt, with_end, up_to, StopsIn, TakesLine, FailsAtLine}
 use Rattle.tc_server.specs.declared.outcome.RunFault.{RunFault}
 use Rattle.tc_server.specs.declared.outcome.RunFault.TheVariants.{Usage, Read, Write, Spent, Disk, Damaged, Memory, Layout}
 use Rattle.tc_server.specs.declared.session.Session.{Session}
-use Rattle.tc_server.proofs.Answering.{if_known, store_stops}
+use Rattle.tc_server.proofs.Answering.{store_stops}
 use Rattle.tc_server.proofs.SessionLemmas.{stops_between}
+use Rattle.tc_server.proofs.SightLaws.{if_whole, sight_none}
 
 -- ---- one more line
 
@@ -112,14 +114,14 @@ closed-no_more limit seen old begun left goes heard now none =
 
 -- The reads of the next line were prompt: what the lines that were seen closed is answered, and these reads gave no whole
 -- line but at their end.
-asks_promptly : {K : Type 0} (holds : K → Option World → Type 0) (first : Option World) (old : Reading) (session : Session K) (begun left base taken : Option (List ℕ)) (told told' told'' : Option (List Moment)) → old.ended ≡ false
+asks_promptly : {K : Type 0} (holds : K → Sight → Type 0) (first : Sight) (old : Reading) (session : Session K) (begun left base taken : Option (List ℕ)) (told told' told'' : Option (List Moment)) → old.ended ≡ false
     → (come : HasCome holds first old session begun left base taken told told') → (now : List ℕ) → HasReadNeeded old.held taken now told' told''
-    → GavePromptly (IsDue each_line first session.window.limit base) (come.heard.input ++ now) told told''
+    → GavePromptly (IsDue each_line (whole_of first) session.window.limit base) (come.heard.input ++ now) told told''
 asks_promptly holds first old session begun left base taken told told' told'' goes come now reads =
     let limit = session.window.limit in
-    goes_on_promptly (IsDue each_line first limit base) come.heard.input now old.held taken told told' told'' come.prompt reads (λ given none. (
+    goes_on_promptly (IsDue each_line (whole_of first) limit base) come.heard.input now old.held taken told told' told'' come.prompt reads (λ given none. (
       come.at.replies,
-      subst (λ ws. MayReply (requests_in ws) first come.at.replies) (closed-no_more limit come.seen old begun left goes come.heard given none) come.at.given,
+      subst (λ ws. MayReply (requests_in ws) (whole_of first) come.at.replies) (closed-no_more limit come.seen old begun left goes come.heard given none) come.at.given,
       come.at.written,
     ))
 
@@ -140,7 +142,7 @@ ends_as spent Memory stop by cause = let same : stop ≡ gave_up = cc in ap endi
 ends_as spent (Layout p found found_of asked_of) stop by cause = absurd (cc)
 
 -- a fault in windows that have closed ends the run
-ends_among : {K : Type 0} (holds : K → Option World → Type 0) (keeps : K → World → World → Type 0) (spent : K → Type 0) (first : Option World) (limit : ℕ) (input : List ℕ) (begun left base taken : Option (List ℕ)) (fault : RunFault) (k : K) (closed : List Window) → Consumes begun left input → HaveClosed limit input left closed → (fault ≡ Spent → spent k)
+ends_among : {K : Type 0} (holds : K → Sight → Type 0) (keeps : K → Option ℕ → World → World → Type 0) (spent : K → Type 0) (first : Sight) (limit : ℕ) (input : List ℕ) (begun left base taken : Option (List ℕ)) (fault : RunFault) (k : K) (closed : List Window) → Consumes begun left input → HaveClosed limit input left closed → (fault ≡ Spent → spent k)
     → StopsIn holds keeps first fault base closed taken k → RanLeaving each_line holds keeps spent (Some fault) first limit begun left base taken k
 ends_among holds keeps spent first limit input begun left base taken fault k closed consumed have cause stops = record {
   run = record {
@@ -162,7 +164,7 @@ ends_among holds keeps spent first limit input begun left base taken fault k clo
 }
 
 -- the same in windows with which those that have closed begin
-among_more : {K : Type 0} (holds : K → Option World → Type 0) (keeps : K → World → World → Type 0) (first : Option World) (fault : RunFault) (base taken : Option (List ℕ)) (k : K) (closed front : List Window) → BeginsWith closed front → StopsIn holds keeps first fault base front taken k → StopsIn holds keeps first fault base closed taken k
+among_more : {K : Type 0} (holds : K → Sight → Type 0) (keeps : K → Option ℕ → World → World → Type 0) (first : Sight) (fault : RunFault) (base taken : Option (List ℕ)) (k : K) (closed front : List Window) → BeginsWith closed front → StopsIn holds keeps first fault base front taken k → StopsIn holds keeps first fault base closed taken k
 among_more holds keeps first fault base taken k closed front begins stops = record {
   stop = stops.stop;
   by = stops.by;
@@ -178,14 +180,14 @@ among_more holds keeps first fault base taken k closed front begins stops = reco
   };
 }
 
-ends_in : {K : Type 0} (holds : K → Option World → Type 0) (keeps : K → World → World → Type 0) (spent : K → Type 0) (first : Option World) (limit : ℕ) (seen : List (List ℕ)) (input : List ℕ) (begun left base taken : Option (List ℕ)) (fault : RunFault) (k : K) → Consumes begun left input → HasClosed limit seen input left → (fault ≡ Spent → spent k)
+ends_in : {K : Type 0} (holds : K → Sight → Type 0) (keeps : K → Option ℕ → World → World → Type 0) (spent : K → Type 0) (first : Sight) (limit : ℕ) (seen : List (List ℕ)) (input : List ℕ) (begun left base taken : Option (List ℕ)) (fault : RunFault) (k : K) → Consumes begun left input → HasClosed limit seen input left → (fault ≡ Spent → spent k)
     → StopsIn holds keeps first fault base (windows_of limit seen).closed taken k → RanLeaving each_line holds keeps spent (Some fault) first limit begun left base taken k
 ends_in holds keeps spent first limit seen input begun left base taken fault k consumed has cause stops =
     ends_among holds keeps spent first limit input begun left base taken fault k has.closed consumed has.have cause (among_more holds keeps first fault base taken k has.closed (windows_of limit seen).closed has.begin stops)
 
 -- ---- a line is taken
 
-pub goes_on : {K : Type 0} (holds : K → Option World → Type 0) (first : Option World) (line : List ℕ) (old new : Reading) (before after : Session K) (begun left left' base taken taken' : Option (List ℕ)) (told told' told'' : Option (List Moment)) → old.ended ≡ false
+pub goes_on : {K : Type 0} (holds : K → Sight → Type 0) (first : Sight) (line : List ℕ) (old new : Reading) (before after : Session K) (begun left left' base taken taken' : Option (List ℕ)) (told told' told'' : Option (List Moment)) → old.ended ≡ false
     → (come : HasCome holds first old before begun left base taken told told') → (now : List ℕ) → Consumes left left' now → new.taken ≡ old.taken + length now → IsNextLine (old.held ++ now) line new left'
     → HasReadNeeded old.held taken now told' told'' → TakesLine holds line before taken after taken' → after.window.limit ≡ before.window.limit
     → HasCome holds first new after begun left' base taken' told told''
@@ -194,10 +196,10 @@ goes_on holds first line old new before after begun left left' base taken taken'
   seen = come.seen ++ line ∷ [];
   heard = hears_line come.seen line old new begun left left' goes come.heard now consumed counted next;
   at = subst (λ (ws : Windows). IsAt holds first base ws after taken') (sym (ap (λ limit. windows_of limit (come.seen ++ line ∷ [])) same ∙ windows_of-push before.window.limit come.seen line)) (takes first base (windows_of before.window.limit come.seen) come.at);
-  prompt = subst (λ limit. GavePromptly (IsDue each_line first limit base) (come.heard.input ++ now) told told'') (sym same) (asks_promptly holds first old before begun left base taken told told' told'' goes come now reads);
+  prompt = subst (λ limit. GavePromptly (IsDue each_line (whole_of first) limit base) (come.heard.input ++ now) told told'') (sym same) (asks_promptly holds first old before begun left base taken told told' told'' goes come now reads);
 }
 
-pub fails_at_line : {told told' : Option (List Moment)} {K : Type 0} (holds : K → Option World → Type 0) (keeps : K → World → World → Type 0) (spent : K → Type 0) (first : Option World) (fault : RunFault) (line : List ℕ) (old new : Reading) (before after : Session K) (begun left left' base taken taken' : Option (List ℕ)) → old.ended ≡ false → (come : HasCome holds first old before begun left base taken told told')
+pub fails_at_line : {told told' : Option (List Moment)} {K : Type 0} (holds : K → Sight → Type 0) (keeps : K → Option ℕ → World → World → Type 0) (spent : K → Type 0) (first : Sight) (fault : RunFault) (line : List ℕ) (old new : Reading) (before after : Session K) (begun left left' base taken taken' : Option (List ℕ)) → old.ended ≡ false → (come : HasCome holds first old before begun left base taken told told')
     → (now : List ℕ) → Consumes left left' now → new.taken ≡ old.taken + length now → IsNextLine (old.held ++ now) line new left'
     → (fault ≡ Spent → spent after.keeper) → FailsAtLine holds keeps fault line before taken after taken'
     → RanLeaving each_line holds keeps spent (Some fault) first before.window.limit begun left' base taken' after.keeper
@@ -236,11 +238,11 @@ heard_end seen reading begun left ended heard =
 all_windows : (limit : ℕ) (seen : List (List ℕ)) (input : List ℕ) (left : Option (List ℕ)) → HasSeenAll input seen left → (with_end (windows_of limit seen)).closed ≡ windows limit input
 all_windows limit seen input left all = ap (λ lines. (with_end (windows_of limit lines)).closed) (sym all.lines)
 
-left_behind_all : {K : Type 0} (holds : K → Option World → Type 0) (keeps : K → World → World → Type 0) (first : Option World) (closed : List Window) (k : K) → holds k (known_behind first closed) → IsLeft holds keeps k (option_map (λ w. worlds_left finished w closed []) first)
-left_behind_all holds keeps (Some w) closed k held = record { one = behind w closed; other = behind w closed; one_of = inl refl; other_of = inl refl; left = inl held }
-left_behind_all holds keeps None closed k held = tt
+left_behind_all : {K : Type 0} (holds : K → Sight → Type 0) (keeps : K → Option ℕ → World → World → Type 0) (first : Sight) (closed : List Window) (k : K) → holds k (sight_behind first closed) → IsLeft holds keeps k first (λ w. worlds_left finished w closed [])
+left_behind_all holds keeps (sees only w) closed k held = record { one = behind w closed; other = behind w closed; one_of = inl refl; other_of = inl refl; left = inl held }
+left_behind_all holds keeps nothing closed k held = tt
 
-pub ran_to_end : {K : Type 0} (holds : K → Option World → Type 0) (keeps : K → World → World → Type 0) (spent : K → Type 0) (first : Option World) (limit : ℕ) (seen : List (List ℕ)) (session : Session K) (begun left base taken : Option (List ℕ)) → HasHeardAll seen begun left → IsAt holds first base (with_end (windows_of limit seen)) session taken
+pub ran_to_end : {K : Type 0} (holds : K → Sight → Type 0) (keeps : K → Option ℕ → World → World → Type 0) (spent : K → Type 0) (first : Sight) (limit : ℕ) (seen : List (List ℕ)) (session : Session K) (begun left base taken : Option (List ℕ)) → HasHeardAll seen begun left → IsAt holds first base (with_end (windows_of limit seen)) session taken
     → RanLeaving each_line holds keeps spent None first limit begun left base taken session.keeper
 ran_to_end holds keeps spent first limit seen session begun left base taken heard at = record {
   run = record {
@@ -257,18 +259,18 @@ ran_to_end holds keeps spent first limit seen session begun left base taken hear
       took = at.written;
     };
   };
-  sound = if_known first (Unit {0}) (λ w is. tt);
+  sound = if_whole first (Unit {0}) (λ w is. tt);
   left = left_behind_all holds keeps first (with_end (windows_of limit seen)).closed session.keeper at.store;
 }
 
-pub fails_at_end : {K : Type 0} (holds : K → Option World → Type 0) (keeps : K → World → World → Type 0) (spent : K → Type 0) (first : Option World) (limit : ℕ) (seen : List (List ℕ)) (fault : RunFault) (begun left base taken : Option (List ℕ)) (k : K) → HasHeardAll seen begun left → (fault ≡ Spent → spent k) → StopsIn holds keeps first fault base (with_end (windows_of limit seen)).closed taken k
+pub fails_at_end : {K : Type 0} (holds : K → Sight → Type 0) (keeps : K → Option ℕ → World → World → Type 0) (spent : K → Type 0) (first : Sight) (limit : ℕ) (seen : List (List ℕ)) (fault : RunFault) (begun left base taken : Option (List ℕ)) (k : K) → HasHeardAll seen begun left → (fault ≡ Spent → spent k) → StopsIn holds keeps first fault base (with_end (windows_of limit seen)).closed taken k
     → RanLeaving each_line holds keeps spent (Some fault) first limit begun left base taken k
 fails_at_end holds keeps spent first limit seen fault begun left base taken k heard cause stops =
     ends_among holds keeps spent first limit heard.input begun left base taken fault k (with_end (windows_of limit seen)).closed heard.consumed (inr (heard.all.at_end, all_windows limit seen heard.input left heard.all)) cause stops
 
 -- ---- a failure of the reader
 
-pub read_failed : {told told' : Option (List Moment)} {K : Type 0} (holds : K → Option World → Type 0) (keeps : K → World → World → Type 0) (spent : K → Type 0) (first : Option World) (old : Reading) (session : Session K) (begun left left' base taken : Option (List ℕ)) → old.ended ≡ false → HasCome holds first old session begun left base taken told told'
+pub read_failed : {told told' : Option (List Moment)} {K : Type 0} (holds : K → Sight → Type 0) (keeps : K → Option ℕ → World → World → Type 0) (spent : K → Type 0) (first : Sight) (old : Reading) (session : Session K) (begun left left' base taken : Option (List ℕ)) → old.ended ≡ false → HasCome holds first old session begun left base taken told told'
     → (now : List ℕ) → Consumes left left' now → whole_lines (old.held ++ now) ≡ [] → RanLeaving each_line holds keeps spent (Some Read) first session.window.limit begun left' base taken session.keeper
 read_failed holds keeps spent first old session begun left left' base taken goes come now consumed none = record {
   run = record {
@@ -285,11 +287,11 @@ read_failed holds keeps spent first old session begun left left' base taken goes
       took = come.at.written;
     };
   };
-  sound = if_known first (Unit {0}) (λ w is. tt);
+  sound = if_whole first (Unit {0}) (λ w is. tt);
   left = left_behind_all holds keeps first (windows_of session.window.limit come.seen).closed session.keeper come.at.store;
 }
 
-pub all_taken : {told told' : Option (List Moment)} {K : Type 0} (holds : K → Option World → Type 0) (keeps : K → World → World → Type 0) (spent : K → Type 0) (first : Option World) (old new : Reading) (session : Session K) (begun left left' base taken : Option (List ℕ)) → old.ended ≡ false → HasCome holds first old session begun left base taken told told'
+pub all_taken : {told told' : Option (List Moment)} {K : Type 0} (holds : K → Sight → Type 0) (keeps : K → Option ℕ → World → World → Type 0) (spent : K → Type 0) (first : Sight) (old new : Reading) (session : Session K) (begun left left' base taken : Option (List ℕ)) → old.ended ≡ false → HasCome holds first old session begun left base taken told told'
     → (now : List ℕ) → Consumes left left' now → new.taken ≡ old.taken + length now → whole_lines (old.held ++ now) ≡ [] → new.taken ≡ MAX_TAKEN
     → RanLeaving each_line holds keeps spent (Some Spent) first session.window.limit begun left' base taken session.keeper
 all_taken holds keeps spent first old new session begun left left' base taken goes come now consumed counted none all = record {
@@ -311,11 +313,11 @@ all_taken holds keeps spent first old new session begun left left' base taken go
       took = come.at.written;
     };
   };
-  sound = if_known first (Unit {0}) (λ w is. tt);
+  sound = if_whole first (Unit {0}) (λ w is. tt);
   left = left_behind_all holds keeps first (windows_of session.window.limit come.seen).closed session.keeper come.at.store;
 }
 
-pub reads_without_memory : {told told' : Option (List Moment)} {K : Type 0} (holds : K → Option World → Type 0) (keeps : K → World → World → Type 0) (spent : K → Type 0) (first : Option World) (old : Reading) (session : Session K) (begun left left' base taken : Option (List ℕ)) → old.ended ≡ false → HasCome holds first old session begun left base taken told told'
+pub reads_without_memory : {told told' : Option (List Moment)} {K : Type 0} (holds : K → Sight → Type 0) (keeps : K → Option ℕ → World → World → Type 0) (spent : K → Type 0) (first : Sight) (old : Reading) (session : Session K) (begun left left' base taken : Option (List ℕ)) → old.ended ≡ false → HasCome holds first old session begun left base taken told told'
     → (now : List ℕ) → Consumes left left' now → RanLeaving each_line holds keeps spent (Some Memory) first session.window.limit begun left' base taken session.keeper
 reads_without_memory holds keeps spent first old session begun left left' base taken goes come now consumed =
     let limit = session.window.limit in
@@ -344,23 +346,19 @@ hears_all seen old new begun left left' heard answers same =
     heard.place
 
 -- all reads up to an answer were prompt
-pub asked_promptly : {K : Type 0} (holds : K → Option World → Type 0) (answer : Line) (first : Option World) (old new : Reading) (session : Session K) (begun left left' base taken : Option (List ℕ)) (told told' told'' : Option (List Moment))
+pub asked_promptly : {K : Type 0} (holds : K → Sight → Type 0) (answer : Line) (first : Sight) (old new : Reading) (session : Session K) (begun left left' base taken : Option (List ℕ)) (told told' told'' : Option (List Moment))
     → HasCome holds first old session begun left base taken told told' → (old.ended ≡ false → IsAnswered answer old new left left' taken told' told'') → (old.ended ≡ true → told'' ≡ told')
     → ReadsPromptly first session.window.limit base told told''
 asked_promptly holds answer first old new session begun left left' base taken told told' told'' come answers same =
     ⊎_elim
     (λ place. let a = answers place.0 in (come.heard.input ++ a.input, asks_promptly holds first old session begun left base taken told told' told'' place.0 come a.input a.prompt))
-    (λ place. (come.heard.input, subst (GavePromptly (IsDue each_line first session.window.limit base) come.heard.input told) (sym (same place.0)) come.prompt))
+    (λ place. (come.heard.input, subst (GavePromptly (IsDue each_line (whole_of first) session.window.limit base) come.heard.input told) (sym (same place.0)) come.prompt))
     come.heard.place
 
 -- ---- the first line, and after as many as can be
 
-behind_none : (first : Option World) → known_behind first [] ≡ first
-behind_none (Some w) = refl
-behind_none None = refl
-
 -- before the first line nothing was read nor written
-pub begins : {K : Type 0} (holds : K → Option World → Type 0) (first : Option World) (limit : ℕ) (reading : Reading) (session : Session K) (left taken : Option (List ℕ)) (told : Option (List Moment)) → reading ≡ record { limit = limit; held = []; taken = 0; failed = false; ended = false }
+pub begins : {K : Type 0} (holds : K → Sight → Type 0) (first : Sight) (limit : ℕ) (reading : Reading) (session : Session K) (left taken : Option (List ℕ)) (told : Option (List Moment)) → reading ≡ record { limit = limit; held = []; taken = 0; failed = false; ended = false }
     → holds session.keeper first → requests_of session.window ≡ [] → session.window.bytes ≡ 0
     → HasCome holds first reading session left left taken taken told told
 begins holds first limit reading session left taken told fresh store requests bytes =
@@ -380,17 +378,17 @@ begins holds first limit reading session left taken told fresh store requests by
       };
       at = record {
         replies = [];
-        given = MayReply-none first;
+        given = MayReply-none (whole_of first);
         written = Appends-nil taken;
-        store = subst (λ known. holds session.keeper known) (sym (behind_none first)) store;
+        store = subst (λ known. holds session.keeper known) (sym (sight_none first)) store;
         requests = requests;
         bytes = bytes;
       };
-      prompt = begins_promptly (IsDue each_line first session.window.limit taken) told;
+      prompt = begins_promptly (IsDue each_line (whole_of first) session.window.limit taken) told;
     }
 
 -- a run that gives up between two lines has answered the windows that have closed
-pub gives_up : {told told' : Option (List Moment)} {K : Type 0} (holds : K → Option World → Type 0) (keeps : K → World → World → Type 0) (spent : K → Type 0) (first : Option World) (reading : Reading) (session : Session K) (begun left base taken : Option (List ℕ)) → HasCome holds first reading session begun left base taken told told' → RanLeaving each_line holds keeps spent (Some Memory) first session.window.limit begun left base taken session.keeper
+pub gives_up : {told told' : Option (List Moment)} {K : Type 0} (holds : K → Sight → Type 0) (keeps : K → Option ℕ → World → World → Type 0) (spent : K → Type 0) (first : Sight) (reading : Reading) (session : Session K) (begun left base taken : Option (List ℕ)) → HasCome holds first reading session begun left base taken told told' → RanLeaving each_line holds keeps spent (Some Memory) first session.window.limit begun left base taken session.keeper
 gives_up holds keeps spent first reading session begun left base taken come =
     ends_in holds keeps spent first session.window.limit come.seen come.heard.input begun left base taken Memory session.keeper come.heard.consumed (has_closed session.window.limit come.seen reading begun left come.heard) (λ same. absurd (cc))
     (stops_between holds keeps first base taken (windows_of session.window.limit come.seen) session come.at)
@@ -398,22 +396,22 @@ gives_up holds keeps spent first reading session begun left base taken come =
 -- ---- no run
 
 -- a store that fails before a line is read stops in no window
-settles_not : {K : Type 0} (holds : K → Option World → Type 0) (keeps : K → World → World → Type 0) (first : Option World) (k : K) → ((w : World) → first ≡ Some w → keeps k w w) → IsLeft holds keeps k (option_map (λ w. worlds_left stopped w [] []) first)
-settles_not holds keeps (Some w) k fails = record { one = w; other = w; one_of = inl refl; other_of = inl refl; left = inr (fails w refl) }
-settles_not holds keeps None k fails = tt
+settles_not : {K : Type 0} (holds : K → Sight → Type 0) (keeps : K → Option ℕ → World → World → Type 0) (first : Sight) (k : K) → ((only : Option ℕ) (w : World) → first ≡ sees only w → keeps k only w w) → IsLeft holds keeps k first (λ w. worlds_left stopped w [] [])
+settles_not holds keeps (sees only w) k fails = record { one = w; other = w; one_of = inl refl; other_of = inl refl; left = inr (fails only w refl) }
+settles_not holds keeps nothing k fails = tt
 
-pub begins_not : {K : Type 0} (holds : K → Option World → Type 0) (keeps : K → World → World → Type 0) (spent : K → Type 0) (first : Option World) (most : ℕ) (left taken : Option (List ℕ)) (fault : RunFault) (k : K) → IsOfStore fault → (fault ≡ Spent → spent k) → ((w : World) → first ≡ Some w → IsNoDamage fault) → ((w : World) → first ≡ Some w → keeps k w w)
+pub begins_not : {K : Type 0} (holds : K → Sight → Type 0) (keeps : K → Option ℕ → World → World → Type 0) (spent : K → Type 0) (first : Sight) (most : ℕ) (left taken : Option (List ℕ)) (fault : RunFault) (k : K) → IsOfStore fault → (fault ≡ Spent → spent k) → ((w : World) → first ≡ sees None w → IsNoDamage fault) → ((only : Option ℕ) (w : World) → first ≡ sees only w → keeps k only w w)
     → RanLeaving each_line holds keeps spent (Some fault) first most left left taken taken k
 begins_not holds keeps spent first most left taken fault k kind cause sound fails =
     ends_among holds keeps spent first most [] left left taken taken fault k (closed_windows most []) (Consumes-nil left) (inl refl) cause (record {
       stop = gave_up;
       by = store_stops fault kind;
-      sound = if_known first (IsNoDamage fault) sound;
+      sound = if_whole first (IsNoDamage fault) sound;
       ends = record {
         answered = [];
         last = [];
         replies = [];
-        given = MayReply-none first;
+        given = MayReply-none (whole_of first);
         among = record { more = closed_windows most []; goes_on = refl };
         took = Appends-nil taken;
         left = settles_not holds keeps first k fails;
@@ -421,5 +419,5 @@ begins_not holds keeps spent first most left taken fault k kind cause sound fail
     })
 
 -- where nothing was read, the reads were prompt
-pub unread : (first : Option World) (most : ℕ) (base : Option (List ℕ)) (told : Option (List Moment)) → ReadsPromptly first most base told told
-unread first most base told = ([], begins_promptly (IsDue each_line first most base) told)
+pub unread : (first : Sight) (most : ℕ) (base : Option (List ℕ)) (told : Option (List Moment)) → ReadsPromptly first most base told told
+unread first most base told = ([], begins_promptly (IsDue each_line (whole_of first) most base) told)

@@ -2,32 +2,36 @@
 -- came last, where it was given.
 use Rattle.std.proofs.Common.{◌≡◌, ◌⊎◌, ◌∙◌, ◌≤◌, ◌<◌, ◌+◌, ℕ, suc, List, [], ◌∷◌, ◌++◌, map, length, append-nil, length-append, arith, refl, ap, sym, subst, inl, inr}
 use Rattle.std.proofs.lemmas.List.{length-map, map-append, nil_from_length}
-use Rattle.std.specs.Prelude.{Option, Some, None, IfSome, IsSomeAnd, option_to_list, slice_get}
+use Rattle.std.specs.Prelude.{Option, Some, None, IfSome, IsSomeAnd, Result, option_to_list, slice_get}
 use Rattle.tc_bytes.specs.Counts.{Rose}
 use Rattle.tc_engines.specs.Places.{AtEach}
 use Rattle.tc_engines.specs.Standing.{partition_at}
-use Rattle.tc_engines.proofs.PlaceLaws.{at_each-length}
+use Rattle.tc_engines.specs.WithJobs.{WithJobs}
+use Rattle.tc_engines.proofs.PlaceLaws.{at_each-length, at_each-reads, at_each-so}
 use Rattle.tc_open.specs.Judged.{AreSpent, Passes}
-use Rattle.tc_part_model.specs.PartState.{PartState, Told}
 use Rattle.tc_run_model.specs.Course.{unopened}
 use Rattle.tc_run_model.specs.World.{World}
-use Rattle.tc_store.specs.Counted.{Counts}
 use Rattle.tc_store.specs.Disk.{Disk}
 use Rattle.tc_store.specs.KitFaults.{KitFaults}
 use Rattle.tc_store.specs.Moments.{IfTold}
-use Rattle.tc_work.specs.EngineState.{EngineState}
+use Rattle.tc_work.specs.Moving.{Eyes}
+use Rattle.tc_work.specs.declared.fault.EngineFault.{EngineFault}
 use Rattle.tc_words.specs.declared.run.Options.{Options}
+use Rattle.tc_server.specs.Calls.{faults_at}
 use Rattle.tc_server.specs.Ending.{limits_of}
 use Rattle.tc_server.specs.Faults.{IfDisk, IsNoDamage, NoneFell, OneRose}
 use Rattle.tc_server.specs.KitCauses.{AreAsked, AreGenerationsSpent, AreJudged, ArePassed, HasDiskCauseOver, HasLastGeneration, IsJudged, NoneFellOf}
 use Rattle.tc_server.specs.Kits.{AreOpened, IsClosed, IsGivenBack, IsNotGiven, IsOfOpening, IsOpened}
 use Rattle.tc_server.specs.OverFiles.{BeginsAs, EndsOver, IsHere, KeepsOpened}
 use Rattle.tc_server.specs.Places.{EachFrom, SomeFrom}
+use Rattle.tc_server.specs.Sight.{whole_of, Sight}
 use Rattle.tc_server.specs.declared.outcome.RunFault.{RunFault}
 use Rattle.tc_server.specs.declared.outcome.RunFault.TheVariants.{Usage, Read, Write, Spent, Disk as DiskFault, Damaged, Memory, Layout}
+use Rattle.tc_server.proofs.Causes.{none_fell_twice}
 use Rattle.tc_server.proofs.EachLaws.{behind_front, each-append, each-at, each-beside, each-map, some-append, there}
 use Rattle.tc_server.proofs.KitOpenings.{ends_not_given, ends_of_opening, sound_not_given}
 use Rattle.tc_server.proofs.NotOpened.{lawful_first, opened_keeps}
+use Rattle.tc_server.proofs.SightLaws.{if_whole}
 
 -- what is asked for by the kit that came back, of the partition of this number
 asked_back : (count p : ℕ) (fault : RunFault) → p < count → IsOfOpening (partition_at p count) fault → AreAsked count (Some fault) (suc p)
@@ -69,35 +73,46 @@ pub record AreGivenBack (options : Options) (before now : ℕ) (files : ℕ → 
   pub few : length kits ≤ options.partitions
   pub asked : AreAsked options.partitions (Some fault) (length kits)
   pub by : EndsOver (Some fault) unopened
-  pub sound : (first : Option World) → BeginsAs (limits_of options) options.partitions files first → IfSome first (λ w. IsNoDamage fault × IsHere fault)
+  pub sound : (first : Sight) → BeginsAs (limits_of options) options.partitions files first → IfSome (whole_of first) (λ w. IsNoDamage fault × IsHere fault)
   pub keep : EachFrom (λ p. KeepsOpened (partition_at p options.partitions) (files p)) 0 kits
   pub none_fell : NoneFellOf came counted
   pub disk : IfDisk fault (HasDiskCauseOver before now came counted)
   pub judged : AreJudged options.partitions (length kits) files (Some fault)
   pub spent : fault ≡ Spent → AreGenerationsSpent options.partitions files kits
 
-module _ {S D F W K : Type 0} (tell : PartState S D F W → Told) (counts : W → Counts) (size : D → ℕ) (disks : K → List Disk) (faults : K → KitFaults) (options : Options) (files : ℕ → List Disk) (came : ℕ → KitFaults) where
-  keep_closed : (es : List (EngineState S D F W)) (ks : List K) → AreOpened tell counts options files came es → AtEach (λ p e k. IsClosed tell counts size e (disks k) (faults k)) 0 es ks
+-- an engine was closed, however it ended
+abbrev pub IsEnded : {S D F W K : Type 0} → Eyes S D F W → (D → ℕ) → (K → List Disk) → (K → KitFaults) → WithJobs S D F W → K → Type 0
+IsEnded eyes size disks faults e k = (outcome : Result (Unit {0}) EngineFault) × IsClosed eyes size e outcome (disks k) (faults k)
+
+-- so it is of the kits of all that were
+pub kits_ended : {S D F W C K : Type 0} (eyes : Eyes S D F W) (size : D → ℕ) (kit : C → K) (outcome : C → Result (Unit {0}) EngineFault) (disks : K → List Disk) (faults : K → KitFaults) (es : List (WithJobs S D F W)) (cs : List C)
+    → AtEach (λ p e c. IsClosed eyes size e (outcome c) (disks (kit c)) (faults (kit c))) 0 es cs → AtEach (λ p e k. IsEnded eyes size disks faults e k) 0 es (map kit cs)
+kits_ended eyes size kit outcome disks faults es cs closed =
+    at_each-reads kit (λ p e k. IsEnded eyes size disks faults e k) 0 es cs
+    (at_each-so (λ p e c. IsClosed eyes size e (outcome c) (disks (kit c)) (faults (kit c))) (λ p e c. IsEnded eyes size disks faults e (kit c)) 0 es cs (λ p e c is. (outcome c, is)) closed)
+
+module _ {S D F W K : Type 0} (eyes : Eyes S D F W) (size : D → ℕ) (disks : K → List Disk) (faults : K → KitFaults) (options : Options) (files : ℕ → List Disk) (came : ℕ → KitFaults) where
+  keep_closed : (es : List (WithJobs S D F W)) (ks : List K) → AreOpened eyes options files came es → AtEach (λ p e k. IsEnded eyes size disks faults e k) 0 es ks
       → EachFrom (λ p. KeepsOpened (partition_at p options.partitions) (files p)) 0 (map disks ks)
   keep_closed es ks opened closed =
       each-map disks (λ p. KeepsOpened (partition_at p options.partitions) (files p)) 0 ks
-      (each-beside (λ p e. IsOpened tell counts options (partition_at p options.partitions) (files p) (came p) e) (λ p e k. IsClosed tell counts size e (disks k) (faults k)) (λ p k. KeepsOpened (partition_at p options.partitions) (files p) (disks k)) 0 es ks
-      (λ p e k i c. opened_keeps tell counts size options (partition_at p options.partitions) (files p) (came p) e (disks k) (faults k) i c) opened closed)
+      (each-beside (λ p e. IsOpened eyes options (partition_at p options.partitions) (files p) (came p) e) (λ p e k. IsEnded eyes size disks faults e k) (λ p k. KeepsOpened (partition_at p options.partitions) (files p) (disks k)) 0 es ks
+      (λ p e k i c. opened_keeps eyes size options (partition_at p options.partitions) (files p) (came p) e c.0 (disks k) (faults k) i c.1) opened closed)
 
-  none_closed : (es : List (EngineState S D F W)) (ks : List K) → AreOpened tell counts options files came es → AtEach (λ p e k. IsClosed tell counts size e (disks k) (faults k)) 0 es ks → NoneFellOf came (map faults ks)
+  none_closed : (es : List (WithJobs S D F W)) (ks : List K) → AreOpened eyes options files came es → AtEach (λ p e k. IsEnded eyes size disks faults e k) 0 es ks → NoneFellOf came (map faults ks)
   none_closed es ks opened closed =
       each-map faults (λ p left. NoneFell (came p) left) 0 ks
-      (each-beside (λ p e. IsOpened tell counts options (partition_at p options.partitions) (files p) (came p) e) (λ p e k. IsClosed tell counts size e (disks k) (faults k)) (λ p k. NoneFell (came p) (faults k)) 0 es ks
-      (λ p e k i c. subst (NoneFell (came p)) (sym c.same) i.none_fell) opened closed)
+      (each-beside (λ p e. IsOpened eyes options (partition_at p options.partitions) (files p) (came p) e) (λ p e k. IsEnded eyes size disks faults e k) (λ p k. NoneFell (came p) (faults k)) 0 es ks
+      (λ p e k i c. none_fell_twice (came p) (faults_at eyes.counts e) (faults k) i.none_fell c.1.none_fell) opened closed)
 
   -- the files of the partitions that were opened were not refused
-  pub passed_at : (es : List (EngineState S D F W)) (p : ℕ) → AreOpened tell counts options files came es → p < length es → IfTold (files p) (ArePassed (partition_at p options.partitions))
+  pub passed_at : (es : List (WithJobs S D F W)) (p : ℕ) → AreOpened eyes options files came es → p < length es → IfTold (files p) (ArePassed (partition_at p options.partitions))
   passed_at es p opened below =
       let e = there es p below in
-      (each-at (λ p e. IsOpened tell counts options (partition_at p options.partitions) (files p) (came p) e) p es e.0 opened e.1).passed
+      (each-at (λ p e. IsOpened eyes options (partition_at p options.partitions) (files p) (came p) e) p es e.0 opened e.1).passed
 
   -- the last kit was not given
-  pub not_given_back : (before now : ℕ) (es : List (EngineState S D F W)) (ks : List K) (fault : RunFault) → length es < options.partitions → AreOpened tell counts options files came es → AtEach (λ p e k. IsClosed tell counts size e (disks k) (faults k)) 0 es ks
+  pub not_given_back : (before now : ℕ) (es : List (WithJobs S D F W)) (ks : List K) (fault : RunFault) → length es < options.partitions → AreOpened eyes options files came es → AtEach (λ p e k. IsEnded eyes size disks faults e k) 0 es ks
       → IsNotGiven (Rose before now) (length es) fault → AreGivenBack options before now files came fault (map disks ks) (map faults ks)
   not_given_back before now es ks fault below opened closed n = record {
     few = omega (arith, many, below);
@@ -115,21 +130,20 @@ module _ {S D F W K : Type 0} (tell : PartState S D F W → Told) (counts : W �
   }
     where
       same : length es ≡ length ks
-      same = at_each-length (λ p e k. IsClosed tell counts size e (disks k) (faults k)) 0 es ks closed
+      same = at_each-length (λ p e k. IsEnded eyes size disks faults e k) 0 es ks closed
 
       many : length (map disks ks) ≡ length es
       many = length-map ks disks ∙ sym same
 
-      always : (first : Option World) → BeginsAs (limits_of options) options.partitions files first → IfSome first (λ w. IsNoDamage fault × IsHere fault)
-      always None begins = tt
-      always (Some w) begins = sound_not_given (Rose before now) (length es) fault n
+      always : (first : Sight) → BeginsAs (limits_of options) options.partitions files first → IfSome (whole_of first) (λ w. IsNoDamage fault × IsHere fault)
+      always first begins = if_whole first (IsNoDamage fault × IsHere fault) (λ w is. sound_not_given (Rose before now) (length es) fault n)
 
       judged_last : (given : List Disk) (here : _) → IfTold given (ArePassed here) → IfTold given (λ disk. IsJudged here disk (Some fault))
       judged_last [] here passed = tt
       judged_last (disk ∷ past) here passed = elim n.is [ inl is ↦ subst (λ f. IsJudged here disk (Some f)) (sym is) tt | inr is ↦ subst (λ f. IsJudged here disk (Some f)) (sym is) tt ]
 
   -- it came back
-  pub kit_back : (before now : ℕ) (es : List (EngineState S D F W)) (ks : List K) (k : K) (fault : RunFault) → length es < options.partitions → AreOpened tell counts options files came es → AtEach (λ p e k. IsClosed tell counts size e (disks k) (faults k)) 0 es ks
+  pub kit_back : (before now : ℕ) (es : List (WithJobs S D F W)) (ks : List K) (k : K) (fault : RunFault) → length es < options.partitions → AreOpened eyes options files came es → AtEach (λ p e k. IsEnded eyes size disks faults e k) 0 es ks
       → IsGivenBack (partition_at (length es) options.partitions) (files (length es)) (came (length es)) fault (disks k) (faults k) → AreGivenBack options before now files came fault (map disks (ks ++ k ∷ [])) (map faults (ks ++ k ∷ []))
   kit_back before now es ks k fault below opened closed b = record {
     few = omega (arith, many, below);
@@ -156,7 +170,7 @@ module _ {S D F W K : Type 0} (tell : PartState S D F W → Told) (counts : W �
       Spends p left = IfTold (files p) (λ disk. Passes (partition_at p options.partitions) disk AreSpent) ⊎ IfTold left HasLastGeneration
 
       same : length es ≡ length ks
-      same = at_each-length (λ p e k. IsClosed tell counts size e (disks k) (faults k)) 0 es ks closed
+      same = at_each-length (λ p e k. IsEnded eyes size disks faults e k) 0 es ks closed
 
       many : length (map disks (ks ++ k ∷ [])) ≡ suc (length es)
       many = length-map (ks ++ k ∷ []) disks ∙ omega (arith, length-append ks (k ∷ []), same)
@@ -174,7 +188,7 @@ module _ {S D F W K : Type 0} (tell : PartState S D F W → Told) (counts : W �
       last_counted = subst (λ xs. slice_get xs (length es) ≡ Some (faults k)) (sym (map-append faults ks (k ∷ []))) (behind_front (map faults ks) (faults k) [] (length es) at_last)
 
   -- either of them
-  pub given_back_all : (before now : ℕ) (es : List (EngineState S D F W)) (ks : List K) (last : Option K) (fault : RunFault) → length es < options.partitions → AreOpened tell counts options files came es → AtEach (λ p e k. IsClosed tell counts size e (disks k) (faults k)) 0 es ks
+  pub given_back_all : (before now : ℕ) (es : List (WithJobs S D F W)) (ks : List K) (last : Option K) (fault : RunFault) → length es < options.partitions → AreOpened eyes options files came es → AtEach (λ p e k. IsEnded eyes size disks faults e k) 0 es ks
       → IfSome last (λ k. IsGivenBack (partition_at (length es) options.partitions) (files (length es)) (came (length es)) fault (disks k) (faults k)) → (last ≡ None → IsNotGiven (Rose before now) (length es) fault)
       → AreGivenBack options before now files came fault (map disks (ks ++ option_to_list last)) (map faults (ks ++ option_to_list last))
   given_back_all before now es ks None fault below opened closed back not_given =
@@ -199,6 +213,11 @@ next_back P rose count p n fault (Some k) many below others unasked not_given = 
 
 pub others_back : {K : Type 0} (P : ℕ → Type 0) (p n : ℕ) (last : Option K) → n ≡ p + length (option_to_list last) → ((other : ℕ) → p < other → P other) → (other : ℕ) → n < other → P other
 others_back P p n last many others other behind = others other (omega (arith, many, behind))
+
+-- one kit came at most
+pub one_at_most : {K : Type 0} (last : Option K) → length (option_to_list last) ≤ 1
+one_at_most None = omega arith
+one_at_most (Some k) = omega arith
 
 -- no kit came
 none_came : {K : Type 0} (last : Option K) → length (option_to_list last) ≡ 0 → last ≡ None

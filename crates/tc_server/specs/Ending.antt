@@ -1,5 +1,5 @@
 -- What a run read and wrote, by the way in which it ended.
-use Rattle.std.specs.Prelude.{◌≡◌, ◌≤◌, ℕ, List, Option, Some, None, option_map, IfSome}
+use Rattle.std.specs.Prelude.{◌≡◌, ◌≤◌, ℕ, List, Option, Some, None, IfSome}
 use Rattle.tc_edge.specs.Moments.{Moment, IsPrompt}
 use Rattle.tc_gen.specs.Generated.{input_of}
 use Rattle.tc_gen.specs.TwoLines.{two_lines}
@@ -8,6 +8,7 @@ use Rattle.tc_run_model.specs.World.{World}
 use Rattle.tc_run_model.specs.Course.{Ending, Shown, each_line, IsDue, Ran, worlds_left}
 use Rattle.tc_server.specs.Faults.{EndsAs, IsNoDamage}
 use Rattle.tc_server.specs.Holds.{IsLeft}
+use Rattle.tc_server.specs.Sight.{whole_of, Sight}
 use Rattle.tc_server.specs.declared.outcome.RunFault.{RunFault}
 use Rattle.tc_words.specs.Grammar.{max_commands}
 use Rattle.tc_words.specs.Options.{options_asked}
@@ -15,18 +16,18 @@ use Rattle.tc_words.specs.declared.asked.Invocation.{Invocation}
 use Rattle.tc_words.specs.declared.asked.Invocation.TheVariants.{Run, Demo}
 use Rattle.tc_words.specs.declared.run.Options.{Options}
 
--- A run from a first world, over windows of at most so many lines, of whose replies so much is shown, that ended by this fault or
+-- A run from what is known at first, over windows of at most so many lines, of whose replies so much is shown, that ended by this fault or
 -- by none. Where it ended by a generation that is not there, `spent` holds.
-pub record RanTo (shown : Shown) (spent : Type 0) (fault : Option RunFault) (first : Option World) (most : ℕ) (left left' taken taken' : Option (List ℕ)) : Type 0 where
+pub record RanTo (shown : Shown) (spent : Type 0) (fault : Option RunFault) (first : Sight) (most : ℕ) (left left' taken taken' : Option (List ℕ)) : Type 0 where
   pub ending : Ending
   pub by : EndsAs spent fault ending
-  pub ran : Ran shown first most ending left left' taken taken'
+  pub ran : Ran shown (whole_of first) most ending left left' taken taken'
 
--- The same, and what it left. Where it was known what is stored, it did not end by damage.
-pub record RanLeaving {K : Type 0} (shown : Shown) (holds : K → Option World → Type 0) (keeps : K → World → World → Type 0) (spent : K → Type 0) (fault : Option RunFault) (first : Option World) (most : ℕ) (unread unread' taken taken' : Option (List ℕ)) (k : K) : Type 0 where
+-- The same, and what it left. Where it was known what all partitions store, it did not end by damage.
+pub record RanLeaving {K : Type 0} (shown : Shown) (holds : K → Sight → Type 0) (keeps : K → Option ℕ → World → World → Type 0) (spent : K → Type 0) (fault : Option RunFault) (first : Sight) (most : ℕ) (unread unread' taken taken' : Option (List ℕ)) (k : K) : Type 0 where
   pub run : RanTo shown (spent k) fault first most unread unread' taken taken'
-  pub sound : IfSome first (λ w. IfSome fault IsNoDamage)
-  pub left : IsLeft holds keeps k (option_map (λ w. worlds_left run.ending w run.ran.answered run.ran.last) first)
+  pub sound : IfSome (whole_of first) (λ w. IfSome fault IsNoDamage)
+  pub left : IsLeft holds keeps k first (λ w. worlds_left run.ending w run.ran.answered run.ran.last)
 
 -- the limits that options set
 abbrev pub limits_of : Options → Limits
@@ -34,8 +35,8 @@ limits_of options = record { names = options.names; docs = options.docs }
 
 -- Each read from those told at first on to those told now was asked for when the sink, which had taken `base`, had
 -- accepted the replies to the windows that had closed among the bytes given before it, and no more.
-abbrev pub ReadsPromptly : Option World → ℕ → Option (List ℕ) → Option (List Moment) → Option (List Moment) → Type 0
-ReadsPromptly first most base told told' = IsPrompt (IsDue each_line first most base) told told'
+abbrev pub ReadsPromptly : Sight → ℕ → Option (List ℕ) → Option (List Moment) → Option (List Moment) → Type 0
+ReadsPromptly first most base told told' = IsPrompt (IsDue each_line (whole_of first) most base) told told'
 
 -- ---- what is asked for
 
@@ -57,11 +58,11 @@ RunsOver (Run options) left left' RunOf = RunOf each_line left left'
 RunsOver (Demo n options) left left' RunOf = (rest : Option (List ℕ)) × RunOf (two_lines n) (Some (input_of n)) rest
 
 -- the reads of a run, over windows of at most so many lines, were prompt; a demonstration reads nothing
-abbrev pub AskedPromptly : Invocation → Option World → ℕ → Option (List ℕ) → Option (List Moment) → Option (List Moment) → Type 0
+abbrev pub AskedPromptly : Invocation → Sight → ℕ → Option (List ℕ) → Option (List Moment) → Option (List Moment) → Type 0
 AskedPromptly (Run options) first most base told told' = ReadsPromptly first most base told told'
 AskedPromptly (Demo n options) first most base told told' = told' ≡ told
 
 -- the same for what the words ask for; where they are no command line there was no read
-abbrev pub ServedPromptly : Option World → Option Invocation → Option (List ℕ) → Option (List Moment) → Option (List Moment) → Type 0
+abbrev pub ServedPromptly : Sight → Option Invocation → Option (List ℕ) → Option (List Moment) → Option (List Moment) → Type 0
 ServedPromptly first (Some asked) base told told' = AskedPromptly asked first (options_asked asked).window base told told'
 ServedPromptly first None base told told' = told' ≡ told

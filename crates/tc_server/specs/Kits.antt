@@ -1,31 +1,33 @@
 -- The kit of one partition among others: its engine once it is opened, what comes of a kit whose partition is not, and what an
 -- engine leaves when it is closed.
-use Rattle.std.specs.Prelude.{◌≡◌, ◌≤◌, ◌⊎◌, ℕ, List, [], ◌∷◌, Option, Some, None}
+use Rattle.std.specs.Prelude.{◌≡◌, ◌⊎◌, ℕ, suc, true, List, [], ◌∷◌, Option, Some, None, Result, Ok, Err, IfErr, IsErrOf, OnOk}
 use Rattle.tc_engines.specs.Standing.{partition_at}
+use Rattle.tc_engines.specs.WithJobs.{no_jobs, told_of, works_of, WithJobs}
 use Rattle.tc_list.specs.Policies.{listed_least}
-use Rattle.tc_log.specs.Layout.{empty_size}
 use Rattle.tc_lsm_model.specs.Contents.{Content, Partition}
 use Rattle.tc_open.specs.Judged.{AreSpent, Passes}
 use Rattle.tc_open.specs.Openings.{IsOpenedAs}
 use Rattle.tc_part.specs.FilesOut.{OnlyDevicesOut}
-use Rattle.tc_part_model.specs.Leaving.{KeepsStore, OpensAs}
+use Rattle.tc_part_model.specs.Leaving.{KeepsStore}
 use Rattle.tc_part_model.specs.Meaning.{IsPart}
-use Rattle.tc_part_model.specs.PartState.{PartState, Told}
 use Rattle.tc_part_model.specs.PartView.{PartView, store_of}
 use Rattle.tc_plain_model.specs.Writes.{Pairs, Write as PlainWrite}
 use Rattle.tc_recover.specs.Lawful.{DiskOpens}
 use Rattle.tc_replay.specs.Openings.{AreIn}
-use Rattle.tc_store.specs.Counted.{Counts}
 use Rattle.tc_store.specs.Disk.{Disk}
 use Rattle.tc_store.specs.KitFaults.{KitFaults}
 use Rattle.tc_store.specs.Moments.{IfTold}
-use Rattle.tc_work.specs.EngineState.{EngineState}
+use Rattle.tc_work.specs.Ending.{EndsSmall}
 use Rattle.tc_work.specs.Failing.{HasFailedKeeping}
+use Rattle.tc_work.specs.Faults.{IfDamaged as IfEngineDamaged}
+use Rattle.tc_work.specs.Moving.{Eyes}
 use Rattle.tc_work.specs.Settling.{TellsFiles}
+use Rattle.tc_work.specs.declared.fault.EngineFault.{EngineFault}
+use Rattle.tc_work.specs.declared.fault.EngineFault.TheVariants as engine
 use Rattle.tc_words.specs.declared.run.Options.{Options}
-use Rattle.tc_server.specs.Calls.{IsSpentAt, MayBeAsked}
+use Rattle.tc_server.specs.Calls.{faults_at, IsSpentAt, MayBeAsked}
 use Rattle.tc_server.specs.Ending.{limits_of}
-use Rattle.tc_server.specs.Faults.{faults_of_part, IfDisk, IsNoDamage, NoneFell, OneRose}
+use Rattle.tc_server.specs.Faults.{fault_of_engine, IfDisk, IsNoDamage, NoneFell, OneRose}
 use Rattle.tc_server.specs.KitCauses.{ArePassed, HasLastGeneration, IsJudged}
 use Rattle.tc_server.specs.OverFiles.{IsHere, KeepsOpened}
 use Rattle.tc_server.specs.Places.{EachFrom}
@@ -34,24 +36,25 @@ use Rattle.tc_server.specs.declared.outcome.RunFault.TheVariants.{Usage, Read, W
 
 -- ---- a partition that was opened
 
--- It is set up by the options, and may be asked. Nothing is staged.
-pub record IsBegun {S D F W : Type 0} (tell : PartState S D F W → Told) (options : Options) (e : EngineState S D F W) : Type 0 where
-  pub ready : MayBeAsked (tell e.part) e.part
-  pub unstaged : (tell e.part).staged ≡ []
-  pub limits : e.part.limits ≡ limits_of options
-  pub memory : e.part.memory ≡ options.memory
-  pub merges : listed_least e.policy ≡ options.merge
+-- It is set up by the options, and may be asked. Nothing is staged, and no job is out.
+pub record IsBegun {S D F W : Type 0} (eyes : Eyes S D F W) (options : Options) (e : WithJobs S D F W) : Type 0 where
+  pub ready : MayBeAsked (told_of eyes e) e.engine.part
+  pub unstaged : (told_of eyes e).staged ≡ []
+  pub limits : e.engine.part.limits ≡ limits_of options
+  pub memory : e.engine.part.memory ≡ options.memory
+  pub merges : listed_least e.engine.policy ≡ options.merge
+  pub alone : e.jobs ≡ no_jobs
 
 -- The engine of a partition whose kit came with these files and counts.
-pub record IsOpened {S D F W : Type 0} (tell : PartState S D F W → Told) (counts : W → Counts) (options : Options) (here : Partition) (came : List Disk) (counted : KitFaults) (e : EngineState S D F W) : Type 0 where
-  pub begun : IsBegun tell options e
-  pub opened : IfTold came (λ disk. (cs : List Content) (logs : List (List PlainWrite)) → DiskOpens here disk cs logs → IsOpenedAs here cs logs (tell e.part))
+pub record IsOpened {S D F W : Type 0} (eyes : Eyes S D F W) (options : Options) (here : Partition) (came : List Disk) (counted : KitFaults) (e : WithJobs S D F W) : Type 0 where
+  pub begun : IsBegun eyes options e
+  pub opened : IfTold came (λ disk. (cs : List Content) (logs : List (List PlainWrite)) → DiskOpens here disk cs logs → IsOpenedAs here cs logs (told_of eyes e))
   pub passed : IfTold came (ArePassed here)
-  pub none_fell : NoneFell counted (faults_of_part counts e.part)
+  pub none_fell : NoneFell counted (faults_at eyes.counts e)
 
 -- Each is the engine of the partition of its number, of as many as the options say.
-abbrev pub AreOpened : {S D F W : Type 0} → (PartState S D F W → Told) → (W → Counts) → Options → (ℕ → List Disk) → (ℕ → KitFaults) → List (EngineState S D F W) → Type 0
-AreOpened tell counts options files came es = EachFrom (λ p e. IsOpened tell counts options (partition_at p options.partitions) (files p) (came p) e) 0 es
+abbrev pub AreOpened : {S D F W : Type 0} → Eyes S D F W → Options → (ℕ → List Disk) → (ℕ → KitFaults) → List (WithJobs S D F W) → Type 0
+AreOpened eyes options files came es = EachFrom (λ p e. IsOpened eyes options (partition_at p options.partitions) (files p) (came p) e) 0 es
 
 -- ---- a partition that was not
 
@@ -87,13 +90,32 @@ pub record IsNotGiven (rose : Type 0) (p : ℕ) (fault : RunFault) : Type 0 wher
 
 -- ---- a partition that is closed
 
--- What is left of the files of an engine that was closed, and what its watches counted. Of one that may be told to be a part no file is
--- out, and each picture keeps what it stored, or of one that failed what it kept. Of one that has not failed each picture opens
--- as its components and its log.
-pub record IsClosed {S D F W : Type 0} (tell : PartState S D F W → Told) (counts : W → Counts) (size : D → ℕ) (e : EngineState S D F W) (disks : List Disk) (counted : KitFaults) : Type 0 where
-  pub keeps : (p : PartView) → IsPart (tell e.part) p → IfTold disks (λ left. AreIn left × KeepsStore p.part (store_of p) None left)
-  pub failed : OnlyDevicesOut (tell e.part) → (here : Partition) (pairs : Pairs) (frame : Option (List PlainWrite)) → HasFailedKeeping (tell e.part) here pairs frame → IfTold disks (λ left. AreIn left × KeepsStore here pairs frame left)
-  pub opens : (p : PartView) → IsPart (tell e.part) p → IfTold disks (OpensAs p.part p.list (p.active.writes ∷ []) (size e.part.log.device))
-  pub unwritten : (p : PartView) → IsPart (tell e.part) p → TellsFiles (tell e.part) → size e.part.log.device ≤ empty_size → p.active.writes ≡ []
-  pub last : IsSpentAt (tell e.part) e.part → IfTold disks HasLastGeneration
-  pub same : counted ≡ faults_of_part counts e.part
+-- What is left of the files of an engine that was closed, once its jobs had ended, and what its watches counted. Of one that may be
+-- told to be a part no file is out, and each picture keeps what it stored, or of one that failed what it kept. Of one that ended
+-- well each picture opens as so few components that the policy picks none, and as its log. A fault with which it ended is one of a
+-- job that it waited for: none is damage where its files are told.
+pub record IsClosed {S D F W : Type 0} (eyes : Eyes S D F W) (size : D → ℕ) (e : WithJobs S D F W) (outcome : Result (Unit {0}) EngineFault) (disks : List Disk) (counted : KitFaults) : Type 0 where
+  pub keeps : (p : PartView) → IsPart (told_of eyes e) p → works_of eyes e p → IfTold disks (λ left. AreIn left × KeepsStore p.part (store_of p) None left)
+  pub failed : OnlyDevicesOut (told_of eyes e) → (here : Partition) (pairs : Pairs) (frame : Option (List PlainWrite)) → HasFailedKeeping (works_of eyes e) (told_of eyes e) here pairs frame → IfTold disks (λ left. AreIn left × KeepsStore here pairs frame left)
+  pub opens : (p : PartView) → IsPart (told_of eyes e) p → works_of eyes e p → OnOk outcome (EndsSmall p.part e.engine.policy (size e.engine.part.log.device) disks)
+  pub last : IsSpentAt (told_of eyes e) e.engine.part → IfTold disks HasLastGeneration
+  pub none_fell : NoneFell (faults_at eyes.counts e) counted
+  pub disk : IsErrOf outcome engine.Disk → OneRose (faults_at eyes.counts e) counted
+  pub undamaged : (p : PartView) → IsPart (told_of eyes e) p → TellsFiles (told_of eyes e) → works_of eyes e p → IfErr outcome (λ fault. IfEngineDamaged fault (λ damage. ⊥))
+  pub unspent : IsErrOf outcome engine.Spent → ⊥
+
+-- The fault with which engines ended, of which one ended so, and those of greater numbers by this fault, or by none: that of the
+-- least.
+abbrev pub fault_before : ℕ → Result (Unit {0}) EngineFault → Option RunFault → Option RunFault
+fault_before p (Ok done) behind = behind
+fault_before p (Err fault) behind = Some (fault_of_engine p fault)
+
+-- that of all; the first of them has this number
+abbrev pub least_fault : ℕ → List (Result (Unit {0}) EngineFault) → Option RunFault
+least_fault p [] = None
+least_fault p (outcome ∷ more) = fault_before p outcome (least_fault (suc p) more)
+
+-- How a run ends whose lines were answered so, and whose engines ended by this fault, or by none. A fault of the lines came first.
+abbrev pub fault_behind : Result (Unit {0}) RunFault → Option RunFault → Option RunFault
+fault_behind (Err fault) ended = Some fault
+fault_behind (Ok done) ended = ended

@@ -2,6 +2,7 @@ pub mod Asked
 pub mod Places
 pub mod Faults
 pub mod FaultText
+pub mod Sight
 pub mod Holds
 pub mod Window
 pub mod Stage

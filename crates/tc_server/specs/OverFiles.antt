@@ -1,8 +1,8 @@
 -- A run over the files of a shelf: the world in which it begins, how it ends, and what is left of the files of each partition.
 use Rattle.std.specs.Prelude.{◌≡◌, ◌≤◌, ◌<◌, ◌⊎◌, ◌+◌, ◌%◌, ℕ, Bool, true, List, [], ◌∷◌, length, All, Option, Some, None, IfSome}
 use Rattle.std.specs.Io.KnownBytes.{Keeps}
-use Rattle.tc_engines.specs.Standing.{partition_at}
-use Rattle.tc_store.specs.Disk.{Disk, Picture}
+use Rattle.tc_engines.specs.Standing.{partition_at, IsSeen}
+use Rattle.tc_store.specs.Disk.{Disk, IsPictureOf, Picture}
 use Rattle.tc_store.specs.Moments.{IfTold}
 use Rattle.tc_store.specs.Pictures.{LeavesPictures}
 use Rattle.tc_lsm_model.specs.Contents.{Content, Partition}
@@ -20,6 +20,7 @@ use Rattle.tc_run_model.specs.Course.{Ending, finished, input_failed, input_spen
 use Rattle.tc_server.specs.Ending.{limits_of, RunsOver}
 use Rattle.tc_server.specs.Faults.{IsNoDamage}
 use Rattle.tc_server.specs.Places.{EachFrom}
+use Rattle.tc_server.specs.Sight.{whole_of, IfKnown, Sight}
 use Rattle.tc_server.specs.declared.outcome.RunFault.{RunFault}
 use Rattle.tc_server.specs.declared.outcome.RunFault.TheVariants.{Usage, Read, Write, Spent, Disk as DiskFault, Damaged, Memory, Layout}
 use Rattle.tc_words.specs.Options.{options_asked}
@@ -44,24 +45,24 @@ OpensAs here (disk ∷ past) stored = OpensWith here disk stored
 abbrev pub AreOwn : ℕ → ℕ → Pairs → Type 0
 AreOwn count p pairs = All (λ e. e.0 % count ≡ p) pairs
 
--- each partition of a world has keys of its own alone
-abbrev pub HaveOwn : World → Type 0
-HaveOwn w = EachFrom (λ p part. AreOwn (length w.parts) p part.now.pairs) 0 w.parts
+-- each partition of a world has keys of its own alone, or the one of this number
+abbrev pub HaveOwn : Option ℕ → World → Type 0
+HaveOwn only w = EachFrom (λ p part. IsSeen only p → AreOwn (length w.parts) p part.now.pairs) 0 w.parts
 
--- The world over the files of so many partitions. Each has keys of its own alone.
-pub record OpenAs (limits : Limits) (count : ℕ) (files : ℕ → List Disk) (w : World) : Type 0 where
+-- A world over the files of so many partitions: each stores what its files open as, and has keys of its own alone, or the one of this
+-- number does, whatever is in the files of others.
+pub record OpenAs (limits : Limits) (count : ℕ) (files : ℕ → List Disk) (only : Option ℕ) (w : World) : Type 0 where
   pub stores : List Store
   pub counted : length stores ≡ count
-  pub each : EachFrom (λ p stored. OpensAs (partition_at p count) (files p) stored × AreOwn count p stored.pairs) 0 stores
+  pub each : EachFrom (λ p stored. IsSeen only p → OpensAs (partition_at p count) (files p) stored × AreOwn count p stored.pairs) 0 stores
   pub world : w ≡ first_world limits stores
 
--- The world in which a run begins over these files. None is known where they are not told, and none is said where no picture is
--- lawful.
-abbrev pub BeginsAs : Limits → ℕ → (ℕ → List Disk) → Option World → Type 0
-BeginsAs limits count files None = Unit {0}
-BeginsAs limits count files (Some w) = OpenAs limits count files w
+-- What is known where a run begins over these files. Nothing is known where they are not told, and nothing is said of a partition of
+-- which no picture is lawful.
+abbrev pub BeginsAs : Limits → ℕ → (ℕ → List Disk) → Sight → Type 0
+BeginsAs limits count files first = IfKnown first (OpenAs limits count files)
 
-abbrev pub BeginsFor : Option Invocation → (ℕ → List Disk) → Option World → Type 0
+abbrev pub BeginsFor : Option Invocation → (ℕ → List Disk) → Sight → Type 0
 BeginsFor (Some asked) files first = BeginsAs (limits_of (options_asked asked)) (options_asked asked).partitions files first
 BeginsFor None files first = Unit {0}
 
@@ -110,9 +111,9 @@ abbrev pub LeavesOneOf : ℕ → List World → ℕ → List Disk → Type 0
 LeavesOneOf count worlds p disks =
     IfTold disks (λ disk. AreIn disk × LeavesPictures nothing_held (λ picture. Recovers (partition_at p count) picture (IsStoredInOne p worlds)) disk)
 
--- of each kit that is given back, each by itself
-abbrev pub LeaveOneOf : ℕ → List World → List (List Disk) → Type 0
-LeaveOneOf count worlds kits = EachFrom (LeavesOneOf count worlds) 0 kits
+-- of each kit that is given back, each by itself, or of that of the one partition that is known
+abbrev pub LeaveOneOf : Option ℕ → ℕ → List World → List (List Disk) → Type 0
+LeaveOneOf only count worlds kits = EachFrom (λ p left. IsSeen only p → LeavesOneOf count worlds p left) 0 kits
 
 -- Where the files of a partition were lawful as they came, they keep what they held, whatever is in those of others.
 abbrev pub KeepsOpened : Partition → List Disk → List Disk → Type 0
@@ -135,29 +136,51 @@ pub record OpensSmall (here : Partition) (memory merge : ℕ) (flushed : Bool) (
 abbrev pub LeavesSmall : Options → Bool → ℕ → List Disk → Type 0
 LeavesSmall options flushed p disks = IfTold disks (LeavesPictures nothing_held (OpensSmall (partition_at p options.partitions) options.memory options.merge flushed))
 
--- A run for these options over files, from a first world where it is known, of whose replies so much is shown, that ended by this
--- fault or by none, and gave these files back, in ascending number of the partition. Where the world is known nothing is damaged,
--- of another partition, or of another number of partitions. No line is read before all kits have come. Where none was read each
--- partition keeps what it held. Where the run ended by none the files are left small: no log has a frame where a flush or the
--- schema was asked for, and nothing was written since.
-pub record RanOver (shown : Shown) (fault : Option RunFault) (first : Option World) (options : Options) (files : ℕ → List Disk) (left left' taken taken' : Option (List ℕ)) (kits : List (List Disk)) : Type 0 where
+-- the same of each kit, or of that of the one partition that is known
+abbrev pub LeaveSmall : Option ℕ → Options → Bool → List (List Disk) → Type 0
+LeaveSmall only options flushed kits = EachFrom (λ p left. IsSeen only p → LeavesSmall options flushed p left) 0 kits
+
+-- A run for these options over files, from what is known of them, of whose replies so much is shown, that ended by this fault or by
+-- none, and gave these files back, in ascending number of the partition. Where the world of all is known nothing is damaged, of
+-- another partition, or of another number of partitions. No line is read before all kits have come. A partition that is known is left
+-- as the replies say, also where it alone is. Where no line was read each partition keeps what it held. Where the run ended by none
+-- the files are left small: no log has a frame where a flush or the schema was asked for, and nothing was written since.
+pub record RanOver (shown : Shown) (fault : Option RunFault) (first : Sight) (options : Options) (files : ℕ → List Disk) (left left' taken taken' : Option (List ℕ)) (kits : List (List Disk)) : Type 0 where
   pub ending : Ending
   pub by : EndsOver fault ending
-  pub ran : Ran shown first options.window ending left left' taken taken'
-  pub sound : IfSome first (λ w. IfSome fault IsNoDamage × IfSome fault IsHere)
+  pub ran : Ran shown (whole_of first) options.window ending left left' taken taken'
+  pub sound : IfSome (whole_of first) (λ w. IfSome fault IsNoDamage × IfSome fault IsHere)
   pub needs : length kits < options.partitions → ending ≡ unopened
-  pub exits : IfSome first (λ w. LeaveOneOf options.partitions (worlds_left ending w ran.answered ran.last) kits)
+  pub exits : IfKnown first (λ only w. LeaveOneOf only options.partitions (worlds_left ending w ran.answered ran.last) kits)
   pub kept : ending ≡ unopened → EachFrom (λ p. KeepsOpened (partition_at p options.partitions) (files p)) 0 kits
-  pub small : IfSome first (λ w. fault ≡ None → EachFrom (LeavesSmall options (behind w ran.answered).flushed) 0 kits)
+  pub small : IfKnown first (λ only w. fault ≡ None → LeaveSmall only options (behind w ran.answered).flushed kits)
 
 -- what was asked for, with its options
-abbrev pub AskedOver : Invocation → Option RunFault → Option World → (ℕ → List Disk) → Option (List ℕ) → Option (List ℕ) → Option (List ℕ) → Option (List ℕ) → List (List Disk) → Type 0
+abbrev pub AskedOver : Invocation → Option RunFault → Sight → (ℕ → List Disk) → Option (List ℕ) → Option (List ℕ) → Option (List ℕ) → Option (List ℕ) → List (List Disk) → Type 0
 AskedOver asked fault first files left left' taken taken' kits =
     RunsOver asked left left' (λ shown unread unread'. RanOver shown fault first (options_asked asked) files unread unread' taken taken' kits)
 
 -- The same for words; where they are no command line nothing is read or written, and no kit is asked for.
-abbrev pub ServedOver : Option Invocation → Option RunFault → Option World → (ℕ → List Disk) → Option (List ℕ) → Option (List ℕ) → Option (List ℕ) → Option (List ℕ) → List (List Disk) → Type 0
+abbrev pub ServedOver : Option Invocation → Option RunFault → Sight → (ℕ → List Disk) → Option (List ℕ) → Option (List ℕ) → Option (List ℕ) → Option (List ℕ) → List (List Disk) → Type 0
 ServedOver (Some asked) fault first files left left' taken taken' kits = AskedOver asked fault first files left left' taken taken' kits
 ServedOver None (Some Usage) first files left left' taken taken' kits = Keeps left left' × Keeps taken taken' × (kits ≡ [])
 ServedOver None (Some Memory) first files left left' taken taken' kits = Keeps left left' × Keeps taken taken' × (kits ≡ [])
 ServedOver None _ first files left left' taken taken' kits = ⊥
+
+-- ---- one run behind another
+
+-- A stop left this picture of files that were given back, and it is what comes now, where both are told.
+abbrev pub IsFoundOf : List Disk → List Disk → Type 0
+IsFoundOf [] came = ⊥
+IsFoundOf (disk ∷ past) [] = ⊥
+IsFoundOf (disk ∷ past) (next ∷ before) = (picture : Picture) × IsPictureOf nothing_held disk picture × IsPictureOf nothing_held next picture
+
+-- of each partition, or of the one of this number
+abbrev pub AreFoundOf : Option ℕ → List (List Disk) → (ℕ → List Disk) → Type 0
+AreFoundOf only kits files = EachFrom (λ p left. IsSeen only p → IsFoundOf left (files p)) 0 kits
+
+-- A run begins over these files in a world of which the partitions that are known store what they do in one of these worlds.
+pub record MayFollow (limits : Limits) (count : ℕ) (files : ℕ → List Disk) (only : Option ℕ) (worlds : List World) : Type 0 where
+  pub first : World
+  pub begins : OpenAs limits count files only first
+  pub stored : EachFrom (λ p part. IsSeen only p → IsStoredInOne p worlds part.now.pairs) 0 first.parts

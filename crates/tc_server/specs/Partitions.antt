@@ -1,21 +1,20 @@
 -- How the engines of the partitions stand to a world that may not be known, and how a run ends by their faults.
-use Rattle.std.specs.Prelude.{ℕ, List, Option, Some, None}
+use Rattle.std.specs.Prelude.{ℕ, List}
 use Rattle.tc_engines.specs.Standing.{HoldWorld}
+use Rattle.tc_engines.specs.WithJobs.{WithJobs}
 use Rattle.tc_engines.specs.declared.fault.EnginesFault.{EnginesFault}
 use Rattle.tc_engines.specs.declared.fault.EnginesFault.TheVariants as engines
-use Rattle.tc_part_model.specs.PartState.{PartState, Told}
-use Rattle.tc_run_model.specs.World.{World}
-use Rattle.tc_work.specs.EngineState.{EngineState}
+use Rattle.tc_work.specs.Moving.{Eyes}
 use Rattle.tc_work.specs.declared.fault.EngineFault.{EngineFault}
 use Rattle.tc_work.specs.declared.fault.EngineFault.TheVariants as engine
 use Rattle.tc_server.specs.Faults.{fault_of_engine}
+use Rattle.tc_server.specs.Sight.{IfKnown, Sight}
 use Rattle.tc_server.specs.declared.outcome.RunFault.{RunFault}
 use Rattle.tc_server.specs.declared.outcome.RunFault.TheVariants.{Disk, Damaged, Memory}
 
--- each holds its part of the world, where that is known
-abbrev pub StandAt : {S D F W : Type 0} → (PartState S D F W → Told) → List (EngineState S D F W) → Option World → Type 0
-StandAt tell es None = Unit {0}
-StandAt tell es (Some w) = HoldWorld tell es w
+-- each holds its part of the world, where that is known, or the one that is known alone
+abbrev pub StandAt : {S D F W : Type 0} → Eyes S D F W → List (WithJobs S D F W) → Sight → Type 0
+StandAt e es known = IfKnown known (λ only w. HoldWorld e only es w)
 
 -- How a run ends by a fault of a window in the engine of this partition. No number of writes is spent: an input has not so many
 -- lines.

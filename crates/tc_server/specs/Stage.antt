@@ -1,5 +1,5 @@
 -- What a session holds and what the sink accepted of it, by the windows of the lines that came.
-use Rattle.std.specs.Prelude.{◌≡◌, ◌<◌, ◌≤◌, ℕ, length, IfSome, List, [], ◌∷◌, ◌++◌, sum_by, Option, Some, option_map}
+use Rattle.std.specs.Prelude.{◌≡◌, ◌<◌, ◌≤◌, ℕ, length, IfSome, List, [], ◌∷◌, ◌++◌, sum_by, Option, Some}
 use Rattle.std.specs.Io.KnownBytes.{Appends}
 use Rattle.tc_model.specs.Request.{request_of}
 use Rattle.tc_model.specs.Reply.{Reply}
@@ -7,10 +7,11 @@ use Rattle.tc_run_model.specs.World.{World}
 use Rattle.tc_run_model.specs.Known.{MayReply}
 use Rattle.tc_run_model.specs.Built.{if_built, requests_for}
 use Rattle.tc_run_model.specs.Windows.{BeginsWith, Window, Windows, is_control, line_size, max_window, unless_empty, with_line}
-use Rattle.tc_run_model.specs.Course.{requests_in, known_behind, each_line, Took, worlds_left}
+use Rattle.tc_run_model.specs.Course.{requests_in, each_line, Took, worlds_left}
 use Rattle.tc_server.specs.Asked.{request_asked, is_whole}
 use Rattle.tc_server.specs.Faults.{Stop, failed_writing, gave_up, stop_of, ending_at, IsNoDamage}
 use Rattle.tc_server.specs.Holds.{IsLeft}
+use Rattle.tc_server.specs.Sight.{sight_behind, whole_of, Sight}
 use Rattle.tc_server.specs.Window.{requests_of, IsSoundWindow}
 use Rattle.tc_server.specs.declared.answer.Action.{Action}
 use Rattle.tc_server.specs.declared.outcome.RunFault.{RunFault}
@@ -32,11 +33,11 @@ pub record IsReady {K : Type 0} (may_ask : K → Type 0) (session : Session K) :
 
 -- The session stands behind the windows: what has closed was answered from the first world and written, in order, to a
 -- sink that had taken `base`; what is open is held.
-pub record IsAt {K : Type 0} (holds : K → Option World → Type 0) (first : Option World) (base : Option (List ℕ)) (ws : Windows) (session : Session K) (taken : Option (List ℕ)) : Type 0 where
+pub record IsAt {K : Type 0} (holds : K → Sight → Type 0) (first : Sight) (base : Option (List ℕ)) (ws : Windows) (session : Session K) (taken : Option (List ℕ)) : Type 0 where
   pub replies : List Reply
-  pub given : MayReply (requests_in ws.closed) first replies
+  pub given : MayReply (requests_in ws.closed) (whole_of first) replies
   pub written : Appends base taken (each_line replies)
-  pub store : holds session.keeper (known_behind first ws.closed)
+  pub store : holds session.keeper (sight_behind first ws.closed)
   pub requests : requests_of session.window ≡ requests_for ws.open_lines
   pub bytes : session.window.bytes ≡ sum_by line_size ws.open_lines
 
@@ -50,28 +51,28 @@ up_to (failed_writing n) answered last = answered ++ last ∷ []
 up_to gave_up answered last = answered ++ unless_empty last
 
 -- Of windows that closed, these were answered and written, and at the one behind them the run ended.
-pub record EndsAmong {K : Type 0} (holds : K → Option World → Type 0) (keeps : K → World → World → Type 0) (first : Option World) (stop : Stop) (base : Option (List ℕ)) (closed : List Window) (taken : Option (List ℕ)) (k : K) : Type 0 where
+pub record EndsAmong {K : Type 0} (holds : K → Sight → Type 0) (keeps : K → Option ℕ → World → World → Type 0) (first : Sight) (stop : Stop) (base : Option (List ℕ)) (closed : List Window) (taken : Option (List ℕ)) (k : K) : Type 0 where
   pub answered : List Window
   pub last : Window
   pub replies : List Reply
-  pub given : MayReply (requests_in answered) first replies
+  pub given : MayReply (requests_in answered) (whole_of first) replies
   pub among : BeginsWith closed (up_to stop answered last)
-  pub took : Took each_line (ending_at stop) first answered last replies base taken
-  pub left : IsLeft holds keeps k (option_map (λ w. worlds_left (ending_at stop) w answered last) first)
+  pub took : Took each_line (ending_at stop) (whole_of first) answered last replies base taken
+  pub left : IsLeft holds keeps k first (λ w. worlds_left (ending_at stop) w answered last)
 
 -- what was done by a fault in the windows that closed
-pub record StopsIn {K : Type 0} (holds : K → Option World → Type 0) (keeps : K → World → World → Type 0) (first : Option World) (fault : RunFault) (base : Option (List ℕ)) (closed : List Window) (taken : Option (List ℕ)) (k : K) : Type 0 where
+pub record StopsIn {K : Type 0} (holds : K → Sight → Type 0) (keeps : K → Option ℕ → World → World → Type 0) (first : Sight) (fault : RunFault) (base : Option (List ℕ)) (closed : List Window) (taken : Option (List ℕ)) (k : K) : Type 0 where
   pub stop : Stop
   pub by : stop_of fault ≡ Some stop
-  pub sound : IfSome first (λ w. IsNoDamage fault)
+  pub sound : IfSome (whole_of first) (λ w. IsNoDamage fault)
   pub ends : EndsAmong holds keeps first stop base closed taken k
 
 -- from behind any windows the session goes to behind these windows with the line
-abbrev pub TakesLine : {K : Type 0} → (K → Option World → Type 0) → List ℕ → Session K → Option (List ℕ) → Session K → Option (List ℕ) → Type 0
+abbrev pub TakesLine : {K : Type 0} → (K → Sight → Type 0) → List ℕ → Session K → Option (List ℕ) → Session K → Option (List ℕ) → Type 0
 TakesLine holds line old taken new taken' =
-    (first : Option World) (base : Option (List ℕ)) (ws : Windows) → IsAt holds first base ws old taken → IsAt holds first base (with_line old.window.limit ws line) new taken'
+    (first : Sight) (base : Option (List ℕ)) (ws : Windows) → IsAt holds first base ws old taken → IsAt holds first base (with_line old.window.limit ws line) new taken'
 
 -- behind any windows the session stops in those that the line closes
-abbrev pub FailsAtLine : {K : Type 0} → (K → Option World → Type 0) → (K → World → World → Type 0) → RunFault → List ℕ → Session K → Option (List ℕ) → Session K → Option (List ℕ) → Type 0
+abbrev pub FailsAtLine : {K : Type 0} → (K → Sight → Type 0) → (K → Option ℕ → World → World → Type 0) → RunFault → List ℕ → Session K → Option (List ℕ) → Session K → Option (List ℕ) → Type 0
 FailsAtLine holds keeps fault line old taken new taken' =
-    (first : Option World) (base : Option (List ℕ)) (ws : Windows) → IsAt holds first base ws old taken → StopsIn holds keeps first fault base (with_line old.window.limit ws line).closed taken' new.keeper
+    (first : Sight) (base : Option (List ℕ)) (ws : Windows) → IsAt holds first base ws old taken → StopsIn holds keeps first fault base (with_line old.window.limit ws line).closed taken' new.keeper

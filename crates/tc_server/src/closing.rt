@@ -1,31 +1,59 @@
 //! The partitions of a run are closed, and their kits given back.
 
-ghost use Rattle.std.specs.Prelude.{◌≡◌, ◌≤◌, ◌+◌, ◌∷◌, ◌++◌, List, [], length, vec_capacity, vec_len, Option, option_to_list};
+ghost use Rattle.std.specs.Prelude.{◌≡◌, ◌≤◌, ◌+◌, ◌++◌, ◌∷◌, false, List, length, map, vec_capacity, vec_len};
 ghost use Rattle.tc_engines.specs.Places.{AtEach};
 ghost use Rattle.tc_part_model.specs.PartState.{told};
 ghost use Rattle.tc_server.specs.Faults.{faults_in};
-ghost use Rattle.tc_server.specs.Kits.{IsClosed};
-ghost use Rattle.tc_store.specs.declared.kit.Kit.{Kit as kit};
+ghost use Rattle.tc_server.specs.Kits.{fault_before, least_fault, IsClosed};
+ghost use Rattle.tc_work.specs.JobsOut.{AreOut};
+ghost use Rattle.tc_work.specs.Moving.{eyes};
+ghost use Rattle.tc_work.specs.Settling.{MaySettle};
+ghost use Rattle.tc_work.specs.declared.finishing.Finished.{Finished as finished};
 
+use crate::outcome::{RunFault, of_engine};
+use std::alloc::Global;
+use std::thread::Threads;
 use tc_engines::Engines;
 use tc_part::parts_hold_devices;
+use tc_running::{Pace, Running};
 use tc_store::{Kit, Store};
-use tc_work::{Engine, Finished};
+use tc_work::{Engine, EngineFault, Finished};
+
+/// Kits that are given back, and the fault with which the engine of the least partition ended, if any did.
+#[derive(Drop)]
+pub(crate) struct Closed<S: Store> {
+    pub(crate) kits: Vec<Kit<S>>,
+    pub(crate) fault: Option<RunFault>,
+}
 
 /// Closes all engines, and puts their kits before these, in ascending number. There is room for them.
-pub(crate) fn close_all<S: Store>(engines: Engines<S>, kits: Vec<Kit<S>>) -> Vec<Kit<S>>
+pub(crate) fn close_all<R: Threads, S: Store + 'static, P: Pace + 'static>(
+    rt: &R,
+    alloc: Global,
+    engines: Engines<S, P>,
+    kits: Vec<Kit<S>>,
+) -> Closed<S>
+where
+    S::Device: 'static,
+    S::Frozen: 'static,
+    S::Watch: 'static,
+    requires few { length engines ≤ 16 }
     requires room { length engines + vec_len kits ≤ vec_capacity kits }
-    ensures { (closed : List (kit S S.Watch S.Device S.Frozen)) × (result.items ≡ closed ++ kits.items) × AtEach (λ p e k. IsClosed (λ part. told S.history S.Device.history S.Frozen.content part) (λ w. S.Watch.counts w) (λ d. S.Device.size d) e (S.history k.store) (faults_in (λ w. S.Watch.counts w) k)) 0 engines closed }
+    ensures { (ended : List (finished S S.Watch S.Device S.Frozen)) × (result.kits.items ≡ map (λ f. f.kit) ended ++ kits.items) × (result.fault ≡ least_fault 0 (map (λ f. f.outcome) ended))
+        × AtEach (λ p e f. IsClosed (eyes S.history S.Device.history S.Frozen.content S.Device.name S.Frozen.size S.Watch.counts) (λ d. S.Device.size d) e f.outcome (S.history f.kit.store) (faults_in (λ w. S.Watch.counts w) f.kit)) 0 engines ended }
 {
     let mut engines = engines;
     let mut kits = kits;
+    let mut fault = None;
     for _ in 0..engines.len() {
-        let Some(engine) = engines.pop() else {
+        let Some((engine, jobs)) = engines.pop() else {
             unreachable!();
         };
-        put_first(&mut kits, close(engine));
+        let Finished { kit, outcome } = close(rt, alloc, engine, jobs);
+        put_first(&mut kits, kit);
+        fault = fault_with(engines.len() as u32, outcome, fault);
     }
-    kits
+    Closed { kits, fault }
 }
 
 // Puts a kit before the others, for which there is room.
@@ -40,11 +68,35 @@ fn put_first<S: Store>(kits: &mut Vec<Kit<S>>, kit: Kit<S>)
     }
 }
 
-/// Closes an engine, and gives its kit back. It may have failed.
-pub(crate) fn close<S: Store>(engine: Engine<S>) -> Kit<S>
-    ensures { IsClosed (λ part. told S.history S.Device.history S.Frozen.content part) (λ w. S.Watch.counts w) (λ d. S.Device.size d) engine (S.history result.store) (faults_in (λ w. S.Watch.counts w) result) }
+// The fault with which engines ended, of which this one has the least number; those behind it ended by that fault, or by none.
+fn fault_with(
+    partition: u32,
+    outcome: Result<(), EngineFault>,
+    behind: Option<RunFault>,
+) -> Option<RunFault>
+    ensures { result ≡ fault_before partition outcome behind }
+{
+    match outcome {
+        Err(fault) => Some(of_engine(partition, fault)),
+        Ok(()) => behind,
+    }
+}
+
+/// Closes an engine, once its jobs have ended, and gives its kit back. It may have failed.
+pub(crate) fn close<R: Threads, S: Store + 'static, P: Pace + 'static>(
+    rt: &R,
+    alloc: Global,
+    engine: Engine<S, P>,
+    jobs: Running<S>,
+) -> Finished<S>
+where
+    S::Device: 'static,
+    S::Frozen: 'static,
+    S::Watch: 'static,
+    requires ready { engine.part.failed ≡ false → MaySettle (told S.history S.Device.history S.Frozen.content engine.part) }
+    requires jobs { AreOut S.history S.Device.history S.Frozen.content S.Device.name engine.part jobs }
+    ensures { IsClosed (eyes S.history S.Device.history S.Frozen.content S.Device.name S.Frozen.size S.Watch.counts) (λ d. S.Device.size d) (record { engine = engine; jobs = jobs }) result.outcome (S.history result.kit.store) (faults_in (λ w. S.Watch.counts w) result.kit) }
 {
     parts_hold_devices();
-    let Finished { kit, .. } = engine.finish();
-    kit
+    engine.finish(rt, alloc, jobs)
 }

@@ -14,7 +14,7 @@ mod session;
 mod texts;
 mod window;
 
-pub use laws::own_keys_stay;
+pub use laws::{own_keys_stay, runs_may_follow};
 pub use outcome::{RunFault, Served};
 pub use program::{run_program, words};
 pub use server::serve;

@@ -4,10 +4,10 @@ ghost use Rattle.std.specs.Prelude.{◌≡◌, ◌≢◌, ◌≤◌, ◌<◌, �
 ghost use Rattle.tc_bytes.specs.Counts.{Rose};
 ghost use Rattle.tc_engines.specs.Standing.{partition_at};
 ghost use Rattle.tc_list.specs.Policies.{listed_least};
-ghost use Rattle.tc_part_model.specs.PartState.{told};
 ghost use Rattle.tc_store.specs.Disk.{IsAtRest};
 ghost use Rattle.tc_store.specs.Moments.{IfTold};
-ghost use Rattle.tc_work.specs.EngineState.{EngineState};
+ghost use Rattle.tc_work.specs.Moving.{eyes};
+ghost use Rattle.tc_engines.specs.WithJobs.{WithJobs};
 ghost use Rattle.tc_server.specs.Faults.{faults_in};
 ghost use Rattle.tc_server.specs.KitCauses.{HasLayoutCause};
 ghost use Rattle.tc_server.specs.Kits.{AreOpened, IsGivenBack, IsNotGiven, IsOpened};
@@ -15,10 +15,13 @@ ghost use Rattle.tc_server.specs.Kits.{AreOpened, IsGivenBack, IsNotGiven, IsOpe
 use crate::closing::close;
 use crate::outcome::{RunFault, of_opening, of_shelf};
 use std::alloc::Global;
+use std::sync::Arc;
+use std::thread::Threads;
 use tc_engines::Engines;
 use tc_list::Policy;
 use tc_open::{OpenFault, open_part};
 use tc_part::Limits;
+use tc_running::{Pace, Running};
 use tc_store::{Kit, Shelf, Store};
 use tc_words::Options;
 use tc_work::Engine;
@@ -32,14 +35,21 @@ pub(crate) struct NotOpened<S: Store> {
 
 /// Asks for the kits of as many partitions as the options say, in ascending number, and opens each before the next one is asked
 /// for. The first refusal ends it; the engines of the partitions before it stay.
-pub(crate) fn open_all<H: Shelf>(
+pub(crate) fn open_all<R: Threads, H: Shelf, P: Pace + 'static>(
+    rt: &R,
     alloc: Global,
     options: &Options,
+    pace: &Arc<P>,
     shelf: &mut H,
-    engines: &mut Engines<H::Store>,
+    engines: &mut Engines<H::Store, P>,
 ) -> Result<(), NotOpened<H::Store>>
+where
+    H::Store: 'static,
+    <H::Store as Store>::Device: 'static,
+    <H::Store as Store>::Frozen: 'static,
+    <H::Store as Store>::Watch: 'static,
     requires none { engines.old ≡ [] }
-    ensures opened { AreOpened (λ part. told H.Store.history H.Store.Device.history H.Store.Frozen.content part) (λ w. H.Store.Watch.counts w) options.now (H.files shelf.old) (H.kit_faults shelf.old) engines.new }
+    ensures opened { AreOpened (eyes H.Store.history H.Store.Device.history H.Store.Frozen.content H.Store.Device.name H.Store.Frozen.size H.Store.Watch.counts) options.now (H.files shelf.old) (H.kit_faults shelf.old) engines.new }
     ensures all { OnOk result (length engines.new ≡ options.now.partitions) }
     ensures some { OnErr result (length engines.new < options.now.partitions) }
 
@@ -56,20 +66,27 @@ pub(crate) fn open_all<H: Shelf>(
     ensures faults { H.faults shelf.old ≤ H.faults shelf.new }
 {
     for number in 0..options.partitions {
-        open_next(alloc, options, number, shelf, engines)?;
+        open_next(rt, alloc, options, pace, number, shelf, engines)?;
     }
     Ok(())
 }
 
 // Asks for the kit of the next partition, and opens it.
-fn open_next<H: Shelf>(
+fn open_next<R: Threads, H: Shelf, P: Pace + 'static>(
+    rt: &R,
     alloc: Global,
     options: &Options,
+    pace: &Arc<P>,
     number: u32,
     shelf: &mut H,
-    engines: &mut Engines<H::Store>,
+    engines: &mut Engines<H::Store, P>,
 ) -> Result<(), NotOpened<H::Store>>
-    ensures opened { OnOk result ((e : EngineState H.Store H.Store.Device H.Store.Frozen H.Store.Watch) × (engines.new ≡ engines.old ++ e ∷ []) × IsOpened (λ part. told H.Store.history H.Store.Device.history H.Store.Frozen.content part) (λ w. H.Store.Watch.counts w) options.now (partition_at number options.now.partitions) (H.files shelf.old number) (H.kit_faults shelf.old number) e) }
+where
+    H::Store: 'static,
+    <H::Store as Store>::Device: 'static,
+    <H::Store as Store>::Frozen: 'static,
+    <H::Store as Store>::Watch: 'static,
+    ensures opened { OnOk result ((e : WithJobs H.Store H.Store.Device H.Store.Frozen H.Store.Watch) × (engines.new ≡ engines.old ++ e ∷ []) × IsOpened (eyes H.Store.history H.Store.Device.history H.Store.Frozen.content H.Store.Device.name H.Store.Frozen.size H.Store.Watch.counts) options.now (partition_at number options.now.partitions) (H.files shelf.old number) (H.kit_faults shelf.old number) e) }
     ensures stays { OnErr result (engines.new ≡ engines.old) }
     ensures back { IfErr result (λ refused. IfSome refused.kit (λ kit. IsGivenBack (partition_at number options.now.partitions) (H.files shelf.old number) (H.kit_faults shelf.old number) refused.fault (H.Store.history kit.store) (faults_in (λ w. H.Store.Watch.counts w) kit))) }
     ensures not_given { IfErr result (λ refused. refused.kit ≡ None → IsNotGiven (Rose (H.faults shelf.old) (H.faults shelf.new)) number refused.fault) }
@@ -78,8 +95,17 @@ fn open_next<H: Shelf>(
     ensures same { IfErr result (λ refused. refused.kit ≡ None → refused.fault ≡ RunFault.Memory → shelf.new ≡ shelf.old) }
     ensures faults { H.faults shelf.old ≤ H.faults shelf.new }
 {
+    let pace = match Arc::try_clone(pace) {
+        Ok(pace) => pace,
+        Err(_) => {
+            return Err(NotOpened {
+                kit: None,
+                fault: RunFault::Memory,
+            });
+        }
+    };
     match shelf.kit(alloc, number) {
-        Ok(kit) => open_kit(alloc, options, number, kit, engines),
+        Ok(kit) => open_kit(rt, alloc, options, pace, number, kit, engines),
         Err(fault) => Err(NotOpened {
             kit: None,
             fault: of_shelf(number, fault),
@@ -88,15 +114,21 @@ fn open_next<H: Shelf>(
 }
 
 // Opens the partition of a kit.
-fn open_kit<S: Store>(
+fn open_kit<R: Threads, S: Store + 'static, P: Pace + 'static>(
+    rt: &R,
     alloc: Global,
     options: &Options,
+    pace: Arc<P>,
     number: u32,
     kit: Kit<S>,
-    engines: &mut Engines<S>,
+    engines: &mut Engines<S, P>,
 ) -> Result<(), NotOpened<S>>
+where
+    S::Device: 'static,
+    S::Frozen: 'static,
+    S::Watch: 'static,
     requires at_rest { IfTold (S.history kit.store) IsAtRest }
-    ensures opened { OnOk result ((e : EngineState S S.Device S.Frozen S.Watch) × (engines.new ≡ engines.old ++ e ∷ []) × IsOpened (λ part. told S.history S.Device.history S.Frozen.content part) (λ w. S.Watch.counts w) options.now (partition_at number options.now.partitions) (S.history kit.store) (faults_in (λ w. S.Watch.counts w) kit) e) }
+    ensures opened { OnOk result ((e : WithJobs S S.Device S.Frozen S.Watch) × (engines.new ≡ engines.old ++ e ∷ []) × IsOpened (eyes S.history S.Device.history S.Frozen.content S.Device.name S.Frozen.size S.Watch.counts) options.now (partition_at number options.now.partitions) (S.history kit.store) (faults_in (λ w. S.Watch.counts w) kit) e) }
     ensures stays { OnErr result (engines.new ≡ engines.old) }
     ensures some { IfErr result (λ refused. IsSome refused.kit) }
     ensures back { IfErr result (λ refused. IfSome refused.kit (λ back. IsGivenBack (partition_at number options.now.partitions) (S.history kit.store) (faults_in (λ w. S.Watch.counts w) kit) refused.fault (S.history back.store) (faults_in (λ w. S.Watch.counts w) back))) }
@@ -116,10 +148,10 @@ fn open_kit<S: Store>(
             });
         }
     };
-    match engines.push(alloc, Engine::new(part, policy_of(options))) {
+    match engines.push(alloc, Engine::new(part, policy_of(options), pace)) {
         Ok(()) => Ok(()),
         Err(engine) => Err(NotOpened {
-            kit: Some(close(engine)),
+            kit: Some(close(rt, alloc, engine, Running::new()).kit),
             fault: RunFault::Memory,
         }),
     }

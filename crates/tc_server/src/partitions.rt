@@ -1,15 +1,15 @@
 //! The engines of the partitions answer windows.
 
-ghost use Rattle.std.specs.Prelude.{◌≡◌, ◌≤◌, ◌∷◌, [], map, All, IfErr, IfOk};
+ghost use Rattle.std.specs.Prelude.{◌≡◌, ◌≤◌, ◌∷◌, [], map, All, None, IfErr, IfOk};
 ghost use Rattle.serde_json.specs.View.{view};
 ghost use Rattle.tc_log.specs.Layout.{empty_size};
 ghost use Rattle.tc_model.specs.Keyed.{values_in};
 ghost use Rattle.tc_engines.specs.Standing.{HoldWorld};
-ghost use Rattle.tc_part_model.specs.PartState.{told};
 ghost use Rattle.tc_plain_model.specs.Store.{documents};
 ghost use Rattle.tc_run_model.specs.World.{World};
 ghost use Rattle.tc_schema_model.specs.SchemaText.{schema_text};
 ghost use Rattle.tc_server.specs.Partitions.{fault_of_engines, window_fault_at, window_fault_of};
+ghost use Rattle.tc_work.specs.Moving.{eyes};
 
 use crate::outcome::{RunFault, of_engine};
 use std::alloc::Global;
@@ -19,36 +19,38 @@ use tc_engines::{Engines, EnginesFault};
 use tc_part::parts_hold_devices;
 use tc_record::record_within_weight;
 use tc_route::{Replies, Routed};
+use tc_running::Pace;
 use tc_store::Store;
 use tc_work::EngineFault;
 
 /// The partitions of a store that is open, in ascending number. After a call that errs no more is asked of them.
 #[derive(Drop)]
-pub struct Partitions<S: Store> {
-    engines: Engines<S>,
+pub struct Partitions<S: Store, P: Pace> {
+    engines: Engines<S, P>,
 }
 
 #[tactic(auto, unfolding(crate::specs::Calls::MayAsk, crate::specs::Calls::HoldsAt, crate::specs::Calls::KeepsAt, crate::specs::Calls::Rests, crate::specs::Calls::faults_of, crate::specs::Calls::IsSpent))]
-impl<S: Store> Partitions<S> {
-    ghost use Rattle.std.specs.Prelude.{Ok, Option, Some, OnErr, OnOk};
+impl<S: Store, P: Pace> Partitions<S, P> {
+    ghost use Rattle.std.specs.Prelude.{ℕ, None, Ok, Option, OnErr, OnOk};
     ghost use Rattle.tc_model.specs.Reply.{schemas};
     ghost use Rattle.tc_model.specs.Request.{flush, schema};
     ghost use Rattle.tc_route.specs.Meaning.{replies_in};
-    ghost use Rattle.tc_run_model.specs.Known.{MayReply, known_after};
+    ghost use Rattle.tc_run_model.specs.Known.{MayReply};
     ghost use Rattle.tc_run_model.specs.World.{World, after_all};
     ghost use Rattle.tc_server.specs.Calls.{faults_of, settings_of, HoldsAt, IsSpent, KeepsAt, MayAsk, Rests};
     ghost use Rattle.tc_server.specs.Faults.{fault_in, HasDiskCause, IsNoDamage, IsOfStore};
+    ghost use Rattle.tc_server.specs.Sight.{sees, sight_after, whole_of, Sight};
     ghost use Rattle.tc_server.specs.Window.{requests_routed, AreTogether};
 
     /// The partitions of these engines.
-    pub fn of(engines: Engines<S>) -> Partitions<S>
+    pub fn of(engines: Engines<S, P>) -> Partitions<S, P>
         ensures { result ≡ record { engines = engines } }
     {
         Partitions { engines }
     }
 
     /// The engines, where the session ends.
-    pub fn into_engines(self) -> Engines<S>
+    pub fn into_engines(self) -> Engines<S, P>
         ensures { result ≡ self.engines }
     {
         self.engines
@@ -65,10 +67,10 @@ impl<S: Store> Partitions<S> {
         requires works { MayAsk S.history S.Device.history S.Frozen.content self.old }
         requires together { AreTogether commands.items }
         ensures works { OnOk result (MayAsk S.history S.Device.history S.Frozen.content self.new) }
-        ensures replies { (known : Option World) → HoldsAt S.history S.Device.history S.Frozen.content self.old known → IfOk result (λ replies. MayReply (requests_routed commands.items) known (values_in (replies_in replies))) }
-        ensures held { (known : Option World) → HoldsAt S.history S.Device.history S.Frozen.content self.old known → OnOk result (HoldsAt S.history S.Device.history S.Frozen.content self.new (known_after (requests_routed commands.items) known)) }
-        ensures failed { (w : World) → HoldsAt S.history S.Device.history S.Frozen.content self.old (Some w) → OnErr result (KeepsAt S.history S.Device.history S.Frozen.content self.new w (after_all (requests_routed commands.items) w)) }
-        ensures undamaged { (w : World) → HoldsAt S.history S.Device.history S.Frozen.content self.old (Some w) → IfErr result IsNoDamage }
+        ensures replies { (known : Sight) → HoldsAt (eyes S.history S.Device.history S.Frozen.content S.Device.name S.Frozen.size S.Watch.counts) self.old known → IfOk result (λ replies. MayReply (requests_routed commands.items) (whole_of known) (values_in (replies_in replies))) }
+        ensures held { (known : Sight) → HoldsAt (eyes S.history S.Device.history S.Frozen.content S.Device.name S.Frozen.size S.Watch.counts) self.old known → OnOk result (HoldsAt (eyes S.history S.Device.history S.Frozen.content S.Device.name S.Frozen.size S.Watch.counts) self.new (sight_after (requests_routed commands.items) known)) }
+        ensures failed { (only : Option ℕ) (w : World) → HoldsAt (eyes S.history S.Device.history S.Frozen.content S.Device.name S.Frozen.size S.Watch.counts) self.old (sees only w) → OnErr result (KeepsAt (eyes S.history S.Device.history S.Frozen.content S.Device.name S.Frozen.size S.Watch.counts) self.new only w (after_all (requests_routed commands.items) w)) }
+        ensures undamaged { (w : World) → HoldsAt (eyes S.history S.Device.history S.Frozen.content S.Device.name S.Frozen.size S.Watch.counts) self.old (sees None w) → IfErr result IsNoDamage }
         ensures kinds { IfErr result IsOfStore }
         ensures settings { settings_of self.new ≡ settings_of self.old }
         ensures cause { HasDiskCause (faults_of (λ w. S.Watch.counts w) self.old) (faults_of (λ w. S.Watch.counts w) self.new) (IsSpent S.history S.Device.history S.Frozen.content self.new) (fault_in result) }
@@ -81,66 +83,88 @@ impl<S: Store> Partitions<S> {
         }
     }
 
-    /// Moves documents from memory into files, and puts files together, where it is time.
-    pub fn settle(&mut self, alloc: Global) -> Result<(), RunFault>
+    /// Moves documents from memory into files, and puts files together, where it is time, by jobs beside what follows.
+    pub fn settle<R: Threads>(&mut self, rt: &R, alloc: Global) -> Result<(), RunFault>
+    where
+        S: 'static,
+        S::Device: 'static,
+        S::Frozen: 'static,
+        S::Watch: 'static,
+        P: 'static,
         requires works { MayAsk S.history S.Device.history S.Frozen.content self.old }
         ensures works { OnOk result (MayAsk S.history S.Device.history S.Frozen.content self.new) }
         ensures rests { OnOk result (Rests (λ d. S.Device.size d) self.new) }
-        ensures held { (known : Option World) → HoldsAt S.history S.Device.history S.Frozen.content self.old known → OnOk result (HoldsAt S.history S.Device.history S.Frozen.content self.new known) }
-        ensures failed { (w : World) → HoldsAt S.history S.Device.history S.Frozen.content self.old (Some w) → OnErr result (KeepsAt S.history S.Device.history S.Frozen.content self.new w w) }
-        ensures undamaged { (w : World) → HoldsAt S.history S.Device.history S.Frozen.content self.old (Some w) → IfErr result IsNoDamage }
+        ensures held { (known : Sight) → HoldsAt (eyes S.history S.Device.history S.Frozen.content S.Device.name S.Frozen.size S.Watch.counts) self.old known → OnOk result (HoldsAt (eyes S.history S.Device.history S.Frozen.content S.Device.name S.Frozen.size S.Watch.counts) self.new known) }
+        ensures failed { (only : Option ℕ) (w : World) → HoldsAt (eyes S.history S.Device.history S.Frozen.content S.Device.name S.Frozen.size S.Watch.counts) self.old (sees only w) → OnErr result (KeepsAt (eyes S.history S.Device.history S.Frozen.content S.Device.name S.Frozen.size S.Watch.counts) self.new only w w) }
+        ensures undamaged { (w : World) → HoldsAt (eyes S.history S.Device.history S.Frozen.content S.Device.name S.Frozen.size S.Watch.counts) self.old (sees None w) → IfErr result IsNoDamage }
         ensures kinds { IfErr result IsOfStore }
         ensures settings { settings_of self.new ≡ settings_of self.old }
         ensures cause { HasDiskCause (faults_of (λ w. S.Watch.counts w) self.old) (faults_of (λ w. S.Watch.counts w) self.new) (IsSpent S.history S.Device.history S.Frozen.content self.new) (fault_in result) }
     {
         parts_hold_devices();
-        match self.engines.settle(alloc) {
+        match self.engines.settle(rt, alloc) {
             Ok(()) => Ok(()),
             Err(fault) => Err(of_engines(fault)),
         }
     }
 
     /// Moves all documents from memory into files.
-    pub fn flush(&mut self, alloc: Global) -> Result<(), RunFault>
+    pub fn flush<R: Threads>(&mut self, rt: &R, alloc: Global) -> Result<(), RunFault>
+    where
+        S: 'static,
+        S::Device: 'static,
+        S::Frozen: 'static,
+        S::Watch: 'static,
+        P: 'static,
         requires works { MayAsk S.history S.Device.history S.Frozen.content self.old }
         ensures works { OnOk result (MayAsk S.history S.Device.history S.Frozen.content self.new) }
-        ensures emptied { OnOk result (All (λ e. S.Device.size e.part.log.device ≤ empty_size) self.new.engines) }
-        ensures held { (known : Option World) → HoldsAt S.history S.Device.history S.Frozen.content self.old known → OnOk result (HoldsAt S.history S.Device.history S.Frozen.content self.new (known_after (flush ∷ []) known)) }
-        ensures failed { (w : World) → HoldsAt S.history S.Device.history S.Frozen.content self.old (Some w) → OnErr result (KeepsAt S.history S.Device.history S.Frozen.content self.new w w) }
-        ensures undamaged { (w : World) → HoldsAt S.history S.Device.history S.Frozen.content self.old (Some w) → IfErr result IsNoDamage }
+        ensures emptied { OnOk result (All (λ e. S.Device.size e.engine.part.log.device ≤ empty_size) self.new.engines) }
+        ensures none_sealed { OnOk result (All (λ e. e.engine.part.sealed ≡ None) self.new.engines) }
+        ensures held { (known : Sight) → HoldsAt (eyes S.history S.Device.history S.Frozen.content S.Device.name S.Frozen.size S.Watch.counts) self.old known → OnOk result (HoldsAt (eyes S.history S.Device.history S.Frozen.content S.Device.name S.Frozen.size S.Watch.counts) self.new (sight_after (flush ∷ []) known)) }
+        ensures failed { (only : Option ℕ) (w : World) → HoldsAt (eyes S.history S.Device.history S.Frozen.content S.Device.name S.Frozen.size S.Watch.counts) self.old (sees only w) → OnErr result (KeepsAt (eyes S.history S.Device.history S.Frozen.content S.Device.name S.Frozen.size S.Watch.counts) self.new only w w) }
+        ensures undamaged { (w : World) → HoldsAt (eyes S.history S.Device.history S.Frozen.content S.Device.name S.Frozen.size S.Watch.counts) self.old (sees None w) → IfErr result IsNoDamage }
         ensures kinds { IfErr result IsOfStore }
         ensures settings { settings_of self.new ≡ settings_of self.old }
         ensures cause { HasDiskCause (faults_of (λ w. S.Watch.counts w) self.old) (faults_of (λ w. S.Watch.counts w) self.new) (IsSpent S.history S.Device.history S.Frozen.content self.new) (fault_in result) }
     {
         parts_hold_devices();
-        match self.engines.force_flush(alloc) {
+        match self.engines.force_flush(rt, alloc) {
             Ok(()) => Ok(()),
             Err(fault) => Err(of_engines(fault)),
         }
     }
 
     /// The schema of each partition, behind a flush.
-    pub fn schemas(&mut self, alloc: Global) -> Result<Schemas, RunFault>
+    pub fn schemas<R: Threads>(&mut self, rt: &R, alloc: Global) -> Result<Schemas, RunFault>
+    where
+        S: 'static,
+        S::Device: 'static,
+        S::Frozen: 'static,
+        S::Watch: 'static,
+        P: 'static,
         requires works { MayAsk S.history S.Device.history S.Frozen.content self.old }
         ensures works { OnOk result (MayAsk S.history S.Device.history S.Frozen.content self.new) }
-        ensures shown { (known : Option World) → HoldsAt S.history S.Device.history S.Frozen.content self.old known → IfOk result (λ shown. MayReply (schema ∷ []) known (schemas (map view shown) ∷ [])) }
-        ensures held { (known : Option World) → HoldsAt S.history S.Device.history S.Frozen.content self.old known → OnOk result (HoldsAt S.history S.Device.history S.Frozen.content self.new (known_after (schema ∷ []) known)) }
-        ensures failed { (w : World) → HoldsAt S.history S.Device.history S.Frozen.content self.old (Some w) → OnErr result (KeepsAt S.history S.Device.history S.Frozen.content self.new w w) }
-        ensures undamaged { (w : World) → HoldsAt S.history S.Device.history S.Frozen.content self.old (Some w) → IfErr result IsNoDamage }
+        ensures shown { (known : Sight) → HoldsAt (eyes S.history S.Device.history S.Frozen.content S.Device.name S.Frozen.size S.Watch.counts) self.old known → IfOk result (λ shown. MayReply (schema ∷ []) (whole_of known) (schemas (map view shown) ∷ [])) }
+        ensures held { (known : Sight) → HoldsAt (eyes S.history S.Device.history S.Frozen.content S.Device.name S.Frozen.size S.Watch.counts) self.old known → OnOk result (HoldsAt (eyes S.history S.Device.history S.Frozen.content S.Device.name S.Frozen.size S.Watch.counts) self.new (sight_after (schema ∷ []) known)) }
+        ensures failed { (only : Option ℕ) (w : World) → HoldsAt (eyes S.history S.Device.history S.Frozen.content S.Device.name S.Frozen.size S.Watch.counts) self.old (sees only w) → OnErr result (KeepsAt (eyes S.history S.Device.history S.Frozen.content S.Device.name S.Frozen.size S.Watch.counts) self.new only w w) }
+        ensures undamaged { (w : World) → HoldsAt (eyes S.history S.Device.history S.Frozen.content S.Device.name S.Frozen.size S.Watch.counts) self.old (sees None w) → IfErr result IsNoDamage }
         ensures kinds { IfErr result IsOfStore }
         ensures settings { settings_of self.new ≡ settings_of self.old }
         ensures cause { HasDiskCause (faults_of (λ w. S.Watch.counts w) self.old) (faults_of (λ w. S.Watch.counts w) self.new) (IsSpent S.history S.Device.history S.Frozen.content self.new) (fault_in result) }
     {
-        match self.flush(alloc) {
+        match self.flush(rt, alloc) {
             Ok(()) => schemas_of(alloc, &self.engines),
             Err(fault) => Err(fault),
         }
     }
 }
 
-// The schemas of the documents in the components, which are all where no log has a frame. Errs only for want of memory.
-fn schemas_of<S: Store>(alloc: Global, engines: &Engines<S>) -> Result<Schemas, RunFault>
-    ensures shown { (w : World) → HoldWorld (λ part. told S.history S.Device.history S.Frozen.content part) engines.now w → All (λ e. S.Device.size e.part.log.device ≤ empty_size) engines.now
+// The schemas of the documents in the components, which are all where no table is sealed and no log has a frame. Errs only for want of memory.
+fn schemas_of<S: Store, P: Pace>(
+    alloc: Global,
+    engines: &Engines<S, P>,
+) -> Result<Schemas, RunFault>
+    ensures shown { (w : World) → HoldWorld (eyes S.history S.Device.history S.Frozen.content S.Device.name S.Frozen.size S.Watch.counts) None engines.now w → All (λ e. e.engine.part.sealed ≡ None) engines.now → All (λ e. S.Device.size e.engine.part.log.device ≤ empty_size) engines.now
         → IfOk result (λ shown. map view shown ≡ map (λ part. schema_text (documents part.now)) w.parts) }
     ensures memory { IfErr result (λ fault. fault ≡ RunFault.Memory) }
 {

@@ -3,11 +3,11 @@
 ghost use Rattle.std.specs.Prelude.{◌≡◌, ℕ, ◌<◌, ◌≤◌, ◌⊎◌, [], length, map, Option, Some, None, option_map, IfErr, IfSome};
 ghost use Rattle.std.specs.Result.{result_ok};
 ghost use Rattle.tc_bytes.specs.Counts.{Rose};
-ghost use Rattle.tc_run_model.specs.World.{World};
 ghost use Rattle.tc_server.specs.Ending.{IsRun, ServedPromptly};
 ghost use Rattle.tc_server.specs.Faults.{faults_in, status_of, IfDisk, IsWrite};
 ghost use Rattle.tc_server.specs.KitCauses.{AreAsked, AreGenerationsSpent, AreJudged, HasDiskCauseOver, HasLayoutCause, IsInputSpent, NoneFellOf};
 ghost use Rattle.tc_server.specs.OverFiles.{partitions_asked, BeginsFor, ServedOver};
+ghost use Rattle.tc_server.specs.Sight.{Sight};
 ghost use Rattle.tc_server.specs.Program.{fault_of_words, invocation_given};
 
 use crate::outcome::{RunFault, Served};
@@ -19,7 +19,8 @@ use std::env::Env;
 use std::io::{Eprint, Error, ErrorKind};
 use std::thread::Threads;
 use tc_edge::{Sink, Source};
-use tc_store::Shelf;
+use tc_running::Pace;
+use tc_store::{Shelf, Store};
 use tc_value::Text;
 use tc_words::WordsFault;
 
@@ -46,23 +47,35 @@ fn refusal_of(error: &Error) -> WordsFault {
 
 /// Serves the lines of the source for these words, and says on standard error by which fault the run ended, if by any. What is
 /// answered is what `serve` answers for the words, of whose contract these are the clauses.
-pub fn run_program<R: Eprint + AllocGlobal + Threads + Sync, I: Source<O>, O: Sink, H: Shelf>(
+pub fn run_program<
+    R: Eprint + AllocGlobal + Threads + Sync,
+    I: Source<O>,
+    O: Sink,
+    H: Shelf,
+    P: Pace + 'static,
+>(
     rt: &R,
     words: Result<Vec<Text>, WordsFault>,
     source: &mut I,
     sink: &mut O,
     shelf: &mut H,
+    pace: P,
 ) -> Served<H::Store>
+where
+    H::Store: 'static,
+    <H::Store as Store>::Device: 'static,
+    <H::Store as Store>::Frozen: 'static,
+    <H::Store as Store>::Watch: 'static,
     ensures status { result.status ≡ status_of result.fault }
 
     // What was read and written, and what is left of the files, from each first world that the files give, and from none.
-    ensures served { (first : Option World) → BeginsFor (invocation_given (option_map (λ words. words.items) (result_ok words))) (H.files shelf.old) first
+    ensures served { (first : Sight) → BeginsFor (invocation_given (option_map (λ words. words.items) (result_ok words))) (H.files shelf.old) first
         → ServedOver (invocation_given (option_map (λ words. words.items) (result_ok words))) result.fault first (H.files shelf.old) (I.left source.old) (I.left source.new) (O.taken sink.old) (O.taken sink.new) (map (λ kit. H.Store.history kit.store) result.kits.items) }
 
     // Only a run reads. At each of its reads the sink had accepted the replies to the windows that had closed among what was
     // given before it, and no more.
     ensures unread { IsRun (invocation_given (option_map (λ words. words.items) (result_ok words))) ⊎ (source.new ≡ source.old) }
-    ensures prompt { (first : Option World) → BeginsFor (invocation_given (option_map (λ words. words.items) (result_ok words))) (H.files shelf.old) first
+    ensures prompt { (first : Sight) → BeginsFor (invocation_given (option_map (λ words. words.items) (result_ok words))) (H.files shelf.old) first
         → ServedPromptly first (invocation_given (option_map (λ words. words.items) (result_ok words))) (O.taken sink.old) (I.moments source.old) (I.moments source.new) }
 
     // The kits that were asked for are given back, in ascending number: all where a line may have been read. No count falls.
@@ -87,25 +100,31 @@ pub fn run_program<R: Eprint + AllocGlobal + Threads + Sync, I: Source<O>, O: Si
     ensures spent { result.fault ≡ Some RunFault.Spent
         → IsInputSpent (invocation_given (option_map (λ words. words.items) (result_ok words))) (I.left source.old) (I.left source.new) ⊎ AreGenerationsSpent (partitions_asked (invocation_given (option_map (λ words. words.items) (result_ok words)))) (H.files shelf.old) (map (λ kit. H.Store.history kit.store) result.kits.items) }
 {
-    let served = served_for(rt, rt.alloc(), words, source, sink, shelf);
+    let served = served_for(rt, rt.alloc(), words, source, sink, shelf, pace);
     report(rt, &served.fault);
     served
 }
 
 // How the run for these words ends.
-fn served_for<R: Threads + Sync, I: Source<O>, O: Sink, H: Shelf>(
+fn served_for<R: Threads + Sync, I: Source<O>, O: Sink, H: Shelf, P: Pace + 'static>(
     rt: &R,
     alloc: Global,
     words: Result<Vec<Text>, WordsFault>,
     source: &mut I,
     sink: &mut O,
     shelf: &mut H,
+    pace: P,
 ) -> Served<H::Store>
+where
+    H::Store: 'static,
+    <H::Store as Store>::Device: 'static,
+    <H::Store as Store>::Frozen: 'static,
+    <H::Store as Store>::Watch: 'static,
     ensures status { result.status ≡ status_of result.fault }
-    ensures served { (first : Option World) → BeginsFor (invocation_given (option_map (λ words. words.items) (result_ok words))) (H.files shelf.old) first
+    ensures served { (first : Sight) → BeginsFor (invocation_given (option_map (λ words. words.items) (result_ok words))) (H.files shelf.old) first
         → ServedOver (invocation_given (option_map (λ words. words.items) (result_ok words))) result.fault first (H.files shelf.old) (I.left source.old) (I.left source.new) (O.taken sink.old) (O.taken sink.new) (map (λ kit. H.Store.history kit.store) result.kits.items) }
     ensures unread { IsRun (invocation_given (option_map (λ words. words.items) (result_ok words))) ⊎ (source.new ≡ source.old) }
-    ensures prompt { (first : Option World) → BeginsFor (invocation_given (option_map (λ words. words.items) (result_ok words))) (H.files shelf.old) first
+    ensures prompt { (first : Sight) → BeginsFor (invocation_given (option_map (λ words. words.items) (result_ok words))) (H.files shelf.old) first
         → ServedPromptly first (invocation_given (option_map (λ words. words.items) (result_ok words))) (O.taken sink.old) (I.moments source.old) (I.moments source.new) }
     ensures kits { length result.kits.items ≤ (partitions_asked (invocation_given (option_map (λ words. words.items) (result_ok words)))) }
     ensures asked { AreAsked (partitions_asked (invocation_given (option_map (λ words. words.items) (result_ok words)))) result.fault (length result.kits.items) }
@@ -124,7 +143,7 @@ fn served_for<R: Threads + Sync, I: Source<O>, O: Sink, H: Shelf>(
         → IsInputSpent (invocation_given (option_map (λ words. words.items) (result_ok words))) (I.left source.old) (I.left source.new) ⊎ AreGenerationsSpent (partitions_asked (invocation_given (option_map (λ words. words.items) (result_ok words)))) (H.files shelf.old) (map (λ kit. H.Store.history kit.store) result.kits.items) }
 {
     match words {
-        Ok(words) => serve(rt, alloc, words.as_slice(), source, sink, shelf),
+        Ok(words) => serve(rt, alloc, words.as_slice(), source, sink, shelf, pace),
         Err(WordsFault::Usage) => Served::of(Some(RunFault::Usage), Vec::new(alloc)),
         Err(WordsFault::Memory) => Served::of(Some(RunFault::Memory), Vec::new(alloc)),
     }

@@ -4,23 +4,23 @@ ghost use Rattle.std.specs.Prelude.{◌≡◌, ◌≢◌, ℕ, ◌<◌, ◌≤�
 ghost use Rattle.tc_bytes.specs.Counts.{Rose};
 ghost use Rattle.tc_engines.specs.Places.{AtEach};
 ghost use Rattle.tc_log.specs.Layout.{empty_size};
-ghost use Rattle.tc_part_model.specs.PartState.{told};
 ghost use Rattle.tc_run_model.specs.Course.{each_line};
-ghost use Rattle.tc_run_model.specs.World.{World};
 ghost use Rattle.tc_store.specs.Disk.{Disk};
 ghost use Rattle.tc_store.specs.Moments.{IfTold};
 ghost use Rattle.tc_server.specs.Ending.{AreFewCommands, AskedPromptly, IsRun, RanLeaving, ReadsPromptly, RunsOver, ServedPromptly};
-ghost use Rattle.tc_server.specs.Faults.{fault_in, faults_in, faults_of_part, status_of, HasRunCauses, IfDamaged, IfDisk, IsOfRun, IsWrite, NoneFell, OneRose};
+ghost use Rattle.tc_server.specs.Faults.{fault_in, faults_in, status_of, HasRunCauses, IfDamaged, IfDisk, IsOfRun, IsWrite, NoneFell, OneRose};
 ghost use Rattle.tc_server.specs.KitCauses.{AreAsked, AreGenerationsSpent, AreJudged, HasDiskCauseOver, HasLastGeneration, HasLayoutCause, IsInputSpent, NoneFellOf};
-ghost use Rattle.tc_server.specs.Kits.{IsBegun};
+ghost use Rattle.tc_server.specs.Kits.{fault_behind, IsBegun};
 ghost use Rattle.tc_server.specs.OverFiles.{partitions_asked, AskedOver, BeginsFor, ServedOver};
 ghost use Rattle.tc_server.specs.Partitions.{StandAt};
 ghost use Rattle.tc_server.specs.Places.{SomeFrom};
-ghost use Rattle.tc_server.specs.Calls.{faults_of, settings_of, IsSpent, KeepsAt, MayAsk, Rests, HoldsAt};
+ghost use Rattle.tc_server.specs.Calls.{faults_at, faults_of, settings_of, IsSpent, KeepsAt, MayAsk, Rests, HoldsAt};
 ghost use Rattle.tc_server.specs.Progress.{AsksPromptly, Ends, Goes};
+ghost use Rattle.tc_server.specs.Sight.{Sight};
 ghost use Rattle.tc_server.specs.Stage.{IsReady};
 ghost use Rattle.tc_server.specs.Window.{requests_of};
 ghost use Rattle.tc_words.specs.Options.{invocation_of, options_asked};
+ghost use Rattle.tc_work.specs.Moving.{eyes};
 
 use crate::closing::close_all;
 use crate::demo::answer_demo;
@@ -29,36 +29,45 @@ use crate::outcome::{RunFault, Served};
 use crate::partitions::Partitions;
 use crate::session::Session;
 use std::alloc::Global;
+use std::sync::Arc;
 use std::thread::Threads;
 use tc_command::MAX_LINE;
 use tc_edge::{Sink, Source};
 use tc_engines::Engines;
 use tc_lines::{Line, Lines};
+use tc_running::Pace;
 use tc_store::{Kit, Shelf, Store};
 use tc_value::Text;
 use tc_words::{Invocation, Options, WordsFault, invocation};
 
 /// Answers the lines of the source, or those of a demonstration, for the words of the command line, which stand behind the
 /// folder, over the partitions that the shelf keeps. Their kits are asked for, and the partitions opened, one after the other
-/// before a line is read; behind each window, and before the first one, they are settled.
-pub fn serve<R: Threads + Sync, I: Source<O>, O: Sink, H: Shelf>(
+/// before a line is read; behind each window, and before the first one, they are settled. Flushes and merges are jobs beside the
+/// windows, which come to points of this pace; at the end they are waited for.
+pub fn serve<R: Threads + Sync, I: Source<O>, O: Sink, H: Shelf, P: Pace + 'static>(
     rt: &R,
     alloc: Global,
     words: &[Text],
     source: &mut I,
     sink: &mut O,
     shelf: &mut H,
+    pace: P,
 ) -> Served<H::Store>
+where
+    H::Store: 'static,
+    <H::Store as Store>::Device: 'static,
+    <H::Store as Store>::Frozen: 'static,
+    <H::Store as Store>::Watch: 'static,
     ensures status { result.status ≡ status_of result.fault }
 
     // What was read and written, and what is left of the files, from each first world that the files give, and from none.
-    ensures served { (first : Option World) → BeginsFor (invocation_of words.now) (H.files shelf.old) first
+    ensures served { (first : Sight) → BeginsFor (invocation_of words.now) (H.files shelf.old) first
         → ServedOver (invocation_of words.now) result.fault first (H.files shelf.old) (I.left source.old) (I.left source.new) (O.taken sink.old) (O.taken sink.new) (map (λ kit. H.Store.history kit.store) result.kits.items) }
 
     // Only a run reads. At each of its reads the sink had accepted the replies to the windows that had closed among what was
     // given before it, and no more.
     ensures unread { IsRun (invocation_of words.now) ⊎ (source.new ≡ source.old) }
-    ensures prompt { (first : Option World) → BeginsFor (invocation_of words.now) (H.files shelf.old) first
+    ensures prompt { (first : Sight) → BeginsFor (invocation_of words.now) (H.files shelf.old) first
         → ServedPromptly first (invocation_of words.now) (O.taken sink.old) (I.moments source.old) (I.moments source.new) }
 
     // The kits that were asked for are given back, in ascending number: all where a line may have been read. No count falls.
@@ -83,20 +92,26 @@ pub fn serve<R: Threads + Sync, I: Source<O>, O: Sink, H: Shelf>(
         → IsInputSpent (invocation_of words.now) (I.left source.old) (I.left source.new) ⊎ AreGenerationsSpent (partitions_asked (invocation_of words.now)) (H.files shelf.old) (map (λ kit. H.Store.history kit.store) result.kits.items) }
 {
     match asked_by(alloc, words) {
-        Ok(asked) => serve_asked(rt, alloc, &asked, source, sink, shelf),
+        Ok(asked) => serve_asked(rt, alloc, &asked, source, sink, shelf, pace),
         Err(fault) => Served::of(Some(fault), Vec::new(alloc)),
     }
 }
 
 // Opens the partitions, and serves over them.
-fn serve_asked<R: Threads + Sync, I: Source<O>, O: Sink, H: Shelf>(
+fn serve_asked<R: Threads + Sync, I: Source<O>, O: Sink, H: Shelf, P: Pace + 'static>(
     rt: &R,
     alloc: Global,
     asked: &Invocation,
     source: &mut I,
     sink: &mut O,
     shelf: &mut H,
+    pace: P,
 ) -> Served<H::Store>
+where
+    H::Store: 'static,
+    <H::Store as Store>::Device: 'static,
+    <H::Store as Store>::Frozen: 'static,
+    <H::Store as Store>::Watch: 'static,
     requires partitions { (0 < (options_asked asked.now).partitions) × ((options_asked asked.now).partitions ≤ 16) }
     requires some { 0 < (options_asked asked.now).window }
     requires limit { (options_asked asked.now).window ≤ 4096 }
@@ -104,10 +119,10 @@ fn serve_asked<R: Threads + Sync, I: Source<O>, O: Sink, H: Shelf>(
     requires memory { empty_size < (options_asked asked.now).memory }
     requires few { AreFewCommands asked.now }
     ensures status { result.status ≡ status_of result.fault }
-    ensures ran { (first : Option World) → BeginsFor (Some asked.now) (H.files shelf.old) first
+    ensures ran { (first : Sight) → BeginsFor (Some asked.now) (H.files shelf.old) first
         → AskedOver asked.now result.fault first (H.files shelf.old) (I.left source.old) (I.left source.new) (O.taken sink.old) (O.taken sink.new) (map (λ kit. H.Store.history kit.store) result.kits.items) }
     ensures unread { IsRun (Some asked.now) ⊎ (source.new ≡ source.old) }
-    ensures prompt { (first : Option World) → BeginsFor (Some asked.now) (H.files shelf.old) first
+    ensures prompt { (first : Sight) → BeginsFor (Some asked.now) (H.files shelf.old) first
         → AskedPromptly asked.now first (options_asked asked.now).window (O.taken sink.old) (I.moments source.old) (I.moments source.new) }
     // The kits that were asked for are given back, in ascending number: all where a line may have been read. No count falls.
     ensures kits { length result.kits.items ≤ (options_asked asked.now).partitions }
@@ -129,7 +144,7 @@ fn serve_asked<R: Threads + Sync, I: Source<O>, O: Sink, H: Shelf>(
         → IsInputSpent (Some asked.now) (I.left source.old) (I.left source.new) ⊎ AreGenerationsSpent (options_asked asked.now).partitions (H.files shelf.old) (map (λ kit. H.Store.history kit.store) result.kits.items) }
 {
     let options = options_asked(asked);
-    // The room for the kits and the engines is taken before the first kit is.
+    // The room for the kits and the engines, and the share of the pace, are taken before the first kit is.
     let kits = match Vec::with_capacity(alloc, options.partitions as usize) {
         Ok(kits) => kits,
         Err(_) => return Served::of(Some(RunFault::Memory), Vec::new(alloc)),
@@ -138,13 +153,18 @@ fn serve_asked<R: Threads + Sync, I: Source<O>, O: Sink, H: Shelf>(
         Ok(engines) => engines,
         Err(_) => return Served::of(Some(RunFault::Memory), kits),
     };
-    match open_all(alloc, &options, shelf, &mut engines) {
+    let pace = match Arc::new(alloc, pace) {
+        Ok(pace) => pace,
+        Err(_) => return Served::of(Some(RunFault::Memory), kits),
+    };
+    match open_all(rt, alloc, &options, &pace, shelf, &mut engines) {
         Ok(()) => {
             let (kits, fault) = serve_over(rt, alloc, asked, source, sink, engines, kits);
             Served::of(fault, kits)
         }
         Err(NotOpened { kit, fault }) => {
-            Served::of(Some(fault), close_all(engines, with_kit(kits, kit)))
+            let closed = close_all(rt, alloc, engines, with_kit(kits, kit));
+            Served::of(Some(fault), closed.kits)
         }
     }
 }
@@ -165,16 +185,21 @@ fn with_kit<S: Store>(kits: Vec<Kit<S>>, kit: Option<Kit<S>>) -> Vec<Kit<S>>
     kits
 }
 
-// Answers what is asked for over the engines of the partitions, and closes them.
-fn serve_over<R: Threads + Sync, I: Source<O>, O: Sink, S: Store>(
+// Answers what is asked for over the engines of the partitions, and closes them. A job that fails behind all lines ends the run as
+// one does behind a window.
+fn serve_over<R: Threads + Sync, I: Source<O>, O: Sink, S: Store + 'static, P: Pace + 'static>(
     rt: &R,
     alloc: Global,
     asked: &Invocation,
     source: &mut I,
     sink: &mut O,
-    engines: Engines<S>,
+    engines: Engines<S, P>,
     kits: Vec<Kit<S>>,
 ) -> (Vec<Kit<S>>, Option<RunFault>)
+where
+    S::Device: 'static,
+    S::Frozen: 'static,
+    S::Watch: 'static,
     requires partitions { (0 < (options_asked asked.now).partitions) × ((options_asked asked.now).partitions ≤ 16) }
     requires some { 0 < (options_asked asked.now).window }
     requires limit { (options_asked asked.now).window ≤ 4096 }
@@ -184,18 +209,18 @@ fn serve_over<R: Threads + Sync, I: Source<O>, O: Sink, S: Store>(
     requires all { length engines ≡ (options_asked asked.now).partitions }
     requires none { kits.items ≡ [] }
     requires room { (options_asked asked.now).partitions ≤ vec_capacity kits }
-    requires begun { All (IsBegun (λ part. told S.history S.Device.history S.Frozen.content part) (options_asked asked.now)) engines }
-    ensures ran { (first : Option World) (files : ℕ → List Disk) → StandAt (λ part. told S.history S.Device.history S.Frozen.content part) engines first
+    requires begun { All (IsBegun (eyes S.history S.Device.history S.Frozen.content S.Device.name S.Frozen.size S.Watch.counts) (options_asked asked.now)) engines }
+    ensures ran { (first : Sight) (files : ℕ → List Disk) → StandAt (eyes S.history S.Device.history S.Frozen.content S.Device.name S.Frozen.size S.Watch.counts) engines first
         → AskedOver asked.now result.1 first files (I.left source.old) (I.left source.new) (O.taken sink.old) (O.taken sink.new) (map (λ kit. S.history kit.store) result.0.items) }
     ensures unread { IsRun (Some asked.now) ⊎ (source.new ≡ source.old) }
-    ensures prompt { (first : Option World) → StandAt (λ part. told S.history S.Device.history S.Frozen.content part) engines first
+    ensures prompt { (first : Sight) → StandAt (eyes S.history S.Device.history S.Frozen.content S.Device.name S.Frozen.size S.Watch.counts) engines first
         → AskedPromptly asked.now first (options_asked asked.now).window (O.taken sink.old) (I.moments source.old) (I.moments source.new) }
     ensures kits { length result.0.items ≡ (options_asked asked.now).partitions }
     ensures kind { IfSome result.1 IsOfRun }
     ensures read { IfSome result.1 (λ fault. fault ≡ RunFault.Read → Rose (I.faults source.old) (I.faults source.new)) }
     ensures write { IfSome result.1 (λ fault. IsWrite fault → Rose (O.faults sink.old) (O.faults sink.new)) }
-    ensures counts { AtEach (λ p e kit. NoneFell (faults_of_part (λ w. S.Watch.counts w) e.part) (faults_in (λ w. S.Watch.counts w) kit)) 0 engines result.0.items }
-    ensures disk { IfSome result.1 (λ fault. IfDisk fault (λ q. (q < (options_asked asked.now).partitions) × AtEach (λ p e kit. p ≡ q → OneRose (faults_of_part (λ w. S.Watch.counts w) e.part) (faults_in (λ w. S.Watch.counts w) kit)) 0 engines result.0.items)) }
+    ensures counts { AtEach (λ p e kit. NoneFell (faults_at (λ w. S.Watch.counts w) e) (faults_in (λ w. S.Watch.counts w) kit)) 0 engines result.0.items }
+    ensures disk { IfSome result.1 (λ fault. IfDisk fault (λ q. (q < (options_asked asked.now).partitions) × AtEach (λ p e kit. p ≡ q → OneRose (faults_at (λ w. S.Watch.counts w) e) (faults_in (λ w. S.Watch.counts w) kit)) 0 engines result.0.items)) }
     ensures damaged { IfSome result.1 (λ fault. IfDamaged fault (λ q. q < (options_asked asked.now).partitions)) }
     ensures spent { result.1 ≡ Some RunFault.Spent → IsInputSpent (Some asked.now) (I.left source.old) (I.left source.new) ⊎ SomeFrom (λ p kit. IfTold (S.history kit.store) HasLastGeneration) 0 result.0.items }
 {
@@ -204,16 +229,17 @@ fn serve_over<R: Threads + Sync, I: Source<O>, O: Sink, S: Store>(
     let mut session = Session::new(alloc, partitions, options.window as usize);
     let answer = answer_asked(rt, alloc, asked, &mut session, source, sink);
     let engines = session.into_keeper().into_engines();
-    (close_all(engines, kits), fault_of(answer))
+    let closed = close_all(rt, alloc, engines, kits);
+    (closed.kits, fault_of(answer, closed.fault))
 }
 
-// By which fault a run ended whose lines were answered so.
-fn fault_of(answer: Result<(), RunFault>) -> Option<RunFault>
-    ensures { result ≡ fault_in answer }
+// By which fault a run ended whose lines were answered so, and whose engines ended by this fault, or by none.
+fn fault_of(answer: Result<(), RunFault>, ended: Option<RunFault>) -> Option<RunFault>
+    ensures { result ≡ fault_behind answer ended }
 {
     match answer {
         Err(fault) => Some(fault),
-        Ok(()) => None,
+        Ok(()) => ended,
     }
 }
 
@@ -241,22 +267,26 @@ fn options_asked(asked: &Invocation) -> Options
 }
 
 // Answers the lines of a run, or those of a demonstration.
-fn answer_asked<R: Threads + Sync, I: Source<O>, O: Sink, S: Store>(
+fn answer_asked<R: Threads + Sync, I: Source<O>, O: Sink, S: Store + 'static, P: Pace + 'static>(
     rt: &R,
     alloc: Global,
     asked: &Invocation,
-    session: &mut Session<Partitions<S>>,
+    session: &mut Session<Partitions<S, P>>,
     source: &mut I,
     sink: &mut O,
 ) -> Result<(), RunFault>
+where
+    S::Device: 'static,
+    S::Frozen: 'static,
+    S::Watch: 'static,
     requires few { AreFewCommands asked.now }
     requires ready { IsReady (MayAsk S.history S.Device.history S.Frozen.content) session.old }
     requires requests { requests_of session.old.window ≡ [] }
     requires bytes { session.old.window.bytes ≡ 0 }
-    ensures ran { (first : Option World) → HoldsAt S.history S.Device.history S.Frozen.content session.old.keeper first → RunsOver asked.now (I.left source.old) (I.left source.new)
-        (λ shown unread unread'. RanLeaving shown (HoldsAt S.history S.Device.history S.Frozen.content) (KeepsAt S.history S.Device.history S.Frozen.content) (IsSpent S.history S.Device.history S.Frozen.content) (fault_in result) first session.old.window.limit unread unread' (O.taken sink.old) (O.taken sink.new) session.new.keeper) }
+    ensures ran { (first : Sight) → HoldsAt (eyes S.history S.Device.history S.Frozen.content S.Device.name S.Frozen.size S.Watch.counts) session.old.keeper first → RunsOver asked.now (I.left source.old) (I.left source.new)
+        (λ shown unread unread'. RanLeaving shown (HoldsAt (eyes S.history S.Device.history S.Frozen.content S.Device.name S.Frozen.size S.Watch.counts)) (KeepsAt (eyes S.history S.Device.history S.Frozen.content S.Device.name S.Frozen.size S.Watch.counts)) (IsSpent S.history S.Device.history S.Frozen.content) (fault_in result) first session.old.window.limit unread unread' (O.taken sink.old) (O.taken sink.new) session.new.keeper) }
     ensures unread { IsRun (Some asked.now) ⊎ (source.new ≡ source.old) }
-    ensures prompt { (first : Option World) → HoldsAt S.history S.Device.history S.Frozen.content session.old.keeper first → AskedPromptly asked.now first session.old.window.limit (O.taken sink.old)
+    ensures prompt { (first : Sight) → HoldsAt (eyes S.history S.Device.history S.Frozen.content S.Device.name S.Frozen.size S.Watch.counts) session.old.keeper first → AskedPromptly asked.now first session.old.window.limit (O.taken sink.old)
         (I.moments source.old) (I.moments source.new) }
     ensures rests { OnOk result (Rests (λ d. S.Device.size d) session.new.keeper) }
     ensures settings { settings_of session.new.keeper ≡ settings_of session.old.keeper }
@@ -270,28 +300,38 @@ fn answer_asked<R: Threads + Sync, I: Source<O>, O: Sink, S: Store>(
 }
 
 /// Answers the lines of the source, in the windows of the session.
-pub fn answer_lines<R: Threads + Sync, I: Source<O>, O: Sink, S: Store>(
+pub fn answer_lines<
+    R: Threads + Sync,
+    I: Source<O>,
+    O: Sink,
+    S: Store + 'static,
+    P: Pace + 'static,
+>(
     rt: &R,
     alloc: Global,
-    session: &mut Session<Partitions<S>>,
+    session: &mut Session<Partitions<S, P>>,
     source: &mut I,
     sink: &mut O,
 ) -> Result<(), RunFault>
+where
+    S::Device: 'static,
+    S::Frozen: 'static,
+    S::Watch: 'static,
     requires ready { IsReady (MayAsk S.history S.Device.history S.Frozen.content) session.old }
     requires requests { requests_of session.old.window ≡ [] }
     requires bytes { session.old.window.bytes ≡ 0 }
 
     // What was read and written, and what is left of the store, from whatever world it stood at.
-    ensures ran { (first : Option World) → HoldsAt S.history S.Device.history S.Frozen.content session.old.keeper first → RanLeaving each_line (HoldsAt S.history S.Device.history S.Frozen.content) (KeepsAt S.history S.Device.history S.Frozen.content) (IsSpent S.history S.Device.history S.Frozen.content) (fault_in result) first session.old.window.limit
+    ensures ran { (first : Sight) → HoldsAt (eyes S.history S.Device.history S.Frozen.content S.Device.name S.Frozen.size S.Watch.counts) session.old.keeper first → RanLeaving each_line (HoldsAt (eyes S.history S.Device.history S.Frozen.content S.Device.name S.Frozen.size S.Watch.counts)) (KeepsAt (eyes S.history S.Device.history S.Frozen.content S.Device.name S.Frozen.size S.Watch.counts)) (IsSpent S.history S.Device.history S.Frozen.content) (fault_in result) first session.old.window.limit
         (I.left source.old) (I.left source.new) (O.taken sink.old) (O.taken sink.new) session.new.keeper }
-    ensures prompt { (first : Option World) → HoldsAt S.history S.Device.history S.Frozen.content session.old.keeper first → ReadsPromptly first session.old.window.limit (O.taken sink.old)
+    ensures prompt { (first : Sight) → HoldsAt (eyes S.history S.Device.history S.Frozen.content S.Device.name S.Frozen.size S.Watch.counts) session.old.keeper first → ReadsPromptly first session.old.window.limit (O.taken sink.old)
         (I.moments source.old) (I.moments source.new) }
     ensures rests { OnOk result (Rests (λ d. S.Device.size d) session.new.keeper) }
     ensures settings { settings_of session.new.keeper ≡ settings_of session.old.keeper }
     ensures cause { HasRunCauses (I.faults source.old) (I.faults source.new) (O.faults sink.old) (O.faults sink.new) (faults_of (λ w. S.Watch.counts w) session.old.keeper) (faults_of (λ w. S.Watch.counts w) session.new.keeper) (fault_in result) }
 {
     let mut lines = Lines::new(alloc, MAX_LINE);
-    session.begin(alloc)?;
+    session.begin(rt, alloc)?;
     // A line takes a byte of the input at least, and no input has so many bytes.
     for _ in 0..u64::MAX {
         if !answer_line(rt, alloc, &mut lines, session, source, sink)? {
@@ -302,14 +342,18 @@ pub fn answer_lines<R: Threads + Sync, I: Source<O>, O: Sink, S: Store>(
 }
 
 // Takes the next line, and answers whether more may come. At the end of the input the last window is answered.
-fn answer_line<R: Threads + Sync, I: Source<O>, O: Sink, S: Store>(
+fn answer_line<R: Threads + Sync, I: Source<O>, O: Sink, S: Store + 'static, P: Pace + 'static>(
     rt: &R,
     alloc: Global,
     lines: &mut Lines,
-    session: &mut Session<Partitions<S>>,
+    session: &mut Session<Partitions<S, P>>,
     source: &mut I,
     sink: &mut O,
 ) -> Result<bool, RunFault>
+where
+    S::Device: 'static,
+    S::Frozen: 'static,
+    S::Watch: 'static,
     requires works { lines.old.failed ≡ false }
     requires limit { lines.old.limit ≡ MAX_LINE }
     requires ready { IsReady (MayAsk S.history S.Device.history S.Frozen.content) session.old }
@@ -320,15 +364,15 @@ fn answer_line<R: Threads + Sync, I: Source<O>, O: Sink, S: Store>(
     ensures window { OnOk result (session.new.window.limit ≡ session.old.window.limit) }
 
     // Behind the lines that came before, one more came, or the input is answered, or the run has failed.
-    ensures more { IfOk result (λ more. Goes (HoldsAt S.history S.Device.history S.Frozen.content) (KeepsAt S.history S.Device.history S.Frozen.content) (IsSpent S.history S.Device.history S.Frozen.content) more
+    ensures more { IfOk result (λ more. Goes (HoldsAt (eyes S.history S.Device.history S.Frozen.content S.Device.name S.Frozen.size S.Watch.counts)) (KeepsAt (eyes S.history S.Device.history S.Frozen.content S.Device.name S.Frozen.size S.Watch.counts)) (IsSpent S.history S.Device.history S.Frozen.content) more
         lines.old session.old (I.left source.old) (O.taken sink.old) (I.moments source.old)
         lines.new session.new (I.left source.new) (O.taken sink.new) (I.moments source.new)) }
-    ensures fault { IfErr result (λ fault. Ends (HoldsAt S.history S.Device.history S.Frozen.content) (KeepsAt S.history S.Device.history S.Frozen.content) (IsSpent S.history S.Device.history S.Frozen.content) fault lines.old session.old
+    ensures fault { IfErr result (λ fault. Ends (HoldsAt (eyes S.history S.Device.history S.Frozen.content S.Device.name S.Frozen.size S.Watch.counts)) (KeepsAt (eyes S.history S.Device.history S.Frozen.content S.Device.name S.Frozen.size S.Watch.counts)) (IsSpent S.history S.Device.history S.Frozen.content) fault lines.old session.old
         (I.left source.old) (I.left source.new) (O.taken sink.old) (O.taken sink.new)
         (I.moments source.old) session.new) }
 
     // Each read for the line was asked for when all windows before it were answered, and no more.
-    ensures prompt { AsksPromptly (HoldsAt S.history S.Device.history S.Frozen.content) lines.old session.old (I.left source.old) (O.taken sink.old)
+    ensures prompt { AsksPromptly (HoldsAt (eyes S.history S.Device.history S.Frozen.content S.Device.name S.Frozen.size S.Watch.counts)) lines.old session.old (I.left source.old) (O.taken sink.old)
         (I.moments source.old) (I.moments source.new) }
 
     ensures settings { settings_of session.new.keeper ≡ settings_of session.old.keeper }

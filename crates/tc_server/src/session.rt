@@ -1,19 +1,21 @@
 //! A run between two lines: what keeps the documents, and the window that is open.
 
-ghost use Rattle.std.specs.Prelude.{◌≡◌, ◌∷◌, ℕ, ◌+◌, ◌<◌, ◌≤◌, true, false, List, [], length, Option, Some, option_map, IfErr, IfOk, OnErr, OnOk};
+ghost use Rattle.std.specs.Prelude.{◌≡◌, ◌∷◌, ℕ, ◌+◌, ◌<◌, ◌≤◌, true, false, List, [], length, Option, IfErr, IfOk, OnErr, OnOk};
 ghost use Rattle.tc_command.specs.Replies.{reply_of};
 ghost use Rattle.tc_model.specs.Limits.{max_line};
 ghost use Rattle.tc_model.specs.Request.{Request, request_of};
 ghost use Rattle.tc_model.specs.Weight.{IsLight};
-ghost use Rattle.tc_run_model.specs.Known.{MayReply, known_after};
+ghost use Rattle.tc_run_model.specs.Known.{MayReply};
 ghost use Rattle.tc_run_model.specs.Windows.{is_control, max_window};
 ghost use Rattle.tc_run_model.specs.World.{World};
 ghost use Rattle.tc_server.specs.Asked.{is_whole, request_asked, request_whole, IsRunForPart};
 ghost use Rattle.tc_server.specs.Faults.{fault_in, gave_up, HasCauses, HasDiskCause, IsNoDamage, IsOfStore};
 ghost use Rattle.tc_server.specs.Holds.{worlds_at, AreAnswered, AreWritten, HaveFailed, IsLeft};
 ghost use Rattle.tc_server.specs.Calls.{faults_of, settings_of, IsSpent, KeepsAt, MayAsk, Rests, HoldsAt};
+ghost use Rattle.tc_server.specs.Sight.{sees, sight_after, whole_of, Sight};
 ghost use Rattle.tc_server.specs.Stage.{AsksFor, FailsAtLine, IsReady, TakesLine};
 ghost use Rattle.tc_server.specs.Window.{requests_of, IsSoundWindow};
+ghost use Rattle.tc_work.specs.Moving.{eyes};
 ghost use Rattle.tc_server.specs.declared.answer.Action.TheVariants.{Whole as whole};
 
 use crate::answer::{Action, Asked, Control, push_reply};
@@ -25,6 +27,7 @@ use std::thread::Threads;
 use tc_bytes::Bytes;
 use tc_command::{Refusal, Reply};
 use tc_edge::{Sink, write_all};
+use tc_running::Pace;
 use tc_store::Store;
 
 /// Bytes of room for replies, up to which it is kept from window to window.
@@ -39,9 +42,14 @@ pub struct Session<K: Drop> {
     replies: Vec<u8>,
 }
 
-impl<S: Store> Session<Partitions<S>> {
+impl<S: Store + 'static, P: Pace + 'static> Session<Partitions<S, P>>
+where
+    S::Device: 'static,
+    S::Frozen: 'static,
+    S::Watch: 'static,
+{
     /// A session over what keeps the documents, with windows of so many lines at most.
-    pub fn new(alloc: Global, keeper: Partitions<S>, window: usize) -> Session<Partitions<S>>
+    pub fn new(alloc: Global, keeper: Partitions<S, P>, window: usize) -> Session<Partitions<S, P>>
         requires works { MayAsk S.history S.Device.history S.Frozen.content keeper }
         requires some { 0 < window }
         requires limit { window ≤ 4096 }
@@ -59,7 +67,7 @@ impl<S: Store> Session<Partitions<S>> {
     }
 
     /// What keeps the documents, where the session ends.
-    pub fn into_keeper(self) -> Partitions<S>
+    pub fn into_keeper(self) -> Partitions<S, P>
         ensures { result ≡ self.keeper }
     {
         let Session { keeper, .. } = self;
@@ -67,19 +75,19 @@ impl<S: Store> Session<Partitions<S>> {
     }
 
     /// Settles the store before a line is read.
-    pub fn begin(&mut self, alloc: Global) -> Result<(), RunFault>
+    pub fn begin<R: Threads>(&mut self, rt: &R, alloc: Global) -> Result<(), RunFault>
         requires ready { IsReady (MayAsk S.history S.Device.history S.Frozen.content) self.old }
         ensures ready { OnOk result (IsReady (MayAsk S.history S.Device.history S.Frozen.content) self.new) }
         ensures rests { OnOk result (Rests (λ d. S.Device.size d) self.new.keeper) }
         ensures window { self.new.window ≡ self.old.window }
-        ensures held { (known : Option World) → HoldsAt S.history S.Device.history S.Frozen.content self.old.keeper known → OnOk result (HoldsAt S.history S.Device.history S.Frozen.content self.new.keeper known) }
-        ensures failed { (w : World) → HoldsAt S.history S.Device.history S.Frozen.content self.old.keeper (Some w) → OnErr result (KeepsAt S.history S.Device.history S.Frozen.content self.new.keeper w w) }
-        ensures undamaged { (w : World) → HoldsAt S.history S.Device.history S.Frozen.content self.old.keeper (Some w) → IfErr result IsNoDamage }
+        ensures held { (known : Sight) → HoldsAt (eyes S.history S.Device.history S.Frozen.content S.Device.name S.Frozen.size S.Watch.counts) self.old.keeper known → OnOk result (HoldsAt (eyes S.history S.Device.history S.Frozen.content S.Device.name S.Frozen.size S.Watch.counts) self.new.keeper known) }
+        ensures failed { (only : Option ℕ) (w : World) → HoldsAt (eyes S.history S.Device.history S.Frozen.content S.Device.name S.Frozen.size S.Watch.counts) self.old.keeper (sees only w) → OnErr result (KeepsAt (eyes S.history S.Device.history S.Frozen.content S.Device.name S.Frozen.size S.Watch.counts) self.new.keeper only w w) }
+        ensures undamaged { (w : World) → HoldsAt (eyes S.history S.Device.history S.Frozen.content S.Device.name S.Frozen.size S.Watch.counts) self.old.keeper (sees None w) → IfErr result IsNoDamage }
         ensures kinds { IfErr result IsOfStore }
         ensures settings { settings_of self.new.keeper ≡ settings_of self.old.keeper }
         ensures cause { HasDiskCause (faults_of (λ w. S.Watch.counts w) self.old.keeper) (faults_of (λ w. S.Watch.counts w) self.new.keeper) (IsSpent S.history S.Device.history S.Frozen.content self.new.keeper) (fault_in result) }
     {
-        self.keeper.settle(alloc)
+        self.keeper.settle(rt, alloc)
     }
 
     /// Answers the window that is open, and writes the replies. Errs where the store or the sink fails, and for want of memory.
@@ -95,37 +103,42 @@ impl<S: Store> Session<Partitions<S>> {
         requires works { MayAsk S.history S.Device.history S.Frozen.content self.old.keeper }
         ensures works { OnOk result (MayAsk S.history S.Device.history S.Frozen.content self.new.keeper) }
         ensures rests { OnOk result (Rests (λ d. S.Device.size d) self.new.keeper) }
-        ensures written { OnOk result ((known : Option World) → HoldsAt S.history S.Device.history S.Frozen.content self.old.keeper known
-            → AreWritten (HoldsAt S.history S.Device.history S.Frozen.content) known (requests_of self.old.window) (O.taken sink.old) (O.taken sink.new) self.new.keeper) }
+        ensures written { OnOk result ((known : Sight) → HoldsAt (eyes S.history S.Device.history S.Frozen.content S.Device.name S.Frozen.size S.Watch.counts) self.old.keeper known
+            → AreWritten (HoldsAt (eyes S.history S.Device.history S.Frozen.content S.Device.name S.Frozen.size S.Watch.counts)) known (requests_of self.old.window) (O.taken sink.old) (O.taken sink.new) self.new.keeper) }
         ensures requests { OnOk result (requests_of self.new.window ≡ []) }
         ensures lines { OnOk result (length self.new.window.refusals.items ≡ 0) }
         ensures sound { OnOk result (IsSoundWindow self.new.window) }
         ensures bytes { OnOk result (self.new.window.bytes ≡ 0) }
         ensures limit { OnOk result (self.new.window.limit ≡ self.old.window.limit) }
-        ensures fault { IfErr result (λ fault. (known : Option World) → HoldsAt S.history S.Device.history S.Frozen.content self.old.keeper known
-            → HaveFailed (HoldsAt S.history S.Device.history S.Frozen.content) (KeepsAt S.history S.Device.history S.Frozen.content) fault known (requests_of self.old.window) (O.taken sink.old) (O.taken sink.new) self.new.keeper) }
+        ensures fault { IfErr result (λ fault. (known : Sight) → HoldsAt (eyes S.history S.Device.history S.Frozen.content S.Device.name S.Frozen.size S.Watch.counts) self.old.keeper known
+            → HaveFailed (HoldsAt (eyes S.history S.Device.history S.Frozen.content S.Device.name S.Frozen.size S.Watch.counts)) (KeepsAt (eyes S.history S.Device.history S.Frozen.content S.Device.name S.Frozen.size S.Watch.counts)) fault known (requests_of self.old.window) (O.taken sink.old) (O.taken sink.new) self.new.keeper) }
         ensures settings { settings_of self.new.keeper ≡ settings_of self.old.keeper }
         ensures cause { HasCauses (O.faults sink.old) (O.faults sink.new) (faults_of (λ w. S.Watch.counts w) self.old.keeper) (faults_of (λ w. S.Watch.counts w) self.new.keeper) (IsSpent S.history S.Device.history S.Frozen.content self.new.keeper) (fault_in result) }
     {
         self.window
             .answer(rt, alloc, &mut self.keeper, &mut self.replies)?;
-        self.settle_and_write(alloc, sink)
+        self.settle_and_write(rt, alloc, sink)
     }
 
     // Settles the store behind a window that was answered, and writes the replies.
-    fn settle_and_write<O: Sink>(&mut self, alloc: Global, sink: &mut O) -> Result<(), RunFault>
+    fn settle_and_write<R: Threads, O: Sink>(
+        &mut self,
+        rt: &R,
+        alloc: Global,
+        sink: &mut O,
+    ) -> Result<(), RunFault>
         requires works { MayAsk S.history S.Device.history S.Frozen.content self.old.keeper }
         ensures works { OnOk result (MayAsk S.history S.Device.history S.Frozen.content self.new.keeper) }
         ensures rests { OnOk result (Rests (λ d. S.Device.size d) self.new.keeper) }
         ensures window { self.new.window ≡ self.old.window }
-        ensures written { OnOk result ((known : Option World) (rs : List Request) → AreAnswered (HoldsAt S.history S.Device.history S.Frozen.content) known rs self.old.replies.items self.old.keeper
-            → AreWritten (HoldsAt S.history S.Device.history S.Frozen.content) known rs (O.taken sink.old) (O.taken sink.new) self.new.keeper) }
-        ensures fault { IfErr result (λ fault. (known : Option World) (rs : List Request) → AreAnswered (HoldsAt S.history S.Device.history S.Frozen.content) known rs self.old.replies.items self.old.keeper
-            → HaveFailed (HoldsAt S.history S.Device.history S.Frozen.content) (KeepsAt S.history S.Device.history S.Frozen.content) fault known rs (O.taken sink.old) (O.taken sink.new) self.new.keeper) }
+        ensures written { OnOk result ((known : Sight) (rs : List Request) → AreAnswered (HoldsAt (eyes S.history S.Device.history S.Frozen.content S.Device.name S.Frozen.size S.Watch.counts)) known rs self.old.replies.items self.old.keeper
+            → AreWritten (HoldsAt (eyes S.history S.Device.history S.Frozen.content S.Device.name S.Frozen.size S.Watch.counts)) known rs (O.taken sink.old) (O.taken sink.new) self.new.keeper) }
+        ensures fault { IfErr result (λ fault. (known : Sight) (rs : List Request) → AreAnswered (HoldsAt (eyes S.history S.Device.history S.Frozen.content S.Device.name S.Frozen.size S.Watch.counts)) known rs self.old.replies.items self.old.keeper
+            → HaveFailed (HoldsAt (eyes S.history S.Device.history S.Frozen.content S.Device.name S.Frozen.size S.Watch.counts)) (KeepsAt (eyes S.history S.Device.history S.Frozen.content S.Device.name S.Frozen.size S.Watch.counts)) fault known rs (O.taken sink.old) (O.taken sink.new) self.new.keeper) }
         ensures settings { settings_of self.new.keeper ≡ settings_of self.old.keeper }
         ensures cause { HasCauses (O.faults sink.old) (O.faults sink.new) (faults_of (λ w. S.Watch.counts w) self.old.keeper) (faults_of (λ w. S.Watch.counts w) self.new.keeper) (IsSpent S.history S.Device.history S.Frozen.content self.new.keeper) (fault_in result) }
     {
-        self.keeper.settle(alloc)?;
+        self.keeper.settle(rt, alloc)?;
         write_all(sink, self.replies.as_slice())?;
         give_back_large(alloc, &mut self.replies);
         Ok(())
@@ -146,11 +159,11 @@ impl<S: Store> Session<Partitions<S>> {
         requires plain { is_whole action ≡ false }
         requires light { IsLight size (request_asked action) }
         ensures ok { OnOk result ((line : List ℕ) → AsksFor line action size
-            → TakesLine (HoldsAt S.history S.Device.history S.Frozen.content) line self.old (O.taken sink.old) self.new (O.taken sink.new)) }
+            → TakesLine (HoldsAt (eyes S.history S.Device.history S.Frozen.content S.Device.name S.Frozen.size S.Watch.counts)) line self.old (O.taken sink.old) self.new (O.taken sink.new)) }
         ensures ready { OnOk result (IsReady (MayAsk S.history S.Device.history S.Frozen.content) self.new) }
         ensures limit { OnOk result (self.new.window.limit ≡ self.old.window.limit) }
         ensures fault { IfErr result (λ fault. (line : List ℕ) → AsksFor line action size
-            → FailsAtLine (HoldsAt S.history S.Device.history S.Frozen.content) (KeepsAt S.history S.Device.history S.Frozen.content) fault line self.old (O.taken sink.old) self.new (O.taken sink.new)) }
+            → FailsAtLine (HoldsAt (eyes S.history S.Device.history S.Frozen.content S.Device.name S.Frozen.size S.Watch.counts)) (KeepsAt (eyes S.history S.Device.history S.Frozen.content S.Device.name S.Frozen.size S.Watch.counts)) fault line self.old (O.taken sink.old) self.new (O.taken sink.new)) }
         ensures settings { settings_of self.new.keeper ≡ settings_of self.old.keeper }
         ensures cause { HasCauses (O.faults sink.old) (O.faults sink.new) (faults_of (λ w. S.Watch.counts w) self.old.keeper) (faults_of (λ w. S.Watch.counts w) self.new.keeper) (IsSpent S.history S.Device.history S.Frozen.content self.new.keeper) (fault_in result) }
     {
@@ -173,21 +186,22 @@ impl<S: Store> Session<Partitions<S>> {
     ) -> Result<(), RunFault>
         requires ready { IsReady (MayAsk S.history S.Device.history S.Frozen.content) self.old }
         ensures ok { OnOk result ((line : List ℕ) → AsksFor line (whole control) size
-            → TakesLine (HoldsAt S.history S.Device.history S.Frozen.content) line self.old (O.taken sink.old) self.new (O.taken sink.new)) }
+            → TakesLine (HoldsAt (eyes S.history S.Device.history S.Frozen.content S.Device.name S.Frozen.size S.Watch.counts)) line self.old (O.taken sink.old) self.new (O.taken sink.new)) }
         ensures ready { OnOk result (IsReady (MayAsk S.history S.Device.history S.Frozen.content) self.new) }
         ensures limit { OnOk result (self.new.window.limit ≡ self.old.window.limit) }
         ensures fault { IfErr result (λ fault. (line : List ℕ) → AsksFor line (whole control) size
-            → FailsAtLine (HoldsAt S.history S.Device.history S.Frozen.content) (KeepsAt S.history S.Device.history S.Frozen.content) fault line self.old (O.taken sink.old) self.new (O.taken sink.new)) }
+            → FailsAtLine (HoldsAt (eyes S.history S.Device.history S.Frozen.content S.Device.name S.Frozen.size S.Watch.counts)) (KeepsAt (eyes S.history S.Device.history S.Frozen.content S.Device.name S.Frozen.size S.Watch.counts)) fault line self.old (O.taken sink.old) self.new (O.taken sink.new)) }
         ensures settings { settings_of self.new.keeper ≡ settings_of self.old.keeper }
         ensures cause { HasCauses (O.faults sink.old) (O.faults sink.new) (faults_of (λ w. S.Watch.counts w) self.old.keeper) (faults_of (λ w. S.Watch.counts w) self.new.keeper) (IsSpent S.history S.Device.history S.Frozen.content self.new.keeper) (fault_in result) }
     {
         self.close(rt, alloc, sink)?;
-        self.close_control(alloc, control, sink)
+        self.close_control(rt, alloc, control, sink)
     }
 
     // Answers a line for the whole store, and writes the reply.
-    fn close_control<O: Sink>(
+    fn close_control<R: Threads, O: Sink>(
         &mut self,
+        rt: &R,
         alloc: Global,
         control: Control,
         sink: &mut O,
@@ -196,15 +210,15 @@ impl<S: Store> Session<Partitions<S>> {
         ensures works { OnOk result (MayAsk S.history S.Device.history S.Frozen.content self.new.keeper) }
         ensures rests { OnOk result (Rests (λ d. S.Device.size d) self.new.keeper) }
         ensures window { self.new.window ≡ self.old.window }
-        ensures written { OnOk result ((known : Option World) → HoldsAt S.history S.Device.history S.Frozen.content self.old.keeper known
-            → AreWritten (HoldsAt S.history S.Device.history S.Frozen.content) known (request_whole control ∷ []) (O.taken sink.old) (O.taken sink.new) self.new.keeper) }
-        ensures fault { IfErr result (λ fault. (known : Option World) → HoldsAt S.history S.Device.history S.Frozen.content self.old.keeper known
-            → HaveFailed (HoldsAt S.history S.Device.history S.Frozen.content) (KeepsAt S.history S.Device.history S.Frozen.content) fault known (request_whole control ∷ []) (O.taken sink.old) (O.taken sink.new) self.new.keeper) }
+        ensures written { OnOk result ((known : Sight) → HoldsAt (eyes S.history S.Device.history S.Frozen.content S.Device.name S.Frozen.size S.Watch.counts) self.old.keeper known
+            → AreWritten (HoldsAt (eyes S.history S.Device.history S.Frozen.content S.Device.name S.Frozen.size S.Watch.counts)) known (request_whole control ∷ []) (O.taken sink.old) (O.taken sink.new) self.new.keeper) }
+        ensures fault { IfErr result (λ fault. (known : Sight) → HoldsAt (eyes S.history S.Device.history S.Frozen.content S.Device.name S.Frozen.size S.Watch.counts) self.old.keeper known
+            → HaveFailed (HoldsAt (eyes S.history S.Device.history S.Frozen.content S.Device.name S.Frozen.size S.Watch.counts)) (KeepsAt (eyes S.history S.Device.history S.Frozen.content S.Device.name S.Frozen.size S.Watch.counts)) fault known (request_whole control ∷ []) (O.taken sink.old) (O.taken sink.new) self.new.keeper) }
         ensures settings { settings_of self.new.keeper ≡ settings_of self.old.keeper }
         ensures cause { HasCauses (O.faults sink.old) (O.faults sink.new) (faults_of (λ w. S.Watch.counts w) self.old.keeper) (faults_of (λ w. S.Watch.counts w) self.new.keeper) (IsSpent S.history S.Device.history S.Frozen.content self.new.keeper) (fault_in result) }
     {
-        answer_whole(alloc, &mut self.keeper, control, &mut self.replies)?;
-        self.settle_and_write(alloc, sink)
+        answer_whole(rt, alloc, &mut self.keeper, control, &mut self.replies)?;
+        self.settle_and_write(rt, alloc, sink)
     }
 
     /// Takes a line, by what it asks for and its size.
@@ -220,11 +234,11 @@ impl<S: Store> Session<Partitions<S>> {
         requires size { size ≤ max_line }
         requires light { IsLight size (request_asked asked) }
         ensures ok { OnOk result ((line : List ℕ) → AsksFor line asked size
-            → TakesLine (HoldsAt S.history S.Device.history S.Frozen.content) line self.old (O.taken sink.old) self.new (O.taken sink.new)) }
+            → TakesLine (HoldsAt (eyes S.history S.Device.history S.Frozen.content S.Device.name S.Frozen.size S.Watch.counts)) line self.old (O.taken sink.old) self.new (O.taken sink.new)) }
         ensures ready { OnOk result (IsReady (MayAsk S.history S.Device.history S.Frozen.content) self.new) }
         ensures limit { OnOk result (self.new.window.limit ≡ self.old.window.limit) }
         ensures fault { IfErr result (λ fault. (line : List ℕ) → AsksFor line asked size
-            → FailsAtLine (HoldsAt S.history S.Device.history S.Frozen.content) (KeepsAt S.history S.Device.history S.Frozen.content) fault line self.old (O.taken sink.old) self.new (O.taken sink.new)) }
+            → FailsAtLine (HoldsAt (eyes S.history S.Device.history S.Frozen.content S.Device.name S.Frozen.size S.Watch.counts)) (KeepsAt (eyes S.history S.Device.history S.Frozen.content S.Device.name S.Frozen.size S.Watch.counts)) fault line self.old (O.taken sink.old) self.new (O.taken sink.new)) }
         ensures settings { settings_of self.new.keeper ≡ settings_of self.old.keeper }
         ensures cause { HasCauses (O.faults sink.old) (O.faults sink.new) (faults_of (λ w. S.Watch.counts w) self.old.keeper) (faults_of (λ w. S.Watch.counts w) self.new.keeper) (IsSpent S.history S.Device.history S.Frozen.content self.new.keeper) (fault_in result) }
     {
@@ -244,10 +258,10 @@ impl<S: Store> Session<Partitions<S>> {
     ) -> Result<(), RunFault>
         requires ready { IsReady (MayAsk S.history S.Device.history S.Frozen.content) self.old }
         requires size { length line ≤ max_line }
-        ensures ok { OnOk result (TakesLine (HoldsAt S.history S.Device.history S.Frozen.content) line self.old (O.taken sink.old) self.new (O.taken sink.new)) }
+        ensures ok { OnOk result (TakesLine (HoldsAt (eyes S.history S.Device.history S.Frozen.content S.Device.name S.Frozen.size S.Watch.counts)) line self.old (O.taken sink.old) self.new (O.taken sink.new)) }
         ensures ready { OnOk result (IsReady (MayAsk S.history S.Device.history S.Frozen.content) self.new) }
         ensures limit { OnOk result (self.new.window.limit ≡ self.old.window.limit) }
-        ensures fault { IfErr result (λ fault. FailsAtLine (HoldsAt S.history S.Device.history S.Frozen.content) (KeepsAt S.history S.Device.history S.Frozen.content) fault line self.old (O.taken sink.old) self.new (O.taken sink.new)) }
+        ensures fault { IfErr result (λ fault. FailsAtLine (HoldsAt (eyes S.history S.Device.history S.Frozen.content S.Device.name S.Frozen.size S.Watch.counts)) (KeepsAt (eyes S.history S.Device.history S.Frozen.content S.Device.name S.Frozen.size S.Watch.counts)) fault line self.old (O.taken sink.old) self.new (O.taken sink.new)) }
         ensures settings { settings_of self.new.keeper ≡ settings_of self.old.keeper }
         ensures cause { HasCauses (O.faults sink.old) (O.faults sink.new) (faults_of (λ w. S.Watch.counts w) self.old.keeper) (faults_of (λ w. S.Watch.counts w) self.new.keeper) (IsSpent S.history S.Device.history S.Frozen.content self.new.keeper) (fault_in result) }
     {
@@ -264,10 +278,10 @@ impl<S: Store> Session<Partitions<S>> {
     ) -> Result<(), RunFault>
         requires ready { IsReady (MayAsk S.history S.Device.history S.Frozen.content) self.old }
         requires size { length line.now ≤ max_line }
-        ensures ok { OnOk result (TakesLine (HoldsAt S.history S.Device.history S.Frozen.content) line.now self.old (O.taken sink.old) self.new (O.taken sink.new)) }
+        ensures ok { OnOk result (TakesLine (HoldsAt (eyes S.history S.Device.history S.Frozen.content S.Device.name S.Frozen.size S.Watch.counts)) line.now self.old (O.taken sink.old) self.new (O.taken sink.new)) }
         ensures ready { OnOk result (IsReady (MayAsk S.history S.Device.history S.Frozen.content) self.new) }
         ensures limit { OnOk result (self.new.window.limit ≡ self.old.window.limit) }
-        ensures fault { IfErr result (λ fault. FailsAtLine (HoldsAt S.history S.Device.history S.Frozen.content) (KeepsAt S.history S.Device.history S.Frozen.content) fault line.now self.old (O.taken sink.old) self.new (O.taken sink.new)) }
+        ensures fault { IfErr result (λ fault. FailsAtLine (HoldsAt (eyes S.history S.Device.history S.Frozen.content S.Device.name S.Frozen.size S.Watch.counts)) (KeepsAt (eyes S.history S.Device.history S.Frozen.content S.Device.name S.Frozen.size S.Watch.counts)) fault line.now self.old (O.taken sink.old) self.new (O.taken sink.new)) }
         ensures settings { settings_of self.new.keeper ≡ settings_of self.old.keeper }
         ensures cause { HasCauses (O.faults sink.old) (O.faults sink.new) (faults_of (λ w. S.Watch.counts w) self.old.keeper) (faults_of (λ w. S.Watch.counts w) self.new.keeper) (IsSpent S.history S.Device.history S.Frozen.content self.new.keeper) (fault_in result) }
     {
@@ -284,11 +298,11 @@ impl<S: Store> Session<Partitions<S>> {
     ) -> Result<(), RunFault>
         requires ready { IsReady (MayAsk S.history S.Device.history S.Frozen.content) self.old }
         ensures ok { OnOk result ((line : List ℕ) → max_line < length line
-            → TakesLine (HoldsAt S.history S.Device.history S.Frozen.content) line self.old (O.taken sink.old) self.new (O.taken sink.new)) }
+            → TakesLine (HoldsAt (eyes S.history S.Device.history S.Frozen.content S.Device.name S.Frozen.size S.Watch.counts)) line self.old (O.taken sink.old) self.new (O.taken sink.new)) }
         ensures ready { OnOk result (IsReady (MayAsk S.history S.Device.history S.Frozen.content) self.new) }
         ensures limit { OnOk result (self.new.window.limit ≡ self.old.window.limit) }
         ensures fault { IfErr result (λ fault. (line : List ℕ) → max_line < length line
-            → FailsAtLine (HoldsAt S.history S.Device.history S.Frozen.content) (KeepsAt S.history S.Device.history S.Frozen.content) fault line self.old (O.taken sink.old) self.new (O.taken sink.new)) }
+            → FailsAtLine (HoldsAt (eyes S.history S.Device.history S.Frozen.content S.Device.name S.Frozen.size S.Watch.counts)) (KeepsAt (eyes S.history S.Device.history S.Frozen.content S.Device.name S.Frozen.size S.Watch.counts)) fault line self.old (O.taken sink.old) self.new (O.taken sink.new)) }
         ensures settings { settings_of self.new.keeper ≡ settings_of self.old.keeper }
         ensures cause { HasCauses (O.faults sink.old) (O.faults sink.new) (faults_of (λ w. S.Watch.counts w) self.old.keeper) (faults_of (λ w. S.Watch.counts w) self.new.keeper) (IsSpent S.history S.Device.history S.Frozen.content self.new.keeper) (fault_in result) }
     {
@@ -297,49 +311,59 @@ impl<S: Store> Session<Partitions<S>> {
 }
 
 // Answers a line for the whole store, and leaves the reply line in `replies`, in whose place others stood.
-fn answer_whole<S: Store>(
+fn answer_whole<R: Threads, S: Store + 'static, P: Pace + 'static>(
+    rt: &R,
     alloc: Global,
-    keeper: &mut Partitions<S>,
+    keeper: &mut Partitions<S, P>,
     control: Control,
     replies: &mut Vec<u8>,
 ) -> Result<(), RunFault>
+where
+    S::Device: 'static,
+    S::Frozen: 'static,
+    S::Watch: 'static,
     requires works { MayAsk S.history S.Device.history S.Frozen.content keeper.old }
     ensures works { OnOk result (MayAsk S.history S.Device.history S.Frozen.content keeper.new) }
-    ensures answered { (known : Option World) → HoldsAt S.history S.Device.history S.Frozen.content keeper.old known → OnOk result (AreAnswered (HoldsAt S.history S.Device.history S.Frozen.content) known (request_whole control ∷ []) replies.new.items keeper.new) }
-    ensures left { (known : Option World) → HoldsAt S.history S.Device.history S.Frozen.content keeper.old known → OnErr result (IsLeft (HoldsAt S.history S.Device.history S.Frozen.content) (KeepsAt S.history S.Device.history S.Frozen.content) keeper.new (option_map (worlds_at gave_up (request_whole control ∷ [])) known)) }
-    ensures undamaged { (w : World) → HoldsAt S.history S.Device.history S.Frozen.content keeper.old (Some w) → IfErr result IsNoDamage }
+    ensures answered { (known : Sight) → HoldsAt (eyes S.history S.Device.history S.Frozen.content S.Device.name S.Frozen.size S.Watch.counts) keeper.old known → OnOk result (AreAnswered (HoldsAt (eyes S.history S.Device.history S.Frozen.content S.Device.name S.Frozen.size S.Watch.counts)) known (request_whole control ∷ []) replies.new.items keeper.new) }
+    ensures left { (known : Sight) → HoldsAt (eyes S.history S.Device.history S.Frozen.content S.Device.name S.Frozen.size S.Watch.counts) keeper.old known → OnErr result (IsLeft (HoldsAt (eyes S.history S.Device.history S.Frozen.content S.Device.name S.Frozen.size S.Watch.counts)) (KeepsAt (eyes S.history S.Device.history S.Frozen.content S.Device.name S.Frozen.size S.Watch.counts)) keeper.new known (worlds_at gave_up (request_whole control ∷ []))) }
+    ensures undamaged { (w : World) → HoldsAt (eyes S.history S.Device.history S.Frozen.content S.Device.name S.Frozen.size S.Watch.counts) keeper.old (sees None w) → IfErr result IsNoDamage }
     ensures kinds { IfErr result IsOfStore }
     ensures settings { settings_of keeper.new ≡ settings_of keeper.old }
     ensures cause { HasDiskCause (faults_of (λ w. S.Watch.counts w) keeper.old) (faults_of (λ w. S.Watch.counts w) keeper.new) (IsSpent S.history S.Device.history S.Frozen.content keeper.new) (fault_in result) }
 {
     replies.clear();
-    let reply = reply_whole(alloc, keeper, control)?;
+    let reply = reply_whole(rt, alloc, keeper, control)?;
     push_reply(alloc, &reply, replies)?;
     Ok(())
 }
 
 // The reply to a line for the whole store.
-fn reply_whole<S: Store>(
+fn reply_whole<R: Threads, S: Store + 'static, P: Pace + 'static>(
+    rt: &R,
     alloc: Global,
-    keeper: &mut Partitions<S>,
+    keeper: &mut Partitions<S, P>,
     control: Control,
 ) -> Result<Reply, RunFault>
+where
+    S::Device: 'static,
+    S::Frozen: 'static,
+    S::Watch: 'static,
     requires works { MayAsk S.history S.Device.history S.Frozen.content keeper.old }
     ensures works { OnOk result (MayAsk S.history S.Device.history S.Frozen.content keeper.new) }
-    ensures reply { (known : Option World) → HoldsAt S.history S.Device.history S.Frozen.content keeper.old known → IfOk result (λ reply. MayReply (request_whole control ∷ []) known (reply_of reply ∷ [])) }
-    ensures held { (known : Option World) → HoldsAt S.history S.Device.history S.Frozen.content keeper.old known → OnOk result (HoldsAt S.history S.Device.history S.Frozen.content keeper.new (known_after (request_whole control ∷ []) known)) }
-    ensures failed { (w : World) → HoldsAt S.history S.Device.history S.Frozen.content keeper.old (Some w) → OnErr result (KeepsAt S.history S.Device.history S.Frozen.content keeper.new w w) }
-    ensures undamaged { (w : World) → HoldsAt S.history S.Device.history S.Frozen.content keeper.old (Some w) → IfErr result IsNoDamage }
+    ensures reply { (known : Sight) → HoldsAt (eyes S.history S.Device.history S.Frozen.content S.Device.name S.Frozen.size S.Watch.counts) keeper.old known → IfOk result (λ reply. MayReply (request_whole control ∷ []) (whole_of known) (reply_of reply ∷ [])) }
+    ensures held { (known : Sight) → HoldsAt (eyes S.history S.Device.history S.Frozen.content S.Device.name S.Frozen.size S.Watch.counts) keeper.old known → OnOk result (HoldsAt (eyes S.history S.Device.history S.Frozen.content S.Device.name S.Frozen.size S.Watch.counts) keeper.new (sight_after (request_whole control ∷ []) known)) }
+    ensures failed { (only : Option ℕ) (w : World) → HoldsAt (eyes S.history S.Device.history S.Frozen.content S.Device.name S.Frozen.size S.Watch.counts) keeper.old (sees only w) → OnErr result (KeepsAt (eyes S.history S.Device.history S.Frozen.content S.Device.name S.Frozen.size S.Watch.counts) keeper.new only w w) }
+    ensures undamaged { (w : World) → HoldsAt (eyes S.history S.Device.history S.Frozen.content S.Device.name S.Frozen.size S.Watch.counts) keeper.old (sees None w) → IfErr result IsNoDamage }
     ensures kinds { IfErr result IsOfStore }
     ensures settings { settings_of keeper.new ≡ settings_of keeper.old }
     ensures cause { HasDiskCause (faults_of (λ w. S.Watch.counts w) keeper.old) (faults_of (λ w. S.Watch.counts w) keeper.new) (IsSpent S.history S.Device.history S.Frozen.content keeper.new) (fault_in result) }
 {
     match control {
         Control::Flush => {
-            keeper.flush(alloc)?;
+            keeper.flush(rt, alloc)?;
             Ok(Reply::Flushed)
         }
-        Control::Schema => Ok(Reply::Schemas(keeper.schemas(alloc)?)),
+        Control::Schema => Ok(Reply::Schemas(keeper.schemas(rt, alloc)?)),
         Control::NotBuilt => Ok(Reply::Refused(Refusal::NotBuilt)),
     }
 }

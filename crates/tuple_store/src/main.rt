@@ -10,8 +10,9 @@ use std::process::ExitCode;
 use std::thread::Threads;
 use tc_edge::{StdSink, StdSource};
 use tc_files::{FileShelf, FileStore};
+use tc_running::Free;
 use tc_server::{RunFault, Served, run_program, words};
-use tc_store::{MemShelf, Shelf};
+use tc_store::{MemShelf, Shelf, Store};
 use tc_value::Text;
 use tc_words::WordsFault;
 
@@ -83,10 +84,16 @@ fn served_over<H: Shelf>(
     threads: &(impl Eprint + AllocGlobal + Threads + Sync),
     words: Result<Vec<Text>, WordsFault>,
     shelf: &mut H,
-) -> Served<H::Store> {
+) -> Served<H::Store>
+where
+    H::Store: 'static,
+    <H::Store as Store>::Device: 'static,
+    <H::Store as Store>::Frozen: 'static,
+    <H::Store as Store>::Watch: 'static,
+{
     let mut source = StdSource::new(rt.stdin());
     let mut sink = StdSink::new(rt.stdout());
-    run_program(threads, words, &mut source, &mut sink, shelf)
+    run_program(threads, words, &mut source, &mut sink, shelf, Free)
 }
 
 // Where a call on files failed, says on a second line of standard error why the system refused it.

@@ -6,6 +6,7 @@ use std::alloc::{AllocError, Global};
 use std::test::Fail;
 use std::thread::Threads;
 use tc_edge::{MemSink, MemSource};
+use tc_running::Free;
 use tc_server::serve;
 use tc_store::MemShelf;
 
@@ -66,6 +67,7 @@ fn schema_behind(
         &mut source,
         &mut sink,
         &mut shelf,
+        Free,
     );
     let text = sink.taken();
     let mut start = 0;

@@ -8,6 +8,7 @@ use std::alloc::{AllocError, Global};
 use std::test::Fail;
 use std::thread::Threads;
 use tc_edge::{EdgeFault, MemSink, Source};
+use tc_running::Free;
 use tc_server::serve;
 use tc_store::MemShelf;
 
@@ -79,6 +80,7 @@ fn run_waiting(
         &mut source,
         &mut sink,
         &mut shelf,
+        Free,
     );
     Ok(served.status)
 }

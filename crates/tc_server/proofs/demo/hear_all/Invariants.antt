@@ -2,6 +2,7 @@
 use Rattle.std.proofs.Common.{◌≡◌}
 use Rattle.std.specs.Prelude.{None}
 use Rattle.tc_gen.specs.Generated.{generated}
+use Rattle.tc_work.specs.Moving.{eyes}
 use Rattle.tc_server.specs.Calls.{faults_of, settings_of, IsSpent, MayAsk, HoldsAt}
 use Rattle.tc_server.specs.Faults.{HasDiskCause}
 use Rattle.tc_server.specs.Stage.{IsReady}
@@ -14,6 +15,6 @@ invariant-loop g l =
       ready : IsReady (MayAsk g.S.Store.history g.S.Device.Device.history g.S.Frozen.Frozen.content) l.session;
       limit : l.session.window.limit ≡ l.fn.session.window.limit;
       settings : settings_of l.session.keeper ≡ settings_of l.fn.session.keeper;
-      comes : ComesOn (HoldsAt g.S.Store.history g.S.Device.Device.history g.S.Frozen.Frozen.content) (HoldsAt g.S.Store.history g.S.Device.Device.history g.S.Frozen.Frozen.content l.fn.session.keeper) (generated l.commands) l.feed l.fn.session.window.limit l.session l.tally;
+      comes : ComesOn (HoldsAt (eyes g.S.Store.history g.S.Device.Device.history g.S.Frozen.Frozen.content g.S.Device.Device.name g.S.Frozen.Frozen.size g.S.Watch.Watch.counts)) (HoldsAt (eyes g.S.Store.history g.S.Device.Device.history g.S.Frozen.Frozen.content g.S.Device.Device.name g.S.Frozen.Frozen.size g.S.Watch.Watch.counts) l.fn.session.keeper) (generated l.commands) l.feed l.fn.session.window.limit l.session l.tally;
       cause : HasDiskCause (faults_of g.S.Watch.Watch.counts l.fn.session.keeper) (faults_of g.S.Watch.Watch.counts l.session.keeper) (IsSpent g.S.Store.history g.S.Device.Device.history g.S.Frozen.Frozen.content l.session.keeper) None;
     }

@@ -1,6 +1,10 @@
 use Rattle.std.proofs.Common.{◌∙◌, ap, sym, subst}
 use Rattle.tc_engines.specs.Standing.{partition_at}
+use Rattle.tc_engines.specs.WithJobs.{engine_with, no_jobs}
 use Rattle.tc_part_model.specs.PartState.{told}
+use Rattle.tc_work.specs.EngineState.{EngineState}
+use Rattle.tc_work.specs.Moving.{eyes}
+use Rattle.tc_work.specs.Settling.{MaySettle}
 use Rattle.tc_server.specs.Faults.{faults_in}
 use Rattle.tc_server.specs.Kits.{IsOpened}
 use Rattle.tc_server.proofs.KitOpenings.{engine_opened, given_back, layout_of, pushed_back}
@@ -17,18 +21,22 @@ returns-in-Err-clause-layout g c =
 
 pub returns-in-Ok-push-clause-opened : goal.returns-in-Ok-push-clause-opened
 returns-in-Ok-push-clause-opened g c = (
-  c.new.result,
+  engine_with c.new.result no_jobs,
   c.in-Ok-push.ensures.pushed,
-  subst (IsOpened (λ part. told g.S.Store.history g.S.Device.Device.history g.S.Frozen.Frozen.content part) g.S.Watch.Watch.counts c.args.options.now (partition_at c.args.number c.args.options.now.partitions) (g.S.Store.history c.args.kit.store) (faults_in g.S.Watch.Watch.counts c.args.kit)) (sym c.new.ensures) (engine_opened (λ part. told g.S.Store.history g.S.Device.Device.history g.S.Frozen.Frozen.content part) g.S.Watch.Watch.counts c.args.options.now (partition_at c.args.number c.args.options.now.partitions) (g.S.Store.history c.args.kit.store) c.args.kit c.in-Ok.part c.policy_of.result
-      (record { sound = ap (λ p. p.failed) c.in-Ok.ensures.begun; ready = record { own = c.in-Ok.ensures.has_own; components = c.in-Ok.ensures.components }; log = c.in-Ok.ensures.log_out })
+  subst (λ engine. IsOpened (eyes g.S.Store.history g.S.Device.Device.history g.S.Frozen.Frozen.content g.S.Device.Device.name g.S.Frozen.Frozen.size g.S.Watch.Watch.counts) c.args.options.now (partition_at c.args.number c.args.options.now.partitions) (g.S.Store.history c.args.kit.store) (faults_in g.S.Watch.Watch.counts c.args.kit) (engine_with engine no_jobs)) (sym c.new.ensures.made) (engine_opened (eyes g.S.Store.history g.S.Device.Device.history g.S.Frozen.Frozen.content g.S.Device.Device.name g.S.Frozen.Frozen.size g.S.Watch.Watch.counts) c.args.options.now (partition_at c.args.number c.args.options.now.partitions) (g.S.Store.history c.args.kit.store) c.args.kit c.in-Ok.part c.policy_of.result
+      (record { sound = ap (λ p. p.failed) c.in-Ok.ensures.begun; log = c.in-Ok.ensures.log_out })
       (ap (λ p. p.staged) c.in-Ok.ensures.begun) (ap (λ p. p.limits) c.in-Ok.ensures.begun) (ap (λ p. p.memory) c.in-Ok.ensures.begun) c.policy_of.ensures c.in-Ok.ensures.opened c.in-Ok.ensures.judged c.in-Ok.ensures.watched
       (ap (λ p. p.flusher) c.in-Ok.ensures.begun) (ap (λ p. p.merger) c.in-Ok.ensures.begun) (ap (λ p. p.reader) c.in-Ok.ensures.begun)),
 )
 
 pub returns-in-Err-push-clause-back : goal.returns-in-Err-push-clause-back
 returns-in-Err-push-clause-back g c =
-    pushed_back (λ part. told g.S.Store.history g.S.Device.Device.history g.S.Frozen.Frozen.content part) g.S.Watch.Watch.counts g.S.Device.Device.size c.args.options.now (partition_at c.args.number c.args.options.now.partitions) (g.S.Store.history c.args.kit.store) (faults_in g.S.Watch.Watch.counts c.args.kit) c.in-Err-push.engine (g.S.Store.history c.close.result.store) (faults_in g.S.Watch.Watch.counts c.close.result)
-    (subst (IsOpened (λ part. told g.S.Store.history g.S.Device.Device.history g.S.Frozen.Frozen.content part) g.S.Watch.Watch.counts c.args.options.now (partition_at c.args.number c.args.options.now.partitions) (g.S.Store.history c.args.kit.store) (faults_in g.S.Watch.Watch.counts c.args.kit)) (sym (c.in-Err-push.ensures.back ∙ c.new.ensures)) (engine_opened (λ part. told g.S.Store.history g.S.Device.Device.history g.S.Frozen.Frozen.content part) g.S.Watch.Watch.counts c.args.options.now (partition_at c.args.number c.args.options.now.partitions) (g.S.Store.history c.args.kit.store) c.args.kit c.in-Ok.part c.policy_of.result
-    (record { sound = ap (λ p. p.failed) c.in-Ok.ensures.begun; ready = record { own = c.in-Ok.ensures.has_own; components = c.in-Ok.ensures.components }; log = c.in-Ok.ensures.log_out })
+    pushed_back (eyes g.S.Store.history g.S.Device.Device.history g.S.Frozen.Frozen.content g.S.Device.Device.name g.S.Frozen.Frozen.size g.S.Watch.Watch.counts) g.S.Device.Device.size c.args.options.now (partition_at c.args.number c.args.options.now.partitions) (g.S.Store.history c.args.kit.store) (faults_in g.S.Watch.Watch.counts c.args.kit) (engine_with c.in-Err-push.engine c.new-in-Err-push.result) c.close.result.outcome (g.S.Store.history c.close.result.kit.store) (faults_in g.S.Watch.Watch.counts c.close.result.kit)
+    (subst (λ jobs. IsOpened (eyes g.S.Store.history g.S.Device.Device.history g.S.Frozen.Frozen.content g.S.Device.Device.name g.S.Frozen.Frozen.size g.S.Watch.Watch.counts) c.args.options.now (partition_at c.args.number c.args.options.now.partitions) (g.S.Store.history c.args.kit.store) (faults_in g.S.Watch.Watch.counts c.args.kit) (engine_with c.in-Err-push.engine jobs)) (sym c.new-in-Err-push.ensures) (subst (λ engine. IsOpened (eyes g.S.Store.history g.S.Device.Device.history g.S.Frozen.Frozen.content g.S.Device.Device.name g.S.Frozen.Frozen.size g.S.Watch.Watch.counts) c.args.options.now (partition_at c.args.number c.args.options.now.partitions) (g.S.Store.history c.args.kit.store) (faults_in g.S.Watch.Watch.counts c.args.kit) (engine_with engine no_jobs)) (sym (c.in-Err-push.ensures.back ∙ c.new.ensures.made)) (engine_opened (eyes g.S.Store.history g.S.Device.Device.history g.S.Frozen.Frozen.content g.S.Device.Device.name g.S.Frozen.Frozen.size g.S.Watch.Watch.counts) c.args.options.now (partition_at c.args.number c.args.options.now.partitions) (g.S.Store.history c.args.kit.store) c.args.kit c.in-Ok.part c.policy_of.result
+    (record { sound = ap (λ p. p.failed) c.in-Ok.ensures.begun; log = c.in-Ok.ensures.log_out })
     (ap (λ p. p.staged) c.in-Ok.ensures.begun) (ap (λ p. p.limits) c.in-Ok.ensures.begun) (ap (λ p. p.memory) c.in-Ok.ensures.begun) c.policy_of.ensures c.in-Ok.ensures.opened c.in-Ok.ensures.judged c.in-Ok.ensures.watched
-    (ap (λ p. p.flusher) c.in-Ok.ensures.begun) (ap (λ p. p.merger) c.in-Ok.ensures.begun) (ap (λ p. p.reader) c.in-Ok.ensures.begun))) c.close.ensures
+    (ap (λ p. p.flusher) c.in-Ok.ensures.begun) (ap (λ p. p.merger) c.in-Ok.ensures.begun) (ap (λ p. p.reader) c.in-Ok.ensures.begun)))) c.close.ensures
+
+pub push-requires-clause-ready : goal.push-requires-clause-ready
+push-requires-clause-ready g c κs within = λ sound.
+    subst (λ (engine : EngineState _ _ _ _). MaySettle (told g.S.Store.history g.S.Device.Device.history g.S.Frozen.Frozen.content engine.part)) (sym c.new.ensures.made) (record { own = c.in-Ok.ensures.has_own; components = c.in-Ok.ensures.components })

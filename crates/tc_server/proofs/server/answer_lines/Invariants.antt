@@ -1,8 +1,9 @@
 use Rattle.std.proofs.Common.{◌≡◌, false}
-use Rattle.std.specs.Prelude.{None, Option}
-use Rattle.tc_run_model.specs.World.{World}
+use Rattle.std.specs.Prelude.{None}
+use Rattle.tc_work.specs.Moving.{eyes}
 use Rattle.tc_server.specs.Faults.{HasRunCauses}
 use Rattle.tc_server.specs.Progress.{HasCome}
+use Rattle.tc_server.specs.Sight.{Sight}
 use Rattle.tc_server.specs.Stage.{IsReady}
 use Rattle.tc_server.specs.Calls.{faults_of, settings_of, MayAsk, HoldsAt}
 use Rattle.tc_server.proofs.server.answer_lines.Given as goal
@@ -16,7 +17,7 @@ invariant-loop g l =
       ready : IsReady (MayAsk g.S.Store.history g.S.Device.Device.history g.S.Frozen.Frozen.content) l.session;
       limit : l.session.window.limit ≡ l.fn.session.window.limit;
       settings : settings_of l.session.keeper ≡ settings_of l.fn.session.keeper;
-      come : (first : Option World) → (HoldsAt g.S.Store.history g.S.Device.Device.history g.S.Frozen.Frozen.content) l.fn.session.keeper first
-          → HasCome (HoldsAt g.S.Store.history g.S.Device.Device.history g.S.Frozen.Frozen.content) first l.lines l.session (g.I.Source.left l.fn.source) (g.I.Source.left l.source) (g.O.Sink.taken l.fn.sink) (g.O.Sink.taken l.sink) (g.I.Source.moments l.fn.source) (g.I.Source.moments l.source);
+      come : (first : Sight) → (HoldsAt (eyes g.S.Store.history g.S.Device.Device.history g.S.Frozen.Frozen.content g.S.Device.Device.name g.S.Frozen.Frozen.size g.S.Watch.Watch.counts)) l.fn.session.keeper first
+          → HasCome (HoldsAt (eyes g.S.Store.history g.S.Device.Device.history g.S.Frozen.Frozen.content g.S.Device.Device.name g.S.Frozen.Frozen.size g.S.Watch.Watch.counts)) first l.lines l.session (g.I.Source.left l.fn.source) (g.I.Source.left l.source) (g.O.Sink.taken l.fn.sink) (g.O.Sink.taken l.sink) (g.I.Source.moments l.fn.source) (g.I.Source.moments l.source);
       cause : HasRunCauses (g.I.Source.faults l.fn.source) (g.I.Source.faults l.source) (g.O.Sink.faults l.fn.sink) (g.O.Sink.faults l.sink) ((faults_of g.S.Watch.Watch.counts) l.fn.session.keeper) ((faults_of g.S.Watch.Watch.counts) l.session.keeper) None;
     }

@@ -6,9 +6,11 @@ use Rattle.tc_model.specs.Keyed.{values_in}
 use Rattle.tc_route.specs.Meaning.{replies_in}
 use Rattle.tc_route.specs.declared.placed.Placed.{Placed}
 use Rattle.tc_run_model.specs.Course.{each_line}
-use Rattle.tc_run_model.specs.Known.{MayReply, known_after}
+use Rattle.tc_run_model.specs.Known.{MayReply}
 use Rattle.tc_run_model.specs.World.{after_all}
+use Rattle.tc_work.specs.Moving.{eyes}
 use Rattle.tc_server.specs.Faults.{gave_up}
+use Rattle.tc_server.specs.Sight.{sight_after, whole_of}
 use Rattle.tc_server.specs.Window.{mixed, reply_refused, requests_of, requests_routed, AreTogether}
 use Rattle.tc_server.specs.Calls.{faults_of, IsSpent, KeepsAt, HoldsAt}
 use Rattle.tc_server.proofs.Answering.{left_failed, left_standing}
@@ -24,17 +26,17 @@ pub returns-in_err-answers-clause-left : goal.returns-in_err-answers-clause-left
 returns-in_err-answers-clause-left g c =
     let p = err_from_is_err_and c.from_residual.result c.from_residual.ensures.1 in
     let w = c.args.self.now in
-    λ known holds. rw p.1 (left_failed (HoldsAt g.S.Store.history g.S.Device.Device.history g.S.Frozen.Frozen.content) (KeepsAt g.S.Store.history g.S.Device.Device.history g.S.Frozen.Frozen.content) c.window.new.self (requests_of w) known
-    (λ v is. subst ((KeepsAt g.S.Store.history g.S.Device.Device.history g.S.Frozen.Frozen.content) c.window.new.self v) (sym (mixed_leaves w.refusals.items (requests_routed w.commands.items) v (c.requires.sound.whole ∙ sym (length-map w.commands.items _))))
-    (subst (λ list. (KeepsAt g.S.Store.history g.S.Device.Device.history g.S.Frozen.Frozen.content) c.window.new.self v (after_all (requests_routed list) v)) (ap (λ v. v.items) c.replace-commands.ensures.value) (c.in_err-answers.ensures.failed v (subst ((HoldsAt g.S.Store.history g.S.Device.Device.history g.S.Frozen.Frozen.content) c.args.keeper.now) is holds)))))
+    λ known holds. rw p.1 (left_failed (HoldsAt (eyes g.S.Store.history g.S.Device.Device.history g.S.Frozen.Frozen.content g.S.Device.Device.name g.S.Frozen.Frozen.size g.S.Watch.Watch.counts)) (KeepsAt (eyes g.S.Store.history g.S.Device.Device.history g.S.Frozen.Frozen.content g.S.Device.Device.name g.S.Frozen.Frozen.size g.S.Watch.Watch.counts)) c.window.new.self (requests_of w) known
+    (λ only v is. subst ((KeepsAt (eyes g.S.Store.history g.S.Device.Device.history g.S.Frozen.Frozen.content g.S.Device.Device.name g.S.Frozen.Frozen.size g.S.Watch.Watch.counts)) c.window.new.self only v) (sym (mixed_leaves w.refusals.items (requests_routed w.commands.items) v (c.requires.sound.whole ∙ sym (length-map w.commands.items _))))
+    (subst (λ list. (KeepsAt (eyes g.S.Store.history g.S.Device.Device.history g.S.Frozen.Frozen.content g.S.Device.Device.name g.S.Frozen.Frozen.size g.S.Watch.Watch.counts)) c.window.new.self only v (after_all (requests_routed list) v)) (ap (λ v. v.items) c.replace-commands.ensures.value) (c.in_err-answers.ensures.failed only v (subst ((HoldsAt (eyes g.S.Store.history g.S.Device.Device.history g.S.Frozen.Frozen.content g.S.Device.Device.name g.S.Frozen.Frozen.size g.S.Watch.Watch.counts)) c.args.keeper.now) is holds)))))
 
 pub returns-in_err-push_all-clause-left : goal.returns-in_err-push_all-clause-left
 returns-in_err-push_all-clause-left g c =
     let p = err_from_is_err_and c.from_residual-in_err-push_all.result c.from_residual-in_err-push_all.ensures.1 in
     let w = c.args.self.now in
-    λ known holds. rw p.1 (left_standing (HoldsAt g.S.Store.history g.S.Device.Device.history g.S.Frozen.Frozen.content) (KeepsAt g.S.Store.history g.S.Device.Device.history g.S.Frozen.Frozen.content) c.window.new.self gave_up (requests_of w) known
-    (subst ((HoldsAt g.S.Store.history g.S.Device.Device.history g.S.Frozen.Frozen.content) c.window.new.self) (sym (mixed_known w.refusals.items (requests_routed w.commands.items) known (c.requires.sound.whole ∙ sym (length-map w.commands.items _))))
-    (subst (λ list. (HoldsAt g.S.Store.history g.S.Device.Device.history g.S.Frozen.Frozen.content) c.window.new.self (known_after (requests_routed list) known)) (ap (λ v. v.items) c.replace-commands.ensures.value) (c.in_ok-answers.ensures.held known holds))))
+    λ known holds. rw p.1 (left_standing (HoldsAt (eyes g.S.Store.history g.S.Device.Device.history g.S.Frozen.Frozen.content g.S.Device.Device.name g.S.Frozen.Frozen.size g.S.Watch.Watch.counts)) (KeepsAt (eyes g.S.Store.history g.S.Device.Device.history g.S.Frozen.Frozen.content g.S.Device.Device.name g.S.Frozen.Frozen.size g.S.Watch.Watch.counts)) c.window.new.self gave_up (requests_of w) known
+    (subst ((HoldsAt (eyes g.S.Store.history g.S.Device.Device.history g.S.Frozen.Frozen.content g.S.Device.Device.name g.S.Frozen.Frozen.size g.S.Watch.Watch.counts)) c.window.new.self) (sym (mixed_known w.refusals.items (requests_routed w.commands.items) known (c.requires.sound.whole ∙ sym (length-map w.commands.items _))))
+    (subst (λ list. (HoldsAt (eyes g.S.Store.history g.S.Device.Device.history g.S.Frozen.Frozen.content g.S.Device.Device.name g.S.Frozen.Frozen.size g.S.Watch.Watch.counts)) c.window.new.self (sight_after (requests_routed list) known)) (ap (λ v. v.items) c.replace-commands.ensures.value) (c.in_ok-answers.ensures.held known holds))))
 
 pub returns-in_err-push_all-clause-cause : goal.returns-in_err-push_all-clause-cause
 returns-in_err-push_all-clause-cause g c =
@@ -46,16 +48,16 @@ returns-clause-answered g c = λ known holds.
     let w = c.args.self.now in
     let rs = requests_routed w.commands.items in
     let same = c.requires.sound.whole ∙ sym (length-map w.commands.items _) in
-    let given = subst (λ list. MayReply (requests_routed list) known (values_in (replies_in c.in_ok-answers.answers))) (ap (λ v. v.items) c.replace-commands.ensures.value) (c.in_ok-answers.ensures.replies known holds) in
+    let given = subst (λ list. MayReply (requests_routed list) (whole_of known) (values_in (replies_in c.in_ok-answers.answers))) (ap (λ v. v.items) c.replace-commands.ensures.value) (c.in_ok-answers.ensures.replies known holds) in
     record {
       replies = mixed reply_refused w.refusals.items (map (λ a. reply_of a.reply) c.in_ok-answers.answers);
-      given = mixed_given w.refusals.items rs known _ same (subst (MayReply rs known) (values_of_replies _) given);
+      given = mixed_given w.refusals.items rs (whole_of known) _ same (subst (MayReply rs (whole_of known)) (values_of_replies _) given);
       lines = c.in_ok-push_all.ensures
           ∙ ap (λ lines. c.clear.new.self.items ++ each_line (mixed reply_refused lines (map (λ (a : Placed). reply_of a.reply) c.as_slice-2.result.now))) c.as_slice.ensures.value
           ∙ ap (λ list. c.clear.new.self.items ++ each_line (mixed reply_refused w.refusals.items (map (λ (a : Placed). reply_of a.reply) list))) c.as_slice-2.ensures
           ∙ ap (λ bytes. bytes ++ each_line (mixed reply_refused w.refusals.items (map (λ (a : Placed). reply_of a.reply) c.in_ok-answers.answers))) c.clear.ensures.items;
-      held = subst ((HoldsAt g.S.Store.history g.S.Device.Device.history g.S.Frozen.Frozen.content) c.window.new.self) (sym (mixed_known w.refusals.items rs known same))
-          (subst (λ list. (HoldsAt g.S.Store.history g.S.Device.Device.history g.S.Frozen.Frozen.content) c.window.new.self (known_after (requests_routed list) known)) (ap (λ v. v.items) c.replace-commands.ensures.value) (c.in_ok-answers.ensures.held known holds));
+      held = subst ((HoldsAt (eyes g.S.Store.history g.S.Device.Device.history g.S.Frozen.Frozen.content g.S.Device.Device.name g.S.Frozen.Frozen.size g.S.Watch.Watch.counts)) c.window.new.self) (sym (mixed_known w.refusals.items rs known same))
+          (subst (λ list. (HoldsAt (eyes g.S.Store.history g.S.Device.Device.history g.S.Frozen.Frozen.content g.S.Device.Device.name g.S.Frozen.Frozen.size g.S.Watch.Watch.counts)) c.window.new.self (sight_after (requests_routed list) known)) (ap (λ v. v.items) c.replace-commands.ensures.value) (c.in_ok-answers.ensures.held known holds));
     }
 
 pub returns-clause-sound : goal.returns-clause-sound
