@@ -1,0 +1,54 @@
+//! Layer 6, programs: holds threads of a run at points that they come to, and prints whether they met, and whether the run
+//! replies the same. A row of standard input is a word and its argument. `beside` has a job and a get wait for each other:
+//! `flush`, or `merge`. `at once` has the replies of two partitions wait for each other. Who waits does so for a stated
+//! number of turns, so that a job that is run before the get is answered, or engines that answer one after the other, end
+//! the wait unmet. `paces` runs so many paces, each of which holds every point for a while of its own, over four partitions,
+//! and says how many of the runs replied otherwise than one partition does. A row that begins with `#` is a note, and is
+//! printed as it is; `no answer` stands for a row out of form.
+#![tactic(auto)]
+
+mod beside;
+mod kits;
+mod lines;
+mod meeting;
+mod running;
+mod wandering;
+
+use std::alloc::Global;
+use std::io;
+use std::thread::Threads;
+
+fn main(rt: HostRuntime) -> io::Result<()> {
+    for row in rt.lines(rt.alloc()) {
+        answer(&rt, row?.as_str())?;
+    }
+    Ok(())
+}
+
+fn answer(rt: &(impl Print + AllocGlobal + Threads + Sync), row: &str) -> io::Result<()> {
+    match answer_of(rt, row) {
+        Some(answer) => println!(rt; "{}", answer.as_str()),
+        None => println!(rt; "no answer"),
+    }
+}
+
+// The line that answers a row.
+fn answer_of(rt: &(impl AllocGlobal + Threads + Sync), row: &str) -> Option<String> {
+    let alloc = rt.alloc();
+    let (call, argument) = row.split_once(' ').unwrap_or((row, ""));
+    match call {
+        "#" => String::from_str(alloc, row).ok(),
+        "beside" => beside::with_job(rt, argument).and_then(|met| met_text(alloc, met)),
+        "at" => beside::of_engines(rt).and_then(|met| met_text(alloc, met)),
+        "paces" => {
+            let paces = argument.parse::<u64>().ok()?;
+            let other = wandering::differing(rt, paces)?;
+            format!(in alloc; "{paces} paces, {other} replied otherwise").ok()
+        }
+        _ => None,
+    }
+}
+
+fn met_text(alloc: Global, met: bool) -> Option<String> {
+    String::from_str(alloc, if met { "met" } else { "missed" }).ok()
+}
