@@ -8,6 +8,7 @@ use Rattle.tc_work.specs.Moving.{beside, eyes, IsOutBy, MayMove}
 use Rattle.tc_work.proofs.EmptyLogs.{unwritten}
 use Rattle.tc_work.proofs.GivenBack.{out_inside}
 use Rattle.tc_work.proofs.OpenEngines.{inside_is}
+use Rattle.tc_work.proofs.engine.Engine.finish.Given.{Over}
 use Rattle.tc_work.proofs.engine.Engine.finish.Goals as goal
 
 -- ---- of an engine that failed
@@ -16,77 +17,46 @@ pub close_failed-requires-clause-jobs : goal.close_failed-requires-clause-jobs
 close_failed-requires-clause-jobs g c κs within =
     out_inside (eyes g.S.Store.history g.S.Device.Device.history g.S.Frozen.Frozen.content g.S.Device.Device.name g.S.Frozen.Frozen.size g.S.Watch.Watch.counts) c.self.inside.part c.self.inside.failed c.args.jobs (subst (λ (s : PartState _ _ _ _). IsOutBy (eyes g.S.Store.history g.S.Device.Device.history g.S.Frozen.Frozen.content g.S.Device.Device.name g.S.Frozen.Frozen.size g.S.Watch.Watch.counts) (beside s c.args.jobs)) (sym (ap (λ (x : EngineState _ _ _ _). x.part) c.self.view_is)) c.requires.jobs)
 
-pub returns-then-failed-clause-brought_in : goal.returns-then-failed-clause-brought_in
-returns-then-failed-clause-brought_in g c =
+failed_ended : (g : Over) (c : goal.After-drop-progress g) → Finishes (eyes g.S.Store.history g.S.Device.Device.history g.S.Frozen.Frozen.content g.S.Device.Device.name g.S.Frozen.Frozen.size g.S.Watch.Watch.counts) g.S.Device.Device.size c.args.self.policy (beside c.args.self.part c.args.jobs) (Ok tt) c.close_failed.result.store c.close_failed.result.main c.close_failed.result.flusher c.close_failed.result.merger c.close_failed.result.reader
+failed_ended g c =
     let same : record c.self.inside.part { failed = true } ≡ c.args.self.part = ap (λ b. record c.self.inside.part { failed = b }) (sym c.if-failed.true) ∙ ap (λ (x : EngineState _ _ _ _). x.part) c.self.view_is in
-    let f = subst (λ (s : PartState _ _ _ _). Finishes (eyes g.S.Store.history g.S.Device.Device.history g.S.Frozen.Frozen.content g.S.Device.Device.name g.S.Frozen.Frozen.size g.S.Watch.Watch.counts) g.S.Device.Device.size c.args.self.policy (beside s c.args.jobs) (Ok tt) c.close_failed.result.store c.close_failed.result.main c.close_failed.result.flusher c.close_failed.result.merger c.close_failed.result.reader) same (c.close_failed.ensures.ends c.args.self.policy) in
-    f.brought_in
+    subst (λ (s : PartState _ _ _ _). Finishes (eyes g.S.Store.history g.S.Device.Device.history g.S.Frozen.Frozen.content g.S.Device.Device.name g.S.Frozen.Frozen.size g.S.Watch.Watch.counts) g.S.Device.Device.size c.args.self.policy (beside s c.args.jobs) (Ok tt) c.close_failed.result.store c.close_failed.result.main c.close_failed.result.flusher c.close_failed.result.merger c.close_failed.result.reader) same (c.close_failed.ensures.ends c.args.self.policy)
+
+pub returns-then-failed-clause-brought_in : goal.returns-then-failed-clause-brought_in
+returns-then-failed-clause-brought_in g c = (failed_ended g c).brought_in
 
 pub returns-then-failed-clause-log : goal.returns-then-failed-clause-log
-returns-then-failed-clause-log g c =
-    let same : record c.self.inside.part { failed = true } ≡ c.args.self.part = ap (λ b. record c.self.inside.part { failed = b }) (sym c.if-failed.true) ∙ ap (λ (x : EngineState _ _ _ _). x.part) c.self.view_is in
-    let f = subst (λ (s : PartState _ _ _ _). Finishes (eyes g.S.Store.history g.S.Device.Device.history g.S.Frozen.Frozen.content g.S.Device.Device.name g.S.Frozen.Frozen.size g.S.Watch.Watch.counts) g.S.Device.Device.size c.args.self.policy (beside s c.args.jobs) (Ok tt) c.close_failed.result.store c.close_failed.result.main c.close_failed.result.flusher c.close_failed.result.merger c.close_failed.result.reader) same (c.close_failed.ensures.ends c.args.self.policy) in
-    f.log
+returns-then-failed-clause-log g c = (failed_ended g c).log
 
 pub returns-then-failed-clause-kept : goal.returns-then-failed-clause-kept
-returns-then-failed-clause-kept g c =
-    let same : record c.self.inside.part { failed = true } ≡ c.args.self.part = ap (λ b. record c.self.inside.part { failed = b }) (sym c.if-failed.true) ∙ ap (λ (x : EngineState _ _ _ _). x.part) c.self.view_is in
-    let f = subst (λ (s : PartState _ _ _ _). Finishes (eyes g.S.Store.history g.S.Device.Device.history g.S.Frozen.Frozen.content g.S.Device.Device.name g.S.Frozen.Frozen.size g.S.Watch.Watch.counts) g.S.Device.Device.size c.args.self.policy (beside s c.args.jobs) (Ok tt) c.close_failed.result.store c.close_failed.result.main c.close_failed.result.flusher c.close_failed.result.merger c.close_failed.result.reader) same (c.close_failed.ensures.ends c.args.self.policy) in
-    f.kept
+returns-then-failed-clause-kept g c = (failed_ended g c).kept
 
 pub returns-then-failed-clause-failed : goal.returns-then-failed-clause-failed
-returns-then-failed-clause-failed g c =
-    let same : record c.self.inside.part { failed = true } ≡ c.args.self.part = ap (λ b. record c.self.inside.part { failed = b }) (sym c.if-failed.true) ∙ ap (λ (x : EngineState _ _ _ _). x.part) c.self.view_is in
-    let f = subst (λ (s : PartState _ _ _ _). Finishes (eyes g.S.Store.history g.S.Device.Device.history g.S.Frozen.Frozen.content g.S.Device.Device.name g.S.Frozen.Frozen.size g.S.Watch.Watch.counts) g.S.Device.Device.size c.args.self.policy (beside s c.args.jobs) (Ok tt) c.close_failed.result.store c.close_failed.result.main c.close_failed.result.flusher c.close_failed.result.merger c.close_failed.result.reader) same (c.close_failed.ensures.ends c.args.self.policy) in
-    f.failed
+returns-then-failed-clause-failed g c = (failed_ended g c).failed
 
 pub returns-then-failed-clause-opens : goal.returns-then-failed-clause-opens
-returns-then-failed-clause-opens g c =
-    let same : record c.self.inside.part { failed = true } ≡ c.args.self.part = ap (λ b. record c.self.inside.part { failed = b }) (sym c.if-failed.true) ∙ ap (λ (x : EngineState _ _ _ _). x.part) c.self.view_is in
-    let f = subst (λ (s : PartState _ _ _ _). Finishes (eyes g.S.Store.history g.S.Device.Device.history g.S.Frozen.Frozen.content g.S.Device.Device.name g.S.Frozen.Frozen.size g.S.Watch.Watch.counts) g.S.Device.Device.size c.args.self.policy (beside s c.args.jobs) (Ok tt) c.close_failed.result.store c.close_failed.result.main c.close_failed.result.flusher c.close_failed.result.merger c.close_failed.result.reader) same (c.close_failed.ensures.ends c.args.self.policy) in
-    f.opens
+returns-then-failed-clause-opens g c = (failed_ended g c).opens
 
 pub returns-then-failed-clause-moments : goal.returns-then-failed-clause-moments
-returns-then-failed-clause-moments g c =
-    let same : record c.self.inside.part { failed = true } ≡ c.args.self.part = ap (λ b. record c.self.inside.part { failed = b }) (sym c.if-failed.true) ∙ ap (λ (x : EngineState _ _ _ _). x.part) c.self.view_is in
-    let f = subst (λ (s : PartState _ _ _ _). Finishes (eyes g.S.Store.history g.S.Device.Device.history g.S.Frozen.Frozen.content g.S.Device.Device.name g.S.Frozen.Frozen.size g.S.Watch.Watch.counts) g.S.Device.Device.size c.args.self.policy (beside s c.args.jobs) (Ok tt) c.close_failed.result.store c.close_failed.result.main c.close_failed.result.flusher c.close_failed.result.merger c.close_failed.result.reader) same (c.close_failed.ensures.ends c.args.self.policy) in
-    f.moments
+returns-then-failed-clause-moments g c = (failed_ended g c).moments
 
 pub returns-then-failed-clause-failed_moments : goal.returns-then-failed-clause-failed_moments
-returns-then-failed-clause-failed_moments g c =
-    let same : record c.self.inside.part { failed = true } ≡ c.args.self.part = ap (λ b. record c.self.inside.part { failed = b }) (sym c.if-failed.true) ∙ ap (λ (x : EngineState _ _ _ _). x.part) c.self.view_is in
-    let f = subst (λ (s : PartState _ _ _ _). Finishes (eyes g.S.Store.history g.S.Device.Device.history g.S.Frozen.Frozen.content g.S.Device.Device.name g.S.Frozen.Frozen.size g.S.Watch.Watch.counts) g.S.Device.Device.size c.args.self.policy (beside s c.args.jobs) (Ok tt) c.close_failed.result.store c.close_failed.result.main c.close_failed.result.flusher c.close_failed.result.merger c.close_failed.result.reader) same (c.close_failed.ensures.ends c.args.self.policy) in
-    f.failed_moments
+returns-then-failed-clause-failed_moments g c = (failed_ended g c).failed_moments
 
 pub returns-then-failed-clause-idle : goal.returns-then-failed-clause-idle
-returns-then-failed-clause-idle g c =
-    let same : record c.self.inside.part { failed = true } ≡ c.args.self.part = ap (λ b. record c.self.inside.part { failed = b }) (sym c.if-failed.true) ∙ ap (λ (x : EngineState _ _ _ _). x.part) c.self.view_is in
-    let f = subst (λ (s : PartState _ _ _ _). Finishes (eyes g.S.Store.history g.S.Device.Device.history g.S.Frozen.Frozen.content g.S.Device.Device.name g.S.Frozen.Frozen.size g.S.Watch.Watch.counts) g.S.Device.Device.size c.args.self.policy (beside s c.args.jobs) (Ok tt) c.close_failed.result.store c.close_failed.result.main c.close_failed.result.flusher c.close_failed.result.merger c.close_failed.result.reader) same (c.close_failed.ensures.ends c.args.self.policy) in
-    f.idle
+returns-then-failed-clause-idle g c = (failed_ended g c).idle
 
 pub returns-then-failed-clause-home : goal.returns-then-failed-clause-home
-returns-then-failed-clause-home g c =
-    let same : record c.self.inside.part { failed = true } ≡ c.args.self.part = ap (λ b. record c.self.inside.part { failed = b }) (sym c.if-failed.true) ∙ ap (λ (x : EngineState _ _ _ _). x.part) c.self.view_is in
-    let f = subst (λ (s : PartState _ _ _ _). Finishes (eyes g.S.Store.history g.S.Device.Device.history g.S.Frozen.Frozen.content g.S.Device.Device.name g.S.Frozen.Frozen.size g.S.Watch.Watch.counts) g.S.Device.Device.size c.args.self.policy (beside s c.args.jobs) (Ok tt) c.close_failed.result.store c.close_failed.result.main c.close_failed.result.flusher c.close_failed.result.merger c.close_failed.result.reader) same (c.close_failed.ensures.ends c.args.self.policy) in
-    f.home
+returns-then-failed-clause-home g c = (failed_ended g c).home
 
 pub returns-then-failed-clause-listed : goal.returns-then-failed-clause-listed
-returns-then-failed-clause-listed g c =
-    let same : record c.self.inside.part { failed = true } ≡ c.args.self.part = ap (λ b. record c.self.inside.part { failed = b }) (sym c.if-failed.true) ∙ ap (λ (x : EngineState _ _ _ _). x.part) c.self.view_is in
-    let f = subst (λ (s : PartState _ _ _ _). Finishes (eyes g.S.Store.history g.S.Device.Device.history g.S.Frozen.Frozen.content g.S.Device.Device.name g.S.Frozen.Frozen.size g.S.Watch.Watch.counts) g.S.Device.Device.size c.args.self.policy (beside s c.args.jobs) (Ok tt) c.close_failed.result.store c.close_failed.result.main c.close_failed.result.flusher c.close_failed.result.merger c.close_failed.result.reader) same (c.close_failed.ensures.ends c.args.self.policy) in
-    f.listed
+returns-then-failed-clause-listed g c = (failed_ended g c).listed
 
 pub returns-then-failed-clause-watched : goal.returns-then-failed-clause-watched
-returns-then-failed-clause-watched g c =
-    let same : record c.self.inside.part { failed = true } ≡ c.args.self.part = ap (λ b. record c.self.inside.part { failed = b }) (sym c.if-failed.true) ∙ ap (λ (x : EngineState _ _ _ _). x.part) c.self.view_is in
-    let f = subst (λ (s : PartState _ _ _ _). Finishes (eyes g.S.Store.history g.S.Device.Device.history g.S.Frozen.Frozen.content g.S.Device.Device.name g.S.Frozen.Frozen.size g.S.Watch.Watch.counts) g.S.Device.Device.size c.args.self.policy (beside s c.args.jobs) (Ok tt) c.close_failed.result.store c.close_failed.result.main c.close_failed.result.flusher c.close_failed.result.merger c.close_failed.result.reader) same (c.close_failed.ensures.ends c.args.self.policy) in
-    f.watched
+returns-then-failed-clause-watched g c = (failed_ended g c).watched
 
 pub returns-then-failed-clause-reader : goal.returns-then-failed-clause-reader
-returns-then-failed-clause-reader g c =
-    let same : record c.self.inside.part { failed = true } ≡ c.args.self.part = ap (λ b. record c.self.inside.part { failed = b }) (sym c.if-failed.true) ∙ ap (λ (x : EngineState _ _ _ _). x.part) c.self.view_is in
-    let f = subst (λ (s : PartState _ _ _ _). Finishes (eyes g.S.Store.history g.S.Device.Device.history g.S.Frozen.Frozen.content g.S.Device.Device.name g.S.Frozen.Frozen.size g.S.Watch.Watch.counts) g.S.Device.Device.size c.args.self.policy (beside s c.args.jobs) (Ok tt) c.close_failed.result.store c.close_failed.result.main c.close_failed.result.flusher c.close_failed.result.merger c.close_failed.result.reader) same (c.close_failed.ensures.ends c.args.self.policy) in
-    f.reader
+returns-then-failed-clause-reader g c = (failed_ended g c).reader
 
 pub returns-then-failed-clause-unwritten : goal.returns-then-failed-clause-unwritten
 returns-then-failed-clause-unwritten g c = λ p is tells works short.
@@ -106,117 +76,59 @@ finish_part-requires-clause-flushing g c κs within = (c.self.invariant c.if-fai
 pub finish_part-requires-clause-picked : goal.finish_part-requires-clause-picked
 finish_part-requires-clause-picked g c κs within = (c.self.invariant c.if-failed.false).picked
 
-pub returns-clause-brought_in : goal.returns-clause-brought_in
-returns-clause-brought_in g c =
+sound_ended : (g : Over) (c : goal.After-drop-progress-2 g) → Finishes (eyes g.S.Store.history g.S.Device.Device.history g.S.Frozen.Frozen.content g.S.Device.Device.name g.S.Frozen.Frozen.size g.S.Watch.Watch.counts) g.S.Device.Device.size c.args.self.policy (beside c.args.self.part c.args.jobs) c.finish_part.result.outcome c.finish_part.result.kit.store c.finish_part.result.kit.main c.finish_part.result.kit.flusher c.finish_part.result.kit.merger c.finish_part.result.kit.reader
+sound_ended g c =
     let result = c.finish_part.result in
-    let f = subst (λ (policy : Policy). Finishes (eyes g.S.Store.history g.S.Device.Device.history g.S.Frozen.Frozen.content g.S.Device.Device.name g.S.Frozen.Frozen.size g.S.Watch.Watch.counts) g.S.Device.Device.size policy (beside c.args.self.part c.args.jobs) result.outcome result.kit.store result.kit.main result.kit.flusher result.kit.merger result.kit.reader) (ap (λ (x : EngineState _ _ _ _). x.policy) c.self.view_is)
-    (subst (λ (s : PartState _ _ _ _). Finishes (eyes g.S.Store.history g.S.Device.Device.history g.S.Frozen.Frozen.content g.S.Device.Device.name g.S.Frozen.Frozen.size g.S.Watch.Watch.counts) g.S.Device.Device.size c.self.inside.policy (beside s c.args.jobs) result.outcome result.kit.store result.kit.main result.kit.flusher result.kit.merger result.kit.reader) (inside_is c.self.inside.part c.self.inside.failed c.args.self.part (ap (λ (x : EngineState _ _ _ _). x.part) c.self.view_is) (sym (ap (λ (x : EngineState _ _ _ _). x.part.failed) c.self.view_is) ∙ c.if-failed.false) c.self.invariant) c.finish_part.ensures.ends) in
-    f.brought_in
+    subst (λ (policy : Policy). Finishes (eyes g.S.Store.history g.S.Device.Device.history g.S.Frozen.Frozen.content g.S.Device.Device.name g.S.Frozen.Frozen.size g.S.Watch.Watch.counts) g.S.Device.Device.size policy (beside c.args.self.part c.args.jobs) result.outcome result.kit.store result.kit.main result.kit.flusher result.kit.merger result.kit.reader) (ap (λ (x : EngineState _ _ _ _). x.policy) c.self.view_is)
+    (subst (λ (s : PartState _ _ _ _). Finishes (eyes g.S.Store.history g.S.Device.Device.history g.S.Frozen.Frozen.content g.S.Device.Device.name g.S.Frozen.Frozen.size g.S.Watch.Watch.counts) g.S.Device.Device.size c.self.inside.policy (beside s c.args.jobs) result.outcome result.kit.store result.kit.main result.kit.flusher result.kit.merger result.kit.reader) (inside_is c.self.inside.part c.self.inside.failed c.args.self.part (ap (λ (x : EngineState _ _ _ _). x.part) c.self.view_is) (sym (ap (λ (x : EngineState _ _ _ _). x.part.failed) c.self.view_is) ∙ c.if-failed.false) c.self.invariant) c.finish_part.ensures.ends)
+
+pub returns-clause-brought_in : goal.returns-clause-brought_in
+returns-clause-brought_in g c = (sound_ended g c).brought_in
 
 pub returns-clause-log : goal.returns-clause-log
-returns-clause-log g c =
-    let result = c.finish_part.result in
-    let f = subst (λ (policy : Policy). Finishes (eyes g.S.Store.history g.S.Device.Device.history g.S.Frozen.Frozen.content g.S.Device.Device.name g.S.Frozen.Frozen.size g.S.Watch.Watch.counts) g.S.Device.Device.size policy (beside c.args.self.part c.args.jobs) result.outcome result.kit.store result.kit.main result.kit.flusher result.kit.merger result.kit.reader) (ap (λ (x : EngineState _ _ _ _). x.policy) c.self.view_is)
-    (subst (λ (s : PartState _ _ _ _). Finishes (eyes g.S.Store.history g.S.Device.Device.history g.S.Frozen.Frozen.content g.S.Device.Device.name g.S.Frozen.Frozen.size g.S.Watch.Watch.counts) g.S.Device.Device.size c.self.inside.policy (beside s c.args.jobs) result.outcome result.kit.store result.kit.main result.kit.flusher result.kit.merger result.kit.reader) (inside_is c.self.inside.part c.self.inside.failed c.args.self.part (ap (λ (x : EngineState _ _ _ _). x.part) c.self.view_is) (sym (ap (λ (x : EngineState _ _ _ _). x.part.failed) c.self.view_is) ∙ c.if-failed.false) c.self.invariant) c.finish_part.ensures.ends) in
-    f.log
+returns-clause-log g c = (sound_ended g c).log
 
 pub returns-clause-kept : goal.returns-clause-kept
-returns-clause-kept g c =
-    let result = c.finish_part.result in
-    let f = subst (λ (policy : Policy). Finishes (eyes g.S.Store.history g.S.Device.Device.history g.S.Frozen.Frozen.content g.S.Device.Device.name g.S.Frozen.Frozen.size g.S.Watch.Watch.counts) g.S.Device.Device.size policy (beside c.args.self.part c.args.jobs) result.outcome result.kit.store result.kit.main result.kit.flusher result.kit.merger result.kit.reader) (ap (λ (x : EngineState _ _ _ _). x.policy) c.self.view_is)
-    (subst (λ (s : PartState _ _ _ _). Finishes (eyes g.S.Store.history g.S.Device.Device.history g.S.Frozen.Frozen.content g.S.Device.Device.name g.S.Frozen.Frozen.size g.S.Watch.Watch.counts) g.S.Device.Device.size c.self.inside.policy (beside s c.args.jobs) result.outcome result.kit.store result.kit.main result.kit.flusher result.kit.merger result.kit.reader) (inside_is c.self.inside.part c.self.inside.failed c.args.self.part (ap (λ (x : EngineState _ _ _ _). x.part) c.self.view_is) (sym (ap (λ (x : EngineState _ _ _ _). x.part.failed) c.self.view_is) ∙ c.if-failed.false) c.self.invariant) c.finish_part.ensures.ends) in
-    f.kept
+returns-clause-kept g c = (sound_ended g c).kept
 
 pub returns-clause-failed : goal.returns-clause-failed
-returns-clause-failed g c =
-    let result = c.finish_part.result in
-    let f = subst (λ (policy : Policy). Finishes (eyes g.S.Store.history g.S.Device.Device.history g.S.Frozen.Frozen.content g.S.Device.Device.name g.S.Frozen.Frozen.size g.S.Watch.Watch.counts) g.S.Device.Device.size policy (beside c.args.self.part c.args.jobs) result.outcome result.kit.store result.kit.main result.kit.flusher result.kit.merger result.kit.reader) (ap (λ (x : EngineState _ _ _ _). x.policy) c.self.view_is)
-    (subst (λ (s : PartState _ _ _ _). Finishes (eyes g.S.Store.history g.S.Device.Device.history g.S.Frozen.Frozen.content g.S.Device.Device.name g.S.Frozen.Frozen.size g.S.Watch.Watch.counts) g.S.Device.Device.size c.self.inside.policy (beside s c.args.jobs) result.outcome result.kit.store result.kit.main result.kit.flusher result.kit.merger result.kit.reader) (inside_is c.self.inside.part c.self.inside.failed c.args.self.part (ap (λ (x : EngineState _ _ _ _). x.part) c.self.view_is) (sym (ap (λ (x : EngineState _ _ _ _). x.part.failed) c.self.view_is) ∙ c.if-failed.false) c.self.invariant) c.finish_part.ensures.ends) in
-    f.failed
+returns-clause-failed g c = (sound_ended g c).failed
 
 pub returns-clause-opens : goal.returns-clause-opens
-returns-clause-opens g c =
-    let result = c.finish_part.result in
-    let f = subst (λ (policy : Policy). Finishes (eyes g.S.Store.history g.S.Device.Device.history g.S.Frozen.Frozen.content g.S.Device.Device.name g.S.Frozen.Frozen.size g.S.Watch.Watch.counts) g.S.Device.Device.size policy (beside c.args.self.part c.args.jobs) result.outcome result.kit.store result.kit.main result.kit.flusher result.kit.merger result.kit.reader) (ap (λ (x : EngineState _ _ _ _). x.policy) c.self.view_is)
-    (subst (λ (s : PartState _ _ _ _). Finishes (eyes g.S.Store.history g.S.Device.Device.history g.S.Frozen.Frozen.content g.S.Device.Device.name g.S.Frozen.Frozen.size g.S.Watch.Watch.counts) g.S.Device.Device.size c.self.inside.policy (beside s c.args.jobs) result.outcome result.kit.store result.kit.main result.kit.flusher result.kit.merger result.kit.reader) (inside_is c.self.inside.part c.self.inside.failed c.args.self.part (ap (λ (x : EngineState _ _ _ _). x.part) c.self.view_is) (sym (ap (λ (x : EngineState _ _ _ _). x.part.failed) c.self.view_is) ∙ c.if-failed.false) c.self.invariant) c.finish_part.ensures.ends) in
-    f.opens
+returns-clause-opens g c = (sound_ended g c).opens
 
 pub returns-clause-moments : goal.returns-clause-moments
-returns-clause-moments g c =
-    let result = c.finish_part.result in
-    let f = subst (λ (policy : Policy). Finishes (eyes g.S.Store.history g.S.Device.Device.history g.S.Frozen.Frozen.content g.S.Device.Device.name g.S.Frozen.Frozen.size g.S.Watch.Watch.counts) g.S.Device.Device.size policy (beside c.args.self.part c.args.jobs) result.outcome result.kit.store result.kit.main result.kit.flusher result.kit.merger result.kit.reader) (ap (λ (x : EngineState _ _ _ _). x.policy) c.self.view_is)
-    (subst (λ (s : PartState _ _ _ _). Finishes (eyes g.S.Store.history g.S.Device.Device.history g.S.Frozen.Frozen.content g.S.Device.Device.name g.S.Frozen.Frozen.size g.S.Watch.Watch.counts) g.S.Device.Device.size c.self.inside.policy (beside s c.args.jobs) result.outcome result.kit.store result.kit.main result.kit.flusher result.kit.merger result.kit.reader) (inside_is c.self.inside.part c.self.inside.failed c.args.self.part (ap (λ (x : EngineState _ _ _ _). x.part) c.self.view_is) (sym (ap (λ (x : EngineState _ _ _ _). x.part.failed) c.self.view_is) ∙ c.if-failed.false) c.self.invariant) c.finish_part.ensures.ends) in
-    f.moments
+returns-clause-moments g c = (sound_ended g c).moments
 
 pub returns-clause-failed_moments : goal.returns-clause-failed_moments
-returns-clause-failed_moments g c =
-    let result = c.finish_part.result in
-    let f = subst (λ (policy : Policy). Finishes (eyes g.S.Store.history g.S.Device.Device.history g.S.Frozen.Frozen.content g.S.Device.Device.name g.S.Frozen.Frozen.size g.S.Watch.Watch.counts) g.S.Device.Device.size policy (beside c.args.self.part c.args.jobs) result.outcome result.kit.store result.kit.main result.kit.flusher result.kit.merger result.kit.reader) (ap (λ (x : EngineState _ _ _ _). x.policy) c.self.view_is)
-    (subst (λ (s : PartState _ _ _ _). Finishes (eyes g.S.Store.history g.S.Device.Device.history g.S.Frozen.Frozen.content g.S.Device.Device.name g.S.Frozen.Frozen.size g.S.Watch.Watch.counts) g.S.Device.Device.size c.self.inside.policy (beside s c.args.jobs) result.outcome result.kit.store result.kit.main result.kit.flusher result.kit.merger result.kit.reader) (inside_is c.self.inside.part c.self.inside.failed c.args.self.part (ap (λ (x : EngineState _ _ _ _). x.part) c.self.view_is) (sym (ap (λ (x : EngineState _ _ _ _). x.part.failed) c.self.view_is) ∙ c.if-failed.false) c.self.invariant) c.finish_part.ensures.ends) in
-    f.failed_moments
+returns-clause-failed_moments g c = (sound_ended g c).failed_moments
 
 pub returns-clause-outcome : goal.returns-clause-outcome
-returns-clause-outcome g c =
-    let result = c.finish_part.result in
-    let f = subst (λ (policy : Policy). Finishes (eyes g.S.Store.history g.S.Device.Device.history g.S.Frozen.Frozen.content g.S.Device.Device.name g.S.Frozen.Frozen.size g.S.Watch.Watch.counts) g.S.Device.Device.size policy (beside c.args.self.part c.args.jobs) result.outcome result.kit.store result.kit.main result.kit.flusher result.kit.merger result.kit.reader) (ap (λ (x : EngineState _ _ _ _). x.policy) c.self.view_is)
-    (subst (λ (s : PartState _ _ _ _). Finishes (eyes g.S.Store.history g.S.Device.Device.history g.S.Frozen.Frozen.content g.S.Device.Device.name g.S.Frozen.Frozen.size g.S.Watch.Watch.counts) g.S.Device.Device.size c.self.inside.policy (beside s c.args.jobs) result.outcome result.kit.store result.kit.main result.kit.flusher result.kit.merger result.kit.reader) (inside_is c.self.inside.part c.self.inside.failed c.args.self.part (ap (λ (x : EngineState _ _ _ _). x.part) c.self.view_is) (sym (ap (λ (x : EngineState _ _ _ _). x.part.failed) c.self.view_is) ∙ c.if-failed.false) c.self.invariant) c.finish_part.ensures.ends) in
-    f.outcome
+returns-clause-outcome g c = (sound_ended g c).outcome
 
 pub returns-clause-damaged : goal.returns-clause-damaged
-returns-clause-damaged g c =
-    let result = c.finish_part.result in
-    let f = subst (λ (policy : Policy). Finishes (eyes g.S.Store.history g.S.Device.Device.history g.S.Frozen.Frozen.content g.S.Device.Device.name g.S.Frozen.Frozen.size g.S.Watch.Watch.counts) g.S.Device.Device.size policy (beside c.args.self.part c.args.jobs) result.outcome result.kit.store result.kit.main result.kit.flusher result.kit.merger result.kit.reader) (ap (λ (x : EngineState _ _ _ _). x.policy) c.self.view_is)
-    (subst (λ (s : PartState _ _ _ _). Finishes (eyes g.S.Store.history g.S.Device.Device.history g.S.Frozen.Frozen.content g.S.Device.Device.name g.S.Frozen.Frozen.size g.S.Watch.Watch.counts) g.S.Device.Device.size c.self.inside.policy (beside s c.args.jobs) result.outcome result.kit.store result.kit.main result.kit.flusher result.kit.merger result.kit.reader) (inside_is c.self.inside.part c.self.inside.failed c.args.self.part (ap (λ (x : EngineState _ _ _ _). x.part) c.self.view_is) (sym (ap (λ (x : EngineState _ _ _ _). x.part.failed) c.self.view_is) ∙ c.if-failed.false) c.self.invariant) c.finish_part.ensures.ends) in
-    f.damaged
+returns-clause-damaged g c = (sound_ended g c).damaged
 
 pub returns-clause-undamaged : goal.returns-clause-undamaged
-returns-clause-undamaged g c =
-    let result = c.finish_part.result in
-    let f = subst (λ (policy : Policy). Finishes (eyes g.S.Store.history g.S.Device.Device.history g.S.Frozen.Frozen.content g.S.Device.Device.name g.S.Frozen.Frozen.size g.S.Watch.Watch.counts) g.S.Device.Device.size policy (beside c.args.self.part c.args.jobs) result.outcome result.kit.store result.kit.main result.kit.flusher result.kit.merger result.kit.reader) (ap (λ (x : EngineState _ _ _ _). x.policy) c.self.view_is)
-    (subst (λ (s : PartState _ _ _ _). Finishes (eyes g.S.Store.history g.S.Device.Device.history g.S.Frozen.Frozen.content g.S.Device.Device.name g.S.Frozen.Frozen.size g.S.Watch.Watch.counts) g.S.Device.Device.size c.self.inside.policy (beside s c.args.jobs) result.outcome result.kit.store result.kit.main result.kit.flusher result.kit.merger result.kit.reader) (inside_is c.self.inside.part c.self.inside.failed c.args.self.part (ap (λ (x : EngineState _ _ _ _). x.part) c.self.view_is) (sym (ap (λ (x : EngineState _ _ _ _). x.part.failed) c.self.view_is) ∙ c.if-failed.false) c.self.invariant) c.finish_part.ensures.ends) in
-    f.undamaged
+returns-clause-undamaged g c = (sound_ended g c).undamaged
 
 pub returns-clause-unspent : goal.returns-clause-unspent
-returns-clause-unspent g c =
-    let result = c.finish_part.result in
-    let f = subst (λ (policy : Policy). Finishes (eyes g.S.Store.history g.S.Device.Device.history g.S.Frozen.Frozen.content g.S.Device.Device.name g.S.Frozen.Frozen.size g.S.Watch.Watch.counts) g.S.Device.Device.size policy (beside c.args.self.part c.args.jobs) result.outcome result.kit.store result.kit.main result.kit.flusher result.kit.merger result.kit.reader) (ap (λ (x : EngineState _ _ _ _). x.policy) c.self.view_is)
-    (subst (λ (s : PartState _ _ _ _). Finishes (eyes g.S.Store.history g.S.Device.Device.history g.S.Frozen.Frozen.content g.S.Device.Device.name g.S.Frozen.Frozen.size g.S.Watch.Watch.counts) g.S.Device.Device.size c.self.inside.policy (beside s c.args.jobs) result.outcome result.kit.store result.kit.main result.kit.flusher result.kit.merger result.kit.reader) (inside_is c.self.inside.part c.self.inside.failed c.args.self.part (ap (λ (x : EngineState _ _ _ _). x.part) c.self.view_is) (sym (ap (λ (x : EngineState _ _ _ _). x.part.failed) c.self.view_is) ∙ c.if-failed.false) c.self.invariant) c.finish_part.ensures.ends) in
-    f.unspent
+returns-clause-unspent g c = (sound_ended g c).unspent
 
 pub returns-clause-idle : goal.returns-clause-idle
-returns-clause-idle g c =
-    let result = c.finish_part.result in
-    let f = subst (λ (policy : Policy). Finishes (eyes g.S.Store.history g.S.Device.Device.history g.S.Frozen.Frozen.content g.S.Device.Device.name g.S.Frozen.Frozen.size g.S.Watch.Watch.counts) g.S.Device.Device.size policy (beside c.args.self.part c.args.jobs) result.outcome result.kit.store result.kit.main result.kit.flusher result.kit.merger result.kit.reader) (ap (λ (x : EngineState _ _ _ _). x.policy) c.self.view_is)
-    (subst (λ (s : PartState _ _ _ _). Finishes (eyes g.S.Store.history g.S.Device.Device.history g.S.Frozen.Frozen.content g.S.Device.Device.name g.S.Frozen.Frozen.size g.S.Watch.Watch.counts) g.S.Device.Device.size c.self.inside.policy (beside s c.args.jobs) result.outcome result.kit.store result.kit.main result.kit.flusher result.kit.merger result.kit.reader) (inside_is c.self.inside.part c.self.inside.failed c.args.self.part (ap (λ (x : EngineState _ _ _ _). x.part) c.self.view_is) (sym (ap (λ (x : EngineState _ _ _ _). x.part.failed) c.self.view_is) ∙ c.if-failed.false) c.self.invariant) c.finish_part.ensures.ends) in
-    f.idle
+returns-clause-idle g c = (sound_ended g c).idle
 
 pub returns-clause-home : goal.returns-clause-home
-returns-clause-home g c =
-    let result = c.finish_part.result in
-    let f = subst (λ (policy : Policy). Finishes (eyes g.S.Store.history g.S.Device.Device.history g.S.Frozen.Frozen.content g.S.Device.Device.name g.S.Frozen.Frozen.size g.S.Watch.Watch.counts) g.S.Device.Device.size policy (beside c.args.self.part c.args.jobs) result.outcome result.kit.store result.kit.main result.kit.flusher result.kit.merger result.kit.reader) (ap (λ (x : EngineState _ _ _ _). x.policy) c.self.view_is)
-    (subst (λ (s : PartState _ _ _ _). Finishes (eyes g.S.Store.history g.S.Device.Device.history g.S.Frozen.Frozen.content g.S.Device.Device.name g.S.Frozen.Frozen.size g.S.Watch.Watch.counts) g.S.Device.Device.size c.self.inside.policy (beside s c.args.jobs) result.outcome result.kit.store result.kit.main result.kit.flusher result.kit.merger result.kit.reader) (inside_is c.self.inside.part c.self.inside.failed c.args.self.part (ap (λ (x : EngineState _ _ _ _). x.part) c.self.view_is) (sym (ap (λ (x : EngineState _ _ _ _). x.part.failed) c.self.view_is) ∙ c.if-failed.false) c.self.invariant) c.finish_part.ensures.ends) in
-    f.home
+returns-clause-home g c = (sound_ended g c).home
 
 pub returns-clause-listed : goal.returns-clause-listed
-returns-clause-listed g c =
-    let result = c.finish_part.result in
-    let f = subst (λ (policy : Policy). Finishes (eyes g.S.Store.history g.S.Device.Device.history g.S.Frozen.Frozen.content g.S.Device.Device.name g.S.Frozen.Frozen.size g.S.Watch.Watch.counts) g.S.Device.Device.size policy (beside c.args.self.part c.args.jobs) result.outcome result.kit.store result.kit.main result.kit.flusher result.kit.merger result.kit.reader) (ap (λ (x : EngineState _ _ _ _). x.policy) c.self.view_is)
-    (subst (λ (s : PartState _ _ _ _). Finishes (eyes g.S.Store.history g.S.Device.Device.history g.S.Frozen.Frozen.content g.S.Device.Device.name g.S.Frozen.Frozen.size g.S.Watch.Watch.counts) g.S.Device.Device.size c.self.inside.policy (beside s c.args.jobs) result.outcome result.kit.store result.kit.main result.kit.flusher result.kit.merger result.kit.reader) (inside_is c.self.inside.part c.self.inside.failed c.args.self.part (ap (λ (x : EngineState _ _ _ _). x.part) c.self.view_is) (sym (ap (λ (x : EngineState _ _ _ _). x.part.failed) c.self.view_is) ∙ c.if-failed.false) c.self.invariant) c.finish_part.ensures.ends) in
-    f.listed
+returns-clause-listed g c = (sound_ended g c).listed
 
 pub returns-clause-watched : goal.returns-clause-watched
-returns-clause-watched g c =
-    let result = c.finish_part.result in
-    let f = subst (λ (policy : Policy). Finishes (eyes g.S.Store.history g.S.Device.Device.history g.S.Frozen.Frozen.content g.S.Device.Device.name g.S.Frozen.Frozen.size g.S.Watch.Watch.counts) g.S.Device.Device.size policy (beside c.args.self.part c.args.jobs) result.outcome result.kit.store result.kit.main result.kit.flusher result.kit.merger result.kit.reader) (ap (λ (x : EngineState _ _ _ _). x.policy) c.self.view_is)
-    (subst (λ (s : PartState _ _ _ _). Finishes (eyes g.S.Store.history g.S.Device.Device.history g.S.Frozen.Frozen.content g.S.Device.Device.name g.S.Frozen.Frozen.size g.S.Watch.Watch.counts) g.S.Device.Device.size c.self.inside.policy (beside s c.args.jobs) result.outcome result.kit.store result.kit.main result.kit.flusher result.kit.merger result.kit.reader) (inside_is c.self.inside.part c.self.inside.failed c.args.self.part (ap (λ (x : EngineState _ _ _ _). x.part) c.self.view_is) (sym (ap (λ (x : EngineState _ _ _ _). x.part.failed) c.self.view_is) ∙ c.if-failed.false) c.self.invariant) c.finish_part.ensures.ends) in
-    f.watched
+returns-clause-watched g c = (sound_ended g c).watched
 
 pub returns-clause-reader : goal.returns-clause-reader
-returns-clause-reader g c =
-    let result = c.finish_part.result in
-    let f = subst (λ (policy : Policy). Finishes (eyes g.S.Store.history g.S.Device.Device.history g.S.Frozen.Frozen.content g.S.Device.Device.name g.S.Frozen.Frozen.size g.S.Watch.Watch.counts) g.S.Device.Device.size policy (beside c.args.self.part c.args.jobs) result.outcome result.kit.store result.kit.main result.kit.flusher result.kit.merger result.kit.reader) (ap (λ (x : EngineState _ _ _ _). x.policy) c.self.view_is)
-    (subst (λ (s : PartState _ _ _ _). Finishes (eyes g.S.Store.history g.S.Device.Device.history g.S.Frozen.Frozen.content g.S.Device.Device.name g.S.Frozen.Frozen.size g.S.Watch.Watch.counts) g.S.Device.Device.size c.self.inside.policy (beside s c.args.jobs) result.outcome result.kit.store result.kit.main result.kit.flusher result.kit.merger result.kit.reader) (inside_is c.self.inside.part c.self.inside.failed c.args.self.part (ap (λ (x : EngineState _ _ _ _). x.part) c.self.view_is) (sym (ap (λ (x : EngineState _ _ _ _). x.part.failed) c.self.view_is) ∙ c.if-failed.false) c.self.invariant) c.finish_part.ensures.ends) in
-    f.reader
+returns-clause-reader g c = (sound_ended g c).reader
 
 pub returns-clause-unwritten : goal.returns-clause-unwritten
 returns-clause-unwritten g c = λ p is tells works short.

@@ -1,14 +1,16 @@
-use Rattle.std.proofs.Common.{◌≡◌, ◌∙◌, ◌<◌, ◌+◌, false, [], ap, sym, subst, arith, inl, inr}
+use Rattle.std.proofs.Common.{◌≡◌, ◌∙◌, ◌<◌, ◌+◌, true, false, [], ap, sym, subst, arith, inl, inr}
+use Rattle.std.specs.Prelude.{Ok}
 use Rattle.tc_list.specs.Policies.{listed_least}
 use Rattle.tc_list.specs.declared.policy.Policy.{Policy}
 use Rattle.tc_log.specs.Layout.{empty_size}
 use Rattle.tc_part_model.specs.PartState.{PartState}
 use Rattle.tc_work.specs.EngineState.{EngineState}
-use Rattle.tc_work.specs.Moving.{beside, eyes, MayMove}
+use Rattle.tc_work.specs.Moving.{beside, eyes, MayMove, MovesOver}
 use Rattle.tc_work.specs.Settling.{IsDue, IsListedBy, PicksNone}
 use Rattle.tc_work.proofs.HandedJobs.{none_merging}
 use Rattle.tc_work.proofs.MovingCalls.{err_is, over_err}
 use Rattle.tc_work.proofs.OpenEngines.{closed_failed, closed_sound, closed_well, few_outside, inside_is}
+use Rattle.tc_work.proofs.engine.Engine.settle.Given.{Over}
 use Rattle.tc_work.proofs.engine.Engine.settle.Goals as goal
 
 -- ---- the call
@@ -28,135 +30,93 @@ settle_part-requires-clause-picked g c κs within = (c.self.invariant (ap (λ (s
 
 -- ---- it ends well
 
+-- the part of the engine is what contracts see of it
+same : (g : Over) (c : goal.After-generations_follow g) → c.self.inside.part ≡ c.args.self.now.part
+same g c = inside_is c.self.inside.part c.self.inside.failed c.args.self.now.part (ap (λ (e : EngineState _ _ _ _). e.part) c.self.view_is) c.requires.sound c.self.invariant
+
+ended : (g : Over) (c : goal.After-generations_follow g) → MovesOver (eyes g.S.Store.history g.S.Device.Device.history g.S.Frozen.Frozen.content g.S.Device.Device.name g.S.Frozen.Frozen.size g.S.Watch.Watch.counts) (Ok tt) (beside c.args.self.now.part c.args.jobs.now) (beside (record c.settle_part.new.part { failed = false }) c.settle_part.new.jobs)
+ended g c = closed_well (eyes g.S.Store.history g.S.Device.Device.history g.S.Frozen.Frozen.content g.S.Device.Device.name g.S.Frozen.Frozen.size g.S.Watch.Watch.counts) c.self.inside.part c.args.self.now.part c.settle_part.new.part c.args.jobs.now c.settle_part.new.jobs (same g c) c.in_ok-settle_part.ensures.moves
+
 pub returns-clause-jobs : goal.returns-clause-jobs
-returns-clause-jobs g c =
-    let m = closed_well (eyes g.S.Store.history g.S.Device.Device.history g.S.Frozen.Frozen.content g.S.Device.Device.name g.S.Frozen.Frozen.size g.S.Watch.Watch.counts) c.self.inside.part c.args.self.now.part c.settle_part.new.part c.args.jobs.now c.settle_part.new.jobs (inside_is c.self.inside.part c.self.inside.failed c.args.self.now.part (ap (λ (e : EngineState _ _ _ _). e.part) c.self.view_is) c.requires.sound c.self.invariant) c.in_ok-settle_part.ensures.moves in
-    m.keeps.jobs
+returns-clause-jobs g c = (ended g c).keeps.jobs
 
 pub returns-clause-stores : goal.returns-clause-stores
-returns-clause-stores g c =
-    let m = closed_well (eyes g.S.Store.history g.S.Device.Device.history g.S.Frozen.Frozen.content g.S.Device.Device.name g.S.Frozen.Frozen.size g.S.Watch.Watch.counts) c.self.inside.part c.args.self.now.part c.settle_part.new.part c.args.jobs.now c.settle_part.new.jobs (inside_is c.self.inside.part c.self.inside.failed c.args.self.now.part (ap (λ (e : EngineState _ _ _ _). e.part) c.self.view_is) c.requires.sound c.self.invariant) c.in_ok-settle_part.ensures.moves in
-    m.well.stays.stores
+returns-clause-stores g c = (ended g c).well.stays.stores
 
 pub returns-clause-ready : goal.returns-clause-ready
-returns-clause-ready g c =
-    let m = closed_well (eyes g.S.Store.history g.S.Device.Device.history g.S.Frozen.Frozen.content g.S.Device.Device.name g.S.Frozen.Frozen.size g.S.Watch.Watch.counts) c.self.inside.part c.args.self.now.part c.settle_part.new.part c.args.jobs.now c.settle_part.new.jobs (inside_is c.self.inside.part c.self.inside.failed c.args.self.now.part (ap (λ (e : EngineState _ _ _ _). e.part) c.self.view_is) c.requires.sound c.self.invariant) c.in_ok-settle_part.ensures.moves in
-    m.well.stays.ready
+returns-clause-ready g c = (ended g c).well.stays.ready
 
 pub returns-clause-moved : goal.returns-clause-moved
-returns-clause-moved g c =
-    let m = closed_well (eyes g.S.Store.history g.S.Device.Device.history g.S.Frozen.Frozen.content g.S.Device.Device.name g.S.Frozen.Frozen.size g.S.Watch.Watch.counts) c.self.inside.part c.args.self.now.part c.settle_part.new.part c.args.jobs.now c.settle_part.new.jobs (inside_is c.self.inside.part c.self.inside.failed c.args.self.now.part (ap (λ (e : EngineState _ _ _ _). e.part) c.self.view_is) c.requires.sound c.self.invariant) c.in_ok-settle_part.ensures.moves in
-    m.keeps.moved
+returns-clause-moved g c = (ended g c).keeps.moved
 
 pub returns-clause-untold : goal.returns-clause-untold
-returns-clause-untold g c =
-    let m = closed_well (eyes g.S.Store.history g.S.Device.Device.history g.S.Frozen.Frozen.content g.S.Device.Device.name g.S.Frozen.Frozen.size g.S.Watch.Watch.counts) c.self.inside.part c.args.self.now.part c.settle_part.new.part c.args.jobs.now c.settle_part.new.jobs (inside_is c.self.inside.part c.self.inside.failed c.args.self.now.part (ap (λ (e : EngineState _ _ _ _). e.part) c.self.view_is) c.requires.sound c.self.invariant) c.in_ok-settle_part.ensures.moves in
-    m.keeps.untold
+returns-clause-untold g c = (ended g c).keeps.untold
 
 pub returns-clause-devices : goal.returns-clause-devices
-returns-clause-devices g c =
-    let m = closed_well (eyes g.S.Store.history g.S.Device.Device.history g.S.Frozen.Frozen.content g.S.Device.Device.name g.S.Frozen.Frozen.size g.S.Watch.Watch.counts) c.self.inside.part c.args.self.now.part c.settle_part.new.part c.args.jobs.now c.settle_part.new.jobs (inside_is c.self.inside.part c.self.inside.failed c.args.self.now.part (ap (λ (e : EngineState _ _ _ _). e.part) c.self.view_is) c.requires.sound c.self.invariant) c.in_ok-settle_part.ensures.moves in
-    m.keeps.devices
+returns-clause-devices g c = (ended g c).keeps.devices
 
 pub returns-clause-log_out : goal.returns-clause-log_out
-returns-clause-log_out g c =
-    let m = closed_well (eyes g.S.Store.history g.S.Device.Device.history g.S.Frozen.Frozen.content g.S.Device.Device.name g.S.Frozen.Frozen.size g.S.Watch.Watch.counts) c.self.inside.part c.args.self.now.part c.settle_part.new.part c.args.jobs.now c.settle_part.new.jobs (inside_is c.self.inside.part c.self.inside.failed c.args.self.now.part (ap (λ (e : EngineState _ _ _ _). e.part) c.self.view_is) c.requires.sound c.self.invariant) c.in_ok-settle_part.ensures.moves in
-    m.well.log_out
+returns-clause-log_out g c = (ended g c).well.log_out
 
 pub returns-clause-moments : goal.returns-clause-moments
-returns-clause-moments g c =
-    let m = closed_well (eyes g.S.Store.history g.S.Device.Device.history g.S.Frozen.Frozen.content g.S.Device.Device.name g.S.Frozen.Frozen.size g.S.Watch.Watch.counts) c.self.inside.part c.args.self.now.part c.settle_part.new.part c.args.jobs.now c.settle_part.new.jobs (inside_is c.self.inside.part c.self.inside.failed c.args.self.now.part (ap (λ (e : EngineState _ _ _ _). e.part) c.self.view_is) c.requires.sound c.self.invariant) c.in_ok-settle_part.ensures.moves in
-    m.moments
+returns-clause-moments g c = (ended g c).moments
 
 pub returns-clause-next_log : goal.returns-clause-next_log
-returns-clause-next_log g c =
-    let m = closed_well (eyes g.S.Store.history g.S.Device.Device.history g.S.Frozen.Frozen.content g.S.Device.Device.name g.S.Frozen.Frozen.size g.S.Watch.Watch.counts) c.self.inside.part c.args.self.now.part c.settle_part.new.part c.args.jobs.now c.settle_part.new.jobs (inside_is c.self.inside.part c.self.inside.failed c.args.self.now.part (ap (λ (e : EngineState _ _ _ _). e.part) c.self.view_is) c.requires.sound c.self.invariant) c.in_ok-settle_part.ensures.moves in
-    m.next_log
+returns-clause-next_log g c = (ended g c).next_log
 
 pub returns-clause-watched : goal.returns-clause-watched
-returns-clause-watched g c =
-    let m = closed_well (eyes g.S.Store.history g.S.Device.Device.history g.S.Frozen.Frozen.content g.S.Device.Device.name g.S.Frozen.Frozen.size g.S.Watch.Watch.counts) c.self.inside.part c.args.self.now.part c.settle_part.new.part c.args.jobs.now c.settle_part.new.jobs (inside_is c.self.inside.part c.self.inside.failed c.args.self.now.part (ap (λ (e : EngineState _ _ _ _). e.part) c.self.view_is) c.requires.sound c.self.invariant) c.in_ok-settle_part.ensures.moves in
-    m.keeps.watched
+returns-clause-watched g c = (ended g c).keeps.watched
 
 pub returns-clause-listed : goal.returns-clause-listed
 returns-clause-listed g c =
     subst (λ (policy : Policy). IsListedBy policy g.S.Frozen.Frozen.size c.args.self.now.part (record c.settle_part.new.part { failed = false })) (ap (λ (e : EngineState _ _ _ _). e.policy) c.self.view_is)
-    (subst (λ (s : PartState _ _ _ _). IsListedBy c.self.inside.policy g.S.Frozen.Frozen.size s (record c.settle_part.new.part { failed = false })) (inside_is c.self.inside.part c.self.inside.failed c.args.self.now.part (ap (λ (e : EngineState _ _ _ _). e.part) c.self.view_is) c.requires.sound c.self.invariant)
+    (subst (λ (s : PartState _ _ _ _). IsListedBy c.self.inside.policy g.S.Frozen.Frozen.size s (record c.settle_part.new.part { failed = false })) (same g c)
     (subst (λ (s : PartState _ _ _ _). IsListedBy c.self.inside.policy g.S.Frozen.Frozen.size c.self.inside.part s) (closed_sound c.settle_part.new.part c.in_ok-settle_part.ensures.moves.well.sound) c.in_ok-settle_part.ensures.listed.listed))
 
 -- ---- it fails
 
+same_before : (g : Over) (c : goal.After-from_residual g) → c.self.inside.part ≡ c.args.self.now.part
+same_before g c = inside_is c.self.inside.part c.self.inside.failed c.args.self.now.part (ap (λ (e : EngineState _ _ _ _). e.part) c.self.view_is) c.requires.sound c.self.invariant
+
+stopped : (g : Over) (c : goal.After-from_residual g) → MovesOver (eyes g.S.Store.history g.S.Device.Device.history g.S.Frozen.Frozen.content g.S.Device.Device.name g.S.Frozen.Frozen.size g.S.Watch.Watch.counts) c.from_residual.result (beside c.args.self.now.part c.args.jobs.now) (beside (record c.settle_part.new.part { failed = true }) c.settle_part.new.jobs)
+stopped g c = closed_failed (eyes g.S.Store.history g.S.Device.Device.history g.S.Frozen.Frozen.content g.S.Device.Device.name g.S.Frozen.Frozen.size g.S.Watch.Watch.counts) c.self.inside.part c.args.self.now.part c.settle_part.new.part c.args.jobs.now c.settle_part.new.jobs c.from_residual.result c.in_err-settle_part.field-0.0 (err_is c.from_residual.result c.in_err-settle_part.field-0.0 c.from_residual.ensures.1) (same_before g c)
+    (over_err (eyes g.S.Store.history g.S.Device.Device.history g.S.Frozen.Frozen.content g.S.Device.Device.name g.S.Frozen.Frozen.size g.S.Watch.Watch.counts) (beside c.self.inside.part c.args.jobs.now) (beside c.settle_part.new.part c.settle_part.new.jobs) (beside c.settle_part.new.part c.settle_part.new.jobs) c.from_residual.result c.settle_part.result c.in_err-settle_part.field-0.0 c.from_residual.ensures.1 c.in_err-settle_part.was c.settle_part.ensures.moves)
+
 pub returns-in_err-settle_part-clause-jobs : goal.returns-in_err-settle_part-clause-jobs
-returns-in_err-settle_part-clause-jobs g c =
-    let m = closed_failed (eyes g.S.Store.history g.S.Device.Device.history g.S.Frozen.Frozen.content g.S.Device.Device.name g.S.Frozen.Frozen.size g.S.Watch.Watch.counts) c.self.inside.part c.args.self.now.part c.settle_part.new.part c.args.jobs.now c.settle_part.new.jobs c.from_residual.result c.in_err-settle_part.field-0.0 (err_is c.from_residual.result c.in_err-settle_part.field-0.0 c.from_residual.ensures.1) (inside_is c.self.inside.part c.self.inside.failed c.args.self.now.part (ap (λ (e : EngineState _ _ _ _). e.part) c.self.view_is) c.requires.sound c.self.invariant)
-    (over_err (eyes g.S.Store.history g.S.Device.Device.history g.S.Frozen.Frozen.content g.S.Device.Device.name g.S.Frozen.Frozen.size g.S.Watch.Watch.counts) (beside c.self.inside.part c.args.jobs.now) (beside c.settle_part.new.part c.settle_part.new.jobs) (beside c.settle_part.new.part c.settle_part.new.jobs) c.from_residual.result c.settle_part.result c.in_err-settle_part.field-0.0 c.from_residual.ensures.1 c.in_err-settle_part.was c.settle_part.ensures.moves) in
-    m.keeps.jobs
+returns-in_err-settle_part-clause-jobs g c = (stopped g c).keeps.jobs
 
 pub returns-in_err-settle_part-clause-moved : goal.returns-in_err-settle_part-clause-moved
-returns-in_err-settle_part-clause-moved g c =
-    let m = closed_failed (eyes g.S.Store.history g.S.Device.Device.history g.S.Frozen.Frozen.content g.S.Device.Device.name g.S.Frozen.Frozen.size g.S.Watch.Watch.counts) c.self.inside.part c.args.self.now.part c.settle_part.new.part c.args.jobs.now c.settle_part.new.jobs c.from_residual.result c.in_err-settle_part.field-0.0 (err_is c.from_residual.result c.in_err-settle_part.field-0.0 c.from_residual.ensures.1) (inside_is c.self.inside.part c.self.inside.failed c.args.self.now.part (ap (λ (e : EngineState _ _ _ _). e.part) c.self.view_is) c.requires.sound c.self.invariant)
-    (over_err (eyes g.S.Store.history g.S.Device.Device.history g.S.Frozen.Frozen.content g.S.Device.Device.name g.S.Frozen.Frozen.size g.S.Watch.Watch.counts) (beside c.self.inside.part c.args.jobs.now) (beside c.settle_part.new.part c.settle_part.new.jobs) (beside c.settle_part.new.part c.settle_part.new.jobs) c.from_residual.result c.settle_part.result c.in_err-settle_part.field-0.0 c.from_residual.ensures.1 c.in_err-settle_part.was c.settle_part.ensures.moves) in
-    m.keeps.moved
+returns-in_err-settle_part-clause-moved g c = (stopped g c).keeps.moved
 
 pub returns-in_err-settle_part-clause-devices : goal.returns-in_err-settle_part-clause-devices
-returns-in_err-settle_part-clause-devices g c =
-    let m = closed_failed (eyes g.S.Store.history g.S.Device.Device.history g.S.Frozen.Frozen.content g.S.Device.Device.name g.S.Frozen.Frozen.size g.S.Watch.Watch.counts) c.self.inside.part c.args.self.now.part c.settle_part.new.part c.args.jobs.now c.settle_part.new.jobs c.from_residual.result c.in_err-settle_part.field-0.0 (err_is c.from_residual.result c.in_err-settle_part.field-0.0 c.from_residual.ensures.1) (inside_is c.self.inside.part c.self.inside.failed c.args.self.now.part (ap (λ (e : EngineState _ _ _ _). e.part) c.self.view_is) c.requires.sound c.self.invariant)
-    (over_err (eyes g.S.Store.history g.S.Device.Device.history g.S.Frozen.Frozen.content g.S.Device.Device.name g.S.Frozen.Frozen.size g.S.Watch.Watch.counts) (beside c.self.inside.part c.args.jobs.now) (beside c.settle_part.new.part c.settle_part.new.jobs) (beside c.settle_part.new.part c.settle_part.new.jobs) c.from_residual.result c.settle_part.result c.in_err-settle_part.field-0.0 c.from_residual.ensures.1 c.in_err-settle_part.was c.settle_part.ensures.moves) in
-    m.keeps.devices
+returns-in_err-settle_part-clause-devices g c = (stopped g c).keeps.devices
 
 pub returns-in_err-settle_part-clause-moments : goal.returns-in_err-settle_part-clause-moments
-returns-in_err-settle_part-clause-moments g c =
-    let m = closed_failed (eyes g.S.Store.history g.S.Device.Device.history g.S.Frozen.Frozen.content g.S.Device.Device.name g.S.Frozen.Frozen.size g.S.Watch.Watch.counts) c.self.inside.part c.args.self.now.part c.settle_part.new.part c.args.jobs.now c.settle_part.new.jobs c.from_residual.result c.in_err-settle_part.field-0.0 (err_is c.from_residual.result c.in_err-settle_part.field-0.0 c.from_residual.ensures.1) (inside_is c.self.inside.part c.self.inside.failed c.args.self.now.part (ap (λ (e : EngineState _ _ _ _). e.part) c.self.view_is) c.requires.sound c.self.invariant)
-    (over_err (eyes g.S.Store.history g.S.Device.Device.history g.S.Frozen.Frozen.content g.S.Device.Device.name g.S.Frozen.Frozen.size g.S.Watch.Watch.counts) (beside c.self.inside.part c.args.jobs.now) (beside c.settle_part.new.part c.settle_part.new.jobs) (beside c.settle_part.new.part c.settle_part.new.jobs) c.from_residual.result c.settle_part.result c.in_err-settle_part.field-0.0 c.from_residual.ensures.1 c.in_err-settle_part.was c.settle_part.ensures.moves) in
-    m.moments
+returns-in_err-settle_part-clause-moments g c = (stopped g c).moments
 
 pub returns-in_err-settle_part-clause-next_log : goal.returns-in_err-settle_part-clause-next_log
-returns-in_err-settle_part-clause-next_log g c =
-    let m = closed_failed (eyes g.S.Store.history g.S.Device.Device.history g.S.Frozen.Frozen.content g.S.Device.Device.name g.S.Frozen.Frozen.size g.S.Watch.Watch.counts) c.self.inside.part c.args.self.now.part c.settle_part.new.part c.args.jobs.now c.settle_part.new.jobs c.from_residual.result c.in_err-settle_part.field-0.0 (err_is c.from_residual.result c.in_err-settle_part.field-0.0 c.from_residual.ensures.1) (inside_is c.self.inside.part c.self.inside.failed c.args.self.now.part (ap (λ (e : EngineState _ _ _ _). e.part) c.self.view_is) c.requires.sound c.self.invariant)
-    (over_err (eyes g.S.Store.history g.S.Device.Device.history g.S.Frozen.Frozen.content g.S.Device.Device.name g.S.Frozen.Frozen.size g.S.Watch.Watch.counts) (beside c.self.inside.part c.args.jobs.now) (beside c.settle_part.new.part c.settle_part.new.jobs) (beside c.settle_part.new.part c.settle_part.new.jobs) c.from_residual.result c.settle_part.result c.in_err-settle_part.field-0.0 c.from_residual.ensures.1 c.in_err-settle_part.was c.settle_part.ensures.moves) in
-    m.next_log
+returns-in_err-settle_part-clause-next_log g c = (stopped g c).next_log
 
 pub returns-in_err-settle_part-clause-failed : goal.returns-in_err-settle_part-clause-failed
-returns-in_err-settle_part-clause-failed g c =
-    let m = closed_failed (eyes g.S.Store.history g.S.Device.Device.history g.S.Frozen.Frozen.content g.S.Device.Device.name g.S.Frozen.Frozen.size g.S.Watch.Watch.counts) c.self.inside.part c.args.self.now.part c.settle_part.new.part c.args.jobs.now c.settle_part.new.jobs c.from_residual.result c.in_err-settle_part.field-0.0 (err_is c.from_residual.result c.in_err-settle_part.field-0.0 c.from_residual.ensures.1) (inside_is c.self.inside.part c.self.inside.failed c.args.self.now.part (ap (λ (e : EngineState _ _ _ _). e.part) c.self.view_is) c.requires.sound c.self.invariant)
-    (over_err (eyes g.S.Store.history g.S.Device.Device.history g.S.Frozen.Frozen.content g.S.Device.Device.name g.S.Frozen.Frozen.size g.S.Watch.Watch.counts) (beside c.self.inside.part c.args.jobs.now) (beside c.settle_part.new.part c.settle_part.new.jobs) (beside c.settle_part.new.part c.settle_part.new.jobs) c.from_residual.result c.settle_part.result c.in_err-settle_part.field-0.0 c.from_residual.ensures.1 c.in_err-settle_part.was c.settle_part.ensures.moves) in
-    m.failed
+returns-in_err-settle_part-clause-failed g c = (stopped g c).failed
 
 pub returns-in_err-settle_part-clause-damaged : goal.returns-in_err-settle_part-clause-damaged
-returns-in_err-settle_part-clause-damaged g c =
-    let m = closed_failed (eyes g.S.Store.history g.S.Device.Device.history g.S.Frozen.Frozen.content g.S.Device.Device.name g.S.Frozen.Frozen.size g.S.Watch.Watch.counts) c.self.inside.part c.args.self.now.part c.settle_part.new.part c.args.jobs.now c.settle_part.new.jobs c.from_residual.result c.in_err-settle_part.field-0.0 (err_is c.from_residual.result c.in_err-settle_part.field-0.0 c.from_residual.ensures.1) (inside_is c.self.inside.part c.self.inside.failed c.args.self.now.part (ap (λ (e : EngineState _ _ _ _). e.part) c.self.view_is) c.requires.sound c.self.invariant)
-    (over_err (eyes g.S.Store.history g.S.Device.Device.history g.S.Frozen.Frozen.content g.S.Device.Device.name g.S.Frozen.Frozen.size g.S.Watch.Watch.counts) (beside c.self.inside.part c.args.jobs.now) (beside c.settle_part.new.part c.settle_part.new.jobs) (beside c.settle_part.new.part c.settle_part.new.jobs) c.from_residual.result c.settle_part.result c.in_err-settle_part.field-0.0 c.from_residual.ensures.1 c.in_err-settle_part.was c.settle_part.ensures.moves) in
-    m.damaged
+returns-in_err-settle_part-clause-damaged g c = (stopped g c).damaged
 
 pub returns-in_err-settle_part-clause-undamaged : goal.returns-in_err-settle_part-clause-undamaged
-returns-in_err-settle_part-clause-undamaged g c =
-    let m = closed_failed (eyes g.S.Store.history g.S.Device.Device.history g.S.Frozen.Frozen.content g.S.Device.Device.name g.S.Frozen.Frozen.size g.S.Watch.Watch.counts) c.self.inside.part c.args.self.now.part c.settle_part.new.part c.args.jobs.now c.settle_part.new.jobs c.from_residual.result c.in_err-settle_part.field-0.0 (err_is c.from_residual.result c.in_err-settle_part.field-0.0 c.from_residual.ensures.1) (inside_is c.self.inside.part c.self.inside.failed c.args.self.now.part (ap (λ (e : EngineState _ _ _ _). e.part) c.self.view_is) c.requires.sound c.self.invariant)
-    (over_err (eyes g.S.Store.history g.S.Device.Device.history g.S.Frozen.Frozen.content g.S.Device.Device.name g.S.Frozen.Frozen.size g.S.Watch.Watch.counts) (beside c.self.inside.part c.args.jobs.now) (beside c.settle_part.new.part c.settle_part.new.jobs) (beside c.settle_part.new.part c.settle_part.new.jobs) c.from_residual.result c.settle_part.result c.in_err-settle_part.field-0.0 c.from_residual.ensures.1 c.in_err-settle_part.was c.settle_part.ensures.moves) in
-    m.undamaged
+returns-in_err-settle_part-clause-undamaged g c = (stopped g c).undamaged
 
 pub returns-in_err-settle_part-clause-spent : goal.returns-in_err-settle_part-clause-spent
-returns-in_err-settle_part-clause-spent g c =
-    let m = closed_failed (eyes g.S.Store.history g.S.Device.Device.history g.S.Frozen.Frozen.content g.S.Device.Device.name g.S.Frozen.Frozen.size g.S.Watch.Watch.counts) c.self.inside.part c.args.self.now.part c.settle_part.new.part c.args.jobs.now c.settle_part.new.jobs c.from_residual.result c.in_err-settle_part.field-0.0 (err_is c.from_residual.result c.in_err-settle_part.field-0.0 c.from_residual.ensures.1) (inside_is c.self.inside.part c.self.inside.failed c.args.self.now.part (ap (λ (e : EngineState _ _ _ _). e.part) c.self.view_is) c.requires.sound c.self.invariant)
-    (over_err (eyes g.S.Store.history g.S.Device.Device.history g.S.Frozen.Frozen.content g.S.Device.Device.name g.S.Frozen.Frozen.size g.S.Watch.Watch.counts) (beside c.self.inside.part c.args.jobs.now) (beside c.settle_part.new.part c.settle_part.new.jobs) (beside c.settle_part.new.part c.settle_part.new.jobs) c.from_residual.result c.settle_part.result c.in_err-settle_part.field-0.0 c.from_residual.ensures.1 c.in_err-settle_part.was c.settle_part.ensures.moves) in
-    m.spent
+returns-in_err-settle_part-clause-spent g c = (stopped g c).spent
 
 pub returns-in_err-settle_part-clause-unmoved : goal.returns-in_err-settle_part-clause-unmoved
-returns-in_err-settle_part-clause-unmoved g c =
-    let m = closed_failed (eyes g.S.Store.history g.S.Device.Device.history g.S.Frozen.Frozen.content g.S.Device.Device.name g.S.Frozen.Frozen.size g.S.Watch.Watch.counts) c.self.inside.part c.args.self.now.part c.settle_part.new.part c.args.jobs.now c.settle_part.new.jobs c.from_residual.result c.in_err-settle_part.field-0.0 (err_is c.from_residual.result c.in_err-settle_part.field-0.0 c.from_residual.ensures.1) (inside_is c.self.inside.part c.self.inside.failed c.args.self.now.part (ap (λ (e : EngineState _ _ _ _). e.part) c.self.view_is) c.requires.sound c.self.invariant)
-    (over_err (eyes g.S.Store.history g.S.Device.Device.history g.S.Frozen.Frozen.content g.S.Device.Device.name g.S.Frozen.Frozen.size g.S.Watch.Watch.counts) (beside c.self.inside.part c.args.jobs.now) (beside c.settle_part.new.part c.settle_part.new.jobs) (beside c.settle_part.new.part c.settle_part.new.jobs) c.from_residual.result c.settle_part.result c.in_err-settle_part.field-0.0 c.from_residual.ensures.1 c.in_err-settle_part.was c.settle_part.ensures.moves) in
-    m.unmoved
+returns-in_err-settle_part-clause-unmoved g c = (stopped g c).unmoved
 
 pub returns-in_err-settle_part-clause-log_out_spent : goal.returns-in_err-settle_part-clause-log_out_spent
-returns-in_err-settle_part-clause-log_out_spent g c =
-    let m = closed_failed (eyes g.S.Store.history g.S.Device.Device.history g.S.Frozen.Frozen.content g.S.Device.Device.name g.S.Frozen.Frozen.size g.S.Watch.Watch.counts) c.self.inside.part c.args.self.now.part c.settle_part.new.part c.args.jobs.now c.settle_part.new.jobs c.from_residual.result c.in_err-settle_part.field-0.0 (err_is c.from_residual.result c.in_err-settle_part.field-0.0 c.from_residual.ensures.1) (inside_is c.self.inside.part c.self.inside.failed c.args.self.now.part (ap (λ (e : EngineState _ _ _ _). e.part) c.self.view_is) c.requires.sound c.self.invariant)
-    (over_err (eyes g.S.Store.history g.S.Device.Device.history g.S.Frozen.Frozen.content g.S.Device.Device.name g.S.Frozen.Frozen.size g.S.Watch.Watch.counts) (beside c.self.inside.part c.args.jobs.now) (beside c.settle_part.new.part c.settle_part.new.jobs) (beside c.settle_part.new.part c.settle_part.new.jobs) c.from_residual.result c.settle_part.result c.in_err-settle_part.field-0.0 c.from_residual.ensures.1 c.in_err-settle_part.was c.settle_part.ensures.moves) in
-    m.log_out_spent
+returns-in_err-settle_part-clause-log_out_spent g c = (stopped g c).log_out_spent
 
 pub returns-in_err-settle_part-clause-watched : goal.returns-in_err-settle_part-clause-watched
-returns-in_err-settle_part-clause-watched g c =
-    let m = closed_failed (eyes g.S.Store.history g.S.Device.Device.history g.S.Frozen.Frozen.content g.S.Device.Device.name g.S.Frozen.Frozen.size g.S.Watch.Watch.counts) c.self.inside.part c.args.self.now.part c.settle_part.new.part c.args.jobs.now c.settle_part.new.jobs c.from_residual.result c.in_err-settle_part.field-0.0 (err_is c.from_residual.result c.in_err-settle_part.field-0.0 c.from_residual.ensures.1) (inside_is c.self.inside.part c.self.inside.failed c.args.self.now.part (ap (λ (e : EngineState _ _ _ _). e.part) c.self.view_is) c.requires.sound c.self.invariant)
-    (over_err (eyes g.S.Store.history g.S.Device.Device.history g.S.Frozen.Frozen.content g.S.Device.Device.name g.S.Frozen.Frozen.size g.S.Watch.Watch.counts) (beside c.self.inside.part c.args.jobs.now) (beside c.settle_part.new.part c.settle_part.new.jobs) (beside c.settle_part.new.part c.settle_part.new.jobs) c.from_residual.result c.settle_part.result c.in_err-settle_part.field-0.0 c.from_residual.ensures.1 c.in_err-settle_part.was c.settle_part.ensures.moves) in
-    m.keeps.watched
+returns-in_err-settle_part-clause-watched g c = (stopped g c).keeps.watched
 
 -- ---- the generations
 
@@ -167,17 +127,17 @@ returns-clause-outside g c = few_outside c.settle_part.new.part.list _ _ (c.gene
 
 pub returns-clause-emptied : goal.returns-clause-emptied
 returns-clause-emptied g c =
-    subst (λ (s : PartState _ _ _ _). IsDue (λ d. g.S.Device.Device.size d) s → (c.settle_part.new.part.active ≡ []) × (g.S.Device.Device.size c.settle_part.new.part.log.device ≡ empty_size) × (c.settle_part.new.part.generation ≡ s.generation + 1)) (inside_is c.self.inside.part c.self.inside.failed c.args.self.now.part (ap (λ (e : EngineState _ _ _ _). e.part) c.self.view_is) c.requires.sound c.self.invariant)
+    subst (λ (s : PartState _ _ _ _). IsDue (λ d. g.S.Device.Device.size d) s → (c.settle_part.new.part.active ≡ []) × (g.S.Device.Device.size c.settle_part.new.part.log.device ≡ empty_size) × (c.settle_part.new.part.generation ≡ s.generation + 1)) (same g c)
     c.in_ok-settle_part.ensures.emptied
 
 pub returns-clause-stays : goal.returns-clause-stays
 returns-clause-stays g c =
-    subst (λ (s : PartState _ _ _ _). (IsDue (λ d. g.S.Device.Device.size d) s → ⊥) → (c.settle_part.new.part.active ≡ s.active) × (c.settle_part.new.part.log ≡ s.log) × (c.settle_part.new.part.generation ≡ s.generation) × (c.settle_part.new.part.sealed ≡ s.sealed) × (c.settle_part.new.jobs.flush ≡ c.args.jobs.now.flush)) (inside_is c.self.inside.part c.self.inside.failed c.args.self.now.part (ap (λ (e : EngineState _ _ _ _). e.part) c.self.view_is) c.requires.sound c.self.invariant)
+    subst (λ (s : PartState _ _ _ _). (IsDue (λ d. g.S.Device.Device.size d) s → ⊥) → (c.settle_part.new.part.active ≡ s.active) × (c.settle_part.new.part.log ≡ s.log) × (c.settle_part.new.part.generation ≡ s.generation) × (c.settle_part.new.part.sealed ≡ s.sealed) × (c.settle_part.new.jobs.flush ≡ c.args.jobs.now.flush)) (same g c)
     c.in_ok-settle_part.ensures.undue
 
 pub returns-clause-short : goal.returns-clause-short
 returns-clause-short g c =
-    subst (λ (s : PartState _ _ _ _). empty_size < s.memory → g.S.Device.Device.size c.settle_part.new.part.log.device < s.memory) (inside_is c.self.inside.part c.self.inside.failed c.args.self.now.part (ap (λ (e : EngineState _ _ _ _). e.part) c.self.view_is) c.requires.sound c.self.invariant)
+    subst (λ (s : PartState _ _ _ _). empty_size < s.memory → g.S.Device.Device.size c.settle_part.new.part.log.device < s.memory) (same g c)
     c.in_ok-settle_part.ensures.short
 
 pub returns-clause-none : goal.returns-clause-none
