@@ -75,6 +75,16 @@ impl<F: Frozen> ComponentList<F> {
         self.components.len()
     }
 
+    /// The same components again, which are shared. Errs only for want of memory.
+    pub fn share(&self) -> Result<ComponentList<F>, Memory>
+        ensures { IfOk result (λ list. list ≡ self.now) }
+    {
+        let alloc = *self.components.allocator();
+        Ok(ComponentList {
+            components: shares_of(alloc, &self.components)?,
+        })
+    }
+
     /// Where the document of a key is: the newest component that has an entry of the key decides. Makes no read and takes
     /// no memory.
     pub fn find(&self, key: u64) -> Whereabouts
