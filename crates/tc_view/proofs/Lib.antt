@@ -2,5 +2,5 @@ pub mod Adding
 pub mod Prefixes
 pub mod ShareLemmas
 pub mod ViewLemmas
-pub mod OneMeaning
+pub mod HistoryLaws
 pub mod RuleKept

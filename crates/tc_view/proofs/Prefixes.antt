@@ -1,5 +1,5 @@
 -- Beginnings of one list.
-use Rattle.std.proofs.Common.{◌≡◌, ◌≤◌, List, [], ◌∷◌, length, refl, arith}
+use Rattle.std.proofs.Common.{◌≡◌, ◌≤◌, ◌⊎◌, inl, inr, List, [], ◌∷◌, ◌++◌, length, refl, arith}
 use mathlib.Core.List.{IsPrefix}
 
 -- of two beginnings of one list the shorter begins the longer
@@ -19,3 +19,14 @@ prefix_whole [] (y ∷ ys) p le = absurd (omega arith)
 prefix_whole (x ∷ xs) [] p le = absurd (cc (p.1))
 prefix_whole (x ∷ xs) (y ∷ ys) p le =
     let rest = prefix_whole xs ys (p.0, cc (p.1)) (omega arith) in cc (p.1, rest)
+
+-- a beginning of a list with one element more begins the list, or is all of it
+pub prefix_snoc : {A : Type 0} (front xs : List A) (x : A) → IsPrefix front (xs ++ x ∷ []) → IsPrefix front xs ⊎ (front ≡ xs ++ x ∷ [])
+prefix_snoc [] xs x p = inl (xs, refl)
+prefix_snoc (f ∷ []) [] x p = inr (cc (p.1))
+prefix_snoc (f ∷ g ∷ front) [] x p = absurd (cc (p.1))
+prefix_snoc (f ∷ front) (y ∷ xs) x p = behind (prefix_snoc front xs x (p.0, cc (p.1)))
+  where
+    behind : IsPrefix front xs ⊎ (front ≡ xs ++ x ∷ []) → IsPrefix (f ∷ front) (y ∷ xs) ⊎ (f ∷ front ≡ y ∷ xs ++ x ∷ [])
+    behind (inl q) = inl (q.0, cc (p.1, q.1))
+    behind (inr e) = inr (cc (p.1, e))

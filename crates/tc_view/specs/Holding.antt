@@ -1,6 +1,8 @@
--- Which documents a view holds, and which changes leave them.
-use Rattle.std.specs.Prelude.{◌≡◌, ◌+◌, ◌<◌, ◌≤◌, ◌^◌, ℕ, List, [], ◌∷◌, length, map, All, Option, None, Some, IsSome}
+-- Which documents a view shows, and which histories show the documents that a partition holds.
+use Rattle.std.specs.Prelude.{◌≡◌, ◌<◌, ℕ, List, [], ◌∷◌, length, map, take, All, Option, None, Some}
+use Rattle.std.specs.Arc.{arc_value}
 use Rattle.std.specs.List.{AllZip}
+use mathlib.Core.List.{IsPrefix}
 use Rattle.tc_model.specs.Document.{Name}
 use Rattle.tc_model.specs.Dictionary.{Extends}
 use Rattle.tc_plain_model.specs.Writes.{Pairs, Write, after_writes}
@@ -15,10 +17,10 @@ use Rattle.tc_list.specs.Intervals.{Follow}
 use Rattle.tc_component.specs.Loaded.{IsLoadedOf}
 use Rattle.tc_machine.specs.Logs.{kept_write}
 use Rattle.tc_machine.specs.Writes.{IsStorableWrite}
-use Rattle.tc_view.specs.declared.content.Content.{Content}
 use Rattle.tc_view.specs.declared.change.Change.{Change}
-use Rattle.tc_view.specs.declared.change.Change.TheVariants.{Writes, Sealed, Flushed, Merged}
-use Rattle.tc_view.specs.Changes.{writes_in, changed}
+use Rattle.tc_view.specs.declared.change.Change.TheVariants.{Writes, Placed as PlacedBy}
+use Rattle.tc_view.specs.declared.happened.Happened.{Happened}
+use Rattle.tc_view.specs.Changes.{Showing, writes_in, writes_of, shown_after}
 
 -- ---- documents
 
@@ -35,17 +37,24 @@ pub record ListHolds {F : Type 0} (told : F → Option (List ℕ)) (list : List 
   pub loaded : AllZip (IsLoadedOf told) list contents
   pub is : pairs ≡ live contents
 
--- A view holds these documents: they are what the sealed table, and then the writes, leave of those in the list.
-pub record Holds {F W : Type 0} (told : F → Option (List ℕ)) (c : Content F W) (pairs : Pairs) : Type 0 where
+-- A view shows these documents: they are what the sealed table, and then the writes, leave of those in the list.
+pub record Holds {F : Type 0} (told : F → Option (List ℕ)) (s : Showing F) (pairs : Pairs) : Type 0 where
   pub listed : Pairs
-  pub list : ListHolds told c.list listed
+  pub list : ListHolds told s.list listed
   pub table : tables.Table
-  pub sealed : IsSealedOf table c.sealed
+  pub sealed : IsSealedOf table s.sealed
   pub kept : All IsStorableWrite (tables.writes_of table)
   pub writes : List Write
   pub storable : All IsStorableWrite writes
-  pub written : c.written ≡ map kept_write writes
+  pub written : s.written ≡ map kept_write writes
   pub is : pairs ≡ after_writes (tables.over listed table) writes
+
+-- From a partition that held `start` the writes were made, and each beginning of the history, but the empty one, shows what its
+-- writes leave.
+pub record HoldsWrites {F W : Type 0} (told : F → Option (List ℕ)) (start : Pairs) (writes : List Write) (history : List (Happened F W)) : Type 0 where
+  pub written : writes_of history ≡ map kept_write writes
+  pub storable : All IsStorableWrite writes
+  pub each : (front : List (Happened F W)) → IsPrefix front history → 0 < length front → Holds told (shown_after front) (after_writes start (take (length (writes_of front)) writes))
 
 -- ---- lists
 
@@ -61,15 +70,7 @@ pub record IsListed {F : Type 0} (list : List (ComponentState F)) : Type 0 where
 
 -- ---- changes
 
--- all documents that one view holds, the other one holds
-abbrev pub Keeps : {F W : Type 0} → (F → Option (List ℕ)) → Content F W → Content F W → Type 0
-Keeps told c d = (pairs : Pairs) → Holds told c pairs → Holds told d pairs
-
--- A change fits a view: writes that a log takes, as long as their number has room; a table, where none is sealed; a component of the table,
--- where one is; and a merged component in place of a run of the list. Each but the first keeps all documents that the view
--- holds.
-abbrev pub Fits : {F W : Type 0} → (F → Option (List ℕ)) → Content F W → Change F W → Type 0
-Fits told c (Writes chunk) = (c.upto + length (writes_in chunk) < 2 ^ 63) × All IsWrite (writes_in chunk)
-Fits told c (Sealed table) = (c.sealed ≡ None) × Keeps told c (changed c (Sealed table))
-Fits told c (Flushed component) = IsSome c.sealed × IsListed (changed c (Flushed component)).list × Keeps told c (changed c (Flushed component))
-Fits told c (Merged run merged) = ((run.first ≤ run.last) × (run.last < length c.list)) × IsListed (changed c (Merged run merged)).list × Keeps told c (changed c (Merged run merged))
+-- what may be published: writes that a log takes, and components that can be listed
+abbrev pub Fits : {F W : Type 0} → Change F W → Type 0
+Fits (Writes chunk) = All IsWrite (writes_in chunk)
+Fits (PlacedBy list sealed) = IsListed (arc_value list)

@@ -1,4 +1,3 @@
-pub mod StartCode
 pub mod History
 pub mod Changes
 pub mod Holding

@@ -1,5 +1,5 @@
 -- What clauses read of a publisher, a lens and a snapshot.
-use Rattle.std.specs.Prelude.{◌≡◌, ℕ, List, Option, Some, fold, drop}
+use Rattle.std.specs.Prelude.{◌≡◌, Option, Some, fold, drop}
 use Rattle.std.specs.Arc.{arc_value}
 use Rattle.std.specs.declared.alloc.Global.{Global}
 use Rattle.left_right.specs.Sides.{view}
@@ -29,23 +29,23 @@ module _ {F W : Type 0} where
   kept_by l = shown_by l.kept
 
   -- the lens reads this view
-  pub record IsLensOf (told : F → Option (List ℕ)) (k : Key F W) (l : Lens F W) : Type 0 where
+  pub record IsLensOf (k : Key) (l : Lens F W) : Type 0 where
     pub place : view l.reader.place ≡ Some k
-    pub kept : IsViewOf told k (kept_by l)
+    pub kept : IsViewOf k (kept_by l)
 
 module _ {F W X : Type 0} {g : Ghosts (View F W) (Step F W) X} where
   -- what readers take, and what they take after the next publication
-  abbrev pub shown_of : Writer (View F W) (Step F W) (Option (Key F W)) Agrees Global X g → Content F W
+  abbrev pub shown_of : Writer (View F W) (Step F W) (Option Key) Agrees Global X g → Content F W
   shown_of w = content_of w.desk.shown.value
 
-  abbrev pub next_of : Writer (View F W) (Step F W) (Option (Key F W)) Agrees Global X g → Content F W
+  abbrev pub next_of : Writer (View F W) (Step F W) (Option Key) Agrees Global X g → Content F W
   next_of w = fold applied (shown_of w) (drop w.behind w.log.items)
 
   -- the writer shows this view, now and next
-  pub record IsOpenTo (told : F → Option (List ℕ)) (k : Key F W) (w : Writer (View F W) (Step F W) (Option (Key F W)) Agrees Global X g) : Type 0 where
+  pub record IsOpenTo (k : Key) (w : Writer (View F W) (Step F W) (Option Key) Agrees Global X g) : Type 0 where
     pub place : view w.desk.place ≡ Some k
-    pub shown : IsViewOf told k (shown_of w)
-    pub next : IsViewOf told k (next_of w)
+    pub shown : IsViewOf k (shown_of w)
+    pub next : IsViewOf k (next_of w)
 
   -- what was published last, and what will be next
   abbrev pub published_by : Publisher F W X g → Content F W
@@ -55,8 +55,8 @@ module _ {F W X : Type 0} {g : Ghosts (View F W) (Step F W) X} where
   awaited_by p = next_of p.writer
 
   -- the publisher writes this view, and knows its whole history
-  pub record IsReady (told : F → Option (List ℕ)) (k : Key F W) (p : Publisher F W X g) : Type 0 where
-    pub open_to : IsOpenTo told k p.writer
+  pub record IsReady (k : Key) (p : Publisher F W X g) : Type 0 where
+    pub open_to : IsOpenTo k p.writer
     pub history : (awaited_by p).history ≡ p.history.seen.log
     pub book : p.history.seen.book ≡ k.book
     pub upto : p.upto ≡ (awaited_by p).upto

@@ -1,5 +1,5 @@
 -- What clauses read of a view, and what a step does to it.
-use Rattle.std.specs.Prelude.{map, flat_map, option_map}
+use Rattle.std.specs.Prelude.{flat_map, option_map}
 use Rattle.std.specs.Arc.{arc_value}
 use Rattle.tc_view.specs.declared.content.Content.{Content}
 use Rattle.tc_view.specs.declared.step.Step.{Step}
@@ -9,7 +9,7 @@ use Rattle.tc_view.specs.Changes.{writes_in, changed}
 module _ {F W : Type 0} where
   abbrev pub content_of : View F W → Content F W
   content_of v = record {
-    list = map arc_value v.list.items;
+    list = arc_value v.list;
     sealed = option_map arc_value v.sealed;
     written = flat_map writes_in v.chunks.items;
     upto = v.mark.upto;

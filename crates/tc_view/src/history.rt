@@ -1,19 +1,18 @@
-//! The history of a view: of each change the writes, in order. It exists in the proofs alone; what runs is a word, the
-//! number of changes.
+//! The history of a view: its changes, in order. It exists in the proofs alone; what runs is a word, the number of changes.
 
 ghost use Rattle.std.specs.Prelude.{◌≡◌, ◌++◌, ◌∷◌, [], ◌+◌, length, MatchBool};
 ghost use Rattle.tc_view.specs.History.{head_of};
-ghost use Rattle.tc_view.specs.Changes.{writes_of_change};
+ghost use Rattle.tc_view.specs.Changes.{happened};
 
 use crate::change::Change;
+use crate::happened::Happened;
 use logbook::{Gain, Offer, Plain, Play, Rule, Seen, Start, Word};
-use tc_log::Write;
 use tc_store::Frozen;
 
 /// The rule of the history.
 pub(crate) struct Law;
 
-impl Rule<[Write; 0], u64> for Law {
+impl<F: Frozen> Rule<Happened<F>, u64> for Law {
     ghost use Rattle.std.specs.Prelude.{[]};
     ghost use base.Fml.{ftrue};
     ghost use Rattle.tc_view.specs.History.{IsKept};
@@ -33,7 +32,7 @@ impl Rule<[Write; 0], u64> for Law {
 
 struct Nothing;
 
-impl Gain<[Write; 0], u64> for Nothing {
+impl<F: Frozen> Gain<Happened<F>, u64> for Nothing {
     ghost use base.Fml.{ftrue};
 
     ghost after = { λ names about answer. ftrue };
@@ -41,37 +40,37 @@ impl Gain<[Write; 0], u64> for Nothing {
 
 struct Add;
 
-impl Play<[Write; 0], u64> for Add {
+impl<F: Frozen> Play<Happened<F>, u64> for Add {
     ghost use Rattle.tc_view.specs.History.{Adds};
 
     ghost then = { Adds };
 }
 
-impl<F: Frozen> Plain<Change<F>, [Write; 0], u64> for Add {
+impl<F: Frozen> Plain<Change<F>, Happened<F>, u64> for Add {
     ghost use Rattle.std.specs.Prelude.{None};
-    ghost use Rattle.tc_view.specs.Changes.{writes_of_change};
+    ghost use Rattle.tc_view.specs.Changes.{happened};
 
-    ghost ask = { writes_of_change };
+    ghost ask = { happened };
 
     ghost state = { λ change. None };
 }
 
 /// A beginning of the history. It has no bytes.
-pub(crate) type Known = Seen<[Write; 0], u64, Law>;
+pub(crate) type Known<F> = Seen<Happened<F>, u64, Law>;
 
 /// The publisher's place in the history, which alone adds to it.
 #[derive(Drop)]
-pub(crate) struct History {
-    head: Word<[Write; 0], u64, Law>,
-    pub(crate) seen: Known,
+pub(crate) struct History<F: Frozen> {
+    head: Word<Happened<F>, u64, Law>,
+    pub(crate) seen: Known<F>,
     pub(crate) changes: u64,
     ghost head_is: { head ≡ head_of seen.book },
     ghost counted: { changes ≡ length seen.log },
 }
 
-impl History {
+impl<F: Frozen> History<F> {
     /// A history with no change.
-    pub(crate) fn new() -> History
+    pub(crate) fn new() -> History<F>
         ensures { result.seen.log ≡ [] }
     {
         let (seen, mut first, _second) = Seen::open(Start::alone(), 0, 0);
@@ -82,16 +81,16 @@ impl History {
         }
     }
 
-    /// Adds the writes of a change. It answers false where the history has as many changes as a `u64` counts.
-    pub(crate) fn add<F: Frozen>(&mut self, change: &Change<F>) -> bool
-        ensures added { MatchBool result (self.new.seen.log ≡ self.old.seen.log ++ writes_of_change change.now ∷ []) (Unit {0}) }
+    /// Adds a change. It answers false where the history has as many changes as a `u64` counts.
+    pub(crate) fn add(&mut self, change: &Change<F>) -> bool
+        ensures added { MatchBool result (self.new.seen.log ≡ self.old.seen.log ++ happened change.now ∷ []) (Unit {0}) }
         ensures book { self.new.seen.book ≡ self.old.seen.book }
     {
         if self.changes == u64::MAX {
             return false;
         }
         let changes = self.changes;
-        let mut offer: Offer<[Write; 0], u64, Law, Nothing> = self
+        let mut offer: Offer<Happened<F>, u64, Law, Nothing> = self
             .seen
             .plain::<Nothing, Change<F>, Add>(change);
         let mut pen = self.seen.no_pen();

@@ -17,7 +17,7 @@ use std::alloc::{AllocError, Global};
 use tc_bytes::Memory;
 use tc_store::Frozen;
 
-type Seat<F> = Reader<View<F>, Option<Key<F>>, Agrees>;
+type Seat<F> = Reader<View<F>, Option<Key>, Agrees>;
 
 /// A place among the readers, and the longest view that it was made with, has learnt or has seen.
 #[derive(Drop)]
@@ -31,8 +31,8 @@ impl<F: Frozen> Lens<F> {
     /// Takes a note in, of this lens's view: from now on each snapshot begins with what it told. It does not enter the
     /// view and takes no memory, so that it never errs.
     pub fn learn(&mut self, note: Note<F>) -> Result<(), Memory>
-        requires lens { (k : Key F F.Watch) × IsLensOf F.content k self.old × IsViewOf F.content k (told_by note) }
-        ensures lens { (k : Key F F.Watch) → IsLensOf F.content k self.old → IsLensOf F.content k self.new }
+        requires lens { (k : Key) × IsLensOf k self.old × IsViewOf k (told_by note) }
+        ensures lens { (k : Key) → IsLensOf k self.old → IsLensOf k self.new }
         ensures seen { IsPrefix (kept_by self.old).history (kept_by self.new).history }
         ensures told { IsPrefix (told_by note).history (kept_by self.new).history }
         ensures always { IsOk result }
@@ -45,8 +45,8 @@ impl<F: Frozen> Lens<F> {
     /// Takes shares of what is published, and waits for nobody. It begins with all that this lens gave before and has
     /// learnt. Errs only for want of memory.
     pub fn snapshot(&mut self) -> Result<Snapshot<F>, Memory>
-        requires lens { (k : Key F F.Watch) × IsLensOf F.content k self.old }
-        ensures lens { (k : Key F F.Watch) → IsLensOf F.content k self.old → IsLensOf F.content k self.new }
+        requires lens { (k : Key) × IsLensOf k self.old }
+        ensures lens { (k : Key) → IsLensOf k self.old → IsLensOf k self.new }
         ensures seen { IsPrefix (kept_by self.old).history (kept_by self.new).history }
         ensures given { IfOk result (λ s. shown_by s ≡ kept_by self.new) }
     {
@@ -55,7 +55,7 @@ impl<F: Frozen> Lens<F> {
             (),
             |reader: Seat<F>, _nothing: ()| -> (Seat<F>, Option<Result<View<F>, AllocError>>)
                 ensures place { view result.0.place ≡ view reader.place }
-                ensures shares { (k : Key F F.Watch) → view reader.place ≡ Some k → IfSome result.1 (λ r. IfOk r (λ v. IsViewOf F.content k (content_of v))) }
+                ensures shares { (k : Key) → view reader.place ≡ Some k → IfSome result.1 (λ r. IfOk r (λ v. IsViewOf k (content_of v))) }
             { look(reader) },
         );
         let Some(shares) = looked else {
@@ -68,8 +68,8 @@ impl<F: Frozen> Lens<F> {
 
     /// Keeps the longer of two views of one history, and of two of one length the newer one.
     fn keep(&mut self, newer: Snapshot<F>)
-        requires lens { (k : Key F F.Watch) × IsLensOf F.content k self.old × IsViewOf F.content k (shown_by newer) }
-        ensures lens { (k : Key F F.Watch) → IsLensOf F.content k self.old → IsLensOf F.content k self.new }
+        requires lens { (k : Key) × IsLensOf k self.old × IsViewOf k (shown_by newer) }
+        ensures lens { (k : Key) → IsLensOf k self.old → IsLensOf k self.new }
         ensures seen { IsPrefix (kept_by self.old).history (kept_by self.new).history }
         ensures newer { IsPrefix (shown_by newer).history (kept_by self.new).history }
     {
@@ -84,7 +84,7 @@ impl<F: Frozen> Lens<F> {
 /// Shares of what is published now, or nothing where no entry is given.
 fn look<F: Frozen>(reader: Seat<F>) -> (Seat<F>, Option<Result<View<F>, AllocError>>)
     ensures place { view result.0.place ≡ view reader.place }
-    ensures shares { (k : Key F F.Watch) → view reader.place ≡ Some k → IfSome result.1 (λ r. IfOk r (λ v. IsViewOf F.content k (content_of v))) }
+    ensures shares { (k : Key) → view reader.place ≡ Some k → IfSome result.1 (λ r. IfOk r (λ v. IsViewOf k (content_of v))) }
 {
     match reader.enter_as::<Stays>() {
         Ok(reading) => {

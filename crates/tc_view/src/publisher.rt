@@ -1,14 +1,10 @@
 //! The writer of a view.
 
-ghost use Rattle.std.specs.Prelude.{◌≡◌, ◌++◌, ◌∷◌, [], ◌+◌, ◌<◌, ◌^◌, ℕ, List, length, map, take, All, Some, IfOk, OnOk, OnErr, IsTrue, IsFalse, MatchResult};
+ghost use Rattle.std.specs.Prelude.{◌≡◌, ◌<◌, [], Some, IfOk, OnOk, OnErr, IsTrue, IsFalse, MatchResult};
 ghost use mathlib.Core.List.{IsPrefix};
 ghost use Rattle.left_right.specs.Sides.{view};
-ghost use Rattle.tc_list.specs.Intervals.{Follow};
-ghost use Rattle.tc_plain_model.specs.Writes.{Pairs, Write, after_writes};
-ghost use Rattle.tc_machine.specs.Logs.{kept_write};
-ghost use Rattle.tc_machine.specs.Writes.{IsStorableWrite};
-ghost use Rattle.tc_view.specs.Changes.{writes_of, after_change};
-ghost use Rattle.tc_view.specs.Holding.{ListHolds, Holds, IsListed, Extend, Fits};
+ghost use Rattle.tc_view.specs.Changes.{after_change};
+ghost use Rattle.tc_view.specs.Holding.{Fits};
 ghost use Rattle.tc_view.specs.Places.{shown_by, told_by, kept_by, published_by, awaited_by, shown_of, next_of, IsOpenTo, IsLensOf, IsReady};
 ghost use Rattle.tc_view.specs.Rules.{IsViewOf, opening};
 ghost use Rattle.tc_view.specs.Views.{content_of, applied};
@@ -30,7 +26,7 @@ use tc_bytes::Memory;
 use tc_list::ComponentList;
 use tc_store::Frozen;
 
-type Place<F> = Writer<View<F>, Step<F>, Option<Key<F>>, Agrees>;
+type Place<F> = Writer<View<F>, Step<F>, Option<Key>, Agrees>;
 
 /// The writer of a view, with its place in the history. It is not `Drop`: end it by `end`.
 pub struct Publisher<F: Frozen>
@@ -39,24 +35,18 @@ where
 {
     pub(crate) alloc: Global,
     pub(crate) writer: Place<F>,
-    pub(crate) history: History,
+    pub(crate) history: History<F>,
     pub(crate) upto: u64,
 }
 
 impl<F: Frozen> Publisher<F> {
-    /// Makes a view of these components with no write, and publishes it. Nobody reads it yet, so that it does not wait.
-    /// Errs only for want of memory.
-    pub fn new<R: Wait>(
-        rt: &R,
-        alloc: Global,
-        list: &ComponentList<F>,
-    ) -> Result<Publisher<F>, Memory>
-        requires names { Extend [] list.now }
-        ensures { IfOk result (λ p. (k : Key F F.Watch) × (k.start ≡ list.now) × IsReady F.content k p × (awaited_by p ≡ opening list.now k.book) × (published_by p ≡ awaited_by p)) }
+    /// Makes an empty view, and publishes it. Nobody reads it yet, so that it does not wait. Errs only for want of memory.
+    pub fn new<R: Wait>(rt: &R, alloc: Global) -> Result<Publisher<F>, Memory>
+        ensures { IfOk result (λ p. (k : Key) × IsReady k p × (awaited_by p ≡ opening k.book) × (published_by p ≡ awaited_by p)) }
     {
         let history = History::new();
-        let first = opened(alloc, list, &history)?;
-        let second = opened(alloc, list, &history)?;
+        let first = opened(alloc, &history)?;
+        let second = opened(alloc, &history)?;
         Ok(Publisher {
             alloc,
             writer: open(rt, alloc, first, second)?,
@@ -65,24 +55,27 @@ impl<F: Frozen> Publisher<F> {
         })
     }
 
-    /// Appends a change, which the next publication shows. Errs only for want of memory, and after 2^64 - 1 changes. After
-    /// an `Err` the publisher must not be used but for `end`.
+    /// Appends a change, which the next publication shows. Errs only for want of memory, and after 2^64 - 1 changes or
+    /// writes. After an `Err` the publisher must not be used but for `end`.
     pub fn append(&mut self, change: Change<F>) -> Result<(), Memory>
-        requires ready { (k : Key F F.Watch) × IsReady F.content k self.old }
-        requires fits { Fits F.content (awaited_by self.old) change }
-        ensures ready { OnOk result ((k : Key F F.Watch) → IsReady F.content k self.old → IsReady F.content k self.new) }
+        requires ready { (k : Key) × IsReady k self.old }
+        requires fits { Fits change }
+        ensures ready { OnOk result ((k : Key) → IsReady k self.old → IsReady k self.new) }
         ensures changed { OnOk result (awaited_by self.new ≡ after_change (awaited_by self.old) change) }
         ensures unchanged { OnErr result (awaited_by self.new ≡ awaited_by self.old) }
         ensures published { published_by self.new ≡ published_by self.old }
     {
+        let Some(upto) = self.upto.checked_add(change.writes()) else {
+            return Err(AllocError);
+        };
         if !self.history.add(&change) {
             return Err(AllocError);
         }
-        self.upto += change.writes();
+        self.upto = upto;
         let step = Step {
             change,
             mark: Mark {
-                upto: self.upto,
+                upto,
                 changes: self.history.changes,
                 seen: self.history.seen.again(),
             },
@@ -93,8 +86,8 @@ impl<F: Frozen> Publisher<F> {
 
     /// Publishes all that was appended, at one step. It waits for lenses that are within. Errs only for want of memory.
     pub fn publish<R: Wait>(&mut self, rt: &R) -> Result<(), Memory>
-        requires ready { (k : Key F F.Watch) × IsReady F.content k self.old }
-        ensures ready { (k : Key F F.Watch) → IsReady F.content k self.old → IsReady F.content k self.new }
+        requires ready { (k : Key) × IsReady k self.old }
+        ensures ready { (k : Key) → IsReady k self.old → IsReady k self.new }
         ensures published { OnOk result ((published_by self.new ≡ awaited_by self.old) × (awaited_by self.new ≡ awaited_by self.old)) }
         ensures unchanged { OnErr result ((published_by self.new ≡ published_by self.old) × (awaited_by self.new ≡ awaited_by self.old)) }
     {
@@ -102,8 +95,8 @@ impl<F: Frozen> Publisher<F> {
             &mut self.writer,
             rt,
             |writer: Place<F>, rt: &R| -> (Place<F>, Result<(), AllocError>)
-                requires { (k : Key F F.Watch) × IsOpenTo F.content k writer }
-                ensures open { (k : Key F F.Watch) → IsOpenTo F.content k writer → IsOpenTo F.content k result.0 }
+                requires { (k : Key) × IsOpenTo k writer }
+                ensures open { (k : Key) → IsOpenTo k writer → IsOpenTo k result.0 }
                 ensures shown { MatchResult result.1 (λ _. (shown_of result.0 ≡ next_of writer) × (next_of result.0 ≡ next_of writer)) (λ _. (shown_of result.0 ≡ shown_of writer) × (next_of result.0 ≡ next_of writer)) }
             { show(rt, writer) },
         );
@@ -113,9 +106,9 @@ impl<F: Frozen> Publisher<F> {
     /// A new lens, which begins with what is published. Errs only for want of memory, or where no place among the readers
     /// is left.
     pub fn lens(&mut self) -> Result<Lens<F>, Memory>
-        requires ready { (k : Key F F.Watch) × IsReady F.content k self.old }
-        ensures ready { (k : Key F F.Watch) → IsReady F.content k self.old → IsReady F.content k self.new }
-        ensures lens { IfOk result (λ l. ((k : Key F F.Watch) → IsReady F.content k self.old → IsLensOf F.content k l) × (kept_by l ≡ published_by self.old)) }
+        requires ready { (k : Key) × IsReady k self.old }
+        ensures ready { (k : Key) → IsReady k self.old → IsReady k self.new }
+        ensures lens { IfOk result (λ l. ((k : Key) → IsReady k self.old → IsLensOf k l) × (kept_by l ≡ published_by self.old)) }
         ensures same { (published_by self.new ≡ published_by self.old) × (awaited_by self.new ≡ awaited_by self.old) }
     {
         let mut reader = self.writer.factory().reader()?;
@@ -137,18 +130,16 @@ impl<F: Frozen> Publisher<F> {
         })
     }
 
-    /// Whether a snapshot of this view has a beginning of the changes that this publisher knows of. It always has, and
-    /// this tells so. Takes no memory.
-    pub fn covers(&self, snapshot: &Snapshot<F>) -> bool
-        requires { (k : Key F F.Watch) × IsReady F.content k self.now × IsViewOf F.content k (shown_by snapshot.now) }
-        ensures begins { IsTrue result → IsPrefix (shown_by snapshot.now).history (awaited_by self.now).history }
-        ensures holds { IsTrue result → (k : Key F F.Watch) (start : Pairs) (writes : List Write) → IsViewOf F.content k (shown_by snapshot.now) → ListHolds F.content k.start start → All IsStorableWrite writes
-            → writes_of (awaited_by self.now).history ≡ map kept_write writes → Holds F.content (shown_by snapshot.now) (after_writes start (take (shown_by snapshot.now).upto writes)) }
-        ensures longer { IsFalse result → (awaited_by self.now).changes < (shown_by snapshot.now).changes }
+    /// Whether what a lens of this view keeps has a beginning of the changes that this publisher knows of. It always has,
+    /// and this tells so. Takes no memory.
+    pub fn covers(&self, lens: &Lens<F>) -> bool
+        requires { (k : Key) × IsReady k self.now × IsLensOf k lens.now }
+        ensures begins { IsTrue result → IsPrefix (kept_by lens.now).history (awaited_by self.now).history }
+        ensures longer { IsFalse result → (awaited_by self.now).changes < (kept_by lens.now).changes }
     {
         let mut both = self.history.seen.again();
-        both.learn(&snapshot.of.mark.seen);
-        snapshot.changes() <= self.history.changes
+        both.learn(&lens.kept.of.mark.seen);
+        lens.kept.changes() <= self.history.changes
     }
 
     /// Ends the view. It waits for lenses that are within.
@@ -163,19 +154,14 @@ impl<F: Frozen> Publisher<F> {
     }
 }
 
-/// A view of these components with no write.
-fn opened<F: Frozen>(
-    alloc: Global,
-    list: &ComponentList<F>,
-    history: &History,
-) -> Result<View<F>, Memory>
+/// An empty view.
+fn opened<F: Frozen>(alloc: Global, history: &History<F>) -> Result<View<F>, Memory>
     requires { history.now.seen.log ≡ [] }
-    ensures view { IfOk result (λ v. content_of v ≡ opening list.now history.now.seen.book) }
-    ensures follow { OnOk result (Follow 0 list.now) }
+    ensures { IfOk result (λ v. content_of v ≡ opening history.now.seen.book) }
 {
     Ok(View {
         alloc,
-        list: Vec::from_clones(alloc, list.as_slice())?,
+        list: Arc::new(alloc, ComponentList::new(alloc))?,
         sealed: None,
         chunks: Vec::new(alloc),
         mark: Mark {
@@ -194,8 +180,8 @@ fn open<F: Frozen, R: Wait>(
     first: View<F>,
     second: View<F>,
 ) -> Result<Place<F>, Memory>
-    requires { (k : Key F F.Watch) × IsListed k.start × (content_of first ≡ opening k.start k.book) × (content_of second ≡ opening k.start k.book) }
-    ensures { IfOk result (λ w. ((k : Key F F.Watch) × (k.start ≡ (content_of first).list) × IsOpenTo F.content k w) × (shown_of w ≡ content_of first) × (next_of w ≡ content_of first)) }
+    requires { (k : Key) × (content_of first ≡ opening k.book) × (content_of second ≡ opening k.book) }
+    ensures { IfOk result (λ w. ((k : Key) × IsOpenTo k w) × (shown_of w ≡ content_of first) × (next_of w ≡ content_of first)) }
 {
     let writer: Place<F> = Writer::new(alloc, first, second, 1)?;
     let (writer, published) = writer.publish_as::<Opens, R>(rt);
@@ -222,8 +208,8 @@ fn push<F: Frozen>(writer: &mut Place<F>, step: Step<F>) -> Result<(), Memory>
 
 /// Publishes what is pending.
 fn show<F: Frozen, R: Wait>(rt: &R, writer: Place<F>) -> (Place<F>, Result<(), AllocError>)
-    requires { (k : Key F F.Watch) × IsOpenTo F.content k writer }
-    ensures open { (k : Key F F.Watch) → IsOpenTo F.content k writer → IsOpenTo F.content k result.0 }
+    requires { (k : Key) × IsOpenTo k writer }
+    ensures open { (k : Key) → IsOpenTo k writer → IsOpenTo k result.0 }
     ensures shown { MatchResult result.1 (λ _. (shown_of result.0 ≡ next_of writer) × (next_of result.0 ≡ next_of writer)) (λ _. (shown_of result.0 ≡ shown_of writer) × (next_of result.0 ≡ next_of writer)) }
 {
     writer.publish_as::<Stays, R>(rt)

@@ -1,6 +1,6 @@
 //! What a lens gives, and what a publisher tells.
 
-ghost use Rattle.std.specs.Prelude.{◌≡◌, map, flat_map, option_map, IfOk};
+ghost use Rattle.std.specs.Prelude.{◌≡◌, flat_map, option_map, IfOk};
 ghost use Rattle.std.specs.Arc.{arc_value};
 ghost use Rattle.tc_view.specs.Changes.{writes_in};
 ghost use Rattle.tc_view.specs.Places.{shown_by};
@@ -11,7 +11,7 @@ use crate::view::View;
 use std::alloc::Global;
 use std::sync::Arc;
 use tc_bytes::Memory;
-use tc_component::Component;
+use tc_list::ComponentList;
 use tc_memory::Sealed;
 use tc_store::Frozen;
 
@@ -53,10 +53,10 @@ impl<F: Frozen> Snapshot<F> {
     }
 
     /// The components, the oldest first. Takes no memory.
-    pub fn list(&self) -> &[Arc<Component<F>>]
-        ensures { map arc_value result.now ≡ (shown_by self.now).list }
+    pub fn list(&self) -> &ComponentList<F>
+        ensures { result.now ≡ (shown_by self.now).list }
     {
-        self.of.list.as_slice()
+        &self.of.list
     }
 
     /// The sealed table over the components, if there is one. Takes no memory.

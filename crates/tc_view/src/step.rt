@@ -8,5 +8,5 @@ use tc_store::Frozen;
 #[derive(Drop)]
 pub struct Step<F: Frozen> {
     pub(crate) change: Change<F>,
-    pub(crate) mark: Mark,
+    pub(crate) mark: Mark<F>,
 }

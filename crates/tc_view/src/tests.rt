@@ -11,7 +11,6 @@ use std::alloc::{AllocError, Global};
 use std::sync::{Arc, Wait};
 use std::test::Fail;
 use tc_bytes::Bytes;
-use tc_list::ComponentList;
 use tc_log::Write;
 use tc_record::is_stored_record;
 use tc_store::{Frozen, MemFrozen};
@@ -47,7 +46,7 @@ fn rounds<F: Frozen, R: Wait>(
     publisher: &mut Publisher<F>,
     lens: &mut Lens<F>,
 ) -> Result<Vec<u64>, Fail>
-    requires { (k : Key F F.Watch) × IsReady F.content k publisher.old × IsLensOf F.content k lens.old × ((awaited_by publisher.old).upto ≡ 0) }
+    requires { (k : Key) × IsReady k publisher.old × IsLensOf k lens.old × ((awaited_by publisher.old).upto ≡ 0) }
 {
     let mut seen = Vec::new(alloc);
     for round in 0..10 {
@@ -64,8 +63,7 @@ fn rounds<F: Frozen, R: Wait>(
 #[test]
 fn each_snapshot_sees_the_last_publication(rt: HostRuntime) -> Result<(), Fail> {
     let alloc = rt.alloc();
-    let list: ComponentList<MemFrozen> = ComponentList::new(alloc);
-    let mut publisher = Publisher::new(&rt, alloc, &list)?;
+    let mut publisher: Publisher<MemFrozen> = Publisher::new(&rt, alloc)?;
     let seen = match publisher.lens() {
         Ok(mut lens) => rounds(&rt, alloc, &mut publisher, &mut lens),
         Err(fault) => Err(Fail::from(fault)),

@@ -1,8 +1,8 @@
 //! What is published, and how a change changes it.
 
-ghost use Rattle.std.specs.Prelude.{◌≡◌, ◌++◌, ◌∷◌, [], map, option_map, IfOk, OnOk, OnErr};
+ghost use Rattle.std.specs.Prelude.{◌≡◌, ◌++◌, flat_map, option_map, IfOk, OnOk, OnErr};
 ghost use Rattle.std.specs.Arc.{arc_value};
-ghost use Rattle.tc_view.specs.Changes.{put_within};
+ghost use Rattle.tc_view.specs.Changes.{writes_in};
 ghost use Rattle.tc_view.specs.Views.{content_of};
 
 use crate::change::Change;
@@ -13,8 +13,7 @@ use crate::step::Step;
 use left_right::Absorb;
 use std::alloc::{AllocError, Global};
 use std::sync::Arc;
-use tc_component::Component;
-use tc_list::Run;
+use tc_list::ComponentList;
 use tc_memory::Sealed;
 use tc_store::Frozen;
 
@@ -22,10 +21,10 @@ use tc_store::Frozen;
 #[derive(Drop)]
 pub struct View<F: Frozen> {
     pub(crate) alloc: Global,
-    pub(crate) list: Vec<Arc<Component<F>>>,
+    pub(crate) list: Arc<ComponentList<F>>,
     pub(crate) sealed: Option<Arc<Sealed>>,
     pub(crate) chunks: Vec<Arc<Chunk>>,
-    pub(crate) mark: Mark,
+    pub(crate) mark: Mark<F>,
 }
 
 impl<F: Frozen> Absorb<Step<F>> for View<F> {
@@ -37,34 +36,24 @@ impl<F: Frozen> Absorb<Step<F>> for View<F> {
 
     ghost applied = { applied };
 
-    // In each arm what can fail stands before what changes the view.
+    // What can fail stands before what changes the view.
     fn absorb_first(&mut self, step: &Step<F>, _other: &View<F>) -> Result<(), AllocError> {
         match &step.change {
-            Change::Writes(chunk) => {
-                add(&mut self.chunks, chunk)?;
-                self.mark = step.mark.again();
-                Ok(())
-            }
-            Change::Sealed(table) => {
-                let share = Arc::try_clone(table)?;
-                self.sealed = Some(share);
+            Change::Writes(chunk) => add(&mut self.chunks, chunk)?,
+            Change::Placed { list, sealed } => {
+                let list = Arc::try_clone(list)?;
+                let sealed = share_of(sealed)?;
+                self.list = list;
+                self.sealed = sealed;
                 self.chunks.clear();
-                self.mark = step.mark.again();
-                Ok(())
-            }
-            Change::Flushed(component) => {
-                add(&mut self.list, component)?;
-                self.sealed = None;
-                self.mark = step.mark.again();
-                Ok(())
-            }
-            Change::Merged { run, merged } => {
-                let share = Arc::try_clone(merged)?;
-                put_for(&mut self.list, *run, share);
-                self.mark = step.mark.again();
-                Ok(())
             }
         }
+        self.mark = Mark {
+            upto: step.mark.upto,
+            changes: step.mark.changes,
+            seen: step.mark.seen.again(),
+        };
+        Ok(())
     }
 }
 
@@ -75,7 +64,7 @@ impl<F: Frozen> View<F> {
     {
         Ok(View {
             alloc: self.alloc,
-            list: self.list.clone()?,
+            list: Arc::try_clone(&self.list)?,
             sealed: share_of(&self.sealed)?,
             chunks: self.chunks.clone()?,
             mark: self.mark.again(),
@@ -84,12 +73,12 @@ impl<F: Frozen> View<F> {
 }
 
 /// Adds a share behind the others.
-fn add<T: Drop>(shares: &mut Vec<Arc<T>>, share: &Arc<T>) -> Result<(), AllocError>
-    ensures ok { OnOk result ((more : Arc T Global) × (arc_value more ≡ arc_value share.now) × (shares.new.items ≡ shares.old.items ++ more ∷ [])) }
-    ensures err { OnErr result (shares.new.items ≡ shares.old.items) }
+fn add(chunks: &mut Vec<Arc<Chunk>>, chunk: &Arc<Chunk>) -> Result<(), AllocError>
+    ensures ok { OnOk result (flat_map writes_in chunks.new.items ≡ flat_map writes_in chunks.old.items ++ writes_in chunk.now) }
+    ensures err { OnErr result (chunks.new.items ≡ chunks.old.items) }
 {
-    let more = Arc::try_clone(share)?;
-    shares.push(more)?;
+    let more = Arc::try_clone(chunk)?;
+    chunks.push(more)?;
     Ok(())
 }
 
@@ -101,15 +90,4 @@ fn share_of(table: &Option<Arc<Sealed>>) -> Result<Option<Arc<Sealed>>, AllocErr
         Some(table) => Ok(Some(Arc::try_clone(table)?)),
         None => Ok(None),
     }
-}
-
-/// Puts a share in place of a run, where the run lies in the list.
-fn put_for<T: Drop>(list: &mut Vec<Arc<T>>, run: Run, merged: Arc<T>)
-    ensures { list.new.items ≡ put_within run merged list.old.items }
-{
-    if run.first > run.last || run.last >= list.len() {
-        return;
-    }
-    list[run.first] = merged;
-    drop(list.drain(run.first + 1..run.last + 1));
 }

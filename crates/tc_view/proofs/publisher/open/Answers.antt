@@ -10,12 +10,12 @@ use Rattle.tc_view.proofs.publisher.open.Goals as goal
 pub new-requires-clause-rule : goal.new-requires-clause-rule
 new-requires-clause-rule g c =
     let key = c.requires.0 in
-    agreed_first g.F.Frozen.content key (content_of c.args.first) (subst (λ (x : Content _ _). IsViewOf g.F.Frozen.content key x) (sym c.requires.2) (opening_view g.F.Frozen.content key c.requires.1))
+    agreed_first key (content_of c.args.first) (subst (λ (x : Content _ _). IsViewOf key x) (sym c.requires.1) (opening_view key))
 
 pub publish_as-writer-requires : goal.publish_as-writer-requires
 publish_as-writer-requires g c next is =
     let shown = c.in_ok-writer.writer.desk.shown.value in
-    opens g.F.Frozen.content content_of _ _ shown next (is ∙ ap (fold applied (content_of shown)) c.in_ok-writer.ensures.1)
+    opens content_of _ _ shown next (is ∙ ap (fold applied (content_of shown)) c.in_ok-writer.ensures.1)
 
 pub returns-in-Ok : goal.returns-in-Ok
 returns-in-Ok g c =
@@ -25,9 +25,8 @@ returns-in-Ok g c =
     let rule = rw c.in-Ok.is at c.publish_as-writer.ensures.rule in
     let same : shown_of after ≡ content_of c.args.first =
     values.0 ∙ (ap (λ l. fold applied (content_of before.desk.shown.value) l) c.in_ok-writer.ensures.1 ∙ ap content_of c.in_ok-writer.ensures.0) in
-    let next : next_of after ≡ content_of c.args.first = ap (λ l. fold applied (shown_of after) l) values.1 ∙ same in
-    let start = sym (rule.2.begins (ap (λ x. x.history) (same ∙ c.requires.2))) ∙ ap (λ x. x.list) same in (
-      (rule.0, start, record { place = rule.1; shown = rule.2; next = subst (λ (x : Content _ _). IsViewOf g.F.Frozen.content rule.0 x) (same ∙ sym next) rule.2 }),
+    let next : next_of after ≡ content_of c.args.first = ap (λ l. fold applied (shown_of after) l) values.1 ∙ same in (
+      (rule.0, record { place = rule.1; shown = rule.2; next = subst (λ (x : Content _ _). IsViewOf rule.0 x) (same ∙ sym next) rule.2 }),
       same,
       next,
     )

@@ -8,4 +8,4 @@ use Rattle.tc_view.proofs.publisher.show.Goals as goal
 pub publish_as-requires : goal.publish_as-requires
 publish_as-requires g c next is =
     let k = c.requires.0 in
-    stays g.F.Frozen.content content_of _ _ k c.args.writer.desk.shown.value next c.requires.1.place (subst (λ (x : Content _ _). IsViewOf g.F.Frozen.content k x) (sym is) c.requires.1.next)
+    stays content_of _ _ k c.args.writer.desk.shown.value next c.requires.1.place (subst (λ (x : Content _ _). IsViewOf k x) (sym is) c.requires.1.next)

@@ -6,7 +6,7 @@ rounds-seen-requires-after_bounds g c κs =
     let made = c.in_ok-publisher.ensures in
     let lens = c.lens.ensures in (
       made.0,
-      lens.ready made.0 made.2,
-      c.in-Ok.ensures.lens.0 made.0 made.2,
-      ap (λ x. x.upto) (lens.same.1 ∙ made.3),
+      lens.ready made.0 made.1,
+      c.in-Ok.ensures.lens.0 made.0 made.1,
+      ap (λ x. x.upto) (lens.same.1 ∙ made.2),
     )

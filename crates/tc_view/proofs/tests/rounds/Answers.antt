@@ -9,7 +9,7 @@ pub publish-requires-clause-ready : goal.publish-requires-clause-ready
 publish-requires-clause-ready g c κs within = let i = c.loop-round.invariant in (i.0, c.in_ok-append.ensures.ready i.0 i.1)
 
 pub learn-requires-clause-lens : goal.learn-requires-clause-lens
-learn-requires-clause-lens g c κs within = let i = c.loop-round.invariant in (i.0, i.2, subst (λ (x : Content _ _). IsViewOf g.F.Frozen.content i.0 x) (sym c.in_ok-note.ensures) i.1.open_to.shown)
+learn-requires-clause-lens g c κs within = let i = c.loop-round.invariant in (i.0, i.2, subst (λ (x : Content _ _). IsViewOf i.0 x) (sym c.in_ok-note.ensures) i.1.open_to.shown)
 
 pub snapshot-requires-2-clause-lens : goal.snapshot-requires-2-clause-lens
 snapshot-requires-2-clause-lens g c κs within = let i = c.loop-round.invariant in (i.0, c.learn.ensures.lens i.0 i.2)

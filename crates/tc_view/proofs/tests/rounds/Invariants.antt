@@ -5,4 +5,4 @@ use Rattle.tc_view.proofs.tests.rounds.Given as goal
 
 -- so many writes were published as there were rounds
 abbrev pub invariant-loop-round : goal.invariant-loop-round
-invariant-loop-round g l = (k : Key _ _) × IsReady g.F.Frozen.content k l.publisher × IsLensOf g.F.Frozen.content k l.lens × ((awaited_by l.publisher).upto ≡ l.round)
+invariant-loop-round g l = (k : Key) × IsReady k l.publisher × IsLensOf k l.lens × ((awaited_by l.publisher).upto ≡ l.round)

@@ -1,5 +1,5 @@
 use Rattle.std.proofs.Common.{sym, ◌∙◌, ap}
-use Rattle.tc_view.specs.Changes.{writes_of_change}
+use Rattle.tc_view.specs.Changes.{happened}
 use Rattle.tc_view.proofs.Adding.{adds_moves}
 use Rattle.tc_view.proofs.history.History.add.Goals as goal
 
@@ -12,5 +12,5 @@ compare_exchange-found-requires g c =
       sym (ap (λ w. w.book) h),
       pen.0 ∙ sym (ap (λ w. w.book) h),
       offer.0,
-      rw (ap (λ w. w.key) h, pen.1, offer.1, offer.3) (adds_moves c.args.self.now.seen.log (writes_of_change c.args.change.now) c.args.self.now.changes (sym c.args.self.now.counted)),
+      rw (ap (λ w. w.key) h, pen.1, offer.1, offer.3) (adds_moves c.args.self.now.seen.log (happened c.args.change.now) c.args.self.now.changes (sym c.args.self.now.counted)),
     )

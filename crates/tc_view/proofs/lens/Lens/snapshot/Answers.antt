@@ -12,7 +12,7 @@ keep-requires-clause-lens g c = λ κs le.
     let ok = rw c.in_ok-shares.was at some in (
       k,
       record { place = c.replace_with-looked.ensures.0 ∙ lens.place; kept = lens.kept },
-      subst (λ (x : Content _ _). IsViewOf g.F.Frozen.content k x) (sym c.in_ok-newer.ensures) ok,
+      subst (λ (x : Content _ _). IsViewOf k x) (sym c.in_ok-newer.ensures) ok,
     )
 
 pub returns-clause-lens : goal.returns-clause-lens

@@ -7,13 +7,13 @@ use Rattle.tc_view.proofs.RuleKept.{admits, forks, merges}
 use Rattle.tc_view.proofs.publisher.Publisher.lens.Goals as goal
 
 pub reader-requires : goal.reader-requires
-reader-requires g c = admits g.F.Frozen.content content_of
+reader-requires g c = admits content_of
 
 pub tell-requires : goal.tell-requires
-tell-requires g c = forks g.F.Frozen.content content_of _ _
+tell-requires g c = forks content_of _ _
 
 pub learn-requires-clause-rule : goal.learn-requires-clause-rule
-learn-requires-clause-rule g c = merges g.F.Frozen.content content_of _ _ _ _
+learn-requires-clause-rule g c = merges content_of _ _ _ _
 
 pub returns-clause-lens : goal.returns-clause-lens
 returns-clause-lens g c =
@@ -21,7 +21,7 @@ returns-clause-lens g c =
     c.in_ok-kept.ensures ∙ (c.in_ok-share.ensures ∙ ap content_of (c.published.ensures ∙ ap (λ p. p.value) c.tell.ensures.kept.0)) in (
       (λ k r. record {
         place = c.learn.ensures.1 ∙ (c.tell.ensures.given.1 ∙ r.open_to.place);
-        kept = subst (λ (x : Content _ _). IsViewOf g.F.Frozen.content k x) (sym kept) r.open_to.shown;
+        kept = subst (λ (x : Content _ _). IsViewOf k x) (sym kept) r.open_to.shown;
       }),
       kept,
     )
