@@ -1,4 +1,4 @@
-//! What the thread of a job comes to before the job's first call.
+//! What the thread of a job comes to: a point before the job's first call, and others behind it.
 
 use crate::pace::{Pace, Point};
 use std::alloc::Global;
@@ -9,13 +9,13 @@ use tc_bytes::Memory;
 /// What a job's thread needs beside the job, made before the job is.
 #[derive(Drop)]
 pub struct Beginning<P: Pace> {
-    pub(crate) start: Start<P>,
-    pub(crate) refusal: Refusal,
+    start: Start<P>,
+    refusal: Refusal,
 }
 
-/// A point, which a thread comes to if it was not refused.
+/// A point, which a thread comes to if it was not refused, and with it to others.
 #[derive(Drop)]
-pub(crate) struct Start<P: Pace> {
+pub struct Start<P: Pace> {
     pace: Arc<P>,
     point: Point,
     refused: Arc<AtomicBool>,
@@ -23,7 +23,7 @@ pub(crate) struct Start<P: Pace> {
 
 /// Tells a start that its thread was refused.
 #[derive(Drop)]
-pub(crate) struct Refusal {
+pub struct Refusal {
     refused: Arc<AtomicBool>,
 }
 
@@ -42,19 +42,31 @@ impl<P: Pace> Beginning<P> {
         };
         Ok(Beginning { start, refusal })
     }
+
+    /// What the thread is given, and what tells that it was refused.
+    pub fn split(self) -> (Start<P>, Refusal) {
+        let Beginning { start, refusal } = self;
+        (start, refusal)
+    }
 }
 
 impl<P: Pace> Start<P> {
     /// Comes to the point. Where the thread was refused nobody is there who could be held, and the point is passed over.
-    pub(crate) fn reach(&self) {
+    pub fn reach(&self) {
+        self.reach_next(self.point);
+    }
+
+    /// Comes to a point behind that, likewise.
+    pub fn reach_next(&self, point: Point) {
         if !self.refused.load(Ordering::SeqCst) {
-            self.pace.at(self.point);
+            self.pace.at(point);
         }
     }
 }
 
 impl Refusal {
-    pub(crate) fn tell(&self) {
+    /// Tells the start that nobody is there who comes to a point.
+    pub fn tell(&self) {
         self.refused.store(true, Ordering::SeqCst);
     }
 }

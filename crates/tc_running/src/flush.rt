@@ -66,7 +66,7 @@ impl<S: Store> RunningFlush<S> {
     {
         let of = Snapshot::of(&job);
         let ran = FlushRan(Snapshot::of(&job));
-        let Beginning { start, refusal } = beginning;
+        let (start, refusal) = beginning.split();
         let begun = thread::spawn_with(
             rt,
             ran,

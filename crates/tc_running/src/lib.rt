@@ -8,6 +8,7 @@ mod pace;
 mod running;
 mod underway;
 
-pub use beginning::Beginning;
+pub use beginning::{Beginning, Refusal, Start};
 pub use pace::{Free, Pace, Point};
 pub use running::Running;
+pub use underway::Underway;

@@ -65,7 +65,7 @@ impl<S: Store> RunningMerge<S> {
     {
         let of = Snapshot::of(&job);
         let ran = MergeRan(Snapshot::of(&job));
-        let Beginning { start, refusal } = beginning;
+        let (start, refusal) = beginning.split();
         let begun = thread::spawn_with(
             rt,
             ran,

@@ -7,6 +7,10 @@ pub enum Point {
     FlushStarted { partition: u32 },
     /// So has the thread of a merge.
     MergeStarted { partition: u32 },
+    /// The thread of a scan has begun, and took no snapshot yet.
+    ScanStarted,
+    /// It took a snapshot of each partition, and made no read yet.
+    ScanTaken,
     /// The reply to a command of the partition was made. They are counted from 0 over the run.
     Replied { partition: u32, number: u64 },
 }
