@@ -1,0 +1,3 @@
+pub mod NewestWrites
+pub mod NewestDocuments
+pub mod SnapshotPairs
