@@ -3,5 +3,7 @@
 
 mod newest;
 mod snapshot;
+#[cfg(test)]
+mod tests;
 
 pub use snapshot::rows;
