@@ -1,0 +1,8 @@
+pub mod StorableTables
+pub mod ShownParts
+pub mod ShownHistories
+pub mod Turns
+pub mod Remembered
+pub mod PassLaws
+pub mod ShownPairs
+pub mod UnitedRows

@@ -1,0 +1,12 @@
+use Rattle.std.proofs.Common.{◌≡◌, List, map, take}
+use Rattle.tc_command.specs.Commands.{ask_of}
+use Rattle.tc_plain_model.specs.Rows.{rows_over}
+use Rattle.tc_plain_model.specs.Writes.{Pairs}
+use Rattle.tc_shown.specs.Scans.{IsRead, ShowAll}
+use Rattle.tc_shown.proofs.Turns.{Turned}
+use Rattle.tc_shown.proofs.scan.rows_of_each.Given as goal
+
+abbrev pub invariant-loop-at : goal.invariant-loop-at
+invariant-loop-at g l =
+    Turned (IsRead g.F.Watch.Watch.counts) l.at l.fn.passes l.passes
+    × ((parts : List Pairs) → ShowAll g.F.Frozen.content l.fn.passes parts → l.found.items ≡ map (rows_over (ask_of l.ask)) (take l.at parts))
