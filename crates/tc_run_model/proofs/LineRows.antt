@@ -8,9 +8,8 @@ use Rattle.tc_plain_model.specs.Store.{empty}
 use Rattle.tc_plain_model.specs.Part.{Limits}
 use Rattle.tc_run_model.specs.World.{first_world}
 use Rattle.tc_run_model.specs.Replies.{replies_to}
-use Rattle.tc_run_model.specs.Built.{requests_for}
 use Rattle.tc_run_model.specs.Windows.{closed_windows, windows}
-use Rattle.tc_run_model.specs.Course.{each_line}
+use Rattle.tc_run_model.specs.Course.{each_line, requests_for}
 
 -- what one partition, in which nothing is stored, writes for an input
 abbrev output_of : Limits → List ℕ → List ℕ

@@ -1,5 +1,5 @@
 -- Laws of replies: requests in front of others, and requests among which is no collect.
-use Rattle.std.proofs.Common.{◌≡◌, List, [], ◌∷◌, ◌++◌, refl, ap, map}
+use Rattle.std.proofs.Common.{◌≡◌, List, [], ◌∷◌, ◌++◌, refl, ap}
 use Rattle.std.specs.List.{AllByRecursion}
 use Rattle.std.specs.Prelude.{Option, Some, None}
 use Rattle.std.proofs.lemmas.List.Sums.{fold-append}
@@ -9,7 +9,6 @@ use Rattle.tc_run_model.specs.World.{World, after, after_all}
 use Rattle.tc_run_model.specs.Replies.{reply_to, IsReply, AreReplies, replies_to}
 use Rattle.tc_run_model.specs.Kinds.{AreOfKinds}
 use Rattle.tc_run_model.specs.Known.{MayReply, known_after}
-use Rattle.tc_run_model.specs.Built.{if_built}
 
 pub after_all-append : (rs ss : List Request) (w : World) → after_all (rs ++ ss) w ≡ after_all ss (after_all rs w)
 after_all-append rs ss w = fold-append (λ v r. after r v) w rs ss
@@ -61,17 +60,6 @@ IsNoCollect (scan ask) = Unit {0}
 IsNoCollect collect = ⊥
 IsNoCollect (refused r) = Unit {0}
 
-only_reply : (r : Request) (w : World) (a : Reply) → IsNoCollect r → IsReply r w a → a ≡ reply_to r w
-only_reply (upsert n d) w a one is = is
-only_reply (delete n) w a one is = is
-only_reply (get n) w a one is = is
-only_reply (query ask) w a one is = is
-only_reply flush w a one is = is
-only_reply schema w a one is = is
-only_reply (scan ask) w a one is = is
-only_reply collect w a one is = absurd one
-only_reply (refused r) w a one is = is
-
 pub IsReply-reply_to : (r : Request) (w : World) → IsNoCollect r → IsReply r w (reply_to r w)
 IsReply-reply_to (upsert n d) w one = refl
 IsReply-reply_to (delete n) w one = refl
@@ -83,37 +71,7 @@ IsReply-reply_to (scan ask) w one = refl
 IsReply-reply_to collect w one = absurd one
 IsReply-reply_to (refused r) w one = refl
 
-both : (a b : Reply) (xs ys : List Reply) → a ≡ b → xs ≡ ys → a ∷ xs ≡ b ∷ ys
-both a b xs ys first rest = rw (first, rest) refl
-
--- without a collect the replies are one list
-pub AreReplies-only : (rs : List Request) (w : World) (xs : List Reply) → AllByRecursion IsNoCollect rs → AreReplies rs w xs → xs ≡ replies_to rs w
-AreReplies-only [] w [] none given = refl
-AreReplies-only [] w (a ∷ xs) none given = absurd given
-AreReplies-only (r ∷ rs) w [] none given = absurd given
-AreReplies-only (r ∷ rs) w (a ∷ xs) none given =
-    both a (reply_to r w) xs (replies_to rs (after r w)) (only_reply r w a none.0 given.0) (AreReplies-only rs (after r w) xs none.1 given.1)
-
+-- without a collect these may be replied
 pub AreReplies-replies_to : (rs : List Request) (w : World) → AllByRecursion IsNoCollect rs → AreReplies rs w (replies_to rs w)
 AreReplies-replies_to [] w none = tt
 AreReplies-replies_to (r ∷ rs) w none = (IsReply-reply_to r w none.0, AreReplies-replies_to rs (after r w) none.1)
-
--- a collect is not built
-built_is_no_collect : (r : Request) → IsNoCollect (if_built r)
-built_is_no_collect (upsert n d) = tt
-built_is_no_collect (delete n) = tt
-built_is_no_collect (get n) = tt
-built_is_no_collect (query ask) = tt
-built_is_no_collect flush = tt
-built_is_no_collect schema = tt
-built_is_no_collect (scan ask) = tt
-built_is_no_collect collect = tt
-built_is_no_collect (refused r) = tt
-
-none_collects : (rs : List Request) → AllByRecursion IsNoCollect (map if_built rs)
-none_collects [] = tt
-none_collects (r ∷ rs) = (built_is_no_collect r, none_collects rs)
-
--- so the replies of the program are one list
-pub built_replies : (rs : List Request) (w : World) (xs : List Reply) → AreReplies (map if_built rs) w xs → xs ≡ replies_to (map if_built rs) w
-built_replies rs w xs given = AreReplies-only (map if_built rs) w xs (none_collects rs) given

@@ -1,13 +1,12 @@
 -- How far a run comes: which windows were answered, at which it ended, and what the sink accepted. What is said of the
 -- disk is said of the same windows. The world in which a run begins is none where it is not known.
-use Rattle.std.specs.Prelude.{◌≡◌, ◌⊎◌, ℕ, ◌+◌, ◌<◌, List, [], ◌∷◌, ◌++◌, length, flat_map, take, Option, option_map}
+use Rattle.std.specs.Prelude.{◌≡◌, ◌⊎◌, ℕ, ◌+◌, ◌<◌, List, [], ◌∷◌, ◌++◌, length, flat_map, map, take, Option, option_map}
 use Rattle.std.specs.Io.KnownBytes.{Appends, Consumes, IsAtEnd}
-use Rattle.tc_model.specs.Request.{Request}
+use Rattle.tc_model.specs.Request.{Request, request_of}
 use Rattle.tc_model.specs.Reply.{Reply, reply_line}
 use Rattle.tc_run_model.specs.Windows.{BeginsWith, Window, windows, closed_windows, unless_empty, lines_in}
 use Rattle.tc_run_model.specs.World.{World, after_all}
 use Rattle.tc_run_model.specs.Known.{MayReply}
-use Rattle.tc_run_model.specs.Built.{requests_for}
 
 -- how a run ends
 pub data Ending : Type 0 where
@@ -28,6 +27,10 @@ abbrev pub max_input : ℕ
 max_input = 9223372036854775807
 
 -- ---- windows that were answered
+
+-- the requests that are answered for lines
+abbrev pub requests_for : List (List ℕ) → List Request
+requests_for lines = map request_of lines
 
 -- the requests of windows
 abbrev pub requests_in : List Window → List Request
