@@ -31,3 +31,4 @@ mod JobDevices
 pub mod FreshFiles
 mod PartDevices
 mod LogOut
+mod SweptFiles

@@ -12,3 +12,4 @@ pub mod JobHeads
 pub mod JobEnds
 pub mod FlushEnds
 pub mod MergeEnds
+pub mod Sweeps

@@ -24,6 +24,7 @@ impl<S: Store> Part<S> {
     pub fn close(self) -> Kit<S>
         requires no_flush { self.flushing ≡ false }
         requires no_merge { self.merging ≡ None }
+        requires reader { is_some self.reader ≡ true }
 
         ensures home { S.history result.store ≡ brought_home (log_name self.generation) (S.Device.history self.log.device) (option_map (λ moments. (log_name (self.generation - 1), moments)) (option_map (λ l. S.Device.history l.device) self.sealed_log)) (S.history self.store) }
 
@@ -71,18 +72,19 @@ fn kit_of<S: Store>(
     main: S::Watch,
     flusher: Option<S::Watch>,
     merger: Option<S::Watch>,
-    reader: S::Watch,
+    reader: Option<S::Watch>,
 ) -> Kit<S>
     requires flusher { is_some flusher ≡ true }
     requires merger { is_some merger ≡ true }
+    requires reader { is_some reader ≡ true }
     ensures store { result.store ≡ store }
     ensures main { result.main ≡ main }
     ensures flusher { Some result.flusher ≡ flusher }
     ensures merger { Some result.merger ≡ merger }
-    ensures reader { result.reader ≡ reader }
+    ensures reader { Some result.reader ≡ reader }
 {
-    match (flusher, merger) {
-        (Some(flusher), Some(merger)) => Kit {
+    match (flusher, merger, reader) {
+        (Some(flusher), Some(merger), Some(reader)) => Kit {
             store,
             main,
             flusher,

@@ -1,6 +1,8 @@
 //! What is staged is committed.
 
-ghost use Rattle.std.specs.Prelude.{◌≡◌, ◌≤◌, ◌+◌, ◌^◌, ◌↔◌, Ok, Some, true, false, [], length, OnOk, OnErr, IfErr, IsErrOf};
+ghost use Rattle.std.specs.Prelude.{◌≡◌, ◌≤◌, ◌+◌, ◌^◌, ◌↔◌, Some, true, false, [], length, All, OnOk, OnErr, IfErr, IfOk, IsErrOf};
+ghost use Rattle.std.specs.Result.{IsOk};
+ghost use Rattle.tc_log.specs.Writes.{IsWrite};
 ghost use Rattle.tc_store.specs.Counted.{IsCounted};
 ghost use Rattle.tc_plain_model.specs.Writes.{after_writes};
 ghost use Rattle.tc_part_model.specs.PartState.{told};
@@ -15,6 +17,8 @@ ghost use Rattle.tc_part.specs.Faults.{IsUndamaged};
 use crate::fault::PartFault;
 use crate::part::Part;
 use std::alloc::Global;
+use std::mem;
+use tc_log::Write;
 use tc_part_model::commits_are_kept;
 use tc_store::Store;
 
@@ -23,8 +27,8 @@ const MAX_WRITES: u64 = 0x7fff_ffff_ffff_ffff;
 
 impl<S: Store> Part<S> {
     /// Writes what is staged as one frame. With nothing staged it does nothing. `Spent` comes where there would be more
-    /// than 2^63 - 1 writes of this run; then nothing is written.
-    pub fn commit(&mut self, alloc: Global) -> Result<(), PartFault>
+    /// than 2^63 - 1 writes of this run; then nothing is written. Answers the writes of the frame.
+    pub fn commit(&mut self, alloc: Global) -> Result<Vec<Write>, PartFault>
         requires sound { self.old.failed ≡ false }
 
         // On Ok the part means what the frame makes of it.
@@ -32,7 +36,9 @@ impl<S: Store> Part<S> {
             → IsPart (told S.history S.Device.history S.Frozen.content self.new) (committed_part p) × (store_of (committed_part p) ≡ after_writes (store_of p) p.staged)) }
         ensures same { OnOk result (self.new ≡ record self.old { main = self.new.main; log = self.new.log; staged = self.new.staged; writes = self.old.writes + length self.old.staged }) }
         ensures cleared { OnOk result (self.new.staged ≡ []) }
-        ensures nothing { self.old.staged ≡ [] → (result ≡ Ok tt) × (self.new ≡ self.old) }
+        ensures nothing { self.old.staged ≡ [] → IsOk result × (self.new ≡ self.old) }
+        ensures frame { IfOk result (λ frame. frame.items ≡ self.old.staged) }
+        ensures stored { IfOk result (λ frame. All IsWrite frame.items) }
         ensures log_out { OnOk result (LogIsOut (told S.history S.Device.history S.Frozen.content self.old) → LogIsOut (told S.history S.Device.history S.Frozen.content self.new)) }
         ensures own { OnOk result (HasOwnFiles (told S.history S.Device.history S.Frozen.content self.old) → HasOwnFiles (told S.history S.Device.history S.Frozen.content self.new)) }
 
@@ -50,7 +56,7 @@ impl<S: Store> Part<S> {
     {
         commits_are_kept();
         if self.staged.as_slice().is_empty() {
-            return Ok(());
+            return Ok(Vec::new(alloc));
         }
         self.failed = true;
         let count = self.staged.len() as u64;
@@ -59,9 +65,9 @@ impl<S: Store> Part<S> {
         }
         let frame = self.log.reserve(alloc, &self.staged)?;
         self.log.append(frame, &mut self.main)?;
-        self.staged.clear();
+        let written = mem::replace(&mut self.staged, Vec::new(alloc));
         self.writes += count;
         self.failed = false;
-        Ok(())
+        Ok(written)
     }
 }

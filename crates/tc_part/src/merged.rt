@@ -30,21 +30,21 @@ ghost use Rattle.tc_part.specs.Closing.{HasFailedWhole};
 ghost use Rattle.tc_part.specs.Faults.{of_job, IfDamaged};
 ghost use Rattle.tc_part.specs.JobHeads.{merged_head as head_over};
 ghost use Rattle.tc_part.specs.MergeEnds.{run_out, merged_name, AreBetween, HasReplaced, HasRemovedRun, IsMergeDamage, IsMergeUnlisted, IsMergeRemoving};
-ghost use Rattle.tc_part.specs.Ready.{LiesIn};
+ghost use Rattle.tc_part.specs.Ready.{AreNamed, LiesIn};
 
 use crate::fault::PartFault;
 use crate::part::Part;
 use std::alloc::Global;
 use std::sync::Arc;
 use tc_component::Component;
-use tc_jobs::{JobFault, list_merge, merged_head, remove_unshared};
+use tc_jobs::{JobFault, list_merge, merged_head};
 use tc_list::Run;
 use tc_merge::{MergeFault, MergeOut};
 use tc_store::Store;
 
 impl<S: Store> Part<S> {
     /// Takes back what is left of a merge. Where its component is whole, that is listed in place of its run, whose files are
-    /// removed where nobody else has a share of them. A partition that has failed brings the device home, and does nothing
+    /// removed where nobody else has a share of them, and else by a later `sweep`. A partition that has failed brings the device home, and does nothing
     /// else. Makes the reads of a component that is loaded.
     pub fn finish_merge(&mut self, alloc: Global, out: MergeOut<S>) -> Result<(), PartFault>
         requires out { is_some self.old.merging ≡ true }
@@ -151,7 +151,7 @@ impl<S: Store> Part<S> {
             return Err(JobFault::from(cause).into());
         }
         let left = self.replace_run(alloc, device, run)?;
-        remove_unshared(&mut self.store, left, &mut self.main)?;
+        self.retire(alloc, left)?;
         Ok(())
     }
 
@@ -168,6 +168,7 @@ impl<S: Store> Part<S> {
         requires settled { IfTold (S.Device.history device) IsSettled }
         ensures listed { OnOk result (HasReplaced S.Frozen.content S.Frozen.name (S.Device.history device) run self.old self.new.list) }
         ensures replaced { IfOk result (λ left. map arc_value left.items ≡ in_run run self.old.list) }
+        ensures named { IfOk result (λ left. AreNamed (λ f. S.Frozen.name f) (map arc_value left.items)) }
         ensures same { OnOk result (self.new ≡ record self.old { store = self.new.store; main = self.new.main; list = self.new.list }) }
         ensures store { OnOk result (S.history self.new.store ≡ comes_home (merged_name run self.old) frozen_entry (S.Device.history device) (S.history self.old.store)) }
         ensures left { OnErr result (self.new ≡ record self.old { store = self.new.store; main = self.new.main }) }

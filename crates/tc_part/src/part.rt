@@ -4,6 +4,7 @@ ghost use Rattle.std.specs.Arc.{arc_value};
 ghost use Rattle.std.specs.Prelude.{◌≡◌, map, IfOk};
 
 use crate::limits::Limits;
+use crate::retired::Retired;
 use std::alloc::Global;
 use std::marker::Model;
 use std::sync::Arc;
@@ -29,7 +30,8 @@ pub struct Part<S: Store> {
     pub(crate) flusher: Option<S::Watch>,
     /// None while a merge is out, which has it.
     pub(crate) merger: Option<S::Watch>,
-    pub(crate) reader: S::Watch,
+    /// None while it is lent.
+    pub(crate) reader: Option<S::Watch>,
     pub(crate) list: ComponentList<S::Frozen>,
     pub(crate) sealed: Option<Arc<Sealed>>,
     pub(crate) sealed_log: Option<Log<S::Device>>,
@@ -46,13 +48,15 @@ pub struct Part<S: Store> {
     pub(crate) writes: u64,
     /// What the merge that is out merges.
     pub(crate) merging: Option<Run>,
+    /// Components that left the list while others shared them: their files are there still. Contracts do not see them.
+    pub(crate) retired: Retired<S::Frozen>,
     pub(crate) failed: bool,
 }
 
 impl<S: Store> Model for Part<S> {
     ghost use Rattle.std.specs.Arc.{arc_value};
     ghost use Rattle.std.specs.Coded.{codes};
-    ghost use Rattle.std.specs.Prelude.{Some, is_some, not, option_map};
+    ghost use Rattle.std.specs.Prelude.{is_some, not, option_map};
     ghost use Rattle.tc_list.specs.Runs.{neighbours};
     ghost use Rattle.tc_memory.specs.Table.{coded_table};
     ghost use Rattle.tc_schema_model.specs.CountedCode.{coded_counted};
@@ -72,7 +76,7 @@ impl<S: Store> Model for Part<S> {
       main = p.main;
       flusher = p.flusher;
       merger = p.merger;
-      reader = Some p.reader;
+      reader = p.reader;
       list = p.list;
       sealed = option_map arc_value p.sealed;
       sealed_log = p.sealed_log;
@@ -92,7 +96,8 @@ impl<S: Store> Model for Part<S> {
 }
 
 impl<S: Store> Part<S> {
-    ghost use Rattle.std.specs.Prelude.{◌≡◌, true, false, length, map, is_some, IfOk};
+    ghost use Rattle.std.specs.Prelude.{◌≡◌, [], true, false, length, map, is_some, option_map, IfOk};
+    ghost use Rattle.tc_merge.specs.Merging.{GrowNames};
     ghost use Rattle.tc_part.specs.Ready.{active_generation};
 
     /// Which partition it is.
@@ -130,6 +135,30 @@ impl<S: Store> Part<S> {
         ensures { result ≡ S.Device.size self.now.log.device }
     {
         self.log.len()
+    }
+
+    /// How many keys the active table has an entry of.
+    pub fn active_len(&self) -> usize
+        ensures { result ≡ length self.now.active }
+    {
+        self.active.len()
+    }
+
+    /// The listed components, the oldest first.
+    pub fn list(&self) -> &ComponentList<S::Frozen>
+        ensures all { result.now ≡ self.now.list }
+
+        // Over every store the names of each go on from those of the one before.
+        ensures names { GrowNames [] result.now }
+    {
+        &self.list
+    }
+
+    /// The table that is to be flushed, if there is one.
+    pub fn sealed(&self) -> Option<&Arc<Sealed>>
+        ensures { option_map (λ table. arc_value table.now) result ≡ self.now.sealed }
+    {
+        self.sealed.as_ref()
     }
 
     /// How many components are listed.

@@ -25,6 +25,7 @@ ghost use Rattle.tc_part.specs.Ready.{AreNamed};
 use crate::limits::Limits;
 use crate::part::Part;
 use crate::records::component_at;
+use crate::retired::Retired;
 use std::alloc::Global;
 use std::sync::Arc;
 use tc_bytes::Memory;
@@ -136,7 +137,7 @@ fn begun_with<S: Store>(alloc: Global, opened: Opened<S>, taken: Names) -> Part<
         main,
         flusher: Some(flusher),
         merger: Some(merger),
-        reader,
+        reader: Some(reader),
         list,
         sealed: None,
         sealed_log: None,
@@ -148,6 +149,7 @@ fn begun_with<S: Store>(alloc: Global, opened: Opened<S>, taken: Names) -> Part<
         live,
         writes: 0,
         merging: None,
+        retired: Retired::new(alloc),
         failed: false,
     }
 }

@@ -1,4 +1,4 @@
-use Rattle.std.proofs.Common.{◌≡◌, ◌∙◌, None, false, refl, sym, ap, subst}
+use Rattle.std.proofs.Common.{◌≡◌, ◌∙◌, None, false, is_some, refl, sym, ap, subst}
 use Rattle.tc_store.specs.declared.file_name.FileName.{FileName}
 use Rattle.tc_store.specs.Disk.{is_out}
 use Rattle.tc_store.specs.Moments.{IfTold}
@@ -58,3 +58,6 @@ returns-clause-failed_moments g c = λ p frame failed logs.
 pub returns-clause-brought_in : goal.returns-clause-brought_in
 returns-clause-brought_in g c = λ tells only.
     subst (λ disks. IfTold disks (λ disk. (name : FileName) → is_out (disk name) ≡ false)) (sym (returns-clause-home g c)) (closed_in (told g.S.Store.history g.S.Device.Device.history g.S.Frozen.Frozen.content c.args.self) c.requires.no_flush c.requires.no_merge tells only)
+
+pub kit_of-requires-clause-reader : goal.kit_of-requires-clause-reader
+kit_of-requires-clause-reader g c = λ κs lives. ap (λ s. is_some s.reader) c.self.view_is ∙ c.requires.reader

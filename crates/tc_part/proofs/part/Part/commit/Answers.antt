@@ -1,8 +1,11 @@
-use Rattle.std.proofs.Common.{◌≡◌, ◌∙◌, ◌-◌, false, [], sym, ap, refl, subst, arith}
+use Rattle.std.proofs.Common.{◌≡◌, ◌∙◌, ◌-◌, false, [], sym, ap, refl, subst, rules, arith}
 use Rattle.std.proofs.lemmas.Grind.{common_steps}
 use Rattle.std.proofs.lemmas.List.{nil_from_length}
+use Rattle.std.proofs.lemmas.List.Elements.{All-from_recursion}
+use Rattle.std.specs.Prelude.{All}
 use Rattle.tc_log.specs.Appending.{LogState}
 use Rattle.tc_log.specs.Frame.{with_closed_gate}
+use Rattle.tc_log.specs.Writes.{IsWrite}
 use Rattle.tc_part_model.specs.Calls.{Appends, HasAppended}
 use Rattle.tc_part_model.specs.PartState.{IsTold, told}
 use Rattle.tc_part_model.specs.Meaning.{IsPart}
@@ -68,7 +71,8 @@ returns-clause-committed g c =
       durable = rw (← c.reserve.ensures.same, ← c.deref.ensures.value, ← c.in_ok-frame.ensures.frame) c.in_ok-append.ensures.durable;
     } in
     let sound : c.self.inside.failed ≡ false = ap (λ s. s.failed) c.self.view_is ∙ c.requires.sound in
-    rw (← c.self.view_is) λ p is. (c.commits_are_kept.ensures.committed _ _ p is (rw (c.clear.ensures.items, sound) refl) appended, c.commits_are_kept.ensures.stored p)
+    let empty : c.replace-written.new.dest.items ≡ [] = search rules in
+    rw (← c.self.view_is) λ p is. (c.commits_are_kept.ensures.committed _ _ p is (rw (empty, sound) refl) appended, c.commits_are_kept.ensures.stored p)
 
 pub returns-clause-moments : goal.returns-clause-moments
 returns-clause-moments g c =
@@ -89,3 +93,7 @@ returns-clause-log_out g c =
     let log = g.S.Device.Device.history c.append.new.self.device in
     rw (← c.self.view_is)
     (log_grows t log (λ tells. appended_tells (g.S.Device.Device.size c.reserve.new.self.device - 1) (with_closed_gate c.in_ok-frame.frame) (g.S.Device.Device.history c.reserve.new.self.device) log c.in_ok-append.ensures.appended (subst (λ (l : LogState _). IsTold (g.S.Device.Device.history l.device)) (sym c.reserve.ensures.same) tells)))
+
+pub returns-clause-stored : goal.returns-clause-stored
+returns-clause-stored g c =
+    subst (All IsWrite) (sym (ap (λ v. v.items) c.replace-written.ensures.value)) (All-from_recursion IsWrite c.self.inside.staged.items c.self.invariant.frame.each)

@@ -2,9 +2,11 @@ use Rattle.std.proofs.Common.{◌≡◌, ◌∙◌, is_some, refl, sym, ap, subs
 use Rattle.tc_component.specs.Loading.{ComponentState}
 use Rattle.tc_component.specs.Spelling.{name_of}
 use Rattle.tc_list.specs.Intervals.{last_of}
+use Rattle.tc_flush.proofs.Outcomes.{if_ok}
 use Rattle.tc_part.specs.MergeEnds.{merged_name}
 use Rattle.tc_part.specs.Ready.{AreNamed, LiesIn}
 use Rattle.tc_part.proofs.ReplacedRun.{all_replaced, generation_like, last_replaced, listed_or_not, of_partition, run_gone}
+use Rattle.tc_part.proofs.SweptFiles.{run_named}
 use Rattle.tc_part.proofs.part.Part.replace_run.Goals as goal
 
 pub invariant_of-self : goal.invariant_of-self
@@ -37,3 +39,9 @@ invariant_of-self g c =
       sealed_both = c.self.invariant.sealed_both;
       flush = c.self.invariant.flush;
     }
+
+pub returns-clause-named : goal.returns-clause-named
+returns-clause-named g c =
+    let s = c.self.inside in
+    let name = g.S.Frozen.Frozen.name in
+    if_ok c.list_merge.result _ _ (λ left is. subst (AreNamed name) (sym is) (run_named name c.args.run s.list c.self.invariant.named)) c.list_merge.ensures.left
