@@ -19,7 +19,7 @@ use Rattle.tc_store.specs.declared.file_name.FileName.{FileName}
 use Rattle.tc_store.specs.Disk.{Disk}
 use Rattle.tc_store.specs.DiskFile.{DiskFile}
 use Rattle.tc_store.specs.StoreCalls.{fresh_file_at}
-use Rattle.tc_work.specs.JobsOut.{IsFlushOf, IsMergeOf, OutAs, flusher_of, merger_of, watched_part}
+use Rattle.tc_work.specs.JobsOut.{AreOut, IsFlushOf, IsMergeOf, OutAs, flusher_of, merger_of, watched_part}
 use Rattle.tc_work.specs.Moving.{Eyes, Working, beside, told_by, works_by, IsOutBy, IsPickedBy, KeepsJobs, ListsPicked, MovesWell}
 use Rattle.tc_work.specs.Settling.{HasOnlyMoved}
 use Rattle.tc_work.proofs.JobsGoOn.{made_still, told_still}
@@ -113,6 +113,26 @@ module _ {S D F W : Type 0} (disks : S → List Disk) (history : D → List Disk
         run_told = is.run_told;
       }
 
+-- whether the reader's watch is at home or out
+pub out_as_read : {S D F W : Type 0} (disks : S → List Disk) (history : D → List DiskFile) (content : F → Option (List ℕ)) (name_of : D → FileName) (old : PartState S D F W) (reader : Option W) (jobs : JobsState F D W)
+    → AreOut disks history content name_of old jobs → AreOut disks history content name_of (record old { reader = reader }) jobs
+out_as_read {S = S} {D = D} {F = F} {W = W} disks history content name_of old reader jobs out = record { flush = flushing old.flushing jobs.flush out.flush; merge = merging (is_some old.merging) jobs.merge out.merge }
+  where
+    new : PartState S D F W
+    new = record old { reader = reader }
+
+    flushing : (b : Bool) (o : Option (flush.JobState D W)) → OutAs b o (IsFlushOf disks history name_of old) → OutAs b o (IsFlushOf disks history name_of new)
+    flushing false None is = tt
+    flushing false (Some job) is = is
+    flushing true None is = is
+    flushing true (Some job) is = record { table = is.table; log = is.log; lawful = is.lawful; name = is.name; device = is.device }
+
+    merging : (b : Bool) (o : Option (merge.JobState F D W)) → OutAs b o (IsMergeOf disks history content name_of old) → OutAs b o (IsMergeOf disks history content name_of new)
+    merging false None is = tt
+    merging false (Some job) is = is
+    merging true None is = is
+    merging true (Some job) is = record { within = is.within; run = is.run; name = is.name; device = is.device; run_told = is.run_told }
+
 -- ---- one call
 
 -- nothing was done
@@ -126,10 +146,10 @@ keeps_same e w Failed out never = record {
   watched = record { main = omega arith; flusher = faults_same (option_map e.counts (watched_part w.part w.jobs).flusher); merger = faults_same (option_map e.counts (watched_part w.part w.jobs).merger); cause = λ failed. absurd (never failed) };
 }
 
--- a job was not begun, or no table sealed, and the part failed
-pub keeps_failed : {S D F W : Type 0} (e : Eyes S D F W) (old new : PartState S D F W) (jobs : JobsState F D W) (Failed First : Type 0) → IsOutBy e (beside old jobs) → new ≡ record old { store = new.store; main = new.main; failed = true } → (e.disks old.store ≡ [] → e.disks new.store ≡ [])
+-- no job was begun and no table sealed: nothing changed but the store, and whether the part failed
+pub keeps_unless_failed : {S D F W : Type 0} (e : Eyes S D F W) (old new : PartState S D F W) (jobs : JobsState F D W) (Failed First : Type 0) → IsOutBy e (beside old jobs) → new ≡ record old { store = new.store; main = new.main; failed = new.failed } → (e.disks old.store ≡ [] → e.disks new.store ≡ [])
     → (OnlyDevicesOut (told_by e (beside old jobs)) → OnlyDevicesOut (told_by e (beside new jobs))) → IsCounted First (e.counts old.main) (e.counts new.main) → (Failed → First) → KeepsJobs e Failed (beside old jobs) (beside new jobs)
-keeps_failed {S = S} {D = D} {F = F} {W = W} e old new jobs Failed First out same untold devices counted cause = record {
+keeps_unless_failed {S = S} {D = D} {F = F} {W = W} e old new jobs Failed First out same untold devices counted cause = record {
   jobs = record {
     flush = flush_out_still e.disks e.history e.content e.name_of old new untold jobs.flush
         (subst (λ (s : PartState S D F W). s ≡ record old { store = s.store; main = s.main; merger = s.merger; list = s.list; active = s.active; log = s.log; taken = s.taken; live = s.live; writes = s.writes; staged = s.staged; merging = s.merging; failed = s.failed }) (sym same) refl) out.flush;

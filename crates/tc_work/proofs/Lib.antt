@@ -35,5 +35,6 @@ mod InstalledMerges
 mod SealedTables
 mod HandedJobs
 mod MovingCalls
+mod SweptFiles
 mod GivenBack
 mod EndedParts

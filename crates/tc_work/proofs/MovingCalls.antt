@@ -22,7 +22,7 @@ use Rattle.tc_work.specs.Faults.{of_part, AreOfComponents, IfDamaged}
 use Rattle.tc_work.specs.Moving.{Eyes, Working, beside, told_by, works_by, IsOutBy, MayMove, Moves, MovesOver, MovesWell}
 use Rattle.tc_work.specs.Settling.{MomentsStay, MomentsStayOver, NextLogs, TellsFiles}
 use Rattle.tc_work.proofs.HandedFaults.{IsOf, disk_below, spent_below}
-use Rattle.tc_work.proofs.KeptJobs.{keeps_failed, keeps_same, keeps_then, well_then}
+use Rattle.tc_work.proofs.KeptJobs.{keeps_same, keeps_then, keeps_unless_failed, well_then}
 use Rattle.tc_work.proofs.OnResults.{on_err, on_err_only}
 use Rattle.tc_work.proofs.Settled.{failed_keeps}
 use Rattle.tc_work.proofs.StayingStores.{fails_as_it_was, fails_then, moments_before, moments_over, moments_then, moments_then_over, stays_as_it_was}
@@ -77,7 +77,7 @@ module _ {S D F W X : Type 0} (e : Eyes S D F W) (old new : PartState S D F W) (
       → IfErr r (λ f. IfDamaged f AreOfComponents) → ((p : PartView) → IsPart (told_by e (beside old jobs)) p → TellsFiles (told_by e (beside old jobs)) → IfErr r (λ f. IfDamaged f (λ damage. ⊥))) → (IsErrOf below part.Spent → ⊥)
       → Moves e r (beside old jobs) (beside new jobs)
   moves_failed out left untold devices counted fails moments damaged undamaged unspent = record {
-    keeps = keeps_failed e old new jobs _ _ out left untold devices counted (disk_below r below fault is was);
+    keeps = keeps_unless_failed e old new jobs _ _ out (subst (λ (s : PartState S D F W). s ≡ record old { store = s.store; main = s.main; failed = s.failed }) (sym left) refl) untold devices counted (disk_below r below fault is was);
     well = on_err_only r _ _ (err_of r fault is);
     failed = err_always r _ (λ p of tells works. failed_keeps (works_by e (beside old jobs)) (told_by e (beside old jobs)) (told_by e (beside new jobs)) p p of refl refl (fails p of) (ap (λ (s : PartState S D F W). s.generation) left) (ap (λ (s : PartState S D F W). (told_by e (beside s jobs)).sealed_log) left) works);
     moments = moments;

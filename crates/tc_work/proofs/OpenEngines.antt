@@ -1,5 +1,5 @@
 -- The part of an engine that has not failed is what contracts see of the engine.
-use Rattle.std.proofs.Common.{◌≡◌, ◌∙◌, ◌≤◌, ◌+◌, ℕ, Bool, true, false, List, ap, sym, subst, arith}
+use Rattle.std.proofs.Common.{◌≡◌, ◌∙◌, ◌≤◌, ◌+◌, ℕ, Bool, true, false, List, Option, ap, sym, subst, arith}
 use Rattle.std.specs.Prelude.{Result, Ok, Err}
 use Rattle.tc_component.specs.Loading.{ComponentState}
 use Rattle.tc_list.specs.Intervals.{last_of}
@@ -20,6 +20,11 @@ inside_is {S = S} {D = D} {F = F} {W = W} part failed seen is sound invariant =
 
 pub closed_sound : {S D F W : Type 0} (part : PartState S D F W) → part.failed ≡ false → part ≡ record part { failed = false }
 closed_sound part sound = ap (λ b. record part { failed = b }) sound
+
+-- it takes writes whether the reader's watch is at home or out
+pub awake_as_read : {S D F W : Type 0} {size : F → ℕ} {policy : Policy} (old new : PartState S D F W) (reader : Option W) → new ≡ record old { reader = reader } → IsAwake size policy old → IsAwake size policy new
+awake_as_read {S = S} {D = D} {F = F} {W = W} {size = size} {policy = policy} old new reader same awake =
+    subst (λ (s : PartState S D F W). IsAwake size policy s) (sym same) (record { sound = awake.sound; nothing_staged = awake.nothing_staged; flushing = awake.flushing; picked = awake.picked })
 
 -- a call of the part ended well, of an engine that has not failed then
 pub closed_well : {S D F W : Type 0} (e : Eyes S D F W) (inside seen new : PartState S D F W) (jobs now : JobsState F D W) → inside ≡ seen → MovesOver e (Ok tt) (beside inside jobs) (beside new now) → MovesOver e (Ok tt) (beside seen jobs) (beside (record new { failed = false }) now)

@@ -1,6 +1,6 @@
 -- What a window leaves of a part, by what its commands staged and what the commit made of that.
 use Rattle.std.proofs.Common.{◌≡◌, ◌∙◌, ◌≤◌, ◌+◌, ℕ, List, [], ◌∷◌, ◌++◌, Option, Some, map, length, true, false, refl, sym, ap, subst, arith}
-use Rattle.std.specs.Prelude.{◌^◌, Result, Ok, Err, OnErr}
+use Rattle.std.specs.Prelude.{◌^◌, All, Result, Ok, Err, OnErr}
 use Rattle.std.proofs.lemmas.List.{length-map, nil_from_length}
 use Rattle.tc_store.specs.Disk.{Disk}
 use Rattle.tc_store.specs.DiskFile.{DiskFile}
@@ -9,6 +9,7 @@ use Rattle.tc_store.proofs.MomentLemmas.{EachSince-none}
 use Rattle.tc_model.specs.Request.{Request}
 use Rattle.tc_log.specs.declared.write.Write as log
 use Rattle.tc_machine.specs.Logs.{kept_write}
+use Rattle.tc_machine.specs.Writes.{IsStorableWrite}
 use Rattle.tc_plain_model.specs.Part.{Limits, part_left_all, part_writes_all}
 use Rattle.tc_plain_model.specs.Writes.{Write, after_writes}
 use Rattle.tc_part_model.specs.Leaving.{LeavesStore, LogMomentsLeaveStore}
@@ -32,8 +33,14 @@ none_staged_in t p is none = none_mapped kept_write p.staged (sym none ∙ is.vi
 all_staged : (p : PartView) (ws : List Write) → p.staged ≡ [] → (staged_as ws p).staged ≡ ws
 all_staged p ws none = ap (λ (staged : List Write). staged ++ ws) none
 
+pub writes_staged : (t : Told) (p : PartView) (ws : List Write) → p.staged ≡ [] → IsPart t (staged_as ws p) → t.staged ≡ map kept_write ws
+writes_staged t p ws none is = is.view.staged ∙ ap (map kept_write) (all_staged p ws none)
+
+pub storable_staged : (t : Told) (p : PartView) (ws : List Write) → p.staged ≡ [] → IsPart t (staged_as ws p) → All IsStorableWrite ws
+storable_staged t p ws none is = subst (All IsStorableWrite) (all_staged p ws none) is.staged.each
+
 pub count_staged : (t : Told) (p : PartView) (ws : List Write) → p.staged ≡ [] → IsPart t (staged_as ws p) → length t.staged ≡ length ws
-count_staged t p ws none is = ap length is.view.staged ∙ length-map (staged_as ws p).staged kept_write ∙ ap length (all_staged p ws none)
+count_staged t p ws none is = ap length (writes_staged t p ws none is) ∙ length-map ws kept_write
 
 pub staged_again : {S D F W : Type 0} (first second third : PartState S D F W) → HasOnlyStaged first second → HasOnlyStaged second third → HasOnlyStaged first third
 staged_again {S = S} {D = D} {F = F} {W = W} first second third one two =

@@ -3,7 +3,8 @@
 use crate::progress::Progress;
 use std::marker::Model;
 use std::sync::Arc;
-use tc_list::Policy;
+use tc_list::{ComponentList, Policy};
+use tc_memory::Sealed;
 use tc_part::Part;
 use tc_running::Pace;
 use tc_store::Store;
@@ -35,7 +36,10 @@ impl<S: Store, P: Pace> Model for Engine<S, P> {
 }
 
 impl<S: Store, P: Pace> Engine<S, P> {
-    ghost use Rattle.std.specs.Prelude.{◌≡◌, [], None, false, is_some, length};
+    ghost use Rattle.std.specs.Arc.{arc_value};
+    ghost use Rattle.std.specs.Prelude.{◌≡◌, [], None, Some, true, false, is_some, length, option_map};
+    ghost use Rattle.tc_merge.specs.Merging.{GrowNames};
+    ghost use Rattle.tc_running.specs.Jobs.{JobsState};
     ghost use Rattle.tc_work.specs.JobsOut.{AreOut};
 
     /// The engine of a part, whose components are merged by this policy, and whose run comes to points of this pace. Starts nothing.
@@ -81,5 +85,48 @@ impl<S: Store, P: Pace> Engine<S, P> {
         ensures { result ≡ is_some self.now.part.sealed }
     {
         self.part.has_sealed()
+    }
+
+    /// How many keys the active table has an entry of.
+    pub fn active_len(&self) -> usize
+        ensures { result ≡ length self.now.part.active }
+    {
+        self.part.active_len()
+    }
+
+    /// The components that are listed, the oldest first.
+    pub fn list(&self) -> &ComponentList<S::Frozen>
+        ensures all { result.now ≡ self.now.part.list }
+
+        // Over every store the names of each go on from those of the one before.
+        ensures names { GrowNames [] result.now }
+    {
+        self.part.list()
+    }
+
+    /// The table that is to be flushed, where there is one.
+    pub fn sealed(&self) -> Option<&Arc<Sealed>>
+        ensures { option_map (λ table. arc_value table.now) result ≡ self.now.part.sealed }
+    {
+        self.part.sealed()
+    }
+
+    /// Lends the reader's watch to reads beside the engine, until it is taken back. The engine cannot be finished meanwhile.
+    pub fn lend_watch(&mut self) -> S::Watch
+        requires home { is_some self.old.part.reader ≡ true }
+        ensures lent { Some result ≡ self.old.part.reader }
+        ensures out { self.new ≡ record self.old { part = record self.old.part { reader = None } } }
+        ensures jobs { (jobs : JobsState S.Frozen S.Device S.Watch) → AreOut S.history S.Device.history S.Frozen.content S.Device.name self.old.part jobs → AreOut S.history S.Device.history S.Frozen.content S.Device.name self.new.part jobs }
+    {
+        self.part.lend_watch()
+    }
+
+    /// Takes the reader's watch back.
+    pub fn take_watch(&mut self, watch: S::Watch)
+        requires out { self.old.part.reader ≡ None }
+        ensures home { self.new ≡ record self.old { part = record self.old.part { reader = Some watch } } }
+        ensures jobs { (jobs : JobsState S.Frozen S.Device S.Watch) → AreOut S.history S.Device.history S.Frozen.content S.Device.name self.old.part jobs → AreOut S.history S.Device.history S.Frozen.content S.Device.name self.new.part jobs }
+    {
+        self.part.take_watch(watch)
     }
 }

@@ -55,6 +55,7 @@ impl<S: Store, P: Pace> Engine<S, P> {
         P: 'static,
         requires ready { self.part.failed ≡ false → MaySettle (told S.history S.Device.history S.Frozen.content self.part) }
         requires jobs { AreOut S.history S.Device.history S.Frozen.content S.Device.name self.part jobs }
+        requires reader { is_some self.part.reader ≡ true }
 
         // Where no file is out but those of the part's devices, none is out any more.
         ensures brought_in { TellsLogs (told S.history S.Device.history S.Frozen.content self.part) → OnlyDevicesOut (told S.history S.Device.history S.Frozen.content self.part) → IfTold (S.history result.kit.store) (λ disk. (name : FileName) → is_out (disk name) ≡ false) }
@@ -115,6 +116,7 @@ fn close_failed<S: Store, R: Threads>(
     jobs: Running<S>,
 ) -> Kit<S>
     requires jobs { IsOutBy (eyes S.history S.Device.history S.Frozen.content S.Device.name S.Frozen.size S.Watch.counts) (beside part jobs) }
+    requires reader { is_some part.reader ≡ true }
     ensures ends { (policy : Policy) → Finishes (eyes S.history S.Device.history S.Frozen.content S.Device.name S.Frozen.size S.Watch.counts) (λ d. S.Device.size d) policy (beside (record part { failed = true }) jobs) (Ok tt) result.store result.main result.flusher result.merger result.reader }
 {
     let mut part = part;
@@ -140,6 +142,7 @@ where
     requires may { MayMove (eyes S.history S.Device.history S.Frozen.content S.Device.name S.Frozen.size S.Watch.counts) (beside part jobs) }
     requires flushing { part.flushing ≡ is_some part.sealed }
     requires picked { IsPickedBy (eyes S.history S.Device.history S.Frozen.content S.Device.name S.Frozen.size S.Watch.counts) policy (beside part jobs) }
+    requires reader { is_some part.reader ≡ true }
     ensures ends { Finishes (eyes S.history S.Device.history S.Frozen.content S.Device.name S.Frozen.size S.Watch.counts) (λ d. S.Device.size d) policy (beside part jobs) result.outcome result.kit.store result.kit.main result.kit.flusher result.kit.merger result.kit.reader }
 {
     let mut part = part;

@@ -14,6 +14,7 @@ mod room;
 mod schema_text;
 mod settling;
 mod staging;
+mod sweeping;
 mod window;
 
 pub use engine::Engine;

@@ -18,6 +18,7 @@ use crate::emptying::{EMPTY_LOG, end_flush, seal_and_start};
 use crate::engine::Engine;
 use crate::fault::EngineFault;
 use crate::room::merge_on;
+use crate::sweeping::sweep;
 use std::alloc::Global;
 use std::sync::Arc;
 use std::thread::Threads;
@@ -27,9 +28,10 @@ use tc_running::{Pace, Running};
 use tc_store::Store;
 
 impl<S: Store, P: Pace> Engine<S, P> {
-    /// Where the log of the active table has a frame, and so many bytes or more as make a table be sealed, it waits for the flush
-    /// that is out, seals the table, and starts the next flush. It starts a merge where none is out and the policy picks one.
-    /// `Spent` comes only where the active log has the generation 2^63 - 1.
+    /// First the files go of components that were merged, and that others shared and share no more. Where the log of the active
+    /// table has a frame, and so many bytes or more as make a table be sealed, it waits for the flush that is out, seals the table,
+    /// and starts the next flush. It starts a merge where none is out and the policy picks one. `Spent` comes only where the active
+    /// log has the generation 2^63 - 1.
     pub fn settle<R: Threads>(
         &mut self,
         rt: &R,
@@ -106,8 +108,39 @@ impl<S: Store, P: Pace> Engine<S, P> {
     }
 }
 
-/// Empties the log of a part where that is due, and starts the merge that the policy picks.
+/// Removes files that nothing shares any more, empties the log of a part where that is due, and starts the merge that the policy
+/// picks.
 fn settle_part<S: Store + 'static, P: Pace + 'static, R: Threads>(
+    rt: &R,
+    alloc: Global,
+    part: &mut Part<S>,
+    jobs: &mut Running<S>,
+    policy: Policy,
+    pace: &Arc<P>,
+) -> Result<(), EngineFault>
+where
+    S::Device: 'static,
+    S::Frozen: 'static,
+    S::Watch: 'static,
+    requires may { MayMove (eyes S.history S.Device.history S.Frozen.content S.Device.name S.Frozen.size S.Watch.counts) (beside part.old jobs.old) }
+    requires nothing_staged { part.old.staged ≡ [] }
+    requires flushing { part.old.flushing ≡ is_some part.old.sealed }
+    requires picked { IsPickedBy (eyes S.history S.Device.history S.Frozen.content S.Device.name S.Frozen.size S.Watch.counts) policy (beside part.old jobs.old) }
+    ensures emptied { OnOk result (IsDue (λ d. S.Device.size d) part.old → (part.new.active ≡ []) × (S.Device.size part.new.log.device ≡ empty_size) × (part.new.generation ≡ part.old.generation + 1)) }
+    ensures undue { OnOk result ((IsDue (λ d. S.Device.size d) part.old → ⊥) → (part.new.active ≡ part.old.active) × (part.new.log ≡ part.old.log) × (part.new.generation ≡ part.old.generation) × (part.new.sealed ≡ part.old.sealed) × (jobs.new.flush ≡ jobs.old.flush)) }
+    ensures short { OnOk result (empty_size < part.old.memory → S.Device.size part.new.log.device < part.old.memory) }
+    ensures none { OnOk result (part.new.merging ≡ None → PicksNone policy part.new.list) }
+    ensures few { OnOk result ((length part.new.list ≤ 8) ⊎ PicksNone policy part.new.list) }
+    ensures flushing { OnOk result (part.new.flushing ≡ is_some part.new.sealed) }
+    ensures moves { MovesOver (eyes S.history S.Device.history S.Frozen.content S.Device.name S.Frozen.size S.Watch.counts) result (beside part.old jobs.old) (beside part.new jobs.new) }
+    ensures listed { OnOk result (ListsPicked (eyes S.history S.Device.history S.Frozen.content S.Device.name S.Frozen.size S.Watch.counts) policy (beside part.old jobs.old) (beside part.new jobs.new)) }
+{
+    sweep(alloc, part)?;
+    go_on(rt, alloc, part, jobs, policy, pace)
+}
+
+/// Empties the log of a part where that is due, and starts the merge that the policy picks.
+fn go_on<S: Store + 'static, P: Pace + 'static, R: Threads>(
     rt: &R,
     alloc: Global,
     part: &mut Part<S>,

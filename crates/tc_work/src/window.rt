@@ -1,8 +1,11 @@
 //! A window: what its commands write is made one frame.
 
-ghost use Rattle.std.specs.Prelude.{◌≡◌, ◌≤◌, ◌+◌, ◌^◌, [], false, true, length, map, IfErr, IfOk, OnErr, OnOk, IsErrOf};
+ghost use Rattle.std.specs.Prelude.{◌≡◌, ◌≤◌, ◌+◌, ◌^◌, [], false, true, length, map, All, IfErr, IfOk, OnErr, OnOk, IsErrOf};
 ghost use Rattle.tc_model.specs.Keyed.{values_in};
 ghost use Rattle.tc_run_model.specs.Kinds.{AreOfKinds};
+ghost use Rattle.tc_log.specs.Writes.{IsWrite};
+ghost use Rattle.tc_machine.specs.Logs.{kept_write};
+ghost use Rattle.tc_machine.specs.Writes.{IsStorableWrite};
 ghost use Rattle.tc_plain_model.specs.Part.{part_writes_all};
 ghost use Rattle.tc_part.specs.FilesOut.{LogIsOut, OnlyDevicesOut};
 ghost use Rattle.tc_part_model.specs.Leaving.{LogMomentsLeaveStore};
@@ -27,6 +30,7 @@ use crate::progress::Progress;
 use crate::staging::answer_all;
 use std::alloc::Global;
 use tc_component::components_are_contents;
+use tc_log::Write;
 use tc_part::Part;
 use tc_part_model::{commits_are_kept, failed_parts_keep_files};
 use tc_route::{Replies, Routed};
@@ -34,11 +38,16 @@ use tc_running::Pace;
 use tc_store::Store;
 
 impl<S: Store, P: Pace> Engine<S, P> {
-    /// Runs the commands of a window, and commits their writes as one frame: one reply a command, in order and with its place,
-    /// in which a get or a query sees the writes before it. A refused upsert is a reply, and no fault. At most one read is made
-    /// for a command with a key, and for a query one for each key that has a document then. `Spent` comes only where there would
-    /// be more than 2^63 - 1 writes of this run; then nothing is written.
-    pub fn window(&mut self, alloc: Global, list: &[Routed]) -> Result<Replies, EngineFault>
+    /// Runs the commands of a window, and commits their writes as one frame, which it hands out: one reply a command, in order
+    /// and with its place, in which a get or a query sees the writes before it. A refused upsert is a reply, and no fault. At most
+    /// one read is made for a command with a key, and for a query one for each key that has a document then. `Spent` comes only
+    /// where there would be more than 2^63 - 1 writes of this run; then nothing is written.
+    pub fn window(
+        &mut self,
+        alloc: Global,
+        list: &[Routed],
+        frame: &mut Vec<Write>,
+    ) -> Result<Replies, EngineFault>
         requires sound { self.old.part.failed ≡ false }
         requires window { IsWindow list.now }
 
@@ -58,6 +67,13 @@ impl<S: Store, P: Pace> Engine<S, P> {
         ensures ready { OnOk result (MaySettle (told S.history S.Device.history S.Frozen.content self.old.part) → MaySettle (told S.history S.Device.history S.Frozen.content self.new.part)) }
         ensures tells { OnOk result (TellsFiles (told S.history S.Device.history S.Frozen.content self.old.part) → TellsFiles (told S.history S.Device.history S.Frozen.content self.new.part)) }
         ensures policy { self.new.policy ≡ self.old.policy }
+
+        // The frame has the writes of the window, each as a log holds it. It is empty where none was made. Each may be stored.
+        ensures frame { OnOk result ((p : PartView) → IsPart (told S.history S.Device.history S.Frozen.content self.old.part) p → frame.new.items ≡ map kept_write (part_writes_all self.old.part.limits (requests_in list.now) (plain_of (told S.history S.Device.history S.Frozen.content self.old.part) p))) }
+        ensures storable { OnOk result ((p : PartView) → IsPart (told S.history S.Device.history S.Frozen.content self.old.part) p → All IsStorableWrite (part_writes_all self.old.part.limits (requests_in list.now) (plain_of (told S.history S.Device.history S.Frozen.content self.old.part) p))) }
+        ensures frame_stored { OnOk result (All IsWrite frame.new.items) }
+        ensures frame_counted { OnOk result (self.new.part.writes ≡ self.old.part.writes + length frame.new.items) }
+        ensures no_frame { OnErr result (frame.new ≡ frame.old) }
 
         // The jobs that are out stay those of the engine, behind a fault too.
         ensures jobs { (jobs : JobsState S.Frozen S.Device S.Watch) → AreOut S.history S.Device.history S.Frozen.content S.Device.name self.old.part jobs → AreOut S.history S.Device.history S.Frozen.content S.Device.name self.new.part jobs }
@@ -88,18 +104,19 @@ impl<S: Store, P: Pace> Engine<S, P> {
     {
         components_are_contents();
         self.failed = true;
-        let replies = run(alloc, &mut self.part, &mut self.progress, list)?;
+        let replies = run(alloc, &mut self.part, &mut self.progress, list, frame)?;
         self.failed = false;
         Ok(replies)
     }
 }
 
-/// Runs the commands of a window over its part. Where this errs the part may have failed or not.
+/// Runs the commands of a window over its part, and hands its frame out. Where this errs the part may have failed or not.
 fn run<S: Store, P: Pace>(
     alloc: Global,
     part: &mut Part<S>,
     progress: &mut Progress<P>,
     list: &[Routed],
+    frame: &mut Vec<Write>,
 ) -> Result<Replies, EngineFault>
     requires sound { part.old.failed ≡ false }
     requires nothing_staged { part.old.staged ≡ [] }
@@ -112,6 +129,11 @@ fn run<S: Store, P: Pace>(
     ensures same { OnOk result (part.new ≡ record part.old { main = part.new.main; active = part.new.active; log = part.new.log; taken = part.new.taken; live = part.new.live; writes = part.new.writes }) }
     ensures writes { OnOk result ((p : PartView) → IsPart (told S.history S.Device.history S.Frozen.content part.old) p → part.new.writes ≡ part.old.writes + length (part_writes_all part.old.limits (requests_in list.now) (plain_of (told S.history S.Device.history S.Frozen.content part.old) p))) }
     ensures few_writes { OnOk result (part.new.writes ≤ part.old.writes + most_writes (requests_in list.now)) }
+    ensures frame { OnOk result ((p : PartView) → IsPart (told S.history S.Device.history S.Frozen.content part.old) p → frame.new.items ≡ map kept_write (part_writes_all part.old.limits (requests_in list.now) (plain_of (told S.history S.Device.history S.Frozen.content part.old) p))) }
+    ensures storable { OnOk result ((p : PartView) → IsPart (told S.history S.Device.history S.Frozen.content part.old) p → All IsStorableWrite (part_writes_all part.old.limits (requests_in list.now) (plain_of (told S.history S.Device.history S.Frozen.content part.old) p))) }
+    ensures frame_stored { OnOk result (All IsWrite frame.new.items) }
+    ensures frame_counted { OnOk result (part.new.writes ≡ part.old.writes + length frame.new.items) }
+    ensures no_frame { OnErr result (frame.new ≡ frame.old) }
     ensures unwritten { OnOk result ((p : PartView) → IsPart (told S.history S.Device.history S.Frozen.content part.old) p → part_writes_all part.old.limits (requests_in list.now) (plain_of (told S.history S.Device.history S.Frozen.content part.old) p) ≡ [] → part.new.log ≡ part.old.log) }
     ensures looked_up { OnOk result (most_writes (requests_in list.now) ≡ 0 → part.new.log ≡ part.old.log) }
     ensures log_out { OnOk result (LogIsOut (told S.history S.Device.history S.Frozen.content part.old) → LogIsOut (told S.history S.Device.history S.Frozen.content part.new)) }
@@ -127,6 +149,6 @@ fn run<S: Store, P: Pace>(
     commits_are_kept();
     failed_parts_keep_files();
     let replies = answer_all(alloc, part, progress, list)?;
-    part.commit(alloc)?;
+    *frame = part.commit(alloc)?;
     Ok(replies)
 }

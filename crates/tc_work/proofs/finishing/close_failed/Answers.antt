@@ -1,4 +1,4 @@
-use Rattle.std.proofs.Common.{sym, ap, subst}
+use Rattle.std.proofs.Common.{◌∙◌, is_some, sym, ap, subst}
 use Rattle.std.specs.Prelude.{Ok}
 use Rattle.tc_part_model.specs.PartState.{PartState}
 use Rattle.tc_work.specs.Ending.{Finishes}
@@ -10,6 +10,9 @@ use Rattle.tc_work.proofs.finishing.close_failed.Goals as goal
 pub give_back-requires-clause-jobs : goal.give_back-requires-clause-jobs
 give_back-requires-clause-jobs g c κs within =
     subst (λ (s : PartState _ _ _ _). IsOutBy (eyes g.S.Store.history g.S.Device.Device.history g.S.Frozen.Frozen.content g.S.Device.Device.name g.S.Frozen.Frozen.size g.S.Watch.Watch.counts) (beside s c.args.jobs)) (sym c.fail.ensures) (out_given_up (eyes g.S.Store.history g.S.Device.Device.history g.S.Frozen.Frozen.content g.S.Device.Device.name g.S.Frozen.Frozen.size g.S.Watch.Watch.counts) (beside c.args.part c.args.jobs) c.requires.jobs)
+
+pub close-requires-clause-reader : goal.close-requires-clause-reader
+close-requires-clause-reader g c κs within = ap (λ (s : PartState _ _ _ _). is_some s.reader) c.give_back.ensures.given ∙ ap (λ (s : PartState _ _ _ _). is_some s.reader) c.fail.ensures ∙ c.requires.reader
 
 pub returns : goal.returns
 returns g c = record {

@@ -1,9 +1,12 @@
-use Rattle.std.proofs.Common.{ap}
+use Rattle.std.proofs.Common.{◌∙◌, is_some, ap}
 use Rattle.tc_flush.proofs.Outcomes.{ok_then}
 use Rattle.tc_part_model.specs.PartState.{PartState}
 use Rattle.tc_work.specs.Moving.{beside, eyes}
 use Rattle.tc_work.proofs.EndedParts.{IsClosed, sound_finishes}
 use Rattle.tc_work.proofs.finishing.finish_part.Goals as goal
+
+pub close-requires-clause-reader : goal.close-requires-clause-reader
+close-requires-clause-reader g c κs within = ap (λ (s : PartState _ _ _ _). is_some s.reader) c.end_jobs-outcome.ensures.moves.keeps.moved ∙ c.requires.reader
 
 pub returns : goal.returns
 returns g c =

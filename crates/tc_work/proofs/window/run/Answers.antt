@@ -1,4 +1,5 @@
-use Rattle.std.proofs.Common.{◌∙◌, ◌+◌, ap, subst, sym, refl, length, true, Some, arith}
+use Rattle.std.proofs.Common.{◌∙◌, ◌+◌, List, ap, subst, sym, refl, length, true, Some, arith}
+use Rattle.tc_log.specs.declared.write.Write.{Write}
 use Rattle.tc_part.specs.FilesOut.{LogIsOut}
 use Rattle.tc_part_model.specs.Leaving.{LogMomentsLeaveStore}
 use Rattle.tc_part_model.specs.Meaning.{plain_of, HasFailedAs}
@@ -10,7 +11,7 @@ use Rattle.tc_work.specs.Windowed.{staged_as}
 use Rattle.tc_work.proofs.HandedFaults.{not_harmed, disk_below, spent_below, same_fault, same_harm}
 use Rattle.tc_work.proofs.ReadCounts.{committed_counted, counted_weaker}
 use Rattle.tc_work.proofs.Failures.{failed_with, failed_without}
-use Rattle.tc_work.proofs.Windows.{none_staged_in, count_staged, is_windowed, no_moments, err_always, left_staged, left_uncommitted, kept_committed, log_stays, spent_of, few_written}
+use Rattle.tc_work.proofs.Windows.{none_staged_in, count_staged, is_windowed, no_moments, err_always, left_staged, left_uncommitted, kept_committed, log_stays, spent_of, few_written, storable_staged, writes_staged}
 use Rattle.tc_work.proofs.window.run.Goals as goal
 
 -- ---- the commands fail
@@ -47,45 +48,45 @@ returns-in_err-replies-clause-counted g c =
 
 -- ---- the commit fails
 
-pub returns-in_err-commit-clause-moments : goal.returns-in_err-commit-clause-moments
-returns-in_err-commit-clause-moments g c = λ p is.
+pub returns-in_err-frame-clause-moments : goal.returns-in_err-frame-clause-moments
+returns-in_err-frame-clause-moments g c = λ p is.
     subst (λ (t : Told). LogMomentsLeaveStore (staged_as (part_writes_all c.args.part.now.limits (requests_in c.args.list.now) (plain_of (told g.S.Store.history g.S.Device.Device.history g.S.Frozen.Frozen.content c.args.part.now) p)) p) t (g.S.Device.Device.history c.commit.new.self.log.device)) (ap (told g.S.Store.history g.S.Device.Device.history g.S.Frozen.Frozen.content) c.answer_all.ensures.same)
     (c.commit.ensures.moments (staged_as (part_writes_all c.args.part.now.limits (requests_in c.args.list.now) (plain_of (told g.S.Store.history g.S.Device.Device.history g.S.Frozen.Frozen.content c.args.part.now) p)) p) (c.in_ok-replies.ensures.staged p is).part)
 
-pub returns-in_err-commit-clause-failed : goal.returns-in_err-commit-clause-failed
-returns-in_err-commit-clause-failed g c =
-    err_always c.from_residual-in_err-commit.result _ (λ p jobs is works.
+pub returns-in_err-frame-clause-failed : goal.returns-in_err-frame-clause-failed
+returns-in_err-frame-clause-failed g c =
+    err_always c.from_residual-in_err-frame.result _ (λ p jobs is works.
     let old = told g.S.Store.history g.S.Device.Device.history g.S.Frozen.Frozen.content c.args.part.now in
     let mid = told g.S.Store.history g.S.Device.Device.history g.S.Frozen.Frozen.content c.answer_all.new.part in
     let new = told g.S.Store.history g.S.Device.Device.history g.S.Frozen.Frozen.content c.commit.new.self in
     let ws = part_writes_all c.args.part.now.limits (requests_in c.args.list.now) (plain_of old p) in
     let q = staged_as ws p in
     let staged = (c.in_ok-replies.ensures.staged p is).part in
-    let left = c.in_err-commit.ensures.left in
+    let left = c.in_err-frame.ensures.left in
     failed_with _ mid (record new { failed = true }) p ws (none_staged_in old p is c.requires.nothing_staged) staged
-    (subst (λ b. HasFailedAs (record new { failed = b }) q (Some q.staged)) (ap (λ (s : PartState _ _ _ _). s.failed) left) (c.in_err-commit.ensures.failed q staged))
+    (subst (λ b. HasFailedAs (record new { failed = b }) q (Some q.staged)) (ap (λ (s : PartState _ _ _ _). s.failed) left) (c.in_err-frame.ensures.failed q staged))
     (ap (λ (s : PartState _ _ _ _). s.generation) left) (ap (λ (s : PartState _ _ _ _). (told g.S.Store.history g.S.Device.Device.history g.S.Frozen.Frozen.content s).sealed_log) left) works)
 
-pub returns-in_err-commit-clause-left : goal.returns-in_err-commit-clause-left
-returns-in_err-commit-clause-left g c = err_always c.from_residual-in_err-commit.result _ (left_uncommitted c.args.part.now c.answer_all.new.part c.commit.new.self c.answer_all.ensures.same c.in_err-commit.ensures.left)
+pub returns-in_err-frame-clause-left : goal.returns-in_err-frame-clause-left
+returns-in_err-frame-clause-left g c = err_always c.from_residual-in_err-frame.result _ (left_uncommitted c.args.part.now c.answer_all.new.part c.commit.new.self c.answer_all.ensures.same c.in_err-frame.ensures.left)
 
-pub returns-in_err-commit-clause-harmed : goal.returns-in_err-commit-clause-harmed
-returns-in_err-commit-clause-harmed g c = not_harmed c.from_residual-in_err-commit.result c.in_err-commit.field-0.0 _ c.from_residual-in_err-commit.ensures.1 c.in_err-commit.ensures.undamaged
+pub returns-in_err-frame-clause-harmed : goal.returns-in_err-frame-clause-harmed
+returns-in_err-frame-clause-harmed g c = not_harmed c.from_residual-in_err-frame.result c.in_err-frame.field-0.0 _ c.from_residual-in_err-frame.ensures.1 c.in_err-frame.ensures.undamaged
 
-pub returns-in_err-commit-clause-spent : goal.returns-in_err-commit-clause-spent
-returns-in_err-commit-clause-spent g c = λ spent.
+pub returns-in_err-frame-clause-spent : goal.returns-in_err-frame-clause-spent
+returns-in_err-frame-clause-spent g c = λ spent.
     spent_of c.args.part.now.writes c.answer_all.new.part.writes (length c.answer_all.new.part.staged) (most_writes (requests_in c.args.list.now)) (ap (λ (s : PartState _ _ _ _). s.writes) c.answer_all.ensures.same) c.in_ok-replies.ensures.grown.few
-    (c.commit.ensures.spent.0 (spent_below c.from_residual-in_err-commit.result c.commit.result c.in_err-commit.field-0.0 c.from_residual-in_err-commit.ensures.1 c.in_err-commit.was spent))
+    (c.commit.ensures.spent.0 (spent_below c.from_residual-in_err-frame.result c.commit.result c.in_err-frame.field-0.0 c.from_residual-in_err-frame.ensures.1 c.in_err-frame.was spent))
 
-pub returns-in_err-commit-clause-unspent : goal.returns-in_err-commit-clause-unspent
-returns-in_err-commit-clause-unspent g c = λ spent.
-    c.commit.ensures.unspent (spent_below c.from_residual-in_err-commit.result c.commit.result c.in_err-commit.field-0.0 c.from_residual-in_err-commit.ensures.1 c.in_err-commit.was spent)
+pub returns-in_err-frame-clause-unspent : goal.returns-in_err-frame-clause-unspent
+returns-in_err-frame-clause-unspent g c = λ spent.
+    c.commit.ensures.unspent (spent_below c.from_residual-in_err-frame.result c.commit.result c.in_err-frame.field-0.0 c.from_residual-in_err-frame.ensures.1 c.in_err-frame.was spent)
     ∙ ap (λ (s : PartState _ _ _ _). s.log) c.answer_all.ensures.same
 
-pub returns-in_err-commit-clause-counted : goal.returns-in_err-commit-clause-counted
-returns-in_err-commit-clause-counted g c =
+pub returns-in_err-frame-clause-counted : goal.returns-in_err-frame-clause-counted
+returns-in_err-frame-clause-counted g c =
     committed_counted (most_reads (live_in c.args.part.now) (requests_in c.args.list.now)) _ _ _ (g.S.Watch.Watch.counts c.args.part.now.main) (g.S.Watch.Watch.counts c.answer_all.new.part.main) (g.S.Watch.Watch.counts c.commit.new.self.main) c.answer_all.ensures.counted c.commit.ensures.counted
-    (disk_below c.from_residual-in_err-commit.result c.commit.result c.in_err-commit.field-0.0 c.from_residual-in_err-commit.ensures.1 c.in_err-commit.was)
+    (disk_below c.from_residual-in_err-frame.result c.commit.result c.in_err-frame.field-0.0 c.from_residual-in_err-frame.ensures.1 c.in_err-frame.was)
 
 -- ---- the writes are committed
 
@@ -97,16 +98,16 @@ returns-clause-windowed g c = λ p is.
     let none = none_staged_in old p is c.requires.nothing_staged in
     let staged = c.in_ok-replies.ensures.staged p is in
     let q = staged_as (part_writes_all c.args.part.now.limits (requests_in c.args.list.now) (plain_of (told g.S.Store.history g.S.Device.Device.history g.S.Frozen.Frozen.content c.args.part.now) p)) p in
-    let committed = c.in_ok-commit.ensures.committed q staged.part in
+    let committed = c.in_ok-frame.ensures.committed q staged.part in
     is_windowed c.args.part.now.limits (requests_in c.args.list.now) old mid new p none staged committed.0 committed.1
-    (c.commits_are_kept.ensures.plain mid new q (ap (λ (s : PartState _ _ _ _). s.taken) c.in_ok-commit.ensures.same))
+    (c.commits_are_kept.ensures.plain mid new q (ap (λ (s : PartState _ _ _ _). s.taken) c.in_ok-frame.ensures.same))
 
 pub returns-clause-same : goal.returns-clause-same
-returns-clause-same g c = kept_committed c.args.part.now c.answer_all.new.part c.commit.new.self _ c.requires.nothing_staged c.in_ok-replies.ensures.sound c.requires.sound c.answer_all.ensures.same c.in_ok-commit.ensures.same c.in_ok-commit.ensures.cleared
+returns-clause-same g c = kept_committed c.args.part.now c.answer_all.new.part c.commit.new.self _ c.requires.nothing_staged c.in_ok-replies.ensures.sound c.requires.sound c.answer_all.ensures.same c.in_ok-frame.ensures.same c.in_ok-frame.ensures.cleared
 
 pub returns-clause-writes : goal.returns-clause-writes
 returns-clause-writes g c = λ p is.
-    ap (λ (s : PartState _ _ _ _). s.writes) c.in_ok-commit.ensures.same
+    ap (λ (s : PartState _ _ _ _). s.writes) c.in_ok-frame.ensures.same
     ∙ ap (λ n. n + length c.answer_all.new.part.staged) (ap (λ (s : PartState _ _ _ _). s.writes) c.answer_all.ensures.same)
     ∙ ap (λ n. c.args.part.now.writes + n) (count_staged (told g.S.Store.history g.S.Device.Device.history g.S.Frozen.Frozen.content c.answer_all.new.part) p (part_writes_all c.args.part.now.limits (requests_in c.args.list.now) (plain_of (told g.S.Store.history g.S.Device.Device.history g.S.Frozen.Frozen.content c.args.part.now) p)) (none_staged_in (told g.S.Store.history g.S.Device.Device.history g.S.Frozen.Frozen.content c.args.part.now) p is c.requires.nothing_staged) (c.in_ok-replies.ensures.staged p is).part)
 
@@ -120,7 +121,7 @@ returns-clause-counted g c =
     committed_counted (most_reads (live_in c.args.part.now) (requests_in c.args.list.now)) _ _ _ (g.S.Watch.Watch.counts c.args.part.now.main) (g.S.Watch.Watch.counts c.answer_all.new.part.main) (g.S.Watch.Watch.counts c.commit.new.self.main) c.answer_all.ensures.counted c.commit.ensures.counted (λ failed. absurd (cc))
 
 pub returns-clause-sound : goal.returns-clause-sound
-returns-clause-sound g c = ap (λ (s : PartState _ _ _ _). s.failed) c.in_ok-commit.ensures.same ∙ c.in_ok-replies.ensures.sound
+returns-clause-sound g c = ap (λ (s : PartState _ _ _ _). s.failed) c.in_ok-frame.ensures.same ∙ c.in_ok-replies.ensures.sound
 
 pub returns-clause-unwritten : goal.returns-clause-unwritten
 returns-clause-unwritten g c = λ p is none.
@@ -138,7 +139,29 @@ returns-clause-looked_up g c = λ none.
 pub returns-clause-few_writes : goal.returns-clause-few_writes
 returns-clause-few_writes g c =
     few_written c.args.part.now.writes c.answer_all.new.part.writes (length c.answer_all.new.part.staged) (most_writes (requests_in c.args.list.now)) c.commit.new.self.writes
-    (ap (λ (s : PartState _ _ _ _). s.writes) c.answer_all.ensures.same) c.in_ok-replies.ensures.grown.few (ap (λ (s : PartState _ _ _ _). s.writes) c.in_ok-commit.ensures.same)
+    (ap (λ (s : PartState _ _ _ _). s.writes) c.answer_all.ensures.same) c.in_ok-replies.ensures.grown.few (ap (λ (s : PartState _ _ _ _). s.writes) c.in_ok-frame.ensures.same)
 
 pub returns-clause-log_out : goal.returns-clause-log_out
-returns-clause-log_out g c = λ is. c.in_ok-commit.ensures.log_out (subst (λ (s : PartState _ _ _ _). LogIsOut (told g.S.Store.history g.S.Device.Device.history g.S.Frozen.Frozen.content s)) (sym c.answer_all.ensures.same) is)
+returns-clause-log_out g c = λ is. c.in_ok-frame.ensures.log_out (subst (λ (s : PartState _ _ _ _). LogIsOut (told g.S.Store.history g.S.Device.Device.history g.S.Frozen.Frozen.content s)) (sym c.answer_all.ensures.same) is)
+
+-- ---- the frame
+
+pub returns-clause-frame : goal.returns-clause-frame
+returns-clause-frame g c = λ p is.
+    let old = told g.S.Store.history g.S.Device.Device.history g.S.Frozen.Frozen.content c.args.part.now in
+    let mid = told g.S.Store.history g.S.Device.Device.history g.S.Frozen.Frozen.content c.answer_all.new.part in
+    let ws = part_writes_all c.args.part.now.limits (requests_in c.args.list.now) (plain_of old p) in
+    c.in_ok-frame.ensures.frame ∙ writes_staged mid p ws (none_staged_in old p is c.requires.nothing_staged) (c.in_ok-replies.ensures.staged p is).part
+
+pub returns-clause-storable : goal.returns-clause-storable
+returns-clause-storable g c = λ p is.
+    let old = told g.S.Store.history g.S.Device.Device.history g.S.Frozen.Frozen.content c.args.part.now in
+    let mid = told g.S.Store.history g.S.Device.Device.history g.S.Frozen.Frozen.content c.answer_all.new.part in
+    let ws = part_writes_all c.args.part.now.limits (requests_in c.args.list.now) (plain_of old p) in
+    storable_staged mid p ws (none_staged_in old p is c.requires.nothing_staged) (c.in_ok-replies.ensures.staged p is).part
+
+pub returns-clause-frame_counted : goal.returns-clause-frame_counted
+returns-clause-frame_counted g c =
+    ap (λ (s : PartState _ _ _ _). s.writes) c.in_ok-frame.ensures.same
+    ∙ ap (λ n. n + length c.answer_all.new.part.staged) (ap (λ (s : PartState _ _ _ _). s.writes) c.answer_all.ensures.same)
+    ∙ ap (λ (ws : List Write). c.args.part.now.writes + length ws) (sym c.in_ok-frame.ensures.frame)

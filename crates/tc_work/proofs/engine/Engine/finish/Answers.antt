@@ -1,4 +1,4 @@
-use Rattle.std.proofs.Common.{◌≡◌, ◌∙◌, true, ap, sym, subst}
+use Rattle.std.proofs.Common.{◌≡◌, ◌∙◌, true, is_some, ap, sym, subst}
 use Rattle.std.specs.Prelude.{Ok}
 use Rattle.tc_list.specs.declared.policy.Policy.{Policy}
 use Rattle.tc_part_model.specs.PartState.{PartState, told}
@@ -16,6 +16,9 @@ use Rattle.tc_work.proofs.engine.Engine.finish.Goals as goal
 pub close_failed-requires-clause-jobs : goal.close_failed-requires-clause-jobs
 close_failed-requires-clause-jobs g c κs within =
     out_inside (eyes g.S.Store.history g.S.Device.Device.history g.S.Frozen.Frozen.content g.S.Device.Device.name g.S.Frozen.Frozen.size g.S.Watch.Watch.counts) c.self.inside.part c.self.inside.failed c.args.jobs (subst (λ (s : PartState _ _ _ _). IsOutBy (eyes g.S.Store.history g.S.Device.Device.history g.S.Frozen.Frozen.content g.S.Device.Device.name g.S.Frozen.Frozen.size g.S.Watch.Watch.counts) (beside s c.args.jobs)) (sym (ap (λ (x : EngineState _ _ _ _). x.part) c.self.view_is)) c.requires.jobs)
+
+pub close_failed-requires-clause-reader : goal.close_failed-requires-clause-reader
+close_failed-requires-clause-reader g c κs within = ap (λ (x : EngineState _ _ _ _). is_some x.part.reader) c.self.view_is ∙ c.requires.reader
 
 failed_ended : (g : Over) (c : goal.After-drop-progress g) → Finishes (eyes g.S.Store.history g.S.Device.Device.history g.S.Frozen.Frozen.content g.S.Device.Device.name g.S.Frozen.Frozen.size g.S.Watch.Watch.counts) g.S.Device.Device.size c.args.self.policy (beside c.args.self.part c.args.jobs) (Ok tt) c.close_failed.result.store c.close_failed.result.main c.close_failed.result.flusher c.close_failed.result.merger c.close_failed.result.reader
 failed_ended g c =
@@ -75,6 +78,9 @@ finish_part-requires-clause-flushing g c κs within = (c.self.invariant c.if-fai
 
 pub finish_part-requires-clause-picked : goal.finish_part-requires-clause-picked
 finish_part-requires-clause-picked g c κs within = (c.self.invariant c.if-failed.false).picked
+
+pub finish_part-requires-clause-reader : goal.finish_part-requires-clause-reader
+finish_part-requires-clause-reader g c κs within = ap (λ (x : EngineState _ _ _ _). is_some x.part.reader) c.self.view_is ∙ c.requires.reader
 
 sound_ended : (g : Over) (c : goal.After-drop-progress-2 g) → Finishes (eyes g.S.Store.history g.S.Device.Device.history g.S.Frozen.Frozen.content g.S.Device.Device.name g.S.Frozen.Frozen.size g.S.Watch.Watch.counts) g.S.Device.Device.size c.args.self.policy (beside c.args.self.part c.args.jobs) c.finish_part.result.outcome c.finish_part.result.kit.store c.finish_part.result.kit.main c.finish_part.result.kit.flusher c.finish_part.result.kit.merger c.finish_part.result.kit.reader
 sound_ended g c =

@@ -1,6 +1,8 @@
-use Rattle.std.proofs.Common.{◌≡◌, ◌∙◌, ◌≤◌, ◌+◌, ◌^◌, [], ap, map, refl, subst, sym, length, true, false}
+use Rattle.std.proofs.Common.{◌≡◌, ◌∙◌, ◌≤◌, ◌+◌, ◌^◌, [], All, ap, map, refl, subst, sym, length, true, false}
 use Rattle.tc_part.specs.Harms.{IsHarmIn}
 use Rattle.tc_log.specs.Appending.{LogState}
+use Rattle.tc_machine.specs.Logs.{kept_write}
+use Rattle.tc_machine.specs.Writes.{IsStorableWrite}
 use Rattle.tc_part_model.specs.Leaving.{LogMomentsLeaveStore}
 use Rattle.tc_part_model.specs.Meaning.{IsPart, plain_of}
 use Rattle.tc_part_model.specs.PartState.{PartState, told, AreTold}
@@ -60,6 +62,23 @@ returns-clause-same g c = sym (closed_sound c.run.new.part c.in_ok-replies.ensur
 
 pub returns-clause-counted : goal.returns-clause-counted
 returns-clause-counted g c = counted_inside g.S.Watch.Watch.counts (requests_in c.args.list.now) _ _ c.self.inside.part c.args.self.now.part c.run.new.part (inside_is c.self.inside.part c.self.inside.failed c.args.self.now.part (ap (λ (e : EngineState _ _ _ _). e.part) c.self.view_is) c.requires.sound c.self.invariant) c.run.ensures.counted (λ failed. absurd (cc))
+
+-- ---- the frame
+
+pub returns-clause-frame : goal.returns-clause-frame
+returns-clause-frame g c =
+    subst (λ (s : PartState _ _ _ _). (p : PartView) → IsPart (told g.S.Store.history g.S.Device.Device.history g.S.Frozen.Frozen.content s) p → c.run.new.frame.items ≡ map kept_write (part_writes_all s.limits (requests_in c.args.list.now) (plain_of (told g.S.Store.history g.S.Device.Device.history g.S.Frozen.Frozen.content s) p))) (inside_is c.self.inside.part c.self.inside.failed c.args.self.now.part (ap (λ (e : EngineState _ _ _ _). e.part) c.self.view_is) c.requires.sound c.self.invariant)
+    (c.in_ok-replies.ensures.frame)
+
+pub returns-clause-storable : goal.returns-clause-storable
+returns-clause-storable g c =
+    subst (λ (s : PartState _ _ _ _). (p : PartView) → IsPart (told g.S.Store.history g.S.Device.Device.history g.S.Frozen.Frozen.content s) p → All IsStorableWrite (part_writes_all s.limits (requests_in c.args.list.now) (plain_of (told g.S.Store.history g.S.Device.Device.history g.S.Frozen.Frozen.content s) p))) (inside_is c.self.inside.part c.self.inside.failed c.args.self.now.part (ap (λ (e : EngineState _ _ _ _). e.part) c.self.view_is) c.requires.sound c.self.invariant)
+    (c.in_ok-replies.ensures.storable)
+
+pub returns-clause-frame_counted : goal.returns-clause-frame_counted
+returns-clause-frame_counted g c =
+    subst (λ (s : PartState _ _ _ _). c.run.new.part.writes ≡ s.writes + length c.run.new.frame.items) (inside_is c.self.inside.part c.self.inside.failed c.args.self.now.part (ap (λ (e : EngineState _ _ _ _). e.part) c.self.view_is) c.requires.sound c.self.invariant)
+    (c.in_ok-replies.ensures.frame_counted)
 
 -- ---- it fails
 
