@@ -11,7 +11,9 @@ mod NothingRun
 mod AnswersTaken
 mod SharesRun
 mod EngineRan
+mod FramesTaken
 mod WindowEnds
+mod WatchesLent
 mod CallsInTurn
 mod EnginesMoved
 mod EnginesSettled

@@ -3,6 +3,7 @@ use Rattle.std.proofs.Common.{◌≡◌, ◌∙◌, ℕ, zero, suc, ◌+◌, ◌
 use Rattle.std.specs.Prelude.{◌==◌, ◌%◌, All, cond, slice_get, unwrap_or}
 use Rattle.std.proofs.lemmas.Bool.{true≢false}
 use Rattle.std.proofs.lemmas.Bool.Decides.{nat_tests}
+use Rattle.std.proofs.lemmas.List.{append_assoc, append-nil}
 use Rattle.std.proofs.lemmas.List.Elements.{All-head, All-tail}
 use Rattle.tc_model.specs.Keyed.{Keyed, values_in}
 use Rattle.tc_model.specs.Request.{Request, upsert, delete, get, query, flush, schema, scan, collect, refused}
@@ -15,9 +16,11 @@ use Rattle.tc_route.specs.Shares.{is_for, share}
 use Rattle.tc_engines.specs.Places.{AtEach}
 use Rattle.tc_engines.proofs.PlaceLaws.{at_each-join, at_each-same, at_each-so, at_each-turned}
 
--- a part behind its share: what it stores, and that it wrote nothing where all was flushed
+-- a part behind its share: what it stores, what it has written, and that it wrote nothing where all was flushed
 pub record IsLeft (limits : Limits) (flushed : Bool) (rs : List Request) (old new : Part) : Type 0 where
+  pub opened : new.opened ≡ old.opened
   pub stores : new.now ≡ part_left_all limits rs old.now
+  pub writes : new.writes ≡ old.writes ++ part_writes_all limits rs old.now
   pub unwritten : flushed ≡ true → part_writes_all limits rs old.now ≡ []
 
 -- a world behind a window
@@ -59,6 +62,10 @@ changed_each f home p (suc k) (part ∷ parts) at =
 step_left : (limits : Limits) (flushed here : Bool) (home : Store) (r : ℕ × Request) (rs : Keyed Request) (old mid new : Part) → (flushed ≡ true → part_writes limits r.1 home ≡ [])
     → IsChanged (part_after limits r.1) here home old mid → IsLeft limits flushed (values_in rs) mid new → IsLeft limits flushed (values_in (cond here (r ∷ rs) rs)) old new
 step_left limits flushed true home r rs old mid new nothing changed left = record {
+  opened = left.opened ∙ ap (λ (part : Part). part.opened) changed.is;
+  writes =
+      left.writes ∙ ap (λ (part : Part). part.writes ++ part_writes_all limits (values_in rs) part.now) changed.is
+      ∙ append_assoc old.writes (part_writes limits r.1 old.now) (part_writes_all limits (values_in rs) (part_left limits r.1 old.now));
   stores = left.stores ∙ ap (λ (part : Part). part_left_all limits (values_in rs) part.now) changed.is;
   unwritten = λ is.
       let first : part_writes limits r.1 old.now ≡ [] = sym (ap (part_writes limits r.1) (changed.at_home refl)) ∙ nothing is in
@@ -66,6 +73,8 @@ step_left limits flushed true home r rs old mid new nothing changed left = recor
       ∙ sym (ap (λ (part : Part). part_writes_all limits (values_in rs) part.now) changed.is) ∙ left.unwritten is;
 }
 step_left limits flushed false home r rs old mid new nothing changed left = record {
+  opened = left.opened ∙ ap (λ (part : Part). part.opened) changed.is;
+  writes = left.writes ∙ ap (λ (part : Part). part.writes ++ part_writes_all limits (values_in rs) part.now) changed.is;
   stores = left.stores ∙ ap (λ (part : Part). part_left_all limits (values_in rs) part.now) changed.is;
   unwritten = λ is. sym (ap (λ (part : Part). part_writes_all limits (values_in rs) part.now) changed.is) ∙ left.unwritten is;
 }
@@ -101,11 +110,16 @@ home_left count n r rs w v many one left = record {
 same_left : (limits : Limits) (flushed here : Bool) (r : ℕ × Request) (rs : Keyed Request) (old new : Part) → ((s : Store) → part_left limits r.1 s ≡ s) → ((s : Store) → part_writes limits r.1 s ≡ [])
     → IsLeft limits flushed (values_in rs) old new → IsLeft limits flushed (values_in (cond here (r ∷ rs) rs)) old new
 same_left limits flushed true r rs old new same nothing left = record {
+  opened = left.opened;
   stores = left.stores ∙ sym (ap (part_left_all limits (values_in rs)) (same old.now));
-  unwritten = λ is.
-      ap (λ ws. ws ++ part_writes_all limits (values_in rs) (part_left limits r.1 old.now)) (nothing old.now)
-      ∙ ap (part_writes_all limits (values_in rs)) (same old.now) ∙ left.unwritten is;
+  writes = left.writes ∙ sym (ap (λ ws. old.writes ++ ws) no_more);
+  unwritten = λ is. no_more ∙ left.unwritten is;
 }
+  where
+    no_more : part_writes limits r.1 old.now ++ part_writes_all limits (values_in rs) (part_left limits r.1 old.now) ≡ part_writes_all limits (values_in rs) old.now
+    no_more =
+        ap (λ ws. ws ++ part_writes_all limits (values_in rs) (part_left limits r.1 old.now)) (nothing old.now)
+        ∙ ap (part_writes_all limits (values_in rs)) (same old.now)
 same_left limits flushed false r rs old new same nothing left = left
 
 still_left : (count : ℕ) (r : ℕ × Request) (rs : Keyed Request) (w v : World) → ((s : Store) → part_left w.limits r.1 s ≡ s) → ((s : Store) → part_writes w.limits r.1 s ≡ []) → AreLeft count rs w v → AreLeft count (r ∷ rs) w v
@@ -121,7 +135,7 @@ pub shares_left : (count : ℕ) (rs : Keyed Request) (w : World) → length w.pa
 shares_left count [] w many parts = record {
   limits = refl;
   many = refl;
-  each = at_each-same (λ p old new. IsLeft w.limits w.flushed [] old new) 0 w.parts (λ p part. record { stores = refl; unwritten = λ is. refl });
+  each = at_each-same (λ p old new. IsLeft w.limits w.flushed [] old new) 0 w.parts (λ p part. record { opened = refl; stores = refl; writes = sym (append-nil part.writes); unwritten = λ is. refl });
   flushed = λ is. is;
 }
 shares_left count ((at, upsert n d) ∷ rs) w many parts =

@@ -1,6 +1,6 @@
 -- What is said of all engines behind a window whose shares they ran, whether their answers were put together or not.
 use Rattle.std.proofs.Common.{◌≡◌, ◌∙◌, ◌<◌, ℕ, suc, false, List, [], ◌∷◌, length, map, arith, refl, ap, sym, subst}
-use Rattle.std.specs.Prelude.{All, None, Option, Result, Ok, Err, IfErr, IsErrAnd, OnErr}
+use Rattle.std.specs.Prelude.{zip, All, None, Option, Result, Ok, Err, IfErr, IsErrAnd, OnErr, OnOk}
 use Rattle.std.proofs.lemmas.List.{length-map}
 use Rattle.std.specs.Vec.{with_items}
 use Rattle.std.specs.declared.alloc.Global.{Global}
@@ -27,13 +27,15 @@ use Rattle.tc_work.specs.Settling.{MaySettle}
 use Rattle.tc_work.specs.declared.fault.EngineFault.{EngineFault}
 use Rattle.tc_engines.specs.Faults.{IfOf, IsDiskOf, IsFirstFault, StopsFirst}
 use Rattle.tc_engines.specs.Places.{AtEach}
-use Rattle.tc_engines.specs.Running.{HasOnlyRun, HasRun, RanMoments}
+use Rattle.tc_engines.specs.Running.{HasFramed, HasOnlyRun, HasRun, RanMoments}
 use Rattle.tc_engines.specs.Standing.{HoldWorld, KeepWorlds}
 use Rattle.tc_engines.specs.WithJobs.{engine_with, told_of, told_part, with_jobs, AreStaffed, IsStaffed, WithJobs}
 use Rattle.tc_engines.specs.declared.fault.EnginesFault.{EnginesFault}
 use Rattle.tc_engines.specs.declared.fault.EnginesFault.TheVariants.{Of, Memory}
 use Rattle.tc_engines.specs.declared.seat.Seat.{Seat}
+use Rattle.tc_log.specs.declared.write.Write.{Write}
 use Rattle.tc_engines.proofs.EnginesRun.{all_sound, counted_first, if_given, if_run, stops_first}
+use Rattle.tc_engines.proofs.FramesTaken.{shares_framed}
 use Rattle.tc_engines.proofs.JobsBeside.{staffed-many, with_jobs-length}
 use Rattle.tc_engines.proofs.KindsGiven.{window_answers}
 use Rattle.tc_engines.proofs.PlaceLaws.{at_each-join, at_each-length, at_each-read, at_each-so, refilled}
@@ -140,6 +142,25 @@ module _ {S P D F W : Type 0} (eyes : Eyes S D F W) (lists : List (Vec Routed Gl
       (ended eyes (λ (s : Seat S P W D F). s.engine) (λ (s : Seat S P W D F). s.answer) lists (map routed_of commands) parts jobs room.items mids (map (λ (s : Seat S P W D F). s.engine) (with_items (with_items room mids) news).items)
       (sym room.ok.0 ∙ sym many) (sym (length-map room.items (λ (s : Seat S P W D F). s.engine)) ∙ staffed-many eyes (map (λ (s : Seat S P W D F). s.engine) room.items) jobs seats.staffed)
       (λ p below. ap (requests_at p) same ∙ each p below) from_room engines_left))
+
+  -- the frames are those of the shares, where all answered
+  pub seats_framed : (whole : List (Vec Routed Global)) (commands : List Routed) (es : List (WithJobs S D F W)) (parts : ℕ) (answers : List (List Placed)) (frames : List (Vec Write Global)) → lists ≡ whole → ((p : ℕ) → p < parts → requests_at p whole ≡ share parts p (map routed_of commands)) → parts ≡ room.len
+      → with_jobs (map (λ (s : Seat S P W D F). s.engine) room.items) jobs ≡ es → map (λ (s : Seat S P W D F). s.answer) nexts ≡ map Ok answers
+      → AtEach (λ p (run : Seat S P W D F × Seat S P W D F) (frame : Vec Write Global). OnOk run.1.answer (HasFramed eyes (requests_at p lists) run.0.engine run.1.engine frame.items)) 0 (zip froms mids) frames
+      → AtEach (λ p (run : WithJobs S D F W × WithJobs S D F W) (frame : Vec Write Global). HasFramed eyes (share (length es) p (map routed_of commands)) run.0.engine run.1.engine frame.items) 0 (zip es (with_jobs (map (λ (s : Seat S P W D F). s.engine) (with_items (with_items room mids) news).items) jobs)) frames
+  seats_framed whole commands es parts answers frames same each many view given framed =
+      subst (λ xs. AtEach (λ p (run : WithJobs S D F W × WithJobs S D F W) (frame : Vec Write Global). HasFramed eyes (share (length xs) p (map routed_of commands)) run.0.engine run.1.engine frame.items) 0 (zip xs (with_jobs (map (λ (s : Seat S P W D F). s.engine) (with_items (with_items room mids) news).items) jobs)) frames) view
+      (subst (λ n. AtEach (λ p (run : WithJobs S D F W × WithJobs S D F W) (frame : Vec Write Global). HasFramed eyes (share n p (map routed_of commands)) run.0.engine run.1.engine frame.items) 0 (zip (with_jobs (map (λ (s : Seat S P W D F). s.engine) room.items) jobs) (with_jobs (map (λ (s : Seat S P W D F). s.engine) (with_items (with_items room mids) news).items) jobs)) frames) counted
+      (shares_framed eyes (λ (s : Seat S P W D F). s.engine) (λ (s : Seat S P W D F). s.answer) lists (map routed_of commands) parts 0 jobs room.items mids (map (λ (s : Seat S P W D F). s.engine) (with_items (with_items room mids) news).items) answers frames
+      (omega (arith, room.ok.0, many)) as_many (omega (arith, room.ok.0, many_mids)) (λ p below. ap (requests_at p) same ∙ each p below)
+      (ap (map (λ (s : Seat S P W D F). s.answer)) (sym same_mids) ∙ given) engines_left
+      (subst (λ xs. AtEach (λ p (run : Seat S P W D F × Seat S P W D F) (frame : Vec Write Global). OnOk run.1.answer (HasFramed eyes (requests_at p lists) run.0.engine run.1.engine frame.items)) 0 (zip xs mids) frames) seats.olds framed)))
+    where
+      as_many : length room.items ≡ length jobs
+      as_many = sym (length-map room.items (λ (s : Seat S P W D F). s.engine)) ∙ staffed-many eyes (map (λ (s : Seat S P W D F). s.engine) room.items) jobs seats.staffed
+
+      counted : parts ≡ length (with_jobs (map (λ (s : Seat S P W D F). s.engine) room.items) jobs)
+      counted = omega (arith, many, room.ok.0, length-map room.items (λ (s : Seat S P W D F). s.engine), with_jobs-length (map (λ (s : Seat S P W D F). s.engine) room.items) jobs (staffed-many eyes (map (λ (s : Seat S P W D F). s.engine) room.items) jobs seats.staffed))
 
 -- ---- what was answered
 

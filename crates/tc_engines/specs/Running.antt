@@ -1,9 +1,13 @@
 -- What comes of the share of a window that an engine gets: what a call of its window promises.
-use Rattle.std.specs.Prelude.{◌≡◌, ◌≤◌, ◌+◌, ◌^◌, false, true, List, [], Result, IfErr, IfOk, IsErrOf, OnErr, OnOk}
+use Rattle.std.specs.Prelude.{◌≡◌, ◌≤◌, ◌+◌, ◌^◌, false, true, List, [], All, length, map, Result, IfErr, IfOk, IsErrOf, OnErr, OnOk}
 use Rattle.std.specs.Map.{keys_of}
 use Rattle.tc_model.specs.Keyed.{Keyed, values_in}
 use Rattle.tc_model.specs.Request.{Request}
 use Rattle.tc_store.specs.DiskFile.{DiskFile}
+use Rattle.tc_log.specs.declared.write.Write.{Write}
+use Rattle.tc_log.specs.Writes.{IsWrite}
+use Rattle.tc_machine.specs.Logs.{kept_write}
+use Rattle.tc_machine.specs.Writes.{IsStorableWrite}
 use Rattle.tc_plain_model.specs.Part.{part_writes_all}
 use Rattle.tc_part.specs.FilesOut.{LogIsOut, OnlyDevicesOut}
 use Rattle.tc_part.specs.Harms.{IsHarmIn}
@@ -67,3 +71,11 @@ pub record HasRun {S D F W : Type 0} (eyes : Eyes S D F W) (rs : Keyed Request) 
   pub spent : IsErrOf answer Spent → 2 ^ 63 ≤ old.part.writes + most_writes (values_in rs)
   pub unspent : IsErrOf answer Spent → new.part.log ≡ old.part.log
   pub counted : IsCountedWithin (most_reads (live_in old.part) (values_in rs)) (IsErrOf answer Disk) (eyes.counts old.part.main) (eyes.counts new.part.main)
+
+-- The frame that a window committed of an engine: the writes of its share, which may be stored, each as a log holds it. So many
+-- writes more were made.
+pub record HasFramed {S D F W : Type 0} (eyes : Eyes S D F W) (rs : Keyed Request) (old new : EngineState S D F W) (frame : List Write) : Type 0 where
+  pub writes : (p : PartView) → IsPart (told_part eyes old.part) p → frame ≡ map kept_write (part_writes_all old.part.limits (values_in rs) (plain_of (told_part eyes old.part) p))
+  pub storable : (p : PartView) → IsPart (told_part eyes old.part) p → All IsStorableWrite (part_writes_all old.part.limits (values_in rs) (plain_of (told_part eyes old.part) p))
+  pub stored : All IsWrite frame
+  pub count : new.part.writes ≡ old.part.writes + length frame

@@ -1,5 +1,5 @@
 -- An engine with the jobs of it that are out, as contracts see the two beside each other.
-use Rattle.std.specs.Prelude.{◌≡◌, false, List, [], ◌∷◌, None}
+use Rattle.std.specs.Prelude.{◌≡◌, ℕ, false, List, [], ◌∷◌, Option, None}
 use Rattle.tc_part_model.specs.PartState.{PartState, Told, told}
 use Rattle.tc_part_model.specs.PartView.{PartView}
 use Rattle.tc_running.specs.Jobs.{JobsState}
@@ -42,3 +42,12 @@ pub record IsStaffed {S D F W : Type 0} (eyes : Eyes S D F W) (engine : EngineSt
 -- there are as many of both, and at each place are the jobs of the engine
 abbrev pub AreStaffed : {S D F W : Type 0} → Eyes S D F W → List (EngineState S D F W) → List (JobsState F D W) → Type 0
 AreStaffed eyes engines jobs = AtEach (λ p engine js. IsStaffed eyes engine js) 0 engines jobs
+
+-- ---- the reader's watch, while it is at home or out
+
+abbrev pub with_reader : {S D F W : Type 0} → Option W → WithJobs S D F W → WithJobs S D F W
+with_reader reader e = record e { engine = record e.engine { part = record e.engine.part { reader = reader } } }
+
+-- that of the engine at this place became this, and no more
+abbrev pub ReadsBy : {S D F W : Type 0} → ℕ → Option W → ℕ → WithJobs S D F W → WithJobs S D F W → Type 0
+ReadsBy at reader p old new = (p ≡ at → new ≡ with_reader reader old) × ((p ≡ at → ⊥) → new ≡ old)

@@ -3,7 +3,10 @@
 use crate::seat::Seat;
 use std::alloc::Global;
 use std::marker::Model;
+use std::sync::Arc;
 use tc_bytes::Memory;
+use tc_list::ComponentList;
+use tc_memory::Sealed;
 use tc_running::{Pace, Running};
 use tc_store::Store;
 use tc_work::Engine;
@@ -34,11 +37,17 @@ impl<S: Store, P: Pace> Model for Engines<S, P> {
 }
 
 impl<S: Store, P: Pace> Engines<S, P> {
-    ghost use Rattle.std.specs.Prelude.{◌≡◌, [], ◌∷◌, ◌++◌, false, None, IfErr, IfOk, IfSome, OnErr, OnOk, length};
+    ghost use Rattle.std.specs.Arc.{arc_value};
+    ghost use Rattle.std.specs.Prelude.{◌≡◌, ◌<◌, ℕ, [], ◌∷◌, ◌++◌, true, false, Option, None, Some, is_some, option_map, IfErr, IfOk, IfSome, OnErr, OnOk, length};
+    ghost use Rattle.tc_merge.specs.Merging.{GrowNames};
     ghost use Rattle.tc_part_model.specs.PartState.{told};
+    ghost use Rattle.tc_run_model.specs.World.{World};
     ghost use Rattle.tc_work.specs.JobsOut.{AreOut};
+    ghost use Rattle.tc_work.specs.Moving.{eyes};
     ghost use Rattle.tc_work.specs.Settling.{MaySettle};
-    ghost use Rattle.tc_engines.specs.WithJobs.{engine_with, no_jobs};
+    ghost use Rattle.tc_engines.specs.Places.{AtEach, IsAt};
+    ghost use Rattle.tc_engines.specs.Standing.{HoldWorld, KeepWorlds};
+    ghost use Rattle.tc_engines.specs.WithJobs.{engine_with, no_jobs, ReadsBy};
 
     /// No engine, with room for so many. Errs only for want of memory.
     pub fn with_capacity(alloc: Global, partitions: u32) -> Result<Engines<S, P>, Memory>
@@ -93,5 +102,54 @@ impl<S: Store, P: Pace> Engines<S, P> {
         ensures { result ≡ length self.now }
     {
         self.seats.len()
+    }
+
+    /// How many keys the active table of the partition of this number has an entry of.
+    pub fn active_len(&self, at: usize) -> usize
+        requires there { at < length self.now }
+        ensures { IsAt at self.now (λ e. result ≡ length e.engine.part.active) }
+    {
+        self.seats[at].engine.active_len()
+    }
+
+    /// The components that are listed in the partition of this number, the oldest first.
+    pub fn list(&self, at: usize) -> &ComponentList<S::Frozen>
+        requires there { at < length self.now }
+        ensures all { IsAt at self.now (λ e. result.now ≡ e.engine.part.list) }
+
+        // Over every store the names of each go on from those of the one before.
+        ensures names { GrowNames [] result.now }
+    {
+        self.seats[at].engine.list()
+    }
+
+    /// The table that is to be flushed in the partition of this number, where there is one.
+    pub fn sealed(&self, at: usize) -> Option<&Arc<Sealed>>
+        requires there { at < length self.now }
+        ensures { IsAt at self.now (λ e. option_map (λ table. arc_value table.now) result ≡ e.engine.part.sealed) }
+    {
+        self.seats[at].engine.sealed()
+    }
+
+    /// Lends the reader's watch of the partition of this number to reads beside the engines, until it is taken back. Its engine
+    /// cannot be finished meanwhile; all else goes on.
+    pub fn lend_watch(&mut self, at: usize) -> S::Watch
+        requires home { IsAt at self.old (λ e. is_some e.engine.part.reader ≡ true) }
+        ensures lent { IsAt at self.old (λ e. Some result ≡ e.engine.part.reader) }
+        ensures out { AtEach (ReadsBy at None) 0 self.old self.new }
+        ensures held { (only : Option ℕ) (w : World) → HoldWorld (eyes S.history S.Device.history S.Frozen.content S.Device.name S.Frozen.size S.Watch.counts) only self.old w → HoldWorld (eyes S.history S.Device.history S.Frozen.content S.Device.name S.Frozen.size S.Watch.counts) only self.new w }
+        ensures kept { (only : Option ℕ) (w v : World) → KeepWorlds (eyes S.history S.Device.history S.Frozen.content S.Device.name S.Frozen.size S.Watch.counts) only self.old w v → KeepWorlds (eyes S.history S.Device.history S.Frozen.content S.Device.name S.Frozen.size S.Watch.counts) only self.new w v }
+    {
+        self.seats[at].engine.lend_watch()
+    }
+
+    /// Takes the reader's watch of the partition of this number back.
+    pub fn take_watch(&mut self, at: usize, watch: S::Watch)
+        requires out { IsAt at self.old (λ e. e.engine.part.reader ≡ None) }
+        ensures home { AtEach (ReadsBy at (Some watch)) 0 self.old self.new }
+        ensures held { (only : Option ℕ) (w : World) → HoldWorld (eyes S.history S.Device.history S.Frozen.content S.Device.name S.Frozen.size S.Watch.counts) only self.old w → HoldWorld (eyes S.history S.Device.history S.Frozen.content S.Device.name S.Frozen.size S.Watch.counts) only self.new w }
+        ensures kept { (only : Option ℕ) (w v : World) → KeepWorlds (eyes S.history S.Device.history S.Frozen.content S.Device.name S.Frozen.size S.Watch.counts) only self.old w v → KeepWorlds (eyes S.history S.Device.history S.Frozen.content S.Device.name S.Frozen.size S.Watch.counts) only self.new w v }
+    {
+        self.seats[at].engine.take_watch(watch)
     }
 }

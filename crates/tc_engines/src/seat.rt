@@ -1,23 +1,25 @@
-//! The seat of an engine: what it answered in a window stands beside it.
+//! The seat of an engine: what it answered in a window stands beside it, and the frame that it wrote.
 
-ghost use Rattle.std.specs.Prelude.{◌≡◌, false, map};
+ghost use Rattle.std.specs.Prelude.{◌≡◌, false, map, OnOk};
 ghost use Rattle.tc_route.specs.Meaning.{routed_of};
 ghost use Rattle.tc_work.specs.Asked.{IsWindow};
 ghost use Rattle.tc_work.specs.Moving.{eyes};
-ghost use Rattle.tc_engines.specs.Running.{HasRun};
+ghost use Rattle.tc_engines.specs.Running.{HasFramed, HasRun};
 
 use std::alloc::Global;
 use std::mem;
+use tc_log::Write;
 use tc_route::{Replies, Routed};
 use tc_running::Pace;
 use tc_store::Store;
 use tc_work::{Engine, EngineFault};
 
-/// An engine, and its answer to its commands of a window, until that is taken.
+/// An engine, and its answer to its commands of a window with the frame that it wrote, until these are taken.
 #[derive(Drop)]
 pub(crate) struct Seat<S: Store, P: Pace> {
     pub(crate) engine: Engine<S, P>,
     pub(crate) answer: Result<Replies, EngineFault>,
+    pub(crate) frame: Vec<Write>,
 }
 
 impl<S: Store, P: Pace> Seat<S, P> {
@@ -28,6 +30,7 @@ impl<S: Store, P: Pace> Seat<S, P> {
         Seat {
             engine,
             answer: Ok(Replies::of(Vec::new(alloc))),
+            frame: Vec::new(alloc),
         }
     }
 
@@ -43,9 +46,10 @@ impl<S: Store, P: Pace> Seat<S, P> {
     pub(crate) fn run(&mut self, alloc: Global, list: &[Routed])
         requires sound { self.old.engine.part.failed ≡ false }
         requires window { IsWindow list.now }
-        ensures { HasRun (eyes S.history S.Device.history S.Frozen.content S.Device.name S.Frozen.size S.Watch.counts) (map routed_of list.now) self.old.engine self.new.engine self.new.answer }
+        ensures ran { HasRun (eyes S.history S.Device.history S.Frozen.content S.Device.name S.Frozen.size S.Watch.counts) (map routed_of list.now) self.old.engine self.new.engine self.new.answer }
+        ensures framed { OnOk self.new.answer (HasFramed (eyes S.history S.Device.history S.Frozen.content S.Device.name S.Frozen.size S.Watch.counts) (map routed_of list.now) self.old.engine self.new.engine self.new.frame.items) }
     {
-        self.answer = self.engine.window(alloc, list);
+        self.answer = self.engine.window(alloc, list, &mut self.frame);
     }
 
     /// The answer, which is taken.
@@ -54,5 +58,13 @@ impl<S: Store, P: Pace> Seat<S, P> {
         ensures same { self.new.engine ≡ self.old.engine }
     {
         mem::replace(&mut self.answer, Ok(Replies::of(Vec::new(alloc))))
+    }
+
+    /// The frame, which is taken whole.
+    pub(crate) fn take_frame(&mut self, alloc: Global) -> Vec<Write>
+        ensures frame { result ≡ self.old.frame }
+        ensures same { (self.new.engine ≡ self.old.engine) × (self.new.answer ≡ self.old.answer) }
+    {
+        mem::replace(&mut self.frame, Vec::new(alloc))
     }
 }

@@ -1,6 +1,6 @@
 //! A window over all partitions: each engine answers its share, all at once, and the replies are put together.
 
-ghost use Rattle.std.specs.Prelude.{◌≡◌, ◌<◌, ◌≤◌, ℕ, [], false, None, Ok, Option, length, map, All, IfErr, IfOk, IsErrOf, OnErr, OnOk, vec_capacity, vec_len};
+ghost use Rattle.std.specs.Prelude.{◌≡◌, ◌<◌, ◌≤◌, ℕ, [], false, None, Ok, Option, length, map, All, IfErr, IfOk, IsErrOf, OnErr, OnOk, vec_capacity, vec_len, zip};
 ghost use Rattle.std.specs.Map.{keys_of};
 ghost use Rattle.tc_model.specs.Keyed.{values_in, Ascends};
 ghost use Rattle.tc_run_model.specs.Kinds.{AreOfKinds};
@@ -16,7 +16,7 @@ ghost use Rattle.tc_work.specs.Reads.{live_in, most_reads, IsCountedWithin};
 ghost use Rattle.tc_work.specs.Settling.{MaySettle};
 ghost use Rattle.tc_engines.specs.Faults.{IfOf, IsDiskOf, IsFirstFault, StopsFirst};
 ghost use Rattle.tc_engines.specs.Places.{AtEach};
-ghost use Rattle.tc_engines.specs.Running.{HasOnlyRun, HasRun, RanMoments};
+ghost use Rattle.tc_engines.specs.Running.{HasFramed, HasOnlyRun, HasRun, RanMoments};
 ghost use Rattle.tc_engines.specs.Standing.{HoldWorld, KeepWorlds};
 
 use crate::engines::Engines;
@@ -25,14 +25,16 @@ use crate::seat::Seat;
 use std::alloc::Global;
 use std::thread;
 use std::thread::Threads;
+use tc_bytes::Memory;
+use tc_log::Write;
 use tc_part::parts_hold_devices;
 use tc_route::{Replies, Routed, gather, kinds_are_gathered, replies_are_gathered, split};
 use tc_running::Pace;
 use tc_store::Store;
 
 impl<S: Store, P: Pace> Engines<S, P> {
-    /// Answers the commands of a window, all engines at once: each commits what its own commands write as one frame. One reply a
-    /// command, in the order of these. A window for one partition is answered on this thread, and else each but one has a thread
+    /// Answers the commands of a window, all engines at once: each commits what its own commands write as one frame. It hands out
+    /// the frames, one a partition, in ascending number. One reply a command, in the order of these. A window for one partition is answered on this thread, and else each but one has a thread
     /// of its own. Where several engines fail, the fault is that of the least partition. After a fault no more windows are asked
     /// for; engines of other partitions may have committed theirs.
     pub fn window<R: Threads + Sync>(
@@ -40,6 +42,7 @@ impl<S: Store, P: Pace> Engines<S, P> {
         rt: &R,
         alloc: Global,
         commands: Vec<Routed>,
+        frames: &mut Vec<Vec<Write>>,
     ) -> Result<Replies, EnginesFault>
         requires some { 0 < length self.old }
         requires few { length self.old ≤ 16 }
@@ -54,6 +57,9 @@ impl<S: Store, P: Pace> Engines<S, P> {
 
         // Behind a fault each engine by itself is as before its share or behind it, or has failed and its files keep one of these.
         ensures kept { (only : Option ℕ) (w : World) → HoldWorld (eyes S.history S.Device.history S.Frozen.content S.Device.name S.Frozen.size S.Watch.counts) only self.old w → OnErr result (KeepWorlds (eyes S.history S.Device.history S.Frozen.content S.Device.name S.Frozen.size S.Watch.counts) only self.new w (after_all (requests_in commands.items) w)) }
+
+        // Over every store there is a frame of each partition, with the writes of its share.
+        ensures frames { OnOk result (AtEach (λ p run frame. HasFramed (eyes S.history S.Device.history S.Frozen.content S.Device.name S.Frozen.size S.Watch.counts) (share (length self.old) p (map routed_of commands.items)) run.0.engine run.1.engine frame.items) 0 (zip self.old self.new) frames.new.items) }
 
         // Over every store each reply is at the place of its command, and of its kind.
         ensures places { IfOk result (λ replies. keys_of (replies_in replies) ≡ keys_of (map routed_of commands.items)) }
@@ -82,16 +88,51 @@ impl<S: Store, P: Pace> Engines<S, P> {
         kinds_are_gathered();
         parts_hold_devices();
         let lists = split(alloc, commands, self.seats.len() as u32)?;
-        let room = Vec::with_capacity(alloc, self.seats.len())?;
-        run_lists(rt, alloc, &lists, &mut self.seats);
+        let room = make_room(alloc, self.seats.len(), frames)?;
+        run_lists(rt, alloc, &lists, &mut self.seats, frames);
         let parts = take_answers(alloc, &mut self.seats, room)?;
         let replies = gather(alloc, parts)?;
         Ok(replies)
     }
 }
 
-/// Runs each list in the engine at its place, at once where several have a command.
+/// Room for the answers of so many partitions, and for their frames. Errs only for want of memory.
+fn make_room(
+    alloc: Global,
+    partitions: usize,
+    frames: &mut Vec<Vec<Write>>,
+) -> Result<Vec<Replies>, Memory>
+    ensures empty { IfOk result (λ room. (room.items ≡ []) × (vec_len room ≡ 0)) }
+    ensures capacity { IfOk result (λ room. partitions ≤ vec_capacity room) }
+    ensures no_frame { OnOk result ((frames.new.items ≡ []) × (vec_len frames.new ≡ 0)) }
+    ensures for_frames { OnOk result (partitions ≤ vec_capacity frames.new) }
+{
+    *frames = Vec::with_capacity(alloc, partitions)?;
+    Vec::with_capacity(alloc, partitions)
+}
+
+/// Runs each list in the engine at its place, and takes the frames of all into this empty list, which has room for them.
 fn run_lists<S: Store, P: Pace, R: Threads + Sync>(
+    rt: &R,
+    alloc: Global,
+    lists: &[Vec<Routed>],
+    seats: &mut [Seat<S, P>],
+    frames: &mut Vec<Vec<Write>>,
+)
+    requires as_many { length lists.now ≡ length seats.old }
+    requires sound { All (λ s. s.engine.part.failed ≡ false) seats.old }
+    requires window { All (λ list. IsWindow list.items) lists.now }
+    requires empty { (frames.old.items ≡ []) × (vec_len frames.old ≡ 0) }
+    requires room { length seats.old ≤ vec_capacity frames.old }
+    ensures ran { AtEach (λ p old new. HasRun (eyes S.history S.Device.history S.Frozen.content S.Device.name S.Frozen.size S.Watch.counts) (requests_at p lists.now) old.engine new.engine new.answer) 0 seats.old seats.new }
+    ensures framed { AtEach (λ p run frame. OnOk run.1.answer (HasFramed (eyes S.history S.Device.history S.Frozen.content S.Device.name S.Frozen.size S.Watch.counts) (requests_at p lists.now) run.0.engine run.1.engine frame.items)) 0 (zip seats.old seats.new) frames.new.items }
+{
+    run_each(rt, alloc, lists, seats);
+    take_frames(alloc, seats, frames);
+}
+
+/// Runs each list in the engine at its place, at once where several have a command.
+fn run_each<S: Store, P: Pace, R: Threads + Sync>(
     rt: &R,
     alloc: Global,
     lists: &[Vec<Routed>],
@@ -100,7 +141,8 @@ fn run_lists<S: Store, P: Pace, R: Threads + Sync>(
     requires as_many { length lists.now ≡ length seats.old }
     requires sound { All (λ s. s.engine.part.failed ≡ false) seats.old }
     requires window { All (λ list. IsWindow list.items) lists.now }
-    ensures { AtEach (λ p old new. HasRun (eyes S.history S.Device.history S.Frozen.content S.Device.name S.Frozen.size S.Watch.counts) (requests_at p lists.now) old.engine new.engine new.answer) 0 seats.old seats.new }
+    ensures ran { AtEach (λ p old new. HasRun (eyes S.history S.Device.history S.Frozen.content S.Device.name S.Frozen.size S.Watch.counts) (requests_at p lists.now) old.engine new.engine new.answer) 0 seats.old seats.new }
+    ensures framed { AtEach (λ p old new. OnOk new.answer (HasFramed (eyes S.history S.Device.history S.Frozen.content S.Device.name S.Frozen.size S.Watch.counts) (requests_at p lists.now) old.engine new.engine new.frame.items)) 0 seats.old seats.new }
 {
     thread::for_each_mut(
         rt,
@@ -108,7 +150,8 @@ fn run_lists<S: Store, P: Pace, R: Threads + Sync>(
         threads_for(lists),
         &|at, seat: &mut Seat<S, P>|
             requires { (at < length lists.now) × (seat.now.engine.part.failed ≡ false) × All (λ list. IsWindow list.items) lists.now }
-            ensures { HasRun (eyes S.history S.Device.history S.Frozen.content S.Device.name S.Frozen.size S.Watch.counts) (requests_at at lists.entry.now) seat.entry.now.engine seat.exit.now.engine seat.exit.now.answer }
+            ensures { HasRun (eyes S.history S.Device.history S.Frozen.content S.Device.name S.Frozen.size S.Watch.counts) (requests_at at lists.entry.now) seat.entry.now.engine seat.exit.now.engine seat.exit.now.answer
+                × OnOk seat.exit.now.answer (HasFramed (eyes S.history S.Device.history S.Frozen.content S.Device.name S.Frozen.size S.Watch.counts) (requests_at at lists.entry.now) seat.entry.now.engine seat.exit.now.engine seat.exit.now.frame.items) }
         { seat.run(alloc, &lists[at]) },
     );
 }
@@ -147,4 +190,22 @@ fn take_answers<S: Store, P: Pace>(
         }
     }
     Ok(parts)
+}
+
+/// Takes the frames of all into this empty list, which has room for them.
+fn take_frames<S: Store, P: Pace>(
+    alloc: Global,
+    seats: &mut [Seat<S, P>],
+    frames: &mut Vec<Vec<Write>>,
+)
+    requires empty { (frames.old.items ≡ []) × (vec_len frames.old ≡ 0) }
+    requires room { length seats.old ≤ vec_capacity frames.old }
+    ensures engines { map (λ s. s.engine) seats.new ≡ map (λ s. s.engine) seats.old }
+    ensures answers { map (λ s. s.answer) seats.new ≡ map (λ s. s.answer) seats.old }
+    ensures all { frames.new.items ≡ map (λ s. s.frame) seats.old }
+{
+    for at in 0..seats.len() {
+        let frame = seats[at].take_frame(alloc);
+        frames.push_reserved(frame);
+    }
 }

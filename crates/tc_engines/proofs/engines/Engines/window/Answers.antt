@@ -19,7 +19,7 @@ use Rattle.tc_engines.proofs.NothingRun.{nothing_counted, nothing_out, nothing_s
 use Rattle.tc_engines.proofs.PlaceLaws.{all_read, at_each-length, refilled}
 use Rattle.tc_engines.proofs.ShareWindows.{window_for_parts}
 use Rattle.tc_engines.proofs.SharesRun.{are_windows}
-use Rattle.tc_engines.proofs.WindowEnds.{ended_answers, ended_counted, ended_devices, ended_first, ended_held, ended_kept, ended_log_out, ended_looked_up, ended_moments, ended_ready, ended_replied, ended_same, ended_sound, ended_uncounted, if_err, no_disk, on_err, seats_ended, seats_staffed, Ended, SeatsRan}
+use Rattle.tc_engines.proofs.WindowEnds.{ended_answers, ended_counted, ended_devices, ended_first, ended_held, ended_kept, ended_log_out, ended_looked_up, ended_moments, ended_ready, ended_replied, ended_same, ended_sound, ended_uncounted, if_err, no_disk, on_err, seats_ended, seats_framed, seats_staffed, Ended, SeatsRan}
 use Rattle.tc_engines.proofs.WindowsHeld.{nothing_run}
 use Rattle.tc_engines.proofs.engines.Engines.window.Given.{Over}
 use Rattle.tc_engines.proofs.engines.Engines.window.Goals as goal
@@ -80,17 +80,20 @@ pub run_lists-requires-clause-window : goal.run_lists-requires-clause-window
 run_lists-requires-clause-window g c κs within =
     subst (All (λ (list : Vec Routed Global). IsWindow list.items)) (sym c.deref.ensures.value) (are_windows c.in_ok-lists.lists.items _ c.args.commands.items c.in_ok-lists.ensures.count c.requires.window c.in_ok-lists.ensures.each)
 
+pub run_lists-requires-clause-room : goal.run_lists-requires-clause-room
+run_lists-requires-clause-room g c κs within = omega (arith, ap length c.deref_mut.ensures.value, c.self.inside.seats.ok.0, c.len-2.ensures, c.in_ok-room.ensures.for_frames)
+
 pub take_answers-requires-clause-few : goal.take_answers-requires-clause-few
 take_answers-requires-clause-few g c κs within =
     let many : length c.self.inside.seats.items ≡ length c.args.self.now = seats_many (eyes g.S.Store.history g.S.Device.Device.history g.S.Frozen.Frozen.content g.S.Device.Device.name g.S.Frozen.Frozen.size g.S.Watch.Watch.counts) (λ (s : Seat g.row.S.Denot g.row.P.Denot g.row.S-Watch.Denot g.row.S-Device.Denot g.row.S-Frozen.Denot). s.engine) c.self.inside.seats.items c.self.inside.running.items c.args.self.now c.self.invariant c.self.view_is in
-    let ran : length c.deref_mut.result.now ≡ length c.run_lists.new.seats = at_each-length _ 0 c.deref_mut.result.now c.run_lists.new.seats c.run_lists.ensures in
+    let ran : length c.deref_mut.result.now ≡ length c.run_lists.new.seats = at_each-length _ 0 c.deref_mut.result.now c.run_lists.new.seats c.run_lists.ensures.ran in
     let filled : length c.run_lists.new.seats ≡ c.self.inside.seats.len = omega (arith, ran, ap length c.deref_mut.ensures.value, c.self.inside.seats.ok.0) in
     let there : c.deref_mut-2.result.now ≡ c.run_lists.new.seats = c.deref_mut-2.ensures.value ∙ refilled c.self.inside.seats c.run_lists.new.seats filled in
     omega (arith, ap length there, filled, c.self.inside.seats.ok.0, many, c.requires.few)
 
 pub take_answers-requires-clause-room : goal.take_answers-requires-clause-room
 take_answers-requires-clause-room g c κs within =
-    let ran : length c.deref_mut.result.now ≡ length c.run_lists.new.seats = at_each-length _ 0 c.deref_mut.result.now c.run_lists.new.seats c.run_lists.ensures in
+    let ran : length c.deref_mut.result.now ≡ length c.run_lists.new.seats = at_each-length _ 0 c.deref_mut.result.now c.run_lists.new.seats c.run_lists.ensures.ran in
     let filled : length c.run_lists.new.seats ≡ c.self.inside.seats.len = omega (arith, ran, ap length c.deref_mut.ensures.value, c.self.inside.seats.ok.0) in
     let there : c.deref_mut-2.result.now ≡ c.run_lists.new.seats = c.deref_mut-2.ensures.value ∙ refilled c.self.inside.seats c.run_lists.new.seats filled in
     omega (arith, ap length there, filled, c.len-2.ensures, c.in_ok-room.ensures.capacity)
@@ -98,7 +101,7 @@ take_answers-requires-clause-room g c κs within =
 -- ---- an engine failed
 
 failed_ran : (g : Over) (c : goal.After-drop-lists-in_err-parts g) → SeatsRan (eyes g.S.Store.history g.S.Device.Device.history g.S.Frozen.Frozen.content g.S.Device.Device.name g.S.Frozen.Frozen.size g.S.Watch.Watch.counts) c.deref.result.now c.self.inside.seats c.self.inside.running.items c.deref_mut.result.now c.run_lists.new.seats c.deref_mut-2.result.now c.take_answers.new.seats
-failed_ran g c = record { olds = c.deref_mut.ensures.value; left = c.deref_mut-2.ensures.value; ran = c.run_lists.ensures; same = c.take_answers.ensures.engines; staffed = c.self.invariant }
+failed_ran g c = record { olds = c.deref_mut.ensures.value; left = c.deref_mut-2.ensures.value; ran = c.run_lists.ensures.ran; same = c.take_answers.ensures.engines; staffed = c.self.invariant }
 
 failed_ended : (g : Over) (c : goal.After-drop-lists-in_err-parts g) → Ended (eyes g.S.Store.history g.S.Device.Device.history g.S.Frozen.Frozen.content g.S.Device.Device.name g.S.Frozen.Frozen.size g.S.Watch.Watch.counts) (map routed_of c.args.commands.items) c.args.self.now (with_jobs (map (λ (s : Seat g.row.S.Denot g.row.P.Denot g.row.S-Watch.Denot g.row.S-Device.Denot g.row.S-Frozen.Denot). s.engine) (with_items (with_items c.self.inside.seats c.run_lists.new.seats) c.take_answers.new.seats).items) c.self.inside.running.items) (map (λ (s : Seat g.row.S.Denot g.row.P.Denot g.row.S-Watch.Denot g.row.S-Device.Denot g.row.S-Frozen.Denot). s.answer) c.deref_mut-2.result.now)
 failed_ended g c =
@@ -124,7 +127,7 @@ returns-in_err-parts-clause-moments g c = ended_moments (eyes g.S.Store.history 
 pub returns-in_err-parts-clause-first : goal.returns-in_err-parts-clause-first
 returns-in_err-parts-clause-first g c =
     let many : length c.self.inside.seats.items ≡ length c.args.self.now = seats_many (eyes g.S.Store.history g.S.Device.Device.history g.S.Frozen.Frozen.content g.S.Device.Device.name g.S.Frozen.Frozen.size g.S.Watch.Watch.counts) (λ (s : Seat g.row.S.Denot g.row.P.Denot g.row.S-Watch.Denot g.row.S-Device.Denot g.row.S-Frozen.Denot). s.engine) c.self.inside.seats.items c.self.inside.running.items c.args.self.now c.self.invariant c.self.view_is in
-    let ran : length c.deref_mut.result.now ≡ length c.run_lists.new.seats = at_each-length _ 0 c.deref_mut.result.now c.run_lists.new.seats c.run_lists.ensures in
+    let ran : length c.deref_mut.result.now ≡ length c.run_lists.new.seats = at_each-length _ 0 c.deref_mut.result.now c.run_lists.new.seats c.run_lists.ensures.ran in
     let filled : length c.run_lists.new.seats ≡ c.self.inside.seats.len = omega (arith, ran, ap length c.deref_mut.ensures.value, c.self.inside.seats.ok.0) in
     let there : c.deref_mut-2.result.now ≡ c.run_lists.new.seats = c.deref_mut-2.ensures.value ∙ refilled c.self.inside.seats c.run_lists.new.seats filled in
     if_err c.from_residual-in_err-parts.result c.in_err-parts.field-0.0 _ c.from_residual-in_err-parts.ensures.1
@@ -136,7 +139,7 @@ returns-in_err-parts-clause-counted g c = ended_counted (eyes g.S.Store.history 
 -- ---- the replies were not put together
 
 lost_ran : (g : Over) (c : goal.After-drop-lists-in_err-replies g) → SeatsRan (eyes g.S.Store.history g.S.Device.Device.history g.S.Frozen.Frozen.content g.S.Device.Device.name g.S.Frozen.Frozen.size g.S.Watch.Watch.counts) c.deref.result.now c.self.inside.seats c.self.inside.running.items c.deref_mut.result.now c.run_lists.new.seats c.deref_mut-2.result.now c.take_answers.new.seats
-lost_ran g c = record { olds = c.deref_mut.ensures.value; left = c.deref_mut-2.ensures.value; ran = c.run_lists.ensures; same = c.take_answers.ensures.engines; staffed = c.self.invariant }
+lost_ran g c = record { olds = c.deref_mut.ensures.value; left = c.deref_mut-2.ensures.value; ran = c.run_lists.ensures.ran; same = c.take_answers.ensures.engines; staffed = c.self.invariant }
 
 lost_ended : (g : Over) (c : goal.After-drop-lists-in_err-replies g) → Ended (eyes g.S.Store.history g.S.Device.Device.history g.S.Frozen.Frozen.content g.S.Device.Device.name g.S.Frozen.Frozen.size g.S.Watch.Watch.counts) (map routed_of c.args.commands.items) c.args.self.now (with_jobs (map (λ (s : Seat g.row.S.Denot g.row.P.Denot g.row.S-Watch.Denot g.row.S-Device.Denot g.row.S-Frozen.Denot). s.engine) (with_items (with_items c.self.inside.seats c.run_lists.new.seats) c.take_answers.new.seats).items) c.self.inside.running.items) (map (λ (s : Seat g.row.S.Denot g.row.P.Denot g.row.S-Watch.Denot g.row.S-Device.Denot g.row.S-Frozen.Denot). s.answer) c.deref_mut-2.result.now)
 lost_ended g c =
@@ -168,7 +171,7 @@ returns-in_err-replies-clause-counted g c = ended_uncounted (eyes g.S.Store.hist
 -- ---- all answered
 
 all_ran : (g : Over) (c : goal.After-drop-lists-2 g) → SeatsRan (eyes g.S.Store.history g.S.Device.Device.history g.S.Frozen.Frozen.content g.S.Device.Device.name g.S.Frozen.Frozen.size g.S.Watch.Watch.counts) c.deref.result.now c.self.inside.seats c.self.inside.running.items c.deref_mut.result.now c.run_lists.new.seats c.deref_mut-2.result.now c.take_answers.new.seats
-all_ran g c = record { olds = c.deref_mut.ensures.value; left = c.deref_mut-2.ensures.value; ran = c.run_lists.ensures; same = c.take_answers.ensures.engines; staffed = c.self.invariant }
+all_ran g c = record { olds = c.deref_mut.ensures.value; left = c.deref_mut-2.ensures.value; ran = c.run_lists.ensures.ran; same = c.take_answers.ensures.engines; staffed = c.self.invariant }
 
 all_ended : (g : Over) (c : goal.After-drop-lists-2 g) → Ended (eyes g.S.Store.history g.S.Device.Device.history g.S.Frozen.Frozen.content g.S.Device.Device.name g.S.Frozen.Frozen.size g.S.Watch.Watch.counts) (map routed_of c.args.commands.items) c.args.self.now (with_jobs (map (λ (s : Seat g.row.S.Denot g.row.P.Denot g.row.S-Watch.Denot g.row.S-Device.Denot g.row.S-Frozen.Denot). s.engine) (with_items (with_items c.self.inside.seats c.run_lists.new.seats) c.take_answers.new.seats).items) c.self.inside.running.items) (map (λ (s : Seat g.row.S.Denot g.row.P.Denot g.row.S-Watch.Denot g.row.S-Device.Denot g.row.S-Frozen.Denot). s.answer) c.deref_mut-2.result.now)
 all_ended g c =
@@ -181,6 +184,13 @@ invariant_of-self-2 g c = seats_staffed (eyes g.S.Store.history g.S.Device.Devic
 
 pub returns-clause-replies : goal.returns-clause-replies
 returns-clause-replies g c = λ w h. c.in_ok-replies.ensures ∙ ended_replied (eyes g.S.Store.history g.S.Device.Device.history g.S.Frozen.Frozen.content g.S.Device.Device.name g.S.Frozen.Frozen.size g.S.Watch.Watch.counts) (map routed_of c.args.commands.items) c.args.self.now (with_jobs (map (λ (s : Seat g.row.S.Denot g.row.P.Denot g.row.S-Watch.Denot g.row.S-Device.Denot g.row.S-Frozen.Denot). s.engine) (with_items (with_items c.self.inside.seats c.run_lists.new.seats) c.take_answers.new.seats).items) c.self.inside.running.items) (map (λ (s : Seat g.row.S.Denot g.row.P.Denot g.row.S-Watch.Denot g.row.S-Device.Denot g.row.S-Frozen.Denot). s.answer) c.deref_mut-2.result.now) (all_ended g c) c.in_ok-parts.parts.items c.in_ok-parts.ensures.all c.replies_are_gathered.ensures c.requires.some c.requires.ascending (window_for_parts c.args.commands.items c.requires.window) w h
+
+pub returns-clause-frames : goal.returns-clause-frames
+returns-clause-frames g c =
+    seats_framed (eyes g.S.Store.history g.S.Device.Device.history g.S.Frozen.Frozen.content g.S.Device.Device.name g.S.Frozen.Frozen.size g.S.Watch.Watch.counts) c.deref.result.now c.self.inside.seats c.self.inside.running.items c.deref_mut.result.now c.run_lists.new.seats c.deref_mut-2.result.now c.take_answers.new.seats (all_ran g c) c.in_ok-lists.lists.items c.args.commands.items c.args.self.now _ c.in_ok-parts.parts.items c.run_lists.new.frames.items
+    c.deref.ensures.value c.in_ok-lists.ensures.each
+    (omega (arith, c.len.ensures, c.self.inside.seats.ok.0, seats_many (eyes g.S.Store.history g.S.Device.Device.history g.S.Frozen.Frozen.content g.S.Device.Device.name g.S.Frozen.Frozen.size g.S.Watch.Watch.counts) (λ (s : Seat g.row.S.Denot g.row.P.Denot g.row.S-Watch.Denot g.row.S-Device.Denot g.row.S-Frozen.Denot). s.engine) c.self.inside.seats.items c.self.inside.running.items c.args.self.now c.self.invariant c.self.view_is, c.requires.few)) c.self.view_is
+    c.in_ok-parts.ensures.all c.run_lists.ensures.framed
 
 pub returns-clause-held : goal.returns-clause-held
 returns-clause-held g c = λ only w h. ended_held (eyes g.S.Store.history g.S.Device.Device.history g.S.Frozen.Frozen.content g.S.Device.Device.name g.S.Frozen.Frozen.size g.S.Watch.Watch.counts) (map routed_of c.args.commands.items) c.args.self.now (with_jobs (map (λ (s : Seat g.row.S.Denot g.row.P.Denot g.row.S-Watch.Denot g.row.S-Device.Denot g.row.S-Frozen.Denot). s.engine) (with_items (with_items c.self.inside.seats c.run_lists.new.seats) c.take_answers.new.seats).items) c.self.inside.running.items) (map (λ (s : Seat g.row.S.Denot g.row.P.Denot g.row.S-Watch.Denot g.row.S-Device.Denot g.row.S-Frozen.Denot). s.answer) c.deref_mut-2.result.now) (all_ended g c) c.in_ok-parts.parts.items c.in_ok-parts.ensures.all (window_for_parts c.args.commands.items c.requires.window) only w h

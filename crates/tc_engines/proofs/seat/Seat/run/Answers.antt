@@ -1,9 +1,16 @@
+use Rattle.std.proofs.Common.{map}
+use Rattle.tc_route.specs.Meaning.{routed_of}
 use Rattle.tc_work.specs.Moving.{eyes}
-use Rattle.tc_engines.proofs.EngineRan.{left_failed, only_run, places_read, run_staffed, still_sound, still_staged}
+use Rattle.tc_engines.proofs.EngineRan.{framed_of, left_failed, only_run, places_read, run_staffed, still_sound, still_staged}
 use Rattle.tc_engines.proofs.seat.Seat.run.Goals as goal
 
-pub returns : goal.returns
-returns g c =
+pub returns-clause-framed : goal.returns-clause-framed
+returns-clause-framed g c =
+    let ran = c.window.ensures in
+    framed_of (eyes g.S.Store.history g.S.Device.Device.history g.S.Frozen.Frozen.content g.S.Device.Device.name g.S.Frozen.Frozen.size g.S.Watch.Watch.counts) (map routed_of c.args.list.now) c.args.self.now.engine c.window.new.self c.window.new.frame.items c.window.result ran.frame ran.storable ran.frame_stored ran.frame_counted
+
+pub returns-clause-ran : goal.returns-clause-ran
+returns-clause-ran g c =
     let ran = c.window.ensures in record {
       replies = ran.replies;
       places = places_read c.window.result c.args.list.now ran.places;
