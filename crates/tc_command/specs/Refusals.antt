@@ -4,7 +4,7 @@ use Rattle.tc_model.specs.Request as request
 use Rattle.tc_json.specs.declared.fault.JsonFault.{JsonFault}
 use Rattle.tc_json.specs.declared.fault.JsonFault.TheVariants as json
 use Rattle.tc_command.specs.declared.refusals.Refusal.{Refusal}
-use Rattle.tc_command.specs.declared.refusals.Refusal.TheVariants.{Oversized, Malformed, Unknown, NotWhole, TooDeep, Key, NamesFull, Full, Busy, NoScan, NotBuilt}
+use Rattle.tc_command.specs.declared.refusals.Refusal.TheVariants.{Oversized, Malformed, Unknown, NotWhole, TooDeep, Key, NamesFull, Full, Busy, NoScan}
 use Rattle.tc_command.specs.declared.refusals.ParseFault.{ParseFault}
 use Rattle.tc_command.specs.declared.refusals.ParseFault.TheVariants.{Refused, Memory}
 
@@ -19,7 +19,6 @@ refusal_of NamesFull = request.names_full
 refusal_of Full = request.full
 refusal_of Busy = request.busy
 refusal_of NoScan = request.no_scan
-refusal_of NotBuilt = request.not_built
 
 -- the place of a refusal in the order in which refusals are tested
 abbrev pub refusal_number : request.Refusal → ℕ
@@ -33,7 +32,6 @@ refusal_number request.names_full = 7
 refusal_number request.full = 8
 refusal_number request.busy = 9
 refusal_number request.no_scan = 10
-refusal_number request.not_built = 11
 
 -- the fault of a line whose JSON value is no document
 abbrev pub fault_of : JsonFault → ParseFault

@@ -24,7 +24,6 @@ pub enum Refusal {
     Full,
     Busy,
     NoScan,
-    NotBuilt,
 }
 
 impl Refusal {
@@ -43,7 +42,6 @@ impl Refusal {
             Refusal::Full => 8,
             Refusal::Busy => 9,
             Refusal::NoScan => 10,
-            Refusal::NotBuilt => 11,
         }
     }
 
@@ -62,7 +60,6 @@ impl Refusal {
             Refusal::Full => "full",
             Refusal::Busy => "busy",
             Refusal::NoScan => "no_scan",
-            Refusal::NotBuilt => "not_built",
         }
     }
 }

@@ -6,7 +6,7 @@ use Rattle.tc_model.specs.Tree.{leaf, array, object}
 use Rattle.tc_model.specs.Document.{Document}
 use Rattle.tc_model.specs.Json.{data_of, members_data}
 use Rattle.tc_model.specs.Lines.{feed}
-use Rattle.tc_model.specs.Request.{Refusal, oversized, malformed, unknown, not_whole, too_deep, no_key, names_full, full, busy, no_scan, not_built}
+use Rattle.tc_model.specs.Request.{Refusal, oversized, malformed, unknown, not_whole, too_deep, no_key, names_full, full, busy, no_scan}
 
 -- the values that a path reached in the document of a key
 pub record Row : Type 0 where
@@ -42,7 +42,6 @@ refusal_name names_full = codes "names_full"
 refusal_name full = codes "full"
 refusal_name busy = codes "busy"
 refusal_name no_scan = codes "no_scan"
-refusal_name not_built = codes "not_built"
 
 abbrev pub one_member : List ℕ → json.Data → json.Data
 one_member name d = json.object (json.member name d json.no_members)

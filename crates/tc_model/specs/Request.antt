@@ -19,7 +19,6 @@ pub data Refusal : Type 0 where
   full : Refusal
   busy : Refusal
   no_scan : Refusal
-  not_built : Refusal
 
 -- a step of a path: to a member by name, to an item by place, or to every item
 pub data Hop : Type 0 where
