@@ -1,6 +1,6 @@
 //! What a partition shows to scans beside its engine.
 
-ghost use Rattle.std.specs.Prelude.{◌≡◌, ◌<◌, ◌++◌, ◌∷◌, ◌⊎◌, [], true, false, None, All, length, map, option_map, IfOk, IsTrue, IsFalse, OnOk};
+ghost use Rattle.std.specs.Prelude.{◌≡◌, ◌<◌, ◌++◌, ◌∷◌, ◌⊎◌, [], true, false, None, All, length, map, option_map, IfOk, IsTrue, IsFalse, OnErr, OnOk};
 ghost use Rattle.std.specs.Arc.{arc_value};
 ghost use mathlib.Core.List.{IsPrefix};
 ghost use Rattle.tc_log.specs.Writes.{IsWrite};
@@ -90,6 +90,7 @@ impl<F: Frozen> Shown<F> {
     /// memory, where a call failed before, and where there were more writes than a number counts.
     pub fn write<R: Wait>(&mut self, rt: &R, frame: Vec<Write>) -> Result<(), Memory>
         requires stored { All IsWrite frame.items }
+        ensures failed { OnErr result ((self.new ≡ self.old) ⊎ (self.new.failed ≡ true)) }
         ensures wrote { OnOk result (self.new ≡ record self.old { history = self.old.history ++ wrote frame.items }) }
     {
         if self.failed {
@@ -117,6 +118,7 @@ impl<F: Frozen> Shown<F> {
         sealed: Option<&Arc<Sealed>>,
     ) -> Result<(), Memory>
         requires names { Extend [] list.now }
+        ensures failed { OnErr result ((self.new ≡ self.old) ⊎ (self.new.failed ≡ true)) }
         ensures placed { OnOk result (IsPlaced list.now (option_map (λ table. arc_value table.now) sealed.entry) self.old self.new) }
     {
         if self.failed {
@@ -157,7 +159,8 @@ impl<F: Frozen> Shown<F> {
     /// Whether what a lens of this view keeps is a beginning of what happened in it. It always is, unless a call failed, and
     /// this tells so. Takes no memory.
     pub fn covers(&self, lens: &Lens<F>) -> bool
-        requires lens { Reads self.now.book lens.now }
+        requires lens { self.now.failed ≡ false → Reads self.now.book lens.now }
+        ensures works { IsTrue result → self.now.failed ≡ false }
         ensures begins { IsTrue result → IsPrefix (kept_by lens.now).history self.now.history }
         ensures longer { IsFalse result → (self.now.failed ≡ true) ⊎ (length self.now.history < length (kept_by lens.now).history) }
     {

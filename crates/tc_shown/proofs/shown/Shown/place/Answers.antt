@@ -11,8 +11,6 @@ invariant_of-self-2 g c = λ _. (
       (c.is_some-self-inside.ensures ∙ is_some-option_map (λ (table : Bor _). arc_value table.now) c.args.sealed),
 )
 
-pub returns : goal.returns
-returns g c = record {
-  placed = inl (state_added _ _ _ _ _ c.self.inside.failed c.args.self.now c.self.view_is c.in_ok-publish_twice.ensures.book
-      (placed_history _ _ c.in_ok-placed.change _ _ c.in_ok-publish_twice.ensures.added c.in_ok-placed.ensures.change) c.if-self.false);
-}
+pub returns-clause-placed : goal.returns-clause-placed
+returns-clause-placed g c = inl (state_added _ _ _ _ _ c.self.inside.failed c.args.self.now c.self.view_is c.in_ok-publish_twice.ensures.book
+    (placed_history _ _ c.in_ok-placed.change _ _ c.in_ok-publish_twice.ensures.added c.in_ok-placed.ensures.change) c.if-self.false)
