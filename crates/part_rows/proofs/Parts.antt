@@ -1,5 +1,5 @@
 -- What the calls of a part leave of what holds of it at a desk.
-use Rattle.std.proofs.Common.{◌≡◌, ◌∙◌, ◌+◌, ℕ, Bool, Result, Ok, Err, List, Option, Some, true, false, [], None, ap, refl, sym, subst}
+use Rattle.std.proofs.Common.{◌≡◌, ◌∙◌, ◌+◌, ℕ, Bool, Result, Ok, Err, List, Option, Some, true, false, None, ap, refl, sym, subst}
 use Rattle.std.specs.Prelude.{IfErr, IfOk, OnOk, OnErr, is_some}
 use Rattle.std.specs.Result.{IsOk}
 use Rattle.std.proofs.lemmas.Bool.{false≢true}
@@ -11,12 +11,13 @@ use Rattle.tc_part.specs.declared.fault.PartFault.{PartFault}
 use Rattle.tc_part.specs.Stages.{HasStaged}
 use Rattle.part_rows.specs.Standing.{MemPart, Means, IsAtDesk}
 use Rattle.part_rows.specs.Waiting.{IsShortWrite, AreWaiting}
-use Rattle.part_rows.proofs.Writes.{waiting_more, waiting_less, none_waits}
+use Rattle.part_rows.proofs.Writes.{waiting_more, waiting_less}
 
--- no job went out or came back
+-- no job went out or came back, nor did the reader's watch
 pub record HasSameJobs (old new : MemPart) : Type 0 where
   pub flushing : new.flushing ≡ old.flushing
   pub merging : new.merging ≡ old.merging
+  pub reader : new.reader ≡ old.reader
 
 -- it goes on, and so many writes wait
 pub record GoesOn (old new : MemPart) (stands : Bool) (waiting : ℕ) : Type 0 where
@@ -30,12 +31,13 @@ pub record Fails (old new : MemPart) : Type 0 where
   pub failed : new.failed ≡ true
 
 pub goes_on : (old new : MemPart) (n m : ℕ) (stands : Bool) → IsAtDesk old n stands → GoesOn old new stands m → IsAtDesk new m stands
-goes_on old new n m stands is on = record { no_flush = on.jobs.flushing ∙ is.no_flush; no_merge = on.jobs.merging ∙ is.no_merge; means = λ standing sound. on.means standing; staged = λ sound. on.waits }
+goes_on old new n m stands is on = record { no_flush = on.jobs.flushing ∙ is.no_flush; no_merge = on.jobs.merging ∙ is.no_merge; reader = ap is_some on.jobs.reader ∙ is.reader; means = λ standing sound. on.means standing; staged = λ sound. on.waits }
 
 pub fails : (old new : MemPart) (n m : ℕ) (stands : Bool) → IsAtDesk old n stands → Fails old new → IsAtDesk new m stands
 fails old new n m stands is ended = record {
   no_flush = ended.jobs.flushing ∙ is.no_flush;
   no_merge = ended.jobs.merging ∙ is.no_merge;
+  reader = ap is_some ended.jobs.reader ∙ is.reader;
   means = λ standing sound. absurd (false≢true (sym sound ∙ ended.failed));
   staged = λ sound. absurd (false≢true (sym sound ∙ ended.failed));
 }
@@ -53,20 +55,20 @@ pub on_err : {X E : Type 0} (r : Result X E) (A B : Type 0) → OnErr r A → (A
 on_err (Ok x) A B err go = tt
 on_err (Err e) A B err go = go err
 
-pub same_by : (old new x : MemPart) → new ≡ x → x.flushing ≡ old.flushing → x.merging ≡ old.merging → HasSameJobs old new
-same_by old new x is flushing merging = record { flushing = ap (λ (p : MemPart). p.flushing) is ∙ flushing; merging = ap (λ (p : MemPart). p.merging) is ∙ merging }
+pub same_by : (old new x : MemPart) → new ≡ x → x.flushing ≡ old.flushing → x.merging ≡ old.merging → x.reader ≡ old.reader → HasSameJobs old new
+same_by old new x is flushing merging reader = record { flushing = ap (λ (p : MemPart). p.flushing) is ∙ flushing; merging = ap (λ (p : MemPart). p.merging) is ∙ merging; reader = ap (λ (p : MemPart). p.reader) is ∙ reader }
 
-pub fails_by : (old new x : MemPart) → x.flushing ≡ old.flushing → x.merging ≡ old.merging → x.failed ≡ true → new ≡ x → Fails old new
-fails_by old new x flushing merging failed is = record { jobs = same_by old new x is flushing merging; failed = ap (λ (p : MemPart). p.failed) is ∙ failed }
+pub fails_by : (old new x : MemPart) → x.flushing ≡ old.flushing → x.merging ≡ old.merging → x.reader ≡ old.reader → x.failed ≡ true → new ≡ x → Fails old new
+fails_by old new x flushing merging reader failed is = record { jobs = same_by old new x is flushing merging reader; failed = ap (λ (p : MemPart). p.failed) is ∙ failed }
 
 -- ---- a write that is staged or refused
 
 staged_jobs : (answer : Staged) (write : Write) (old new : MemPart) → HasStaged answer write old new → HasSameJobs old new
-staged_jobs (Done was_live) (Upsert key bytes) old new has = same_by old new _ has.1 refl refl
-staged_jobs (Done true) (Delete key) old new has = same_by old new _ has.1 refl refl
-staged_jobs (Done false) (Delete key) old new has = same_by old new old has refl refl
-staged_jobs NamesFull write old new has = same_by old new old has refl refl
-staged_jobs Full write old new has = same_by old new old has refl refl
+staged_jobs (Done was_live) (Upsert key bytes) old new has = same_by old new _ has.1 refl refl refl
+staged_jobs (Done true) (Delete key) old new has = same_by old new _ has.1 refl refl refl
+staged_jobs (Done false) (Delete key) old new has = same_by old new old has refl refl refl
+staged_jobs NamesFull write old new has = same_by old new old has refl refl refl
+staged_jobs Full write old new has = same_by old new old has refl refl refl
 
 still_waits : (old new : MemPart) (n : ℕ) → new ≡ old → AreWaiting old.staged n → AreWaiting new.staged (n + 1)
 still_waits old new n same waits = subst (λ (p : MemPart). AreWaiting p.staged (n + 1)) (sym same) (waiting_less old.staged n waits)
@@ -84,16 +86,6 @@ pub staged_goes_on : (r : Result Staged PartFault) (write : Write) (old new : Me
 staged_goes_on (Ok answer) write old new n stands short waits has means = record { jobs = staged_jobs answer write old new has; means = means; waits = staged_waits answer write old new n has short waits }
 staged_goes_on (Err e) write old new n stands short waits has means = tt
 
--- ---- a part that begins
-
-pub begins : (part x : MemPart) (stands : Bool) → part ≡ x → x.flushing ≡ false → x.merging ≡ None → x.staged ≡ [] → (stands ≡ true → Means part) → IsAtDesk part 0 stands
-begins part x stands is flushing merging staged means = record {
-  no_flush = ap (λ (p : MemPart). p.flushing) is ∙ flushing;
-  no_merge = ap (λ (p : MemPart). p.merging) is ∙ merging;
-  means = λ standing sound. means standing;
-  staged = λ sound. none_waits part.staged 0 (ap (λ (p : MemPart). p.staged) is ∙ staged);
-}
-
 -- ---- what several clauses of a call say together
 
 pub on_ok_where : {X E : Type 0} (r : Result X E) (S A : Type 0) → (S → OnOk r A) → OnOk r (S → A)
@@ -103,10 +95,6 @@ on_ok_where (Err e) S A go = tt
 pub on_ok_both : {X E : Type 0} (r : Result X E) (A B C : Type 0) → OnOk r A → OnOk r B → (A → B → C) → OnOk r C
 on_ok_both (Ok x) A B C a b go = go a b
 on_ok_both (Err e) A B C a b go = tt
-
-pub on_ok_all : {X E : Type 0} (r : Result X E) (A B C D : Type 0) → OnOk r A → OnOk r B → OnOk r C → (A → B → C → D) → OnOk r D
-on_ok_all (Ok x) A B C D a b c go = go a b c
-on_ok_all (Err e) A B C D a b c go = tt
 
 -- the same writes wait
 pub same_wait : (old new x : MemPart) (n : ℕ) → new ≡ x → x.staged ≡ old.staged → AreWaiting old.staged n → AreWaiting new.staged n

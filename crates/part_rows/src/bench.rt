@@ -169,7 +169,8 @@ impl Bench {
             ..
         } = self;
         let left = list_merge(alloc, store, list, device, run, head, watch)?;
-        remove_unshared(store, left, watch)
+        remove_unshared(alloc, store, left, watch)?;
+        Ok(())
     }
 }
 

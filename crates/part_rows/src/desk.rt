@@ -11,11 +11,11 @@ use std::fmt::Write as _;
 use std::marker::Model;
 use std::str;
 use tc_command::{Ask, Reply, Rows, reply_text};
-use tc_list::Run;
+use tc_list::{ComponentList, Run};
 use tc_log::Write;
 use tc_part::{Limits, Opened, Part, PartFault, Staged};
 use tc_record::{encode, size};
-use tc_store::{Kit, MemStore, MemWatch};
+use tc_store::{Kit, MemFrozen, MemStore, MemWatch};
 use tc_value::Doc;
 
 // The writes of one frame, at most.
@@ -37,6 +37,8 @@ pub(crate) struct Desk {
     waiting: u32,
     /// Whether the partition means something, unless it has failed. One over a file of which that is not known does not.
     stands: bool,
+    /// The components that somebody shares beside the partition.
+    shared: Option<ComponentList<MemFrozen>>,
 }
 
 impl Model for Desk {
@@ -85,6 +87,7 @@ impl Desk {
                 part,
                 waiting: 0,
                 stands,
+                shared: None,
             }),
             Err(_) => None,
         }
@@ -159,6 +162,29 @@ impl Desk {
             return None;
         }
         match steps::merge(alloc, &mut self.part, run, self.waiting, self.stands) {
+            Ok(()) => word(alloc, "ok"),
+            Err(fault) => fault_word(alloc, fault),
+        }
+    }
+
+    /// Shares the listed components, as somebody does who reads beside the partition.
+    pub(crate) fn share(&mut self, alloc: Global) -> Option<String> {
+        self.shared = Some(self.part.list().share().ok()?);
+        word(alloc, "ok")
+    }
+
+    /// Gives up what is shared.
+    pub(crate) fn forget(&mut self, alloc: Global) -> Option<String> {
+        self.shared = None;
+        word(alloc, "ok")
+    }
+
+    /// Removes files of components that left the list.
+    pub(crate) fn sweep(&mut self, alloc: Global) -> Option<String> {
+        if self.part.failed() {
+            return word(alloc, "failed");
+        }
+        match steps::sweep(alloc, &mut self.part, self.waiting, self.stands) {
             Ok(()) => word(alloc, "ok"),
             Err(fault) => fault_word(alloc, fault),
         }

@@ -6,9 +6,9 @@
 //! name and its argument, and a `; ` between two; its answers stand in the same order. Last the partition is closed, and the
 //! row ends with how many calls on files failed and how many were reads, and the bytes of the files that a stop then leaves.
 //! The partition is number 0 of 1, and its store has no file but the first log, unless it has a component and the log behind
-//! that. A row of jobs begins with `jobs` and the calls on files that fail; it begins with no file and nothing listed, and
-//! ends with what is listed and all files. `no answer` stands for a row out of form. A row that begins with `#` is a note,
-//! and is printed as it is.
+//! that. `share` holds the listed components, as somebody does who reads beside the partition, until `forget`. A row of jobs
+//! begins with `jobs` and the calls on files that fail; it begins with no file and nothing listed, and ends with what is listed
+//! and all files. `no answer` stands for a row out of form. A row that begins with `#` is a note, and is printed as it is.
 #![tactic(auto)]
 
 mod arguments;
@@ -141,6 +141,9 @@ fn answer_of(alloc: Global, desk: &mut Desk, call: &str) -> Option<String> {
         "seal" => desk.seal(alloc),
         "flush" => desk.flush(alloc),
         "merge" => calls::merge(alloc, desk, argument),
+        "share" => desk.share(alloc),
+        "forget" => desk.forget(alloc),
+        "sweep" => desk.sweep(alloc),
         "tell" => desk.tell(alloc),
         "schema" => desk.schema(alloc),
         _ => None,

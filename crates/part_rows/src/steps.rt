@@ -43,7 +43,8 @@ pub(crate) fn commit(
     ensures ok { OnOk result (IsAtDesk part.new 0 stands) }
     ensures err { OnErr result (IsAtDesk part.new waiting stands) }
 {
-    part.commit(alloc)
+    part.commit(alloc)?;
+    Ok(())
 }
 
 /// Seals the active table.
@@ -134,4 +135,18 @@ pub(crate) fn merge(
     let job = part.begin_merge(alloc, run)?;
     let out = job.run(alloc);
     part.finish_merge(alloc, out)
+}
+
+/// Removes files of components that left the list.
+pub(crate) fn sweep(
+    alloc: Global,
+    part: &mut Part<MemStore>,
+    waiting: u32,
+    stands: bool,
+) -> Result<(), PartFault>
+    requires desk { IsAtDesk part.old waiting stands }
+    requires sound { part.old.failed ≡ false }
+    ensures { IsAtDesk part.new waiting stands }
+{
+    part.sweep(alloc)
 }

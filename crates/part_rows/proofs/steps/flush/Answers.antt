@@ -13,7 +13,7 @@ pub begin_flush-requires-clause-own : goal.begin_flush-requires-clause-own
 begin_flush-requires-clause-own c κs = let m = c.requires.desk.means c.requires.standing c.requires.sound in c.parts_own_files.ensures.part _ m.0 m.1
 
 pub returns-in_err-job : goal.returns-in_err-job
-returns-in_err-job c = fails c.args.part.now c.begin_flush.new.self c.args.waiting c.args.waiting c.args.stands c.requires.desk (fails_by c.args.part.now c.begin_flush.new.self _ refl refl refl c.in_err-job.ensures.left)
+returns-in_err-job c = fails c.args.part.now c.begin_flush.new.self c.args.waiting c.args.waiting c.args.stands c.requires.desk (fails_by c.args.part.now c.begin_flush.new.self _ refl refl refl refl c.in_err-job.ensures.left)
 
 pub finish_flush-requires-clause-name : goal.finish_flush-requires-clause-name
 finish_flush-requires-clause-name c κs = c.run-out.ensures.name ∙ c.in_ok-job.ensures.name ∙ ap (λ (s : MemPart). Component (s.generation - 1) (s.generation - 1)) (sym c.in_ok-job.ensures.same)
@@ -47,6 +47,7 @@ returns c =
       jobs = record {
         flushing = ap (λ (s : MemPart). s.flushing) ended ∙ sym c.requires.desk.no_flush;
         merging = ap (λ (s : MemPart). s.merging) ended ∙ ap (λ (s : MemPart). s.merging) same;
+        reader = ap (λ (s : MemPart). s.reader) ended ∙ ap (λ (s : MemPart). s.reader) same;
       };
       means = λ standing. (_, (listed _ flushed.0 (c.in_ok-job.ensures.begun m.0 m.1).0 makes made).0);
       waits = same_wait old new _ c.args.waiting ended (ap (λ (s : MemPart). s.staged) same) (c.requires.desk.staged c.requires.sound);
@@ -54,6 +55,6 @@ returns c =
     (on_err c.finish_flush.result _ _ c.finish_flush.ensures.left (λ left. record {
       jobs =
           let jobs = flush_ended (device_files device) (record begun { flusher = Some c.run-out.result.watch; flushing = false }) new left.1 in
-          record { flushing = jobs.flushing ∙ sym c.requires.desk.no_flush; merging = jobs.merging ∙ ap (λ (s : MemPart). s.merging) same };
+          record { flushing = jobs.flushing ∙ sym c.requires.desk.no_flush; merging = jobs.merging ∙ ap (λ (s : MemPart). s.merging) same; reader = jobs.reader ∙ ap (λ (s : MemPart). s.reader) same };
       failed = left.0;
     }))

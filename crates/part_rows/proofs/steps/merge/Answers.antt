@@ -16,7 +16,7 @@ pub begin_merge-requires-clause-own : goal.begin_merge-requires-clause-own
 begin_merge-requires-clause-own c κs = let m = c.requires.desk.means c.requires.standing c.requires.sound in c.parts_own_files.ensures.part _ m.0 m.1
 
 pub returns-in_err-job : goal.returns-in_err-job
-returns-in_err-job c = fails c.args.part.now c.begin_merge.new.self c.args.waiting c.args.waiting c.args.stands c.requires.desk (fails_by c.args.part.now c.begin_merge.new.self _ refl refl refl c.in_err-job.ensures.left)
+returns-in_err-job c = fails c.args.part.now c.begin_merge.new.self c.args.waiting c.args.waiting c.args.stands c.requires.desk (fails_by c.args.part.now c.begin_merge.new.self _ refl refl refl refl c.in_err-job.ensures.left)
 
 pub finish_merge-requires-clause-out : goal.finish_merge-requires-clause-out
 finish_merge-requires-clause-out c κs = ap (λ (s : MemPart). is_some s.merging) c.in_ok-job.ensures.same
@@ -49,6 +49,7 @@ returns c =
       jobs = record {
         flushing = ap (λ (s : MemPart). s.flushing) ended ∙ ap (λ (s : MemPart). s.flushing) same;
         merging = ap (λ (s : MemPart). s.merging) ended ∙ sym c.requires.desk.no_merge;
+        reader = ap (λ (s : MemPart). s.reader) ended ∙ ap (λ (s : MemPart). s.reader) same;
       };
       means = λ standing. (_, (listed _ _ (c.in_ok-job.ensures.begun m.0 merged.0 m.1 merged.1).0 refl made (all_told begun.list)).0);
       waits = same_wait old new _ c.args.waiting ended (ap (λ (s : MemPart). s.staged) same) (c.requires.desk.staged c.requires.sound);
@@ -56,6 +57,6 @@ returns c =
     (on_err c.finish_merge.result _ _ c.finish_merge.ensures.left (λ left. record {
       jobs =
           let jobs = merge_ended (device_files device) (run_out begun) (record begun { merger = Some c.run-out.result.watch; merging = None }) new left.1 in
-          record { flushing = jobs.flushing ∙ ap (λ (s : MemPart). s.flushing) same; merging = jobs.merging ∙ sym c.requires.desk.no_merge };
+          record { flushing = jobs.flushing ∙ ap (λ (s : MemPart). s.flushing) same; merging = jobs.merging ∙ sym c.requires.desk.no_merge; reader = jobs.reader ∙ ap (λ (s : MemPart). s.reader) same };
       failed = left.0;
     }))

@@ -18,8 +18,8 @@ returns c =
     let new = c.seal.new.self in
     at_desk c.seal.result old new c.args.waiting c.args.waiting c.args.stands c.requires.desk
     (on_ok_both c.seal.result _ _ _ c.seal.ensures.same c.seal.ensures.sealed (λ same sealed. record {
-      jobs = same_by old new _ same refl refl;
+      jobs = same_by old new _ same refl refl refl;
       means = λ standing. let m = c.requires.desk.means standing c.requires.sound in (_, (sealed m.0 m.1).0);
       waits = same_wait old new _ c.args.waiting same refl (c.requires.desk.staged c.requires.sound);
     }))
-    (on_err c.seal.result _ _ c.seal.ensures.left (λ is. fails_by old new _ refl refl refl is))
+    (on_err c.seal.result _ _ c.seal.ensures.left (λ is. fails_by old new _ refl refl refl refl is))

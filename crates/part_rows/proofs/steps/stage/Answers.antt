@@ -15,4 +15,4 @@ returns c =
     let means = on_ok_where c.stage.result _ _ (λ standing. let m = c.requires.desk.means standing c.requires.sound in on_ok c.stage.result _ _ (c.stage.ensures.staged m.0 w.plain m.1 w.storable w.is) (λ is. (_, is))) in
     at_desk c.stage.result old new n (n + 1) c.args.stands c.requires.desk
     (staged_goes_on c.stage.result c.args.write old new n c.args.stands c.requires.write (c.requires.desk.staged c.requires.sound) c.stage.ensures.same means)
-    (on_err c.stage.result _ _ c.stage.ensures.left (λ is. fails_by old new _ refl refl refl is))
+    (on_err c.stage.result _ _ c.stage.ensures.left (λ is. fails_by old new _ refl refl refl refl is))
