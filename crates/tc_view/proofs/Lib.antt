@@ -1,5 +1,6 @@
 pub mod Adding
 pub mod Prefixes
+pub mod PieceLemmas
 pub mod ShareLemmas
 pub mod ViewLemmas
 pub mod HistoryLaws

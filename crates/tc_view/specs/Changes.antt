@@ -6,15 +6,14 @@ use Rattle.std.specs.declared.alloc.Global.{Global}
 use Rattle.tc_log.specs.declared.write.Write.{Write}
 use Rattle.tc_memory.specs.Table.{Table}
 use Rattle.tc_component.specs.Loading.{ComponentState}
-use Rattle.tc_view.specs.declared.chunk.Chunk.{Chunk}
 use Rattle.tc_view.specs.declared.content.Content.{Content}
 use Rattle.tc_view.specs.declared.change.Change.{Change}
 use Rattle.tc_view.specs.declared.change.Change.TheVariants.{Writes, Placed as PlacedBy}
 use Rattle.tc_view.specs.declared.happened.Happened.{Happened}
 use Rattle.tc_view.specs.declared.happened.Happened.TheVariants.{Wrote, Placed}
 
-abbrev pub writes_in : Arc Chunk Global → List Write
-writes_in chunk = (arc_value chunk).writes
+abbrev pub writes_in : Arc (List Write) Global → List Write
+writes_in chunk = arc_value chunk
 
 -- what a view shows: components, a table over them, and the writes behind both
 pub record Showing (F : Type 0) : Type 0 where

@@ -1,4 +1,5 @@
 pub mod History
+pub mod Pieces
 pub mod Changes
 pub mod Holding
 pub mod Rules

@@ -29,7 +29,7 @@ impl<F: Frozen> Change<F> {
         ensures { result ≡ length (writes_of_one (happened self.now)) }
     {
         match self {
-            Change::Writes(chunk) => chunk.writes.as_slice().len() as u64,
+            Change::Writes(chunk) => chunk.len() as u64,
             Change::Placed { .. } => 0,
         }
     }

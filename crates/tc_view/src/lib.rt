@@ -11,6 +11,7 @@ mod law;
 mod lens;
 mod mark;
 mod past;
+mod piece;
 mod publisher;
 mod rule;
 mod snapshot;

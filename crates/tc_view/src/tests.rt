@@ -35,7 +35,7 @@ fn one(alloc: Global, key: u64) -> Result<Arc<Chunk>, Fail>
         key,
         bytes: Bytes::of(record),
     })?;
-    Ok(Arc::new(alloc, Chunk::of(writes))?)
+    Ok(Arc::new(alloc, Chunk::of(alloc, &writes)?)?)
 }
 
 /// The numbers of ten snapshots without a note, each after one more write was published, and of one that begins with a
