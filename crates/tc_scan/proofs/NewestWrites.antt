@@ -1,13 +1,14 @@
 -- The newest write of each key, found from the newest write to the oldest.
-use Rattle.std.proofs.Common.{◌≡◌, ◌<◌, ◌+◌, ℕ, Bool, true, false, List, [], ◌∷◌, ◌++◌, Option, Some, None, length, get_or, take, drop, refl, sym, ap, ◌∙◌, subst}
-use Rattle.std.specs.Prelude.{◌==◌, if◌then◌else◌, fold, flat_map, is_some, All}
+use Rattle.std.proofs.Common.{◌≡◌, ◌<◌, ◌+◌, ◌-◌, ℕ, Bool, true, false, List, [], ◌∷◌, ◌++◌, Option, Some, None, length, get_or, take, drop, refl, sym, ap, ◌∙◌, subst, arith}
+use Rattle.std.specs.Prelude.{◌==◌, if◌then◌else◌, fold, flat_map, is_some, slice_get, All}
 use Rattle.std.specs.Option.{option_or}
 use Rattle.std.proofs.lemmas.Bool.{eqb-true}
 use Rattle.std.proofs.lemmas.List.{take-append-drop}
 use Rattle.std.proofs.lemmas.List.Concat.{flat_map-append, flat_map-cons}
+use Rattle.std.proofs.lemmas.Option.{get_or_from_slice_get, slice_get_within}
 use Rattle.tc_log.specs.declared.write.Write.{Write}
 use Rattle.tc_log.specs.declared.write.Write.TheVariants.{Upsert, Delete}
-use Rattle.tc_log.specs.Writes.{key_of}
+use Rattle.tc_log.specs.Writes.{key_of, write_of}
 use Rattle.tc_machine.proofs.Options.{All-front, All-back}
 use Rattle.tc_memory.specs.Table.{Kept, Table, gone, live, shape_kept, upserted, deleted}
 use Rattle.tc_model.proofs.KeyedEquality.{same_keyed}
@@ -94,18 +95,36 @@ delete_here key t none =
 put_here : (w : Write) (t new : Table) → value_of (key_of w) t ≡ None → new ≡ with_write t w → (newer : List Write) → t ≡ newest_of newer → new ≡ newest_of (w ∷ newer)
 put_here w t new none is newer same = is ∙ ap (λ (o : Table). with_write o w) same ∙ newest_more w newer (subst (λ (o : Table). value_of (key_of w) o ≡ None) same none)
 
-pub upsert_below : (w : Write) (key asked : ℕ) (bytes copied : List ℕ) (t new : Table) → w ≡ Upsert key bytes → copied ≡ bytes → asked ≡ key_of w → false ≡ is_some (value_of asked t) → new ≡ upserted key copied None t
-    → (newer : List Write) → t ≡ newest_of newer → new ≡ newest_of (w ∷ newer)
-upsert_below w key asked bytes copied t new is same at free made =
-    let none : value_of (key_of w) t ≡ None = none_here (value_of (key_of w) t) (free ∙ ap (λ n. is_some (value_of n t)) at) in
-    put_here w t new none
-    (made ∙ ap (λ b. upserted key b None t) same ∙ upsert_here key bytes t (subst (λ v. value_of (key_of v) t ≡ None) is none) ∙ ap (with_write t) (sym is))
+-- a write by its key, and by its record if it has one
+key_there : (key : ℕ) (held : Option (List ℕ)) → key_of (write_of (key, held)) ≡ key
+key_there key (Some bytes) = refl
+key_there key None = refl
 
-pub delete_below : (w : Write) (key asked : ℕ) (t new : Table) → w ≡ Delete key → asked ≡ key_of w → false ≡ is_some (value_of asked t) → new ≡ deleted key (Some any_shape) t
-    → (newer : List Write) → t ≡ newest_of newer → new ≡ newest_of (w ∷ newer)
-delete_below w key asked t new is at free made =
-    let none : value_of (key_of w) t ≡ None = none_here (value_of (key_of w) t) (free ∙ ap (λ n. is_some (value_of n t)) at) in
-    put_here w t new none (made ∙ delete_here key t (subst (λ v. value_of (key_of v) t ≡ None) is none) ∙ ap (with_write t) (sym is))
+pub stays_below : (key : ℕ) (held : Option (List ℕ)) (t : Table) → true ≡ is_some (value_of key t) → (newer : List Write) → t ≡ newest_of newer → t ≡ newest_of (write_of (key, held) ∷ newer)
+stays_below key held t there newer same =
+    same ∙ newest_stays (write_of (key, held)) newer (ap (λ o. is_some (value_of (key_of (write_of (key, held))) o)) (sym same) ∙ ap (λ k. is_some (value_of k t)) (key_there key held) ∙ sym there)
+
+pub upsert_below : (key : ℕ) (held : Option (List ℕ)) (bytes copied : List ℕ) (t new : Table) → held ≡ Some bytes → copied ≡ bytes → false ≡ is_some (value_of key t) → new ≡ upserted key copied None t
+    → (newer : List Write) → t ≡ newest_of newer → new ≡ newest_of (write_of (key, held) ∷ newer)
+upsert_below key held bytes copied t new is same free made newer here =
+    let none = none_here (value_of key t) free in
+    put_here (Upsert key bytes) t new none (made ∙ ap (λ b. upserted key b None t) same ∙ upsert_here key bytes t none) newer here
+    ∙ ap (λ o. newest_of (write_of (key, o) ∷ newer)) (sym is)
+
+pub delete_below : (key : ℕ) (held : Option (List ℕ)) (t new : Table) → held ≡ None → false ≡ is_some (value_of key t) → new ≡ deleted key (Some any_shape) t
+    → (newer : List Write) → t ≡ newest_of newer → new ≡ newest_of (write_of (key, held) ∷ newer)
+delete_below key held t new is free made newer here =
+    let none = none_here (value_of key t) free in
+    put_here (Delete key) t new none (made ∙ delete_here key t none) newer here
+    ∙ ap (λ o. newest_of (write_of (key, o) ∷ newer)) (sym is)
+
+-- ---- a list from its end to its front
+
+-- the element that a loop stands at, and those behind it that it stood at before
+pub from_get : {A : Type 0} (xs : List A) (i : ℕ) (x : A) → 0 < i → slice_get xs (i - 1) ≡ Some x → drop (i - 1) xs ≡ x ∷ drop i xs
+from_get xs i x some is =
+    let behind : i - 1 + 1 ≡ i = omega (arith, some) in
+    from_place xs (i - 1) x (slice_get_within xs (i - 1) x is) (sym (get_or_from_slice_get xs (i - 1) x x is)) ∙ ap (λ n. x ∷ drop n xs) behind
 
 -- ---- lists of lists
 

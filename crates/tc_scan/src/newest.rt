@@ -1,15 +1,14 @@
 //! The newest writes by key.
 
-ghost use Rattle.std.specs.Prelude.{◌≡◌, ◌∷◌, ◌++◌, All, List, flat_map, IfOk, OnOk};
-ghost use Rattle.tc_log.specs.Writes.{key_of as key_written, IsWrite};
+ghost use Rattle.std.specs.Prelude.{◌≡◌, ◌∷◌, ◌++◌, All, List, flat_map, option_map, IfOk, OnOk};
+ghost use Rattle.tc_log.specs.Writes.{write_of, IsWrite};
 ghost use Rattle.tc_log.specs.declared.write.Write.{Write as OneWrite};
 ghost use Rattle.tc_scan.specs.Newest.{newest_of};
 ghost use Rattle.tc_view.specs.Changes.{writes_in};
 
 use std::alloc::Global;
 use std::sync::Arc;
-use tc_bytes::Memory;
-use tc_log::Write;
+use tc_bytes::{Bytes, Memory};
 use tc_memory::Memtable;
 use tc_value::Shape;
 use tc_view::Chunk;
@@ -24,44 +23,41 @@ pub(crate) fn newest_written(alloc: Global, chunks: &[Arc<Chunk>]) -> Result<Mem
     let mut at = chunks.len();
     while at > 0 {
         at -= 1;
-        put_all_below(alloc, &mut table, chunks[at].writes.as_slice())?;
+        put_all_below(alloc, &mut table, &chunks[at])?;
     }
     Ok(table)
 }
 
-/// Puts writes below those that a table has. Errs only for want of memory.
-fn put_all_below(alloc: Global, table: &mut Memtable, writes: &[Write]) -> Result<(), Memory>
-    requires stored { All IsWrite writes.now }
-    ensures { OnOk result ((newer : List OneWrite) → table.old ≡ newest_of newer → table.new ≡ newest_of (writes.now ++ newer)) }
+/// Puts the writes of a chunk below those that a table has. Errs only for want of memory.
+fn put_all_below(alloc: Global, table: &mut Memtable, chunk: &Chunk) -> Result<(), Memory>
+    requires stored { All IsWrite chunk.now }
+    ensures { OnOk result ((newer : List OneWrite) → table.old ≡ newest_of newer → table.new ≡ newest_of (chunk.now ++ newer)) }
 {
-    let mut at = writes.len();
+    let mut at = chunk.len();
     while at > 0 {
         at -= 1;
-        put_below(alloc, table, &writes[at])?;
+        let (key, bytes) = chunk.write(at);
+        put_below(alloc, table, key, bytes)?;
     }
     Ok(())
 }
 
-/// Puts a write below those that a table has, where none of them is to its key. Errs only for want of memory.
-fn put_below(alloc: Global, table: &mut Memtable, write: &Write) -> Result<(), Memory>
-    requires stored { IsWrite write.now }
-    ensures { OnOk result ((newer : List OneWrite) → table.old ≡ newest_of newer → table.new ≡ newest_of (write.now ∷ newer)) }
+/// Puts a write below those that a table has, where none of them is to its key: only there it copies the record. Errs only for
+/// want of memory.
+fn put_below(
+    alloc: Global,
+    table: &mut Memtable,
+    key: u64,
+    bytes: Option<&[u8]>,
+) -> Result<(), Memory>
+    requires stored { IsWrite (write_of (key, option_map (λ b. b.now) bytes)) }
+    ensures { OnOk result ((newer : List OneWrite) → table.old ≡ newest_of newer → table.new ≡ newest_of (write_of (key, option_map (λ b. b.now) bytes.entry) ∷ newer)) }
 {
-    if table.has(key_of(write)) {
+    if table.has(key) {
         return Ok(());
     }
-    match write {
-        Write::Upsert { key, bytes } => table.upsert(*key, bytes.copy(alloc)?, None),
-        Write::Delete { key } => table.delete(*key, Some(Shape::Null)),
-    }
-}
-
-/// The key that a write is to.
-fn key_of(write: &Write) -> u64
-    ensures { result ≡ key_written write.now }
-{
-    match write {
-        Write::Upsert { key, bytes: _ } => *key,
-        Write::Delete { key } => *key,
+    match bytes {
+        Some(bytes) => table.upsert(key, Bytes::of(Vec::from_slice(alloc, bytes)?), None),
+        None => table.delete(key, Some(Shape::Null)),
     }
 }

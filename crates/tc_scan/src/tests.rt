@@ -46,7 +46,7 @@ fn frame(alloc: Global, first: Write, second: Write) -> Result<Arc<Chunk>, Fail>
     let mut writes = Vec::new(alloc);
     writes.push(first)?;
     writes.push(second)?;
-    Ok(Arc::new(alloc, Chunk::of(writes))?)
+    Ok(Arc::new(alloc, Chunk::of(alloc, &writes)?)?)
 }
 
 /// The rows over a view of two frames: the second takes out what the first sets, and the other way round.

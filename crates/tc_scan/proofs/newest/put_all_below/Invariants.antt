@@ -6,8 +6,8 @@ use Rattle.tc_scan.proofs.newest.put_all_below.Given as goal
 -- the writes from here on lie below the newer ones
 abbrev pub invariant-loop-at : goal.invariant-loop-at
 invariant-loop-at l = record {
-  inside : l.at ≤ length l.writes;
-  newest : (newer : List Write) → l.fn.table ≡ newest_of newer → l.table ≡ newest_of (drop l.at l.writes ++ newer);
+  inside : l.at ≤ length l.chunk;
+  newest : (newer : List Write) → l.fn.table ≡ newest_of newer → l.table ≡ newest_of (drop l.at l.chunk ++ newer);
 }
 
 abbrev pub decreases-loop-at : goal.decreases-loop-at
