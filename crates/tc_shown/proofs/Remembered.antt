@@ -9,7 +9,6 @@ use Rattle.tc_log.specs.declared.write.Write.{Write}
 use Rattle.tc_memory.specs.Table.{Table}
 use Rattle.tc_view.specs.declared.change.Change.{Change}
 use Rattle.tc_view.specs.declared.change.Change.TheVariants.{Writes}
-use Rattle.tc_view.specs.declared.chunk.Chunk.{Chunk}
 use Rattle.tc_view.specs.declared.content.Content.{Content}
 use Rattle.tc_view.specs.declared.happened.Happened.{Happened}
 use Rattle.tc_view.specs.declared.happened.Happened.TheVariants.{Placed, Wrote}
@@ -50,13 +49,13 @@ module _ {F W : Type 0} where
 
   -- ---- a frame
 
-  pub wrote_remembered : (c d : Content F W) (chunk : Arc Chunk Global) (kept : List (ComponentState F)) (flag written : Bool) → d ≡ after_change c (Writes chunk) → IsRemembered kept flag written c → IsRemembered kept flag true d
+  pub wrote_remembered : (c d : Content F W) (chunk : Arc (List Write) Global) (kept : List (ComponentState F)) (flag written : Bool) → d ≡ after_change c (Writes chunk) → IsRemembered kept flag written c → IsRemembered kept flag true d
   wrote_remembered c d chunk kept flag written is remembered = record {
     components = remembered.components ∙ sym (ap (λ (x : Content F W). x.list) is);
     table = remembered.table ∙ sym (ap (λ (x : Content F W). is_some x.sealed) is);
     none_behind = λ no. absurd (cc (no));
   }
 
-  pub wrote_history : (c d : Content F W) (chunk : Arc Chunk Global) (ws : List Write) → d ≡ after_change c (Writes chunk) → writes_in chunk ≡ ws → 0 < length ws → d.history ≡ c.history ++ wrote ws
+  pub wrote_history : (c d : Content F W) (chunk : Arc (List Write) Global) (ws : List Write) → d ≡ after_change c (Writes chunk) → writes_in chunk ≡ ws → 0 < length ws → d.history ≡ c.history ++ wrote ws
   wrote_history c d chunk [] is same some = absurd (omega (arith, some))
   wrote_history c d chunk (w ∷ ws) is same some = ap (λ (x : Content F W). x.history) is ∙ ap (λ (all : List Write). c.history ++ Wrote all ∷ []) same

@@ -99,7 +99,7 @@ impl<F: Frozen> Shown<F> {
         if frame.is_empty() {
             return Ok(());
         }
-        let chunk = Arc::new(self.alloc, Chunk::of(frame))?;
+        let chunk = chunk_of(self.alloc, frame)?;
         self.failed = true;
         publish(rt, &mut self.publisher, Change::Writes(chunk))?;
         self.written = true;
@@ -179,6 +179,13 @@ impl<F: Frozen> Shown<F> {
         } = self;
         publisher.end(rt);
     }
+}
+
+/// The chunk of a frame, which is dropped behind it.
+fn chunk_of(alloc: Global, frame: Vec<Write>) -> Result<Arc<Chunk>, Memory>
+    ensures { IfOk result (λ chunk. arc_value chunk ≡ frame.items) }
+{
+    Ok(Arc::new(alloc, Chunk::of(alloc, &frame)?)?)
 }
 
 /// Appends a change and publishes it. After an `Err` the publisher must not be used but for `end`.
