@@ -1,0 +1,58 @@
+-- What keeps the documents where a run begins, beside the partitions that were opened: it may be asked, and counts as they do.
+use Rattle.std.proofs.Common.{◌≡◌, ◌∙◌, ℕ, true, List, [], All, arith, ap, sym, subst}
+use Rattle.std.specs.Prelude.{is_some, None, Option, option_map, slice_get, Some}
+use Rattle.std.proofs.lemmas.List.Elements.{All-weaker}
+use Rattle.tc_engines.specs.Places.{AtEach}
+use Rattle.tc_engines.specs.WithJobs.{WithJobs}
+use Rattle.tc_engines.proofs.PlaceLaws.{at_each-length}
+use Rattle.tc_shown.specs.Shown.{ShownState}
+use Rattle.tc_shown.specs.declared.scan.Scan.{Scan as Begun}
+use Rattle.tc_store.specs.Counted.{Counts}
+use Rattle.tc_store.specs.Disk.{Disk}
+use Rattle.tc_store.specs.DiskFile.{DiskFile}
+use Rattle.tc_keeper.specs.Calls.{faults_at, faults_of, AllMayAnswer, MayAsk}
+use Rattle.tc_keeper.specs.Faults.{DiskFaults, HasRunCauses}
+use Rattle.tc_keeper.specs.Keeping.{counted_out, faults_kept, watch_out, AreLensesOut, AreReadersOut, AreUnwritten, IsManned, KeeperState, MayServe}
+use Rattle.tc_keeper.specs.Showing.{IsShownFirst}
+use Rattle.tc_keeper.specs.declared.fault.RunFault.{RunFault}
+use Rattle.tc_keeper.specs.declared.fault.RunFault.TheVariants.{Memory}
+use Rattle.tc_keeper.specs.declared.partitions.Partitions.{Partitions}
+use Rattle.tc_keeper.proofs.Causes.{nothing_counted}
+
+pub begun_works : {S P W D F : Type 0} (disks : S → List Disk) (moments : D → List DiskFile) (content : F → Option (List ℕ)) (k : KeeperState S D F W) (p : Partitions S P W D F) → k.engines ≡ p.engines → MayAsk disks moments content p → MayServe disks moments content k
+unfolding MayAsk MayServe
+begun_works disks moments content k p same works = subst (AllMayAnswer disks moments content) (sym same) works
+
+pub begun_counts : {S P W D F : Type 0} (counts : W → Counts) (k : KeeperState S D F W) (p : Partitions S P W D F) → k.engines ≡ p.engines → k.scan ≡ None → faults_kept counts k ≡ faults_of counts p
+unfolding faults_kept faults_of
+begun_counts {S} {P} {W} {D} {F} counts k p same none =
+    ap (λ (o : Option (Begun F W)). λ q. counted_out counts (watch_out o q) (option_map (faults_at counts) (slice_get k.engines q))) none
+    ∙ ap (λ (es : List (WithJobs S D F W)). λ q. option_map (faults_at counts) (slice_get es q)) same
+
+pub begun_causes : {S P W D F : Type 0} (counts : W → Counts) (k : KeeperState S D F W) (p : Partitions S P W D F) (reads reads' before now : ℕ) (new : DiskFaults) (fault : Option RunFault) → k.engines ≡ p.engines → k.scan ≡ None → HasRunCauses reads reads' before now (faults_kept counts k) new fault
+    → HasRunCauses reads reads' before now (faults_of counts p) new fault
+begun_causes counts k p reads reads' before now new fault same none causes = subst (λ old. HasRunCauses reads reads' before now old new fault) (begun_counts counts k p same none) causes
+
+-- memory was wanting, and nothing was asked
+pub unrun_causes : {S P W D F : Type 0} (counts : W → Counts) (p : Partitions S P W D F) (reads before : ℕ) → HasRunCauses reads reads before before (faults_of counts p) (faults_of counts p) (Some Memory)
+unrun_causes counts p reads before = record {
+  heard = omega arith;
+  read = λ is. absurd (cc);
+  kept = omega arith;
+  failed = λ is. absurd is;
+  stayed = (nothing_counted (faults_of counts p) (Unit {0})).stayed;
+  disk = tt;
+  damaged = tt;
+  kind = tt;
+}
+
+pub readers_home : {S D F W : Type 0} (es : List (WithJobs S D F W)) → AreUnwritten es → All (λ e. is_some e.engine.part.reader ≡ true) es
+readers_home es unwritten = All-weaker (λ e. (e.engine.part.sealed ≡ None) × (e.engine.part.active ≡ []) × (is_some e.engine.part.reader ≡ true)) (λ e. is_some e.engine.part.reader ≡ true) (λ e u. u.2) es unwritten
+
+-- as many are shown as there are engines, and nothing is out
+pub manned_first : {S D F W : Type 0} (k : KeeperState S D F W) → k.scan ≡ None → AtEach (λ p e s. IsShownFirst e s) 0 k.engines k.shown → AreUnwritten k.engines → IsManned k
+manned_first {S} {D} {F} {W} k none shown unwritten = record {
+  as_many = sym (at_each-length (λ p (e : WithJobs S D F W) (s : ShownState F W). IsShownFirst e s) 0 k.engines k.shown shown);
+  readers = subst (λ (o : Option (Begun F W)). AreReadersOut o k.engines) (sym none) (readers_home k.engines unwritten);
+  lenses = subst (λ (o : Option (Begun F W)). AreLensesOut o k.shown) (sym none) tt;
+}

@@ -1,0 +1,74 @@
+-- One partition after the other is shown: what holds of one behind its turn.
+use Rattle.std.proofs.Common.{◌≡◌, ◌∙◌, ◌⊎◌, ◌<◌, ◌++◌, ℕ, zero, suc, true, false, List, [], ◌∷◌, length, arith, refl, ap, sym, subst, inl, inr}
+use Rattle.std.specs.Prelude.{Option, slice_index_or}
+use Rattle.std.specs.declared.alloc.Global.{Global}
+use Rattle.std.specs.declared.vec.Vec.{Vec}
+use Rattle.std.proofs.lemmas.Bool.{false≢true}
+use Rattle.tc_component.specs.Loading.{ComponentState}
+use Rattle.tc_engines.specs.Places.{IsAt}
+use Rattle.tc_engines.specs.WithJobs.{WithJobs}
+use Rattle.tc_log.specs.declared.write.Write as log
+use Rattle.tc_memory.specs.Table.{Table}
+use Rattle.tc_merge.specs.Merging.{GrowNames}
+use Rattle.tc_model.specs.Document.{Name}
+use Rattle.tc_shown.specs.Shown.{wrote, IsPlaced, ShownState}
+use Rattle.tc_view.specs.Holding.{Extend}
+use Rattle.tc_keeper.specs.Showing.{IsPlacedOver, IsReadAsBefore}
+use Rattle.tc_keeper.proofs.ShownWorlds.{Wrote}
+use Rattle.tc_keeper.proofs.Turns.{get-is_at, is_at-get}
+
+-- ---- lenses go on to read it
+
+same_read : {F W : Type 0} (old new : ShownState F W) → new.failed ≡ old.failed → new.book ≡ old.book → IsReadAsBefore old new
+same_read old new failed book = λ works. (sym failed ∙ works, book)
+
+pub failed_read : {F W : Type 0} (old new : ShownState F W) → (new ≡ old) ⊎ (new.failed ≡ true) → IsReadAsBefore old new
+failed_read old new (inl same) = same_read old new (ap (λ (s : ShownState _ _). s.failed) same) (ap (λ (s : ShownState _ _). s.book) same)
+failed_read old new (inr failed) = λ works. absurd (false≢true (sym works ∙ failed))
+
+pub stays_read : {F W : Type 0} (old : ShownState F W) → IsReadAsBefore old old
+stays_read old = λ works. (works, refl)
+
+wrote_so : {F W : Type 0} (old new : ShownState F W) (frame : Vec log.Write Global) → new ≡ record old { history = old.history ++ wrote frame.items } → IsReadAsBefore old new
+wrote_so old new frame is = same_read old new (ap (λ (s : ShownState _ _). s.failed) is) (ap (λ (s : ShownState _ _). s.book) is)
+
+pub wrote_read : {F W : Type 0} (frames : List (Vec log.Write Global)) (p : ℕ) (old new : ShownState F W) → Wrote frames p old new → IsReadAsBefore old new
+wrote_read frames p old new at = let one = is_at-get (λ frame. new ≡ record old { history = old.history ++ wrote frame.items }) p frames at in wrote_so old new one.0 one.2
+
+placed_so : {S D F W : Type 0} (e : WithJobs S D F W) (old new : ShownState F W) → IsPlacedOver e old new → IsReadAsBefore old new
+placed_so e old new (inl stays) = same_read old new (ap (λ (s : ShownState _ _). s.failed) stays) (ap (λ (s : ShownState _ _). s.book) stays)
+placed_so e old new (inr (empty, inl more)) = same_read old new (ap (λ (s : ShownState _ _). s.failed) more) (ap (λ (s : ShownState _ _). s.book) more)
+placed_so e old new (inr (empty, inr there)) = same_read old new (ap (λ (s : ShownState _ _). s.failed) there.0) (ap (λ (s : ShownState _ _). s.book) there.0)
+
+abbrev pub PlacedBy : {S D F W : Type 0} → List (WithJobs S D F W) → ℕ → ShownState F W → ShownState F W → Type 0
+PlacedBy es p old new = IsAt p es (λ e. IsPlacedOver e old new)
+
+pub placed_read : {S D F W : Type 0} (es : List (WithJobs S D F W)) (p : ℕ) (old new : ShownState F W) → PlacedBy es p old new → IsReadAsBefore old new
+placed_read es p old new at = let one = is_at-get (λ e. IsPlacedOver e old new) p es at in placed_so one.0 old new one.2
+
+-- ---- its turn
+
+pub wrote_there : {F W : Type 0} (frames : List (Vec log.Write Global)) (p : ℕ) (frame : Vec log.Write Global) (old new : ShownState F W) → p < length frames → frame ≡ slice_index_or frames p frame → new ≡ record old { history = old.history ++ wrote frame.items } → Wrote frames p old new
+wrote_there frames p frame old new below is done = get-is_at (λ frame. new ≡ record old { history = old.history ++ wrote frame.items }) p frames frame below is done
+
+no_length : {X : Type 0} (xs : List X) → length xs ≡ 0 → xs ≡ []
+no_length [] none = refl
+no_length (x ∷ xs) none = absurd (omega (arith, none))
+
+pub placed_there : {S D F W : Type 0} (es : List (WithJobs S D F W)) (p n : ℕ) (list : List (ComponentState F)) (sealed : Option Table) (old new : ShownState F W) → n ≡ 0 → IsAt p es (λ e. n ≡ length e.engine.part.active) → IsAt p es (λ e. list ≡ e.engine.part.list) → IsAt p es (λ e. sealed ≡ e.engine.part.sealed)
+    → IsPlaced list sealed old new → PlacedBy es p old new
+placed_there [] p n list sealed old new none count is_list is_sealed placed = absurd count
+placed_there (e ∷ es) zero n list sealed old new none count is_list is_sealed placed =
+    inr (no_length e.engine.part.active (sym count ∙ none), subst (λ (o : Option Table). IsPlaced e.engine.part.list o old new) is_sealed (subst (λ (l : List (ComponentState _)). IsPlaced l sealed old new) is_list placed))
+placed_there (e ∷ es) (suc p) n list sealed old new none count is_list is_sealed placed = placed_there es p n list sealed old new none count is_list is_sealed placed
+
+pub stays_there : {S D F W : Type 0} (es : List (WithJobs S D F W)) (p : ℕ) (s : ShownState F W) → p < length es → PlacedBy es p s s
+stays_there [] p s below = absurd (omega (arith, below))
+stays_there (e ∷ es) zero s below = inl refl
+stays_there (e ∷ es) (suc p) s below = stays_there es p s (omega (arith, below))
+
+-- ---- components that can be shown
+
+pub extended : {F : Type 0} (names : List Name) (list : List (ComponentState F)) → GrowNames names list → Extend names list
+extended names [] grow = tt
+extended names (c ∷ list) grow = (grow.0, extended c.index.names list grow.1)

@@ -1,0 +1,10 @@
+pub mod Places
+pub mod Faults
+pub mod Sight
+pub mod Holds
+pub mod OwnKeys
+pub mod Together
+pub mod Partitions
+pub mod Calls
+pub mod Keeping
+pub mod Showing

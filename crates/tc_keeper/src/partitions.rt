@@ -1,0 +1,217 @@
+//! The engines of the partitions answer windows.
+
+ghost use Rattle.std.specs.Prelude.{◌≡◌, ◌≤◌, ◌∷◌, [], length, map, zip, All, None, IfErr, IfOk};
+ghost use Rattle.serde_json.specs.View.{view};
+ghost use Rattle.tc_log.specs.Layout.{empty_size};
+ghost use Rattle.tc_model.specs.Keyed.{values_in};
+ghost use Rattle.tc_engines.specs.Places.{AtEach};
+ghost use Rattle.tc_engines.specs.Running.{HasFramed};
+ghost use Rattle.tc_engines.specs.Standing.{HoldWorld};
+ghost use Rattle.tc_route.specs.Meaning.{routed_of};
+ghost use Rattle.tc_route.specs.Shares.{share};
+ghost use Rattle.tc_plain_model.specs.Store.{documents};
+ghost use Rattle.tc_run_model.specs.World.{World};
+ghost use Rattle.tc_schema_model.specs.SchemaText.{schema_text};
+ghost use Rattle.tc_keeper.specs.Partitions.{fault_of_engines, window_fault_at, window_fault_of};
+ghost use Rattle.tc_work.specs.Moving.{eyes};
+
+use crate::fault::{RunFault, of_engine};
+use std::alloc::Global;
+use std::thread::Threads;
+use tc_command::Schemas;
+use tc_engines::{Engines, EnginesFault};
+use tc_log::Write;
+use tc_part::parts_hold_devices;
+use tc_record::record_within_weight;
+use tc_route::{Replies, Routed};
+use tc_running::Pace;
+use tc_store::Store;
+use tc_work::EngineFault;
+
+/// The partitions of a store that is open, in ascending number. After a call that errs no more is asked of them.
+#[derive(Drop)]
+pub struct Partitions<S: Store, P: Pace> {
+    pub(crate) engines: Engines<S, P>,
+}
+
+#[tactic(auto, unfolding(crate::specs::Calls::MayAsk, crate::specs::Calls::HoldsAt, crate::specs::Calls::KeepsAt, crate::specs::Calls::Rests, crate::specs::Calls::faults_of, crate::specs::Calls::IsSpent))]
+impl<S: Store, P: Pace> Partitions<S, P> {
+    ghost use Rattle.std.specs.Prelude.{ℕ, None, Ok, Option, OnErr, OnOk};
+    ghost use Rattle.tc_model.specs.Reply.{schemas};
+    ghost use Rattle.tc_model.specs.Request.{flush, schema};
+    ghost use Rattle.tc_route.specs.Meaning.{replies_in};
+    ghost use Rattle.tc_run_model.specs.Known.{MayReply};
+    ghost use Rattle.tc_run_model.specs.World.{World, after_all};
+    ghost use Rattle.tc_keeper.specs.Calls.{faults_of, settings_of, HoldsAt, IsSpent, KeepsAt, MayAsk, Rests};
+    ghost use Rattle.tc_keeper.specs.Faults.{fault_in, HasDiskCause, IsNoDamage, IsOfStore};
+    ghost use Rattle.tc_keeper.specs.Sight.{sees, sight_after, whole_of, Sight};
+    ghost use Rattle.tc_keeper.specs.Together.{requests_routed, AreTogether};
+
+    /// The partitions of these engines.
+    pub fn of(engines: Engines<S, P>) -> Partitions<S, P>
+        ensures { result ≡ record { engines = engines } }
+    {
+        Partitions { engines }
+    }
+
+    /// The engines, where the session ends.
+    pub fn into_engines(self) -> Engines<S, P>
+        ensures { result ≡ self.engines }
+    {
+        self.engines
+    }
+
+    /// Answers commands for partitions, one reply a command and in their order, in which a get or a query sees the writes
+    /// before it, and keeps what they write. It hands out the frames in which they were written, one a partition.
+    pub fn window<R: Threads + Sync>(
+        &mut self,
+        rt: &R,
+        alloc: Global,
+        commands: Vec<Routed>,
+        frames: &mut Vec<Vec<Write>>,
+    ) -> Result<Replies, RunFault>
+        requires works { MayAsk S.history S.Device.history S.Frozen.content self.old }
+        requires together { AreTogether commands.items }
+        ensures works { OnOk result (MayAsk S.history S.Device.history S.Frozen.content self.new) }
+        ensures replies { (known : Sight) → HoldsAt (eyes S.history S.Device.history S.Frozen.content S.Device.name S.Frozen.size S.Watch.counts) self.old known → IfOk result (λ replies. MayReply (requests_routed commands.items) (whole_of known) (values_in (replies_in replies))) }
+        ensures held { (known : Sight) → HoldsAt (eyes S.history S.Device.history S.Frozen.content S.Device.name S.Frozen.size S.Watch.counts) self.old known → OnOk result (HoldsAt (eyes S.history S.Device.history S.Frozen.content S.Device.name S.Frozen.size S.Watch.counts) self.new (sight_after (requests_routed commands.items) known)) }
+        ensures failed { (only : Option ℕ) (w : World) → HoldsAt (eyes S.history S.Device.history S.Frozen.content S.Device.name S.Frozen.size S.Watch.counts) self.old (sees only w) → OnErr result (KeepsAt (eyes S.history S.Device.history S.Frozen.content S.Device.name S.Frozen.size S.Watch.counts) self.new only w (after_all (requests_routed commands.items) w)) }
+        ensures undamaged { (w : World) → HoldsAt (eyes S.history S.Device.history S.Frozen.content S.Device.name S.Frozen.size S.Watch.counts) self.old (sees None w) → IfErr result IsNoDamage }
+        ensures kinds { IfErr result IsOfStore }
+        ensures frames { OnOk result (AtEach (λ p run frame. HasFramed (eyes S.history S.Device.history S.Frozen.content S.Device.name S.Frozen.size S.Watch.counts) (share (length self.old.engines) p (map routed_of commands.items)) run.0.engine run.1.engine frame.items) 0 (zip self.old.engines self.new.engines) frames.new.items) }
+        ensures readers { AtEach (λ p old new. new.engine.part.reader ≡ old.engine.part.reader) 0 self.old.engines self.new.engines }
+        ensures settings { settings_of self.new ≡ settings_of self.old }
+        ensures cause { HasDiskCause (faults_of (λ w. S.Watch.counts w) self.old) (faults_of (λ w. S.Watch.counts w) self.new) (IsSpent S.history S.Device.history S.Frozen.content self.new) (fault_in result) }
+    {
+        record_within_weight();
+        parts_hold_devices();
+        match self.engines.window(rt, alloc, commands, frames) {
+            Ok(replies) => Ok(replies),
+            Err(fault) => Err(of_window(fault)),
+        }
+    }
+
+    /// Moves documents from memory into files, and puts files together, where it is time, by jobs beside what follows.
+    pub fn settle<R: Threads>(&mut self, rt: &R, alloc: Global) -> Result<(), RunFault>
+    where
+        S: 'static,
+        S::Device: 'static,
+        S::Frozen: 'static,
+        S::Watch: 'static,
+        P: 'static,
+        requires works { MayAsk S.history S.Device.history S.Frozen.content self.old }
+        ensures works { OnOk result (MayAsk S.history S.Device.history S.Frozen.content self.new) }
+        ensures rests { OnOk result (Rests (λ d. S.Device.size d) self.new) }
+        ensures held { (known : Sight) → HoldsAt (eyes S.history S.Device.history S.Frozen.content S.Device.name S.Frozen.size S.Watch.counts) self.old known → OnOk result (HoldsAt (eyes S.history S.Device.history S.Frozen.content S.Device.name S.Frozen.size S.Watch.counts) self.new known) }
+        ensures failed { (only : Option ℕ) (w : World) → HoldsAt (eyes S.history S.Device.history S.Frozen.content S.Device.name S.Frozen.size S.Watch.counts) self.old (sees only w) → OnErr result (KeepsAt (eyes S.history S.Device.history S.Frozen.content S.Device.name S.Frozen.size S.Watch.counts) self.new only w w) }
+        ensures undamaged { (w : World) → HoldsAt (eyes S.history S.Device.history S.Frozen.content S.Device.name S.Frozen.size S.Watch.counts) self.old (sees None w) → IfErr result IsNoDamage }
+        ensures kinds { IfErr result IsOfStore }
+        ensures readers { AtEach (λ p old new. new.engine.part.reader ≡ old.engine.part.reader) 0 self.old.engines self.new.engines }
+        ensures settings { settings_of self.new ≡ settings_of self.old }
+        ensures cause { HasDiskCause (faults_of (λ w. S.Watch.counts w) self.old) (faults_of (λ w. S.Watch.counts w) self.new) (IsSpent S.history S.Device.history S.Frozen.content self.new) (fault_in result) }
+    {
+        parts_hold_devices();
+        match self.engines.settle(rt, alloc) {
+            Ok(()) => Ok(()),
+            Err(fault) => Err(of_engines(fault)),
+        }
+    }
+
+    /// Moves all documents from memory into files.
+    pub fn flush<R: Threads>(&mut self, rt: &R, alloc: Global) -> Result<(), RunFault>
+    where
+        S: 'static,
+        S::Device: 'static,
+        S::Frozen: 'static,
+        S::Watch: 'static,
+        P: 'static,
+        requires works { MayAsk S.history S.Device.history S.Frozen.content self.old }
+        ensures works { OnOk result (MayAsk S.history S.Device.history S.Frozen.content self.new) }
+        ensures emptied { OnOk result (All (λ e. S.Device.size e.engine.part.log.device ≤ empty_size) self.new.engines) }
+        ensures none_sealed { OnOk result (All (λ e. e.engine.part.sealed ≡ None) self.new.engines) }
+        ensures held { (known : Sight) → HoldsAt (eyes S.history S.Device.history S.Frozen.content S.Device.name S.Frozen.size S.Watch.counts) self.old known → OnOk result (HoldsAt (eyes S.history S.Device.history S.Frozen.content S.Device.name S.Frozen.size S.Watch.counts) self.new (sight_after (flush ∷ []) known)) }
+        ensures failed { (only : Option ℕ) (w : World) → HoldsAt (eyes S.history S.Device.history S.Frozen.content S.Device.name S.Frozen.size S.Watch.counts) self.old (sees only w) → OnErr result (KeepsAt (eyes S.history S.Device.history S.Frozen.content S.Device.name S.Frozen.size S.Watch.counts) self.new only w w) }
+        ensures undamaged { (w : World) → HoldsAt (eyes S.history S.Device.history S.Frozen.content S.Device.name S.Frozen.size S.Watch.counts) self.old (sees None w) → IfErr result IsNoDamage }
+        ensures kinds { IfErr result IsOfStore }
+        ensures readers { AtEach (λ p old new. new.engine.part.reader ≡ old.engine.part.reader) 0 self.old.engines self.new.engines }
+        ensures settings { settings_of self.new ≡ settings_of self.old }
+        ensures cause { HasDiskCause (faults_of (λ w. S.Watch.counts w) self.old) (faults_of (λ w. S.Watch.counts w) self.new) (IsSpent S.history S.Device.history S.Frozen.content self.new) (fault_in result) }
+    {
+        parts_hold_devices();
+        match self.engines.force_flush(rt, alloc) {
+            Ok(()) => Ok(()),
+            Err(fault) => Err(of_engines(fault)),
+        }
+    }
+
+    /// The schema of each partition, behind a flush.
+    pub fn schemas<R: Threads>(&mut self, rt: &R, alloc: Global) -> Result<Schemas, RunFault>
+    where
+        S: 'static,
+        S::Device: 'static,
+        S::Frozen: 'static,
+        S::Watch: 'static,
+        P: 'static,
+        requires works { MayAsk S.history S.Device.history S.Frozen.content self.old }
+        ensures works { OnOk result (MayAsk S.history S.Device.history S.Frozen.content self.new) }
+        ensures shown { (known : Sight) → HoldsAt (eyes S.history S.Device.history S.Frozen.content S.Device.name S.Frozen.size S.Watch.counts) self.old known → IfOk result (λ shown. MayReply (schema ∷ []) (whole_of known) (schemas (map view shown) ∷ [])) }
+        ensures held { (known : Sight) → HoldsAt (eyes S.history S.Device.history S.Frozen.content S.Device.name S.Frozen.size S.Watch.counts) self.old known → OnOk result (HoldsAt (eyes S.history S.Device.history S.Frozen.content S.Device.name S.Frozen.size S.Watch.counts) self.new (sight_after (schema ∷ []) known)) }
+        ensures failed { (only : Option ℕ) (w : World) → HoldsAt (eyes S.history S.Device.history S.Frozen.content S.Device.name S.Frozen.size S.Watch.counts) self.old (sees only w) → OnErr result (KeepsAt (eyes S.history S.Device.history S.Frozen.content S.Device.name S.Frozen.size S.Watch.counts) self.new only w w) }
+        ensures undamaged { (w : World) → HoldsAt (eyes S.history S.Device.history S.Frozen.content S.Device.name S.Frozen.size S.Watch.counts) self.old (sees None w) → IfErr result IsNoDamage }
+        ensures kinds { IfErr result IsOfStore }
+        ensures readers { AtEach (λ p old new. new.engine.part.reader ≡ old.engine.part.reader) 0 self.old.engines self.new.engines }
+        ensures settings { settings_of self.new ≡ settings_of self.old }
+        ensures cause { HasDiskCause (faults_of (λ w. S.Watch.counts w) self.old) (faults_of (λ w. S.Watch.counts w) self.new) (IsSpent S.history S.Device.history S.Frozen.content self.new) (fault_in result) }
+    {
+        match self.flush(rt, alloc) {
+            Ok(()) => schemas_of(alloc, &self.engines),
+            Err(fault) => Err(fault),
+        }
+    }
+}
+
+// The schemas of the documents in the components, which are all where no table is sealed and no log has a frame. Errs only for want of memory.
+fn schemas_of<S: Store, P: Pace>(
+    alloc: Global,
+    engines: &Engines<S, P>,
+) -> Result<Schemas, RunFault>
+    ensures shown { (w : World) → HoldWorld (eyes S.history S.Device.history S.Frozen.content S.Device.name S.Frozen.size S.Watch.counts) None engines.now w → All (λ e. e.engine.part.sealed ≡ None) engines.now → All (λ e. S.Device.size e.engine.part.log.device ≤ empty_size) engines.now
+        → IfOk result (λ shown. map view shown ≡ map (λ part. schema_text (documents part.now)) w.parts) }
+    ensures memory { IfErr result (λ fault. fault ≡ RunFault.Memory) }
+{
+    match engines.schemas(alloc) {
+        Ok(texts) => Ok(Schemas::of(texts)),
+        Err(_) => Err(RunFault::Memory),
+    }
+}
+
+// The fault of a run whose engines failed in a window. That a number of writes is spent is answered as want of memory, and never
+// comes: each of 2^63 writes takes a line, and of an input no more than 2^63 - 1 bytes are read. Nothing here tells it.
+fn of_window(fault: EnginesFault) -> RunFault
+    ensures { result ≡ window_fault_of fault }
+{
+    match fault {
+        EnginesFault::Of { partition, fault } => of_window_at(partition, fault),
+        EnginesFault::Memory => RunFault::Memory,
+    }
+}
+
+// The same of the engine of a partition.
+fn of_window_at(partition: u32, fault: EngineFault) -> RunFault
+    ensures { result ≡ window_fault_at partition fault }
+{
+    match fault {
+        EngineFault::Spent => RunFault::Memory,
+        other => of_engine(partition, other),
+    }
+}
+
+// The fault of a run whose engines failed in another call.
+fn of_engines(fault: EnginesFault) -> RunFault
+    ensures { result ≡ fault_of_engines fault }
+{
+    match fault {
+        EnginesFault::Of { partition, fault } => of_engine(partition, fault),
+        EnginesFault::Memory => RunFault::Memory,
+    }
+}
