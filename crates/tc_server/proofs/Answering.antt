@@ -1,27 +1,15 @@
 -- What answering requests leaves, and what is written of it.
-use Rattle.std.proofs.Common.{◌≡◌, ℕ, ◌<◌, length, take, List, [], ◌∷◌, inl, inr, refl, subst}
+use Rattle.std.proofs.Common.{◌≡◌, ℕ, ◌<◌, length, take, List, inl, inr, refl, subst}
 use Rattle.std.specs.Prelude.{Option, Some, None}
 use Rattle.std.specs.Io.KnownBytes.{Appends, Keeps}
-use Rattle.tc_model.specs.Request.{Request, refused, not_built}
-use Rattle.tc_model.specs.Reply.{turned_down}
+use Rattle.tc_model.specs.Request.{Request}
 use Rattle.tc_run_model.specs.World.{World, after_all}
-use Rattle.tc_run_model.specs.Known.{MayReply}
-use Rattle.tc_server.specs.Faults.{Stop, failed_writing, gave_up, stop_of, IsNoDamage, IsOfStore}
-use Rattle.tc_server.specs.Holds.{AreAnswered, AreWritten, IsLeft, worlds_at, HaveFailed}
-use Rattle.tc_server.specs.Sight.{nothing, sees, sight_after, Sight}
-use Rattle.tc_server.specs.declared.outcome.RunFault.{RunFault}
-use Rattle.tc_server.specs.declared.outcome.RunFault.TheVariants.{Usage, Read, Write, Spent, Disk, Damaged, Memory, Layout}
+use Rattle.tc_keeper.specs.Faults.{Stop, failed_writing, gave_up, stop_of, IsNoDamage, IsOfStore}
+use Rattle.tc_keeper.specs.Holds.{AreAnswered, AreWritten, IsLeft, worlds_at, HaveFailed}
+use Rattle.tc_keeper.specs.Sight.{nothing, sees, sight_after, Sight}
+use Rattle.tc_keeper.specs.declared.fault.RunFault.{RunFault}
+use Rattle.tc_keeper.specs.declared.fault.RunFault.TheVariants.{Usage, Read, Write, Spent, Disk, Damaged, Memory, Layout}
 use Rattle.tc_server.proofs.SightLaws.{if_whole}
-
--- ---- requests for the whole store
-
-pub unbuilt_known : (known : Sight) → sight_after (refused not_built ∷ []) known ≡ known
-unbuilt_known (sees only w) = refl
-unbuilt_known nothing = refl
-
-pub unbuilt_replied : (known : Option World) → MayReply (refused not_built ∷ []) known (turned_down not_built ∷ [])
-unbuilt_replied (Some w) = (refl, tt)
-unbuilt_replied None = (refl, tt)
 
 -- ---- what is left where a window failed
 

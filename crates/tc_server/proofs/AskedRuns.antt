@@ -11,10 +11,10 @@ use Rattle.tc_words.specs.Options.{options_asked}
 use Rattle.tc_words.specs.declared.asked.Invocation.{Invocation}
 use Rattle.tc_words.specs.declared.asked.Invocation.TheVariants.{Run, Demo}
 use Rattle.tc_server.specs.Ending.{AreFewCommands, RanLeaving, RunsOver}
-use Rattle.tc_server.specs.Faults.{IsOfRun}
+use Rattle.tc_keeper.specs.Faults.{IsOfRun}
 use Rattle.tc_server.specs.OverFiles.{AskedOver, RanOver}
-use Rattle.tc_server.specs.Sight.{IfKnown, Sight}
-use Rattle.tc_server.specs.declared.outcome.RunFault.{RunFault}
+use Rattle.tc_keeper.specs.Sight.{IfKnown, Sight}
+use Rattle.tc_keeper.specs.declared.fault.RunFault.{RunFault}
 use Rattle.tc_server.proofs.DemoRuns.{nothing_shown}
 use Rattle.tc_server.proofs.LeftFiles.{ran_over, LeavesKits}
 

@@ -1,12 +1,13 @@
 -- Engines are closed from the greatest on, each kit before those that are there.
-use Rattle.std.proofs.Common.{◌≡◌, ◌≤◌, ◌∙◌, ◌+◌, ℕ, suc, List, [], ◌∷◌, ◌++◌, map, length, length-append, append_assoc, append-nil, arith, refl, ap, sym, subst}
+use Rattle.std.proofs.Common.{◌≡◌, ◌≤◌, ◌∙◌, ◌+◌, ℕ, suc, List, [], ◌∷◌, ◌++◌, All, map, length, length-append, append_assoc, append-nil, arith, refl, ap, sym, subst}
 use Rattle.std.proofs.lemmas.List.{nil_from_length}
+use Rattle.std.proofs.lemmas.List.Elements.{All-cons, All-head, All-nil, All-tail}
 use Rattle.std.specs.Prelude.{None, Option, Result}
 use Rattle.tc_engines.specs.Places.{AtEach}
 use Rattle.tc_work.specs.declared.fault.EngineFault.{EngineFault}
 use Rattle.tc_server.specs.Kits.{fault_before, least_fault}
-use Rattle.tc_server.specs.declared.outcome.RunFault.{RunFault}
-use Rattle.tc_server.proofs.EachLaws.{at_each-shifted}
+use Rattle.tc_keeper.specs.declared.fault.RunFault.{RunFault}
+use Rattle.tc_keeper.proofs.EachLaws.{at_each-shifted}
 
 module _ {E F K : Type 0} (R : E → F → Type 0) (kit : F → K) (outcome : F → Result (Unit {0}) EngineFault) (engines : List E) (before : List K) where
   -- The last of the engines are closed, and their kits stand before those that were there. The fault is that of the least of them.
@@ -43,3 +44,13 @@ one_fewer old new e last = ap length last ∙ length-append new (e ∷ [])
 
 pub none_left : {E : Type 0} (left : List E) (closed total : ℕ) → length left + closed ≡ total → total ≤ closed → left ≡ []
 none_left left closed total all over = nil_from_length left (omega (arith, all, over))
+
+-- what holds of each holds of the last, and of those before it
+front_all : {E : Type 0} (P : E → Type 0) (new : List E) (e : E) → All P (new ++ e ∷ []) → All P new × P e
+front_all P [] e all = (All-nil P, All-head P e [] all)
+front_all P (x ∷ new) e all =
+    let more = front_all P new e (All-tail P x (new ++ e ∷ []) all) in
+    (All-cons P x new (All-head P x (new ++ e ∷ []) all) more.0, more.1)
+
+pub fewer_all : {E : Type 0} (P : E → Type 0) (old new : List E) (e : E) → old ≡ new ++ e ∷ [] → All P old → All P new × P e
+fewer_all P old new e last all = front_all P new e (subst (All P) last all)

@@ -1,8 +1,8 @@
 -- A run whose lines were all answered, and whose engines ended by a fault when they were closed: it ends as one does behind its
 -- windows that could not answer a further one.
-use Rattle.std.proofs.Common.{◌≡◌, ◌⊎◌, ◌∙◌, ◌+◌, ◌<◌, ℕ, zero, suc, List, [], ◌∷◌, ◌++◌, map, length, append-nil, arith, refl, ap, sym, subst, inl, inr}
-use Rattle.std.specs.Prelude.{Option, Some, None, IfErr, IfSome, Result, Ok, Err, option_map, slice_get}
-use Rattle.tc_run_model.specs.Course.{Ending, Shown, behind, finished, stopped, worlds_left, IsReached, Took}
+use Rattle.std.proofs.Common.{◌≡◌, ◌⊎◌, ◌∙◌, ◌+◌, ℕ, suc, List, [], ◌∷◌, ◌++◌, map, length, append-nil, arith, refl, sym, subst, inl, inr}
+use Rattle.std.specs.Prelude.{Option, Some, None, IfErr, IfSome, Result, Ok, Err, slice_get}
+use Rattle.tc_run_model.specs.Course.{Shown, behind, finished, stopped, worlds_left, IsReached, Took}
 use Rattle.tc_run_model.specs.Windows.{Window}
 use Rattle.tc_run_model.specs.World.{World}
 use Rattle.tc_store.specs.Disk.{Disk}
@@ -10,19 +10,18 @@ use Rattle.tc_work.specs.declared.fault.EngineFault.{EngineFault}
 use Rattle.tc_work.specs.declared.fault.EngineFault.TheVariants as engine
 use Rattle.tc_words.specs.Options.{options_asked}
 use Rattle.tc_words.specs.declared.asked.Invocation.{Invocation}
-use Rattle.tc_words.specs.declared.run.Options.{Options}
 use Rattle.tc_server.specs.Ending.{RanLeaving, RunsOver}
-use Rattle.tc_server.specs.Faults.{fault_in, fault_of_engine, EndsAs, IsNoDamage, IsOfRun, IsWrite}
-use Rattle.tc_server.specs.Holds.{IsLeft, IsLeftAt}
+use Rattle.tc_keeper.specs.Faults.{fault_in, fault_of_engine, EndsAs, IsNoDamage, IsOfJob, IsOfRun, IsWrite}
+use Rattle.tc_keeper.specs.Holds.{IsLeft}
 use Rattle.tc_server.specs.Kits.{fault_before, fault_behind, least_fault}
 use Rattle.tc_server.specs.OverFiles.{AskedOver}
-use Rattle.tc_server.specs.Places.{EachFrom}
-use Rattle.tc_server.specs.Sight.{nothing, sees, whole_of, IfKnown, Sight}
-use Rattle.tc_server.specs.declared.outcome.RunFault.{RunFault}
-use Rattle.tc_server.specs.declared.outcome.RunFault.TheVariants.{Usage, Read, Write, Spent, Disk as DiskFault, Damaged, Memory, Layout}
+use Rattle.tc_keeper.specs.Places.{EachFrom}
+use Rattle.tc_keeper.specs.Sight.{nothing, sees, whole_of, IfKnown, Sight}
+use Rattle.tc_keeper.specs.declared.fault.RunFault.{RunFault}
+use Rattle.tc_keeper.specs.declared.fault.RunFault.TheVariants.{Usage, Read, Write, Spent, Disk as DiskFault, Damaged, Memory, Layout}
 use Rattle.tc_server.proofs.AskedRuns.{asked_over, runs_so}
 use Rattle.tc_server.proofs.LeftFiles.{left_alone, LeavesKits}
-use Rattle.tc_server.proofs.WorldCounts.{many_left}
+use Rattle.tc_keeper.proofs.WorldCounts.{many_left}
 
 -- ---- which fault it is
 
@@ -59,17 +58,6 @@ all_well {K = K} outcome n (k ∷ ks) none = one (outcome k) none (all_well outc
     one (Err why) is more = absurd (cc)
 
 -- ---- what kind it is of
-
--- a fault of a job that was waited for
-abbrev pub IsOfJob : RunFault → Type 0
-IsOfJob Usage = ⊥
-IsOfJob Read = ⊥
-IsOfJob (Write n) = ⊥
-IsOfJob Spent = ⊥
-IsOfJob (DiskFault p) = Unit {0}
-IsOfJob (Damaged p damage) = Unit {0}
-IsOfJob Memory = Unit {0}
-IsOfJob (Layout p found found_of asked_of) = ⊥
 
 pub is_of_job : (p : ℕ) (why : EngineFault) → (why ≡ engine.Spent → ⊥) → IsOfJob (fault_of_engine p why)
 is_of_job p engine.Disk unspent = tt
@@ -147,9 +135,10 @@ module _ {K : Type 0} (holds : K → Sight → Type 0) (keeps : K → Option ℕ
   sound_behind count fault (sees (Some p) w) answered last sound many left = tt
   sound_behind count fault (sees None w) answered last sound many left = sound (behind w answered) (many_left count w finished answered last many (behind w answered) (inl refl)) (left_alone holds keeps k None (behind w answered) left)
 
-  ran_behind : (count : ℕ) (shown : Shown) (fault : RunFault) (first : Sight) (most : ℕ) (unread unread' taken taken' : Option (List ℕ)) → IsOfJob fault → ((v : World) → length v.parts ≡ count → holds k (sees None v) ⊎ keeps k None v v → IsNoDamage fault) → IfKnown first (λ only w. length w.parts ≡ count)
-      → RanLeaving shown holds keeps spent None first most unread unread' taken taken' k → RanLeaving shown holds keeps spent (Some fault) first most unread unread' taken taken' k
-  ran_behind count shown fault first most unread unread' taken taken' of sound many r =
+  -- the same run, which a fault of what was waited for ended behind its windows
+  pub ran_stopped : (shown : Shown) (fault : RunFault) (first : Sight) (most : ℕ) (unread unread' taken taken' : Option (List ℕ)) → IsOfJob fault → (r : RanLeaving shown holds keeps spent None first most unread unread' taken taken' k)
+      → IfSome (whole_of first) (λ w. IfSome (Some fault) IsNoDamage) → RanLeaving shown holds keeps spent (Some fault) first most unread unread' taken taken' k
+  ran_stopped shown fault first most unread unread' taken taken' of r sound =
       let reached = subst (λ e. IsReached e most r.run.ran.input unread' r.run.ran.answered r.run.ran.last) r.run.by r.run.ran.reached in
       let left = subst (λ e. IsLeft holds keeps k first (λ w. worlds_left e w r.run.ran.answered r.run.ran.last)) r.run.by r.left in record {
         run = record {
@@ -166,9 +155,16 @@ module _ {K : Type 0} (holds : K → Sight → Type 0) (keeps : K → Option ℕ
             took = subst (λ e. Took shown e (whole_of first) r.run.ran.answered r.run.ran.last r.run.ran.replies taken taken') r.run.by r.run.ran.took;
           };
         };
-        sound = sound_behind count fault first r.run.ran.answered r.run.ran.last sound many left;
+        sound = sound;
         left = left_behind first r.run.ran.answered r.run.ran.last left;
+        stands = λ never. absurd (cc);
       }
+
+  ran_behind : (count : ℕ) (shown : Shown) (fault : RunFault) (first : Sight) (most : ℕ) (unread unread' taken taken' : Option (List ℕ)) → IsOfJob fault → ((v : World) → length v.parts ≡ count → holds k (sees None v) ⊎ keeps k None v v → IsNoDamage fault) → IfKnown first (λ only w. length w.parts ≡ count)
+      → RanLeaving shown holds keeps spent None first most unread unread' taken taken' k → RanLeaving shown holds keeps spent (Some fault) first most unread unread' taken taken' k
+  ran_behind count shown fault first most unread unread' taken taken' of sound many r =
+      ran_stopped shown fault first most unread unread' taken taken' of r
+      (sound_behind count fault first r.run.ran.answered r.run.ran.last sound many (subst (λ e. IsLeft holds keeps k first (λ w. worlds_left e w r.run.ran.answered r.run.ran.last)) r.run.by r.left))
 
 -- over open partitions, whose files are these where they are closed, and whose engines ended by this fault, or by none
 pub closed_over : {K : Type 0} (holds : K → Sight → Type 0) (keeps : K → Option ℕ → World → World → Type 0) (rests : Type 0) (spent : K → Type 0) (asked : Invocation) (answer : Result (Unit {0}) RunFault) (ended : Option RunFault) (first : Sight) (files : ℕ → List Disk) (most : ℕ) (left left' taken taken' : Option (List ℕ)) (k : K) (kits : List (List Disk))

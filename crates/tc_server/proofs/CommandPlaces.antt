@@ -12,7 +12,8 @@ use Rattle.tc_model.specs.Keyed.{Ascends}
 use Rattle.tc_model.proofs.KeyedOrder.{less_by}
 use Rattle.tc_route.specs.Meaning.{routed_of}
 use Rattle.tc_route.specs.declared.placed.Routed.{Routed}
-use Rattle.tc_server.specs.Window.{count_asked, requests_routed, weight_in, IsRouted, IsSoundWindow}
+use Rattle.tc_keeper.specs.Together.{requests_routed, weight_in, IsRouted}
+use Rattle.tc_server.specs.Window.{count_asked, IsSoundWindow}
 use Rattle.tc_server.specs.declared.window.Window.{Window}
 
 module _ (last : Routed) where

@@ -7,11 +7,11 @@ use Rattle.tc_gen.specs.Generated.{generated}
 use Rattle.tc_gen.specs.TwoLines.{Heard, lines_for}
 use Rattle.tc_run_model.specs.World.{World}
 use Rattle.tc_server.specs.Demo.{fault_in_memory, DemoLeaving, HasHeardAll, WroteSome}
-use Rattle.tc_server.specs.Faults.{fault_in, DiskFaults, HasCauses, HasDiskCause, IsOfStore, IsOfWindow, IsWrite}
-use Rattle.tc_server.specs.Sight.{Sight}
-use Rattle.tc_server.specs.declared.outcome.RunFault.{RunFault}
-use Rattle.tc_server.specs.declared.outcome.RunFault.TheVariants.{Usage, Read, Write, Spent, Disk, Damaged, Memory, Layout}
-use Rattle.tc_server.proofs.Causes.{all_done, call_without_memory, write_failed}
+use Rattle.tc_keeper.specs.Faults.{fault_in, DiskFaults, HasCauses, HasDiskCause, IsOfStore, IsOfWindow, IsWrite}
+use Rattle.tc_keeper.specs.Sight.{Sight}
+use Rattle.tc_keeper.specs.declared.fault.RunFault.{RunFault}
+use Rattle.tc_keeper.specs.declared.fault.RunFault.TheVariants.{Usage, Read, Write, Spent, Disk, Damaged, Memory, Layout}
+use Rattle.tc_keeper.proofs.Causes.{all_done, call_without_memory, write_failed}
 use Rattle.tc_server.proofs.DemoRuns.{makes_no_lines, writes_lines, writes_part}
 
 -- ---- a session over memory

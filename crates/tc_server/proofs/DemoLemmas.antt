@@ -5,19 +5,18 @@ use Rattle.tc_gen.specs.TwoLines.{Heard}
 use Rattle.tc_model.specs.Reply.{Reply}
 use Rattle.tc_run_model.specs.World.{World, after_all}
 use Rattle.tc_run_model.specs.Known.{MayReply}
-use Rattle.tc_run_model.specs.Built.{requests_for}
 use Rattle.tc_run_model.specs.Windows.{BeginsWith, Window, Windows, line_size, unless_empty, with_line, windows_of, lines_in}
-use Rattle.tc_run_model.specs.Course.{behind, requests_in, stopped, worlds_left}
+use Rattle.tc_run_model.specs.Course.{requests_for, behind, requests_in, stopped, worlds_left}
 use Rattle.tc_run_model.proofs.WindowLaws.{lines_held-windows_of, lines_in-append}
 use Rattle.tc_run_model.proofs.ReplyLaws.{after_all-append, MayReply-none}
 use Rattle.tc_server.specs.Demo.{ended, fault_in_memory, AreFew, HasGivenUp, HasHeard, HasHeardAll, HearsReplies}
-use Rattle.tc_server.specs.Faults.{Stop, failed_writing, gave_up, ending_at, IsNoDamage}
-use Rattle.tc_server.specs.Holds.{worlds_at, AreWritten, HaveFailed, IsLeft, IsLeftAt, IsOneOf}
-use Rattle.tc_server.specs.Sight.{nothing, sees, sight_after, sight_behind, whole_of, Sight}
+use Rattle.tc_keeper.specs.Faults.{Stop, failed_writing, gave_up, ending_at, IsNoDamage}
+use Rattle.tc_keeper.specs.Holds.{worlds_at, AreWritten, HaveFailed, IsLeft, IsLeftAt, IsOneOf}
+use Rattle.tc_keeper.specs.Sight.{nothing, sees, sight_after, sight_behind, whole_of, Sight}
 use Rattle.tc_server.specs.Stage.{up_to, IsAt, StopsIn}
 use Rattle.tc_server.specs.Window.{requests_of}
-use Rattle.tc_server.specs.declared.outcome.RunFault.{RunFault}
-use Rattle.tc_server.specs.declared.outcome.RunFault.TheVariants.{Usage, Read, Write, Spent, Disk, Damaged, Memory, Layout}
+use Rattle.tc_keeper.specs.declared.fault.RunFault.{RunFault}
+use Rattle.tc_keeper.specs.declared.fault.RunFault.TheVariants.{Usage, Read, Write, Spent, Disk, Damaged, Memory, Layout}
 use Rattle.tc_server.specs.declared.session.Session.{Session}
 use Rattle.tc_server.proofs.SessionLemmas.{BeginsWith-refl}
 use Rattle.tc_server.proofs.SightLaws.{if_whole, replied_both, sight_append, sight_none}

@@ -8,10 +8,10 @@ use Rattle.tc_run_model.specs.Windows.{BeginsWith, Window, unless_empty, windows
 use Rattle.tc_run_model.proofs.WindowLaws.{closed-windows_of-append, BeginsWith-trans}
 use Rattle.tc_run_model.proofs.ReplyLaws.{MayReply-none}
 use Rattle.tc_server.specs.Demo.{ended, GivesUpAtEnd, GivesUpAtLine, HasGivenUp, HasHeard, HasHeardAll, HearsEnd, HearsLine}
-use Rattle.tc_server.specs.Sight.{whole_of, Sight}
+use Rattle.tc_keeper.specs.Sight.{whole_of, Sight}
 use Rattle.tc_server.specs.Window.{requests_of}
-use Rattle.tc_server.specs.declared.outcome.RunFault.{RunFault}
-use Rattle.tc_server.specs.declared.outcome.RunFault.TheVariants.{Memory}
+use Rattle.tc_keeper.specs.declared.fault.RunFault.{RunFault}
+use Rattle.tc_keeper.specs.declared.fault.RunFault.TheVariants.{Memory}
 use Rattle.tc_server.specs.declared.session.Session.{Session}
 use Rattle.tc_server.proofs.DemoLemmas.{stops_behind}
 use Rattle.tc_server.proofs.SightLaws.{sight_none}

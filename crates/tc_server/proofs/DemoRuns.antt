@@ -11,16 +11,15 @@ use Rattle.tc_gen.proofs.LineLengths.{generated_count}
 use Rattle.tc_model.specs.Reply.{Reply}
 use Rattle.tc_run_model.specs.World.{World}
 use Rattle.tc_run_model.specs.Known.{MayReply}
-use Rattle.tc_run_model.specs.Built.{requests_for}
 use Rattle.tc_run_model.specs.Windows.{BeginsWith, Window, unless_empty, windows, windows_of, lines_in}
-use Rattle.tc_run_model.specs.Course.{behind, finished, output_failed, requests_in, stopped, worlds_left, HaveClosed}
+use Rattle.tc_run_model.specs.Course.{requests_for, behind, finished, output_failed, requests_in, stopped, worlds_left, HaveClosed}
 use Rattle.tc_run_model.proofs.WindowLaws.{BeginsWith-trans}
 use Rattle.tc_server.specs.Demo.{ended, DemoLeaving, HasGivenUp, HasHeardAll}
-use Rattle.tc_server.specs.Faults.{EndsAs, IsNoDamage, IsOfStore}
-use Rattle.tc_server.specs.Holds.{IsLeft, IsLeftAt, IsOneOf}
-use Rattle.tc_server.specs.Sight.{nothing, sees, sight_after, whole_of, Sight}
-use Rattle.tc_server.specs.declared.outcome.RunFault.{RunFault}
-use Rattle.tc_server.specs.declared.outcome.RunFault.TheVariants.{Usage, Read, Write, Spent, Disk, Damaged, Memory, Layout}
+use Rattle.tc_keeper.specs.Faults.{EndsAs, IsNoDamage, IsOfStore}
+use Rattle.tc_keeper.specs.Holds.{IsLeft, IsLeftAt, IsOneOf}
+use Rattle.tc_keeper.specs.Sight.{nothing, sees, sight_after, whole_of, IfKnown, Sight}
+use Rattle.tc_keeper.specs.declared.fault.RunFault.{RunFault}
+use Rattle.tc_keeper.specs.declared.fault.RunFault.TheVariants.{Usage, Read, Write, Spent, Disk, Damaged, Memory, Layout}
 use Rattle.tc_server.proofs.DemoLemmas.{all_unwritten}
 use Rattle.tc_server.proofs.SessionLemmas.{requests-unless_empty}
 use Rattle.tc_server.proofs.SightLaws.{if_whole}
@@ -80,6 +79,7 @@ module _ {K : Type 0} (holds : K → Sight → Type 0) (keeps : K → Option ℕ
         };
         sound = sound;
         left = left;
+        stands = λ never. absurd (cc);
       }
 
   -- where all that came was answered, it ended at the last window that has a line
@@ -145,6 +145,10 @@ module _ {K : Type 0} (holds : K → Sight → Type 0) (keeps : K → Option ℕ
   stands_at (sees only w) us lines k same held =
       record { one = behind w us; other = behind w us; one_of = inl refl; other_of = inl refl; left = inl (subst (λ ls. holds k (sight_after (requests_for ls) (sees only w))) (sym same) held) }
 
+  stands_behind : (first : Sight) (us : List Window) (lines : List (List ℕ)) (k : K) → lines_in us ≡ lines → holds k (sight_after (requests_for lines) first) → IfKnown first (λ only w. holds k (sees only (behind w us)))
+  stands_behind nothing us lines k same held = tt
+  stands_behind (sees only w) us lines k same held = subst (λ ls. holds k (sight_after (requests_for ls) (sees only w))) (sym same) held
+
   pub writes_lines : (n : ℕ) (first : Sight) (most : ℕ) (taken taken' : Option (List ℕ)) (k : K) (heard : Heard) → HasHeardAll holds first (generated n) k heard → Appends taken taken' (lines_for n heard) → DemoLeaving holds keeps spent n None first most taken taken' k
   writes_lines n first most taken taken' k heard a wrote =
       let whole = ended (windows_of most (generated n)) in
@@ -165,6 +169,7 @@ module _ {K : Type 0} (holds : K → Sight → Type 0) (keeps : K → Option ℕ
         };
         sound = sound_none first;
         left = stands_at first whole (generated n) k (lines_ended most (generated n)) a.store;
+        stands = λ none. stands_behind first whole (generated n) k (lines_ended most (generated n)) a.store;
       }
 
   -- a window that has a line is one
@@ -203,4 +208,5 @@ module _ {K : Type 0} (holds : K → Sight → Type 0) (keeps : K → Option ℕ
         };
         sound = sound_write m first;
         left = stands_at first (l.answered ++ l.last ∷ []) (generated n) k (ap (λ end. lines_in (l.answered ++ end)) (sym one) ∙ sym lines) a.store;
+        stands = λ never. absurd (cc);
       }

@@ -1,5 +1,5 @@
 -- Windows and replies of a demonstration: what a line closes, whatever closed before it, and replies cut in two.
-use Rattle.std.proofs.Common.{◌≡◌, ℕ, suc, ◌<◌, ◌≤◌, ◌⊎◌, Bool, true, false, List, [], ◌∷◌, ◌++◌, length, map, length-append, refl, ap, sym, ◌∙◌, append_assoc, append-nil, inl, inr, arith}
+use Rattle.std.proofs.Common.{◌≡◌, ℕ, suc, ◌<◌, ◌≤◌, ◌⊎◌, Bool, true, false, List, [], ◌∷◌, ◌++◌, length, length-append, refl, ap, sym, ◌∙◌, append_assoc, append-nil, inl, inr, arith}
 use Rattle.std.specs.Prelude.{Option, Some, None, if◌then◌else◌}
 use Rattle.std.proofs.lemmas.List.{map-append, length-map}
 use Rattle.tc_model.specs.Request.{Request, request_of}
@@ -8,24 +8,23 @@ use Rattle.tc_run_model.specs.World.{World, after, after_all}
 use Rattle.tc_run_model.specs.Replies.{AreReplies}
 use Rattle.tc_run_model.specs.Kinds.{AreOfKinds}
 use Rattle.tc_run_model.specs.Known.{MayReply, known_after}
-use Rattle.tc_run_model.specs.Built.{if_built, requests_for}
 use Rattle.tc_run_model.specs.Windows.{BeginsWith, Window, Windows, is_control, is_full, unless_empty, with_line, with_open, windows_of, lines_in}
-use Rattle.tc_run_model.specs.Course.{behind, requests_in}
+use Rattle.tc_run_model.specs.Course.{behind, requests_for, requests_in}
 use Rattle.tc_run_model.proofs.WindowLaws.{lines_held-windows_of, lines_in-append, lines_in-unless_empty, windows_of-push}
 use Rattle.tc_run_model.proofs.ReplyLaws.{after_all-append}
 use Rattle.tc_server.specs.Demo.{ended}
-use Rattle.tc_server.specs.Sight.{nothing, sees, sight_behind, Sight}
+use Rattle.tc_keeper.specs.Sight.{nothing, sees, sight_behind, Sight}
 
 -- ---- requests of windows
 
 pub requests_for-append : (xs ys : List (List ℕ)) → requests_for (xs ++ ys) ≡ requests_for xs ++ requests_for ys
-requests_for-append xs ys = ap (map if_built) (map-append request_of xs ys) ∙ map-append if_built (map request_of xs) (map request_of ys)
+requests_for-append xs ys = map-append request_of xs ys
 
 pub requests_in-append : (us vs : List Window) → requests_in (us ++ vs) ≡ requests_in us ++ requests_in vs
 requests_in-append us vs = ap requests_for (lines_in-append us vs) ∙ requests_for-append (lines_in us) (lines_in vs)
 
 requests_count : (lines : List (List ℕ)) → length (requests_for lines) ≡ length lines
-requests_count lines = length-map (map request_of lines) if_built ∙ length-map lines request_of
+requests_count lines = length-map lines request_of
 
 pub behind_more : (us vs : List Window) (w : World) → behind w (us ++ vs) ≡ behind (behind w us) vs
 behind_more us vs w = ap (λ rs. after_all rs w) (requests_in-append us vs) ∙ after_all-append (requests_in us) (requests_in vs) w

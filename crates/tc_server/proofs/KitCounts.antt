@@ -6,8 +6,8 @@ use Rattle.tc_store.specs.Counted.{Counts}
 use Rattle.tc_store.specs.KitFaults.{KitFaults}
 use Rattle.tc_store.specs.declared.kit.Kit.{Kit}
 use Rattle.tc_work.specs.Settling.{IsWatchedIn}
-use Rattle.tc_server.specs.Faults.{faults_in, faults_of_part, NoneFell, OneRose}
-use Rattle.tc_server.proofs.EngineCauses.{faults_lent, lent_rose, lent_stays}
+use Rattle.tc_keeper.specs.Faults.{faults_in, faults_of_part, NoneFell, OneRose}
+use Rattle.tc_keeper.proofs.EngineCauses.{faults_lent, lent_rose, lent_stays}
 
 -- ---- the same counts
 

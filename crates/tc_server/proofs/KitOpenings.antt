@@ -1,5 +1,5 @@
 -- What comes of a kit: the engine of its partition, or the kit again, since the partition was not opened.
-use Rattle.std.proofs.Common.{◌≡◌, ◌≤◌, ℕ, List, [], ◌∷◌, arith, refl, ap, sym, subst, inl, inr}
+use Rattle.std.proofs.Common.{◌≡◌, ◌≤◌, ℕ, List, [], ◌∷◌, is_some, arith, refl, ap, sym, subst, inl, inr}
 use Rattle.std.specs.Prelude.{Option, Some, None, IfSome, IsSome, IfErr, Result, Ok, Err, option_map, unwrap_or}
 use Rattle.tc_bytes.specs.Counts.{Rose}
 use Rattle.tc_engines.specs.Standing.{partition_at}
@@ -31,15 +31,16 @@ use Rattle.tc_store.proofs.MomentLemmas.{told_map}
 use Rattle.tc_work.specs.Moving.{Eyes}
 use Rattle.tc_work.specs.declared.fault.EngineFault.{EngineFault}
 use Rattle.tc_words.specs.declared.run.Options.{Options}
-use Rattle.tc_server.specs.Calls.{faults_at, MayBeAsked}
+use Rattle.tc_keeper.specs.Calls.{faults_at, MayBeAsked}
 use Rattle.tc_server.specs.Ending.{limits_of}
-use Rattle.tc_server.specs.Faults.{fault_of_opening, fault_of_shelf, faults_in, faults_of_part, IfDisk, IsNoDamage, IsWrite, NoneFell, OneRose}
+use Rattle.tc_keeper.specs.Faults.{faults_in, faults_of_part, IfDisk, IsNoDamage, IsWrite, NoneFell, OneRose}
+use Rattle.tc_server.specs.OpeningFaults.{fault_of_opening, fault_of_shelf}
 use Rattle.tc_server.specs.KitCauses.{ArePassed, HasLayoutCause, IsJudged}
 use Rattle.tc_server.specs.Kits.{IsClosed, IsGivenBack, IsNotGiven, IsOfOpening, IsOpened}
 use Rattle.tc_server.specs.OverFiles.{EndsOver, IsHere}
-use Rattle.tc_server.specs.declared.outcome.RunFault.{RunFault}
-use Rattle.tc_server.specs.declared.outcome.RunFault.TheVariants.{Usage, Read, Write, Spent, Disk as DiskFault, Damaged, Memory, Layout}
-use Rattle.tc_server.proofs.Causes.{none_fell_twice}
+use Rattle.tc_keeper.specs.declared.fault.RunFault.{RunFault}
+use Rattle.tc_keeper.specs.declared.fault.RunFault.TheVariants.{Usage, Read, Write, Spent, Disk as DiskFault, Damaged, Memory, Layout}
+use Rattle.tc_keeper.proofs.Causes.{none_fell_twice}
 use Rattle.tc_server.proofs.NotOpened.{opened_keeps}
 
 -- what holds always holds where files are told
@@ -193,10 +194,10 @@ none_fell_opened counts kit part watched flusher merger reader = record {
 pub engine_opened : {S D F W : Type 0} (eyes : Eyes S D F W) (options : Options) (here : Partition) (came : List Disk) (kit : Kit S W D F) (part : PartState S D F W) (policy : Policy)
     → MayBeAsked (told_part eyes part) part → part.staged ≡ [] → part.limits ≡ limits_of options → part.memory ≡ options.memory → listed_least policy ≡ options.merge
     → IfTold came (λ disk. (cs : List Content) (logs : List (List PlainWrite)) → DiskOpens here disk cs logs → IsOpenedAs here cs logs (told_part eyes part)) → IfTold came (ArePassed here)
-    → IsWatched ⊥ (eyes.counts kit.main) (eyes.counts part.main) → part.flusher ≡ Some kit.flusher → part.merger ≡ Some kit.merger → part.reader ≡ Some kit.reader
+    → IsWatched ⊥ (eyes.counts kit.main) (eyes.counts part.main) → part.flusher ≡ Some kit.flusher → part.merger ≡ Some kit.merger → part.reader ≡ Some kit.reader → part.sealed ≡ None → part.active ≡ []
     → IsOpened eyes options here came (faults_in eyes.counts kit) (engine_with (record { part = part; policy = policy }) no_jobs)
-engine_opened eyes options here came kit part policy ready unstaged limits memory merges opened passed watched flusher merger reader = record {
-  begun = record { ready = ready; unstaged = unstaged; limits = limits; memory = memory; merges = merges; alone = refl };
+engine_opened eyes options here came kit part policy ready unstaged limits memory merges opened passed watched flusher merger reader unsealed empty = record {
+  begun = record { ready = ready; unstaged = unstaged; limits = limits; memory = memory; merges = merges; alone = refl; unsealed = unsealed; empty = empty; reader = ap (λ o. is_some o) reader };
   opened = opened;
   passed = passed;
   none_fell = none_fell_opened eyes.counts kit part watched flusher merger reader;

@@ -1,6 +1,6 @@
 -- What is left of the files of engines that are closed, kit by kit, by the worlds at which they stood.
-use Rattle.std.proofs.Common.{◌≡◌, ◌⊎◌, ◌∙◌, ◌≤◌, ◌<◌, ℕ, zero, suc, false, List, [], ◌∷◌, All, length, Some, arith, refl, ap, sym, subst, inl, inr}
-use Rattle.std.specs.Prelude.{map, slice_get, zip, None, Option, Result, Ok, Err, IfErr, OnOk}
+use Rattle.std.proofs.Common.{◌≡◌, ◌⊎◌, ◌∙◌, ◌≤◌, ◌<◌, ℕ, suc, false, List, [], ◌∷◌, All, length, Some, arith, refl, ap, sym, subst, inl, inr}
+use Rattle.std.specs.Prelude.{map, slice_get, zip, Option, Result, Ok, Err, IfErr, OnOk}
 use Rattle.std.proofs.lemmas.Bool.{true≢false}
 use Rattle.std.proofs.lemmas.List.Elements.{All-cons, All-head, All-nil, All-tail}
 use Rattle.tc_engines.specs.Places.{AtEach}
@@ -23,13 +23,13 @@ use Rattle.tc_words.specs.declared.run.Options.{Options}
 use Rattle.tc_work.specs.Moving.{Eyes}
 use Rattle.tc_work.specs.declared.fault.EngineFault.{EngineFault}
 use Rattle.tc_work.specs.declared.finishing.Finished.{Finished}
-use Rattle.tc_server.specs.Calls.{IsSettled}
-use Rattle.tc_server.specs.Holds.{IsOneOf}
+use Rattle.tc_keeper.specs.Calls.{IsSettled}
+use Rattle.tc_keeper.specs.Holds.{IsOneOf}
 use Rattle.tc_server.specs.Kits.{IsClosed}
 use Rattle.tc_server.specs.OverFiles.{IsStoredInOne, LeavesOneOf, LeavesSmall, OpensSmall}
-use Rattle.tc_server.specs.Places.{EachFrom}
+use Rattle.tc_keeper.specs.Places.{EachFrom}
 use Rattle.tc_server.proofs.ClosedFiles.{held_left, kept_left, leaves_so, stored_there, Leaves}
-use Rattle.tc_server.proofs.EachLaws.{at_each-placed, each-right}
+use Rattle.tc_keeper.proofs.EachLaws.{at_each-placed, each-right, zip_places}
 use Rattle.tc_server.proofs.FinishedFiles.{few_left, short_log}
 
 -- what is left small of a partition, at a world
@@ -47,13 +47,6 @@ stored_at : (p : ℕ) (w : World) (part : Part) (pairs : Pairs) (worlds : List W
 stored_at p w part pairs [] there is same = absurd is
 stored_at p w part pairs (v ∷ vs) there (inl here) same = inl (subst (λ (u : World). pairs ≡ (store_at p u).pairs) here (same ∙ ap (λ s. s.pairs) (sym (stored_there w p part there))))
 stored_at p w part pairs (v ∷ vs) there (inr more) same = inr (stored_at p w part pairs vs there more same)
-
--- places of lists side by side
-zip_places : {X Y : Type 0} (xs : List X) (ys : List Y) (p : ℕ) (z : X × Y) → slice_get (zip xs ys) p ≡ Some z → (slice_get xs p ≡ Some z.0) × (slice_get ys p ≡ Some z.1)
-zip_places [] ys p z is = absurd (cc)
-zip_places (x ∷ xs) [] p z is = absurd (cc)
-zip_places (x ∷ xs) (y ∷ ys) zero z is = let same : (x, y) ≡ z = cc in (ap (λ (q : _ × _). Some q.0) same, ap (λ (q : _ × _). Some q.1) same)
-zip_places (x ∷ xs) (y ∷ ys) (suc p) z is = zip_places xs ys p z is
 
 -- where a call ended well
 ended_well : {P : Type 0} (r : Result (Unit {0}) EngineFault) → IfErr r (λ fault. ⊥) → OnOk r P → P

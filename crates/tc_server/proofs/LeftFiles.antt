@@ -6,15 +6,15 @@ use Rattle.tc_run_model.specs.Course.{Ending, Shown, behind, each_line, finished
 use Rattle.tc_run_model.specs.Windows.{Window}
 use Rattle.tc_store.specs.Disk.{Disk}
 use Rattle.tc_server.specs.Ending.{RanLeaving, RanTo}
-use Rattle.tc_server.specs.Faults.{EndsAs, IsNoDamage, IsOfRun}
-use Rattle.tc_server.specs.Holds.{IsOneOf, IsLeftAt, IsLeft}
+use Rattle.tc_keeper.specs.Faults.{EndsAs, IsNoDamage, IsOfRun}
+use Rattle.tc_keeper.specs.Holds.{IsOneOf, IsLeftAt, IsLeft}
 use Rattle.tc_server.specs.KitCauses.{HasSpentInput}
 use Rattle.tc_server.specs.OverFiles.{EndsOver, IsHere, LeaveOneOf, LeaveSmall, RanOver}
-use Rattle.tc_server.specs.Sight.{nothing, sees, whole_of, IfKnown, Sight}
-use Rattle.tc_server.specs.declared.outcome.RunFault.{RunFault}
-use Rattle.tc_server.specs.declared.outcome.RunFault.TheVariants.{Usage, Read, Write, Spent, Disk as DiskFault, Damaged, Memory, Layout}
+use Rattle.tc_keeper.specs.Sight.{nothing, sees, whole_of, IfKnown, Sight}
+use Rattle.tc_keeper.specs.declared.fault.RunFault.{RunFault}
+use Rattle.tc_keeper.specs.declared.fault.RunFault.TheVariants.{Usage, Read, Write, Spent, Disk as DiskFault, Damaged, Memory, Layout}
 use Rattle.tc_words.specs.declared.run.Options.{Options}
-use Rattle.tc_server.proofs.WorldCounts.{many_left}
+use Rattle.tc_keeper.proofs.WorldCounts.{many_left}
 
 -- What is left of partitions by how they stood, all of them or one alone: at one of these worlds, of so many partitions each; and where
 -- they rest, small.

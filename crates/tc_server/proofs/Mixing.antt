@@ -15,12 +15,12 @@ use Rattle.tc_route.specs.declared.placed.Placed.{Placed}
 use Rattle.tc_route.specs.declared.placed.Routed.{Routed}
 use Rattle.tc_run_model.specs.World.{World, after, after_all}
 use Rattle.tc_run_model.specs.Replies.{AreReplies}
-use Rattle.tc_run_model.specs.Built.{if_built}
 use Rattle.tc_run_model.specs.Kinds.{AreOfKinds}
 use Rattle.tc_run_model.specs.Known.{MayReply}
 use Rattle.tc_run_model.specs.Windows.{max_window}
-use Rattle.tc_server.specs.Sight.{nothing, sees, sight_after, Sight}
-use Rattle.tc_server.specs.Window.{mixed, count_asked, request_refused, reply_refused, requests_routed, weight_of, weight_in, AreTogether, IsSoundWindow}
+use Rattle.tc_keeper.specs.Sight.{nothing, sees, sight_after, Sight}
+use Rattle.tc_keeper.specs.Together.{requests_routed, weight_of, weight_in, AreTogether}
+use Rattle.tc_server.specs.Window.{mixed, count_asked, request_refused, reply_refused, IsSoundWindow}
 use Rattle.tc_server.specs.declared.window.Window.{Window}
 
 -- ---- lists
@@ -127,18 +127,6 @@ lighter limit most (refused r) up light = tt
 pub weight_pushed : (list : List Routed) (one : Routed) (bytes size : ℕ) → weight_in (requests_routed list) ≤ bytes → IsLight size (request_of_command one.command) → weight_in (requests_routed (list ++ one ∷ [])) ≤ bytes + size
 weight_pushed list one bytes size light fits =
     omega (arith, light, light_weight size (request_of_command one.command) fits, ap weight_in (map-append (λ (r : Routed). request_of_command r.command) list (one ∷ [])), weight_in-append (requests_routed list) (request_of_command one.command ∷ []))
-
--- a command that is not built is refused, and has no document
-pub built_light : (limit : ℕ) (r : Request) → IsLight limit r → IsLight limit (if_built r)
-built_light limit (upsert n d) light = light
-built_light limit (delete n) light = tt
-built_light limit (get n) light = tt
-built_light limit (query ask) light = tt
-built_light limit flush light = tt
-built_light limit schema light = tt
-built_light limit (scan ask) light = tt
-built_light limit collect light = tt
-built_light limit (refused r) light = tt
 
 -- ---- a window
 

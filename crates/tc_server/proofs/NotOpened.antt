@@ -28,17 +28,18 @@ use Rattle.tc_words.specs.Options.{options_asked}
 use Rattle.tc_words.specs.declared.asked.Invocation.{Invocation}
 use Rattle.tc_words.specs.declared.run.Options.{Options}
 use Rattle.tc_server.specs.Ending.{limits_of}
-use Rattle.tc_server.specs.Faults.{IsNoDamage}
+use Rattle.tc_keeper.specs.Faults.{IsNoDamage}
 use Rattle.tc_server.specs.Kits.{IfLawful, IsClosed, IsOpened}
-use Rattle.tc_server.specs.OverFiles.{AreOwn, AskedOver, BeginsAs, BeginsFor, EndsOver, IsHere, IsStoredInOne, KeepsOpened, LeaveOneOf, LeavesOneOf, LeaveSmall, OpenAs, OpensAs, RanOver, ServedOver}
-use Rattle.tc_server.specs.Places.{EachFrom}
-use Rattle.tc_server.specs.Sight.{nothing, sees, whole_of, IfKnown, Sight}
-use Rattle.tc_server.specs.declared.outcome.RunFault.{RunFault}
-use Rattle.tc_server.specs.declared.outcome.RunFault.TheVariants.{Usage, Memory}
+use Rattle.tc_keeper.specs.OwnKeys.{AreOwn}
+use Rattle.tc_server.specs.OverFiles.{AskedOver, BeginsAs, BeginsFor, EndsOver, IsHere, IsStoredInOne, KeepsOpened, LeaveOneOf, LeavesOneOf, LeaveSmall, OpenAs, OpensAs, RanOver, ServedOver}
+use Rattle.tc_keeper.specs.Places.{EachFrom}
+use Rattle.tc_keeper.specs.Sight.{nothing, sees, whole_of, IfKnown, Sight}
+use Rattle.tc_keeper.specs.declared.fault.RunFault.{RunFault}
+use Rattle.tc_keeper.specs.declared.fault.RunFault.TheVariants.{Usage, Memory}
 use Rattle.tc_server.proofs.ClosedFiles.{stored_in}
 use Rattle.tc_server.proofs.AskedRuns.{runs_unread, OverOf}
 use Rattle.tc_server.proofs.ClosedFiles.{leaves_so}
-use Rattle.tc_server.proofs.EachLaws.{each-at, each-below, each-so, there}
+use Rattle.tc_keeper.proofs.EachLaws.{each-at, each-below, each-so, there}
 use Rattle.tc_server.proofs.OpenedWorlds.{works_alone}
 
 -- ---- nothing was read nor written

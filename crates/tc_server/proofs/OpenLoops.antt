@@ -7,9 +7,9 @@ use Rattle.tc_store.specs.KitFaults.{KitFaults}
 use Rattle.tc_work.specs.Moving.{Eyes}
 use Rattle.tc_words.specs.declared.run.Options.{Options}
 use Rattle.tc_server.specs.Kits.{AreOpened, IsNotGiven, IsOpened}
-use Rattle.tc_server.specs.Places.{EachFrom}
-use Rattle.tc_server.specs.declared.outcome.RunFault.{RunFault}
-use Rattle.tc_server.proofs.EachLaws.{each-append}
+use Rattle.tc_keeper.specs.Places.{EachFrom}
+use Rattle.tc_keeper.specs.declared.fault.RunFault.{RunFault}
+use Rattle.tc_keeper.proofs.EachLaws.{each-append}
 
 -- none was opened yet
 pub opened_none : {S D F W : Type 0} (eyes : Eyes S D F W) (options : Options) (files : ℕ → List Disk) (came : ℕ → KitFaults) (es : List (WithJobs S D F W)) → es ≡ [] → AreOpened eyes options files came es

@@ -12,6 +12,7 @@ use Rattle.tc_model.specs.Keyed.{Ascends}
 use Rattle.tc_open.specs.Openings.{IsOpenedAs}
 use Rattle.tc_part_model.specs.PartView.{PartView, stored_with}
 use Rattle.tc_part_model.specs.Starting.{started_part}
+use Rattle.tc_plain_model.specs.Part.{Limits}
 use Rattle.tc_plain_model.specs.Store.{Store}
 use Rattle.tc_route.specs.Answers.{KeepOwn}
 use Rattle.tc_run_model.specs.World.{World, first_world, part_of}
@@ -21,10 +22,11 @@ use Rattle.tc_work.specs.Moving.{Eyes}
 use Rattle.tc_words.specs.declared.run.Options.{Options}
 use Rattle.tc_server.specs.Ending.{limits_of}
 use Rattle.tc_server.specs.Kits.{AreOpened, IsOpened}
-use Rattle.tc_server.specs.OverFiles.{AreOwn, BeginsAs, OpenAs, OpensAs}
-use Rattle.tc_server.specs.Partitions.{StandAt}
-use Rattle.tc_server.specs.Places.{EachFrom}
-use Rattle.tc_server.specs.Sight.{nothing, sees, Sight}
+use Rattle.tc_keeper.specs.OwnKeys.{AreOwn}
+use Rattle.tc_server.specs.OverFiles.{BeginsAs, OpenAs, OpensAs}
+use Rattle.tc_keeper.specs.Partitions.{StandAt}
+use Rattle.tc_keeper.specs.Places.{EachFrom}
+use Rattle.tc_keeper.specs.Sight.{nothing, sees, IsFirst, Sight}
 
 module _ {S D F W : Type 0} (eyes : Eyes S D F W) (options : Options) where
   -- no job is out, so none works for another part
@@ -98,3 +100,8 @@ module _ {S D F W : Type 0} (eyes : Eyes S D F W) (options : Options) where
       → AreOpened eyes options files came es → BeginsAs (limits_of options) options.partitions files first → StandAt eyes es first
   stand_opened ascends files came es nothing all opened begins = tt
   stand_opened ascends files came es (sees only w) all opened begins = world_held ascends files came es only w all opened begins
+
+-- what is known then is a world in which a run begins
+pub begins_first : (limits : Limits) (count : ℕ) (files : ℕ → List Disk) (first : Sight) → BeginsAs limits count files first → IsFirst first
+begins_first limits count files nothing begins = tt
+begins_first limits count files (sees only w) o = (o.stores, o.world ∙ ap (λ (l : Limits). first_world l o.stores) (sym (ap (λ (v : World). v.limits) o.world)))

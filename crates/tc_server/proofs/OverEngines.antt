@@ -1,5 +1,5 @@
 -- A session over engines: where it begins, what counts over it, and what is left when the engines are closed.
-use Rattle.std.proofs.Common.{◌≡◌, ◌⊎◌, ◌∙◌, ◌≤◌, ◌<◌, ◌+◌, ℕ, zero, suc, List, [], ◌∷◌, All, map, length, arith, refl, ap, sym, subst, inl, inr}
+use Rattle.std.proofs.Common.{◌≡◌, ◌⊎◌, ◌∙◌, ◌≤◌, ◌<◌, ◌+◌, ℕ, zero, suc, true, List, [], ◌∷◌, All, map, is_some, length, arith, refl, ap, sym, subst, inl, inr}
 use Rattle.std.specs.Prelude.{Option, Some, None, IfErr, IfSome, IsErrOf, IsSome, option_map, slice_get, Result, Ok, Err, OnOk}
 use Rattle.std.proofs.lemmas.List.{length-map}
 use Rattle.std.proofs.lemmas.List.Elements.{All-cons, All-head, All-nil, All-tail, All-weaker}
@@ -20,20 +20,21 @@ use Rattle.tc_work.specs.Faults.{IfDamaged as IfEngineDamaged}
 use Rattle.tc_work.specs.Moving.{Eyes}
 use Rattle.tc_work.specs.declared.fault.EngineFault.{EngineFault}
 use Rattle.tc_work.specs.declared.fault.EngineFault.TheVariants as engine
-use Rattle.tc_server.specs.Calls.{faults_at, faults_of, settings_of, HoldsAt, IsSpent, IsSpentAt, KeepsAt, MayAsk, MayBeAsked, Rests}
-use Rattle.tc_server.specs.Faults.{fault_in, fault_of_engine, HaveRisen, HaveStayed, IfDamaged, IfDisk, IsNoDamage, NoneFell, OneRose}
+use Rattle.tc_keeper.specs.Calls.{faults_at, faults_of, settings_of, HoldsAt, IsSpent, IsSpentAt, KeepsAt, MayAsk, MayBeAsked, Rests}
+use Rattle.tc_keeper.specs.Faults.{fault_in, fault_of_engine, HaveRisen, HaveStayed, IfDamaged, IfDisk, IsNoDamage, IsOfJob, NoneFell, OneRose}
+use Rattle.tc_keeper.specs.Keeping.{AreUnwritten}
 use Rattle.tc_server.specs.KitCauses.{HasLastGeneration}
 use Rattle.tc_server.specs.Kits.{least_fault, IsBegun, IsClosed}
-use Rattle.tc_server.specs.Partitions.{StandAt}
-use Rattle.tc_server.specs.Places.{SomeFrom}
-use Rattle.tc_server.specs.Sight.{nothing, sees, IfKnown, Sight}
-use Rattle.tc_server.specs.declared.outcome.RunFault.{RunFault}
-use Rattle.tc_server.specs.declared.outcome.RunFault.TheVariants.{Usage, Read, Write, Spent, Disk as DiskFault, Damaged, Memory, Layout}
-use Rattle.tc_server.specs.declared.partitions.Partitions.{Partitions}
-use Rattle.tc_server.proofs.Causes.{none_fell_twice, one_rose}
-use Rattle.tc_server.proofs.ClosingFaults.{all_well, ended_by, is_of_job, IsEndedBy, IsOfJob}
-use Rattle.tc_server.proofs.EachLaws.{at_each-at, at_each-from, at_each-then, each-map, some-beside, there}
-use Rattle.tc_server.proofs.EngineWorlds.{undamaged_at}
+use Rattle.tc_keeper.specs.Partitions.{StandAt}
+use Rattle.tc_keeper.specs.Places.{SomeFrom}
+use Rattle.tc_keeper.specs.Sight.{nothing, sees, IfKnown, Sight}
+use Rattle.tc_keeper.specs.declared.fault.RunFault.{RunFault}
+use Rattle.tc_keeper.specs.declared.fault.RunFault.TheVariants.{Usage, Read, Write, Spent, Disk as DiskFault, Damaged, Memory, Layout}
+use Rattle.tc_keeper.specs.declared.partitions.Partitions.{Partitions}
+use Rattle.tc_keeper.proofs.Causes.{none_fell_twice, one_rose}
+use Rattle.tc_server.proofs.ClosingFaults.{all_well, ended_by, is_of_job, IsEndedBy}
+use Rattle.tc_keeper.proofs.EachLaws.{at_each-at, at_each-from, at_each-then, each-map, some-beside, there}
+use Rattle.tc_keeper.proofs.EngineWorlds.{undamaged_at}
 use Rattle.tc_server.proofs.KitsLeft.{all_hold, held_kits, held_small, kept_kits, AreClosed, IsSet}
 use Rattle.tc_server.proofs.LeftFiles.{LeavesKits}
 
@@ -64,13 +65,12 @@ pub begins_asked : {S W D F P : Type 0} (eyes : Eyes S D F W) (options : Options
 unfolding MayAsk
 begins_asked eyes options es k is all some few begun = subst (MayAsk eyes.disks eyes.history eyes.content) (sym is) (omega (arith, some, all), omega (arith, few, all), all_asked eyes options es begun)
 
+pub unwritten_all : {S W D F : Type 0} (eyes : Eyes S D F W) (options : Options) (es : List (WithJobs S D F W)) → All (IsBegun eyes options) es → AreUnwritten es
+unwritten_all eyes options es begun = All-weaker (IsBegun eyes options) (λ e. (e.engine.part.sealed ≡ None) × (e.engine.part.active ≡ []) × (is_some e.engine.part.reader ≡ true)) (λ e b. (b.unsealed, b.empty, b.reader)) es begun
+
 pub begins_held : {S W D F P : Type 0} (eyes : Eyes S D F W) (es : List (WithJobs S D F W)) (k : Partitions S P W D F) (first : Sight) → k ≡ record { engines = es } → StandAt eyes es first → HoldsAt eyes k first
 unfolding HoldsAt
 begins_held eyes es k first is stands = subst (λ p. HoldsAt eyes p first) (sym is) stands
-
-pub held_unknown : {S W D F P : Type 0} (eyes : Eyes S D F W) (k : Partitions S P W D F) → HoldsAt eyes k nothing
-unfolding HoldsAt
-held_unknown eyes k = tt
 
 -- a world at which engines stand has as many partitions
 pub as_many_parts : {S D F W : Type 0} (eyes : Eyes S D F W) (count : ℕ) (es : List (WithJobs S D F W)) (first : Sight) → length es ≡ count → StandAt eyes es first → IfKnown first (λ only w. length w.parts ≡ count)
@@ -162,7 +162,7 @@ some_there [] p f is = absurd (cc)
 some_there (x ∷ xs) zero f is = omega arith
 some_there (x ∷ xs) (suc p) f is = let more = some_there xs p f is in omega (arith, more)
 
-one_rose_then : (a b c : KitFaults) → OneRose a b → NoneFell b c → OneRose a c
+pub one_rose_then : (a b c : KitFaults) → OneRose a b → NoneFell b c → OneRose a c
 one_rose_then a b c (inl rose) fell = inl (omega (arith, fell.main, rose))
 one_rose_then a b c (inr (inl rose)) fell = inr (inl (omega (arith, fell.flusher, rose)))
 one_rose_then a b c (inr (inr (inl rose))) fell = inr (inr (inl (omega (arith, fell.merger, rose))))

@@ -14,15 +14,15 @@ use Rattle.tc_store.specs.declared.file_name.FileName.{FileName}
 use Rattle.tc_store.proofs.MomentLemmas.{told_map}
 use Rattle.tc_work.specs.Moving.{Eyes}
 use Rattle.tc_words.specs.declared.run.Options.{Options}
-use Rattle.tc_server.specs.Calls.{faults_at}
-use Rattle.tc_server.specs.Faults.{IfDamaged, IfDisk, IsOfRun, NoneFell, OneRose}
+use Rattle.tc_keeper.specs.Calls.{faults_at}
+use Rattle.tc_keeper.specs.Faults.{IfDamaged, IfDisk, IsOfRun, NoneFell, OneRose}
 use Rattle.tc_server.specs.KitCauses.{AreAsked, AreGenerationsSpent, AreJudged, ArePassed, HasDiskCauseOver, HasLastGeneration, HasLayoutCause, IsJudged, NoneFellOf}
 use Rattle.tc_server.specs.Kits.{AreOpened, IsBegun, IsOpened}
-use Rattle.tc_server.specs.Places.{SomeFrom}
-use Rattle.tc_server.specs.declared.outcome.RunFault.{RunFault}
-use Rattle.tc_server.specs.declared.outcome.RunFault.TheVariants.{Usage, Read, Write, Spent, Disk as DiskFault, Damaged, Memory, Layout}
-use Rattle.tc_server.proofs.Causes.{none_fell_twice, one_rose}
-use Rattle.tc_server.proofs.EachLaws.{at_each-at, each-all, each-at, each-beside, each-map, each-so, some-map, some-so, there}
+use Rattle.tc_keeper.specs.Places.{SomeFrom}
+use Rattle.tc_keeper.specs.declared.fault.RunFault.{RunFault}
+use Rattle.tc_keeper.specs.declared.fault.RunFault.TheVariants.{Usage, Read, Write, Spent, Disk as DiskFault, Damaged, Memory, Layout}
+use Rattle.tc_keeper.proofs.Causes.{none_fell_twice, one_rose}
+use Rattle.tc_keeper.proofs.EachLaws.{at_each-at, each-all, each-at, each-beside, each-map, each-so, some-map, some-so, there}
 
 pub asked_all : (count : ℕ) (fault : Option RunFault) → 0 < count → IfSome fault IsOfRun → IfSome fault (λ f. IfDisk f (λ q. q < count)) → IfSome fault (λ f. IfDamaged f (λ q. q < count)) → AreAsked count fault count
 asked_all count None some kind disk damaged = refl

@@ -18,14 +18,14 @@ use Rattle.tc_run_model.specs.Course.{finished, input_failed, input_spent, stopp
 use Rattle.tc_run_model.proofs.ReplyLaws.{MayReply-none}
 use Rattle.tc_run_model.proofs.WindowLaws.{BeginsWith-trans, closed-windows_of-append, windows_of-push}
 use Rattle.tc_server.specs.Ending.{RanLeaving, ReadsPromptly}
-use Rattle.tc_server.specs.Faults.{Stop, failed_writing, gave_up, ending_at, stop_of, EndsAs, IsNoDamage, IsOfStore}
-use Rattle.tc_server.specs.Holds.{IsLeft}
+use Rattle.tc_keeper.specs.Faults.{Stop, failed_writing, gave_up, ending_at, stop_of, EndsAs, IsNoDamage, IsOfStore}
+use Rattle.tc_keeper.specs.Holds.{IsLeft}
 use Rattle.tc_server.specs.Progress.{StandsBehind, HasSeenAll, HasSeen, HasCome}
-use Rattle.tc_server.specs.Sight.{nothing, sees, sight_behind, whole_of, Sight}
+use Rattle.tc_keeper.specs.Sight.{nothing, sees, sight_behind, whole_of, IfKnown, Sight}
 use Rattle.tc_server.specs.Window.{requests_of}
 use Rattle.tc_server.specs.Stage.{IsAt, with_end, up_to, StopsIn, TakesLine, FailsAtLine}
-use Rattle.tc_server.specs.declared.outcome.RunFault.{RunFault}
-use Rattle.tc_server.specs.declared.outcome.RunFault.TheVariants.{Usage, Read, Write, Spent, Disk, Damaged, Memory, Layout}
+use Rattle.tc_keeper.specs.declared.fault.RunFault.{RunFault}
+use Rattle.tc_keeper.specs.declared.fault.RunFault.TheVariants.{Usage, Read, Write, Spent, Disk, Damaged, Memory, Layout}
 use Rattle.tc_server.specs.declared.session.Session.{Session}
 use Rattle.tc_server.proofs.Answering.{store_stops}
 use Rattle.tc_server.proofs.SessionLemmas.{stops_between}
@@ -161,6 +161,7 @@ ends_among holds keeps spent first limit input begun left base taken fault k clo
   };
   sound = stops.sound;
   left = stops.ends.left;
+  stands = λ never. absurd (cc);
 }
 
 -- the same in windows with which those that have closed begin
@@ -242,6 +243,10 @@ left_behind_all : {K : Type 0} (holds : K → Sight → Type 0) (keeps : K → O
 left_behind_all holds keeps (sees only w) closed k held = record { one = behind w closed; other = behind w closed; one_of = inl refl; other_of = inl refl; left = inl held }
 left_behind_all holds keeps nothing closed k held = tt
 
+stands_behind : {K : Type 0} (holds : K → Sight → Type 0) (first : Sight) (closed : List Window) (k : K) → holds k (sight_behind first closed) → IfKnown first (λ only w. holds k (sees only (behind w closed)))
+stands_behind holds (sees only w) closed k held = held
+stands_behind holds nothing closed k held = tt
+
 pub ran_to_end : {K : Type 0} (holds : K → Sight → Type 0) (keeps : K → Option ℕ → World → World → Type 0) (spent : K → Type 0) (first : Sight) (limit : ℕ) (seen : List (List ℕ)) (session : Session K) (begun left base taken : Option (List ℕ)) → HasHeardAll seen begun left → IsAt holds first base (with_end (windows_of limit seen)) session taken
     → RanLeaving each_line holds keeps spent None first limit begun left base taken session.keeper
 ran_to_end holds keeps spent first limit seen session begun left base taken heard at = record {
@@ -261,6 +266,7 @@ ran_to_end holds keeps spent first limit seen session begun left base taken hear
   };
   sound = if_whole first (Unit {0}) (λ w is. tt);
   left = left_behind_all holds keeps first (with_end (windows_of limit seen)).closed session.keeper at.store;
+  stands = λ none. stands_behind holds first (with_end (windows_of limit seen)).closed session.keeper at.store;
 }
 
 pub fails_at_end : {K : Type 0} (holds : K → Sight → Type 0) (keeps : K → Option ℕ → World → World → Type 0) (spent : K → Type 0) (first : Sight) (limit : ℕ) (seen : List (List ℕ)) (fault : RunFault) (begun left base taken : Option (List ℕ)) (k : K) → HasHeardAll seen begun left → (fault ≡ Spent → spent k) → StopsIn holds keeps first fault base (with_end (windows_of limit seen)).closed taken k
@@ -289,6 +295,7 @@ read_failed holds keeps spent first old session begun left left' base taken goes
   };
   sound = if_whole first (Unit {0}) (λ w is. tt);
   left = left_behind_all holds keeps first (windows_of session.window.limit come.seen).closed session.keeper come.at.store;
+  stands = λ never. absurd (cc);
 }
 
 pub all_taken : {told told' : Option (List Moment)} {K : Type 0} (holds : K → Sight → Type 0) (keeps : K → Option ℕ → World → World → Type 0) (spent : K → Type 0) (first : Sight) (old new : Reading) (session : Session K) (begun left left' base taken : Option (List ℕ)) → old.ended ≡ false → HasCome holds first old session begun left base taken told told'
@@ -315,6 +322,7 @@ all_taken holds keeps spent first old new session begun left left' base taken go
   };
   sound = if_whole first (Unit {0}) (λ w is. tt);
   left = left_behind_all holds keeps first (windows_of session.window.limit come.seen).closed session.keeper come.at.store;
+  stands = λ never. absurd (cc);
 }
 
 pub reads_without_memory : {told told' : Option (List Moment)} {K : Type 0} (holds : K → Sight → Type 0) (keeps : K → Option ℕ → World → World → Type 0) (spent : K → Type 0) (first : Sight) (old : Reading) (session : Session K) (begun left left' base taken : Option (List ℕ)) → old.ended ≡ false → HasCome holds first old session begun left base taken told told'

@@ -14,13 +14,14 @@ use Rattle.tc_run_model.specs.Course.{worlds_left, Ending}
 use Rattle.tc_run_model.specs.Windows.{Window}
 use Rattle.tc_run_model.specs.World.{first_world, part_of, store_at, Part, World}
 use Rattle.tc_store.specs.Disk.{Disk}
-use Rattle.tc_server.specs.Holds.{IsOneOf}
-use Rattle.tc_server.specs.OverFiles.{AreFoundOf, AreOwn, HaveOwn, IsFoundOf, IsStoredInOne, LeaveOneOf, LeavesOneOf, MayFollow, OpenAs, OpensAs}
-use Rattle.tc_server.specs.Places.{EachFrom}
+use Rattle.tc_keeper.specs.Holds.{IsOneOf}
+use Rattle.tc_keeper.specs.OwnKeys.{AreOwn, HaveOwn}
+use Rattle.tc_server.specs.OverFiles.{AreFoundOf, IsFoundOf, IsStoredInOne, LeaveOneOf, LeavesOneOf, MayFollow, OpenAs, OpensAs}
+use Rattle.tc_keeper.specs.Places.{EachFrom}
 use Rattle.tc_server.proofs.ClosedFiles.{stored_in, stored_there}
-use Rattle.tc_server.proofs.EachLaws.{each-at, each-map, each-so}
-use Rattle.tc_server.proofs.OwnWorlds.{own_left}
-use Rattle.tc_server.proofs.WorldCounts.{many_left}
+use Rattle.tc_keeper.proofs.EachLaws.{each-at, each-map, each-so}
+use Rattle.tc_keeper.proofs.OwnWorlds.{own_left}
+use Rattle.tc_keeper.proofs.WorldCounts.{many_left}
 
 -- ---- which partitions are looked at
 

@@ -1,5 +1,5 @@
 -- What a session does with a line, said of the windows that it stands behind.
-use Rattle.std.proofs.Common.{◌≡◌, ℕ, ◌+◌, ◌<◌, ◌≤◌, true, false, List, [], ◌∷◌, ◌++◌, length, take, map, length-append, inl, refl, ap, sym, subst, ◌∙◌, append-nil, arith}
+use Rattle.std.proofs.Common.{◌≡◌, ℕ, ◌+◌, ◌<◌, ◌≤◌, true, false, List, [], ◌∷◌, ◌++◌, length, take, length-append, inl, refl, ap, sym, subst, ◌∙◌, append-nil, arith}
 use Rattle.std.specs.Prelude.{Option, nat_le, ◌||◌}
 use Rattle.std.specs.Io.KnownBytes.{Appends}
 use Rattle.std.proofs.KnownBytes.{Appends-trans, Appends-kept}
@@ -12,16 +12,16 @@ use Rattle.tc_model.specs.Limits.{max_line}
 use Rattle.tc_model.specs.Reply.{Reply, reply_line}
 use Rattle.tc_run_model.specs.World.{World, after_all}
 use Rattle.tc_run_model.specs.Known.{MayReply}
-use Rattle.tc_run_model.specs.Built.{if_built, requests_for}
 use Rattle.tc_run_model.specs.Windows.{BeginsWith, Window, Windows, is_control, is_full, line_size, unless_empty, with_open, with_line, lines_in}
-use Rattle.tc_run_model.specs.Course.{requests_in, behind, each_line, worlds_left}
+use Rattle.tc_run_model.specs.Course.{requests_for, requests_in, behind, each_line, worlds_left}
 use Rattle.tc_run_model.proofs.WindowLaws.{lines_in-append, lines_in-unless_empty, closed-with_line}
 use Rattle.tc_run_model.proofs.ReplyLaws.{after_all-append, replied-none}
 use Rattle.tc_server.specs.Asked.{request_asked, is_whole}
-use Rattle.tc_server.specs.Faults.{Stop, failed_writing, gave_up, ending_at, IsNoDamage}
-use Rattle.tc_server.specs.Holds.{AreWritten, HaveFailed, IsLeft, IsLeftAt, WritesPart, worlds_at}
-use Rattle.tc_server.specs.Sight.{nothing, sees, sight_after, sight_behind, whole_of, Sight}
-use Rattle.tc_server.specs.Window.{request_refused, requests_of, requests_routed, IsSoundWindow}
+use Rattle.tc_keeper.specs.Faults.{Stop, failed_writing, gave_up, ending_at, IsNoDamage}
+use Rattle.tc_keeper.specs.Holds.{AreWritten, HaveFailed, IsLeft, IsLeftAt, WritesPart, worlds_at}
+use Rattle.tc_keeper.specs.Sight.{nothing, sees, sight_after, sight_behind, whole_of, Sight}
+use Rattle.tc_keeper.specs.Together.{requests_routed}
+use Rattle.tc_server.specs.Window.{request_refused, requests_of, IsSoundWindow}
 use Rattle.tc_server.specs.Stage.{AsksFor, IsAt, with_end, EndsAmong, StopsIn}
 use Rattle.tc_server.proofs.Mixing.{length-mixed}
 use Rattle.tc_server.proofs.SightLaws.{if_whole, replied_after, replied_both, whole_before}
@@ -29,8 +29,8 @@ use Rattle.std.proofs.lemmas.Bool.Decides.{nat_tests}
 use Rattle.tc_command.specs.declared.refusals.Refusal.TheVariants.{Oversized}
 use Rattle.tc_server.specs.declared.answer.Action.{Action}
 use Rattle.tc_server.specs.declared.answer.Action.TheVariants.{Refuse}
-use Rattle.tc_server.specs.declared.outcome.RunFault.{RunFault}
-use Rattle.tc_server.specs.declared.outcome.RunFault.TheVariants.{Memory}
+use Rattle.tc_keeper.specs.declared.fault.RunFault.{RunFault}
+use Rattle.tc_keeper.specs.declared.fault.RunFault.TheVariants.{Memory}
 use Rattle.tc_server.specs.declared.session.Session.{Session}
 use Rattle.tc_server.specs.declared.window.Window.{Window as CodeWindow}
 
@@ -39,8 +39,7 @@ use Rattle.tc_server.specs.declared.window.Window.{Window as CodeWindow}
 pub requests-unless_empty : (closed : List Window) (window : Window) → requests_in (closed ++ unless_empty window) ≡ requests_in closed ++ requests_for window
 requests-unless_empty closed window =
     ap requests_for (lines_in-append closed (unless_empty window) ∙ ap (λ lines. lines_in closed ++ lines) (lines_in-unless_empty window))
-    ∙ ap (map if_built) (map-append request_of (lines_in closed) window)
-    ∙ map-append if_built (map request_of (lines_in closed)) (map request_of window)
+    ∙ map-append request_of (lines_in closed) window
 
 behind_window : (closed : List Window) (window : Window) (w : World) → behind w (closed ++ unless_empty window) ≡ after_all (requests_for window) (behind w closed)
 behind_window closed window w = ap (λ rs. after_all rs w) (requests-unless_empty closed window) ∙ after_all-append (requests_in closed) (requests_for window) w
@@ -64,7 +63,7 @@ holds_line holds first base taken ws line asked size old new asks at same reques
   given = at.given;
   store = subst (λ k. holds k (sight_behind first ws.closed)) (sym same) at.store;
   requests = requests ∙ ap (λ rs. rs ++ request_asked asked ∷ []) at.requests ∙ ap (λ r. requests_for ws.open_lines ++ r ∷ []) asks.request
-      ∙ sym (ap (map if_built) (map-append request_of ws.open_lines (line ∷ [])) ∙ map-append if_built (map request_of ws.open_lines) (request_of line ∷ []));
+      ∙ sym (map-append request_of ws.open_lines (line ∷ []));
   bytes = bytes ∙ omega (arith, at.bytes, asks.has_size, sum_by-append line_size ws.open_lines (line ∷ []));
   written = at.written;
 }
@@ -74,7 +73,7 @@ lines_found : {K : Type 0} (holds : K → Sight → Type 0) (first : Sight) (bas
     → length session.window.refusals.items ≡ length ws.open_lines
 lines_found holds first base taken ws session sound at =
     sym (length-mixed request_refused session.window.refusals.items (requests_routed session.window.commands.items) (sound.whole ∙ sym (length-map session.window.commands.items _)))
-    ∙ ap length at.requests ∙ length-map (map request_of ws.open_lines) if_built ∙ length-map ws.open_lines request_of
+    ∙ ap length at.requests ∙ length-map ws.open_lines request_of
 
 -- the open window is full where the code finds it so
 pub is_full-found : {K : Type 0} (holds : K → Sight → Type 0) (first : Sight) (limit : ℕ) (base taken : Option (List ℕ)) (ws : Windows) (session : Session K) → IsSoundWindow session.window → IsAt holds first base ws session taken
@@ -278,7 +277,7 @@ le_false : (a b : ℕ) → b < a → nat_le a b ≡ false
 le_false a b h = grind (arith, nat_tests)
 
 -- a line that is not oversized
-pub asks_whole : (line : List ℕ) (asked : Action) → request_asked asked ≡ if_built (request_of line) → is_whole asked ≡ is_control (request_of line) → length line ≤ max_line → AsksFor line asked (length line)
+pub asks_whole : (line : List ℕ) (asked : Action) → request_asked asked ≡ request_of line → is_whole asked ≡ is_control (request_of line) → length line ≤ max_line → AsksFor line asked (length line)
 asks_whole line asked same whole fits = record { request = same; whole = whole; has_size = rw (le_true (length line) max_line fits) refl }
 
 -- a line that is oversized

@@ -7,7 +7,7 @@ use Rattle.tc_run_model.specs.Known.{MayReply, known_after}
 use Rattle.tc_run_model.specs.Windows.{Window}
 use Rattle.tc_run_model.specs.World.{World}
 use Rattle.tc_run_model.proofs.ReplyLaws.{known_after-append, MayReply-append}
-use Rattle.tc_server.specs.Sight.{nothing, sees, sight_after, sight_behind, whole_of, Sight}
+use Rattle.tc_keeper.specs.Sight.{nothing, sees, sight_after, sight_behind, whole_of, Sight}
 
 pub whole_after : (rs : List Request) (known : Sight) → whole_of (sight_after rs known) ≡ known_after rs (whole_of known)
 whole_after rs nothing = refl

@@ -10,25 +10,24 @@ use Rattle.tc_engines.specs.WithJobs.{WithJobs}
 use Rattle.tc_engines.proofs.PlaceLaws.{at_each-length, at_each-reads, at_each-so}
 use Rattle.tc_open.specs.Judged.{AreSpent, Passes}
 use Rattle.tc_run_model.specs.Course.{unopened}
-use Rattle.tc_run_model.specs.World.{World}
 use Rattle.tc_store.specs.Disk.{Disk}
 use Rattle.tc_store.specs.KitFaults.{KitFaults}
 use Rattle.tc_store.specs.Moments.{IfTold}
 use Rattle.tc_work.specs.Moving.{Eyes}
 use Rattle.tc_work.specs.declared.fault.EngineFault.{EngineFault}
 use Rattle.tc_words.specs.declared.run.Options.{Options}
-use Rattle.tc_server.specs.Calls.{faults_at}
+use Rattle.tc_keeper.specs.Calls.{faults_at}
 use Rattle.tc_server.specs.Ending.{limits_of}
-use Rattle.tc_server.specs.Faults.{IfDisk, IsNoDamage, NoneFell, OneRose}
+use Rattle.tc_keeper.specs.Faults.{IfDisk, IsNoDamage, NoneFell, OneRose}
 use Rattle.tc_server.specs.KitCauses.{AreAsked, AreGenerationsSpent, AreJudged, ArePassed, HasDiskCauseOver, HasLastGeneration, IsJudged, NoneFellOf}
 use Rattle.tc_server.specs.Kits.{AreOpened, IsClosed, IsGivenBack, IsNotGiven, IsOfOpening, IsOpened}
 use Rattle.tc_server.specs.OverFiles.{BeginsAs, EndsOver, IsHere, KeepsOpened}
-use Rattle.tc_server.specs.Places.{EachFrom, SomeFrom}
-use Rattle.tc_server.specs.Sight.{whole_of, Sight}
-use Rattle.tc_server.specs.declared.outcome.RunFault.{RunFault}
-use Rattle.tc_server.specs.declared.outcome.RunFault.TheVariants.{Usage, Read, Write, Spent, Disk as DiskFault, Damaged, Memory, Layout}
-use Rattle.tc_server.proofs.Causes.{none_fell_twice}
-use Rattle.tc_server.proofs.EachLaws.{behind_front, each-append, each-at, each-beside, each-map, some-append, there}
+use Rattle.tc_keeper.specs.Places.{EachFrom, SomeFrom}
+use Rattle.tc_keeper.specs.Sight.{whole_of, Sight}
+use Rattle.tc_keeper.specs.declared.fault.RunFault.{RunFault}
+use Rattle.tc_keeper.specs.declared.fault.RunFault.TheVariants.{Usage, Read, Write, Spent, Disk as DiskFault, Damaged, Memory, Layout}
+use Rattle.tc_keeper.proofs.Causes.{none_fell_twice}
+use Rattle.tc_keeper.proofs.EachLaws.{behind_front, each-append, each-at, each-beside, each-map, some-append, there}
 use Rattle.tc_server.proofs.KitOpenings.{ends_not_given, ends_of_opening, sound_not_given}
 use Rattle.tc_server.proofs.NotOpened.{lawful_first, opened_keeps}
 use Rattle.tc_server.proofs.SightLaws.{if_whole}

@@ -1,20 +1,21 @@
 -- What a line of a window asks for, as it is answered.
-use Rattle.std.specs.Prelude.{◌≤◌, Bool, true, false}
-use Rattle.tc_model.specs.Limits.{max_key, max_line}
-use Rattle.tc_model.specs.Request.{Request, upsert, delete, get, query, flush, schema, scan, collect, refused, not_built}
-use Rattle.tc_model.specs.Stored.{IsStorable}
+use Rattle.std.specs.Prelude.{Bool, true, false}
+use Rattle.tc_model.specs.Limits.{max_line}
+use Rattle.tc_model.specs.Request.{Request, flush, schema, scan, collect, refused}
 use Rattle.tc_model.specs.Weight.{IsLight}
-use Rattle.tc_command.specs.Commands.{request_of_command}
+use Rattle.tc_command.specs.Commands.{ask_of, request_of_command}
 use Rattle.tc_command.specs.Refusals.{refusal_of}
+use Rattle.tc_keeper.specs.Together.{IsForPart}
 use Rattle.tc_server.specs.declared.answer.Action.{Action}
 use Rattle.tc_server.specs.declared.answer.Action.TheVariants.{Run, Whole, Refuse}
 use Rattle.tc_server.specs.declared.answer.Control.{Control}
-use Rattle.tc_server.specs.declared.answer.Control.TheVariants.{Flush, Schema, NotBuilt}
+use Rattle.tc_server.specs.declared.answer.Control.TheVariants.{Flush, Schema, Scan, Collect}
 
 abbrev pub request_whole : Control → Request
 request_whole Flush = flush
 request_whole Schema = schema
-request_whole NotBuilt = refused not_built
+request_whole (Scan ask) = scan (ask_of ask)
+request_whole Collect = collect
 
 abbrev pub request_asked : Action → Request
 request_asked (Run command) = request_of_command command
@@ -26,18 +27,6 @@ abbrev pub is_whole : Action → Bool
 is_whole (Run command) = false
 is_whole (Whole control) = true
 is_whole (Refuse refusal) = false
-
--- a request for a partition: a query, or for one key, whose document may be stored
-abbrev pub IsForPart : Request → Type 0
-IsForPart (upsert n d) = (n ≤ max_key) × IsStorable d
-IsForPart (delete n) = n ≤ max_key
-IsForPart (get n) = n ≤ max_key
-IsForPart (query ask) = Unit {0}
-IsForPart flush = ⊥
-IsForPart schema = ⊥
-IsForPart (scan ask) = ⊥
-IsForPart collect = ⊥
-IsForPart (refused r) = ⊥
 
 -- a command that is run is for a partition
 abbrev pub IsRunForPart : Action → Type 0

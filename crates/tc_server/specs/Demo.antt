@@ -6,16 +6,15 @@ use Rattle.tc_gen.specs.TwoLines.{Heard, heard_of, two_lines}
 use Rattle.tc_model.specs.Reply.{Reply}
 use Rattle.tc_run_model.specs.World.{World}
 use Rattle.tc_run_model.specs.Known.{MayReply}
-use Rattle.tc_run_model.specs.Built.{requests_for}
 use Rattle.tc_run_model.specs.Windows.{BeginsWith, Window, Windows, unless_empty, windows_of}
-use Rattle.tc_run_model.specs.Course.{each_line, requests_in, stopped, worlds_left}
+use Rattle.tc_run_model.specs.Course.{each_line, requests_for, requests_in, stopped, worlds_left}
 use Rattle.tc_server.specs.Ending.{RanLeaving}
-use Rattle.tc_server.specs.Faults.{IsNoDamage}
-use Rattle.tc_server.specs.Holds.{IsLeft}
-use Rattle.tc_server.specs.Sight.{sight_after, whole_of, Sight}
+use Rattle.tc_keeper.specs.Faults.{IsNoDamage}
+use Rattle.tc_keeper.specs.Holds.{IsLeft}
+use Rattle.tc_keeper.specs.Sight.{sight_after, whole_of, Sight}
 use Rattle.tc_server.specs.Stage.{IsAt}
-use Rattle.tc_server.specs.declared.outcome.RunFault.{RunFault}
-use Rattle.tc_server.specs.declared.outcome.RunFault.TheVariants.{Usage, Read, Write, Spent, Disk, Damaged, Memory, Layout}
+use Rattle.tc_keeper.specs.declared.fault.RunFault.{RunFault}
+use Rattle.tc_keeper.specs.declared.fault.RunFault.TheVariants.{Usage, Read, Write, Spent, Disk, Damaged, Memory, Layout}
 use Rattle.tc_server.specs.declared.session.Session.{Session}
 
 -- ---- how it ends

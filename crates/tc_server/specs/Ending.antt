@@ -5,11 +5,11 @@ use Rattle.tc_gen.specs.Generated.{input_of}
 use Rattle.tc_gen.specs.TwoLines.{two_lines}
 use Rattle.tc_plain_model.specs.Part.{Limits}
 use Rattle.tc_run_model.specs.World.{World}
-use Rattle.tc_run_model.specs.Course.{Ending, Shown, each_line, IsDue, Ran, worlds_left}
-use Rattle.tc_server.specs.Faults.{EndsAs, IsNoDamage}
-use Rattle.tc_server.specs.Holds.{IsLeft}
-use Rattle.tc_server.specs.Sight.{whole_of, Sight}
-use Rattle.tc_server.specs.declared.outcome.RunFault.{RunFault}
+use Rattle.tc_run_model.specs.Course.{Ending, Shown, behind, each_line, IsDue, Ran, worlds_left}
+use Rattle.tc_keeper.specs.Faults.{EndsAs, IsNoDamage}
+use Rattle.tc_keeper.specs.Holds.{IsLeft}
+use Rattle.tc_keeper.specs.Sight.{sees, whole_of, IfKnown, Sight}
+use Rattle.tc_keeper.specs.declared.fault.RunFault.{RunFault}
 use Rattle.tc_words.specs.Grammar.{max_commands}
 use Rattle.tc_words.specs.Options.{options_asked}
 use Rattle.tc_words.specs.declared.asked.Invocation.{Invocation}
@@ -23,11 +23,13 @@ pub record RanTo (shown : Shown) (spent : Type 0) (fault : Option RunFault) (fir
   pub by : EndsAs spent fault ending
   pub ran : Ran shown (whole_of first) most ending left left' taken taken'
 
--- The same, and what it left. Where it was known what all partitions store, it did not end by damage.
+-- The same, and what it left: of one that ended by no fault, it stands at the world behind all windows. Where it was known what all
+-- partitions store, it did not end by damage.
 pub record RanLeaving {K : Type 0} (shown : Shown) (holds : K → Sight → Type 0) (keeps : K → Option ℕ → World → World → Type 0) (spent : K → Type 0) (fault : Option RunFault) (first : Sight) (most : ℕ) (unread unread' taken taken' : Option (List ℕ)) (k : K) : Type 0 where
   pub run : RanTo shown (spent k) fault first most unread unread' taken taken'
   pub sound : IfSome (whole_of first) (λ w. IfSome fault IsNoDamage)
   pub left : IsLeft holds keeps k first (λ w. worlds_left run.ending w run.ran.answered run.ran.last)
+  pub stands : fault ≡ None → IfKnown first (λ only w. holds k (sees only (behind w run.ran.answered)))
 
 -- the limits that options set
 abbrev pub limits_of : Options → Limits

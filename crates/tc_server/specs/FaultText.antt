@@ -4,8 +4,8 @@ use Rattle.std.specs.Fmt.{decimal}
 use Rattle.tc_files.specs.Names.{name_text}
 use Rattle.tc_store.specs.declared.damage.Damage.{Damage}
 use Rattle.tc_store.specs.declared.damage.Damage.TheVariants.{Bytes, Files}
-use Rattle.tc_server.specs.declared.outcome.RunFault.{RunFault}
-use Rattle.tc_server.specs.declared.outcome.RunFault.TheVariants.{Usage, Read, Write, Spent, Disk, Damaged, Memory, Layout}
+use Rattle.tc_keeper.specs.declared.fault.RunFault.{RunFault}
+use Rattle.tc_keeper.specs.declared.fault.RunFault.TheVariants.{Usage, Read, Write, Spent, Disk, Damaged, Memory, Layout}
 
 abbrev pub damage_text : ℕ → Damage → List ℕ
 damage_text p (Bytes file place bytes) =

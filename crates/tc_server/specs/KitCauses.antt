@@ -16,10 +16,10 @@ use Rattle.tc_recover.specs.Refusals.{strays}
 use Rattle.tc_open.specs.Judged.{refusal_of, AreSpent, IsOfFiles, Passes}
 use Rattle.tc_run_model.specs.Course.{max_input}
 use Rattle.tc_server.specs.Ending.{IsRun}
-use Rattle.tc_server.specs.Faults.{NoneFell, OneRose}
-use Rattle.tc_server.specs.Places.{EachFrom, SomeFrom}
-use Rattle.tc_server.specs.declared.outcome.RunFault.{RunFault}
-use Rattle.tc_server.specs.declared.outcome.RunFault.TheVariants.{Usage, Read, Write, Spent, Disk as DiskFault, Damaged, Memory, Layout}
+use Rattle.tc_keeper.specs.Faults.{NoneFell, OneRose}
+use Rattle.tc_keeper.specs.Places.{EachFrom, SomeFrom}
+use Rattle.tc_keeper.specs.declared.fault.RunFault.{RunFault}
+use Rattle.tc_keeper.specs.declared.fault.RunFault.TheVariants.{Usage, Read, Write, Spent, Disk as DiskFault, Damaged, Memory, Layout}
 use Rattle.tc_words.specs.declared.asked.Invocation.{Invocation}
 
 -- ---- which kits were given

@@ -1,6 +1,6 @@
 -- The kit of one partition among others: its engine once it is opened, what comes of a kit whose partition is not, and what an
 -- engine leaves when it is closed.
-use Rattle.std.specs.Prelude.{◌≡◌, ◌⊎◌, ℕ, suc, true, List, [], ◌∷◌, Option, Some, None, Result, Ok, Err, IfErr, IsErrOf, OnOk}
+use Rattle.std.specs.Prelude.{◌≡◌, ◌⊎◌, ℕ, suc, true, List, [], ◌∷◌, Option, Some, None, is_some, Result, Ok, Err, IfErr, IsErrOf, OnOk}
 use Rattle.tc_engines.specs.Standing.{partition_at}
 use Rattle.tc_engines.specs.WithJobs.{no_jobs, told_of, works_of, WithJobs}
 use Rattle.tc_list.specs.Policies.{listed_least}
@@ -25,18 +25,19 @@ use Rattle.tc_work.specs.Settling.{TellsFiles}
 use Rattle.tc_work.specs.declared.fault.EngineFault.{EngineFault}
 use Rattle.tc_work.specs.declared.fault.EngineFault.TheVariants as engine
 use Rattle.tc_words.specs.declared.run.Options.{Options}
-use Rattle.tc_server.specs.Calls.{faults_at, IsSpentAt, MayBeAsked}
+use Rattle.tc_keeper.specs.Calls.{faults_at, IsSpentAt, MayBeAsked}
 use Rattle.tc_server.specs.Ending.{limits_of}
-use Rattle.tc_server.specs.Faults.{fault_of_engine, IfDisk, IsNoDamage, NoneFell, OneRose}
+use Rattle.tc_keeper.specs.Faults.{fault_of_engine, IfDisk, IsNoDamage, NoneFell, OneRose}
 use Rattle.tc_server.specs.KitCauses.{ArePassed, HasLastGeneration, IsJudged}
 use Rattle.tc_server.specs.OverFiles.{IsHere, KeepsOpened}
-use Rattle.tc_server.specs.Places.{EachFrom}
-use Rattle.tc_server.specs.declared.outcome.RunFault.{RunFault}
-use Rattle.tc_server.specs.declared.outcome.RunFault.TheVariants.{Usage, Read, Write, Spent, Disk as DiskFault, Damaged, Memory, Layout}
+use Rattle.tc_keeper.specs.Places.{EachFrom}
+use Rattle.tc_keeper.specs.declared.fault.RunFault.{RunFault}
+use Rattle.tc_keeper.specs.declared.fault.RunFault.TheVariants.{Usage, Read, Write, Spent, Disk as DiskFault, Damaged, Memory, Layout}
 
 -- ---- a partition that was opened
 
--- It is set up by the options, and may be asked. Nothing is staged, and no job is out.
+-- It is set up by the options, and may be asked. Nothing is in its tables or staged, no job is out, and the reader's watch is at
+-- home.
 pub record IsBegun {S D F W : Type 0} (eyes : Eyes S D F W) (options : Options) (e : WithJobs S D F W) : Type 0 where
   pub ready : MayBeAsked (told_of eyes e) e.engine.part
   pub unstaged : (told_of eyes e).staged ≡ []
@@ -44,6 +45,9 @@ pub record IsBegun {S D F W : Type 0} (eyes : Eyes S D F W) (options : Options) 
   pub memory : e.engine.part.memory ≡ options.memory
   pub merges : listed_least e.engine.policy ≡ options.merge
   pub alone : e.jobs ≡ no_jobs
+  pub unsealed : e.engine.part.sealed ≡ None
+  pub empty : e.engine.part.active ≡ []
+  pub reader : is_some e.engine.part.reader ≡ true
 
 -- The engine of a partition whose kit came with these files and counts.
 pub record IsOpened {S D F W : Type 0} (eyes : Eyes S D F W) (options : Options) (here : Partition) (came : List Disk) (counted : KitFaults) (e : WithJobs S D F W) : Type 0 where
@@ -114,6 +118,13 @@ fault_before p (Err fault) behind = Some (fault_of_engine p fault)
 abbrev pub least_fault : ℕ → List (Result (Unit {0}) EngineFault) → Option RunFault
 least_fault p [] = None
 least_fault p (outcome ∷ more) = fault_before p outcome (least_fault (suc p) more)
+
+-- How a run was answered whose lines were answered so, and whose scan at the end had this fault, or none. A fault of the lines came
+-- first.
+abbrev pub answer_behind : Result (Unit {0}) RunFault → Option RunFault → Result (Unit {0}) RunFault
+answer_behind (Err fault) ended = Err fault
+answer_behind (Ok done) (Some fault) = Err fault
+answer_behind (Ok done) None = Ok done
 
 -- How a run ends whose lines were answered so, and whose engines ended by this fault, or by none. A fault of the lines came first.
 abbrev pub fault_behind : Result (Unit {0}) RunFault → Option RunFault → Option RunFault

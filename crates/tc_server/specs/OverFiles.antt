@@ -1,5 +1,5 @@
 -- A run over the files of a shelf: the world in which it begins, how it ends, and what is left of the files of each partition.
-use Rattle.std.specs.Prelude.{◌≡◌, ◌≤◌, ◌<◌, ◌⊎◌, ◌+◌, ◌%◌, ℕ, Bool, true, List, [], ◌∷◌, length, All, Option, Some, None, IfSome}
+use Rattle.std.specs.Prelude.{◌≡◌, ◌≤◌, ◌<◌, ◌⊎◌, ◌+◌, ℕ, Bool, true, List, [], ◌∷◌, length, All, Option, Some, None, IfSome}
 use Rattle.std.specs.Io.KnownBytes.{Keeps}
 use Rattle.tc_engines.specs.Standing.{partition_at, IsSeen}
 use Rattle.tc_store.specs.Disk.{Disk, IsPictureOf, Picture}
@@ -18,11 +18,12 @@ use Rattle.tc_replay.specs.Openings.{AreIn}
 use Rattle.tc_run_model.specs.World.{World, first_world, store_at}
 use Rattle.tc_run_model.specs.Course.{Ending, finished, input_failed, input_spent, output_failed, stopped, unopened, behind, Ran, Shown, worlds_left}
 use Rattle.tc_server.specs.Ending.{limits_of, RunsOver}
-use Rattle.tc_server.specs.Faults.{IsNoDamage}
-use Rattle.tc_server.specs.Places.{EachFrom}
-use Rattle.tc_server.specs.Sight.{whole_of, IfKnown, Sight}
-use Rattle.tc_server.specs.declared.outcome.RunFault.{RunFault}
-use Rattle.tc_server.specs.declared.outcome.RunFault.TheVariants.{Usage, Read, Write, Spent, Disk as DiskFault, Damaged, Memory, Layout}
+use Rattle.tc_keeper.specs.Faults.{IsNoDamage}
+use Rattle.tc_keeper.specs.OwnKeys.{AreOwn}
+use Rattle.tc_keeper.specs.Places.{EachFrom}
+use Rattle.tc_keeper.specs.Sight.{whole_of, IfKnown, Sight}
+use Rattle.tc_keeper.specs.declared.fault.RunFault.{RunFault}
+use Rattle.tc_keeper.specs.declared.fault.RunFault.TheVariants.{Usage, Read, Write, Spent, Disk as DiskFault, Damaged, Memory, Layout}
 use Rattle.tc_words.specs.Options.{options_asked}
 use Rattle.tc_words.specs.declared.asked.Invocation.{Invocation}
 use Rattle.tc_words.specs.declared.run.Options.{Options}
@@ -40,14 +41,6 @@ pub record OpensWith (here : Partition) (disk : Disk) (stored : Store) : Type 0 
 abbrev pub OpensAs : Partition → List Disk → Store → Type 0
 OpensAs here [] stored = ⊥
 OpensAs here (disk ∷ past) stored = OpensWith here disk stored
-
--- keys of the partition of a number, of so many, alone: those of which it is the rest
-abbrev pub AreOwn : ℕ → ℕ → Pairs → Type 0
-AreOwn count p pairs = All (λ e. e.0 % count ≡ p) pairs
-
--- each partition of a world has keys of its own alone, or the one of this number
-abbrev pub HaveOwn : Option ℕ → World → Type 0
-HaveOwn only w = EachFrom (λ p part. IsSeen only p → AreOwn (length w.parts) p part.now.pairs) 0 w.parts
 
 -- A world over the files of so many partitions: each stores what its files open as, and has keys of its own alone, or the one of this
 -- number does, whatever is in the files of others.

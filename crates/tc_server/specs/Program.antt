@@ -1,7 +1,7 @@
 -- What a program's words ask for.
 use Rattle.std.specs.Prelude.{ℕ, List, Option, option_and_then}
-use Rattle.tc_server.specs.declared.outcome.RunFault.{RunFault}
-use Rattle.tc_server.specs.declared.outcome.RunFault.TheVariants.{Usage, Memory}
+use Rattle.tc_keeper.specs.declared.fault.RunFault.{RunFault}
+use Rattle.tc_keeper.specs.declared.fault.RunFault.TheVariants.{Usage, Memory}
 use Rattle.tc_words.specs.Options.{invocation_of}
 use Rattle.tc_words.specs.declared.asked.Invocation.{Invocation}
 use Rattle.tc_words.specs.declared.fault.WordsFault.{WordsFault}

@@ -8,9 +8,9 @@ use Rattle.tc_run_model.specs.World.{World}
 use Rattle.tc_run_model.specs.Windows.{windows_of}
 use Rattle.tc_run_model.specs.Course.{each_line, IsDue}
 use Rattle.tc_server.specs.Ending.{RanLeaving, ReadsPromptly}
-use Rattle.tc_server.specs.Sight.{whole_of, Sight}
+use Rattle.tc_keeper.specs.Sight.{whole_of, Sight}
 use Rattle.tc_server.specs.Stage.{IsAt}
-use Rattle.tc_server.specs.declared.outcome.RunFault.{RunFault}
+use Rattle.tc_keeper.specs.declared.fault.RunFault.{RunFault}
 use Rattle.tc_server.specs.declared.session.Session.{Session}
 
 -- These lines were seen of the input, and these bytes of it are held, whatever comes behind.

@@ -5,21 +5,20 @@ use Rattle.tc_model.specs.Request.{request_of}
 use Rattle.tc_model.specs.Reply.{Reply}
 use Rattle.tc_run_model.specs.World.{World}
 use Rattle.tc_run_model.specs.Known.{MayReply}
-use Rattle.tc_run_model.specs.Built.{if_built, requests_for}
 use Rattle.tc_run_model.specs.Windows.{BeginsWith, Window, Windows, is_control, line_size, max_window, unless_empty, with_line}
-use Rattle.tc_run_model.specs.Course.{requests_in, each_line, Took, worlds_left}
+use Rattle.tc_run_model.specs.Course.{requests_for, requests_in, each_line, Took, worlds_left}
 use Rattle.tc_server.specs.Asked.{request_asked, is_whole}
-use Rattle.tc_server.specs.Faults.{Stop, failed_writing, gave_up, stop_of, ending_at, IsNoDamage}
-use Rattle.tc_server.specs.Holds.{IsLeft}
-use Rattle.tc_server.specs.Sight.{sight_behind, whole_of, Sight}
+use Rattle.tc_keeper.specs.Faults.{Stop, failed_writing, gave_up, stop_of, ending_at, IsNoDamage}
+use Rattle.tc_keeper.specs.Holds.{IsLeft}
+use Rattle.tc_keeper.specs.Sight.{sight_behind, whole_of, Sight}
 use Rattle.tc_server.specs.Window.{requests_of, IsSoundWindow}
 use Rattle.tc_server.specs.declared.answer.Action.{Action}
-use Rattle.tc_server.specs.declared.outcome.RunFault.{RunFault}
+use Rattle.tc_keeper.specs.declared.fault.RunFault.{RunFault}
 use Rattle.tc_server.specs.declared.session.Session.{Session}
 
 -- what a line asks for was read off, and its size was told
 pub record AsksFor (line : List ℕ) (asked : Action) (size : ℕ) : Type 0 where
-  pub request : request_asked asked ≡ if_built (request_of line)
+  pub request : request_asked asked ≡ request_of line
   pub whole : is_whole asked ≡ is_control (request_of line)
   pub has_size : size ≡ line_size line
 

@@ -1,17 +1,12 @@
 -- What the lines of a window ask for: some are refused, and the others are commands for partitions.
-use Rattle.std.specs.Prelude.{◌≡◌, ◌≤◌, ◌<◌, ℕ, ◌+◌, suc, List, [], ◌∷◌, length, map, All, Option, Some, None}
-use Rattle.tc_model.specs.Limits.{max_line}
+use Rattle.std.specs.Prelude.{◌≡◌, ◌≤◌, ◌<◌, ℕ, suc, List, [], ◌∷◌, length, map, All, Option, Some, None}
 use Rattle.tc_model.specs.Reply.{Reply, turned_down}
-use Rattle.tc_model.specs.Request.{Request, upsert, delete, get, query, flush, schema, scan, collect, refused}
-use Rattle.tc_model.specs.Weight.{weight, IsLight}
-use Rattle.tc_command.specs.Commands.{request_of_command}
+use Rattle.tc_model.specs.Request.{Request, refused}
 use Rattle.tc_command.specs.Refusals.{refusal_of}
 use Rattle.tc_command.specs.declared.refusals.Refusal.{Refusal}
 use Rattle.tc_model.specs.Keyed.{Ascends}
 use Rattle.tc_route.specs.Meaning.{routed_of}
-use Rattle.tc_route.specs.declared.placed.Routed.{Routed}
-use Rattle.tc_run_model.specs.Windows.{max_window}
-use Rattle.tc_server.specs.Asked.{IsForPart}
+use Rattle.tc_keeper.specs.Together.{requests_routed, weight_in, IsRouted}
 use Rattle.tc_server.specs.declared.window.Window.{Window}
 
 -- ---- lines of which some are refused
@@ -35,39 +30,10 @@ request_refused r = refused (refusal_of r)
 abbrev pub reply_refused : Refusal → Reply
 reply_refused r = turned_down (refusal_of r)
 
-abbrev pub requests_routed : List Routed → List Request
-requests_routed list = map (λ r. request_of_command r.command) list
-
 -- ---- the window
 
 abbrev pub requests_of : Window → List Request
 requests_of w = mixed request_refused w.refusals.items (requests_routed w.commands.items)
-
-abbrev pub weight_of : Request → ℕ
-weight_of (upsert n d) = weight d
-weight_of (delete n) = 0
-weight_of (get n) = 0
-weight_of (query ask) = 0
-weight_of flush = 0
-weight_of schema = 0
-weight_of (scan ask) = 0
-weight_of collect = 0
-weight_of (refused r) = 0
-
-abbrev pub weight_in : List Request → ℕ
-weight_in [] = 0
-weight_in (r ∷ rs) = weight_of r + weight_in rs
-
--- each is for a partition, with a document that fits a line
-abbrev pub IsRouted : Routed → Type 0
-IsRouted r = IsForPart (request_of_command r.command) × IsLight max_line (request_of_command r.command)
-
--- commands that are answered together, in the order of their lines
-pub record AreTogether (list : List Routed) : Type 0 where
-  pub few : length list ≤ 4096
-  pub ascending : Ascends (map routed_of list)
-  pub each : All IsRouted list
-  pub light : weight_in (requests_routed list) ≤ max_window + max_line
 
 -- A line that is not refused has its command, at the place of the line. The documents weigh no more than the lines.
 pub record IsSoundWindow (w : Window) : Type 0 where

@@ -6,22 +6,21 @@ ghost use Rattle.tc_command.specs.Replies.{reply_of};
 ghost use Rattle.tc_model.specs.Reply.{reply_line};
 ghost use Rattle.tc_model.specs.Request.{request_of};
 ghost use Rattle.tc_model.specs.Weight.{IsLight};
-ghost use Rattle.tc_run_model.specs.Built.{if_built};
 ghost use Rattle.tc_run_model.specs.Windows.{is_control};
 ghost use Rattle.tc_server.specs.Asked.{is_whole, request_asked, IsRunForPart};
 ghost use Rattle.tc_server.specs.declared.answer.Action.TheVariants.{Refuse};
 
 use std::alloc::{AllocError, Global};
 use std::marker::Model;
-use tc_command::{Command, ParseFault, Refusal, Reply, parse, reply_text};
+use tc_command::{Ask, Command, ParseFault, Refusal, Reply, parse, reply_text};
 
 /// What is asked of the whole store.
-#[derive(Clone, Copy, Debug, PartialEq, Eq)]
+#[derive(Drop)]
 pub enum Control {
     Flush,
     Schema,
-    /// A command that is not built.
-    NotBuilt,
+    Scan(Ask),
+    Collect,
 }
 
 /// A command for a partition, one for the whole store, or why there is none.
@@ -56,7 +55,7 @@ impl Model for Asked {
 impl Asked {
     /// What a line asks for. Errs only for want of memory.
     pub fn of(alloc: Global, line: &[u8]) -> Result<Asked, AllocError>
-        ensures request { IfOk result (λ asked. request_asked asked ≡ if_built (request_of line.now)) }
+        ensures request { IfOk result (λ asked. request_asked asked ≡ request_of line.now) }
         ensures whole { IfOk result (λ asked. is_whole asked ≡ is_control (request_of line.now)) }
         ensures light { IfOk result (λ asked. IsLight (length line.now) (request_asked asked)) }
     {
@@ -89,14 +88,15 @@ impl Asked {
 
 // What is to be done for a command.
 fn action_of(command: Command) -> Action
-    ensures request { request_asked result ≡ if_built (request_of_command command) }
+    ensures request { request_asked result ≡ request_of_command command }
     ensures whole { is_whole result ≡ is_control (request_of_command command) }
     ensures for_part { IsLawful command → IsRunForPart result }
 {
     match command {
         Command::Flush => Action::Whole(Control::Flush),
         Command::Schema => Action::Whole(Control::Schema),
-        Command::Scan(_) | Command::Collect => Action::Whole(Control::NotBuilt),
+        Command::Scan(ask) => Action::Whole(Control::Scan(ask)),
+        Command::Collect => Action::Whole(Control::Collect),
         command => Action::Run(command),
     }
 }

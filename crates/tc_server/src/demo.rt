@@ -1,37 +1,37 @@
 //! A demonstration: generated commands, answered as the lines of an input are, and two lines about their replies.
 
-ghost use Rattle.std.specs.Prelude.{◌≡◌, ◌≤◌, ◌<◌, [], length, Option, Some, IfErr, IfOk, OnErr, OnOk};
+ghost use Rattle.std.specs.Prelude.{◌≡◌, ◌≤◌, ◌<◌, [], length, Some, IfErr, IfOk, OnOk};
 ghost use Rattle.std.specs.Io.KnownBytes.{Appends};
 ghost use Rattle.tc_bytes.specs.Counts.{Rose};
 ghost use Rattle.tc_gen.specs.Generated.{generated};
 ghost use Rattle.tc_gen.specs.TwoLines.{lines_for};
 ghost use Rattle.tc_model.specs.Limits.{max_line};
 ghost use Rattle.tc_run_model.specs.Windows.{windows_of};
-ghost use Rattle.tc_server.specs.Calls.{faults_of, settings_of, IsSpent, KeepsAt, MayAsk, Rests, HoldsAt};
+ghost use Rattle.tc_keeper.specs.Keeping.{faults_kept, settings_kept, HasSpent, FailsAt, MayServe, AllRest, ServesAt};
 ghost use Rattle.tc_server.specs.Demo.{ended, fault_in_memory, DemoLeaving, GivesUpAtEnd, GivesUpAtLine, HasGivenUp, HasHeardAll, HearsEnd, HearsLine, HearsReplies, WroteSome};
-ghost use Rattle.tc_server.specs.Faults.{fault_in, HasCauses, HasDiskCause, IsOfStore, IsWrite};
-ghost use Rattle.tc_server.specs.Sight.{Sight};
+ghost use Rattle.tc_keeper.specs.Faults.{fault_in, HasCauses, HasDiskCause, IsOfStore, IsWrite};
+ghost use Rattle.tc_keeper.specs.Sight.{Sight};
 ghost use Rattle.tc_server.specs.Stage.{IsReady};
 ghost use Rattle.tc_server.specs.Window.{requests_of};
 ghost use Rattle.tc_work.specs.Moving.{eyes};
 
-use crate::outcome::RunFault;
-use crate::partitions::Partitions;
 use crate::session::Session;
 use std::alloc::Global;
+use std::sync::Wait;
 use std::thread::Threads;
 use tc_bytes::Bytes;
 use tc_edge::{MemSink, Sink, write_all};
 use tc_gen::{Feed, Tally};
+use tc_keeper::{Keeper, RunFault};
 use tc_running::Pace;
 use tc_store::Store;
 
 /// Answers a demonstration of so many commands, in the windows of the session, and writes its two lines.
-pub fn answer_demo<R: Threads + Sync, O: Sink, S: Store + 'static, P: Pace + 'static>(
+pub fn answer_demo<R: Threads + Wait + Sync, O: Sink, S: Store + 'static, P: Pace + 'static>(
     rt: &R,
     alloc: Global,
     commands: u32,
-    session: &mut Session<Partitions<S, P>>,
+    session: &mut Session<Keeper<S, P>>,
     sink: &mut O,
 ) -> Result<(), RunFault>
 where
@@ -39,17 +39,17 @@ where
     S::Frozen: 'static,
     S::Watch: 'static,
     requires few { commands ≤ 1000000 }
-    requires ready { IsReady (MayAsk S.history S.Device.history S.Frozen.content) session.old }
+    requires ready { IsReady (MayServe S.history S.Device.history S.Frozen.content) session.old }
     requires requests { requests_of session.old.window ≡ [] }
     requires bytes { session.old.window.bytes ≡ 0 }
 
     // What was written, and what is left of the store, from whatever world it stood at.
-    ensures ran { (first : Sight) → HoldsAt (eyes S.history S.Device.history S.Frozen.content S.Device.name S.Frozen.size S.Watch.counts) session.old.keeper first
-        → DemoLeaving (HoldsAt (eyes S.history S.Device.history S.Frozen.content S.Device.name S.Frozen.size S.Watch.counts)) (KeepsAt (eyes S.history S.Device.history S.Frozen.content S.Device.name S.Frozen.size S.Watch.counts)) (IsSpent S.history S.Device.history S.Frozen.content) commands (fault_in result) first session.old.window.limit
+    ensures ran { (first : Sight) → ServesAt (eyes S.history S.Device.history S.Frozen.content S.Device.name S.Frozen.size S.Watch.counts) session.old.keeper first
+        → DemoLeaving (ServesAt (eyes S.history S.Device.history S.Frozen.content S.Device.name S.Frozen.size S.Watch.counts)) (FailsAt (eyes S.history S.Device.history S.Frozen.content S.Device.name S.Frozen.size S.Watch.counts)) (HasSpent S.history S.Device.history S.Frozen.content) commands (fault_in result) first session.old.window.limit
         (O.taken sink.old) (O.taken sink.new) session.new.keeper }
-    ensures rests { OnOk result (Rests (λ d. S.Device.size d) session.new.keeper) }
-    ensures settings { settings_of session.new.keeper ≡ settings_of session.old.keeper }
-    ensures cause { HasCauses (O.faults sink.old) (O.faults sink.new) (faults_of (λ w. S.Watch.counts w) session.old.keeper) (faults_of (λ w. S.Watch.counts w) session.new.keeper) (IsSpent S.history S.Device.history S.Frozen.content session.new.keeper) (fault_in result) }
+    ensures rests { OnOk result (AllRest (λ d. S.Device.size d) session.new.keeper) }
+    ensures settings { settings_kept session.new.keeper ≡ settings_kept session.old.keeper }
+    ensures cause { HasCauses (O.faults sink.old) (O.faults sink.new) (faults_kept (λ w. S.Watch.counts w) session.old.keeper) (faults_kept (λ w. S.Watch.counts w) session.new.keeper) (HasSpent S.history S.Device.history S.Frozen.content session.new.keeper) (fault_in result) }
 {
     session.begin(rt, alloc)?;
     let tally = hear_all(rt, alloc, commands, session)?;
@@ -74,28 +74,28 @@ fn write_lines<O: Sink>(
 }
 
 // Hands the lines of a demonstration to the session, and keeps what it replies.
-fn hear_all<R: Threads + Sync, S: Store + 'static, P: Pace + 'static>(
+fn hear_all<R: Threads + Wait + Sync, S: Store + 'static, P: Pace + 'static>(
     rt: &R,
     alloc: Global,
     commands: u32,
-    session: &mut Session<Partitions<S, P>>,
+    session: &mut Session<Keeper<S, P>>,
 ) -> Result<Tally, RunFault>
 where
     S::Device: 'static,
     S::Frozen: 'static,
     S::Watch: 'static,
     requires few { commands ≤ 1000000 }
-    requires ready { IsReady (MayAsk S.history S.Device.history S.Frozen.content) session.old }
+    requires ready { IsReady (MayServe S.history S.Device.history S.Frozen.content) session.old }
     requires requests { requests_of session.old.window ≡ [] }
     requires bytes { session.old.window.bytes ≡ 0 }
-    ensures heard { IfOk result (λ tally. (first : Sight) → HoldsAt (eyes S.history S.Device.history S.Frozen.content S.Device.name S.Frozen.size S.Watch.counts) session.old.keeper first
-        → HasHeardAll (HoldsAt (eyes S.history S.Device.history S.Frozen.content S.Device.name S.Frozen.size S.Watch.counts)) first (generated commands) session.new.keeper tally) }
-    ensures fault { IfErr result (λ fault. (first : Sight) → HoldsAt (eyes S.history S.Device.history S.Frozen.content S.Device.name S.Frozen.size S.Watch.counts) session.old.keeper first
-        → HasGivenUp (HoldsAt (eyes S.history S.Device.history S.Frozen.content S.Device.name S.Frozen.size S.Watch.counts)) (KeepsAt (eyes S.history S.Device.history S.Frozen.content S.Device.name S.Frozen.size S.Watch.counts)) first fault (ended (windows_of session.old.window.limit (generated commands))) session.new.keeper) }
-    ensures rests { OnOk result (Rests (λ d. S.Device.size d) session.new.keeper) }
+    ensures heard { IfOk result (λ tally. (first : Sight) → ServesAt (eyes S.history S.Device.history S.Frozen.content S.Device.name S.Frozen.size S.Watch.counts) session.old.keeper first
+        → HasHeardAll (ServesAt (eyes S.history S.Device.history S.Frozen.content S.Device.name S.Frozen.size S.Watch.counts)) first (generated commands) session.new.keeper tally) }
+    ensures fault { IfErr result (λ fault. (first : Sight) → ServesAt (eyes S.history S.Device.history S.Frozen.content S.Device.name S.Frozen.size S.Watch.counts) session.old.keeper first
+        → HasGivenUp (ServesAt (eyes S.history S.Device.history S.Frozen.content S.Device.name S.Frozen.size S.Watch.counts)) (FailsAt (eyes S.history S.Device.history S.Frozen.content S.Device.name S.Frozen.size S.Watch.counts)) first fault (ended (windows_of session.old.window.limit (generated commands))) session.new.keeper) }
+    ensures rests { OnOk result (AllRest (λ d. S.Device.size d) session.new.keeper) }
     ensures kinds { IfErr result IsOfStore }
-    ensures settings { settings_of session.new.keeper ≡ settings_of session.old.keeper }
-    ensures cause { HasDiskCause (faults_of (λ w. S.Watch.counts w) session.old.keeper) (faults_of (λ w. S.Watch.counts w) session.new.keeper) (IsSpent S.history S.Device.history S.Frozen.content session.new.keeper) (fault_in result) }
+    ensures settings { settings_kept session.new.keeper ≡ settings_kept session.old.keeper }
+    ensures cause { HasDiskCause (faults_kept (λ w. S.Watch.counts w) session.old.keeper) (faults_kept (λ w. S.Watch.counts w) session.new.keeper) (HasSpent S.history S.Device.history S.Frozen.content session.new.keeper) (fault_in result) }
 {
     let mut feed = Feed::new(commands);
     let mut tally = Tally::new(alloc);
@@ -113,26 +113,26 @@ where
 }
 
 // Hands a line to the session, and hears the replies that it writes.
-fn hear_line<R: Threads + Sync, S: Store + 'static, P: Pace + 'static>(
+fn hear_line<R: Threads + Wait + Sync, S: Store + 'static, P: Pace + 'static>(
     rt: &R,
     alloc: Global,
     line: Bytes,
-    session: &mut Session<Partitions<S, P>>,
+    session: &mut Session<Keeper<S, P>>,
     tally: &mut Tally,
 ) -> Result<(), RunFault>
 where
     S::Device: 'static,
     S::Frozen: 'static,
     S::Watch: 'static,
-    requires ready { IsReady (MayAsk S.history S.Device.history S.Frozen.content) session.old }
+    requires ready { IsReady (MayServe S.history S.Device.history S.Frozen.content) session.old }
     requires size { length line ≤ max_line }
-    ensures heard { OnOk result (HearsLine (HoldsAt (eyes S.history S.Device.history S.Frozen.content S.Device.name S.Frozen.size S.Watch.counts)) line session.old tally.old session.new tally.new) }
-    ensures ready { OnOk result (IsReady (MayAsk S.history S.Device.history S.Frozen.content) session.new) }
+    ensures heard { OnOk result (HearsLine (ServesAt (eyes S.history S.Device.history S.Frozen.content S.Device.name S.Frozen.size S.Watch.counts)) line session.old tally.old session.new tally.new) }
+    ensures ready { OnOk result (IsReady (MayServe S.history S.Device.history S.Frozen.content) session.new) }
     ensures limit { OnOk result (session.new.window.limit ≡ session.old.window.limit) }
-    ensures fault { IfErr result (λ fault. GivesUpAtLine (HoldsAt (eyes S.history S.Device.history S.Frozen.content S.Device.name S.Frozen.size S.Watch.counts)) (KeepsAt (eyes S.history S.Device.history S.Frozen.content S.Device.name S.Frozen.size S.Watch.counts)) fault line session.old tally.old session.new) }
+    ensures fault { IfErr result (λ fault. GivesUpAtLine (ServesAt (eyes S.history S.Device.history S.Frozen.content S.Device.name S.Frozen.size S.Watch.counts)) (FailsAt (eyes S.history S.Device.history S.Frozen.content S.Device.name S.Frozen.size S.Watch.counts)) fault line session.old tally.old session.new) }
     ensures kinds { IfErr result IsOfStore }
-    ensures settings { settings_of session.new.keeper ≡ settings_of session.old.keeper }
-    ensures cause { HasDiskCause (faults_of (λ w. S.Watch.counts w) session.old.keeper) (faults_of (λ w. S.Watch.counts w) session.new.keeper) (IsSpent S.history S.Device.history S.Frozen.content session.new.keeper) (fault_in result) }
+    ensures settings { settings_kept session.new.keeper ≡ settings_kept session.old.keeper }
+    ensures cause { HasDiskCause (faults_kept (λ w. S.Watch.counts w) session.old.keeper) (faults_kept (λ w. S.Watch.counts w) session.new.keeper) (HasSpent S.history S.Device.history S.Frozen.content session.new.keeper) (fault_in result) }
 {
     let mut replies = MemSink::new(alloc, usize::MAX, Vec::new(alloc));
     match session.take_whole(rt, alloc, line, &mut replies) {
@@ -142,23 +142,23 @@ where
 }
 
 // Has the session answer the window that is open, and hears the replies.
-fn hear_end<R: Threads + Sync, S: Store + 'static, P: Pace + 'static>(
+fn hear_end<R: Threads + Wait + Sync, S: Store + 'static, P: Pace + 'static>(
     rt: &R,
     alloc: Global,
-    session: &mut Session<Partitions<S, P>>,
+    session: &mut Session<Keeper<S, P>>,
     tally: &mut Tally,
 ) -> Result<(), RunFault>
 where
     S::Device: 'static,
     S::Frozen: 'static,
     S::Watch: 'static,
-    requires ready { IsReady (MayAsk S.history S.Device.history S.Frozen.content) session.old }
-    ensures heard { OnOk result (HearsEnd (HoldsAt (eyes S.history S.Device.history S.Frozen.content S.Device.name S.Frozen.size S.Watch.counts)) session.old tally.old session.new tally.new) }
-    ensures rests { OnOk result (Rests (λ d. S.Device.size d) session.new.keeper) }
-    ensures fault { IfErr result (λ fault. GivesUpAtEnd (HoldsAt (eyes S.history S.Device.history S.Frozen.content S.Device.name S.Frozen.size S.Watch.counts)) (KeepsAt (eyes S.history S.Device.history S.Frozen.content S.Device.name S.Frozen.size S.Watch.counts)) fault session.old tally.old session.new) }
+    requires ready { IsReady (MayServe S.history S.Device.history S.Frozen.content) session.old }
+    ensures heard { OnOk result (HearsEnd (ServesAt (eyes S.history S.Device.history S.Frozen.content S.Device.name S.Frozen.size S.Watch.counts)) session.old tally.old session.new tally.new) }
+    ensures rests { OnOk result (AllRest (λ d. S.Device.size d) session.new.keeper) }
+    ensures fault { IfErr result (λ fault. GivesUpAtEnd (ServesAt (eyes S.history S.Device.history S.Frozen.content S.Device.name S.Frozen.size S.Watch.counts)) (FailsAt (eyes S.history S.Device.history S.Frozen.content S.Device.name S.Frozen.size S.Watch.counts)) fault session.old tally.old session.new) }
     ensures kinds { IfErr result IsOfStore }
-    ensures settings { settings_of session.new.keeper ≡ settings_of session.old.keeper }
-    ensures cause { HasDiskCause (faults_of (λ w. S.Watch.counts w) session.old.keeper) (faults_of (λ w. S.Watch.counts w) session.new.keeper) (IsSpent S.history S.Device.history S.Frozen.content session.new.keeper) (fault_in result) }
+    ensures settings { settings_kept session.new.keeper ≡ settings_kept session.old.keeper }
+    ensures cause { HasDiskCause (faults_kept (λ w. S.Watch.counts w) session.old.keeper) (faults_kept (λ w. S.Watch.counts w) session.new.keeper) (HasSpent S.history S.Device.history S.Frozen.content session.new.keeper) (fault_in result) }
 {
     let mut replies = MemSink::new(alloc, usize::MAX, Vec::new(alloc));
     match session.close(rt, alloc, &mut replies) {

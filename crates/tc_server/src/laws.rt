@@ -6,7 +6,8 @@ ghost use Rattle.tc_plain_model.specs.Part.{Limits};
 ghost use Rattle.tc_run_model.specs.Course.{worlds_left, Ending};
 ghost use Rattle.tc_run_model.specs.Windows.{Window};
 ghost use Rattle.tc_run_model.specs.World.{World, after_all};
-ghost use Rattle.tc_server.specs.OverFiles.{AreFoundOf, HaveOwn, LeaveOneOf, MayFollow, OpenAs};
+ghost use Rattle.tc_keeper.specs.OwnKeys.{HaveOwn};
+ghost use Rattle.tc_server.specs.OverFiles.{AreFoundOf, LeaveOneOf, MayFollow, OpenAs};
 ghost use Rattle.tc_store.specs.Disk.{Disk};
 
 /// The law that partitions which have keys of their own alone have them behind requests too, and so has one of which alone it is

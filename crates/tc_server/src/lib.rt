@@ -7,7 +7,6 @@ mod demo;
 mod laws;
 mod opening;
 mod outcome;
-mod partitions;
 mod program;
 mod server;
 mod session;
@@ -15,7 +14,8 @@ mod texts;
 mod window;
 
 pub use laws::{own_keys_stay, runs_may_follow};
-pub use outcome::{RunFault, Served};
+pub use outcome::Served;
 pub use program::{run_program, words};
 pub use server::serve;
+pub use tc_keeper::RunFault;
 pub use texts::fault_text;

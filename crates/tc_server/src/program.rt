@@ -4,21 +4,23 @@ ghost use Rattle.std.specs.Prelude.{◌≡◌, ℕ, ◌<◌, ◌≤◌, ◌⊎�
 ghost use Rattle.std.specs.Result.{result_ok};
 ghost use Rattle.tc_bytes.specs.Counts.{Rose};
 ghost use Rattle.tc_server.specs.Ending.{IsRun, ServedPromptly};
-ghost use Rattle.tc_server.specs.Faults.{faults_in, status_of, IfDisk, IsWrite};
+ghost use Rattle.tc_keeper.specs.Faults.{faults_in, status_of, IfDisk, IsWrite};
 ghost use Rattle.tc_server.specs.KitCauses.{AreAsked, AreGenerationsSpent, AreJudged, HasDiskCauseOver, HasLayoutCause, IsInputSpent, NoneFellOf};
 ghost use Rattle.tc_server.specs.OverFiles.{partitions_asked, BeginsFor, ServedOver};
-ghost use Rattle.tc_server.specs.Sight.{Sight};
+ghost use Rattle.tc_keeper.specs.Sight.{Sight};
 ghost use Rattle.tc_server.specs.Program.{fault_of_words, invocation_given};
 
-use crate::outcome::{RunFault, Served};
+use crate::outcome::Served;
 use crate::server::serve;
 use crate::texts::fault_text;
 use std::alloc::Global;
 use std::env;
 use std::env::Env;
 use std::io::{Eprint, Error, ErrorKind};
+use std::sync::Wait;
 use std::thread::Threads;
 use tc_edge::{Sink, Source};
+use tc_keeper::RunFault;
 use tc_running::Pace;
 use tc_store::{Shelf, Store};
 use tc_value::Text;
@@ -48,7 +50,7 @@ fn refusal_of(error: &Error) -> WordsFault {
 /// Serves the lines of the source for these words, and says on standard error by which fault the run ended, if by any. What is
 /// answered is what `serve` answers for the words, of whose contract these are the clauses.
 pub fn run_program<
-    R: Eprint + AllocGlobal + Threads + Sync,
+    R: Eprint + AllocGlobal + Threads + Wait + Sync,
     I: Source<O>,
     O: Sink,
     H: Shelf,
@@ -106,7 +108,7 @@ where
 }
 
 // How the run for these words ends.
-fn served_for<R: Threads + Sync, I: Source<O>, O: Sink, H: Shelf, P: Pace + 'static>(
+fn served_for<R: Threads + Wait + Sync, I: Source<O>, O: Sink, H: Shelf, P: Pace + 'static>(
     rt: &R,
     alloc: Global,
     words: Result<Vec<Text>, WordsFault>,

@@ -1,6 +1,6 @@
 //! A run, or a demonstration: the words, the partitions, the lines, and how it ends.
 
-ghost use Rattle.std.specs.Prelude.{◌≡◌, ◌≢◌, ℕ, ◌<◌, ◌≤◌, ◌⊎◌, List, [], true, false, length, map, All, Ok, Option, Some, None, option_to_list, vec_capacity, vec_len, IfOk, IfErr, IfSome, IsErrOf, OnOk};
+ghost use Rattle.std.specs.Prelude.{◌≡◌, ◌≢◌, ℕ, ◌<◌, ◌≤◌, ◌⊎◌, List, [], true, false, length, map, All, Ok, Option, Some, None, option_to_list, vec_capacity, vec_len, is_some, IfOk, IfErr, IfSome, IsErrOf, OnOk};
 ghost use Rattle.tc_bytes.specs.Counts.{Rose};
 ghost use Rattle.tc_engines.specs.Places.{AtEach};
 ghost use Rattle.tc_log.specs.Layout.{empty_size};
@@ -8,15 +8,16 @@ ghost use Rattle.tc_run_model.specs.Course.{each_line};
 ghost use Rattle.tc_store.specs.Disk.{Disk};
 ghost use Rattle.tc_store.specs.Moments.{IfTold};
 ghost use Rattle.tc_server.specs.Ending.{AreFewCommands, AskedPromptly, IsRun, RanLeaving, ReadsPromptly, RunsOver, ServedPromptly};
-ghost use Rattle.tc_server.specs.Faults.{fault_in, faults_in, status_of, HasRunCauses, IfDamaged, IfDisk, IsOfRun, IsWrite, NoneFell, OneRose};
+ghost use Rattle.tc_keeper.specs.Faults.{fault_in, faults_in, status_of, HasRunCauses, IfDamaged, IfDisk, IsOfRun, IsWrite, NoneFell, OneRose};
 ghost use Rattle.tc_server.specs.KitCauses.{AreAsked, AreGenerationsSpent, AreJudged, HasDiskCauseOver, HasLastGeneration, HasLayoutCause, IsInputSpent, NoneFellOf};
-ghost use Rattle.tc_server.specs.Kits.{fault_behind, IsBegun};
+ghost use Rattle.tc_keeper.specs.Keeping.{faults_kept, settings_kept, AllRest, AreUnwritten, FailsAt, HasSpent, MayServe, ServesAt};
+ghost use Rattle.tc_server.specs.Kits.{answer_behind, fault_behind, IsBegun};
 ghost use Rattle.tc_server.specs.OverFiles.{partitions_asked, AskedOver, BeginsFor, ServedOver};
-ghost use Rattle.tc_server.specs.Partitions.{StandAt};
-ghost use Rattle.tc_server.specs.Places.{SomeFrom};
-ghost use Rattle.tc_server.specs.Calls.{faults_at, faults_of, settings_of, IsSpent, KeepsAt, MayAsk, Rests, HoldsAt};
+ghost use Rattle.tc_keeper.specs.Partitions.{StandAt};
+ghost use Rattle.tc_keeper.specs.Places.{SomeFrom};
+ghost use Rattle.tc_keeper.specs.Calls.{faults_at, faults_of, settings_of, IsSpent, KeepsAt, MayAsk, Rests, HoldsAt};
 ghost use Rattle.tc_server.specs.Progress.{AsksPromptly, Ends, Goes};
-ghost use Rattle.tc_server.specs.Sight.{Sight};
+ghost use Rattle.tc_keeper.specs.Sight.{IsFirst, Sight};
 ghost use Rattle.tc_server.specs.Stage.{IsReady};
 ghost use Rattle.tc_server.specs.Window.{requests_of};
 ghost use Rattle.tc_words.specs.Options.{invocation_of, options_asked};
@@ -25,15 +26,15 @@ ghost use Rattle.tc_work.specs.Moving.{eyes};
 use crate::closing::close_all;
 use crate::demo::answer_demo;
 use crate::opening::{NotOpened, open_all};
-use crate::outcome::{RunFault, Served};
-use crate::partitions::Partitions;
+use crate::outcome::Served;
 use crate::session::Session;
 use std::alloc::Global;
-use std::sync::Arc;
+use std::sync::{Arc, Wait};
 use std::thread::Threads;
 use tc_command::MAX_LINE;
 use tc_edge::{Sink, Source};
 use tc_engines::Engines;
+use tc_keeper::{Keeper, Partitions, RunFault};
 use tc_lines::{Line, Lines};
 use tc_running::Pace;
 use tc_store::{Kit, Shelf, Store};
@@ -42,9 +43,9 @@ use tc_words::{Invocation, Options, WordsFault, invocation};
 
 /// Answers the lines of the source, or those of a demonstration, for the words of the command line, which stand behind the
 /// folder, over the partitions that the shelf keeps. Their kits are asked for, and the partitions opened, one after the other
-/// before a line is read; behind each window, and before the first one, they are settled. Flushes and merges are jobs beside the
-/// windows, which come to points of this pace; at the end they are waited for.
-pub fn serve<R: Threads + Sync, I: Source<O>, O: Sink, H: Shelf, P: Pace + 'static>(
+/// before a line is read; behind each window, and before the first one, they are settled. Flushes, merges and a scan are jobs beside
+/// the windows, which come to points of this pace; at the end they are waited for, and rows that nobody collected are dropped.
+pub fn serve<R: Threads + Wait + Sync, I: Source<O>, O: Sink, H: Shelf, P: Pace + 'static>(
     rt: &R,
     alloc: Global,
     words: &[Text],
@@ -98,7 +99,7 @@ where
 }
 
 // Opens the partitions, and serves over them.
-fn serve_asked<R: Threads + Sync, I: Source<O>, O: Sink, H: Shelf, P: Pace + 'static>(
+fn serve_asked<R: Threads + Wait + Sync, I: Source<O>, O: Sink, H: Shelf, P: Pace + 'static>(
     rt: &R,
     alloc: Global,
     asked: &Invocation,
@@ -159,7 +160,7 @@ where
     };
     match open_all(rt, alloc, &options, &pace, shelf, &mut engines) {
         Ok(()) => {
-            let (kits, fault) = serve_over(rt, alloc, asked, source, sink, engines, kits);
+            let (kits, fault) = serve_over(rt, alloc, asked, source, sink, engines, kits, pace);
             Served::of(fault, kits)
         }
         Err(NotOpened { kit, fault }) => {
@@ -187,7 +188,13 @@ fn with_kit<S: Store>(kits: Vec<Kit<S>>, kit: Option<Kit<S>>) -> Vec<Kit<S>>
 
 // Answers what is asked for over the engines of the partitions, and closes them. A job that fails behind all lines ends the run as
 // one does behind a window.
-fn serve_over<R: Threads + Sync, I: Source<O>, O: Sink, S: Store + 'static, P: Pace + 'static>(
+fn serve_over<
+    R: Threads + Wait + Sync,
+    I: Source<O>,
+    O: Sink,
+    S: Store + 'static,
+    P: Pace + 'static,
+>(
     rt: &R,
     alloc: Global,
     asked: &Invocation,
@@ -195,6 +202,7 @@ fn serve_over<R: Threads + Sync, I: Source<O>, O: Sink, S: Store + 'static, P: P
     sink: &mut O,
     engines: Engines<S, P>,
     kits: Vec<Kit<S>>,
+    pace: Arc<P>,
 ) -> (Vec<Kit<S>>, Option<RunFault>)
 where
     S::Device: 'static,
@@ -210,10 +218,10 @@ where
     requires none { kits.items ≡ [] }
     requires room { (options_asked asked.now).partitions ≤ vec_capacity kits }
     requires begun { All (IsBegun (eyes S.history S.Device.history S.Frozen.content S.Device.name S.Frozen.size S.Watch.counts) (options_asked asked.now)) engines }
-    ensures ran { (first : Sight) (files : ℕ → List Disk) → StandAt (eyes S.history S.Device.history S.Frozen.content S.Device.name S.Frozen.size S.Watch.counts) engines first
+    ensures ran { (first : Sight) (files : ℕ → List Disk) → IsFirst first → StandAt (eyes S.history S.Device.history S.Frozen.content S.Device.name S.Frozen.size S.Watch.counts) engines first
         → AskedOver asked.now result.1 first files (I.left source.old) (I.left source.new) (O.taken sink.old) (O.taken sink.new) (map (λ kit. S.history kit.store) result.0.items) }
     ensures unread { IsRun (Some asked.now) ⊎ (source.new ≡ source.old) }
-    ensures prompt { (first : Sight) → StandAt (eyes S.history S.Device.history S.Frozen.content S.Device.name S.Frozen.size S.Watch.counts) engines first
+    ensures prompt { (first : Sight) → IsFirst first → StandAt (eyes S.history S.Device.history S.Frozen.content S.Device.name S.Frozen.size S.Watch.counts) engines first
         → AskedPromptly asked.now first (options_asked asked.now).window (O.taken sink.old) (I.moments source.old) (I.moments source.new) }
     ensures kits { length result.0.items ≡ (options_asked asked.now).partitions }
     ensures kind { IfSome result.1 IsOfRun }
@@ -224,13 +232,107 @@ where
     ensures damaged { IfSome result.1 (λ fault. IfDamaged fault (λ q. q < (options_asked asked.now).partitions)) }
     ensures spent { result.1 ≡ Some RunFault.Spent → IsInputSpent (Some asked.now) (I.left source.old) (I.left source.new) ⊎ SomeFrom (λ p kit. IfTold (S.history kit.store) HasLastGeneration) 0 result.0.items }
 {
-    let options = options_asked(asked);
     let partitions = Partitions::of(engines);
-    let mut session = Session::new(alloc, partitions, options.window as usize);
-    let answer = answer_asked(rt, alloc, asked, &mut session, source, sink);
-    let engines = session.into_keeper().into_engines();
-    let closed = close_all(rt, alloc, engines, kits);
+    let (partitions, answer) = answer_over(rt, alloc, asked, source, sink, partitions, pace);
+    let closed = close_all(rt, alloc, partitions.into_engines(), kits);
     (closed.kits, fault_of(answer, closed.fault))
+}
+
+// Answers what is asked for over partitions that were opened. A scan that is out at the end is waited for: where it failed, and
+// nothing else had, the run ends by its fault.
+fn answer_over<
+    R: Threads + Wait + Sync,
+    I: Source<O>,
+    O: Sink,
+    S: Store + 'static,
+    P: Pace + 'static,
+>(
+    rt: &R,
+    alloc: Global,
+    asked: &Invocation,
+    source: &mut I,
+    sink: &mut O,
+    partitions: Partitions<S, P>,
+    pace: Arc<P>,
+) -> (Partitions<S, P>, Result<(), RunFault>)
+where
+    S::Device: 'static,
+    S::Frozen: 'static,
+    S::Watch: 'static,
+    requires works { MayAsk S.history S.Device.history S.Frozen.content partitions }
+    requires unwritten { AreUnwritten partitions.engines }
+    requires some { 0 < (options_asked asked.now).window }
+    requires limit { (options_asked asked.now).window ≤ 4096 }
+    requires few { AreFewCommands asked.now }
+    ensures ran { (first : Sight) → IsFirst first → HoldsAt (eyes S.history S.Device.history S.Frozen.content S.Device.name S.Frozen.size S.Watch.counts) partitions first → RunsOver asked.now (I.left source.old) (I.left source.new)
+        (λ shown unread unread'. RanLeaving shown (HoldsAt (eyes S.history S.Device.history S.Frozen.content S.Device.name S.Frozen.size S.Watch.counts)) (KeepsAt (eyes S.history S.Device.history S.Frozen.content S.Device.name S.Frozen.size S.Watch.counts)) (IsSpent S.history S.Device.history S.Frozen.content) (fault_in result.1) first (options_asked asked.now).window unread unread' (O.taken sink.old) (O.taken sink.new) result.0) }
+    ensures unread { IsRun (Some asked.now) ⊎ (source.new ≡ source.old) }
+    ensures prompt { (first : Sight) → IsFirst first → HoldsAt (eyes S.history S.Device.history S.Frozen.content S.Device.name S.Frozen.size S.Watch.counts) partitions first → AskedPromptly asked.now first (options_asked asked.now).window (O.taken sink.old)
+        (I.moments source.old) (I.moments source.new) }
+    ensures rests { OnOk result.1 (Rests (λ d. S.Device.size d) result.0) }
+    ensures readers { All (λ e. is_some e.engine.part.reader ≡ true) result.0.engines }
+    ensures settings { settings_of result.0 ≡ settings_of partitions }
+    ensures cause { HasRunCauses (I.faults source.old) (I.faults source.new) (O.faults sink.old) (O.faults sink.new) (faults_of (λ w. S.Watch.counts w) partitions) (faults_of (λ w. S.Watch.counts w) result.0) (fault_in result.1) }
+    ensures spent { fault_in result.1 ≡ Some RunFault.Spent → IsInputSpent (Some asked.now) (I.left source.old) (I.left source.new) ⊎ IsSpent S.history S.Device.history S.Frozen.content result.0 }
+{
+    match Keeper::open(rt, alloc, partitions, pace) {
+        Ok(keeper) => answer_with(rt, alloc, asked, source, sink, keeper),
+        Err(partitions) => (partitions, Err(RunFault::Memory)),
+    }
+}
+
+// Answers what is asked for, and ends what keeps the documents.
+fn answer_with<
+    R: Threads + Wait + Sync,
+    I: Source<O>,
+    O: Sink,
+    S: Store + 'static,
+    P: Pace + 'static,
+>(
+    rt: &R,
+    alloc: Global,
+    asked: &Invocation,
+    source: &mut I,
+    sink: &mut O,
+    keeper: Keeper<S, P>,
+) -> (Partitions<S, P>, Result<(), RunFault>)
+where
+    S::Device: 'static,
+    S::Frozen: 'static,
+    S::Watch: 'static,
+    requires works { MayServe S.history S.Device.history S.Frozen.content keeper }
+    requires some { 0 < (options_asked asked.now).window }
+    requires limit { (options_asked asked.now).window ≤ 4096 }
+    requires few { AreFewCommands asked.now }
+    ensures ran { (first : Sight) → ServesAt (eyes S.history S.Device.history S.Frozen.content S.Device.name S.Frozen.size S.Watch.counts) keeper first → RunsOver asked.now (I.left source.old) (I.left source.new)
+        (λ shown unread unread'. RanLeaving shown (HoldsAt (eyes S.history S.Device.history S.Frozen.content S.Device.name S.Frozen.size S.Watch.counts)) (KeepsAt (eyes S.history S.Device.history S.Frozen.content S.Device.name S.Frozen.size S.Watch.counts)) (IsSpent S.history S.Device.history S.Frozen.content) (fault_in result.1) first (options_asked asked.now).window unread unread' (O.taken sink.old) (O.taken sink.new) result.0) }
+    ensures unread { IsRun (Some asked.now) ⊎ (source.new ≡ source.old) }
+    ensures prompt { (first : Sight) → ServesAt (eyes S.history S.Device.history S.Frozen.content S.Device.name S.Frozen.size S.Watch.counts) keeper first → AskedPromptly asked.now first (options_asked asked.now).window (O.taken sink.old)
+        (I.moments source.old) (I.moments source.new) }
+    ensures rests { OnOk result.1 (Rests (λ d. S.Device.size d) result.0) }
+    ensures readers { All (λ e. is_some e.engine.part.reader ≡ true) result.0.engines }
+    ensures settings { settings_of result.0 ≡ settings_kept keeper }
+    ensures cause { HasRunCauses (I.faults source.old) (I.faults source.new) (O.faults sink.old) (O.faults sink.new) (faults_kept (λ w. S.Watch.counts w) keeper) (faults_of (λ w. S.Watch.counts w) result.0) (fault_in result.1) }
+    ensures spent { fault_in result.1 ≡ Some RunFault.Spent → IsInputSpent (Some asked.now) (I.left source.old) (I.left source.new) ⊎ IsSpent S.history S.Device.history S.Frozen.content result.0 }
+{
+    let options = options_asked(asked);
+    let mut session = Session::new(alloc, keeper, options.window as usize);
+    let answer = answer_asked(rt, alloc, asked, &mut session, source, sink);
+    let (partitions, ended) = session.into_keeper().end(rt);
+    (partitions, with_fault(answer, ended))
+}
+
+// How a run ended whose lines were answered so, and whose scan at the end had this fault, or none.
+fn with_fault(answer: Result<(), RunFault>, ended: Option<RunFault>) -> Result<(), RunFault>
+    ensures { result ≡ answer_behind answer ended }
+{
+    match answer {
+        Err(fault) => Err(fault),
+        Ok(()) => match ended {
+            Some(fault) => Err(fault),
+            None => Ok(()),
+        },
+    }
 }
 
 // By which fault a run ended whose lines were answered so, and whose engines ended by this fault, or by none.
@@ -267,11 +369,17 @@ fn options_asked(asked: &Invocation) -> Options
 }
 
 // Answers the lines of a run, or those of a demonstration.
-fn answer_asked<R: Threads + Sync, I: Source<O>, O: Sink, S: Store + 'static, P: Pace + 'static>(
+fn answer_asked<
+    R: Threads + Wait + Sync,
+    I: Source<O>,
+    O: Sink,
+    S: Store + 'static,
+    P: Pace + 'static,
+>(
     rt: &R,
     alloc: Global,
     asked: &Invocation,
-    session: &mut Session<Partitions<S, P>>,
+    session: &mut Session<Keeper<S, P>>,
     source: &mut I,
     sink: &mut O,
 ) -> Result<(), RunFault>
@@ -280,18 +388,18 @@ where
     S::Frozen: 'static,
     S::Watch: 'static,
     requires few { AreFewCommands asked.now }
-    requires ready { IsReady (MayAsk S.history S.Device.history S.Frozen.content) session.old }
+    requires ready { IsReady (MayServe S.history S.Device.history S.Frozen.content) session.old }
     requires requests { requests_of session.old.window ≡ [] }
     requires bytes { session.old.window.bytes ≡ 0 }
-    ensures ran { (first : Sight) → HoldsAt (eyes S.history S.Device.history S.Frozen.content S.Device.name S.Frozen.size S.Watch.counts) session.old.keeper first → RunsOver asked.now (I.left source.old) (I.left source.new)
-        (λ shown unread unread'. RanLeaving shown (HoldsAt (eyes S.history S.Device.history S.Frozen.content S.Device.name S.Frozen.size S.Watch.counts)) (KeepsAt (eyes S.history S.Device.history S.Frozen.content S.Device.name S.Frozen.size S.Watch.counts)) (IsSpent S.history S.Device.history S.Frozen.content) (fault_in result) first session.old.window.limit unread unread' (O.taken sink.old) (O.taken sink.new) session.new.keeper) }
+    ensures ran { (first : Sight) → ServesAt (eyes S.history S.Device.history S.Frozen.content S.Device.name S.Frozen.size S.Watch.counts) session.old.keeper first → RunsOver asked.now (I.left source.old) (I.left source.new)
+        (λ shown unread unread'. RanLeaving shown (ServesAt (eyes S.history S.Device.history S.Frozen.content S.Device.name S.Frozen.size S.Watch.counts)) (FailsAt (eyes S.history S.Device.history S.Frozen.content S.Device.name S.Frozen.size S.Watch.counts)) (HasSpent S.history S.Device.history S.Frozen.content) (fault_in result) first session.old.window.limit unread unread' (O.taken sink.old) (O.taken sink.new) session.new.keeper) }
     ensures unread { IsRun (Some asked.now) ⊎ (source.new ≡ source.old) }
-    ensures prompt { (first : Sight) → HoldsAt (eyes S.history S.Device.history S.Frozen.content S.Device.name S.Frozen.size S.Watch.counts) session.old.keeper first → AskedPromptly asked.now first session.old.window.limit (O.taken sink.old)
+    ensures prompt { (first : Sight) → ServesAt (eyes S.history S.Device.history S.Frozen.content S.Device.name S.Frozen.size S.Watch.counts) session.old.keeper first → AskedPromptly asked.now first session.old.window.limit (O.taken sink.old)
         (I.moments source.old) (I.moments source.new) }
-    ensures rests { OnOk result (Rests (λ d. S.Device.size d) session.new.keeper) }
-    ensures settings { settings_of session.new.keeper ≡ settings_of session.old.keeper }
-    ensures cause { HasRunCauses (I.faults source.old) (I.faults source.new) (O.faults sink.old) (O.faults sink.new) (faults_of (λ w. S.Watch.counts w) session.old.keeper) (faults_of (λ w. S.Watch.counts w) session.new.keeper) (fault_in result) }
-    ensures spent { fault_in result ≡ Some RunFault.Spent → IsInputSpent (Some asked.now) (I.left source.old) (I.left source.new) ⊎ IsSpent S.history S.Device.history S.Frozen.content session.new.keeper }
+    ensures rests { OnOk result (AllRest (λ d. S.Device.size d) session.new.keeper) }
+    ensures settings { settings_kept session.new.keeper ≡ settings_kept session.old.keeper }
+    ensures cause { HasRunCauses (I.faults source.old) (I.faults source.new) (O.faults sink.old) (O.faults sink.new) (faults_kept (λ w. S.Watch.counts w) session.old.keeper) (faults_kept (λ w. S.Watch.counts w) session.new.keeper) (fault_in result) }
+    ensures spent { fault_in result ≡ Some RunFault.Spent → IsInputSpent (Some asked.now) (I.left source.old) (I.left source.new) ⊎ HasSpent S.history S.Device.history S.Frozen.content session.new.keeper }
 {
     match asked {
         Invocation::Run(_) => answer_lines(rt, alloc, session, source, sink),
@@ -301,7 +409,7 @@ where
 
 /// Answers the lines of the source, in the windows of the session.
 pub fn answer_lines<
-    R: Threads + Sync,
+    R: Threads + Wait + Sync,
     I: Source<O>,
     O: Sink,
     S: Store + 'static,
@@ -309,7 +417,7 @@ pub fn answer_lines<
 >(
     rt: &R,
     alloc: Global,
-    session: &mut Session<Partitions<S, P>>,
+    session: &mut Session<Keeper<S, P>>,
     source: &mut I,
     sink: &mut O,
 ) -> Result<(), RunFault>
@@ -317,18 +425,18 @@ where
     S::Device: 'static,
     S::Frozen: 'static,
     S::Watch: 'static,
-    requires ready { IsReady (MayAsk S.history S.Device.history S.Frozen.content) session.old }
+    requires ready { IsReady (MayServe S.history S.Device.history S.Frozen.content) session.old }
     requires requests { requests_of session.old.window ≡ [] }
     requires bytes { session.old.window.bytes ≡ 0 }
 
     // What was read and written, and what is left of the store, from whatever world it stood at.
-    ensures ran { (first : Sight) → HoldsAt (eyes S.history S.Device.history S.Frozen.content S.Device.name S.Frozen.size S.Watch.counts) session.old.keeper first → RanLeaving each_line (HoldsAt (eyes S.history S.Device.history S.Frozen.content S.Device.name S.Frozen.size S.Watch.counts)) (KeepsAt (eyes S.history S.Device.history S.Frozen.content S.Device.name S.Frozen.size S.Watch.counts)) (IsSpent S.history S.Device.history S.Frozen.content) (fault_in result) first session.old.window.limit
+    ensures ran { (first : Sight) → ServesAt (eyes S.history S.Device.history S.Frozen.content S.Device.name S.Frozen.size S.Watch.counts) session.old.keeper first → RanLeaving each_line (ServesAt (eyes S.history S.Device.history S.Frozen.content S.Device.name S.Frozen.size S.Watch.counts)) (FailsAt (eyes S.history S.Device.history S.Frozen.content S.Device.name S.Frozen.size S.Watch.counts)) (HasSpent S.history S.Device.history S.Frozen.content) (fault_in result) first session.old.window.limit
         (I.left source.old) (I.left source.new) (O.taken sink.old) (O.taken sink.new) session.new.keeper }
-    ensures prompt { (first : Sight) → HoldsAt (eyes S.history S.Device.history S.Frozen.content S.Device.name S.Frozen.size S.Watch.counts) session.old.keeper first → ReadsPromptly first session.old.window.limit (O.taken sink.old)
+    ensures prompt { (first : Sight) → ServesAt (eyes S.history S.Device.history S.Frozen.content S.Device.name S.Frozen.size S.Watch.counts) session.old.keeper first → ReadsPromptly first session.old.window.limit (O.taken sink.old)
         (I.moments source.old) (I.moments source.new) }
-    ensures rests { OnOk result (Rests (λ d. S.Device.size d) session.new.keeper) }
-    ensures settings { settings_of session.new.keeper ≡ settings_of session.old.keeper }
-    ensures cause { HasRunCauses (I.faults source.old) (I.faults source.new) (O.faults sink.old) (O.faults sink.new) (faults_of (λ w. S.Watch.counts w) session.old.keeper) (faults_of (λ w. S.Watch.counts w) session.new.keeper) (fault_in result) }
+    ensures rests { OnOk result (AllRest (λ d. S.Device.size d) session.new.keeper) }
+    ensures settings { settings_kept session.new.keeper ≡ settings_kept session.old.keeper }
+    ensures cause { HasRunCauses (I.faults source.old) (I.faults source.new) (O.faults sink.old) (O.faults sink.new) (faults_kept (λ w. S.Watch.counts w) session.old.keeper) (faults_kept (λ w. S.Watch.counts w) session.new.keeper) (fault_in result) }
 {
     let mut lines = Lines::new(alloc, MAX_LINE);
     session.begin(rt, alloc)?;
@@ -342,11 +450,17 @@ where
 }
 
 // Takes the next line, and answers whether more may come. At the end of the input the last window is answered.
-fn answer_line<R: Threads + Sync, I: Source<O>, O: Sink, S: Store + 'static, P: Pace + 'static>(
+fn answer_line<
+    R: Threads + Wait + Sync,
+    I: Source<O>,
+    O: Sink,
+    S: Store + 'static,
+    P: Pace + 'static,
+>(
     rt: &R,
     alloc: Global,
     lines: &mut Lines,
-    session: &mut Session<Partitions<S, P>>,
+    session: &mut Session<Keeper<S, P>>,
     source: &mut I,
     sink: &mut O,
 ) -> Result<bool, RunFault>
@@ -356,27 +470,27 @@ where
     S::Watch: 'static,
     requires works { lines.old.failed ≡ false }
     requires limit { lines.old.limit ≡ MAX_LINE }
-    requires ready { IsReady (MayAsk S.history S.Device.history S.Frozen.content) session.old }
+    requires ready { IsReady (MayServe S.history S.Device.history S.Frozen.content) session.old }
     ensures works { OnOk result (lines.new.failed ≡ false) }
     ensures limit { lines.new.limit ≡ MAX_LINE }
-    ensures ready { IfOk result (λ more. more ≡ true → IsReady (MayAsk S.history S.Device.history S.Frozen.content) session.new) }
-    ensures rests { IfOk result (λ more. more ≡ false → Rests (λ d. S.Device.size d) session.new.keeper) }
+    ensures ready { IfOk result (λ more. more ≡ true → IsReady (MayServe S.history S.Device.history S.Frozen.content) session.new) }
+    ensures rests { IfOk result (λ more. more ≡ false → AllRest (λ d. S.Device.size d) session.new.keeper) }
     ensures window { OnOk result (session.new.window.limit ≡ session.old.window.limit) }
 
     // Behind the lines that came before, one more came, or the input is answered, or the run has failed.
-    ensures more { IfOk result (λ more. Goes (HoldsAt (eyes S.history S.Device.history S.Frozen.content S.Device.name S.Frozen.size S.Watch.counts)) (KeepsAt (eyes S.history S.Device.history S.Frozen.content S.Device.name S.Frozen.size S.Watch.counts)) (IsSpent S.history S.Device.history S.Frozen.content) more
+    ensures more { IfOk result (λ more. Goes (ServesAt (eyes S.history S.Device.history S.Frozen.content S.Device.name S.Frozen.size S.Watch.counts)) (FailsAt (eyes S.history S.Device.history S.Frozen.content S.Device.name S.Frozen.size S.Watch.counts)) (HasSpent S.history S.Device.history S.Frozen.content) more
         lines.old session.old (I.left source.old) (O.taken sink.old) (I.moments source.old)
         lines.new session.new (I.left source.new) (O.taken sink.new) (I.moments source.new)) }
-    ensures fault { IfErr result (λ fault. Ends (HoldsAt (eyes S.history S.Device.history S.Frozen.content S.Device.name S.Frozen.size S.Watch.counts)) (KeepsAt (eyes S.history S.Device.history S.Frozen.content S.Device.name S.Frozen.size S.Watch.counts)) (IsSpent S.history S.Device.history S.Frozen.content) fault lines.old session.old
+    ensures fault { IfErr result (λ fault. Ends (ServesAt (eyes S.history S.Device.history S.Frozen.content S.Device.name S.Frozen.size S.Watch.counts)) (FailsAt (eyes S.history S.Device.history S.Frozen.content S.Device.name S.Frozen.size S.Watch.counts)) (HasSpent S.history S.Device.history S.Frozen.content) fault lines.old session.old
         (I.left source.old) (I.left source.new) (O.taken sink.old) (O.taken sink.new)
         (I.moments source.old) session.new) }
 
     // Each read for the line was asked for when all windows before it were answered, and no more.
-    ensures prompt { AsksPromptly (HoldsAt (eyes S.history S.Device.history S.Frozen.content S.Device.name S.Frozen.size S.Watch.counts)) lines.old session.old (I.left source.old) (O.taken sink.old)
+    ensures prompt { AsksPromptly (ServesAt (eyes S.history S.Device.history S.Frozen.content S.Device.name S.Frozen.size S.Watch.counts)) lines.old session.old (I.left source.old) (O.taken sink.old)
         (I.moments source.old) (I.moments source.new) }
 
-    ensures settings { settings_of session.new.keeper ≡ settings_of session.old.keeper }
-    ensures cause { HasRunCauses (I.faults source.old) (I.faults source.new) (O.faults sink.old) (O.faults sink.new) (faults_of (λ w. S.Watch.counts w) session.old.keeper) (faults_of (λ w. S.Watch.counts w) session.new.keeper) (fault_in result) }
+    ensures settings { settings_kept session.new.keeper ≡ settings_kept session.old.keeper }
+    ensures cause { HasRunCauses (I.faults source.old) (I.faults source.new) (O.faults sink.old) (O.faults sink.new) (faults_kept (λ w. S.Watch.counts w) session.old.keeper) (faults_kept (λ w. S.Watch.counts w) session.new.keeper) (fault_in result) }
 {
     match lines.next(source, sink) {
         Line::Whole(line) => {

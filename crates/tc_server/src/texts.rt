@@ -3,9 +3,9 @@
 ghost use Rattle.std.specs.Prelude.{◌≡◌, IfOk};
 ghost use Rattle.tc_server.specs.FaultText.{damage_text, text_of_fault};
 
-use crate::outcome::RunFault;
 use std::alloc::{AllocError, Global};
 use tc_files::file_text;
+use tc_keeper::RunFault;
 use tc_store::Damage;
 use tc_value::Text;
 

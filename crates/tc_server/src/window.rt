@@ -1,6 +1,6 @@
 //! A window: lines that are answered together.
 
-ghost use Rattle.std.specs.Prelude.{◌≡◌, ℕ, false, ◌+◌, ◌≤◌, ◌<◌, ◌^◌, ◌||◌, ◌++◌, [], ◌∷◌, length, map, nat_le, Option, Some, IfErr, OnErr, OnOk};
+ghost use Rattle.std.specs.Prelude.{◌≡◌, false, ◌+◌, ◌≤◌, ◌<◌, ◌^◌, ◌||◌, ◌++◌, [], ◌∷◌, length, map, nat_le, Option, Some, IfErr, OnErr, OnOk};
 ghost use Rattle.tc_command.specs.Commands.{request_of_command};
 ghost use Rattle.tc_command.specs.Replies.{reply_of};
 ghost use Rattle.tc_model.specs.Limits.{max_line};
@@ -8,21 +8,22 @@ ghost use Rattle.tc_model.specs.Weight.{IsLight};
 ghost use Rattle.tc_run_model.specs.Course.{each_line};
 ghost use Rattle.tc_run_model.specs.Windows.{max_window};
 ghost use Rattle.tc_run_model.specs.World.{World};
-ghost use Rattle.tc_server.specs.Asked.{is_whole, request_asked, IsForPart, IsRunForPart};
-ghost use Rattle.tc_server.specs.Faults.{fault_in, gave_up, HasDiskCause, IsNoDamage, IsOfStore};
-ghost use Rattle.tc_server.specs.Holds.{worlds_at, AreAnswered, IsLeft};
-ghost use Rattle.tc_server.specs.Calls.{faults_of, settings_of, IsSpent, KeepsAt, MayAsk, HoldsAt};
+ghost use Rattle.tc_keeper.specs.Together.{IsForPart};
+ghost use Rattle.tc_server.specs.Asked.{is_whole, request_asked, IsRunForPart};
+ghost use Rattle.tc_keeper.specs.Faults.{fault_in, gave_up, HasDiskCause, IsNoDamage, IsOfStore};
+ghost use Rattle.tc_keeper.specs.Holds.{worlds_at, AreAnswered, IsLeft};
+ghost use Rattle.tc_keeper.specs.Keeping.{faults_kept, settings_kept, HasSpent, FailsAt, MayServe, ServesAt};
 ghost use Rattle.tc_work.specs.Moving.{eyes};
-ghost use Rattle.tc_server.specs.Sight.{sees, Sight};
+ghost use Rattle.tc_keeper.specs.Sight.{sees, Sight};
 ghost use Rattle.tc_server.specs.Window.{mixed, reply_refused, request_refused, requests_of, IsSoundWindow};
 
 use crate::answer::{Action, push_reply};
-use crate::outcome::RunFault;
-use crate::partitions::Partitions;
 use std::alloc::{AllocError, Global};
 use std::mem;
+use std::sync::Wait;
 use std::thread::Threads;
 use tc_command::{Command, Refusal, Reply};
+use tc_keeper::{Keeper, RunFault};
 use tc_route::{Placed, Routed};
 use tc_running::Pace;
 use tc_store::Store;
@@ -126,29 +127,29 @@ impl Window {
     }
 
     /// Answers the lines, and leaves the window without lines and the reply lines in `replies`, in whose place others stood.
-    pub fn answer<R: Threads + Sync, S: Store, P: Pace>(
+    pub fn answer<R: Threads + Wait + Sync, S: Store, P: Pace>(
         &mut self,
         rt: &R,
         alloc: Global,
-        keeper: &mut Partitions<S, P>,
+        keeper: &mut Keeper<S, P>,
         replies: &mut Vec<u8>,
     ) -> Result<(), RunFault>
         requires sound { IsSoundWindow self.old }
         requires few { length self.old.refusals.items ≤ 4096 }
         requires bytes { self.old.bytes ≤ max_window + max_line }
-        requires works { MayAsk S.history S.Device.history S.Frozen.content keeper.old }
-        ensures works { OnOk result (MayAsk S.history S.Device.history S.Frozen.content keeper.new) }
-        ensures answered { (known : Sight) → HoldsAt (eyes S.history S.Device.history S.Frozen.content S.Device.name S.Frozen.size S.Watch.counts) keeper.old known → OnOk result (AreAnswered (HoldsAt (eyes S.history S.Device.history S.Frozen.content S.Device.name S.Frozen.size S.Watch.counts)) known (requests_of self.old) replies.new.items keeper.new) }
+        requires works { MayServe S.history S.Device.history S.Frozen.content keeper.old }
+        ensures works { OnOk result (MayServe S.history S.Device.history S.Frozen.content keeper.new) }
+        ensures answered { (known : Sight) → ServesAt (eyes S.history S.Device.history S.Frozen.content S.Device.name S.Frozen.size S.Watch.counts) keeper.old known → OnOk result (AreAnswered (ServesAt (eyes S.history S.Device.history S.Frozen.content S.Device.name S.Frozen.size S.Watch.counts)) known (requests_of self.old) replies.new.items keeper.new) }
         ensures requests { OnOk result (requests_of self.new ≡ []) }
         ensures lines { OnOk result (length self.new.refusals.items ≡ 0) }
         ensures sound { OnOk result (IsSoundWindow self.new) }
         ensures bytes { OnOk result (self.new.bytes ≡ 0) }
         ensures limit { OnOk result (self.new.limit ≡ self.old.limit) }
-        ensures left { (known : Sight) → HoldsAt (eyes S.history S.Device.history S.Frozen.content S.Device.name S.Frozen.size S.Watch.counts) keeper.old known → OnErr result (IsLeft (HoldsAt (eyes S.history S.Device.history S.Frozen.content S.Device.name S.Frozen.size S.Watch.counts)) (KeepsAt (eyes S.history S.Device.history S.Frozen.content S.Device.name S.Frozen.size S.Watch.counts)) keeper.new known (worlds_at gave_up (requests_of self.old))) }
-        ensures undamaged { (w : World) → HoldsAt (eyes S.history S.Device.history S.Frozen.content S.Device.name S.Frozen.size S.Watch.counts) keeper.old (sees None w) → IfErr result IsNoDamage }
+        ensures left { (known : Sight) → ServesAt (eyes S.history S.Device.history S.Frozen.content S.Device.name S.Frozen.size S.Watch.counts) keeper.old known → OnErr result (IsLeft (ServesAt (eyes S.history S.Device.history S.Frozen.content S.Device.name S.Frozen.size S.Watch.counts)) (FailsAt (eyes S.history S.Device.history S.Frozen.content S.Device.name S.Frozen.size S.Watch.counts)) keeper.new known (worlds_at gave_up (requests_of self.old))) }
+        ensures undamaged { (w : World) → ServesAt (eyes S.history S.Device.history S.Frozen.content S.Device.name S.Frozen.size S.Watch.counts) keeper.old (sees None w) → IfErr result IsNoDamage }
         ensures kinds { IfErr result IsOfStore }
-        ensures settings { settings_of keeper.new ≡ settings_of keeper.old }
-        ensures cause { HasDiskCause (faults_of (λ w. S.Watch.counts w) keeper.old) (faults_of (λ w. S.Watch.counts w) keeper.new) (IsSpent S.history S.Device.history S.Frozen.content keeper.new) (fault_in result) }
+        ensures settings { settings_kept keeper.new ≡ settings_kept keeper.old }
+        ensures cause { HasDiskCause (faults_kept (λ w. S.Watch.counts w) keeper.old) (faults_kept (λ w. S.Watch.counts w) keeper.new) (HasSpent S.history S.Device.history S.Frozen.content keeper.new) (fault_in result) }
     {
         let commands = mem::replace(&mut self.commands, Vec::new(alloc));
         let answers = keeper.window(rt, alloc, commands)?;

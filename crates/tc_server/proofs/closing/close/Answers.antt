@@ -5,7 +5,7 @@ use Rattle.tc_part_model.specs.PartView.{store_of}
 use Rattle.tc_replay.specs.Openings.{AreIn}
 use Rattle.tc_work.specs.JobsOut.{watched_part}
 use Rattle.tc_server.proofs.ClosedKits.{told_both}
-use Rattle.tc_server.proofs.EngineWorlds.{on_ok}
+use Rattle.tc_keeper.proofs.EngineWorlds.{on_ok}
 use Rattle.tc_server.proofs.FinishedFiles.{last_left}
 use Rattle.tc_server.proofs.KitCounts.{closed_rose, closed_stays}
 use Rattle.tc_server.proofs.closing.close.Goals as goal

@@ -6,11 +6,11 @@ use Rattle.tc_gen.specs.Generated.{generated}
 use Rattle.tc_gen.specs.TwoLines.{lines_for}
 use Rattle.tc_run_model.specs.Windows.{windows_of}
 use Rattle.tc_work.specs.Moving.{eyes}
-use Rattle.tc_server.specs.Calls.{IsSpent, KeepsAt, HoldsAt}
+use Rattle.tc_keeper.specs.Keeping.{HasSpent, FailsAt, ServesAt}
 use Rattle.tc_server.specs.Demo.{ended}
 use Rattle.tc_server.specs.Window.{requests_of}
 use Rattle.tc_server.specs.declared.window.Window.{Window}
-use Rattle.tc_server.proofs.Causes.{calls_follow, store_failed}
+use Rattle.tc_keeper.proofs.Causes.{calls_follow, store_failed}
 use Rattle.tc_server.proofs.DemoCauses.{lines_cause, lines_leave}
 use Rattle.tc_server.proofs.DemoLemmas.{begins_not}
 use Rattle.tc_server.proofs.DemoRuns.{gives_up}
@@ -20,9 +20,9 @@ use Rattle.tc_server.proofs.demo.answer_demo.Goals as goal
 
 pub returns-in_err-begin-clause-ran : goal.returns-in_err-begin-clause-ran
 returns-in_err-begin-clause-ran g c =
-    let holds = HoldsAt (eyes g.S.Store.history g.S.Device.Device.history g.S.Frozen.Frozen.content g.S.Device.Device.name g.S.Frozen.Frozen.size g.S.Watch.Watch.counts) in
-    let keeps = KeepsAt (eyes g.S.Store.history g.S.Device.Device.history g.S.Frozen.Frozen.content g.S.Device.Device.name g.S.Frozen.Frozen.size g.S.Watch.Watch.counts) in
-    let spent = IsSpent g.S.Store.history g.S.Device.Device.history g.S.Frozen.Frozen.content in
+    let holds = ServesAt (eyes g.S.Store.history g.S.Device.Device.history g.S.Frozen.Frozen.content g.S.Device.Device.name g.S.Frozen.Frozen.size g.S.Watch.Watch.counts) in
+    let keeps = FailsAt (eyes g.S.Store.history g.S.Device.Device.history g.S.Frozen.Frozen.content g.S.Device.Device.name g.S.Frozen.Frozen.size g.S.Watch.Watch.counts) in
+    let spent = HasSpent g.S.Store.history g.S.Device.Device.history g.S.Frozen.Frozen.content in
     let most = c.args.session.now.window.limit in
     let p = err_from_is_err_and c.from_residual.result c.from_residual.ensures.1 in
     rw (p.1, p.2) (λ first held.
@@ -45,9 +45,9 @@ hear_all-requires-clause-bytes g c κs within = ap (λ (w : Window). w.bytes) c.
 
 pub returns-in_err-tally-clause-ran : goal.returns-in_err-tally-clause-ran
 returns-in_err-tally-clause-ran g c =
-    let holds = HoldsAt (eyes g.S.Store.history g.S.Device.Device.history g.S.Frozen.Frozen.content g.S.Device.Device.name g.S.Frozen.Frozen.size g.S.Watch.Watch.counts) in
-    let keeps = KeepsAt (eyes g.S.Store.history g.S.Device.Device.history g.S.Frozen.Frozen.content g.S.Device.Device.name g.S.Frozen.Frozen.size g.S.Watch.Watch.counts) in
-    let spent = IsSpent g.S.Store.history g.S.Device.Device.history g.S.Frozen.Frozen.content in
+    let holds = ServesAt (eyes g.S.Store.history g.S.Device.Device.history g.S.Frozen.Frozen.content g.S.Device.Device.name g.S.Frozen.Frozen.size g.S.Watch.Watch.counts) in
+    let keeps = FailsAt (eyes g.S.Store.history g.S.Device.Device.history g.S.Frozen.Frozen.content g.S.Device.Device.name g.S.Frozen.Frozen.size g.S.Watch.Watch.counts) in
+    let spent = HasSpent g.S.Store.history g.S.Device.Device.history g.S.Frozen.Frozen.content in
     let p = err_from_is_err_and c.from_residual-in_err-tally.result c.from_residual-in_err-tally.ensures.1 in
     rw (p.1, p.2, ← ap (λ (w : Window). w.limit) c.begin.ensures.window) (λ first held.
     gives_up holds keeps spent c.args.commands c.in_err-tally.field-0.0 first c.begin.new.self.window.limit (g.O.Sink.taken c.args.sink.now) (g.O.Sink.taken c.args.sink.now) c.hear_all.new.session.keeper c.in_err-tally.ensures.kinds c.in_err-tally.ensures.cause.spent (Keeps-refl (g.O.Sink.taken c.args.sink.now))
@@ -62,9 +62,9 @@ returns-in_err-tally-clause-cause g c =
 
 pub returns-clause-ran : goal.returns-clause-ran
 returns-clause-ran g c =
-    let holds = HoldsAt (eyes g.S.Store.history g.S.Device.Device.history g.S.Frozen.Frozen.content g.S.Device.Device.name g.S.Frozen.Frozen.size g.S.Watch.Watch.counts) in
-    let keeps = KeepsAt (eyes g.S.Store.history g.S.Device.Device.history g.S.Frozen.Frozen.content g.S.Device.Device.name g.S.Frozen.Frozen.size g.S.Watch.Watch.counts) in
-    let spent = IsSpent g.S.Store.history g.S.Device.Device.history g.S.Frozen.Frozen.content in
+    let holds = ServesAt (eyes g.S.Store.history g.S.Device.Device.history g.S.Frozen.Frozen.content g.S.Device.Device.name g.S.Frozen.Frozen.size g.S.Watch.Watch.counts) in
+    let keeps = FailsAt (eyes g.S.Store.history g.S.Device.Device.history g.S.Frozen.Frozen.content g.S.Device.Device.name g.S.Frozen.Frozen.size g.S.Watch.Watch.counts) in
+    let spent = HasSpent g.S.Store.history g.S.Device.Device.history g.S.Frozen.Frozen.content in
     rw (← ap (λ (w : Window). w.limit) c.begin.ensures.window) (λ first held.
     lines_leave holds keeps spent c.write_lines.result c.args.commands first c.begin.new.self.window.limit (g.O.Sink.taken c.args.sink.now) (g.O.Sink.taken c.write_lines.new.sink) c.hear_all.new.session.keeper c.in_ok-tally.tally
     (c.in_ok-tally.ensures.heard first (c.in_ok-begin.ensures.held first held)) c.write_lines.ensures.ok c.write_lines.ensures.fault)

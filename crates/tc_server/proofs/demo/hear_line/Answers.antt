@@ -4,9 +4,9 @@ use Rattle.std.proofs.lemmas.Result.{IfErr-weaker, on_ok_weaker}
 use Rattle.tc_edge.specs.Memory.{MemoryOutput}
 use Rattle.tc_run_model.specs.Windows.{windows_of}
 use Rattle.tc_work.specs.Moving.{eyes}
-use Rattle.tc_server.specs.Calls.{faults_of, IsSpent, KeepsAt, HoldsAt}
-use Rattle.tc_server.specs.Sight.{sight_behind}
-use Rattle.tc_server.specs.Sight.{sight_behind}
+use Rattle.tc_keeper.specs.Keeping.{faults_kept, HasSpent, FailsAt, ServesAt}
+use Rattle.tc_keeper.specs.Sight.{sight_behind}
+use Rattle.tc_keeper.specs.Sight.{sight_behind}
 use Rattle.tc_server.specs.Stage.{IsAt}
 use Rattle.tc_server.proofs.DemoCauses.{heard_cause, memory_cause, memory_kind}
 use Rattle.tc_server.proofs.DemoLemmas.{fails_line, hears_line, line_unheard, stands_fresh}
@@ -15,8 +15,8 @@ use Rattle.tc_server.proofs.demo.hear_line.Goals as goal
 
 pub returns-in-Ok-clause-heard : goal.returns-in-Ok-clause-heard
 returns-in-Ok-clause-heard g c =
-    let holds = HoldsAt (eyes g.S.Store.history g.S.Device.Device.history g.S.Frozen.Frozen.content g.S.Device.Device.name g.S.Frozen.Frozen.size g.S.Watch.Watch.counts) in
-    let keeps = KeepsAt (eyes g.S.Store.history g.S.Device.Device.history g.S.Frozen.Frozen.content g.S.Device.Device.name g.S.Frozen.Frozen.size g.S.Watch.Watch.counts) in
+    let holds = ServesAt (eyes g.S.Store.history g.S.Device.Device.history g.S.Frozen.Frozen.content g.S.Device.Device.name g.S.Frozen.Frozen.size g.S.Watch.Watch.counts) in
+    let keeps = FailsAt (eyes g.S.Store.history g.S.Device.Device.history g.S.Frozen.Frozen.content g.S.Device.Device.name g.S.Frozen.Frozen.size g.S.Watch.Watch.counts) in
     let session = c.args.session.now in
     let limit = session.window.limit in
     let empty = ap (λ (s : MemoryOutput). s.taken) c.new-replies.ensures in
@@ -28,8 +28,8 @@ returns-in-Ok-clause-heard g c =
 
 pub returns-in-Ok-clause-fault : goal.returns-in-Ok-clause-fault
 returns-in-Ok-clause-fault g c =
-    let holds = HoldsAt (eyes g.S.Store.history g.S.Device.Device.history g.S.Frozen.Frozen.content g.S.Device.Device.name g.S.Frozen.Frozen.size g.S.Watch.Watch.counts) in
-    let keeps = KeepsAt (eyes g.S.Store.history g.S.Device.Device.history g.S.Frozen.Frozen.content g.S.Device.Device.name g.S.Frozen.Frozen.size g.S.Watch.Watch.counts) in
+    let holds = ServesAt (eyes g.S.Store.history g.S.Device.Device.history g.S.Frozen.Frozen.content g.S.Device.Device.name g.S.Frozen.Frozen.size g.S.Watch.Watch.counts) in
+    let keeps = FailsAt (eyes g.S.Store.history g.S.Device.Device.history g.S.Frozen.Frozen.content g.S.Device.Device.name g.S.Frozen.Frozen.size g.S.Watch.Watch.counts) in
     let session = c.args.session.now in
     let limit = session.window.limit in
     let empty = ap (λ (s : MemoryOutput). s.taken) c.new-replies.ensures in
@@ -44,12 +44,12 @@ returns-in-Ok-clause-kinds g c = IfErr-weaker c.heard.result _ _ (λ f memory. r
 
 pub returns-in-Ok-clause-cause : goal.returns-in-Ok-clause-cause
 returns-in-Ok-clause-cause g c =
-    heard_cause c.heard.result (faults_of g.S.Watch.Watch.counts c.args.session.now.keeper) (faults_of g.S.Watch.Watch.counts c.take_whole.new.self.keeper) _ (IsSpent g.S.Store.history g.S.Device.Device.history g.S.Frozen.Frozen.content c.take_whole.new.self.keeper) c.in-Ok.ensures.cause.disks c.heard.ensures.memory
+    heard_cause c.heard.result (faults_kept g.S.Watch.Watch.counts c.args.session.now.keeper) (faults_kept g.S.Watch.Watch.counts c.take_whole.new.self.keeper) _ (HasSpent g.S.Store.history g.S.Device.Device.history g.S.Frozen.Frozen.content c.take_whole.new.self.keeper) c.in-Ok.ensures.cause.disks c.heard.ensures.memory
 
 pub returns-clause-fault : goal.returns-clause-fault
 returns-clause-fault g c =
-    let holds = HoldsAt (eyes g.S.Store.history g.S.Device.Device.history g.S.Frozen.Frozen.content g.S.Device.Device.name g.S.Frozen.Frozen.size g.S.Watch.Watch.counts) in
-    let keeps = KeepsAt (eyes g.S.Store.history g.S.Device.Device.history g.S.Frozen.Frozen.content g.S.Device.Device.name g.S.Frozen.Frozen.size g.S.Watch.Watch.counts) in
+    let holds = ServesAt (eyes g.S.Store.history g.S.Device.Device.history g.S.Frozen.Frozen.content g.S.Device.Device.name g.S.Frozen.Frozen.size g.S.Watch.Watch.counts) in
+    let keeps = FailsAt (eyes g.S.Store.history g.S.Device.Device.history g.S.Frozen.Frozen.content g.S.Device.Device.name g.S.Frozen.Frozen.size g.S.Watch.Watch.counts) in
     let session = c.args.session.now in
     let limit = session.window.limit in
     let empty = ap (λ (s : MemoryOutput). s.taken) c.new-replies.ensures in

@@ -4,7 +4,7 @@ use Rattle.tc_bytes.specs.Counts.{Rose}
 use Rattle.tc_work.specs.Moving.{eyes}
 use Rattle.tc_server.specs.Kits.{AreOpened}
 use Rattle.tc_server.proofs.OpenLoops.{not_given_since, one_more, opened_more, opened_none}
-use Rattle.tc_server.proofs.EngineWorlds.{err_always}
+use Rattle.tc_keeper.proofs.EngineWorlds.{err_always}
 use Rattle.tc_server.proofs.opening.open_all.Goals as goal
 
 pub loop-number-init : goal.loop-number-init

@@ -5,7 +5,7 @@ use Rattle.tc_part_model.specs.PartState.{told}
 use Rattle.tc_work.specs.EngineState.{EngineState}
 use Rattle.tc_work.specs.Moving.{eyes}
 use Rattle.tc_work.specs.Settling.{MaySettle}
-use Rattle.tc_server.specs.Faults.{faults_in}
+use Rattle.tc_keeper.specs.Faults.{faults_in}
 use Rattle.tc_server.specs.Kits.{IsOpened}
 use Rattle.tc_server.proofs.KitOpenings.{engine_opened, given_back, layout_of, pushed_back}
 use Rattle.tc_server.proofs.opening.open_kit.Goals as goal
@@ -26,7 +26,7 @@ returns-in-Ok-push-clause-opened g c = (
   subst (λ engine. IsOpened (eyes g.S.Store.history g.S.Device.Device.history g.S.Frozen.Frozen.content g.S.Device.Device.name g.S.Frozen.Frozen.size g.S.Watch.Watch.counts) c.args.options.now (partition_at c.args.number c.args.options.now.partitions) (g.S.Store.history c.args.kit.store) (faults_in g.S.Watch.Watch.counts c.args.kit) (engine_with engine no_jobs)) (sym c.new.ensures.made) (engine_opened (eyes g.S.Store.history g.S.Device.Device.history g.S.Frozen.Frozen.content g.S.Device.Device.name g.S.Frozen.Frozen.size g.S.Watch.Watch.counts) c.args.options.now (partition_at c.args.number c.args.options.now.partitions) (g.S.Store.history c.args.kit.store) c.args.kit c.in-Ok.part c.policy_of.result
       (record { sound = ap (λ p. p.failed) c.in-Ok.ensures.begun; log = c.in-Ok.ensures.log_out })
       (ap (λ p. p.staged) c.in-Ok.ensures.begun) (ap (λ p. p.limits) c.in-Ok.ensures.begun) (ap (λ p. p.memory) c.in-Ok.ensures.begun) c.policy_of.ensures c.in-Ok.ensures.opened c.in-Ok.ensures.judged c.in-Ok.ensures.watched
-      (ap (λ p. p.flusher) c.in-Ok.ensures.begun) (ap (λ p. p.merger) c.in-Ok.ensures.begun) (ap (λ p. p.reader) c.in-Ok.ensures.begun)),
+      (ap (λ p. p.flusher) c.in-Ok.ensures.begun) (ap (λ p. p.merger) c.in-Ok.ensures.begun) (ap (λ p. p.reader) c.in-Ok.ensures.begun) (ap (λ p. p.sealed) c.in-Ok.ensures.begun) (ap (λ p. p.active) c.in-Ok.ensures.begun)),
 )
 
 pub returns-in-Err-push-clause-back : goal.returns-in-Err-push-clause-back
@@ -35,7 +35,7 @@ returns-in-Err-push-clause-back g c =
     (subst (λ jobs. IsOpened (eyes g.S.Store.history g.S.Device.Device.history g.S.Frozen.Frozen.content g.S.Device.Device.name g.S.Frozen.Frozen.size g.S.Watch.Watch.counts) c.args.options.now (partition_at c.args.number c.args.options.now.partitions) (g.S.Store.history c.args.kit.store) (faults_in g.S.Watch.Watch.counts c.args.kit) (engine_with c.in-Err-push.engine jobs)) (sym c.new-in-Err-push.ensures) (subst (λ engine. IsOpened (eyes g.S.Store.history g.S.Device.Device.history g.S.Frozen.Frozen.content g.S.Device.Device.name g.S.Frozen.Frozen.size g.S.Watch.Watch.counts) c.args.options.now (partition_at c.args.number c.args.options.now.partitions) (g.S.Store.history c.args.kit.store) (faults_in g.S.Watch.Watch.counts c.args.kit) (engine_with engine no_jobs)) (sym (c.in-Err-push.ensures.back ∙ c.new.ensures.made)) (engine_opened (eyes g.S.Store.history g.S.Device.Device.history g.S.Frozen.Frozen.content g.S.Device.Device.name g.S.Frozen.Frozen.size g.S.Watch.Watch.counts) c.args.options.now (partition_at c.args.number c.args.options.now.partitions) (g.S.Store.history c.args.kit.store) c.args.kit c.in-Ok.part c.policy_of.result
     (record { sound = ap (λ p. p.failed) c.in-Ok.ensures.begun; log = c.in-Ok.ensures.log_out })
     (ap (λ p. p.staged) c.in-Ok.ensures.begun) (ap (λ p. p.limits) c.in-Ok.ensures.begun) (ap (λ p. p.memory) c.in-Ok.ensures.begun) c.policy_of.ensures c.in-Ok.ensures.opened c.in-Ok.ensures.judged c.in-Ok.ensures.watched
-    (ap (λ p. p.flusher) c.in-Ok.ensures.begun) (ap (λ p. p.merger) c.in-Ok.ensures.begun) (ap (λ p. p.reader) c.in-Ok.ensures.begun)))) c.close.ensures
+    (ap (λ p. p.flusher) c.in-Ok.ensures.begun) (ap (λ p. p.merger) c.in-Ok.ensures.begun) (ap (λ p. p.reader) c.in-Ok.ensures.begun) (ap (λ p. p.sealed) c.in-Ok.ensures.begun) (ap (λ p. p.active) c.in-Ok.ensures.begun)))) c.close.ensures
 
 pub push-requires-clause-ready : goal.push-requires-clause-ready
 push-requires-clause-ready g c κs within = λ sound.

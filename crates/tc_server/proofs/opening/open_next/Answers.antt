@@ -1,7 +1,7 @@
 use Rattle.std.proofs.Common.{ap, refl, inr}
 use Rattle.std.specs.Prelude.{Err}
 use Rattle.tc_bytes.specs.Counts.{Rose}
-use Rattle.tc_server.specs.Faults.{faults_in}
+use Rattle.tc_keeper.specs.Faults.{faults_in}
 use Rattle.tc_server.specs.Kits.{IsNotGiven}
 use Rattle.tc_server.proofs.KitCounts.{same_counts}
 use Rattle.tc_server.proofs.KitOpenings.{never_none, shelf_layout, shelf_memory, shelf_not_given}

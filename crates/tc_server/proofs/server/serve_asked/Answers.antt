@@ -10,14 +10,17 @@ use Rattle.tc_work.specs.Moving.{eyes}
 use Rattle.tc_work.specs.declared.finishing.Finished.{Finished as finished}
 use Rattle.tc_words.specs.Options.{options_asked}
 use Rattle.tc_words.specs.declared.run.Options.{Options}
-use Rattle.tc_server.specs.Faults.{faults_in, OneRose}
-use Rattle.tc_server.specs.Calls.{faults_at}
+use Rattle.tc_server.specs.Ending.{limits_of}
+use Rattle.tc_keeper.specs.Faults.{faults_in, OneRose}
+use Rattle.tc_keeper.specs.Calls.{faults_at}
 use Rattle.tc_server.specs.KitCauses.{AreAsked, AreJudged}
 use Rattle.tc_server.specs.Kits.{AreOpened, IsGivenBack}
-use Rattle.tc_server.specs.declared.outcome.RunFault.TheVariants.{Memory}
+use Rattle.tc_keeper.specs.declared.fault.RunFault.TheVariants.{Memory}
+use Rattle.tc_keeper.proofs.BegunKeepers.{readers_home}
 use Rattle.tc_server.proofs.KitOpenings.{ends_unopened, no_read, no_usage, no_write}
 use Rattle.tc_server.proofs.NotOpened.{asked_unopened, asked_without_room}
-use Rattle.tc_server.proofs.OpenedWorlds.{stand_opened}
+use Rattle.tc_server.proofs.OpenedWorlds.{begins_first, stand_opened}
+use Rattle.tc_server.proofs.OverEngines.{unwritten_all}
 use Rattle.tc_server.proofs.RunKits.{all_begun, asked_all, disk_all, disk_within, judged_all, layout_run, none_fell_all, spent_all, usage_run}
 use Rattle.tc_server.proofs.Unopened.{given_back_all, judged_nothing, kits_ended, last_many, next_back, one_at_most, others_back, unasked_back, IsEnded}
 use Rattle.tc_server.proofs.server.serve_asked.Goals as goal
@@ -54,13 +57,13 @@ returns-in-Ok-open_all-clause-ran g c =
     let kits = ap (λ kits. kits.items) c.of-in-Ok-open_all.ensures.kits in
     let opened = subst (λ o. AreOpened (eyes g.H.Store.Store.history g.H.Store.Device.Device.history g.H.Store.Frozen.Frozen.content g.H.Store.Device.Device.name g.H.Store.Frozen.Frozen.size g.H.Store.Watch.Watch.counts) o (g.H.Shelf.files c.args.shelf.now) (g.H.Shelf.kit_faults c.args.shelf.now) c.open_all.new.engines) c.options_asked-options.ensures c.open_all.ensures.opened in
     let all : length c.open_all.new.engines ≡ (options_asked c.args.asked.now).partitions = c.in-Ok-open_all.ensures.all ∙ ap (λ (o : Options). o.partitions) c.options_asked-options.ensures in
-    rw (c.of-in-Ok-open_all.ensures.fault, kits) (λ first begins. c.serve_over-kits.ensures.ran first (g.H.Shelf.files c.args.shelf.now) (stand_opened (eyes g.H.Store.Store.history g.H.Store.Device.Device.history g.H.Store.Frozen.Frozen.content g.H.Store.Device.Device.name g.H.Store.Frozen.Frozen.size g.H.Store.Watch.Watch.counts) (options_asked c.args.asked.now) Ascends-stored (g.H.Shelf.files c.args.shelf.now) (g.H.Shelf.kit_faults c.args.shelf.now) c.open_all.new.engines first all opened begins))
+    rw (c.of-in-Ok-open_all.ensures.fault, kits) (λ first begins. c.serve_over-kits.ensures.ran first (g.H.Shelf.files c.args.shelf.now) (begins_first (limits_of (options_asked c.args.asked.now)) (options_asked c.args.asked.now).partitions (g.H.Shelf.files c.args.shelf.now) first begins) (stand_opened (eyes g.H.Store.Store.history g.H.Store.Device.Device.history g.H.Store.Frozen.Frozen.content g.H.Store.Device.Device.name g.H.Store.Frozen.Frozen.size g.H.Store.Watch.Watch.counts) (options_asked c.args.asked.now) Ascends-stored (g.H.Shelf.files c.args.shelf.now) (g.H.Shelf.kit_faults c.args.shelf.now) c.open_all.new.engines first all opened begins))
 
 pub returns-in-Ok-open_all-clause-prompt : goal.returns-in-Ok-open_all-clause-prompt
 returns-in-Ok-open_all-clause-prompt g c =
     let opened = subst (λ o. AreOpened (eyes g.H.Store.Store.history g.H.Store.Device.Device.history g.H.Store.Frozen.Frozen.content g.H.Store.Device.Device.name g.H.Store.Frozen.Frozen.size g.H.Store.Watch.Watch.counts) o (g.H.Shelf.files c.args.shelf.now) (g.H.Shelf.kit_faults c.args.shelf.now) c.open_all.new.engines) c.options_asked-options.ensures c.open_all.ensures.opened in
     let all : length c.open_all.new.engines ≡ (options_asked c.args.asked.now).partitions = c.in-Ok-open_all.ensures.all ∙ ap (λ (o : Options). o.partitions) c.options_asked-options.ensures in
-    λ first begins. c.serve_over-kits.ensures.prompt first (stand_opened (eyes g.H.Store.Store.history g.H.Store.Device.Device.history g.H.Store.Frozen.Frozen.content g.H.Store.Device.Device.name g.H.Store.Frozen.Frozen.size g.H.Store.Watch.Watch.counts) (options_asked c.args.asked.now) Ascends-stored (g.H.Shelf.files c.args.shelf.now) (g.H.Shelf.kit_faults c.args.shelf.now) c.open_all.new.engines first all opened begins)
+    λ first begins. c.serve_over-kits.ensures.prompt first (begins_first (limits_of (options_asked c.args.asked.now)) (options_asked c.args.asked.now).partitions (g.H.Shelf.files c.args.shelf.now) first begins) (stand_opened (eyes g.H.Store.Store.history g.H.Store.Device.Device.history g.H.Store.Frozen.Frozen.content g.H.Store.Device.Device.name g.H.Store.Frozen.Frozen.size g.H.Store.Watch.Watch.counts) (options_asked c.args.asked.now) Ascends-stored (g.H.Shelf.files c.args.shelf.now) (g.H.Shelf.kit_faults c.args.shelf.now) c.open_all.new.engines first all opened begins)
 
 pub returns-in-Ok-open_all-clause-kits : goal.returns-in-Ok-open_all-clause-kits
 returns-in-Ok-open_all-clause-kits g c =
@@ -124,8 +127,8 @@ returns-in-Ok-open_all-clause-spent g c =
     let opened = subst (λ o. AreOpened (eyes g.H.Store.Store.history g.H.Store.Device.Device.history g.H.Store.Frozen.Frozen.content g.H.Store.Device.Device.name g.H.Store.Frozen.Frozen.size g.H.Store.Watch.Watch.counts) o (g.H.Shelf.files c.args.shelf.now) (g.H.Shelf.kit_faults c.args.shelf.now) c.open_all.new.engines) c.options_asked-options.ensures c.open_all.ensures.opened in
     rw (c.of-in-Ok-open_all.ensures.fault, kits) (λ is. ⊎_elim (λ input. inl input) (λ last. inr (spent_all (eyes g.H.Store.Store.history g.H.Store.Device.Device.history g.H.Store.Frozen.Frozen.content g.H.Store.Device.Device.name g.H.Store.Frozen.Frozen.size g.H.Store.Watch.Watch.counts) (λ (kit : Kit _ _ _ _). g.H.Store.Store.history kit.store) (faults_in g.H.Store.Watch.Watch.counts) (options_asked c.args.asked.now) (g.H.Shelf.files c.args.shelf.now) (g.H.Shelf.kit_faults c.args.shelf.now) c.open_all.new.engines opened c.serve_over-kits.result.0.items last)) (c.serve_over-kits.ensures.spent is))
 
-pub returns-clause-ran : goal.returns-clause-ran
-returns-clause-ran g c =
+pub returns-in-Err-open_all-clause-ran : goal.returns-in-Err-open_all-clause-ran
+returns-in-Err-open_all-clause-ran g c =
     let ks = map (λ (f : finished _ _ _ _). f.kit) c.close_all-closed.ensures.0 in
     let last = c.in-Err-open_all.field-0.kit in
     let same = c.close_all-closed.ensures.1 ∙ ap (λ more. ks ++ more) c.with_kit.ensures.items in
@@ -136,8 +139,8 @@ returns-clause-ran g c =
     let b = given_back_all (eyes g.H.Store.Store.history g.H.Store.Device.Device.history g.H.Store.Frozen.Frozen.content g.H.Store.Device.Device.name g.H.Store.Frozen.Frozen.size g.H.Store.Watch.Watch.counts) g.H.Store.Device.Device.size (λ (kit : Kit _ _ _ _). g.H.Store.Store.history kit.store) (faults_in g.H.Store.Watch.Watch.counts) (options_asked c.args.asked.now) (g.H.Shelf.files c.args.shelf.now) (g.H.Shelf.kit_faults c.args.shelf.now) (g.H.Shelf.faults c.args.shelf.now) (g.H.Shelf.faults c.open_all.new.shelf) c.open_all.new.engines ks last c.in-Err-open_all.field-0.fault some opened (kits_ended (eyes g.H.Store.Store.history g.H.Store.Device.Device.history g.H.Store.Frozen.Frozen.content g.H.Store.Device.Device.name g.H.Store.Frozen.Frozen.size g.H.Store.Watch.Watch.counts) g.H.Store.Device.Device.size (λ (f : finished _ _ _ _). f.kit) (λ (f : finished _ _ _ _). f.outcome) (λ (kit : Kit _ _ _ _). g.H.Store.Store.history kit.store) (faults_in g.H.Store.Watch.Watch.counts) c.open_all.new.engines c.close_all-closed.ensures.0 c.close_all-closed.ensures.3) back c.in-Err-open_all.ensures.not_given in
     rw (c.of-in-Err-open_all.ensures.fault, kits) (λ first begins. asked_unopened c.args.asked.now c.in-Err-open_all.field-0.fault first (g.H.Shelf.files c.args.shelf.now) (g.I.Source.left c.args.source.now) (g.O.Sink.taken c.args.sink.now) _ b.by begins (b.sound first begins) b.few b.keep)
 
-pub returns-clause-kits : goal.returns-clause-kits
-returns-clause-kits g c =
+pub returns-in-Err-open_all-clause-kits : goal.returns-in-Err-open_all-clause-kits
+returns-in-Err-open_all-clause-kits g c =
     let ks = map (λ (f : finished _ _ _ _). f.kit) c.close_all-closed.ensures.0 in
     let last = c.in-Err-open_all.field-0.kit in
     let same = c.close_all-closed.ensures.1 ∙ ap (λ more. ks ++ more) c.with_kit.ensures.items in
@@ -149,8 +152,8 @@ returns-clause-kits g c =
     let many = length-map (ks ++ option_to_list last) (λ (kit : Kit _ _ _ _). g.H.Store.Store.history kit.store) in
     rw kits (omega (arith, many, b.few))
 
-pub returns-clause-asked : goal.returns-clause-asked
-returns-clause-asked g c =
+pub returns-in-Err-open_all-clause-asked : goal.returns-in-Err-open_all-clause-asked
+returns-in-Err-open_all-clause-asked g c =
     let ks = map (λ (f : finished _ _ _ _). f.kit) c.close_all-closed.ensures.0 in
     let last = c.in-Err-open_all.field-0.kit in
     let same = c.close_all-closed.ensures.1 ∙ ap (λ more. ks ++ more) c.with_kit.ensures.items in
@@ -162,8 +165,8 @@ returns-clause-asked g c =
     let many = length-map (ks ++ option_to_list last) (λ (kit : Kit _ _ _ _). g.H.Store.Store.history kit.store) in
     rw (c.of-in-Err-open_all.ensures.fault, kits) (subst (AreAsked (options_asked c.args.asked.now).partitions (Some c.in-Err-open_all.field-0.fault)) many b.asked)
 
-pub returns-clause-counts : goal.returns-clause-counts
-returns-clause-counts g c =
+pub returns-in-Err-open_all-clause-counts : goal.returns-in-Err-open_all-clause-counts
+returns-in-Err-open_all-clause-counts g c =
     let ks = map (λ (f : finished _ _ _ _). f.kit) c.close_all-closed.ensures.0 in
     let last = c.in-Err-open_all.field-0.kit in
     let same = c.close_all-closed.ensures.1 ∙ ap (λ more. ks ++ more) c.with_kit.ensures.items in
@@ -174,8 +177,8 @@ returns-clause-counts g c =
     let b = given_back_all (eyes g.H.Store.Store.history g.H.Store.Device.Device.history g.H.Store.Frozen.Frozen.content g.H.Store.Device.Device.name g.H.Store.Frozen.Frozen.size g.H.Store.Watch.Watch.counts) g.H.Store.Device.Device.size (λ (kit : Kit _ _ _ _). g.H.Store.Store.history kit.store) (faults_in g.H.Store.Watch.Watch.counts) (options_asked c.args.asked.now) (g.H.Shelf.files c.args.shelf.now) (g.H.Shelf.kit_faults c.args.shelf.now) (g.H.Shelf.faults c.args.shelf.now) (g.H.Shelf.faults c.open_all.new.shelf) c.open_all.new.engines ks last c.in-Err-open_all.field-0.fault some opened (kits_ended (eyes g.H.Store.Store.history g.H.Store.Device.Device.history g.H.Store.Frozen.Frozen.content g.H.Store.Device.Device.name g.H.Store.Frozen.Frozen.size g.H.Store.Watch.Watch.counts) g.H.Store.Device.Device.size (λ (f : finished _ _ _ _). f.kit) (λ (f : finished _ _ _ _). f.outcome) (λ (kit : Kit _ _ _ _). g.H.Store.Store.history kit.store) (faults_in g.H.Store.Watch.Watch.counts) c.open_all.new.engines c.close_all-closed.ensures.0 c.close_all-closed.ensures.3) back c.in-Err-open_all.ensures.not_given in
     rw kits (c.open_all.ensures.faults, b.none_fell)
 
-pub returns-clause-other_kits : goal.returns-clause-other_kits
-returns-clause-other_kits g c =
+pub returns-in-Err-open_all-clause-other_kits : goal.returns-in-Err-open_all-clause-other_kits
+returns-in-Err-open_all-clause-other_kits g c =
     let ks = map (λ (f : finished _ _ _ _). f.kit) c.close_all-closed.ensures.0 in
     let last = c.in-Err-open_all.field-0.kit in
     let same = c.close_all-closed.ensures.1 ∙ ap (λ more. ks ++ more) c.with_kit.ensures.items in
@@ -183,8 +186,8 @@ returns-clause-other_kits g c =
     let placed = last_many (λ (p : ℕ) e (kit : Kit _ _ _ _). IsEnded (eyes g.H.Store.Store.history g.H.Store.Device.Device.history g.H.Store.Frozen.Frozen.content g.H.Store.Device.Device.name g.H.Store.Frozen.Frozen.size g.H.Store.Watch.Watch.counts) g.H.Store.Device.Device.size (λ (kit : Kit _ _ _ _). g.H.Store.Store.history kit.store) (faults_in g.H.Store.Watch.Watch.counts) e kit) c.open_all.new.engines ks last (ks ++ option_to_list last) refl (kits_ended (eyes g.H.Store.Store.history g.H.Store.Device.Device.history g.H.Store.Frozen.Frozen.content g.H.Store.Device.Device.name g.H.Store.Frozen.Frozen.size g.H.Store.Watch.Watch.counts) g.H.Store.Device.Device.size (λ (f : finished _ _ _ _). f.kit) (λ (f : finished _ _ _ _). f.outcome) (λ (kit : Kit _ _ _ _). g.H.Store.Store.history kit.store) (faults_in g.H.Store.Watch.Watch.counts) c.open_all.new.engines c.close_all-closed.ensures.0 c.close_all-closed.ensures.3) in
     rw kits (others_back (λ other. (g.H.Shelf.files c.open_all.new.shelf other ≡ g.H.Shelf.files c.args.shelf.now other) × (g.H.Shelf.kit_faults c.open_all.new.shelf other ≡ g.H.Shelf.kit_faults c.args.shelf.now other)) (length c.open_all.new.engines) (length (ks ++ option_to_list last)) last placed c.open_all.ensures.others)
 
-pub returns-clause-next_kit : goal.returns-clause-next_kit
-returns-clause-next_kit g c =
+pub returns-in-Err-open_all-clause-next_kit : goal.returns-in-Err-open_all-clause-next_kit
+returns-in-Err-open_all-clause-next_kit g c =
     let ks = map (λ (f : finished _ _ _ _). f.kit) c.close_all-closed.ensures.0 in
     let last = c.in-Err-open_all.field-0.kit in
     let same = c.close_all-closed.ensures.1 ∙ ap (λ more. ks ++ more) c.with_kit.ensures.items in
@@ -193,8 +196,8 @@ returns-clause-next_kit g c =
     let placed = last_many (λ (p : ℕ) e (kit : Kit _ _ _ _). IsEnded (eyes g.H.Store.Store.history g.H.Store.Device.Device.history g.H.Store.Frozen.Frozen.content g.H.Store.Device.Device.name g.H.Store.Frozen.Frozen.size g.H.Store.Watch.Watch.counts) g.H.Store.Device.Device.size (λ (kit : Kit _ _ _ _). g.H.Store.Store.history kit.store) (faults_in g.H.Store.Watch.Watch.counts) e kit) c.open_all.new.engines ks last (ks ++ option_to_list last) refl (kits_ended (eyes g.H.Store.Store.history g.H.Store.Device.Device.history g.H.Store.Frozen.Frozen.content g.H.Store.Device.Device.name g.H.Store.Frozen.Frozen.size g.H.Store.Watch.Watch.counts) g.H.Store.Device.Device.size (λ (f : finished _ _ _ _). f.kit) (λ (f : finished _ _ _ _). f.outcome) (λ (kit : Kit _ _ _ _). g.H.Store.Store.history kit.store) (faults_in g.H.Store.Watch.Watch.counts) c.open_all.new.engines c.close_all-closed.ensures.0 c.close_all-closed.ensures.3) in
     rw kits (next_back (λ other. (g.H.Shelf.files c.open_all.new.shelf other ≡ g.H.Shelf.files c.args.shelf.now other) × (g.H.Shelf.kit_faults c.open_all.new.shelf other ≡ g.H.Shelf.kit_faults c.args.shelf.now other)) (Rose (g.H.Shelf.faults c.args.shelf.now) (g.H.Shelf.faults c.open_all.new.shelf)) (options_asked c.args.asked.now).partitions (length c.open_all.new.engines) (length (ks ++ option_to_list last)) c.in-Err-open_all.field-0.fault last placed some c.open_all.ensures.others c.in-Err-open_all.ensures.unasked c.in-Err-open_all.ensures.not_given)
 
-pub returns-clause-unasked : goal.returns-clause-unasked
-returns-clause-unasked g c =
+pub returns-in-Err-open_all-clause-unasked : goal.returns-in-Err-open_all-clause-unasked
+returns-in-Err-open_all-clause-unasked g c =
     let ks = map (λ (f : finished _ _ _ _). f.kit) c.close_all-closed.ensures.0 in
     let last = c.in-Err-open_all.field-0.kit in
     let same = c.close_all-closed.ensures.1 ∙ ap (λ more. ks ++ more) c.with_kit.ensures.items in
@@ -202,8 +205,8 @@ returns-clause-unasked g c =
     let placed = last_many (λ (p : ℕ) e (kit : Kit _ _ _ _). IsEnded (eyes g.H.Store.Store.history g.H.Store.Device.Device.history g.H.Store.Frozen.Frozen.content g.H.Store.Device.Device.name g.H.Store.Frozen.Frozen.size g.H.Store.Watch.Watch.counts) g.H.Store.Device.Device.size (λ (kit : Kit _ _ _ _). g.H.Store.Store.history kit.store) (faults_in g.H.Store.Watch.Watch.counts) e kit) c.open_all.new.engines ks last (ks ++ option_to_list last) refl (kits_ended (eyes g.H.Store.Store.history g.H.Store.Device.Device.history g.H.Store.Frozen.Frozen.content g.H.Store.Device.Device.name g.H.Store.Frozen.Frozen.size g.H.Store.Watch.Watch.counts) g.H.Store.Device.Device.size (λ (f : finished _ _ _ _). f.kit) (λ (f : finished _ _ _ _). f.outcome) (λ (kit : Kit _ _ _ _). g.H.Store.Store.history kit.store) (faults_in g.H.Store.Watch.Watch.counts) c.open_all.new.engines c.close_all-closed.ensures.0 c.close_all-closed.ensures.3) in
     rw kits (unasked_back _ (Rose (g.H.Shelf.faults c.args.shelf.now) (g.H.Shelf.faults c.open_all.new.shelf)) c.open_all.new.engines (ks ++ option_to_list last) (length c.open_all.new.engines) c.in-Err-open_all.field-0.fault last refl placed c.in-Err-open_all.ensures.not_given c.in-Err-open_all.ensures.same)
 
-pub returns-clause-disk : goal.returns-clause-disk
-returns-clause-disk g c =
+pub returns-in-Err-open_all-clause-disk : goal.returns-in-Err-open_all-clause-disk
+returns-in-Err-open_all-clause-disk g c =
     let ks = map (λ (f : finished _ _ _ _). f.kit) c.close_all-closed.ensures.0 in
     let last = c.in-Err-open_all.field-0.kit in
     let same = c.close_all-closed.ensures.1 ∙ ap (λ more. ks ++ more) c.with_kit.ensures.items in
@@ -214,8 +217,8 @@ returns-clause-disk g c =
     let b = given_back_all (eyes g.H.Store.Store.history g.H.Store.Device.Device.history g.H.Store.Frozen.Frozen.content g.H.Store.Device.Device.name g.H.Store.Frozen.Frozen.size g.H.Store.Watch.Watch.counts) g.H.Store.Device.Device.size (λ (kit : Kit _ _ _ _). g.H.Store.Store.history kit.store) (faults_in g.H.Store.Watch.Watch.counts) (options_asked c.args.asked.now) (g.H.Shelf.files c.args.shelf.now) (g.H.Shelf.kit_faults c.args.shelf.now) (g.H.Shelf.faults c.args.shelf.now) (g.H.Shelf.faults c.open_all.new.shelf) c.open_all.new.engines ks last c.in-Err-open_all.field-0.fault some opened (kits_ended (eyes g.H.Store.Store.history g.H.Store.Device.Device.history g.H.Store.Frozen.Frozen.content g.H.Store.Device.Device.name g.H.Store.Frozen.Frozen.size g.H.Store.Watch.Watch.counts) g.H.Store.Device.Device.size (λ (f : finished _ _ _ _). f.kit) (λ (f : finished _ _ _ _). f.outcome) (λ (kit : Kit _ _ _ _). g.H.Store.Store.history kit.store) (faults_in g.H.Store.Watch.Watch.counts) c.open_all.new.engines c.close_all-closed.ensures.0 c.close_all-closed.ensures.3) back c.in-Err-open_all.ensures.not_given in
     rw (c.of-in-Err-open_all.ensures.fault, kits) b.disk
 
-pub returns-clause-judged : goal.returns-clause-judged
-returns-clause-judged g c =
+pub returns-in-Err-open_all-clause-judged : goal.returns-in-Err-open_all-clause-judged
+returns-in-Err-open_all-clause-judged g c =
     let ks = map (λ (f : finished _ _ _ _). f.kit) c.close_all-closed.ensures.0 in
     let last = c.in-Err-open_all.field-0.kit in
     let same = c.close_all-closed.ensures.1 ∙ ap (λ more. ks ++ more) c.with_kit.ensures.items in
@@ -227,27 +230,27 @@ returns-clause-judged g c =
     let many = length-map (ks ++ option_to_list last) (λ (kit : Kit _ _ _ _). g.H.Store.Store.history kit.store) in
     rw (c.of-in-Err-open_all.ensures.fault, kits) (subst (λ n. AreJudged (options_asked c.args.asked.now).partitions n (g.H.Shelf.files c.args.shelf.now) (Some c.in-Err-open_all.field-0.fault)) many b.judged)
 
-pub returns-clause-usage : goal.returns-clause-usage
-returns-clause-usage g c =
+pub returns-in-Err-open_all-clause-usage : goal.returns-in-Err-open_all-clause-usage
+returns-in-Err-open_all-clause-usage g c =
     let ends = ends_unopened (Rose (g.H.Shelf.faults c.args.shelf.now) (g.H.Shelf.faults c.open_all.new.shelf)) (partition_at (length c.open_all.new.engines) c.options_asked-options.result.partitions) (length c.open_all.new.engines) c.in-Err-open_all.field-0.fault (λ (kit : Kit g.row.H-Store.Denot g.row.H-Store-Watch.Denot g.row.H-Store-Device.Denot g.row.H-Store-Frozen.Denot). IsGivenBack (partition_at (length c.open_all.new.engines) c.options_asked-options.result.partitions) (g.H.Shelf.files c.args.shelf.now (length c.open_all.new.engines)) (g.H.Shelf.kit_faults c.args.shelf.now (length c.open_all.new.engines)) c.in-Err-open_all.field-0.fault (g.H.Store.Store.history kit.store) (faults_in g.H.Store.Watch.Watch.counts kit)) c.in-Err-open_all.field-0.kit (λ kit b. b.of) c.in-Err-open_all.ensures.back c.in-Err-open_all.ensures.not_given in
     rw c.of-in-Err-open_all.ensures.fault (no_usage c.in-Err-open_all.field-0.fault ends)
 
-pub returns-clause-read : goal.returns-clause-read
-returns-clause-read g c =
+pub returns-in-Err-open_all-clause-read : goal.returns-in-Err-open_all-clause-read
+returns-in-Err-open_all-clause-read g c =
     let ends = ends_unopened (Rose (g.H.Shelf.faults c.args.shelf.now) (g.H.Shelf.faults c.open_all.new.shelf)) (partition_at (length c.open_all.new.engines) c.options_asked-options.result.partitions) (length c.open_all.new.engines) c.in-Err-open_all.field-0.fault (λ (kit : Kit g.row.H-Store.Denot g.row.H-Store-Watch.Denot g.row.H-Store-Device.Denot g.row.H-Store-Frozen.Denot). IsGivenBack (partition_at (length c.open_all.new.engines) c.options_asked-options.result.partitions) (g.H.Shelf.files c.args.shelf.now (length c.open_all.new.engines)) (g.H.Shelf.kit_faults c.args.shelf.now (length c.open_all.new.engines)) c.in-Err-open_all.field-0.fault (g.H.Store.Store.history kit.store) (faults_in g.H.Store.Watch.Watch.counts kit)) c.in-Err-open_all.field-0.kit (λ kit b. b.of) c.in-Err-open_all.ensures.back c.in-Err-open_all.ensures.not_given in
     rw c.of-in-Err-open_all.ensures.fault (no_read c.in-Err-open_all.field-0.fault ends)
 
-pub returns-clause-write : goal.returns-clause-write
-returns-clause-write g c =
+pub returns-in-Err-open_all-clause-write : goal.returns-in-Err-open_all-clause-write
+returns-in-Err-open_all-clause-write g c =
     let ends = ends_unopened (Rose (g.H.Shelf.faults c.args.shelf.now) (g.H.Shelf.faults c.open_all.new.shelf)) (partition_at (length c.open_all.new.engines) c.options_asked-options.result.partitions) (length c.open_all.new.engines) c.in-Err-open_all.field-0.fault (λ (kit : Kit g.row.H-Store.Denot g.row.H-Store-Watch.Denot g.row.H-Store-Device.Denot g.row.H-Store-Frozen.Denot). IsGivenBack (partition_at (length c.open_all.new.engines) c.options_asked-options.result.partitions) (g.H.Shelf.files c.args.shelf.now (length c.open_all.new.engines)) (g.H.Shelf.kit_faults c.args.shelf.now (length c.open_all.new.engines)) c.in-Err-open_all.field-0.fault (g.H.Store.Store.history kit.store) (faults_in g.H.Store.Watch.Watch.counts kit)) c.in-Err-open_all.field-0.kit (λ kit b. b.of) c.in-Err-open_all.ensures.back c.in-Err-open_all.ensures.not_given in
     rw c.of-in-Err-open_all.ensures.fault (no_write c.in-Err-open_all.field-0.fault ends)
 
-pub returns-clause-layout : goal.returns-clause-layout
-returns-clause-layout g c =
+pub returns-in-Err-open_all-clause-layout : goal.returns-in-Err-open_all-clause-layout
+returns-in-Err-open_all-clause-layout g c =
     rw c.of-in-Err-open_all.ensures.fault c.in-Err-open_all.ensures.layout
 
-pub returns-clause-spent : goal.returns-clause-spent
-returns-clause-spent g c =
+pub returns-in-Err-open_all-clause-spent : goal.returns-in-Err-open_all-clause-spent
+returns-in-Err-open_all-clause-spent g c =
     let ks = map (λ (f : finished _ _ _ _). f.kit) c.close_all-closed.ensures.0 in
     let last = c.in-Err-open_all.field-0.kit in
     let same = c.close_all-closed.ensures.1 ∙ ap (λ more. ks ++ more) c.with_kit.ensures.items in
@@ -283,3 +286,8 @@ close_all-closed-requires-clause-few g c κs within = omega (arith, c.in-Err-ope
 pub close_all-closed-requires-clause-room : goal.close_all-closed-requires-clause-room
 close_all-closed-requires-clause-room g c κs within =
     omega (arith, ap length c.with_kit.ensures.items, c.with_kit.result.ok.0, one_at_most c.in-Err-open_all.field-0.kit, c.with_kit.ensures.room, c.in-Ok.ensures.capacity, c.in-Err-open_all.ensures.some)
+
+pub close_all-closed-requires-clause-readers : goal.close_all-closed-requires-clause-readers
+close_all-closed-requires-clause-readers g c κs within =
+    let begun = all_begun (eyes g.H.Store.Store.history g.H.Store.Device.Device.history g.H.Store.Frozen.Frozen.content g.H.Store.Device.Device.name g.H.Store.Frozen.Frozen.size g.H.Store.Watch.Watch.counts) (λ (kit : Kit g.row.H-Store.Denot g.row.H-Store-Watch.Denot g.row.H-Store-Device.Denot g.row.H-Store-Frozen.Denot). g.H.Store.Store.history kit.store) (faults_in g.H.Store.Watch.Watch.counts) (options_asked c.args.asked.now) (g.H.Shelf.files c.args.shelf.now) (g.H.Shelf.kit_faults c.args.shelf.now) c.open_all.new.engines (subst (λ o. AreOpened (eyes g.H.Store.Store.history g.H.Store.Device.Device.history g.H.Store.Frozen.Frozen.content g.H.Store.Device.Device.name g.H.Store.Frozen.Frozen.size g.H.Store.Watch.Watch.counts) o (g.H.Shelf.files c.args.shelf.now) (g.H.Shelf.kit_faults c.args.shelf.now) c.open_all.new.engines) c.options_asked-options.ensures c.open_all.ensures.opened) in
+    readers_home c.open_all.new.engines (unwritten_all (eyes g.H.Store.Store.history g.H.Store.Device.Device.history g.H.Store.Frozen.Frozen.content g.H.Store.Device.Device.name g.H.Store.Frozen.Frozen.size g.H.Store.Watch.Watch.counts) (options_asked c.args.asked.now) c.open_all.new.engines begun)

@@ -1,4 +1,4 @@
-use Rattle.std.proofs.Common.{◌≡◌, ◌<◌, ◌∙◌, ◌++◌, ℕ, List, append-nil, arith, length, ap, sym, subst, inl, inr, ⊎_elim}
+use Rattle.std.proofs.Common.{◌≡◌, ◌<◌, ◌∙◌, ◌++◌, ℕ, true, List, All, is_some, append-nil, arith, length, refl, ap, sym, subst, inl, inr, ⊎_elim}
 use Rattle.std.proofs.lemmas.List.{length-map}
 use Rattle.std.specs.Prelude.{IfSome, map}
 use Rattle.tc_bytes.specs.Counts.{Rose}
@@ -6,175 +6,178 @@ use Rattle.tc_engines.specs.Places.{AtEach}
 use Rattle.tc_engines.proofs.PlaceLaws.{at_each-length, at_each-reads, at_each-so}
 use Rattle.tc_engines.specs.WithJobs.{WithJobs}
 use Rattle.tc_store.specs.Moments.{IfTold}
-use Rattle.tc_store.specs.declared.kit.Kit.{Kit}
 use Rattle.tc_work.specs.Moving.{eyes}
 use Rattle.tc_work.specs.declared.finishing.Finished.{Finished as finished}
-use Rattle.tc_server.specs.Calls.{faults_at, HoldsAt, IsSpent, KeepsAt, Rests}
-use Rattle.tc_server.specs.Ending.{AskedPromptly}
-use Rattle.tc_server.specs.Faults.{fault_in, faults_in, IfDamaged, IfDisk, IsOfRun, IsWrite, NoneFell, OneRose}
+use Rattle.tc_keeper.specs.Calls.{faults_at, HoldsAt, IsSpent, KeepsAt, Rests}
+use Rattle.tc_keeper.specs.Faults.{fault_in, faults_in, IfDamaged, IfDisk, IsOfRun, IsWrite, NoneFell, OneRose}
+use Rattle.tc_keeper.specs.Keeping.{AreUnwritten}
 use Rattle.tc_server.specs.KitCauses.{HasLastGeneration}
 use Rattle.tc_server.specs.Kits.{fault_behind, least_fault}
 use Rattle.tc_server.specs.OverFiles.{AskedOver}
-use Rattle.tc_server.specs.declared.outcome.RunFault.TheVariants.{Read}
-use Rattle.tc_server.specs.declared.partitions.Partitions.{Partitions}
+use Rattle.tc_keeper.specs.declared.fault.RunFault.TheVariants.{Read}
+use Rattle.tc_keeper.specs.declared.partitions.Partitions.{Partitions}
 use Rattle.tc_words.specs.Options.{options_asked}
-use Rattle.tc_words.specs.declared.run.Options.{Options}
 use Rattle.tc_server.proofs.ClosingFaults.{behind_so, closed_over, ended_so, job_of_run, never_read, never_write, spent_behind}
-use Rattle.tc_server.proofs.EachLaws.{some-map}
+use Rattle.tc_keeper.proofs.EachLaws.{some-map}
 use Rattle.tc_server.proofs.KitsLeft.{AreClosed, ended_stores}
-use Rattle.tc_server.proofs.OverEngines.{as_many_engines, as_many_parts, begins_asked, begins_held, counts_over, damaged_ended, damaged_over, disk_ended, disk_over, ended_of, ended_sound, kits_left, last_left, ok_where}
+use Rattle.tc_server.proofs.OverEngines.{as_many_engines, as_many_parts, begins_asked, begins_held, counts_over, damaged_ended, damaged_over, disk_ended, disk_over, ended_of, ended_sound, kits_left, last_left, ok_where, unwritten_all}
 use Rattle.tc_server.proofs.RunKits.{disk_within}
 use Rattle.tc_server.proofs.server.serve_over.Goals as goal
 
-pub new-session-requires-clause-works : goal.new-session-requires-clause-works
-new-session-requires-clause-works g c κs within =
+pub answer_over-partitions-requires-clause-works : goal.answer_over-partitions-requires-clause-works
+answer_over-partitions-requires-clause-works g c κs within =
     begins_asked (eyes g.S.Store.history g.S.Device.Device.history g.S.Frozen.Frozen.content g.S.Device.Device.name g.S.Frozen.Frozen.size g.S.Watch.Watch.counts) (options_asked c.args.asked.now) c.args.engines c.of-partitions.result c.of-partitions.ensures c.requires.all c.requires.partitions.0 c.requires.partitions.1 c.requires.begun
+
+pub answer_over-partitions-requires-clause-unwritten : goal.answer_over-partitions-requires-clause-unwritten
+answer_over-partitions-requires-clause-unwritten g c κs within =
+    subst (λ (p : Partitions _ _ _ _ _). AreUnwritten p.engines) (sym c.of-partitions.ensures) (unwritten_all (eyes g.S.Store.history g.S.Device.Device.history g.S.Frozen.Frozen.content g.S.Device.Device.name g.S.Frozen.Frozen.size g.S.Watch.Watch.counts) (options_asked c.args.asked.now) c.args.engines c.requires.begun)
+
+pub close_all-closed-requires-clause-readers : goal.close_all-closed-requires-clause-readers
+close_all-closed-requires-clause-readers g c κs within = subst (All (λ e. is_some e.engine.part.reader ≡ true)) (sym c.into_engines.ensures) c.answer_over-partitions.ensures.readers
 
 pub close_all-closed-requires-clause-few : goal.close_all-closed-requires-clause-few
 close_all-closed-requires-clause-few g c κs within =
-    let k = c.new-session.result.keeper in
-    let k' = c.answer_asked-answer.new.session.keeper in
-    let begun = c.new-session.ensures.keeper ∙ c.of-partitions.ensures in
-    let same = c.into_engines-engines.ensures ∙ ap (λ (p : Partitions _ _ _ _ _). p.engines) c.into_keeper.ensures in
-    let many = ap length same ∙ as_many_engines k k' c.answer_asked-answer.ensures.settings ∙ ap (λ (p : Partitions _ _ _ _ _). length p.engines) begun ∙ c.requires.all in
+    let k = c.of-partitions.result in
+    let k' = c.answer_over-partitions.result.0 in
+    let begun = c.of-partitions.ensures in
+    let same = c.into_engines.ensures in
+    let many = ap length same ∙ as_many_engines k k' c.answer_over-partitions.ensures.settings ∙ ap (λ (p : Partitions _ _ _ _ _). length p.engines) begun ∙ c.requires.all in
     omega (arith, many, c.requires.partitions.1)
 
 pub close_all-closed-requires-clause-room : goal.close_all-closed-requires-clause-room
 close_all-closed-requires-clause-room g c κs within =
-    let k = c.new-session.result.keeper in
-    let k' = c.answer_asked-answer.new.session.keeper in
-    let begun = c.new-session.ensures.keeper ∙ c.of-partitions.ensures in
-    let same = c.into_engines-engines.ensures ∙ ap (λ (p : Partitions _ _ _ _ _). p.engines) c.into_keeper.ensures in
-    let many = ap length same ∙ as_many_engines k k' c.answer_asked-answer.ensures.settings ∙ ap (λ (p : Partitions _ _ _ _ _). length p.engines) begun ∙ c.requires.all in
+    let k = c.of-partitions.result in
+    let k' = c.answer_over-partitions.result.0 in
+    let begun = c.of-partitions.ensures in
+    let same = c.into_engines.ensures in
+    let many = ap length same ∙ as_many_engines k k' c.answer_over-partitions.ensures.settings ∙ ap (λ (p : Partitions _ _ _ _ _). length p.engines) begun ∙ c.requires.all in
     omega (arith, many, ap length c.requires.none, c.args.kits.ok.0, c.requires.room)
 
 pub returns-clause-ran : goal.returns-clause-ran
 returns-clause-ran g c =
     let options = options_asked c.args.asked.now in
-    let k = c.new-session.result.keeper in
-    let k' = c.answer_asked-answer.new.session.keeper in
-    let begun = c.new-session.ensures.keeper ∙ c.of-partitions.ensures in
+    let k = c.of-partitions.result in
+    let k' = c.answer_over-partitions.result.0 in
+    let begun = c.of-partitions.ensures in
     let ended = c.close_all-closed.ensures.0 in
     let items = c.close_all-closed.ensures.1 ∙ ap (λ more. map (λ (f : finished _ _ _ _). f.kit) ended ++ more) c.requires.none ∙ append-nil (map (λ (f : finished _ _ _ _). f.kit) ended) in
-    let same = c.into_engines-engines.ensures ∙ ap (λ (p : Partitions _ _ _ _ _). p.engines) c.into_keeper.ensures in
+    let same = c.into_engines.ensures in
     let closed = subst (λ es. AreClosed (eyes g.S.Store.history g.S.Device.Device.history g.S.Frozen.Frozen.content g.S.Device.Device.name g.S.Frozen.Frozen.size g.S.Watch.Watch.counts) g.S.Device.Device.size (λ (f : finished _ _ _ _). f.outcome) (λ (f : finished _ _ _ _). g.S.Store.history f.kit.store) (λ (f : finished _ _ _ _). faults_in g.S.Watch.Watch.counts f.kit) es ended) same c.close_all-closed.ensures.3 in
     let laws = g.met.S.Device.Device g.world.𝓛 g.world.𝓜 g.world.𝓡 ((λ s x. x), (λ x. x), (λ x. x), λ x. x) in
-    let fault = c.fault_of.ensures ∙ ap (fault_behind c.answer_asked-answer.result) c.close_all-closed.ensures.2 in
-    rw (fault, items) (λ first files stands.
-    subst (λ kits. AskedOver c.args.asked.now (fault_behind c.answer_asked-answer.result (least_fault 0 (map (λ (f : finished _ _ _ _). f.outcome) ended))) first files (g.I.Source.left c.args.source.now) (g.I.Source.left c.answer_asked-answer.new.source) (g.O.Sink.taken c.args.sink.now) (g.O.Sink.taken c.answer_asked-answer.new.sink) kits) (sym (ended_stores g.S.Store.history ended))
-    (closed_over (HoldsAt (eyes g.S.Store.history g.S.Device.Device.history g.S.Frozen.Frozen.content g.S.Device.Device.name g.S.Frozen.Frozen.size g.S.Watch.Watch.counts)) (KeepsAt (eyes g.S.Store.history g.S.Device.Device.history g.S.Frozen.Frozen.content g.S.Device.Device.name g.S.Frozen.Frozen.size g.S.Watch.Watch.counts)) (Rests g.S.Device.Device.size k') (IsSpent g.S.Store.history g.S.Device.Device.history g.S.Frozen.Frozen.content) c.args.asked.now c.answer_asked-answer.result (least_fault 0 (map (λ (f : finished _ _ _ _). f.outcome) ended)) first files c.new-session.result.window.limit (g.I.Source.left c.args.source.now) (g.I.Source.left c.answer_asked-answer.new.source) (g.O.Sink.taken c.args.sink.now) (g.O.Sink.taken c.answer_asked-answer.new.sink) k' (map (λ (f : finished _ _ _ _). g.S.Store.history f.kit.store) ended)
-    (c.new-session.ensures.limit ∙ ap (λ (o : Options). o.window) c.options_asked-options.ensures)
-    (kits_left (eyes g.S.Store.history g.S.Device.Device.history g.S.Frozen.Frozen.content g.S.Device.Device.name g.S.Frozen.Frozen.size g.S.Watch.Watch.counts) g.S.Device.Device.size (λ (f : finished _ _ _ _). f.outcome) (λ (f : finished _ _ _ _). g.S.Store.history f.kit.store) (λ (f : finished _ _ _ _). faults_in g.S.Watch.Watch.counts f.kit) k' ended closed options c.args.engines k (λ e. laws.told_size e.engine.part.log.device) begun c.requires.all c.requires.merge.0 c.requires.merge.1 c.requires.memory c.requires.begun c.answer_asked-answer.ensures.settings)
-    (λ none. ok_where c.answer_asked-answer.result none c.answer_asked-answer.ensures.rests)
+    let fault = c.fault_of.ensures ∙ ap (fault_behind c.answer_over-partitions.result.1) c.close_all-closed.ensures.2 in
+    rw (fault, items) (λ first files begins stands.
+    subst (λ kits. AskedOver c.args.asked.now (fault_behind c.answer_over-partitions.result.1 (least_fault 0 (map (λ (f : finished _ _ _ _). f.outcome) ended))) first files (g.I.Source.left c.args.source.now) (g.I.Source.left c.answer_over-partitions.new.source) (g.O.Sink.taken c.args.sink.now) (g.O.Sink.taken c.answer_over-partitions.new.sink) kits) (sym (ended_stores g.S.Store.history ended))
+    (closed_over (HoldsAt (eyes g.S.Store.history g.S.Device.Device.history g.S.Frozen.Frozen.content g.S.Device.Device.name g.S.Frozen.Frozen.size g.S.Watch.Watch.counts)) (KeepsAt (eyes g.S.Store.history g.S.Device.Device.history g.S.Frozen.Frozen.content g.S.Device.Device.name g.S.Frozen.Frozen.size g.S.Watch.Watch.counts)) (Rests g.S.Device.Device.size k') (IsSpent g.S.Store.history g.S.Device.Device.history g.S.Frozen.Frozen.content) c.args.asked.now c.answer_over-partitions.result.1 (least_fault 0 (map (λ (f : finished _ _ _ _). f.outcome) ended)) first files options.window (g.I.Source.left c.args.source.now) (g.I.Source.left c.answer_over-partitions.new.source) (g.O.Sink.taken c.args.sink.now) (g.O.Sink.taken c.answer_over-partitions.new.sink) k' (map (λ (f : finished _ _ _ _). g.S.Store.history f.kit.store) ended)
+    refl
+    (kits_left (eyes g.S.Store.history g.S.Device.Device.history g.S.Frozen.Frozen.content g.S.Device.Device.name g.S.Frozen.Frozen.size g.S.Watch.Watch.counts) g.S.Device.Device.size (λ (f : finished _ _ _ _). f.outcome) (λ (f : finished _ _ _ _). g.S.Store.history f.kit.store) (λ (f : finished _ _ _ _). faults_in g.S.Watch.Watch.counts f.kit) k' ended closed options c.args.engines k (λ e. laws.told_size e.engine.part.log.device) begun c.requires.all c.requires.merge.0 c.requires.merge.1 c.requires.memory c.requires.begun c.answer_over-partitions.ensures.settings)
+    (λ none. ok_where c.answer_over-partitions.result.1 none c.answer_over-partitions.ensures.rests)
     (as_many_parts (eyes g.S.Store.history g.S.Device.Device.history g.S.Frozen.Frozen.content g.S.Device.Device.name g.S.Frozen.Frozen.size g.S.Watch.Watch.counts) options.partitions c.args.engines first c.requires.all stands)
-    c.answer_asked-answer.ensures.cause.kind
+    c.answer_over-partitions.ensures.cause.kind
     (ended_of (eyes g.S.Store.history g.S.Device.Device.history g.S.Frozen.Frozen.content g.S.Device.Device.name g.S.Frozen.Frozen.size g.S.Watch.Watch.counts) g.S.Device.Device.size (λ (f : finished _ _ _ _). f.outcome) (λ (f : finished _ _ _ _). g.S.Store.history f.kit.store) (λ (f : finished _ _ _ _). faults_in g.S.Watch.Watch.counts f.kit) k' ended closed)
     (λ rests v many at. ended_sound (eyes g.S.Store.history g.S.Device.Device.history g.S.Frozen.Frozen.content g.S.Device.Device.name g.S.Frozen.Frozen.size g.S.Watch.Watch.counts) g.S.Device.Device.size (λ (f : finished _ _ _ _). f.outcome) (λ (f : finished _ _ _ _). g.S.Store.history f.kit.store) (λ (f : finished _ _ _ _). faults_in g.S.Watch.Watch.counts f.kit) k' ended closed rests v at)
-    (c.answer_asked-answer.ensures.ran first (begins_held (eyes g.S.Store.history g.S.Device.Device.history g.S.Frozen.Frozen.content g.S.Device.Device.name g.S.Frozen.Frozen.size g.S.Watch.Watch.counts) c.args.engines k first begun stands))))
+    (c.answer_over-partitions.ensures.ran first begins (begins_held (eyes g.S.Store.history g.S.Device.Device.history g.S.Frozen.Frozen.content g.S.Device.Device.name g.S.Frozen.Frozen.size g.S.Watch.Watch.counts) c.args.engines k first begun stands))))
 
 pub returns-clause-prompt : goal.returns-clause-prompt
 returns-clause-prompt g c =
-    let k = c.new-session.result.keeper in
-    let begun = c.new-session.ensures.keeper ∙ c.of-partitions.ensures in
-    λ first stands.
-    subst (λ most. AskedPromptly c.args.asked.now first most (g.O.Sink.taken c.args.sink.now) (g.I.Source.moments c.args.source.now) (g.I.Source.moments c.answer_asked-answer.new.source)) (c.new-session.ensures.limit ∙ ap (λ (o : Options). o.window) c.options_asked-options.ensures)
-    (c.answer_asked-answer.ensures.prompt first (begins_held (eyes g.S.Store.history g.S.Device.Device.history g.S.Frozen.Frozen.content g.S.Device.Device.name g.S.Frozen.Frozen.size g.S.Watch.Watch.counts) c.args.engines k first begun stands))
+    let k = c.of-partitions.result in
+    let begun = c.of-partitions.ensures in
+    λ first begins stands. c.answer_over-partitions.ensures.prompt first begins (begins_held (eyes g.S.Store.history g.S.Device.Device.history g.S.Frozen.Frozen.content g.S.Device.Device.name g.S.Frozen.Frozen.size g.S.Watch.Watch.counts) c.args.engines k first begun stands)
 
 pub returns-clause-kits : goal.returns-clause-kits
 returns-clause-kits g c =
-    let k = c.new-session.result.keeper in
-    let k' = c.answer_asked-answer.new.session.keeper in
-    let begun = c.new-session.ensures.keeper ∙ c.of-partitions.ensures in
+    let k = c.of-partitions.result in
+    let k' = c.answer_over-partitions.result.0 in
+    let begun = c.of-partitions.ensures in
     let ended = c.close_all-closed.ensures.0 in
     let items = c.close_all-closed.ensures.1 ∙ ap (λ more. map (λ (f : finished _ _ _ _). f.kit) ended ++ more) c.requires.none ∙ append-nil (map (λ (f : finished _ _ _ _). f.kit) ended) in
-    let same = c.into_engines-engines.ensures ∙ ap (λ (p : Partitions _ _ _ _ _). p.engines) c.into_keeper.ensures in
+    let same = c.into_engines.ensures in
     let closed = subst (λ es. AreClosed (eyes g.S.Store.history g.S.Device.Device.history g.S.Frozen.Frozen.content g.S.Device.Device.name g.S.Frozen.Frozen.size g.S.Watch.Watch.counts) g.S.Device.Device.size (λ (f : finished _ _ _ _). f.outcome) (λ (f : finished _ _ _ _). g.S.Store.history f.kit.store) (λ (f : finished _ _ _ _). faults_in g.S.Watch.Watch.counts f.kit) es ended) same c.close_all-closed.ensures.3 in
-    rw items (length-map ended (λ (f : finished _ _ _ _). f.kit) ∙ sym (at_each-length (λ p e f. _) 0 k'.engines ended closed) ∙ as_many_engines k k' c.answer_asked-answer.ensures.settings ∙ ap (λ (p : Partitions _ _ _ _ _). length p.engines) begun ∙ c.requires.all)
+    rw items (length-map ended (λ (f : finished _ _ _ _). f.kit) ∙ sym (at_each-length (λ p e f. _) 0 k'.engines ended closed) ∙ as_many_engines k k' c.answer_over-partitions.ensures.settings ∙ ap (λ (p : Partitions _ _ _ _ _). length p.engines) begun ∙ c.requires.all)
 
 pub returns-clause-kind : goal.returns-clause-kind
 returns-clause-kind g c =
-    let k = c.new-session.result.keeper in
-    let k' = c.answer_asked-answer.new.session.keeper in
-    let begun = c.new-session.ensures.keeper ∙ c.of-partitions.ensures in
+    let k = c.of-partitions.result in
+    let k' = c.answer_over-partitions.result.0 in
+    let begun = c.of-partitions.ensures in
     let ended = c.close_all-closed.ensures.0 in
     let items = c.close_all-closed.ensures.1 ∙ ap (λ more. map (λ (f : finished _ _ _ _). f.kit) ended ++ more) c.requires.none ∙ append-nil (map (λ (f : finished _ _ _ _). f.kit) ended) in
-    let same = c.into_engines-engines.ensures ∙ ap (λ (p : Partitions _ _ _ _ _). p.engines) c.into_keeper.ensures in
+    let same = c.into_engines.ensures in
     let closed = subst (λ es. AreClosed (eyes g.S.Store.history g.S.Device.Device.history g.S.Frozen.Frozen.content g.S.Device.Device.name g.S.Frozen.Frozen.size g.S.Watch.Watch.counts) g.S.Device.Device.size (λ (f : finished _ _ _ _). f.outcome) (λ (f : finished _ _ _ _). g.S.Store.history f.kit.store) (λ (f : finished _ _ _ _). faults_in g.S.Watch.Watch.counts f.kit) es ended) same c.close_all-closed.ensures.3 in
-    rw (c.fault_of.ensures, c.close_all-closed.ensures.2) (behind_so IsOfRun c.answer_asked-answer.result _ c.answer_asked-answer.ensures.cause.kind (λ none. ended_so IsOfRun _ job_of_run (ended_of (eyes g.S.Store.history g.S.Device.Device.history g.S.Frozen.Frozen.content g.S.Device.Device.name g.S.Frozen.Frozen.size g.S.Watch.Watch.counts) g.S.Device.Device.size (λ (f : finished _ _ _ _). f.outcome) (λ (f : finished _ _ _ _). g.S.Store.history f.kit.store) (λ (f : finished _ _ _ _). faults_in g.S.Watch.Watch.counts f.kit) k' ended closed)))
+    rw (c.fault_of.ensures, c.close_all-closed.ensures.2) (behind_so IsOfRun c.answer_over-partitions.result.1 _ c.answer_over-partitions.ensures.cause.kind (λ none. ended_so IsOfRun _ job_of_run (ended_of (eyes g.S.Store.history g.S.Device.Device.history g.S.Frozen.Frozen.content g.S.Device.Device.name g.S.Frozen.Frozen.size g.S.Watch.Watch.counts) g.S.Device.Device.size (λ (f : finished _ _ _ _). f.outcome) (λ (f : finished _ _ _ _). g.S.Store.history f.kit.store) (λ (f : finished _ _ _ _). faults_in g.S.Watch.Watch.counts f.kit) k' ended closed)))
 
 pub returns-clause-read : goal.returns-clause-read
 returns-clause-read g c =
-    let k = c.new-session.result.keeper in
-    let k' = c.answer_asked-answer.new.session.keeper in
-    let begun = c.new-session.ensures.keeper ∙ c.of-partitions.ensures in
+    let k = c.of-partitions.result in
+    let k' = c.answer_over-partitions.result.0 in
+    let begun = c.of-partitions.ensures in
     let ended = c.close_all-closed.ensures.0 in
     let items = c.close_all-closed.ensures.1 ∙ ap (λ more. map (λ (f : finished _ _ _ _). f.kit) ended ++ more) c.requires.none ∙ append-nil (map (λ (f : finished _ _ _ _). f.kit) ended) in
-    let same = c.into_engines-engines.ensures ∙ ap (λ (p : Partitions _ _ _ _ _). p.engines) c.into_keeper.ensures in
+    let same = c.into_engines.ensures in
     let closed = subst (λ es. AreClosed (eyes g.S.Store.history g.S.Device.Device.history g.S.Frozen.Frozen.content g.S.Device.Device.name g.S.Frozen.Frozen.size g.S.Watch.Watch.counts) g.S.Device.Device.size (λ (f : finished _ _ _ _). f.outcome) (λ (f : finished _ _ _ _). g.S.Store.history f.kit.store) (λ (f : finished _ _ _ _). faults_in g.S.Watch.Watch.counts f.kit) es ended) same c.close_all-closed.ensures.3 in
-    rw (c.fault_of.ensures, c.close_all-closed.ensures.2) (behind_so (λ f. f ≡ Read → Rose (g.I.Source.faults c.args.source.now) (g.I.Source.faults c.answer_asked-answer.new.source)) c.answer_asked-answer.result _ c.answer_asked-answer.ensures.cause.read (λ none. ended_so _ _ (λ f of. never_read f of) (ended_of (eyes g.S.Store.history g.S.Device.Device.history g.S.Frozen.Frozen.content g.S.Device.Device.name g.S.Frozen.Frozen.size g.S.Watch.Watch.counts) g.S.Device.Device.size (λ (f : finished _ _ _ _). f.outcome) (λ (f : finished _ _ _ _). g.S.Store.history f.kit.store) (λ (f : finished _ _ _ _). faults_in g.S.Watch.Watch.counts f.kit) k' ended closed)))
+    rw (c.fault_of.ensures, c.close_all-closed.ensures.2) (behind_so (λ f. f ≡ Read → Rose (g.I.Source.faults c.args.source.now) (g.I.Source.faults c.answer_over-partitions.new.source)) c.answer_over-partitions.result.1 _ c.answer_over-partitions.ensures.cause.read (λ none. ended_so _ _ (λ f of. never_read f of) (ended_of (eyes g.S.Store.history g.S.Device.Device.history g.S.Frozen.Frozen.content g.S.Device.Device.name g.S.Frozen.Frozen.size g.S.Watch.Watch.counts) g.S.Device.Device.size (λ (f : finished _ _ _ _). f.outcome) (λ (f : finished _ _ _ _). g.S.Store.history f.kit.store) (λ (f : finished _ _ _ _). faults_in g.S.Watch.Watch.counts f.kit) k' ended closed)))
 
 pub returns-clause-write : goal.returns-clause-write
 returns-clause-write g c =
-    let k = c.new-session.result.keeper in
-    let k' = c.answer_asked-answer.new.session.keeper in
-    let begun = c.new-session.ensures.keeper ∙ c.of-partitions.ensures in
+    let k = c.of-partitions.result in
+    let k' = c.answer_over-partitions.result.0 in
+    let begun = c.of-partitions.ensures in
     let ended = c.close_all-closed.ensures.0 in
     let items = c.close_all-closed.ensures.1 ∙ ap (λ more. map (λ (f : finished _ _ _ _). f.kit) ended ++ more) c.requires.none ∙ append-nil (map (λ (f : finished _ _ _ _). f.kit) ended) in
-    let same = c.into_engines-engines.ensures ∙ ap (λ (p : Partitions _ _ _ _ _). p.engines) c.into_keeper.ensures in
+    let same = c.into_engines.ensures in
     let closed = subst (λ es. AreClosed (eyes g.S.Store.history g.S.Device.Device.history g.S.Frozen.Frozen.content g.S.Device.Device.name g.S.Frozen.Frozen.size g.S.Watch.Watch.counts) g.S.Device.Device.size (λ (f : finished _ _ _ _). f.outcome) (λ (f : finished _ _ _ _). g.S.Store.history f.kit.store) (λ (f : finished _ _ _ _). faults_in g.S.Watch.Watch.counts f.kit) es ended) same c.close_all-closed.ensures.3 in
-    rw (c.fault_of.ensures, c.close_all-closed.ensures.2) (behind_so (λ f. IsWrite f → Rose (g.O.Sink.faults c.args.sink.now) (g.O.Sink.faults c.answer_asked-answer.new.sink)) c.answer_asked-answer.result _ c.answer_asked-answer.ensures.cause.failed (λ none. ended_so _ _ (λ f of. never_write f of) (ended_of (eyes g.S.Store.history g.S.Device.Device.history g.S.Frozen.Frozen.content g.S.Device.Device.name g.S.Frozen.Frozen.size g.S.Watch.Watch.counts) g.S.Device.Device.size (λ (f : finished _ _ _ _). f.outcome) (λ (f : finished _ _ _ _). g.S.Store.history f.kit.store) (λ (f : finished _ _ _ _). faults_in g.S.Watch.Watch.counts f.kit) k' ended closed)))
+    rw (c.fault_of.ensures, c.close_all-closed.ensures.2) (behind_so (λ f. IsWrite f → Rose (g.O.Sink.faults c.args.sink.now) (g.O.Sink.faults c.answer_over-partitions.new.sink)) c.answer_over-partitions.result.1 _ c.answer_over-partitions.ensures.cause.failed (λ none. ended_so _ _ (λ f of. never_write f of) (ended_of (eyes g.S.Store.history g.S.Device.Device.history g.S.Frozen.Frozen.content g.S.Device.Device.name g.S.Frozen.Frozen.size g.S.Watch.Watch.counts) g.S.Device.Device.size (λ (f : finished _ _ _ _). f.outcome) (λ (f : finished _ _ _ _). g.S.Store.history f.kit.store) (λ (f : finished _ _ _ _). faults_in g.S.Watch.Watch.counts f.kit) k' ended closed)))
 
 pub returns-clause-counts : goal.returns-clause-counts
 returns-clause-counts g c =
-    let k = c.new-session.result.keeper in
-    let k' = c.answer_asked-answer.new.session.keeper in
-    let begun = c.new-session.ensures.keeper ∙ c.of-partitions.ensures in
+    let k = c.of-partitions.result in
+    let k' = c.answer_over-partitions.result.0 in
+    let begun = c.of-partitions.ensures in
     let ended = c.close_all-closed.ensures.0 in
     let items = c.close_all-closed.ensures.1 ∙ ap (λ more. map (λ (f : finished _ _ _ _). f.kit) ended ++ more) c.requires.none ∙ append-nil (map (λ (f : finished _ _ _ _). f.kit) ended) in
-    let same = c.into_engines-engines.ensures ∙ ap (λ (p : Partitions _ _ _ _ _). p.engines) c.into_keeper.ensures in
+    let same = c.into_engines.ensures in
     let closed = subst (λ es. AreClosed (eyes g.S.Store.history g.S.Device.Device.history g.S.Frozen.Frozen.content g.S.Device.Device.name g.S.Frozen.Frozen.size g.S.Watch.Watch.counts) g.S.Device.Device.size (λ (f : finished _ _ _ _). f.outcome) (λ (f : finished _ _ _ _). g.S.Store.history f.kit.store) (λ (f : finished _ _ _ _). faults_in g.S.Watch.Watch.counts f.kit) es ended) same c.close_all-closed.ensures.3 in
     rw items (at_each-reads (λ (f : finished _ _ _ _). f.kit) (λ q e kit. NoneFell (faults_at g.S.Watch.Watch.counts e) (faults_in g.S.Watch.Watch.counts kit)) 0 c.args.engines ended
-    (subst (λ (p : Partitions _ _ _ _ _). AtEach (λ q e f. NoneFell (faults_at g.S.Watch.Watch.counts e) ((λ (f : finished _ _ _ _). faults_in g.S.Watch.Watch.counts f.kit) f)) 0 p.engines ended) begun (counts_over g.S.Watch.Watch.counts (λ (f : finished _ _ _ _). faults_in g.S.Watch.Watch.counts f.kit) k k' ended c.answer_asked-answer.ensures.settings c.answer_asked-answer.ensures.cause.stayed (at_each-so (λ p e f. _) _ 0 k'.engines ended (λ p e f is. is.none_fell) closed))))
+    (subst (λ (p : Partitions _ _ _ _ _). AtEach (λ q e f. NoneFell (faults_at g.S.Watch.Watch.counts e) ((λ (f : finished _ _ _ _). faults_in g.S.Watch.Watch.counts f.kit) f)) 0 p.engines ended) begun (counts_over g.S.Watch.Watch.counts (λ (f : finished _ _ _ _). faults_in g.S.Watch.Watch.counts f.kit) k k' ended c.answer_over-partitions.ensures.settings c.answer_over-partitions.ensures.cause.stayed (at_each-so (λ p e f. _) _ 0 k'.engines ended (λ p e f is. is.none_fell) closed))))
 
 pub returns-clause-disk : goal.returns-clause-disk
 returns-clause-disk g c =
-    let k = c.new-session.result.keeper in
-    let k' = c.answer_asked-answer.new.session.keeper in
-    let begun = c.new-session.ensures.keeper ∙ c.of-partitions.ensures in
+    let k = c.of-partitions.result in
+    let k' = c.answer_over-partitions.result.0 in
+    let begun = c.of-partitions.ensures in
     let ended = c.close_all-closed.ensures.0 in
     let items = c.close_all-closed.ensures.1 ∙ ap (λ more. map (λ (f : finished _ _ _ _). f.kit) ended ++ more) c.requires.none ∙ append-nil (map (λ (f : finished _ _ _ _). f.kit) ended) in
-    let same = c.into_engines-engines.ensures ∙ ap (λ (p : Partitions _ _ _ _ _). p.engines) c.into_keeper.ensures in
+    let same = c.into_engines.ensures in
     let closed = subst (λ es. AreClosed (eyes g.S.Store.history g.S.Device.Device.history g.S.Frozen.Frozen.content g.S.Device.Device.name g.S.Frozen.Frozen.size g.S.Watch.Watch.counts) g.S.Device.Device.size (λ (f : finished _ _ _ _). f.outcome) (λ (f : finished _ _ _ _). g.S.Store.history f.kit.store) (λ (f : finished _ _ _ _). faults_in g.S.Watch.Watch.counts f.kit) es ended) same c.close_all-closed.ensures.3 in
     let Rises : List (WithJobs _ _ _ _) → ℕ → Type 0 = λ es q. (q < length es) × AtEach (λ p e f. p ≡ q → OneRose (faults_at g.S.Watch.Watch.counts e) ((λ (f : finished _ _ _ _). faults_in g.S.Watch.Watch.counts f.kit) f)) 0 es ended in
     rw (c.fault_of.ensures, c.close_all-closed.ensures.2, items, ← c.requires.all)
     (disk_within (Rises c.args.engines) _ _ (λ q rises. (rises.0, at_each-reads (λ (f : finished _ _ _ _). f.kit) (λ p e kit. p ≡ q → OneRose (faults_at g.S.Watch.Watch.counts e) (faults_in g.S.Watch.Watch.counts kit)) 0 c.args.engines ended rises.1))
-    (subst (λ (p : Partitions _ _ _ _ _). IfSome (fault_behind c.answer_asked-answer.result (least_fault 0 (map (λ (f : finished _ _ _ _). f.outcome) ended))) (λ f. IfDisk f (Rises p.engines))) begun
-    (behind_so (λ f. IfDisk f (Rises k.engines)) c.answer_asked-answer.result _
-    (disk_over g.S.Watch.Watch.counts (λ (f : finished _ _ _ _). faults_in g.S.Watch.Watch.counts f.kit) k k' ended (fault_in c.answer_asked-answer.result) c.answer_asked-answer.ensures.settings c.answer_asked-answer.ensures.cause.disk (at_each-so (λ p e f. _) _ 0 k'.engines ended (λ p e f is. is.none_fell) closed))
-    (λ none. disk_ended (eyes g.S.Store.history g.S.Device.Device.history g.S.Frozen.Frozen.content g.S.Device.Device.name g.S.Frozen.Frozen.size g.S.Watch.Watch.counts) g.S.Device.Device.size (λ (f : finished _ _ _ _). f.outcome) (λ (f : finished _ _ _ _). g.S.Store.history f.kit.store) (λ (f : finished _ _ _ _). faults_in g.S.Watch.Watch.counts f.kit) k k' ended closed c.answer_asked-answer.ensures.settings c.answer_asked-answer.ensures.cause.stayed))))
+    (subst (λ (p : Partitions _ _ _ _ _). IfSome (fault_behind c.answer_over-partitions.result.1 (least_fault 0 (map (λ (f : finished _ _ _ _). f.outcome) ended))) (λ f. IfDisk f (Rises p.engines))) begun
+    (behind_so (λ f. IfDisk f (Rises k.engines)) c.answer_over-partitions.result.1 _
+    (disk_over g.S.Watch.Watch.counts (λ (f : finished _ _ _ _). faults_in g.S.Watch.Watch.counts f.kit) k k' ended (fault_in c.answer_over-partitions.result.1) c.answer_over-partitions.ensures.settings c.answer_over-partitions.ensures.cause.disk (at_each-so (λ p e f. _) _ 0 k'.engines ended (λ p e f is. is.none_fell) closed))
+    (λ none. disk_ended (eyes g.S.Store.history g.S.Device.Device.history g.S.Frozen.Frozen.content g.S.Device.Device.name g.S.Frozen.Frozen.size g.S.Watch.Watch.counts) g.S.Device.Device.size (λ (f : finished _ _ _ _). f.outcome) (λ (f : finished _ _ _ _). g.S.Store.history f.kit.store) (λ (f : finished _ _ _ _). faults_in g.S.Watch.Watch.counts f.kit) k k' ended closed c.answer_over-partitions.ensures.settings c.answer_over-partitions.ensures.cause.stayed))))
 
 pub returns-clause-damaged : goal.returns-clause-damaged
 returns-clause-damaged g c =
-    let k = c.new-session.result.keeper in
-    let k' = c.answer_asked-answer.new.session.keeper in
-    let begun = c.new-session.ensures.keeper ∙ c.of-partitions.ensures in
+    let k = c.of-partitions.result in
+    let k' = c.answer_over-partitions.result.0 in
+    let begun = c.of-partitions.ensures in
     let ended = c.close_all-closed.ensures.0 in
     let items = c.close_all-closed.ensures.1 ∙ ap (λ more. map (λ (f : finished _ _ _ _). f.kit) ended ++ more) c.requires.none ∙ append-nil (map (λ (f : finished _ _ _ _). f.kit) ended) in
-    let same = c.into_engines-engines.ensures ∙ ap (λ (p : Partitions _ _ _ _ _). p.engines) c.into_keeper.ensures in
+    let same = c.into_engines.ensures in
     let closed = subst (λ es. AreClosed (eyes g.S.Store.history g.S.Device.Device.history g.S.Frozen.Frozen.content g.S.Device.Device.name g.S.Frozen.Frozen.size g.S.Watch.Watch.counts) g.S.Device.Device.size (λ (f : finished _ _ _ _). f.outcome) (λ (f : finished _ _ _ _). g.S.Store.history f.kit.store) (λ (f : finished _ _ _ _). faults_in g.S.Watch.Watch.counts f.kit) es ended) same c.close_all-closed.ensures.3 in
-    rw (c.fault_of.ensures, c.close_all-closed.ensures.2, ← c.requires.all) (subst (λ (p : Partitions _ _ _ _ _). IfSome (fault_behind c.answer_asked-answer.result (least_fault 0 (map (λ (f : finished _ _ _ _). f.outcome) ended))) (λ f. IfDamaged f (λ q. q < length p.engines))) begun
-    (behind_so (λ f. IfDamaged f (λ q. q < length k.engines)) c.answer_asked-answer.result _
-    (damaged_over g.S.Watch.Watch.counts k k' (fault_in c.answer_asked-answer.result) c.answer_asked-answer.ensures.settings c.answer_asked-answer.ensures.cause.damaged)
-    (λ none. damaged_ended (eyes g.S.Store.history g.S.Device.Device.history g.S.Frozen.Frozen.content g.S.Device.Device.name g.S.Frozen.Frozen.size g.S.Watch.Watch.counts) g.S.Device.Device.size (λ (f : finished _ _ _ _). f.outcome) (λ (f : finished _ _ _ _). g.S.Store.history f.kit.store) (λ (f : finished _ _ _ _). faults_in g.S.Watch.Watch.counts f.kit) k k' ended closed c.answer_asked-answer.ensures.settings)))
+    rw (c.fault_of.ensures, c.close_all-closed.ensures.2, ← c.requires.all) (subst (λ (p : Partitions _ _ _ _ _). IfSome (fault_behind c.answer_over-partitions.result.1 (least_fault 0 (map (λ (f : finished _ _ _ _). f.outcome) ended))) (λ f. IfDamaged f (λ q. q < length p.engines))) begun
+    (behind_so (λ f. IfDamaged f (λ q. q < length k.engines)) c.answer_over-partitions.result.1 _
+    (damaged_over g.S.Watch.Watch.counts k k' (fault_in c.answer_over-partitions.result.1) c.answer_over-partitions.ensures.settings c.answer_over-partitions.ensures.cause.damaged)
+    (λ none. damaged_ended (eyes g.S.Store.history g.S.Device.Device.history g.S.Frozen.Frozen.content g.S.Device.Device.name g.S.Frozen.Frozen.size g.S.Watch.Watch.counts) g.S.Device.Device.size (λ (f : finished _ _ _ _). f.outcome) (λ (f : finished _ _ _ _). g.S.Store.history f.kit.store) (λ (f : finished _ _ _ _). faults_in g.S.Watch.Watch.counts f.kit) k k' ended closed c.answer_over-partitions.ensures.settings)))
 
 pub returns-clause-spent : goal.returns-clause-spent
 returns-clause-spent g c =
-    let k = c.new-session.result.keeper in
-    let k' = c.answer_asked-answer.new.session.keeper in
-    let begun = c.new-session.ensures.keeper ∙ c.of-partitions.ensures in
+    let k = c.of-partitions.result in
+    let k' = c.answer_over-partitions.result.0 in
+    let begun = c.of-partitions.ensures in
     let ended = c.close_all-closed.ensures.0 in
     let items = c.close_all-closed.ensures.1 ∙ ap (λ more. map (λ (f : finished _ _ _ _). f.kit) ended ++ more) c.requires.none ∙ append-nil (map (λ (f : finished _ _ _ _). f.kit) ended) in
-    let same = c.into_engines-engines.ensures ∙ ap (λ (p : Partitions _ _ _ _ _). p.engines) c.into_keeper.ensures in
+    let same = c.into_engines.ensures in
     let closed = subst (λ es. AreClosed (eyes g.S.Store.history g.S.Device.Device.history g.S.Frozen.Frozen.content g.S.Device.Device.name g.S.Frozen.Frozen.size g.S.Watch.Watch.counts) g.S.Device.Device.size (λ (f : finished _ _ _ _). f.outcome) (λ (f : finished _ _ _ _). g.S.Store.history f.kit.store) (λ (f : finished _ _ _ _). faults_in g.S.Watch.Watch.counts f.kit) es ended) same c.close_all-closed.ensures.3 in
-    rw (c.fault_of.ensures, c.close_all-closed.ensures.2, items) (spent_behind c.answer_asked-answer.result _ (ended_of (eyes g.S.Store.history g.S.Device.Device.history g.S.Frozen.Frozen.content g.S.Device.Device.name g.S.Frozen.Frozen.size g.S.Watch.Watch.counts) g.S.Device.Device.size (λ (f : finished _ _ _ _). f.outcome) (λ (f : finished _ _ _ _). g.S.Store.history f.kit.store) (λ (f : finished _ _ _ _). faults_in g.S.Watch.Watch.counts f.kit) k' ended closed)
-    (λ is. ⊎_elim (λ input. inl input) (λ last. inr (some-map (λ (f : finished _ _ _ _). f.kit) (λ p kit. IfTold (g.S.Store.history kit.store) HasLastGeneration) 0 ended (last_left (eyes g.S.Store.history g.S.Device.Device.history g.S.Frozen.Frozen.content g.S.Device.Device.name g.S.Frozen.Frozen.size g.S.Watch.Watch.counts) g.S.Device.Device.size (λ (f : finished _ _ _ _). f.outcome) (λ (f : finished _ _ _ _). g.S.Store.history f.kit.store) (λ (f : finished _ _ _ _). faults_in g.S.Watch.Watch.counts f.kit) k' ended closed last))) (c.answer_asked-answer.ensures.spent is)))
+    rw (c.fault_of.ensures, c.close_all-closed.ensures.2, items) (spent_behind c.answer_over-partitions.result.1 _ (ended_of (eyes g.S.Store.history g.S.Device.Device.history g.S.Frozen.Frozen.content g.S.Device.Device.name g.S.Frozen.Frozen.size g.S.Watch.Watch.counts) g.S.Device.Device.size (λ (f : finished _ _ _ _). f.outcome) (λ (f : finished _ _ _ _). g.S.Store.history f.kit.store) (λ (f : finished _ _ _ _). faults_in g.S.Watch.Watch.counts f.kit) k' ended closed)
+    (λ is. ⊎_elim (λ input. inl input) (λ last. inr (some-map (λ (f : finished _ _ _ _). f.kit) (λ p kit. IfTold (g.S.Store.history kit.store) HasLastGeneration) 0 ended (last_left (eyes g.S.Store.history g.S.Device.Device.history g.S.Frozen.Frozen.content g.S.Device.Device.name g.S.Frozen.Frozen.size g.S.Watch.Watch.counts) g.S.Device.Device.size (λ (f : finished _ _ _ _). f.outcome) (λ (f : finished _ _ _ _). g.S.Store.history f.kit.store) (λ (f : finished _ _ _ _). faults_in g.S.Watch.Watch.counts f.kit) k' ended closed last))) (c.answer_over-partitions.ensures.spent is)))

@@ -9,12 +9,13 @@ use Rattle.tc_run_model.specs.Course.{each_line}
 use Rattle.tc_run_model.specs.Known.{MayReply}
 use Rattle.tc_run_model.specs.World.{after_all}
 use Rattle.tc_work.specs.Moving.{eyes}
-use Rattle.tc_server.specs.Faults.{gave_up}
-use Rattle.tc_server.specs.Sight.{sight_after, whole_of}
-use Rattle.tc_server.specs.Window.{mixed, reply_refused, requests_of, requests_routed, AreTogether}
-use Rattle.tc_server.specs.Calls.{faults_of, IsSpent, KeepsAt, HoldsAt}
+use Rattle.tc_keeper.specs.Faults.{gave_up}
+use Rattle.tc_keeper.specs.Sight.{sight_after, whole_of}
+use Rattle.tc_keeper.specs.Together.{requests_routed, AreTogether}
+use Rattle.tc_server.specs.Window.{mixed, reply_refused, requests_of}
+use Rattle.tc_keeper.specs.Keeping.{faults_kept, HasSpent, FailsAt, ServesAt}
 use Rattle.tc_server.proofs.Answering.{left_failed, left_standing}
-use Rattle.tc_server.proofs.Causes.{call_without_memory}
+use Rattle.tc_keeper.proofs.Causes.{call_without_memory}
 use Rattle.tc_server.proofs.CommandPlaces.{sound_empty}
 use Rattle.tc_server.proofs.Mixing.{are_together, mixed_given, mixed_known, mixed_leaves, values_of_replies}
 use Rattle.tc_server.proofs.window.Window.answer.Goals as goal
@@ -26,22 +27,22 @@ pub returns-in_err-answers-clause-left : goal.returns-in_err-answers-clause-left
 returns-in_err-answers-clause-left g c =
     let p = err_from_is_err_and c.from_residual.result c.from_residual.ensures.1 in
     let w = c.args.self.now in
-    λ known holds. rw p.1 (left_failed (HoldsAt (eyes g.S.Store.history g.S.Device.Device.history g.S.Frozen.Frozen.content g.S.Device.Device.name g.S.Frozen.Frozen.size g.S.Watch.Watch.counts)) (KeepsAt (eyes g.S.Store.history g.S.Device.Device.history g.S.Frozen.Frozen.content g.S.Device.Device.name g.S.Frozen.Frozen.size g.S.Watch.Watch.counts)) c.window.new.self (requests_of w) known
-    (λ only v is. subst ((KeepsAt (eyes g.S.Store.history g.S.Device.Device.history g.S.Frozen.Frozen.content g.S.Device.Device.name g.S.Frozen.Frozen.size g.S.Watch.Watch.counts)) c.window.new.self only v) (sym (mixed_leaves w.refusals.items (requests_routed w.commands.items) v (c.requires.sound.whole ∙ sym (length-map w.commands.items _))))
-    (subst (λ list. (KeepsAt (eyes g.S.Store.history g.S.Device.Device.history g.S.Frozen.Frozen.content g.S.Device.Device.name g.S.Frozen.Frozen.size g.S.Watch.Watch.counts)) c.window.new.self only v (after_all (requests_routed list) v)) (ap (λ v. v.items) c.replace-commands.ensures.value) (c.in_err-answers.ensures.failed only v (subst ((HoldsAt (eyes g.S.Store.history g.S.Device.Device.history g.S.Frozen.Frozen.content g.S.Device.Device.name g.S.Frozen.Frozen.size g.S.Watch.Watch.counts)) c.args.keeper.now) is holds)))))
+    λ known holds. rw p.1 (left_failed (ServesAt (eyes g.S.Store.history g.S.Device.Device.history g.S.Frozen.Frozen.content g.S.Device.Device.name g.S.Frozen.Frozen.size g.S.Watch.Watch.counts)) (FailsAt (eyes g.S.Store.history g.S.Device.Device.history g.S.Frozen.Frozen.content g.S.Device.Device.name g.S.Frozen.Frozen.size g.S.Watch.Watch.counts)) c.window.new.self (requests_of w) known
+    (λ only v is. subst ((FailsAt (eyes g.S.Store.history g.S.Device.Device.history g.S.Frozen.Frozen.content g.S.Device.Device.name g.S.Frozen.Frozen.size g.S.Watch.Watch.counts)) c.window.new.self only v) (sym (mixed_leaves w.refusals.items (requests_routed w.commands.items) v (c.requires.sound.whole ∙ sym (length-map w.commands.items _))))
+    (subst (λ list. (FailsAt (eyes g.S.Store.history g.S.Device.Device.history g.S.Frozen.Frozen.content g.S.Device.Device.name g.S.Frozen.Frozen.size g.S.Watch.Watch.counts)) c.window.new.self only v (after_all (requests_routed list) v)) (ap (λ v. v.items) c.replace-commands.ensures.value) (c.in_err-answers.ensures.failed only v (subst ((ServesAt (eyes g.S.Store.history g.S.Device.Device.history g.S.Frozen.Frozen.content g.S.Device.Device.name g.S.Frozen.Frozen.size g.S.Watch.Watch.counts)) c.args.keeper.now) is holds)))))
 
 pub returns-in_err-push_all-clause-left : goal.returns-in_err-push_all-clause-left
 returns-in_err-push_all-clause-left g c =
     let p = err_from_is_err_and c.from_residual-in_err-push_all.result c.from_residual-in_err-push_all.ensures.1 in
     let w = c.args.self.now in
-    λ known holds. rw p.1 (left_standing (HoldsAt (eyes g.S.Store.history g.S.Device.Device.history g.S.Frozen.Frozen.content g.S.Device.Device.name g.S.Frozen.Frozen.size g.S.Watch.Watch.counts)) (KeepsAt (eyes g.S.Store.history g.S.Device.Device.history g.S.Frozen.Frozen.content g.S.Device.Device.name g.S.Frozen.Frozen.size g.S.Watch.Watch.counts)) c.window.new.self gave_up (requests_of w) known
-    (subst ((HoldsAt (eyes g.S.Store.history g.S.Device.Device.history g.S.Frozen.Frozen.content g.S.Device.Device.name g.S.Frozen.Frozen.size g.S.Watch.Watch.counts)) c.window.new.self) (sym (mixed_known w.refusals.items (requests_routed w.commands.items) known (c.requires.sound.whole ∙ sym (length-map w.commands.items _))))
-    (subst (λ list. (HoldsAt (eyes g.S.Store.history g.S.Device.Device.history g.S.Frozen.Frozen.content g.S.Device.Device.name g.S.Frozen.Frozen.size g.S.Watch.Watch.counts)) c.window.new.self (sight_after (requests_routed list) known)) (ap (λ v. v.items) c.replace-commands.ensures.value) (c.in_ok-answers.ensures.held known holds))))
+    λ known holds. rw p.1 (left_standing (ServesAt (eyes g.S.Store.history g.S.Device.Device.history g.S.Frozen.Frozen.content g.S.Device.Device.name g.S.Frozen.Frozen.size g.S.Watch.Watch.counts)) (FailsAt (eyes g.S.Store.history g.S.Device.Device.history g.S.Frozen.Frozen.content g.S.Device.Device.name g.S.Frozen.Frozen.size g.S.Watch.Watch.counts)) c.window.new.self gave_up (requests_of w) known
+    (subst ((ServesAt (eyes g.S.Store.history g.S.Device.Device.history g.S.Frozen.Frozen.content g.S.Device.Device.name g.S.Frozen.Frozen.size g.S.Watch.Watch.counts)) c.window.new.self) (sym (mixed_known w.refusals.items (requests_routed w.commands.items) known (c.requires.sound.whole ∙ sym (length-map w.commands.items _))))
+    (subst (λ list. (ServesAt (eyes g.S.Store.history g.S.Device.Device.history g.S.Frozen.Frozen.content g.S.Device.Device.name g.S.Frozen.Frozen.size g.S.Watch.Watch.counts)) c.window.new.self (sight_after (requests_routed list) known)) (ap (λ v. v.items) c.replace-commands.ensures.value) (c.in_ok-answers.ensures.held known holds))))
 
 pub returns-in_err-push_all-clause-cause : goal.returns-in_err-push_all-clause-cause
 returns-in_err-push_all-clause-cause g c =
     let p = err_from_is_err_and c.from_residual-in_err-push_all.result c.from_residual-in_err-push_all.ensures.1 in
-    rw (p.1, p.2) (call_without_memory ((faults_of g.S.Watch.Watch.counts) c.args.keeper.now) ((faults_of g.S.Watch.Watch.counts) c.window.new.self) _ (IsSpent g.S.Store.history g.S.Device.Device.history g.S.Frozen.Frozen.content c.window.new.self) c.in_ok-answers.ensures.cause)
+    rw (p.1, p.2) (call_without_memory ((faults_kept g.S.Watch.Watch.counts) c.args.keeper.now) ((faults_kept g.S.Watch.Watch.counts) c.window.new.self) _ (HasSpent g.S.Store.history g.S.Device.Device.history g.S.Frozen.Frozen.content c.window.new.self) c.in_ok-answers.ensures.cause)
 
 pub returns-clause-answered : goal.returns-clause-answered
 returns-clause-answered g c = λ known holds.
@@ -56,8 +57,8 @@ returns-clause-answered g c = λ known holds.
           ∙ ap (λ lines. c.clear.new.self.items ++ each_line (mixed reply_refused lines (map (λ (a : Placed). reply_of a.reply) c.as_slice-2.result.now))) c.as_slice.ensures.value
           ∙ ap (λ list. c.clear.new.self.items ++ each_line (mixed reply_refused w.refusals.items (map (λ (a : Placed). reply_of a.reply) list))) c.as_slice-2.ensures
           ∙ ap (λ bytes. bytes ++ each_line (mixed reply_refused w.refusals.items (map (λ (a : Placed). reply_of a.reply) c.in_ok-answers.answers))) c.clear.ensures.items;
-      held = subst ((HoldsAt (eyes g.S.Store.history g.S.Device.Device.history g.S.Frozen.Frozen.content g.S.Device.Device.name g.S.Frozen.Frozen.size g.S.Watch.Watch.counts)) c.window.new.self) (sym (mixed_known w.refusals.items rs known same))
-          (subst (λ list. (HoldsAt (eyes g.S.Store.history g.S.Device.Device.history g.S.Frozen.Frozen.content g.S.Device.Device.name g.S.Frozen.Frozen.size g.S.Watch.Watch.counts)) c.window.new.self (sight_after (requests_routed list) known)) (ap (λ v. v.items) c.replace-commands.ensures.value) (c.in_ok-answers.ensures.held known holds));
+      held = subst ((ServesAt (eyes g.S.Store.history g.S.Device.Device.history g.S.Frozen.Frozen.content g.S.Device.Device.name g.S.Frozen.Frozen.size g.S.Watch.Watch.counts)) c.window.new.self) (sym (mixed_known w.refusals.items rs known same))
+          (subst (λ list. (ServesAt (eyes g.S.Store.history g.S.Device.Device.history g.S.Frozen.Frozen.content g.S.Device.Device.name g.S.Frozen.Frozen.size g.S.Watch.Watch.counts)) c.window.new.self (sight_after (requests_routed list) known)) (ap (λ v. v.items) c.replace-commands.ensures.value) (c.in_ok-answers.ensures.held known holds));
     }
 
 pub returns-clause-sound : goal.returns-clause-sound

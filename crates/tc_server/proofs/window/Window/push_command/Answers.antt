@@ -8,7 +8,8 @@ use Rattle.tc_model.specs.Keyed.{Ascends}
 use Rattle.tc_model.specs.Limits.{max_line}
 use Rattle.tc_route.specs.Meaning.{routed_of}
 use Rattle.tc_route.specs.declared.placed.Routed.{Routed}
-use Rattle.tc_server.specs.Window.{count_asked, mixed, request_refused, requests_routed, weight_in, IsRouted}
+use Rattle.tc_keeper.specs.Together.{requests_routed, weight_in, IsRouted}
+use Rattle.tc_server.specs.Window.{count_asked, mixed, request_refused}
 use Rattle.tc_server.proofs.CommandPlaces.{ascends_pushed, below_longer}
 use Rattle.tc_server.proofs.Mixing.{count_asked-append, lighter, mixed-asked, weight_pushed}
 use Rattle.tc_server.proofs.window.Window.push_command.Goals as goal

@@ -1,7 +1,8 @@
 use Rattle.std.proofs.Common.{◌∙◌, ◌++◌, ◌∷◌, [], All, ap, length, length-append, subst, sym, arith}
 use Rattle.std.specs.Prelude.{◌<◌, List, Option, Some}
 use Rattle.std.proofs.lemmas.List.{length-map}
-use Rattle.tc_server.specs.Window.{count_asked, mixed, request_refused, requests_routed}
+use Rattle.tc_keeper.specs.Together.{requests_routed}
+use Rattle.tc_server.specs.Window.{count_asked, mixed, request_refused}
 use Rattle.tc_command.specs.declared.refusals.Refusal.{Refusal}
 use Rattle.tc_route.specs.declared.placed.Routed.{Routed}
 use Rattle.tc_server.proofs.CommandPlaces.{below_longer}

@@ -1,6 +1,6 @@
 use Rattle.std.proofs.lemmas.Result.{IfErr-weaker, on_ok_weaker}
 use Rattle.tc_server.proofs.SessionLemmas.{asks_oversized}
-use Rattle.tc_server.proofs.session.Session+Partitions+S+P.take_oversized.Goals as goal
+use Rattle.tc_server.proofs.session.Session+Keeper+S+P.take_oversized.Goals as goal
 
 pub take-requires-clause-light : goal.take-requires-clause-light
 take-requires-clause-light g c κs within = rw c.refused.ensures tt

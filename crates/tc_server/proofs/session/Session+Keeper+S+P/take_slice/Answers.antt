@@ -1,20 +1,20 @@
 use Rattle.std.proofs.Common.{refl}
 use Rattle.std.proofs.lemmas.Result.{err_from_is_err_and, IfErr-weaker, on_ok_weaker}
 use Rattle.tc_work.specs.Moving.{eyes}
-use Rattle.tc_server.proofs.Causes.{memory_wanting}
+use Rattle.tc_keeper.proofs.Causes.{memory_wanting}
 use Rattle.tc_server.proofs.SessionLemmas.{asks_whole, fails_before}
-use Rattle.tc_server.specs.Calls.{faults_of, IsSpent, KeepsAt, HoldsAt}
-use Rattle.tc_server.proofs.session.Session+Partitions+S+P.take_slice.Goals as goal
+use Rattle.tc_keeper.specs.Keeping.{faults_kept, HasSpent, FailsAt, ServesAt}
+use Rattle.tc_server.proofs.session.Session+Keeper+S+P.take_slice.Goals as goal
 
 pub returns-in_err-asked-clause-fault : goal.returns-in_err-asked-clause-fault
 returns-in_err-asked-clause-fault g c =
     let p = err_from_is_err_and c.from_residual.result c.from_residual.ensures.1 in
-    rw (p.1, p.2) (λ first base ws at. fails_before (HoldsAt (eyes g.S.Store.history g.S.Device.Device.history g.S.Frozen.Frozen.content g.S.Device.Device.name g.S.Frozen.Frozen.size g.S.Watch.Watch.counts)) (KeepsAt (eyes g.S.Store.history g.S.Device.Device.history g.S.Frozen.Frozen.content g.S.Device.Device.name g.S.Frozen.Frozen.size g.S.Watch.Watch.counts)) first c.args.self.now.window.limit base (g.O.Sink.taken c.args.sink.now) ws c.args.line.now c.args.self.now c.args.self.now.keeper at refl)
+    rw (p.1, p.2) (λ first base ws at. fails_before (ServesAt (eyes g.S.Store.history g.S.Device.Device.history g.S.Frozen.Frozen.content g.S.Device.Device.name g.S.Frozen.Frozen.size g.S.Watch.Watch.counts)) (FailsAt (eyes g.S.Store.history g.S.Device.Device.history g.S.Frozen.Frozen.content g.S.Device.Device.name g.S.Frozen.Frozen.size g.S.Watch.Watch.counts)) first c.args.self.now.window.limit base (g.O.Sink.taken c.args.sink.now) ws c.args.line.now c.args.self.now c.args.self.now.keeper at refl)
 
 pub returns-in_err-asked-clause-cause : goal.returns-in_err-asked-clause-cause
 returns-in_err-asked-clause-cause g c =
     let p = err_from_is_err_and c.from_residual.result c.from_residual.ensures.1 in
-    rw (p.1, p.2) (memory_wanting (g.O.Sink.faults c.args.sink.now) ((faults_of g.S.Watch.Watch.counts) c.args.self.now.keeper) (IsSpent g.S.Store.history g.S.Device.Device.history g.S.Frozen.Frozen.content c.args.self.now.keeper))
+    rw (p.1, p.2) (memory_wanting (g.O.Sink.faults c.args.sink.now) ((faults_kept g.S.Watch.Watch.counts) c.args.self.now.keeper) (HasSpent g.S.Store.history g.S.Device.Device.history g.S.Frozen.Frozen.content c.args.self.now.keeper))
 
 pub returns-clause-ok : goal.returns-clause-ok
 returns-clause-ok g c =
