@@ -3,13 +3,13 @@
 use crate::lines::upserts_and_get;
 use crate::meeting::{Meeting, Outcome};
 use crate::running::replies;
-use std::sync::Arc;
+use std::sync::{Arc, Wait};
 use std::thread::Threads;
 use tc_running::Point;
 
 /// Whether a job of this name goes on while a get behind its start is answered. The table is sealed at the ninth document, and
 /// a merge begins where the third one is.
-pub(crate) fn with_job<R: AllocGlobal + Threads + Sync>(rt: &R, job: &str) -> Option<bool> {
+pub(crate) fn with_job<R: AllocGlobal + Threads + Wait + Sync>(rt: &R, job: &str) -> Option<bool> {
     match job {
         "flush" => waits(rt, Point::FlushStarted { partition: 0 }, 9),
         "merge" => waits(rt, Point::MergeStarted { partition: 0 }, 27),
@@ -18,7 +18,7 @@ pub(crate) fn with_job<R: AllocGlobal + Threads + Sync>(rt: &R, job: &str) -> Op
 }
 
 // Whether the point of a job and the reply to the get behind so many upserts wait for each other.
-fn waits<R: AllocGlobal + Threads + Sync>(rt: &R, job: Point, upserts: u32) -> Option<bool> {
+fn waits<R: AllocGlobal + Threads + Wait + Sync>(rt: &R, job: Point, upserts: u32) -> Option<bool> {
     let get = Point::Replied {
         partition: 0,
         number: u64::from(upserts),
@@ -34,7 +34,7 @@ fn waits<R: AllocGlobal + Threads + Sync>(rt: &R, job: Point, upserts: u32) -> O
 }
 
 /// Whether the engines of two partitions answer a window at once.
-pub(crate) fn of_engines<R: AllocGlobal + Threads + Sync>(rt: &R) -> Option<bool> {
+pub(crate) fn of_engines<R: AllocGlobal + Threads + Wait + Sync>(rt: &R) -> Option<bool> {
     let first = |partition| Point::Replied {
         partition,
         number: 0,
@@ -49,7 +49,7 @@ pub(crate) fn of_engines<R: AllocGlobal + Threads + Sync>(rt: &R) -> Option<bool
 }
 
 // Whether a run comes to both points, each of which waits for the other.
-fn meet<R: AllocGlobal + Threads + Sync>(
+fn meet<R: AllocGlobal + Threads + Wait + Sync>(
     rt: &R,
     words: &str,
     input: &str,

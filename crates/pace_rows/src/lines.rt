@@ -48,6 +48,15 @@ fn push_get(input: &mut String, key: u64) -> Option<()> {
     write!(input, "{{\"op\":\"get\",\"id\":{key}}}\n").ok()
 }
 
+/// Adds an upsert of a document with a number.
+pub(crate) fn push_number(input: &mut String, key: u64, number: u64) -> Option<()> {
+    write!(
+        input,
+        "{{\"op\":\"upsert\",\"doc\":{{\"id\":{key},\"n\":{number}}}}}\n"
+    )
+    .ok()
+}
+
 // An upsert of a document with so long a text.
 fn push_upsert(input: &mut String, key: u64, long: u64) -> Option<()> {
     let number = long % 10;

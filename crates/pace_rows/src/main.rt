@@ -1,10 +1,13 @@
 //! Layer 6, programs: holds threads of a run at points that they come to, and prints whether they met, and whether the run
-//! replies the same. A row of standard input is a word and its argument. `beside` has a job and a get wait for each other:
-//! `flush`, or `merge`. `at once` has the replies of two partitions wait for each other. Who waits does so for a stated
-//! number of turns, so that a job that is run before the get is answered, or engines that answer one after the other, end
-//! the wait unmet. `paces` runs so many paces, each of which holds every point for a while of its own, over four partitions,
-//! and says how many of the runs replied otherwise than one partition does. A row that begins with `#` is a note, and is
-//! printed as it is; `no answer` stands for a row out of form.
+//! replies what it may. A row of standard input is a word and its argument. `beside` has a job and a get wait for each other:
+//! `flush`, or `merge`. `at once` has the replies of two partitions wait for each other. `scan beside` has a scan and two
+//! replies wait for each other, and looks whether the scan's prefix ends between them. Who waits does so for a stated number of
+//! turns, so that a job that is run before the get is answered, engines that answer one after the other, or a scan that is
+//! answered at its line or at its collect, end the wait unmet. `paces` runs so many paces, each of which holds every point for
+//! a while of its own, over four partitions, and says how many of the runs replied otherwise than one partition does. `prefix`
+//! tells whether a scan before so many upserts has the rows of the first of them, as many as it says; `whole` whether one over so
+//! many documents, an even number, which are written again beside it, has the rows of the plain store behind as many writes as
+//! it says. A row that begins with `#` is a note, and is printed as it is; `no answer` stands for a row out of form.
 #![tactic(auto)]
 
 mod beside;
@@ -12,10 +15,12 @@ mod kits;
 mod lines;
 mod meeting;
 mod running;
+mod scanning;
 mod wandering;
 
 use std::alloc::Global;
 use std::io;
+use std::sync::Wait;
 use std::thread::Threads;
 
 fn main(rt: HostRuntime) -> io::Result<()> {
@@ -25,7 +30,7 @@ fn main(rt: HostRuntime) -> io::Result<()> {
     Ok(())
 }
 
-fn answer(rt: &(impl Print + AllocGlobal + Threads + Sync), row: &str) -> io::Result<()> {
+fn answer(rt: &(impl Print + AllocGlobal + Threads + Wait + Sync), row: &str) -> io::Result<()> {
     match answer_of(rt, row) {
         Some(answer) => println!(rt; "{}", answer.as_str()),
         None => println!(rt; "no answer"),
@@ -33,13 +38,22 @@ fn answer(rt: &(impl Print + AllocGlobal + Threads + Sync), row: &str) -> io::Re
 }
 
 // The line that answers a row.
-fn answer_of(rt: &(impl AllocGlobal + Threads + Sync), row: &str) -> Option<String> {
+fn answer_of(rt: &(impl AllocGlobal + Threads + Wait + Sync), row: &str) -> Option<String> {
     let alloc = rt.alloc();
     let (call, argument) = row.split_once(' ').unwrap_or((row, ""));
     match call {
         "#" => String::from_str(alloc, row).ok(),
         "beside" => beside::with_job(rt, argument).and_then(|met| met_text(alloc, met)),
         "at" => beside::of_engines(rt).and_then(|met| met_text(alloc, met)),
+        "scan" => scanning::is_between(rt).and_then(|met| met_text(alloc, met)),
+        "prefix" => truth_text(
+            alloc,
+            scanning::is_prefix(rt, argument.parse::<u32>().ok()?)?,
+        ),
+        "whole" => truth_text(
+            alloc,
+            scanning::is_whole(rt, argument.parse::<u32>().ok()?)?,
+        ),
         "paces" => {
             let paces = argument.parse::<u64>().ok()?;
             let other = wandering::differing(rt, paces)?;
@@ -51,4 +65,8 @@ fn answer_of(rt: &(impl AllocGlobal + Threads + Sync), row: &str) -> Option<Stri
 
 fn met_text(alloc: Global, met: bool) -> Option<String> {
     String::from_str(alloc, if met { "met" } else { "missed" }).ok()
+}
+
+fn truth_text(alloc: Global, is: bool) -> Option<String> {
+    String::from_str(alloc, if is { "so it is" } else { "it is not" }).ok()
 }

@@ -1,4 +1,4 @@
-//! A pace that has two points of a run wait for each other.
+//! Paces that have two points of a run wait for each other.
 
 use std::alloc::Global;
 use std::sync::Arc;
@@ -84,5 +84,19 @@ impl Pace for Meeting {
         } else if point == self.other {
             outcome.meet(&outcome.other, &outcome.one);
         }
+    }
+}
+
+/// Two meetings in one run.
+#[derive(Drop)]
+pub(crate) struct Meetings {
+    pub(crate) one: Meeting,
+    pub(crate) other: Meeting,
+}
+
+impl Pace for Meetings {
+    fn at(&self, point: Point) {
+        self.one.at(point);
+        self.other.at(point);
     }
 }

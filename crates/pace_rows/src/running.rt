@@ -3,6 +3,7 @@
 use crate::kits::empty_kits;
 use crate::lines::words_of;
 use std::alloc::Global;
+use std::sync::Wait;
 use std::thread::Threads;
 use tc_edge::{MemSink, MemSource};
 use tc_running::Pace;
@@ -13,7 +14,7 @@ use tc_store::MemShelf;
 const PIECE: usize = 65_536;
 
 /// Runs these words over the input, and gives what was written, if the run ended well.
-pub(crate) fn replies<R: AllocGlobal + Threads + Sync, P: Pace + 'static>(
+pub(crate) fn replies<R: AllocGlobal + Threads + Wait + Sync, P: Pace + 'static>(
     rt: &R,
     words: &str,
     input: &str,

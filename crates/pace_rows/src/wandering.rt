@@ -2,6 +2,7 @@
 
 use crate::lines::{mixed, scattered};
 use crate::running::replies;
+use std::sync::Wait;
 use std::sync::atomic::{AtomicU64, Ordering};
 use std::thread::Threads;
 use tc_running::{Free, Pace, Point};
@@ -34,7 +35,7 @@ impl Pace for Wandering {
 }
 
 /// How many of so many paces have a run over four partitions reply otherwise than one over a single partition.
-pub(crate) fn differing<R: AllocGlobal + Threads + Sync>(rt: &R, paces: u64) -> Option<u64> {
+pub(crate) fn differing<R: AllocGlobal + Threads + Wait + Sync>(rt: &R, paces: u64) -> Option<u64> {
     let input = mixed(rt.alloc(), LINES)?;
     let input = input.as_str();
     let plain = replies(rt, "run --partitions 1", input, Free)?;

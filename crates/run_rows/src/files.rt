@@ -22,6 +22,7 @@ pub(crate) struct Files {
     main: Vec<u64>,
     flusher: Vec<u64>,
     merger: Vec<u64>,
+    reader: Vec<u64>,
 }
 
 impl Files {
@@ -34,6 +35,7 @@ impl Files {
             main: Vec::new(alloc),
             flusher: Vec::new(alloc),
             merger: Vec::new(alloc),
+            reader: Vec::new(alloc),
         }
     }
 
@@ -58,6 +60,7 @@ impl Files {
             "main" => push_numbers(&mut self.main, numbers),
             "flusher" => push_numbers(&mut self.flusher, numbers),
             "merger" => push_numbers(&mut self.merger, numbers),
+            "reader" => push_numbers(&mut self.reader, numbers),
             _ => None,
         }
     }
@@ -71,7 +74,7 @@ impl Files {
             main: watch_of(alloc, &mut self.main),
             flusher: watch_of(alloc, &mut self.flusher),
             merger: watch_of(alloc, &mut self.merger),
-            reader: MemWatch::new(Vec::new(alloc)),
+            reader: watch_of(alloc, &mut self.reader),
         })
     }
 

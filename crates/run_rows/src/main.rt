@@ -3,7 +3,7 @@
 //! folder; `reads` and `writes` say how many bytes a call takes at most and, behind that, the number of the call that fails;
 //! `text`, `line`, `lines`, `padded` and `repeated` make the input. A run begins without files, unless `file` gives it some,
 //! by name and bytes, or `again` has it begin with what a stop leaves of the last run's, by the number that chooses; `fails`
-//! says which calls on them fail, behind who makes them: `main`, `flusher` or `merger`; `partition` says of which partition
+//! says which calls on them fail, behind who makes them: `main`, `flusher`, `merger` or `reader`; `partition` says of which partition
 //! these rows are, which is the first one where none was chosen since the last run. `serve` runs, `files` shows what a
 //! stop leaves of the last run's files, by the number that chooses, and `faults` prints the texts of all faults. A row that
 //! begins with `#` is a note, and is printed as it is; `no answer` stands for a row out of form.
@@ -16,6 +16,7 @@ mod shown;
 
 use run::Run;
 use std::io;
+use std::sync::Wait;
 use std::thread::Threads;
 
 fn main(rt: HostRuntime) -> io::Result<()> {
@@ -27,7 +28,7 @@ fn main(rt: HostRuntime) -> io::Result<()> {
 }
 
 fn answer(
-    rt: &(impl Print + AllocGlobal + Threads + Sync),
+    rt: &(impl Print + AllocGlobal + Threads + Wait + Sync),
     run: &mut Run,
     row: &str,
 ) -> io::Result<()> {
@@ -39,7 +40,7 @@ fn answer(
 
 // The lines that answer a row.
 fn answer_of(
-    rt: &(impl Print + AllocGlobal + Threads + Sync),
+    rt: &(impl Print + AllocGlobal + Threads + Wait + Sync),
     run: &mut Run,
     row: &str,
 ) -> Option<String> {

@@ -3,6 +3,7 @@
 use crate::parts::Parts;
 use crate::shown::{OnOutput, shown};
 use std::alloc::{AllocError, Global};
+use std::sync::Wait;
 use std::thread::Threads;
 use tc_edge::{MemSink, MemSource};
 use tc_running::Free;
@@ -106,7 +107,7 @@ impl Run {
 
     /// Runs the program, which says on standard output how it ended, and shows its status and what was accepted. The next run
     /// has these words, no input, no file, and no call fails.
-    pub(crate) fn serve<R: Print + AllocGlobal + Threads + Sync>(
+    pub(crate) fn serve<R: Print + AllocGlobal + Threads + Wait + Sync>(
         &mut self,
         rt: &R,
     ) -> Option<String> {

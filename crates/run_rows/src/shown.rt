@@ -3,6 +3,7 @@
 use std::alloc::Global;
 use std::fmt::{Display, Write};
 use std::io::Eprint;
+use std::sync::Wait;
 use std::thread::Threads;
 use std::{io, str};
 use tc_bytes::Bytes;
@@ -34,6 +35,8 @@ impl<R: AllocGlobal> Alloc for OnOutput<'_, R> {
 }
 
 impl<R: Threads> Threads for OnOutput<'_, R> {}
+
+impl<R: Wait> Wait for OnOutput<'_, R> {}
 
 /// The status, how many kits were asked for, and then the lines that were accepted, and how many times each came behind itself.
 pub(crate) fn shown(alloc: Global, status: u8, kits: usize, accepted: &[u8]) -> Option<String> {

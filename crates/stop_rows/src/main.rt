@@ -19,6 +19,7 @@ mod twice;
 use files::Who;
 use script::Script;
 use std::io;
+use std::sync::Wait;
 use std::thread::Threads;
 
 fn main(rt: HostRuntime) -> io::Result<()> {
@@ -29,7 +30,7 @@ fn main(rt: HostRuntime) -> io::Result<()> {
     Ok(())
 }
 
-fn answer<R: Print + AllocGlobal + Threads + Sync>(
+fn answer<R: Print + AllocGlobal + Threads + Wait + Sync>(
     rt: &R,
     script: &mut Script,
     row: &str,
@@ -41,7 +42,7 @@ fn answer<R: Print + AllocGlobal + Threads + Sync>(
 }
 
 // The line that answers a row, if one does.
-fn answer_of<R: AllocGlobal + Threads + Sync>(
+fn answer_of<R: AllocGlobal + Threads + Wait + Sync>(
     rt: &R,
     script: &mut Script,
     row: &str,

@@ -7,6 +7,7 @@ use crate::files::{Failing, Files, Who};
 use crate::script::{Counts, KEYS, Script};
 use std::alloc::Global;
 use std::fmt::Write;
+use std::sync::Wait;
 use std::thread::Threads;
 use tc_edge::{MemSink, MemSource};
 use tc_running::Free;
@@ -26,7 +27,7 @@ struct Ran {
 }
 
 /// Runs lines over a store.
-fn run<R: Threads + Sync>(
+fn run<R: Threads + Wait + Sync>(
     rt: &R,
     alloc: Global,
     words: &[Text],
@@ -83,7 +84,7 @@ pub(crate) struct Stopped {
     files: Files,
 }
 
-impl<'a, R: Threads + Sync> Trial<'a, R> {
+impl<'a, R: Threads + Wait + Sync> Trial<'a, R> {
     /// Runs the script where nothing fails.
     pub(crate) fn of(rt: &'a R, alloc: Global, script: &'a Script) -> Option<Trial<'a, R>> {
         let mut trial = Trial {

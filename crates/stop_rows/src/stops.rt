@@ -4,6 +4,7 @@ use crate::files::{Failing, Who};
 use crate::running::{Found, Trial};
 use crate::script::Script;
 use std::alloc::Global;
+use std::sync::Wait;
 use std::thread::Threads;
 
 /// No script has so many calls.
@@ -56,7 +57,7 @@ impl Seen {
 }
 
 /// The line that answers a row of stops.
-pub(crate) fn answer<R: Threads + Sync>(
+pub(crate) fn answer<R: Threads + Wait + Sync>(
     rt: &R,
     alloc: Global,
     script: &Script,
@@ -97,7 +98,7 @@ pub(crate) fn failing_at(script: &Script, who: Who, call: u64) -> Failing {
 }
 
 // Stops a store in so many ways behind a call that fails. Tells whether there is such a call.
-fn stop_all<R: Threads + Sync>(
+fn stop_all<R: Threads + Wait + Sync>(
     alloc: Global,
     trial: &Trial<'_, R>,
     failing: Failing,

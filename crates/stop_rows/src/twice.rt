@@ -7,6 +7,7 @@ use crate::running::{Found, Stopped, Trial};
 use crate::script::Script;
 use crate::stops::{MOST_CALLS, Seen, failing_at};
 use std::alloc::Global;
+use std::sync::Wait;
 use std::thread::Threads;
 
 /// Stops are chosen among so many.
@@ -16,7 +17,7 @@ const CHOICES: u64 = 64;
 const FEWEST: u64 = 8;
 
 /// The line that answers a row of stops that come twice.
-pub(crate) fn answer<R: Threads + Sync>(
+pub(crate) fn answer<R: Threads + Wait + Sync>(
     rt: &R,
     alloc: Global,
     script: &Script,
@@ -45,7 +46,7 @@ pub(crate) fn answer<R: Threads + Sync>(
 }
 
 // Fails an opening at each of its calls. Answers how many it has, or 0 where the run before it does not fail.
-fn stop_openings<R: Threads + Sync>(
+fn stop_openings<R: Threads + Wait + Sync>(
     alloc: Global,
     trial: &Trial<'_, R>,
     failing: Failing,
@@ -62,7 +63,7 @@ fn stop_openings<R: Threads + Sync>(
 }
 
 // Fails an opening at a call, and stops it there. Tells whether there is such a call.
-fn stop_opening<R: Threads + Sync>(
+fn stop_opening<R: Threads + Wait + Sync>(
     alloc: Global,
     trial: &Trial<'_, R>,
     stopped: Stopped,

@@ -7,6 +7,7 @@ use kits::empty_kits;
 use std::alloc::Global;
 use std::io::{Eprint, Error, ErrorKind};
 use std::process::ExitCode;
+use std::sync::Wait;
 use std::thread::Threads;
 use tc_edge::{StdSink, StdSource};
 use tc_files::{FileShelf, FileStore};
@@ -30,7 +31,7 @@ fn main(rt: HostRuntime) -> ExitCode {
 // handle of their own, since only `main` has them to give.
 fn run_in(
     rt: HostRuntime,
-    threads: &(impl Eprint + AllocGlobal + Threads + Sync),
+    threads: &(impl Eprint + AllocGlobal + Threads + Wait + Sync),
     words: Vec<Text>,
 ) -> ExitCode {
     let (folder, rest) = split_folder(rt.alloc(), words);
@@ -52,7 +53,7 @@ fn split_folder(alloc: Global, mut words: Vec<Text>) -> (Text, Vec<Text>) {
 
 fn run_in_memory(
     rt: HostRuntime,
-    threads: &(impl Eprint + AllocGlobal + Threads + Sync),
+    threads: &(impl Eprint + AllocGlobal + Threads + Wait + Sync),
     words: Result<Vec<Text>, WordsFault>,
 ) -> ExitCode {
     let alloc = rt.alloc();
@@ -68,7 +69,7 @@ fn run_in_memory(
 
 fn run_in_folder(
     rt: HostRuntime,
-    threads: &(impl Eprint + AllocGlobal + Threads + Sync),
+    threads: &(impl Eprint + AllocGlobal + Threads + Wait + Sync),
     folder: Text,
     words: Vec<Text>,
 ) -> ExitCode {
@@ -81,7 +82,7 @@ fn run_in_folder(
 // Serves standard input over the stores of a shelf.
 fn served_over<H: Shelf>(
     rt: HostRuntime,
-    threads: &(impl Eprint + AllocGlobal + Threads + Sync),
+    threads: &(impl Eprint + AllocGlobal + Threads + Wait + Sync),
     words: Result<Vec<Text>, WordsFault>,
     shelf: &mut H,
 ) -> Served<H::Store>
@@ -115,6 +116,7 @@ fn reason_of(partition: u32, shelf: &FileShelf, served: &Served<FileStore>) -> O
         .last_error()
         .or(kit.flusher.last_error())
         .or(kit.merger.last_error())
+        .or(kit.reader.last_error())
 }
 
 // A lock is the only thing that a run would have to wait for.

@@ -3,6 +3,7 @@
 use crate::kits::empty_kits;
 use crate::tests::words_of;
 use std::alloc::{AllocError, Global};
+use std::sync::Wait;
 use std::test::Fail;
 use std::thread::Threads;
 use tc_edge::{MemSink, MemSource};
@@ -50,7 +51,7 @@ fn upsert(alloc: Global, key: u64, number: u64) -> Result<String, AllocError> {
 
 // The last line of a run for these words that ends with a schema.
 fn schema_behind(
-    rt: &(impl Threads + Sync),
+    rt: &(impl Threads + Wait + Sync),
     alloc: Global,
     words: &str,
     mut input: Vec<u8>,

@@ -5,6 +5,7 @@ ghost use Rattle.std.specs.Prelude.{None};
 use crate::kits::empty_kits;
 use crate::tests::words_of;
 use std::alloc::{AllocError, Global};
+use std::sync::Wait;
 use std::test::Fail;
 use std::thread::Threads;
 use tc_edge::{EdgeFault, MemSink, Source};
@@ -58,7 +59,7 @@ const SCHEMA: &str = "{\"op\":\"schema\"}\n";
 
 // The status of a run whose source waits for so many replies before each line, and before the end.
 fn run_waiting(
-    rt: &(impl Threads + Sync),
+    rt: &(impl Threads + Wait + Sync),
     alloc: Global,
     words: &str,
     lines: &[&'static str],
