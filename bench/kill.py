@@ -3,13 +3,14 @@
 
     bench/kill.py [STORE] [ROUNDS] [SEED] [PARTITIONS]
 
-STORE is the program, or else that of crates/tuple_store/out, and its store has one partition if not said. In each of ROUNDS rounds (100 if not said) over one folder a
-program gets upserts and deletes without an end, and is killed by SIGKILL at a random moment behind a random number of
-replies. Then another one is started over the folder, and every key is read back. What it answers has to be what those
-writes leave whose windows were answered, or these and the window behind them: of each partition all of its writes there, or none.
-Windows and the words for the
-memory and the merges change from round to round, so that the moments fall into frames, flushes, merges and openings; in
-every third round openings are killed too, before anything is read. What each kill left half done is counted.
+STORE is the program, or else that of crates/tuple_store/out, and its store has one partition if not said. In each of ROUNDS rounds
+(100 if not said) over one folder a program gets upserts and deletes without an end, now and then a scan and some lines later a
+collect, and is killed by SIGKILL at a random moment behind a random number of replies. Then another one is started over the
+folder, and every key is read back. What it answers has to be what those writes leave whose windows were answered, or these and
+the window behind them: of each partition all of its writes there, or none. Each scan that was collected has to have the rows of a
+prefix of each partition's writes, which has all that were answered before it. Windows and the words for the memory and the merges
+change from round to round, so that the moments fall into frames, flushes, merges, scans and openings; in every third round openings
+are killed too, before anything is read. What each kill left half done is counted.
 
 A kill takes nothing from what the system has in its memory: what a power cut may take, no run of this script shows.
 """
@@ -47,6 +48,16 @@ def started(store, folder, words):
                             stderr=subprocess.PIPE)
 
 
+SCAN, COLLECT = {'op': 'scan', 'path': ['n']}, {'op': 'collect'}
+
+
+def control_of(choice, scanning):
+    """A collect where a scan is out, or else a scan, now and then."""
+    if choice.random() < (0.05 if scanning else 0.01):
+        return COLLECT if scanning else SCAN
+    return None
+
+
 def write_of(choice, number):
     """One write: its line, its key, and the document that it leaves, or None."""
     key = choice.randrange(KEYS)
@@ -70,10 +81,10 @@ def after(stored, writes):
 
 
 class Acknowledged:
-    """Counts the reply lines that come whole, and kills the program a moment behind so many of them."""
+    """Keeps the reply lines that come whole, and kills the program a moment behind so many of them."""
 
     def __init__(self, program, most, delay):
-        self.program, self.most, self.delay, self.count = program, most, delay, 0
+        self.program, self.most, self.delay, self.lines = program, most, delay, []
         self.thread = threading.Thread(target=self.read)
         self.thread.start()
 
@@ -81,20 +92,26 @@ class Acknowledged:
         for line in self.program.stdout:
             if not line.endswith(b'\n'):
                 return
-            self.count += 1
-            if self.count == self.most:
+            self.lines.append(line)
+            if len(self.lines) == self.most:
                 threading.Timer(self.delay, self.program.kill).start()
 
 
 def run_killed(store, folder, words, choice, number):
-    """Feeds writes until the program is killed. Answers the writes sent, and how many were acknowledged."""
+    """Feeds lines until the program is killed. Answers what was sent, a key and a document for each write and else the line, and the
+    replies that came."""
     program = started(store, folder, words)
     acknowledged = Acknowledged(program, choice.choice([1, 10, 100, 300]) * choice.randrange(1, 4), choice.random() * 0.01)
-    sent = []
+    sent, scanning = [], False
     try:
         while program.poll() is None:
-            line, key, doc = write_of(choice, number * 1000000 + len(sent))
-            sent.append((key, doc))
+            line = control_of(choice, scanning)
+            if line:
+                scanning = line is SCAN
+                sent.append(line)
+            else:
+                line, key, doc = write_of(choice, number * 1000000 + len(sent))
+                sent.append((key, doc))
             program.stdin.write((json.dumps(line) + '\n').encode())
             if choice.random() < 0.05:
                 program.stdin.flush()
@@ -109,7 +126,7 @@ def run_killed(store, folder, words, choice, number):
     said = program.stderr.read().decode()
     if said:
         sys.exit('the program said: ' + said)
-    return sent, acknowledged.count
+    return sent, acknowledged.lines
 
 
 def has_cut_frame(log):
@@ -158,13 +175,71 @@ def part_of(docs, number):
     return {key: doc for key, doc in docs.items() if key % PARTITIONS == number}
 
 
+def writes_in(sent):
+    """The writes among the lines."""
+    return [line for line in sent if line not in (SCAN, COLLECT)]
+
+
+def ends_of(sent, window):
+    """Where windows end, in lines: a scan and a collect are windows of their own."""
+    ends, lines = [0], 0
+    for at, line in enumerate(sent):
+        if line in (SCAN, COLLECT):
+            if lines:
+                ends.append(at)
+            ends.append(at + 1)
+            lines = 0
+        else:
+            lines += 1
+            if lines == window:
+                ends.append(at + 1)
+                lines = 0
+    return ends
+
+
 def kept(before, sent, acknowledged, window, found):
-    """How many of the writes sent may be there, by the partition: each number that fits what was found of it."""
+    """How many of the lines sent may be there, by the partition: each number that fits what was found of it."""
     # A window is answered once it is committed in each partition, so no write behind the next one is there.
-    answered = acknowledged - acknowledged % window
-    counts = (answered, answered + window) if acknowledged == answered else (answered + window,)
-    left = [(count, after(before, sent[:count])) for count in counts if count <= len(sent)]
+    ends = ends_of(sent, window)
+    answered = max(end for end in ends if end <= acknowledged)
+    behind = [end for end in ends if answered < end][:1]
+    counts = [answered] + behind if acknowledged == answered else behind
+    left = [(count, after(before, writes_in(sent[:count]))) for count in counts]
     return [[count for count, docs in left if part_of(docs, number) == part_of(found, number)] for number in range(PARTITIONS)]
+
+
+def counted_in(before, sent):
+    """What counts as a write, by the partition: upserts, and deletes that find their key."""
+    stored, counted = dict(before), [[] for _ in range(PARTITIONS)]
+    for key, doc in writes_in(sent):
+        if doc is not None or key in stored:
+            counted[key % PARTITIONS].append((key, doc))
+        stored = after(stored, [(key, doc)])
+    return counted
+
+
+def check_scans(before, sent, replies):
+    """Looks at each reply to a collect, and answers how many there are."""
+    begun, collected = None, 0
+    for at, (line, reply) in enumerate(zip(sent, replies)):
+        if line is SCAN:
+            begun = at
+        elif line is COLLECT:
+            check_scan(before, counted_in(before, sent[:begun]), counted_in(before, sent[:at]), json.loads(reply))
+            collected += 1
+    return collected
+
+
+def check_scan(before, least, most, answer):
+    """Looks whether a scan's rows are those of a prefix of each partition's writes, between the least and the most."""
+    rows = {}
+    for number, upto in enumerate(answer['upto']):
+        if not len(least[number]) <= upto <= len(most[number]):
+            sys.exit('a scan over %d writes, and not from %d to %d' % (upto, len(least[number]), len(most[number])))
+        docs = after(part_of(before, number), most[number][:upto])
+        rows.update((key, [doc['n']]) for key, doc in docs.items())
+    if answer['rows'] != [{'id': key, 'values': rows[key]} for key in sorted(rows)]:
+        sys.exit('a scan whose rows are not those of its prefix: ' + json.dumps(answer))
 
 
 def main():
@@ -172,10 +247,12 @@ def main():
     rounds = int(sys.argv[2]) if len(sys.argv) > 2 else 100
     choice = random.Random(int(sys.argv[3]) if len(sys.argv) > 3 else 1)
     folder = tempfile.mkdtemp(prefix='tuple_store_kill_')
-    stored, writes, more, apart, seen, opening = {}, 0, 0, 0, collections.Counter(), 0.05
+    stored, lines, more, apart, scans, seen, opening = {}, 0, 0, 0, 0, collections.Counter(), 0.05
     for number in range(rounds):
         window, words = words_of(choice)
-        sent, acknowledged = run_killed(store, folder, words, choice, number)
+        sent, replies = run_killed(store, folder, words, choice, number)
+        acknowledged = len(replies)
+        scans += check_scans(stored, sent, replies)
         seen += half_done(folder)
         for _ in range(3 if number % 3 == 2 else 0):
             again = started(store, folder, words)
@@ -192,10 +269,11 @@ def main():
                      % (number, window, acknowledged, len(sent), folder))
         least = max(min(it) for it in counts)
         apart += min(max(it) for it in counts) < least
-        stored, writes, more = found, writes + acknowledged, more + least - acknowledged
+        stored, lines, more = found, lines + acknowledged, more + least - acknowledged
     shutil.rmtree(folder)
-    print('%d kills, and %d of openings: %d writes were acknowledged, and all were read back, with %d more that were committed'
-          % (rounds, rounds // 3 * 3, writes, more))
+    print('%d kills, and %d of openings: %d lines were answered, and all their writes were read back, with those of %d more that were committed'
+          % (rounds, rounds // 3 * 3, lines, more))
+    print('%d scans were collected, each with the rows of its prefix' % scans)
     if PARTITIONS > 1:
         print('%d kills left the window behind in some partitions and not in others' % apart)
     print('left by the kills: ' + ', '.join('%d %s' % (many, what) for what, many in sorted(seen.items())))

@@ -1,9 +1,9 @@
 #!/usr/bin/env python3
 """Measures the built program over folders, beside SQLite, and prints the tables of docs/performance.md.
 
-    bench/run.py [--program FILE] [--documents N] [--large N] [--rounds N] [PART ..]
+    bench/run.py [--program FILE] [--before FILE] [--documents N] [--large N] [--rounds N] [PART ..]
 
-Parts: loads, gets, queries, opening, calls, growth, partitions, pauses, and lines, all but the last three by default. The program is
+Parts: loads, gets, queries, opening, calls, growth, partitions, pauses, scans, and lines, all but the last four by default. The program is
 crates/tuple_store/out/tuple_store, which `rt run` in crates/tuple_store builds, or FILE. N documents are 40,000, and a
 tenth of that of readings; the large store has 1,000,000. Runs take turns, so that other load meets all of them; a time is
 the least of the rounds, 3 by default, and a ratio the median of those of the rounds, each of two runs one after the other.
@@ -24,10 +24,14 @@ parses the JSON that it stores, as the store does. Both keep a log that is synce
              the processor and by the clock; it wants a machine that does nothing else
     pauses   the longest times between two replies of loads with flushes and merges, over files in memory: with jobs on threads, and,
              by turns, where the system refuses threads, so that each job is run in place; wants a machine that does nothing else
+    scans    a load over a store of as many documents, which it replaces, alone and beside a scan of them, and the scan alone, over
+             files in memory; loads in windows of 1 and of 64 lines, and the memory of one that seals two tables, beside the
+             program of --before, if one is told; wants a machine that does nothing else
     lines    documents in memory, and nothing else: orders of keys, gets of absent keys, windows, schemas
 """
 
 import argparse
+import collections
 import json
 import os
 import re
@@ -73,14 +77,12 @@ class Bench:
                     count += 1
         return self.path(name), count
 
-    def command(self, store, words=(), window=64, partitions=1):
-        return [self.words.program, store, "run", "--partitions", str(partitions), "--window", str(window), *words]
+    def command(self, store, words=(), window=64, partitions=1, program=None):
+        return [program or self.words.program, store, "run", "--partitions", str(partitions), "--window", str(window), *words]
 
     def empty(self, name="store"):
         """An empty folder for a store."""
-        shutil.rmtree(self.path(name), ignore_errors=True)
-        os.mkdir(self.path(name))
-        return self.path(name)
+        return fresh(self.path(name))
 
     def run(self, source, store, words=(), window=64, partitions=1):
         """The processor seconds of the program over the lines of a file."""
@@ -354,15 +356,106 @@ def paused(words, source, first):
     return longest[1], longest[0], last - begun
 
 
+def scans(bench):
+    folder = "/dev/shm" if os.path.isdir("/dev/shm") else bench.folder
+    with tempfile.TemporaryDirectory(dir=folder) as stores:
+        if bench.words.before:
+            publishing(bench, os.path.join(stores, "store"))
+        scans_beside(bench, stores)
+
+
+def publishing(bench, store):
+    """Loads by the program and by the one before, which take turns: processor time, and memory."""
+    programs = (bench.words.program, bench.words.before)
+    print("| load | window | processor, µs a line | before | times | memory, MB | before | times |")
+    print("|---|--:|--:|--:|--:|--:|--:|--:|")
+    none, _ = bench.write("none")
+    for name, made, part in (("messages", feeds.message, 1), ("profiles", feeds.profile, 4)):
+        source, count = bench.write("lines", feeds.upserts(2 * bench.words.documents // part, "ascending", made))
+        for window in (1, 64):
+            told = [[clocked(bench.command(fresh(store), GROWN, window, program=it), source) for it in programs] for _ in range(bench.words.rounds)]
+            start = [clocked(bench.command(fresh(store), GROWN, window, program=it), none).memory for it in programs]
+            used = statistics.median(now.processor / before.processor for now, before in told)
+            least = [min(run.processor for run in runs) for runs in zip(*told)]
+            held = [max(run.memory for run in runs) - begun for runs, begun in zip(zip(*told), start)]
+            print(f"| {name} | {window} | {micros(least[0], count):.2f} | {micros(least[1], count):.2f} | {used:.3f} "
+                  f"| {held[0]:.1f} | {held[1]:.1f} | {held[0] / held[1]:.2f} |", flush=True)
+    print()
+
+
+def scans_beside(bench, stores):
+    """A load alone and beside a scan, and the scan alone, over a copy of the same store each, by turns."""
+    print("| load | clock, µs a line | beside a scan | times | the scan alone, ms | memory, MB | beside a scan |")
+    print("|---|--:|--:|--:|--:|--:|--:|")
+    collect = '{"op":"collect"}\n'
+    kept, store = os.path.join(stores, "kept"), os.path.join(stores, "store")
+    for name, made, part, path in (("messages", feeds.message, 1, ["user", "name"]), ("profiles", feeds.profile, 4, ["level"])):
+        scan = json.dumps({"op": "scan", "path": path}) + "\n"
+        documents = list(feeds.upserts(10 * bench.words.documents // part, "ascending", made))
+        load, count = bench.write("load", documents, ['{"op":"flush"}\n'])
+        bench.run(load, fresh(kept), GROWN)
+        sources = [bench.write(it, *lines)[0] for it, lines in (
+            ("alone", [documents]), ("beside", [[scan], documents, [collect]]), ("only", [[scan, collect]]))]
+        rounds = []
+        for _ in range(bench.words.rounds):
+            rounds.append([])
+            for source in sources:
+                shutil.rmtree(store, ignore_errors=True)
+                shutil.copytree(kept, store)
+                rounds[-1].append(clocked(bench.command(store, GROWN), source))
+        times = statistics.median(beside.clock / alone.clock for alone, beside, _ in rounds)
+        clock = [min(run.clock for run in runs) for runs in zip(*rounds)]
+        memory = [max(run.memory for run in runs) for runs in zip(*rounds)]
+        print(f"| {name} | {micros(clock[0], count):.2f} | {micros(clock[1], count):.2f} | {times:.2f} "
+              f"| {clock[2] * 1e3:.0f} | {memory[0]:.0f} | {memory[1]:.0f} |", flush=True)
+
+
+def fresh(folder):
+    """The folder, with nothing in it."""
+    shutil.rmtree(folder, ignore_errors=True)
+    os.mkdir(folder)
+    return folder
+
+
+# What a run took: seconds of the clock and of the processor, and how many MB it had in memory at most.
+Taken = collections.namedtuple("Taken", "clock processor memory")
+
+
+def clocked(words, source):
+    """What a run takes over the lines of a file. Its memory is looked at every two milliseconds, since what the system tells of it
+    at the end counts that of the process that started it."""
+    begun, most = time.monotonic(), 0
+    with open(source, "rb") as lines:
+        running = subprocess.Popen(words, stdin=lines, stdout=subprocess.DEVNULL)
+    while True:
+        ended, status, used = os.wait4(running.pid, os.WNOHANG)
+        if ended:
+            break
+        most = max(most, peak(running.pid))
+        time.sleep(0.002)
+    running.returncode = os.waitstatus_to_exitcode(status)
+    if running.returncode:
+        raise subprocess.CalledProcessError(running.returncode, words)
+    return Taken(time.monotonic() - begun, used.ru_utime + used.ru_stime, most / 1024)
+
+
+def peak(process):
+    """How many KB a process had in memory at most, if it has not ended."""
+    with open(f"/proc/{process}/status", encoding="utf-8") as status:
+        told = re.search(r"^VmHWM:\s+(\d+)", status.read(), re.M)
+    return int(told[1]) if told else 0
+
+
 def main():
     parser = argparse.ArgumentParser(description=__doc__, formatter_class=argparse.RawDescriptionHelpFormatter)
     parser.add_argument("--program", type=os.path.abspath, default=BUILT)
+    parser.add_argument("--before", type=os.path.abspath, help="a program that the loads of scans are measured beside")
     parser.add_argument("--documents", type=int, default=40_000)
     parser.add_argument("--large", type=int, default=1_000_000)
     parser.add_argument("--rounds", type=int, default=3)
     parser.add_argument("parts", nargs="*", metavar="PART")
     words = parser.parse_args()
-    known = {"loads": loads, "gets": gets, "queries": queries, "growth": growth, "opening": opening, "calls": calls, "partitions": partitions, "pauses": pauses, "lines": lines}
+    known = {"loads": loads, "gets": gets, "queries": queries, "growth": growth, "opening": opening, "calls": calls, "partitions": partitions, "pauses": pauses, "scans": scans, "lines": lines}
     for part in words.parts:
         if part not in known:
             parser.error(f"there is no part {part}")
