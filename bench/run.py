@@ -24,9 +24,9 @@ parses the JSON that it stores, as the store does. Both keep a log that is synce
              the processor and by the clock; it wants a machine that does nothing else
     pauses   the longest times between two replies of loads with flushes and merges, over files in memory: with jobs on threads, and,
              by turns, where the system refuses threads, so that each job is run in place; wants a machine that does nothing else
-    scans    a load over a store of as many documents, which it replaces, alone and beside a scan of them, and the scan alone, over
-             files in memory; loads in windows of 1 and of 64 lines, and the memory of one that seals two tables, beside the
-             program of --before, if one is told; wants a machine that does nothing else
+    scans    loads in windows of 1 and of 64 lines, and their memory, beside the program of --before, if one is told; a load over a
+             store of as many documents, which it replaces, alone and beside scans of them, one a tenth of its lines, by the clock
+             and by the processor time of its thread, and a scan alone; over files in memory; wants a machine that does nothing else
     lines    documents in memory, and nothing else: orders of keys, gets of absent keys, windows, schemas
 """
 
@@ -384,18 +384,19 @@ def publishing(bench, store):
 
 
 def scans_beside(bench, stores):
-    """A load alone and beside a scan, and the scan alone, over a copy of the same store each, by turns."""
-    print("| load | clock, µs a line | beside a scan | times | the scan alone, ms | memory, MB | beside a scan |")
-    print("|---|--:|--:|--:|--:|--:|--:|")
+    """A load alone and beside scans that find nothing, and a scan alone, over a copy of the same store each, by turns."""
+    print("| load | clock, µs a line | beside scans | times | its thread, µs a line | beside scans | times | a scan alone, ms | memory, MB | beside scans |")
+    print("|---|--:|--:|--:|--:|--:|--:|--:|--:|--:|")
     collect = '{"op":"collect"}\n'
     kept, store = os.path.join(stores, "kept"), os.path.join(stores, "store")
     for name, made, part, path in (("messages", feeds.message, 1, ["user", "name"]), ("profiles", feeds.profile, 4, ["level"])):
-        scan = json.dumps({"op": "scan", "path": path}) + "\n"
+        scan = json.dumps({"op": "scan", "path": path, "eq": "nobody"}) + "\n"
         documents = list(feeds.upserts(10 * bench.words.documents // part, "ascending", made))
         load, count = bench.write("load", documents, ['{"op":"flush"}\n'])
         bench.run(load, fresh(kept), GROWN)
-        sources = [bench.write(it, *lines)[0] for it, lines in (
-            ("alone", [documents]), ("beside", [[scan], documents, [collect]]), ("only", [[scan, collect]]))]
+        tenth = len(documents) // 10
+        tenths = [[scan, *documents[at : at + tenth], collect] for at in range(0, len(documents), tenth)]
+        sources = [bench.write(it, *lines)[0] for it, lines in (("alone", [documents]), ("beside", tenths), ("only", [[scan, collect]]))]
         rounds = []
         for _ in range(bench.words.rounds):
             rounds.append([])
@@ -403,11 +404,14 @@ def scans_beside(bench, stores):
                 shutil.rmtree(store, ignore_errors=True)
                 shutil.copytree(kept, store)
                 rounds[-1].append(clocked(bench.command(store, GROWN), source))
-        times = statistics.median(beside.clock / alone.clock for alone, beside, _ in rounds)
-        clock = [min(run.clock for run in runs) for runs in zip(*rounds)]
+        cells = [name]
+        for of in ("clock", "reader"):
+            least = [min(getattr(run, of) for run in runs) for runs in zip(*rounds)]
+            times = statistics.median(getattr(beside, of) / getattr(alone, of) for alone, beside, _ in rounds)
+            cells += [f"{micros(least[0], count):.2f}", f"{micros(least[1], count):.2f}", f"{times:.2f}"]
         memory = [max(run.memory for run in runs) for runs in zip(*rounds)]
-        print(f"| {name} | {micros(clock[0], count):.2f} | {micros(clock[1], count):.2f} | {times:.2f} "
-              f"| {clock[2] * 1e3:.0f} | {memory[0]:.0f} | {memory[1]:.0f} |", flush=True)
+        cells += [f"{min(only.clock for _, _, only in rounds) * 1e3:.0f}", f"{memory[0]:.0f}", f"{memory[1]:.0f}"]
+        print("| " + " | ".join(cells) + " |", flush=True)
 
 
 def fresh(folder):
@@ -417,33 +421,40 @@ def fresh(folder):
     return folder
 
 
-# What a run took: seconds of the clock and of the processor, and how many MB it had in memory at most.
-Taken = collections.namedtuple("Taken", "clock processor memory")
+# What a run took: seconds of the clock, of the processor, and of the processor by the thread that reads the lines, and how many MB
+# it had in memory at most.
+Taken = collections.namedtuple("Taken", "clock processor reader memory")
 
 
 def clocked(words, source):
-    """What a run takes over the lines of a file. Its memory is looked at every two milliseconds, since what the system tells of it
-    at the end counts that of the process that started it."""
-    begun, most = time.monotonic(), 0
+    """What a run takes over the lines of a file. Its memory and its first thread are looked at every two milliseconds: what the
+    system tells of memory at the end counts that of the process that started it, and of threads nothing."""
+    begun, reader, most = time.monotonic(), 0, 0
     with open(source, "rb") as lines:
         running = subprocess.Popen(words, stdin=lines, stdout=subprocess.DEVNULL)
     while True:
         ended, status, used = os.wait4(running.pid, os.WNOHANG)
         if ended:
             break
-        most = max(most, peak(running.pid))
+        reader, most = max(reader, on_processor(running.pid)), max(most, peak(running.pid))
         time.sleep(0.002)
     running.returncode = os.waitstatus_to_exitcode(status)
     if running.returncode:
         raise subprocess.CalledProcessError(running.returncode, words)
-    return Taken(time.monotonic() - begun, used.ru_utime + used.ru_stime, most / 1024)
+    return Taken(time.monotonic() - begun, used.ru_utime + used.ru_stime, reader / 1e9, most / 1024)
+
+
+def on_processor(process):
+    """How many nanoseconds the first thread of a process was on a processor."""
+    with open(f"/proc/{process}/task/{process}/schedstat", encoding="utf-8") as told:
+        return int(told.read().split()[0])
 
 
 def peak(process):
     """How many KB a process had in memory at most, if it has not ended."""
-    with open(f"/proc/{process}/status", encoding="utf-8") as status:
-        told = re.search(r"^VmHWM:\s+(\d+)", status.read(), re.M)
-    return int(told[1]) if told else 0
+    with open(f"/proc/{process}/status", encoding="utf-8") as told:
+        most = re.search(r"^VmHWM:\s+(\d+)", told.read(), re.M)
+    return int(most[1]) if most else 0
 
 
 def main():
