@@ -15,7 +15,7 @@ use tc_command::{Ask, PathExpr, Rows};
 use tc_log::Write;
 use tc_record::is_stored_record;
 use tc_store::{Frozen, MemFrozen, MemWatch};
-use tc_view::{Change, Chunk, Key, Publisher};
+use tc_view::{Change, Chunk, Key, Publisher, Rooms};
 
 /// The record of `{}`.
 const RECORD: [u8; 25] = [
@@ -46,7 +46,7 @@ fn frame(alloc: Global, first: Write, second: Write) -> Result<Arc<Chunk>, Fail>
     let mut writes = Vec::new(alloc);
     writes.push(first)?;
     writes.push(second)?;
-    Ok(Arc::new(alloc, Chunk::of(alloc, &writes)?)?)
+    Ok(Arc::new(alloc, Chunk::of(alloc, &mut Rooms::new(alloc), &writes)?)?)
 }
 
 /// The rows over a view of two frames: the second takes out what the first sets, and the other way round.

@@ -21,7 +21,7 @@ use tc_list::ComponentList;
 use tc_log::Write;
 use tc_memory::Sealed;
 use tc_store::Frozen;
-use tc_view::{Change, Chunk, Content, Lens, Publisher, Step, View};
+use tc_view::{Change, Chunk, Content, Lens, Publisher, Rooms, Step, View};
 
 /// What a partition shows. It stands beside the partition's engine and not in it, and is told after the fact: behind a window,
 /// what was written, and behind a call that moves documents, where they lie. So an engine needs no leave to wait. Each
@@ -33,6 +33,7 @@ where
 {
     alloc: Global,
     publisher: Publisher<F>,
+    rooms: Rooms,
     // What is shown: the components, whether a table is over them, and whether writes lie behind both.
     list: Arc<ComponentList<F>>,
     sealed: bool,
@@ -74,6 +75,7 @@ impl<F: Frozen> Shown<F> {
             Ok(()) => Ok(Shown {
                 alloc,
                 publisher,
+                rooms: Rooms::new(alloc),
                 list: placed,
                 sealed: false,
                 written: false,
@@ -99,7 +101,7 @@ impl<F: Frozen> Shown<F> {
         if frame.is_empty() {
             return Ok(());
         }
-        let chunk = chunk_of(self.alloc, frame)?;
+        let chunk = chunk_of(self.alloc, &mut self.rooms, frame)?;
         self.failed = true;
         publish(rt, &mut self.publisher, Change::Writes(chunk))?;
         self.written = true;
@@ -172,6 +174,7 @@ impl<F: Frozen> Shown<F> {
         let Shown {
             alloc: _,
             publisher,
+            rooms: _rooms,
             list: _list,
             sealed: _,
             written: _,
@@ -182,10 +185,10 @@ impl<F: Frozen> Shown<F> {
 }
 
 /// The chunk of a frame, which is dropped behind it.
-fn chunk_of(alloc: Global, frame: Vec<Write>) -> Result<Arc<Chunk>, Memory>
+fn chunk_of(alloc: Global, rooms: &mut Rooms, frame: Vec<Write>) -> Result<Arc<Chunk>, Memory>
     ensures { IfOk result (λ chunk. arc_value chunk ≡ frame.items) }
 {
-    Ok(Arc::new(alloc, Chunk::of(alloc, &frame)?)?)
+    Ok(Arc::new(alloc, Chunk::of(alloc, rooms, &frame)?)?)
 }
 
 /// Appends a change and publishes it. After an `Err` the publisher must not be used but for `end`.

@@ -4,6 +4,7 @@ ghost use Rattle.std.specs.Prelude.{◌≡◌, ◌<◌, Some, length, option_map
 ghost use Rattle.tc_log.specs.Writes.{write_of};
 
 use crate::piece::{Piece, put};
+use crate::rooms::{Room, Rooms};
 use std::alloc::Global;
 use std::marker::Model;
 use tc_bytes::Memory;
@@ -31,12 +32,15 @@ impl Model for Chunk {
 }
 
 impl Chunk {
-    /// The chunk of these writes, of which it copies the records. Errs only for want of memory.
-    pub fn of(alloc: Global, writes: &[Write]) -> Result<Chunk, Memory>
+    /// The chunk of these writes, of which it copies the records into one of these rooms. Errs only for want of memory.
+    pub fn of(alloc: Global, rooms: &mut Rooms, writes: &[Write]) -> Result<Chunk, Memory>
         ensures same { IfOk result (λ chunk. chunk ≡ writes.now) }
     {
-        let mut bytes = Vec::with_capacity(alloc, records_len(writes))?;
-        let mut pieces = Vec::with_capacity(alloc, writes.len())?;
+        let room = rooms.take(alloc, writes.len(), records_len(writes))?;
+        let Room {
+            mut pieces,
+            mut bytes,
+        } = room;
         for write in writes {
             pieces.push(put(&mut bytes, write)?)?;
         }

@@ -6,7 +6,7 @@ ghost use Rattle.tc_log.specs.Writes.{IsWrite};
 ghost use Rattle.tc_view.specs.Changes.{writes_in};
 ghost use Rattle.tc_view.specs.Places.{awaited_by, IsLensOf, IsReady};
 
-use crate::{Change, Chunk, Key, Lens, Publisher};
+use crate::{Change, Chunk, Key, Lens, Publisher, Rooms};
 use std::alloc::{AllocError, Global};
 use std::sync::{Arc, Wait};
 use std::test::Fail;
@@ -35,7 +35,7 @@ fn one(alloc: Global, key: u64) -> Result<Arc<Chunk>, Fail>
         key,
         bytes: Bytes::of(record),
     })?;
-    Ok(Arc::new(alloc, Chunk::of(alloc, &writes)?)?)
+    Ok(Arc::new(alloc, Chunk::of(alloc, &mut Rooms::new(alloc), &writes)?)?)
 }
 
 /// The numbers of ten snapshots without a note, each after one more write was published, and of one that begins with a

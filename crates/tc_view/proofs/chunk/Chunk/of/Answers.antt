@@ -4,7 +4,7 @@ use Rattle.tc_view.proofs.PieceLemmas.{AreOf, none_of, next_of}
 use Rattle.tc_view.proofs.chunk.Chunk.of.Goals as goal
 
 pub loop-write-init : goal.loop-write-init
-loop-write-init c = subst (λ ps. AreOf c.in_ok-bytes.bytes.items ps []) (sym c.in_ok-pieces.ensures.items) (none_of c.in_ok-bytes.bytes.items)
+loop-write-init c = subst (λ ps. AreOf c.in_ok-room.room.bytes.items ps []) (sym c.in_ok-room.ensures.0) (none_of c.in_ok-room.room.bytes.items)
 
 pub loop-write-preserved : goal.loop-write-preserved
 loop-write-preserved c =
