@@ -9,8 +9,9 @@ mod Fronts
 mod Files
 mod Loaded
 mod Lookups
+mod SpanLaws
 mod Fetched
 pub mod EntryRecords
 mod EntryPlaces
 mod SpelledContents
-mod Windows
+pub mod Windows

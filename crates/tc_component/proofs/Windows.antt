@@ -1,5 +1,5 @@
 -- Bytes in a window of a file.
-use Rattle.std.proofs.Common.{◌≡◌, ◌∙◌, ◌≤◌, ◌+◌, ◌-◌, ℕ, zero, suc, List, [], ◌∷◌, length, take, drop, refl, sym, ap, arith, Option, Some, None, subst}
+use Rattle.std.proofs.Common.{◌≡◌, ◌∙◌, ◌≤◌, ◌+◌, ◌-◌, ℕ, zero, suc, List, [], ◌∷◌, length, take, drop, refl, ap, arith, Option, Some, None, subst}
 use Rattle.std.specs.Prelude.{IfSome}
 use Rattle.std.proofs.lemmas.List.{drop-drop}
 use Rattle.tc_component.specs.Cursors.{CursorState, HoldsPart, HasBytes}
@@ -31,3 +31,7 @@ part_told bytes c place count holds has =
 pub part_is : (content : Option (List ℕ)) (c : CursorState) (place count : ℕ) → HoldsPart content c → HasBytes place count c → IfSome content (λ bytes. take count (drop (place - c.from) c.held) ≡ take count (drop place bytes))
 part_is None c place count holds has = tt
 part_is (Some bytes) c place count holds has = part_told bytes c place count holds has
+
+-- what holds of one place and count holds of those that are equal to them
+pub at_range : (P : ℕ → ℕ → Type 0) (p q n m : ℕ) → p ≡ q → n ≡ m → P p n → P q m
+at_range P p q n m place count is = subst (λ k. P q k) count (subst (λ k. P k n) place is)

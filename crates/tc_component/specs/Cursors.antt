@@ -20,6 +20,10 @@ HoldsPart content cursor = IfSome content (λ bytes. cursor.held ≡ take (lengt
 abbrev pub HasBytes : ℕ → ℕ → CursorState → Type 0
 HasBytes place count cursor = (cursor.from ≤ place) × (place + count ≤ cursor.from + length cursor.held)
 
+-- which of them these are
+abbrev pub part_held : ℕ → ℕ → CursorState → List ℕ
+part_held place count cursor = take count (drop (place - cursor.from) cursor.held)
+
 -- They begin at a place, where so many are wanted, and end before another. They are no more than one window, or than those
 -- that are wanted, and no less than one window, or than all up to that end.
 pub record IsWindow (place count end : ℕ) (cursor : CursorState) : Type 0 where
@@ -38,4 +42,4 @@ BeginsAtRecord c at cursor = IsWindow (record_place c.slots at) (length_at c.slo
 
 -- which of them are that record
 abbrev pub record_held : Index → ℕ → CursorState → List ℕ
-record_held c at cursor = take (length_at c.slots at) (drop (record_place c.slots at - cursor.from) cursor.held)
+record_held c at cursor = part_held (record_place c.slots at) (length_at c.slots at) cursor

@@ -6,6 +6,7 @@ pub mod Building
 pub mod Columns
 pub mod Loading
 pub mod Fetching
+pub mod Spans
 pub mod Cursors
 pub mod Rows
 pub mod Meaning

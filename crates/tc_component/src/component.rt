@@ -1,6 +1,6 @@
 //! The component that is searched.
 
-ghost use Rattle.std.specs.Prelude.{◌≡◌, ◌<◌, ◌≤◌, ◌+◌, ℕ, List, Err, Some, slice_get, length, IfOk, IfSome, IsErrOf};
+ghost use Rattle.std.specs.Prelude.{◌≡◌, ◌<◌, ◌≤◌, ◌+◌, ◌-◌, ℕ, List, Err, Some, slice_get, length, min, take, IfOk, IfSome, IsErrOf};
 ghost use Rattle.std.specs.Result.{IsOk};
 ghost use Rattle.tc_store.specs.Counted.{IsCountedOnce};
 ghost use Rattle.tc_store.specs.Judging.{Judges, IfDamaged, damage as a_damage};
@@ -10,10 +10,11 @@ ghost use Rattle.tc_component.specs.Fetching.{IsPlace, record_place, length_at, 
 ghost use Rattle.tc_component.specs.Layout.{directory_place, names_place, schema_place, file_size};
 ghost use Rattle.tc_component.specs.Loading.{index_in, same_head, IsCountedTwice};
 ghost use Rattle.tc_component.specs.Reading.{head_judged, file_judged};
+ghost use Rattle.tc_component.specs.Spans.{AreSpans};
 ghost use Rattle.tc_component.specs.Spelling.{sizes_in, name_of, IsHead, IsIndex};
 
 use crate::fetching::record_of;
-use crate::found::{DirEntry, Found, Place};
+use crate::found::{DirEntry, Found, Place, Span};
 use crate::head::Head;
 use crate::layout::{RECORDS_PLACE, SLOT_LEN};
 use crate::loading::{Loaded, loaded_of};
@@ -100,6 +101,16 @@ impl<F: Frozen> Component<F> {
         ensures { IsEntry self.now.index.slots at result }
     {
         entry_of(at, self.loaded.parts.directory.slot(at))
+    }
+
+    /// The entries from a position of the directory on, as many as there are and as there is room for. Answers how many.
+    /// Makes no read and takes no memory.
+    pub fn spans(&self, at: usize, room: &mut [Span]) -> usize
+        requires { at ≤ length self.now.index.slots }
+        ensures count { result ≡ min (length room.old) (length self.now.index.slots - at) }
+        ensures spans { AreSpans self.now.index.slots at (take result room.new) }
+    {
+        self.loaded.parts.directory.spans(at, room)
     }
 
     /// Fetches the record of the entry at a place, by one read, which is left out where memory is wanting. It is of form

@@ -4,7 +4,7 @@ ghost use Rattle.std.specs.Prelude.{◌≡◌, ◌<◌, ◌≤◌, ◌+◌, ◌-
 ghost use Rattle.std.specs.Result.{IsOk};
 ghost use Rattle.tc_store.specs.Counted.{IsCountedOnce};
 ghost use Rattle.tc_store.specs.Judging.{IfDamaged, IsNoDamage};
-ghost use Rattle.tc_component.specs.Cursors.{holds_nothing, HoldsPart, HasBytes, IsWindow, HasRecord, BeginsAtRecord, record_held};
+ghost use Rattle.tc_component.specs.Cursors.{holds_nothing, HoldsPart, HasBytes, IsWindow, part_held, HasRecord, BeginsAtRecord, record_held};
 ghost use Rattle.tc_component.specs.Layout.{window_size, directory_place};
 ghost use Rattle.tc_component.specs.Spelling.{sizes_in};
 ghost use Rattle.tc_component.specs.Fetching.{IsPlace, record_place, length_at, record_at, IsRecordWithin};
@@ -72,6 +72,35 @@ impl RecordCursor {
         ensures counted { IsCountedOnce (IsErrOf result ReadFault.Disk) ((HasRecord component.now.index place.at self.old → ⊥) × (IsErrOf result ReadFault.Memory → ⊥)) (F.Watch.counts watch.old) (F.Watch.counts watch.new) }
     {
         let (begin, count) = component.record_range(place);
+        self.read_part(component, begin, count, watch)
+    }
+
+    /// Holds so many bytes of the records from a place on, as `spans` and `record_range` tell them, and judges them as `read`
+    /// does. Where they are held there is no read.
+    pub fn read_part<F: Frozen>(
+        &mut self,
+        component: &Component<F>,
+        begin: u64,
+        count: u32,
+        watch: &mut F::Watch,
+    ) -> Result<(), ReadFault>
+        requires within { begin + count ≤ directory_place (sizes_in component.now.index) }
+        requires of { HoldsPart (F.content component.now.file) self.old }
+
+        ensures of { HoldsPart (F.content component.now.file) self.new }
+        ensures has { OnOk result (HasBytes begin count self.new) }
+        ensures read { OnOk result (IfSome (F.content component.now.file) (λ bytes. part_held begin count self.new ≡ take count (drop begin bytes))) }
+        ensures told { IfDamaged result (λ at kept. IfSome (F.content component.now.file) (λ bytes. kept ≡ take count (drop begin bytes))) }
+
+        // Also of a file that does not tell its content.
+        ensures found { OnOk result (IsRecordWithin (length component.now.index.names) (part_held begin count self.new)) }
+        ensures damaged { IfDamaged result (λ at kept. (at ≡ begin) × (length kept ≡ count) × (IsRecordWithin (length component.now.index.names) kept → ⊥)) }
+
+        // Where the bytes are held the cursor stays, and makes no read.
+        ensures held { HasBytes begin count self.old → (self.new ≡ self.old) × (F.Watch.counts watch.new ≡ F.Watch.counts watch.old) }
+        ensures window { OnOk result ((HasBytes begin count self.old → ⊥) → IsWindow begin count (directory_place (sizes_in component.now.index)) self.new) }
+        ensures counted { IsCountedOnce (IsErrOf result ReadFault.Disk) ((HasBytes begin count self.old → ⊥) × (IsErrOf result ReadFault.Memory → ⊥)) (F.Watch.counts watch.old) (F.Watch.counts watch.new) }
+    {
         self.hold(component, begin, count, watch)?;
         let bytes = self.part(begin, count);
         judge(self.alloc, component.names().len(), begin, bytes)
@@ -149,10 +178,12 @@ impl RecordCursor {
         }
     }
 
-    fn part(&self, begin: u64, count: u32) -> &[u8]
+    /// So many of the bytes from a place on, which are held. Takes no memory.
+    pub fn part(&self, begin: u64, count: u32) -> &[u8]
         requires { HasBytes begin count self.now }
-        ensures part { result.now ≡ take count (drop (begin - self.now.from) self.now.held) }
+        ensures part { result.now ≡ part_held begin count self.now }
         ensures length { length result.now ≡ count }
+        ensures short { length result.now < 2 ^ 32 }
     {
         let at = (begin - self.from) as usize;
         &self.held[at..at + count as usize]

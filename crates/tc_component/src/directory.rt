@@ -1,14 +1,15 @@
 //! The directory of a component, in memory: two plain columns.
 
-ghost use Rattle.std.specs.Prelude.{◌≡◌, ◌<◌, ◌≤◌, ◌+◌, ◌-◌, ◌==◌, ◌&&◌, ◌||◌, nat_le, nat_lt, [], length, take, slice_get, slice_index, Some, option_map, IfOk};
+ghost use Rattle.std.specs.Prelude.{◌≡◌, ◌<◌, ◌≤◌, ◌+◌, ◌-◌, ◌==◌, ◌&&◌, ◌||◌, nat_le, nat_lt, [], length, min, take, slice_get, slice_index, Some, option_map, IfOk};
 ghost use Rattle.tc_component.specs.declared.slot.Slot.{Slot as OneSlot};
 ghost use Rattle.tc_component.specs.Columns.{IsFound};
 ghost use Rattle.tc_component.specs.Layout.{number_end};
 ghost use Rattle.tc_component.specs.Spelling.{lengths_of};
 ghost use Rattle.tc_component.specs.Reading.{directory_read};
+ghost use Rattle.tc_component.specs.Spans.{AreSpans};
 
-use crate::found::{Found, Place};
-use crate::layout::SLOT_LEN;
+use crate::found::{Found, Place, Span};
+use crate::layout::{RECORDS_PLACE, SLOT_LEN};
 use crate::slot::{Slot, slot_in};
 use std::alloc::Global;
 use std::marker::Model;
@@ -79,9 +80,32 @@ impl Directory {
         }
     }
 
+    /// The entries from a position on, as many as there are and as there is room for. Answers how many. Records begin where
+    /// they do in a file.
+    pub(crate) fn spans(&self, at: usize, room: &mut [Span]) -> usize
+        requires { at ≤ length self.now }
+        ensures count { result ≡ min (length room.old) (length self.now - at) }
+        ensures spans { AreSpans self.now at (take result room.new) }
+    {
+        let keys = self.keys.as_slice();
+        let ends = self.ends.as_slice();
+        let count = room.len().min(keys.len() - at);
+        let mut start = self.start(at);
+        for step in 0..count {
+            let end = ends[at + step];
+            room[step] = Span {
+                key: keys[at + step],
+                begin: RECORDS_PLACE + start,
+                count: (end - start) as u32,
+            };
+            start = end;
+        }
+        count
+    }
+
     /// How many bytes the records before a place have.
     pub(crate) fn start(&self, at: usize) -> u64
-        requires { at < length self.now }
+        requires { at ≤ length self.now }
         ensures { result ≡ lengths_of (take at self.now) }
     {
         let ends = self.ends.as_slice();

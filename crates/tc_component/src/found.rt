@@ -20,3 +20,12 @@ pub struct DirEntry {
     pub key: u64,
     pub place: Option<Place>,
 }
+
+/// An entry of a directory, and where its record lies in the file: from a place on, so many bytes, which are none where the
+/// entry is gone.
+#[derive(Clone, Copy, Debug, PartialEq, Eq)]
+pub struct Span {
+    pub key: u64,
+    pub begin: u64,
+    pub count: u32,
+}

@@ -18,7 +18,7 @@ mod spool;
 pub use builder::Builder;
 pub use component::{Component, read_head};
 pub use cursor::RecordCursor;
-pub use found::{DirEntry, Found, Place};
+pub use found::{DirEntry, Found, Place, Span};
 pub use head::Head;
 pub use law::{components_are_contents, written_is_read};
 pub use slot::Slot;

@@ -8,7 +8,7 @@ ghost use Rattle.tc_component.specs.Reading.{is_key, is_length, slot_at};
 ghost use Rattle.tc_component.specs.Spelling.{slot_bytes};
 
 use crate::layout::{LEAST_RECORD, MAX_NUMBER};
-use tc_bytes::{Memory, u32_at, u64_at};
+use tc_bytes::{Memory, put_u32, put_u64, u32_at, u64_at};
 
 /// What a directory has of an entry: its key, and how many bytes its record has, which are none where it is gone.
 #[derive(Clone, Copy, Debug, PartialEq, Eq)]
@@ -18,15 +18,14 @@ pub struct Slot {
 }
 
 /// Appends a slot to the bytes of a directory.
+// A merge pushes an entry in a few dozen instructions; a call of its own for each part of it would cost as much as the
+// part.
+#[inline(always)]
 pub(crate) fn put_slot(slot: Slot, directory: &mut Vec<u8>) -> Result<(), Memory>
     ensures { OnOk result (directory.new.items ≡ directory.old.items ++ slot_bytes slot) }
 {
-    let key = slot.key.to_be_bytes();
-    let length = slot.length.to_be_bytes();
-    directory.extend_from_slice(&[
-        key[0], key[1], key[2], key[3], key[4], key[5], key[6], key[7], length[0], length[1],
-        length[2], length[3],
-    ])
+    put_u64(directory, slot.key)?;
+    put_u32(directory, slot.length)
 }
 
 /// A slot from the front of the bytes.

@@ -28,6 +28,9 @@ impl<D: Device> Spool<D> {
     }
 
     /// Takes these bytes behind all before them. They wait until there are enough of them.
+    // A merge pushes an entry in a few dozen instructions; a call of its own for each part of it would cost as much as the
+    // part.
+    #[inline(always)]
     pub(crate) fn put(&mut self, bytes: &[u8], watch: &mut D::Watch) -> Result<(), DeviceFault>
         requires begun { 0 < self.old.end }
         requires short { self.old.end < 2 ^ 63 }
