@@ -1,6 +1,7 @@
 -- One step of a merge, by the entries that are ahead.
-use Rattle.std.proofs.Common.{◌≡◌, ◌≢◌, ◌≤◌, ◌+◌, ℕ, zero, suc, Bool, true, false, List, [], ◌∷◌, refl, sym, ap, ◌∙◌, subst, Option, Some, None, Less, map, take, drop, slice_get, arith, inl, inr, eq-eqb}
+use Rattle.std.proofs.Common.{◌≡◌, ◌≢◌, ◌≤◌, ◌+◌, ℕ, zero, suc, Bool, true, false, List, [], ◌∷◌, refl, sym, ap, ◌∙◌, subst, Option, Some, None, Less, Equal, map, take, drop, slice_get, arith, inl, inr, eq-eqb}
 use Rattle.std.specs.Prelude.{◌==◌, if◌then◌else◌, All, unwrap_or, option_map}
+use Rattle.std.specs.Cmp.{nat_cmp_is}
 use Rattle.std.specs.Ordering.{nat_cmp}
 use Rattle.std.specs.Map.{keys_of}
 use Rattle.std.proofs.lemmas.Bool.{eqb-true, lt-ltb, cases_lt, true≢false}
@@ -117,6 +118,34 @@ all_start {F} content key (i ∷ inputs) all least =
     All-cons (Starts key) (rows_left content i) (map (rows_left content) inputs)
     (starts_one content key i (All-head (λ (c : ComponentState F). IsIndex c.index) i.component (map (λ j. j.component) inputs) all) (λ k is. least 0 k i refl is))
     (all_start content key inputs (All-tail (λ (c : ComponentState F). IsIndex c.index) i.component (map (λ j. j.component) inputs) all) (λ n k j here is. least (suc n) k j here is))
+
+-- an input that was passed does not have the key ahead again
+passed_once : {F : Type 0} (key : ℕ) (i : InputState F) → IsIndex i.component.index → key_ahead i ≡ Some key → is_ahead key (key_ahead (record { component = i.component; at = i.at + 1 })) ≡ false
+passed_once {F} key i is some = step (key_ahead further) refl
+  where
+    content : F → Option (List ℕ)
+    content file = None
+
+    further : InputState F
+    further = record { component = i.component; at = i.at + 1 }
+
+    apart : (k : ℕ) → nat_cmp key k ≡ Less → (b : Bool) → (key == k) ≡ b → b ≡ false
+    apart k less true same = let equal = nat_cmp_is key k Equal (eqb-true key k same) in absurd (cc)
+    apart k less false other = refl
+
+    step : (o : Option ℕ) → key_ahead further ≡ o → is_ahead key o ≡ false
+    step None none = refl
+    step (Some k) more =
+        let a = ahead content i key some in
+        let b = ahead content further k more in
+        let up : Ascends ((key, a.held) ∷ (k, b.held) ∷ b.rest) = subst Ascends (a.rows ∙ ap (λ rows. (key, a.held) ∷ rows) (sym a.further ∙ b.rows)) (ascends_left content i is) in
+        apart k (sorted_head nat_cmp key (keys_of ((k, b.held) ∷ b.rest)) up).0 (key == k) refl
+
+pub passed_again : {F : Type 0} (key : ℕ) (i : InputState F) → IsIndex i.component.index → key_ahead i ≡ Some key → passed key (passed key i) ≡ passed key i
+passed_again {F} key i is some = ap (passed key) one ∙ ap (λ b. if b then record { component = i.component; at = i.at + 1 + 1 } else record { component = i.component; at = i.at + 1 }) (passed_once key i is some) ∙ sym one
+  where
+    one : passed key i ≡ record { component = i.component; at = i.at + 1 }
+    one = ap (λ b. if b then record { component = i.component; at = i.at + 1 } else i) (ap (is_ahead key) some ∙ eq-eqb key key refl)
 
 -- ---- the step
 

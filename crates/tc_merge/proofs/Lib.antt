@@ -12,3 +12,5 @@ mod MergedContents
 mod LastOfRun
 mod WrittenMoments
 mod ReadsCounted
+mod Near
+mod Chosen

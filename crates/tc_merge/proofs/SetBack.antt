@@ -1,13 +1,8 @@
--- Elements of a list that are put back, looked at, or changed one after the other.
+-- Elements of a list that are looked at, or changed one after the other.
 use Rattle.std.proofs.Common.{◌≡◌, ◌∙◌, ◌+◌, ℕ, zero, suc, List, [], ◌∷◌, ◌++◌, Some, length, map, take, drop, set, slice_get, refl, sym, ap, subst, arith}
 use Rattle.std.specs.Prelude.{All}
 use Rattle.std.proofs.lemmas.List.Elements.{All-head, All-tail}
 use Rattle.std.proofs.lemmas.Option.{same_Some}
-
-pub set_back : {X : Type 0} (xs : List X) (n : ℕ) (x : X) → slice_get xs n ≡ Some x → set xs n x ≡ xs
-set_back [] n x here = absurd (cc)
-set_back (y ∷ xs) zero x here = ap (λ z. z ∷ xs) (sym (same_Some y x here))
-set_back (y ∷ xs) (suc n) x here = ap (λ rest. y ∷ rest) (set_back xs n x here)
 
 pub all_at : {X Y : Type 0} (P : Y → Type 0) (f : X → Y) (xs : List X) (n : ℕ) (x : X) → All P (map f xs) → slice_get xs n ≡ Some x → P (f x)
 all_at P f [] n x all here = absurd (cc)
@@ -28,3 +23,9 @@ length_step f [] zero = refl
 length_step f [] (suc n) = refl
 length_step f (y ∷ xs) zero = refl
 length_step f (y ∷ xs) (suc n) = ap suc (length_step f xs n)
+
+-- one element is changed as all are, and then all, where that changes it no more
+pub map_again : {X : Type 0} (f : X → X) (xs : List X) (n : ℕ) (x : X) → slice_get xs n ≡ Some x → f (f x) ≡ f x → map f (set xs n (f x)) ≡ map f xs
+map_again f [] n x here same = absurd (cc)
+map_again f (y ∷ xs) zero x here same = ap (λ z. z ∷ map f xs) (same ∙ ap f (sym (same_Some y x here)))
+map_again f (y ∷ xs) (suc n) x here same = ap (λ rest. f y ∷ rest) (map_again f xs n x here same)

@@ -1,8 +1,6 @@
 -- How far a merge is.
 use Rattle.std.proofs.Common.{◌≡◌, ◌∙◌, ◌<◌, ◌≤◌, ◌+◌, ℕ, zero, suc, Bool, true, false, List, [], ◌∷◌, ◌++◌, Option, None, Some, length, map, drop, slice_get, refl, sym, ap, subst, arith, append_assoc, append-nil, eq-eqb, filter}
 use Rattle.std.specs.Prelude.{◌==◌, if◌then◌else◌, is_some, option_map}
-use Rattle.std.specs.Option.{option_eq}
-use Rattle.std.proofs.lemmas.Bool.{eqb-true}
 use Rattle.std.proofs.lemmas.List.{length-drop}
 use Rattle.std.proofs.lemmas.List.Sums.{sum_by-cons}
 use Rattle.std.proofs.lemmas.Option.{same_Some}
@@ -49,7 +47,7 @@ module _ {F : Type 0} (content : F → Option (List ℕ)) (from : ℕ) where
 
 -- ---- the components stay
 
-passed_component : {F : Type 0} (key : ℕ) (i : InputState F) → (passed key i).component ≡ i.component
+pub passed_component : {F : Type 0} (key : ℕ) (i : InputState F) → (passed key i).component ≡ i.component
 passed_component {F} key i = cases (is_ahead key (key_ahead i))
   where
     cases : (b : Bool) → ◌≡◌ {A = ComponentState F} ((if b then (record { component = i.component; at = i.at + 1 }) else i).component) i.component
@@ -62,17 +60,12 @@ passed_components key (i ∷ inputs) = ap (λ c. c ∷ map (λ j. j.component) (
 
 -- ---- fewer are left
 
-some_slot : (slots : List Slot) (at key : ℕ) → option_map (λ s. s.key) (slice_get slots at) ≡ Some key → at < length slots
+pub some_slot : (slots : List Slot) (at key : ℕ) → option_map (λ s. s.key) (slice_get slots at) ≡ Some key → at < length slots
 some_slot [] at key is = absurd (cc)
 some_slot (s ∷ slots) zero key is = omega arith
 some_slot (s ∷ slots) (suc at) key is = let rest = some_slot slots at key is in omega (arith, rest)
 
 -- an input with a key ahead has an entry left
--- a key that is found to be the one ahead
-pub same_key : (o : Option ℕ) (key : ℕ) → option_eq (λ x y. x == y) o (Some key) ≡ true → o ≡ Some key
-same_key None key is = cc
-same_key (Some k) key is = ap Some (eqb-true k key is)
-
 pub entry_left : {F : Type 0} (i : InputState F) (key : ℕ) → key_ahead i ≡ Some key → i.at < length i.component.index.slots
 entry_left i key is = some_slot i.component.index.slots i.at key is
 

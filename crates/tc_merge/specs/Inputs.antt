@@ -1,10 +1,13 @@
 -- Components on their way into a merge, and which entry is the next.
-use Rattle.std.specs.Prelude.{◌≡◌, ◌≢◌, ◌<◌, ◌≤◌, ◌+◌, ℕ, ◌==◌, Bool, false, if◌then◌else◌, List, ◌++◌, length, map, sum_by, drop, slice_get, Option, Some, None, option_map}
+use Rattle.std.specs.Prelude.{◌≡◌, ◌≢◌, ◌<◌, ◌≤◌, ◌+◌, ◌-◌, ◌^◌, ℕ, ◌==◌, Bool, false, if◌then◌else◌, List, ◌++◌, length, map, sum_by, take, drop, slice_get, Option, Some, None, option_map}
+use Rattle.tc_component.specs.declared.found.Span.{Span}
 use Rattle.tc_component.specs.Loading.{ComponentState}
-use Rattle.tc_component.specs.Spelling.{Row}
+use Rattle.tc_component.specs.Spans.{AreSpans}
+use Rattle.tc_component.specs.Spelling.{Row, Index}
 use Rattle.tc_merge.specs.Merging.{rows_told, kept}
 use Rattle.tc_merge.specs.Newest.{newest}
 use Rattle.tc_merge.specs.declared.input.Next.{Next}
+use Rattle.tc_merge.specs.declared.least.Least.{Least}
 
 -- a component, and how many of its entries are behind
 pub record InputState (F : Type 0) : Type 0 where
@@ -19,9 +22,34 @@ starts c = record { component = c; at = 0 }
 abbrev pub key_ahead : {F : Type 0} → InputState F → Option ℕ
 key_ahead input = option_map (λ s. s.key) (slice_get input.component.index.slots input.at)
 
--- the rows that are left, where the file tells
+-- greater than each key
+abbrev pub no_key : ℕ
+no_key = 2 ^ 64 - 1
+
+-- a key, or that none is left
+abbrev pub key_in : ℕ → Option ℕ
+key_in key = if key == no_key then None else Some key
+
+-- how many entries are looked up at once
+abbrev pub near_size : ℕ
+near_size = 16
+
+-- the entries that were looked up from a position on, of which so many are behind, and the key of the one behind these
+pub record IsNear (c : Index) (base : ℕ) (near : List Span) (held step key : ℕ) : Type 0 where
+  pub within : base + step ≤ length c.slots
+  pub spans : AreSpans c.slots base (take held near)
+  pub long : length near ≡ near_size
+  pub room : held ≤ near_size
+  pub some : base + step < length c.slots → step < held
+  pub ahead : key_in key ≡ option_map (λ s. s.key) (slice_get c.slots (base + step))
+
+-- the rows of a component from a position on, where its file tells
+abbrev pub rows_from : {F : Type 0} → (F → Option (List ℕ)) → ComponentState F → ℕ → List Row
+rows_from content c at = drop at (rows_told content c)
+
+-- the rows that are left of an input
 abbrev pub rows_left : {F : Type 0} → (F → Option (List ℕ)) → InputState F → List Row
-rows_left content input = drop input.at (rows_told content input.component)
+rows_left content input = rows_from content input.component input.at
 
 abbrev pub is_ahead : ℕ → Option ℕ → Bool
 is_ahead key None = false
@@ -43,6 +71,10 @@ pub record IsNext {F : Type 0} (inputs : List (InputState F)) (next : Next) : Ty
 abbrev pub IsNextOf : {F : Type 0} → List (InputState F) → Option Next → Type 0
 IsNextOf {F} inputs None = (n : ℕ) (i : InputState F) → slice_get inputs n ≡ Some i → key_ahead i ≡ None
 IsNextOf inputs (Some next) = IsNext inputs next
+
+-- the next, as it is looked for
+abbrev pub next_in : Least → Option Next
+next_in least = if least.key == no_key then None else Some (record { input = least.input; key = least.key })
 
 -- how many entries are left
 abbrev pub left_of : {F : Type 0} → List (InputState F) → ℕ

@@ -1,14 +1,15 @@
 //! The components that are merged, each with the place of its next entry.
 
 ghost use Rattle.std.specs.Arc.{arc_value};
-ghost use Rattle.std.specs.Prelude.{◌≡◌, ◌<◌, ◌≤◌, ◌+◌, ◌^◌, ◌∷◌, [], ◌++◌, List, length, option_map, slice_get, Some, None, false, IfSome, IfErr, IsErrOf, OnOk, IsSome};
+ghost use Rattle.std.specs.Prelude.{◌≡◌, ◌<◌, ◌≤◌, ◌+◌, ◌^◌, ℕ, ◌∷◌, [], ◌++◌, List, length, option_map, take, drop, Some, None, false, IfSome, IfErr, IsErrOf, OnOk, IsSome};
 ghost use Rattle.tc_store.specs.Gate.{IsClosed};
 ghost use Rattle.tc_store.specs.Moments.{LeavesOnly};
 ghost use Rattle.tc_component.specs.Building.{HasRows};
-ghost use Rattle.tc_component.specs.Fetching.{IsPlace, record_at, IsRecordWithin};
+ghost use Rattle.tc_component.specs.Fetching.{IsRecordWithin};
+ghost use Rattle.tc_component.specs.Spans.{IsSpan};
 ghost use Rattle.tc_component.specs.Spelling.{Row, name_of as name_of_head};
 ghost use Rattle.tc_merge.specs.Faults.{IfHarmed, IsHarmless, IsHarmOf, IsWatched};
-ghost use Rattle.tc_merge.specs.Inputs.{key_ahead, rows_left, passed};
+ghost use Rattle.tc_merge.specs.Inputs.{key_ahead, key_in, rows_from, passed, IsNear};
 ghost use Rattle.tc_merge.specs.Merging.{kept, live_rows};
 ghost use Rattle.tc_store.specs.Counted.{IsCounted};
 
@@ -16,34 +17,53 @@ use crate::fault::{MergeFault, of_device, of_read};
 use std::alloc::Global;
 use std::marker::Model;
 use std::sync::Arc;
-use tc_component::{Builder, Component, Head, Place, RecordCursor};
+use tc_component::{Builder, Component, Head, RecordCursor, Span};
 use tc_store::{Device, FileName, Frozen, Store};
+
+/// How many entries are looked up at once: directories are larger than a processor's near caches, and of each only a few
+/// bytes are asked for in one step, so that many are fetched while the first of them is waited for.
+const NEAR: usize = 16;
+
+/// What stands where no entry was looked up.
+const NONE: Span = Span {
+    key: 0,
+    begin: 0,
+    count: 0,
+};
+
+/// The key where no entry is left, which is greater than each key.
+pub(crate) const NO_KEY: u64 = u64::MAX;
 
 /// A component whose entries are passed one after the other. Contracts see the component, and how many are behind.
 #[derive(Drop)]
 pub(crate) struct Input<F: Frozen> {
     component: Arc<Component<F>>,
-    at: usize,
-    /// The key of the entry there, for which each step of a merge asks.
-    key: Option<u64>,
+    /// The key of the next entry, for which each step of a merge asks.
+    key: u64,
+    /// The position from which on entries were looked up.
+    base: usize,
+    near: [Span; NEAR],
+    /// How many were looked up, and how many of them are behind.
+    held: usize,
+    step: usize,
     cursor: RecordCursor,
 }
 
 impl<F: Frozen> Model for Input<F> {
     ghost use Rattle.std.specs.Arc.{arc_value};
     ghost use Rattle.std.specs.Coded.{codes};
-    ghost use Rattle.std.specs.Prelude.{◌≡◌, ◌≤◌, length};
+    ghost use Rattle.std.specs.Prelude.{◌+◌};
     ghost use Rattle.tc_schema_model.specs.CountedCode.{coded_counted};
     ghost use Rattle.tc_component.specs.Cursors.{HoldsPart};
-    ghost use Rattle.tc_merge.specs.Inputs.{InputState, key_ahead};
+    ghost use Rattle.tc_merge.specs.Inputs.{InputState, IsNear};
 
     ghost Value = { InputState F };
 
     ghost coded = { Prim.hlevel (codes, coded_counted) };
 
-    ghost view = { λ i. record { component = arc_value i.component; at = i.at } };
+    ghost view = { λ i. record { component = arc_value i.component; at = i.base + i.step } };
 
-    ghost invariant = { λ i. (i.at ≤ length (arc_value i.component).index.slots) × (i.key ≡ key_ahead (record { component = arc_value i.component; at = i.at })) × HoldsPart (F.content (arc_value i.component).file) i.cursor };
+    ghost invariant = { λ i. IsNear (arc_value i.component).index i.base i.near i.held i.step i.key × HoldsPart (F.content (arc_value i.component).file) i.cursor };
 }
 
 /// Which of the inputs has the next entry, and the key of that.
@@ -58,61 +78,84 @@ impl<F: Frozen> Input<F> {
     pub(crate) fn of(alloc: Global, component: Arc<Component<F>>) -> Input<F>
         ensures { result ≡ record { component = arc_value component; at = 0 } }
     {
-        let key = key_at(&component, 0);
+        let mut near = [NONE; NEAR];
+        let (held, key) = look_up(&component, 0, &mut near);
         Input {
             component,
-            at: 0,
             key,
+            base: 0,
+            near,
+            held,
+            step: 0,
             cursor: RecordCursor::new(alloc),
         }
     }
 
-    /// The key of the next entry.
-    pub(crate) fn key(&self) -> Option<u64>
-        ensures { result ≡ key_ahead self.now }
+    /// The key of the next entry, or `NO_KEY`.
+    pub(crate) fn key(&self) -> u64
+        ensures { key_in result ≡ key_ahead self.now }
     {
         self.key
     }
 
+    /// The next entry.
+    pub(crate) fn ahead(&self) -> Span
+        requires { self.now.at < length self.now.component.index.slots }
+        ensures { IsSpan self.now.component.index.slots self.now.at result }
+    {
+        self.near[self.step]
+    }
+
     /// Passes the next entry, where it has this key.
     pub(crate) fn pass(&mut self, key: u64)
+        requires { key_in key ≡ Some key }
         ensures { self.new ≡ passed key self.old }
     {
-        if self.key == Some(key) {
-            // that a place behind it is a number
-            let _fits = self.component.len();
-            self.at += 1;
-            self.key = key_at(&self.component, self.at);
+        if self.key != key {
+            return;
+        }
+        // that a place behind it is a number
+        let _fits = self.component.len();
+        let next = self.step + 1;
+        if next < self.held {
+            self.key = self.near[next].key;
+            self.step = next;
+        } else {
+            self.base += next;
+            self.step = 0;
+            (self.held, self.key) = look_up(&self.component, self.base, &mut self.near);
         }
     }
 }
 
-/// The key of the entry at a position of the directory, or `None` behind the last.
-fn key_at<F: Frozen>(component: &Component<F>, at: usize) -> Option<u64>
-    ensures { result ≡ option_map (λ s. s.key) (slice_get component.now.index.slots at) }
+/// Looks up entries from a position on, as many as there is room for. Answers how many, and the key of the first, or `NO_KEY`.
+// apart from the step that passes one, which is short without it
+#[inline(never)]
+fn look_up<F: Frozen>(component: &Component<F>, at: usize, near: &mut [Span; NEAR]) -> (usize, u64)
+    requires { at ≤ length component.now.index.slots }
+    ensures { IsNear component.now.index at near.new result.0 0 result.1 }
 {
-    if at < component.len() {
-        Some(component.entry(at).key)
-    } else {
-        None
-    }
+    let held = component.spans(at, near);
+    let key = if held == 0 { NO_KEY } else { near[0].key };
+    (held, key)
 }
 
-/// Pushes the next entry of an input: its record as it is, or that it is gone, which from generation 1 on is left out. The
-/// record is read, and judged, and nothing else is.
-pub(crate) fn put_next<S: Store>(
+/// Pushes an entry of an input: its record as it is, or that it is gone, which from generation 1 on is left out. The record is
+/// read, and judged, and nothing else is.
+pub(crate) fn put<S: Store>(
     input: &mut Input<S::Frozen>,
+    entry: Span,
     from: u64,
     builder: &mut Builder<S::Device>,
     watch: &mut S::Watch,
 ) -> Result<(), MergeFault>
-    requires left { input.old.at < length input.old.component.index.slots }
+    requires entry { (at : ℕ) × IsSpan input.old.component.index.slots at entry }
     requires going_on { builder.old.failed ≡ false }
 
     ensures same { input.new ≡ input.old }
-    ensures pushed { OnOk result ((row : Row) (left rows : List Row) → IsSome (S.Frozen.content input.old.component.file) → rows_left (λ file. S.Frozen.content file) input.old ≡ row ∷ left
+    ensures pushed { OnOk result ((at : ℕ) (row : Row) (left rows : List Row) → IsSpan input.old.component.index.slots at entry → IsSome (S.Frozen.content input.old.component.file) → rows_from (λ file. S.Frozen.content file) input.old.component at ≡ row ∷ left
         → HasRows (S.Device.history builder.old.device) builder.old rows → HasRows (S.Device.history builder.new.device) builder.new (rows ++ kept from (row ∷ []))) }
-    ensures judged { OnOk result ((row : Row) (left : List Row) → IsSome (S.Frozen.content input.old.component.file) → rows_left (λ file. S.Frozen.content file) input.old ≡ row ∷ left
+    ensures judged { OnOk result ((at : ℕ) (row : Row) (left : List Row) → IsSpan input.old.component.index.slots at entry → IsSome (S.Frozen.content input.old.component.file) → rows_from (λ file. S.Frozen.content file) input.old.component at ≡ row ∷ left
         → IfSome row.1 (λ bytes. IsRecordWithin (length input.old.component.index.names) bytes)) }
 
     // Also where no file tells.
@@ -122,31 +165,31 @@ pub(crate) fn put_next<S: Store>(
     ensures not_failed { OnOk result (builder.new.failed ≡ false) }
     ensures name { S.Device.name builder.new.device ≡ S.Device.name builder.old.device }
     ensures moments { LeavesOnly IsClosed (S.Device.history builder.old.device) (S.Device.history builder.new.device) }
-    ensures reads { (row : Row) (left : List Row) → rows_left (λ file. S.Frozen.content file) input.old ≡ row ∷ left → (S.Watch.counts watch.new).reads ≤ (S.Watch.counts watch.old).reads + live_rows (row ∷ []) }
+    ensures reads { (at : ℕ) (row : Row) (left : List Row) → IsSpan input.old.component.index.slots at entry → rows_from (λ file. S.Frozen.content file) input.old.component at ≡ row ∷ left → (S.Watch.counts watch.new).reads ≤ (S.Watch.counts watch.old).reads + live_rows (row ∷ []) }
     ensures watched { IsWatched (IsErrOf result MergeFault.Disk) (S.Watch.counts watch.old) (S.Watch.counts watch.new) }
 {
-    let entry = input.component.entry(input.at);
-    let Some(place) = entry.place else {
-        return put_gone(entry.key, from, builder, watch);
-    };
-    put_live::<S>(input, entry.key, place, builder, watch)
+    if entry.count == 0 {
+        put_gone(entry.key, from, builder, watch)
+    } else {
+        put_live::<S>(input, entry, builder, watch)
+    }
 }
 
-/// Pushes the record at a place, as it is, once it is read and judged.
+/// Pushes the record of an entry as it is, once it is read and judged.
 fn put_live<S: Store>(
     input: &mut Input<S::Frozen>,
-    key: u64,
-    place: Place,
+    entry: Span,
     builder: &mut Builder<S::Device>,
     watch: &mut S::Watch,
 ) -> Result<(), MergeFault>
-    requires place { IsPlace input.old.component.index.slots place }
+    requires entry { (at : ℕ) × IsSpan input.old.component.index.slots at entry }
+    requires live { 0 < entry.count }
     requires going_on { builder.old.failed ≡ false }
 
     ensures same { input.new ≡ input.old }
     ensures pushed { OnOk result ((rows : List Row) → HasRows (S.Device.history builder.old.device) builder.old rows
-        → IfSome (S.Frozen.content input.old.component.file) (λ whole. HasRows (S.Device.history builder.new.device) builder.new (rows ++ (key, Some (record_at input.old.component.index.slots place.at whole)) ∷ []))) }
-    ensures judged { OnOk result (IfSome (S.Frozen.content input.old.component.file) (λ whole. IsRecordWithin (length input.old.component.index.names) (record_at input.old.component.index.slots place.at whole))) }
+        → IfSome (S.Frozen.content input.old.component.file) (λ whole. HasRows (S.Device.history builder.new.device) builder.new (rows ++ (entry.key, Some (take entry.count (drop entry.begin whole))) ∷ []))) }
+    ensures judged { OnOk result (IfSome (S.Frozen.content input.old.component.file) (λ whole. IsRecordWithin (length input.old.component.index.names) (take entry.count (drop entry.begin whole)))) }
 
     // Also where no file tells.
     ensures more { OnOk result ((rows : List Row) → HasRows (S.Device.history builder.old.device) builder.old rows → (all : List Row) × HasRows (S.Device.history builder.new.device) builder.new all) }
@@ -158,11 +201,15 @@ fn put_live<S: Store>(
     ensures reads { (S.Watch.counts watch.new).reads ≤ (S.Watch.counts watch.old).reads + 1 }
     ensures watched { IsWatched (IsErrOf result MergeFault.Disk) (S.Watch.counts watch.old) (S.Watch.counts watch.new) }
 {
-    if let Err(fault) = input.cursor.read(&input.component, place, watch) {
+    let Span { key, begin, count } = entry;
+    if let Err(fault) = input
+        .cursor
+        .read_part(&input.component, begin, count, watch)
+    {
         let file = name_of(input.component.head());
         return Err(of_read(file, fault));
     }
-    let bytes = input.cursor.record(&input.component, place);
+    let bytes = input.cursor.part(begin, count);
     push(key, Some(bytes), builder, watch)
 }
 

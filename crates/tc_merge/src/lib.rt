@@ -5,6 +5,7 @@ mod fault;
 mod input;
 mod job;
 mod laws;
+mod least;
 mod mergeable;
 mod merging;
 mod writing;

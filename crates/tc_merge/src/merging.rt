@@ -6,12 +6,13 @@ ghost use Rattle.tc_store.specs.Moments.{LeavesOnly};
 ghost use Rattle.tc_component.specs.Building.{HasRows};
 ghost use Rattle.tc_component.specs.Spelling.{Row, IsIndex};
 ghost use Rattle.tc_merge.specs.Faults.{IfHarmed, IsHarmIn, IsJudged, IsWatched};
-ghost use Rattle.tc_merge.specs.Inputs.{InputState, rows_left, passed, left_of, IsNext, IsNextOf, IsUpTo};
+ghost use Rattle.tc_merge.specs.Inputs.{InputState, rows_left, passed, left_of, key_in, IsNext, IsNextOf, IsUpTo, next_in};
 ghost use Rattle.tc_merge.specs.Merging.{AreTold, kept, live_rows};
 ghost use Rattle.tc_merge.specs.Newest.{newest};
 
 use crate::fault::MergeFault;
-use crate::input::{Input, Next, put_next};
+use crate::input::{Input, Next, put};
+use crate::least::Least;
 use tc_component::Builder;
 use tc_store::{Frozen, Store};
 
@@ -75,49 +76,56 @@ fn put_entry<S: Store>(
     ensures reads { OnOk result (IsUpTo (λ file. S.Frozen.content file) from inputs.old inputs.new (λ done. (S.Watch.counts watch.new).reads ≤ (S.Watch.counts watch.old).reads + live_rows done)) }
     ensures watched { IsWatched (IsErrOf result MergeFault.Disk) (S.Watch.counts watch.old) (S.Watch.counts watch.new) }
 {
-    match put_next::<S>(&mut inputs[next.input], from, builder, watch) {
-        Ok(()) => Ok(pass_all(inputs, next.key)),
+    let chosen = &mut inputs[next.input];
+    let entry = chosen.ahead();
+    // all are passed below; this one is known here, and need not be guessed there
+    chosen.pass(next.key);
+    // which is next is found out before it is needed: a processor does so while it judges the record
+    let behind = pass_all(inputs, next.key);
+    match put::<S>(&mut inputs[next.input], entry, from, builder, watch) {
+        Ok(()) => Ok(behind),
         Err(fault) => Err(fault),
     }
 }
 
 /// Passes all entries of a key that are ahead, and answers the next one behind them, so that one step looks at each input once.
 fn pass_all<F: Frozen>(inputs: &mut [Input<F>], key: u64) -> Option<Next>
+    requires { key_in key ≡ Some key }
     ensures passed { inputs.new ≡ map (passed key) inputs.old }
     ensures next { IsNextOf inputs.new result }
 {
-    let mut next = None;
+    let mut least = Least::none();
     let mut place = 0;
     for input in inputs.iter_mut() {
         input.pass(key);
-        next = newer_of(next, place, input);
+        least = newer_of(least, place, input);
         place += 1;
     }
-    next
+    least.next()
 }
 
 /// The newest of the inputs that have the least key ahead, and that key.
 fn next_of<F: Frozen>(inputs: &[Input<F>]) -> Option<Next>
     ensures { IsNextOf inputs.now result }
 {
-    let mut next = None;
+    let mut least = Least::none();
     let mut place = 0;
     for input in inputs {
-        next = newer_of(next, place, input);
+        least = newer_of(least, place, input);
         place += 1;
     }
-    next
+    least.next()
 }
 
-/// The next of inputs and of one more, which has this place behind them.
-fn newer_of<F: Frozen>(next: Option<Next>, place: usize, input: &Input<F>) -> Option<Next>
-    ensures { (inputs : List (InputState F)) → length inputs ≡ place → IsNextOf inputs next → IsNextOf (inputs ++ input.now ∷ []) result }
+/// The least of inputs and of one more, which has this place behind them. Which of them has the least key cannot be guessed,
+/// so that this is to be a choice between numbers, and no branch.
+fn newer_of<F: Frozen>(least: Least, place: usize, input: &Input<F>) -> Least
+    ensures { (inputs : List (InputState F)) → length inputs ≡ place → IsNextOf inputs (next_in least) → IsNextOf (inputs ++ input.now ∷ []) (next_in result) }
 {
-    let Some(key) = input.key() else {
-        return next;
-    };
-    match next {
-        Some(least) if least.key < key => next,
-        _ => Some(Next { input: place, key }),
+    let key = input.key();
+    if key <= least.key {
+        Least { input: place, key }
+    } else {
+        least
     }
 }

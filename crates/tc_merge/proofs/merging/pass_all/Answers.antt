@@ -1,7 +1,7 @@
 use Rattle.std.proofs.Common.{◌≡◌, ◌∙◌, ◌<◌, ◌+◌, ◌++◌, Some, length, map, take, drop, set, slice_get, sym, ap, subst, arith}
 use Rattle.std.proofs.lemmas.Option.{slice_get-get_or}
 use Rattle.std.proofs.lemmas.List.{length-take-le, take_more_set}
-use Rattle.tc_merge.specs.Inputs.{passed, IsNextOf}
+use Rattle.tc_merge.specs.Inputs.{passed, IsNextOf, next_in}
 use Rattle.tc_merge.proofs.SetBack.{length_step, map_step}
 use Rattle.tc_merge.proofs.merging.pass_all.Goals as goal
 
@@ -18,7 +18,7 @@ loop-input-preserved g c =
           ∙ ap (λ i. set l.inputs at (passed c.args.key i)) (sym c.input-item.is)
           ∙ subst (λ xs. set xs at (passed c.args.key item) ≡ map (passed c.args.key) (take (at + 1) all) ++ drop (at + 1) all) (sym l.invariant.passed)
           (map_step (passed c.args.key) all at item (subst (λ xs. slice_get xs at ≡ Some item) l.invariant.passed here));
-      next = subst (λ xs. IsNextOf xs c.newer_of-next.result) (sym (take_more_set l.inputs at c.pass.new.self inside))
-          (c.newer_of-next.ensures (take at l.inputs) (length-take-le at l.inputs (omega (arith, inside)) ∙ sym l.invariant.place) l.invariant.next);
+      next = subst (λ xs. IsNextOf xs (next_in c.newer_of-least.result)) (sym (take_more_set l.inputs at c.pass.new.self inside))
+          (c.newer_of-least.ensures (take at l.inputs) (length-take-le at l.inputs (omega (arith, inside)) ∙ sym l.invariant.place) l.invariant.next);
       place = ap (λ n. n + 1) l.invariant.place;
     }
