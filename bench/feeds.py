@@ -86,8 +86,23 @@ def schemas(count):
 
 
 def gets(count, order):
-    for key in keys(count, order):
+    return gets_of(keys(count, order))
+
+
+def gets_of(numbers):
+    for key in numbers:
         yield f'{{"op":"get","id":{key}}}\n'
+
+
+def living(lines):
+    """The keys of the documents that are there behind these lines, in a random order that is always the same."""
+    numbers = set()
+    for line in map(json.loads, lines):
+        if line["op"] == "upsert":
+            numbers.add(line["doc"]["id"])
+        else:
+            numbers.discard(line["id"])
+    return random.Random(75).sample(sorted(numbers), len(numbers))
 
 
 def queries(count, path, equal_to=None):

@@ -1,9 +1,9 @@
 #!/usr/bin/env python3
-"""Measures the built program over folders, beside SQLite, and prints the tables of docs/performance.md.
+"""Measures the built program over folders, beside SQLite and other stores, and prints the tables of docs/performance.md.
 
     bench/run.py [--program FILE] [--before FILE] [--documents N] [--large N] [--rounds N] [PART ..]
 
-Parts: loads, gets, queries, opening, calls, growth, partitions, pauses, scans, and lines, all but the last four by default. The program is
+Parts: loads, gets, queries, opening, calls, growth, others, partitions, pauses, scans, and lines, all but the last five by default. The program is
 crates/tuple_store/out/tuple_store, which `rt run` in crates/tuple_store builds, or FILE. N documents are 40,000, and a
 tenth of that of readings; the large store has 1,000,000. Runs take turns, so that other load meets all of them; a time is
 the least of the rounds, 3 by default, and a ratio the median of those of the rounds, each of two runs one after the other.
@@ -19,6 +19,9 @@ parses the JSON that it stores, as the store does. Both keep a log that is synce
     opening  the large store is opened, which growth made; where strace is there, how many bytes are read for it
     calls    calls on the log for a window of upserts, where strace is there
     growth   messages with --memory 4194304 --limit 67108864, up to the large store
+    others   loads, gets, and walks over all documents, with --memory 16777216, by turns with each other store that is there, by processor
+             time alone: SQLite's bound values, LevelDB, RocksDB, WiredTiger and a PostgreSQL server of its own (stores.py); on Debian
+             apt-get install gcc libsqlite3-dev libleveldb-dev librocksdb-dev libwiredtiger-dev libpq-dev postgresql
     partitions
              loads into 1, 2, 4 and 8 partitions, in windows of 64 and of 4,096 lines, over files in memory (/dev/shm), by
              the processor and by the clock; it wants a machine that does nothing else
@@ -44,13 +47,13 @@ import time
 
 import feeds
 import sqlite
+import stores
 
 BUILT = os.path.join(os.path.dirname(os.path.abspath(__file__)), "..", "crates", "tuple_store", "out", "tuple_store")
 PARTS = ("loads", "gets", "queries", "opening", "calls", "growth")
 LOADED = ("--memory", "16777216")
 GROWN = ("--memory", "4194304", "--limit", "67108864")
 PAUSED = ("run", "--partitions", "1", "--window", "64", "--memory", "1048576", "--merge", "8")
-NOBODY = 65534
 
 
 def processor():
@@ -130,7 +133,7 @@ def beside(ours, theirs, count):
 def loads(bench):
     print("| load | lines | this store | SQLite, bound values | times | SQLite, text | times |")
     print("|---|--:|--:|--:|--:|--:|--:|")
-    program = sqlite.compiled(bench.folder)
+    values = stores.sqlite(bench.folder)
     for name, lines in data_sets(bench.words.documents):
         source, count = bench.write("lines", lines())
         script = bench.path("script")
@@ -138,8 +141,8 @@ def loads(bench):
         ours, bound, text = [], [], []
         for _ in range(bench.words.rounds):
             ours.append(bench.run(source, bench.empty(), LOADED))
-            if program:
-                bound.append(sqlite.bound(program, bench.path("database"), source, 64))
+            if values.here:
+                bound.append(values.load(source))
             if shutil.which("sqlite3"):
                 text.append(sqlite.told(bench.path("database"), script, bench.path("replies")))
         print(f"| {name} | {count:,} | {micros(min(ours), count):.2f} | {beside(ours, bound, count)} | {beside(ours, text, count)} |", flush=True)
@@ -257,6 +260,68 @@ def calls(bench):
     print("| a window | " + " | ".join(f"{(counts[1][it] - counts[0][it]) / windows:.2f}" for it in names) + " |", flush=True)
 
 
+class Ours:
+    """This store, asked as the others are. What is counted is the whole program."""
+
+    def __init__(self, bench):
+        self.bench, self.path = bench, bench.path("store")
+
+    def load(self, source):
+        return self.bench.run(source, fresh(self.path), LOADED)
+
+    def flush(self, source):
+        self.bench.run(source, self.path, LOADED)
+
+    def ask(self, source, window=stores.WINDOW):
+        """Over a copy each time, since each start adds a component, and some of them merge all."""
+        copy = self.bench.path("copy")
+        shutil.rmtree(copy, ignore_errors=True)
+        shutil.copytree(self.path, copy)
+        return self.bench.run(source, copy, LOADED, window)
+
+
+# How often a walk goes over all documents, and a path that each document of a data set has.
+WALKS = 5
+WALKED = {"messages": ["user", "name"], "churn": ["a"], "readings": ["sensor"], "profiles": ["level"]}
+
+
+def others(bench):
+    none, _ = bench.write("none")
+    every = list(stores.others(bench.folder, none))
+    absent = ", ".join(it.name for it in every if not it.here)
+    if absent:
+        print(f"not there, and left out: {absent}\n")
+    here = [it for it in every if it.here]
+    print("| | documents | this store |" + "".join(f" {it.name} | times |" for it in here))
+    print("|---|--:|--:|" + "--:|--:|" * len(here))
+    for name, lines in data_sets(bench.words.documents):
+        beside_others(bench, name, lines, none, [Ours(bench), *here])
+
+
+def beside_others(bench, name, lines, none, every):
+    """The rows of a data set. Few documents are asked for more often, so that there are about as many gets as lines were loaded."""
+    source, count = bench.write("lines", lines())
+    keys = feeds.living(lines())
+    often = max(1, count // len(keys))
+    row(bench, f"load of {name}", count, every, lambda it: it.load(source))
+    flush, _ = bench.write("flush", ['{"op":"flush"}\n'])
+    for it in every:
+        it.flush(flush)
+    asked, count = bench.write("asked", feeds.gets_of(often * keys))
+    row(bench, f"get of {name}", count, every, lambda it: it.ask(asked) - it.ask(none))
+    for path in ([], WALKED[name]):
+        times = WALKS * often
+        asked, _ = bench.write("asked", feeds.queries(times, path))
+        row(bench, f"walk over {name}, `{json.dumps(path)}`", times * len(keys), every, lambda it: it.ask(asked, 1) - it.ask(none, 1))
+
+
+def row(bench, name, count, every, seconds):
+    """What each store takes; the runs of a round follow each other."""
+    rounds = [[seconds(it) for it in every] for _ in range(bench.words.rounds)]
+    ours, *theirs = zip(*rounds)
+    print(f"| {name} | {count:,} | {micros(min(ours), count):.2f} |" + "".join(f" {beside(ours, it, count)} |" for it in theirs), flush=True)
+
+
 def show(bench, name, count, seconds):
     print(f"| {name} | {count:,} | {micros(seconds, count):.2f} | {count / seconds:,.0f} |", flush=True)
 
@@ -337,8 +402,8 @@ def pauses(bench):
 def refuse_threads():
     """Has the system refuse each further thread of this process, which it never does to the superuser."""
     if os.getuid() == 0:
-        os.setgid(NOBODY)
-        os.setuid(NOBODY)
+        os.setgid(stores.NOBODY)
+        os.setuid(stores.NOBODY)
     resource.setrlimit(resource.RLIMIT_NPROC, (1, 1))
 
 
@@ -466,7 +531,7 @@ def main():
     parser.add_argument("--rounds", type=int, default=3)
     parser.add_argument("parts", nargs="*", metavar="PART")
     words = parser.parse_args()
-    known = {"loads": loads, "gets": gets, "queries": queries, "growth": growth, "opening": opening, "calls": calls, "partitions": partitions, "pauses": pauses, "scans": scans, "lines": lines}
+    known = {"loads": loads, "gets": gets, "queries": queries, "growth": growth, "opening": opening, "calls": calls, "others": others, "partitions": partitions, "pauses": pauses, "scans": scans, "lines": lines}
     for part in words.parts:
         if part not in known:
             parser.error(f"there is no part {part}")

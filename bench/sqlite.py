@@ -1,36 +1,13 @@
-"""SQLite beside the store: the same lines, with its log and synced, so many of them a transaction."""
+"""SQLite's command line beside the store: the same lines, with its log and synced, so many of them a transaction."""
 
-import os
 import resource
-import shutil
 import subprocess
+
+from stores import removed
 
 FRONT = '{"op":"upsert","doc":'
 
 PRAGMAS = "pragma journal_mode = wal; pragma synchronous = full; create table docs (id integer primary key, doc text);\n"
-
-
-def compiled(folder):
-    """The program of sqlite.c, or None where there is no compiler or no library."""
-    program = os.path.join(folder, "sqlite")
-    source = os.path.join(os.path.dirname(os.path.abspath(__file__)), "sqlite.c")
-    if not shutil.which("cc"):
-        return None
-    made = subprocess.run(["cc", "-O2", source, "-lsqlite3", "-o", program], stderr=subprocess.DEVNULL)
-    return program if made.returncode == 0 else None
-
-
-def removed(database):
-    for end in ("", "-wal", "-shm"):
-        if os.path.exists(database + end):
-            os.remove(database + end)
-    return database
-
-
-def bound(program, database, path, window):
-    """The processor seconds of SQLite's calls alone, with values bound to prepared statements."""
-    ran = subprocess.run([program, removed(database), path, str(window)], stdout=subprocess.PIPE, check=True)
-    return float(ran.stdout)
 
 
 def statement(line):
