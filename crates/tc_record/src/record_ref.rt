@@ -142,5 +142,5 @@ impl<'a> RecordRef<'a> {
 fn slots_below(limit: u32, count: u32, greatest: u32) -> bool
     ensures { result ≡ are_below limit count greatest }
 {
-    count == 0 || greatest < limit
+    greatest < limit || count == 0
 }
