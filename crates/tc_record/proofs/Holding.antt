@@ -1,5 +1,6 @@
 -- What a borrowed record holds, by what was read of its bytes.
 use Rattle.std.proofs.Common.{◌≡◌, ◌∙◌, ℕ, Bool, true, false, List, [], Option, None, Some, unwrap_or, is_some, inl, inr, refl, sym, ap}
+use Rattle.std.proofs.lemmas.Bool.{both_ways}
 use Rattle.std.proofs.lemmas.Option.{same_Some}
 use Rattle.tc_bytes.specs.Reading.{◌>>=◌}
 use Rattle.tc_bytes.specs.Codec.{IsBytes}
@@ -30,6 +31,16 @@ spells_held bytes s (Some ts) each cut_is is some = read_found bytes (s.format.n
 pub held_spells : (bytes : List ℕ) (s : Sections) → IsBytes bytes → cut.sections_in bytes ≡ Some (sections_of s) → true ≡ is_some (tokens_held s)
     → Spells (record { bytes = bytes; named = s.format.named; tokens = unwrap_or (tokens_held s) [] })
 held_spells bytes s each cut_is some = spells_held bytes s (tokens_held s) each cut_is refl some
+
+-- one without names spells a numbered tree
+pub held_numbers : (bytes : List ℕ) (s : Sections) → IsBytes bytes → cut.sections_in bytes ≡ Some (sections_of s) → s.format.named ≡ false → true ≡ is_some (tokens_held s)
+    → (n : NumberedTree) × ((s.format.named ≡ false) × IsNumberedRecordOf n bytes × (unwrap_or (tokens_held s) [] ≡ numbered_tokens n))
+held_numbers bytes s each cut_is unnamed some = of_numbers (held_spells bytes s each cut_is some)
+  where
+    of_numbers : Spells (record { bytes = bytes; named = s.format.named; tokens = unwrap_or (tokens_held s) [] })
+        → (n : NumberedTree) × ((s.format.named ≡ false) × IsNumberedRecordOf n bytes × (unwrap_or (tokens_held s) [] ≡ numbered_tokens n))
+    of_numbers (inl (d, (named, is, tokens))) = absurd (both_ways s.format.named unnamed named)
+    of_numbers (inr spells) = spells
 
 -- what was read is what the reader answers
 same_read : (bytes : List ℕ) (s : Sections) (held : Option Tokens) (b : Bool) (ts : Tokens) → cut.sections_in bytes ≡ Some (sections_of s) → tokens_held s ≡ held → cut.record_read bytes ≡ Some (b, ts) → (s.format.named ≡ b) × (unwrap_or held [] ≡ ts)

@@ -1,5 +1,7 @@
 -- What a step of a walk leaves, and what a walk is by its first step.
-use Rattle.std.proofs.Common.{◌≡◌, ◌≢◌, ◌<◌, ◌≤◌, ◌-◌, ℕ, Bool, true, false, if◌then◌else◌, List, ◌∷◌, Option, None, Some, option_map, is_some, length, get_or, set, refl, ap, subst}
+use Rattle.std.proofs.Common.{◌≡◌, ◌≢◌, ◌∙◌, ◌<◌, ◌≤◌, ◌+◌, ◌-◌, ◌==◌, ℕ, Bool, true, false, if◌then◌else◌, List, ◌∷◌, Option, None, Some, option_map, is_some, length, get_or, drop, set, refl, sym, ap, subst, arith}
+use Rattle.std.proofs.lemmas.Bool.Decides.{nat_tests}
+use Rattle.std.proofs.lemmas.List.{drop_all, drop_more}
 use Rattle.std.proofs.lemmas.Option.{same_Some}
 use Rattle.tc_bytes.specs.Reading.{◌>>=◌}
 use Rattle.tc_model.specs.Document.{Scalar}
@@ -10,7 +12,7 @@ use Rattle.tc_record.specs.Moves.{behind_label, label_moves, behind_token, token
 use Rattle.tc_record.specs.Stack.{stack_of}
 use Rattle.tc_record.specs.declared.reader.Level.{Level}
 use Rattle.tc_record.specs.declared.reader.Level.TheVariants as level
-use Rattle.tc_record.proofs.Stacks.{stepped_none, stepped_some}
+use Rattle.tc_record.proofs.Stacks.{stepped_none, stepped_some, walk_open}
 
 -- ---- a walk by its first step
 
@@ -40,6 +42,31 @@ walk_ends f tag tags levels c gives = by_step (walk.step f tag levels c) gives
     by_step : (s : Option Stepped) → option_map behind_token s ≡ None → false ≡ is_some (s >>= and_further f tags)
     by_step None e = refl
     by_step (Some q) e = cc
+
+-- ---- a walk over tags from one of them on, of which is told whether it comes to its end
+
+at_drop : (tags : List ℕ) (i : ℕ) (F : List ℕ → Bool) → i < length tags → F (get_or tags i 0 ∷ drop (i + 1) tags) ≡ F (drop i tags)
+at_drop tags i F within = ap F (sym (drop_more tags i 0 within))
+
+pub walk_goes_on : (f : walk.Format) (tags : List ℕ) (i : ℕ) (levels behind : List walk.Level) (c rest : walk.Columns) (told : Bool) → i < length tags → is_some (walk.walk f (drop i tags) levels c) ≡ told
+    → token_moves f (get_or tags i 0) levels c ≡ Some (behind, rest) → is_some (walk.walk f (drop (i + 1) tags) behind rest) ≡ told
+walk_goes_on f tags i levels behind c rest told within tells gives =
+    walk_on f (get_or tags i 0) (drop (i + 1) tags) levels behind c rest gives ∙ at_drop tags i (λ ts. is_some (walk.walk f ts levels c)) within ∙ tells
+
+pub walk_stops : (f : walk.Format) (tags : List ℕ) (i : ℕ) (levels : List walk.Level) (c : walk.Columns) (told : Bool) → i < length tags → is_some (walk.walk f (drop i tags) levels c) ≡ told
+    → token_moves f (get_or tags i 0) levels c ≡ None → false ≡ told
+walk_stops f tags i levels c told within tells gives =
+    walk_ends f (get_or tags i 0) (drop (i + 1) tags) levels c gives ∙ at_drop tags i (λ ts. is_some (walk.walk f ts levels c)) within ∙ tells
+
+-- behind the last tag nothing is open
+pub walk_left_open : (f : walk.Format) (tags : List ℕ) (i : ℕ) (ls : List Level) (n : ℕ) (c : walk.Columns) (told : Bool) → length tags ≤ i → is_some (walk.walk f (drop i tags) (stack_of ls n) c) ≡ told
+    → n ≢ 0 → (n == 0) ≡ told
+walk_left_open f tags i ls n c told all tells some =
+    let none : is_some (walk.walk f (drop i tags) (stack_of ls n) c) ≡ false = rw (drop_all i tags all) (ap is_some (walk_open f ls n c (omega (arith, some)))) in
+    unequal n some ∙ sym none ∙ tells
+  where
+    unequal : (n : ℕ) → n ≢ 0 → (n == 0) ≡ false
+    unequal n some = grind (arith, nat_tests)
 
 -- ---- a value by its parts: its label, with the level and the columns behind it, and then its piece
 

@@ -1,13 +1,13 @@
 -- The levels that are open, in the array that holds them.
-use Rattle.std.proofs.Common.{◌≡◌, ◌≢◌, ◌<◌, ◌≤◌, ◌+◌, ◌-◌, ◌==◌, ℕ, zero, suc, Bool, true, false, nat_lt, if◌then◌else◌, refl, ap, subst, List, [], ◌∷◌, length, get_or, set, Option, None, Some, arith, add-one}
+use Rattle.std.proofs.Common.{◌≡◌, ◌≢◌, ◌<◌, ◌≤◌, ◌+◌, ◌-◌, ◌==◌, ℕ, zero, suc, Bool, true, false, nat_lt, if◌then◌else◌, refl, ap, subst, List, [], ◌∷◌, length, get_or, set, map, Option, None, Some, sym, ◌∙◌, arith, add-one}
 use Rattle.std.proofs.lemmas.Bool.Decides.{nat_tests}
-use Rattle.std.proofs.lemmas.List.{get_or-set_same, get_or-set_other}
+use Rattle.std.proofs.lemmas.List.{get_or-map, get_or-set_same, get_or-set_other, length-map, map-set}
 use Rattle.tc_bytes.specs.Reading.{◌>>=◌}
 use Rattle.tc_model.specs.Document.{Scalar}
 use Rattle.tc_record.specs.Preorder.{Token}
 use Rattle.tc_record.specs.Walk as walk
 use Rattle.tc_record.specs.WalkView.{level_of}
-use Rattle.tc_record.specs.Stack.{stack_of}
+use Rattle.tc_record.specs.Stack.{stack_of, level_told, kind_of, kinds_of}
 use Rattle.tc_record.specs.declared.reader.Level.{Level}
 use Rattle.tc_record.specs.declared.reader.Level.TheVariants as level
 
@@ -45,6 +45,18 @@ stack_of-behind ls (suc n) x some inside =
     let same : n ≡ suc n - 1 = omega arith in
     let P : ℕ → Type 0 = λ k. stack_of (set ls k x) (suc n) ≡ level_of x ∷ stack_of ls k in
     subst P same (stack_of-top ls n x (omega arith))
+
+-- the level that a value stands in, left as it is
+pub stack_of-left : (ls : List Level) (n : ℕ) → 0 < n → n ≤ length ls → stack_of (set ls (n - 1) (get_or ls (n - 1) level.Array)) n ≡ stack_of ls n
+stack_of-left ls n some inside = stack_of-behind ls n (get_or ls (n - 1) level.Array) some inside ∙ sym (stack_of-read ls n some)
+
+-- levels of which is told which are arrays: the innermost, and one level more
+pub kind_of-read : (told : List Bool) (n : ℕ) (d : Bool) → 0 < n → n ≤ length told → level_of (get_or (map level_told told) (n - 1) level.Array) ≡ kind_of (get_or told (n - 1) d)
+kind_of-read told n d some inside = ap level_of (get_or-map level_told told (n - 1) d level.Array (omega (arith, inside)))
+
+pub kinds_of-pushed : (told : List Bool) (n : ℕ) (a : Bool) → n < length told → n < 32
+    → Some (kinds_of (set told n a) (n + 1)) ≡ (if nat_lt (length (kinds_of told n)) 32 then Some (kind_of a ∷ kinds_of told n) else None)
+kinds_of-pushed told n a inside few = rw (map-set level_told told n a) (pushed (map level_told told) n (level_told a) (omega (arith, length-map told level_told, inside)) few)
 
 -- a token with the levels and the columns behind it
 abbrev Stepped : Type 0

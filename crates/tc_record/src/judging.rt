@@ -94,7 +94,8 @@ fn member_behind<'a>(
     Some(Level::Object)
 }
 
-fn is_used_up(columns: Columns<'_>) -> bool
+/// Whether nothing is left of the columns.
+pub(crate) fn is_used_up(columns: Columns<'_>) -> bool
     ensures { result ≡ used_up (columns_of columns.entry) }
 {
     columns.fixed.is_empty()

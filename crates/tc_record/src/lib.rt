@@ -9,6 +9,7 @@ mod encoding;
 mod fault;
 mod header;
 mod judging;
+mod judging_numbers;
 mod law;
 mod measure;
 mod reader;

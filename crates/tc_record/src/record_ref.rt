@@ -10,6 +10,7 @@ ghost use Rattle.tc_record.specs.Borrowed.{Spells, IsRecord, IsBelow, named_toke
 use crate::cursor::Cursor;
 use crate::header::header_in;
 use crate::judging::has_tokens;
+use crate::judging_numbers::has_numbered_tokens;
 use crate::sections::{Sections, sections_of_record};
 use crate::walking::Walk;
 use std::marker::Model;
@@ -51,6 +52,26 @@ impl<'a> RecordRef<'a> {
         let sections = sections_of_record(bytes)?;
         let columns = sections.columns.checked()?;
         if has_tokens(sections.tags, sections.format, columns) {
+            Some(RecordRef { bytes, sections })
+        } else {
+            None
+        }
+    }
+
+    /// The record of form 1 that the bytes are, or `None` where they are none. Takes no memory, and less time than `of`, which
+    /// keeps room for names that are to ascend.
+    pub fn numbered(bytes: &'a [u8]) -> Option<RecordRef<'a>>
+        ensures bytes { IfSome result (λ r. r.bytes ≡ bytes.now) }
+        ensures spells { IfSome result (λ r. (n : NumberedTree) × ((r.named ≡ false) × IsNumberedRecordOf n bytes.now × (r.tokens ≡ numbered_tokens n))) }
+        ensures numbered { IfSome result (λ r. (n : NumberedTree) → IsNumberedRecordOf n bytes.now → r.tokens ≡ numbered_tokens n) }
+        ensures none { IfNone result ((n : NumberedTree) → IsNumberedRecordOf n bytes.now → ⊥) }
+    {
+        let sections = sections_of_record(bytes)?;
+        if sections.format.named {
+            return None;
+        }
+        let columns = sections.columns.checked()?;
+        if has_numbered_tokens(sections.tags, sections.format, columns) {
             Some(RecordRef { bytes, sections })
         } else {
             None

@@ -12,7 +12,7 @@ use crate::token::{Label, Piece, Token};
 use tc_value::MAX_DEPTH;
 
 /// How many arrays and objects may be open at once.
-const MAX_LEVELS: usize = MAX_DEPTH as usize;
+pub(crate) const MAX_LEVELS: usize = MAX_DEPTH as usize;
 
 /// The arrays and objects that are open, innermost last.
 #[derive(Clone, Copy)]

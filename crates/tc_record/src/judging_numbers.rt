@@ -1,0 +1,131 @@
+//! Whether columns spell the tokens of a record of form 1. Members of its objects carry numbers, which may come in any
+//! order, so that of what is open it is enough to know which are arrays.
+
+ghost use Rattle.std.specs.Prelude.{◌≡◌, ◌∷◌, [], None, false, is_some, if◌then◌else◌, length, nat_lt, ◌≤◌};
+ghost use Rattle.tc_model.specs.Limits.{max_depth};
+ghost use Rattle.tc_record.specs.Walk.{walk, in_object, opened, tokens_read};
+ghost use Rattle.tc_record.specs.Moves.{label_moves, token_moves};
+ghost use Rattle.tc_record.specs.WalkView.{columns_of, format_of, piece_of};
+ghost use Rattle.tc_record.specs.Stack.{kind_of, kinds_of};
+
+use crate::judging::is_used_up;
+use crate::reader::{Columns, Format, column_number_at, piece_in};
+use crate::tags::{CLOSE_TAG, OBJECT_TAG};
+use crate::token::Piece;
+use crate::walking::MAX_LEVELS;
+
+/// The arrays and objects that are open, innermost last: which of them are arrays.
+#[derive(Clone, Copy)]
+struct Kinds {
+    arrays: [bool; MAX_LEVELS],
+    depth: usize,
+    ghost room: { length arrays ≡ max_depth },
+    ghost shallow: { depth ≤ max_depth },
+}
+
+/// Whether tags and columns spell the tokens of an object, and nothing else.
+pub(crate) fn has_numbered_tokens(tags: &[u8], format: Format, columns: Columns<'_>) -> bool
+    requires { format.named ≡ false }
+    ensures { result ≡ is_some (tokens_read (format_of format) tags.now (columns_of columns.entry)) }
+{
+    match tags {
+        [] => false,
+        [first, rest @ ..] => *first == OBJECT_TAG && has_further_tokens(rest, format, columns),
+    }
+}
+
+/// Whether these are the tags behind the first one.
+fn has_further_tokens(tags: &[u8], format: Format, columns: Columns<'_>) -> bool
+    requires { format.named ≡ false }
+    ensures { result ≡ is_some (walk (format_of format) tags.now (in_object None ∷ []) (columns_of columns.entry)) }
+{
+    let mut kinds = Kinds::in_object();
+    let mut left = columns;
+    for tag in tags {
+        if !passes(format, *tag, &mut kinds, &mut left) {
+            return false;
+        }
+    }
+    kinds.depth == 0 && is_used_up(left)
+}
+
+/// Whether a token of this tag stands next, with what is open and the columns moved on.
+#[inline(always)]
+fn passes(format: Format, tag: u8, kinds: &mut Kinds, columns: &mut Columns<'_>) -> bool
+    requires { format.named ≡ false }
+    ensures { token_moves (format_of format) tag (kinds_of kinds.old.arrays kinds.old.depth) (columns_of columns.old) ≡ (if result then Some (kinds_of kinds.new.arrays kinds.new.depth, columns_of columns.new) else None) }
+{
+    if kinds.depth == 0 {
+        return false;
+    }
+    if tag == CLOSE_TAG {
+        kinds.depth -= 1;
+        return true;
+    }
+    if !passes_label(format, kinds.arrays[kinds.depth - 1], columns) {
+        return false;
+    }
+    match piece_in(format.text_width, tag, columns) {
+        None => false,
+        Some(piece) => kinds.open(piece),
+    }
+}
+
+/// Whether the label of a value stands next, which in an object is a number, and in an array nothing.
+#[inline(always)]
+fn passes_label(format: Format, in_array: bool, columns: &mut Columns<'_>) -> bool
+    requires { format.named ≡ false }
+    ensures { label_moves (format_of format) (kind_of in_array) (columns_of columns.old) ≡ (if result then Some (kind_of in_array, columns_of columns.new) else None) }
+{
+    if in_array {
+        return true;
+    }
+    match column_number_at(format.slot_width, columns.slots) {
+        None => false,
+        Some((_number, slots)) => {
+            columns.slots = slots;
+            true
+        }
+    }
+}
+
+impl Kinds {
+    /// An object that is open, and nothing else.
+    #[inline(always)]
+    fn in_object() -> Kinds
+        ensures { kinds_of result.arrays result.depth ≡ in_object None ∷ [] }
+    {
+        Kinds {
+            arrays: [false; MAX_LEVELS],
+            depth: 1,
+        }
+    }
+
+    /// Opens what a value opens, or answers `false` where that would nest too deep.
+    #[inline(always)]
+    fn open(&mut self, value: Piece<'_>) -> bool
+        ensures { (if result then Some (kinds_of self.new.arrays self.new.depth) else None) ≡ opened (piece_of value.entry) (kinds_of self.old.arrays self.old.depth) }
+    {
+        match value {
+            Piece::Null => true,
+            Piece::Bool(_) => true,
+            Piece::Int(_) => true,
+            Piece::Text(_) => true,
+            Piece::Array => self.push(true),
+            Piece::Object => self.push(false),
+            Piece::Close => false,
+        }
+    }
+
+    #[inline(always)]
+    fn push(&mut self, array: bool) -> bool
+        ensures { (if result then Some (kinds_of self.new.arrays self.new.depth) else None) ≡ (if nat_lt (length (kinds_of self.old.arrays self.old.depth)) max_depth then Some (kind_of array ∷ kinds_of self.old.arrays self.old.depth) else None) }
+    {
+        if self.depth >= MAX_LEVELS {
+            return false;
+        }
+        self.arrays[self.depth] = array;
+        self.depth += 1;
+        true
+    }
+}
