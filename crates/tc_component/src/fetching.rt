@@ -43,8 +43,8 @@ pub(crate) fn judge(alloc: Global, limit: u32, place: u64, bytes: &[u8]) -> Resu
 fn is_record_within(limit: u32, bytes: &[u8]) -> bool
     ensures { IsTrue result ↔ IsRecordWithin limit bytes.now }
 {
-    match RecordRef::of(bytes) {
-        Some(record) => !record.named() && record.numbers_below(limit),
+    match RecordRef::numbered(bytes) {
+        Some(record) => record.numbers_below(limit),
         None => false,
     }
 }

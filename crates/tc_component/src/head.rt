@@ -1,7 +1,7 @@
 //! The header of a component.
 
-ghost use Rattle.std.specs.Prelude.{◌≡◌, ◌+◌, ◌<◌, ◌^◌, [], ◌++◌, option_map, IfOk};
-ghost use Rattle.std.specs.Int.{w32, w64};
+ghost use Rattle.std.specs.Prelude.{◌≡◌, ◌+◌, ◌<◌, ◌^◌, option_map, IfOk};
+ghost use Rattle.std.specs.Int.{w32};
 ghost use Rattle.tc_bytes.specs.Reading.{number_at, passing_at};
 ghost use Rattle.tc_component.specs.Layout.{file_size};
 ghost use Rattle.tc_component.specs.Reading.{head_at, is_magic, interval_at, sizes_at, is_named};

@@ -1,6 +1,6 @@
 //! What the bytes of a component are judged to be.
 
-ghost use Rattle.std.specs.Prelude.{◌≡◌, ◌≤◌, ◌<◌, ◌+◌, ◌-◌, ◌*◌, min, ◌&&◌, ◌==◌, [], length, take, drop, IfOk, IfSome, IsErrOf};
+ghost use Rattle.std.specs.Prelude.{◌≡◌, ◌≤◌, ◌<◌, ◌+◌, ◌-◌, ◌*◌, min, ◌&&◌, ◌==◌, [], length, IfOk, IfSome, IsErrOf};
 ghost use Rattle.std.specs.Result.{IsOk};
 ghost use Rattle.tc_store.specs.Counted.{IsCountedOnce};
 ghost use Rattle.tc_store.specs.Judging.{Judges, IsNoDisk, IsNoDamage, or_damage, damage as a_damage};

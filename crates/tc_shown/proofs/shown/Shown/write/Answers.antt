@@ -1,4 +1,4 @@
-use Rattle.std.proofs.Common.{◌∙◌, ◌<◌, ap, length, arith}
+use Rattle.std.proofs.Common.{◌<◌, length, arith}
 use Rattle.std.proofs.lemmas.Bool.Decides.{nat_tests}
 use Rattle.tc_shown.proofs.Remembered.{state_added, wrote_history, wrote_remembered}
 use Rattle.tc_shown.proofs.shown.Shown.write.Goals as goal
