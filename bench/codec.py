@@ -26,7 +26,7 @@ and the names below the table are copied. The writes and bytes are those of one 
 component whose documents most of its entries replace or take out.
 
 Components are merged over such files too: `judge` looks whether the bytes of each record of the merge are a record, as
-`check` does, `merge` makes the component, and `copy` does to the files what a merge does, with nothing in between: it reads
+`check` does, `numbered` looks whether they are one of form 1, which is what a merge asks, `merge` makes the component, and `copy` does to the files what a merge does, with nothing in between: it reads
 the windows and writes the pieces. So `merge` less `copy` is the merge's own work. Four components have a quarter of the documents each, every fourth key; the
 two of churn are those of its table and of what the table stands over. A store merges components of megabytes, which are
 larger than its window of 64 KB on each and than a processor's nearest caches; small ones are measured beside them.
@@ -166,9 +166,9 @@ def ratio(each, over, under):
     return f"{statistics.median(ratios):.2f} ({ratios[tenth]:.2f} to {ratios[-1 - tenth]:.2f})"
 
 
-def own(each):
-    """What merges do themselves, over what the check takes, as a ratio is told."""
-    return ratio([{"own": turn["merge"] - turn["copy"], "judge": turn["judge"]} for turn in each], "own", "judge")
+def own(each, check):
+    """What merges do themselves, over what a check takes, as a ratio is told."""
+    return ratio([{"own": turn["merge"] - turn["copy"], check: turn[check]} for turn in each], "own", check)
 
 
 def median(each, call, count):
@@ -188,15 +188,15 @@ def flushes(count):
 
 
 def merges(count):
-    print("| components of | bytes | records | judge | copy | merge | merge / judge | (merge - copy) / judge | reads | bytes / 32,768 + components |")
-    print("|---|--:|--:|--:|--:|--:|--:|--:|--:|--:|")
+    print("| components of | bytes | records | judge | numbered | copy | merge | merge / judge | (merge - copy) / judge | (merge - copy) / numbered | reads | bytes / 32,768 + components |")
+    print("|---|--:|--:|--:|--:|--:|--:|--:|--:|--:|--:|--:|")
     for name, text in RUNS.items():
-        each, answers, rounds = turns(text, ["judge", "merge", "copy"], count)
+        each, answers, rounds = turns(text, ["judge", "numbered", "merge", "copy"], count)
         records, reads, length = int(answers["judge"][1]), int(answers["merge"][1]), int(answers["merge"][3])
-        judge, copy, merge = (median(each, call, records) for call in ("judge", "copy", "merge"))
+        judge, numbered, copy, merge = (median(each, call, records) for call in ("judge", "numbered", "copy", "merge"))
         reads, length = reads // rounds, length // rounds
         bound = length // (PIECE // 2) + text.count("\n\n") + 1
-        print(f"| {name} | {length:,} | {records:,} | {judge:,.0f} | {copy:,.0f} | {merge:,.0f} | {ratio(each, 'merge', 'judge')} | {own(each)} | {reads} | {bound} |", flush=True)
+        print(f"| {name} | {length:,} | {records:,} | {judge:,.0f} | {numbered:,.0f} | {copy:,.0f} | {merge:,.0f} | {ratio(each, 'merge', 'judge')} | {own(each, 'judge')} | {own(each, 'numbered')} | {reads} | {bound} |", flush=True)
 
 
 def main():

@@ -2,7 +2,7 @@
 
 use crate::flushes::{Below, asked, flushed, flushed_again};
 use crate::merges::{
-    Records, Shared, components_of, copied_again, judged_again, merged_again, records_of,
+    Asked, Records, Shared, components_of, copied_again, judged_again, merged_again, records_of,
 };
 use crate::tables::tables_of;
 use anyhow::{Context, Result, bail};
@@ -57,10 +57,8 @@ impl Work {
         match call {
             "parse" => parsed(alloc, text, rounds),
             "counted" | "flush" => self.of_newest(alloc, call, rounds),
-            "judge" => {
-                let records = judged_again(&self.records, rounds)?;
-                Ok(format!(in alloc; "{records} records")?)
-            }
+            "judge" => self.judged(alloc, Asked::Either, rounds),
+            "numbered" => self.judged(alloc, Asked::Numbered, rounds),
             "merge" => {
                 let made = merged_again(alloc, &self.run, rounds)?;
                 Ok(format!(in alloc; "{} reads, {} bytes", made.reads, made.bytes)?)
@@ -71,6 +69,11 @@ impl Work {
             }
             other => bail!("no call {other}"),
         }
+    }
+
+    fn judged(&self, alloc: Global, asked: Asked, rounds: u32) -> Result<String> {
+        let records = judged_again(&self.records, asked, rounds)?;
+        Ok(format!(in alloc; "{records} records")?)
     }
 
     fn of_newest(&self, alloc: Global, call: &str, rounds: u32) -> Result<String> {
@@ -89,7 +92,10 @@ impl Work {
 
 /// Whether the call is one on all documents.
 pub(crate) fn is_of_tables(call: &str) -> bool {
-    ["parse", "counted", "flush", "judge", "merge", "copy"].contains(&call)
+    [
+        "parse", "counted", "flush", "judge", "numbered", "merge", "copy",
+    ]
+    .contains(&call)
 }
 
 /// Reads each line of the newest table as JSON.

@@ -63,15 +63,15 @@ impl Records {
         }
     }
 
-    /// How many of them are a record.
-    fn lawful(&self) -> u64 {
+    /// How many of them are a record, of either form or of form 1.
+    fn lawful(&self, asked: Asked) -> u64 {
         let mut rest = self.bytes.as_slice();
         let mut lawful = 0u64;
         for len in &self.lens {
             let Some((record, behind)) = rest.split_at_checked(*len) else {
                 return lawful;
             };
-            if RecordRef::of(record).is_some() {
+            if asked.is(record) {
                 lawful = lawful.wrapping_add(1);
             }
             rest = behind;
@@ -80,11 +80,27 @@ impl Records {
     }
 }
 
+/// What is asked of bytes: whether they are a record, or one of form 1, as a merge asks.
+#[derive(Clone, Copy)]
+pub(crate) enum Asked {
+    Either,
+    Numbered,
+}
+
+impl Asked {
+    fn is(self, bytes: &[u8]) -> bool {
+        match self {
+            Asked::Either => RecordRef::of(bytes).is_some(),
+            Asked::Numbered => RecordRef::numbered(bytes).is_some(),
+        }
+    }
+}
+
 /// Judges each record so often, and answers how many there are.
-pub(crate) fn judged_again(records: &Records, rounds: u32) -> Result<u64> {
+pub(crate) fn judged_again(records: &Records, asked: Asked, rounds: u32) -> Result<u64> {
     let count = records.lens.len() as u64;
     for _ in 0..rounds {
-        if records.lawful() != count {
+        if records.lawful(asked) != count {
             bail!("a merged record is none");
         }
     }
