@@ -1,23 +1,25 @@
 #!/usr/bin/env python3
 """Measures the record codec and the files of a partition.
 
-    bench/codec.py [TURNS [PART ..]]      11 turns and all parts by default: codec, flushes, merges
+    bench/codec.py [TURNS [PART ..]]      101 turns and all parts by default: codec, flushes, merges
 
 codec tells nanoseconds a call and a byte of the record, for three documents; flushes tells nanoseconds an entry of a
 flush, for four tables of documents, beside those of serde_json's parse of the same documents; merges tells nanoseconds a
 record of the merge of components, beside those of looking whether it is a record.
 
-The program is crates/codec_bench/out/codec_bench, which `rt run` in crates/codec_bench builds. Times are CPU time.
+The program is crates/codec_bench/out/codec_bench, which `rt run` in crates/codec_bench builds.
 
-A figure of the codec is that of N calls: that of a run with 2N calls less that of a run with N, so starting and reading
+A figure of the codec, of CPU time, is that of N calls: that of a run with 2N calls less that of a run with N, so starting and reading
 the document are not in it; the least of five runs each. `size` asks for a record's length, `encode` writes it, `check`
 looks whether bytes are a record, `cursor` walks over the tokens of one that was looked at, `decode` makes the document of
 one, the look included, and `compact` writes one with numbers in place of names.
 
 The calls on tables take turns in one process, which makes what they are done on once, before the first of them; it prints
-a line after each, at which its CPU time is read. The first turn counts for nothing. A figure is the median of the turns,
-and a ratio the median of the ratios of the turns, each of two calls one after the other, so that a machine that is slower
-for a while is so for both; behind it stand the least and the greatest but for a tenth of the turns at each end.
+a line after each, at which the time is read, of the clock, since the system tells no CPU time that is fine enough for calls
+of 20 ms. The first turn counts for nothing. A figure is the median of the turns, and a ratio the median of the ratios of the
+turns, each of two calls a few moments from each other, so that a machine that is slower for a while is so for both, and a
+call in which another process had the processor is none of those in the middle; behind it stand the least and the greatest
+but for a tenth of the turns at each end.
 
 A table is flushed over files that tell nothing and keep their bytes in memory, in room that the flush before used: a
 system has the pages of a file ready too, and what it takes to make them is no part of a flush. `parse` reads each line of
@@ -26,8 +28,9 @@ and the names below the table are copied. The writes and bytes are those of one 
 component whose documents most of its entries replace or take out.
 
 Components are merged over such files too: `judge` looks whether the bytes of each record of the merge are a record, as
-`check` does, `numbered` looks whether they are one of form 1, which is what a merge asks, `merge` makes the component, and `copy` does to the files what a merge does, with nothing in between: it reads
-the windows and writes the pieces. So `merge` less `copy` is the merge's own work. Four components have a quarter of the documents each, every fourth key; the
+`check` does, `numbered` looks whether they are one of form 1, which is what a merge asks, `merge` makes the component, and
+`copy` does to the files what a merge does, with nothing in between: it reads the windows and writes the pieces. So `merge`
+less `copy` is the merge's own work. Four components have a quarter of the documents each, every fourth key; the
 two of churn are those of its table and of what the table stands over. A store merges components of megabytes, which are
 larger than its window of 64 KB on each and than a processor's nearest caches; small ones are measured beside them.
 """
@@ -39,6 +42,7 @@ import statistics
 import subprocess
 import sys
 import tempfile
+import time
 
 import feeds
 
@@ -96,8 +100,9 @@ RUNS = {
     "churn of 40,000 keys": churn(40_000),
 }
 
-# a call on tables is repeated until it takes so many seconds
-LEAST = 0.25
+# a call on tables is repeated until it takes so many seconds; the shorter, the less a machine changes between two that
+# are compared
+LEAST = 0.02
 
 
 def run(text, call, rounds):
@@ -124,21 +129,15 @@ def codec(runs):
             print(f"{name:22} {len(document):5} B as JSON {length:5} B as a record  {call:7} {seconds * 1e9:9.0f} ns {seconds * 1e9 / length:6.2f} ns/B", flush=True)
 
 
-def cpu_of(process):
-    """The CPU seconds of a process so far."""
-    with open(f"/proc/{process.pid}/schedstat", encoding="ascii") as file:
-        return int(file.read().split()[0]) / 1e9
-
-
 def lines(text, words, rounds):
-    """The answer of each call of one process, and the CPU seconds that it took."""
+    """The answer of each call of one process, and the seconds that it took."""
     with tempfile.TemporaryFile() as documents:
         documents.write(text.encode())
         documents.seek(0)
         with subprocess.Popen([PROGRAM, str(rounds), *words], stdin=documents, stdout=subprocess.PIPE) as process:
-            before = 0
+            before = time.perf_counter()
             for line in process.stdout:
-                now = cpu_of(process)
+                now = time.perf_counter()
                 yield line.decode().split(), now - before
                 before = now
         assert process.returncode == 0
@@ -200,7 +199,7 @@ def merges(count):
 
 
 def main():
-    count = int(sys.argv[1]) if len(sys.argv) > 1 else 11
+    count = int(sys.argv[1]) if len(sys.argv) > 1 else 101
     for part in sys.argv[2:] or ("codec", "flushes", "merges"):
         PARTS[part](count)
 
