@@ -7,7 +7,7 @@ use Rattle.serde_json.specs.Data.{Data, null, boolean, number, string, array, ob
 use Rattle.serde_json.specs.Find.{get_member, as_str}
 use Rattle.tc_model.specs.Tree.{object as object_of, member as member_of}
 use Rattle.tc_model.specs.Json.{document_of, members_meant, is_whole}
-use Rattle.tc_model.specs.Request.{Form, names_are, value_at, if_path, are_hops, ask_form, form_named, form_of, query_form, scan_form, upsert_form, delete_form, get_form}
+use Rattle.tc_request_model.specs.Request.{Form, names_are, value_at, if_path, are_hops, ask_form, form_named, form_of, query_form, scan_form, upsert_form, delete_form, get_form}
 use Rattle.tc_command.specs.Forms.{HasWholePath}
 
 -- no members have a name that is left

@@ -4,7 +4,7 @@ use Rattle.std.proofs.lemmas.List.Kept.{IsStrictlySortedBy-filter}
 use Rattle.std.specs.List.Sorted.{IsStrictlySortedBy}
 use Rattle.tc_model.specs.Tree.{Members, no_members, member, members_depth, members_of}
 use Rattle.tc_model.specs.Document.{Name, Document, Scalar, name_cmp, IsAscending, member_at}
-use Rattle.tc_model.specs.Request.{without}
+use Rattle.tc_request_model.specs.Request.{without}
 
 -- the name is not the key's
 abbrev pub is_kept : Name → Bool

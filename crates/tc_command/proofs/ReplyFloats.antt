@@ -8,7 +8,7 @@ use Rattle.serde_json.specs.declared.value.Value.{Value}
 use Rattle.tc_model.specs.Tree.{leaf, array, object}
 use Rattle.tc_model.specs.Document.{Document}
 use Rattle.tc_model.specs.Json.{members_data}
-use Rattle.tc_model.specs.Reply.{Row, count, document_or_null, values_data, rows_data, counts_data, schemas_data, reply_data, got, rows, schemas, collected}
+use Rattle.tc_request_model.specs.Reply.{Row, count, document_or_null, values_data, rows_data, counts_data, schemas_data, reply_data, got, rows, schemas, collected}
 use Rattle.tc_json.proofs.Floats.{neither, documents_have_no_floats, members_have_no_floats, put_keeps_no_floats}
 
 shown_has_no_float : (n : ℕ) (d : Option Document) → has_float (document_or_null n d) ≡ false

@@ -6,8 +6,8 @@ use Rattle.serde_json.specs.View.{items_of}
 use Rattle.serde_json.proofs.OnLiterals.{serde_json_on_literals}
 use Rattle.tc_model.specs.Document.{Document}
 use Rattle.tc_model.specs.Json.{data_of}
-use Rattle.tc_model.specs.Request.{Refusal, oversized, malformed, unknown, not_whole, too_deep, no_key, names_full, full, busy, no_scan}
-use Rattle.tc_model.specs.Reply.{Row, row_data, rows_data, values_data, count, counts_data, schemas_data, reply_line, refusal_name, upserted, deleted, flushed, started, turned_down}
+use Rattle.tc_request_model.specs.Request.{Refusal, oversized, malformed, unknown, not_whole, too_deep, no_key, names_full, full, busy, no_scan}
+use Rattle.tc_request_model.specs.Reply.{Row, row_data, rows_data, values_data, count, counts_data, schemas_data, reply_line, refusal_name, upserted, deleted, flushed, started, turned_down}
 
 -- ---- lists of replies are the items of arrays
 

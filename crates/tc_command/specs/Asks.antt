@@ -3,7 +3,7 @@ use Rattle.std.specs.Prelude.{◌≡◌, ◌⊎◌, ℤ, Option, Some, None, ref
 use Rattle.std.specs.Coded.{Coded, code_by, coded_ℕ, coded_ℤ, coded_list, coded⊎, coded_option}
 use Rattle.std.proofs.Common.{inl, inr}
 use Rattle.tc_model.specs.Document.{Name}
-use Rattle.tc_model.specs.Request as request
+use Rattle.tc_request_model.specs.Request as request
 use Rattle.tc_command.specs.declared.asks.Hop.{Hop}
 use Rattle.tc_command.specs.declared.asks.Hop.TheVariants.{Name as ToName, At, Any}
 

@@ -3,7 +3,7 @@ use Rattle.std.specs.Prelude.{◌≤◌, Option, Some, None, IfSome, option_map,
 use Rattle.tc_model.specs.Tree.{depth}
 use Rattle.tc_model.specs.Limits.{max_depth, max_key}
 use Rattle.tc_model.specs.Stored.{IsStorable}
-use Rattle.tc_model.specs.Request as request
+use Rattle.tc_request_model.specs.Request as request
 use Rattle.tc_value.specs.Meaning.{tree_of}
 use Rattle.tc_command.specs.Refusals.{refusal_of, refusal_number}
 use Rattle.tc_command.specs.declared.asks.Ask.{Ask}

@@ -3,7 +3,7 @@ use Rattle.std.specs.Prelude.{IsTrue, Option, option_map}
 use Rattle.serde_json.specs.Data as json
 use Rattle.serde_json.specs.View.{view, items_view}
 use Rattle.tc_model.specs.Json.{is_whole}
-use Rattle.tc_model.specs.Request as request
+use Rattle.tc_request_model.specs.Request as request
 use Rattle.tc_command.specs.declared.forms.AskForm.{AskForm}
 use Rattle.tc_command.specs.declared.forms.Form.{Form}
 use Rattle.tc_command.specs.declared.forms.Form.TheVariants.{Upsert, Delete, Get, Query, Flush, Schema, Scan, Collect}

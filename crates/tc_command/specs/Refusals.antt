@@ -1,6 +1,6 @@
 -- The refusals, and the faults of reading a line.
 use Rattle.std.specs.Prelude.{ℕ}
-use Rattle.tc_model.specs.Request as request
+use Rattle.tc_request_model.specs.Request as request
 use Rattle.tc_json.specs.declared.fault.JsonFault.{JsonFault}
 use Rattle.tc_json.specs.declared.fault.JsonFault.TheVariants as json
 use Rattle.tc_command.specs.declared.refusals.Refusal.{Refusal}

@@ -1,7 +1,7 @@
 -- What replies mean.
 use Rattle.std.specs.Prelude.{map, option_map}
 use Rattle.serde_json.specs.View.{view}
-use Rattle.tc_model.specs.Reply as reply
+use Rattle.tc_request_model.specs.Reply as reply
 use Rattle.tc_value.specs.Meaning.{tree_of}
 use Rattle.tc_command.specs.Refusals.{refusal_of}
 use Rattle.tc_command.specs.declared.replies.Reply.{Reply}

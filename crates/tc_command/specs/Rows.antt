@@ -3,7 +3,7 @@ use Rattle.std.specs.Prelude.{ℕ, List, refl}
 use Rattle.std.specs.Coded.{Coded, code_by, coded_ℕ, coded_list, coded×}
 use Rattle.tc_model.specs.Document.{Document}
 use Rattle.tc_model.specs.DocumentCode.{coded_document}
-use Rattle.tc_model.specs.Reply as reply
+use Rattle.tc_request_model.specs.Reply as reply
 use Rattle.tc_command.specs.declared.replies.Row.{Row}
 
 abbrev pub row_of : Row → reply.Row

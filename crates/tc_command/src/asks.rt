@@ -25,7 +25,7 @@ pub struct PathExpr {
 impl Model for PathExpr {
     ghost use Rattle.std.specs.Prelude.{List, map};
     ghost use Rattle.std.specs.Coded.{coded_list};
-    ghost use Rattle.tc_model.specs.Request.{Hop};
+    ghost use Rattle.tc_request_model.specs.Request.{Hop};
     ghost use Rattle.tc_command.specs.Asks.{hop_of, coded_hop};
 
     ghost Value = { List Hop };

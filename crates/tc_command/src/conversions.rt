@@ -6,7 +6,7 @@ ghost use Rattle.serde_json.specs.View.{view, items_view};
 ghost use Rattle.tc_model.specs.Tree.{depth, object, members_of};
 ghost use Rattle.tc_model.specs.Document.{IsAscending, member_at};
 ghost use Rattle.tc_model.specs.Json.{document_of, is_whole};
-ghost use Rattle.tc_model.specs.Request.{Ask as AskMeant, Request, within_depth, upsert_of as upsert_meant, command_of as command_meant, ask_of as ask_requested, key_of, without, path_of as path_meant, hop_of as hop_meant};
+ghost use Rattle.tc_request_model.specs.Request.{Ask as AskMeant, Request, within_depth, upsert_of as upsert_meant, command_of as command_meant, ask_of as ask_requested, key_of, without, path_of as path_meant, hop_of as hop_meant};
 ghost use Rattle.tc_model.specs.Limits.{max_depth, max_key};
 ghost use Rattle.tc_value.specs.Meaning.{tree_of, member_of};
 ghost use Rattle.tc_command.specs.Asks.{hop_of};

@@ -4,7 +4,7 @@ ghost use Rattle.std.specs.Prelude.{◌≡◌, ◌∷◌, [], codes, map, Option
 ghost use Rattle.serde_json.specs.Data.{Data, Items};
 ghost use Rattle.serde_json.specs.Find.{get_member};
 ghost use Rattle.serde_json.specs.View.{view, items_view, members_view};
-ghost use Rattle.tc_model.specs.Request.{Form as FormMeant, names_are, value_at, if_object, if_path, is_hop, are_hops, ask_form, bare_form, form_named, form_of, upsert_form, delete_form, get_form, query_form, scan_form};
+ghost use Rattle.tc_request_model.specs.Request.{Form as FormMeant, names_are, value_at, if_object, if_path, is_hop, are_hops, ask_form, bare_form, form_named, form_of, upsert_form, delete_form, get_form, query_form, scan_form};
 ghost use Rattle.tc_command.specs.Forms.{form_meant, ask_meant};
 
 use serde_json::{Map, Value};

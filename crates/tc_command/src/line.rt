@@ -3,7 +3,7 @@
 ghost use Rattle.std.specs.Prelude.{◌≡◌, IfOk, IfErr, IfSome, option_map};
 ghost use Rattle.serde_json.specs.View.{view};
 ghost use Rattle.tc_model.specs.Json.{json_of};
-ghost use Rattle.tc_model.specs.Request.{request_of, request_if_known, form_of};
+ghost use Rattle.tc_request_model.specs.Request.{request_of, request_if_known, form_of};
 ghost use Rattle.tc_command.specs.Commands.{request_by, IsLawful, IsOfLine};
 
 use crate::commands::Command;

@@ -2,7 +2,7 @@
 
 ghost use Rattle.std.specs.Prelude.{◌≡◌};
 ghost use Rattle.tc_json.specs.declared.fault.JsonFault.{JsonFault};
-ghost use Rattle.tc_model.specs.Reply.{refusal_name};
+ghost use Rattle.tc_request_model.specs.Reply.{refusal_name};
 ghost use Rattle.tc_command.specs.Refusals.{refusal_of, refusal_number, fault_of};
 ghost use Rattle.tc_command.specs.declared.refusals.ParseFault.TheVariants.{Memory};
 

@@ -25,7 +25,7 @@ pub struct Rows {
 impl Model for Rows {
     ghost use Rattle.std.specs.Prelude.{List, map};
     ghost use Rattle.std.specs.Coded.{coded_list};
-    ghost use Rattle.tc_model.specs.Reply.{Row};
+    ghost use Rattle.tc_request_model.specs.Reply.{Row};
     ghost use Rattle.tc_command.specs.Rows.{row_of, coded_row};
 
     ghost Value = { List Row };

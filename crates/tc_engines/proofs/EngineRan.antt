@@ -8,8 +8,8 @@ use Rattle.tc_log.specs.Writes.{IsWrite}
 use Rattle.tc_machine.specs.Logs.{kept_write}
 use Rattle.tc_machine.specs.Writes.{IsStorableWrite}
 use Rattle.tc_model.specs.Keyed.{Keyed, values_in}
-use Rattle.tc_model.specs.Request.{Request}
-use Rattle.tc_plain_model.specs.Part.{part_writes_all}
+use Rattle.tc_request_model.specs.Request.{Request}
+use Rattle.tc_request_model.specs.Part.{part_writes_all}
 use Rattle.tc_part_model.specs.Meaning.{IsPart, plain_of}
 use Rattle.tc_part_model.specs.PartView.{PartView}
 use Rattle.tc_part_model.specs.PartState.{PartState}

@@ -1,7 +1,7 @@
 -- Engines that were flushed hold the world behind a flush, and keep theirs where one of them failed.
 use Rattle.std.proofs.Common.{◌≡◌, ℕ, List, length, refl, ap}
 use Rattle.std.specs.Prelude.{Option, Result, OnOk}
-use Rattle.tc_model.specs.Request.{flush}
+use Rattle.tc_request_model.specs.Request.{flush}
 use Rattle.tc_store.specs.Moments.{IfTold}
 use Rattle.tc_part.specs.FilesOut.{OnlyDevicesOut}
 use Rattle.tc_part_model.specs.Meaning.{IsPart}

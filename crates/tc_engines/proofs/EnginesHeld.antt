@@ -3,15 +3,16 @@ use Rattle.std.proofs.Common.{◌≡◌, ◌∙◌, ◌≤◌, true, List, [], l
 use Rattle.std.specs.Prelude.{Option, Some, None, Ok, Err}
 use Rattle.std.proofs.lemmas.List.{length-map, nil_from_length}
 use Rattle.tc_model.specs.Keyed.{Keyed, values_in}
-use Rattle.tc_model.specs.Request.{Request}
+use Rattle.tc_request_model.specs.Request.{Request}
 use Rattle.tc_store.specs.Moments.{IfTold}
 use Rattle.tc_log.specs.Layout.{empty_size}
 use Rattle.tc_lsm_model.specs.Contents.{Partition}
 use Rattle.tc_machine.specs.Logs.{kept_write}
-use Rattle.tc_plain_model.specs.Part.{Limits, part_left_all, part_writes_all}
+use Rattle.tc_plain_model.specs.Room.{Limits}
+use Rattle.tc_request_model.specs.Part.{part_left_all, part_writes_all}
 use Rattle.tc_plain_model.specs.Store.{Store}
 use Rattle.tc_plain_model.specs.Writes.{Write, after_writes}
-use Rattle.tc_plain_model.proofs.WriteLaws.{part_left_all-writes}
+use Rattle.tc_request_model.proofs.RequestWrites.{part_left_all-writes}
 use Rattle.tc_part.specs.FilesOut.{OnlyDevicesOut}
 use Rattle.tc_part_model.specs.Meaning.{IsPart, plain_of}
 use Rattle.tc_part_model.specs.PartState.{PartState, Told}

@@ -2,7 +2,7 @@
 use Rattle.std.proofs.Common.{◌≡◌, ◌∙◌, ◌<◌, ◌+◌, ℕ, zero, suc, false, List, [], ◌∷◌, length, map, arith, ap, sym, subst}
 use Rattle.std.specs.Prelude.{All, Result, Ok, Err}
 use Rattle.tc_model.specs.Keyed.{Keyed, values_in}
-use Rattle.tc_model.specs.Request.{Request}
+use Rattle.tc_request_model.specs.Request.{Request}
 use Rattle.tc_store.specs.Counted.{Counts}
 use Rattle.tc_route.specs.Shares.{share}
 use Rattle.tc_route.specs.declared.placed.Placed.{Placed}

@@ -5,7 +5,7 @@ use Rattle.std.specs.declared.alloc.Global.{Global}
 use Rattle.std.specs.declared.vec.Vec.{Vec}
 use Rattle.tc_log.specs.declared.write.Write.{Write}
 use Rattle.tc_model.specs.Keyed.{Keyed}
-use Rattle.tc_model.specs.Request.{Request}
+use Rattle.tc_request_model.specs.Request.{Request}
 use Rattle.tc_route.specs.Meaning.{requests_at}
 use Rattle.tc_route.specs.Shares.{share}
 use Rattle.tc_route.specs.declared.placed.Placed.{Placed}

@@ -4,8 +4,8 @@ use Rattle.std.specs.Map.{keys_of}
 use Rattle.std.specs.Prelude.{All, Ok}
 use Rattle.std.proofs.lemmas.List.{length-map}
 use Rattle.tc_model.specs.Keyed.{Keyed, Ascends, values_in}
-use Rattle.tc_model.specs.Reply.{Reply}
-use Rattle.tc_model.specs.Request.{Request}
+use Rattle.tc_request_model.specs.Reply.{Reply}
+use Rattle.tc_request_model.specs.Request.{Request}
 use Rattle.tc_route.specs.Answers.{AreAnswers, AreKindsGathered, AreOfShares, IsForParts}
 use Rattle.tc_route.specs.Gathered.{gathered}
 use Rattle.tc_route.specs.Meaning.{replies_in}

@@ -3,11 +3,11 @@ use Rattle.std.proofs.Common.{◌≡◌, ℕ, List, [], ◌∷◌, length, arith
 use Rattle.std.specs.Prelude.{Some}
 use Rattle.std.proofs.lemmas.List.Elements.{All-nil}
 use Rattle.tc_model.specs.Keyed.{Keyed, values_in}
-use Rattle.tc_model.specs.Request.{Request}
+use Rattle.tc_request_model.specs.Request.{Request}
 use Rattle.tc_store.specs.Disk.{Disk}
 use Rattle.tc_store.specs.DiskFile.{DiskFile}
 use Rattle.tc_store.specs.Moments.{EachSince, IfTold}
-use Rattle.tc_plain_model.specs.Part.{part_writes_all}
+use Rattle.tc_request_model.specs.Part.{part_writes_all}
 use Rattle.tc_part.specs.FilesOut.{OnlyDevicesOut}
 use Rattle.tc_part_model.specs.Leaving.{LeavesStore, LogMomentsLeaveStore}
 use Rattle.tc_part_model.specs.Meaning.{plain_of}

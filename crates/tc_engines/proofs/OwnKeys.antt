@@ -4,10 +4,11 @@ use Rattle.std.specs.Prelude.{◌%◌, All, cond, Option, Some, None}
 use Rattle.std.proofs.lemmas.Bool.Decides.{nat_tests}
 use Rattle.tc_model.specs.Document.{Document}
 use Rattle.tc_model.specs.Keyed.{Keyed, Ascends, values_in}
-use Rattle.tc_model.specs.Request.{Request, Refusal, upsert, delete, get, query, flush, schema, scan, collect, refused}
+use Rattle.tc_request_model.specs.Request.{Request, Refusal, upsert, delete, get, query, flush, schema, scan, collect, refused}
 use Rattle.tc_model.proofs.KeyedOrder.{sorted-with_value, All-with_value, sorted-without_key, All-without_key}
 use Rattle.tc_plain_model.specs.Store.{Store, with_pair}
-use Rattle.tc_plain_model.specs.Part.{Limits, part_left, part_left_all, unless_refused, upsert_refusal}
+use Rattle.tc_plain_model.specs.Room.{Limits}
+use Rattle.tc_request_model.specs.Part.{part_left, part_left_all, unless_refused, upsert_refusal}
 use Rattle.tc_run_model.specs.World.{Part}
 use Rattle.tc_route.specs.Answers.{KeepOwn}
 use Rattle.tc_route.specs.Shares.{is_for, share}

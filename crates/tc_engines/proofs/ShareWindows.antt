@@ -4,7 +4,7 @@ use Rattle.std.specs.Prelude.{All, cond}
 use Rattle.std.proofs.lemmas.List.{length-map}
 use Rattle.std.proofs.lemmas.List.Elements.{All-nil, All-cons, All-head, All-tail}
 use Rattle.tc_model.specs.Keyed.{Keyed, values_in}
-use Rattle.tc_model.specs.Request.{Request, upsert, delete, get, query, flush, schema, scan, collect, refused}
+use Rattle.tc_request_model.specs.Request.{Request, upsert, delete, get, query, flush, schema, scan, collect, refused}
 use Rattle.tc_command.specs.Commands.{request_of_command}
 use Rattle.tc_route.specs.Answers.{IsForParts}
 use Rattle.tc_route.specs.Meaning.{routed_of}

@@ -6,9 +6,10 @@ use Rattle.std.proofs.lemmas.Bool.Decides.{nat_tests}
 use Rattle.std.proofs.lemmas.List.{append_assoc, append-nil}
 use Rattle.std.proofs.lemmas.List.Elements.{All-head, All-tail}
 use Rattle.tc_model.specs.Keyed.{Keyed, values_in}
-use Rattle.tc_model.specs.Request.{Request, upsert, delete, get, query, flush, schema, scan, collect, refused}
+use Rattle.tc_request_model.specs.Request.{Request, upsert, delete, get, query, flush, schema, scan, collect, refused}
 use Rattle.tc_plain_model.specs.Store.{Store, empty}
-use Rattle.tc_plain_model.specs.Part.{Limits, part_left, part_left_all, part_writes, part_writes_all}
+use Rattle.tc_plain_model.specs.Room.{Limits}
+use Rattle.tc_request_model.specs.Part.{part_left, part_left_all, part_writes, part_writes_all}
 use Rattle.tc_run_model.specs.World.{Part, World, home_of, store_at, part_after, with_part, changed_at, after, after_all}
 use Rattle.tc_run_model.proofs.WorldLaws.{flushed_before, length-changed_at}
 use Rattle.tc_route.specs.Answers.{IsForParts}

@@ -4,7 +4,7 @@ use Rattle.std.specs.Prelude.{slice_index_or, All, Result}
 use Rattle.std.specs.declared.alloc.Global.{Global}
 use Rattle.std.specs.declared.vec.Vec.{Vec}
 use Rattle.tc_model.specs.Keyed.{Keyed}
-use Rattle.tc_model.specs.Request.{Request}
+use Rattle.tc_request_model.specs.Request.{Request}
 use Rattle.tc_route.specs.Meaning.{requests_at, routed_of}
 use Rattle.tc_route.specs.Shares.{share}
 use Rattle.tc_route.specs.declared.placed.Placed.{Placed}

@@ -1,7 +1,7 @@
 -- Faults of engines, by the partition whose engine failed.
 use Rattle.std.specs.Prelude.{◌≡◌, ◌≤◌, ◌<◌, ◌+◌, ◌^◌, ℕ, zero, suc, List, [], ◌∷◌, true, false, Option, Result, Ok, Err}
 use Rattle.tc_model.specs.Keyed.{Keyed, values_in}
-use Rattle.tc_model.specs.Request.{Request}
+use Rattle.tc_request_model.specs.Request.{Request}
 use Rattle.tc_part.specs.Harms.{IsHarmIn}
 use Rattle.tc_part_model.specs.Meaning.{IsPart}
 use Rattle.tc_part_model.specs.PartState.{AreTold, PartState, Told}

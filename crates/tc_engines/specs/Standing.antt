@@ -4,7 +4,7 @@ use Rattle.std.specs.Prelude.{◌≡◌, ◌≤◌, ◌⊎◌, ℕ, true, List, 
 use Rattle.tc_store.specs.Moments.{IfTold}
 use Rattle.tc_log.specs.Layout.{empty_size}
 use Rattle.tc_lsm_model.specs.Contents.{Partition}
-use Rattle.tc_plain_model.specs.Part.{Limits}
+use Rattle.tc_plain_model.specs.Room.{Limits}
 use Rattle.tc_plain_model.specs.Writes.{Write, after_writes}
 use Rattle.tc_part.specs.FilesOut.{OnlyDevicesOut}
 use Rattle.tc_part_model.specs.Meaning.{IsPart, plain_of}

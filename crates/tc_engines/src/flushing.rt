@@ -1,7 +1,7 @@
 //! The engines are flushed, one after the other.
 
 ghost use Rattle.std.specs.Prelude.{◌≡◌, ◌≤◌, ◌<◌, ℕ, false, length, map, All, IfErr, IsErrOf, OnErr, OnOk, Option};
-ghost use Rattle.tc_model.specs.Request.{flush};
+ghost use Rattle.tc_request_model.specs.Request.{flush};
 ghost use Rattle.tc_run_model.specs.World.{World, after};
 ghost use Rattle.tc_work.specs.Moving.{eyes};
 ghost use Rattle.tc_engines.specs.Faults.{IfOf};

@@ -5,7 +5,7 @@ use Rattle.std.specs.Fmt.{digits}
 use Rattle.serde_json.proofs.OnLiterals.{serde_json_on_literals}
 use Rattle.tc_model.specs.Tree.{leaf, array, object, no_items, item, no_members, member}
 use Rattle.tc_model.specs.Document.{Document, Scalar, integer, text, null}
-use Rattle.tc_model.specs.Request.{upsert, delete, schema, request_of}
+use Rattle.tc_request_model.specs.Request.{upsert, delete, schema, request_of}
 use Rattle.tc_gen.specs.Generated.{key_at, drawn_for, generated}
 
 pub first_draws : map drawn_for (1 ∷ 2 ∷ 3 ∷ 4 ∷ []) ≡ 149 ∷ 11249 ∷ 57305 ∷ 38044 ∷ []

@@ -5,7 +5,7 @@ use Rattle.std.specs.List.{starts_with}
 use Rattle.json.specs.Print.{escape_byte}
 use Rattle.serde_json.specs.Written.{compact_text}
 use Rattle.tc_model.specs.Lines.{feed}
-use Rattle.tc_model.specs.Reply.{Reply, reply_data, reply_line, upserted, deleted, got, rows, flushed, schemas, started, collected, turned_down}
+use Rattle.tc_request_model.specs.Reply.{Reply, reply_data, reply_line, upserted, deleted, got, rows, flushed, schemas, started, collected, turned_down}
 use Rattle.tc_lines.specs.Holding.{HasFeedAt, IsOneLine}
 use Rattle.tc_gen.specs.TwoLines.{Heard, heard_of, is_refusal, last_line, refusals_in}
 use Rattle.tc_gen.proofs.OneLine.{text_one_line}

@@ -1,7 +1,7 @@
 -- What a demonstration writes: how many of its commands were refused, and the reply to the line that closes its input.
 use Rattle.std.specs.Prelude.{ℕ, suc, ◌==◌, Bool, true, false, List, [], ◌∷◌, ◌++◌, length, codes, if◌then◌else◌}
 use Rattle.std.specs.Fmt.{decimal}
-use Rattle.tc_model.specs.Reply.{Reply, reply_line, upserted, deleted, got, rows, flushed, schemas, started, collected, turned_down}
+use Rattle.tc_request_model.specs.Reply.{Reply, reply_line, upserted, deleted, got, rows, flushed, schemas, started, collected, turned_down}
 
 -- its line was refused
 abbrev pub is_refusal : Reply → Bool

@@ -27,7 +27,7 @@ impl Model for Tally {
 impl Tally {
     ghost use Rattle.std.specs.Prelude.{◌≡◌, ◌+◌, ◌-◌, ◌<◌, ◌^◌, ◌==◌, List, [], ◌∷◌, ◌++◌, length, min, flat_map, codes, if◌then◌else◌, IfOk, OnOk};
     ghost use Rattle.std.specs.List.{starts_with};
-    ghost use Rattle.tc_model.specs.Reply.{Reply, reply_line};
+    ghost use Rattle.tc_request_model.specs.Reply.{Reply, reply_line};
     ghost use Rattle.tc_gen.specs.TwoLines.{heard_of, lines_for};
 
     /// Has heard nothing. Takes no memory.

@@ -13,10 +13,10 @@ use Rattle.tc_engines.specs.declared.fault.EnginesFault.{EnginesFault}
 use Rattle.tc_engines.specs.declared.fault.EnginesFault.TheVariants as engines
 use Rattle.tc_engines.proofs.PlaceLaws.{at_each-so}
 use Rattle.tc_model.specs.Keyed.{Keyed, values_in}
-use Rattle.tc_model.specs.Reply.{Reply, schemas}
-use Rattle.tc_model.specs.Request.{Request, upsert, delete, get, query, flush, schema, scan, collect, refused}
+use Rattle.tc_request_model.specs.Reply.{Reply, schemas}
+use Rattle.tc_request_model.specs.Request.{Request, upsert, delete, get, query, flush, schema, scan, collect, refused}
 use Rattle.tc_schema_model.specs.SchemaText.{schema_text}
-use Rattle.tc_plain_model.specs.Part.{Limits}
+use Rattle.tc_plain_model.specs.Room.{Limits}
 use Rattle.tc_plain_model.specs.Store.{documents}
 use Rattle.tc_lsm_model.specs.Contents.{Partition}
 use Rattle.tc_part_model.specs.PartState.{Told}

@@ -11,7 +11,7 @@ use Rattle.tc_engines.proofs.PlaceLaws.{at_each-join, at_each-length, at_each-sa
 use Rattle.tc_log.specs.Writes.{IsWrite}
 use Rattle.tc_log.specs.declared.write.Write as log
 use Rattle.tc_model.specs.Keyed.{Keyed}
-use Rattle.tc_model.specs.Request.{Request}
+use Rattle.tc_request_model.specs.Request.{Request}
 use Rattle.tc_run_model.specs.World.{Part, World}
 use Rattle.tc_shown.specs.Scans.{GoesOn, ReadsAView}
 use Rattle.tc_shown.specs.Shown.{key_of, Reads, ShownState}

@@ -15,12 +15,12 @@ use Rattle.tc_engines.proofs.PlaceLaws.{at_each-length, at_each-so}
 use Rattle.tc_engines.proofs.SharesLeft.{shares_left, AreLeft}
 use Rattle.tc_log.specs.declared.write.Write as log
 use Rattle.tc_lsm_model.specs.Contents.{Partition}
-use Rattle.tc_model.specs.Reply.{collected, Row, started, turned_down}
-use Rattle.tc_model.specs.Request.{busy, no_scan, Ask, Request, upsert, delete, get, query, flush, schema, scan, collect, refused}
+use Rattle.tc_request_model.specs.Reply.{collected, Row, started, turned_down}
+use Rattle.tc_request_model.specs.Request.{busy, no_scan, Ask, Request, upsert, delete, get, query, flush, schema, scan, collect, refused}
 use Rattle.tc_part_model.specs.PartState.{Told}
 use Rattle.tc_part_model.specs.PartView.{PartView}
-use Rattle.tc_plain_model.specs.Part.{Limits}
-use Rattle.tc_plain_model.specs.Rows.{rows_over}
+use Rattle.tc_plain_model.specs.Room.{Limits}
+use Rattle.tc_request_model.specs.Rows.{rows_over}
 use Rattle.tc_plain_model.specs.Writes.{Pairs}
 use Rattle.tc_route.specs.Answers.{IsForParts}
 use Rattle.tc_route.specs.Meaning.{routed_of}

@@ -3,8 +3,9 @@ use Rattle.std.proofs.Common.{◌≡◌, ◌+◌, ℕ, suc, List, [], ◌∷◌,
 use Rattle.std.specs.Prelude.{◌%◌, Bool, true, false, Option, Some, None, is_some, if◌then◌else◌}
 use Rattle.std.proofs.lemmas.List.Elements.{All-append, All-cons, All-nil}
 use Rattle.tc_model.specs.Document.{Document}
-use Rattle.tc_model.specs.Request.{Refusal, Request, upsert, delete, get, query, flush, schema, scan, collect, refused}
-use Rattle.tc_plain_model.specs.Part.{part_writes, unless_refused, upsert_refusal, Limits}
+use Rattle.tc_request_model.specs.Request.{Refusal, Request, upsert, delete, get, query, flush, schema, scan, collect, refused}
+use Rattle.tc_plain_model.specs.Room.{Limits}
+use Rattle.tc_request_model.specs.Part.{part_writes, unless_refused, upsert_refusal}
 use Rattle.tc_plain_model.specs.Store.{stored, Store}
 use Rattle.tc_plain_model.specs.Writes.{set, unset, Write}
 use Rattle.tc_route.specs.Answers.{stores_of, KeepOwn}

@@ -3,10 +3,10 @@ use Rattle.std.proofs.Common.{◌≡◌, ◌+◌, ℕ, zero, suc, Bool, true, fa
 use Rattle.std.specs.Prelude.{◌%◌, Option, Some, None, is_some, if◌then◌else◌}
 use Rattle.tc_engines.specs.Standing.{IsSeen}
 use Rattle.tc_model.specs.Document.{Document}
-use Rattle.tc_model.specs.Request.{Request, Refusal, upsert, delete, get, query, flush, schema, scan, collect, refused}
+use Rattle.tc_request_model.specs.Request.{Request, Refusal, upsert, delete, get, query, flush, schema, scan, collect, refused}
 use Rattle.tc_model.proofs.KeyedOrder.{All-with_value, All-without_key}
 use Rattle.tc_plain_model.specs.Store.{Store, with_pair}
-use Rattle.tc_plain_model.specs.Part.{unless_refused, upsert_refusal}
+use Rattle.tc_request_model.specs.Part.{unless_refused, upsert_refusal}
 use Rattle.tc_run_model.specs.Course.{behind, finished, input_failed, input_spent, output_failed, requests_in, stopped, unopened, worlds_left, Ending}
 use Rattle.tc_run_model.specs.Windows.{unless_empty, Window}
 use Rattle.tc_run_model.specs.World.{Part, World, after, after_all, changed_at, home_of, part_after}

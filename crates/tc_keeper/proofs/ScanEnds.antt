@@ -9,7 +9,7 @@ use Rattle.tc_component.specs.Loaded.{IsLoadedOf}
 use Rattle.tc_engines.specs.Places.{AtEach, IsAt}
 use Rattle.tc_engines.specs.WithJobs.{with_reader, WithJobs}
 use Rattle.tc_lsm_model.specs.Contents as documents
-use Rattle.tc_model.specs.Request.{collect}
+use Rattle.tc_request_model.specs.Request.{collect}
 use Rattle.tc_plain_model.specs.Writes.{Pairs}
 use Rattle.tc_run_model.specs.Known.{MayReply}
 use Rattle.tc_run_model.specs.World.{pairs_at, Part, World}

@@ -5,14 +5,16 @@ use Rattle.tc_component.specs.Loading.{ComponentState}
 use Rattle.tc_log.specs.declared.write.Write as log
 use Rattle.tc_machine.specs.Logs.{kept_write}
 use Rattle.tc_machine.specs.Writes.{IsStorableWrite}
-use Rattle.tc_model.specs.Request.{Request}
+use Rattle.tc_request_model.specs.Request.{Request}
 use Rattle.tc_part_model.specs.Meaning.{IsPart}
 use Rattle.tc_part_model.specs.PartState.{AreTold, Told, told_component}
 use Rattle.tc_part_model.specs.PartView.{PartView, store_of, stored_with}
-use Rattle.tc_plain_model.specs.Part.{Limits, part_left_all, part_writes_all}
+use Rattle.tc_plain_model.specs.Room.{Limits}
+use Rattle.tc_request_model.specs.Part.{part_left_all, part_writes_all}
 use Rattle.tc_plain_model.specs.Store.{Store}
 use Rattle.tc_plain_model.specs.Writes.{Pairs, Write, after_writes}
-use Rattle.tc_plain_model.proofs.WriteLaws.{after_writes-append, part_left_all-writes}
+use Rattle.tc_plain_model.proofs.WriteLaws.{after_writes-append}
+use Rattle.tc_request_model.proofs.RequestWrites.{part_left_all-writes}
 use Rattle.tc_run_model.specs.World.{Part}
 use Rattle.tc_shown.specs.Shown.{wrote, IsPlaced, ShownState}
 use Rattle.tc_view.specs.declared.happened.Happened.{Happened}

@@ -13,9 +13,9 @@ use Rattle.tc_log.specs.declared.write.Write as log
 use Rattle.tc_machine.specs.Logs.{kept_write}
 use Rattle.tc_machine.specs.Writes.{IsStorableWrite}
 use Rattle.tc_model.specs.Keyed.{Keyed, values_in}
-use Rattle.tc_model.specs.Request.{Request}
+use Rattle.tc_request_model.specs.Request.{Request}
 use Rattle.tc_part_model.specs.Meaning.{plain_of}
-use Rattle.tc_plain_model.specs.Part.{part_writes_all}
+use Rattle.tc_request_model.specs.Part.{part_writes_all}
 use Rattle.tc_plain_model.specs.Store.{Store}
 use Rattle.tc_plain_model.specs.Writes.{Write}
 use Rattle.tc_route.specs.Shares.{share}

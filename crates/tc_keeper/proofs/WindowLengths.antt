@@ -5,8 +5,9 @@ use Rattle.std.proofs.lemmas.List.Elements.{All-weaker, recursion_from_All}
 use Rattle.tc_command.specs.Commands.{request_of_command}
 use Rattle.tc_model.specs.Document.{Document}
 use Rattle.tc_model.specs.Limits.{max_line}
-use Rattle.tc_model.specs.Request.{Request, upsert, delete, get, query, flush, schema, scan, collect, refused}
-use Rattle.tc_model.specs.Weight.{weight, IsLight}
+use Rattle.tc_request_model.specs.Request.{Request, upsert, delete, get, query, flush, schema, scan, collect, refused}
+use Rattle.tc_model.specs.Weight.{weight}
+use Rattle.tc_request_model.specs.Light.{IsLight}
 use Rattle.tc_record.specs.Record.{header_size, record_of}
 use Rattle.tc_route.specs.declared.placed.Routed.{Routed}
 use Rattle.tc_keeper.specs.Together.{IsForPart}

@@ -1,7 +1,7 @@
 -- A world has as many partitions behind requests as before them.
 use Rattle.std.proofs.Common.{◌≡◌, ◌∙◌, ℕ, List, [], ◌∷◌, ◌++◌, length, map, refl, ap, inl, inr}
 use Rattle.std.specs.Prelude.{is_some, Bool, true, false, Some, if◌then◌else◌}
-use Rattle.tc_model.specs.Request.{Request, Ask, upsert, delete, get, query, flush, schema, scan, collect, refused}
+use Rattle.tc_request_model.specs.Request.{Request, Ask, upsert, delete, get, query, flush, schema, scan, collect, refused}
 use Rattle.tc_run_model.specs.World.{World, after, after_all, part_after, with_scan}
 use Rattle.tc_run_model.specs.Course.{Ending, finished, input_failed, input_spent, output_failed, stopped, unopened, behind, requests_in, worlds_left}
 use Rattle.tc_run_model.specs.Windows.{Window, unless_empty}

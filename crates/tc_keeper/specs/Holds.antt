@@ -2,8 +2,8 @@
 -- at which of two it was left where it has failed, with each partition, or with one alone.
 use Rattle.std.specs.Prelude.{◌≡◌, ◌⊎◌, ℕ, ◌<◌, List, [], ◌∷◌, length, take, Option, Some, IfSome}
 use Rattle.std.specs.Io.KnownBytes.{Appends, Keeps}
-use Rattle.tc_model.specs.Request.{Request}
-use Rattle.tc_model.specs.Reply.{Reply}
+use Rattle.tc_request_model.specs.Request.{Request}
+use Rattle.tc_request_model.specs.Reply.{Reply}
 use Rattle.tc_run_model.specs.World.{World, after_all}
 use Rattle.tc_run_model.specs.Known.{MayReply}
 use Rattle.tc_run_model.specs.Course.{each_line}

@@ -1,6 +1,6 @@
 -- What is known of what is stored, when requests are answered: nothing, or a world, of which each partition is stored, or one.
 use Rattle.std.specs.Prelude.{◌≡◌, ℕ, List, Option, Some, None}
-use Rattle.tc_model.specs.Request.{Request}
+use Rattle.tc_request_model.specs.Request.{Request}
 use Rattle.tc_run_model.specs.Course.{requests_in}
 use Rattle.tc_run_model.specs.Windows.{Window}
 use Rattle.tc_plain_model.specs.Store.{Store}

@@ -3,9 +3,10 @@ use Rattle.std.specs.Prelude.{◌≤◌, ℕ, ◌+◌, List, [], ◌∷◌, leng
 use Rattle.tc_command.specs.Commands.{request_of_command}
 use Rattle.tc_model.specs.Keyed.{Ascends}
 use Rattle.tc_model.specs.Limits.{max_key, max_line}
-use Rattle.tc_model.specs.Request.{Request, upsert, delete, get, query, flush, schema, scan, collect, refused}
+use Rattle.tc_request_model.specs.Request.{Request, upsert, delete, get, query, flush, schema, scan, collect, refused}
 use Rattle.tc_model.specs.Stored.{IsStorable}
-use Rattle.tc_model.specs.Weight.{weight, IsLight}
+use Rattle.tc_model.specs.Weight.{weight}
+use Rattle.tc_request_model.specs.Light.{IsLight}
 use Rattle.tc_route.specs.Meaning.{routed_of}
 use Rattle.tc_route.specs.declared.placed.Routed.{Routed}
 use Rattle.tc_run_model.specs.Windows.{max_window}

@@ -61,8 +61,8 @@ impl<S: Store, P: Pace> Keeper<S, P> {
     ghost use Rattle.tc_command.specs.Commands.{ask_of};
     ghost use Rattle.tc_command.specs.Replies.{reply_of};
     ghost use Rattle.tc_model.specs.Keyed.{values_in};
-    ghost use Rattle.tc_model.specs.Reply.{schemas};
-    ghost use Rattle.tc_model.specs.Request.{collect, flush, scan, schema};
+    ghost use Rattle.tc_request_model.specs.Reply.{schemas};
+    ghost use Rattle.tc_request_model.specs.Request.{collect, flush, scan, schema};
     ghost use Rattle.tc_route.specs.Meaning.{replies_in};
     ghost use Rattle.tc_run_model.specs.Known.{MayReply};
     ghost use Rattle.tc_run_model.specs.World.{World, after_all};

@@ -37,8 +37,8 @@ pub struct Partitions<S: Store, P: Pace> {
 #[tactic(auto, unfolding(crate::specs::Calls::MayAsk, crate::specs::Calls::HoldsAt, crate::specs::Calls::KeepsAt, crate::specs::Calls::Rests, crate::specs::Calls::faults_of, crate::specs::Calls::IsSpent))]
 impl<S: Store, P: Pace> Partitions<S, P> {
     ghost use Rattle.std.specs.Prelude.{ℕ, None, Ok, Option, OnErr, OnOk};
-    ghost use Rattle.tc_model.specs.Reply.{schemas};
-    ghost use Rattle.tc_model.specs.Request.{flush, schema};
+    ghost use Rattle.tc_request_model.specs.Reply.{schemas};
+    ghost use Rattle.tc_request_model.specs.Request.{flush, schema};
     ghost use Rattle.tc_route.specs.Meaning.{replies_in};
     ghost use Rattle.tc_run_model.specs.Known.{MayReply};
     ghost use Rattle.tc_run_model.specs.World.{World, after_all};

@@ -12,6 +12,4 @@ pub mod Keyed
 pub mod Lines
 pub mod Limits
 pub mod Stored
-pub mod Request
-pub mod Reply
 pub mod Weight

@@ -1,8 +1,7 @@
 -- How much a document holds: one for each value, and the bytes of texts and names.
-use Rattle.std.specs.Prelude.{ℕ, ◌+◌, ◌≤◌, length}
+use Rattle.std.specs.Prelude.{ℕ, ◌+◌, length}
 use Rattle.tc_model.specs.Tree.{leaf, array, object, Items, no_items, item, Members, no_members, member}
 use Rattle.tc_model.specs.Document.{Name, Document, Scalar, null, boolean, integer, text}
-use Rattle.tc_model.specs.Request.{Request, upsert, delete, get, query, flush, schema, scan, collect, refused}
 
 abbrev pub scalar_weight : Scalar → ℕ
 scalar_weight null = 1
@@ -23,15 +22,3 @@ abbrev mutual
   pub members_weight : Members Name Scalar → ℕ
   members_weight no_members = 0
   members_weight (member name d ms) = length name + weight d + members_weight ms
-
--- the document of an upsert weighs at most so much
-abbrev pub IsLight : ℕ → Request → Type 0
-IsLight limit (upsert n d) = weight d ≤ limit
-IsLight limit (delete n) = Unit {0}
-IsLight limit (get n) = Unit {0}
-IsLight limit (query ask) = Unit {0}
-IsLight limit flush = Unit {0}
-IsLight limit schema = Unit {0}
-IsLight limit (scan ask) = Unit {0}
-IsLight limit collect = Unit {0}
-IsLight limit (refused r) = Unit {0}

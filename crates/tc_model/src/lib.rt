@@ -1,3 +1,3 @@
-//! Layer 0, meaning: documents and their JSON, dictionaries, values by key, the lines of an input, requests and replies.
-//! There is no code here; the crates above map their types to these definitions.
+//! Layer 0, meaning: documents and their JSON, dictionaries, values by key, and the lines of an input. There is no code
+//! here; the crates above map their types to these definitions.
 #![tactic(auto)]

@@ -4,13 +4,13 @@ use Rattle.std.specs.Prelude.{◌^◌, Result, Ok, Err, IfOk, is_some, option_ma
 use Rattle.std.proofs.lemmas.Option.{same_Some}
 use Rattle.tc_model.specs.Document.{Document, ShapeTree}
 use Rattle.tc_model.specs.Keyed.{value_of}
-use Rattle.tc_model.specs.Request.{Refusal}
+use Rattle.tc_request_model.specs.Request.{Refusal}
 use Rattle.tc_model.proofs.StoredDocuments.{keyless_object}
 use Rattle.tc_record.specs.Record.{record_of, IsRecordOf}
 use Rattle.tc_record.specs.StoredRecord.{IsStoredRecord}
 use Rattle.tc_log.specs.declared.write.Write.TheVariants.{Upsert, Delete}
 use Rattle.tc_memory.specs.Table.{upserted}
-use Rattle.tc_plain_model.specs.Part.{Limits}
+use Rattle.tc_plain_model.specs.Room.{Limits}
 use Rattle.tc_plain_model.specs.Store.{Store, names_with}
 use Rattle.tc_plain_model.specs.Writes.{Pairs, Write, after_writes}
 use Rattle.tc_machine.specs.Logs.{kept_write}

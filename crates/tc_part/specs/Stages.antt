@@ -1,12 +1,13 @@
 -- What comes of a write that is staged: the answer, and the part that it leaves.
 use Rattle.std.specs.Prelude.{◌≡◌, ◌+◌, ◌-◌, ◌&&◌, ℕ, Bool, true, false, not, nat_le, List, [], ◌∷◌, ◌++◌, Option, Some, None, if◌then◌else◌}
 use Rattle.tc_model.specs.Document.{Name, Document, ShapeTree}
-use Rattle.tc_model.specs.Request.{Refusal, names_full, full}
+use Rattle.tc_request_model.specs.Request.{Refusal, names_full, full}
 use Rattle.tc_record.specs.Record.{IsRecordOf}
 use Rattle.tc_log.specs.declared.write.Write as log
 use Rattle.tc_log.specs.declared.write.Write.TheVariants.{Upsert, Delete}
 use Rattle.tc_memory.specs.Table.{upserted, deleted}
-use Rattle.tc_plain_model.specs.Part.{Limits, lacks_names, upsert_refusal, unless_refused}
+use Rattle.tc_plain_model.specs.Room.{Limits, lacks_names}
+use Rattle.tc_request_model.specs.Part.{upsert_refusal, unless_refused}
 use Rattle.tc_plain_model.specs.Store.{Store, names_with}
 use Rattle.tc_plain_model.specs.Writes.{Write}
 use Rattle.tc_part_model.specs.Changes.{with_staged}

@@ -3,7 +3,7 @@
 ghost use Rattle.std.specs.Arc.{arc_value};
 ghost use Rattle.std.specs.Prelude.{◌≡◌, ◌≤◌, ◌+◌, false, true, None, option_map, IfErr, IfOk, OnErr, OnOk, IsErrOf};
 ghost use Rattle.tc_command.specs.Commands.{ask_of};
-ghost use Rattle.tc_plain_model.specs.Rows.{rows_over as rows_of_pairs};
+ghost use Rattle.tc_request_model.specs.Rows.{rows_over as rows_of_pairs};
 ghost use Rattle.tc_plain_model.specs.Writes.{Pairs};
 ghost use Rattle.tc_part_model.specs.PartState.{told, AreTold};
 ghost use Rattle.tc_part_model.specs.PartView.{PartView, stored_with};

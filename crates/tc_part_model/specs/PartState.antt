@@ -2,7 +2,7 @@
 use Rattle.std.specs.Prelude.{◌<◌, ◌≤◌, ◌^◌, ℕ, Bool, List, [], ◌∷◌, Option, length, map, option_map, All, IsSome}
 use Rattle.std.specs.List.{AllByRecursion}
 use Rattle.tc_model.specs.Document.{Name}
-use Rattle.tc_plain_model.specs.Part.{Limits}
+use Rattle.tc_plain_model.specs.Room.{Limits}
 use Rattle.tc_store.specs.Disk.{Disk}
 use Rattle.tc_store.specs.DiskFile.{DiskFile}
 use Rattle.tc_log.specs.declared.write.Write.{Write}

@@ -1,8 +1,8 @@
 -- The first of the values that are reached.
 use Rattle.std.proofs.Common.{◌≡◌, ◌∙◌, [], ◌∷◌, List, Option, Some, flat_map, option_to_list, ap, append-nil}
 use Rattle.tc_model.specs.Document.{Document}
-use Rattle.tc_model.specs.Request.{Hop}
-use Rattle.tc_plain_model.specs.Paths.{reached, hopped}
+use Rattle.tc_request_model.specs.Request.{Hop}
+use Rattle.tc_request_model.specs.Paths.{reached, hopped}
 use Rattle.tc_path.specs.Reached.{first_in, first_reached}
 
 -- what a hop and further hops reach

@@ -1,8 +1,8 @@
 -- The values of a record, and the first of those that hops reach.
 use Rattle.std.specs.Prelude.{List, [], ◌∷◌, map, flat_map, Option, None, Some}
 use Rattle.tc_model.specs.Document.{Name, Document, Scalar}
-use Rattle.tc_model.specs.Request.{Hop}
-use Rattle.tc_plain_model.specs.Paths.{reached}
+use Rattle.tc_request_model.specs.Request.{Hop}
+use Rattle.tc_request_model.specs.Paths.{reached}
 use Rattle.tc_record.specs.Preorder.{Token}
 use Rattle.tc_record.specs.Walk.{Key}
 use Rattle.tc_record.specs.Building.{document_read, HoldDocuments}

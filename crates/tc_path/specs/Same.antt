@@ -2,7 +2,7 @@
 use Rattle.std.specs.Prelude.{Bool, true, false, List, [], ◌∷◌, Option, None, Some}
 use Rattle.tc_model.specs.Document.{Document}
 use Rattle.tc_record.specs.Building.{Entry}
-use Rattle.tc_plain_model.specs.Equal.{same_document}
+use Rattle.tc_request_model.specs.Equal.{same_document}
 
 -- a value was read, and is this document
 abbrev pub is_same : Option Document → Document → Bool

@@ -7,7 +7,7 @@ ghost use Rattle.tc_value.specs.Meaning.{tree_of, member_of};
 ghost use Rattle.tc_record.specs.WalkView.{piece_of};
 ghost use Rattle.tc_record.specs.Building.{innermost, outer, value_in, member_in, value_read};
 ghost use Rattle.tc_compact.specs.Meant.{levels_meant};
-ghost use Rattle.tc_plain_model.specs.Equal.{same_document, same_items, same_members};
+ghost use Rattle.tc_request_model.specs.Equal.{same_document, same_items, same_members};
 ghost use Rattle.tc_path.specs.Same.{is_same, holds_none};
 
 use crate::labels::{closes, has_name};

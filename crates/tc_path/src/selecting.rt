@@ -7,7 +7,7 @@ ghost use Rattle.tc_command.specs.Asks.{hop_of};
 ghost use Rattle.tc_record.specs.WalkView.{token_of, piece_of};
 ghost use Rattle.tc_record.specs.Building.{outer, value_read};
 ghost use Rattle.tc_compact.specs.Meant.{levels_meant, IsRecordUnder};
-ghost use Rattle.tc_plain_model.specs.Paths.{reached, hopped};
+ghost use Rattle.tc_request_model.specs.Paths.{reached, hopped};
 ghost use Rattle.tc_path.specs.Reached.{value_at, values_at, IsLawful};
 ghost use Rattle.tc_path.specs.Left.{array_left, object_left, items_left, members_left};
 ghost use Rattle.tc_path.specs.Skipped.{is_close};

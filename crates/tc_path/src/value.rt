@@ -4,7 +4,7 @@ ghost use Rattle.std.specs.Prelude.{◌≡◌, ◌∷◌, Some, false, IfOk};
 ghost use Rattle.tc_model.specs.Document.{Document};
 ghost use Rattle.tc_value.specs.Meaning.{tree_of};
 ghost use Rattle.tc_record.specs.WalkView.{token_of, piece_of};
-ghost use Rattle.tc_plain_model.specs.Equal.{same_document};
+ghost use Rattle.tc_request_model.specs.Equal.{same_document};
 ghost use Rattle.tc_path.specs.Reached.{value_at, IsLawful};
 ghost use Rattle.tc_path.specs.Skipped.{is_close};
 

@@ -1,6 +1,3 @@
 pub mod Writes
 pub mod Store
-pub mod Paths
-pub mod Equal
-pub mod Rows
-pub mod Part
+pub mod Room

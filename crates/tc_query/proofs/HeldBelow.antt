@@ -14,10 +14,10 @@ use Rattle.tc_model.proofs.KeyedEquality.{value_of-here}
 use Rattle.tc_model.proofs.KeyedOrder.{AreAbove, sorted_nil, sorted_cons, less_by}
 use Rattle.tc_model.specs.Document.{Document}
 use Rattle.tc_model.specs.Keyed.{Keyed, Ascends, value_of}
-use Rattle.tc_model.specs.Reply.{Row}
-use Rattle.tc_model.specs.Request.{Ask}
-use Rattle.tc_plain_model.specs.Paths.{reached}
-use Rattle.tc_plain_model.specs.Rows.{row_of, rows_over}
+use Rattle.tc_request_model.specs.Reply.{Row}
+use Rattle.tc_request_model.specs.Request.{Ask}
+use Rattle.tc_request_model.specs.Paths.{reached}
+use Rattle.tc_request_model.specs.Rows.{row_of, rows_over}
 use Rattle.tc_plain_model.specs.Writes.{Pairs}
 use Rattle.tc_query.proofs.AheadKeys.{all_lesser, all_push}
 use Rattle.tc_query.proofs.BelowKeys.{value_of-behind}

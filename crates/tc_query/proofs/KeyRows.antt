@@ -6,9 +6,9 @@ use Rattle.tc_component.specs.Loading.{ComponentState}
 use Rattle.tc_component.specs.Spelling.{IsIndex}
 use Rattle.tc_list.specs.Contents.{Shows}
 use Rattle.tc_memory.specs.Table.{Table, IsTable}
-use Rattle.tc_model.specs.Reply.{Row}
-use Rattle.tc_model.specs.Request.{Ask}
-use Rattle.tc_plain_model.specs.Rows.{rows_over}
+use Rattle.tc_request_model.specs.Reply.{Row}
+use Rattle.tc_request_model.specs.Request.{Ask}
+use Rattle.tc_request_model.specs.Rows.{rows_over}
 use Rattle.tc_plain_model.specs.Writes.{Pairs}
 use Rattle.tc_query.proofs.RowSteps.{rows-next, rows-end, reads-next}
 use Rattle.tc_query.proofs.ShownKeys.{Ascends-shown, live_shown, few_below}

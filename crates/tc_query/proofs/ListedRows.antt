@@ -14,10 +14,10 @@ use Rattle.tc_list.specs.declared.whereabouts.Whereabouts.TheVariants.{At}
 use Rattle.tc_lsm_model.specs.Contents.{Content}
 use Rattle.tc_lsm_model.specs.Lists.{live}
 use Rattle.tc_model.specs.Document.{Document}
-use Rattle.tc_model.specs.Reply.{Row}
-use Rattle.tc_model.specs.Request.{Ask}
-use Rattle.tc_plain_model.specs.Paths.{reached}
-use Rattle.tc_plain_model.specs.Rows.{row_of}
+use Rattle.tc_request_model.specs.Reply.{Row}
+use Rattle.tc_request_model.specs.Request.{Ask}
+use Rattle.tc_request_model.specs.Paths.{reached}
+use Rattle.tc_request_model.specs.Rows.{row_of}
 use Rattle.tc_query.proofs.RowSteps.{rows_of_one}
 use Rattle.tc_query.specs.Rows.{rows_at}
 

@@ -1,8 +1,8 @@
 -- The values that are left of those that were reached, and the row that they make.
 use Rattle.std.proofs.Common.{◌≡◌, ℕ, Bool, true, false, List, [], ◌∷◌, map, Option, Some, if◌then◌else◌, refl, sym, ap, ◌∙◌, subst}
 use Rattle.tc_model.specs.Document.{Document}
-use Rattle.tc_plain_model.specs.Equal.{same_document}
-use Rattle.tc_plain_model.specs.Rows.{is_among, meets, row_of}
+use Rattle.tc_request_model.specs.Equal.{same_document}
+use Rattle.tc_request_model.specs.Rows.{is_among, meets, row_of}
 
 -- ---- a list of known values, cut behind its first
 

@@ -5,10 +5,10 @@ use Rattle.std.proofs.lemmas.Grind.{flat_map-append}
 use Rattle.std.proofs.lemmas.List.Concat.{flat_map-cons}
 use Rattle.tc_model.specs.Document.{Document}
 use Rattle.tc_model.specs.Keyed.{Ascends, value_of}
-use Rattle.tc_model.specs.Reply.{Row}
-use Rattle.tc_model.specs.Request.{Ask}
-use Rattle.tc_plain_model.specs.Paths.{reached}
-use Rattle.tc_plain_model.specs.Rows.{row_of, rows_over}
+use Rattle.tc_request_model.specs.Reply.{Row}
+use Rattle.tc_request_model.specs.Request.{Ask}
+use Rattle.tc_request_model.specs.Paths.{reached}
+use Rattle.tc_request_model.specs.Rows.{row_of, rows_over}
 use Rattle.tc_plain_model.specs.Writes.{Pairs}
 use Rattle.tc_query.proofs.BelowKeys.{below-next, below-start, below-end}
 use Rattle.tc_query.specs.Faults.{IsReadIf}

@@ -2,10 +2,10 @@
 use Rattle.std.specs.Prelude.{ℕ, nat_lt, List, filter, flat_map, Option, option_to_list}
 use Rattle.tc_model.specs.Document.{Document}
 use Rattle.tc_model.specs.Keyed.{Keyed, value_of}
-use Rattle.tc_model.specs.Reply.{Row}
-use Rattle.tc_model.specs.Request.{Ask}
-use Rattle.tc_plain_model.specs.Paths.{reached}
-use Rattle.tc_plain_model.specs.Rows.{row_of}
+use Rattle.tc_request_model.specs.Reply.{Row}
+use Rattle.tc_request_model.specs.Request.{Ask}
+use Rattle.tc_request_model.specs.Paths.{reached}
+use Rattle.tc_request_model.specs.Rows.{row_of}
 use Rattle.tc_plain_model.specs.Writes.{Pairs}
 
 -- the row of a key that has this document, if it has one: one, or none

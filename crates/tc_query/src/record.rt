@@ -10,8 +10,8 @@ ghost use Rattle.tc_component.specs.Fetching.{IsPlace, record_at as bytes_of_rec
 ghost use Rattle.tc_component.specs.Meaning.{IsRecordOfOne};
 ghost use Rattle.tc_component.specs.Spelling.{name_of as name_meant};
 ghost use Rattle.tc_model.specs.Document.{Document};
-ghost use Rattle.tc_plain_model.specs.Paths.{reached};
-ghost use Rattle.tc_plain_model.specs.Rows.{row_of as row_reached};
+ghost use Rattle.tc_request_model.specs.Paths.{reached};
+ghost use Rattle.tc_request_model.specs.Rows.{row_of as row_reached};
 ghost use Rattle.tc_query.specs.Faults.{OfDamage, IsHarmOf, IsWatched};
 ghost use Rattle.tc_query.specs.Shown.{IsReadOf};
 

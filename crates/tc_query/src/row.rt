@@ -6,8 +6,8 @@ ghost use Rattle.tc_model.specs.Document.{Document};
 ghost use Rattle.tc_value.specs.Meaning.{tree_of};
 ghost use Rattle.tc_compact.specs.Meant.{IsRecordUnder};
 ghost use Rattle.tc_path.specs.Reached.{values_at, IsLawful};
-ghost use Rattle.tc_plain_model.specs.Paths.{reached};
-ghost use Rattle.tc_plain_model.specs.Rows.{is_among, meets as meets_value, row_of as row_reached};
+ghost use Rattle.tc_request_model.specs.Paths.{reached};
+ghost use Rattle.tc_request_model.specs.Rows.{is_among, meets as meets_value, row_of as row_reached};
 ghost use Rattle.tc_command.specs.Commands.{ask_of};
 ghost use Rattle.tc_command.specs.Rows.{row_of};
 

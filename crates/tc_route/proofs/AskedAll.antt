@@ -5,14 +5,14 @@ use Rattle.std.proofs.lemmas.Bool.Decides.{nat_tests}
 use Rattle.std.proofs.lemmas.List.Elements.{All-nil, All-cons, All-head, All-tail}
 use Rattle.std.proofs.lemmas.List.Sums.{fold-append}
 use Rattle.tc_model.specs.Keyed.{Keyed, Ascends, value_of, with_value}
-use Rattle.tc_model.specs.Request.{Request, Ask, query}
-use Rattle.tc_model.specs.Reply.{Reply, rows}
+use Rattle.tc_request_model.specs.Request.{Request, Ask, query}
+use Rattle.tc_request_model.specs.Reply.{Reply, rows}
 use Rattle.tc_model.proofs.KeyedEquality.{value_of-here}
 use Rattle.tc_model.proofs.KeyedOrder.{All-with_value}
 use Rattle.tc_plain_model.specs.Writes.{Pairs}
 use Rattle.tc_plain_model.specs.Store.{Store}
-use Rattle.tc_plain_model.specs.Rows.{rows_over}
-use Rattle.tc_plain_model.specs.Part.{Limits}
+use Rattle.tc_request_model.specs.Rows.{rows_over}
+use Rattle.tc_plain_model.specs.Room.{Limits}
 use Rattle.tc_run_model.specs.World.{united}
 use Rattle.tc_run_model.proofs.UnitedPairs.{AreBehind, with_all, Ascends-with_all, with_all-ascending}
 use Rattle.tc_route.specs.Shares.{share}

@@ -4,7 +4,7 @@ use Rattle.std.specs.Prelude.{None, ◌==◌, fold}
 use Rattle.std.proofs.lemmas.Bool.Decides.{nat_tests}
 use Rattle.std.proofs.lemmas.List.Elements.{All-head, All-tail}
 use Rattle.tc_model.specs.Keyed.{Keyed, value_of, with_value}
-use Rattle.tc_model.specs.Reply.{Reply}
+use Rattle.tc_request_model.specs.Reply.{Reply}
 use Rattle.tc_model.proofs.KeyedOrder.{All-with_value}
 use Rattle.tc_run_model.proofs.UnitedPairs.{AreBehind, apart_back, with_value-front, with_value-behind}
 use Rattle.tc_route.specs.Gathered.{beside, with_reply}

@@ -6,12 +6,13 @@ use Rattle.std.proofs.lemmas.Nat.{mod_below}
 use Rattle.std.proofs.lemmas.List.Elements.{All-nil, All-head, All-tail}
 use Rattle.tc_model.specs.Document.{Document}
 use Rattle.tc_model.specs.Keyed.{Keyed, Ascends}
-use Rattle.tc_model.specs.Request.{Request, upsert, delete, get, query, flush, schema, scan, collect, refused, Refusal}
-use Rattle.tc_model.specs.Reply.{rows}
+use Rattle.tc_request_model.specs.Request.{Request, upsert, delete, get, query, flush, schema, scan, collect, refused, Refusal}
+use Rattle.tc_request_model.specs.Reply.{rows}
 use Rattle.tc_model.proofs.KeyedOrder.{sorted-with_value, All-with_value, sorted-without_key, All-without_key}
 use Rattle.tc_plain_model.specs.Store.{Store, with_pair, without_pair}
-use Rattle.tc_plain_model.specs.Rows.{rows_over}
-use Rattle.tc_plain_model.specs.Part.{Limits, part_reply, part_left, upsert_refusal, unless_refused}
+use Rattle.tc_request_model.specs.Rows.{rows_over}
+use Rattle.tc_plain_model.specs.Room.{Limits}
+use Rattle.tc_request_model.specs.Part.{part_reply, part_left, upsert_refusal, unless_refused}
 use Rattle.tc_run_model.specs.World.{Part, World, home_of, store_at, united, part_after, with_part, changed_at}
 use Rattle.tc_run_model.proofs.UnitedPairs.{behind_first, rest_ascends}
 use Rattle.tc_run_model.proofs.WorldLaws.{length-changed_at}

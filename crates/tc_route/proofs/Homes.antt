@@ -5,10 +5,11 @@ use Rattle.std.proofs.lemmas.Bool.Decides.{nat_tests}
 use Rattle.std.proofs.lemmas.List.Elements.{All-nil, All-cons, All-head, All-tail}
 use Rattle.std.proofs.lemmas.List.Sums.{fold-append}
 use Rattle.tc_model.specs.Keyed.{Keyed}
-use Rattle.tc_model.specs.Request.{Request}
-use Rattle.tc_model.specs.Reply.{Reply}
+use Rattle.tc_request_model.specs.Request.{Request}
+use Rattle.tc_request_model.specs.Reply.{Reply}
 use Rattle.tc_plain_model.specs.Store.{Store, empty}
-use Rattle.tc_plain_model.specs.Part.{Limits, part_reply, part_left}
+use Rattle.tc_plain_model.specs.Room.{Limits}
+use Rattle.tc_request_model.specs.Part.{part_reply, part_left}
 use Rattle.tc_run_model.specs.World.{changed_at}
 use Rattle.tc_run_model.proofs.UnitedPairs.{AreBehind}
 use Rattle.tc_route.specs.Shares.{is_for, share}

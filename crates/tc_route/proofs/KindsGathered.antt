@@ -7,8 +7,8 @@ use Rattle.std.proofs.lemmas.List.Elements.{All-nil, All-cons, All-head, All-tai
 use Rattle.std.proofs.lemmas.List.Sums.{fold-append}
 use Rattle.tc_model.specs.Document.{Document}
 use Rattle.tc_model.specs.Keyed.{Keyed, Ascends}
-use Rattle.tc_model.specs.Request.{Request, Refusal, upsert, delete, get, query, flush, schema, scan, collect, refused, names_full, full}
-use Rattle.tc_model.specs.Reply.{Reply, Row, upserted, deleted, got, rows, flushed, schemas, started, collected, turned_down}
+use Rattle.tc_request_model.specs.Request.{Request, Refusal, upsert, delete, get, query, flush, schema, scan, collect, refused, names_full, full}
+use Rattle.tc_request_model.specs.Reply.{Reply, Row, upserted, deleted, got, rows, flushed, schemas, started, collected, turned_down}
 use Rattle.tc_run_model.specs.Kinds.{IsOfKind}
 use Rattle.tc_run_model.proofs.UnitedPairs.{behind_first, rest_ascends, AreBehind}
 use Rattle.tc_route.specs.Answers.{AreAnswers, AreKindsGathered, AreOfShares, IsForParts}

@@ -6,13 +6,13 @@ use Rattle.std.proofs.lemmas.List.Elements.{All-nil, All-cons, All-head, All-tai
 use Rattle.std.proofs.lemmas.List.Sums.{fold-append}
 use Rattle.tc_model.specs.Document.{Document}
 use Rattle.tc_model.specs.Keyed.{Keyed, Ascends, value_of, with_value, values_in}
-use Rattle.tc_model.specs.Request.{Ask}
-use Rattle.tc_model.specs.Reply.{Row}
+use Rattle.tc_request_model.specs.Request.{Ask}
+use Rattle.tc_request_model.specs.Reply.{Row}
 use Rattle.tc_model.proofs.KeyedOrder.{sorted-with_value, sorted_nil}
 use Rattle.tc_model.proofs.KeyedLookups.{value_of-with_value}
 use Rattle.tc_plain_model.specs.Writes.{Pairs}
-use Rattle.tc_plain_model.specs.Paths.{reached}
-use Rattle.tc_plain_model.specs.Rows.{row_of, rows_over, meets}
+use Rattle.tc_request_model.specs.Paths.{reached}
+use Rattle.tc_request_model.specs.Rows.{row_of, rows_over, meets}
 use Rattle.tc_run_model.proofs.UnitedPairs.{AreBehind, with_value-front, with_value-behind, behind_first, rest_ascends, with_all, with_all-ascending}
 use Rattle.tc_route.specs.Gathered.{with_row, in_order}
 

@@ -7,7 +7,7 @@ use Rattle.std.proofs.lemmas.Bool.Decides.{nat_tests}
 use Rattle.std.proofs.lemmas.List.{get_or-set_same, get_or-set_other, get_or-map, map-set, map-append, length-map}
 use Rattle.std.proofs.lemmas.List.Elements.{filter-append}
 use Rattle.tc_model.specs.Keyed.{Keyed}
-use Rattle.tc_model.specs.Request.{Request}
+use Rattle.tc_request_model.specs.Request.{Request}
 use Rattle.tc_route.specs.declared.placed.Routed.{Routed}
 use Rattle.tc_route.specs.Meaning.{routed_of, requests_of, requests_at}
 use Rattle.tc_route.specs.Shares.{is_for, share}

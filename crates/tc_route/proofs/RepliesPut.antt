@@ -9,7 +9,7 @@ use Rattle.std.proofs.lemmas.List.{map-append}
 use Rattle.std.proofs.lemmas.List.Sums.{fold-append}
 use Rattle.std.proofs.lemmas.Map.Keys.{sorted_head}
 use Rattle.tc_model.specs.Keyed.{Keyed, Ascends, value_of, with_value, without_key, values_in, on_value}
-use Rattle.tc_model.specs.Reply.{Row, Reply}
+use Rattle.tc_request_model.specs.Reply.{Row, Reply}
 use Rattle.tc_model.proofs.KeyedOrder.{sorted-with_value, sorted_nil}
 use Rattle.tc_model.proofs.KeyedMaps.{option_map-lookup, map-insert_entry, map-remove_entry}
 use Rattle.tc_model.proofs.Replacing.{below_all}

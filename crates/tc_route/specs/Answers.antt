@@ -2,10 +2,11 @@
 use Rattle.std.specs.Prelude.{◌≡◌, ℕ, suc, ◌<◌, ◌%◌, length, map, List, [], ◌∷◌}
 use Rattle.std.specs.List.{All}
 use Rattle.tc_model.specs.Keyed.{Keyed, Ascends}
-use Rattle.tc_model.specs.Request.{Request, upsert, delete, get, query, flush, schema, scan, collect, refused}
-use Rattle.tc_model.specs.Reply.{Reply}
+use Rattle.tc_request_model.specs.Request.{Request, upsert, delete, get, query, flush, schema, scan, collect, refused}
+use Rattle.tc_request_model.specs.Reply.{Reply}
 use Rattle.tc_plain_model.specs.Store.{Store}
-use Rattle.tc_plain_model.specs.Part.{Limits, part_reply, part_left}
+use Rattle.tc_plain_model.specs.Room.{Limits}
+use Rattle.tc_request_model.specs.Part.{part_reply, part_left}
 use Rattle.tc_run_model.specs.Kinds.{IsOfKind}
 use Rattle.tc_run_model.specs.World.{World, after}
 use Rattle.tc_run_model.specs.Replies.{reply_to}

@@ -1,7 +1,7 @@
 -- The replies of partitions put together.
 use Rattle.std.specs.Prelude.{ℕ, List, [], ◌++◌, fold, flat_map, Option, Some, None}
 use Rattle.tc_model.specs.Keyed.{Keyed, value_of, with_value, values_in}
-use Rattle.tc_model.specs.Reply.{Reply, Row, rows}
+use Rattle.tc_request_model.specs.Reply.{Reply, Row, rows}
 
 -- ---- rows
 

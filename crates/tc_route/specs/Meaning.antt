@@ -3,8 +3,8 @@ use Rattle.std.specs.Prelude.{ℕ, List, [], map, slice_index_or}
 use Rattle.std.specs.declared.vec.Vec.{Vec}
 use Rattle.std.specs.declared.alloc.Global.{Global}
 use Rattle.tc_model.specs.Keyed.{Keyed}
-use Rattle.tc_model.specs.Request.{Request}
-use Rattle.tc_model.specs.Reply.{Reply}
+use Rattle.tc_request_model.specs.Request.{Request}
+use Rattle.tc_request_model.specs.Reply.{Reply}
 use Rattle.tc_command.specs.Commands.{request_of_command}
 use Rattle.tc_command.specs.Replies.{reply_of}
 use Rattle.tc_route.specs.declared.placed.Routed.{Routed}

@@ -2,7 +2,7 @@
 
 ghost use Rattle.std.specs.Prelude.{◌≡◌, ℕ, ◌<◌, ◌%◌, ◌==◌, ◌++◌, ◌∷◌, [], IfOk, OnOk, length, map, if◌then◌else◌};
 ghost use Rattle.tc_command.specs.Commands.{ask_of, request_of_command};
-ghost use Rattle.tc_model.specs.Request.{query};
+ghost use Rattle.tc_request_model.specs.Request.{query};
 ghost use Rattle.tc_route.specs.Shares.{share};
 ghost use Rattle.tc_route.specs.Meaning.{routed_of, requests_at};
 

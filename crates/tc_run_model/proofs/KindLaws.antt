@@ -2,12 +2,13 @@
 use Rattle.std.proofs.Common.{ℕ, Bool, true, false, List, [], ◌∷◌, inl, inr, refl, sym, subst, map}
 use Rattle.std.specs.Prelude.{Option, Some, None, is_some, if◌then◌else◌}
 use Rattle.tc_model.specs.Document.{Document}
-use Rattle.tc_model.specs.Request.{Request, upsert, delete, get, query, flush, schema, scan, collect, refused, Ask, names_full, full, busy}
-use Rattle.tc_model.specs.Reply.{Reply, upserted, started, turned_down}
+use Rattle.tc_request_model.specs.Request.{Request, upsert, delete, get, query, flush, schema, scan, collect, refused, Ask, names_full, full, busy}
+use Rattle.tc_request_model.specs.Reply.{Reply, upserted, started, turned_down}
 use Rattle.tc_schema_model.specs.SchemaText.{schema_text}
 use Rattle.tc_plain_model.specs.Store.{documents, stored}
-use Rattle.tc_plain_model.specs.Rows.{rows_over}
-use Rattle.tc_plain_model.specs.Part.{lacks_names, lacks_room, unless_refused}
+use Rattle.tc_request_model.specs.Rows.{rows_over}
+use Rattle.tc_plain_model.specs.Room.{lacks_names, lacks_room}
+use Rattle.tc_request_model.specs.Part.{unless_refused}
 use Rattle.tc_run_model.specs.World.{Scan, World, home_of, store_at, united, after}
 use Rattle.tc_run_model.specs.Replies.{IsCollectReply, IsReply, AreReplies}
 use Rattle.tc_run_model.specs.Kinds.{IsOfKind, AreOfKinds}

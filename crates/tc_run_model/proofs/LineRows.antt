@@ -5,7 +5,7 @@ use Rattle.std.specs.Fmt.{digits}
 use Rattle.serde_json.proofs.OnLiterals.{serde_json_on_literals}
 use Rattle.tc_model.specs.Lines.{lines_of}
 use Rattle.tc_plain_model.specs.Store.{empty}
-use Rattle.tc_plain_model.specs.Part.{Limits}
+use Rattle.tc_plain_model.specs.Room.{Limits}
 use Rattle.tc_run_model.specs.World.{first_world}
 use Rattle.tc_run_model.specs.Replies.{replies_to}
 use Rattle.tc_run_model.specs.Windows.{closed_windows, windows}

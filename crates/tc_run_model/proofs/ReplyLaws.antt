@@ -3,8 +3,8 @@ use Rattle.std.proofs.Common.{◌≡◌, List, [], ◌∷◌, ◌++◌, refl, ap
 use Rattle.std.specs.List.{AllByRecursion}
 use Rattle.std.specs.Prelude.{Option, Some, None}
 use Rattle.std.proofs.lemmas.List.Sums.{fold-append}
-use Rattle.tc_model.specs.Request.{Request, upsert, delete, get, query, flush, schema, scan, collect, refused}
-use Rattle.tc_model.specs.Reply.{Reply}
+use Rattle.tc_request_model.specs.Request.{Request, upsert, delete, get, query, flush, schema, scan, collect, refused}
+use Rattle.tc_request_model.specs.Reply.{Reply}
 use Rattle.tc_run_model.specs.World.{World, after, after_all}
 use Rattle.tc_run_model.specs.Replies.{reply_to, IsReply, AreReplies, replies_to}
 use Rattle.tc_run_model.specs.Kinds.{AreOfKinds}

@@ -2,7 +2,7 @@
 use Rattle.std.proofs.Common.{◌≡◌, ◌⊎◌, ℕ, Bool, true, false, List, [], ◌∷◌, ◌++◌, refl, ap, sym, subst, ◌∙◌, append_assoc, inl, inr}
 use Rattle.std.specs.Prelude.{fold, if◌then◌else◌}
 use Rattle.tc_model.specs.Lines.{lines_of}
-use Rattle.tc_model.specs.Request.{request_of}
+use Rattle.tc_request_model.specs.Request.{request_of}
 use Rattle.tc_run_model.specs.Windows.{Window, Windows, is_control, is_full, unless_empty, with_open, with_line, windows_of, windows, lines_in}
 use Rattle.tc_run_model.proofs.WindowLaws.{lines_in-append, lines_in-unless_empty, lines_held-windows_of}
 

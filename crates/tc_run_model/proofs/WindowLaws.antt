@@ -2,7 +2,7 @@
 use Rattle.std.proofs.Common.{◌≡◌, ℕ, true, false, List, [], ◌∷◌, ◌++◌, refl, ap, subst, sym, ◌∙◌, append_assoc, append-nil}
 use Rattle.std.specs.Prelude.{fold, if◌then◌else◌}
 use Rattle.std.proofs.lemmas.List.Sums.{fold-append}
-use Rattle.tc_model.specs.Request.{request_of}
+use Rattle.tc_request_model.specs.Request.{request_of}
 use Rattle.tc_run_model.specs.Windows.{BeginsWith, Window, Windows, is_control, is_full, unless_empty, with_open, with_line, windows_of, lines_in}
 
 -- ---- the lines of windows

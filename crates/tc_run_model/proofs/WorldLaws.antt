@@ -3,11 +3,13 @@ use Rattle.std.proofs.Common.{◌≡◌, ℕ, zero, suc, Bool, true, false, List
 use Rattle.std.specs.Prelude.{◌==◌, ◌&&◌, Option, Some, is_some, length, map, if◌then◌else◌}
 use Rattle.std.specs.List.{AllByRecursion}
 use Rattle.std.proofs.lemmas.Bool.{eqb-true}
-use Rattle.tc_model.specs.Request.{Request, upsert, delete, get, query, flush, schema, scan, collect, refused}
+use Rattle.tc_request_model.specs.Request.{Request, upsert, delete, get, query, flush, schema, scan, collect, refused}
 use Rattle.tc_plain_model.specs.Writes.{Write, after_writes}
 use Rattle.tc_plain_model.specs.Store.{Store}
-use Rattle.tc_plain_model.specs.Part.{Limits, part_writes}
-use Rattle.tc_plain_model.proofs.WriteLaws.{part_left-writes, after_writes-append}
+use Rattle.tc_plain_model.specs.Room.{Limits}
+use Rattle.tc_request_model.specs.Part.{part_writes}
+use Rattle.tc_plain_model.proofs.WriteLaws.{after_writes-append}
+use Rattle.tc_request_model.proofs.RequestWrites.{part_left-writes}
 use Rattle.tc_run_model.specs.World.{Part, Scan, World, first_world, home_of, store_at, part_after, with_part, changed_at, after, after_all}
 
 abbrev pub StandsOnWrites : Part → Type 0

@@ -4,10 +4,10 @@ use Rattle.std.proofs.Common.{arith}
 use Rattle.std.specs.Str.{chars}
 use Rattle.tc_model.specs.Tree.{leaf, object, no_members, member}
 use Rattle.tc_model.specs.Document.{Document, integer}
-use Rattle.tc_model.specs.Request.{upsert, delete, query, scan, collect, Ask, to_name, no_scan, busy}
-use Rattle.tc_model.specs.Reply.{upserted, rows, started, collected, turned_down}
+use Rattle.tc_request_model.specs.Request.{upsert, delete, query, scan, collect, Ask, to_name, no_scan, busy}
+use Rattle.tc_request_model.specs.Reply.{upserted, rows, started, collected, turned_down}
 use Rattle.tc_plain_model.specs.Store.{empty}
-use Rattle.tc_plain_model.specs.Part.{Limits}
+use Rattle.tc_plain_model.specs.Room.{Limits}
 use Rattle.tc_run_model.specs.World.{World, first_world, after_all}
 use Rattle.tc_run_model.specs.Replies.{reply_to, AreReplies}
 

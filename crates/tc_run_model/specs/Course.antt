@@ -2,8 +2,8 @@
 -- disk is said of the same windows. The world in which a run begins is none where it is not known.
 use Rattle.std.specs.Prelude.{◌≡◌, ◌⊎◌, ℕ, ◌+◌, ◌<◌, List, [], ◌∷◌, ◌++◌, length, flat_map, map, take, Option, option_map}
 use Rattle.std.specs.Io.KnownBytes.{Appends, Consumes, IsAtEnd}
-use Rattle.tc_model.specs.Request.{Request, request_of}
-use Rattle.tc_model.specs.Reply.{Reply, reply_line}
+use Rattle.tc_request_model.specs.Request.{Request, request_of}
+use Rattle.tc_request_model.specs.Reply.{Reply, reply_line}
 use Rattle.tc_run_model.specs.Windows.{BeginsWith, Window, windows, closed_windows, unless_empty, lines_in}
 use Rattle.tc_run_model.specs.World.{World, after_all}
 use Rattle.tc_run_model.specs.Known.{MayReply}

@@ -2,8 +2,8 @@
 use Rattle.std.specs.Prelude.{◌≡◌, ◌⊎◌, ℕ, Bool, List, [], ◌∷◌, Option}
 use Rattle.serde_json.specs.Data.{Data}
 use Rattle.tc_model.specs.Document.{Document}
-use Rattle.tc_model.specs.Request.{Request, upsert, delete, get, query, flush, schema, scan, collect, refused, names_full, full, busy, no_scan}
-use Rattle.tc_model.specs.Reply.{Reply, Row, upserted, deleted, got, rows, flushed, schemas, started, collected, turned_down}
+use Rattle.tc_request_model.specs.Request.{Request, upsert, delete, get, query, flush, schema, scan, collect, refused, names_full, full, busy, no_scan}
+use Rattle.tc_request_model.specs.Reply.{Reply, Row, upserted, deleted, got, rows, flushed, schemas, started, collected, turned_down}
 
 -- An upsert may be refused for its names or for want of room. A refused line has its refusal.
 abbrev pub IsOfKind : Request → Reply → Type 0

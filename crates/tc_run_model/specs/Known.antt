@@ -1,7 +1,7 @@
 -- Replies from a world that is known, or is not: over stores that do not tell what they hold there is none.
 use Rattle.std.specs.Prelude.{List, Option, Some, None, option_map}
-use Rattle.tc_model.specs.Request.{Request}
-use Rattle.tc_model.specs.Reply.{Reply}
+use Rattle.tc_request_model.specs.Request.{Request}
+use Rattle.tc_request_model.specs.Reply.{Reply}
 use Rattle.tc_run_model.specs.World.{World, after_all}
 use Rattle.tc_run_model.specs.Replies.{AreReplies}
 use Rattle.tc_run_model.specs.Kinds.{AreOfKinds}

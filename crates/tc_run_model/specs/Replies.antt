@@ -2,12 +2,12 @@
 -- partition's writes that has those before the scan in it.
 use Rattle.std.specs.Prelude.{◌≡◌, ℕ, ◌≤◌, length, List, [], ◌∷◌, map, zip, is_some, Option, Some, None, if◌then◌else◌}
 use Rattle.std.specs.List.{AllZip}
-use Rattle.tc_model.specs.Request.{Request, upsert, delete, get, query, flush, schema, scan, collect, refused, busy, no_scan}
-use Rattle.tc_model.specs.Reply.{Reply, rows, flushed, schemas, started, collected, turned_down}
+use Rattle.tc_request_model.specs.Request.{Request, upsert, delete, get, query, flush, schema, scan, collect, refused, busy, no_scan}
+use Rattle.tc_request_model.specs.Reply.{Reply, rows, flushed, schemas, started, collected, turned_down}
 use Rattle.tc_schema_model.specs.SchemaText.{schema_text}
 use Rattle.tc_plain_model.specs.Store.{documents}
-use Rattle.tc_plain_model.specs.Rows.{rows_over}
-use Rattle.tc_plain_model.specs.Part.{part_reply}
+use Rattle.tc_request_model.specs.Rows.{rows_over}
+use Rattle.tc_request_model.specs.Part.{part_reply}
 use Rattle.tc_run_model.specs.World.{Part, Scan, World, home_of, store_at, united, pairs_at, after}
 
 -- the reply to a request, and to a collect where no scan runs

@@ -1,7 +1,7 @@
 -- The windows of lines: lines that are answered together, and whose replies are written together.
 use Rattle.std.specs.Prelude.{◌≡◌, ℕ, List, [], ◌∷◌, ◌++◌, length, fold, sum_by, Bool, true, false, ◌||◌, nat_le, if◌then◌else◌}
 use Rattle.tc_model.specs.Lines.{lines_of, whole_lines}
-use Rattle.tc_model.specs.Request.{Request, upsert, delete, get, query, flush, schema, scan, collect, refused, request_of}
+use Rattle.tc_request_model.specs.Request.{Request, upsert, delete, get, query, flush, schema, scan, collect, refused, request_of}
 use Rattle.tc_model.specs.Limits.{max_line}
 
 -- the first list goes on where the second ends

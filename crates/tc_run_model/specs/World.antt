@@ -1,10 +1,11 @@
 -- The plain world: its partitions, the scan that was started and not collected yet, and whether all writes were flushed.
 use Rattle.std.specs.Prelude.{ℕ, zero, suc, ◌%◌, ◌==◌, ◌&&◌, Bool, true, false, length, List, [], ◌∷◌, ◌++◌, map, fold, flat_map, take, is_some, Option, Some, None, slice_get, unwrap_or, if◌then◌else◌}
 use Rattle.tc_model.specs.Keyed.{with_value}
-use Rattle.tc_model.specs.Request.{Request, upsert, delete, get, query, flush, schema, scan, collect, refused, Ask}
+use Rattle.tc_request_model.specs.Request.{Request, upsert, delete, get, query, flush, schema, scan, collect, refused, Ask}
 use Rattle.tc_plain_model.specs.Writes.{Pairs, Write, after_writes}
 use Rattle.tc_plain_model.specs.Store.{Store, empty}
-use Rattle.tc_plain_model.specs.Part.{Limits, part_writes, part_left}
+use Rattle.tc_plain_model.specs.Room.{Limits}
+use Rattle.tc_request_model.specs.Part.{part_writes, part_left}
 
 -- a partition: what it stored when the run began, its writes since then, and what it stores now
 pub record Part : Type 0 where

@@ -7,7 +7,7 @@ ghost use Rattle.tc_command.specs.Commands.{ask_of};
 ghost use Rattle.tc_component.specs.Loaded.{IsLoadedOf};
 ghost use Rattle.tc_log.specs.Writes.{IsWrite};
 ghost use Rattle.tc_lsm_model.specs.Contents.{Content};
-ghost use Rattle.tc_plain_model.specs.Rows.{rows_over as rows_of_pairs};
+ghost use Rattle.tc_request_model.specs.Rows.{rows_over as rows_of_pairs};
 ghost use Rattle.tc_plain_model.specs.Writes.{Pairs};
 ghost use Rattle.tc_query.specs.Faults.{OfDamage, IsUnharmed, IsHarmIn, IsWatched};
 ghost use Rattle.tc_scan.specs.Newest.{newest_of};

@@ -2,7 +2,7 @@
 use Rattle.std.proofs.Common.{◌≡◌, ℕ, ◌<◌, length, take, List, inl, inr, refl, subst}
 use Rattle.std.specs.Prelude.{Option, Some, None}
 use Rattle.std.specs.Io.KnownBytes.{Appends, Keeps}
-use Rattle.tc_model.specs.Request.{Request}
+use Rattle.tc_request_model.specs.Request.{Request}
 use Rattle.tc_run_model.specs.World.{World, after_all}
 use Rattle.tc_keeper.specs.Faults.{Stop, failed_writing, gave_up, stop_of, IsNoDamage, IsOfStore}
 use Rattle.tc_keeper.specs.Holds.{AreAnswered, AreWritten, IsLeft, worlds_at, HaveFailed}

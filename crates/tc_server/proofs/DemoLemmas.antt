@@ -2,7 +2,7 @@
 use Rattle.std.proofs.Common.{◌≡◌, ℕ, List, [], ◌∷◌, ◌++◌, length-append, refl, ap, ap₂, sym, ◌∙◌, subst, append_assoc, append-nil, inl, inr, arith}
 use Rattle.std.specs.Prelude.{Option, Some, None, sum_by, IfSome}
 use Rattle.tc_gen.specs.TwoLines.{Heard}
-use Rattle.tc_model.specs.Reply.{Reply}
+use Rattle.tc_request_model.specs.Reply.{Reply}
 use Rattle.tc_run_model.specs.World.{World, after_all}
 use Rattle.tc_run_model.specs.Known.{MayReply}
 use Rattle.tc_run_model.specs.Windows.{BeginsWith, Window, Windows, line_size, unless_empty, with_line, windows_of, lines_in}

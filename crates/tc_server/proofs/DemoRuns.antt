@@ -8,7 +8,7 @@ use Rattle.tc_gen.specs.Generated.{generated, input_of}
 use Rattle.tc_gen.specs.TwoLines.{Heard, heard_of, lines_for, two_lines}
 use Rattle.tc_gen.proofs.OneLine.{lines_of_input}
 use Rattle.tc_gen.proofs.LineLengths.{generated_count}
-use Rattle.tc_model.specs.Reply.{Reply}
+use Rattle.tc_request_model.specs.Reply.{Reply}
 use Rattle.tc_run_model.specs.World.{World}
 use Rattle.tc_run_model.specs.Known.{MayReply}
 use Rattle.tc_run_model.specs.Windows.{BeginsWith, Window, unless_empty, windows, windows_of, lines_in}

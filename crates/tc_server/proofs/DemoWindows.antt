@@ -2,8 +2,8 @@
 use Rattle.std.proofs.Common.{◌≡◌, ℕ, suc, ◌<◌, ◌≤◌, ◌⊎◌, Bool, true, false, List, [], ◌∷◌, ◌++◌, length, length-append, refl, ap, sym, ◌∙◌, append_assoc, append-nil, inl, inr, arith}
 use Rattle.std.specs.Prelude.{Option, Some, None, if◌then◌else◌}
 use Rattle.std.proofs.lemmas.List.{map-append, length-map}
-use Rattle.tc_model.specs.Request.{Request, request_of}
-use Rattle.tc_model.specs.Reply.{Reply}
+use Rattle.tc_request_model.specs.Request.{Request, request_of}
+use Rattle.tc_request_model.specs.Reply.{Reply}
 use Rattle.tc_run_model.specs.World.{World, after, after_all}
 use Rattle.tc_run_model.specs.Replies.{AreReplies}
 use Rattle.tc_run_model.specs.Kinds.{AreOfKinds}

@@ -2,10 +2,10 @@
 use Rattle.std.proofs.Common.{◌≡◌, ◌≤◌, ℕ, ◌+◌, List, [], ◌∷◌, ◌++◌, length, map, refl, ap, arith}
 use Rattle.std.specs.Prelude.{Option, Some, None}
 use Rattle.std.proofs.lemmas.List.{map-append}
-use Rattle.tc_model.specs.Request.{Request, upsert, delete, get, query, flush, schema, scan, collect, refused}
-use Rattle.tc_model.specs.Reply.{Reply}
+use Rattle.tc_request_model.specs.Request.{Request, upsert, delete, get, query, flush, schema, scan, collect, refused}
+use Rattle.tc_request_model.specs.Reply.{Reply}
 use Rattle.tc_model.specs.Limits.{max_line}
-use Rattle.tc_model.specs.Weight.{IsLight}
+use Rattle.tc_request_model.specs.Light.{IsLight}
 use Rattle.tc_command.specs.Commands.{request_of_command}
 use Rattle.tc_command.specs.declared.refusals.Refusal.{Refusal}
 use Rattle.tc_command.specs.Replies.{reply_of}

@@ -13,7 +13,7 @@ use Rattle.tc_open.specs.Openings.{IsOpenedAs}
 use Rattle.tc_part_model.specs.Leaving.{KeepsStore}
 use Rattle.tc_part_model.specs.PartView.{store_of}
 use Rattle.tc_part_model.specs.Starting.{started_part}
-use Rattle.tc_plain_model.specs.Part.{Limits}
+use Rattle.tc_plain_model.specs.Room.{Limits}
 use Rattle.tc_plain_model.specs.Store.{Store, empty}
 use Rattle.tc_replay.specs.Openings.{AreIn}
 use Rattle.tc_run_model.specs.Course.{Shown, behind, unopened, Ran}

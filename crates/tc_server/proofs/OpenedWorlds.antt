@@ -12,7 +12,7 @@ use Rattle.tc_model.specs.Keyed.{Ascends}
 use Rattle.tc_open.specs.Openings.{IsOpenedAs}
 use Rattle.tc_part_model.specs.PartView.{PartView, stored_with}
 use Rattle.tc_part_model.specs.Starting.{started_part}
-use Rattle.tc_plain_model.specs.Part.{Limits}
+use Rattle.tc_plain_model.specs.Room.{Limits}
 use Rattle.tc_plain_model.specs.Store.{Store}
 use Rattle.tc_route.specs.Answers.{KeepOwn}
 use Rattle.tc_run_model.specs.World.{World, first_world, part_of}

@@ -7,7 +7,7 @@ use Rattle.std.proofs.lemmas.List.Elements.{All-nil}
 use Rattle.std.proofs.lemmas.Option.{slice_get-map}
 use Rattle.tc_engines.specs.Standing.{partition_at, IsSeen}
 use Rattle.tc_machine.specs.Pictures.{recovered}
-use Rattle.tc_plain_model.specs.Part.{Limits}
+use Rattle.tc_plain_model.specs.Room.{Limits}
 use Rattle.tc_plain_model.specs.Store.{Store, empty}
 use Rattle.tc_plain_model.specs.Writes.{Pairs}
 use Rattle.tc_run_model.specs.Course.{worlds_left, Ending}

@@ -7,9 +7,9 @@ use Rattle.std.proofs.lemmas.List.Sums.{sum_by-append}
 use Rattle.std.proofs.lemmas.Grind.{flat_map-append}
 use Rattle.std.proofs.Math.Seq.{take-append-add}
 use Rattle.std.proofs.lemmas.List.{map-append, length-map}
-use Rattle.tc_model.specs.Request.{request_of}
+use Rattle.tc_request_model.specs.Request.{request_of}
 use Rattle.tc_model.specs.Limits.{max_line}
-use Rattle.tc_model.specs.Reply.{Reply, reply_line}
+use Rattle.tc_request_model.specs.Reply.{Reply, reply_line}
 use Rattle.tc_run_model.specs.World.{World, after_all}
 use Rattle.tc_run_model.specs.Known.{MayReply}
 use Rattle.tc_run_model.specs.Windows.{BeginsWith, Window, Windows, is_control, is_full, line_size, unless_empty, with_open, with_line, lines_in}

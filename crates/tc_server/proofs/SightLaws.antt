@@ -1,8 +1,8 @@
 -- Laws of what is known: behind requests it is what they leave, and replies are told by it.
 use Rattle.std.proofs.Common.{◌≡◌, ℕ, List, [], ◌++◌, refl, ap, subst}
 use Rattle.std.specs.Prelude.{Option, Some, None, IfSome}
-use Rattle.tc_model.specs.Reply.{Reply}
-use Rattle.tc_model.specs.Request.{Request}
+use Rattle.tc_request_model.specs.Reply.{Reply}
+use Rattle.tc_request_model.specs.Request.{Request}
 use Rattle.tc_run_model.specs.Known.{MayReply, known_after}
 use Rattle.tc_run_model.specs.Windows.{Window}
 use Rattle.tc_run_model.specs.World.{World}

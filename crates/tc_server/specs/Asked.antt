@@ -1,8 +1,8 @@
 -- What a line of a window asks for, as it is answered.
 use Rattle.std.specs.Prelude.{Bool, true, false}
 use Rattle.tc_model.specs.Limits.{max_line}
-use Rattle.tc_model.specs.Request.{Request, flush, schema, scan, collect, refused}
-use Rattle.tc_model.specs.Weight.{IsLight}
+use Rattle.tc_request_model.specs.Request.{Request, flush, schema, scan, collect, refused}
+use Rattle.tc_request_model.specs.Light.{IsLight}
 use Rattle.tc_command.specs.Commands.{ask_of, request_of_command}
 use Rattle.tc_command.specs.Refusals.{refusal_of}
 use Rattle.tc_keeper.specs.Together.{IsForPart}

@@ -3,7 +3,7 @@ use Rattle.std.specs.Prelude.{◌≡◌, ◌≤◌, ℕ, List, Option, Some, Non
 use Rattle.tc_edge.specs.Moments.{Moment, IsPrompt}
 use Rattle.tc_gen.specs.Generated.{input_of}
 use Rattle.tc_gen.specs.TwoLines.{two_lines}
-use Rattle.tc_plain_model.specs.Part.{Limits}
+use Rattle.tc_plain_model.specs.Room.{Limits}
 use Rattle.tc_run_model.specs.World.{World}
 use Rattle.tc_run_model.specs.Course.{Ending, Shown, behind, each_line, IsDue, Ran, worlds_left}
 use Rattle.tc_keeper.specs.Faults.{EndsAs, IsNoDamage}

@@ -10,7 +10,7 @@ use Rattle.tc_lsm_model.specs.Lists.{last_of}
 use Rattle.tc_machine.specs.Pictures.{Opens, Recovers, logs_size, recovered}
 use Rattle.tc_machine.specs.Steps.{nothing_held}
 use Rattle.tc_part_model.specs.Leaving.{KeepsStore}
-use Rattle.tc_plain_model.specs.Part.{Limits}
+use Rattle.tc_plain_model.specs.Room.{Limits}
 use Rattle.tc_plain_model.specs.Store.{Store}
 use Rattle.tc_plain_model.specs.Writes.{Pairs, Write as PlainWrite}
 use Rattle.tc_recover.specs.Lawful.{DiskOpens}

@@ -1,8 +1,8 @@
 -- What a session holds and what the sink accepted of it, by the windows of the lines that came.
 use Rattle.std.specs.Prelude.{◌≡◌, ◌<◌, ◌≤◌, ℕ, length, IfSome, List, [], ◌∷◌, ◌++◌, sum_by, Option, Some}
 use Rattle.std.specs.Io.KnownBytes.{Appends}
-use Rattle.tc_model.specs.Request.{request_of}
-use Rattle.tc_model.specs.Reply.{Reply}
+use Rattle.tc_request_model.specs.Request.{request_of}
+use Rattle.tc_request_model.specs.Reply.{Reply}
 use Rattle.tc_run_model.specs.World.{World}
 use Rattle.tc_run_model.specs.Known.{MayReply}
 use Rattle.tc_run_model.specs.Windows.{BeginsWith, Window, Windows, is_control, line_size, max_window, unless_empty, with_line}

@@ -1,7 +1,7 @@
 -- What the lines of a window ask for: some are refused, and the others are commands for partitions.
 use Rattle.std.specs.Prelude.{◌≡◌, ◌≤◌, ◌<◌, ℕ, suc, List, [], ◌∷◌, length, map, All, Option, Some, None}
-use Rattle.tc_model.specs.Reply.{Reply, turned_down}
-use Rattle.tc_model.specs.Request.{Request, refused}
+use Rattle.tc_request_model.specs.Reply.{Reply, turned_down}
+use Rattle.tc_request_model.specs.Request.{Request, refused}
 use Rattle.tc_command.specs.Refusals.{refusal_of}
 use Rattle.tc_command.specs.declared.refusals.Refusal.{Refusal}
 use Rattle.tc_model.specs.Keyed.{Ascends}

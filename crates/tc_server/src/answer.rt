@@ -3,9 +3,9 @@
 ghost use Rattle.std.specs.Prelude.{◌≡◌, ◌++◌, length, IfOk, OnOk};
 ghost use Rattle.tc_command.specs.Commands.{request_of_command, IsLawful};
 ghost use Rattle.tc_command.specs.Replies.{reply_of};
-ghost use Rattle.tc_model.specs.Reply.{reply_line};
-ghost use Rattle.tc_model.specs.Request.{request_of};
-ghost use Rattle.tc_model.specs.Weight.{IsLight};
+ghost use Rattle.tc_request_model.specs.Reply.{reply_line};
+ghost use Rattle.tc_request_model.specs.Request.{request_of};
+ghost use Rattle.tc_request_model.specs.Light.{IsLight};
 ghost use Rattle.tc_run_model.specs.Windows.{is_control};
 ghost use Rattle.tc_server.specs.Asked.{is_whole, request_asked, IsRunForPart};
 ghost use Rattle.tc_server.specs.declared.answer.Action.TheVariants.{Refuse};

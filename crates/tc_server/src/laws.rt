@@ -1,8 +1,8 @@
 //! What holds of the worlds of runs, one after the other.
 
 ghost use Rattle.std.specs.Prelude.{◌≡◌, ℕ, List, length, Option};
-ghost use Rattle.tc_model.specs.Request.{Request};
-ghost use Rattle.tc_plain_model.specs.Part.{Limits};
+ghost use Rattle.tc_request_model.specs.Request.{Request};
+ghost use Rattle.tc_plain_model.specs.Room.{Limits};
 ghost use Rattle.tc_run_model.specs.Course.{worlds_left, Ending};
 ghost use Rattle.tc_run_model.specs.Windows.{Window};
 ghost use Rattle.tc_run_model.specs.World.{World, after_all};

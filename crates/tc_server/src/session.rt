@@ -3,8 +3,8 @@
 ghost use Rattle.std.specs.Prelude.{◌≡◌, ◌∷◌, ℕ, ◌+◌, ◌<◌, ◌≤◌, false, List, [], length, Option, IfErr, IfOk, OnErr, OnOk};
 ghost use Rattle.tc_command.specs.Replies.{reply_of};
 ghost use Rattle.tc_model.specs.Limits.{max_line};
-ghost use Rattle.tc_model.specs.Request.{Request};
-ghost use Rattle.tc_model.specs.Weight.{IsLight};
+ghost use Rattle.tc_request_model.specs.Request.{Request};
+ghost use Rattle.tc_request_model.specs.Light.{IsLight};
 ghost use Rattle.tc_run_model.specs.Known.{MayReply};
 ghost use Rattle.tc_run_model.specs.Windows.{max_window};
 ghost use Rattle.tc_run_model.specs.World.{World};

@@ -4,7 +4,7 @@ ghost use Rattle.std.specs.Prelude.{◌≡◌, false, ◌+◌, ◌≤◌, ◌<�
 ghost use Rattle.tc_command.specs.Commands.{request_of_command};
 ghost use Rattle.tc_command.specs.Replies.{reply_of};
 ghost use Rattle.tc_model.specs.Limits.{max_line};
-ghost use Rattle.tc_model.specs.Weight.{IsLight};
+ghost use Rattle.tc_request_model.specs.Light.{IsLight};
 ghost use Rattle.tc_run_model.specs.Course.{each_line};
 ghost use Rattle.tc_run_model.specs.Windows.{max_window};
 ghost use Rattle.tc_run_model.specs.World.{World};

@@ -16,7 +16,7 @@ use Rattle.tc_store.specs.Counted.{Counts}
 use Rattle.tc_view.specs.declared.content.Content.{Content}
 use Rattle.tc_view.specs.declared.lens.Lens.{Lens}
 use Rattle.tc_view.specs.Places.{kept_by, IsLensOf}
-use Rattle.tc_model.specs.Request.{Ask}
+use Rattle.tc_request_model.specs.Request.{Ask}
 use Rattle.tc_shown.specs.declared.fault.ScanFault.{ScanFault}
 use Rattle.tc_shown.specs.declared.fault.ScanFault.TheVariants.{Disk, Damaged, Memory}
 use Rattle.tc_shown.specs.declared.scan.Pass.{Pass}

@@ -5,10 +5,10 @@ use Rattle.std.proofs.lemmas.List.{length-map}
 use Rattle.std.proofs.lemmas.List.Elements.{All-nil, All-cons, All-head, All-tail}
 use Rattle.tc_model.specs.Keyed.{Ascends}
 use Rattle.tc_model.proofs.KeyedOrder.{sorted_cons, sorted_nil}
-use Rattle.tc_model.specs.Reply.{Reply, Row, rows}
-use Rattle.tc_model.specs.Request.{Ask, query}
-use Rattle.tc_plain_model.specs.Part.{Limits}
-use Rattle.tc_plain_model.specs.Rows.{rows_over}
+use Rattle.tc_request_model.specs.Reply.{Reply, Row, rows}
+use Rattle.tc_request_model.specs.Request.{Ask, query}
+use Rattle.tc_plain_model.specs.Room.{Limits}
+use Rattle.tc_request_model.specs.Rows.{rows_over}
 use Rattle.tc_plain_model.specs.Writes.{Pairs}
 use Rattle.tc_run_model.specs.World.{Part, World, part_of, united}
 use Rattle.tc_route.specs.Answers.{AreGathered, IsForParts, KeepOwn, shares_answered}

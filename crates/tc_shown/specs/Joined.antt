@@ -1,7 +1,7 @@
 -- The rows of several partitions, put together as a window's are that asks each of them.
 use Rattle.std.specs.Prelude.{List, [], ◌∷◌, map}
 use Rattle.tc_model.specs.Keyed.{Keyed}
-use Rattle.tc_model.specs.Reply.{Reply, Row, rows}
+use Rattle.tc_request_model.specs.Reply.{Reply, Row, rows}
 use Rattle.tc_route.specs.Gathered.{gathered}
 
 -- the reply of these rows, by itself

@@ -5,8 +5,8 @@ use mathlib.Core.List.{IsPrefix}
 use Rattle.tc_bytes.specs.Counts.{Rose}
 use Rattle.tc_component.specs.Loaded.{IsLoadedOf}
 use Rattle.tc_lsm_model.specs.Contents as documents
-use Rattle.tc_model.specs.Request.{Ask}
-use Rattle.tc_plain_model.specs.Rows.{rows_over}
+use Rattle.tc_request_model.specs.Request.{Ask}
+use Rattle.tc_request_model.specs.Rows.{rows_over}
 use Rattle.tc_plain_model.specs.Writes.{Pairs}
 use Rattle.tc_query.specs.declared.fault.QueryFault.{QueryFault}
 use Rattle.tc_query.specs.declared.fault.QueryFault.TheVariants as query

@@ -6,7 +6,7 @@ use Rattle.std.proofs.lemmas.List.Concat.{flat_map-append}
 use Rattle.tc_log.specs.declared.write.Write.{Write}
 use Rattle.tc_log.specs.Spelling.{body_bytes, entry_bytes}
 use Rattle.tc_log.specs.Writes.{IsWrite}
-use Rattle.tc_model.specs.Request.{Request}
+use Rattle.tc_request_model.specs.Request.{Request}
 use Rattle.tc_part_model.specs.PartState.{AreForFrame}
 use Rattle.tc_work.specs.Asked.{writes_for, bytes_for}
 use Rattle.tc_work.specs.Frames.{HasRoomFor, HasGrown, AreWithin}

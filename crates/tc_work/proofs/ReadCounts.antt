@@ -1,7 +1,7 @@
 -- The reads of calls that follow each other.
 use Rattle.std.proofs.Common.{◌≡◌, ◌≤◌, ◌+◌, ℕ, List, [], ◌∷◌, inl, inr, arith, subst}
 use Rattle.tc_bytes.specs.Counts.{Rose}
-use Rattle.tc_model.specs.Request.{Request, upsert, delete, get, query, flush, schema, scan, collect, refused}
+use Rattle.tc_request_model.specs.Request.{Request, upsert, delete, get, query, flush, schema, scan, collect, refused}
 use Rattle.tc_query.specs.Faults.{IsWatched}
 use Rattle.tc_store.specs.Counted.{Counts, IsCounted}
 use Rattle.tc_part.specs.Reads.{IsCountedLookup}

@@ -3,8 +3,8 @@ use Rattle.std.proofs.Common.{◌≡◌, ◌∙◌, ℕ, List, [], ◌∷◌, �
 use Rattle.std.proofs.lemmas.List.{map-append}
 use Rattle.tc_model.specs.Document.{Document}
 use Rattle.tc_model.specs.Keyed.{values_in}
-use Rattle.tc_model.specs.Reply.{Reply}
-use Rattle.tc_model.specs.Request.{delete, upsert}
+use Rattle.tc_request_model.specs.Reply.{Reply}
+use Rattle.tc_request_model.specs.Request.{delete, upsert}
 use Rattle.tc_command.specs.Replies.{reply_of}
 use Rattle.tc_part.specs.declared.staging.Staged.{Staged}
 use Rattle.tc_part.specs.declared.staging.Staged.TheVariants.{Done, NamesFull, Full}

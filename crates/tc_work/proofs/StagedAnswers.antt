@@ -3,13 +3,14 @@ use Rattle.std.proofs.Common.{◌≡◌, ◌≤◌, ◌+◌, ◌∙◌, ℕ, Boo
 use Rattle.std.specs.Prelude.{◌⊎◌, is_some}
 use Rattle.tc_model.specs.Document.{Name, Document}
 use Rattle.tc_model.specs.Keyed.{value_of}
-use Rattle.tc_model.specs.Reply.{upserted, turned_down}
-use Rattle.tc_model.specs.Request.{Refusal, upsert, delete, names_full, full}
+use Rattle.tc_request_model.specs.Reply.{upserted, turned_down}
+use Rattle.tc_request_model.specs.Request.{Refusal, upsert, delete, names_full, full}
 use Rattle.tc_model.proofs.Replacing.{none_taken_out}
 use Rattle.tc_record.specs.Record.{IsRecordOf}
 use Rattle.tc_log.specs.declared.write.Write as log
 use Rattle.tc_log.specs.declared.write.Write.TheVariants.{Upsert, Delete}
-use Rattle.tc_plain_model.specs.Part.{Limits, lacks_names, lacks_room, upsert_refusal, unless_refused, part_left, part_writes}
+use Rattle.tc_plain_model.specs.Room.{Limits, lacks_names, lacks_room}
+use Rattle.tc_request_model.specs.Part.{upsert_refusal, unless_refused, part_left, part_writes}
 use Rattle.tc_plain_model.specs.Store.{Store, names_with, with_pair, without_pair}
 use Rattle.tc_plain_model.specs.Writes.{Pairs, Write, set, unset, after_write}
 use Rattle.tc_part_model.specs.Changes.{with_staged}

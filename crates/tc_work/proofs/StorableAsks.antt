@@ -2,7 +2,7 @@
 use Rattle.std.proofs.Common.{◌≡◌, ◌<◌, ℕ, List, Some, None, length, refl, sym, ap, subst, arith}
 use Rattle.std.specs.Prelude.{◌^◌}
 use Rattle.tc_model.specs.Document.{Document, IsDocument}
-use Rattle.tc_model.specs.Request.{upsert, delete}
+use Rattle.tc_request_model.specs.Request.{upsert, delete}
 use Rattle.tc_model.proofs.StoredDocuments.{keyless_object}
 use Rattle.tc_record.specs.Record.{IsRecordOf, record_of}
 use Rattle.tc_log.specs.declared.write.Write.TheVariants.{Upsert, Delete}

@@ -2,9 +2,10 @@
 use Rattle.std.proofs.Common.{◌≡◌, ◌∙◌, ℕ, List, [], ◌∷◌, ◌++◌, map, refl, sym, ap, subst, append_assoc, append-nil}
 use Rattle.std.proofs.lemmas.List.{map-append}
 use Rattle.tc_model.specs.Keyed.{Keyed, values_in}
-use Rattle.tc_model.specs.Request.{Request}
-use Rattle.tc_model.specs.Reply.{Reply}
-use Rattle.tc_plain_model.specs.Part.{Limits, part_left, part_left_all, part_reply, part_writes, part_writes_all}
+use Rattle.tc_request_model.specs.Request.{Request}
+use Rattle.tc_request_model.specs.Reply.{Reply}
+use Rattle.tc_plain_model.specs.Room.{Limits}
+use Rattle.tc_request_model.specs.Part.{part_left, part_left_all, part_reply, part_writes, part_writes_all}
 use Rattle.tc_plain_model.specs.Store.{Store}
 use Rattle.tc_plain_model.specs.Writes.{Write}
 use Rattle.tc_part_model.specs.Meaning.{IsPart, plain_of}

@@ -1,7 +1,7 @@
 -- A window makes a write for each command at most.
 use Rattle.std.proofs.Common.{◌≤◌, List, [], ◌∷◌, length, arith}
 use Rattle.tc_command.specs.Commands.{request_of_command}
-use Rattle.tc_model.specs.Request.{Request, upsert, delete, get, query, flush, schema, scan, collect, refused}
+use Rattle.tc_request_model.specs.Request.{Request, upsert, delete, get, query, flush, schema, scan, collect, refused}
 use Rattle.tc_route.specs.declared.placed.Routed.{Routed}
 use Rattle.tc_work.specs.Asked.{writes_for, most_writes, requests_in}
 

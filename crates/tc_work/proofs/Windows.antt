@@ -6,11 +6,12 @@ use Rattle.tc_store.specs.Disk.{Disk}
 use Rattle.tc_store.specs.DiskFile.{DiskFile}
 use Rattle.tc_store.specs.Moments.{IfTold, EachSince}
 use Rattle.tc_store.proofs.MomentLemmas.{EachSince-none}
-use Rattle.tc_model.specs.Request.{Request}
+use Rattle.tc_request_model.specs.Request.{Request}
 use Rattle.tc_log.specs.declared.write.Write as log
 use Rattle.tc_machine.specs.Logs.{kept_write}
 use Rattle.tc_machine.specs.Writes.{IsStorableWrite}
-use Rattle.tc_plain_model.specs.Part.{Limits, part_left_all, part_writes_all}
+use Rattle.tc_plain_model.specs.Room.{Limits}
+use Rattle.tc_request_model.specs.Part.{part_left_all, part_writes_all}
 use Rattle.tc_plain_model.specs.Writes.{Write, after_writes}
 use Rattle.tc_part_model.specs.Leaving.{LeavesStore, LogMomentsLeaveStore}
 use Rattle.tc_part_model.specs.Meaning.{IsPart, plain_of}

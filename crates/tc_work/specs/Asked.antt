@@ -1,7 +1,7 @@
 -- The windows that an engine runs: of which requests they are, and how much they write at most.
 use Rattle.std.specs.Prelude.{◌<◌, ◌≤◌, ◌+◌, ◌^◌, ℕ, List, [], ◌∷◌, length, map, All}
 use Rattle.tc_model.specs.Keyed.{values_in}
-use Rattle.tc_model.specs.Request.{Request, upsert, delete, get, query, flush, schema, scan, collect, refused}
+use Rattle.tc_request_model.specs.Request.{Request, upsert, delete, get, query, flush, schema, scan, collect, refused}
 use Rattle.tc_model.specs.Stored.{IsStorable}
 use Rattle.tc_record.specs.Record.{record_of}
 use Rattle.tc_command.specs.Commands.{request_of_command}

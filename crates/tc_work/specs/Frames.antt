@@ -4,7 +4,7 @@ use Rattle.std.specs.List.{AllByRecursion}
 use Rattle.tc_log.specs.declared.write.Write.{Write}
 use Rattle.tc_log.specs.Spelling.{body_bytes}
 use Rattle.tc_log.specs.Writes.{IsWrite}
-use Rattle.tc_model.specs.Request.{Request}
+use Rattle.tc_request_model.specs.Request.{Request}
 use Rattle.tc_work.specs.Asked.{writes_for, bytes_for, most_writes, most_bytes}
 
 -- there is room in the frame for the write of one more request

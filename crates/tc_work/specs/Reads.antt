@@ -1,7 +1,7 @@
 -- How the reads of a window are counted.
 use Rattle.std.specs.Prelude.{◌≤◌, ◌+◌, ℕ, List, [], ◌∷◌}
 use Rattle.tc_bytes.specs.Counts.{Rose}
-use Rattle.tc_model.specs.Request.{Request, upsert, delete, get, query, flush, schema, scan, collect, refused}
+use Rattle.tc_request_model.specs.Request.{Request, upsert, delete, get, query, flush, schema, scan, collect, refused}
 use Rattle.tc_part_model.specs.PartState.{PartState}
 use Rattle.tc_query.specs.Shown.{live_keys}
 use Rattle.tc_store.specs.Counted.{Counts}

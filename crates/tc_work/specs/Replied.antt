@@ -1,7 +1,7 @@
 -- The reply to a write, by what came of it.
 use Rattle.std.specs.Prelude.{ℕ, false}
-use Rattle.tc_model.specs.Request.{names_full, full}
-use Rattle.tc_model.specs.Reply.{Reply, upserted, deleted, turned_down}
+use Rattle.tc_request_model.specs.Request.{names_full, full}
+use Rattle.tc_request_model.specs.Reply.{Reply, upserted, deleted, turned_down}
 use Rattle.tc_part.specs.declared.staging.Staged.{Staged}
 use Rattle.tc_part.specs.declared.staging.Staged.TheVariants.{Done, NamesFull, Full}
 

@@ -1,7 +1,8 @@
 -- What a window makes of a part that is seen in documents.
 use Rattle.std.specs.Prelude.{◌≡◌, ◌++◌, List}
-use Rattle.tc_model.specs.Request.{Request}
-use Rattle.tc_plain_model.specs.Part.{Limits, part_left_all, part_writes_all}
+use Rattle.tc_request_model.specs.Request.{Request}
+use Rattle.tc_plain_model.specs.Room.{Limits}
+use Rattle.tc_request_model.specs.Part.{part_left_all, part_writes_all}
 use Rattle.tc_plain_model.specs.Store.{Store}
 use Rattle.tc_plain_model.specs.Writes.{Write, after_writes}
 use Rattle.tc_part_model.specs.Changes.{committed_part}

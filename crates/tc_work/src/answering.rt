@@ -1,12 +1,12 @@
 //! One command of a window: its write is staged, its key is looked up, or a query gets its rows.
 
 ghost use Rattle.std.specs.Prelude.{◌≡◌, ◌≤◌, ◌+◌, false, IfErr, IfOk, OnOk, IsErrOf};
-ghost use Rattle.tc_model.specs.Request.{upsert, delete, get, query};
+ghost use Rattle.tc_request_model.specs.Request.{upsert, delete, get, query};
 ghost use Rattle.tc_value.specs.Meaning.{tree_of};
 ghost use Rattle.tc_command.specs.Commands.{ask_of, request_of_command};
 ghost use Rattle.tc_command.specs.Replies.{reply_of};
 ghost use Rattle.tc_run_model.specs.Kinds.{IsOfKind};
-ghost use Rattle.tc_plain_model.specs.Part.{part_left, part_reply, part_writes};
+ghost use Rattle.tc_request_model.specs.Part.{part_left, part_reply, part_writes};
 ghost use Rattle.tc_part_model.specs.Meaning.{IsPart, plain_of};
 ghost use Rattle.tc_part_model.specs.PartState.{told, AreTold};
 ghost use Rattle.tc_part_model.specs.PartView.{PartView};

@@ -3,7 +3,7 @@
 ghost use Rattle.std.specs.Prelude.{◌≡◌, [], false, map, IfErr, IfOk, OnOk, IsErrOf};
 ghost use Rattle.tc_model.specs.Keyed.{values_in};
 ghost use Rattle.tc_run_model.specs.Kinds.{AreOfKinds};
-ghost use Rattle.tc_plain_model.specs.Part.{part_left_all, part_writes_all};
+ghost use Rattle.tc_request_model.specs.Part.{part_left_all, part_writes_all};
 ghost use Rattle.tc_part_model.specs.Meaning.{IsPart, plain_of};
 ghost use Rattle.tc_part_model.specs.PartState.{told, AreTold};
 ghost use Rattle.tc_part_model.specs.PartView.{PartView};

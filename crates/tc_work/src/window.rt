@@ -6,7 +6,7 @@ ghost use Rattle.tc_run_model.specs.Kinds.{AreOfKinds};
 ghost use Rattle.tc_log.specs.Writes.{IsWrite};
 ghost use Rattle.tc_machine.specs.Logs.{kept_write};
 ghost use Rattle.tc_machine.specs.Writes.{IsStorableWrite};
-ghost use Rattle.tc_plain_model.specs.Part.{part_writes_all};
+ghost use Rattle.tc_request_model.specs.Part.{part_writes_all};
 ghost use Rattle.tc_part.specs.FilesOut.{LogIsOut, OnlyDevicesOut};
 ghost use Rattle.tc_part_model.specs.Leaving.{LogMomentsLeaveStore};
 ghost use Rattle.tc_part_model.specs.Meaning.{IsPart, plain_of};

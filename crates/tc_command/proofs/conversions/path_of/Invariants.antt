@@ -2,7 +2,7 @@ use Rattle.std.proofs.Common.{◌≡◌, map, drop, IsTrue, ◌++◌}
 use Rattle.serde_json.specs.Data.{array}
 use Rattle.serde_json.specs.View.{items_view}
 use Rattle.tc_model.specs.Json.{is_whole, document_of}
-use Rattle.tc_model.specs.Request.{path_of}
+use Rattle.tc_request_model.specs.Request.{path_of}
 use Rattle.tc_command.specs.Asks.{hop_of}
 use Rattle.tc_command.proofs.conversions.path_of.Given as goal
 

@@ -1,6 +1,6 @@
 use Rattle.std.proofs.Common.{drop, map, sym, ◌∙◌, ap}
 use Rattle.serde_json.specs.View.{members_view}
-use Rattle.tc_model.specs.Request.{names_are}
+use Rattle.tc_request_model.specs.Request.{names_are}
 use Rattle.tc_command.proofs.FormLemmas.{names_are-none}
 use Rattle.tc_command.proofs.forms.names_are.Goals as goal
 

@@ -1,6 +1,6 @@
 use Rattle.std.proofs.Common.{◌≡◌, map, take}
 use Rattle.serde_json.specs.View.{view}
-use Rattle.tc_model.specs.Reply.{count}
+use Rattle.tc_request_model.specs.Reply.{count}
 use Rattle.tc_command.proofs.texts.count_values.Given as goal
 
 abbrev pub invariant-loop-upto : goal.invariant-loop-upto

@@ -1,6 +1,6 @@
 use Rattle.std.proofs.Common.{◌≡◌, map, take}
 use Rattle.serde_json.specs.View.{view}
-use Rattle.tc_model.specs.Reply.{row_data}
+use Rattle.tc_request_model.specs.Reply.{row_data}
 use Rattle.tc_command.specs.Rows.{row_of}
 use Rattle.tc_command.proofs.texts.row_values.Given as goal
 

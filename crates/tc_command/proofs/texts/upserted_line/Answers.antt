@@ -1,6 +1,6 @@
 use Rattle.std.proofs.Common.{◌++◌, codes, ap, sym, ◌∙◌}
 use Rattle.std.proofs.lemmas.Result.{IfOk-weaker}
-use Rattle.tc_model.specs.Reply.{reply_line, upserted}
+use Rattle.tc_request_model.specs.Reply.{reply_line, upserted}
 use Rattle.tc_command.proofs.ReplyLemmas.{replaced_line, inserted_line}
 use Rattle.tc_command.proofs.texts.upserted_line.Goals as goal
 

@@ -11,5 +11,5 @@ returns-clause-staged c = λ t u p w handed is storable hands same count.
 pub returns-clause-plain : goal.returns-clause-plain
 returns-clause-plain c = stage_plain
 
-pub returns-clause-refusal : goal.returns-clause-refusal
-returns-clause-refusal c = λ t p limits key d is. rw is.view.live refl
+pub returns-clause-room : goal.returns-clause-room
+returns-clause-room c = λ t p limits key is. rw is.view.live refl

@@ -3,7 +3,7 @@ use Rattle.tc_model.specs.Tree.{items_of, members_of}
 use Rattle.tc_value.specs.Meaning.{tree_of, member_of}
 use Rattle.tc_record.specs.Building.{innermost, outer, value_in, member_in}
 use Rattle.tc_compact.specs.Meant.{levels_meant}
-use Rattle.tc_plain_model.specs.Equal.{same_items, same_members}
+use Rattle.tc_request_model.specs.Equal.{same_items, same_members}
 use Rattle.tc_path.proofs.comparing.+comparing.Given as goal
 
 abbrev pub decreases-equals_value : goal.decreases-equals_value

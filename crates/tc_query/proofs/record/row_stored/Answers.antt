@@ -5,8 +5,8 @@ use Rattle.tc_command.specs.Commands.{ask_of}
 use Rattle.tc_compact.specs.Meant.{IsRecordUnder}
 use Rattle.tc_component.specs.Fetching.{record_at, IsRecordWithin}
 use Rattle.tc_component.specs.Meaning.{IsRecordOfOne}
-use Rattle.tc_plain_model.specs.Paths.{reached}
-use Rattle.tc_plain_model.specs.Rows.{row_of}
+use Rattle.tc_request_model.specs.Paths.{reached}
+use Rattle.tc_request_model.specs.Rows.{row_of}
 use Rattle.tc_query.proofs.Spelled.{means_one}
 use Rattle.tc_query.proofs.record.row_stored.Goals as goal
 

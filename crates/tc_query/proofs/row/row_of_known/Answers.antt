@@ -3,8 +3,8 @@ use Rattle.std.proofs.lemmas.Bool.Decides.{nat_tests}
 use Rattle.std.proofs.lemmas.List.{nil_from_length}
 use Rattle.tc_value.specs.Meaning.{tree_of}
 use Rattle.tc_path.specs.Reached.{value_at, values_at}
-use Rattle.tc_plain_model.specs.Paths.{reached}
-use Rattle.tc_plain_model.specs.Rows.{meets as meets_value}
+use Rattle.tc_request_model.specs.Paths.{reached}
+use Rattle.tc_request_model.specs.Rows.{meets as meets_value}
 use Rattle.tc_query.proofs.ReachedValues.{no_row, left_out, row_with, same_values}
 use Rattle.tc_query.proofs.row.row_of_known.Goals as goal
 

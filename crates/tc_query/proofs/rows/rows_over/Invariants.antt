@@ -2,7 +2,7 @@ use Rattle.std.proofs.Common.{◌≡◌, ◌≤◌, ◌+◌, ◌-◌, ◌^◌, m
 use Rattle.std.specs.Prelude.{option_map}
 use Rattle.tc_command.specs.Commands.{ask_of}
 use Rattle.tc_command.specs.Rows.{row_of}
-use Rattle.tc_plain_model.specs.Rows.{rows_over}
+use Rattle.tc_request_model.specs.Rows.{rows_over}
 use Rattle.tc_plain_model.specs.Writes.{Pairs}
 use Rattle.tc_query.proofs.HeldBelow.{HoldBelow}
 use Rattle.tc_query.specs.Rows.{below}

@@ -2,7 +2,7 @@ use Rattle.std.proofs.Common.{◌∙◌, ap, ◌<◌, length, arith}
 use Rattle.std.proofs.lemmas.List.{length-set}
 use Rattle.tc_command.specs.Commands.{ask_of}
 use Rattle.tc_command.specs.declared.commands.Command.TheVariants.{Query}
-use Rattle.tc_model.specs.Request.{query}
+use Rattle.tc_request_model.specs.Request.{query}
 use Rattle.tc_route.specs.Meaning.{requests_at}
 use Rattle.tc_route.proofs.PartsGiven.{given_each}
 use Rattle.tc_route.proofs.splitting.ask_all.Goals as goal

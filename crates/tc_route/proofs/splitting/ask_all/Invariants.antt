@@ -1,7 +1,7 @@
 use Rattle.std.proofs.Common.{◌≡◌, ℕ, ◌<◌, ◌∷◌, [], ◌++◌, length}
 use Rattle.std.specs.Prelude.{nat_lt, if◌then◌else◌}
 use Rattle.tc_command.specs.Commands.{ask_of}
-use Rattle.tc_model.specs.Request.{query}
+use Rattle.tc_request_model.specs.Request.{query}
 use Rattle.tc_route.specs.Meaning.{requests_at}
 use Rattle.tc_route.proofs.splitting.ask_all.Given as goal
 

@@ -3,7 +3,7 @@ use Rattle.std.specs.Prelude.{IfOk, IfErr, Option, option_map}
 use Rattle.tc_command.specs.Commands.{ask_of}
 use Rattle.tc_component.specs.Loading.{ComponentState}
 use Rattle.tc_memory.specs.Table.{Table}
-use Rattle.tc_plain_model.specs.Rows.{rows_over as rows_of_pairs}
+use Rattle.tc_request_model.specs.Rows.{rows_over as rows_of_pairs}
 use Rattle.tc_plain_model.specs.Writes.{Pairs}
 use Rattle.tc_scan.proofs.SnapshotPairs.{shown_is_stored, of_same}
 use Rattle.tc_query.specs.Faults.{OfDamage, IsHarmIn}

@@ -1,7 +1,7 @@
 use Rattle.std.proofs.Common.{◌++◌, ◌∷◌, [], ◌∙◌, ap, sym, subst, append-nil}
 use Rattle.std.proofs.lemmas.Result.{err_from_is_err_and}
 use Rattle.tc_command.specs.Replies.{reply_of}
-use Rattle.tc_model.specs.Reply.{reply_line}
+use Rattle.tc_request_model.specs.Reply.{reply_line}
 use Rattle.tc_work.specs.Moving.{eyes}
 use Rattle.tc_server.specs.Asked.{request_whole}
 use Rattle.tc_keeper.specs.Faults.{gave_up}

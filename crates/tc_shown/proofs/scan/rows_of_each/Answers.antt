@@ -6,7 +6,7 @@ use Rattle.tc_bytes.specs.Counts.{Rose}
 use Rattle.tc_command.specs.Commands.{ask_of}
 use Rattle.tc_component.specs.Loaded.{IsLoadedOf}
 use Rattle.tc_log.specs.Writes.{IsWrite}
-use Rattle.tc_plain_model.specs.Rows.{rows_over}
+use Rattle.tc_request_model.specs.Rows.{rows_over}
 use Rattle.tc_plain_model.specs.Writes.{Pairs}
 use Rattle.tc_query.specs.Faults.{OfDamage, IsHarmIn}
 use Rattle.tc_view.specs.Changes.{showing_in}

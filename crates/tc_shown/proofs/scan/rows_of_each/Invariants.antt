@@ -1,6 +1,6 @@
 use Rattle.std.proofs.Common.{◌≡◌, List, map, take}
 use Rattle.tc_command.specs.Commands.{ask_of}
-use Rattle.tc_plain_model.specs.Rows.{rows_over}
+use Rattle.tc_request_model.specs.Rows.{rows_over}
 use Rattle.tc_plain_model.specs.Writes.{Pairs}
 use Rattle.tc_shown.specs.Scans.{IsRead, ShowAll}
 use Rattle.tc_shown.proofs.Turns.{Turned}

@@ -1,6 +1,6 @@
 use Rattle.std.proofs.Common.{◌∙◌, None, ap, subst, sym, refl, is_some}
 use Rattle.tc_model.specs.Keyed.{value_of}
-use Rattle.tc_model.specs.Request.{delete}
+use Rattle.tc_request_model.specs.Request.{delete}
 use Rattle.tc_log.specs.declared.write.Write.TheVariants.{Delete}
 use Rattle.tc_part_model.specs.PartState.{told}
 use Rattle.tc_part_model.specs.PartView.{stored_with}

@@ -1,5 +1,5 @@
 use Rattle.std.proofs.Common.{◌≡◌, ap, refl, subst, sym}
-use Rattle.tc_model.specs.Request.{get}
+use Rattle.tc_request_model.specs.Request.{get}
 use Rattle.tc_part_model.specs.Meaning.{IsPart}
 use Rattle.tc_part_model.specs.PartState.{PartState, told}
 use Rattle.tc_work.proofs.GrownFrames.{not_grown}

@@ -1,5 +1,5 @@
 use Rattle.std.proofs.Common.{◌≡◌, ap, refl, subst, sym}
-use Rattle.tc_model.specs.Request.{query}
+use Rattle.tc_request_model.specs.Request.{query}
 use Rattle.tc_part_model.specs.Meaning.{IsPart}
 use Rattle.tc_part_model.specs.PartState.{PartState, told}
 use Rattle.tc_command.specs.Commands.{ask_of}

@@ -1,6 +1,6 @@
 use Rattle.std.proofs.Common.{◌∙◌, ap, subst, sym, Some, is_some}
 use Rattle.tc_model.specs.Keyed.{value_of}
-use Rattle.tc_model.specs.Request.{upsert}
+use Rattle.tc_request_model.specs.Request.{upsert}
 use Rattle.tc_value.specs.Meaning.{tree_of}
 use Rattle.tc_log.specs.declared.write.Write.TheVariants.{Upsert}
 use Rattle.tc_part_model.specs.Meaning.{plain_of}

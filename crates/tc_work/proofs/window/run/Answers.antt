@@ -4,7 +4,7 @@ use Rattle.tc_part.specs.FilesOut.{LogIsOut}
 use Rattle.tc_part_model.specs.Leaving.{LogMomentsLeaveStore}
 use Rattle.tc_part_model.specs.Meaning.{plain_of, HasFailedAs}
 use Rattle.tc_part_model.specs.PartState.{PartState, Told, told}
-use Rattle.tc_plain_model.specs.Part.{part_writes_all}
+use Rattle.tc_request_model.specs.Part.{part_writes_all}
 use Rattle.tc_work.specs.Asked.{most_writes, requests_in}
 use Rattle.tc_work.specs.Reads.{live_in, most_reads}
 use Rattle.tc_work.specs.Windowed.{staged_as}

@@ -1,6 +1,6 @@
 -- Some of the replies were heard, and the lines of the others are left.
 use Rattle.std.proofs.Common.{◌≤◌, List, length}
-use Rattle.tc_model.specs.Reply.{Reply}
+use Rattle.tc_request_model.specs.Reply.{Reply}
 use Rattle.tc_gen.proofs.Hearing.{HearsOn, MayHear}
 use Rattle.tc_gen.proofs.tally.Tally.hear.Given as goal
 

@@ -6,7 +6,7 @@ use Rattle.tc_model.specs.Document.{Document, document_shape}
 use Rattle.tc_model.specs.ShapeNames.{names_within}
 use Rattle.tc_record.specs.Record.{IsRecordOf}
 use Rattle.tc_compact.specs.Slots.{names_in}
-use Rattle.tc_plain_model.specs.Part.{lacks_names}
+use Rattle.tc_plain_model.specs.Room.{lacks_names}
 use Rattle.tc_plain_model.specs.Store.{names_with}
 use Rattle.tc_part.proofs.Refusals.{names_test, of_names, of_room, of_none, names_fit}
 use Rattle.tc_part.proofs.part.Part.refusal.Goals as goal

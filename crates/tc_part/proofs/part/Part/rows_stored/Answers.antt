@@ -2,7 +2,7 @@ use Rattle.std.proofs.Common.{◌≡◌, subst, sym}
 use Rattle.tc_command.specs.Commands.{ask_of}
 use Rattle.tc_part_model.specs.PartState.{told}
 use Rattle.tc_part_model.specs.PartView.{stored_with}
-use Rattle.tc_plain_model.specs.Rows.{rows_over}
+use Rattle.tc_request_model.specs.Rows.{rows_over}
 use Rattle.tc_plain_model.specs.Writes.{Pairs}
 use Rattle.tc_query.specs.Shown.{MayHold}
 use Rattle.tc_query.specs.Stored.{Holds}

@@ -1,7 +1,7 @@
 use Rattle.std.proofs.Common.{◌∙◌, length, sym, subst}
 use Rattle.tc_model.specs.Limits.{max_line}
-use Rattle.tc_model.specs.Weight.{IsLight}
-use Rattle.tc_model.proofs.LineWeight.{request_in_line, request_weight}
+use Rattle.tc_request_model.specs.Light.{IsLight}
+use Rattle.tc_request_model.proofs.LineWeight.{request_in_line, request_weight}
 use Rattle.tc_server.proofs.answer.Asked.of.Goals as goal
 
 pub invariant_of-result : goal.invariant_of-result

@@ -7,7 +7,7 @@ use Rattle.tc_part_model.specs.Leaving.{LogMomentsLeaveStore}
 use Rattle.tc_part_model.specs.Meaning.{IsPart, plain_of}
 use Rattle.tc_part_model.specs.PartState.{PartState, told, AreTold}
 use Rattle.tc_part_model.specs.PartView.{PartView}
-use Rattle.tc_plain_model.specs.Part.{part_writes_all}
+use Rattle.tc_request_model.specs.Part.{part_writes_all}
 use Rattle.tc_route.specs.Answers.{answered}
 use Rattle.tc_route.specs.Meaning.{replies_in, routed_of}
 use Rattle.tc_work.specs.Asked.{most_writes, requests_in}

@@ -6,7 +6,7 @@ use Rattle.tc_model.specs.Tree.{leaf, array, object}
 use Rattle.tc_model.specs.Document.{Document}
 use Rattle.tc_model.specs.Json.{data_of, members_data}
 use Rattle.tc_model.specs.Lines.{feed}
-use Rattle.tc_model.specs.Request.{Refusal, oversized, malformed, unknown, not_whole, too_deep, no_key, names_full, full, busy, no_scan}
+use Rattle.tc_request_model.specs.Request.{Refusal, oversized, malformed, unknown, not_whole, too_deep, no_key, names_full, full, busy, no_scan}
 
 -- the values that a path reached in the document of a key
 pub record Row : Type 0 where

@@ -10,9 +10,10 @@ use Rattle.serde_json.specs.Read.{read}
 use Rattle.tc_model.specs.Tree.{leaf, array, object, item, Members, no_members, member, depth}
 use Rattle.tc_model.specs.Document.{Name, Document, Scalar, integer, member_at}
 use Rattle.tc_model.specs.Json.{json_of, document_of, items_meant, members_meant, is_whole}
-use Rattle.tc_model.specs.Request.{Request, delete, get, query, scan, refused, too_deep, not_whole, oversized, Ask, Form, upsert_form, delete_form, get_form, query_form, flush_form, schema_form, scan_form, collect_form, names_are, value_at, if_object, if_path, ask_form, bare_form, form_named, form_of, key_of, without, with_key, within_depth, upsert_of, ask_of, command_of, request_if_known, request_if_json, request_of}
+use Rattle.tc_request_model.specs.Request.{Request, delete, get, query, scan, refused, too_deep, not_whole, oversized, Ask, Form, upsert_form, delete_form, get_form, query_form, flush_form, schema_form, scan_form, collect_form, names_are, value_at, if_object, if_path, ask_form, bare_form, form_named, form_of, key_of, without, with_key, within_depth, upsert_of, ask_of, command_of, request_if_known, request_if_json, request_of}
 use Rattle.tc_model.specs.Limits.{max_line, max_depth}
-use Rattle.tc_model.specs.Weight.{weight, items_weight, members_weight, IsLight}
+use Rattle.tc_model.specs.Weight.{weight, items_weight, members_weight}
+use Rattle.tc_request_model.specs.Light.{IsLight}
 use Rattle.tc_model.proofs.ReadWeight.{AtMost, at_most-map, at_most-and_then, flat, data_weight, data_items_weight, data_members_weight, read_weight}
 
 -- ---- documents

@@ -2,7 +2,7 @@
 use Rattle.std.specs.Prelude.{ℤ, pos, negsuc, List, [], ◌∷◌, flat_map, slice_get, option_to_list}
 use Rattle.tc_model.specs.Tree.{array, object, listed_items}
 use Rattle.tc_model.specs.Document.{Document, member_at}
-use Rattle.tc_model.specs.Request.{Hop, to_name, to_place, to_each}
+use Rattle.tc_request_model.specs.Request.{Hop, to_name, to_place, to_each}
 
 -- the item at a place, counted from 0: one, or none
 abbrev pub at_place : ℤ → List Document → List Document

@@ -1,11 +1,11 @@
 -- The rows that answer an ask: for each document, the values that its path reaches.
 use Rattle.std.specs.Prelude.{ℕ, Bool, true, false, List, [], ◌∷◌, flat_map, Option, Some, None, if◌then◌else◌}
 use Rattle.tc_model.specs.Document.{Document}
-use Rattle.tc_model.specs.Request.{Ask}
-use Rattle.tc_model.specs.Reply.{Row}
+use Rattle.tc_request_model.specs.Request.{Ask}
+use Rattle.tc_request_model.specs.Reply.{Row}
 use Rattle.tc_plain_model.specs.Writes.{Pairs}
-use Rattle.tc_plain_model.specs.Paths.{reached}
-use Rattle.tc_plain_model.specs.Equal.{same_document}
+use Rattle.tc_request_model.specs.Paths.{reached}
+use Rattle.tc_request_model.specs.Equal.{same_document}
 
 -- one of the values is this document
 abbrev pub is_among : Document → List Document → Bool

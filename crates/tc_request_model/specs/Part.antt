@@ -1,27 +1,15 @@
 -- What one partition answers to a request for it, what it writes, and what it then stores. A refused request changes
 -- nothing.
-use Rattle.std.specs.Prelude.{ℕ, Bool, not, ◌&&◌, nat_lt, nat_le, length, List, [], ◌∷◌, ◌++◌, fold, is_some, Option, Some, None, if◌then◌else◌}
-use Rattle.tc_model.specs.Document.{Name, Document}
-use Rattle.tc_model.specs.Request.{Request, upsert, delete, get, query, flush, schema, scan, collect, refused, Refusal, names_full, full, unknown}
-use Rattle.tc_model.specs.Reply.{Reply, upserted, deleted, got, rows, turned_down}
+use Rattle.std.specs.Prelude.{ℕ, List, [], ◌∷◌, ◌++◌, fold, is_some, Option, Some, None, if◌then◌else◌}
+use Rattle.tc_model.specs.Document.{Document}
+use Rattle.tc_request_model.specs.Request.{Request, upsert, delete, get, query, flush, schema, scan, collect, refused, Refusal, names_full, full, unknown}
+use Rattle.tc_request_model.specs.Reply.{Reply, upserted, deleted, got, rows, turned_down}
 use Rattle.tc_plain_model.specs.Writes.{Write, set, unset}
-use Rattle.tc_plain_model.specs.Store.{Store, stored, names_with, with_pair, without_pair}
-use Rattle.tc_plain_model.specs.Rows.{rows_over}
-
--- how many names a partition takes, and how many documents it stores
-pub record Limits : Type 0 where
-  pub names : ℕ
-  pub docs : ℕ
+use Rattle.tc_plain_model.specs.Store.{Store, stored, with_pair, without_pair}
+use Rattle.tc_plain_model.specs.Room.{Limits, lacks_names, lacks_room}
+use Rattle.tc_request_model.specs.Rows.{rows_over}
 
 -- ---- refusals
-
--- a document has names that are not taken, and with them there are too many
-abbrev pub lacks_names : Limits → Document → List Name → Bool
-lacks_names limits d taken = nat_lt (length taken) (length (names_with d taken)) && nat_lt limits.names (length (names_with d taken))
-
--- a key has no document, and there is no room for one more
-abbrev pub lacks_room : Limits → ℕ → Store → Bool
-lacks_room limits n s = not (is_some (stored n s)) && nat_le limits.docs (length s.pairs)
 
 -- why an upsert is refused, if it is
 abbrev pub upsert_refusal : Limits → ℕ → Document → Store → Option Refusal

@@ -1,0 +1,2 @@
+pub mod LineWeight
+pub mod RequestWrites

@@ -1,0 +1,7 @@
+pub mod Request
+pub mod Light
+pub mod Paths
+pub mod Equal
+pub mod Reply
+pub mod Rows
+pub mod Part
