@@ -15,7 +15,21 @@ import signal
 import sys
 
 PICTURE = "docs/architecture.md"
-MOST_EDITS = 5
+# The must-fail edits of one crate, and of all: the edits of a crate cost the gate another check of the whole crate.
+MOST_EDITS, MOST_EDITS_OF_ALL = 3, 60
+# A contract that can be read aloud has no more clauses and characters than these.
+MOST_CLAUSES, MOST_CHARACTERS = 16, 2_500
+# The public functions whose contracts are longer today. None is added, and a name leaves once its contract is short.
+LONG_CONTRACTS = {
+    "tc_engines": ("window",),
+    "tc_open": ("open_part",),
+    "tc_part": ("begin_flush", "begin_merge", "finish_flush", "finish_merge", "seal", "start"),
+    "tc_replay": ("logs_are_flushed",),
+    "tc_server": ("run_program", "serve"),
+    "tc_work": ("finish", "force_flush", "settle", "window"),
+}
+# A line of proofs/ is no longer than this. So many are longer today, and the number may only shrink.
+LONGEST_LINE, LONG_LINES = 300, 768
 # A statement with fewer words and signs than this may stand twice.
 FEWEST_WORDS = 14
 # In these files names are given by the goals that they answer, and nothing else cites them.
@@ -330,12 +344,52 @@ def statements_stand_once(house):
             yield f"{path}:{number}: {name} stands also as " + ", ".join(f"{it} at {at}:{n}" for at, n, it in others)
 
 
+CONTRACT = re.compile(r"^\s*(?:ensures|requires)\b", re.M)
+
+
+def contracts(text):
+    """The public functions of a file of code: line, name, and the contract."""
+    for it in re.finditer(r"^( *)pub (?:const |ghost )?fn (\w+)", text, re.M):
+        rest = text[it.end() :]
+        # The body's brace stands alone below a contract, and else behind the signature. A function of a trait may have no body.
+        body = re.search(rf"^{it[1]}\{{|[{{;]\s*$", rest, re.M)
+        head = rest[: body.start()] if body else ""
+        clause = CONTRACT.search(head)
+        yield line_of(text, it.start()), it[2], head[clause.start() :] if clause else ""
+
+
+def contracts_can_be_read(house):
+    """No contract of a public function has more than 16 clauses or 2,500 characters, save those that LONG_CONTRACTS names."""
+    left = {(crate, name) for crate, names in LONG_CONTRACTS.items() for name in names}
+    for path, text in house.text.items():
+        if path.endswith(".rt") and "/src/tests" not in path:
+            for line, name, contract in contracts(text):
+                clauses, characters = len(CONTRACT.findall(contract)), len(" ".join(contract.split()))
+                if clauses > MOST_CLAUSES or characters > MOST_CHARACTERS:
+                    crate = path.split("/")[1]
+                    left.discard((crate, name))
+                    if name not in LONG_CONTRACTS.get(crate, ()):
+                        yield f"{path}:{line}: the contract of {name} has {clauses} clauses and {characters:,} characters"
+    for crate, name in sorted(left):
+        yield f".ci/house.py: {name} of {crate} has a short contract or is gone, and so leaves LONG_CONTRACTS"
+
+
+def lines_of_proofs_are_short(house):
+    """No more lines of proofs/ than LONG_LINES have over 300 characters."""
+    proofs = (text for path, text in house.said.items() if "/proofs/" in path)
+    count = sum(len(line) > LONGEST_LINE for text in proofs for line in text.split("\n"))
+    if count > LONG_LINES:
+        yield f"crates/*/proofs: {count} lines of over {LONGEST_LINE} characters, and at most {LONG_LINES} may stand"
+
+
 def edits_are_few(house):
-    """A crate has at most five must-fail edits."""
-    for name in house.stands:
-        count = len(glob.glob(f"crates/{name}/must-fail/*.edit"))
+    """A crate has at most three must-fail edits, and all crates have at most 60."""
+    counts = {name: len(glob.glob(f"crates/{name}/must-fail/*.edit")) for name in house.stands}
+    for name, count in counts.items():
         if count > MOST_EDITS:
             yield f"crates/{name}/must-fail: {count} edits, and at most {MOST_EDITS} are wanted"
+    if sum(counts.values()) > MOST_EDITS_OF_ALL:
+        yield f"crates/*/must-fail: {sum(counts.values())} edits, and at most {MOST_EDITS_OF_ALL} are wanted"
 
 
 def edits_apply(house):
@@ -378,6 +432,8 @@ LOOKS = (
     names_are_used,
     steps_are_used,
     statements_stand_once,
+    contracts_can_be_read,
+    lines_of_proofs_are_short,
     edits_are_few,
     edits_apply,
     links_lead_somewhere,
