@@ -70,16 +70,16 @@ walk_left_open f tags i ls n c told all tells some =
 
 -- ---- a value by its parts: its label, with the level and the columns behind it, and then its piece
 
-abbrev Labelled : Type 0
+abbrev pub Labelled : Type 0
 Labelled = Option walk.Key × walk.Level × walk.Columns
 
-abbrev Valued : Type 0
+abbrev pub Valued : Type 0
 Valued = Token walk.Key Scalar × walk.Level × walk.Columns
 
-abbrev with_piece : Labelled → Piece Scalar × walk.Columns → Option Valued
+abbrev pub with_piece : Labelled → Piece Scalar × walk.Columns → Option Valued
 with_piece x p = Some (token x.0 p.0, x.1, p.1)
 
-abbrev valued : walk.Format → ℕ → Labelled → Option Valued
+abbrev pub valued : walk.Format → ℕ → Labelled → Option Valued
 valued f tag x = walk.piece_at f.text_width tag x.2 >>= with_piece x
 
 no_label : (f : walk.Format) (level : walk.Level) (tag : ℕ) (c : walk.Columns) → label_moves f level c ≡ None → walk.value_at f level tag c ≡ None

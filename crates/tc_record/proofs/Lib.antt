@@ -28,5 +28,6 @@ pub mod Built
 pub mod RecordRows
 pub mod OneDocument
 pub mod StoredRecords
+pub mod KnownWalks
 mod Told
 mod WholeTexts

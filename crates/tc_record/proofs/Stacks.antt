@@ -1,5 +1,5 @@
 -- The levels that are open, in the array that holds them.
-use Rattle.std.proofs.Common.{◌≡◌, ◌≢◌, ◌<◌, ◌≤◌, ◌+◌, ◌-◌, ◌==◌, ℕ, zero, suc, Bool, true, false, nat_lt, if◌then◌else◌, refl, ap, subst, List, [], ◌∷◌, length, get_or, set, map, Option, None, Some, sym, ◌∙◌, arith, add-one}
+use Rattle.std.proofs.Common.{◌≡◌, ◌≢◌, ◌<◌, ◌≤◌, ◌+◌, ◌-◌, ◌==◌, ℕ, zero, suc, Bool, false, nat_lt, if◌then◌else◌, refl, ap, subst, List, [], ◌∷◌, length, get_or, set, map, None, Some, sym, ◌∙◌, arith, add-one}
 use Rattle.std.proofs.lemmas.Bool.Decides.{nat_tests}
 use Rattle.std.proofs.lemmas.List.{get_or-map, get_or-set_same, get_or-set_other, length-map, map-set}
 use Rattle.tc_bytes.specs.Reading.{◌>>=◌}
@@ -58,38 +58,20 @@ pub kinds_of-pushed : (told : List Bool) (n : ℕ) (a : Bool) → n < length tol
     → Some (kinds_of (set told n a) (n + 1)) ≡ (if nat_lt (length (kinds_of told n)) 32 then Some (kind_of a ∷ kinds_of told n) else None)
 kinds_of-pushed told n a inside few = rw (map-set level_told told n a) (pushed (map level_told told) n (level_told a) (omega (arith, length-map told level_told, inside)) few)
 
--- a token with the levels and the columns behind it
-abbrev Stepped : Type 0
-Stepped = Token walk.Key Scalar × List walk.Level × walk.Columns
-
-abbrev behind_token : Token walk.Key Scalar → walk.Columns → List walk.Level → Option Stepped
-behind_token t rest inner = Some (t, inner, rest)
-
--- the levels behind a piece, where they are not too many
-pub opened_some : (t : Token walk.Key Scalar) (rest : walk.Columns) (o : Option (List walk.Level)) (r : Bool) (inner : List walk.Level) → (if r then Some inner else None) ≡ o → r ≡ true
-    → (o >>= behind_token t rest) ≡ Some (t, inner, rest)
-opened_some t rest o r inner gives room = rw (← gives, room) refl
-
-pub opened_none : (t : Token walk.Key Scalar) (rest : walk.Columns) (o : Option (List walk.Level)) (r : Bool) (inner : List walk.Level) → (if r then Some inner else None) ≡ o → r ≡ false
-    → (o >>= behind_token t rest) ≡ None
-opened_none t rest o r inner gives no_room = rw (← gives, no_room) refl
+-- a tag that does not close
+pub not_close : (tag : ℕ) → tag ≢ 7 → (tag == 7) ≡ false
+not_close tag goes = grind (arith, nat_tests)
 
 -- no value stands there
 pub stepped_none : (f : walk.Format) (tag : ℕ) (ls : List Level) (n : ℕ) (c : walk.Columns) → 0 < n → tag ≢ 7
     → walk.value_at f (level_of (get_or ls (n - 1) level.Array)) tag c ≡ None → walk.step f tag (stack_of ls n) c ≡ None
-stepped_none f tag ls n c some goes none = rw (stack_of-read ls n some, unequal tag goes, none) refl
-  where
-    unequal : (tag : ℕ) → tag ≢ 7 → (tag == 7) ≡ false
-    unequal tag goes = grind (arith, nat_tests)
+stepped_none f tag ls n c some goes none = rw (stack_of-read ls n some, not_close tag goes, none) refl
 
 -- a value stands there
 pub stepped_some : (f : walk.Format) (tag : ℕ) (ls : List Level) (n : ℕ) (c : walk.Columns) (t : Token walk.Key Scalar) (behind : Level) (rest : walk.Columns) → 0 < n → n ≤ length ls → tag ≢ 7
     → walk.value_at f (level_of (get_or ls (n - 1) level.Array)) tag c ≡ Some (t, level_of behind, rest)
     → walk.step f tag (stack_of ls n) c ≡ (walk.opened t.piece (stack_of (set ls (n - 1) behind) n) >>= λ inner. Some (t, inner, rest))
-stepped_some f tag ls n c t behind rest some inside goes read = rw (stack_of-behind ls n behind some inside, stack_of-read ls n some, unequal tag goes, read) refl
-  where
-    unequal : (tag : ℕ) → tag ≢ 7 → (tag == 7) ≡ false
-    unequal tag goes = grind (arith, nat_tests)
+stepped_some f tag ls n c t behind rest some inside goes read = rw (stack_of-behind ls n behind some inside, stack_of-read ls n some, not_close tag goes, read) refl
 
 -- a walk does not end while a level is open
 pub walk_open : (f : walk.Format) (ls : List Level) (n : ℕ) (c : walk.Columns) → 0 < n → walk.walk f [] (stack_of ls n) c ≡ None

@@ -8,7 +8,7 @@ use Rattle.tc_record.specs.Walk as walk
 use Rattle.tc_record.specs.WalkView.{columns_of, format_of}
 use Rattle.tc_record.specs.SectionsView.{cut_columns_of}
 use Rattle.tc_record.specs.Sections.{scan_at}
-use Rattle.tc_record.specs.Stack.{stack_of}
+use Rattle.tc_record.specs.Stack.{kinds_of}
 use Rattle.tc_record.specs.declared.sections.Sections.{Sections}
 use Rattle.tc_record.specs.declared.walking.Walk.{Walk}
 
@@ -22,7 +22,7 @@ TellsGreatest count s = option_map (λ p. p.0) (scan_at s.format.slot_width coun
 
 -- the tokens that are left, where the first one was taken, and where it was not
 abbrev pub tokens_left : Bool → List ℕ → Walk → Option (List (Token walk.Key Scalar))
-tokens_left true tags w = walk.walk (format_of w.format) tags (stack_of w.nesting.levels w.nesting.depth) (columns_of w.columns)
+tokens_left true tags w = walk.known_walk (format_of w.format) tags (kinds_of w.kinds.arrays w.kinds.depth) (columns_of w.columns)
 tokens_left false [] w = None
 tokens_left false (tag ∷ tags) w =
-    if tag == kind_tag objects then (walk.walk (format_of w.format) tags (stack_of w.nesting.levels w.nesting.depth) (columns_of w.columns) >>= λ ts. Some (token None object_opened ∷ ts)) else None
+    if tag == kind_tag objects then (walk.known_walk (format_of w.format) tags (kinds_of w.kinds.arrays w.kinds.depth) (columns_of w.columns) >>= λ ts. Some (token None object_opened ∷ ts)) else None

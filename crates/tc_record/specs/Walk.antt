@@ -1,5 +1,5 @@
 -- How the columns of a record are read: token by token, from the front.
-use Rattle.std.specs.Prelude.{ℕ, ◌==◌, ◌&&◌, nat_lt, Bool, true, false, if◌then◌else◌, List, [], ◌∷◌, length, Option, None, Some}
+use Rattle.std.specs.Prelude.{ℕ, ◌==◌, ◌&&◌, nat_lt, Bool, true, false, if◌then◌else◌, List, [], ◌∷◌, length, map, Option, None, Some, option_map}
 use Rattle.std.specs.Int.{w16, w32, w64, cast_signed}
 use Rattle.std.specs.Str.{is_utf8}
 use Rattle.std.specs.Ordering.{is_lt}
@@ -117,3 +117,23 @@ walk f (tag ∷ tags) levels c = step f tag levels c >>= λ s. walk f tags s.1 s
 abbrev pub tokens_read : Format → List ℕ → Columns → Option (List (Token Key Scalar))
 tokens_read f [] c = None
 tokens_read f (tag ∷ tags) c = if tag == kind_tag objects then (walk f tags (in_object None ∷ []) c >>= λ ts. Some (token None object_opened ∷ ts)) else None
+
+-- ---- the same of a record that was judged, whose names ascend, so that none is kept
+
+abbrev pub nameless : Level → Level
+nameless in_array = in_array
+nameless (in_object last) = in_object None
+
+abbrev pub without_last : Option Key × Level × Columns → Option Key × Level × Columns
+without_last l = (l.0, nameless l.1, l.2)
+
+abbrev pub without_names : Token Key Scalar × List Level × Columns → Token Key Scalar × List Level × Columns
+without_names s = (s.0, map nameless s.1, s.2)
+
+abbrev pub known_step : Format → ℕ → List Level → Columns → Option (Token Key Scalar × List Level × Columns)
+known_step f tag levels c = option_map without_names (step f tag levels c)
+
+abbrev pub known_walk : Format → List ℕ → List Level → Columns → Option (List (Token Key Scalar))
+known_walk f [] [] c = if is_used_up c then Some [] else None
+known_walk f [] (level ∷ levels) c = None
+known_walk f (tag ∷ tags) levels c = known_step f tag levels c >>= λ s. known_walk f tags s.1 s.2 >>= λ ts. Some (s.0 ∷ ts)

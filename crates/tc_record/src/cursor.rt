@@ -2,9 +2,9 @@
 
 ghost use Rattle.std.specs.Prelude.{◌≡◌, ◌++◌, [], false, Some, None, IfNone, IsTrue, if◌then◌else◌, is_some, unwrap_or, option_map, option_to_list};
 ghost use Rattle.tc_record.specs.Preorder.{token, object_opened};
-ghost use Rattle.tc_record.specs.Walk.{step};
+ghost use Rattle.tc_record.specs.Walk.{known_step};
 ghost use Rattle.tc_record.specs.WalkView.{token_of, columns_of, format_of};
-ghost use Rattle.tc_record.specs.Stack.{stack_of};
+ghost use Rattle.tc_record.specs.Stack.{kinds_of};
 
 use crate::token::{Label, Piece, Token};
 use crate::walking::Walk;
@@ -61,6 +61,8 @@ impl<'a> Cursor<'a> {
     }
 
     /// The next token in preorder, or `None` at the end. Takes no memory.
+    // built into those who walk: a token that is handed over in memory costs more than what is done with it
+    #[inline(always)]
     pub fn next(&mut self) -> Option<Token<'a>>
         ensures taken { self.old ≡ option_to_list (option_map token_of result) ++ self.new }
         ensures end { IfNone result (self.old ≡ []) }
@@ -74,8 +76,9 @@ impl<'a> Cursor<'a> {
 }
 
 /// The token of a tag, where the first tag of a record opens an object.
+#[inline(always)]
 fn advance<'a>(walk: &mut Walk<'a>, started: bool, tag: u8) -> Option<Token<'a>>
-    ensures step { option_map (λ t. (token_of t, stack_of walk.new.nesting.levels walk.new.nesting.depth, columns_of walk.new.columns)) result ≡ (if started then step (format_of walk.old.format) tag (stack_of walk.old.nesting.levels walk.old.nesting.depth) (columns_of walk.old.columns) else Some (token None object_opened, stack_of walk.old.nesting.levels walk.old.nesting.depth, columns_of walk.old.columns)) }
+    ensures step { option_map (λ t. (token_of t, kinds_of walk.new.kinds.arrays walk.new.kinds.depth, columns_of walk.new.columns)) result ≡ (if started then known_step (format_of walk.old.format) tag (kinds_of walk.old.kinds.arrays walk.old.kinds.depth) (columns_of walk.old.columns) else Some (token None object_opened, kinds_of walk.old.kinds.arrays walk.old.kinds.depth, columns_of walk.old.columns)) }
     ensures format { format_of walk.new.format ≡ format_of walk.old.format }
 {
     if started {

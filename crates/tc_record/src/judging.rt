@@ -6,9 +6,9 @@ ghost use Rattle.tc_record.specs.Moves.{label_moves, token_moves};
 ghost use Rattle.tc_record.specs.WalkView.{columns_of, level_of, format_of};
 ghost use Rattle.tc_record.specs.Stack.{stack_of};
 
+use crate::nesting::Nesting;
 use crate::reader::{Columns, Format, Level, column_number_at, name_in, piece_in};
 use crate::tags::{CLOSE_TAG, OBJECT_TAG};
-use crate::walking::Nesting;
 
 /// Whether tags and columns spell the tokens of an object, and nothing else.
 pub(crate) fn has_tokens(tags: &[u8], format: Format, columns: Columns<'_>) -> bool

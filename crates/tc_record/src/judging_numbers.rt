@@ -1,27 +1,16 @@
 //! Whether columns spell the tokens of a record of form 1. Members of its objects carry numbers, which may come in any
 //! order, so that of what is open it is enough to know which are arrays.
 
-ghost use Rattle.std.specs.Prelude.{◌≡◌, ◌∷◌, [], None, false, is_some, if◌then◌else◌, length, nat_lt, ◌≤◌};
-ghost use Rattle.tc_model.specs.Limits.{max_depth};
-ghost use Rattle.tc_record.specs.Walk.{walk, in_object, opened, tokens_read};
+ghost use Rattle.std.specs.Prelude.{◌≡◌, ◌∷◌, [], None, false, is_some, if◌then◌else◌};
+ghost use Rattle.tc_record.specs.Walk.{walk, in_object, tokens_read};
 ghost use Rattle.tc_record.specs.Moves.{label_moves, token_moves};
-ghost use Rattle.tc_record.specs.WalkView.{columns_of, format_of, piece_of};
+ghost use Rattle.tc_record.specs.WalkView.{columns_of, format_of};
 ghost use Rattle.tc_record.specs.Stack.{kind_of, kinds_of};
 
 use crate::judging::is_used_up;
+use crate::kinds::Kinds;
 use crate::reader::{Columns, Format, column_number_at, piece_in};
 use crate::tags::{CLOSE_TAG, OBJECT_TAG};
-use crate::token::Piece;
-use crate::walking::MAX_LEVELS;
-
-/// The arrays and objects that are open, innermost last: which of them are arrays.
-#[derive(Clone, Copy)]
-struct Kinds {
-    arrays: [bool; MAX_LEVELS],
-    depth: usize,
-    ghost room: { length arrays ≡ max_depth },
-    ghost shallow: { depth ≤ max_depth },
-}
 
 /// Whether tags and columns spell the tokens of an object, and nothing else.
 pub(crate) fn has_numbered_tokens(tags: &[u8], format: Format, columns: Columns<'_>) -> bool
@@ -86,46 +75,5 @@ fn passes_label(format: Format, in_array: bool, columns: &mut Columns<'_>) -> bo
             columns.slots = slots;
             true
         }
-    }
-}
-
-impl Kinds {
-    /// An object that is open, and nothing else.
-    #[inline(always)]
-    fn in_object() -> Kinds
-        ensures { kinds_of result.arrays result.depth ≡ in_object None ∷ [] }
-    {
-        Kinds {
-            arrays: [false; MAX_LEVELS],
-            depth: 1,
-        }
-    }
-
-    /// Opens what a value opens, or answers `false` where that would nest too deep.
-    #[inline(always)]
-    fn open(&mut self, value: Piece<'_>) -> bool
-        ensures { (if result then Some (kinds_of self.new.arrays self.new.depth) else None) ≡ opened (piece_of value.entry) (kinds_of self.old.arrays self.old.depth) }
-    {
-        match value {
-            Piece::Null => true,
-            Piece::Bool(_) => true,
-            Piece::Int(_) => true,
-            Piece::Text(_) => true,
-            Piece::Array => self.push(true),
-            Piece::Object => self.push(false),
-            Piece::Close => false,
-        }
-    }
-
-    #[inline(always)]
-    fn push(&mut self, array: bool) -> bool
-        ensures { (if result then Some (kinds_of self.new.arrays self.new.depth) else None) ≡ (if nat_lt (length (kinds_of self.old.arrays self.old.depth)) max_depth then Some (kind_of array ∷ kinds_of self.old.arrays self.old.depth) else None) }
-    {
-        if self.depth >= MAX_LEVELS {
-            return false;
-        }
-        self.arrays[self.depth] = array;
-        self.depth += 1;
-        true
     }
 }

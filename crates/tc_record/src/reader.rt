@@ -1,13 +1,13 @@
 //! The columns of a record, read value by value.
 
 ghost use Rattle.std.specs.Prelude.{◌≡◌, option_map};
-ghost use Rattle.tc_record.specs.Walk.{sized_number_at, utf8_at, text_at, name_at, bool_at, integer_at, piece_at, in_object, is_above as stands_above, label_at, value_at};
+ghost use Rattle.tc_record.specs.Walk.{sized_number_at, utf8_at, text_at, name_at, bool_at, integer_at, piece_at, is_above as stands_above};
 ghost use Rattle.std.specs.Ordering.{is_lt};
 ghost use Rattle.tc_model.specs.Document.{name_cmp};
-ghost use Rattle.tc_record.specs.WalkView.{key_of, piece_of, token_of, columns_of, level_of, format_of};
+ghost use Rattle.tc_record.specs.WalkView.{piece_of, columns_of};
 
 use crate::tags::{ARRAY_TAG, BOOLEAN_TAG, INTEGER_TAG, NULL_TAG, OBJECT_TAG, TEXT_TAG};
-use crate::token::{Label, Piece, Token};
+use crate::token::Piece;
 use crate::widths::Width;
 use tc_bytes::{u8_at, u16_at, u32_at, u64_at};
 
@@ -166,50 +166,4 @@ fn precedes(name: &str, other: &str) -> bool
         return front[0] < back[0];
     }
     name < other
-}
-
-/// The label of a value that stands in a level, and the level behind it.
-fn label_in<'a>(
-    format: Format,
-    level: Level<'a>,
-    columns: &mut Columns<'a>,
-) -> Option<(Label<'a>, Level<'a>)>
-    ensures { option_map (λ x. (key_of x.0, level_of x.1, columns_of columns.new)) result ≡ label_at (format_of format) (level_of level.entry) (columns_of columns.old) }
-{
-    match level {
-        Level::Array => Some((Label::Bare, level)),
-        Level::Object => member_label_in(format, None, columns),
-        Level::Behind(last) => member_label_in(format, Some(last), columns),
-    }
-}
-
-#[inline(always)]
-fn member_label_in<'a>(
-    format: Format,
-    last: Option<&'a str>,
-    columns: &mut Columns<'a>,
-) -> Option<(Label<'a>, Level<'a>)>
-    ensures { option_map (λ x. (key_of x.0, level_of x.1, columns_of columns.new)) result ≡ label_at (format_of format) (in_object (option_map (λ n. n.now) last.entry)) (columns_of columns.old) }
-{
-    if format.named {
-        let name = name_in(format.slot_width, last, columns)?;
-        return Some((Label::Name(name), Level::Behind(name)));
-    }
-    let (number, slots) = column_number_at(format.slot_width, columns.slots)?;
-    columns.slots = slots;
-    Some((Label::Number(number), Level::Object))
-}
-
-/// A value that stands in a level, as a token, with the level behind it.
-pub(crate) fn value_in<'a>(
-    format: Format,
-    level: Level<'a>,
-    tag: u8,
-    columns: &mut Columns<'a>,
-) -> Option<(Token<'a>, Level<'a>)>
-    ensures { option_map (λ x. (token_of x.0, level_of x.1, columns_of columns.new)) result ≡ value_at (format_of format) (level_of level.entry) tag (columns_of columns.old) }
-{
-    let (label, behind) = label_in(format, level, columns)?;
-    let value = piece_in(format.text_width, tag, columns)?;
-    Some((Token { label, value }, behind))
 }
