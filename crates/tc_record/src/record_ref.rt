@@ -60,6 +60,7 @@ impl<'a> RecordRef<'a> {
 
     /// The record of form 1 that the bytes are, or `None` where they are none. Takes no memory, and less time than `of`, which
     /// keeps room for names that are to ascend.
+    #[inline(always)]
     pub fn numbered(bytes: &'a [u8]) -> Option<RecordRef<'a>>
         ensures bytes { IfSome result (λ r. r.bytes ≡ bytes.now) }
         ensures spells { IfSome result (λ r. (n : NumberedTree) × ((r.named ≡ false) × IsNumberedRecordOf n bytes.now × (r.tokens ≡ numbered_tokens n))) }
