@@ -1,5 +1,5 @@
 -- Why an upsert is refused, by its new names and by the room that there is.
-use Rattle.std.proofs.Common.{◌≡◌, ◌∙◌, ◌+◌, ◌<◌, ℕ, Bool, true, false, List, ◌++◌, Some, None, length, length-append, refl, sym, ap, subst, arith, nat_lt}
+use Rattle.std.proofs.Common.{◌≡◌, ◌∙◌, ◌+◌, ◌<◌, ℕ, Bool, true, false, List, ◌++◌, Some, None, length, length-append, refl, sym, ap, subst, arith, nat_lt, Option}
 use Rattle.std.specs.Prelude.{◌&&◌, not, nat_le, option_map, ◌^◌, if◌then◌else◌}
 use Rattle.std.proofs.lemmas.Bool.Decides.{nat_tests}
 use Rattle.tc_model.specs.Document.{Name, Document}
@@ -7,6 +7,7 @@ use Rattle.tc_plain_model.specs.Room.{Limits, lacks_names, lacks_room}
 use Rattle.tc_plain_model.specs.Store.{Store, names_with}
 use Rattle.tc_request_model.specs.Request.{names_full, full}
 use Rattle.tc_request_model.specs.Part.{upsert_refusal}
+use Rattle.tc_part.specs.declared.staging.Staged.{Staged}
 use Rattle.tc_part.specs.declared.staging.Staged.TheVariants.{NamesFull, Full}
 use Rattle.tc_part.specs.Stages.{refusal_by, refused_as}
 
@@ -37,10 +38,14 @@ pub of_none : (limits : Limits) (taken : List Name) (d : Document) (was_live : B
     → None ≡ option_map refused_as (refusal_by limits d taken was_live live)
 of_none limits taken d was_live live is room = rw (is, room) refl
 
--- the refusal of an upsert in a store, by how many documents are live
-pub upsert_refused : (limits : Limits) (key : ℕ) (d : Document) (s : Store) (was_live : Bool) (live : ℕ) → lacks_room limits key s ≡ (not was_live && nat_le limits.docs live)
-    → upsert_refusal limits key d s ≡ refusal_by limits d s.taken was_live live
-upsert_refused limits key d s was_live live room = ap (λ lacks. if lacks_names limits d s.taken then Some names_full else (if lacks then Some full else None)) room
+-- the refusal of an upsert in a store, by whether its key has a document and by how many are live
+pub upsert_refused : (limits : Limits) (key : ℕ) (d : Document) (s : Store) (here was_live : Bool) (live : ℕ) (refused : Option Staged)
+    → refused ≡ option_map refused_as (refusal_by limits d s.taken was_live live) → was_live ≡ here → lacks_room limits key s ≡ (not here && nat_le limits.docs live)
+    → refused ≡ option_map refused_as (upsert_refusal limits key d s)
+upsert_refused limits key d s here was_live live refused exact was room =
+    exact
+    ∙ ap (λ b. option_map refused_as (refusal_by limits d s.taken b live)) was
+    ∙ ap (λ lacks. option_map refused_as (if lacks_names limits d s.taken then Some names_full else (if lacks then Some full else None))) (sym room)
 
 -- where the names are not refused, there is room for them
 fits : (a n l : ℕ) → (nat_lt a l && nat_lt n l) ≡ false → a < 2 ^ 32 → n < 2 ^ 32 → l < 2 ^ 32

@@ -1,4 +1,4 @@
-use Rattle.std.proofs.Common.{◌≡◌, ◌∙◌, Some, is_some, option_map, sym, ap, subst}
+use Rattle.std.proofs.Common.{◌≡◌, ◌∙◌, Some, is_some, sym, ap, subst}
 use Rattle.std.specs.Prelude.{IfOk, OnOk}
 use Rattle.tc_model.specs.Keyed.{value_of}
 use Rattle.tc_record.specs.Record.{IsRecordOf}
@@ -8,7 +8,7 @@ use Rattle.tc_part_model.specs.Meaning.{IsPart, plain_of}
 use Rattle.tc_part_model.specs.PartState.{told}
 use Rattle.tc_part_model.specs.PartView.{stored_with}
 use Rattle.tc_part.specs.Below.{held_at}
-use Rattle.tc_part.specs.Stages.{answer_to, refusal_by, refusal_for, refused_as, stages}
+use Rattle.tc_part.specs.Stages.{answer_to, refusal_by, refusal_for, stages}
 use Rattle.tc_part.proofs.BelowKeys.{live_there, shows_live}
 use Rattle.tc_part.proofs.ListedContents.{all_show}
 use Rattle.tc_part.proofs.Refusals.{upsert_refused}
@@ -29,7 +29,7 @@ returns-in-Some-clause-answered g c = λ p w is may kept.
     let of = subst (IsRecordOf d) (sym c.as_slice.ensures.same) (storable_record key d bytes storable k.spelled c.requires.record) in
     let live = live_there t p key list c.below-below.result is (all_show g.S.Frozen.Frozen.content list p.list is.view.components) c.below-below.ensures in
     let was = c.is_live-was_live.ensures ∙ live in
-    let refusal = c.in_ok-refused.ensures.exact d of ∙ ap (λ b. option_map refused_as (refusal_by limits d t.taken b t.live)) was ∙ ap (option_map refused_as) (sym (upsert_refused limits key d (plain_of t p) (is_some (value_of key (stored_with p))) t.live (c.staged_is_kept.ensures.room t p limits key is))) in
+    let refusal = upsert_refused limits key d (plain_of t p) (is_some (value_of key (stored_with p))) _ t.live _ (c.in_ok-refused.ensures.exact d of) was (c.staged_is_kept.ensures.room t p limits key is) in
     subst (λ (w : Write). c.in-Some.refused ≡ answer_to (refusal_for limits w (plain_of t p)) (is_some (value_of w.0 (stored_with p)))) (sym k.is)
     (refused_answer (refusal_for limits (key, Some d) (plain_of t p)) c.in-Some.refused _ (sym c.in-Some.is ∙ refusal))
 
@@ -46,7 +46,7 @@ returns-in-Some-clause-staged g c = λ p w is may kept.
     let of = subst (IsRecordOf d) (sym c.as_slice.ensures.same) (storable_record key d bytes storable k.spelled c.requires.record) in
     let live = live_there t p key list c.below-below.result is (all_show g.S.Frozen.Frozen.content list p.list is.view.components) c.below-below.ensures in
     let was = c.is_live-was_live.ensures ∙ live in
-    let refusal = c.in_ok-refused.ensures.exact d of ∙ ap (λ b. option_map refused_as (refusal_by limits d t.taken b t.live)) was ∙ ap (option_map refused_as) (sym (upsert_refused limits key d (plain_of t p) (is_some (value_of key (stored_with p))) t.live (c.staged_is_kept.ensures.room t p limits key is))) in
+    let refusal = upsert_refused limits key d (plain_of t p) (is_some (value_of key (stored_with p))) _ t.live _ (c.in_ok-refused.ensures.exact d of) was (c.staged_is_kept.ensures.room t p limits key is) in
     subst (λ q. IsPart t q)
     (sym (ap (λ (w : Write). stages (refusal_for limits w (plain_of t p)) w (is_some (value_of w.0 (stored_with p))) p) k.is ∙ refused_stages (refusal_for limits (key, Some d) (plain_of t p)) c.in-Some.refused (key, Some d) _ p (sym c.in-Some.is ∙ refusal)))
     is
@@ -73,7 +73,7 @@ returns-in-None-clause-answered g c = λ p w is may kept.
     let of = subst (IsRecordOf d) (sym c.as_slice.ensures.same) (storable_record key d bytes storable k.spelled c.requires.record) in
     let live = live_there t p key list c.below-below.result is (all_show g.S.Frozen.Frozen.content list p.list is.view.components) c.below-below.ensures in
     let was = c.is_live-was_live.ensures ∙ live in
-    let refusal = c.in_ok-refused.ensures.exact d of ∙ ap (λ b. option_map refused_as (refusal_by limits d t.taken b t.live)) was ∙ ap (option_map refused_as) (sym (upsert_refused limits key d (plain_of t p) (is_some (value_of key (stored_with p))) t.live (c.staged_is_kept.ensures.room t p limits key is))) in
+    let refusal = upsert_refused limits key d (plain_of t p) (is_some (value_of key (stored_with p))) _ t.live _ (c.in_ok-refused.ensures.exact d of) was (c.staged_is_kept.ensures.room t p limits key is) in
     let none = accepted (refusal_for limits (key, Some d) (plain_of t p)) (sym c.in-None.is ∙ refusal) in
     subst (λ (w : Write). IfOk c.upsert.result (λ answer. answer ≡ answer_to (refusal_for limits w (plain_of t p)) (is_some (value_of w.0 (stored_with p))))) (sym k.is)
     (accepted_answer c.upsert.result (refusal_for limits (key, Some d) (plain_of t p)) c.is_live-was_live.result (is_some (value_of key (stored_with p))) none was c.upsert.ensures.done)
@@ -91,7 +91,7 @@ returns-in-None-clause-staged g c = λ p w is may kept.
     let of = subst (IsRecordOf d) (sym c.as_slice.ensures.same) (storable_record key d bytes storable k.spelled c.requires.record) in
     let live = live_there t p key list c.below-below.result is (all_show g.S.Frozen.Frozen.content list p.list is.view.components) c.below-below.ensures in
     let was = c.is_live-was_live.ensures ∙ live in
-    let refusal = c.in_ok-refused.ensures.exact d of ∙ ap (λ b. option_map refused_as (refusal_by limits d t.taken b t.live)) was ∙ ap (option_map refused_as) (sym (upsert_refused limits key d (plain_of t p) (is_some (value_of key (stored_with p))) t.live (c.staged_is_kept.ensures.room t p limits key is))) in
+    let refusal = upsert_refused limits key d (plain_of t p) (is_some (value_of key (stored_with p))) _ t.live _ (c.in_ok-refused.ensures.exact d of) was (c.staged_is_kept.ensures.room t p limits key is) in
     let none = accepted (refusal_for limits (key, Some d) (plain_of t p)) (sym c.in-None.is ∙ refusal) in
     let u = told g.S.Store.history g.S.Device.Device.history g.S.Frozen.Frozen.content c.upsert.new.self in
     subst (λ q. OnOk c.upsert.result (IsPart u q))
