@@ -1,16 +1,18 @@
 -- How long the record of form 0 of a record of form 1 is.
-use Rattle.std.proofs.Common.{◌≡◌, ◌∙◌, ℕ, zero, suc, ◌+◌, ◌*◌, ◌-◌, ◌<◌, ◌≤◌, ◌^◌, nat_lt, if◌then◌else◌, Bool, true, false, List, [], ◌∷◌, ◌++◌, Option, None, Some, IfSome, IfNone, length, map, refl, sym, ap, subst, arith, length-append}
+use Rattle.std.proofs.Common.{◌≡◌, ◌∙◌, ℕ, zero, suc, ◌+◌, ◌*◌, ◌-◌, ◌<◌, ◌≤◌, ◌^◌, nat_lt, if◌then◌else◌, Bool, true, false, List, [], ◌∷◌, ◌++◌, Option, None, Some, IfSome, IfNone, length, map, flat_map, refl, sym, ap, subst, arith, length-append}
 use Rattle.std.proofs.lemmas.Bool.Decides.{nat_tests}
 use Rattle.std.proofs.lemmas.List.{length-map}
 use Rattle.std.specs.List.{AllByRecursion}
 use Rattle.tc_model.specs.Document.{Name}
 use Rattle.tc_model.specs.Dictionary.{IsName, IsDictionary}
+use Rattle.tc_names.specs.Longest.{longest_of}
 use Rattle.tc_record.specs.Preorder.{tokens_of}
 use Rattle.tc_record.specs.Record.{labels, greatest, width, numbers, joined, record_of, NumberedTree, IsNumberedRecordOf}
 use Rattle.tc_record.specs.Sections.{least_width}
-use Rattle.tc_record.specs.Borrowed.{Record, Spells}
+use Rattle.tc_record.specs.Walk.{Key, name, number}
+use Rattle.tc_record.specs.Borrowed.{Record, Spells, IsBelow}
 use Rattle.tc_record.proofs.NumberLengths.{length-numbers}
-use Rattle.tc_compact.specs.Slots.{numbers_in}
+use Rattle.tc_compact.specs.Slots.{key_numbers, numbers_in}
 use Rattle.tc_compact.specs.Meant.{name_at, expanded, HasRoom}
 use Rattle.tc_compact.specs.Layout.{slot_bytes, values_in}
 use Rattle.tc_compact.proofs.Relabelled.{record-named}
@@ -101,3 +103,42 @@ within total o is = rw is (by_test (nat_lt total (2 ^ 32)) refl)
     by_test : (b : Bool) → nat_lt total (2 ^ 32) ≡ b → IfSome (if b then Some total else None) (λ len. len ≡ total) × IfNone (if b then Some total else None) (2 ^ 32 ≤ total)
     by_test true e = (refl, tt)
     by_test false e = (tt, grind (arith, nat_tests))
+
+-- ---- a bound on the length
+
+-- no name is longer than the longest
+most_at : (names : List Name) (k : ℕ) → length (name_at names k) ≤ longest_of names
+most_at [] k = omega arith
+most_at (n ∷ names) zero = omega arith
+most_at (n ∷ names) (suc k) = omega (arith, most_at names k)
+
+-- a name and its slot in place of each number
+slots_most : (names : List Name) (ls : List Key) → length (joined (map (name_at names) (flat_map key_numbers ls))) + length (flat_map key_numbers ls) * 4 ≤ length ls * (longest_of names + 4)
+slots_most names [] = omega arith
+slots_most names (name n ∷ ls) = omega (arith, slots_most names ls)
+slots_most names (number k ∷ ls) = omega (arith, length-append (name_at names k) (joined (map (name_at names) (flat_map key_numbers ls))), most_at names k, slots_most names ls)
+
+-- so the record with names is at most so long
+named_most : (names : List Name) (r : Record) (n : NumberedTree) → Spells r → r.named ≡ false → IsNumberedRecordOf n r.bytes
+    → length (record_of (expanded names n)) ≤ length r.bytes + length (labels r.tokens) * (longest_of names + 4)
+named_most names r n spells unnamed is =
+    let tn = tokens_of n in
+    let ks = labels tn in
+    let ns = map (name_at names) ks in
+    let ls = map length ns in
+    let behind = numbers (width ls) ls ++ joined ns in
+    let most = slots_most names (labels r.tokens) in
+    let most_is : length (joined ns) + length ks * 4 ≤ length (labels r.tokens) * (longest_of names + 4) = subst (λ k. length (joined (map (name_at names) k)) + length k * 4 ≤ length (labels r.tokens) * (longest_of names + 4)) (numbers_are r n spells is) most in
+    let members : length ls ≡ length ks = length-map ns length ∙ length-map ks (name_at names) in
+    let whole_len = ap length (record-named (name_at names) n ∙ record_laid 0 tn ls (joined ns)) in
+    omega (arith, most_is, members, whole_len, (numbered_cut tn ks r.bytes is.spelled).len, (slots_between ls).1, (whole_cut 0 tn (length ls) (width ls) (values tn) behind).len, length-append (numbers (width ls) ls) (joined ns))
+
+under : (len most : ℕ) → len ≤ most → nat_lt most (2 ^ 32) ≡ true → len < 2 ^ 32
+under len most less test = grind (arith, nat_tests)
+
+-- a record has room that is short enough with the longest name in place of each number
+pub room_by_bound : (names : List Name) (r : Record) → Spells r → r.named ≡ false → AllByRecursion (IsBelow (length names)) (labels r.tokens) → nat_lt (length r.bytes + length (labels r.tokens) * (longest_of names + 4)) (2 ^ 32) ≡ true → HasRoom names r
+room_by_bound names r spells unnamed known test = record {
+  known = known;
+  short = λ n is. under (length (record_of (expanded names n))) _ (named_most names r n spells unnamed is) test;
+}

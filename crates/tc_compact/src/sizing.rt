@@ -60,7 +60,8 @@ pub fn expanded_size(of: RecordRef<'_>, names: &Names) -> Option<u32>
     len_with_names(shared.values.len(), sum)
 }
 
-/// Whether a record of form 1 has names and is short enough with them. One of form 0 has and is.
+/// Whether a record of form 1 has names and is short enough with them. One of form 0 has and is. The members of a record are
+/// walked only where it could grow too long with the longest name in place of each number.
 pub(crate) fn has_room(of: &RecordRef<'_>, names: &Names) -> bool
     ensures room { IsTrue result → of.now.named ≡ false → HasRoom names.now of.now }
     ensures none { result ≡ false → (of.now.named ≡ false) × (HasRoom names.now of.now → ⊥) }
@@ -68,11 +69,25 @@ pub(crate) fn has_room(of: &RecordRef<'_>, names: &Names) -> bool
     if of.named() {
         return true;
     }
-    let _bytes = of.bytes();
+    let bytes = of.bytes();
+    if of.numbers_below(names.len())
+        && is_short_with_names(bytes.len(), of.member_count(), names.longest_name())
+    {
+        return true;
+    }
     match expanded_size(of.again(), names) {
         Some(_len) => true,
         None => false,
     }
+}
+
+/// Whether a record of so many bytes and members is shorter than 2^32 bytes with a name in place of each number, and names of
+/// at most so many bytes. The slot of a name has at most four bytes.
+fn is_short_with_names(len: usize, members: u32, longest: u32) -> bool
+    ensures { result ≡ nat_lt (len + members * (longest + 4)) (2 ^ 32) }
+{
+    let most = u64::from(members).saturating_mul(u64::from(longest) + 4);
+    most.saturating_add(len as u64) < 0x1_0000_0000
 }
 
 /// The length of a record of form 0 whose columns before the slots have so many bytes, if it has 32 bits.

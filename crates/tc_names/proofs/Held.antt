@@ -1,5 +1,5 @@
 -- The set of texts that a dictionary holds, against the list of their bytes.
-use Rattle.std.proofs.Common.{drop, IsTrue, ◌↔◌, ◌≡◌, ℕ, suc, Bool, false, if◌then◌else◌, ◌&&◌, ◌||◌, List, [], ◌∷◌, ◌++◌, None, Some, option_map, is_some, map, take, length, string_bytes, String, refl, sym, ap, ◌∙◌, arith}
+use Rattle.std.proofs.Common.{drop, IsTrue, ◌↔◌, ◌≡◌, ℕ, suc, Bool, false, if◌then◌else◌, ◌&&◌, ◌||◌, List, [], ◌∷◌, ◌++◌, None, Some, option_map, is_some, max, map, take, length, string_bytes, String, refl, sym, ap, ◌∙◌, arith}
 use Rattle.std.specs.Global.{Global}
 use Rattle.std.specs.List.{AllZip, list_any, position}
 use Rattle.std.specs.Str.{bytes_eq}
@@ -11,6 +11,7 @@ use Rattle.std.proofs.lemmas.Slice.Eq.{bytes_eq-Decides, starts_is}
 use Rattle.indexmap.specs.IndexSet.{insert_key}
 use Rattle.tc_model.specs.Dictionary.{number_of, Extends}
 use Rattle.tc_model.proofs.NameNumbers.{list_any-number_of}
+use Rattle.tc_names.specs.Longest.{longest_of}
 
 -- the first place that passes, one element further on
 position-cons : {X : Type 0} (p : X → Bool) (x : X) (xs : List X) → position p (x ∷ xs) ≡ (if p x then Some 0 else option_map suc (position p xs))
@@ -52,6 +53,11 @@ insert-new keys held name same new =
     let none : number_of (map string_bytes keys) (string_bytes held) ≡ None = rw same new in
     let absent : list_any (string_eq held) keys ≡ false = list_any-keys held keys ∙ list_any-number_of (map string_bytes keys) (string_bytes held) ∙ ap is_some none in
     rw absent (map-push keys held ∙ ap (λ bytes. map string_bytes keys ++ bytes ∷ []) same)
+
+-- of names and one more after them, that one is the longest, or one of the others is
+pub longest-push : (names : List (List ℕ)) (name : List ℕ) → longest_of (names ++ name ∷ []) ≡ max (longest_of names) (length name)
+longest-push [] name = omega arith
+longest-push (first ∷ names) name = omega (arith, longest-push names name)
 
 -- whether the older texts come first is whether the names extend the older ones
 pub starts-Extends : (newer older : List (String Global)) (starts : Bool) → starts ≡ pointwise string_eq older (take (length older) newer)

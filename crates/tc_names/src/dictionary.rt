@@ -9,6 +9,7 @@ use tc_bytes::Memory;
 /// the names, each as its bytes; a name is any text of fewer than 2^32 bytes, and there are fewer than 2^32.
 pub struct Names {
     names: IndexSet<String>,
+    longest: u32,
     alloc: Global,
 }
 
@@ -17,17 +18,23 @@ impl Model for Names {
 
     ghost Value = { List (List ℕ) };
 
-    ghost use Rattle.tc_model.specs.Dictionary.{IsDictionary};
-
     ghost view = { λ n. map string_bytes n.names.keys };
 
-    ghost invariant = { λ n. IsDictionary (map string_bytes n.names.keys) };
+    ghost use Rattle.std.specs.Prelude.{◌≡◌};
+    ghost use Rattle.tc_model.specs.Dictionary.{IsDictionary};
+    ghost use Rattle.tc_names.specs.Longest.{longest_of};
+
+    ghost invariant = { λ n. IsDictionary (map string_bytes n.names.keys) × (n.longest ≡ longest_of (map string_bytes n.names.keys)) };
 }
 
 impl Drop for Names {
     /// One call, so that whoever drops a dictionary sees none of its fields.
     fn drop(self) {
-        let Names { names, alloc: _ } = self;
+        let Names {
+            names,
+            longest: _,
+            alloc: _,
+        } = self;
         drop(names);
     }
 }
@@ -35,6 +42,7 @@ impl Drop for Names {
 impl Names {
     ghost use Rattle.std.specs.Prelude.{◌≡◌, ◌<◌, ◌^◌, ◌↔◌, ℕ, List, [], length, option_map, slice_get, IfOk, OnOk, OnErr, IsTrue, Some};
     ghost use Rattle.tc_model.specs.Dictionary.{number_of, learned, Extends, IsDictionary};
+    ghost use Rattle.tc_names.specs.Longest.{longest_of};
 
     /// No names.
     pub fn new(alloc: Global) -> Names
@@ -42,6 +50,7 @@ impl Names {
     {
         Names {
             names: IndexSet::new(alloc),
+            longest: 0,
             alloc,
         }
     }
@@ -52,6 +61,13 @@ impl Names {
         ensures dictionary { IsDictionary self.now }
     {
         self.names.len() as u32
+    }
+
+    /// How many bytes the longest name has, and 0 where there is none. It is kept, so that no name is looked at.
+    pub fn longest_name(&self) -> u32
+        ensures { result ≡ longest_of self.now }
+    {
+        self.longest
     }
 
     /// The number of a name. `None` comes exactly where the name is not there.
@@ -97,6 +113,7 @@ impl Names {
                 let id = self.len();
                 let held = String::from_str(self.alloc, name)?;
                 self.names.insert(held)?;
+                self.longest = self.longest.max(name.len() as u32);
                 Ok(id)
             }
         }
@@ -108,6 +125,7 @@ impl Names {
     {
         Ok(Names {
             names: self.names.clone()?,
+            longest: self.longest,
             alloc: self.alloc,
         })
     }

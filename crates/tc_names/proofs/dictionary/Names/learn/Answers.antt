@@ -1,28 +1,31 @@
 use Rattle.std.proofs.Common.{◌≡◌, ◌<◌, ◌+◌, ◌^◌, ◌++◌, ◌∷◌, [], None, Some, length, map, string_bytes, sym, ap, ◌∙◌, arith, length-append}
 use Rattle.tc_model.specs.Dictionary.{number_of, IsDictionary}
 use Rattle.tc_model.proofs.DictionaryGrowth.{IsDictionary-push, learned-new}
-use Rattle.tc_names.proofs.Held.{insert-new}
+use Rattle.tc_names.specs.Longest.{longest_of}
+use Rattle.tc_names.proofs.Held.{insert-new, longest-push}
 use Rattle.tc_model.proofs.NameNumbers.{number_of-append, number_of-push}
 use Rattle.tc_names.proofs.dictionary.Names.learn.Goals as goal
 
 -- the name is not there
-new : (c : goal.In_ok-insert-in-None) → number_of c.args.self.now c.args.name.now ≡ None
+new : (c : goal.After-self-1) → number_of c.args.self.now c.args.name.now ≡ None
 new c = sym c.in-None.ensures.number
 
 -- it stands behind the others
-added : (c : goal.In_ok-insert-in-None) → map string_bytes c.insert.new.self.keys ≡ c.args.self.now ++ c.args.name.now ∷ []
+added : (c : goal.After-self-1) → map string_bytes c.insert.new.self.keys ≡ c.args.self.now ++ c.args.name.now ∷ []
 added c =
     ap (map string_bytes) c.in_ok-insert-in-None.ensures.keys
     ∙ insert-new c.self.inside.names.keys c.in_ok-held-in-None.held c.args.name.now c.in_ok-held-in-None.ensures.ok (ap (λ names. number_of names c.args.name.now) c.self.view_is ∙ new c)
     ∙ ap (λ names. names ++ c.args.name.now ∷ []) c.self.view_is
 
-dictionary : (c : goal.In_ok-insert-in-None) → IsDictionary (c.args.self.now ++ c.args.name.now ∷ [])
+dictionary : (c : goal.After-self-1) → IsDictionary (c.args.self.now ++ c.args.name.now ∷ [])
 dictionary c =
     let room : length c.args.self.now + 1 < 2 ^ 32 = omega (arith, c.requires.room, ap length (learned-new c.args.self.now c.args.name.now (new c)), length-append c.args.self.now (c.args.name.now ∷ [])) in
     IsDictionary-push c.args.self.now c.args.name.now c.len-id.ensures.dictionary (record { text = c.utf8.name; short = c.requires.short }) (new c) room
 
 pub invariant_of-self-in-None : goal.invariant_of-self-in-None
-invariant_of-self-in-None c = rw (added c) (dictionary c)
+invariant_of-self-in-None c =
+    let kept : c.self.inside.longest ≡ longest_of c.args.self.now = c.self.invariant.1 ∙ ap longest_of c.self.view_is in
+    rw (added c) (dictionary c, omega (arith, kept, longest-push c.args.self.now c.args.name.now, c.requires.short))
 
 pub returns-in_ok-insert-in-None-clause-number : goal.returns-in_ok-insert-in-None-clause-number
 returns-in_ok-insert-in-None-clause-number c = ap (λ names. number_of names c.args.name.now) (added c) ∙ number_of-push c.args.self.now c.args.name.now (new c) ∙ ap Some (sym c.len-id.ensures.count)
