@@ -4,6 +4,7 @@
 mod asks;
 mod commands;
 mod conversions;
+mod document_texts;
 mod forms;
 mod line;
 mod refusals;
