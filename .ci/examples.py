@@ -21,9 +21,12 @@ lines, also none. Use it for process numbers, times and paths of a machine, and 
 something, or asks for what a gate has not. A block that uses a program of TOOLS is skipped where that is not installed. So
 no other block may need what such a block leaves. `rt try` (TRY) is run as the built program, which is the same code.
 
+The manual page (MANUAL) is an example too: groff has to format it without a word.
+
 The script prints what differs, how many were skipped and why, and then 'N passed, M failed'.
 """
 
+import collections
 import dataclasses
 import difflib
 import os
@@ -37,11 +40,12 @@ import tempfile
 
 TOP = os.path.dirname(os.path.dirname(os.path.realpath(__file__)))
 DOCUMENTS = ("README.md", "docs/commands.md", "docs/operations.md", "docs/cookbook.md")
-PROGRAM = os.environ.get("TUPLE_STORE") or f"{TOP}/crates/tuple_store/out/tuple_store"
+MANUAL = "docs/tuple_store.1"
+PROGRAM = os.path.abspath(os.environ.get("TUPLE_STORE") or f"{TOP}/crates/tuple_store/out/tuple_store")
 CLIENT = f"{TOP}/clients/python"
-# How long the examples of one document may take, in seconds.
-LIMIT = 60
-TRY = "cd crates/tuple_store && rt try --"
+# When the examples of one document are given up, in seconds. On a quiet machine all take a tenth of that.
+LIMIT = 300
+TRY = re.compile(r"^\(cd crates/tuple_store && rt try -- ([^)]*)\)")
 NOT_RUN = ("rt", "cd", "git", "pip", "npm", "apt-get", "sudo", ".ci/run", "man")
 TOOLS = ("jq", "node", "flock", "fuser", "tuplectl")
 TABLE_HEAD = "| line | reply |"
@@ -60,6 +64,11 @@ class Example:
 
 class Odd(Exception):
     """A block that is written in a way that is not understood."""
+
+
+def read(path):
+    with open(path, encoding="utf-8") as it:
+        return it.read()
 
 
 def blocks(text):
@@ -103,7 +112,7 @@ def examples_of_block(path, start, lines):
         except (Odd, IndexError) as odd:
             raise Odd(f"{path}:{start + at}: {odd}") from odd
         after = next((it for it in range(end, len(lines)) if lines[it].startswith("$ ")), len(lines))
-        command = [lines[at][2:].replace(TRY, "tuple_store"), *lines[at + 1 : end]]
+        command = [TRY.sub(r"tuple_store \1", lines[at][2:]), *lines[at + 1 : end]]
         found.append(Example(f"{path}:{start + at}", command, lines_of("\n".join(lines[end:after])), start))
         at = after
     return found
@@ -236,6 +245,18 @@ def look_at(path, text, search):
     return len(run) - bad, bad, skipped, said
 
 
+def look_at_manual(search):
+    """Formats the manual page: as `look_at` answers."""
+    if not shutil.which("groff", path=search):
+        return 0, 0, {"groff": 1}, []
+    done = subprocess.run(
+        ["groff", "-man", "-Tutf8", "-ww", MANUAL], stdin=subprocess.DEVNULL, stdout=subprocess.DEVNULL, stderr=subprocess.PIPE
+    )
+    said = done.stderr.decode("utf-8", "replace").splitlines()
+    is_well = done.returncode == 0 and not said
+    return int(is_well), int(not is_well), {}, said
+
+
 def make_path(room):
     """A search path on which `tuple_store` is the built program, and `tuplectl` the client of this checkout."""
     os.symlink(os.path.realpath(PROGRAM), f"{room}/tuple_store")
@@ -252,16 +273,15 @@ def main(paths):
         print(f"{PROGRAM} is not there: 'rt ci' leaves it")
         print("0 passed, 1 failed")
         return 1
-    passed, failed, skipped = 0, 0, {}
     with tempfile.TemporaryDirectory(prefix="examples-") as room:
         search = make_path(room)
-        for path in paths or DOCUMENTS:
-            with open(path, encoding="utf-8") as it:
-                good, bad, left, said = look_at(path, it.read(), search)
-            passed, failed = passed + good, failed + bad
-            for tool, count in left.items():
-                skipped[tool] = skipped.get(tool, 0) + count
-            print("".join(f"{line}\n" for line in said), end="")
+        looks = [look_at(it, read(it), search) for it in paths or DOCUMENTS]
+        looks += [] if paths else [look_at_manual(search)]
+    passed, failed, skipped = 0, 0, collections.Counter()
+    for good, bad, left, said in looks:
+        passed, failed = passed + good, failed + bad
+        skipped.update(left)
+        print("".join(f"{line}\n" for line in said), end="")
     for tool, count in skipped.items():
         print(f"{count} skipped, since {tool} is not there")
     print(f"{passed} passed, {failed} failed")
