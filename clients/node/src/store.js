@@ -55,9 +55,9 @@ export class Store {
     });
   }
 
-  /** The number of the program's process. */
+  /** The number of the program's process, while it runs. */
   get pid() {
-    return this.#child.pid;
+    return this.#end === undefined ? this.#child.pid : undefined;
   }
 
   /** Stores a document under its `id`. Answers whether it replaced one. */

@@ -18,9 +18,19 @@ export function newFolder(t) {
   return join(room, 'store');
 }
 
-/** A store of one partition in a folder. */
-export function open(folder, options = {}) {
-  return new Store(folder, { program, partitions: 1, ...options });
+/** A store of one partition in a folder, whose program is ended with the test, however that ends. */
+export function open(t, folder, options = {}) {
+  const store = new Store(folder, { program, partitions: 1, ...options });
+  t.after(() => end(store));
+  return store;
+}
+
+function end(store) {
+  try {
+    process.kill(store.pid, 'SIGKILL');
+  } catch {
+    // It has ended, or was never there.
+  }
 }
 
 /** The error that a promise ends with. */

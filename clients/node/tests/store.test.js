@@ -7,7 +7,7 @@ import { errorOf, newFolder, open } from './folders.js';
 
 test('documents are stored, found and taken out, and are there in the next run', async (t) => {
   const folder = newFolder(t);
-  const store = open(folder);
+  const store = open(t, folder);
   assert.equal(await store.upsert({ id: 7, name: 'Ada', langs: ['en', 'fr'] }), false);
   assert.equal(await store.upsert({ id: 7, name: 'Ada Lovelace' }), true);
   assert.equal(await store.upsert({ id: 8, name: null }), false);
@@ -17,13 +17,13 @@ test('documents are stored, found and taken out, and are there in the next run',
   assert.equal(await store.get(8), null);
   await store.flush();
   await store.close();
-  const again = open(folder, { window: 1 });
+  const again = open(t, folder, { window: 1 });
   assert.deepEqual(await again.get(7), { id: 7, name: 'Ada Lovelace' });
   await again.close();
 });
 
 test('whole numbers are exact both ways', async (t) => {
-  const store = open(newFolder(t));
+  const store = open(t, newFolder(t));
   const doc = { id: 9223372036854775807n, least: -9223372036854775808n, next: 9007199254740993n, small: 5n };
   assert.equal(await store.upsert(doc), false);
   assert.deepEqual(await store.get(9223372036854775807n), { ...doc, small: 5 });
@@ -35,7 +35,7 @@ test('whole numbers are exact both ways', async (t) => {
 });
 
 test('queries take paths, and eq counts also where it is null', async (t) => {
-  const store = open(newFolder(t), { partitions: 2 });
+  const store = open(t, newFolder(t), { partitions: 2 });
   await Promise.all([{ id: 1, a: [1, null] }, { id: 2, a: null }, { id: 3, a: true }, { id: 4, b: {} }].map((it) => store.upsert(it)));
   assert.deepEqual(await store.query(['a']), [{ id: 1, values: [[1, null]] }, { id: 2, values: [null] }, { id: 3, values: [true] }]);
   assert.deepEqual(await store.query(['a'], { eq: null }), [{ id: 2, values: [null] }]);
@@ -64,7 +64,7 @@ test('queries take paths, and eq counts also where it is null', async (t) => {
 });
 
 test('each refusal is an error with its name, and ends nothing', async (t) => {
-  const store = open(newFolder(t), { names: 2, docs: 1 });
+  const store = open(t, newFolder(t), { names: 2, docs: 1 });
   let deep = 1;
   for (let i = 0; i < 40; i += 1) deep = [deep];
   const rows = [
@@ -93,7 +93,7 @@ test('each refusal is an error with its name, and ends nothing', async (t) => {
 });
 
 test('a scan goes on while calls are answered, and its rows are its own', async (t) => {
-  const store = open(newFolder(t), { window: 8 });
+  const store = open(t, newFolder(t), { window: 8 });
   await store.upsert({ id: 1, a: 1 });
   for (let round = 0; round < 3; round += 1) {
     await store.scan(['a']);
@@ -116,7 +116,7 @@ test('a scan goes on while calls are answered, and its rows are its own', async 
 });
 
 test('a batch is answered in order, refusals among the replies, whatever the sizes', async (t) => {
-  const store = open(newFolder(t), { window: 64 });
+  const store = open(t, newFolder(t), { window: 64 });
   const text = 'x'.repeat(2000);
   async function* requests() {
     for (let id = 0; id < 5000; id += 1) {
@@ -141,7 +141,7 @@ test('a batch is answered in order, refusals among the replies, whatever the siz
 });
 
 test('many calls at once are one batch', async (t) => {
-  const store = open(newFolder(t), { window: 4096 });
+  const store = open(t, newFolder(t), { window: 4096 });
   const replaced = await Promise.all(Array.from({ length: 20_000 }, (_, id) => store.upsert({ id: id % 15_000, n: id })));
   assert.equal(replaced.filter(Boolean).length, 5_000);
   assert.deepEqual(await store.get(3), { id: 3, n: 15_003 });
