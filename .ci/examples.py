@@ -88,10 +88,11 @@ def blocks(text):
 
 
 def end_of_command(lines, at):
-    """Where the command that begins at this line ends: behind its here-document, and lines that a backslash goes on to."""
+    """Where the command that begins at this line ends: after lines that a backslash goes on to, and its here-document."""
+    begin = at
     while lines[at].endswith("\\"):
         at += 1
-    word = re.search(r"<<-?\s*(['\"]?)(\w+)\1", lines[at])
+    word = re.search(r"<<-?\s*(['\"]?)(\w+)\1", " ".join(lines[begin : at + 1]))
     if not word:
         return at + 1
     if word[2] not in lines[at + 1 :]:
@@ -144,8 +145,8 @@ def examples_of(path, text):
 
 def words_of(example):
     """The words of a command, without those of its here-document."""
-    return re.findall(r"[\w./-]+", re.sub(r"<<.*", "", example.command[0]) + " " + " ".join(
-        line for before, line in zip(example.command, example.command[1:]) if before.endswith("\\")))
+    last = next(it for it, line in enumerate(example.command) if not line.endswith("\\"))
+    return re.findall(r"[\w./-]+", " ".join(example.command[: last + 1]))
 
 
 def is_run(example):
