@@ -12,7 +12,9 @@ export class Queue {
     this.#items.push(item);
   }
 
+  /** The first item; undefined where there is none. */
   take() {
+    if (this.length === 0) return undefined;
     const item = this.#items[this.#first];
     this.#items[this.#first] = undefined;
     this.#first += 1;

@@ -39,16 +39,15 @@ export class Store {
   #ended;
 
   constructor(folder, options = {}) {
+    if (typeof folder !== 'string') throw new TypeError(`a store is in a folder, and ${folder} is no path`);
     this.#window = options.window ?? WINDOW;
     const program = options.program ?? process.env.TUPLE_STORE ?? 'tuple_store';
+    let hearEnd;
     this.#ended = new Promise((resolve) => {
-      this.#child = start(
-        program,
-        wordsOf(folder, { ...options, window: this.#window }),
-        (line) => this.#hear(line),
-        (error) => resolve(this.#hearEnd(error)),
-      );
+      hearEnd = (error) => resolve(this.#hearEnd(error));
     });
+    const words = wordsOf(folder, { ...options, window: this.#window });
+    this.#child = start(program, words, (line) => this.#hear(line), hearEnd);
     this.#child.stdin.on('drain', () => {
       this.#isFull = false;
       this.#sendSoon();

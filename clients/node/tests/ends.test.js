@@ -4,7 +4,7 @@ import assert from 'node:assert/strict';
 import { existsSync, mkdirSync, writeFileSync } from 'node:fs';
 import { test } from 'node:test';
 import { Store, StoreFailed } from '../src/index.js';
-import { errorOf, newFolder, open } from './folders.js';
+import { errorOf, newFolder, open, program } from './folders.js';
 
 test('calls that were made before the close are answered, and later ones are not', async (t) => {
   const folder = newFolder(t);
@@ -86,4 +86,5 @@ test('a program that is not there is told', async (t) => {
   assert.equal(error.cause.code, 'ENOENT');
   assert.equal(await errorOf(store.close()), error);
   assert.equal(existsSync(folder), false);
+  assert.throws(() => new Store(undefined, { program }), TypeError);
 });
