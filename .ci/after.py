@@ -113,18 +113,30 @@ def examples():
 
 def python_tests():
     """The tests in Python: each folder of clients/ with files test_*.py."""
-    for folder in sorted({os.path.dirname(it) for it in glob.glob("clients/**/test_*.py", recursive=True)}):
+    folders = sorted({os.path.dirname(it) for it in glob.glob("clients/**/test_*.py", recursive=True)})
+    if folders and sys.version_info < (3, 9):
+        print("the tests in Python: skipped, since python3 is older than 3.9", flush=True)
+        return
+    for folder in folders:
         above = os.path.dirname(folder) if os.path.exists(f"{folder}/__init__.py") else folder
         yield do(folder, [sys.executable, "-m", "unittest", "discover", "-s", folder, "-t", above], counts_of_unittest)
 
 
 def node_tests():
-    """The tests in JavaScript: all files *.test.js of clients/."""
+    """The tests in JavaScript: all files *.test.js of clients/, which are of Node's own runner."""
     files = sorted(glob.glob("clients/**/*.test.js", recursive=True))
-    if files and not shutil.which("node"):
-        print("clients/node: skipped, since node is not there", flush=True)
+    if files and node_version() < 20:
+        print("clients/node: skipped, since node is not there, or older than 20", flush=True)
     elif files:
         yield do("clients/node", ["node", "--test", "--test-reporter=tap", *files], counts_of_node)
+
+
+def node_version():
+    """The first number of Node's version; 0 where it is not there."""
+    if not shutil.which("node"):
+        return 0
+    found = re.match(r"v(\d+)\.", output_of(["node", "--version"])[0])
+    return int(found[1]) if found else 0
 
 
 def main(last_line):

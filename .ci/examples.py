@@ -43,6 +43,8 @@ DOCUMENTS = ("README.md", "docs/commands.md", "docs/operations.md", "docs/cookbo
 MANUAL = "docs/tuple_store.1"
 PROGRAM = os.path.abspath(os.environ.get("TUPLE_STORE") or f"{TOP}/crates/tuple_store/out/tuple_store")
 CLIENT = f"{TOP}/clients/python"
+# Its README has examples too, where the client is there.
+CLIENT_README = "clients/python/README.md"
 # When the examples of one document are given up, in seconds. On a quiet machine all take a tenth of that.
 LIMIT = 300
 TRY = re.compile(r"^\(cd crates/tuple_store && rt try -- ([^)]*)\)")
@@ -276,7 +278,8 @@ def main(paths):
         return 1
     with tempfile.TemporaryDirectory(prefix="examples-") as room:
         search = make_path(room)
-        looks = [look_at(it, read(it), search) for it in paths or DOCUMENTS]
+        every = [*DOCUMENTS, *([CLIENT_README] if os.path.exists(CLIENT_README) else [])]
+        looks = [look_at(it, read(it), search) for it in paths or every]
         looks += [] if paths else [look_at_manual(search)]
     passed, failed, skipped = 0, 0, collections.Counter()
     for good, bad, left, said in looks:
