@@ -2,6 +2,7 @@
 
 from __future__ import annotations
 
+import errno
 import filecmp
 import json
 import os
@@ -9,9 +10,12 @@ import signal
 import subprocess
 import sys
 import time
+from typing import IO
+from unittest import mock
 
 from tuple_store_client import Store, unwrap, wrap
 from tuple_store_client.arguments import ABOUT
+from tuple_store_client.folder import held, partition_folders
 from tuple_store_client.paths import hops
 
 from .support import CLIENT, PROGRAM, StoreTest, component, spelled
@@ -92,7 +96,7 @@ class Commands(StoreTest):
         (first, second) = json.loads(self.tuplectl("people", "stats", "--json").out)
         self.assertEqual((first["writes_in_logs"], second["writes_in_logs"], second["documents_in_components"]), (0, 2, 0))
         lines = self.tuplectl("people", "stats").out.splitlines()
-        self.assertEqual(lines[0], "people/p0: 0 documents in components, 0 writes in logs that are not flushed, 0 names")
+        self.assertEqual(lines[0], "people/p0: 0 documents in components, 0 writes in logs, 0 names")
         size = os.path.getsize("people/p1/l-1")
         self.assertIn(f"  l-1         {size:>15,} bytes  log   2 writes in 2 frames", lines)
 
@@ -121,6 +125,30 @@ class Commands(StoreTest):
         self.assertIn("another program holds it", ran.err)
         self.assertEqual(self.tuplectl("people", "backup", "nowhere/copy").status, 5)
         self.assertEqual(sorted(os.listdir()), ["link", "people", "there"])
+
+
+    def test_a_copy_that_is_not_what_was_copied_is_no_backup(self) -> None:
+        def copy_less(read: IO[bytes], written: IO[bytes], _: int) -> None:
+            written.write(read.read()[:-1])
+
+        with mock.patch("shutil.copyfileobj", copy_less):
+            ran = self.tuplectl("people", "backup", "copy")
+        self.assertEqual((ran.status, ran.out), (5, ""))
+        self.assertIn("does not read as people does", ran.err)
+        with mock.patch("shutil.copyfileobj", side_effect=OSError(errno.ENOSPC, "No space left on device")):
+            self.assertEqual(self.tuplectl("people", "backup", "copy").status, 5)
+        self.assertEqual(os.listdir(), ["people"])
+        os.mkdir("copy.unfinished")
+        self.assertIn("of a backup that was stopped: remove it", self.tuplectl("people", "backup", "copy").err)
+        self.assertEqual(sorted(os.listdir()), ["copy.unfinished", "people"])
+
+    def test_readers_hold_the_store_together(self) -> None:
+        with held(partition_folders("people")):
+            self.assertEqual(self.tuplectl("people", "count").out, "2\n")
+            ran = self.tuplectl("people", "get", "7")
+            self.assertEqual((ran.status, ran.out), (5, ""))
+            self.assertIn("another program holds it", ran.err)
+        self.assertEqual(self.tuplectl("people", "get", "7").out, ADA_STORED + "\n")
 
 
 class Words(StoreTest):

@@ -131,7 +131,7 @@ class Dumps(StoreTest):
                 self.assertIn("store/p0: another program holds it", ran.err)
             seen = self.tuplectl("store", "stats")
             self.assertEqual((seen.status, seen.err), (0, ""))
-            self.assertIn("1 writes in logs", seen.out)
+            self.assertIn("1 write in logs", seen.out)
 
     def test_stats_of_a_store_at_work(self) -> None:
         with Store("store", program=PROGRAM, partitions=1, memory=4096, merge=2) as store:

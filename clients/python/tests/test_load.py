@@ -4,9 +4,15 @@ from __future__ import annotations
 
 import json
 import os
+import re
+import signal
 from typing import Any, List
 
-from .support import StoreTest
+from tuple_store_client import Store
+from tuple_store_client.inputs import Input
+from tuple_store_client.load import Choices, Report, load
+
+from .support import PROGRAM, StoreTest
 
 FRACTIONS = '{"id":1,"price":119.05,"lines":[{"p":1.0},{"p":1e2},{"p":-0},{"p":9223372036854775808}],"n":5}'
 
@@ -78,11 +84,11 @@ class Formats(LoadTest):
     def test_csv_with_other_signs(self) -> None:
         for number, content in enumerate(("id;n\n1;2,3\n", "id\tn\n1\t2,3\n", "\ufeff\"id\",n\r\n1,\"2,3\"\r\n")):
             self.write("in", content)
-            self.check(self.tuplectl(f"s{number}", "load", "in"), 0, "1 documents: 1 new, 0 replaced, 0 refused")
+            self.check(self.tuplectl(f"s{number}", "load", "in"), 0, "1 document: 1 new, 0 replaced, 0 refused")
             self.assertEqual(self.tuplectl(f"s{number}", "dump").out, '{"id":1,"n":"2,3"}\n')
 
     def test_csv_as_texts(self) -> None:
-        self.check(self.load("no,id,v\n1,A-1,5\n", "--texts", "--key", "no", "--old-id", "code", name="in.csv"), 0, "1 documents: 1 new, 0 replaced, 0 refused")
+        self.check(self.load("no,id,v\n1,A-1,5\n", "--texts", "--key", "no", "--old-id", "code", name="in.csv"), 0, "1 document: 1 new, 0 replaced, 0 refused")
         self.assertEqual(self.stored(), ['{"code":"A-1","id":1,"no":1,"v":"5"}'])
 
     def test_bad_rows_of_csv(self) -> None:
@@ -156,12 +162,37 @@ class Refusals(LoadTest):
         self.assertEqual(self.stored(), ['{"id":1}', '{"id":5,"v":2}', '{"id":6}'])
 
 
+class Failures(LoadTest):
+    def test_a_program_that_is_killed_during_a_load(self) -> None:
+        self.write("in.jsonl", "".join(f'{{"id":{key}}}\n' for key in range(100_000)))
+        store = Store("store", program=PROGRAM)
+
+        def progress(_: Input, report: Report) -> None:
+            if report.new == 1_000:
+                os.kill(store._process.pid, signal.SIGKILL)
+
+        report = load(lambda: store, ["in.jsonl", "in.jsonl"], Choices(), progress)
+        first, failure, stored = report.lines()
+        self.assertEqual((report.status, report.refused), (-signal.SIGKILL, {}))
+        self.assertEqual(failure, "the store ended with signal SIGKILL")
+        self.assertTrue(stored.startswith(f"what was answered is stored, up to in.jsonl:{report.new}; "), stored)
+        self.assertGreaterEqual(int(self.tuplectl("store", "count").out), report.new)
+        self.assertLess(report.new, 100_000)
+
+
 class Keys(LoadTest):
     def test_another_member_is_the_key(self) -> None:
         ran = self.load('{"number":7,"a":1}\n{"a":2}\n{"number":"x"}\n{"number":8,"id":"A-8"}\n', "--key", "number")
         said = ("in.jsonl:2: the document has no member number", 'in.jsonl:3: at id: "x"', 'in.jsonl:4: at id: "A-8"', "--old-id NAME")
         self.check(ran, 1, "4 documents: 1 new, 0 replaced, 3 refused", *said)
         self.assertEqual(self.stored(), ['{"a":1,"id":7,"number":7}'])
+
+    def test_another_name_without_another_key(self) -> None:
+        self.assertEqual(self.load("{}", "--old-id", "code").status, 2)
+
+    def test_values_of_one_line_have_numbers(self) -> None:
+        ran = self.load('[{"id":1},{"id":-2},\n{"id":3},{"id":4},{"id":-5}]')
+        self.check(ran, 1, "5 documents: 3 new, 0 replaced, 2 refused", "in.jsonl:1, value 2 of the line: at id: -2", "in.jsonl:2, value 3 of the line: at id: -5")
 
     def test_the_id_of_the_document_gets_another_name(self) -> None:
         ran = self.load('{"n":7,"id":"A-7"}\n{"n":8,"id":1,"code":2}\n', "--key", "n", "--old-id", "code")
@@ -171,10 +202,10 @@ class Keys(LoadTest):
 
 class Fractions(LoadTest):
     def test_they_are_refused(self) -> None:
-        self.check(self.load(FRACTIONS), 1, "1 documents: 0 new, 0 replaced, 1 refused", "at price: 119.05")
+        self.check(self.load(FRACTIONS), 1, "1 document: 0 new, 0 replaced, 1 refused", "at price: 119.05")
 
     def test_they_are_kept_as_texts(self) -> None:
-        self.check(self.load(FRACTIONS, "--fractions", "text"), 0, "1 documents: 1 new, 0 replaced, 0 refused")
+        self.check(self.load(FRACTIONS, "--fractions", "text"), 0, "1 document: 1 new, 0 replaced, 0 refused")
         lines = '[{"p":"1.0"},{"p":"1e2"},{"p":"-0"},{"p":"9223372036854775808"}]'
         self.assertEqual(self.stored(), [f'{{"id":1,"lines":{lines},"n":5,"price":"119.05"}}'])
 
@@ -213,7 +244,6 @@ class Fractions(LoadTest):
 
 class BadInput(LoadTest):
     def test_files_that_cannot_be_read(self) -> None:
-        self.write("latin", "x")
         os.mkdir("folder")
         files = {
             "words": (b"once upon a time\n", "it is neither JSON objects nor CSV with a row of names: it begins with 'once upon"),
@@ -228,10 +258,14 @@ class BadInput(LoadTest):
             self.write(name, content)
         self.write("good", '{"id":1}')
         ran = self.tuplectl("store", "load", *files, "nowhere", "folder", "good")
-        self.check(ran, 3, "1 documents: 1 new, 0 replaced, 0 refused", *(f"not read: {name}: {why}" for name, (_, why) in files.items()))
+        self.check(ran, 3, "1 document: 1 new, 0 replaced, 0 refused", *(f"not read: {name}: {why}" for name, (_, why) in files.items()))
         self.assertIn("not read: nowhere: No such file or directory", ran.err)
         self.assertIn("not read: folder: Is a directory", ran.err)
         self.assertEqual(self.stored(), ['{"id":1}'])
+
+    def test_no_store_is_made_where_no_file_can_be_read(self) -> None:
+        self.check(self.tuplectl("store", "load", "nowhere"), 3, "0 documents: 0 new, 0 replaced, 0 refused", "not read: nowhere")
+        self.assertFalse(os.path.exists("store"))
 
     def test_a_line_in_another_encoding(self) -> None:
         ran = self.load(b'{"id":1}\n{"id":2,"a":"caf\xe9"}\n{"id":3}\n')
@@ -271,13 +305,13 @@ class BadInput(LoadTest):
                 self.write("in", content)
                 ran = self.tuplectl(f"s{number}", "load", "in")
                 self.assertEqual(ran.status, 1)
-                self.assertIn(f"in:1: {why}", ran.err)
+                self.assertRegex(ran.err, f"  in:1(, value [0-9] of the line)?: {re.escape(why)}")
                 self.assertEqual(self.tuplectl(f"s{number}", "count").out, f"{count}\n")
 
     def test_what_stands_after_a_value_on_its_line(self) -> None:
         """What looks like more members of the command is none."""
         ran = self.load('{"id":1},"doc":{"id":2}\n{"id":3}\n')
-        self.check(ran, 1, "3 documents: 2 new, 0 replaced, 1 refused", "in.jsonl:1: no JSON")
+        self.check(ran, 1, "3 documents: 2 new, 0 replaced, 1 refused", "in.jsonl:1, value 2 of the line: no JSON")
         self.assertEqual(self.stored(), ['{"id":1}', '{"id":3}'])
 
     def test_a_line_of_two_million_bytes(self) -> None:
@@ -291,7 +325,7 @@ class BadInput(LoadTest):
     def test_white_space_does_not_count(self) -> None:
         """A document of 1,500,000 bytes over lines that is short when it is compact."""
         ran = self.load(json.dumps({"id": 1, "a": [[0] * 100] * 100}, indent=60))
-        self.check(ran, 0, "1 documents: 1 new, 0 replaced, 0 refused")
+        self.check(ran, 0, "1 document: 1 new, 0 replaced, 0 refused")
 
     def test_values_that_lie_across_pieces(self) -> None:
         documents = [json.dumps({"id": key, "t": "é" * (key * 997 % 5000), "n": [key] * (key % 50)}, ensure_ascii=False) for key in range(400)]

@@ -262,8 +262,8 @@ class Ends(StoreTest):
         with Store("people", program=PROGRAM) as store:
             store.upsert(ADA)
             os.kill(store._process.pid, signal.SIGSTOP)
-            threading.Timer(0.1, os.kill, (os.getpid(), signal.SIGINT)).start()
             with self.assertRaises(KeyboardInterrupt):
+                threading.Timer(0.2, os.kill, (os.getpid(), signal.SIGINT)).start()
                 store.get(7)
             os.kill(store._process.pid, signal.SIGCONT)
             self.assertIsNone(store.get(8))

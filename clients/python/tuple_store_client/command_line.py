@@ -97,11 +97,12 @@ def open_store(asked: argparse.Namespace, words: Words, must_exist: bool = True)
 
 
 def _load(asked: argparse.Namespace) -> int:
+    if asked.old_id and asked.key == "id":
+        raise BadWords("--old-id goes with --key MEMBER, which makes another member the id")
     choices = Choices(asked.format, asked.key, asked.old_id, asked.fractions, asked.texts, asked.show)
     progress = Progress(sys.stderr) if sys.stderr.isatty() else None
     try:
-        with open_store(asked, LOAD, must_exist=False) as store:
-            report = load(store, asked.files, choices, progress)
+        report = load(lambda: open_store(asked, LOAD, must_exist=False), asked.files, choices, progress)
     finally:
         if progress:
             progress.end()

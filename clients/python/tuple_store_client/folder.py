@@ -46,11 +46,14 @@ def file_name(text: str) -> Optional[FileName]:
 
 def file_names(folder: str) -> List[FileName]:
     """The files of a partition folder: components by generation, then logs. What has such a name has to be a regular file."""
-    names = sorted(name for name in map(file_name, os.listdir(folder)) if name)
-    for name in names:
+    names = []
+    for name in sorted(name for name in map(file_name, os.listdir(folder)) if name):
         path = os.path.join(folder, str(name))
-        if not stat.S_ISREG(os.lstat(path).st_mode):
-            raise Damaged(path, 0, "it is no regular file")
+        # A program at work may have removed it meanwhile.
+        with contextlib.suppress(FileNotFoundError):
+            if not stat.S_ISREG(os.lstat(path).st_mode):
+                raise Damaged(path, 0, "it is no regular file")
+            names.append(name)
     return names
 
 

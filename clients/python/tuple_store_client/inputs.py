@@ -12,6 +12,7 @@ import itertools
 import json
 import os
 import re
+import shlex
 import sys
 from typing import Any, BinaryIO, Dict, Iterator, List, NamedTuple, Optional
 
@@ -40,10 +41,12 @@ class Item(NamedTuple):
     value: Any = None
     cause: str = ""
     why: str = ""
+    number: int = 1
 
     @property
     def place(self) -> str:
-        return f"{self.file}:{self.line}"
+        """Where it begins: the file and the line, and which value of the line it is, if it is not the first."""
+        return f"{self.file}:{self.line}" + (f", value {self.number:,} of the line" if self.number > 1 else "")
 
 
 class Input:
@@ -114,9 +117,10 @@ def _check_encoding(name: str, first: bytes) -> None:
     elif first.startswith((b"\xff\xfe", b"\xfe\xff")) or (b"\0" in first[:2] and len(first) > 1):
         found = "UTF-16"
     if found:
-        raise BadInput(f"{name}: its encoding is {found}, and not UTF-8: iconv -f {found} -t UTF-8 {name} | tuplectl FOLDER load -")
+        convert = f"iconv -f {found} -t UTF-8 {shlex.quote(name)}"
+        raise BadInput(f"{name}: its encoding is {found}, and not UTF-8: {convert} | tuplectl FOLDER load -")
     if first.startswith(b"\x1f\x8b"):
-        raise BadInput(f"{name}: it is compressed: zcat {name} | tuplectl FOLDER load -")
+        raise BadInput(f"{name}: it is compressed: zcat {shlex.quote(name)} | tuplectl FOLDER load -")
 
 
 class JsonValues:
@@ -134,6 +138,14 @@ class JsonValues:
         self._has_ended = False
 
     def items(self) -> Iterator[Item]:
+        """The values, each with its number among those that begin on its line."""
+        line, number = 0, 0
+        for item in self._values():
+            number = number + 1 if item.line == line else 1
+            line = item.line
+            yield item._replace(number=number)
+
+    def _values(self) -> Iterator[Item]:
         while self._next_sign():
             if self._text[self._at] == "[":
                 yield from self._array()

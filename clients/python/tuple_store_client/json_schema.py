@@ -5,6 +5,7 @@ from __future__ import annotations
 from typing import Any, Dict, Optional, Union
 
 from .schemas import Node, kinds_of
+from .wording import many
 
 DRAFT = "https://json-schema.org/draft/2020-12/schema"
 _TYPES = {"text": "string"}
@@ -19,7 +20,7 @@ def json_schema(schema: Optional[Node]) -> Dict[str, Any]:
     documents = _kind("object", schema)
     documents["properties"] = {"id": _KEY, **documents["properties"]}
     documents["required"] = ["id", *documents.get("required", [])]
-    return {**top, "$comment": f"{schema['count']} documents", **documents}
+    return {**top, "$comment": many(schema["count"], "document"), **documents}
 
 
 def _place(node: Optional[Node]) -> Union[Dict[str, Any], bool]:

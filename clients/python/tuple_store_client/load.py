@@ -2,6 +2,7 @@
 
 from __future__ import annotations
 
+import contextlib
 import dataclasses
 import time
 from collections import deque
@@ -10,8 +11,9 @@ from typing import Any, Callable, Deque, Dict, Iterator, List, Optional, Set, Te
 from .errors import REFUSALS, StoreFailed
 from .inputs import BadInput, Input, Item
 from .numbers import Unkept, as_texts, as_wrapped, plain_text
-from .reasons import ADVICE, reason, shown
+from .reasons import ADVICE, reason
 from .store import Store
+from .wording import many, shown
 
 #: What causes mean here: those of the loader, and those that the store says of lines.
 CAUSES = {
@@ -84,9 +86,7 @@ class Report:
 
     def lines(self) -> Iterator[str]:
         """What is said at the end, line by line."""
-        yield (
-            f"{self.documents:,} documents: {self.new:,} new, {self.replaced:,} replaced, {self.refused_count:,} refused"
-        )
+        yield f"{many(self.documents, 'document')}: {self.new:,} new, {self.replaced:,} replaced, {self.refused_count:,} refused"
         if self.again.count:
             yield f"{self.again.count:,} came twice in this load; the last one stands:"
             yield from self._examples(self.again)
@@ -110,28 +110,33 @@ class Report:
             yield f"  and {cause.count - len(cause.first):,} more"
 
 
-def load(store: Store, paths: List[str], choices: Choices, progress: Optional[Callable[[Input, Report], None]] = None) -> Report:
-    """Loads the files in their order. A file that cannot be read is noted, and the others are loaded."""
+def load(
+    open_store: Callable[[], Store],
+    paths: List[str],
+    choices: Choices,
+    progress: Optional[Callable[[Input, Report], None]] = None,
+) -> Report:
+    """Loads the files in their order. A file that cannot be read is noted, and the others are loaded. The store is opened for the
+    first one that can be read, so that a mistyped name makes no store."""
     report = Report(choices.examples)
-    loader = _Loader(store, choices, report)
-    for path in paths:
-        try:
-            source = Input(path)
-        except BadInput as error:
-            report.unread.append(str(error))
-            continue
-        try:
-            loader.load(source, progress)
-        except BadInput as error:
-            report.unread.append(str(error))
-        except StoreFailed as error:
-            report.failure, report.status = str(error), error.status
-            break
-        except KeyboardInterrupt:
-            report.failure, report.status = "stopped", 130
-            break
-        finally:
-            source.close()
+    loader: Optional[_Loader] = None
+    with contextlib.ExitStack() as closed_at_end:
+        for path in paths:
+            try:
+                with contextlib.closing(Input(path)) as source:
+                    items = source.items(choices.format, choices.key if choices.as_text else None)
+                    loader = loader or _Loader(closed_at_end.enter_context(open_store()), choices, report)
+                    loader.load(source, items, progress)
+            except BadInput as error:
+                report.unread.append(str(error))
+            except KeyboardInterrupt:
+                report.failure, report.status = "stopped", 130
+                break
+            except StoreFailed as error:
+                if loader is None:
+                    raise
+                report.failure, report.status = str(error), error.status
+                break
     return report
 
 
@@ -197,9 +202,9 @@ class _Loader:
         self._sent: Deque[Item] = deque()
         self._ids: Set[int] = set()
 
-    def load(self, source: Input, progress: Optional[Callable[[Input, Report], None]]) -> None:
+    def load(self, source: Input, items: Iterator[Item], progress: Optional[Callable[[Input, Report], None]]) -> None:
+        """Loads the values of a file."""
         self._sent.clear()
-        items = source.items(self._choices.format, self._choices.key if self._choices.as_text else None)
         for reply in self._store.exchange(self._lines(items)):
             self._take(self._sent.popleft(), reply)
             if progress:

@@ -6,6 +6,7 @@ import html
 from typing import Iterator, Optional
 
 from .schemas import Node, Place, kinds_of, places, tree
+from .wording import many
 
 COLOURS = {
     "null": "#b9bec6",
@@ -29,6 +30,7 @@ h1 { font-size: 1.3em; margin: 0 0 .3em } p { margin: .2em 0 1em; max-width: 60e
 .place span { font-size: .85em; color: #333 }
 @container (max-width: 70px) { .place > button > span { display: none } }
 @container (max-width: 42px) { .place > button { writing-mode: vertical-rl; padding: .3em 0 } }
+@container (max-width: 14px) { .place > button > b { display: none } }
 .key { display: flex; flex-wrap: wrap; gap: .3em 1em; margin: 0 0 1em } .key i { display: inline-block; width: 1em; height: 1em;
   border-radius: 3px; vertical-align: -.15em; margin-right: .3em }
 pre { overflow-x: auto; line-height: 1.25 } summary { cursor: pointer; margin-top: 1.5em }
@@ -62,7 +64,7 @@ def _lines(schema: Optional[Node], title: str) -> Iterator[str]:
         yield "<p>no documents</p>\n</html>"
         return
     yield (
-        f"<p>{schema['count']:,} documents. A row down is a step into them: into a member, or into the items of an array. "
+        f"<p>{many(schema['count'], 'document')}. A row down is a step into them: into a member, or into the items of an array. "
         "Of the places below one place, each is as wide as the count of its values. Point at a place to see its counts; "
         "click it to see it and what is below it in full width, and the topmost one to go back.</p>"
     )

@@ -7,9 +7,9 @@ from typing import Any, Iterator, Optional, Tuple
 
 from .errors import REFUSALS
 from .numbers import Constant, Unkept
+from .wording import member, shown
 
 MOST_DEPTH = 32
-MOST_SHOWN = 60
 #: What can be done about a refusal, for the command line.
 ADVICE = {
     "not_whole": '--fractions text keeps such numbers as texts, --fractions wrap as {"$float":"1.5"}, which get, find and dump '
@@ -76,15 +76,3 @@ def _fault(word: str, value: Any, depth: int) -> Optional[str]:
 
 def _has_half_pair(text: str) -> bool:
     return any("\ud800" <= sign <= "\udfff" for sign in text)
-
-
-def member(name: str, is_first: bool = False) -> str:
-    """A step to a member, as paths are written."""
-    plain = name.isidentifier()
-    return ("" if is_first else ".") + (name if plain else json.dumps(name, ensure_ascii=False))
-
-
-def shown(value: Any) -> str:
-    """A value as JSON, cut where it is long."""
-    text = str(value) if isinstance(value, (Unkept, Constant)) else json.dumps(value, ensure_ascii=True)
-    return text if len(text) <= MOST_SHOWN else text[: MOST_SHOWN - 3] + "..."

@@ -5,7 +5,7 @@ from __future__ import annotations
 import unicodedata
 from typing import Any, Dict, Iterator, List, NamedTuple, Optional, Tuple
 
-from .reasons import member
+from .wording import member
 
 Node = Dict[str, Any]
 KINDS = ["null", "boolean", "integer", "text", "array", "object"]

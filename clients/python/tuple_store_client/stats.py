@@ -12,6 +12,7 @@ from .components import Component
 from .errors import FilesDiffer
 from .logs import Log
 from .partition import Partition, partitions_of
+from .wording import many
 
 #: How often a store that changes meanwhile is looked at.
 LOOKS = 10
@@ -69,14 +70,14 @@ def stats_lines(report: List[Dict[str, Any]]) -> Iterator[str]:
     """The report as lines."""
     for partition in report:
         yield (
-            f"{partition['folder']}: {partition['documents_in_components']:,} documents in components, "
-            f"{partition['writes_in_logs']:,} writes in logs that are not flushed, {partition['names']:,} names"
+            f"{partition['folder']}: {many(partition['documents_in_components'], 'document')} in components, "
+            f"{many(partition['writes_in_logs'], 'write')} in logs, {many(partition['names'], 'name')}"
         )
         for it in partition["components"]:
             part = 100 * it["record_bytes"] // max(it["bytes"], 1)
-            yield _row(it, f"{it['format']}  {it['entries']:,} entries, {it['gone']:,} of them gone, {part}% records")
+            yield _row(it, f"{it['format']}  {many(it['entries'], 'entry', 'entries')}, {it['gone']:,} of them gone, {part}% records")
         for it in partition["logs"]:
-            yield _row(it, f"log   {it['writes']:,} writes in {it['frames']:,} frames")
+            yield _row(it, f"log   {many(it['writes'], 'write')} in {many(it['frames'], 'frame')}")
         for it in partition["superseded"]:
             yield _row(it, "not needed any more: the next start removes it")
         for name in partition["closed"]:
