@@ -80,9 +80,8 @@ class StoreTest(unittest.TestCase):
 
     def program(self, folder: str, lines: Sequence[str], *words: str) -> str:
         """What the program itself answers, which no code of the client touches."""
-        ran = subprocess.run(
-            [PROGRAM, folder, "run", *words], input="".join(it + "\n" for it in lines).encode(), stdout=subprocess.PIPE, check=True
-        )
+        given = "".join(it + "\n" for it in lines).encode()
+        ran = subprocess.run([PROGRAM, folder, "run", *words], input=given, stdout=subprocess.PIPE, check=True)
         return ran.stdout.decode()
 
     def write(self, path: str, content: "str | bytes") -> str:
@@ -153,5 +152,6 @@ def _kind(kind: str, values: List[Any]) -> Any:
         return {"count": len(values), "items": _place([item for it in values for item in it]), "kind": kind}
     if kind == "object":
         names = sorted({name for it in values for name in it}, key=str.encode)
-        return {"count": len(values), "fields": {name: _place([it[name] for it in values if name in it]) for name in names}, "kind": kind}
+        fields = {name: _place([it[name] for it in values if name in it]) for name in names}
+        return {"count": len(values), "fields": fields, "kind": kind}
     return {"count": len(values), "kind": kind}

@@ -30,10 +30,12 @@ READS = [["get", "1"], ["rm", "1"], ["count"], ["keys"], ["find", "a"], ["schema
 class Commands(StoreTest):
     def setUp(self) -> None:
         super().setUp()
-        self.assertEqual(self.tuplectl("people", "put", ADA, GRACE), (0, '{"id":7,"replaced":false}\n{"id":3,"replaced":false}\n', ""))
+        replies = '{"id":7,"replaced":false}\n{"id":3,"replaced":false}\n'
+        self.assertEqual(self.tuplectl("people", "put", ADA, GRACE), (0, replies, ""))
 
     def test_put(self) -> None:
-        self.assertEqual(self.tuplectl("people", "put", "-", stdin=GRACE + "\n" + ADA).out, '{"id":3,"replaced":true}\n{"id":7,"replaced":true}\n')
+        again = self.tuplectl("people", "put", "-", stdin=GRACE + "\n" + ADA)
+        self.assertEqual(again, (0, '{"id":3,"replaced":true}\n{"id":7,"replaced":true}\n', ""))
         refused = self.tuplectl("people", "put", '{"id":1,"p":[1.5]}', '{"id":2}', '{"id":')
         self.assertEqual((refused.status, refused.out), (1, '{"id":2,"replaced":false}\n'))
         self.assertIn("document 1:1: refused as not_whole: at p[0]: 1.5 is no whole number", refused.err)
@@ -175,8 +177,9 @@ class Words(StoreTest):
         self.assertIn("keeps the option --partitions 4, and its store has 5", ran.err)
 
     def test_options_that_are_none(self) -> None:
-        for words in (["--partitions", "17"], ["--memory", "1"], ["--window", "07x"], ["--docs", "-1"], ["--forget", "x"], ["--limit", "٣"]):
-            self.assertEqual(self.tuplectl("people", "words", *words).status, 2)
+        options = {"--partitions": "17", "--memory": "1", "--window": "07x", "--docs": "-1", "--forget": "x", "--limit": "٣"}
+        for option in options.items():
+            self.assertEqual(self.tuplectl("people", "words", *option).status, 2)
         self.assertFalse(os.path.exists("people"))
 
     def test_a_file_of_kept_options_that_is_none(self) -> None:
@@ -222,8 +225,10 @@ class Stores(StoreTest):
 
     def test_a_store_of_a_newer_format(self) -> None:
         self.write("people/p0/c-1-1", component(1, 1, [], [], b"\0", b"TCC3"))
-        self.refuses("people", 6, "people/p0/c-1-1: its format is TCC3, which this reader does not know: use a newer one", READS[2:4] + READS[6:])
-        self.refuses("people", 6, "the store ended with status 6: damaged file c-1-1 in partition 0 at byte 1", READS[:2] + READS[4:6])
+        by_reader = "people/p0/c-1-1: its format is TCC3, which this reader does not know: use a newer one"
+        self.refuses("people", 6, by_reader, READS[2:4] + READS[6:])
+        by_program = "the store ended with status 6: damaged file c-1-1 in partition 0 at byte 1"
+        self.refuses("people", 6, by_program, READS[:2] + READS[4:6])
 
     def test_a_store_that_is_damaged(self) -> None:
         content = bytearray(spelled(FIRST))
@@ -231,7 +236,8 @@ class Stores(StoreTest):
         self.write("people/p0/c-1-1", bytes(content))
         ran = self.tuplectl("people", "dump")
         self.assertEqual((ran.status, ran.out), (6, ""))
-        self.assertEqual(ran.err, "tuplectl: people/p0/c-1-1: damaged at byte 61: the record of the key 1 is damaged: a boolean is 2\n")
+        why = "people/p0/c-1-1: damaged at byte 61: the record of the key 1 is damaged: a boolean is 2"
+        self.assertEqual(ran.err, f"tuplectl: {why}\n")
         self.assertEqual(self.tuplectl("people", "get", "1").status, 6)
         os.rename("people/p0/c-1-1", "people/p0/c-2-2")
         self.refuses("people", 6, "c-2-2", [["dump"], ["stats"], ["keys"], ["backup", "copy"]])
@@ -292,7 +298,8 @@ class Processes(StoreTest):
         environment = {**os.environ, "PYTHONPATH": CLIENT, "TUPLE_STORE": PROGRAM}
         words = [sys.executable, "-m", "tuple_store_client", "people", "load", "-"]
         for stop, status, said in ((signal.SIGINT, 130, "stopped"), (signal.SIGKILL, -9, "")):
-            with subprocess.Popen(words, stdin=subprocess.PIPE, stdout=subprocess.PIPE, stderr=subprocess.PIPE, env=environment) as ran:
+            pipe = subprocess.PIPE
+            with subprocess.Popen(words, stdin=pipe, stdout=pipe, stderr=pipe, env=environment) as ran:
                 assert ran.stdin and ran.stderr
                 ran.stdin.write(b"".join(b'{"id":%d}\n' % key for key in range(50_000)))
                 ran.stdin.flush()
@@ -319,7 +326,8 @@ class Processes(StoreTest):
             self.assertIn(f"\n    {command} ", whole.out)
 
     def test_words_that_are_none(self) -> None:
-        for words in ([], ["people"], ["people", "nothing"], ["people", "get"], ["people", "get", "x"], ["people", "get", "-1"], ["people", "get", str(2**63)]):
+        ends: "list[list[str]]" = [[], ["nothing"], ["get"], ["get", "x"], ["get", "-1"], ["get", str(2**63)]]
+        for words in ([], *(["people", *end] for end in ends)):
             ran = self.tuplectl(*words)
             self.assertEqual((ran.status, ran.out), (2, ""))
             self.assertIn("usage: tuplectl", ran.err)
@@ -346,7 +354,8 @@ class Values(StoreTest):
                 hops(path)
 
     def test_numbers_of_programs_are_wrapped_and_given_back(self) -> None:
-        document = {"id": 1, "p": 119.05, "lines": [1.0, -0.0, 1e300, 5, True, None, "1.5"], "a": {"$float": "x"}, "b": {"$$float": 2.5}}
+        lines = [1.0, -0.0, 1e300, 5, True, None, "1.5"]
+        document = {"id": 1, "p": 119.05, "lines": lines, "a": {"$float": "x"}, "b": {"$$float": 2.5}}
         wrapped = wrap(document)
         self.assertEqual(wrapped["p"], {"$float": "119.05"})
         self.assertEqual(wrapped["a"], {"$$float": "x"})

@@ -57,18 +57,27 @@ class Dumps(StoreTest):
         rows = self.tuplectl(folder, "dump", "--rows")
         documents = self.tuplectl(folder, "dump")
         self.assertEqual((rows.status, rows.err, documents.status, documents.err), (0, "", 0, ""))
-        self.assertEqual([json.loads(line) for line in documents.out.split("\n")[:-1]], [plain[key] for key in sorted(plain)])
+        dumped = [json.loads(line) for line in documents.out.split("\n")[:-1]]
+        self.assertEqual(dumped, [plain[key] for key in sorted(plain)])
         self.assertEqual(self.tuplectl(folder, "keys").out, "".join(f"{key}\n" for key in sorted(plain)))
         self.assertEqual(self.tuplectl(folder, "count").out, f"{len(plain)}\n")
         words = ("--partitions", str(partitions))
         query = self.program(folder, ['{"op":"query","path":[]}'], *words)
-        self.assertTrue('{"rows":[' + ",".join(rows.out.split("\n")[:-1]) + "]}\n" == query, "the rows are not those of the query")
+        joined = '{"rows":[' + ",".join(rows.out.split("\n")[:-1]) + "]}\n"
+        self.assertTrue(joined == query, "the rows are not those of the query")
         gets = self.program(folder, [f'{{"op":"get","id":{key}}}' for key in sorted(plain)], *words)
-        self.assertTrue("".join(f'{{"doc":{line}}}\n' for line in documents.out.split("\n")[:-1]) == gets, "the documents differ")
+        replies = "".join(f'{{"doc":{line}}}\n' for line in documents.out.split("\n")[:-1])
+        self.assertTrue(replies == gets, "the documents are not those of the gets")
 
     def test_random_stores(self) -> None:
         # Partitions, bytes of a table, components of a merge, and its limit: small ones flush and merge often.
-        rows: List[Tuple[int, int, int, int]] = [(1, 4096, 2, 0), (1, 262144, 8, 0), (3, 4096, 4, 20000), (16, 4096, 8, 0), (2, 16777216, 4, 0)]
+        rows: List[Tuple[int, int, int, int]] = [
+            (1, 4096, 2, 0),
+            (1, 262144, 8, 0),
+            (3, 4096, 4, 20000),
+            (16, 4096, 8, 0),
+            (2, 16777216, 4, 0),
+        ]
         for number, (partitions, memory, merge, limit) in enumerate(rows):
             choice, plain, folder = random.Random(number), {}, f"store{number}"
             for _ in range(2):

@@ -200,7 +200,7 @@ class Damage(StoreTest):
 
     def test_no_regular_file(self) -> None:
         os.makedirs("store/p0/c-1-1")
-        with self.assertRaises(Damaged):
+        with self.assertRaises(FilesDiffer):
             list(dump("store"))
 
     def test_no_store(self) -> None:

@@ -88,7 +88,8 @@ class Formats(LoadTest):
             self.assertEqual(self.tuplectl(f"s{number}", "dump").out, '{"id":1,"n":"2,3"}\n')
 
     def test_csv_as_texts(self) -> None:
-        self.check(self.load("no,id,v\n1,A-1,5\n", "--texts", "--key", "no", "--old-id", "code", name="in.csv"), 0, "1 document: 1 new, 0 replaced, 0 refused")
+        ran = self.load("no,id,v\n1,A-1,5\n", "--texts", "--key", "no", "--old-id", "code", name="in.csv")
+        self.check(ran, 0, "1 document: 1 new, 0 replaced, 0 refused")
         self.assertEqual(self.stored(), ['{"code":"A-1","id":1,"no":1,"v":"5"}'])
 
     def test_bad_rows_of_csv(self) -> None:
@@ -105,7 +106,9 @@ class Formats(LoadTest):
         self.assertEqual(self.stored(), ['{"a":"x","id":1}', '{"a":"z","id":7}'])
 
     def test_a_name_twice_in_the_first_row(self) -> None:
-        self.check(self.load("id,a,a\n1,2,3\n", name="in.csv"), 3, "0 documents: 0 new, 0 replaced, 0 refused", "not read: in.csv: its first row has the name 'a' twice")
+        ran = self.load("id,a,a\n1,2,3\n", name="in.csv")
+        why = "not read: in.csv: its first row has the name 'a' twice"
+        self.check(ran, 3, "0 documents: 0 new, 0 replaced, 0 refused", why)
 
 
 class Refusals(LoadTest):
@@ -143,9 +146,9 @@ class Refusals(LoadTest):
         self.assertEqual(self.stored(), ['{"id":100}', '{"id":101}'])
 
     def test_ten_thousand_documents_with_fractions(self) -> None:
-        content = "".join(f'{{"id":{n},"price":{n}.{n % 100:02}}}\n' if n % 4 else f'{{"id":{n},"price":{n}}}\n' for n in range(10_000))
-        ran = self.load(content)
-        said = ("refused as not_whole: 7,500 (", "in.jsonl:2: at price: 1.01 is no whole number", "and 7,497 more", "--fractions wrap")
+        prices = [f"{n}.{n % 100:02}" if n % 4 else str(n) for n in range(10_000)]
+        ran = self.load("".join(f'{{"id":{n},"price":{price}}}\n' for n, price in enumerate(prices)))
+        said = ("refused as not_whole: 7,500 (", "in.jsonl:2: at price: 1.01 is no whole number", "and 7,497 more")
         self.check(ran, 1, "10,000 documents: 2,500 new, 0 replaced, 7,500 refused", *said)
         self.assertEqual(self.tuplectl("store", "count").out, "2500\n")
 
@@ -158,7 +161,8 @@ class Refusals(LoadTest):
     def test_an_id_that_comes_twice(self) -> None:
         self.load('{"id":1}\n{"id":5,"v":0}\n')
         ran = self.load('{"id":5,"v":1}\n{"id":6}\n{"id":5,"v":2}\n')
-        self.check(ran, 0, "3 documents: 1 new, 2 replaced, 0 refused", "1 came twice in this load; the last one stands:", "in.jsonl:3: the id 5")
+        said = ("1 came twice in this load; the last one stands:", "in.jsonl:3: the id 5")
+        self.check(ran, 0, "3 documents: 1 new, 2 replaced, 0 refused", *said)
         self.assertEqual(self.stored(), ['{"id":1}', '{"id":5,"v":2}', '{"id":6}'])
 
 
@@ -192,7 +196,8 @@ class Keys(LoadTest):
 
     def test_values_of_one_line_have_numbers(self) -> None:
         ran = self.load('[{"id":1},{"id":-2},\n{"id":3},{"id":4},{"id":-5}]')
-        self.check(ran, 1, "5 documents: 3 new, 0 replaced, 2 refused", "in.jsonl:1, value 2 of the line: at id: -2", "in.jsonl:2, value 3 of the line: at id: -5")
+        said = ("in.jsonl:1, value 2 of the line: at id: -2", "in.jsonl:2, value 3 of the line: at id: -5")
+        self.check(ran, 1, "5 documents: 3 new, 0 replaced, 2 refused", *said)
 
     def test_the_id_of_the_document_gets_another_name(self) -> None:
         ran = self.load('{"n":7,"id":"A-7"}\n{"n":8,"id":1,"code":2}\n', "--key", "n", "--old-id", "code")
@@ -218,10 +223,8 @@ class Fractions(LoadTest):
         ]
         self.check(self.load("\n".join(content), "--fractions", "wrap"), 0, "4 documents: 4 new, 0 replaced, 0 refused")
         wrapped = '{"$float":"9223372036854775808"}'
-        self.assertEqual(
-            self.stored()[0],
-            '{"id":1,"lines":[{"p":{"$float":"1.0"}},{"p":{"$float":"1e2"}},{"p":{"$float":"-0"}},{"p":' + wrapped + '}],"n":5,"price":{"$float":"119.05"}}',
-        )
+        lines = '[{"p":{"$float":"1.0"}},{"p":{"$float":"1e2"}},{"p":{"$float":"-0"}},{"p":' + wrapped + "}]"
+        self.assertEqual(self.stored()[0], '{"id":1,"lines":' + lines + ',"n":5,"price":{"$float":"119.05"}}')
         # The same texts, with members in ascending order.
         expected = [
             '{"id":1,"lines":[{"p":1.0},{"p":1e2},{"p":-0},{"p":9223372036854775808}],"n":5,"price":119.05}',
@@ -258,7 +261,8 @@ class BadInput(LoadTest):
             self.write(name, content)
         self.write("good", '{"id":1}')
         ran = self.tuplectl("store", "load", *files, "nowhere", "folder", "good")
-        self.check(ran, 3, "1 document: 1 new, 0 replaced, 0 refused", *(f"not read: {name}: {why}" for name, (_, why) in files.items()))
+        said = [f"not read: {name}: {why}" for name, (_, why) in files.items()]
+        self.check(ran, 3, "1 document: 1 new, 0 replaced, 0 refused", *said)
         self.assertIn("not read: nowhere: No such file or directory", ran.err)
         self.assertIn("not read: folder: Is a directory", ran.err)
         self.assertEqual(self.stored(), ['{"id":1}'])
@@ -272,7 +276,8 @@ class BadInput(LoadTest):
         self.check(ran, 1, "3 documents: 2 new, 0 replaced, 1 refused", "in.jsonl:2: not UTF-8: the byte e9", "iconv -f LATIN1")
 
     def test_lines_that_are_cut_off(self) -> None:
-        lines = ['{"id":1}', '{"id":2,"a":[1,2', '{"id":3}', '{"id":4,"a":"x', '{"id":5}', '{"id":6,"a":', '{"id":7', '{"id":8}', '{"id":9,"a']
+        lines = ['{"id":1}', '{"id":2,"a":[1,2', '{"id":3}', '{"id":4,"a":"x', '{"id":5}', '{"id":6,"a":', '{"id":7']
+        lines += ['{"id":8}', '{"id":9,"a']
         ran = self.load("\n".join(lines))
         said = [f"in.jsonl:{number}: no JSON" for number in (2, 4, 6, 7, 9)]
         self.check(self.load("\n".join(lines), "--show", "9"), 1, "9 documents: 0 new, 4 replaced, 5 refused", *said)
@@ -283,13 +288,15 @@ class BadInput(LoadTest):
         good = [json.dumps({"id": key, "in": {"id": 99, "v": [key, {"id": 98}]}}, indent=2) for key in (1, 2, 3)]
         broken = good[1].replace('"v": [', '"v": [,')
         ran = self.load("\n".join([good[0], broken, good[2]]))
-        self.check(ran, 1, "3 documents: 2 new, 0 replaced, 1 refused", "in.jsonl:13: no JSON", "(lines 13 to 24 were passed over)")
+        said = ("in.jsonl:13: no JSON", "(lines 13 to 24 were passed over)")
+        self.check(ran, 1, "3 documents: 2 new, 0 replaced, 1 refused", *said)
         self.assertEqual([json.loads(it)["id"] for it in self.stored()], [1, 3])
 
     def test_a_broken_value_in_an_array_over_lines(self) -> None:
         content = json.dumps([{"id": key, "v": [{"id": 98}]} for key in (1, 2, 3)], indent=2).replace('"id": 2,', '"id": 2')
         ran = self.load(content)
-        self.check(ran, 1, "3 documents: 2 new, 0 replaced, 1 refused", "in.jsonl:10: no JSON", "(lines 10 to 17 were passed over)")
+        said = ("in.jsonl:10: no JSON", "(lines 10 to 17 were passed over)")
+        self.check(ran, 1, "3 documents: 2 new, 0 replaced, 1 refused", *said)
         self.assertEqual([json.loads(it)["id"] for it in self.stored()], [1, 3])
 
     def test_arrays_that_are_broken(self) -> None:
@@ -328,9 +335,11 @@ class BadInput(LoadTest):
         self.check(ran, 0, "1 document: 1 new, 0 replaced, 0 refused")
 
     def test_values_that_lie_across_pieces(self) -> None:
-        documents = [json.dumps({"id": key, "t": "é" * (key * 997 % 5000), "n": [key] * (key % 50)}, ensure_ascii=False) for key in range(400)]
-        self.check(self.load("\n".join(documents)), 0, "400 documents: 400 new, 0 replaced, 0 refused")
+        documents = [{"id": key, "t": "é" * (key * 997 % 5000), "n": [key] * (key % 50)} for key in range(400)]
+        lines = "\n".join(json.dumps(it, ensure_ascii=False) for it in documents)
+        self.check(self.load(lines), 0, "400 documents: 400 new, 0 replaced, 0 refused")
         stored = self.stored()
-        self.assertEqual([json.loads(it) for it in stored], [json.loads(it) for it in documents])
-        self.check(self.load(json.dumps([json.loads(it) for it in documents], indent=3)), 0, "400 documents: 0 new, 400 replaced, 0 refused")
+        self.assertEqual([json.loads(it) for it in stored], documents)
+        ran = self.load(json.dumps(documents, indent=3))
+        self.check(ran, 0, "400 documents: 0 new, 400 replaced, 0 refused")
         self.assertEqual(self.stored(), stored)

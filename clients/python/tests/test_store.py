@@ -283,7 +283,10 @@ class Ends(StoreTest):
             store.get(1)
 
     def test_a_caller_that_is_killed_leaves_no_program(self) -> None:
-        script = "import sys, time, tuple_store_client as t; s = t.Store('people', program=sys.argv[1]); print(1, flush=True); time.sleep(60)"
+        script = (
+            "import sys, time, tuple_store_client as t; s = t.Store('people', program=sys.argv[1]); "
+            "print(1, flush=True); time.sleep(60)"
+        )
         environment = {**os.environ, "PYTHONPATH": CLIENT}
         with subprocess.Popen([sys.executable, "-c", script, PROGRAM], stdout=subprocess.PIPE, env=environment) as caller:
             caller.stdout.readline()  # type: ignore[union-attr]

@@ -136,7 +136,7 @@ _count = _number("count", 0, MOST_KEY)
 
 def _load(command: argparse.ArgumentParser) -> None:
     command.add_argument("files", nargs="+", metavar="FILE", help="a file, or - for standard input")
-    command.add_argument("--format", choices=("json", "csv"), help="what the files have (else it is told by how they begin)")
+    command.add_argument("--format", choices=("json", "csv"), help="what the files have (else decided by how they begin)")
     command.add_argument("--key", default="id", metavar="MEMBER", help="which member is the key; it stays a member too")
     command.add_argument("--old-id", metavar="NAME", help="with --key: the name for the id that a document has")
     command.add_argument("--texts", action="store_true", help="of CSV: only the key is a number, all else are texts")

@@ -29,7 +29,9 @@ from .words import BadWords, Words, keep_words, kept_words
 RUN = Words(merge=8, limit=268435456)
 LOAD = Words(window=1024, memory=16777216).over(RUN)
 
-DONE, REFUSED, USAGE, INPUT, OUTPUT, DISK, DAMAGED, PARTITIONS, NO_STORE, NO_PROGRAM, STOPPED = 0, 1, 2, 3, 4, 5, 6, 8, 10, 11, 130
+# The exit statuses, as the help has them. Those from 2 to 9 mean what they mean of the program.
+DONE, REFUSED, USAGE, INPUT, OUTPUT, DISK, DAMAGED, PARTITIONS = 0, 1, 2, 3, 4, 5, 6, 8
+NO_STORE, NO_PROGRAM, STOPPED = 10, 11, 130
 
 _STATUSES = {
     Refused: REFUSED,
@@ -225,7 +227,8 @@ def _wanted(asked: argparse.Namespace) -> Any:
 def _refusing(value: Any) -> Any:
     """The value, if the store can have it."""
     if plain_text(value) != json_text(value):
-        raise ValueError(f"--eq {plain_text(value)}: the store has whole numbers of 64 bits alone (--fractions wrap looks for a fraction)")
+        why = "the store has whole numbers of 64 bits alone (--fractions wrap looks for a fraction)"
+        raise ValueError(f"--eq {plain_text(value)}: {why}")
     return value
 
 

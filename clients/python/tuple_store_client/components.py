@@ -1,4 +1,4 @@
-"""Component files, read as `docs/formats/component.md` has them, with their names and schema. No record is read at the opening."""
+"""Component files, read as `docs/formats/component.md` has them, with their names and schema. Opening one reads no record."""
 
 from __future__ import annotations
 

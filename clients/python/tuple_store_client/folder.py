@@ -1,7 +1,7 @@
 """The folder of a store: its partition folders, what files they hold, and the store's own lock.
 
-Partition n has the folder `pn`. A program that has it open holds that folder by `flock`. A reader takes the same lock shared, so
-that several may read at once, and no program opens the store meanwhile.
+Partition n has the folder `pn`. A program that has it open holds that folder by `flock`. A reader takes the same lock shared,
+so that several may read at once, and no program opens the store meanwhile.
 """
 
 from __future__ import annotations
@@ -14,7 +14,7 @@ import re
 import stat
 from typing import Iterator, List, NamedTuple, Optional
 
-from .errors import Damaged, Held, NoStore, PartitionsDiffer
+from .errors import FilesDiffer, Held, NoStore, PartitionsDiffer
 
 LAST_GENERATION = (1 << 63) - 1
 _COMPONENT = re.compile(r"c-([1-9][0-9]*)-([1-9][0-9]*)")
@@ -52,7 +52,7 @@ def file_names(folder: str) -> List[FileName]:
         # A program at work may have removed it meanwhile.
         with contextlib.suppress(FileNotFoundError):
             if not stat.S_ISREG(os.lstat(path).st_mode):
-                raise Damaged(path, 0, "it is no regular file")
+                raise FilesDiffer(f"{path} is no regular file")
             names.append(name)
     return names
 

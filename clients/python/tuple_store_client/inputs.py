@@ -1,6 +1,6 @@
 """What a loader reads: the values of a file, one after the other, each with the place where it stands.
 
-JSON may be one value a line, one array, or several values that are spread over lines; they are told apart as they come. After a
+JSON may be one value a line, one array, or several values that are spread over lines; each is recognised as it comes. After a
 value that is broken, reading goes on at the next line that begins as its first line does. CSV has the names in its first row.
 """
 
@@ -96,7 +96,8 @@ class Input:
             return "json"
         if _delimiter(first_line) in first_line and not self.name.endswith((".json", ".jsonl", ".ndjson")):
             return "csv"
-        raise BadInput(f"{self.name}: it is neither JSON objects nor CSV with a row of names: it begins with {first_line[:40]!r}")
+        begin = repr(first_line[:40])
+        raise BadInput(f"{self.name}: it is neither JSON objects nor CSV with a row of names: it begins with {begin}")
 
     def items(self, format: Optional[str], whole: Optional[str] = None) -> Iterator[Item]:
         """The values of the file. Of CSV only the column `whole` is read as numbers, where one is named."""

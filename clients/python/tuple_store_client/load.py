@@ -86,7 +86,8 @@ class Report:
 
     def lines(self) -> Iterator[str]:
         """What is said at the end, line by line."""
-        yield f"{many(self.documents, 'document')}: {self.new:,} new, {self.replaced:,} replaced, {self.refused_count:,} refused"
+        counts = f"{self.new:,} new, {self.replaced:,} replaced, {self.refused_count:,} refused"
+        yield f"{many(self.documents, 'document')}: {counts}"
         if self.again.count:
             yield f"{self.again.count:,} came twice in this load; the last one stands:"
             yield from self._examples(self.again)
@@ -116,8 +117,8 @@ def load(
     choices: Choices,
     progress: Optional[Callable[[Input, Report], None]] = None,
 ) -> Report:
-    """Loads the files in their order. A file that cannot be read is noted, and the others are loaded. The store is opened for the
-    first one that can be read, so that a mistyped name makes no store."""
+    """Loads the files in their order. A file that cannot be read is noted, and the others are loaded. The store is opened for
+    the first one that can be read, so that a mistyped name makes no store."""
     report = Report(choices.examples)
     loader: Optional[_Loader] = None
     with contextlib.ExitStack() as closed_at_end:
@@ -211,16 +212,20 @@ class _Loader:
                 progress(source, self._report)
 
     def _lines(self, items: Iterator[Item]) -> Iterator[bytes]:
-        """The commands of the values that are documents; the others are refused here."""
-        for item in items:
-            self._report.documents += 1
-            try:
-                sent = made(item, self._choices)
-            except Unfit as error:
-                self._report.refuse(error.cause, item, str(error))
-                continue
-            self._sent.append(sent)
-            yield upsert_line(sent)
+        """The commands of the values that are documents; the others are refused here. A file that cannot be read any further
+        ends there, and what was sent of it is answered."""
+        try:
+            for item in items:
+                self._report.documents += 1
+                try:
+                    sent = made(item, self._choices)
+                except Unfit as error:
+                    self._report.refuse(error.cause, item, str(error))
+                    continue
+                self._sent.append(sent)
+                yield upsert_line(sent)
+        except BadInput as error:
+            self._report.unread.append(str(error))
 
     def _take(self, item: Item, reply: bytes) -> None:
         """Counts the reply to a document."""

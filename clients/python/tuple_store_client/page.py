@@ -24,7 +24,8 @@ h1 { font-size: 1.3em; margin: 0 0 .3em } p { margin: .2em 0 1em; max-width: 60e
 .place { flex: 1 1 0; min-width: 0; container-type: inline-size }
 .place.out { display: none }
 .place > button { display: block; width: 100%; height: 4.6em; padding: .3em .4em; border: 1px solid #fff; border-radius: 3px;
-  font: inherit; text-align: left; overflow: hidden; white-space: nowrap; text-overflow: ellipsis; cursor: pointer; color: #222 }
+  font: inherit; text-align: left; overflow: hidden; white-space: nowrap; text-overflow: ellipsis; cursor: pointer;
+  color: #222 }
 .place > button:hover, .place > button:focus-visible { outline: 2px solid #333; outline-offset: -2px }
 .place b, .place span { display: block; overflow: hidden; text-overflow: ellipsis }
 .place span { font-size: .85em; color: #333 }
@@ -64,15 +65,16 @@ def _lines(schema: Optional[Node], title: str) -> Iterator[str]:
         yield "<p>no documents</p>\n</html>"
         return
     yield (
-        f"<p>{many(schema['count'], 'document')}. A row down is a step into them: into a member, or into the items of an array. "
-        "Of the places below one place, each is as wide as the count of its values. Point at a place to see its counts; "
-        "click it to see it and what is below it in full width, and the topmost one to go back.</p>"
+        f"<p>{many(schema['count'], 'document')}. A row down is a step into them: into a member, or into the items of an "
+        "array. Of the places below one place, each is as wide as the count of its values. Point at a place to see its "
+        "counts; click it to see it and what is below it in full width, and the topmost one to go back.</p>"
     )
     yield '<div class="key">' + "".join(_key(kind, colour) for kind, colour in COLOURS.items()) + "</div>"
     yield '<div class="icicle">'
     yield from _boxes(places(schema))
     yield "</div>"
-    yield "<details>\n<summary>The same as a tree</summary>\n<pre>" + html.escape("\n".join(tree(schema))) + "</pre>\n</details>"
+    as_tree = html.escape("\n".join(tree(schema)))
+    yield f"<details>\n<summary>The same as a tree</summary>\n<pre>{as_tree}</pre>\n</details>"
     yield f"<script>\n{_SCRIPT}\n</script>\n</html>"
 
 
@@ -82,10 +84,10 @@ def _key(kind: str, colour: str) -> str:
 
 def _boxes(place: Place) -> Iterator[str]:
     """A place as a box, and below it those of the places one step on."""
-    told = html.escape(f"{place.path or 'documents'}\n{place.count:,} ({place.share})\n{place.kinds}", quote=True)
+    title = html.escape(f"{place.path or 'documents'}\n{place.count:,} ({place.share})\n{place.kinds}", quote=True)
     counts = f"{place.count:,} · {place.share}" if place.depth else f"{place.count:,}"
     yield (
-        f'<div class="place" style="flex-grow:{place.count}"><button title="{told}" style="background:{_background(place)}">'
+        f'<div class="place" style="flex-grow:{place.count}"><button title="{title}" style="background:{_background(place)}">'
         f"<b>{html.escape(place.label)}</b><span>{counts}</span><span>{html.escape(place.kinds)}</span></button>"
     )
     if place.below:

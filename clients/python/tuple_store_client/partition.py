@@ -80,7 +80,8 @@ def read_partition(folder: str, number: int, count: int) -> Partition:
             continue
         file: Union[Component, Log] = Log(path, name, content) if name.is_log else Component(path, name, content)
         if (file.partition, file.of) != (number, count):
-            raise PartitionsDiffer(f"{path} is a file of partition {file.partition} of {file.of}, and not of {number} of {count}")
+            found = f"{file.partition} of {file.of}"
+            raise PartitionsDiffer(f"{path} is a file of partition {found}, and not of {number} of {count}")
         (logs if isinstance(file, Log) else components).append(file)  # type: ignore[arg-type]
     maximal = [it for it in components if not any(_lies_within(it.name, other.name) for other in components)]
     last = maximal[-1].name.last if maximal else 0

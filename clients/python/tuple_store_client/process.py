@@ -32,8 +32,9 @@ class Process:
 
     def __init__(self, words: Sequence[str]) -> None:
         # A session of its own: Ctrl-C ends the caller, which then closes the store, and not both at once.
+        pipe = subprocess.PIPE
         self._run = subprocess.Popen(
-            list(words), bufsize=0, stdin=subprocess.PIPE, stdout=subprocess.PIPE, stderr=subprocess.PIPE, start_new_session=True
+            list(words), bufsize=0, stdin=pipe, stdout=pipe, stderr=pipe, start_new_session=True
         )
         assert self._run.stdin and self._run.stdout and self._run.stderr
         self._input, self._output, self._errors = self._run.stdin, self._run.stdout, self._run.stderr
@@ -107,7 +108,7 @@ class Process:
         except BlockingIOError:
             return
         except BrokenPipeError:
-            # The program ended. What it answered before is read first; then its status is told.
+            # The program ended. What it answered before is read first, and then its status.
             self._unsent.clear()
             return
         del self._unsent[:written]

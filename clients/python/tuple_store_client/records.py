@@ -40,7 +40,8 @@ def columns_in(record: bytes, form: int, dictionary: Sequence[str]) -> Columns:
         raise NotARecord("it is shorter than a header")
     total, found, tags, fixed, texts, text_width, slots, slot_width = _HEADER.unpack_from(record)
     if total != len(record) or found != form:
-        raise NotARecord(f"its header has the form {found} and {total:,} bytes, where it is of form {form} and has {len(record):,}")
+        header = f"its header has the form {found} and {total:,} bytes"
+        raise NotARecord(f"{header}, where it is of form {form} and has {len(record):,}")
     at = _HEADER.size + tags + fixed
     lengths, at = _numbers(record, at, texts, text_width, form)
     text_column, at = _pieces(record, at, lengths)

@@ -75,7 +75,8 @@ def stats_lines(report: List[Dict[str, Any]]) -> Iterator[str]:
         )
         for it in partition["components"]:
             part = 100 * it["record_bytes"] // max(it["bytes"], 1)
-            yield _row(it, f"{it['format']}  {many(it['entries'], 'entry', 'entries')}, {it['gone']:,} of them gone, {part}% records")
+            entries = many(it["entries"], "entry", "entries")
+            yield _row(it, f"{it['format']}  {entries}, {it['gone']:,} of them gone, {part}% records")
         for it in partition["logs"]:
             yield _row(it, f"log   {many(it['writes'], 'write')} in {many(it['frames'], 'frame')}")
         for it in partition["superseded"]:

@@ -136,7 +136,7 @@ class Store:
         self._scan_is_out = False
         self._is_busy = False
         self._process = Process([program_path(program), self.folder, "run", *words.arguments()])
-        # The first reply comes once the store is open: a store that cannot be opened is told here.
+        # The first reply comes once the store is open: a store that cannot be opened raises here.
         self._settle()
 
     def upsert(self, doc: Document) -> bool:
