@@ -212,7 +212,7 @@ class Stores(StoreTest):
         self.tuplectl("people", "put", '{"id":1}')
         os.rename("people/p1", "elsewhere")
         commands = [*READS, ["put", '{"id":1}'], ["load", "-"]]
-        self.refuses("people", 8, "people has the folders of 1 partitions, and the files in p0 are of a store of 2", commands)
+        self.refuses("people", 8, "people has the folders of 1 partition, and the files in p0 are of a store of 2", commands)
         os.rename("people/p0", "people/p1")
         self.refuses("people", 8, "people: the folder p0 of a partition is missing", commands)
 

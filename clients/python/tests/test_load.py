@@ -98,12 +98,16 @@ class Formats(LoadTest):
         said = (
             "in.csv:3: the row has 3 fields, and the first one 2",
             "in.csv:4: the row has 1 fields, and the first one 2",
-            "in.csv:5: no CSV",
+            "in.csv:5: no CSV: ",
             "in.csv:6: at a: 1.5 is no whole number",
             "in.csv:7: not UTF-8: the byte e9",
         )
         self.check(ran, 1, "7 documents: 2 new, 0 replaced, 5 refused", *said)
         self.assertEqual(self.stored(), ['{"a":"x","id":1}', '{"a":"z","id":7}'])
+
+    def test_a_field_of_csv_that_is_not_closed(self) -> None:
+        ran = self.load('id,a\n1,x\n2,"y\n3,z\n', name="in.csv")
+        self.check(ran, 1, "2 documents: 1 new, 0 replaced, 1 refused", "in.csv:3: no CSV: ", "(lines 3 to 4 were passed over)")
 
     def test_a_name_twice_in_the_first_row(self) -> None:
         ran = self.load("id,a,a\n1,2,3\n", name="in.csv")
@@ -119,7 +123,7 @@ class Refusals(LoadTest):
             '{"id":3,"n":-9223372036854775809}': ("not_whole", "at n: -9223372036854775809 is no"),
             '{"id":1.5}': ("not_whole", "at id: 1.5 is no"),
             '{"name":"Ada","x":1}': ("key", "the document has no id (its members are name, x)"),
-            "{}": ("key", "the document has no member"),
+            "{}": ("key", "the document has no id and no other member"),
             '{"id":"A-17"}': ("key", 'at id: "A-17" is no number'),
             '{"id":true}': ("key", "at id: true is no number"),
             '{"id":-4}': ("key", "at id: -4 is negative"),
@@ -132,9 +136,10 @@ class Refusals(LoadTest):
             '{"id":8,"a":"\\ud800"}': ("malformed", 'at a: "\\ud800" has half a surrogate pair'),
             '{"id":9,"\\udc00":1}': ("malformed", 'the name "\\udc00" has half a surrogate pair'),
             '{"id":10,}': ("malformed", "no JSON: "),
-            '{"id":11,"a":"x\ty"}': ("malformed", "no JSON: invalid control character, column 16"),
+            '{"id":11,"a":"x\ty"}': ("malformed", 'no JSON: invalid control character, at column 16 of {"id":11,"a":"x\ty"}'),
             '{"id":12,"big":"' + "x" * 2_000_000 + '"}': ("oversized", "the document has 2,000,018 bytes as a line"),
             '{"id":13,"a":' + "[" * 100_000: ("malformed", "it nests too deep to be read"),
+            '{"id":14,"a":' + "[" * 900 + "]" * 900 + "}": ("too_deep", "nests"),
         }
         ran = self.load('{"id":100}\n' + "\n".join(lines) + '\n{"id":101}\n', "--show", "99")
         count = len(lines)
@@ -187,7 +192,7 @@ class Failures(LoadTest):
 class Keys(LoadTest):
     def test_another_member_is_the_key(self) -> None:
         ran = self.load('{"number":7,"a":1}\n{"a":2}\n{"number":"x"}\n{"number":8,"id":"A-8"}\n', "--key", "number")
-        said = ("in.jsonl:2: the document has no member number", 'in.jsonl:3: at id: "x"', 'in.jsonl:4: at id: "A-8"', "--old-id NAME")
+        said = ("in.jsonl:2: the document has no number (its members are a)", 'in.jsonl:3: at id: "x"', 'in.jsonl:4: at id: "A-8"', "--old-id NAME")
         self.check(ran, 1, "4 documents: 1 new, 0 replaced, 3 refused", *said)
         self.assertEqual(self.stored(), ['{"a":1,"id":7,"number":7}'])
 
@@ -208,6 +213,15 @@ class Keys(LoadTest):
 class Fractions(LoadTest):
     def test_they_are_refused(self) -> None:
         self.check(self.load(FRACTIONS), 1, "1 document: 0 new, 0 replaced, 1 refused", "at price: 119.05")
+
+    def test_what_nests_deep_is_refused(self) -> None:
+        for number in range(30, 1000, 97):
+            deep = '{"id":1,"a":' + "[" * number + "1.5" + "]" * number + "}"
+            for convention in ("refuse", "text", "wrap"):
+                ran = self.load(deep, "--fractions", convention)
+                stored = int(number <= 31 and convention == "text" or number <= 30 and convention == "wrap")
+                self.check(ran, 1 - stored, f"1 document: {stored} new, 0 replaced, {1 - stored} refused")
+                self.tuplectl("store", "rm", "1")
 
     def test_they_are_kept_as_texts(self) -> None:
         self.check(self.load(FRACTIONS, "--fractions", "text"), 0, "1 document: 1 new, 0 replaced, 0 refused")

@@ -15,6 +15,7 @@ import stat
 from typing import Iterator, List, NamedTuple, Optional
 
 from .errors import FilesDiffer, Held, NoStore, PartitionsDiffer
+from .wording import many
 
 LAST_GENERATION = (1 << 63) - 1
 _COMPONENT = re.compile(r"c-([1-9][0-9]*)-([1-9][0-9]*)")
@@ -80,7 +81,7 @@ def _check_count(folder: str, count: int) -> None:
         kept = _kept_count(os.path.join(folder, f"p{number}"))
         if kept is not None and kept != count:
             raise PartitionsDiffer(
-                f"{folder} has the folders of {count} partitions, and the files in p{number} are of a store of {kept}"
+                f"{folder} has the folders of {many(count, 'partition')}, and the files in p{number} are of a store of {kept}"
             )
 
 

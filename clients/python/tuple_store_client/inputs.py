@@ -185,7 +185,7 @@ class JsonValues:
             except json.JSONDecodeError as error:
                 if self._may_go_on(error) and self._more():
                     continue
-                return self._broken(_words_of(error, self._line, self._text.count("\n", self._at, error.pos)))
+                return self._broken(_words_of(error, self._at, self._line))
             except RecursionError:
                 return self._broken("it nests too deep to be read")
             if end == len(self._text) and not isinstance(value, (dict, list)) and self._more():
@@ -204,7 +204,7 @@ class JsonValues:
 
     def _broken(self, why: str) -> Item:
         """Passes over a broken value: up to the next line that begins as its first one does."""
-        line, text = self._line, self._text[self._at : self._at + 80]
+        line, text = self._line, self._text[self._at : self._at + 1]
         following = re.compile("\n" + self._indent + r"[{\[]")
         last, self._passed = line, self._passed + 1
         while True:
@@ -256,19 +256,30 @@ class JsonValues:
         return is_longer
 
 
-def _words_of(error: json.JSONDecodeError, line: int, lines: int) -> str:
-    if error.doc[error.pos : error.pos + 1] == "\n" and "control character" in error.msg:
+def _words_of(error: json.JSONDecodeError, begin: int, line: int) -> str:
+    """What is wrong with a value that begins at this place, in this line."""
+    text, place = error.doc, error.pos
+    if text[place : place + 1] == "\n" and "control character" in error.msg:
         what = "a text is cut off at the end of its line"
     else:
         what = (error.msg[0].lower() + error.msg[1:]).removesuffix(" at")
-    return f"no JSON: {what}, column {error.colno}" + (f" of line {line + lines}" if lines else "")
+    lines = text.count("\n", begin, place)
+    if lines:
+        return f"no JSON: {what}, at column {place - text.rfind(chr(10), begin, place)} of line {line + lines}"
+    return f"no JSON: {what}, at column {place - begin + 1} of {_beginning(text[begin : begin + 80])}"
+
+
+def _beginning(text: str) -> str:
+    """The first line of a text, cut where it is long."""
+    line = text.split("\n")[0]
+    return line if len(line) <= 40 else line[:37] + "..."
 
 
 def _no_utf8(text: str) -> str:
     found = _NOT_UTF8.search(text)
     assert found
     byte, column = ord(found[0]) - 0xDC00, found.start() + 1
-    return f"not UTF-8: the byte {byte:02x} at column {column} of it (if it is Latin-1: iconv -f LATIN1 -t UTF-8)"
+    return f"not UTF-8: the byte {byte:02x} at column {column} of the value (if it is Latin-1: iconv -f LATIN1 -t UTF-8)"
 
 
 def csv_items(name: str, pieces: Iterator[str], whole: Optional[str]) -> Iterator[Item]:
@@ -287,7 +298,8 @@ def csv_items(name: str, pieces: Iterator[str], whole: Optional[str]) -> Iterato
         try:
             row = next(reader, None)
         except csv.Error as error:
-            yield Item(name, line, "", None, "malformed", f"no CSV: {error}")
+            passed = f" (lines {line} to {reader.line_num} were passed over)" if reader.line_num > line else ""
+            yield Item(name, line, "", None, "malformed", f"no CSV: {error}{passed}")
             continue
         if row is None:
             return

@@ -11,7 +11,7 @@ from typing import Any, Callable, Deque, Dict, Iterator, List, Optional, Set, Te
 from .errors import REFUSALS, StoreFailed
 from .inputs import BadInput, Input, Item
 from .numbers import Unkept, as_texts, as_wrapped, plain_text
-from .reasons import ADVICE, reason
+from .reasons import ADVICE, no_member, reason
 from .store import Store
 from .wording import many, shown
 
@@ -71,6 +71,7 @@ class Report:
     failure: Optional[str] = None
     status: int = 0
     last_place: str = ""
+    has_all_ids: bool = True
 
     @property
     def refused_count(self) -> int:
@@ -89,7 +90,8 @@ class Report:
         counts = f"{self.new:,} new, {self.replaced:,} replaced, {self.refused_count:,} refused"
         yield f"{many(self.documents, 'document')}: {counts}"
         if self.again.count:
-            yield f"{self.again.count:,} came twice in this load; the last one stands:"
+            known = "" if self.has_all_ids else f" (of the first {MOST_IDS:,} ids)"
+            yield f"{self.again.count:,} came twice in this load{known}; the last one stands:"
             yield from self._examples(self.again)
         for word, cause in self.refused.items():
             yield f"refused as {word}: {cause.count:,} ({CAUSES[word]})"
@@ -145,6 +147,13 @@ def made(item: Item, choices: Choices) -> Item:
     """A value as it is sent. It is sent as it stands, if nothing about it changes and it is not too long."""
     if item.cause:
         raise Unfit(item.cause, item.why)
+    try:
+        return _made(item, choices)
+    except RecursionError:
+        raise Unfit("too_deep", "it nests too deep to be looked through") from None
+
+
+def _made(item: Item, choices: Choices) -> Item:
     value = item.value
     if isinstance(value, dict) and (choices.key != "id" or choices.fractions != "refuse"):
         value = _without_fractions(_with_key(value, choices), choices)
@@ -172,8 +181,7 @@ def _with_key(document: Dict[str, Any], choices: Choices) -> Dict[str, Any]:
     if choices.key == "id":
         return document
     if choices.key not in document:
-        names = ", ".join(list(document)[:6])
-        raise Unfit("key", f"the document has no member {choices.key} (its members are {names})")
+        raise Unfit("key", no_member(document, choices.key))
     kept = dict(document)
     if "id" in document:
         if choices.old_id is None or choices.old_id in document:
@@ -244,6 +252,8 @@ class _Loader:
             report.note(report.again, f"{item.place}: the id {key}")
         elif len(self._ids) < MOST_IDS:
             self._ids.add(key)
+        else:
+            report.has_all_ids = False
 
 
 class Progress:

@@ -27,7 +27,10 @@ def reason(word: str, document: Any, size: int) -> str:
         return f"the document has {size:,} bytes as a line, and at most 1,048,576 with its command are taken"
     if word == "key":
         return _key_reason(document)
-    found = next(_places(word, document, "", 1), None)
+    try:
+        found = next(_places(word, document, "", 1), None)
+    except RecursionError:
+        return "it nests too deep to be looked through"
     if found:
         return f"at {found[0] or 'the top'}: {found[1]}"
     if word == "unknown":
@@ -37,11 +40,16 @@ def reason(word: str, document: Any, size: int) -> str:
 
 def _key_reason(document: Any) -> str:
     if "id" not in document:
-        names = ", ".join(list(document)[:6])
-        return f"the document has no id (its members are {names})" if names else "the document has no member"
+        return no_member(document, "id")
     key = document["id"]
     is_negative = isinstance(key, int) and not isinstance(key, bool) and key < 0
     return f"at id: {shown(key)} is " + ("negative" if is_negative else "no number")
+
+
+def no_member(document: Any, name: str) -> str:
+    """That a document lacks a member, with those that it has."""
+    names = ", ".join(list(document)[:6])
+    return f"the document has no {name}" + (f" (its members are {names})" if names else " and no other member")
 
 
 def _places(word: str, value: Any, path: str, depth: int) -> Iterator[Tuple[str, str]]:

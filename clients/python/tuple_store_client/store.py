@@ -180,13 +180,16 @@ class Store:
 
     def collect(self) -> Collected:
         """Waits for the scan, and gives its rows."""
-        self._scan_is_out = False
-        reply = self._control(COLLECT)
-        return Collected(_rows(reply), reply["upto"])
+        with self._alone():
+            self._scan_is_out = False
+            self._process.send(COLLECT)
+            reply = _accepted(json.loads(self._process.reply()))
+            return Collected(_rows(reply), reply["upto"])
 
     def batch(self, commands: Iterable[Command]) -> Generator[Reply, None, None]:
         """Sends the commands, and gives their replies in order while more are sent; a refusal is given, and not raised. All
-        writes whose replies were given are durable. Who stops early stops the sending, and what was sent is still done."""
+        writes whose replies were given are durable. Nothing is sent before the first reply is asked for. Who stops early stops
+        the sending, and what was sent is still done."""
         lines = (json_line(_command_of(command)) for command in commands)
         with contextlib.closing(self.exchange(lines)) as replies:
             for reply in replies:
