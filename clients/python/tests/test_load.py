@@ -127,7 +127,7 @@ class Refusals(LoadTest):
             '{"id":"A-17"}': ("key", 'at id: "A-17" is no number'),
             '{"id":true}': ("key", "at id: true is no number"),
             '{"id":-4}': ("key", "at id: -4 is negative"),
-            '{"id":5,"a":' + "[" * 32 + "]" * 32 + "}": ("too_deep", "at a" + "[0]" * 31 + ": it nests more than 32 deep"),
+            '{"id":5,"a":' + "[" * 32 + "]" * 32 + "}": ("too_deep", "at a" + "[0]" * 18 + "[0...: it nests more than 32 deep"),
             '"text"': ("unknown", 'a document has to be an object, and this is "text"'),
             "17": ("unknown", "and this is 17"),
             "null": ("unknown", "and this is null"),
@@ -139,7 +139,7 @@ class Refusals(LoadTest):
             '{"id":11,"a":"x\ty"}': ("malformed", 'no JSON: invalid control character, at column 16 of {"id":11,"a":"x\ty"}'),
             '{"id":12,"big":"' + "x" * 2_000_000 + '"}': ("oversized", "the document has 2,000,018 bytes as a line"),
             '{"id":13,"a":' + "[" * 100_000: ("malformed", "it nests too deep to be read"),
-            '{"id":14,"a":' + "[" * 900 + "]" * 900 + "}": ("too_deep", "nests"),
+            '{"id":14,"a":' + "[" * 900 + "]" * 900 + "}": ("malformed", "it nests more than 126 deep, which is not even read"),
         }
         ran = self.load('{"id":100}\n' + "\n".join(lines) + '\n{"id":101}\n', "--show", "99")
         count = len(lines)

@@ -7,9 +7,11 @@ from typing import Any, Iterator, Optional, Tuple
 
 from .errors import REFUSALS
 from .numbers import Constant, Unkept
-from .wording import member, shown
+from .wording import cut, member, shown
 
 MOST_DEPTH = 32
+#: A document that nests deeper is no JSON to the store, which reads lines of at most 127.
+MOST_READ = 126
 #: What can be done about a refusal, for the command line.
 ADVICE = {
     "not_whole": '--fractions text keeps such numbers as texts, --fractions wrap as {"$float":"1.5"}, which get, find and dump '
@@ -32,7 +34,7 @@ def reason(word: str, document: Any, size: int) -> str:
     except RecursionError:
         return "it nests too deep to be looked through"
     if found:
-        return f"at {found[0] or 'the top'}: {found[1]}"
+        return f"at {cut(found[0]) or 'the top'}: {found[1]}"
     if word == "unknown":
         return f"a document has to be an object, and this is {shown(document)}"
     return REFUSALS.get(word, word)
@@ -73,6 +75,8 @@ def _fault(word: str, value: Any, depth: int) -> Optional[str]:
     if word == "too_deep" and depth > MOST_DEPTH and isinstance(value, (dict, list)):
         return f"it nests more than {MOST_DEPTH} deep"
     if word == "malformed":
+        if depth > MOST_READ and isinstance(value, (dict, list)):
+            return f"it nests more than {MOST_READ} deep, which is not even read"
         if isinstance(value, Constant):
             return f"{value} is no JSON"
         if isinstance(value, Unkept) and float(value) in (float("inf"), float("-inf")):

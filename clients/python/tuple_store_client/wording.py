@@ -23,4 +23,9 @@ def member(name: str, is_first: bool = False) -> str:
 def shown(value: Any) -> str:
     """A value as JSON, cut where it is long."""
     text = str(value) if isinstance(value, (Unkept, Constant)) else json.dumps(value, ensure_ascii=True)
+    return cut(text)
+
+
+def cut(text: str) -> str:
+    """A text, or its beginning where it is long."""
     return text if len(text) <= MOST_SHOWN else text[: MOST_SHOWN - 3] + "..."
