@@ -6,6 +6,7 @@ rows the lines are those of the reply to a query of the empty path.
 
 from __future__ import annotations
 
+import bisect
 from typing import Any, Dict, Iterator, List
 
 from .folder import held, partition_folders
@@ -36,5 +37,5 @@ def keys(folder: str) -> List[int]:
 def with_key(key: int, document: Dict[str, Any]) -> Dict[str, Any]:
     """A document with its key, at its place among the names."""
     names = list(document)
-    names.insert(sum(name.encode() < b"id" for name in names), "id")
+    names.insert(bisect.bisect(names, "id"), "id")
     return {name: key if name == "id" else document[name] for name in names}

@@ -6,6 +6,7 @@ members are columns of whole bytes in forms 0 and 1, and of bits in form 2. What
 
 from __future__ import annotations
 
+import itertools
 import struct
 from typing import Any, Dict, List, NamedTuple, Optional, Sequence, Tuple
 
@@ -31,7 +32,13 @@ class Columns(NamedTuple):
 
 def document_in(record: bytes, form: int, dictionary: Sequence[str]) -> Dict[str, Any]:
     """The document of a record of this form, whose numbers are those of the dictionary. Members ascend by their bytes."""
-    return _Walk(columns_in(record, form, dictionary)).document()
+    columns = columns_in(record, form, dictionary)
+    if columns.tags[:1] != bytes([_OBJECT]):
+        raise NotARecord("its first tag opens no object")
+    try:
+        return _walk(columns)
+    except StopIteration:
+        raise NotARecord("it has fewer texts or names than its tags need") from None
 
 
 def columns_in(record: bytes, form: int, dictionary: Sequence[str]) -> Columns:
@@ -96,101 +103,72 @@ def _bit_column(record: bytes, at: int, count: int, width: int) -> Tuple[List[in
 
 def _pieces(record: bytes, at: int, lengths: List[int]) -> Tuple[List[str], int]:
     """Texts of these lengths, one after the other, and where they end."""
-    pieces = []
-    for length in lengths:
-        if at + length > len(record):
-            raise NotARecord("its texts do not fit")
-        try:
-            pieces.append(record[at : at + length].decode("utf-8"))
-        except UnicodeDecodeError:
-            raise NotARecord("a text is not UTF-8") from None
-        at += length
-    return pieces, at
+    end = at + sum(lengths)
+    if end > len(record):
+        raise NotARecord("its texts do not fit")
+    whole = record[at:end]
+    ends = list(itertools.accumulate(lengths))
+    try:
+        if whole.isascii():
+            text = whole.decode("ascii")
+            return [text[end - length : end] for end, length in zip(ends, lengths)], at + len(whole)
+        return [whole[end - length : end].decode("utf-8") for end, length in zip(ends, lengths)], at + len(whole)
+    except UnicodeDecodeError:
+        raise NotARecord("a text is not UTF-8") from None
 
 
-class _Walk:
-    """A walk along the tags, which takes from each column at its front."""
-
-    def __init__(self, columns: Columns) -> None:
-        self._tags = columns.tags
-        self._fixed = columns.fixed
-        self._at = 0
-        self._texts = iter(columns.texts)
-        self._names = iter(columns.names)
-        self._open: List[Any] = []
-        self._last_names: List[Optional[bytes]] = []
-
-    def document(self) -> Dict[str, Any]:
-        if not self._tags or self._tags[0] != _OBJECT:
-            raise NotARecord("its first tag opens no object")
-        root: Dict[str, Any] = {}
-        self._enter(root)
-        for tag in self._tags[1:]:
-            if not self._open:
-                raise NotARecord("a tag stands after the close of the document")
-            if tag == _CLOSE:
-                self._open.pop()
-                self._last_names.pop()
-            else:
-                self._put(tag)
-        if self._open:
-            raise NotARecord("the document is not closed")
-        if self._at != len(self._fixed) or next(self._texts, None) is not None or next(self._names, None) is not None:
-            raise NotARecord("its tags do not use up its columns")
-        return root
-
-    def _enter(self, value: Any) -> None:
-        self._open.append(value)
-        self._last_names.append(None)
-        if len(self._open) > MOST_DEPTH:
-            raise NotARecord(f"it nests more than {MOST_DEPTH} deep")
-
-    def _put(self, tag: int) -> None:
-        """Puts the value of a tag into the innermost array or object, and goes into it if it holds values."""
-        within = self._open[-1]
-        if isinstance(within, dict):
-            name = self._name()
-            value = within[name] = self._value(tag)
-        else:
-            value = self._value(tag)
-            within.append(value)
-        if tag in (_ARRAY, _OBJECT):
-            self._enter(value)
-
-    def _name(self) -> str:
-        """The name of the next member. The names of an object ascend strictly."""
-        name = next(self._names, None)
-        if name is None:
-            raise NotARecord("it has fewer names than members")
-        spelled = name.encode("utf-8")
-        last = self._last_names[-1]
-        if last is not None and spelled <= last:
-            raise NotARecord("the names of an object do not ascend")
-        self._last_names[-1] = spelled
-        return name
-
-    def _value(self, tag: int) -> Any:
-        if tag == _NULL:
-            return None
-        if tag == _BOOLEAN:
-            byte = self._fixed_bytes(1)[0]
-            if byte > 1:
-                raise NotARecord(f"a boolean is {byte}")
-            return byte == 1
-        if tag == _INTEGER:
-            return int.from_bytes(self._fixed_bytes(8), "big", signed=True)
+def _walk(columns: Columns) -> Dict[str, Any]:
+    """The document of these columns: a walk along the tags, which takes from each column at its front."""
+    texts, names, fixed, at = iter(columns.texts), iter(columns.names), columns.fixed, 0
+    document: Dict[str, Any] = {}
+    # The array or object that is open innermost, with the name before in it, and those around it.
+    within: Any = document
+    last: Optional[str] = None
+    around: List[Tuple[Any, Optional[str]]] = []
+    for tag in columns.tags[1:]:
+        if within is None:
+            raise NotARecord("a tag stands after the close of the document")
+        if tag == _CLOSE:
+            within, last = around.pop() if around else (None, None)
+            continue
+        value: Any
         if tag == _TEXT:
-            text = next(self._texts, None)
-            if text is None:
-                raise NotARecord("it has fewer texts than their tags")
-            return text
-        if tag in (_ARRAY, _OBJECT):
-            return [] if tag == _ARRAY else {}
-        raise NotARecord(f"a tag is {tag}")
+            value = next(texts)
+        elif tag == _ARRAY or tag == _OBJECT:
+            value = [] if tag == _ARRAY else {}
+        else:
+            value, at = _scalar(tag, fixed, at)
+        if type(within) is list:
+            within.append(value)
+        else:
+            name = next(names)
+            # Code points ascend exactly where the bytes of UTF-8 do.
+            if last is not None and name <= last:
+                raise NotARecord("the names of an object do not ascend")
+            within[name], last = value, name
+        if tag == _ARRAY or tag == _OBJECT:
+            around.append((within, last))
+            within, last = value, None
+            if len(around) >= MOST_DEPTH:
+                raise NotARecord(f"it nests more than {MOST_DEPTH} deep")
+    if within is not None:
+        raise NotARecord("the document is not closed")
+    if at != len(fixed) or next(texts, None) is not None or next(names, None) is not None:
+        raise NotARecord("its tags do not use up its columns")
+    return document
 
-    def _fixed_bytes(self, count: int) -> bytes:
-        taken = self._fixed[self._at : self._at + count]
-        if len(taken) < count:
-            raise NotARecord("it has fewer fixed bytes than its tags need")
-        self._at += count
-        return taken
+
+def _scalar(tag: int, fixed: bytes, at: int) -> Tuple[Any, int]:
+    """The null, boolean or integer of a tag, and the place of the next fixed byte."""
+    if tag == _NULL:
+        return None, at
+    if tag not in (_BOOLEAN, _INTEGER):
+        raise NotARecord(f"a tag is {tag}")
+    end = at + (1 if tag == _BOOLEAN else 8)
+    if end > len(fixed):
+        raise NotARecord("it has fewer fixed bytes than its tags need")
+    if tag == _INTEGER:
+        return int.from_bytes(fixed[at:end], "big", signed=True), end
+    if fixed[at] > 1:
+        raise NotARecord(f"a boolean is {fixed[at]}")
+    return fixed[at] == 1, end
