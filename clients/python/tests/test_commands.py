@@ -270,6 +270,19 @@ class Processes(StoreTest):
             ran.stdout.close()
             self.assertEqual((ran.wait(), ran.stderr.read()), (4, b""))
 
+    def test_put_stores_documents_as_they_come(self) -> None:
+        words = [sys.executable, "-m", "tuple_store_client", "people", "put", "-"]
+        environment = {**os.environ, "PYTHONPATH": CLIENT, "TUPLE_STORE": PROGRAM}
+        pipe = subprocess.PIPE
+        with subprocess.Popen(words, stdin=pipe, stdout=pipe, stderr=pipe, env=environment) as ran:
+            assert ran.stdin and ran.stdout and ran.stderr
+            for key in range(3):
+                ran.stdin.write(b'{"id":%d}\n' % key)
+                ran.stdin.flush()
+                self.assertEqual(ran.stdout.readline(), b'{"id":%d,"replaced":false}\n' % key)
+            ran.stdin.close()
+            self.assertEqual((ran.wait(), ran.stderr.read()), (0, b""))
+
     def test_load_says_how_far_it_is_on_a_terminal_alone(self) -> None:
         self.write("in", "".join(f'{{"id":{key}}}\n' for key in range(3)))
         self.assertEqual(self.tuplectl_process("people", "load", "in"), (0, "3 documents: 3 new, 0 replaced, 0 refused\n", ""))

@@ -40,8 +40,10 @@ A later document of the same id takes the place of an earlier one.""",
     ),
     "put": (
         "stores documents",
-        "Stores each document, and prints the store's reply to it. `-` stands for standard input.",
-        """  tuplectl people put '{"id":7,"name":"Ada"}'""",
+        """Stores each document, and prints the store's reply to it. `-` stands for standard input, whose documents are
+stored as they come.""",
+        """  tuplectl people put '{"id":7,"name":"Ada"}'
+  tail -f people.jsonl | tuplectl people put -""",
     ),
     "get": ("prints the documents of keys", "Prints the document of each key, one a line.", "  tuplectl people get 7 9"),
     "rm": ("takes documents out", "Takes out the document of each key.", "  tuplectl people rm 7"),

@@ -3,6 +3,7 @@
 from __future__ import annotations
 
 import argparse
+import io
 import json
 import os
 import sys
@@ -22,7 +23,7 @@ from .paths import hops
 from .reasons import ADVICE
 from .schemas import Node, differences, tree, whole
 from .stats import stats, stats_lines
-from .store import ANYTHING, Delete, Get, Got, Refused, Store, json_text
+from .store import ANYTHING, Delete, Get, Got, Store, json_text
 from .words import BadWords, Words, keep_words, kept_words
 
 #: Options of a run that are not kept: a start then rewrites little, and the tables of a load are large.
@@ -34,7 +35,7 @@ DONE, REFUSED, USAGE, INPUT, OUTPUT, DISK, DAMAGED, PARTITIONS = 0, 1, 2, 3, 4, 
 NO_STORE, NO_PROGRAM, STOPPED = 10, 11, 130
 
 _STATUSES = {
-    Refused: REFUSED,
+    errors.Refused: REFUSED,
     BadWords: USAGE,
     BadInput: INPUT,
     errors.Held: DISK,
@@ -51,7 +52,8 @@ _STATUSES = {
 def main(arguments: Optional[List[str]] = None) -> int:
     """Runs a command: its exit status."""
     asked = parser().parse_args(arguments)
-    sys.stdout.reconfigure(encoding="utf-8")  # type: ignore[union-attr]
+    if isinstance(sys.stdout, io.TextIOWrapper):
+        sys.stdout.reconfigure(encoding="utf-8")
     try:
         status = _COMMANDS[asked.command](asked)
         sys.stdout.flush()
@@ -128,7 +130,7 @@ def _put(asked: argparse.Namespace) -> int:
                 refusal = refusal_of(sent, reply)
                 if refusal:
                     raise refusal
-                print(reply.decode())
+                print(reply.decode(), flush=True)
             except Unfit as error:
                 status = REFUSED
                 say(f"{item.place}: refused as {error.cause}: {error}")

@@ -289,7 +289,7 @@ def csv_items(name: str, pieces: Iterator[str], whole: Optional[str]) -> Iterato
     lines = _lines(pieces)
     head = next(lines, "")
     reader = csv.reader(itertools.chain([head], lines), delimiter=_delimiter(head), strict=True)
-    names = next(reader, [])
+    names: List[str] = next(reader, [])
     if len(set(names)) < len(names):
         twice = next(it for it in names if names.count(it) > 1)
         raise BadInput(f"{name}: its first row has the name {twice!r} twice")

@@ -12,7 +12,8 @@ from .errors import Damaged, FilesDiffer, PartitionsDiffer
 from .folder import FileName, file_names, partition_folders
 from .logs import Log, Write
 
-Place = Tuple[Union[Component, Log], Union[Entry, Write]]
+File = Union[Component, Log]
+Place = Tuple[File, Union[Entry, Write]]
 
 
 class Partition(NamedTuple):
@@ -22,7 +23,7 @@ class Partition(NamedTuple):
     folder: str
     components: List[Component]
     logs: List[Log]
-    superseded: List[Union[Component, Log]]
+    superseded: List[File]
     closed: List[FileName]
 
     @property
@@ -49,7 +50,7 @@ class Partition(NamedTuple):
             yield key, file.document(entry)  # type: ignore[arg-type]
 
 
-def _put(places: Dict[int, Place], file: Union[Component, Log], entry: Union[Entry, Write]) -> None:
+def _put(places: Dict[int, Place], file: File, entry: Union[Entry, Write]) -> None:
     if entry.length:
         places[entry.key] = (file, entry)
     else:
@@ -64,7 +65,7 @@ def partitions_of(folder: str) -> List[Partition]:
 
 def documents_of(partitions: List[Partition]) -> Iterator[Tuple[int, Dict[str, Any]]]:
     """Each key of a store with its document, which lacks it, in ascending key."""
-    return heapq.merge(*(partition.documents() for partition in partitions), key=lambda row: row[0])
+    yield from heapq.merge(*(partition.documents() for partition in partitions), key=lambda row: row[0])
 
 
 def read_partition(folder: str, number: int, count: int) -> Partition:
@@ -78,17 +79,21 @@ def read_partition(folder: str, number: int, count: int) -> Partition:
         if content is None:
             closed.append(name)
             continue
-        file: Union[Component, Log] = Log(path, name, content) if name.is_log else Component(path, name, content)
+        file: File = Log(path, name, content) if name.is_log else Component(path, name, content)
         if (file.partition, file.of) != (number, count):
             found = f"{file.partition} of {file.of}"
             raise PartitionsDiffer(f"{path} is a file of partition {found}, and not of {number} of {count}")
-        (logs if isinstance(file, Log) else components).append(file)  # type: ignore[arg-type]
+        if isinstance(file, Log):
+            logs.append(file)
+        else:
+            components.append(file)
     maximal = [it for it in components if not any(_lies_within(it.name, other.name) for other in components)]
     last = maximal[-1].name.last if maximal else 0
     above = [log for log in logs if log.name.first > last]
     _check_fit(folder, maximal, above)
     _load(maximal)
-    superseded = [it for it in (*components, *logs) if it not in maximal and it not in above]
+    every: List[File] = [*components, *logs]
+    superseded = [it for it in every if it not in maximal and it not in above]
     return Partition(folder, maximal, above, superseded, closed)
 
 
@@ -108,9 +113,10 @@ def _lies_within(inner: FileName, outer: FileName) -> bool:
 def _check_fit(folder: str, components: List[Component], logs: List[Log]) -> None:
     """The components have each generation from 1 on once, and the logs those that follow, without a gap."""
     expected = 1
-    for file in (*components, *logs):
+    files: List[File] = [*components, *logs]
+    for file in files:
         if file.name.first != expected:
-            there = ", ".join(str(it.name) for it in (*components, *logs))
+            there = ", ".join(str(it.name) for it in files)
             gap = f"generation {expected} is missing" if file.name.first > expected else "two components overlap"
             raise FilesDiffer(f"{folder}: the files {there} do not fit together: {gap}")
         expected = file.name.last + 1

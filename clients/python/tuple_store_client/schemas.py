@@ -2,8 +2,9 @@
 
 from __future__ import annotations
 
+import dataclasses
 import unicodedata
-from typing import Any, Dict, Iterator, List, NamedTuple, Optional, Tuple
+from typing import Any, Dict, Iterator, List, Optional, Tuple
 
 from .wording import member
 
@@ -47,7 +48,8 @@ def whole(schemas: List[Optional[Node]]) -> Optional[Node]:
     return together
 
 
-class Place(NamedTuple):
+@dataclasses.dataclass(frozen=True)
+class Place:
     """A place of documents, as a row of the tree: its step, how many values it has, of how many that may have one."""
 
     label: str
@@ -56,7 +58,7 @@ class Place(NamedTuple):
     node: Node
     of: int
     is_item: bool
-    below: "List[Place]"
+    below: List[Place]
 
     @property
     def count(self) -> int:

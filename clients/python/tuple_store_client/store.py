@@ -145,7 +145,8 @@ class Store:
 
     def get(self, id: int) -> Optional[Document]:
         """The document of a key, or None."""
-        return self._ask({"op": "get", "id": id})["doc"]
+        document: Optional[Document] = self._ask({"op": "get", "id": id})["doc"]
+        return document
 
     def delete(self, id: int) -> bool:
         """Takes out the document of a key. Answers whether it had one. It is durable when this returns."""
@@ -158,7 +159,8 @@ class Store:
 
     def schema(self) -> List[Optional[Dict[str, Any]]]:
         """The counted schema of each partition, after a flush; None for one without a document."""
-        return self._control(b'{"op":"schema"}')["schemas"]
+        schemas: List[Optional[Dict[str, Any]]] = self._control(b'{"op":"schema"}')["schemas"]
+        return schemas
 
     def flush(self) -> None:
         """Flushes what is in the logs into components."""
