@@ -5,12 +5,13 @@ from __future__ import annotations
 import json
 import os
 import random
+import shutil
 from typing import Any, Dict, List, Tuple
 
 from tuple_store_client import Delete, Refused, Store, Upsert
 from tuple_store_client.stats import stats
 
-from .support import PROGRAM, StoreTest, counted
+from .support import PROGRAM, StoreTest, counted, of_version_2
 
 KEYS = 200
 SIGNS = 'ab"\\/\n\t\x00\x1f\x7fé漢\u2028😀'
@@ -96,6 +97,28 @@ class Dumps(StoreTest):
         self.assertTrue(any(it["gone"] for it in report["components"]))
         self.assertTrue(any(it["file"].split("-")[1] != it["file"].split("-")[2] for it in report["components"]))
         self.compare("store", plain, 1)
+
+    def test_records_of_each_version(self) -> None:
+        """Each of the components in turn, and then all, written as files of version 2, which the program does not write."""
+        choice = random.Random(7)
+        plain: Dict[int, Any] = {}
+        for count in (300, 200, 20):
+            self.fill(choice, "store", plain, count, partitions=2, memory=4096, merge=8, limit=40000)
+        paths = [f"{top}/{name}" for top, _, names in os.walk("store") for name in names if name.startswith("c-")]
+        expected = self.tuplectl("store", "dump", "--rows").out
+        self.assertGreater(len(paths), 4)
+        for chosen in (*([path] for path in paths), paths):
+            shutil.copytree("store", "copy")
+            for path in chosen:
+                with open(path, "rb") as file:
+                    content = of_version_2(file.read())
+                self.write(path.replace("store", "copy", 1), content)
+            ran = self.tuplectl("copy", "dump", "--rows")
+            self.assertEqual((ran.status, ran.err), (0, ""))
+            self.assertTrue(ran.out == expected, "the rows differ")
+            formats = [it["format"] for partition in stats("copy") for it in partition["components"]]
+            self.assertEqual(formats.count("TCC2"), len(chosen))
+            shutil.rmtree("copy")
 
     def test_nothing_is_written(self) -> None:
         self.fill(random.Random(3), "store", {}, 300, partitions=2, memory=4096)
