@@ -138,7 +138,8 @@ class Commands(StoreTest):
         self.assertEqual((ran.status, ran.out), (5, ""))
         self.assertIn("does not read as people does", ran.err)
         with mock.patch("shutil.copyfileobj", side_effect=OSError(errno.ENOSPC, "No space left on device")):
-            self.assertEqual(self.tuplectl("people", "backup", "copy").status, 5)
+            ran = self.tuplectl("people", "backup", "copy")
+            self.assertEqual(ran, (5, "", "tuplectl: copy: No space left on device\n"))
         self.assertEqual(os.listdir(), ["people"])
         os.mkdir("copy.unfinished")
         self.assertIn("of a backup that was stopped: remove it", self.tuplectl("people", "backup", "copy").err)

@@ -187,6 +187,8 @@ class Failures(LoadTest):
         self.assertTrue(stored.startswith(f"what was answered is stored, up to in.jsonl:{report.new}; "), stored)
         self.assertGreaterEqual(int(self.tuplectl("store", "count").out), report.new)
         self.assertLess(report.new, 100_000)
+        without = report.documents - report.new
+        self.assertTrue(first.endswith(f": {report.new:,} new, 0 replaced, 0 refused, {without:,} without an answer"), first)
 
 
 class Keys(LoadTest):

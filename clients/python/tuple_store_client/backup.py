@@ -42,8 +42,10 @@ def backup(folder: str, destination: str) -> Backup:
             copied = _copy_all(folder, folders, unfinished)
             _check(folder, unfinished)
             os.rename(unfinished, destination)
-        except BaseException:
+        except BaseException as error:
             shutil.rmtree(unfinished, ignore_errors=True)
+            if isinstance(error, OSError):
+                raise BadCopy(f"{error.filename or destination}: {error.strerror}") from error
             raise
     sync_folder(parent)
     return copied

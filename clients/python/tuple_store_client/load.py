@@ -88,7 +88,8 @@ class Report:
     def lines(self) -> Iterator[str]:
         """What is said at the end, line by line."""
         counts = f"{self.new:,} new, {self.replaced:,} replaced, {self.refused_count:,} refused"
-        yield f"{many(self.documents, 'document')}: {counts}"
+        unanswered = self.documents - self.new - self.replaced - self.refused_count
+        yield f"{many(self.documents, 'document')}: {counts}" + (f", {unanswered:,} without an answer" if unanswered else "")
         if self.again.count:
             known = "" if self.has_all_ids else f" (of the first {MOST_IDS:,} ids)"
             yield f"{self.again.count:,} came twice in this load{known}; the last one stands:"
