@@ -7,8 +7,6 @@ mod looking;
 mod record;
 mod row;
 mod rows;
-#[cfg(test)]
-mod tests;
 mod walk;
 
 pub use fault::QueryFault;
