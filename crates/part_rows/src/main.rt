@@ -8,7 +8,11 @@
 //! The partition is number 0 of 1, and its store has no file but the first log, unless it has a component and the log behind
 //! that. `share` holds the listed components, as somebody does who reads beside the partition, until `forget`. A row of jobs
 //! begins with `jobs` and the calls on files that fail; it begins with no file and nothing listed, and ends with what is listed
-//! and all files. `no answer` stands for a row out of form. A row that begins with `#` is a note, and is printed as it is.
+//! and all files. A row that begins with `open` opens a partition: its number, of how many, and the calls that fail, and then
+//! its files, a `; ` before each; it prints how many components are listed and the length of the log, or why there is none,
+//! and the files that are left. `calls of` and files, a `; ` before each, counts the calls of an opening, each of which has to
+//! be a fault where it fails. `no answer` stands for a row out of form. A row that begins with `#` is a note, and is printed
+//! as it is.
 #![tactic(auto)]
 
 mod arguments;
@@ -20,6 +24,7 @@ mod first_logs;
 mod jobs;
 mod laid;
 mod making;
+mod openings;
 mod steps;
 
 use arguments::{bytes, numbers};
@@ -33,7 +38,7 @@ use tc_part::Limits;
 use tc_store::MemWatch;
 
 // How many bytes of log make a table be sealed. Nothing here seals one by itself.
-const MEMORY: u64 = 4096;
+pub(crate) const MEMORY: u64 = 4096;
 
 fn main(rt: HostRuntime) -> io::Result<()> {
     for row in rt.lines(rt.alloc()) {
@@ -54,6 +59,12 @@ fn answer(rt: &(impl Print + AllocGlobal), row: &str) -> io::Result<()> {
 
 // The answers of a row.
 fn answers_of(alloc: Global, row: &str) -> Option<String> {
+    if let Some(opening) = row.strip_prefix("open ") {
+        return openings::answer_of(alloc, opening);
+    }
+    if let Some(opening) = row.strip_prefix("calls ") {
+        return openings::calls_of(alloc, opening);
+    }
     let (begin, calls) = row.split_once("; ")?;
     if begin.starts_with("jobs") {
         return jobs::answers_of(alloc, begin, calls);

@@ -16,6 +16,3 @@ mod tidying;
 
 pub use fault::{OpenCause, OpenFault};
 pub use opening::open_part;
-
-#[cfg(test)]
-mod tests;

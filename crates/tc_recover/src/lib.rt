@@ -28,6 +28,3 @@ pub use reading::{FilesRead, read_files, read_taken};
 pub use removing::remove_needless;
 pub use sorting::{last_of, sort_files};
 pub use taken::Taken;
-
-#[cfg(test)]
-mod tests;
