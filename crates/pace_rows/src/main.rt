@@ -7,15 +7,23 @@
 //! a while of its own, over four partitions, and says how many of the runs replied otherwise than one partition does. `prefix`
 //! tells whether a scan before so many upserts has the rows of the first of them, as many as it says; `whole` whether one over so
 //! many documents, an even number, which are written again beside it, has the rows of the plain store behind as many writes as
-//! it says. A row that begins with `#` is a note, and is printed as it is; `no answer` stands for a row out of form.
+//! it says. `views` says of how many writes each of ten snapshots of one lens is, before each of which one more write was
+//! published, and that of one after them; `lenses` whether a view gives a lens while another one is there, and once that is
+//! gone. `waits` has a caller that gives no line before it has so many replies, and says with which status its run ends; after
+//! the numbers, one for each line and one for the end, and a `; ` stand the words. `churn` tells whether the schema after so many
+//! writes, flushes and merges is that of a store which got the live documents alone. A row that begins with `#` is a note, and
+//! is printed as it is; `no answer` stands for a row out of form.
 #![tactic(auto)]
 
 mod beside;
+mod churning;
 mod kits;
 mod lines;
 mod meeting;
 mod running;
 mod scanning;
+mod views;
+mod waiting;
 mod wandering;
 
 use std::alloc::Global;
@@ -54,6 +62,13 @@ fn answer_of(rt: &(impl AllocGlobal + Threads + Wait + Sync), row: &str) -> Opti
             alloc,
             scanning::is_whole(rt, argument.parse::<u32>().ok()?)?,
         ),
+        "churn" => truth_text(
+            alloc,
+            churning::is_that_of_live(rt, argument.parse::<u64>().ok()?)?,
+        ),
+        "views" => views::answer_of(rt),
+        "lenses" => views::places(rt),
+        "waits" => waiting::answer_of(rt, argument),
         "paces" => {
             let paces = argument.parse::<u64>().ok()?;
             let other = wandering::differing(rt, paces)?;

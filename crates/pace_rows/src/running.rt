@@ -11,7 +11,7 @@ use tc_server::{Served, serve};
 use tc_store::MemShelf;
 
 /// How many bytes a call of a stream takes at most.
-const PIECE: usize = 65_536;
+pub(crate) const PIECE: usize = 65_536;
 
 /// Runs these words over the input, and gives what was written, if the run ended well.
 pub(crate) fn replies<R: AllocGlobal + Threads + Wait + Sync, P: Pace + 'static>(
@@ -42,8 +42,8 @@ pub(crate) fn replies<R: AllocGlobal + Threads + Wait + Sync, P: Pace + 'static>
     }
 }
 
-// A shelf of stores in memory, without files.
-fn empty_shelf(alloc: Global) -> Option<MemShelf> {
+/// A shelf of stores in memory, without files.
+pub(crate) fn empty_shelf(alloc: Global) -> Option<MemShelf> {
     match empty_kits(alloc) {
         Ok(kits) => Some(MemShelf::new(kits)),
         Err(_) => None,

@@ -17,8 +17,6 @@ mod rooms;
 mod rule;
 mod snapshot;
 mod step;
-#[cfg(test)]
-mod tests;
 mod view;
 
 pub use change::Change;

@@ -127,6 +127,3 @@ fn report_error(rt: HostRuntime, partition: u32, error: Error) -> Result<(), Err
         eprintln!(rt; "p{partition}: {error}")
     }
 }
-
-#[cfg(test)]
-mod tests;
