@@ -5,14 +5,17 @@
 //! by name and bytes, or `again` has it begin with what a stop leaves of the last run's, by the number that chooses; `fails`
 //! says which calls on them fail, behind who makes them: `main`, `flusher`, `merger` or `reader`; `partition` says of which partition
 //! these rows are, which is the first one where none was chosen since the last run. `serve` runs, `files` shows what a
-//! stop leaves of the last run's files, by the number that chooses, and `faults` prints the texts of all faults. A row that
-//! begins with `#` is a note, and is printed as it is; `no answer` stands for a row out of form.
+//! stop leaves of the last run's files, by the number that chooses, and `faults` prints the texts of all faults. `stuttering`
+//! reads twice and writes two bytes over a reader and a writer of std of which so many first calls err; `told` is what a source
+//! tells of its reads before and after a text that is written, and `streams` prints the texts of the faults of streams. A row
+//! that begins with `#` is a note, and is printed as it is; `no answer` stands for a row out of form.
 #![tactic(auto)]
 
 mod files;
 mod parts;
 mod run;
 mod shown;
+mod streams;
 
 use run::Run;
 use std::io;
@@ -51,6 +54,9 @@ fn answer_of(
         "serve" => run.serve(rt),
         "files" => run.files(alloc, argument),
         "faults" => shown::faults(alloc),
+        "stuttering" => streams::stuttering(alloc, argument),
+        "told" => streams::told(alloc, argument),
+        "streams" => streams::faults(alloc),
         _ => {
             run.prepare(alloc, call, argument)?;
             Some(String::new(alloc))

@@ -8,6 +8,3 @@ mod streams;
 pub use memory::{MemSink, MemSource};
 pub use standard::{StdSink, StdSource};
 pub use streams::{EdgeFault, Sink, Source, WriteFault, write_all};
-
-#[cfg(test)]
-mod tests;

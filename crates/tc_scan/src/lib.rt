@@ -3,7 +3,5 @@
 
 mod newest;
 mod snapshot;
-#[cfg(test)]
-mod tests;
 
 pub use snapshot::rows;

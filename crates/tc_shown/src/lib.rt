@@ -7,8 +7,6 @@ mod law;
 mod running;
 mod scan;
 mod shown;
-#[cfg(test)]
-mod tests;
 
 pub use fault::ScanFault;
 pub use law::parts_are_shown;
