@@ -10,7 +10,7 @@ is built as a power cut may leave it there by docs/disk-model.md, and nothing el
 - a write since the last sync of its file is whole, lost, torn within, zero, or other bytes, and they come in any order;
 - a file whose first sync (of the file, and then of its folder) was not answered is there, or absent, or the removed one of
   its name; each file that the run removed is absent, or back;
-- a folder whose name was not synced is there, or absent.
+- a folder whose name was not synced is there, or absent, also one that was made before the run.
 
 Each image is held against the definition of the model. Then the program is started over the folder, and reads every key
 and the schema. They have to be those of the windows that were answered by then, or of these and the next one as a whole.
@@ -270,12 +270,12 @@ class File:
 
 
 class Disk:
-    """What is on the disk behind each step: files, files that were removed and may be back, and folders with whether their
-    names are durable."""
+    """What is on the disk after each step: files, files that were removed and may be back, and folders with whether their
+    names are durable. At first all names are but the unsynced ones."""
 
-    def __init__(self, picture):
+    def __init__(self, picture, unsynced):
         self.files = {name: File(content) for name, content in picture.items() if content is not None}
-        self.folders = {name: True for name, content in picture.items() if content is None}
+        self.folders = {name: name not in unsynced for name, content in picture.items() if content is None}
         self.removed, self.begun, self.lines, self.has_begun = {}, {}, 0, False
 
     def step(self, step):
@@ -422,8 +422,8 @@ def lay_out(base, picture):
 class Run:
     """A run over what a power cut left, its record, and what it has to leave."""
 
-    def __init__(self, store, base, picture, stored, choice, forgotten):
-        self.choice, self.picture = choice, picture
+    def __init__(self, store, base, picture, unsynced, stored, choice, forgotten):
+        self.choice, self.picture, self.unsynced = choice, picture, unsynced
         self.window = choice.choice([1, 1, 3, 7, 32])
         self.words = words_of(choice)
         longest = choice.choice([60, 60, 60, 4000])
@@ -446,7 +446,7 @@ class Run:
 
     def without_a_sync(self):
         """The steps without one sync that made something durable, its place, and its name."""
-        disk, places = Disk(self.picture), []
+        disk, places = Disk(self.picture, self.unsynced), []
         for at, step in enumerate(self.steps):
             if step.kind == 'sync' and disk.is_pending(step.name):
                 places.append(at)
@@ -468,7 +468,7 @@ class Run:
 
 def cuts_of(run, steps, moments, seen):
     """Cuts the power behind so many steps, for each of the moments: the moment, the disk then, the cut, and what it left."""
-    disk, done = Disk(run.picture), 0
+    disk, done = Disk(run.picture, run.unsynced), 0
     for moment in moments:
         for step in steps[done:moment]:
             disk.step(step)
@@ -542,9 +542,12 @@ def main():
     base = tempfile.mkdtemp(prefix='tuple_store_powercut_')
     seen, syncs, runs = collections.Counter(), collections.defaultdict(lambda: [0, 0]), 0
     while seen['cuts'] < cuts:
+        unsynced = set()
         if runs % RUNS_OF_A_FOLDER == 0:
-            picture, stored = {}, {}
-        run = Run(store, base, picture, stored, choice, left_out)
+            # The program makes its folder, or somebody made it just before, whose name may still go.
+            picture, stored = choice.choice([{}, {'store': None}]), {}
+            unsynced = set(picture)
+        run = Run(store, base, picture, unsynced, stored, choice, left_out)
         for _ in range(LEFT_OUT if left_out == 'each' else 0):
             leave_out(store, base, run, syncs)
         picture, stored = cut_run(store, base, run, min(CUTS_OF_A_RUN, cuts - seen['cuts']), seen)
@@ -556,7 +559,8 @@ def main():
         print('syncs of %s: %d left out, %d shown' % (kind, tried, shown))
 
 
-try:
-    main()
-except OutOfModel as why:
-    sys.exit('what the model does not speak of: %s' % why)
+if __name__ == '__main__':
+    try:
+        main()
+    except OutOfModel as why:
+        sys.exit('what the model does not speak of: %s' % why)

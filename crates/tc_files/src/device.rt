@@ -18,12 +18,14 @@ use tc_store::{Device, DeviceFault, FileName};
 /// The most bytes that a file of a store has.
 pub(crate) const MAX_LEN: u64 = 0x7fff_ffff_ffff_ffff;
 
-/// A file that is being written. Its first sync makes its name durable too. It keeps its folder held.
+/// A file that is being written. Its first sync makes its name durable too. It keeps its folder held, and syncs it under a handle of
+/// its own: a system may tell each handle once that the folder could not be written, and another file's sync may have been told.
 pub struct FileDevice {
     pub(crate) name: FileName,
     pub(crate) path: PathBuf,
     pub(crate) file: File,
     pub(crate) folder: Arc<File>,
+    pub(crate) own_folder: File,
     pub(crate) len: u64,
     /// Whether a sync made the name durable.
     pub(crate) is_named: bool,
@@ -40,6 +42,7 @@ impl Drop for FileDevice {
             path,
             file,
             folder,
+            own_folder,
             len: _,
             is_named: _,
             has_failed: _,
@@ -47,6 +50,7 @@ impl Drop for FileDevice {
         drop(path);
         drop(file);
         drop(folder);
+        drop(own_folder);
     }
 }
 
@@ -64,6 +68,7 @@ impl FileDevice {
             path,
             file,
             folder: _,
+            own_folder: _,
             len: _,
             is_named: _,
             has_failed: _,
@@ -87,7 +92,7 @@ impl FileDevice {
             return self.file.sync_data();
         }
         self.file.sync_all()?;
-        self.folder.sync_all()
+        self.own_folder.sync_all()
     }
 }
 

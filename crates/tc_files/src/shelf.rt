@@ -53,7 +53,7 @@ impl FileShelf {
         }
         let name = format!(in alloc; "p{number}")?;
         let path = Path::new(self.folder.as_str()).join(alloc, name)?;
-        make_folder(&self.rt, path.as_str())?;
+        make_folder(&self.rt, self.folder.as_str(), path.as_str())?;
         let folder = Arc::new(alloc, hold_folder(&self.rt, path.as_str())?)?;
         Ok(FileStore {
             rt: self.rt,

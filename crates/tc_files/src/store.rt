@@ -7,6 +7,7 @@ ghost use Rattle.tc_files.specs.Names.{name_text};
 use crate::calls::uninterrupted;
 use crate::device::{FileDevice, MAX_LEN};
 use crate::file::{make_file, open_still};
+use crate::folder::open_folder;
 use crate::frozen::FileFrozen;
 use crate::name::{file_text, name_in};
 use crate::watch::FileWatch;
@@ -89,12 +90,14 @@ impl FileStore {
     {
         let path = self.path_of(alloc, name)?;
         let folder = Arc::try_clone(&self.folder)?;
+        let own_folder = open_folder(&self.rt, self.path.as_str())?;
         let file = make_file(&self.rt, path.as_str())?;
         Ok(FileDevice {
             name,
             path,
             file,
             folder,
+            own_folder,
             len: 0,
             is_named: false,
             has_failed: false,

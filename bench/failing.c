@@ -1,0 +1,130 @@
+/* A library for LD_PRELOAD: one call fails, or does less than it was asked to.
+ *
+ * FAILING_CALLS is `files`, for the calls of the system on files, or `memory`, for those that allocate. FAILING_AT is the number of the
+ * call, from 1 on, in the order in which all threads make them; FAILING_WITH the number of its error, or 0 for a read or a write of half the
+ * bytes. With FAILING_COUNT, a path, the number of calls that were made is written there at the end.
+ */
+#define _GNU_SOURCE
+#include <dirent.h>
+#include <dlfcn.h>
+#include <errno.h>
+#include <fcntl.h>
+#include <stdarg.h>
+#include <stdatomic.h>
+#include <stdio.h>
+#include <stdlib.h>
+#include <string.h>
+#include <sys/file.h>
+#include <sys/stat.h>
+#include <unistd.h>
+
+enum { NONE, FILES, MEMORY };
+
+static atomic_long made;
+static long failing_at = -1;
+static int failing_with, counted = NONE;
+
+__attribute__((constructor)) static void begin(void) {
+    const char *calls = getenv("FAILING_CALLS"), *at = getenv("FAILING_AT"), *with = getenv("FAILING_WITH");
+    failing_at = at ? atol(at) : -1;
+    failing_with = with ? atoi(with) : 0;
+    counted = calls && !strcmp(calls, "files") ? FILES : calls && !strcmp(calls, "memory") ? MEMORY : NONE;
+}
+
+__attribute__((destructor)) static void end(void) {
+    counted = NONE;
+    const char *path = getenv("FAILING_COUNT");
+    FILE *file = path ? fopen(path, "w") : NULL;
+    if (file) {
+        fprintf(file, "%ld\n", (long)made);
+        fclose(file);
+    }
+}
+
+/* Whether this call, of one of the two kinds, is the one; then errno says why it fails. */
+static int is_it(int kind) {
+    if (kind != counted || atomic_fetch_add(&made, 1) + 1 != failing_at)
+        return 0;
+    errno = failing_with;
+    return 1;
+}
+
+#define NEXT(type, name, ...) \
+    static type (*next)(__VA_ARGS__); \
+    if (!next) next = (type (*)(__VA_ARGS__))dlsym(RTLD_NEXT, name)
+
+#define OPEN(name) \
+    int name(const char *path, int flags, ...) { \
+        NEXT(int, #name, const char *, int, ...); \
+        va_list more; \
+        va_start(more, flags); \
+        mode_t mode = flags & O_CREAT ? va_arg(more, mode_t) : 0; \
+        va_end(more); \
+        return is_it(FILES) && failing_with ? -1 : next(path, flags, mode); \
+    }
+
+#define OPENAT(name) \
+    int name(int at, const char *path, int flags, ...) { \
+        NEXT(int, #name, int, const char *, int, ...); \
+        va_list more; \
+        va_start(more, flags); \
+        mode_t mode = flags & O_CREAT ? va_arg(more, mode_t) : 0; \
+        va_end(more); \
+        return is_it(FILES) && failing_with ? -1 : next(at, path, flags, mode); \
+    }
+
+#define WITHOUT_BYTES(name, params, types, args) \
+    int name params { \
+        NEXT(int, #name, types); \
+        return is_it(FILES) && failing_with ? -1 : next args; \
+    }
+#define TWO(a, b) a, b
+#define FIVE(a, b, c, d, e) a, b, c, d, e
+
+#define WITH_BYTES(name, buffer) \
+    ssize_t name(int fd, buffer bytes, size_t count, off_t at) { \
+        NEXT(ssize_t, #name, int, buffer, size_t, off_t); \
+        if (is_it(FILES)) { \
+            if (failing_with) return -1; \
+            count = count > 1 ? count / 2 : count; \
+        } \
+        return next(fd, bytes, count, at); \
+    }
+
+OPEN(open)
+OPEN(open64)
+OPENAT(openat)
+OPENAT(openat64)
+WITH_BYTES(pread, void *)
+WITH_BYTES(pread64, void *)
+WITH_BYTES(pwrite, const void *)
+WITH_BYTES(pwrite64, const void *)
+WITHOUT_BYTES(fsync, (int fd), int, (fd))
+WITHOUT_BYTES(fdatasync, (int fd), int, (fd))
+WITHOUT_BYTES(flock, (int fd, int how), TWO(int, int), (fd, how))
+WITHOUT_BYTES(unlink, (const char *path), const char *, (path))
+WITHOUT_BYTES(mkdir, (const char *path, mode_t mode), TWO(const char *, mode_t), (path, mode))
+WITHOUT_BYTES(statx, (int at, const char *path, int flags, unsigned mask, struct statx *into), FIVE(int, const char *, int, unsigned, struct statx *), (at, path, flags, mask, into))
+
+struct dirent *readdir(DIR *folder) {
+    static struct dirent *(*next)(DIR *);
+    if (!next) next = (struct dirent *(*)(DIR *))dlsym(RTLD_NEXT, "readdir");
+    return is_it(FILES) && failing_with ? NULL : next(folder);
+}
+
+struct dirent64 *readdir64(DIR *folder) {
+    static struct dirent64 *(*next)(DIR *);
+    if (!next) next = (struct dirent64 *(*)(DIR *))dlsym(RTLD_NEXT, "readdir64");
+    return is_it(FILES) && failing_with ? NULL : next(folder);
+}
+
+extern void *__libc_malloc(size_t size);
+extern void *__libc_realloc(void *at, size_t size);
+
+void *malloc(size_t size) {
+    return is_it(MEMORY) ? NULL : __libc_malloc(size);
+}
+
+void *realloc(void *at, size_t size) {
+    return is_it(MEMORY) ? NULL : __libc_realloc(at, size);
+}
