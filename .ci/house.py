@@ -40,8 +40,6 @@ ROWS = "Rows.antt"
 WRITTEN = re.compile(r"\.(?:TheSendSync|TheLaws)\b")
 # Definitions, and laws that no clause can state, which crates to come stand on. A name leaves this list once it is used.
 AWAITED = {
-    "tc_run_model": ("after_all_stands", "first_stands", "lines_in-windows",
-        "replies_have_kinds", "windows_are_cut"),
     "tc_store": ("picture_before",),
 }
 

@@ -3,7 +3,7 @@ use Rattle.std.proofs.Common.{◌≡◌, ◌⊎◌, ℕ, Bool, true, false, List
 use Rattle.std.specs.Prelude.{fold, if◌then◌else◌}
 use Rattle.tc_model.specs.Lines.{lines_of}
 use Rattle.tc_request_model.specs.Request.{request_of}
-use Rattle.tc_run_model.specs.Windows.{Window, Windows, is_control, is_full, unless_empty, with_open, with_line, windows_of, windows, lines_in}
+use Rattle.tc_run_model.specs.Windows.{Window, Windows, is_control, is_full, unless_empty, with_open, with_line, windows_of, windows, lines_in, AreCut, HasReason}
 use Rattle.tc_run_model.proofs.WindowLaws.{lines_in-append, lines_in-unless_empty, lines_held-windows_of}
 
 -- the windows of an input hold its lines
@@ -11,24 +11,6 @@ pub lines_in-windows : (limit : ℕ) (input : List ℕ) → lines_in (windows li
 lines_in-windows limit input =
     let ws = windows_of limit (lines_of input) in
     lines_in-append ws.closed (unless_empty ws.open_lines) ∙ ap (λ more. lines_in ws.closed ++ more) (lines_in-unless_empty ws.open_lines) ∙ lines_held-windows_of limit (lines_of input)
-
--- a window of one line, which is a command of the whole store
-pub record IsControlWindow (window : Window) : Type 0 where
-  pub line : List ℕ
-  pub alone : window ≡ line ∷ []
-  pub control : is_control (request_of line) ≡ true
-
-abbrev pub StandsBeforeControl : List Window → Type 0
-StandsBeforeControl [] = ⊥
-StandsBeforeControl (window ∷ more) = IsControlWindow window
-
--- why a window has closed, by those behind it
-abbrev pub HasReason : ℕ → Window → List Window → Type 0
-HasReason limit window behind = IsControlWindow window ⊎ ((is_full limit window ≡ true) ⊎ StandsBeforeControl behind)
-
-abbrev pub AreCut : ℕ → List Window → Type 0
-AreCut limit [] = Unit {0}
-AreCut limit (window ∷ more) = HasReason limit window more × AreCut limit more
 
 reason_kept : (limit : ℕ) (window : Window) (us vs : List Window) → HasReason limit window us → HasReason limit window (us ++ vs)
 reason_kept limit window us vs (inl control) = inl control

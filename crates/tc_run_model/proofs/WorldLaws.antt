@@ -10,13 +10,7 @@ use Rattle.tc_plain_model.specs.Room.{Limits}
 use Rattle.tc_request_model.specs.Part.{part_writes}
 use Rattle.tc_plain_model.proofs.WriteLaws.{after_writes-append}
 use Rattle.tc_request_model.proofs.RequestWrites.{part_left-writes}
-use Rattle.tc_run_model.specs.World.{Part, Scan, World, first_world, home_of, store_at, part_after, with_part, changed_at, after, after_all}
-
-abbrev pub StandsOnWrites : Part → Type 0
-StandsOnWrites part = part.now.pairs ≡ after_writes part.opened part.writes
-
-abbrev pub AllStand : World → Type 0
-AllStand w = AllByRecursion StandsOnWrites w.parts
+use Rattle.tc_run_model.specs.World.{Part, Scan, World, first_world, home_of, store_at, part_after, with_part, changed_at, after, after_all, AllStand, StandsOnWrites}
 
 pub first_stands : (limits : Limits) (stores : List Store) → AllStand (first_world limits stores)
 first_stands limits [] = tt

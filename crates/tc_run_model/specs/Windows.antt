@@ -1,5 +1,5 @@
 -- The windows of lines: lines that are answered together, and whose replies are written together.
-use Rattle.std.specs.Prelude.{◌≡◌, ℕ, List, [], ◌∷◌, ◌++◌, length, fold, sum_by, Bool, true, false, ◌||◌, nat_le, if◌then◌else◌}
+use Rattle.std.specs.Prelude.{◌≡◌, ◌⊎◌, ℕ, List, [], ◌∷◌, ◌++◌, length, fold, sum_by, Bool, true, false, ◌||◌, nat_le, if◌then◌else◌}
 use Rattle.tc_model.specs.Lines.{lines_of, whole_lines}
 use Rattle.tc_request_model.specs.Request.{Request, upsert, delete, get, query, flush, schema, scan, collect, refused, request_of}
 use Rattle.tc_model.specs.Limits.{max_line}
@@ -76,3 +76,25 @@ windows limit input = let ws = windows_of limit (lines_of input) in ws.closed ++
 abbrev pub lines_in : List Window → List (List ℕ)
 lines_in [] = []
 lines_in (window ∷ more) = window ++ lines_in more
+
+-- ---- why windows close
+
+-- a window of one line, which is a command of the whole store
+pub record IsControlWindow (window : Window) : Type 0 where
+  pub line : List ℕ
+  pub alone : window ≡ line ∷ []
+  pub control : is_control (request_of line) ≡ true
+
+-- the next window is one
+abbrev pub StandsBeforeControl : List Window → Type 0
+StandsBeforeControl [] = ⊥
+StandsBeforeControl (window ∷ more) = IsControlWindow window
+
+-- why a window has closed, by those after it
+abbrev pub HasReason : ℕ → Window → List Window → Type 0
+HasReason limit window after = IsControlWindow window ⊎ ((is_full limit window ≡ true) ⊎ StandsBeforeControl after)
+
+-- each window has one of the reasons
+abbrev pub AreCut : ℕ → List Window → Type 0
+AreCut limit [] = Unit {0}
+AreCut limit (window ∷ more) = HasReason limit window more × AreCut limit more

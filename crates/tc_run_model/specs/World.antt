@@ -1,5 +1,6 @@
 -- The plain world: its partitions, the scan that was started and not collected yet, and whether all writes were flushed.
-use Rattle.std.specs.Prelude.{ℕ, zero, suc, ◌%◌, ◌==◌, ◌&&◌, Bool, true, false, length, List, [], ◌∷◌, ◌++◌, map, fold, flat_map, take, is_some, Option, Some, None, slice_get, unwrap_or, if◌then◌else◌}
+use Rattle.std.specs.Prelude.{◌≡◌, ℕ, zero, suc, ◌%◌, ◌==◌, ◌&&◌, Bool, true, false, length, List, [], ◌∷◌, ◌++◌, map, fold, flat_map, take, is_some, Option, Some, None, slice_get, unwrap_or, if◌then◌else◌}
+use Rattle.std.specs.List.{AllByRecursion}
 use Rattle.tc_model.specs.Keyed.{with_value}
 use Rattle.tc_request_model.specs.Request.{Request, upsert, delete, get, query, flush, schema, scan, collect, refused, Ask}
 use Rattle.tc_plain_model.specs.Writes.{Pairs, Write, after_writes}
@@ -94,3 +95,13 @@ after (refused r) w = w
 -- what requests leave, one after the other
 abbrev pub after_all : List Request → World → World
 after_all rs w = fold (λ v r. after r v) w rs
+
+-- ---- what is stored stands on what was written
+
+-- a partition stores what its writes leave of what it stored when the run began
+abbrev pub StandsOnWrites : Part → Type 0
+StandsOnWrites part = part.now.pairs ≡ after_writes part.opened part.writes
+
+-- each partition does
+abbrev pub AllStand : World → Type 0
+AllStand w = AllByRecursion StandsOnWrites w.parts
