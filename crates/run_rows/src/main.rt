@@ -54,7 +54,7 @@ fn answer_of(
         "serve" => run.serve(rt),
         "files" => run.files(alloc, argument),
         "faults" => shown::faults(alloc),
-        "stuttering" => streams::stuttering(alloc, argument),
+        "stuttering" => streams::read_and_write(alloc, argument),
         "told" => streams::told(alloc, argument),
         "streams" => streams::faults(alloc),
         _ => {

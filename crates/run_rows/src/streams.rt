@@ -47,7 +47,7 @@ impl Write for Stuttering {
 
 /// What two reads and a write of two bytes answer over a reader and a writer whose first calls err: how many, and by which kind
 /// of error.
-pub(crate) fn stuttering(alloc: Global, argument: &str) -> Option<String> {
+pub(crate) fn read_and_write(alloc: Global, argument: &str) -> Option<String> {
     let (errors, kind) = argument.split_once(' ')?;
     let errors = errors.parse::<usize>().ok()?;
     let kind = kind_of(kind)?;
