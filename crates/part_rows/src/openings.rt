@@ -23,7 +23,7 @@ const LIMITS: Limits = Limits {
 };
 
 // An opening here makes fewer calls on files than this.
-const MOST_CALLS: u64 = 200;
+const MOST_CALLS: u64 = 100;
 
 /// How a partition is opened: its number, how many there are, and which calls fail; then its files, a `; ` before each.
 pub(crate) fn answer_of(alloc: Global, row: &str) -> Option<String> {
