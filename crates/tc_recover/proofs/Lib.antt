@@ -12,8 +12,8 @@ mod ReadSteps
 mod OneTiling
 mod ComponentFronts
 mod LawfulPictures
-mod LawfulDisks
-mod LawfulReads
+pub mod LawfulDisks
+pub mod LawfulReads
 mod TakenFiles
 mod NeedlessLeft
 mod StoreReads
