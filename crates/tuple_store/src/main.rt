@@ -2,15 +2,18 @@
 #![tactic(auto)]
 
 mod kits;
+mod reasons;
 
 use kits::empty_kits;
+use reasons::{Errors, say_reason};
 use std::alloc::Global;
-use std::io::{Eprint, Error, ErrorKind};
+use std::io::{Eprint, Error};
 use std::process::ExitCode;
 use std::sync::Wait;
 use std::thread::Threads;
 use tc_edge::{StdSink, StdSource};
 use tc_files::{FileShelf, FileStore};
+use tc_reasons::{DiskError, Kept};
 use tc_running::Free;
 use tc_server::{RunFault, Served, run_program, words};
 use tc_store::{MemShelf, Shelf, Store};
@@ -57,14 +60,14 @@ fn run_in_memory(
     words: Result<Vec<Text>, WordsFault>,
 ) -> ExitCode {
     let alloc = rt.alloc();
-    let served = match empty_kits(alloc) {
-        Ok(kits) => served_over(rt, threads, words, &mut MemShelf::new(kits)),
+    let run = match empty_kits(alloc) {
+        Ok(kits) => run_over(rt, threads, words, &mut MemShelf::new(kits)),
         Err(_) => {
             let words = Err(WordsFault::Memory);
-            served_over(rt, threads, words, &mut MemShelf::new(Vec::new(alloc)))
+            run_over(rt, threads, words, &mut MemShelf::new(Vec::new(alloc)))
         }
     };
-    ExitCode::from(served.status)
+    report(rt, &run, None)
 }
 
 fn run_in_folder(
@@ -74,56 +77,69 @@ fn run_in_folder(
     words: Vec<Text>,
 ) -> ExitCode {
     let mut shelf = FileShelf::new(rt, folder);
-    let served = served_over(rt, threads, Ok(words), &mut shelf);
-    report_reason(rt, &shelf, &served);
-    ExitCode::from(served.status)
+    let run = run_over(rt, threads, Ok(words), &mut shelf);
+    let error = disk_error(&shelf, &run.served);
+    report(rt, &run, error)
+}
+
+/// How a run ended, and why the last read and the last write failed of those that did.
+#[derive(Drop)]
+struct Run<S: Store> {
+    served: Served<S>,
+    read_error: Option<Error>,
+    write_error: Option<Error>,
 }
 
 // Serves standard input over the stores of a shelf.
-fn served_over<H: Shelf>(
+fn run_over<H: Shelf>(
     rt: HostRuntime,
     threads: &(impl Eprint + AllocGlobal + Threads + Wait + Sync),
     words: Result<Vec<Text>, WordsFault>,
     shelf: &mut H,
-) -> Served<H::Store>
+) -> Run<H::Store>
 where
     H::Store: 'static,
     <H::Store as Store>::Device: 'static,
     <H::Store as Store>::Frozen: 'static,
     <H::Store as Store>::Watch: 'static,
 {
-    let mut source = StdSource::new(rt.stdin());
-    let mut sink = StdSink::new(rt.stdout());
-    run_program(threads, words, &mut source, &mut sink, shelf, Free)
-}
-
-// Where a call on files failed, says on a second line of standard error why the system refused it.
-fn report_reason(rt: HostRuntime, shelf: &FileShelf, served: &Served<FileStore>) {
-    if let Some(RunFault::Disk { partition }) = &served.fault {
-        if let Some(error) = reason_of(*partition, shelf, served) {
-            let _ = report_error(rt, *partition, error);
-        }
+    let mut source = StdSource::new(Kept::new(rt.stdin()));
+    let mut sink = StdSink::new(Kept::new(rt.stdout()));
+    let served = run_program(threads, words, &mut source, &mut sink, shelf, Free);
+    Run {
+        served,
+        read_error: source.into_inner().last_error(),
+        write_error: sink.into_inner().last_error(),
     }
 }
 
-// Why the kit of a partition was not given, or else why a call on its files failed.
-fn reason_of(partition: u32, shelf: &FileShelf, served: &Served<FileStore>) -> Option<Error> {
+// Why the kit of a partition was not given, or else why a call on its files failed; nothing where none did.
+fn disk_error(shelf: &FileShelf, served: &Served<FileStore>) -> Option<DiskError> {
+    let Some(RunFault::Disk { partition }) = &served.fault else {
+        return None;
+    };
     if let Some(error) = shelf.last_error() {
-        return Some(error);
+        return Some(DiskError::Folder(error));
     }
-    let kit = served.kits.as_slice().get(partition as usize)?;
-    kit.main
+    let kit = served.kits.as_slice().get(*partition as usize)?;
+    let error = kit
+        .main
         .last_error()
         .or(kit.flusher.last_error())
         .or(kit.merger.last_error())
-        .or(kit.reader.last_error())
+        .or(kit.reader.last_error())?;
+    Some(DiskError::File(error))
 }
 
-// A lock is the only thing that a run would have to wait for.
-fn report_error(rt: HostRuntime, partition: u32, error: Error) -> Result<(), Error> {
-    if error.kind() == ErrorKind::WouldBlock {
-        eprintln!(rt; "p{partition}: another program holds it")
-    } else {
-        eprintln!(rt; "p{partition}: {error}")
+// Says why a run ended, below the line that it has said, and answers its exit status.
+fn report<S: Store>(rt: HostRuntime, run: &Run<S>, disk: Option<DiskError>) -> ExitCode {
+    if let Some(fault) = &run.served.fault {
+        let errors = Errors {
+            read: run.read_error,
+            write: run.write_error,
+            disk,
+        };
+        say_reason(rt, fault, errors);
     }
+    ExitCode::from(run.served.status)
 }
