@@ -59,8 +59,8 @@ test('a store that cannot be served says the status and the text', async (t) => 
   const store = open(t, folder);
   await store.upsert({ id: 1 });
   const held = await errorOf(open(t, folder).get(1));
-  assert.deepEqual([held.status, held.text.split('\n')[0]], [5, 'disk fault in partition 0']);
-  assert.match(held.text, /p0: another program holds it\n/);
+  const lines = ['disk fault in partition 0', `${folder}/p0: another program holds it`, `to see which one: fuser -v ${folder}/p0`];
+  assert.deepEqual([held.status, held.text.trimEnd().split('\n')], [5, lines]);
   await store.close();
   const other = await errorOf(open(t, folder, { partitions: 3 }).get(1));
   assert.deepEqual([other.status, other.text.split('\n')[0]], [8, 'partition 0: found 0 of 1, asked 0 of 3']);
