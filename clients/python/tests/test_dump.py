@@ -9,6 +9,7 @@ import shutil
 from typing import Any, Dict, List, Tuple
 
 from tuple_store_client import Delete, Refused, Store, Upsert
+from tuple_store_client.partition import partitions_of
 from tuple_store_client.stats import stats
 
 from .support import PROGRAM, StoreTest, counted, of_version_2
@@ -164,6 +165,15 @@ class Dumps(StoreTest):
             seen = self.tuplectl("store", "stats")
             self.assertEqual((seen.status, seen.err), (0, ""))
             self.assertIn("1 write in logs", seen.out)
+
+    def test_a_log_is_as_it_was_when_it_was_read(self) -> None:
+        with Store("store", program=PROGRAM, partitions=1) as store:
+            store.upsert({"id": 1})
+            (before,) = partitions_of("store")
+            store.upsert({"id": 2})
+            (after,) = partitions_of("store")
+            for partition, count in (before, 1), (after, 2):
+                self.assertEqual([len(frame) for log in partition.logs for frame in log.frames()], [1] * count)
 
     def test_stats_of_a_store_at_work(self) -> None:
         with Store("store", program=PROGRAM, partitions=1, memory=4096, merge=2) as store:

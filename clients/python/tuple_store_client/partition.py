@@ -75,7 +75,7 @@ def read_partition(folder: str, number: int, count: int) -> Partition:
     closed = []
     for name in file_names(folder):
         path = os.path.join(folder, str(name))
-        content = _open_content(path)
+        content = _open_content(path, name.is_log)
         if content is None:
             closed.append(name)
             continue
@@ -97,13 +97,18 @@ def read_partition(folder: str, number: int, count: int) -> Partition:
     return Partition(folder, maximal, above, superseded, closed)
 
 
-def _open_content(path: str) -> Optional[mmap.mmap]:
-    """The bytes of a file that is open: of more than one byte, and with the gate 1. None of one that is closed."""
+def _open_content(path: str, is_log: bool) -> "bytes | mmap.mmap | None":
+    """The bytes of a file that is open: of more than one byte, and with the gate 1. None of one that is closed.
+
+    A program may be writing it. What stands behind a gate is written before the gate is opened, so the gate is read first: that of
+    a component before its size, and a log, which has one for each frame, from the front to the end."""
     with open(path, "rb") as file:
-        if os.fstat(file.fileno()).st_size < 2:
+        if is_log:
+            log = file.read()
+            return log if len(log) > 1 and log[0] == 1 else None
+        if file.read(1) != b"\1" or os.fstat(file.fileno()).st_size < 2:
             return None
-        content = mmap.mmap(file.fileno(), 0, access=mmap.ACCESS_READ)
-    return content if content[0] == 1 else None
+        return mmap.mmap(file.fileno(), 0, access=mmap.ACCESS_READ)
 
 
 def _lies_within(inner: FileName, outer: FileName) -> bool:
