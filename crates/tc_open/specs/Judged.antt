@@ -5,6 +5,7 @@ use Rattle.tc_store.specs.declared.damage.Damage.TheVariants.{Bytes, Files}
 use Rattle.tc_store.specs.declared.file_name.FileName.{FileName}
 use Rattle.tc_store.specs.Disk.{Disk}
 use Rattle.tc_store.specs.Judging as judging
+use Rattle.tc_store.specs.Moments.{IfTold}
 use Rattle.tc_component.specs.declared.head.Head.{Head}
 use Rattle.tc_component.specs.Loading.{ComponentState, index_in}
 use Rattle.tc_component.specs.Rows.{part_of}
@@ -13,7 +14,7 @@ use Rattle.tc_lsm_model.specs.Contents.{Partition}
 use Rattle.tc_recover.specs.declared.cause.FilesCause.{FilesCause}
 use Rattle.tc_recover.specs.declared.cause.FilesCause.TheVariants as files
 use Rattle.tc_recover.specs.declared.taken.Taken.{Taken}
-use Rattle.tc_recover.specs.Files.{AreNamed}
+use Rattle.tc_recover.specs.Files.{AreNamed, TakesSome}
 use Rattle.tc_recover.specs.Opening.{DiskJudged, Found, IsReadCause}
 use Rattle.tc_recover.specs.Refusals.{Refusal, breaks, strays, clashes}
 use Rattle.tc_replay.specs.FlushedLogs.{IsReplayDamage}
@@ -73,6 +74,14 @@ refusal_of (Files names) = clashes names
 -- The files are not refused, and of what is read of them this holds.
 abbrev pub Passes : Partition → Disk → (Found → Type 0) → Type 0
 Passes part disk P = (found : Found) × DiskJudged part disk (Ok found) × P found
+
+-- the files are not refused
+abbrev pub ArePassed : Partition → Disk → Type 0
+ArePassed part disk = Passes part disk (λ found. Unit {0})
+
+-- Nothing changed but that some files are still, or the files are not refused.
+abbrev pub IsUntouched : Partition → List Disk → List Disk → Type 0
+IsUntouched part old new = TakesSome old new ⊎ IfTold old (ArePassed part)
 
 -- What is answered is what is judged of the files; only damage that is found while the logs are flushed or the components
 -- merged, and that no generation is left, come where they are not refused. Of a fault of the disk and of want of memory nothing

@@ -21,7 +21,7 @@ ghost use Rattle.tc_plain_model.specs.Writes.{Write as PlainWrite};
 ghost use Rattle.tc_recover.specs.Files.{TakesSome};
 ghost use Rattle.tc_recover.specs.Lawful.{DiskOpens};
 ghost use Rattle.tc_recover.specs.Loading.{interval_of};
-ghost use Rattle.tc_open.specs.Judged.{CauseJudged, IsOpenCause, Passes};
+ghost use Rattle.tc_open.specs.Judged.{CauseJudged, IsOpenCause, IsUntouched, Passes};
 ghost use Rattle.tc_open.specs.Listed.{listed_as, most_listed};
 ghost use Rattle.tc_open.specs.OpenCauses.{IfDamaged, IfLayout};
 ghost use Rattle.tc_open.specs.Openings.{IsOpenedAs, LeavesStored};
@@ -38,8 +38,9 @@ use tc_store::{Kit, Store};
 
 /// Opens the partition of this number among so many, whose files are those of the kit's store, at rest: reads them, removes those
 /// that nobody needs, flushes the logs above the components as one component, merges all where more than eight are listed, and
-/// starts the partition with a new log. The first refusal decides, as in `read_files`. `Disk` comes only where a call of the store,
-/// a device or a read failed, `Spent` where no generation is left. After an `Err` the kit is given back.
+/// starts the partition with a new log. The first refusal decides, as in `read_files`, and where files are refused in reading nothing
+/// has changed but that they are still. `Disk` comes only where a call of the store, a device or a read failed, `Spent` where no
+/// generation is left. After an `Err` the kit is given back.
 pub fn open_part<S: Store>(
     alloc: Global,
     kit: Kit<S>,
@@ -72,6 +73,9 @@ pub fn open_part<S: Store>(
     ensures refused { IfTold (S.history kit.store) (λ disk. IfErr result (λ fault. CauseJudged (λ file. S.Frozen.content file) (λ file. S.Frozen.name file) (record { number = number; count = count }) disk fault.cause)) }
     ensures causes { IfErr result (λ fault. IsOpenCause S.Watch (λ file. S.Frozen.size file) (λ file. S.Frozen.content file) (λ file. S.Frozen.name file) (record { number = number; count = count }) fault.cause) }
     ensures layout { IfErr result (λ fault. IfLayout fault.cause (TakesSome (S.history kit.store) (S.history fault.kit.store))) }
+
+    // A refusal in reading leaves each file its bytes.
+    ensures untouched { IfErr result (λ fault. IsUntouched (record { number = number; count = count }) (S.history kit.store) (S.history fault.kit.store)) }
 
     // Where its store tells its files, so do those of its components.
     ensures components { IfOk result (λ p. IfTold (S.history p.store) (λ disk. AreTold (told S.history S.Device.history S.Frozen.content p).components)) }

@@ -1,5 +1,5 @@
 -- What comes of a kit: the engine of its partition, or the kit again, since the partition was not opened.
-use Rattle.std.proofs.Common.{◌≡◌, ◌≤◌, ℕ, List, [], ◌∷◌, is_some, arith, refl, ap, sym, subst, inl, inr}
+use Rattle.std.proofs.Common.{[], ◌∷◌, ◌≡◌, ◌≤◌, ap, arith, inl, inr, is_some, refl, subst, sym, List, ℕ}
 use Rattle.std.specs.Prelude.{Option, Some, None, IfSome, IsSome, IfErr, Result, Ok, Err, option_map, unwrap_or}
 use Rattle.tc_bytes.specs.Counts.{Rose}
 use Rattle.tc_engines.specs.Standing.{partition_at}
@@ -11,7 +11,7 @@ use Rattle.tc_machine.specs.Pictures.{recovered}
 use Rattle.tc_merge.specs.Faults.{IsWatched}
 use Rattle.tc_open.specs.declared.fault.OpenCause.{OpenCause}
 use Rattle.tc_open.specs.declared.fault.OpenCause.TheVariants as opening
-use Rattle.tc_open.specs.Judged.{AreSpent, CauseJudged, IsOpenCause, Passes}
+use Rattle.tc_open.specs.Judged.{ArePassed, AreSpent, CauseJudged, IsOpenCause, IsUntouched, Passes}
 use Rattle.tc_open.specs.OpenCauses as causes
 use Rattle.tc_open.specs.Openings.{IsOpenedAs}
 use Rattle.tc_open.specs.Steps as step
@@ -35,7 +35,7 @@ use Rattle.tc_keeper.specs.Calls.{faults_at, MayBeAsked}
 use Rattle.tc_server.specs.Ending.{limits_of}
 use Rattle.tc_keeper.specs.Faults.{faults_in, faults_of_part, IfDisk, IsNoDamage, IsWrite, NoneFell, OneRose}
 use Rattle.tc_server.specs.OpeningFaults.{fault_of_opening, fault_of_shelf}
-use Rattle.tc_server.specs.KitCauses.{ArePassed, HasLayoutCause, IsJudged}
+use Rattle.tc_server.specs.KitCauses.{HasLayoutCause, IsJudged}
 use Rattle.tc_server.specs.Kits.{IsClosed, IsGivenBack, IsNotGiven, IsOfOpening, IsOpened}
 use Rattle.tc_server.specs.OverFiles.{EndsOver, IsHere}
 use Rattle.tc_keeper.specs.declared.fault.RunFault.{RunFault}
@@ -113,14 +113,16 @@ lawful_both here (disk ∷ past) P Q R both p q = λ cs logs opens. both cs logs
 pub given_back : {S W D F : Type 0} (disks : S → List Disk) (counts : W → Counts) (content : F → Option (List ℕ)) (name : F → FileName) (p count : ℕ) (cause : OpenCause) (kit back : Kit S W D F)
     → OfLawful (partition_at p count) (disks kit.store) (λ cs logs. causes.IfLayout cause ⊥) → OfLawful (partition_at p count) (disks kit.store) (λ cs logs. causes.IfDamaged cause (λ damage. ⊥))
     → OfLawful (partition_at p count) (disks kit.store) (λ cs logs. step.Keeps (partition_at p count) (recovered cs logs).pairs (disks kit.store) (disks back.store))
-    → IfTold (disks kit.store) (λ disk. CauseJudged content name (partition_at p count) disk cause) → back ≡ record kit { store = back.store; main = back.main } → IsWatched (cause ≡ opening.Disk) (counts kit.main) (counts back.main)
+    → IfTold (disks kit.store) (λ disk. CauseJudged content name (partition_at p count) disk cause) → IsUntouched (partition_at p count) (disks kit.store) (disks back.store)
+    → back ≡ record kit { store = back.store; main = back.main } → IsWatched (cause ≡ opening.Disk) (counts kit.main) (counts back.main)
     → IsGivenBack (partition_at p count) (disks kit.store) (faults_in counts kit) (fault_of_opening p count cause) (disks back.store) (faults_in counts back)
-given_back disks counts content name p count cause kit back here undamaged keeps judged same watched = record {
+given_back disks counts content name p count cause kit back here undamaged keeps judged untouched same watched = record {
   of = is_of_opening p count cause;
   keeps = told_map (λ disk. (cs : List Content) (logs : List (List PlainWrite)) → DiskOpens (partition_at p count) disk cs logs → step.Keeps (partition_at p count) (recovered cs logs).pairs (disks kit.store) (disks back.store)) _ (disks kit.store)
       (λ disk all cs logs opens. (all cs logs opens).kept) keeps;
   sound = lawful_both (partition_at p count) (disks kit.store) (λ cs logs. causes.IfLayout cause ⊥) (λ cs logs. causes.IfDamaged cause (λ damage. ⊥)) (λ cs logs. IsNoDamage (fault_of_opening p count cause) × IsHere (fault_of_opening p count cause)) (λ cs logs. undamaged_here p count cause) here undamaged;
   judged = told_map (λ disk. CauseJudged content name (partition_at p count) disk cause) (λ disk. IsJudged (partition_at p count) disk (Some (fault_of_opening p count cause))) (disks kit.store) (refused_by content name p count cause) judged;
+  untouched = untouched;
   spent = λ is. told_map (λ disk. CauseJudged content name (partition_at p count) disk cause) (λ disk. Passes (partition_at p count) disk AreSpent) (disks kit.store) (λ disk. spent_by content name p count cause disk is) judged;
   none_fell = watched_stay counts kit back (cause ≡ opening.Disk) same watched;
   disk = disk_of p count cause (faults_in counts kit) (faults_in counts back) watched.cause;
@@ -135,6 +137,7 @@ pushed_back eyes size options here came counted e outcome disks left i c = recor
   keeps = opened_keeps eyes size options here came counted e outcome disks left i c;
   sound = told_always (λ disk. (cs : List Content) (logs : List (List PlainWrite)) → DiskOpens here disk cs logs → IsNoDamage Memory × IsHere Memory) came (λ disk cs logs opens. (tt, tt));
   judged = told_always (λ disk. IsJudged here disk (Some Memory)) came (λ disk. tt);
+  untouched = inr i.passed;
   spent = λ never. absurd (cc);
   none_fell = none_fell_twice counted (faults_at eyes.counts e) left i.none_fell c.none_fell;
   disk = tt;

@@ -2,10 +2,12 @@
 use Rattle.std.proofs.Common.{◌≡◌, ◌⊎◌, ◌∙◌, ◌<◌, ℕ, List, All, map, length, arith, refl, ap, sym, subst, inr}
 use Rattle.std.specs.Prelude.{Option, Some, None, IfSome, IsSomeAnd, option_map, slice_get}
 use Rattle.std.proofs.lemmas.Option.{slice_get-map}
+use Rattle.std.proofs.lemmas.List.{length-map}
+use Rattle.tc_engines.proofs.PlaceLaws.{at_each-length}
 use Rattle.tc_engines.specs.Places.{AtEach}
 use Rattle.tc_engines.specs.Standing.{partition_at}
 use Rattle.tc_lsm_model.specs.Contents.{Partition}
-use Rattle.tc_open.specs.Judged.{AreSpent, Passes}
+use Rattle.tc_open.specs.Judged.{ArePassed, AreSpent, IsUntouched, Passes}
 use Rattle.tc_engines.specs.WithJobs.{WithJobs}
 use Rattle.tc_store.specs.Disk.{Disk}
 use Rattle.tc_store.specs.KitFaults.{KitFaults}
@@ -16,7 +18,7 @@ use Rattle.tc_work.specs.Moving.{Eyes}
 use Rattle.tc_words.specs.declared.run.Options.{Options}
 use Rattle.tc_keeper.specs.Calls.{faults_at}
 use Rattle.tc_keeper.specs.Faults.{IfDamaged, IfDisk, IsOfRun, NoneFell, OneRose}
-use Rattle.tc_server.specs.KitCauses.{AreAsked, AreGenerationsSpent, AreJudged, ArePassed, HasDiskCauseOver, HasLastGeneration, HasLayoutCause, IsJudged, NoneFellOf}
+use Rattle.tc_server.specs.KitCauses.{AreAsked, AreGenerationsSpent, AreJudged, HasDiskCauseOver, HasLastGeneration, HasLayoutCause, IsJudged, NoneFellOf}
 use Rattle.tc_server.specs.Kits.{AreOpened, IsBegun, IsOpened}
 use Rattle.tc_keeper.specs.Places.{SomeFrom}
 use Rattle.tc_keeper.specs.declared.fault.RunFault.{RunFault}
@@ -104,11 +106,18 @@ module _ {S D F W K : Type 0} (eyes : Eyes S D F W) (disks : K → List Disk) (f
   passed_at : (p : ℕ) → p < length es → IfTold (files p) (ArePassed (partition_at p options.partitions))
   passed_at p below = let e = there es p below in (each-at (λ p e. IsOpened eyes options (partition_at p options.partitions) (files p) (came p) e) p es e.0 opened e.1).passed
 
-  pub judged_all : (kits : ℕ) (fault : Option RunFault) → length es ≡ kits → IfSome fault IsOfRun → AreJudged options.partitions kits files fault
-  judged_all kits fault all kind = record {
-    opened = λ p lower. passed_at p (omega (arith, lower, all));
-    last = λ p is. told_map (ArePassed (partition_at p options.partitions)) (λ disk. IsJudged (partition_at p options.partitions) disk fault) (files p) (λ disk. judged_run (partition_at p options.partitions) disk fault kind) (passed_at p (omega (arith, is, all)));
+  pub judged_all : (ks : List K) (fault : Option RunFault) → AtEach (λ p e k. NoneFell (faults_at eyes.counts e) (faults k)) 0 es ks → IfSome fault IsOfRun → AreJudged options.partitions files fault (map disks ks)
+  judged_all ks fault fell kind = record {
+    opened = λ p lower. passed_at p (omega (arith, lower, many));
+    last = λ p is. told_map (ArePassed (partition_at p options.partitions)) (λ disk. IsJudged (partition_at p options.partitions) disk fault) (files p) (λ disk. judged_run (partition_at p options.partitions) disk fault kind) (passed_at p (omega (arith, is, many)));
+    untouched =
+      each-map disks (λ p left. IsUntouched (partition_at p options.partitions) (files p) left) 0 ks
+      (each-beside (λ p e. IsOpened eyes options (partition_at p options.partitions) (files p) (came p) e) (λ p e k. NoneFell (faults_at eyes.counts e) (faults k)) (λ p k. IsUntouched (partition_at p options.partitions) (files p) (disks k)) 0 es ks
+      (λ p e k i f. inr i.passed) opened fell);
   }
+    where
+      many : length (map disks ks) ≡ length es
+      many = length-map ks disks ∙ sym (at_each-length (λ p e k. NoneFell (faults_at eyes.counts e) (faults k)) 0 es ks fell)
 
   pub spent_all : (ks : List K) → SomeFrom (λ p k. IfTold (disks k) HasLastGeneration) 0 ks → AreGenerationsSpent options.partitions files (map disks ks)
   spent_all ks some =

@@ -8,7 +8,7 @@ use Rattle.tc_engines.specs.Places.{AtEach}
 use Rattle.tc_engines.specs.Standing.{partition_at}
 use Rattle.tc_engines.specs.WithJobs.{WithJobs}
 use Rattle.tc_engines.proofs.PlaceLaws.{at_each-length, at_each-reads, at_each-so}
-use Rattle.tc_open.specs.Judged.{AreSpent, Passes}
+use Rattle.tc_open.specs.Judged.{ArePassed, AreSpent, IsUntouched, Passes}
 use Rattle.tc_run_model.specs.Course.{unopened}
 use Rattle.tc_store.specs.Disk.{Disk}
 use Rattle.tc_store.specs.KitFaults.{KitFaults}
@@ -19,7 +19,7 @@ use Rattle.tc_words.specs.declared.run.Options.{Options}
 use Rattle.tc_keeper.specs.Calls.{faults_at}
 use Rattle.tc_server.specs.Ending.{limits_of}
 use Rattle.tc_keeper.specs.Faults.{IfDisk, IsNoDamage, NoneFell, OneRose}
-use Rattle.tc_server.specs.KitCauses.{AreAsked, AreGenerationsSpent, AreJudged, ArePassed, HasDiskCauseOver, HasLastGeneration, IsJudged, NoneFellOf}
+use Rattle.tc_server.specs.KitCauses.{AreAsked, AreGenerationsSpent, AreJudged, HasDiskCauseOver, HasLastGeneration, IsJudged, NoneFellOf}
 use Rattle.tc_server.specs.Kits.{AreOpened, IsClosed, IsGivenBack, IsNotGiven, IsOfOpening, IsOpened}
 use Rattle.tc_server.specs.OverFiles.{BeginsAs, EndsOver, IsHere, KeepsOpened}
 use Rattle.tc_keeper.specs.Places.{EachFrom, SomeFrom}
@@ -76,7 +76,7 @@ pub record AreGivenBack (options : Options) (before now : ℕ) (files : ℕ → 
   pub keep : EachFrom (λ p. KeepsOpened (partition_at p options.partitions) (files p)) 0 kits
   pub none_fell : NoneFellOf came counted
   pub disk : IfDisk fault (HasDiskCauseOver before now came counted)
-  pub judged : AreJudged options.partitions (length kits) files (Some fault)
+  pub judged : AreJudged options.partitions files (Some fault) kits
   pub spent : fault ≡ Spent → AreGenerationsSpent options.partitions files kits
 
 -- an engine was closed, however it ended
@@ -104,6 +104,13 @@ module _ {S D F W K : Type 0} (eyes : Eyes S D F W) (size : D → ℕ) (disks : 
       (each-beside (λ p e. IsOpened eyes options (partition_at p options.partitions) (files p) (came p) e) (λ p e k. IsEnded eyes size disks faults e k) (λ p k. NoneFell (came p) (faults k)) 0 es ks
       (λ p e k i c. none_fell_twice (came p) (faults_at eyes.counts e) (faults k) i.none_fell c.1.none_fell) opened closed)
 
+  passed_closed : (es : List (WithJobs S D F W)) (ks : List K) → AreOpened eyes options files came es → AtEach (λ p e k. IsEnded eyes size disks faults e k) 0 es ks
+      → EachFrom (λ p left. IsUntouched (partition_at p options.partitions) (files p) left) 0 (map disks ks)
+  passed_closed es ks opened closed =
+      each-map disks (λ p left. IsUntouched (partition_at p options.partitions) (files p) left) 0 ks
+      (each-beside (λ p e. IsOpened eyes options (partition_at p options.partitions) (files p) (came p) e) (λ p e k. IsEnded eyes size disks faults e k) (λ p k. IsUntouched (partition_at p options.partitions) (files p) (disks k)) 0 es ks
+      (λ p e k i c. inr i.passed) opened closed)
+
   -- the files of the partitions that were opened were not refused
   pub passed_at : (es : List (WithJobs S D F W)) (p : ℕ) → AreOpened eyes options files came es → p < length es → IfTold (files p) (ArePassed (partition_at p options.partitions))
   passed_at es p opened below =
@@ -124,6 +131,7 @@ module _ {S D F W K : Type 0} (eyes : Eyes S D F W) (size : D → ℕ) (disks : 
     judged = record {
       opened = λ p lower. passed_at es p opened (omega (arith, lower, many));
       last = λ p is. judged_last (files p) (partition_at p options.partitions) (passed_at es p opened (omega (arith, is, many)));
+      untouched = passed_closed es ks opened closed;
     };
     spent = λ is. absurd (elim n.is [ inl disk ↦ let never : Spent ≡ DiskFault (length es) = sym is ∙ disk in absurd (cc) | inr memory ↦ let never : Spent ≡ Memory = sym is ∙ memory in absurd (cc) ]);
   }
@@ -155,12 +163,16 @@ module _ {S D F W K : Type 0} (eyes : Eyes S D F W) (size : D → ℕ) (disks : 
     judged = record {
       opened = λ p lower. passed_at es p opened (omega (arith, lower, many));
       last = λ p is. let same_place : length es ≡ p = omega (arith, is, many) in subst (λ p. IfTold (files p) (λ disk. IsJudged (partition_at p options.partitions) disk (Some fault))) same_place b.judged;
+      untouched = subst (EachFrom Stays 0) (sym (map-append disks ks (k ∷ []))) (each-append Stays 0 (map disks ks) (disks k ∷ []) (passed_closed es ks opened closed) (subst (λ n. EachFrom Stays n (disks k ∷ [])) at_disks (b.untouched, tt)));
     };
     spent = λ is. subst (SomeFrom Spends 0) (sym (map-append disks ks (k ∷ []))) (some-append Spends 0 (map disks ks) (disks k ∷ []) (subst (λ n. SomeFrom Spends n (disks k ∷ [])) at_disks (inl (inl (b.spent is)))));
   }
     where
       Keeps : ℕ → List Disk → Type 0
       Keeps p = KeepsOpened (partition_at p options.partitions) (files p)
+
+      Stays : ℕ → List Disk → Type 0
+      Stays p left = IsUntouched (partition_at p options.partitions) (files p) left
 
       Fell : ℕ → KitFaults → Type 0
       Fell p left = NoneFell (came p) left
@@ -236,8 +248,9 @@ unasked_back same rose es kits p fault last place many not_given unasked none =
 
 -- ---- where no kit was asked for
 
-pub judged_nothing : (count : ℕ) (files : ℕ → List Disk) (fault : Option RunFault) → AreJudged count 0 files fault
+pub judged_nothing : (count : ℕ) (files : ℕ → List Disk) (fault : Option RunFault) → AreJudged count files fault []
 judged_nothing count files fault = record {
   opened = λ p lower. absurd (omega (arith, lower));
   last = λ p is. absurd (cc);
+  untouched = tt;
 }

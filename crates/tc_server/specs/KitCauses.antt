@@ -13,7 +13,7 @@ use Rattle.tc_lsm_model.specs.Contents.{Partition}
 use Rattle.tc_recover.specs.declared.cause.FilesCause.TheVariants as files
 use Rattle.tc_recover.specs.Opening.{DiskJudged}
 use Rattle.tc_recover.specs.Refusals.{strays}
-use Rattle.tc_open.specs.Judged.{refusal_of, AreSpent, IsOfFiles, Passes}
+use Rattle.tc_open.specs.Judged.{refusal_of, ArePassed, AreSpent, IsOfFiles, IsUntouched, Passes}
 use Rattle.tc_run_model.specs.Course.{max_input}
 use Rattle.tc_server.specs.Ending.{IsRun}
 use Rattle.tc_keeper.specs.Faults.{NoneFell, OneRose}
@@ -39,10 +39,6 @@ AreAsked count (Some (Layout p found found_of asked_of)) kits = (suc p ≡ kits)
 
 -- ---- files
 
--- the files of a partition are not refused
-abbrev pub ArePassed : Partition → Disk → Type 0
-ArePassed here disk = Passes here disk (λ found. Unit {0})
-
 -- What is judged of the files of the last kit as they were given. A run comes to its lines only over files that are not refused,
 -- and what is refused of them is what is judged. Of a fault of the disk and of want of memory nothing is said here.
 abbrev pub IsJudged : Partition → Disk → Option RunFault → Type 0
@@ -56,10 +52,12 @@ IsJudged here disk (Some (Damaged p damage)) = ((p ≡ here.number) × DiskJudge
 IsJudged here disk (Some Memory) = Unit {0}
 IsJudged here disk (Some (Layout p found found_of asked_of)) = DiskJudged here disk (Err (strays found found_of))
 
--- Of so many kits the last one is judged so; the others were opened, since a further one was asked for.
-pub record AreJudged (count kits : ℕ) (files : ℕ → List Disk) (fault : Option RunFault) : Type 0 where
-  pub opened : (p : ℕ) → suc p < kits → IfTold (files p) (ArePassed (partition_at p count))
-  pub last : (p : ℕ) → suc p ≡ kits → IfTold (files p) (λ disk. IsJudged (partition_at p count) disk fault)
+-- Of the kits that are given back the last one is judged so; the others were opened, since a further one was asked for. Where the files of
+-- one are refused in reading, each keeps its bytes.
+pub record AreJudged (count : ℕ) (files : ℕ → List Disk) (fault : Option RunFault) (kits : List (List Disk)) : Type 0 where
+  pub opened : (p : ℕ) → suc p < length kits → IfTold (files p) (ArePassed (partition_at p count))
+  pub last : (p : ℕ) → suc p ≡ length kits → IfTold (files p) (λ disk. IsJudged (partition_at p count) disk fault)
+  pub untouched : EachFrom (λ p left. IsUntouched (partition_at p count) (files p) left) 0 kits
 
 -- other numbers of partitions are those that a file keeps, also over files that are not told
 abbrev pub HasLayoutCause : {F : Type 0} → Type 0 → (F → ℕ) → (F → FileName) → RunFault → Type 0

@@ -5,7 +5,7 @@ use Rattle.tc_engines.specs.Standing.{partition_at}
 use Rattle.tc_engines.specs.WithJobs.{no_jobs, told_of, works_of, WithJobs}
 use Rattle.tc_list.specs.Policies.{listed_least}
 use Rattle.tc_lsm_model.specs.Contents.{Content, Partition}
-use Rattle.tc_open.specs.Judged.{AreSpent, Passes}
+use Rattle.tc_open.specs.Judged.{ArePassed, AreSpent, IsUntouched, Passes}
 use Rattle.tc_open.specs.Openings.{IsOpenedAs}
 use Rattle.tc_part.specs.FilesOut.{OnlyDevicesOut}
 use Rattle.tc_part_model.specs.Leaving.{KeepsStore}
@@ -28,7 +28,7 @@ use Rattle.tc_words.specs.declared.run.Options.{Options}
 use Rattle.tc_keeper.specs.Calls.{faults_at, IsSpentAt, MayBeAsked}
 use Rattle.tc_server.specs.Ending.{limits_of}
 use Rattle.tc_keeper.specs.Faults.{fault_of_engine, IfDisk, IsNoDamage, NoneFell, OneRose}
-use Rattle.tc_server.specs.KitCauses.{ArePassed, HasLastGeneration, IsJudged}
+use Rattle.tc_server.specs.KitCauses.{HasLastGeneration, IsJudged}
 use Rattle.tc_server.specs.OverFiles.{IsHere, KeepsOpened}
 use Rattle.tc_keeper.specs.Places.{EachFrom}
 use Rattle.tc_keeper.specs.declared.fault.RunFault.{RunFault}
@@ -83,6 +83,7 @@ pub record IsGivenBack (here : Partition) (came : List Disk) (counted : KitFault
   pub keeps : KeepsOpened here came disks
   pub sound : IfLawful here came (IsNoDamage fault × IsHere fault)
   pub judged : IfTold came (λ disk. IsJudged here disk (Some fault))
+  pub untouched : IsUntouched here came disks
   pub spent : fault ≡ Spent → IfTold came (λ disk. Passes here disk AreSpent)
   pub none_fell : NoneFell counted counts
   pub disk : IfDisk fault (λ p. OneRose counted counts)

@@ -1,4 +1,4 @@
-use Rattle.std.proofs.Common.{inl}
+use Rattle.std.proofs.Common.{inl, inr}
 use Rattle.std.proofs.lemmas.Result.{IfErr-weaker, IfOk-weaker}
 use Rattle.tc_store.proofs.MomentLemmas.{told_map}
 use Rattle.tc_machine.specs.Pictures.{recovered}
@@ -49,3 +49,9 @@ returns-in-Ok-clause-causes g c =
 
 pub returns-in-Ok-clause-undamaged : goal.returns-in-Ok-clause-undamaged
 returns-in-Ok-clause-undamaged g c = both_lawful (asked c.args.part) _ _ _ (g.S.Store.history c.args.kit.store) c.in-Ok.ensures.stands c.in-Ok.ensures.stands (λ cs logs stands same. c.flush_above.ensures.undamaged cs logs stands)
+
+pub returns-in-Ok-clause-untouched : goal.returns-in-Ok-clause-untouched
+returns-in-Ok-clause-untouched g c =
+    let t = c.in-Ok.tidied in
+    let passed = told_map _ _ (g.S.Store.history c.args.kit.store) (λ disk judged. (found_in t.list t.writes.items, judged, tt)) c.in-Ok.ensures.judged in
+    IfErr-weaker c.flush_above.result _ _ (λ fault given. inr passed) c.flush_above.ensures.given_back

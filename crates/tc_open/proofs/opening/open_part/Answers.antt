@@ -1,4 +1,4 @@
-use Rattle.std.proofs.Common.{◌∙◌, ◌+◌, ap, sym, subst, ◌≡◌, ◌⊎◌, map}
+use Rattle.std.proofs.Common.{◌+◌, ◌∙◌, ◌≡◌, ◌⊎◌, ap, inr, map, subst, sym}
 use Rattle.std.specs.Prelude.{Contains}
 use Rattle.std.proofs.lemmas.Result.{IfErr-weaker, IfOk-weaker}
 use Rattle.tc_store.specs.declared.file_name.FileName.{FileName}
@@ -107,3 +107,8 @@ returns-in-Ok-clause-refused g c =
     let list = c.in-Ok.field-0.list in
     told_map _ _ (g.S.Store.history c.args.kit.store) (λ disk passes. IfErr-weaker c.start_part.result _ _ (λ fault is. start_judged (λ file. g.S.Frozen.Frozen.content file) (λ file. g.S.Frozen.Frozen.name file) part list disk fault.cause passes is.0 is.1)
     (err_joined c.start_part.result _ _ c.start_part.ensures.causes (err_tells c.start_part.result _ _ c.start_part.ensures.spent.0))) c.in-Ok.ensures.judged
+
+pub returns-in-Ok-clause-untouched : goal.returns-in-Ok-clause-untouched
+returns-in-Ok-clause-untouched g c =
+    let passed = told_map _ _ (g.S.Store.history c.args.kit.store) (λ disk passes. (passes.0, passes.1, tt)) c.in-Ok.ensures.judged in
+    IfErr-weaker c.start_part.result _ _ (λ fault given. inr passed) c.start_part.ensures.given_back

@@ -1,4 +1,4 @@
-use Rattle.std.proofs.Common.{List, sym, subst}
+use Rattle.std.proofs.Common.{List, inl, subst, sym}
 use Rattle.tc_store.specs.Moments.{IfTold}
 use Rattle.tc_plain_model.specs.Writes.{Write}
 use Rattle.tc_lsm_model.specs.Contents.{Content}
@@ -66,3 +66,6 @@ pub returns-in-Ok-clause-components : goal.returns-in-Ok-clause-components
 returns-in-Ok-clause-components g c =
     let read = c.in-Ok.ensures.read in
     read_tells (λ file. g.S.Frozen.Frozen.content file) (λ file. g.S.Frozen.Frozen.name file) c.in-Ok.read.list c.in-Ok.read.left.items read.0 c.in-Ok.read.last (g.S.Store.history c.args.kit.store) (g.S.Store.history c.read_files.new.store) read.1 read.2
+
+pub returns-in-Err-clause-untouched : goal.returns-in-Err-clause-untouched
+returns-in-Err-clause-untouched g c = inl c.in-Err.ensures.partly

@@ -1,4 +1,4 @@
-use Rattle.std.proofs.Common.{◌∙◌, [], ap}
+use Rattle.std.proofs.Common.{[], ◌∙◌, ap, inr}
 use Rattle.std.proofs.lemmas.Result.{IfErr-weaker, IfOk-weaker}
 use Rattle.tc_store.proofs.MomentLemmas.{told_map}
 use Rattle.tc_machine.specs.Pictures.{recovered}
@@ -52,3 +52,8 @@ returns-in-Ok-clause-causes g c =
     IfErr-weaker c.merge_many.result _ _
     (λ fault is. merge_caused (λ file. g.S.Frozen.Frozen.content file) (λ file. g.S.Frozen.Frozen.name file) (asked c.args.part) c.in-Ok.rested.list _ (λ file. g.S.Frozen.Frozen.size file) fault.cause is.0 is.1)
     (err_joined c.merge_many.result _ _ c.merge_many.ensures.causes c.merge_many.ensures.damaged)
+
+pub returns-in-Ok-clause-untouched : goal.returns-in-Ok-clause-untouched
+returns-in-Ok-clause-untouched g c =
+    let passed = told_map _ _ (g.S.Store.history c.args.kit.store) (λ disk passes. (passes.0, passes.1, tt)) c.in-Ok.ensures.judged in
+    IfErr-weaker c.merge_many.result _ _ (λ fault given. inr passed) c.merge_many.ensures.given_back

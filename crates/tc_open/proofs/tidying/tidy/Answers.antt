@@ -1,3 +1,6 @@
+use Rattle.tc_recover.specs.Opening.{found_in}
+use Rattle.tc_store.proofs.MomentLemmas.{told_map}
+use Rattle.std.proofs.Common.{inr}
 use Rattle.tc_machine.specs.Pictures.{recovered}
 use Rattle.tc_recover.specs.Refusals.{asked}
 use Rattle.tc_open.specs.Steps.{Keeps}
@@ -42,3 +45,8 @@ returns-in-Ok-remove_files-clause-components g c = told_still _ (g.S.Store.histo
 pub returns-in-Err-remove_files-clause-undamaged : goal.returns-in-Err-remove_files-clause-undamaged
 returns-in-Err-remove_files-clause-undamaged g c =
     both_lawful (asked c.args.part) _ _ _ (g.S.Store.history c.args.kit.store) c.in-Ok.ensures.stands c.in-Ok.ensures.stands (λ cs logs stands same. call_sound c.in-Err-remove_files.fault.cause c.in-Err-remove_files.ensures.causes)
+
+pub returns-in-Err-remove_files-clause-untouched : goal.returns-in-Err-remove_files-clause-untouched
+returns-in-Err-remove_files-clause-untouched g c =
+    let read = c.in-Ok.field-0.read in
+    inr (told_map _ _ (g.S.Store.history c.args.kit.store) (λ disk judged. (found_in read.list read.writes.items, judged, tt)) c.in-Ok.ensures.judged)

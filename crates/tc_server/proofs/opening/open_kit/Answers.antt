@@ -13,7 +13,7 @@ use Rattle.tc_server.proofs.opening.open_kit.Goals as goal
 pub returns-in-Err-clause-back : goal.returns-in-Err-clause-back
 returns-in-Err-clause-back g c =
     rw c.of_opening.ensures (given_back g.S.Store.history g.S.Watch.Watch.counts g.S.Frozen.Frozen.content g.S.Frozen.Frozen.name c.args.number c.args.options.now.partitions c.in-Err.field-0.cause c.args.kit c.in-Err.field-0.kit
-    c.in-Err.ensures.lawful c.in-Err.ensures.undamaged c.in-Err.ensures.kept c.in-Err.ensures.refused c.in-Err.ensures.given_back c.in-Err.ensures.failed)
+    c.in-Err.ensures.lawful c.in-Err.ensures.undamaged c.in-Err.ensures.kept c.in-Err.ensures.refused c.in-Err.ensures.untouched c.in-Err.ensures.given_back c.in-Err.ensures.failed)
 
 pub returns-in-Err-clause-layout : goal.returns-in-Err-clause-layout
 returns-in-Err-clause-layout g c =

@@ -13,7 +13,7 @@ use Rattle.tc_words.specs.declared.run.Options.{Options}
 use Rattle.tc_server.specs.Ending.{limits_of}
 use Rattle.tc_keeper.specs.Faults.{faults_in, OneRose}
 use Rattle.tc_keeper.specs.Calls.{faults_at}
-use Rattle.tc_server.specs.KitCauses.{AreAsked, AreJudged}
+use Rattle.tc_server.specs.KitCauses.{AreAsked}
 use Rattle.tc_server.specs.Kits.{AreOpened, IsGivenBack}
 use Rattle.tc_keeper.specs.declared.fault.RunFault.TheVariants.{Memory}
 use Rattle.tc_keeper.proofs.BegunKeepers.{readers_home}
@@ -114,8 +114,7 @@ pub returns-in-Ok-open_all-clause-judged : goal.returns-in-Ok-open_all-clause-ju
 returns-in-Ok-open_all-clause-judged g c =
     let kits = ap (λ kits. kits.items) c.of-in-Ok-open_all.ensures.kits in
     let opened = subst (λ o. AreOpened (eyes g.H.Store.Store.history g.H.Store.Device.Device.history g.H.Store.Frozen.Frozen.content g.H.Store.Device.Device.name g.H.Store.Frozen.Frozen.size g.H.Store.Watch.Watch.counts) o (g.H.Shelf.files c.args.shelf.now) (g.H.Shelf.kit_faults c.args.shelf.now) c.open_all.new.engines) c.options_asked-options.ensures c.open_all.ensures.opened in
-    let all : length c.open_all.new.engines ≡ (options_asked c.args.asked.now).partitions = c.in-Ok-open_all.ensures.all ∙ ap (λ (o : Options). o.partitions) c.options_asked-options.ensures in
-    rw (c.of-in-Ok-open_all.ensures.fault, kits) (judged_all (eyes g.H.Store.Store.history g.H.Store.Device.Device.history g.H.Store.Frozen.Frozen.content g.H.Store.Device.Device.name g.H.Store.Frozen.Frozen.size g.H.Store.Watch.Watch.counts) (λ (kit : Kit g.row.H-Store.Denot g.row.H-Store-Watch.Denot g.row.H-Store-Device.Denot g.row.H-Store-Frozen.Denot). g.H.Store.Store.history kit.store) (faults_in g.H.Store.Watch.Watch.counts) (options_asked c.args.asked.now) (g.H.Shelf.files c.args.shelf.now) (g.H.Shelf.kit_faults c.args.shelf.now) c.open_all.new.engines opened (length c.serve_over-kits.result.0.items) c.serve_over-kits.result.1 (all ∙ sym c.serve_over-kits.ensures.kits) c.serve_over-kits.ensures.kind)
+    rw (c.of-in-Ok-open_all.ensures.fault, kits) (judged_all (eyes g.H.Store.Store.history g.H.Store.Device.Device.history g.H.Store.Frozen.Frozen.content g.H.Store.Device.Device.name g.H.Store.Frozen.Frozen.size g.H.Store.Watch.Watch.counts) (λ (kit : Kit g.row.H-Store.Denot g.row.H-Store-Watch.Denot g.row.H-Store-Device.Denot g.row.H-Store-Frozen.Denot). g.H.Store.Store.history kit.store) (faults_in g.H.Store.Watch.Watch.counts) (options_asked c.args.asked.now) (g.H.Shelf.files c.args.shelf.now) (g.H.Shelf.kit_faults c.args.shelf.now) c.open_all.new.engines opened c.serve_over-kits.result.0.items c.serve_over-kits.result.1 c.serve_over-kits.ensures.counts c.serve_over-kits.ensures.kind)
 
 pub returns-in-Ok-open_all-clause-layout : goal.returns-in-Ok-open_all-clause-layout
 returns-in-Ok-open_all-clause-layout g c =
@@ -227,8 +226,7 @@ returns-in-Err-open_all-clause-judged g c =
     let some : length c.open_all.new.engines < (options_asked c.args.asked.now).partitions = subst (λ (o : Options). length c.open_all.new.engines < o.partitions) c.options_asked-options.ensures c.in-Err-open_all.ensures.some in
     let back = subst (λ (o : Options). IfSome last (λ kit. IsGivenBack (partition_at (length c.open_all.new.engines) o.partitions) (g.H.Shelf.files c.args.shelf.now (length c.open_all.new.engines)) (g.H.Shelf.kit_faults c.args.shelf.now (length c.open_all.new.engines)) c.in-Err-open_all.field-0.fault (g.H.Store.Store.history kit.store) (faults_in g.H.Store.Watch.Watch.counts kit))) c.options_asked-options.ensures c.in-Err-open_all.ensures.back in
     let b = given_back_all (eyes g.H.Store.Store.history g.H.Store.Device.Device.history g.H.Store.Frozen.Frozen.content g.H.Store.Device.Device.name g.H.Store.Frozen.Frozen.size g.H.Store.Watch.Watch.counts) g.H.Store.Device.Device.size (λ (kit : Kit _ _ _ _). g.H.Store.Store.history kit.store) (faults_in g.H.Store.Watch.Watch.counts) (options_asked c.args.asked.now) (g.H.Shelf.files c.args.shelf.now) (g.H.Shelf.kit_faults c.args.shelf.now) (g.H.Shelf.faults c.args.shelf.now) (g.H.Shelf.faults c.open_all.new.shelf) c.open_all.new.engines ks last c.in-Err-open_all.field-0.fault some opened (kits_ended (eyes g.H.Store.Store.history g.H.Store.Device.Device.history g.H.Store.Frozen.Frozen.content g.H.Store.Device.Device.name g.H.Store.Frozen.Frozen.size g.H.Store.Watch.Watch.counts) g.H.Store.Device.Device.size (λ (f : finished _ _ _ _). f.kit) (λ (f : finished _ _ _ _). f.outcome) (λ (kit : Kit _ _ _ _). g.H.Store.Store.history kit.store) (faults_in g.H.Store.Watch.Watch.counts) c.open_all.new.engines c.close_all-closed.ensures.0 c.close_all-closed.ensures.3) back c.in-Err-open_all.ensures.not_given in
-    let many = length-map (ks ++ option_to_list last) (λ (kit : Kit _ _ _ _). g.H.Store.Store.history kit.store) in
-    rw (c.of-in-Err-open_all.ensures.fault, kits) (subst (λ n. AreJudged (options_asked c.args.asked.now).partitions n (g.H.Shelf.files c.args.shelf.now) (Some c.in-Err-open_all.field-0.fault)) many b.judged)
+    rw (c.of-in-Err-open_all.ensures.fault, kits) b.judged
 
 pub returns-in-Err-open_all-clause-usage : goal.returns-in-Err-open_all-clause-usage
 returns-in-Err-open_all-clause-usage g c =
