@@ -2,7 +2,7 @@ use Rattle.std.proofs.Common.{ap, ◌∙◌}
 use Rattle.pace_rows.proofs.views.seen.Goals as goal
 
 pub rounds-seen-requires-after_bounds : goal.rounds-seen-requires-after_bounds
-rounds-seen-requires-after_bounds g c κs =
+rounds-seen-requires-after_bounds g c κs within =
     let made = c.in_ok-publisher.ensures in
     let lens = c.lens.ensures in (
       made.0,
