@@ -5,7 +5,6 @@
  * bytes. With FAILING_COUNT, a path, the number of calls that were made is written there at the end.
  */
 #define _GNU_SOURCE
-#include <dirent.h>
 #include <dlfcn.h>
 #include <errno.h>
 #include <fcntl.h>
@@ -16,6 +15,7 @@
 #include <string.h>
 #include <sys/file.h>
 #include <sys/stat.h>
+#include <sys/syscall.h>
 #include <unistd.h>
 
 enum { NONE, FILES, MEMORY };
@@ -31,7 +31,7 @@ __attribute__((constructor)) static void begin(void) {
     counted = calls && !strcmp(calls, "files") ? FILES : calls && !strcmp(calls, "memory") ? MEMORY : NONE;
 }
 
-__attribute__((destructor)) static void end(void) {
+static void end(void) {
     counted = NONE;
     const char *path = getenv("FAILING_COUNT");
     FILE *file = path ? fopen(path, "w") : NULL;
@@ -39,6 +39,16 @@ __attribute__((destructor)) static void end(void) {
         fprintf(file, "%ld\n", (long)made);
         fclose(file);
     }
+}
+
+/* The program ends by this call, or returns from `main`. */
+void _exit(int status) {
+    end();
+    for (;;) syscall(SYS_exit_group, status);
+}
+
+__attribute__((destructor)) static void return_from_main(void) {
+    end();
 }
 
 /* Whether this call, of one of the two kinds, is the one; then errno says why it fails. */
@@ -106,16 +116,9 @@ WITHOUT_BYTES(unlink, (const char *path), const char *, (path))
 WITHOUT_BYTES(mkdir, (const char *path, mode_t mode), TWO(const char *, mode_t), (path, mode))
 WITHOUT_BYTES(statx, (int at, const char *path, int flags, unsigned mask, struct statx *into), FIVE(int, const char *, int, unsigned, struct statx *), (at, path, flags, mask, into))
 
-struct dirent *readdir(DIR *folder) {
-    static struct dirent *(*next)(DIR *);
-    if (!next) next = (struct dirent *(*)(DIR *))dlsym(RTLD_NEXT, "readdir");
-    return is_it(FILES) && failing_with ? NULL : next(folder);
-}
-
-struct dirent64 *readdir64(DIR *folder) {
-    static struct dirent64 *(*next)(DIR *);
-    if (!next) next = (struct dirent64 *(*)(DIR *))dlsym(RTLD_NEXT, "readdir64");
-    return is_it(FILES) && failing_with ? NULL : next(folder);
+ssize_t getdents64(int fd, void *into, size_t room) {
+    NEXT(ssize_t, "getdents64", int, void *, size_t);
+    return is_it(FILES) && failing_with ? -1 : next(fd, into, room);
 }
 
 extern void *__libc_malloc(size_t size);
