@@ -111,9 +111,9 @@ module _ {S D F W K : Type 0} (eyes : Eyes S D F W) (disks : K → List Disk) (f
     opened = λ p lower. passed_at p (omega (arith, lower, many));
     last = λ p is. told_map (ArePassed (partition_at p options.partitions)) (λ disk. IsJudged (partition_at p options.partitions) disk fault) (files p) (λ disk. judged_run (partition_at p options.partitions) disk fault kind) (passed_at p (omega (arith, is, many)));
     untouched =
-      each-map disks (λ p left. IsUntouched (partition_at p options.partitions) (files p) left) 0 ks
-      (each-beside (λ p e. IsOpened eyes options (partition_at p options.partitions) (files p) (came p) e) (λ p e k. NoneFell (faults_at eyes.counts e) (faults k)) (λ p k. IsUntouched (partition_at p options.partitions) (files p) (disks k)) 0 es ks
-      (λ p e k i f. inr i.passed) opened fell);
+        each-map disks (λ p left. IsUntouched (partition_at p options.partitions) (files p) left) 0 ks
+        (each-beside (λ p e. IsOpened eyes options (partition_at p options.partitions) (files p) (came p) e) (λ p e k. NoneFell (faults_at eyes.counts e) (faults k)) (λ p k. IsUntouched (partition_at p options.partitions) (files p) (disks k)) 0 es ks
+        (λ p e k i f. inr i.passed) opened fell);
   }
     where
       many : length (map disks ks) ≡ length es
