@@ -315,8 +315,10 @@ class Disk:
         elif file:
             file.make_durable(*durable)
         else:
-            for it in durable[0]:
-                self.files[it].make_durable(*self.files[it].sealed)
+            # Another thread's sync of the folder may have ended first, and made the name durable.
+            for file in [self.files[it] for it in durable[0] if it in self.files]:
+                if file.sealed:
+                    file.make_durable(*file.sealed)
             self.folders.update({it: True for it in durable[1]})
 
     def is_pending(self, name):
