@@ -259,6 +259,9 @@ class Ends(StoreTest):
             raise KeyError
 
     def test_a_call_that_is_broken_off_leaves_no_reply(self) -> None:
+        # A shell has what it runs in the background ignore this signal.
+        before = signal.signal(signal.SIGINT, signal.default_int_handler)
+        self.addCleanup(signal.signal, signal.SIGINT, before)
         with Store("people", program=PROGRAM) as store:
             store.upsert(ADA)
             os.kill(store._process.pid, signal.SIGSTOP)
