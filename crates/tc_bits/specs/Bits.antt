@@ -1,0 +1,89 @@
+-- Columns of numbers that stand one after the other, each in the same number of bits.
+use Rattle.std.specs.Prelude.{◌≡◌, ◌≤◌, ◌<◌, ℕ, ◌+◌, ◌-◌, ◌*◌, ◌/◌, ◌%◌, ◌^◌, max, ◌==◌, ◌&&◌, nat_le, nat_lt, if◌then◌else◌, Bool, IsTrue, List, [], ◌∷◌, length, map, take, drop, Option, Some, None}
+use Rattle.std.specs.Int.{w32, leading_zeros, bytes_high_first}
+use Rattle.std.specs.List.{range_with_len, AllByRecursion}
+
+-- the greatest width of a column
+abbrev pub max_width : ℕ
+max_width = 32
+
+-- how many binary digits a number of 32 bits has, and at least 1
+abbrev pub digits : ℕ → ℕ
+digits n = max 1 (32 - leading_zeros w32 n)
+
+abbrev pub greatest : List ℕ → ℕ
+greatest [] = 0
+greatest (n ∷ ns) = max n (greatest ns)
+
+-- the least width that holds each element of a column, and 0 where there is none
+abbrev pub width : List ℕ → ℕ
+width [] = 0
+width (n ∷ ns) = digits (greatest (n ∷ ns))
+
+-- how many bytes a column takes, and how many bits of its last one are filled with zeros
+abbrev pub column_size : ℕ → ℕ → ℕ
+column_size count w = (count * w + 7) / 8
+
+abbrev pub filling : ℕ → ℕ → ℕ
+filling count w = 8 * column_size count w - count * w
+
+-- the number of which these are the digits in base 2 ^ w, the highest first
+abbrev pub joined : ℕ → List ℕ → ℕ
+joined w [] = 0
+joined w (n ∷ ns) = n * 2 ^ (w * length ns) + joined w ns
+
+-- the elements one after the other, highest bit first, and zeros after the last one
+abbrev pub column : ℕ → List ℕ → List ℕ
+column w ns = bytes_high_first (column_size (length ns) w) (joined w ns * 2 ^ filling (length ns) w)
+
+-- ---- reading
+
+-- the number that bytes are, the highest first
+abbrev pub value : List ℕ → ℕ
+value [] = 0
+value (b ∷ bytes) = b * 2 ^ (8 * length bytes) + value bytes
+
+-- so many bits of a number, above so many others
+abbrev pub field_of : ℕ → ℕ → ℕ → ℕ
+field_of above w n = n / 2 ^ above % 2 ^ w
+
+-- the number with these bits in their place
+abbrev pub with_field : ℕ → ℕ → ℕ → ℕ → ℕ
+with_field above w v n = n / 2 ^ (above + w) * 2 ^ (above + w) + (v * 2 ^ above + n % 2 ^ above)
+
+-- how many bits stand after so many of them at a place
+abbrev pub bits_after : ℕ → ℕ → List ℕ → ℕ
+bits_after w place bytes = 8 * length bytes - (place + w)
+
+-- so many bits after so many others, as a number
+abbrev pub bits_at : ℕ → ℕ → List ℕ → ℕ
+bits_at w place bytes = field_of (bits_after w place bytes) w (value bytes)
+
+-- the number that bytes are once these bits were written
+abbrev pub with_bits : ℕ → ℕ → ℕ → List ℕ → ℕ
+with_bits w place v bytes = with_field (bits_after w place bytes) w v (value bytes)
+
+abbrev pub elements : ℕ → ℕ → List ℕ → List ℕ
+elements w count bytes = map (λ i. bits_at w (w * i) bytes) (range_with_len 0 count)
+
+-- a width is 0 exactly where there is no element
+abbrev pub is_width_for : ℕ → ℕ → Bool
+is_width_for w count = if count == 0 then w == 0 else nat_lt 0 w
+
+-- whether bytes are a column of so many elements
+abbrev pub is_column : ℕ → ℕ → List ℕ → Bool
+is_column w count bytes =
+    nat_le w max_width && (is_width_for w count && ((length bytes == column_size count w) && (value bytes % 2 ^ filling count w == 0)))
+
+-- the bytes are the column of these elements
+pub record IsColumn (w : ℕ) (ns : List ℕ) (bytes : List ℕ) : Type 0 where
+  pub most : w ≤ max_width
+  pub fits : IsTrue (is_width_for w (length ns))
+  pub each : AllByRecursion (λ n. n < 2 ^ w) ns
+  pub spelled : bytes ≡ column w ns
+
+-- so many elements from the front of bytes, where the width that is told is the least one
+abbrev pub column_at : ℕ → ℕ → List ℕ → Option (List ℕ × List ℕ)
+column_at w count bytes =
+    let front = take (column_size count w) bytes in
+    if is_column w count front && (w == width (elements w count front)) then Some (elements w count front, drop (column_size count w) bytes) else None
