@@ -22,15 +22,13 @@ high_first-append (suc k) j a b below =
     let n = a * 2 ^ (8 * j) + b in
     let first : byte_at (k + j) n ≡ byte_at k a =
     byte_is (k + j) n ∙ ap (λ m. field_of m 8 n) (spread k j) ∙ field-after (8 * k) (8 * j) 8 a b below ∙ sym (byte_is k a) in
-    ap (λ m. bytes_high_first m n) (next k j)
+    let next : suc k + j ≡ suc (k + j) = omega arith in
+    ap (λ m. bytes_high_first m n) next
     ∙ ap (λ c. c ∷ bytes_high_first (k + j) n) first
     ∙ ap (λ bs. byte_at k a ∷ bs) (high_first-append k j a b below)
   where
     spread : (k j : ℕ) → 8 * (k + j) ≡ 8 * j + 8 * k
     spread k j = omega arith
-
-    next : (k j : ℕ) → suc k + j ≡ suc (k + j)
-    next k j = omega arith
 
 numbers_are : (w : ℕ) (ns : List ℕ) → AllByRecursion (λ n. n < 2 ^ (8 * w)) ns → flat_map (bytes_high_first w) ns ≡ bytes_high_first (w * length ns) (joined (8 * w) ns)
 numbers_are w [] each = sym (ap (λ m. bytes_high_first m 0) (nothing w))
@@ -39,17 +37,15 @@ numbers_are w [] each = sym (ap (λ m. bytes_high_first m 0) (nothing w))
     nothing w = omega arith
 numbers_are w (n ∷ ns) each =
     let k = length ns in
+    let next : w + w * k ≡ w * suc k = omega arith in
     let low : joined (8 * w) ns < 2 ^ (8 * (w * k)) = subst (λ m. joined (8 * w) ns < 2 ^ m) (turned w k) (joined-below (8 * w) ns each.1) in
     ap (λ bs. bytes_high_first w n ++ bs) (numbers_are w ns each.1)
     ∙ sym (high_first-append w (w * k) n (joined (8 * w) ns) low)
     ∙ ap (λ m. bytes_high_first (w + w * k) (n * 2 ^ m + joined (8 * w) ns)) (sym (turned w k))
-    ∙ ap (λ m. bytes_high_first m (joined (8 * w) (n ∷ ns))) (next w k)
+    ∙ ap (λ m. bytes_high_first m (joined (8 * w) (n ∷ ns))) next
   where
     turned : (w k : ℕ) → 8 * w * k ≡ 8 * (w * k)
     turned w k = omega arith
-
-    next : (w k : ℕ) → w + w * k ≡ w * suc k
-    next w k = omega arith
 
 whole_bytes : (k : ℕ) → (8 * k + 7) / 8 ≡ k
 whole_bytes k = omega arith

@@ -49,9 +49,6 @@ written-below above w v n fits =
 pub with_field-above : (above w v n : ℕ) → v < 2 ^ w → with_field above w v n / 2 ^ (above + w) ≡ n / 2 ^ (above + w)
 with_field-above above w v n fits = shr_high (n / 2 ^ (above + w)) (above + w) (v * 2 ^ above + n % 2 ^ above) (written-below above w v n fits)
 
-with_field-mod : (above w v n : ℕ) → v < 2 ^ w → with_field above w v n % 2 ^ (above + w) ≡ v * 2 ^ above + n % 2 ^ above
-with_field-mod above w v n fits = mod_low (n / 2 ^ (above + w)) (above + w) (v * 2 ^ above + n % 2 ^ above) (written-below above w v n fits)
-
 -- as the same with all above as a multiple of the step
 regroup : (above w v n : ℕ) → with_field above w v n ≡ (n / 2 ^ (above + w) * 2 ^ w + v) * 2 ^ above + n % 2 ^ above
 regroup above w v n = rw (pow-add 2 above w) (omega arith)

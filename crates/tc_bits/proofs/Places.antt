@@ -2,9 +2,9 @@
 use Rattle.std.proofs.Common.{◌≡◌, ◌≤◌, ◌<◌, ℕ, ◌+◌, ◌-◌, ◌*◌, ◌/◌, ◌%◌, ◌^◌, List, ◌++◌, length, take, drop, sym, ap, ◌∙◌, subst, arith, length-append}
 use Rattle.std.proofs.Math.Nat.{mod-eq_of_lt}
 use Rattle.std.proofs.lemmas.List.{take-append-drop, length-take-le, length-drop}
-use Rattle.tc_bits.specs.Bits.{value, field_of, with_field, bits_after, bits_at, with_bits}
+use Rattle.tc_bits.specs.Bits.{value, field_of, with_field, bits_after, bits_at, with_bits, IsAligned}
 use Rattle.tc_bits.proofs.Fields.{field-after, field-before, with_field-after, with_field-before, with_field-fits}
-use Rattle.tc_bits.proofs.Values.{AreBytes, AreBytes-drop, value-append, value-below}
+use Rattle.tc_bits.proofs.Values.{AreBytes, AreBytes-take, AreBytes-drop, value-append, value-below}
 
 -- bits in the front of bytes
 pub bits_in_front : (w place : ℕ) (front back : List ℕ) → AreBytes back → place + w ≤ 8 * length front → bits_at w place (front ++ back) ≡ bits_at w place front
@@ -66,6 +66,28 @@ bits_from w place bytes room =
     sym (bits_after_bytes w (place % 8) (take start bytes) (drop start bytes) (rw (length-drop start bytes) (omega (arith, room))))
     ∙ ap (bits_at w (8 * length (take start bytes) + place % 8)) (take-append-drop start bytes)
     ∙ ap (λ k. bits_at w k bytes) at
+
+-- bits that fill whole bytes are the number that these are
+pub bytes_at_place : (w k place : ℕ) (bytes : List ℕ) → w ≡ 8 * k → AreBytes bytes → IsAligned w place → place + w ≤ 8 * length bytes → value (take k (drop (place / 8) bytes)) ≡ bits_at w place bytes
+bytes_at_place w k place bytes same each aligned room =
+    let start : place % 8 ≡ 0 = aligned (omega (arith, same)) in
+    let back = drop (place / 8) bytes in
+    let each_back = AreBytes-drop (place / 8) bytes each in
+    let long : k ≤ length back = rw (length-drop (place / 8) bytes) (omega (arith, start, room, same)) in
+    let some : length (take k back) ≡ k = length-take-le k back long in
+    let nothing : bits_after w 0 (take k back) ≡ 0 = rw (some, same) (omega arith) in
+    let below : value (take k back) < 2 ^ w = subst (λ n. value (take k back) < 2 ^ n) (ap (λ n. 8 * n) some ∙ sym same) (value-below (take k back) (AreBytes-take k back each_back)) in
+    sym
+    (sym (bits_from w place bytes room)
+    ∙ ap (λ p. bits_at w p back) start
+    ∙ ap (bits_at w 0) (sym (take-append-drop k back))
+    ∙ bits_in_front w 0 (take k back) (drop k back) (AreBytes-drop k back each_back) (rw (some, same) (omega arith))
+    ∙ ap (λ a. field_of a w (value (take k back))) nothing
+    ∙ ap (λ n. n % 2 ^ w) (plain (value (take k back)))
+    ∙ mod-eq_of_lt below)
+  where
+    plain : (n : ℕ) → n / 2 ^ 0 ≡ n
+    plain n = omega arith
 
 -- ---- written
 

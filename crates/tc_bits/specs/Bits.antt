@@ -1,5 +1,5 @@
 -- Columns of numbers that stand one after the other, each in the same number of bits.
-use Rattle.std.specs.Prelude.{◌≡◌, ◌≤◌, ◌<◌, ℕ, ◌+◌, ◌-◌, ◌*◌, ◌/◌, ◌%◌, ◌^◌, max, ◌==◌, ◌&&◌, nat_le, nat_lt, if◌then◌else◌, Bool, IsTrue, List, [], ◌∷◌, length, map, take, drop, Option, Some, None}
+use Rattle.std.specs.Prelude.{◌≡◌, ◌≤◌, ◌<◌, ℕ, ◌+◌, ◌-◌, ◌*◌, ◌/◌, ◌%◌, ◌^◌, max, ◌==◌, ◌&&◌, nat_le, nat_lt, if◌then◌else◌, Bool, IsTrue, List, [], ◌∷◌, length, map}
 use Rattle.std.specs.Int.{w32, leading_zeros, bytes_high_first}
 use Rattle.std.specs.List.{range_with_len, AllByRecursion}
 
@@ -10,15 +10,6 @@ max_width = 32
 -- how many binary digits a number of 32 bits has, and at least 1
 abbrev pub digits : ℕ → ℕ
 digits n = max 1 (32 - leading_zeros w32 n)
-
-abbrev pub greatest : List ℕ → ℕ
-greatest [] = 0
-greatest (n ∷ ns) = max n (greatest ns)
-
--- the least width that holds each element of a column, and 0 where there is none
-abbrev pub width : List ℕ → ℕ
-width [] = 0
-width (n ∷ ns) = digits (greatest (n ∷ ns))
 
 -- how many bytes a column takes, and how many bits of its last one are filled with zeros
 abbrev pub column_size : ℕ → ℕ → ℕ
@@ -59,6 +50,10 @@ bits_after w place bytes = 8 * length bytes - (place + w)
 abbrev pub bits_at : ℕ → ℕ → List ℕ → ℕ
 bits_at w place bytes = field_of (bits_after w place bytes) w (value bytes)
 
+-- bits that fill whole bytes begin with one
+abbrev pub IsAligned : ℕ → ℕ → Type 0
+IsAligned w place = w % 8 ≡ 0 → place % 8 ≡ 0
+
 -- the number that bytes are once these bits were written
 abbrev pub with_bits : ℕ → ℕ → ℕ → List ℕ → ℕ
 with_bits w place v bytes = with_field (bits_after w place bytes) w v (value bytes)
@@ -81,9 +76,3 @@ pub record IsColumn (w : ℕ) (ns : List ℕ) (bytes : List ℕ) : Type 0 where
   pub fits : IsTrue (is_width_for w (length ns))
   pub each : AllByRecursion (λ n. n < 2 ^ w) ns
   pub spelled : bytes ≡ column w ns
-
--- so many elements from the front of bytes, where the width that is told is the least one
-abbrev pub column_at : ℕ → ℕ → List ℕ → Option (List ℕ × List ℕ)
-column_at w count bytes =
-    let front = take (column_size count w) bytes in
-    if is_column w count front && (w == width (elements w count front)) then Some (elements w count front, drop (column_size count w) bytes) else None

@@ -1,7 +1,7 @@
 //! Bits read as a number.
 
 ghost use Rattle.std.specs.Prelude.{◌==◌, ◌≡◌, ◌≤◌, ◌<◌, ◌+◌, ◌*◌, ◌^◌, ◌%◌, ◌-◌, length, take};
-ghost use Rattle.tc_bits.specs.Bits.{bits_at, field_of as field, value};
+ghost use Rattle.tc_bits.specs.Bits.{bits_at, field_of as field, value, IsAligned};
 
 /// So many bits after so many others, as a number.
 #[inline(always)]
@@ -35,10 +35,61 @@ fn number_after(bytes: &[u8], width: u8, shift: u8) -> u32
     }
 }
 
+/// So many bits after so many others, of which there are at least 64. Bits that fill one, two or four bytes are read as these.
+/// All others are read by one look back at the eight bytes that end with the last of them.
+#[inline(always)]
+pub fn number_from(bytes: &[u8], width: u8, place: u64) -> u32
+    requires least { 1 ≤ width }
+    requires most { width ≤ 32 }
+    requires long { 64 ≤ place }
+    requires number { place < 2 ^ 59 }
+    requires room { place + width ≤ 8 * length bytes.now }
+    requires aligned { IsAligned width place }
+    ensures { result ≡ bits_at width place bytes.now }
+{
+    let (_, rest) = bytes.split_at((place / 8) as usize);
+    if width == 8 {
+        one_byte(rest)
+    } else if width == 16 {
+        two_bytes(rest)
+    } else if width == 32 {
+        four_bytes(rest)
+    } else {
+        number_before(bytes, width, place + u64::from(width))
+    }
+}
+
+/// The number that the first byte is.
+#[inline(always)]
+fn one_byte(bytes: &[u8]) -> u32
+    requires { 1 ≤ length bytes.now }
+    ensures { result ≡ value (take 1 bytes.now) }
+{
+    u32::from(bytes[0])
+}
+
+/// The number that the first two bytes are.
+#[inline(always)]
+fn two_bytes(bytes: &[u8]) -> u32
+    requires { 2 ≤ length bytes.now }
+    ensures { result ≡ value (take 2 bytes.now) }
+{
+    u32::from(u16::from_be_bytes([bytes[0], bytes[1]]))
+}
+
+/// The number that the first four bytes are.
+#[inline(always)]
+fn four_bytes(bytes: &[u8]) -> u32
+    requires { 4 ≤ length bytes.now }
+    ensures { result ≡ value (take 4 bytes.now) }
+{
+    u32::from_be_bytes([bytes[0], bytes[1], bytes[2], bytes[3]])
+}
+
 /// So many bits that end after so many bits in all, of which there are at least 64: by one look at the eight bytes of which the
 /// last one has the last of these bits. So a column is read wherever 8 bytes stand before it or in it, with no look after its end.
 #[inline(always)]
-pub fn number_before(bytes: &[u8], width: u8, end: u64) -> u32
+fn number_before(bytes: &[u8], width: u8, end: u64) -> u32
     requires least { 1 ≤ width }
     requires most { width ≤ 32 }
     requires long { 64 ≤ end }
