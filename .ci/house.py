@@ -40,7 +40,6 @@ ROWS = "Rows.antt"
 WRITTEN = re.compile(r"\.(?:TheSendSync|TheLaws)\b")
 # Definitions, and laws that no clause can state, which crates to come stand on. A name leaves this list once it is used.
 AWAITED = {
-    "tc_bits": ("column_at", "column_again", "column_found", "with_field-mod", "value_of_window"),
     "tc_store": ("picture_before",),
 }
 

@@ -1,25 +1,25 @@
 -- The laws of the header and of the columns behind it.
-use Rattle.std.proofs.Common.{◌≡◌, ◌∙◌, ◌<◌, ◌+◌, ◌^◌, ◌==◌, ℕ, Bool, true, false, if◌then◌else◌, List, ◌∷◌, ◌++◌, Option, None, Some, length, map, refl, sym, ap, subst, arith, length-append}
+use Rattle.std.proofs.Common.{◌≡◌, ◌∙◌, ◌<◌, ◌≤◌, ◌+◌, ◌^◌, ◌==◌, ℕ, Bool, true, false, if◌then◌else◌, List, [], ◌∷◌, ◌++◌, Option, None, Some, option_to_list, length, map, refl, sym, ap, subst, arith, length-append}
 use Rattle.std.proofs.lemmas.Bool.{eqb-true}
+use Rattle.std.proofs.lemmas.List.{length-map}
 use Rattle.std.specs.Int.{w32, to_be_bytes}
 use Rattle.std.proofs.lemmas.Option.{same_Some}
+use Rattle.tc_bits.proofs.Joined.{AreBelow}
 use Rattle.tc_bytes.specs.Reading.{byte_at, number_at, bytes_at}
 use Rattle.tc_bytes.specs.Codec.{IsBytes}
 use Rattle.tc_bytes.proofs.Fields.{number_codec_32, byte_codec, bytes_codec, IsBytes-front, bytes_again}
 use Rattle.tc_bytes.proofs.Codecs.{then_parts}
-use Rattle.tc_model.specs.Document.{Scalar}
-use Rattle.tc_record.specs.Preorder.{Token}
-use Rattle.tc_record.specs.Widths.{width_bytes}
-use Rattle.tc_record.specs.Record.{tags, fixed, texts, width, numbers, joined, header_size, body, record_bytes}
-use Rattle.tc_record.specs.Walk.{Key, Format}
-use Rattle.tc_record.specs.Sections.{Header, header_at, form_from, numbers_at, Sections, columns_behind, sections_in}
-use Rattle.tc_record.proofs.Lengths.{few_numbers}
+use Rattle.tc_model.specs.Document.{Scalar, null, boolean, integer, text}
+use Rattle.tc_record.specs.Preorder.{Piece, scalar, array_opened, object_opened, closed, Token}
+use Rattle.tc_record.specs.Record.{piece_tag, piece_text, tags, fixed, texts, labels, width, numbers, joined, in_bytes, header_size, body, record_bytes}
+use Rattle.tc_record.specs.Walk.{Key}
+use Rattle.tc_record.specs.Sections.{Header, header_at, form_from, capped_sum, numbers_at, Sections, columns_behind, sections_in}
 use Rattle.tc_record.proofs.ColumnLaws.{columns_by, no_columns, same_columns}
-use Rattle.tc_record.proofs.Texts.{AreBytes}
+use Rattle.tc_record.proofs.Texts.{AreColumns}
 use Rattle.tc_record.proofs.Walks.{with_tokens}
-use Rattle.tc_record.proofs.Spelled.{slots, names, spelled_fixed, spelled_lengths, spelled_texts, spelled_slots, spelled_names}
-use Rattle.tc_record.proofs.Fitting.{AreFit, TokensFit}
-use Rattle.tc_record.proofs.Counted.{sum_from, sum_from-joined, numbers_again, numbers_found, same_test}
+use Rattle.tc_record.proofs.Spelled.{slot_of, slots, names, spelled_fixed, spelled_lengths, spelled_texts, spelled_slots, spelled_names}
+use Rattle.tc_record.proofs.Spellings.{bytes_spell}
+use Rattle.tc_record.proofs.NumberColumns.{numbers_again, numbers_found, sum_of_lengths, same_test}
 
 -- ---- the header
 
@@ -43,12 +43,12 @@ header_again h rest fits =
     let r2 = h.form ∷ (to_be_bytes w32 h.tags ++ r3) in
     rw (number_codec_32.again h.total r2 fits.total, number_codec_32.again h.tags r3 fits.tags, number_codec_32.again h.fixed r4 fits.fixed, number_codec_32.again h.texts r5 fits.texts, number_codec_32.again h.names r6 fits.names) refl
 
-record HeaderFound (bytes : List ℕ) (q : Header × List ℕ) : Type 0 where
+pub record HeaderFound (bytes : List ℕ) (q : Header × List ℕ) : Type 0 where
   pub spelled : bytes ≡ spelled_header q.0 q.1
   pub rest : IsBytes q.1
   pub fits : HeaderFits q.0
 
-header_found : (bytes : List ℕ) (q : Header × List ℕ) → IsBytes bytes → header_at bytes ≡ Some q → HeaderFound bytes q
+pub header_found : (bytes : List ℕ) (q : Header × List ℕ) → IsBytes bytes → header_at bytes ≡ Some q → HeaderFound bytes q
 header_found bytes q each gives =
     let total = then_parts (number_at w32 bytes) _ q gives in
     let form = then_parts (byte_at total.0.1) _ q total.2 in
@@ -79,55 +79,41 @@ header_found bytes q each gives =
 -- ---- the columns
 
 pub record ColumnsFound (h : Header) (named : Bool) (bytes : List ℕ) (s : Sections) : Type 0 where
-  pub lengths : List ℕ
-  pub slot_list : List ℕ
   pub named_is : s.format.named ≡ named
   pub tag_count : h.tags ≡ length s.tags
   pub fixed_count : h.fixed ≡ length s.columns.fixed
-  pub text_count : h.texts ≡ length lengths
-  pub slot_count : h.names ≡ length slot_list
-  pub text_width : h.text_width ≡ width lengths
-  pub text_told : h.text_width ≡ width_bytes s.format.text_width
-  pub slot_told : h.slot_width ≡ width_bytes s.format.slot_width
-  pub slot_width : h.slot_width ≡ width slot_list
-  pub lengths_are : s.columns.lengths ≡ numbers (width_bytes s.format.text_width) lengths
-  pub slots_are : s.columns.slots ≡ numbers (width_bytes s.format.slot_width) slot_list
-  pub lengths_fit : AreFit s.format.text_width lengths
-  pub slots_fit : AreFit s.format.slot_width slot_list
-  pub spelled : bytes ≡ s.tags ++ (s.columns.fixed ++ (s.columns.lengths ++ (s.columns.texts ++ (s.columns.slots ++ s.columns.names))))
-  pub each : AreBytes s.columns
+  pub text_count : h.texts ≡ length s.columns.lengths
+  pub slot_count : h.names ≡ length s.columns.slots
+  pub text_width : h.text_width ≡ width s.columns.lengths
+  pub slot_width : h.slot_width ≡ width s.columns.slots
+  pub spelled : bytes ≡ s.tags ++ (s.columns.fixed ++ (numbers (width s.columns.lengths) s.columns.lengths ++ (s.columns.texts ++ (numbers (width s.columns.slots) s.columns.slots ++ s.columns.names))))
+  pub each : AreColumns s.columns
 
 columns_found : (h : Header) (named : Bool) (bytes : List ℕ) (s : Sections) → IsBytes bytes → columns_behind h named bytes ≡ Some s → ColumnsFound h named bytes s
 columns_found h named bytes s each gives =
     let tag = then_parts (bytes_at h.tags bytes) _ s gives in
     let fix = then_parts (bytes_at h.fixed tag.0.1) _ s tag.2 in
-    let len = then_parts (numbers_at h.text_width h.texts fix.0.1) _ s fix.2 in
-    let txt = then_parts (bytes_at len.0.0.total len.0.1) _ s len.2 in
-    let slot = then_parts (numbers_at h.slot_width h.names txt.0.1) _ s txt.2 in
+    let len = then_parts (numbers_at in_bytes h.text_width h.texts fix.0.1) _ s fix.2 in
+    let txt = then_parts (bytes_at (capped_sum len.0.0) len.0.1) _ s len.2 in
+    let slot = then_parts (numbers_at in_bytes h.slot_width h.names txt.0.1) _ s txt.2 in
     let a = (bytes_codec h.tags).found bytes tag.0.0 tag.0.1 each tag.1 in
     let b = (bytes_codec h.fixed).found tag.0.1 fix.0.0 fix.0.1 a.1 fix.1 in
-    let c = numbers_found h.text_width h.texts fix.0.1 len.0 b.1 len.1 in
-    let d = (bytes_codec len.0.0.total).found len.0.1 txt.0.0 txt.0.1 c.rest txt.1 in
-    let e = numbers_found h.slot_width h.names txt.0.1 slot.0 d.1 slot.1 in
+    let c = numbers_found in_bytes bytes_spell h.text_width h.texts fix.0.1 len.0 b.1 len.1 in
+    let d = (bytes_codec (capped_sum len.0.0)).found len.0.1 txt.0.0 txt.0.1 c.rest txt.1 in
+    let e = numbers_found in_bytes bytes_spell h.slot_width h.names txt.0.1 slot.0 d.1 slot.1 in
+    let lengths_spelled : fix.0.1 ≡ numbers (width len.0.0) len.0.0 ++ len.0.1 = c.spelled ∙ ap (λ w. numbers w len.0.0 ++ len.0.1) c.least in
+    let slots_spelled : txt.0.1 ≡ numbers (width slot.0.0) slot.0.0 ++ slot.0.1 = e.spelled ∙ ap (λ w. numbers w slot.0.0 ++ slot.0.1) e.least in
     subst (ColumnsFound h named bytes) (same_Some _ s slot.2)
     (record {
-      lengths = c.elements;
-      slot_list = e.elements;
       named_is = refl;
       tag_count = sym a.2;
       fixed_count = sym b.2;
       text_count = c.many;
       slot_count = e.many;
-      text_width = c.width_least;
-      text_told = c.width_told;
-      slot_told = e.width_told;
-      slot_width = e.width_least;
-      lengths_are = c.column;
-      slots_are = e.column;
-      lengths_fit = c.fits;
-      slots_fit = e.fits;
-      spelled = a.0 ∙ ap (λ r. tag.0.0 ++ r) (b.0 ∙ ap (λ r. fix.0.0 ++ r) (c.spelled ∙ ap (λ r. len.0.0.bytes ++ r) (d.0 ∙ ap (λ r. txt.0.0 ++ r) e.spelled)));
-      each = record { fixed = IsBytes-front fix.0.0 fix.0.1 (subst IsBytes b.0 a.1); lengths = c.each; texts = IsBytes-front txt.0.0 txt.0.1 (subst IsBytes d.0 c.rest); slots = e.each; names = e.rest };
+      text_width = c.least;
+      slot_width = e.least;
+      spelled = a.0 ∙ ap (λ r. tag.0.0 ++ r) (b.0 ∙ ap (λ r. fix.0.0 ++ r) (lengths_spelled ∙ ap (λ r. numbers (width len.0.0) len.0.0 ++ r) (d.0 ∙ ap (λ r. txt.0.0 ++ r) slots_spelled)));
+      each = record { fixed = IsBytes-front fix.0.0 fix.0.1 (subst IsBytes b.0 a.1); texts = IsBytes-front txt.0.0 txt.0.1 (subst IsBytes d.0 c.rest); slots = e.each; names = e.rest };
     })
 
 -- ---- the whole
@@ -188,42 +174,67 @@ body_length ts =
     let text_columns = numbers (width lengths) lengths ++ text_part in
     omega (arith, length-append (tags ts) (fixed ts ++ text_columns), length-append (fixed ts) text_columns, length-append (numbers (width lengths) lengths) text_part, length-append (joined (texts ts)) last, length-append (numbers (width (slots ts)) (slots ts)) (names ts))
 
+-- no more texts and labels than tokens
+texts_within : (ts : List (Token Key Scalar)) → length (texts ts) ≤ length ts
+texts_within [] = omega arith
+texts_within (t ∷ ts) = let one = one_text t.piece in omega (arith, one, length-append (piece_text t.piece) (texts ts), texts_within ts)
+  where
+    one_text : (p : Piece Scalar) → length (piece_text p) ≤ 1
+    one_text (scalar null) = omega arith
+    one_text (scalar (boolean b)) = omega arith
+    one_text (scalar (integer z)) = omega arith
+    one_text (scalar (text s)) = omega arith
+    one_text array_opened = omega arith
+    one_text object_opened = omega arith
+    one_text closed = omega arith
+
+labels_within : (ts : List (Token Key Scalar)) → length (labels ts) ≤ length ts
+labels_within [] = omega arith
+labels_within (t ∷ ts) = let one = one_label t.label in omega (arith, one, length-append (option_to_list t.label) (labels ts), labels_within ts)
+  where
+    one_label : (l : Option Key) → length (option_to_list l) ≤ 1
+    one_label None = omega arith
+    one_label (Some k) = omega arith
+
 pub header_fits : (form : ℕ) (ts : List (Token Key Scalar)) → header_size + length (body ts (slots ts) (names ts)) < 2 ^ 32 → HeaderFits (header_of_tokens form ts)
 header_fits form ts short =
     let sum = body_length ts in
+    let many = length-map ts (λ (t : Token Key Scalar). piece_tag t.piece) in
     record {
       total = short;
       tags = omega arith;
       fixed = omega arith;
-      texts = few_numbers (map length (texts ts)) (omega arith);
-      names = few_numbers (slots ts) (omega arith);
+      texts = omega (arith, length-map (texts ts) length, texts_within ts);
+      names = omega (arith, length-map (labels ts) slot_of, labels_within ts);
     }
 
-columns_again : (f : Format) (form : ℕ) (ts : List (Token Key Scalar)) → TokensFit f ts → width_bytes f.text_width ≡ width (map length (texts ts)) → width_bytes f.slot_width ≡ width (slots ts)
-    → header_size + length (body ts (slots ts) (names ts)) < 2 ^ 32
-    → columns_behind (header_of_tokens form ts) f.named (body ts (slots ts) (names ts)) ≡ Some (record { format = f; tags = tags ts; columns = with_tokens f ts no_columns })
-columns_again f form ts fits text_width slot_width short =
+-- the numbers of the columns of tokens have 32 bits
+pub record TokensFit (ts : List (Token Key Scalar)) : Type 0 where
+  pub lengths : AreBelow 32 (map length (texts ts))
+  pub slots : AreBelow 32 (slots ts)
+
+columns_again : (named : Bool) (form : ℕ) (ts : List (Token Key Scalar)) → TokensFit ts → header_size + length (body ts (slots ts) (names ts)) < 2 ^ 32
+    → columns_behind (header_of_tokens form ts) named (body ts (slots ts) (names ts)) ≡ Some (record { format = record { named = named }; tags = tags ts; columns = with_tokens ts no_columns })
+columns_again named form ts fits short =
     let lengths = map length (texts ts) in
     let r4 = numbers (width (slots ts)) (slots ts) ++ names ts in
     let r3 = joined (texts ts) ++ r4 in
     let r2 = numbers (width lengths) lengths ++ r3 in
     let r1 = fixed ts ++ r2 in
     let sum = body_length ts in
-    let total : length (joined (texts ts)) ≡ sum_from 0 lengths = sym (sum_from-joined (texts ts) 0 (omega arith) ∙ omega arith) in
-    let read_lengths : numbers_at (width lengths) (length lengths) r2 ≡ Some (record { width = f.text_width; bytes = numbers (width lengths) lengths; total = sum_from 0 lengths }, r3) =
-    subst (λ n. numbers_at n (length lengths) (numbers n lengths ++ r3) ≡ Some (record { width = f.text_width; bytes = numbers n lengths; total = sum_from 0 lengths }, r3)) text_width (numbers_again f.text_width lengths r3 fits.texts text_width) in
-    let read_slots : numbers_at (width (slots ts)) (length (slots ts)) r4 ≡ Some (record { width = f.slot_width; bytes = numbers (width (slots ts)) (slots ts); total = sum_from 0 (slots ts) }, names ts) =
-    subst (λ n. numbers_at n (length (slots ts)) (numbers n (slots ts) ++ names ts) ≡ Some (record { width = f.slot_width; bytes = numbers n (slots ts); total = sum_from 0 (slots ts) }, names ts)) slot_width (numbers_again f.slot_width (slots ts) (names ts) fits.slots slot_width) in
-    let columns : with_tokens f ts no_columns ≡ columns_by (fixed ts) (numbers (width lengths) lengths) (joined (texts ts)) (numbers (width (slots ts)) (slots ts)) (names ts) =
-    same_columns (with_tokens f ts no_columns) _ _ _ _ _ (spelled_fixed f ts) (spelled_lengths f ts ∙ ap (λ n. numbers n lengths) text_width) (spelled_texts f ts) (spelled_slots f ts ∙ ap (λ n. numbers n (slots ts)) slot_width) (spelled_names f ts) in
-    rw (columns, bytes_again (length (tags ts)) (tags ts) r1 refl, bytes_again (length (fixed ts)) (fixed ts) r2 refl, read_lengths, bytes_again (sum_from 0 lengths) (joined (texts ts)) r4 total, read_slots) refl
+    let total : length (joined (texts ts)) ≡ capped_sum lengths = sym (sum_of_lengths (texts ts) (omega arith)) in
+    let read_lengths : numbers_at in_bytes (width lengths) (length lengths) r2 ≡ Some (lengths, r3) = numbers_again in_bytes bytes_spell lengths r3 fits.lengths in
+    let read_slots : numbers_at in_bytes (width (slots ts)) (length (slots ts)) r4 ≡ Some (slots ts, names ts) = numbers_again in_bytes bytes_spell (slots ts) (names ts) fits.slots in
+    let columns : with_tokens ts no_columns ≡ columns_by (fixed ts) lengths (joined (texts ts)) (slots ts) (names ts) =
+    same_columns (with_tokens ts no_columns) _ _ _ _ _ (spelled_fixed ts) (spelled_lengths ts) (spelled_texts ts) (spelled_slots ts) (spelled_names ts) in
+    rw (columns, bytes_again (length (tags ts)) (tags ts) r1 refl, bytes_again (length (fixed ts)) (fixed ts) r2 refl, read_lengths, bytes_again (capped_sum lengths) (joined (texts ts)) r4 total, read_slots) refl
 
 -- the columns that tokens have are cut out of their record
-pub sections_again : (f : Format) (form : ℕ) (ts : List (Token Key Scalar)) → form_from form ≡ Some f.named → TokensFit f ts → width_bytes f.text_width ≡ width (map length (texts ts)) → width_bytes f.slot_width ≡ width (slots ts)
-    → length (record_bytes form ts (slots ts) (names ts)) < 2 ^ 32 → sections_in (record_bytes form ts (slots ts) (names ts)) ≡ Some (record { format = f; tags = tags ts; columns = with_tokens f ts no_columns })
-sections_again f form ts is fits text_width slot_width short =
+pub sections_again : (named : Bool) (form : ℕ) (ts : List (Token Key Scalar)) → form_from form ≡ Some named → TokensFit ts
+    → length (record_bytes form ts (slots ts) (names ts)) < 2 ^ 32 → sections_in (record_bytes form ts (slots ts) (names ts)) ≡ Some (record { format = record { named = named }; tags = tags ts; columns = with_tokens ts no_columns })
+sections_again named form ts is fits short =
     let content = body ts (slots ts) (names ts) in
     let small : header_size + length content < 2 ^ 32 = omega arith in
     let whole : header_size + length content ≡ length (record_bytes form ts (slots ts) (names ts)) = omega arith in
-    rw (header_again (header_of_tokens form ts) content (header_fits form ts small), is, columns_again f form ts fits text_width slot_width small)
+    rw (header_again (header_of_tokens form ts) content (header_fits form ts small), is, columns_again named form ts fits small)
     (same_test (header_size + length content) (length (record_bytes form ts (slots ts) (names ts))) _ None whole)

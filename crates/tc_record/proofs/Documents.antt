@@ -1,5 +1,5 @@
--- What fits the columns is a document, or a numbered tree.
-use Rattle.std.proofs.Common.{◌≡◌, ◌<◌, ◌^◌, ℕ, true, false, List, [], ◌∷◌, ◌++◌, Option, None, Some, map, refl, ap, subst, arith}
+-- What is read of the columns is a document, or a numbered tree.
+use Rattle.std.proofs.Common.{◌≡◌, ℕ, true, false, List, [], ◌∷◌, Option, None, Some, map, refl, ap, subst}
 use Rattle.std.specs.List.{AllByRecursion}
 use Rattle.std.specs.List.Sorted.{IsStrictlySortedBy}
 use Rattle.std.specs.Ordering.{is_lt}
@@ -8,54 +8,13 @@ use Rattle.std.specs.declared.cmp.Ordering.TheVariants.{Less, Equal, Greater}
 use Rattle.std.proofs.lemmas.Bool.{both_ways}
 use Rattle.std.proofs.lemmas.Cmp.{nat_list_cmp_total}
 use Rattle.tc_model.specs.Tree.{Tree, leaf, array, object, Items, no_items, item, Members, no_members, member, items_relabel, members_relabel, listed_members}
-use Rattle.tc_model.specs.Document.{Name, Document, Scalar, null, boolean, integer, text, name_cmp, IsScalar, IsTreeOf, AreItemsOf, AreMembersOf}
-use Rattle.tc_record.specs.Preorder.{Token, token, closed, preorder, items_preorder, members_preorder}
-use Rattle.tc_record.specs.declared.widths.Width.{Width}
-use Rattle.tc_record.specs.declared.widths.Width.TheVariants.{Zero, One, Two, Four}
+use Rattle.tc_model.specs.Document.{Name, Document, Scalar, name_cmp, IsScalar, IsTreeOf, AreItemsOf, AreMembersOf}
 use Rattle.tc_record.specs.Record.{NumberedTree, IsNumberedTree, AreNumberedItems, AreNumberedMembers}
-use Rattle.tc_record.specs.Walk.{Key, name, number, Level, in_object, Format, is_above}
-use Rattle.tc_record.proofs.Sized.{FitsWidth}
-use Rattle.tc_record.proofs.Scalars.{FitsScalar}
+use Rattle.tc_record.specs.Walk.{Key, name, number, in_object, Format, is_above}
 use Rattle.tc_record.proofs.Walks.{IsKeyed, AreKeyedItems, AreKeyedMembers}
 use Rattle.tc_record.proofs.Keyed.{keyed, numbered}
 use Rattle.tc_record.proofs.Labels.{IsLabelled}
-use Rattle.tc_record.proofs.Spelled.{slot_of}
-use Rattle.tc_record.proofs.Fitting.{Follows, TokensFit, tokens_append}
-
--- ---- the tokens of what fits the columns fit them
-
-leaf_fits : (f : Format) (s : Scalar) → FitsScalar f.text_width s → TokensFit f (preorder None (leaf s))
-leaf_fits f null fits = record { texts = tt; slots = tt }
-leaf_fits f (boolean b) fits = record { texts = tt; slots = tt }
-leaf_fits f (integer z) fits = record { texts = tt; slots = tt }
-leaf_fits f (text s) fits = record { texts = (fits, tt); slots = tt }
-
-key_fits : (f : Format) (last : Option Name) (k : Key) (behind : Level) → IsLabelled f (in_object last) (Some k) behind → FitsWidth f.slot_width (slot_of k)
-key_fits f last (name n) behind labelled = labelled.3
-key_fits f last (number k) behind labelled = labelled.1
-
-labelled_fits : (f : Format) (k : Key) (t : Tree Key Scalar) → FitsWidth f.slot_width (slot_of k) → TokensFit f (preorder None t) → TokensFit f (preorder (Some k) t)
-labelled_fits f k (leaf s) slot fits = record { texts = fits.texts; slots = (slot, fits.slots) }
-labelled_fits f k (array xs) slot fits = record { texts = fits.texts; slots = (slot, fits.slots) }
-labelled_fits f k (object ms) slot fits = record { texts = fits.texts; slots = (slot, fits.slots) }
-
-closed_fits : (f : Format) (ts : List (Token Key Scalar)) → TokensFit f ts → TokensFit f (ts ++ token None closed ∷ [])
-closed_fits f ts fits = tokens_append f ts (token None closed ∷ []) fits (record { texts = tt; slots = tt })
-
-mutual
-  pub keyed_fits : (t : Tree Key Scalar) (f : Format) → IsKeyed f t → TokensFit f (preorder None t)
-  keyed_fits (leaf s) f is = leaf_fits f s is.1
-  keyed_fits (array xs) f is = let held = closed_fits f (items_preorder xs) (items_fit xs f is) in record { texts = held.texts; slots = held.slots }
-  keyed_fits (object ms) f is = let held = closed_fits f (members_preorder ms) (members_fit ms f None is) in record { texts = held.texts; slots = held.slots }
-
-  items_fit : (xs : Items Key Scalar) (f : Format) → AreKeyedItems f xs → TokensFit f (items_preorder xs)
-  items_fit no_items f is = record { texts = tt; slots = tt }
-  items_fit (item t ts) f is = tokens_append f (preorder None t) (items_preorder ts) (keyed_fits t f is.0) (items_fit ts f is.1)
-
-  members_fit : (ms : Members Key Scalar) (f : Format) (last : Option Name) → AreKeyedMembers f last ms → TokensFit f (members_preorder ms)
-  members_fit no_members f last is = record { texts = tt; slots = tt }
-  members_fit (member k t ms) f last is =
-      tokens_append f (preorder (Some k) t) (members_preorder ms) (labelled_fits f k t (key_fits f last k (in_object is.0) is.1.0) (keyed_fits t f is.1.1)) (members_fit ms f is.0 is.1.2)
+use Rattle.tc_record.proofs.Fitting.{Follows}
 
 -- ---- names in place of labels
 
@@ -105,7 +64,7 @@ pub record MembersFound (last : Option Name) (ms : Members Key Scalar) : Type 0 
 named_member : (f : Format) (last : Option Name) (k : Key) (t : Tree Key Scalar) (ms : Members Key Scalar) (next : Option Name) → f.named ≡ true → IsLabelled f (in_object last) (Some k) (in_object next) → DocumentFound t → MembersFound next ms
     → MembersFound last (member k t ms)
 named_member f last (name n) t ms next is labelled value further =
-    let follows : Follows (Some n) (map (λ m. m.0) (listed_members further.members)) = subst (λ x. Follows x (map (λ (m : Name × Document). m.0) (listed_members further.members))) (same_next next n labelled.4) further.follows in
+    let follows : Follows (Some n) (map (λ m. m.0) (listed_members further.members)) = subst (λ x. Follows x (map (λ (m : Name × Document). m.0) (listed_members further.members))) (same_next next n labelled.3) further.follows in
     record {
       members = member n value.document further.members;
       same = rw (value.same, further.same) refl;
@@ -116,7 +75,7 @@ named_member f last (number k) t ms next is labelled value further = absurd (bot
 
 mutual
   document_found : (t : Tree Key Scalar) (f : Format) → f.named ≡ true → IsKeyed f t → DocumentFound t
-  document_found (leaf s) f is here = record { document = leaf s; same = refl; lawful = here.0 }
+  document_found (leaf s) f is here = record { document = leaf s; same = refl; lawful = here }
   document_found (array xs) f is here = let held = items_found xs f is here in record { document = array held.items; same = ap array held.same; lawful = held.lawful }
   document_found (object ms) f is here = let held = members_found ms f None is here in record { document = object held.members; same = ap object held.same; lawful = (held.follows, held.lawful) }
 
@@ -132,12 +91,6 @@ mutual
   members_found (member k t ms) f last is here = named_member f last k t ms here.0 is here.1.0 (document_found t f is here.1.1) (members_found ms f here.0 is here.1.2)
 
 -- ---- numbers in place of labels
-
-fits_32 : (w : Width) (n : ℕ) → FitsWidth w n → n < 2 ^ 32
-fits_32 Zero n fits = absurd fits
-fits_32 One n fits = omega arith
-fits_32 Two n fits = omega arith
-fits_32 Four n fits = fits
 
 record NumberedFound (t : Tree Key Scalar) : Type 0 where
   pub tree : NumberedTree
@@ -160,12 +113,12 @@ numbered_member f last (name n) t ms next is labelled value further = absurd (bo
 numbered_member f last (number k) t ms next is labelled value further = record {
   members = member k value.tree further.members;
   same = rw (value.same, further.same) refl;
-  lawful = (fits_32 f.slot_width k labelled.1, value.lawful, further.lawful);
+  lawful = (labelled.1, value.lawful, further.lawful);
 }
 
 mutual
   numbered_found : (t : Tree Key Scalar) (f : Format) → f.named ≡ false → IsKeyed f t → NumberedFound t
-  numbered_found (leaf s) f is here = record { tree = leaf s; same = refl; lawful = here.0 }
+  numbered_found (leaf s) f is here = record { tree = leaf s; same = refl; lawful = here }
   numbered_found (array xs) f is here = let held = numbered_items_found xs f is here in record { tree = array held.items; same = ap array held.same; lawful = held.lawful }
   numbered_found (object ms) f is here = let held = numbered_members_found ms f None is here in record { tree = object held.members; same = ap object held.same; lawful = held.lawful }
 

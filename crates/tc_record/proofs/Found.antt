@@ -12,7 +12,7 @@ use Rattle.tc_record.specs.Preorder.{Piece, scalar, array_opened, object_opened,
 use Rattle.tc_record.specs.Record.{piece_tag}
 use Rattle.tc_record.specs.Walk.{Key, Level, in_array, in_object, Format, Columns, value_at, opened, step, is_used_up, walk, tokens_read}
 use Rattle.tc_record.proofs.ColumnLaws.{no_columns, same_columns}
-use Rattle.tc_record.proofs.Texts.{AreBytes}
+use Rattle.tc_record.proofs.Texts.{AreColumns}
 use Rattle.tc_record.proofs.Scalars.{FitsPiece}
 use Rattle.tc_record.proofs.Labels.{IsLabelled, with_token, if_parts, value_found}
 use Rattle.tc_record.proofs.Walks.{AreKeyedMembers, with_tokens, tags_of, close, Completes, one_more, members_again, with_tokens-append}
@@ -35,19 +35,19 @@ used_up c ended =
 -- the tokens that a walk read
 pub record WalkFound (f : Format) (tags : List ℕ) (levels : List Level) (c : Columns) (ts : List (Token Key Scalar)) : Type 0 where
   pub tagged : tags ≡ tags_of ts
-  pub spelled : c ≡ with_tokens f ts no_columns
+  pub spelled : c ≡ with_tokens ts no_columns
   pub completes : Completes f levels ts
 
 -- a walk over the tags that are left
 abbrev Walks : Format → List ℕ → Type 0
-Walks f tags = (levels : List Level) (c : Columns) (ts : List (Token Key Scalar)) → AreBytes c → length levels ≤ 32 → walk f tags levels c ≡ Some ts → WalkFound f tags levels c ts
+Walks f tags = (levels : List Level) (c : Columns) (ts : List (Token Key Scalar)) → AreColumns c → length levels ≤ 32 → walk f tags levels c ≡ Some ts → WalkFound f tags levels c ts
 
 closed_level : (f : Format) (level : Level) (levels : List Level) (ts : List (Token Key Scalar)) → length (level ∷ levels) ≤ 32 → Completes f levels ts → Completes f (level ∷ levels) (close ∷ ts)
 closed_level f in_array levels ts shallow complete = (no_items, (ts, (tt, omega arith, refl, complete)))
 closed_level f (in_object last) levels ts shallow complete = (no_members, (ts, (tt, omega arith, refl, complete)))
 
 -- a value that was read completes what was open, with what completes the levels behind it
-value_completes : (p : Piece Scalar) (f : Format) (level : Level) (label : Option Key) (behind : Level) (levels inner : List Level) (ts : List (Token Key Scalar)) → IsLabelled f level label behind → FitsPiece f.text_width p
+value_completes : (p : Piece Scalar) (f : Format) (level : Level) (label : Option Key) (behind : Level) (levels inner : List Level) (ts : List (Token Key Scalar)) → IsLabelled f level label behind → FitsPiece p
     → length (level ∷ levels) ≤ 32 → opened p (behind ∷ levels) ≡ Some inner → Completes f inner ts → Completes f (level ∷ levels) (token label p ∷ ts)
 value_completes (scalar s) f level label behind levels inner ts labelled fits shallow opens complete =
     one_more (leaf s) f level label behind levels ts labelled fits (omega arith) (subst (λ ls. Completes f ls ts) (sym (same_Some (behind ∷ levels) inner opens)) complete)
@@ -82,7 +82,7 @@ few_levels closed levels inner shallow opens = cc
 abbrev Stepped : Type 0
 Stepped = Token Key Scalar × List Level × Columns
 
-step_then : (f : Format) (tag : ℕ) (tags : List ℕ) (level : Level) (levels : List Level) (c : Columns) (s : Stepped) (us : List (Token Key Scalar)) (b : Bool) → (tag == 7) ≡ b → AreBytes c → length (level ∷ levels) ≤ 32
+step_then : (f : Format) (tag : ℕ) (tags : List ℕ) (level : Level) (levels : List Level) (c : Columns) (s : Stepped) (us : List (Token Key Scalar)) (b : Bool) → (tag == 7) ≡ b → AreColumns c → length (level ∷ levels) ≤ 32
     → (if b then Some (token None closed, levels, c) else (value_at f level tag c >>= λ v. opened v.0.piece (v.1 ∷ levels) >>= λ inner. Some (v.0, inner, v.2))) ≡ Some s
     → Walks f tags → walk f tags s.1 s.2 ≡ Some us → WalkFound f (tag ∷ tags) (level ∷ levels) c (s.0 ∷ us)
 step_then f tag tags level levels c s us true is each shallow gives further walked =
@@ -103,7 +103,7 @@ step_then f tag tags level levels c s us false is each shallow gives further wal
     subst (λ (q : Stepped). WalkFound f (tag ∷ tags) (level ∷ levels) c (q.0 ∷ us)) here
     (record {
       tagged = ap (λ n. n ∷ tags) value.tagged ∙ ap (λ ns. piece_tag one.0.0.piece ∷ ns) found.tagged;
-      spelled = value.spelled ∙ ap (with_token f one.0.0) found.spelled;
+      spelled = value.spelled ∙ ap (with_token one.0.0) found.spelled;
       completes = value_completes one.0.0.piece f level one.0.0.label one.0.1 levels two.0 us value.labelled value.fits shallow two.1 found.completes;
     })
 
@@ -128,9 +128,9 @@ pub record TokensFound (f : Format) (tags : List ℕ) (c : Columns) (ts : List (
   pub shallow : depth (object members) ≤ 32
   pub tokens : ts ≡ preorder None (object members)
   pub tagged : tags ≡ tags_of ts
-  pub spelled : c ≡ with_tokens f ts no_columns
+  pub spelled : c ≡ with_tokens ts no_columns
 
-root_found : (f : Format) (tag : ℕ) (tags : List ℕ) (c : Columns) (ts : List (Token Key Scalar)) (b : Bool) → (tag == 6) ≡ b → AreBytes c
+root_found : (f : Format) (tag : ℕ) (tags : List ℕ) (c : Columns) (ts : List (Token Key Scalar)) (b : Bool) → (tag == 6) ≡ b → AreColumns c
     → (if b then (walk f tags (in_object None ∷ []) c >>= λ us. Some (token None object_opened ∷ us)) else None) ≡ Some ts → TokensFound f (tag ∷ tags) c ts
 root_found f tag tags c ts true is each gives =
     let one = then_parts (walk f tags (in_object None ∷ []) c) _ ts gives in
@@ -151,14 +151,14 @@ root_found f tag tags c ts true is each gives =
     is_six n e = grind (arith, nat_tests)
 root_found f tag tags c ts false is each gives = cc
 
-pub tokens_found : (tags : List ℕ) (f : Format) (c : Columns) (ts : List (Token Key Scalar)) → AreBytes c → tokens_read f tags c ≡ Some ts → TokensFound f tags c ts
+pub tokens_found : (tags : List ℕ) (f : Format) (c : Columns) (ts : List (Token Key Scalar)) → AreColumns c → tokens_read f tags c ≡ Some ts → TokensFound f tags c ts
 tokens_found [] f c ts each gives = cc
 tokens_found (tag ∷ tags) f c ts each gives = root_found f tag tags c ts (tag == 6) refl each gives
 
 pub tokens_again : (ms : Members Key Scalar) (f : Format) → AreKeyedMembers f None ms → depth (object ms) ≤ 32
-    → tokens_read f (tags_of (preorder None (object ms))) (with_tokens f (preorder None (object ms)) no_columns) ≡ Some (preorder None (object ms))
+    → tokens_read f (tags_of (preorder None (object ms))) (with_tokens (preorder None (object ms)) no_columns) ≡ Some (preorder None (object ms))
 tokens_again ms f keyed shallow =
     let held = members_preorder ms in
     let within = members_again ms f None [] (7 ∷ []) no_columns keyed (omega arith) in
     let tag_list : tags_of (held ++ close ∷ []) ≡ tags_of held ++ 7 ∷ [] = map-append (λ (t : Token Key Scalar). piece_tag t.piece) held (close ∷ []) in
-    rw (tag_list, with_tokens-append f held (close ∷ []) no_columns, within.1) refl
+    rw (tag_list, with_tokens-append held (close ∷ []) no_columns, within.1) refl

@@ -80,7 +80,7 @@ abbrev pub with_piece : Labelled → Piece Scalar × walk.Columns → Option Val
 with_piece x p = Some (token x.0 p.0, x.1, p.1)
 
 abbrev pub valued : walk.Format → ℕ → Labelled → Option Valued
-valued f tag x = walk.piece_at f.text_width tag x.2 >>= with_piece x
+valued f tag x = walk.piece_at tag x.2 >>= with_piece x
 
 no_label : (f : walk.Format) (level : walk.Level) (tag : ℕ) (c : walk.Columns) → label_moves f level c ≡ None → walk.value_at f level tag c ≡ None
 no_label f level tag c gives = by_label (walk.label_at f level c) gives
@@ -89,7 +89,7 @@ no_label f level tag c gives = by_label (walk.label_at f level c) gives
     by_label None e = refl
     by_label (Some x) e = cc
 
-no_piece : (f : walk.Format) (level behind : walk.Level) (tag : ℕ) (c rest : walk.Columns) → label_moves f level c ≡ Some (behind, rest) → walk.piece_at f.text_width tag rest ≡ None → walk.value_at f level tag c ≡ None
+no_piece : (f : walk.Format) (level behind : walk.Level) (tag : ℕ) (c rest : walk.Columns) → label_moves f level c ≡ Some (behind, rest) → walk.piece_at tag rest ≡ None → walk.value_at f level tag c ≡ None
 no_piece f level behind tag c rest gives none = by_label (walk.label_at f level c) gives
   where
     stuck : (x : Labelled) → behind_label x ≡ (behind, rest) → valued f tag x ≡ None
@@ -99,7 +99,7 @@ no_piece f level behind tag c rest gives none = by_label (walk.label_at f level 
     by_label None e = refl
     by_label (Some x) e = stuck x (same_Some (behind_label x) (behind, rest) e)
 
-a_value : (f : walk.Format) (level behind : walk.Level) (tag : ℕ) (c rest after : walk.Columns) (p : Piece Scalar) → label_moves f level c ≡ Some (behind, rest) → walk.piece_at f.text_width tag rest ≡ Some (p, after)
+a_value : (f : walk.Format) (level behind : walk.Level) (tag : ℕ) (c rest after : walk.Columns) (p : Piece Scalar) → label_moves f level c ≡ Some (behind, rest) → walk.piece_at tag rest ≡ Some (p, after)
     → (l : Option walk.Key) × (walk.value_at f level tag c ≡ Some (token l p, behind, after))
 a_value f level behind tag c rest after p gives read = by_label (walk.label_at f level c) gives
   where
@@ -122,11 +122,11 @@ pub stuck_label : (f : walk.Format) (tag : ℕ) (ls : List Level) (n : ℕ) (c :
 stuck_label f tag ls n c some goes none = rw (stepped_none f tag ls n c some goes (no_label f (innermost ls n) tag c none)) refl
 
 pub stuck_piece : (f : walk.Format) (tag : ℕ) (ls : List Level) (n : ℕ) (c rest : walk.Columns) (behind : Level) → 0 < n → tag ≢ 7
-    → label_moves f (innermost ls n) c ≡ Some (level_of behind, rest) → walk.piece_at f.text_width tag rest ≡ None → token_moves f tag (stack_of ls n) c ≡ None
+    → label_moves f (innermost ls n) c ≡ Some (level_of behind, rest) → walk.piece_at tag rest ≡ None → token_moves f tag (stack_of ls n) c ≡ None
 stuck_piece f tag ls n c rest behind some goes labelled none = rw (stepped_none f tag ls n c some goes (no_piece f (innermost ls n) (level_of behind) tag c rest labelled none)) refl
 
 pub moved_on : (f : walk.Format) (tag : ℕ) (ls : List Level) (n : ℕ) (c rest after : walk.Columns) (behind : Level) (p : Piece Scalar) (r : Bool) (inner : List walk.Level) → 0 < n → n ≤ length ls → tag ≢ 7
-    → label_moves f (innermost ls n) c ≡ Some (level_of behind, rest) → walk.piece_at f.text_width tag rest ≡ Some (p, after)
+    → label_moves f (innermost ls n) c ≡ Some (level_of behind, rest) → walk.piece_at tag rest ≡ Some (p, after)
     → (if r then Some inner else None) ≡ walk.opened p (stack_of (set ls (n - 1) behind) n) → token_moves f tag (stack_of ls n) c ≡ (if r then Some (inner, after) else None)
 moved_on f tag ls n c rest after behind p r inner some inside goes labelled read opens =
     let value = a_value f (innermost ls n) (level_of behind) tag c rest after p labelled read in

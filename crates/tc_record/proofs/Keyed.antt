@@ -48,7 +48,7 @@ module _ {L : Type 0} (g : L → Key) where
     members_depth-relabel no_members = refl
     members_depth-relabel (member l t ms) = rw (depth-relabel t, members_depth-relabel ms) refl
 
-  tags-retoken : (ts : List (Token L Scalar)) → tags (map (retoken g) ts) ≡ tags ts
+  pub tags-retoken : (ts : List (Token L Scalar)) → tags (map (retoken g) ts) ≡ tags ts
   tags-retoken [] = refl
   tags-retoken (t ∷ ts) = ap (λ ns. piece_tag t.piece ∷ ns) (tags-retoken ts)
 
@@ -104,3 +104,6 @@ slots_of-keyed d = rw (preorder-relabel name d None, labels-retoken name (tokens
 
 pub names_of-keyed : (d : Document) → names (tokens_of (keyed d)) ≡ flat_map (λ l. l) (labels (tokens_of d))
 names_of-keyed d = rw (preorder-relabel name d None, labels-retoken name (tokens_of d)) (names-named (labels (tokens_of d)))
+
+pub slots_of-numbered : (n : NumberedTree) → slots (tokens_of (numbered n)) ≡ labels (tokens_of n)
+slots_of-numbered n = rw (preorder-relabel number n None, labels-retoken number (tokens_of n)) (slots-numbered (labels (tokens_of n)))

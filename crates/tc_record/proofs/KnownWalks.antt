@@ -6,8 +6,7 @@ use Rattle.tc_bytes.specs.Reading.{◌>>=◌}
 use Rattle.tc_bytes.proofs.Codecs.{then_parts}
 use Rattle.tc_model.specs.Document.{Name, Scalar}
 use Rattle.tc_record.specs.Preorder.{Piece, scalar, array_opened, object_opened, closed, Token, token}
-use Rattle.tc_record.specs.declared.widths.Width.{Width}
-use Rattle.tc_record.specs.Walk.{Key, name, number, Level, in_array, in_object, Format, Columns, sized_number_at, utf8_at, is_above, name_at, label_at, piece_at, value_at, opened, step, walk, nameless, without_last, without_names, known_step, known_walk}
+use Rattle.tc_record.specs.Walk.{Key, name, number, Level, in_array, in_object, Format, Columns, number_next, utf8_at, is_above, name_at, label_at, piece_at, value_at, opened, step, walk, nameless, without_last, without_names, known_step, known_walk}
 use Rattle.tc_record.specs.Walk as walk
 use Rattle.tc_record.specs.WalkView.{level_of, columns_of, format_of}
 use Rattle.tc_record.specs.SectionsView.{cut_columns_of}
@@ -42,9 +41,9 @@ nameless_again (in_array ∷ levels) = ap (λ ls. in_array ∷ ls) (nameless_aga
 nameless_again (in_object last ∷ levels) = ap (λ ls. in_object None ∷ ls) (nameless_again levels)
 
 -- a name that stands above the one before is read without that one too
-name_known : (w : Width) (last : Option Name) (c : Columns) (q : Name × Columns) → name_at w last c ≡ Some q → name_at w None c ≡ Some q
-name_known w last c q gives =
-    let one = then_parts (sized_number_at w c.slots) _ q gives in
+name_known : (last : Option Name) (c : Columns) (q : Name × Columns) → name_at last c ≡ Some q → name_at None c ≡ Some q
+name_known last c q gives =
+    let one = then_parts (number_next c.slots) _ q gives in
     let two = then_parts (utf8_at one.0.0 c.names) _ q one.2 in
     let three = if_parts (is_above last two.0.0) _ q two.2 in
     rw (one.1, two.1) (ap Some three.0)
@@ -54,18 +53,18 @@ label_known : (f : Format) (level : Level) (c : Columns) (l : Labelled) → labe
 label_known f in_array c l gives = (l.1, gives, refl)
 label_known f (in_object last) c l gives = by_form f.named gives
   where
-    by_form : (named : Bool) → (if named then (name_at f.slot_width last c >>= by_name) else (sized_number_at f.slot_width c.slots >>= by_number c)) ≡ Some l
-        → (b : Level) × ((if named then (name_at f.slot_width None c >>= by_name) else (sized_number_at f.slot_width c.slots >>= by_number c)) ≡ Some (l.0, b, l.2)) × (nameless b ≡ nameless l.1)
+    by_form : (named : Bool) → (if named then (name_at last c >>= by_name) else (number_next c.slots >>= by_number c)) ≡ Some l
+        → (b : Level) × ((if named then (name_at None c >>= by_name) else (number_next c.slots >>= by_number c)) ≡ Some (l.0, b, l.2)) × (nameless b ≡ nameless l.1)
     by_form true e =
-        let n = then_parts (name_at f.slot_width last c) _ l e in
-        (l.1, rw (name_known f.slot_width last c n.0 n.1) n.2, refl)
+        let n = then_parts (name_at last c) _ l e in
+        (l.1, rw (name_known last c n.0 n.1) n.2, refl)
     by_form false e = (l.1, e, refl)
 
 value_known : (f : Format) (level : Level) (tag : ℕ) (c : Columns) (v : Valued) → value_at f level tag c ≡ Some v
     → (b : Level) × (value_at f (nameless level) tag c ≡ Some (v.0, b, v.2)) × (nameless b ≡ nameless v.1)
 value_known f level tag c v gives =
     let l = then_parts (label_at f level c) _ v gives in
-    let p = then_parts (piece_at f.text_width tag l.0.2) _ v l.2 in
+    let p = then_parts (piece_at tag l.0.2) _ v l.2 in
     let k = label_known f level c l.0 l.1 in
     let same = same_Some (token l.0.0 p.0.0, l.0.1, p.0.1) v p.2 in
     (k.0, rw (k.1, p.1) (ap (λ (x : Valued). Some (x.0, k.0, x.2)) same), k.2 ∙ ap (λ (x : Valued). nameless x.1) same)
@@ -170,7 +169,7 @@ no_label_known f tag told n d c some within goes none = known_stepped f tag told
     by_label (Some x) e = cc
 
 pub no_piece_known : (f : Format) (tag : ℕ) (told : List Bool) (n : ℕ) (d : Bool) (c rest : Columns) (k : Option Key) (kind : Level) → 0 < n → n ≤ length told → tag ≢ 7
-    → option_map without_last (label_at f (kind_of (get_or told (n - 1) d)) c) ≡ Some (k, kind, rest) → piece_at f.text_width tag rest ≡ None → known_step f tag (kinds_of told n) c ≡ None
+    → option_map without_last (label_at f (kind_of (get_or told (n - 1) d)) c) ≡ Some (k, kind, rest) → piece_at tag rest ≡ None → known_step f tag (kinds_of told n) c ≡ None
 no_piece_known f tag told n d c rest k kind some within goes labels none = known_stepped f tag told n d c some within goes ∙ by_label (label_at f (kind_of (get_or told (n - 1) d)) c) labels
   where
     by_label : (l : Option Labelled) → option_map without_last l ≡ Some (k, kind, rest)
@@ -181,7 +180,7 @@ no_piece_known f tag told n d c rest k kind some within goes labels none = known
         rw (columns, none) refl
 
 pub token_known : (f : Format) (tag : ℕ) (told : List Bool) (n : ℕ) (d : Bool) (c rest after : Columns) (k : Option Key) (p : Piece Scalar) (r : Bool) (inner : List Level) → 0 < n → n ≤ length told → tag ≢ 7
-    → option_map without_last (label_at f (kind_of (get_or told (n - 1) d)) c) ≡ Some (k, kind_of (get_or told (n - 1) d), rest) → piece_at f.text_width tag rest ≡ Some (p, after)
+    → option_map without_last (label_at f (kind_of (get_or told (n - 1) d)) c) ≡ Some (k, kind_of (get_or told (n - 1) d), rest) → piece_at tag rest ≡ Some (p, after)
     → (if r then Some inner else None) ≡ opened p (kinds_of told n) → known_step f tag (kinds_of told n) c ≡ (if r then Some (token k p, inner, after) else None)
 token_known f tag told n d c rest after k p r inner some within goes labels read opens =
     known_stepped f tag told n d c some within goes ∙ by_label (label_at f (kind_of (get_or told (n - 1) d)) c) labels

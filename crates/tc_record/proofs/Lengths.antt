@@ -136,7 +136,7 @@ covered v (suc (suc (suc zero))) some small = omega arith
 covered v (suc (suc (suc (suc zero)))) some small = omega arith
 covered v (suc (suc (suc (suc (suc w))))) some small = absurd (omega arith)
 
-width_of-some : (n : ℕ) → 1 ≤ width_of n
+pub width_of-some : (n : ℕ) → 1 ≤ width_of n
 width_of-some n = grind (arith, nat_tests)
 
 exact_column : (xs : List (List ℕ)) → length (numbers (width (map length xs)) (map length xs)) < 2 ^ 32 → IsExact xs (with_elements no_elements (map length xs))

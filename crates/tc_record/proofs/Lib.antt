@@ -8,8 +8,6 @@ pub mod Encoded
 pub mod Utf8
 pub mod Stacks
 mod Judged
-pub mod Scans
-pub mod Sized
 pub mod ColumnLaws
 pub mod Texts
 pub mod Scalars
@@ -20,7 +18,10 @@ pub mod Spelled
 pub mod Keyed
 pub mod Fitting
 pub mod Documents
-pub mod Counted
+pub mod Spellings
+pub mod NumberColumns
+pub mod Placed
+pub mod Tails
 pub mod Cutting
 pub mod Reading
 pub mod Holding

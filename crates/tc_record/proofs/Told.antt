@@ -1,30 +1,25 @@
 -- What the header and the slots of a record tell of its tokens.
-use Rattle.std.proofs.Common.{◌≡◌, ◌∙◌, ◌<◌, ◌≤◌, ◌+◌, ◌↔◌, suc, ◌^◌, ◌==◌, ◌||◌, nat_lt, ℕ, Bool, true, false, List, [], ◌∷◌, Option, None, Some, option_map, IfSome, IsTrue, unwrap_or, is_some, length, map, inl, inr, refl, sym, ap, subst, arith, append-nil}
+use Rattle.std.proofs.Common.{◌≡◌, ◌∙◌, ◌<◌, ◌≤◌, ◌+◌, ◌↔◌, suc, ◌^◌, ◌==◌, ◌||◌, nat_lt, ℕ, Bool, true, false, List, [], ◌∷◌, Option, None, Some, IsTrue, unwrap_or, is_some, length, map, inl, inr, refl, sym, ap, subst, arith}
 use Rattle.std.specs.List.{AllByRecursion}
 use Rattle.std.proofs.lemmas.Bool.{both_ways}
 use Rattle.std.proofs.lemmas.Bool.Decides.{nat_tests}
 use Rattle.std.proofs.lemmas.List.{length-map}
 use Rattle.std.proofs.lemmas.Option.{same_Some}
 use Rattle.tc_bytes.specs.Codec.{IsBytes}
-use Rattle.tc_model.specs.Tree.{object}
 use Rattle.tc_model.specs.Document.{Name, Document, Scalar}
 use Rattle.tc_record.specs.Preorder.{Token, tokens_of}
-use Rattle.tc_record.specs.declared.widths.Width.{Width}
-use Rattle.tc_record.specs.Widths.{width_bytes}
-use Rattle.tc_record.specs.Record.{NumberedTree, piece_tag, labels, greatest, numbers, header_size, body, record_bytes}
+use Rattle.tc_record.specs.Record.{NumberedTree, piece_tag, tags, labels, greatest, header_size, body, record_bytes}
 use Rattle.tc_record.specs.Walk.{Key, name, number}
 use Rattle.tc_record.specs.Walk as walk
 use Rattle.tc_record.specs.Held.{tokens_held, TellsGreatest}
 use Rattle.tc_record.specs.Sections as cut
-use Rattle.tc_record.specs.SectionsView.{sections_of}
+use Rattle.tc_record.specs.SectionsView.{cut_columns_of, sections_of}
+use Rattle.tc_record.specs.WalkView.{numbers_of, format_of}
 use Rattle.tc_record.specs.Borrowed.{Record, Spells, IsBelow, named_tokens, numbered_tokens}
 use Rattle.tc_record.specs.declared.sections.Sections.{Sections}
 use Rattle.tc_record.proofs.Found.{tokens_found}
 use Rattle.tc_record.proofs.Spelled.{slot_of, slots, names, spelled_slots}
-use Rattle.tc_record.proofs.Keyed.{keyed, numbered, preorder-relabel, labels-retoken, record_of-keyed, record_of-numbered, slots-numbered}
-use Rattle.tc_record.proofs.Fitting.{AreFit, TokensFit}
-use Rattle.tc_record.proofs.Documents.{keyed_fits}
-use Rattle.tc_record.proofs.Counted.{greatest_from, greatest_from-is, sum_from, scan_again}
+use Rattle.tc_record.proofs.Keyed.{keyed, numbered, preorder-relabel, labels-retoken, record_of-keyed, record_of-numbered, slots-numbered, slots_of-numbered}
 use Rattle.tc_record.proofs.Cutting.{header_of_tokens, header_again, header_fits, sections_found}
 
 abbrev Tokens : Type 0
@@ -69,35 +64,31 @@ header_tells r h rest spells read =
 
 -- ---- the slots
 
--- the column of slots of the tokens that were read
-slots_read : (bytes : List ℕ) (s : cut.Sections) (ts : Tokens) → IsBytes bytes → cut.sections_in bytes ≡ Some s → walk.tokens_read s.format s.tags s.columns ≡ Some ts
-    → (s.columns.slots ≡ numbers (width_bytes s.format.slot_width) (slots ts)) × AreFit s.format.slot_width (slots ts)
+-- the slots that were cut are those of the tokens that were read
+slots_read : (bytes : List ℕ) (s : cut.Sections) (ts : Tokens) → IsBytes bytes → cut.sections_in bytes ≡ Some s → walk.tokens_read s.format s.tags s.columns ≡ Some ts → s.columns.slots ≡ slots ts
 slots_read bytes s ts each cut_is read =
     let found = sections_found bytes s each cut_is in
     let held = tokens_found s.tags s.format s.columns ts found.columns.each read in
-    let fits = subst (TokensFit s.format) (sym held.tokens) (keyed_fits (object held.members) s.format held.keyed) in
-    (ap (λ (c : walk.Columns). c.slots) held.spelled ∙ spelled_slots s.format ts, fits.slots)
+    ap (λ (c : walk.Columns). c.slots) held.spelled ∙ spelled_slots ts
 
--- what is scanned of the slots of so many members
-scan_slots : (w : Width) (ns column : List ℕ) (count : ℕ) → AreFit w ns → column ≡ numbers (width_bytes w) ns → count ≡ length ns → cut.scan_at w count 0 0 column ≡ Some (greatest_from 0 ns, sum_from 0 ns)
-scan_slots w ns column count fits is many =
-    ap (λ c. cut.scan_at w c 0 0 column) many ∙ ap (cut.scan_at w (length ns) 0 0) (is ∙ sym (append-nil (numbers (width_bytes w) ns))) ∙ scan_again ns w [] 0 0 fits
+pub slots_held : (bytes : List ℕ) (s : Sections) (held : Option Tokens) → IsBytes bytes → cut.sections_in bytes ≡ Some (sections_of s) → tokens_held s ≡ held → true ≡ is_some held → numbers_of s.columns.slots ≡ slots (unwrap_or held [])
+slots_held bytes s None each cut_is is some = cc
+slots_held bytes s (Some ts) each cut_is is some = slots_read bytes (sections_of s) ts each cut_is is
 
-pub scanned_held : (bytes : List ℕ) (s : Sections) (held : Option Tokens) (count : ℕ) → IsBytes bytes → cut.sections_in bytes ≡ Some (sections_of s) → tokens_held s ≡ held → true ≡ is_some held → count ≡ length (labels (unwrap_or held []))
-    → cut.scan_at s.format.slot_width count 0 0 s.columns.slots.now ≡ Some (greatest_from 0 (slots (unwrap_or held [])), sum_from 0 (slots (unwrap_or held [])))
-scanned_held bytes s None count each cut_is is some many = cc
-scanned_held bytes s (Some ts) count each cut_is is some many =
-    let read = slots_read bytes (sections_of s) ts each cut_is is in
-    scan_slots s.format.slot_width (slots ts) s.columns.slots.now count read.1 read.0 (many ∙ sym (length-map (labels ts) _))
+-- the slots of a record without names are its numbers
+pub numbers_held : (tokens : Tokens) (n : NumberedTree) (ks : List ℕ) → ks ≡ slots tokens → tokens ≡ numbered_tokens n → ks ≡ labels (tokens_of n)
+numbers_held tokens n ks are same = are ∙ ap slots same ∙ slots_of-numbered n
 
--- the greatest that a header lets tell is that of the slots
-pub greatest_held : (r : Record) (s : Sections) (held : Option Tokens) → Spells r → IsBytes r.bytes → cut.sections_in r.bytes ≡ Some (sections_of s) → tokens_held s ≡ held → true ≡ is_some held → r.tokens ≡ unwrap_or held []
-    → IfSome (cut.header_at r.bytes) (λ h. TellsGreatest h.0.names s) → s.greatest_slot ≡ greatest_from 0 (slots (unwrap_or held []))
-greatest_held r s held spells each cut_is is some tokens greatest =
-    let told = header_told r spells in
-    let here : TellsGreatest told.0.0.names s = subst (λ o. IfSome o (λ h. TellsGreatest h.0.names s)) told.1 greatest in
-    let scan = scanned_held r.bytes s held told.0.0.names each cut_is is some (told.2.members ∙ ap (λ ts. length (labels ts)) tokens) in
-    same_Some _ _ (sym here ∙ ap (option_map (λ (p : ℕ × ℕ). p.0)) scan)
+-- the tags are those of the tokens that were read
+pub tags_held : (bytes : List ℕ) (s : Sections) (held : Option Tokens) → IsBytes bytes → cut.sections_in bytes ≡ Some (sections_of s) → tokens_held s ≡ held → true ≡ is_some held → s.tags.now ≡ tags (unwrap_or held [])
+tags_held bytes s None each cut_is is some = cc
+tags_held bytes s (Some ts) each cut_is is some =
+    let found = sections_found bytes (sections_of s) each cut_is in
+    (tokens_found s.tags.now (format_of s.format) (cut_columns_of s.columns) ts found.columns.each is).tagged
+
+-- the greatest of the slots
+pub greatest_held : (bytes : List ℕ) (s : Sections) → IsBytes bytes → cut.sections_in bytes ≡ Some (sections_of s) → true ≡ is_some (tokens_held s) → TellsGreatest s → s.greatest_slot ≡ greatest (slots (unwrap_or (tokens_held s) []))
+greatest_held bytes s each cut_is some told = told ∙ ap greatest (slots_held bytes s (tokens_held s) each cut_is refl some)
 
 -- numbers below a limit have their greatest there
 all_below : (limit : ℕ) (ks : List ℕ) → IsTrue ((length ks == 0) || nat_lt (greatest ks) limit) → AllByRecursion (IsBelow limit) (map number ks)
@@ -139,7 +130,7 @@ names_below limit r (inl (d, (named, is, tokens))) told = subst (AllByRecursion 
 names_below limit r (inr (n, (named, is, tokens))) told = absurd (both_ways r.named named told)
 
 -- what was scanned of the slots of a record of form 1 tells whether its numbers are below a limit
-pub numbers_told : (limit count : ℕ) (r : Record) (b : Bool) → Spells r → r.named ≡ false → count ≡ length (labels r.tokens) → b ≡ cut.are_below limit count (greatest_from 0 (slots r.tokens))
+pub numbers_told : (limit count : ℕ) (r : Record) (b : Bool) → Spells r → r.named ≡ false → count ≡ length (labels r.tokens) → b ≡ cut.are_below limit count (greatest (slots r.tokens))
     → IsTrue b ↔ AllByRecursion (IsBelow limit) (labels r.tokens)
 numbers_told limit count r b (inl (d, (named, is, tokens))) told many scan = absurd (both_ways r.named told named)
 numbers_told limit count r b (inr (n, (named, is, tokens))) told many scan =
@@ -147,6 +138,6 @@ numbers_told limit count r b (inr (n, (named, is, tokens))) told many scan =
     let ls : labels r.tokens ≡ map number ks = ap labels tokens ∙ labels_numbered n in
     let few : count ≡ length ks = many ∙ ap length ls ∙ length-map ks number in
     let slots_are : slots r.tokens ≡ ks = ap (map slot_of) ls ∙ slots-numbered ks in
-    let greatest_is : greatest_from 0 (slots r.tokens) ≡ greatest ks = ap (greatest_from 0) slots_are ∙ greatest_from-is ks 0 ∙ omega arith in
+    let greatest_is : greatest (slots r.tokens) ≡ greatest ks = ap greatest slots_are in
     let test : b ≡ ((length ks == 0) || nat_lt (greatest ks) limit) = scan ∙ ap (λ g. (count == 0) || nat_lt g limit) greatest_is ∙ ap (λ c. (c == 0) || nat_lt (greatest ks) limit) few in
     rw (ls, test) (all_below limit ks, greatest_below limit ks)

@@ -1,13 +1,13 @@
 -- What a borrowed record and a cursor are seen as.
-use Rattle.std.specs.Prelude.{◌≡◌, ℕ, ◌==◌, Bool, true, false, if◌then◌else◌, List, [], ◌∷◌, Option, None, Some, option_map}
+use Rattle.std.specs.Prelude.{◌≡◌, ℕ, ◌==◌, Bool, true, false, if◌then◌else◌, List, [], ◌∷◌, Option, None, Some}
 use Rattle.tc_bytes.specs.Reading.{◌>>=◌}
 use Rattle.tc_model.specs.Document.{Scalar}
 use Rattle.tc_model.specs.Kinds.{tag as kind_tag, objects}
 use Rattle.tc_record.specs.Preorder.{Token, token, object_opened}
 use Rattle.tc_record.specs.Walk as walk
-use Rattle.tc_record.specs.WalkView.{columns_of, format_of}
+use Rattle.tc_record.specs.WalkView.{numbers_of, columns_of, format_of}
 use Rattle.tc_record.specs.SectionsView.{cut_columns_of}
-use Rattle.tc_record.specs.Sections.{scan_at}
+use Rattle.tc_record.specs.Record.{greatest}
 use Rattle.tc_record.specs.Stack.{kinds_of}
 use Rattle.tc_record.specs.declared.sections.Sections.{Sections}
 use Rattle.tc_record.specs.declared.walking.Walk.{Walk}
@@ -16,9 +16,9 @@ use Rattle.tc_record.specs.declared.walking.Walk.{Walk}
 abbrev pub tokens_held : Sections → Option (List (Token walk.Key Scalar))
 tokens_held s = walk.tokens_read (format_of s.format) s.tags.now (cut_columns_of s.columns)
 
--- the greatest of so many slots is told
-abbrev pub TellsGreatest : ℕ → Sections → Type 0
-TellsGreatest count s = option_map (λ p. p.0) (scan_at s.format.slot_width count 0 0 s.columns.slots.now) ≡ Some s.greatest_slot
+-- the greatest slot is told
+abbrev pub TellsGreatest : Sections → Type 0
+TellsGreatest s = s.greatest_slot ≡ greatest (numbers_of s.columns.slots)
 
 -- the tokens that are left, where the first one was taken, and where it was not
 abbrev pub tokens_left : Bool → List ℕ → Walk → Option (List (Token walk.Key Scalar))

@@ -7,6 +7,7 @@ pub mod Measured
 pub mod Widths
 pub mod Written
 pub mod Walk
+pub mod NumbersLeft
 pub mod WalkView
 pub mod Moves
 pub mod Stack

@@ -1,6 +1,6 @@
 -- The bytes of a record: the columns of a document's tokens, one behind the other. In form 0 a member is labelled by
 -- its name, in form 1 by the number of its name.
-use Rattle.std.specs.Prelude.{◌≡◌, ℕ, ◌+◌, ◌<◌, ◌≤◌, ◌^◌, max, nat_lt, if◌then◌else◌, List, [], ◌∷◌, ◌++◌, length, map, flat_map, option_to_list}
+use Rattle.std.specs.Prelude.{◌≡◌, ℕ, ◌+◌, ◌*◌, ◌<◌, ◌≤◌, ◌^◌, max, nat_lt, if◌then◌else◌, List, [], ◌∷◌, ◌++◌, length, map, flat_map, option_to_list}
 use Rattle.std.specs.Int.{w32, w64, to_be_bytes, bytes_high_first, cast_unsigned}
 use Rattle.tc_model.specs.Tree.{Tree, leaf, array, object, Items, no_items, item, Members, no_members, member, depth}
 use Rattle.tc_model.specs.Document.{Document, Scalar, null, boolean, integer, text, IsScalar, IsDocument, scalar_kind}
@@ -75,6 +75,16 @@ width (n ∷ ns) = width_of (greatest (n ∷ ns))
 abbrev pub numbers : ℕ → List ℕ → List ℕ
 numbers w ns = flat_map (bytes_high_first w) ns
 
+-- how the numbers of a column are spelled: the least width for them, how many bits that width is of each, and the bytes
+pub record Spelling : Type 0 where
+  pub width : List ℕ → ℕ
+  pub bits : ℕ → ℕ
+  pub column : ℕ → List ℕ → List ℕ
+
+-- each number in whole bytes
+abbrev pub in_bytes : Spelling
+in_bytes = record { width = width; bits = λ w. 8 * w; column = numbers }
+
 abbrev pub joined : List (List ℕ) → List ℕ
 joined ts = flat_map (λ t. t) ts
 
@@ -90,16 +100,24 @@ abbrev pub header_size : ℕ
 header_size = 23
 
 -- what stands behind the header
-abbrev pub body : {L : Type 0} → List (Token L Scalar) → List ℕ → List ℕ → List ℕ
-body ts slots names =
+abbrev pub body_in : {L : Type 0} → Spelling → List (Token L Scalar) → List ℕ → List ℕ → List ℕ
+body_in s ts slots names =
     let lengths = map length (texts ts) in
-    tags ts ++ (fixed ts ++ (numbers (width lengths) lengths ++ (joined (texts ts) ++ (numbers (width slots) slots ++ names))))
+    tags ts ++ (fixed ts ++ (s.column (s.width lengths) lengths ++ (joined (texts ts) ++ (s.column (s.width slots) slots ++ names))))
 
 -- header and columns
-abbrev pub record_bytes : {L : Type 0} → ℕ → List (Token L Scalar) → List ℕ → List ℕ → List ℕ
-record_bytes form ts slots names =
+abbrev pub record_in : {L : Type 0} → Spelling → ℕ → List (Token L Scalar) → List ℕ → List ℕ → List ℕ
+record_in s form ts slots names =
     let lengths = map length (texts ts) in
-    to_be_bytes w32 (header_size + length (body ts slots names)) ++ (form ∷ (to_be_bytes w32 (length (tags ts)) ++ (to_be_bytes w32 (length (fixed ts)) ++ (to_be_bytes w32 (length lengths) ++ (width lengths ∷ (to_be_bytes w32 (length slots) ++ (width slots ∷ body ts slots names)))))))
+    let content = body_in s ts slots names in
+    to_be_bytes w32 (header_size + length content) ++ (form ∷ (to_be_bytes w32 (length (tags ts)) ++ (to_be_bytes w32 (length (fixed ts)) ++ (to_be_bytes w32 (length lengths) ++ (s.width lengths ∷ (to_be_bytes w32 (length slots) ++ (s.width slots ∷ content)))))))
+
+-- the same in whole bytes
+abbrev pub body : {L : Type 0} → List (Token L Scalar) → List ℕ → List ℕ → List ℕ
+body ts slots names = body_in in_bytes ts slots names
+
+abbrev pub record_bytes : {L : Type 0} → ℕ → List (Token L Scalar) → List ℕ → List ℕ → List ℕ
+record_bytes form ts slots names = record_in in_bytes form ts slots names
 
 -- form 0: a slot is the length of a name, and the names follow
 abbrev pub record_of : Document → List ℕ

@@ -1,6 +1,6 @@
 -- How the columns of a record are read: token by token, from the front.
 use Rattle.std.specs.Prelude.{ℕ, ◌==◌, ◌&&◌, nat_lt, Bool, true, false, if◌then◌else◌, List, [], ◌∷◌, length, map, Option, None, Some, option_map}
-use Rattle.std.specs.Int.{w16, w32, w64, cast_signed}
+use Rattle.std.specs.Int.{w64, cast_signed}
 use Rattle.std.specs.Str.{is_utf8}
 use Rattle.std.specs.Ordering.{is_lt}
 use Rattle.tc_bytes.specs.Reading.{Reader, ◌>>=◌, byte_at, number_at, bytes_at}
@@ -9,8 +9,6 @@ use Rattle.tc_model.specs.Kinds.{scalar_tag, tag as kind_tag, arrays, objects}
 use Rattle.tc_model.specs.Limits.{max_depth}
 use Rattle.tc_record.specs.Preorder.{Piece, scalar, array_opened, object_opened, closed, Token, token}
 use Rattle.tc_record.specs.Record.{close_tag}
-use Rattle.tc_record.specs.declared.widths.Width.{Width}
-use Rattle.tc_record.specs.declared.widths.Width.TheVariants.{Zero, One, Two, Four}
 
 -- what a member is labelled by: its name in form 0, the number of its name in form 1
 pub data Key : Type 0 where
@@ -22,13 +20,11 @@ pub data Level : Type 0 where
   in_array : Level
   in_object : Option Name → Level
 
--- the form, and the bytes of a text length and of a slot
+-- whether members carry names
 pub record Format : Type 0 where
   pub named : Bool
-  pub text_width : Width
-  pub slot_width : Width
 
--- what is left of the columns beside the tags
+-- what is left of the columns beside the tags: bytes, and the numbers of the columns of text lengths and of slots
 pub record Columns : Type 0 where
   pub fixed : List ℕ
   pub lengths : List ℕ
@@ -37,19 +33,17 @@ pub record Columns : Type 0 where
   pub names : List ℕ
 
 -- one number of a column
-abbrev pub sized_number_at : Width → Reader ℕ
-sized_number_at Zero bytes = None
-sized_number_at One bytes = byte_at bytes
-sized_number_at Two bytes = number_at w16 bytes
-sized_number_at Four bytes = number_at w32 bytes
+abbrev pub number_next : List ℕ → Option (ℕ × List ℕ)
+number_next [] = None
+number_next (n ∷ ns) = Some (n, ns)
 
 -- so many bytes that are UTF-8
 abbrev pub utf8_at : ℕ → Reader (List ℕ)
 utf8_at n bytes = bytes_at n bytes >>= λ t. if is_utf8 t.0 then Some t else None
 
 -- a text by its length, from the columns of lengths and of texts
-abbrev pub text_at : Width → Columns → Option (List ℕ × Columns)
-text_at w c = sized_number_at w c.lengths >>= λ n. utf8_at n.0 c.texts >>= λ t. Some (t.0, record c { lengths = n.1; texts = t.1 })
+abbrev pub text_at : Columns → Option (List ℕ × Columns)
+text_at c = number_next c.lengths >>= λ n. utf8_at n.0 c.texts >>= λ t. Some (t.0, record c { lengths = n.1; texts = t.1 })
 
 abbrev pub bool_of : ℕ → Option Bool
 bool_of b = if b == 0 then Some false else (if b == 1 then Some true else None)
@@ -61,12 +55,12 @@ abbrev pub integer_at : Columns → Option (Piece Scalar × Columns)
 integer_at c = number_at w64 c.fixed >>= λ n. Some (scalar (integer (cast_signed w64 n.0)), record c { fixed = n.1 })
 
 -- a value, or the opening of one, by its tag
-abbrev pub piece_at : Width → ℕ → Columns → Option (Piece Scalar × Columns)
-piece_at w tag c =
+abbrev pub piece_at : ℕ → Columns → Option (Piece Scalar × Columns)
+piece_at tag c =
     if tag == scalar_tag null_kind then Some (scalar null, c)
     else (if tag == scalar_tag boolean_kind then (bool_at c >>= λ b. Some (scalar (boolean b.0), b.1))
     else (if tag == scalar_tag integer_kind then integer_at c
-    else (if tag == scalar_tag text_kind then (text_at w c >>= λ t. Some (scalar (text t.0), t.1))
+    else (if tag == scalar_tag text_kind then (text_at c >>= λ t. Some (scalar (text t.0), t.1))
     else (if tag == kind_tag arrays then Some (array_opened, c)
     else (if tag == kind_tag objects then Some (object_opened, c) else None)))))
 
@@ -75,16 +69,16 @@ abbrev pub is_above : Option Name → Name → Bool
 is_above None n = true
 is_above (Some m) n = is_lt (name_cmp m n)
 
-abbrev pub name_at : Width → Option Name → Columns → Option (Name × Columns)
-name_at w last c =
-    sized_number_at w c.slots >>= λ n. utf8_at n.0 c.names >>= λ t. if is_above last t.0 then Some (t.0, record c { slots = n.1; names = t.1 }) else None
+abbrev pub name_at : Option Name → Columns → Option (Name × Columns)
+name_at last c =
+    number_next c.slots >>= λ n. utf8_at n.0 c.names >>= λ t. if is_above last t.0 then Some (t.0, record c { slots = n.1; names = t.1 }) else None
 
 -- the label of a value that stands in a level, and the level behind it
 abbrev pub label_at : Format → Level → Columns → Option (Option Key × Level × Columns)
 label_at f in_array c = Some (None, in_array, c)
 label_at f (in_object last) c =
-    if f.named then (name_at f.slot_width last c >>= λ n. Some (Some (name n.0), in_object (Some n.0), n.1))
-    else (sized_number_at f.slot_width c.slots >>= λ n. Some (Some (number n.0), in_object None, record c { slots = n.1 }))
+    if f.named then (name_at last c >>= λ n. Some (Some (name n.0), in_object (Some n.0), n.1))
+    else (number_next c.slots >>= λ n. Some (Some (number n.0), in_object None, record c { slots = n.1 }))
 
 -- the levels behind a piece, of which there are no more than a document may nest
 abbrev pub opened : Piece Scalar → List Level → Option (List Level)
@@ -95,7 +89,7 @@ opened closed levels = None
 
 -- a value that stands in a level, as a token, with the level and the columns behind it
 abbrev pub value_at : Format → Level → ℕ → Columns → Option (Token Key Scalar × Level × Columns)
-value_at f level tag c = label_at f level c >>= λ l. piece_at f.text_width tag l.2 >>= λ p. Some (token l.0 p.0, l.1, p.1)
+value_at f level tag c = label_at f level c >>= λ l. piece_at tag l.2 >>= λ p. Some (token l.0 p.0, l.1, p.1)
 
 -- the next token, with the levels and the columns behind it
 abbrev pub step : Format → ℕ → List Level → Columns → Option (Token Key Scalar × List Level × Columns)

@@ -1,5 +1,5 @@
 -- What the reader of a record shows.
-use Rattle.std.specs.Prelude.{Option, None, Some}
+use Rattle.std.specs.Prelude.{ℕ, List, Option, None, Some}
 use Rattle.tc_model.specs.Document.{Scalar, null, boolean, integer, text}
 use Rattle.tc_record.specs.Preorder as model
 use Rattle.tc_record.specs.Walk as walk
@@ -8,6 +8,8 @@ use Rattle.tc_record.specs.declared.token.Label.TheVariants.{Bare, Name, Number}
 use Rattle.tc_record.specs.declared.token.Piece.{Piece}
 use Rattle.tc_record.specs.declared.token.Piece.TheVariants.{Null, Bool, Int, Text, Array, Object, Close}
 use Rattle.tc_record.specs.declared.token.Token.{Token}
+use Rattle.tc_record.specs.NumbersLeft.{elements_from}
+use Rattle.tc_record.specs.declared.numbers.Numbers.{Numbers}
 use Rattle.tc_record.specs.declared.reader.Columns.{Columns}
 use Rattle.tc_record.specs.declared.reader.Level.{Level}
 use Rattle.tc_record.specs.declared.reader.Level.TheVariants as level
@@ -31,8 +33,11 @@ piece_of Close = model.closed
 abbrev pub token_of : Token → model.Token walk.Key Scalar
 token_of t = model.token (key_of t.label) (piece_of t.value)
 
+abbrev pub numbers_of : Numbers → List ℕ
+numbers_of n = elements_from n.width n.place n.left n.bytes.now
+
 abbrev pub columns_of : Columns → walk.Columns
-columns_of c = record { fixed = c.fixed.now; lengths = c.lengths.now; texts = c.texts.now; slots = c.slots.now; names = c.names.now }
+columns_of c = record { fixed = c.fixed.now; lengths = numbers_of c.lengths; texts = c.texts.now; slots = numbers_of c.slots; names = c.names.now }
 
 abbrev pub level_of : Level → walk.Level
 level_of level.Array = walk.in_array
@@ -40,4 +45,4 @@ level_of level.Object = walk.in_object None
 level_of (level.Behind n) = walk.in_object (Some n.now)
 
 abbrev pub format_of : Format → walk.Format
-format_of f = record { named = f.named; text_width = f.text_width; slot_width = f.slot_width }
+format_of f = record { named = f.named }

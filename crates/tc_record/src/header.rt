@@ -1,10 +1,9 @@
 //! The header of a record, read.
 
 ghost use Rattle.std.specs.Prelude.{◌≡◌, option_map};
-ghost use Rattle.tc_record.specs.Sections.{header_at, width_from, form_from};
+ghost use Rattle.tc_record.specs.Sections.{header_at, form_from};
 ghost use Rattle.tc_record.specs.SectionsView.{header_of};
 
-use crate::widths::Width;
 use tc_bytes::{u8_at, u32_at};
 
 /// The form of a record whose members carry names.
@@ -48,18 +47,6 @@ pub(crate) fn header_in(bytes: &[u8]) -> Option<(Header, &[u8])>
         slot_width,
     };
     Some((header, bytes))
-}
-
-pub(crate) fn width_told(byte: u8) -> Option<Width>
-    ensures { result ≡ width_from byte }
-{
-    match byte {
-        0 => Some(Width::Zero),
-        1 => Some(Width::One),
-        2 => Some(Width::Two),
-        4 => Some(Width::Four),
-        _ => None,
-    }
 }
 
 /// Whether members carry names.

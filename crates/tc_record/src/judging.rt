@@ -7,7 +7,7 @@ ghost use Rattle.tc_record.specs.WalkView.{columns_of, level_of, format_of};
 ghost use Rattle.tc_record.specs.Stack.{stack_of};
 
 use crate::nesting::Nesting;
-use crate::reader::{Columns, Format, Level, column_number_at, name_in, piece_in};
+use crate::reader::{Columns, Format, Level, name_in, piece_in};
 use crate::tags::{CLOSE_TAG, OBJECT_TAG};
 
 /// Whether tags and columns spell the tokens of an object, and nothing else.
@@ -52,7 +52,7 @@ fn passes<'a>(format: Format, tag: u8, nesting: &mut Nesting<'a>, columns: &mut 
         None => false,
         Some(behind) => {
             nesting.levels[place] = behind;
-            match piece_in(format.text_width, tag, columns) {
+            match piece_in(tag, columns) {
                 None => false,
                 Some(piece) => nesting.open(piece),
             }
@@ -86,11 +86,10 @@ fn member_behind<'a>(
     ensures { label_moves (format_of format) (in_object (option_map (λ n. n.now) last.entry)) (columns_of columns.old) ≡ option_map (λ l. (level_of l, columns_of columns.new)) result }
 {
     if format.named {
-        let name = name_in(format.slot_width, last, columns)?;
+        let name = name_in(last, columns)?;
         return Some(Level::Behind(name));
     }
-    let (_number, slots) = column_number_at(format.slot_width, columns.slots)?;
-    columns.slots = slots;
+    let _number = columns.slots.next()?;
     Some(Level::Object)
 }
 

@@ -9,7 +9,7 @@ ghost use Rattle.tc_record.specs.Stack.{kind_of, kinds_of};
 
 use crate::judging::is_used_up;
 use crate::kinds::Kinds;
-use crate::reader::{Columns, Format, column_number_at, piece_in};
+use crate::reader::{Columns, Format, piece_in};
 use crate::tags::{CLOSE_TAG, OBJECT_TAG};
 
 /// Whether tags and columns spell the tokens of an object, and nothing else.
@@ -54,7 +54,7 @@ fn passes(format: Format, tag: u8, kinds: &mut Kinds, columns: &mut Columns<'_>)
     if !passes_label(format, kinds.arrays[kinds.depth - 1], columns) {
         return false;
     }
-    match piece_in(format.text_width, tag, columns) {
+    match piece_in(tag, columns) {
         None => false,
         Some(piece) => kinds.open(piece),
     }
@@ -69,11 +69,8 @@ fn passes_label(format: Format, in_array: bool, columns: &mut Columns<'_>) -> bo
     if in_array {
         return true;
     }
-    match column_number_at(format.slot_width, columns.slots) {
+    match columns.slots.next() {
         None => false,
-        Some((_number, slots)) => {
-            columns.slots = slots;
-            true
-        }
+        Some(_number) => true,
     }
 }

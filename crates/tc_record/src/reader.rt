@@ -1,33 +1,31 @@
 //! The columns of a record, read value by value.
 
 ghost use Rattle.std.specs.Prelude.{◌≡◌, option_map};
-ghost use Rattle.tc_record.specs.Walk.{sized_number_at, utf8_at, text_at, name_at, bool_at, integer_at, piece_at, is_above as stands_above};
+ghost use Rattle.tc_record.specs.Walk.{utf8_at, text_at, name_at, bool_at, integer_at, piece_at, is_above as stands_above};
 ghost use Rattle.std.specs.Ordering.{is_lt};
 ghost use Rattle.tc_model.specs.Document.{name_cmp};
 ghost use Rattle.tc_record.specs.WalkView.{piece_of, columns_of};
 
+use crate::numbers::Numbers;
 use crate::tags::{ARRAY_TAG, BOOLEAN_TAG, INTEGER_TAG, NULL_TAG, OBJECT_TAG, TEXT_TAG};
 use crate::token::Piece;
-use crate::widths::Width;
-use tc_bytes::{u8_at, u16_at, u32_at, u64_at};
+use tc_bytes::{u8_at, u64_at};
 
 /// What is left of the columns beside the tags, where texts and names are UTF-8. Readers move it on in place: it is
-/// five slices wide, and each token would copy it several times.
+/// wider than five slices, and each token would copy it several times.
 #[derive(Clone, Copy)]
 pub(crate) struct Columns<'a> {
     pub(crate) fixed: &'a [u8],
-    pub(crate) lengths: &'a [u8],
+    pub(crate) lengths: Numbers<'a>,
     pub(crate) texts: &'a str,
-    pub(crate) slots: &'a [u8],
+    pub(crate) slots: Numbers<'a>,
     pub(crate) names: &'a str,
 }
 
-/// The form, and the bytes of a text length and of a slot.
+/// Whether members carry names.
 #[derive(Clone, Copy)]
 pub(crate) struct Format {
     pub(crate) named: bool,
-    pub(crate) text_width: Width,
-    pub(crate) slot_width: Width,
 }
 
 /// An array or an object that is open, of an object also with the name of the member before, if names are to ascend.
@@ -36,25 +34,6 @@ pub(crate) enum Level<'a> {
     Array,
     Object,
     Behind(&'a str),
-}
-
-/// One number of a column.
-#[inline(always)]
-pub(crate) fn column_number_at(width: Width, column: &[u8]) -> Option<(u32, &[u8])>
-    ensures { option_map (λ x. (x.0, x.1.now)) result ≡ sized_number_at width column.now }
-{
-    match width {
-        Width::Zero => None,
-        Width::One => {
-            let (number, rest) = u8_at(column)?;
-            Some((u32::from(number), rest))
-        }
-        Width::Two => {
-            let (number, rest) = u16_at(column)?;
-            Some((u32::from(number), rest))
-        }
-        Width::Four => u32_at(column),
-    }
 }
 
 /// So many bytes of a text, if a character ends there: just then they are UTF-8.
@@ -70,12 +49,11 @@ fn str_at(text: &str, count: u32) -> Option<(&str, &str)>
 
 /// The next text, by its length.
 #[inline(always)]
-fn text_in<'a>(width: Width, columns: &mut Columns<'a>) -> Option<&'a str>
-    ensures { option_map (λ t. (t.now, columns_of columns.new)) result ≡ text_at width (columns_of columns.old) }
+fn text_in<'a>(columns: &mut Columns<'a>) -> Option<&'a str>
+    ensures { option_map (λ t. (t.now, columns_of columns.new)) result ≡ text_at (columns_of columns.old) }
 {
-    let (len, lengths) = column_number_at(width, columns.lengths)?;
+    let len = columns.lengths.next()?;
     let (text, texts) = str_at(columns.texts, len)?;
-    columns.lengths = lengths;
     columns.texts = texts;
     Some(text)
 }
@@ -104,8 +82,8 @@ fn integer_in<'a>(columns: &mut Columns<'a>) -> Option<Piece<'a>>
 
 /// A value, or the opening of one, by its tag.
 #[inline(always)]
-pub(crate) fn piece_in<'a>(width: Width, tag: u8, columns: &mut Columns<'a>) -> Option<Piece<'a>>
-    ensures { option_map (λ p. (piece_of p, columns_of columns.new)) result ≡ piece_at width tag (columns_of columns.old) }
+pub(crate) fn piece_in<'a>(tag: u8, columns: &mut Columns<'a>) -> Option<Piece<'a>>
+    ensures { option_map (λ p. (piece_of p, columns_of columns.new)) result ≡ piece_at tag (columns_of columns.old) }
 {
     if tag == NULL_TAG {
         Some(Piece::Null)
@@ -115,7 +93,7 @@ pub(crate) fn piece_in<'a>(width: Width, tag: u8, columns: &mut Columns<'a>) -> 
     } else if tag == INTEGER_TAG {
         integer_in(columns)
     } else if tag == TEXT_TAG {
-        let text = text_in(width, columns)?;
+        let text = text_in(columns)?;
         Some(Piece::Text(text))
     } else if tag == ARRAY_TAG {
         Some(Piece::Array)
@@ -128,19 +106,14 @@ pub(crate) fn piece_in<'a>(width: Width, tag: u8, columns: &mut Columns<'a>) -> 
 
 /// A name by its length, if it stands above the name before it.
 #[inline(always)]
-pub(crate) fn name_in<'a>(
-    width: Width,
-    last: Option<&'a str>,
-    columns: &mut Columns<'a>,
-) -> Option<&'a str>
-    ensures { option_map (λ n. (n.now, columns_of columns.new)) result ≡ name_at width (option_map (λ n. n.now) last.entry) (columns_of columns.old) }
+pub(crate) fn name_in<'a>(last: Option<&'a str>, columns: &mut Columns<'a>) -> Option<&'a str>
+    ensures { option_map (λ n. (n.now, columns_of columns.new)) result ≡ name_at (option_map (λ n. n.now) last.entry) (columns_of columns.old) }
 {
-    let (len, slots) = column_number_at(width, columns.slots)?;
+    let len = columns.slots.next()?;
     let (name, names) = str_at(columns.names, len)?;
     if !is_above(last, name) {
         return None;
     }
-    columns.slots = slots;
     columns.names = names;
     Some(name)
 }

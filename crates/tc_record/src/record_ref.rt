@@ -3,7 +3,8 @@
 ghost use Rattle.std.specs.Prelude.{◌≡◌, ◌↔◌, ◌∷◌, [], None, IfSome, IfNone, IsTrue, is_some, true, false, length};
 ghost use Rattle.std.specs.List.{AllByRecursion};
 ghost use Rattle.tc_model.specs.Document.{Document};
-ghost use Rattle.tc_record.specs.Record.{labels, NumberedTree, IsRecordOf, IsNumberedRecordOf};
+ghost use Rattle.tc_record.specs.Preorder.{tokens_of};
+ghost use Rattle.tc_record.specs.Record.{tags, labels, NumberedTree, IsRecordOf, IsNumberedRecordOf};
 ghost use Rattle.tc_record.specs.Sections.{are_below};
 ghost use Rattle.tc_record.specs.Borrowed.{Spells, IsRecord, IsBelow, named_tokens, numbered_tokens};
 
@@ -12,6 +13,7 @@ use crate::header::header_in;
 use crate::judging::has_tokens;
 use crate::judging_numbers::has_numbered_tokens;
 use crate::sections::{Sections, sections_of_record};
+use crate::slots::Slots;
 use crate::walking::Walk;
 use std::marker::Model;
 
@@ -23,7 +25,7 @@ pub struct RecordRef<'a> {
 }
 
 impl<'a> Model for RecordRef<'a> {
-    ghost use Rattle.std.specs.Prelude.{◌≡◌, Some, IfSome, IsTrue, is_some, unwrap_or, []};
+    ghost use Rattle.std.specs.Prelude.{◌≡◌, Some, IsTrue, is_some, unwrap_or, []};
     ghost use Rattle.tc_bytes.specs.Codec.{IsBytes};
     ghost use Rattle.tc_record.specs.Borrowed.{Record};
 
@@ -34,10 +36,10 @@ impl<'a> Model for RecordRef<'a> {
     ghost view = { λ r. record { bytes = r.bytes.now; named = r.sections.format.named; tokens = unwrap_or (tokens_held r.sections) [] } };
 
     ghost use Rattle.tc_record.specs.Held.{TellsGreatest};
-    ghost use Rattle.tc_record.specs.Sections.{header_at, sections_in};
+    ghost use Rattle.tc_record.specs.Sections.{sections_in};
     ghost use Rattle.tc_record.specs.SectionsView.{sections_of};
 
-    ghost invariant = { λ r. IsBytes r.bytes.now × (sections_in r.bytes.now ≡ Some (sections_of r.sections)) × IsTrue (is_some (tokens_held r.sections)) × IfSome (header_at r.bytes.now) (λ h. TellsGreatest h.0.names r.sections) };
+    ghost invariant = { λ r. IsBytes r.bytes.now × (sections_in r.bytes.now ≡ Some (sections_of r.sections)) × IsTrue (is_some (tokens_held r.sections)) × TellsGreatest r.sections };
 }
 
 impl<'a> RecordRef<'a> {
@@ -136,6 +138,20 @@ impl<'a> RecordRef<'a> {
     {
         let greatest = self.sections.greatest_slot;
         self.named() || slots_below(limit, self.member_count(), greatest)
+    }
+
+    /// The tags of the tokens. Takes no memory.
+    pub fn tags(&self) -> &'a [u8]
+        ensures { result.now ≡ tags self.now.tokens }
+    {
+        self.sections.tags
+    }
+
+    /// The slots of the members: of a record without names their numbers. Takes no memory.
+    pub fn slots(&self) -> Slots<'a>
+        ensures { (n : NumberedTree) → self.now.tokens ≡ numbered_tokens n → result ≡ labels (tokens_of n) }
+    {
+        Slots::of(self.sections.columns.slots)
     }
 
     /// The same record, borrowed once more. Takes no memory.

@@ -1,34 +1,37 @@
 //! The bytes of a record, cut into its columns.
 
-ghost use Rattle.std.specs.Prelude.{◌≡◌, max, option_map, length, Some, IfSome, IfNone};
+ghost use Rattle.std.specs.Prelude.{◌≡◌, ◌≤◌, ◌<◌, ◌*◌, ◌^◌, max, option_map, length, IfSome, IfNone};
 ghost use Rattle.std.specs.Str.{IsUtf8};
 ghost use Rattle.tc_record.specs.Held.{TellsGreatest};
-ghost use Rattle.tc_record.specs.Sections.{header_at, scan_at, least_width, numbers_at, columns_behind, sections_in};
-ghost use Rattle.tc_record.specs.SectionsView.{header_of, numbers_of, cut_columns_of, sections_of};
-ghost use Rattle.tc_record.specs.WalkView.{columns_of};
+ghost use Rattle.tc_record.specs.Record.{in_bytes, greatest};
+ghost use Rattle.tc_record.specs.Sections.{IsTail, capped_sum, least_width, numbers_at, columns_behind, sections_in};
+ghost use Rattle.tc_record.specs.SectionsView.{header_of, cut_columns_of, sections_of};
+ghost use Rattle.tc_record.specs.WalkView.{numbers_of, columns_of};
 
-use crate::header::{Header, form_told, header_in, width_told};
-use crate::reader::{Columns, Format, column_number_at};
+use crate::header::{Header, form_told, header_in};
+use crate::numbers::Numbers;
+use crate::reader::{Columns, Format};
 use crate::widths::Width;
 use std::str;
+use tc_bits::{Columns as BitColumns, size_of_column};
 use tc_bytes::slice_at;
 
-/// Numbers of one width, which is the least, the greatest of them, and their sum.
+/// A column of numbers whose width is the least for them, the greatest of them, their sum, and the bytes behind the column.
 #[derive(Clone, Copy)]
-pub(crate) struct Numbers<'a> {
-    pub(crate) width: Width,
-    pub(crate) bytes: &'a [u8],
+pub(crate) struct NumberColumn<'a> {
+    pub(crate) numbers: Numbers<'a>,
     pub(crate) greatest: u32,
     pub(crate) total: u32,
+    pub(crate) rest: &'a [u8],
 }
 
 /// The columns beside the tags, as they were cut.
 #[derive(Clone, Copy)]
 pub(crate) struct ColumnBytes<'a> {
     pub(crate) fixed: &'a [u8],
-    pub(crate) lengths: &'a [u8],
+    pub(crate) lengths: Numbers<'a>,
     pub(crate) texts: &'a [u8],
-    pub(crate) slots: &'a [u8],
+    pub(crate) slots: Numbers<'a>,
     pub(crate) names: &'a [u8],
 }
 
@@ -43,39 +46,42 @@ pub(crate) struct Sections<'a> {
 /// The parts of a record, or `None` where the header and the bytes do not fit together.
 pub(crate) fn sections_of_record(bytes: &[u8]) -> Option<Sections<'_>>
     ensures cut { option_map sections_of result ≡ sections_in bytes.now }
-    ensures greatest { IfSome result (λ s. IfSome (header_at bytes.now) (λ h. TellsGreatest h.0.names s)) }
+    ensures greatest { IfSome result TellsGreatest }
 {
     let (header, rest) = header_in(bytes)?;
     if header.total as usize != bytes.len() {
         return None;
     }
     let named = form_told(header.form)?;
-    columns_in(header, named, rest)
+    columns_in(header, named, bytes, rest)
 }
 
-fn columns_in(header: Header, named: bool, bytes: &[u8]) -> Option<Sections<'_>>
+/// The columns, from where the header of a record ends.
+fn columns_in<'a>(
+    header: Header,
+    named: bool,
+    whole: &'a [u8],
+    bytes: &'a [u8],
+) -> Option<Sections<'a>>
+    requires few { length whole.now < 2 ^ 32 }
+    requires tail { IsTail whole.now bytes.now }
     ensures cut { option_map sections_of result ≡ columns_behind (header_of header) named bytes.now }
-    ensures greatest { IfSome result (TellsGreatest header.names) }
+    ensures greatest { IfSome result TellsGreatest }
 {
     let (tags, bytes) = slice_at(bytes, header.tags as usize)?;
     let (fixed, bytes) = slice_at(bytes, header.fixed as usize)?;
-    let (lengths, bytes) = numbers_in(header.text_width, header.texts, bytes)?;
-    let (texts, bytes) = slice_at(bytes, lengths.total as usize)?;
-    let (slots, names) = numbers_in(header.slot_width, header.names, bytes)?;
-    let format = Format {
-        named,
-        text_width: lengths.width,
-        slot_width: slots.width,
-    };
+    let lengths = numbers_in(whole, bytes, header.text_width, header.texts)?;
+    let (texts, bytes) = slice_at(lengths.rest, lengths.total as usize)?;
+    let slots = numbers_in(whole, bytes, header.slot_width, header.names)?;
     let columns = ColumnBytes {
         fixed,
-        lengths: lengths.bytes,
+        lengths: lengths.numbers,
         texts,
-        slots: slots.bytes,
-        names,
+        slots: slots.numbers,
+        names: slots.rest,
     };
     Some(Sections {
-        format,
+        format: Format { named },
         tags,
         columns,
         greatest_slot: slots.greatest,
@@ -122,24 +128,47 @@ impl<'a> ColumnBytes<'a> {
     }
 }
 
-/// So many numbers, if the width that is told is the least one.
-fn numbers_in(told: u8, count: u32, bytes: &[u8]) -> Option<(Numbers<'_>, &[u8])>
-    ensures read { option_map (λ x. (numbers_of x.0, x.1.now)) result ≡ numbers_at told count bytes.now }
-    ensures greatest { IfSome result (λ x. option_map (λ s. s.0) (scan_at x.0.width count 0 0 x.0.bytes.now) ≡ Some x.0.greatest) }
+/// So many numbers from the front of the bytes that end a record, if the width that is told is the least for them.
+fn numbers_in<'a>(
+    whole: &'a [u8],
+    bytes: &'a [u8],
+    told: u8,
+    count: u32,
+) -> Option<NumberColumn<'a>>
+    requires few { length whole.now < 2 ^ 32 }
+    requires tail { IsTail whole.now bytes.now }
+    ensures read { option_map (λ c. (numbers_of c.numbers, c.rest.now)) result ≡ numbers_at in_bytes told count bytes.now }
+    ensures most { IfSome result (λ c. c.greatest ≡ greatest (numbers_of c.numbers)) }
+    ensures all { IfSome result (λ c. c.total ≡ capped_sum (numbers_of c.numbers)) }
 {
-    let width = width_told(told)?;
-    let (numbers, rest) = slice_at(bytes, count as usize * width.bytes() as usize)?;
-    let (greatest, total) = scanned(width, count, numbers)?;
+    let width = bits_told(told)?;
+    let (column, rest) = slice_at(bytes, size_of_column(count, width) as usize)?;
+    let _judged = BitColumns::of(column, width, count)?;
+    let numbers = Numbers {
+        bytes: whole,
+        width,
+        place: 8 * (whole.len() - bytes.len()) as u64,
+        left: count,
+    };
+    let (greatest, total) = scanned(numbers);
     if told != least(count, greatest) {
         return None;
     }
-    let numbers = Numbers {
-        width,
-        bytes: numbers,
+    Some(NumberColumn {
+        numbers,
         greatest,
         total,
-    };
-    Some((numbers, rest))
+        rest,
+    })
+}
+
+/// How many bits a number of so many bytes has, of which there are no more than four.
+fn bits_told(bytes: u8) -> Option<u8>
+    ensures same { IfSome result (λ bits. bits ≡ 8 * bytes) }
+    ensures most { IfSome result (λ bits. bits ≤ 32) }
+    ensures beyond { IfNone result (4 < bytes) }
+{
+    if bytes <= 4 { Some(8 * bytes) } else { None }
 }
 
 fn least(count: u32, greatest: u32) -> u8
@@ -152,22 +181,19 @@ fn least(count: u32, greatest: u32) -> u8
     }
 }
 
-/// The greatest of so many numbers, and their sum, which stands still at the end of its type.
-fn scanned(width: Width, count: u32, numbers: &[u8]) -> Option<(u32, u32)>
-    ensures { result ≡ scan_at width count 0 0 numbers.now }
+/// The greatest of numbers, and their sum, which stands still at the end of its type.
+fn scanned(numbers: Numbers<'_>) -> (u32, u32)
+    ensures most { result.0 ≡ greatest (numbers_of numbers.entry) }
+    ensures all { result.1 ≡ capped_sum (numbers_of numbers.entry) }
 {
-    let mut left = count;
-    let mut rest = numbers;
+    let mut left = numbers;
     let mut greatest = 0;
     let mut total = 0u32;
-    while left > 0 {
-        let (number, behind) = column_number_at(width, rest)?;
-        total = total.saturating_add(number);
+    while let Some(number) = left.next() {
         greatest = larger(greatest, number);
-        rest = behind;
-        left -= 1;
+        total = total.saturating_add(number);
     }
-    Some((greatest, total))
+    (greatest, total)
 }
 
 fn larger(number: u32, other: u32) -> u32

@@ -6,7 +6,7 @@ ghost use Rattle.tc_record.specs.WalkView.{token_of, key_of, columns_of, format_
 ghost use Rattle.tc_record.specs.Stack.{kind_of, kinds_of};
 
 use crate::kinds::Kinds;
-use crate::reader::{Columns, Format, column_number_at, name_in, piece_in};
+use crate::reader::{Columns, Format, name_in, piece_in};
 use crate::tags::CLOSE_TAG;
 use crate::token::{Label, Piece, Token};
 
@@ -64,7 +64,7 @@ fn token_in<'a>(
         });
     }
     let label = label_in(format, kinds.arrays[kinds.depth - 1], columns)?;
-    let value = piece_in(format.text_width, tag, columns)?;
+    let value = piece_in(tag, columns)?;
     if kinds.open(value) {
         Some(Token { label, value })
     } else {
@@ -81,10 +81,9 @@ fn label_in<'a>(format: Format, in_array: bool, columns: &mut Columns<'a>) -> Op
         return Some(Label::Bare);
     }
     if format.named {
-        let name = name_in(format.slot_width, None, columns)?;
+        let name = name_in(None, columns)?;
         return Some(Label::Name(name));
     }
-    let (number, slots) = column_number_at(format.slot_width, columns.slots)?;
-    columns.slots = slots;
+    let number = columns.slots.next()?;
     Some(Label::Number(number))
 }

@@ -1,9 +1,16 @@
-use Rattle.std.proofs.Common.{◌≡◌}
-use Rattle.tc_record.specs.Sections.{scan_at}
+use Rattle.std.proofs.Common.{◌≡◌, ◌<◌, ◌+◌, ◌-◌, ◌^◌, max, min, length}
+use Rattle.std.specs.List.{sum}
+use Rattle.tc_record.specs.Record.{greatest}
+use Rattle.tc_record.specs.Sections.{capped_sum}
+use Rattle.tc_record.specs.WalkView.{numbers_of}
 use Rattle.tc_record.proofs.sections.scanned.Given as goal
 
-abbrev pub invariant-loop-left : goal.invariant-loop-left
-invariant-loop-left l = scan_at l.width l.left l.greatest l.total l.rest ≡ scan_at l.width l.count 0 0 l.numbers
+abbrev pub invariant-loop-number : goal.invariant-loop-number
+invariant-loop-number l = record {
+  most : max l.greatest (greatest (numbers_of l.left)) ≡ greatest (numbers_of l.fn.numbers);
+  all : min (l.total + sum (numbers_of l.left)) (2 ^ 32 - 1) ≡ capped_sum (numbers_of l.fn.numbers);
+  small : l.total < 2 ^ 32;
+}
 
-abbrev pub decreases-loop-left : goal.decreases-loop-left
-decreases-loop-left l = l.left
+abbrev pub decreases-loop-number : goal.decreases-loop-number
+decreases-loop-number l = length (numbers_of l.left)

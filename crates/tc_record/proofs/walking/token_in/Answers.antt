@@ -18,19 +18,19 @@ pub returns-in_err-value : goal.returns-in_err-value
 returns-in_err-value c =
     let k = c.args.kinds.now in
     let labels : option_map without_last (label_at (format_of c.args.format) (kind_of (get_or k.arrays (k.depth - 1) false)) (columns_of c.args.columns.now)) ≡ Some (key_of c.in_ok-label.label, kind_of (get_or k.arrays (k.depth - 1) false), columns_of c.label_in.new.columns) = sym c.label_in.ensures ∙ rw c.in_ok-label.was refl in
-    let none : piece_at c.args.format.text_width c.args.tag (columns_of c.label_in.new.columns) ≡ None = sym c.piece_in.ensures ∙ rw c.in_err-value.was refl in
+    let none : piece_at c.args.tag (columns_of c.label_in.new.columns) ≡ None = sym c.piece_in.ensures ∙ rw c.in_err-value.was refl in
     rw c.from_residual-in_err-value.ensures (sym (no_piece_known (format_of c.args.format) c.args.tag k.arrays k.depth false (columns_of c.args.columns.now) _ _ _ (omega arith) (omega arith) (omega arith) labels none))
 
 pub returns-then-open : goal.returns-then-open
 returns-then-open c =
     let k = c.args.kinds.now in
     let labels : option_map without_last (label_at (format_of c.args.format) (kind_of (get_or k.arrays (k.depth - 1) false)) (columns_of c.args.columns.now)) ≡ Some (key_of c.in_ok-label.label, kind_of (get_or k.arrays (k.depth - 1) false), columns_of c.label_in.new.columns) = sym c.label_in.ensures ∙ rw c.in_ok-label.was refl in
-    let read : piece_at c.args.format.text_width c.args.tag (columns_of c.label_in.new.columns) ≡ Some (piece_of c.in_ok-value.value, columns_of c.piece_in.new.columns) = sym c.piece_in.ensures ∙ rw c.in_ok-value.was refl in
+    let read : piece_at c.args.tag (columns_of c.label_in.new.columns) ≡ Some (piece_of c.in_ok-value.value, columns_of c.piece_in.new.columns) = sym c.piece_in.ensures ∙ rw c.in_ok-value.was refl in
     sym (token_known (format_of c.args.format) c.args.tag k.arrays k.depth false (columns_of c.args.columns.now) _ _ _ _ _ _ (omega arith) (omega arith) (omega arith) labels read c.open.ensures ∙ rw c.if-open.true refl)
 
 pub returns-else-open : goal.returns-else-open
 returns-else-open c =
     let k = c.args.kinds.now in
     let labels : option_map without_last (label_at (format_of c.args.format) (kind_of (get_or k.arrays (k.depth - 1) false)) (columns_of c.args.columns.now)) ≡ Some (key_of c.in_ok-label.label, kind_of (get_or k.arrays (k.depth - 1) false), columns_of c.label_in.new.columns) = sym c.label_in.ensures ∙ rw c.in_ok-label.was refl in
-    let read : piece_at c.args.format.text_width c.args.tag (columns_of c.label_in.new.columns) ≡ Some (piece_of c.in_ok-value.value, columns_of c.piece_in.new.columns) = sym c.piece_in.ensures ∙ rw c.in_ok-value.was refl in
+    let read : piece_at c.args.tag (columns_of c.label_in.new.columns) ≡ Some (piece_of c.in_ok-value.value, columns_of c.piece_in.new.columns) = sym c.piece_in.ensures ∙ rw c.in_ok-value.was refl in
     sym (token_known (format_of c.args.format) c.args.tag k.arrays k.depth false (columns_of c.args.columns.now) _ _ _ _ _ _ (omega arith) (omega arith) (omega arith) labels read c.open.ensures ∙ rw c.if-open.false refl)
