@@ -3,10 +3,9 @@ use Rattle.std.proofs.Common.{◌≡◌, ◌∙◌, ℕ, ◌+◌, ◌*◌, ◌<�
 use Rattle.std.proofs.lemmas.Bool.{both_ways}
 use Rattle.std.proofs.lemmas.List.{length-map}
 use Rattle.std.proofs.lemmas.Option.{same_Some}
+use Rattle.tc_bits.proofs.Joined.{AreBelow}
 use Rattle.tc_model.specs.Document.{Name, Document, Scalar}
 use Rattle.tc_model.specs.Dictionary.{IsDictionary, number as name_number}
-use Rattle.tc_record.specs.declared.widths.Width.TheVariants.{Four}
-use Rattle.tc_record.specs.Widths.{width_bytes}
 use Rattle.tc_record.specs.Preorder.{Token, tokens_of}
 use Rattle.tc_record.specs.Record.{NumberedTree, tags, fixed, texts, labels, width, numbers, joined, record_bytes, IsRecordOf, IsNumberedRecordOf}
 use Rattle.tc_record.specs.Sections.{Sections, sections_in}
@@ -16,10 +15,8 @@ use Rattle.tc_record.proofs.ColumnLaws.{no_columns}
 use Rattle.tc_record.proofs.Walks.{with_tokens}
 use Rattle.tc_record.proofs.Spelled.{slots, names as record_names, spelled_fixed, spelled_lengths, spelled_texts, spelled_slots, spelled_names}
 use Rattle.tc_record.proofs.Keyed.{keyed, retoken, preorder-relabel, record-retoken, record_of-keyed, slots_of-keyed, names_of-keyed}
-use Rattle.tc_record.proofs.Fitting.{AreFit, TokensFit}
-use Rattle.tc_record.proofs.Counted.{same_numbers}
-use Rattle.tc_record.proofs.Cutting.{sections_again}
-use Rattle.tc_record.proofs.Reading.{document_again, numbered_again, holding_bytes, holding_fits, lengths_small, small_texts, format_for}
+use Rattle.tc_record.proofs.Cutting.{TokensFit, sections_again}
+use Rattle.tc_record.proofs.Reading.{document_again, numbered_again, lengths_small, small_texts}
 use Rattle.tc_record.proofs.NumberLengths.{length-numbers}
 use Rattle.tc_compact.specs.Compacted.{compacted, IsCompactedRecordOf}
 use Rattle.tc_model.specs.KnownNames.{HasEach}
@@ -109,33 +106,25 @@ record SameColumns (ts us : List (Token Key Scalar)) : Type 0 where
   pub numbered : (ks : List ℕ) → record_bytes 1 ts ks [] ≡ record_bytes 1 us ks []
 
 abbrev sections : List (Token Key Scalar) → Sections
-sections ts = record { format = format_for true ts; tags = tags ts; columns = with_tokens (format_for true ts) ts no_columns }
+sections ts = record { format = record { named = true }; tags = tags ts; columns = with_tokens ts no_columns }
 
-tokens_fit : (ts : List (Token Key Scalar)) → length (record_bytes 0 ts (slots ts) (record_names ts)) < 2 ^ 32 → AreFit Four (slots ts) → TokensFit (format_for true ts) ts
-tokens_fit ts short fits = record { texts = holding_fits (map length (texts ts)) (small_texts 0 ts short); slots = holding_fits (slots ts) fits }
+tokens_fit : (ts : List (Token Key Scalar)) → length (record_bytes 0 ts (slots ts) (record_names ts)) < 2 ^ 32 → AreBelow 32 (slots ts) → TokensFit ts
+tokens_fit ts short fits = record { lengths = small_texts 0 ts short; slots = fits }
 
-same_columns : (ts us : List (Token Key Scalar)) (bytes : List ℕ) → bytes ≡ record_bytes 0 ts (slots ts) (record_names ts) → bytes ≡ record_bytes 0 us (slots us) (record_names us) → length bytes < 2 ^ 32 → AreFit Four (slots ts) → AreFit Four (slots us) → SameColumns ts us
+same_columns : (ts us : List (Token Key Scalar)) (bytes : List ℕ) → bytes ≡ record_bytes 0 ts (slots ts) (record_names ts) → bytes ≡ record_bytes 0 us (slots us) (record_names us) → length bytes < 2 ^ 32 → AreBelow 32 (slots ts) → AreBelow 32 (slots us) → SameColumns ts us
 same_columns ts us bytes first second short fits more =
-    let fit_t = tokens_fit ts (subst (λ bs. length bs < 2 ^ 32) first short) fits in
-    let fit_u = tokens_fit us (subst (λ bs. length bs < 2 ^ 32) second short) more in
-    let read_t = sections_again (format_for true ts) 0 ts refl fit_t (holding_bytes (map length (texts ts))) (holding_bytes (slots ts)) (subst (λ bs. length bs < 2 ^ 32) first short) in
-    let read_u = sections_again (format_for true us) 0 us refl fit_u (holding_bytes (map length (texts us))) (holding_bytes (slots us)) (subst (λ bs. length bs < 2 ^ 32) second short) in
+    let short_t = subst (λ bs. length bs < 2 ^ 32) first short in
+    let short_u = subst (λ bs. length bs < 2 ^ 32) second short in
+    let read_t = sections_again true 0 ts refl (tokens_fit ts short_t fits) short_t in
+    let read_u = sections_again true 0 us refl (tokens_fit us short_u more) short_u in
     let same : sections ts ≡ sections us = same_Some (sections ts) (sections us) (sym read_t ∙ ap sections_in (sym first ∙ second) ∙ read_u) in
-    let f = format_for true ts in
-    let g = format_for true us in
-    let text_width = ap (λ (s : Sections). s.format.text_width) same in
-    let slot_width = ap (λ (s : Sections). s.format.slot_width) same in
-    let column : (c : Columns → List ℕ) → c (with_tokens f ts no_columns) ≡ c (with_tokens g us no_columns) = λ c. ap (λ (s : Sections). c s.columns) same in
+    let column : (c : Columns → List ℕ) → c (with_tokens ts no_columns) ≡ c (with_tokens us no_columns) = λ c. ap (λ (s : Sections). c s.columns) same in
     let tags_are : tags ts ≡ tags us = ap (λ (s : Sections). s.tags) same in
-    let fixed_are : fixed ts ≡ fixed us = sym (spelled_fixed f ts) ∙ column (λ c. c.fixed) ∙ spelled_fixed g us in
-    let texts_are : joined (texts ts) ≡ joined (texts us) = sym (spelled_texts f ts) ∙ column (λ c. c.texts) ∙ spelled_texts g us in
-    let names_are : record_names ts ≡ record_names us = sym (spelled_names f ts) ∙ column (λ c. c.names) ∙ spelled_names g us in
-    let lengths_column : numbers (width_bytes f.text_width) (map length (texts ts)) ≡ numbers (width_bytes g.text_width) (map length (texts us)) = sym (spelled_lengths f ts) ∙ column (λ c. c.lengths) ∙ spelled_lengths g us in
-    let slots_column : numbers (width_bytes f.slot_width) (slots ts) ≡ numbers (width_bytes g.slot_width) (slots us) = sym (spelled_slots f ts) ∙ column (λ c. c.slots) ∙ spelled_slots g us in
-    let lengths_are : map length (texts ts) ≡ map length (texts us) =
-    same_numbers (map length (texts ts)) (map length (texts us)) f.text_width fit_t.texts (subst (λ w. AreFit w (map length (texts us))) (sym text_width) fit_u.texts) (lengths_column ∙ ap (λ w. numbers (width_bytes w) (map length (texts us))) (sym text_width)) in
-    let slots_are : slots ts ≡ slots us =
-    same_numbers (slots ts) (slots us) f.slot_width fit_t.slots (subst (λ w. AreFit w (slots us)) (sym slot_width) fit_u.slots) (slots_column ∙ ap (λ w. numbers (width_bytes w) (slots us)) (sym slot_width)) in
+    let fixed_are : fixed ts ≡ fixed us = sym (spelled_fixed ts) ∙ column (λ c. c.fixed) ∙ spelled_fixed us in
+    let texts_are : joined (texts ts) ≡ joined (texts us) = sym (spelled_texts ts) ∙ column (λ c. c.texts) ∙ spelled_texts us in
+    let names_are : record_names ts ≡ record_names us = sym (spelled_names ts) ∙ column (λ c. c.names) ∙ spelled_names us in
+    let lengths_are : map length (texts ts) ≡ map length (texts us) = sym (spelled_lengths ts) ∙ column (λ c. c.lengths) ∙ spelled_lengths us in
+    let slots_are : slots ts ≡ slots us = sym (spelled_slots ts) ∙ column (λ c. c.slots) ∙ spelled_slots us in
     record {
       slots_are = slots_are;
       names_are = names_are;
@@ -169,7 +158,7 @@ expanded_found names from built ns dictionary spells unnamed gives laid (inl one
     let ls = labels (tokens_of d) in
     let short_names : length (joined ns) < 2 ^ 32 = omega (arith, is.short, names_within 0 tn (map length ns) (joined ns), ap length named) in
     let short_labels : length (joined ls) < 2 ^ 32 = omega (arith, is.short, names_within 0 (tokens_of d) (map length ls) (joined ls), ap length is.spelled) in
-    let same = same_columns ts us built.bytes first second is.short (subst (AreFit Four) (sym slots_ns) (lengths_small ns short_names)) (subst (AreFit Four) (sym (slots_of-keyed d)) (lengths_small ls short_labels)) in
+    let same = same_columns ts us built.bytes first second is.short (subst (AreBelow 32) (sym slots_ns) (lengths_small ns short_names)) (subst (AreBelow 32) (sym (slots_of-keyed d)) (lengths_small ls short_labels)) in
     let names_are : ls ≡ ns = same_names ls ns (sym (slots_of-keyed d) ∙ sym same.slots_are ∙ slots_ns) (sym (names_of-keyed d) ∙ sym same.names_are ∙ names_ns) in
     let form1 : from.bytes ≡ record_bytes 1 (tokens_of d) (map (name_number names) ls) [] =
     tree.1.spelled ∙ sym (record-retoken g 1 tn ks []) ∙ same.numbered ks ∙ ap (λ vs. record_bytes 1 vs ks []) (preorder-relabel name d None) ∙ record-retoken name 1 (tokens_of d) ks [] ∙ ap (λ ns. record_bytes 1 (tokens_of d) ns []) (sym (ap (map (name_number names)) names_are ∙ found.numbers)) in

@@ -17,7 +17,7 @@ use Rattle.tc_compact.specs.Meant.{name_at, expanded, HasRoom}
 use Rattle.tc_compact.specs.Layout.{slot_bytes, values_in}
 use Rattle.tc_compact.proofs.Relabelled.{record-named}
 use Rattle.tc_compact.proofs.Laid.{values, record_laid, whole_cut, slots_between}
-use Rattle.tc_compact.proofs.Sizes.{least_width-is}
+use Rattle.tc_record.proofs.NumberColumns.{least_width-is}
 use Rattle.tc_compact.proofs.Expands.{numbered_cut, numbered_tree, numbers_are}
 
 -- ---- how long names are

@@ -4,9 +4,9 @@ use Rattle.tc_model.specs.Document.{Name, Scalar, null, boolean, integer, text}
 use Rattle.tc_model.specs.Tree.{leaf, array, object, Items, no_items, item, Members, no_members, member}
 use Rattle.tc_record.specs.Preorder.{Piece, closed, Token, token, tokens_of, preorder, items_preorder, members_preorder}
 use Rattle.tc_record.specs.Record.{tags, labels, piece_tag, NumberedTree}
-use Rattle.tc_record.specs.Walk.{sized_number_at, is_above}
+use Rattle.tc_record.specs.Walk.{is_above}
 use Rattle.tc_compact.specs.Meant.{name_at}
-use Rattle.tc_compact.specs.Outline.{OutlineState, StandInFront, IsOutlineOf, first_piece, behind_first, is_ordered, are_items_ordered, are_members_ordered}
+use Rattle.tc_compact.specs.Outline.{OutlineState, IsOutlineOf, first_piece, behind_first, is_ordered, are_items_ordered, are_members_ordered}
 
 -- ---- the first token
 
@@ -35,7 +35,6 @@ not_closed (object ms) e = cc
 pub record IsBehindTag (o : OutlineState) (tag : ℕ) (behind : OutlineState) : Type 0 where
   pub taken : o.tags ≡ tag ∷ behind.tags
   pub slots : behind.slots ≡ o.slots
-  pub width : behind.width ≡ o.width
 
 same_head : {x y : ℕ} {xs ys : List ℕ} → x ∷ xs ≡ y ∷ ys → (x ≡ y) × (xs ≡ ys)
 same_head e = (cc, cc)
@@ -47,21 +46,19 @@ token_taken l p ts o tag behind is step = same_head (sym step.taken ∙ is.tags_
 unlabelled : (p : Piece Scalar) (ts : List (Token ℕ Scalar)) (o : OutlineState) (tag : ℕ) (behind : OutlineState) → IsOutlineOf (token None p ∷ ts) o → IsBehindTag o tag behind → (tag ≡ piece_tag p) × IsOutlineOf ts behind
 unlabelled p ts o tag behind is step =
     let here = token_taken None p ts o tag behind is step in
-    (here.0, record { tags_are = here.1; slots_are = rw (step.slots, step.width) is.slots_are })
+    (here.0, record { tags_are = here.1; slots_are = step.slots ∙ is.slots_are })
 
 -- what is left once the number of a label is taken too
 pub record IsBehindNumber (o : OutlineState) (number : ℕ) (behind : OutlineState) : Type 0 where
-  pub taken : (k : ℕ) (rest : List ℕ) → sized_number_at o.width o.slots ≡ Some (k, rest) → (number ≡ k) × (behind.slots ≡ rest)
+  pub taken : (k : ℕ) (rest : List ℕ) → o.slots ≡ k ∷ rest → (number ≡ k) × (behind.slots ≡ rest)
   pub tags : behind.tags ≡ o.tags
-  pub width : behind.width ≡ o.width
 
 labelled : (k : ℕ) (p : Piece Scalar) (ts : List (Token ℕ Scalar)) (o : OutlineState) (tag : ℕ) (between : OutlineState) (number : ℕ) (behind : OutlineState) → IsOutlineOf (token (Some k) p ∷ ts) o → IsBehindTag o tag between → IsBehindNumber between number behind
     → (tag ≡ piece_tag p) × (number ≡ k) × IsOutlineOf ts behind
 labelled k p ts o tag between number behind is step next =
     let here = token_taken (Some k) p ts o tag between is step in
-    let front = is.slots_are in
-    let got = next.taken k front.0 (rw (step.width, step.slots) front.1) in
-    (here.0, got.0, record { tags_are = next.tags ∙ here.1; slots_are = rw (got.1, next.width, step.width) front.2 })
+    let got = next.taken k (labels ts) (step.slots ∙ is.slots_are) in
+    (here.0, got.0, record { tags_are = next.tags ∙ here.1; slots_are = got.1 })
 
 -- ---- the items of an array
 

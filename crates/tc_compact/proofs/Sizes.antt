@@ -1,27 +1,19 @@
 -- The record of form 1 of a record of form 0, by the parts that it is written in, and how long it is.
-use Rattle.std.proofs.Common.{◌≡◌, ◌∙◌, ℕ, ◌+◌, ◌*◌, ◌<◌, ◌^◌, ◌==◌, if◌then◌else◌, suc, List, [], ◌∷◌, ◌++◌, length, map, refl, sym, ap, subst, arith, length-append, append-nil}
-use Rattle.std.proofs.lemmas.Bool.Decides.{nat_tests}
+use Rattle.std.proofs.Common.{◌≡◌, ◌∙◌, ℕ, ◌+◌, ◌*◌, ◌<◌, ◌^◌, List, [], ◌∷◌, ◌++◌, length, map, refl, sym, ap, subst, arith, length-append, append-nil}
 use Rattle.std.proofs.lemmas.List.{length-map}
 use Rattle.tc_model.specs.Document.{Name, Document}
 use Rattle.tc_model.specs.Dictionary.{IsDictionary, number as name_number}
 use Rattle.tc_model.specs.KnownNames.{HasEach}
 use Rattle.tc_record.specs.Preorder.{tokens_of}
-use Rattle.tc_record.specs.Record.{labels, greatest, width_of, width, numbers, joined, numbered_record_of, IsRecordOf}
+use Rattle.tc_record.specs.Record.{labels, greatest, width, numbers, joined, numbered_record_of, IsRecordOf}
 use Rattle.tc_record.specs.Sections.{least_width}
 use Rattle.tc_record.specs.Borrowed.{Record, Spells}
+use Rattle.tc_record.proofs.NumberColumns.{least_width-is}
 use Rattle.tc_record.proofs.NumberLengths.{length-numbers}
 use Rattle.tc_compact.specs.Compacted.{compacted, IsCompactedRecordOf}
 use Rattle.tc_compact.specs.Slots.{names_in}
 use Rattle.tc_compact.specs.Layout.{slot_bytes, counts_in, values_in, numbered_record}
 use Rattle.tc_compact.proofs.Compacts.{document_tokens, document_names, document_cut, compacts}
-
--- the width that a count and the greatest tell
-pub least_width-is : (ns : List ℕ) → least_width (length ns) (greatest ns) ≡ width ns
-least_width-is [] = refl
-least_width-is (n ∷ ns) = some (length ns) (width_of (greatest (n ∷ ns)))
-  where
-    some : (k w : ℕ) → (if suc k == 0 then 0 else w) ≡ w
-    some k w = grind (arith, nat_tests)
 
 -- the bytes of a record behind its values
 abbrev pub behind : Record → ℕ

@@ -1,28 +1,21 @@
 -- The tags and the slots of a record with numbers, and what they tell: whether the names of each object ascend.
-use Rattle.std.specs.Prelude.{◌≡◌, ◌&&◌, ℕ, Bool, true, List, [], ◌∷◌, ◌++◌, Option, None, Some}
+use Rattle.std.specs.Prelude.{◌≡◌, ◌&&◌, ℕ, Bool, true, List, ◌∷◌, ◌++◌, Option, None, Some}
 use Rattle.tc_model.specs.Document.{Name, Scalar}
 use Rattle.tc_model.specs.Tree.{leaf, array, object, Items, no_items, item, Members, no_members, member}
-use Rattle.tc_record.specs.declared.widths.Width.{Width}
 use Rattle.tc_record.specs.Preorder.{Piece, scalar, array_opened, object_opened, closed, Token, token, items_preorder, members_preorder}
 use Rattle.tc_record.specs.Record.{tags, labels, NumberedTree}
-use Rattle.tc_record.specs.Walk.{sized_number_at, is_above}
+use Rattle.tc_record.specs.Walk.{is_above}
 use Rattle.tc_compact.specs.Meant.{name_at}
 
--- what is left of both columns, and the bytes of a slot
+-- the tags and the numbers of members that are left
 pub record OutlineState : Type 0 where
   pub tags : List ℕ
   pub slots : List ℕ
-  pub width : Width
 
--- numbers stand at the front of a column
-abbrev pub StandInFront : Width → List ℕ → List ℕ → Type 0
-StandInFront w [] column = Unit {0}
-StandInFront w (k ∷ ks) column = (rest : List ℕ) × (sized_number_at w column ≡ Some (k, rest)) × StandInFront w ks rest
-
--- the columns have the tags of these tokens, and the numbers of their labels
+-- they are the tags of these tokens, and the numbers of their labels
 pub record IsOutlineOf (ts : List (Token ℕ Scalar)) (o : OutlineState) : Type 0 where
   pub tags_are : o.tags ≡ tags ts
-  pub slots_are : StandInFront o.width (labels ts) o.slots
+  pub slots_are : o.slots ≡ labels ts
 
 -- a tree is its first piece, and the tokens behind it
 abbrev pub first_piece : NumberedTree → Piece Scalar
