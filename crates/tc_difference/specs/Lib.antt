@@ -1,0 +1,4 @@
+pub mod Differences
+pub mod Found
+pub mod Comparing
+pub mod Fronts
