@@ -1,10 +1,10 @@
 -- The walk over two lists of fields at once, by ascending number.
-use Rattle.std.proofs.Common.{◌≡◌, ◌≢◌, ◌⊎◌, inl, inr, ℕ, ◌+◌, ◌<◌, ◌≤◌, ◌==◌, Bool, true, false, List, Option, Some, None, length, min, if◌then◌else◌, refl, sym, ap, ◌∙◌, subst, arith}
+use Rattle.std.proofs.Common.{◌≡◌, ◌≢◌, ◌⊎◌, inl, inr, ℕ, ◌+◌, ◌<◌, ◌≤◌, ◌==◌, Bool, true, false, List, Option, Some, length, min, if◌then◌else◌, refl, sym, ◌∙◌, subst, arith}
 use Rattle.std.proofs.lemmas.Bool.{cases_lt, false≢true}
 use Rattle.std.proofs.lemmas.Bool.Decides.{Decides-eqb, nat_tests}
 use Rattle.std.proofs.lemmas.Option.{same_Some}
 use Rattle.tc_model.specs.Document.{Name}
-use Rattle.tc_schema_model.specs.Counted.{Counted, nothing, Fields, no_fields, a_field, field_at, IsCanonical, AreFieldsCanonical}
+use Rattle.tc_schema_model.specs.Counted.{Counted, nothing, Fields, no_fields, a_field, field_at, AreFieldsCanonical}
 use Rattle.tc_schema_model.proofs.FieldLaws.{fields_ordered, nothing_below}
 use Rattle.tc_difference.specs.declared.met.Candidate.{Candidate}
 use Rattle.tc_difference.specs.Comparing.{IsLeastBelow}
@@ -14,9 +14,6 @@ use Rattle.tc_difference.proofs.PlaceSizes.{places_below, field_places}
 
 -- ---- one list, where no number is below this one
 
-nothing_canonical : (limit : ℕ) → IsCanonical limit nothing
-nothing_canonical limit = (λ _. refl, λ _. refl, tt, tt)
-
 -- the field of this number is in front, if it is there
 pub in_front : (limit n : ℕ) (fs : Fields) → AreFieldsCanonical limit n fs → field_at n fs ≡ place_in_front n fs
 in_front limit n no_fields canonical = refl
@@ -24,14 +21,6 @@ in_front limit n (a_field m d fs) canonical = first n m d fs canonical.0
   where
     first : (n m : ℕ) (d : Counted) (fs : Fields) → n ≤ m → field_at n (a_field m d fs) ≡ place_in_front n (a_field m d fs)
     first n m d fs le = grind (arith, nat_tests)
-
-pub front_canonical : (limit n : ℕ) (fs : Fields) → AreFieldsCanonical limit n fs → IsCanonical limit (place_in_front n fs)
-front_canonical limit n no_fields canonical = nothing_canonical limit
-front_canonical limit n (a_field m d fs) canonical = by (m == n)
-  where
-    by : (same : Bool) → IsCanonical limit (if same then d else nothing)
-    by true = canonical.3
-    by false = nothing_canonical limit
 
 -- after it the numbers are greater
 after_canonical : (limit n : ℕ) (fs : Fields) → AreFieldsCanonical limit n fs → AreFieldsCanonical limit (n + 1) (after_front n fs)
@@ -99,12 +88,6 @@ next_number limit low (a_field m d fs) (a_field k e gs) n one other next = by (c
         subst (IsNext limit low (a_field m d fs) (a_field k e gs)) is
         (record { from = other.0; within = other.1; kept = (le, one.1, one.2, one.3, one.4); counted = (omega arith, other.1, other.2, other.3, other.4); there = omega (arith, one_there k e gs) })
 
-none_left : (fs gs : Fields) → lesser (front_of fs) (front_of gs) ≡ None → (fs ≡ no_fields) × (gs ≡ no_fields)
-none_left no_fields no_fields ended = (refl, refl)
-none_left no_fields (a_field m e gs) ended = cc ended
-none_left (a_field m d fs) no_fields ended = cc ended
-none_left (a_field m d fs) (a_field k e gs) ended = cc ended
-
 -- ---- the walk
 
 -- What is left of both lists, and the least of what was passed.
@@ -118,19 +101,11 @@ pub record Walked (names : List Name) (fs gs ones others : Fields) (least : Opti
   pub places : field_places ones + field_places others ≤ field_places fs + field_places gs
   pub is_least : IsLeastBelow names low fs gs least
 
-pub begun : (names : List Name) (fs gs : Fields) → AreFieldsCanonical (length names) 0 fs → AreFieldsCanonical (length names) 0 gs → Walked names fs gs fs gs None
-begun names fs gs one other =
-    record { low = 0; within = omega arith; kept = one; counted = other; kept_left = λ n from. refl; counted_left = λ n from. refl; places = omega arith; is_least = λ n below. absurd (omega (arith, below)) }
-
 module _ (names : List Name) (fs gs ones others : Fields) (least : Option Candidate) (w : Walked names fs gs ones others least) where
   pub is_next : (n : ℕ) → lesser (front_of ones) (front_of others) ≡ Some n → IsNext (length names) w.low ones others n
   is_next n next = next_number (length names) w.low ones others n w.kept w.counted next
 
-  -- the places in front have fewer below them than there are
-  pub fewer_below : (n : ℕ) → lesser (front_of ones) (front_of others) ≡ Some n → places_below (place_in_front n ones) + places_below (place_in_front n others) + 1 ≤ field_places fs + field_places gs
-  fewer_below n next = omega (arith, front_places n ones, front_places n others, (is_next n next).there, w.places)
-
-  -- and fewer are left
+  -- fewer are left
   pub fewer_left : (n : ℕ) → lesser (front_of ones) (front_of others) ≡ Some n → field_places (after_front n ones) + field_places (after_front n others) < field_places ones + field_places others
   fewer_left n next = omega (arith, front_places n ones, front_places n others, (is_next n next).there)
 
@@ -154,10 +129,3 @@ module _ (names : List Name) (fs gs ones others : Fields) (least : Option Candid
             (up_to names fs gs w.low n least it.from (λ k from below.
             sym (w.kept_left k from) ∙ nothing_below n ones k (fields_ordered limit n ones it.kept) below ∙ sym (nothing_below n others k (fields_ordered limit n others it.counted) below) ∙ w.counted_left k from) w.is_least);
       }))
-
-  -- at the end it is the least of all
-  pub ended : lesser (front_of ones) (front_of others) ≡ None → IsLeastBelow names (length names) fs gs least
-  ended is =
-      let none = none_left ones others is in
-      up_to names fs gs w.low (length names) least w.within (λ k from below.
-      sym (w.kept_left k from) ∙ ap (field_at k) (none.0 ∙ sym none.1) ∙ w.counted_left k from) w.is_least

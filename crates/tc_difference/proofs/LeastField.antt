@@ -1,5 +1,5 @@
 -- The field of the least name of those that differ, when one more number is looked at.
-use Rattle.std.proofs.Common.{◌≡◌, ◌⊎◌, inl, inr, ℕ, ◌+◌, ◌<◌, ◌≤◌, true, false, List, Option, Some, None, refl, ap, subst, arith}
+use Rattle.std.proofs.Common.{◌≡◌, ◌⊎◌, inl, inr, ℕ, ◌+◌, ◌<◌, ◌≤◌, true, List, Option, Some, None, refl, ap, subst, arith}
 use Rattle.std.specs.declared.cmp.Ordering.{Ordering}
 use Rattle.std.specs.declared.cmp.Ordering.TheVariants.{Less, Equal, Greater}
 use Rattle.std.specs.Ordering.{is_lt}
@@ -15,14 +15,17 @@ use Rattle.tc_difference.specs.Comparing.{met_meant, ShowTheSame, IsLeastBelow, 
 
 -- ---- the order of names
 
-less_from : (o : Ordering) → is_lt o ≡ true → o ≡ Less
-less_from Less h = refl
-less_from Equal h = cc h
-less_from Greater h = cc h
+is_less : (names : List Name) (n m : ℕ) → is_before names n m ≡ true → name_cmp (name_at names n) (name_at names m) ≡ Less
+is_less names n m before = by (name_cmp (name_at names n) (name_at names m)) refl before
+  where
+    by : (o : Ordering) → name_cmp (name_at names n) (name_at names m) ≡ o → is_lt o ≡ true → name_cmp (name_at names n) (name_at names m) ≡ Less
+    by Less is before = is
+    by Equal is before = cc before
+    by Greater is before = cc before
 
 before_trans : (names : List Name) (n m k : ℕ) → is_before names n m ≡ true → is_before names m k ≡ true → is_before names n k ≡ true
 before_trans names n m k first second =
-    ap is_lt (nat_list_cmp_total.trans (name_at names n) (name_at names m) (name_at names k) (less_from (name_cmp (name_at names n) (name_at names m)) first) (less_from (name_cmp (name_at names m) (name_at names k)) second))
+    ap is_lt (nat_list_cmp_total.trans (name_at names n) (name_at names m) (name_at names k) (is_less names n m first) (is_less names m k second))
 
 not_before_itself : (names : List Name) (n : ℕ) → is_before names n n ≡ true → ⊥
 not_before_itself names n before = let tied = tied_itself nat_list_cmp_total (name_at names n) in cc
@@ -37,19 +40,6 @@ module _ (names : List Name) (fs gs : Fields) where
       by : (k < n) ⊎ (n ≤ k) → P k
       by (inl less) = earlier less
       by (inr le) = subst P (omega (arith, below, le)) here
-
-  -- the fields of this number are the same
-  pub same_there : (n : ℕ) (least : Option Candidate) → ShowTheSame names (field_at n fs) (field_at n gs) → IsLeastBelow names n fs gs least → IsLeastBelow names (n + 1) fs gs least
-  same_there n None same is = λ k below. one_more (λ k. ShowTheSame names (field_at k fs) (field_at k gs)) n k below (is k) same
-  same_there n (Some f) same is =
-      (omega (arith, is.0), is.1, λ k below before. one_more (λ k. ShowTheSame names (field_at k fs) (field_at k gs)) n k below (λ less. is.2 k less before) same)
-
-  -- its name does not come before that of the candidate
-  pub passed : (n : ℕ) (least : Option Candidate) → is_wanted names n least ≡ false → IsLeastBelow names n fs gs least → IsLeastBelow names (n + 1) fs gs least
-  passed n None unwanted is = cc unwanted
-  passed n (Some f) unwanted is =
-      (omega (arith, is.0), is.1, λ k below before.
-      one_more (λ k. is_before names k f.number ≡ true → ShowTheSame names (field_at k fs) (field_at k gs)) n k below (is.2 k) (λ now. cc (now, unwanted)) before)
 
   -- they differ, and the name comes before
   pub found_there : (n : ℕ) (met : Met) (least : Option Candidate) → is_wanted names n least ≡ true → IsFirstBetween names (field_at n fs) (field_at n gs) (met_meant names met) → IsLeastBelow names n fs gs least

@@ -3,7 +3,7 @@ use Rattle.std.specs.Prelude.{◌≡◌, ◌≢◌, ◌<◌, ℕ, List, ◌∷�
 use Rattle.std.specs.Ordering.{is_lt}
 use Rattle.tc_model.specs.Document.{Name, name_cmp}
 use Rattle.tc_model.specs.Kinds.{Kind, tag}
-use Rattle.tc_schema_model.specs.Occurrences.{Step, field, each_item, Path}
+use Rattle.tc_schema_model.specs.Occurrences.{Step, field, each_item}
 use Rattle.tc_schema_model.specs.Counted.{Counters, counter, Counted, Fields, field_at, shows}
 use Rattle.tc_schema_model.specs.SchemaText.{name_at}
 use Rattle.tc_value.specs.Kinds.{kind_meant}
@@ -12,7 +12,7 @@ use Rattle.tc_difference.specs.declared.met.Way.{Way}
 use Rattle.tc_difference.specs.declared.met.Way.TheVariants.{Item, Field}
 use Rattle.tc_difference.specs.declared.met.Met.{Met}
 use Rattle.tc_difference.specs.declared.met.Candidate.{Candidate}
-use Rattle.tc_difference.specs.Differences.{Difference, IsFirstBetween}
+use Rattle.tc_difference.specs.Differences.{Difference, AreAlike, IsFirstBetween}
 
 -- the step that a way is, and what was met, with its steps from the last one back
 abbrev pub way_meant : List Name → Way → Step
@@ -33,7 +33,7 @@ IsFirstKind c d (Some k) = (counter c (kind_meant k) ≢ counter d (kind_meant k
 
 -- both show the same at every path
 abbrev pub ShowTheSame : List Name → Counted → Counted → Type 0
-ShowTheSame names d e = (path : Path) (t : Kind) → shows names d path t ≡ shows names e path t
+ShowTheSame names d e = AreAlike (shows names d) (shows names e)
 
 -- what comparing two places tells
 abbrev pub IsCompared : List Name → Counted → Counted → Option Met → Type 0

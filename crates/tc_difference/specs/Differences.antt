@@ -38,6 +38,10 @@ pub record IsFirst (kept counted : Path → Kind → ℕ) (x : Difference) : Typ
   pub differ : x.kept ≢ x.counted
   pub first : (q : Path) (u : Kind) → place_cmp q u x.path x.kind ≡ Less → kept q u ≡ counted q u
 
+-- nothing differs
+abbrev pub AreAlike : (Path → Kind → ℕ) → (Path → Kind → ℕ) → Type 0
+AreAlike kept counted = (path : Path) (t : Kind) → kept path t ≡ counted path t
+
 -- between two schemas of one dictionary
 abbrev pub IsFirstBetween : List Name → Counted → Counted → Difference → Type 0
 IsFirstBetween names d e x = IsFirst (shows names d) (shows names e) x

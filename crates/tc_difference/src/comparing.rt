@@ -72,7 +72,13 @@ fn compare_items(
     if kept.is_none() && counted.is_none() {
         return Ok(None);
     }
-    compare(place_or(kept, empty), place_or(counted, empty), empty, names, alloc)
+    compare(
+        place_or(kept, empty),
+        place_or(counted, empty),
+        empty,
+        names,
+        alloc,
+    )
 }
 
 fn place_or<'a>(item: &'a Option<Box<Node>>, empty: &'a Node) -> &'a Node

@@ -57,13 +57,7 @@ pub fn after_front(fields: &[Field], number: u32) -> &[Field]
     ensures { fields_counted result.now ≡ after_front number (fields_counted fields.now) }
 {
     match fields.split_first() {
-        Some((field, rest)) => {
-            if field.number == number {
-                rest
-            } else {
-                fields
-            }
-        }
+        Some((field, rest)) => { if field.number == number { rest } else { fields } }
         None => fields,
     }
 }
