@@ -16,8 +16,8 @@ use tc_schema::{Field, Node};
 
 /// The first difference between two places: their counters, then what is below their items, and then of the fields that
 /// differ that of the least name. Its steps are pushed on the way back, so that each place is compared once, however
-/// deep a difference lies. The calls nest as deep as the shallower of the two schemas. `empty` stands where only one
-/// of the two has a place.
+/// deep a difference lies. The calls nest as deep as the shallower of the two schemas does, and a schema nests as deep as
+/// its bytes say. `empty` stands where only one of the two has a place.
 #[cycle(comparing)]
 pub fn compare(
     kept: &Node,

@@ -1,6 +1,9 @@
 //! Rows of two schemas, and what is told of them. They are worked by hand.
 
-use crate::first_difference;
+ghost use Rattle.std.specs.Prelude.{length, IfOk};
+ghost use Rattle.tc_schema_model.specs.Counted.{IsCanonical};
+
+use crate::{Found, first_difference};
 use std::alloc::{AllocError, Global};
 use std::test::Fail;
 use tc_bytes::{put_u32, put_u64};
@@ -52,24 +55,45 @@ fn put_tagged(tag: u8, number: u64, bytes: &mut Vec<u8>) -> Result<(), AllocErro
     put_u64(bytes, number)
 }
 
-// The steps to the first difference, the tag of its kind, and both numbers; nothing where there is none.
-fn told(alloc: Global, kept: &str, counted: &str) -> Result<String, Fail> {
-    let names = Names::from_bytes(alloc, &NAMES)?;
-    let kept = Schema::from_bytes(alloc, bytes_of(alloc, kept)?.as_slice(), names.len())?;
-    let counted = Schema::from_bytes(alloc, bytes_of(alloc, counted)?.as_slice(), names.len())?;
-    let mut text = String::new(alloc);
-    if let Some(found) = first_difference(alloc, &kept, &counted, &names)? {
-        for step in &found.path {
-            match step {
-                Step::Item => text.push_str("*")?,
-                Step::Field(name) => text.push_str(name.as_str())?,
-            }
-            text.push_str(" ")?;
-        }
-        let numbers = format!(in alloc; "{} {} {}", found.kind.tag(), found.kept, found.counted)?;
-        text.push_str(numbers.as_str())?;
+// The schema of such parts, under these names.
+fn schema_of(alloc: Global, parts: &str, names: &Names) -> Result<Schema, Fail>
+    ensures { IfOk result (IsCanonical (length names.now)) }
+{
+    let bytes = bytes_of(alloc, parts)?;
+    match Schema::from_bytes(alloc, bytes.as_slice(), names.len()) {
+        Ok(schema) => Ok(schema),
+        Err(fault) => Err(Fail::from(fault)),
     }
+}
+
+// The steps to a difference, the tag of its kind, and both numbers.
+fn text_of(alloc: Global, found: &Found) -> Result<String, AllocError> {
+    let mut text = String::new(alloc);
+    for step in &found.path {
+        put_step(step, &mut text)?;
+    }
+    let numbers = format!(in alloc; "{} {} {}", found.kind.tag(), found.kept, found.counted)?;
+    text.push_str(numbers.as_str())?;
     Ok(text)
+}
+
+fn put_step(step: &Step, text: &mut String) -> Result<(), AllocError> {
+    match step {
+        Step::Item => text.push_str("*")?,
+        Step::Field(name) => text.push_str(name.as_str())?,
+    }
+    Ok(text.push_str(" ")?)
+}
+
+// What is told of two schemas, and nothing where they are one.
+fn told(alloc: Global, kept: &str, counted: &str, names: &Names) -> Result<String, Fail> {
+    let kept = schema_of(alloc, kept, names)?;
+    let counted = schema_of(alloc, counted, names)?;
+    match first_difference(alloc, &kept, &counted, names) {
+        Ok(Some(found)) => Ok(text_of(alloc, &found)?),
+        Ok(None) => Ok(String::new(alloc)),
+        Err(fault) => Err(Fail::from(fault)),
+    }
 }
 
 #[test]
@@ -124,8 +148,9 @@ fn the_first_difference_is_told(rt: HostRuntime) -> Result<(), Fail> {
             "a ab b 3 1 0",
         ),
     ];
+    let names = Names::from_bytes(rt.alloc(), &NAMES)?;
     for (kept, counted, want) in table {
-        let text = told(rt.alloc(), kept, counted)?;
+        let text = told(rt.alloc(), kept, counted, &names)?;
         assert_eq!(rt; text.as_str(), want, "{kept} and {counted}");
     }
     Ok(())
