@@ -1,0 +1,6 @@
+mod SpelledHeads
+mod OpenFiles
+mod CountedTiles
+mod ReadLogs
+mod WholeFiles
+mod StoredWrites

@@ -1,0 +1,9 @@
+//! Layer 5, opening: when files that an opening reads are lawful, which it does not ask. There is no code here but laws,
+//! which are functions that do nothing.
+#![tactic(auto)]
+
+mod files;
+mod logs;
+
+pub use files::judged_files_are_lawful;
+pub use logs::short_writes_are_stored;
