@@ -4,3 +4,4 @@ mod CountedTiles
 mod ReadLogs
 mod WholeFiles
 mod StoredWrites
+mod LoadedFiles

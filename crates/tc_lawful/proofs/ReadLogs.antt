@@ -55,7 +55,7 @@ logs_of part picture generation (ws ∷ logs) mean = (mean.0, logs_of part pictu
 -- ---- a file before others
 
 -- all files behind this one have later names
-abbrev IsBefore : FileName × List ℕ → Picture → Type 0
+abbrev pub IsBefore : FileName × List ℕ → Picture → Type 0
 IsBefore file files = AllByRecursion (λ later. name_cmp file.0 later ≡ Less) (map (λ f. f.0) files)
 
 -- the file is no open log from a generation on
@@ -63,11 +63,11 @@ abbrev IsNoLog : ℕ → FileName × List ℕ → Type 0
 IsNoLog generation file = (g : ℕ) → generation ≤ g → file.0 ≡ Log g → is_open_file file.1 ≡ true → ⊥
 
 -- the first file is found under its name
-first_found : (file : FileName × List ℕ) (files : Picture) (name : FileName) → file.0 ≡ name → bytes_at (file ∷ files) name ≡ Some file.1
+pub first_found : (file : FileName × List ℕ) (files : Picture) (name : FileName) → file.0 ≡ name → bytes_at (file ∷ files) name ≡ Some file.1
 first_found file files name named = subst (λ (n : FileName). bytes_at (file ∷ files) n ≡ Some file.1) named (rw (same_name-refl file.0) refl)
 
 -- what stands behind it is found with it too
-found_with : (file : FileName × List ℕ) (files : Picture) (name : FileName) (bytes : List ℕ) → IsBefore file files → bytes_at files name ≡ Some bytes → bytes_at (file ∷ files) name ≡ Some bytes
+pub found_with : (file : FileName × List ℕ) (files : Picture) (name : FileName) (bytes : List ℕ) → IsBefore file files → bytes_at files name ≡ Some bytes → bytes_at (file ∷ files) name ≡ Some bytes
 found_with file files name bytes before is = let apart = found_apart file.0 files name bytes before is in rw apart is
 
 mean_with : (part : Partition) (file : FileName × List ℕ) (files : Picture) (generation : ℕ) (logs : List (List LogWrite)) → IsBefore file files → IsNoLog generation file → MeanLogs part files generation logs → MeanLogs part (file ∷ files) generation logs
