@@ -1,4 +1,4 @@
-use Rattle.std.proofs.Common.{◌≡◌, ◌∙◌, ◌<◌, List, Ok, length, map, ap, subst}
+use Rattle.std.proofs.Common.{◌≡◌, ◌∙◌, ◌<◌, ℕ, List, Option, Ok, length, map, ap, subst}
 use Rattle.tc_bytes.specs.Codec.{IsBytes}
 use Rattle.tc_component.specs.Layout.{number_end}
 use Rattle.tc_component.specs.Rows.{component_index}
@@ -14,7 +14,7 @@ use Rattle.tc_lawful.proofs.audited.audited_files_are_lawful.Goals as goal
 
 pub returns-clause-opens : goal.returns-clause-opens
 returns-clause-opens g c = λ part files left list writes last cs logs sorted told readable judged read.
-    let content = λ f. g.F.Frozen.content f in
+    let content : g.row.F.Denot → Option (List ℕ) = λ f. g.F.Frozen.content f in
     let picture = picture_in content files in
     let ascend = picture_sorted content files sorted in (
       λ audited.
