@@ -5,3 +5,4 @@ mod ReadLogs
 mod WholeFiles
 mod StoredWrites
 mod LoadedFiles
+mod AuditedDisks

@@ -138,10 +138,6 @@ module _ {F W : Type 0} (content : F → Option (List ℕ)) (files : List (Taken
   pub there_loaded : map index_in list ≡ map component_index cs → All (λ c. LeavesComponent c (bytes_at (picture_in content files) (file_of c))) cs → AllZip (IsLoadedOf content) list cs
   there_loaded = contents_loaded content (picture_in content files) list cs own
 
--- the names of the picture are those of the files
-pub picture_sorted : {F W : Type 0} (content : F → Option (List ℕ)) (files : List (Taken F W)) → IsStrictlySortedBy name_cmp (names_in files) → IsStrictlySortedBy name_cmp (map (λ (file : FileName × List ℕ). file.0) (picture_in content files))
-picture_sorted content files sorted = subst (IsStrictlySortedBy name_cmp) (sym (names_told content files)) sorted
-
 -- ---- bytes
 
 told_bytes : (told : Option (List ℕ)) (bytes : List ℕ) (P : List ℕ → Type 0) → IsSome told → unwrap_or told [] ≡ bytes → IfSome told P → P bytes

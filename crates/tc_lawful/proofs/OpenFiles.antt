@@ -72,7 +72,7 @@ interval_there (file ∷ files) from to bytes is opened =
 
 -- ---- names
 
-not_before_itself : (name : FileName) → name_cmp name name ≡ Less → ⊥
+pub not_before_itself : (name : FileName) → name_cmp name name ≡ Less → ⊥
 not_before_itself (Component from to) less =
     let one : nat_cmp from from ≡ Equal = grind (arith, common_steps) in
     let two : nat_cmp to to ≡ Equal = grind (arith, common_steps) in

@@ -1,4 +1,4 @@
--- When components that were loaded and writes that were read, as an audit goes over them, are those of lawful files.
+-- What an audit finds of components that were loaded and of writes that were read: all is right.
 use Rattle.std.specs.Prelude.{◌≡◌, ℕ, List, map, Option, All}
 use Rattle.std.specs.List.{AllZip}
 use Rattle.tc_component.specs.Loaded.{IsLoadedOf}
