@@ -109,7 +109,7 @@ module _ {F W : Type 0} (content : F → Option (List ℕ)) (name : F → FileNa
     found_is = ap (λ (is : List Index). let f : Found = record { components = is; logs = writes } in f) (indexes_are content list cs audited.loaded)
         ∙ ap (λ (ls : List (List LogWrite)). let f : Found = record { components = map component_index cs; logs = ls } in f) audited.kept;
     list = audited.listed;
-    there = there_same p q same cs (loaded_there content files list cs taken.ascend taken.told read.files_are audited.loaded);
+    there = there_same p q same cs (loaded_there content files list taken.ascend taken.told read.files_are cs audited.loaded);
     writes = audited.storable;
     room = audited.room;
     few = audited.few;
@@ -127,7 +127,7 @@ module _ {F W : Type 0} (content : F → Option (List ℕ)) (name : F → FileNa
   -- what opens and was read is right
   pub opened_audited : Opens part q cs logs → found_in list writes ≡ found_of cs logs → IsAudited content part list writes cs logs
   opened_audited opens found = record {
-    loaded = there_loaded content files list cs taken.ascend taken.told read.files_are (ap (λ (f : Found). f.components) found) (there_same q p (λ n. sym (same n)) cs opens.there);
+    loaded = there_loaded content files list taken.ascend taken.told read.files_are cs (ap (λ (f : Found). f.components) found) (there_same q p (λ n. sym (same n)) cs opens.there);
     listed = opens.list;
     kept = ap (λ (f : Found). f.logs) found;
     storable = opens.writes;

@@ -5,4 +5,5 @@ mod ReadLogs
 mod WholeFiles
 mod StoredWrites
 mod LoadedFiles
+mod HeldFiles
 mod AuditedDisks

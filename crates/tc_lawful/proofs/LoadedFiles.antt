@@ -5,7 +5,7 @@ use Rattle.std.specs.List.{AllByRecursion, AllZip}
 use Rattle.std.specs.List.Sorted.{IsStrictlySortedBy}
 use Rattle.std.specs.declared.cmp.Ordering.TheVariants.{Less}
 use Rattle.std.proofs.lemmas.Bool.{and_parts}
-use Rattle.std.proofs.lemmas.List.Elements.{All-cons, All-head, All-nil, All-tail}
+use Rattle.std.proofs.lemmas.List.Elements.{All-cons, All-head, All-nil, All-tail, All-weaker}
 use Rattle.std.proofs.lemmas.Map.Keys.{sorted_head, sorted_tail}
 use Rattle.tc_store.specs.declared.file_name.FileName.{FileName}
 use Rattle.tc_store.specs.declared.file_name.FileName.TheVariants.{Component}
@@ -65,19 +65,22 @@ files_told {F = F} {W = W} content (t ∷ ts) sorted told =
 -- ---- components
 
 -- the file of a component tells what the picture has under the component's name
-abbrev IsOwn : {F : Type 0} → (F → Option (List ℕ)) → Picture → ComponentState F → Type 0
+abbrev pub IsOwn : {F : Type 0} → (F → Option (List ℕ)) → Picture → ComponentState F → Type 0
 IsOwn content picture x = content x.file ≡ bytes_at picture (tile_name (interval_of x))
 
-components_told : {F W : Type 0} (content : F → Option (List ℕ)) (picture : Picture) (files : List (Taken F W)) (list : List (ComponentState F)) → map (λ (x : ComponentState F). x.file) list ≡ files_of (map interval_of list) files
-    → All (TellsAt content picture) files → All (IsOwn content picture) list
-components_told {F = F} {W = W} content picture files [] from tell = All-nil (IsOwn {F = F} content picture)
-components_told {F = F} {W = W} content picture [] (x ∷ list) from tell = absurd (cc)
-components_told {F = F} {W = W} content picture (t ∷ files) (x ∷ list) from tell =
-    let tails = All-tail (TellsAt {F = F} {W = W} content picture) t files tell in
-    cases (is_file_of (interval_of x) t) refl (λ behind. components_told content picture files (x ∷ list) behind tails) (λ behind. components_told content picture files list behind tails)
+-- what holds of a component by the file that is its own holds of all
+abbrev pub HoldsBy : {F W : Type 0} → (ComponentState F → Type 0) → Taken F W → Type 0
+HoldsBy {F = F} P t = (x : ComponentState F) → x.file ≡ t.file → is_file_of (interval_of x) t ≡ true → P x
+
+pub each_by_file : {F W : Type 0} (P : ComponentState F → Type 0) (files : List (Taken F W)) (list : List (ComponentState F)) → map (λ (x : ComponentState F). x.file) list ≡ files_of (map interval_of list) files → All (HoldsBy P) files → All P list
+each_by_file {F = F} {W = W} P files [] from holds = All-nil P
+each_by_file {F = F} {W = W} P [] (x ∷ list) from holds = absurd (cc)
+each_by_file {F = F} {W = W} P (t ∷ files) (x ∷ list) from holds =
+    let tails = All-tail (HoldsBy {F = F} {W = W} P) t files holds in
+    cases (is_file_of (interval_of x) t) refl (λ behind. each_by_file P files (x ∷ list) behind tails) (λ behind. each_by_file P files list behind tails)
   where
-    cases : (is : Bool) → is_file_of (interval_of x) t ≡ is → (map (λ (y : ComponentState F). y.file) (x ∷ list) ≡ files_of (map interval_of (x ∷ list)) files → All (IsOwn content picture) (x ∷ list))
-        → (map (λ (y : ComponentState F). y.file) list ≡ files_of (map interval_of list) files → All (IsOwn content picture) list) → All (IsOwn content picture) (x ∷ list)
+    cases : (is : Bool) → is_file_of (interval_of x) t ≡ is → (map (λ (y : ComponentState F). y.file) (x ∷ list) ≡ files_of (map interval_of (x ∷ list)) files → All P (x ∷ list))
+        → (map (λ (y : ComponentState F). y.file) list ≡ files_of (map interval_of list) files → All P list) → All P (x ∷ list)
     cases false is same rest =
         let behind : map (λ (y : ComponentState F). y.file) (x ∷ list) ≡ files_of (map interval_of (x ∷ list)) files = from ∙ rw is refl in
         same behind
@@ -85,8 +88,12 @@ components_told {F = F} {W = W} content picture (t ∷ files) (x ∷ list) from 
         let both : map (λ (y : ComponentState F). y.file) (x ∷ list) ≡ t.file ∷ files_of (map interval_of list) files = from ∙ rw is refl in
         let file : x.file ≡ t.file = cc in
         let further : map (λ (y : ComponentState F). y.file) list ≡ files_of (map interval_of list) files = cc in
-        let called : tile_name (interval_of x) ≡ t.name = same_name-is (tile_name (interval_of x)) t.name (and_parts t.open (same_name (tile_name (interval_of x)) t.name) is).1 in
-        All-cons (IsOwn {F = F} content picture) x list (ap content file ∙ (All-head (TellsAt {F = F} {W = W} content picture) t files tell ∙ ap (bytes_at picture) (sym called))) (rest further)
+        All-cons P x list (All-head (HoldsBy {F = F} {W = W} P) t files holds x file is) (rest further)
+
+told_own : {F W : Type 0} (content : F → Option (List ℕ)) (picture : Picture) (t : Taken F W) → TellsAt content picture t → HoldsBy (IsOwn content picture) t
+told_own content picture t tells x file is =
+    let called : tile_name (interval_of x) ≡ t.name = same_name-is (tile_name (interval_of x)) t.name (and_parts t.open (same_name (tile_name (interval_of x)) t.name) is).1 in
+    ap content file ∙ (tells ∙ ap (bytes_at picture) (sym called))
 
 -- ---- components and contents
 
@@ -127,16 +134,18 @@ ends_as content generation [] (c ∷ cs) loaded = absurd loaded
 ends_as content generation (x ∷ list) [] loaded = absurd loaded
 ends_as content generation (x ∷ list) (c ∷ cs) loaded = ap (λ (i : Index). listed.last_after i.head.to list) loaded.0.index ∙ ends_as content c.to list cs loaded.1
 
-module _ {F W : Type 0} (content : F → Option (List ℕ)) (files : List (Taken F W)) (list : List (ComponentState F)) (cs : List Content) (sorted : IsStrictlySortedBy name_cmp (names_in files)) (told : AreTold content files)
+module _ {F W : Type 0} (content : F → Option (List ℕ)) (files : List (Taken F W)) (list : List (ComponentState F)) (sorted : IsStrictlySortedBy name_cmp (names_in files)) (told : AreTold content files)
     (from : map (λ (x : ComponentState F). x.file) list ≡ files_of (map interval_of list) files) where
-  own : All (IsOwn content (picture_in content files)) list
-  own = components_told content (picture_in content files) files list from (files_told content files sorted told)
+  pub own : All (IsOwn content (picture_in content files)) list
+  own =
+      let p = picture_in content files in
+      each_by_file (IsOwn content p) files list from (All-weaker (TellsAt {F = F} {W = W} content p) (HoldsBy {F = F} {W = W} (IsOwn content p)) (told_own content p) files (files_told content files sorted told))
 
-  pub loaded_there : AllZip (IsLoadedOf content) list cs → All (λ c. LeavesComponent c (bytes_at (picture_in content files) (file_of c))) cs
-  loaded_there = contents_there content (picture_in content files) list cs own
+  pub loaded_there : (cs : List Content) → AllZip (IsLoadedOf content) list cs → All (λ c. LeavesComponent c (bytes_at (picture_in content files) (file_of c))) cs
+  loaded_there cs = contents_there content (picture_in content files) list cs own
 
-  pub there_loaded : map index_in list ≡ map component_index cs → All (λ c. LeavesComponent c (bytes_at (picture_in content files) (file_of c))) cs → AllZip (IsLoadedOf content) list cs
-  there_loaded = contents_loaded content (picture_in content files) list cs own
+  pub there_loaded : (cs : List Content) → map index_in list ≡ map component_index cs → All (λ c. LeavesComponent c (bytes_at (picture_in content files) (file_of c))) cs → AllZip (IsLoadedOf content) list cs
+  there_loaded cs = contents_loaded content (picture_in content files) list cs own
 
 -- ---- bytes
 

@@ -30,12 +30,12 @@ use Rattle.tc_lawful.proofs.SpelledHeads.{component_heads, log_heads}
 -- ---- what was read, taken apart
 
 -- no header was refused, the open files go together, and each part was read
-record IsJudged (part : Partition) (picture : Picture) (found : Found) : Type 0 where
-  passed : heads_refused part picture ≡ None
-  tiles : List Interval
-  together : GoTogether (open_in picture) tiles
-  components : components_judged part picture tiles [] [] ≡ Ok found.components
-  logs : logs_judged (end_of 0 tiles) [] picture ≡ Ok found.logs
+pub record IsJudged (part : Partition) (picture : Picture) (found : Found) : Type 0 where
+  pub passed : heads_refused part picture ≡ None
+  pub tiles : List Interval
+  pub together : GoTogether (open_in picture) tiles
+  pub components : components_judged part picture tiles [] [] ≡ Ok found.components
+  pub logs : logs_judged (end_of 0 tiles) [] picture ≡ Ok found.logs
 
 tiles_parts : (part : Partition) (picture : Picture) (found : Found) → heads_refused part picture ≡ None → (tiles : List Interval) → GoTogether (open_in picture) tiles → tiles_judged part picture tiles ≡ Ok found → IsJudged part picture found
 tiles_parts part picture found passed tiles together judged =
@@ -48,7 +48,7 @@ sorted_parts : (part : Partition) (picture : Picture) (found : Found) → heads_
 sorted_parts part picture found passed (inl judged) = tiles_parts part picture found passed judged.0 judged.1 (sym judged.2)
 sorted_parts part picture found passed (inr clash) = absurd (let is = clash.1 in cc)
 
-judged_parts : (part : Partition) (picture : Picture) (found : Found) → OpeningJudged part picture (Ok found) → IsJudged part picture found
+pub judged_parts : (part : Partition) (picture : Picture) (found : Found) → OpeningJudged part picture (Ok found) → IsJudged part picture found
 judged_parts part picture found judged = cases (heads_refused part picture) refl judged
   where
     cases : (refused : Option Refusal) → heads_refused part picture ≡ refused → HeadsThen refused (Ok found) (SortedJudged part picture (Ok found)) → IsJudged part picture found

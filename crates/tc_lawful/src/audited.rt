@@ -5,6 +5,7 @@ ghost use Rattle.tc_bytes.specs.Codec.{IsBytes};
 ghost use Rattle.tc_store.specs.Disk.{Disk, IsAtRest};
 ghost use Rattle.tc_component.specs.Layout.{number_end};
 ghost use Rattle.tc_component.specs.Loading.{ComponentState};
+ghost use Rattle.tc_component.specs.Spelling.{Holds};
 ghost use Rattle.tc_log.specs.declared.write.Write.{Write as LogWrite};
 ghost use Rattle.tc_plain_model.specs.Writes.{Write};
 ghost use Rattle.tc_lsm_model.specs.Contents.{Content, Partition as OnePartition};
@@ -16,6 +17,7 @@ ghost use Rattle.tc_lawful.specs.Audited.{IsAudited};
 ghost use Rattle.tc_lawful.specs.Files.{IsReadable};
 
 use crate::files::judged_files_are_lawful;
+use tc_component::written_is_read;
 use tc_recover::lawful_files_are_read;
 use tc_store::Store;
 
@@ -29,4 +31,14 @@ pub fn audited_disks_are_lawful<S: Store>()
 {
     lawful_files_are_read();
     judged_files_are_lawful();
+}
+
+/// A law, and no work. What was read of the files of a disk, where these are bytes, is what they hold: each component's file
+/// is a component with what was read of it, whatever its records are.
+pub fn loaded_files_hold<S: Store>()
+    ensures { (part : OnePartition) (disk : Disk) (past new : List Disk) (files left : List (TakenFile S.Frozen S.Watch)) (list : List (ComponentState S.Frozen)) (writes : List (List LogWrite)) (last : ℕ)
+        → IsAtRest disk → AreAllTaken S.Frozen.content S.Frozen.name files (disk ∷ past) new → DiskJudged part disk (Ok (found_in list writes)) → IsReadOf files list left last
+        → All (λ t. IfSome (S.Frozen.content t.file) (λ bytes. IsBytes bytes × (length bytes < number_end))) files → All (λ x. IfSome (S.Frozen.content x.file) (λ bytes. Holds bytes x.index)) list }
+{
+    written_is_read();
 }

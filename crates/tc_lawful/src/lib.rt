@@ -6,6 +6,6 @@ mod audited;
 mod files;
 mod logs;
 
-pub use audited::audited_disks_are_lawful;
+pub use audited::{audited_disks_are_lawful, loaded_files_hold};
 pub use files::judged_files_are_lawful;
 pub use logs::short_writes_are_stored;
