@@ -1,7 +1,6 @@
 -- A disk at rest whose files were read and audited, as the picture of all its files.
-use Rattle.std.proofs.Common.{◌≡◌, ◌≢◌, ◌∙◌, ◌⊎◌, ◌<◌, ℕ, List, [], ◌∷◌, map, get_or, Option, None, Some, length, refl, sym, subst, ap, inl, inr, arith}
+use Rattle.std.proofs.Common.{◌≡◌, ◌≢◌, ◌∙◌, ◌⊎◌, ℕ, List, [], ◌∷◌, map, get_or, Option, None, Some, sym, subst, ap, inl, inr, arith}
 use Rattle.std.specs.Prelude.{◌↔◌, All, AllPairs, Contains, unwrap_or}
-use Rattle.std.specs.List.{AllZip}
 use Rattle.std.specs.List.Sorted.{IsStrictlySortedBy}
 use Rattle.std.specs.declared.cmp.Ordering.TheVariants.{Less}
 use mathlib.Core.List.{map-id, map-map}
@@ -14,8 +13,7 @@ use Rattle.tc_store.specs.Disk.{Disk, Entry, IsAtRest, IsPictureOf, IsSettledHom
 use Rattle.tc_store.specs.DiskFile.{DiskFile}
 use Rattle.tc_store.specs.Images.{MayLeave}
 use Rattle.tc_store.specs.NameOrder.{name_cmp}
-use Rattle.tc_component.specs.Loaded.{IsLoadedOf}
-use Rattle.tc_component.specs.Loading.{ComponentState, index_in}
+use Rattle.tc_component.specs.Loading.{ComponentState}
 use Rattle.tc_component.specs.Rows.{component_index}
 use Rattle.tc_component.specs.Spelling.{Index}
 use Rattle.tc_log.specs.declared.write.Write.{Write as LogWrite}
@@ -23,7 +21,6 @@ use Rattle.tc_plain_model.specs.Writes.{Write}
 use Rattle.tc_lsm_model.specs.Contents.{Content, Partition}
 use Rattle.tc_lsm_model.specs.Lists.{last_of}
 use Rattle.tc_machine.specs.Components.{LeavesComponent, file_of}
-use Rattle.tc_machine.specs.Logs.{kept_write}
 use Rattle.tc_machine.specs.Pictures.{Opens}
 use Rattle.tc_machine.specs.Steps.{nothing_held}
 use Rattle.tc_machine.proofs.DeviceSteps.{settled_image}

@@ -1,5 +1,5 @@
 -- The components that were read tile the generations as the contents that they are of.
-use Rattle.std.proofs.Common.{◌≡◌, ◌∙◌, ◌≤◌, ◌⊎◌, ◌+◌, ◌*◌, ℕ, Bool, true, false, List, [], ◌∷◌, ◌++◌, map, Option, None, Some, Result, Ok, Err, length, take, drop, refl, sym, subst, ap, inl, inr, append_assoc, append-nil}
+use Rattle.std.proofs.Common.{◌≡◌, ◌∙◌, ◌≤◌, ◌+◌, ◌*◌, ℕ, Bool, true, false, List, [], ◌∷◌, ◌++◌, map, Option, None, Some, Result, Ok, Err, length, take, drop, refl, sym, subst, ap, inl, inr, append_assoc, append-nil}
 use Rattle.std.specs.Prelude.{All, if◌then◌else◌, unwrap_or}
 use Rattle.std.proofs.lemmas.List.Elements.{All-cons, All-nil}
 use Rattle.tc_model.specs.Document.{Name}
@@ -8,7 +8,6 @@ use Rattle.tc_lsm_model.specs.Lists.{Covers, last_after}
 use Rattle.tc_names.specs.Section.{read_section, section}
 use Rattle.tc_schema.specs.Reading.{read_schema}
 use Rattle.tc_store.specs.declared.file_name.FileName.{FileName}
-use Rattle.tc_store.specs.declared.file_name.FileName.TheVariants.{Component}
 use Rattle.tc_store.specs.Disk.{Picture, bytes_at}
 use Rattle.tc_store.specs.Judging.{Damage, damage, or_damage}
 use Rattle.tc_store.proofs.Judged.{judged_parts, same_Ok}

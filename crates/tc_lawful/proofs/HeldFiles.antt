@@ -1,5 +1,5 @@
 -- The file of each component that was read is a component with what was read of it, where it is bytes.
-use Rattle.std.proofs.Common.{◌≡◌, ◌∙◌, ◌<◌, ℕ, Bool, true, List, [], ◌∷◌, map, Option, None, Some, Ok, length, refl, sym, subst, ap}
+use Rattle.std.proofs.Common.{◌≡◌, ◌∙◌, ◌<◌, ℕ, true, List, [], ◌∷◌, map, Option, None, Some, Ok, length, sym, subst}
 use Rattle.std.specs.Prelude.{All, IfSome, unwrap_or}
 use Rattle.std.proofs.lemmas.Bool.{and_parts}
 use Rattle.std.proofs.lemmas.List.Elements.{All-cons, All-head, All-nil, All-tail, All-weaker}
@@ -13,7 +13,7 @@ use Rattle.tc_component.specs.Reading.{file_judged}
 use Rattle.tc_component.specs.Spelling.{Holds, Index, name_of}
 use Rattle.tc_recover.specs.declared.taken.Taken.{Taken}
 use Rattle.tc_recover.specs.Files.{AreGates}
-use Rattle.tc_recover.specs.Loading.{interval_of, is_file_of, tile_name}
+use Rattle.tc_recover.specs.Loading.{interval_of, tile_name}
 use Rattle.tc_lawful.proofs.CountedTiles.{IsJudgedAt}
 use Rattle.tc_lawful.proofs.LoadedFiles.{HoldsBy, IsOwn}
 

@@ -1,6 +1,6 @@
 -- Components that were loaded of files that tell their bytes, and the contents that are there.
-use Rattle.std.proofs.Common.{◌≡◌, ◌∙◌, ◌<◌, ℕ, Bool, true, false, List, [], ◌∷◌, map, Option, None, Some, refl, sym, subst, ap}
-use Rattle.std.specs.Prelude.{All, IfSome, IsSome, unwrap_or, length}
+use Rattle.std.proofs.Common.{◌≡◌, ◌∙◌, ℕ, Bool, true, false, List, [], ◌∷◌, map, Option, None, Some, refl, sym, subst, ap}
+use Rattle.std.specs.Prelude.{All, IfSome, IsSome, unwrap_or}
 use Rattle.std.specs.List.{AllByRecursion, AllZip}
 use Rattle.std.specs.List.Sorted.{IsStrictlySortedBy}
 use Rattle.std.specs.declared.cmp.Ordering.TheVariants.{Less}
@@ -21,7 +21,6 @@ use Rattle.tc_lsm_model.specs.Contents.{Content}
 use Rattle.tc_lsm_model.specs.Lists as contents
 use Rattle.tc_machine.specs.Components.{LeavesComponent, file_of}
 use Rattle.tc_machine.proofs.OneWay.{component_at}
-use Rattle.tc_recover.specs.declared.interval.Interval.{Interval}
 use Rattle.tc_recover.specs.declared.taken.Taken.{Taken}
 use Rattle.tc_recover.specs.Files.{AreTold, entry_in, names_in, picture_in}
 use Rattle.tc_recover.specs.Loading.{files_of, interval_of, is_file_of, tile_name}

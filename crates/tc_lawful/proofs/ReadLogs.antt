@@ -1,6 +1,6 @@
 -- The logs that were read stand behind each other, and none is open behind them.
-use Rattle.std.proofs.Common.{◌≡◌, ◌∙◌, ◌<◌, ◌≤◌, ◌+◌, ℕ, Bool, true, false, cond, filter, List, [], ◌∷◌, ◌++◌, map, Option, None, Some, Result, Ok, Err, refl, sym, subst, ap, arith, append_assoc, append-nil}
-use Rattle.std.specs.Prelude.{◌&&◌, if◌then◌else◌, nat_lt}
+use Rattle.std.proofs.Common.{◌≡◌, ◌∙◌, ◌<◌, ◌≤◌, ◌+◌, ℕ, Bool, true, false, List, [], ◌∷◌, ◌++◌, map, Some, Ok, refl, sym, subst, ap, arith, append_assoc, append-nil}
+use Rattle.std.specs.Prelude.{◌&&◌, nat_lt}
 use Rattle.std.specs.List.{AllByRecursion}
 use Rattle.std.specs.List.Sorted.{IsStrictlySortedBy}
 use Rattle.std.specs.declared.cmp.Ordering.TheVariants.{Less}
@@ -10,13 +10,13 @@ use Rattle.std.proofs.lemmas.Map.Keys.{sorted_head, sorted_tail}
 use Rattle.std.proofs.lemmas.Option.{same_Some}
 use Rattle.tc_store.specs.declared.file_name.FileName.{FileName}
 use Rattle.tc_store.specs.declared.file_name.FileName.TheVariants.{Component, Log}
-use Rattle.tc_store.specs.Disk.{Picture, bytes_at, same_name}
+use Rattle.tc_store.specs.Disk.{Picture, bytes_at}
 use Rattle.tc_store.specs.Gate.{is_open_file}
 use Rattle.tc_store.specs.NameOrder.{name_cmp}
 use Rattle.tc_store.proofs.NameLemmas.{same_name-refl}
 use Rattle.tc_log.specs.declared.head.LogHead.{LogHead}
 use Rattle.tc_log.specs.declared.write.Write.{Write as LogWrite}
-use Rattle.tc_log.specs.Reading.{front_of, head_at, log_judged}
+use Rattle.tc_log.specs.Reading.{front_of, log_judged}
 use Rattle.tc_log.specs.Spelling.{Means}
 use Rattle.tc_log.proofs.Logs.{named_front, named_judged}
 use Rattle.tc_plain_model.specs.Writes.{Write}
@@ -25,7 +25,6 @@ use Rattle.tc_machine.specs.Logs.{HasLogHead, kept_write, log_head}
 use Rattle.tc_machine.specs.Pictures.{HasLogs, IfOpen}
 use Rattle.tc_recover.specs.Loads.{file_then, is_above, logs_judged}
 use Rattle.tc_recover.specs.Opening.{open_in}
-use Rattle.tc_recover.specs.Refusals.{Refusal}
 use Rattle.tc_recover.specs.Sorting.{Follow, logs_above}
 use Rattle.tc_lawful.specs.Files.{IsMeant}
 use Rattle.tc_lawful.proofs.CountedTiles.{file_parts, same_answer}

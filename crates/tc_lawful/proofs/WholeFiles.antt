@@ -1,5 +1,5 @@
 -- Files of which an opening reads what is whole open as it.
-use Rattle.std.proofs.Common.{◌≡◌, ◌∙◌, ◌<◌, ◌≤◌, ℕ, true, List, [], map, Option, None, Some, Result, Ok, Err, length, refl, sym, subst, ap, inl, inr}
+use Rattle.std.proofs.Common.{◌≡◌, ◌∙◌, ◌<◌, ℕ, List, [], map, Option, None, Some, Ok, length, refl, sym, subst, ap, inl, inr}
 use Rattle.std.specs.List.Sorted.{IsStrictlySortedBy}
 use Rattle.tc_bytes.specs.Codec.{IsBytes}
 use Rattle.tc_bytes.proofs.Fields.{IsBytes-drop, IsBytes-take}

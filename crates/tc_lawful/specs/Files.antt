@@ -1,5 +1,5 @@
 -- What an opening does not look at, and what makes the files that it reads lawful.
-use Rattle.std.specs.Prelude.{◌≡◌, ◌<◌, ℕ, List, length, Result, Ok, All}
+use Rattle.std.specs.Prelude.{◌≡◌, ◌<◌, ℕ, List, length, Ok, All}
 use Rattle.tc_bytes.specs.Codec.{IsBytes}
 use Rattle.tc_store.specs.declared.file_name.FileName.TheVariants.{Component, Log}
 use Rattle.tc_store.specs.Disk.{Picture, bytes_at}
