@@ -39,9 +39,7 @@ ROWS = "Rows.antt"
 # What the toolchain writes of each type, as that it may cross to a thread, is no file of proofs/, and may be cited.
 WRITTEN = re.compile(r"\.(?:TheSendSync|TheLaws)\b")
 # Definitions, and laws that no clause can state, which crates to come stand on. A name leaves this list once it is used.
-AWAITED = {
-    "tc_store": ("picture_before",),
-}
+AWAITED = {}
 
 
 def read(path):

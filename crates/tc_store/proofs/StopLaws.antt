@@ -35,20 +35,6 @@ picture_weaker held other disk picture give is = record {
   each = λ name. entry_weaker (held name) (other name) (disk name) (bytes_at picture name) (give name) (is.each name);
 }
 
--- where one entry changed, a picture that may be left afterwards might have been left before, if that is so of its file
-pub picture_before : (held : FileName → Image → Type 0) (name : FileName) (entry : Entry) (disk : Disk) (picture : Picture)
-    → (MayLeaveAt (held name) entry (bytes_at picture name) → MayLeaveAt (held name) (disk name) (bytes_at picture name))
-    → IsPictureOf held (put name entry disk) picture → IsPictureOf held disk picture
-picture_before held name entry disk picture back is = record {
-  once = is.once;
-  each = λ n. elim (cases_Bool (same_name name n)) [
-    | inl this ↦
-        let own : MayLeaveAt (held name) entry (bytes_at picture name) = rw (same_name-refl name) at (is.each name) in
-        subst (λ (m : FileName). MayLeaveAt (held m) (disk m) (bytes_at picture m)) (same_name-is name n this) (back own)
-    | inr other ↦ rw other at (is.each n)
-  ];
-}
-
 -- what each moment so far had, and each further one has, the last one has
 pub now_since : {X : Type 0} (P : X → Type 0) (old new : List X) → IfTold old P → EachSince P old new → IfTold new P
 now_since {X = X} P old new was since = rw since.goes_on (now since.added since.each old was)
