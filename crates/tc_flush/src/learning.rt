@@ -16,7 +16,7 @@ use tc_names::Names;
 use tc_record::{Label, RecordRef, one_document};
 
 /// Whether there are fewer than 2^32 names with those of a table's documents. Errs only for want of memory.
-pub(crate) fn names_fit(sealed: &Sealed, names: &Names) -> Result<bool, Memory>
+pub fn names_fit(sealed: &Sealed, names: &Names) -> Result<bool, Memory>
     ensures { IfOk result (λ yes. (t : Table) → IsTableOf t sealed.now → IsTrue yes ↔ length (names_with names.now (shapes_held t)) < 2 ^ 32) }
 {
     let mut known = names.copy()?;

@@ -13,3 +13,4 @@ mod writing;
 pub use counting::counted;
 pub use job::{FlushJob, FlushOut, FlushParts};
 pub use laws::{flushes_are_made, kept_shapes_fit, lists_are_counted};
+pub use learning::names_fit;
