@@ -8,8 +8,8 @@ pub mod Room
 pub mod RoundTrip
 pub mod Agreeing
 mod Sizes
-mod NamedSizes
+pub mod NamedSizes
 mod Orders
 mod OutlineSteps
 mod Outlines
-mod Meanings
+pub mod Meanings

@@ -119,7 +119,7 @@ slots_most names (name n ∷ ls) = omega (arith, slots_most names ls)
 slots_most names (number k ∷ ls) = omega (arith, length-append (name_at names k) (joined (map (name_at names) (flat_map key_numbers ls))), most_at names k, slots_most names ls)
 
 -- so the record with names is at most so long
-named_most : (names : List Name) (r : Record) (n : NumberedTree) → Spells r → r.named ≡ false → IsNumberedRecordOf n r.bytes
+pub named_most : (names : List Name) (r : Record) (n : NumberedTree) → Spells r → r.named ≡ false → IsNumberedRecordOf n r.bytes
     → length (record_of (expanded names n)) ≤ length r.bytes + length (labels r.tokens) * (longest_of names + 4)
 named_most names r n spells unnamed is =
     let tn = tokens_of n in

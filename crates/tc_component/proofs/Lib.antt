@@ -1,17 +1,17 @@
 pub mod Written
 mod Closing
 mod FileRows
-mod Heads
+pub mod Heads
 mod Directories
 mod ColumnLaws
 mod Sections
 mod Fronts
-mod Files
+pub mod Files
 mod Loaded
 mod Lookups
 mod SpanLaws
 mod Fetched
 pub mod EntryRecords
-mod EntryPlaces
+pub mod EntryPlaces
 mod SpelledContents
 pub mod Windows
