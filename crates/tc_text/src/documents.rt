@@ -13,7 +13,7 @@ use std::alloc::AllocError;
 use tc_value::{Doc, Items, Member};
 
 /// Puts the compact JSON text of a document (RFC 8259, without spaces) after other text. Errs only for want of memory, and
-/// then leaves some first part of the text behind the other.
+/// then leaves some first part of the text after the other.
 #[cycle(writing)]
 pub fn put_doc(doc: &Doc, out: &mut Vec<u8>) -> Result<(), AllocError>
     ensures { OnOk result (out.new.items ≡ out.old.items ++ compact_text (data_of (tree_of doc.now))) }
