@@ -2,9 +2,9 @@
 use Rattle.std.proofs.Common.{◌≡◌, ◌∙◌, ℕ, true, List, [], All, arith, ap, sym, subst}
 use Rattle.std.specs.Prelude.{is_some, None, Option, option_map, slice_get, Some}
 use Rattle.std.proofs.lemmas.List.Elements.{All-weaker}
-use Rattle.tc_engines.specs.Places.{AtEach}
-use Rattle.tc_engines.specs.WithJobs.{WithJobs}
-use Rattle.tc_engines.proofs.PlaceLaws.{at_each-length}
+use Rattle.tc_keeper.specs.Places.{AtEach}
+use Rattle.tc_keeper.specs.WithJobs.{WithJobs}
+use Rattle.tc_keeper.proofs.PlaceLaws.{at_each-length}
 use Rattle.tc_shown.specs.Shown.{ShownState}
 use Rattle.tc_shown.specs.declared.scan.Scan.{Scan as Begun}
 use Rattle.tc_store.specs.Counted.{Counts}

@@ -2,8 +2,7 @@
 use Rattle.std.proofs.Common.{◌≡◌, ℕ, zero, suc, ◌+◌, ◌<◌, List, [], ◌∷◌, ◌++◌, map, length, append_assoc, length-append, arith, refl, ap, sym, subst, inl, inr}
 use Rattle.std.specs.Prelude.{All, Some, slice_get, zip}
 use Rattle.std.proofs.lemmas.List.Elements.{All-cons, All-head, All-nil, All-tail}
-use Rattle.tc_engines.specs.Places.{AtEach}
-use Rattle.tc_keeper.specs.Places.{EachFrom, SomeFrom}
+use Rattle.tc_keeper.specs.Places.{AtEach, EachFrom, SomeFrom}
 
 -- ---- one list
 

@@ -3,14 +3,14 @@ use Rattle.std.proofs.Common.{◌≡◌, ◌⊎◌, ◌≤◌, ◌<◌, ◌+◌,
 use Rattle.std.specs.Prelude.{Option, Some, None, IsSome, option_map, slice_get, unwrap_or, Result, Err}
 use Rattle.std.proofs.lemmas.List.Elements.{All-head, All-tail}
 use Rattle.tc_bytes.specs.Counts.{Rose}
-use Rattle.tc_engines.specs.Faults.{IfOf, IsDiskOf}
-use Rattle.tc_engines.specs.Moving.{HasFailedMoving, HasMoved, StopsAt}
-use Rattle.tc_engines.specs.Places.{AtEach}
-use Rattle.tc_engines.specs.Running.{HasOnlyRun}
-use Rattle.tc_engines.specs.declared.fault.EnginesFault.{EnginesFault}
-use Rattle.tc_engines.specs.declared.fault.EnginesFault.TheVariants as engines
-use Rattle.tc_engines.proofs.PlaceLaws.{at_each-length, at_each-so}
-use Rattle.tc_engines.specs.WithJobs.{told_of, WithJobs}
+use Rattle.tc_keeper.specs.EngineFaults.{IfOf, IsDiskOf}
+use Rattle.tc_keeper.specs.Moving.{HasFailedMoving, HasMoved, StopsAt}
+use Rattle.tc_keeper.specs.Places.{AtEach, SomeFrom}
+use Rattle.tc_keeper.specs.Running.{HasOnlyRun}
+use Rattle.tc_keeper.specs.declared.engines_fault.EnginesFault.{EnginesFault}
+use Rattle.tc_keeper.specs.declared.engines_fault.EnginesFault.TheVariants as engines
+use Rattle.tc_keeper.proofs.PlaceLaws.{at_each-length, at_each-so}
+use Rattle.tc_keeper.specs.WithJobs.{told_of, WithJobs}
 use Rattle.tc_part_model.specs.PartState.{PartState}
 use Rattle.tc_running.specs.Jobs.{JobsState}
 use Rattle.tc_store.specs.Counted.{Counts}
@@ -25,7 +25,6 @@ use Rattle.tc_work.specs.declared.fault.EngineFault.TheVariants as engine
 use Rattle.tc_keeper.specs.Calls.{faults_at, IsSpentAt, MayBeAsked}
 use Rattle.tc_keeper.specs.Faults.{faults_of_part, HasDiskCause, HaveRisen, HaveStayed, NoneFell, OneRose}
 use Rattle.tc_keeper.specs.Partitions.{fault_of_engines, window_fault_of}
-use Rattle.tc_keeper.specs.Places.{SomeFrom}
 use Rattle.tc_keeper.specs.declared.fault.RunFault.{RunFault}
 use Rattle.tc_keeper.specs.declared.fault.RunFault.TheVariants.{Disk, Damaged, Memory}
 use Rattle.tc_keeper.proofs.EachLaws.{at_each-both}

@@ -4,14 +4,14 @@ use Rattle.std.specs.List.{AllByRecursion}
 use Rattle.std.specs.Prelude.{Option, Some, None, Result, Ok, Err, IfOk, OnErr, OnOk, slice_get, zip}
 use Rattle.serde_json.specs.View.{view}
 use Rattle.serde_json.specs.declared.value.Value.{Value}
-use Rattle.tc_engines.specs.Faults.{IfOf, StopsFirst}
-use Rattle.tc_engines.specs.Moving.{HasFailedMoving, StopsAt}
-use Rattle.tc_engines.specs.Places.{AtEach}
-use Rattle.tc_engines.specs.Standing.{partition_at, HoldsPart, HoldWorld, IsSeen, KeepsPart, KeepWorlds}
-use Rattle.tc_engines.specs.WithJobs.{told_of, told_part, works_of, WithJobs}
-use Rattle.tc_engines.specs.declared.fault.EnginesFault.{EnginesFault}
-use Rattle.tc_engines.specs.declared.fault.EnginesFault.TheVariants as engines
-use Rattle.tc_engines.proofs.PlaceLaws.{at_each-so}
+use Rattle.tc_keeper.specs.EngineFaults.{IfOf, StopsFirst}
+use Rattle.tc_keeper.specs.Moving.{HasFailedMoving, StopsAt}
+use Rattle.tc_keeper.specs.Places.{AtEach}
+use Rattle.tc_keeper.specs.Standing.{partition_at, HoldsPart, HoldWorld, IsSeen, KeepsPart, KeepWorlds}
+use Rattle.tc_keeper.specs.WithJobs.{told_of, told_part, works_of, WithJobs}
+use Rattle.tc_keeper.specs.declared.engines_fault.EnginesFault.{EnginesFault}
+use Rattle.tc_keeper.specs.declared.engines_fault.EnginesFault.TheVariants as engines
+use Rattle.tc_keeper.proofs.PlaceLaws.{at_each-so}
 use Rattle.tc_model.specs.Keyed.{Keyed, values_in}
 use Rattle.tc_request_model.specs.Reply.{Reply, schemas}
 use Rattle.tc_request_model.specs.Request.{Request, upsert, delete, get, query, flush, schema, scan, collect, refused}
@@ -35,11 +35,10 @@ use Rattle.tc_work.specs.Faults.{IfDamaged}
 use Rattle.tc_work.specs.Moving.{Eyes}
 use Rattle.tc_work.specs.declared.fault.EngineFault.{EngineFault}
 use Rattle.tc_work.specs.declared.fault.EngineFault.TheVariants as engine
-use Rattle.tc_keeper.specs.Together.{IsForPart}
+use Rattle.tc_keeper.specs.Together.{IsForPart, requests_routed}
 use Rattle.tc_keeper.specs.Faults.{fault_of_engine, IsNoDamage}
 use Rattle.tc_keeper.specs.Partitions.{fault_of_engines, window_fault_at, window_fault_of, StandAt}
 use Rattle.tc_keeper.specs.Sight.{nothing, sees, sight_after, whole_of, Sight}
-use Rattle.tc_keeper.specs.Together.{requests_routed}
 use Rattle.tc_keeper.proofs.EachLaws.{at_each-at, there}
 use Rattle.tc_keeper.proofs.WindowLengths.{requests_same}
 

@@ -1,14 +1,14 @@
 -- Engines may be asked again behind a call that ended well, are settled, and keep their settings.
 use Rattle.std.proofs.Common.{◌≡◌, ◌<◌, ◌≤◌, ℕ, suc, false, List, [], ◌∷◌, None, All, map, length, refl, ap, sym, subst}
 use Rattle.std.proofs.lemmas.List.Elements.{All-cons, All-head, All-nil, All-tail, All-weaker}
-use Rattle.tc_engines.specs.Faults.{IfOf}
-use Rattle.tc_engines.specs.Moving.{Flushes, HasMoved, HasStayed, Settles, StopsAt}
-use Rattle.tc_engines.specs.Places.{AtEach}
-use Rattle.tc_engines.specs.Running.{HasOnlyRun}
-use Rattle.tc_engines.specs.declared.fault.EnginesFault.{EnginesFault}
-use Rattle.tc_engines.specs.declared.fault.EnginesFault.TheVariants as engines
-use Rattle.tc_engines.specs.WithJobs.{told_of, WithJobs}
-use Rattle.tc_engines.proofs.PlaceLaws.{at_each-so}
+use Rattle.tc_keeper.specs.EngineFaults.{IfOf}
+use Rattle.tc_keeper.specs.Moving.{Flushes, HasMoved, HasStayed, Settles, StopsAt}
+use Rattle.tc_keeper.specs.Places.{AtEach}
+use Rattle.tc_keeper.specs.Running.{HasOnlyRun}
+use Rattle.tc_keeper.specs.declared.engines_fault.EnginesFault.{EnginesFault}
+use Rattle.tc_keeper.specs.declared.engines_fault.EnginesFault.TheVariants as engines
+use Rattle.tc_keeper.specs.WithJobs.{told_of, WithJobs}
+use Rattle.tc_keeper.proofs.PlaceLaws.{at_each-so}
 use Rattle.tc_list.specs.declared.policy.Policy.{Policy}
 use Rattle.tc_log.specs.Layout.{empty_size}
 use Rattle.tc_part.specs.FilesOut.{LogIsOut}

@@ -3,9 +3,9 @@ use Rattle.std.proofs.Common.{◌≡◌, ◌∙◌, ◌<◌, ℕ, suc, List, [],
 use Rattle.std.specs.Prelude.{true, is_some, None, Option}
 use Rattle.std.proofs.lemmas.List.Elements.{All-head, All-tail}
 use Rattle.tc_component.specs.Loading.{ComponentState}
-use Rattle.tc_engines.specs.Places.{AtEach}
-use Rattle.tc_engines.specs.Standing.{HoldsOwn, HoldWorld, IsSeen}
-use Rattle.tc_engines.specs.WithJobs.{told_of, WithJobs}
+use Rattle.tc_keeper.specs.Places.{AtEach}
+use Rattle.tc_keeper.specs.Standing.{HoldsOwn, HoldWorld, IsSeen}
+use Rattle.tc_keeper.specs.WithJobs.{told_of, WithJobs}
 use Rattle.tc_memory.specs.Table.{Table}
 use Rattle.tc_part_model.specs.Meaning.{IsPart}
 use Rattle.tc_part_model.specs.PartState.{AreTold, Told, told_component}

@@ -4,10 +4,10 @@ use Rattle.std.specs.Prelude.{is_some, None, Option, Some, zip}
 use Rattle.std.specs.List.{AllZip}
 use Rattle.std.specs.declared.alloc.Global.{Global}
 use Rattle.std.specs.declared.vec.Vec.{Vec}
-use Rattle.tc_engines.specs.Places.{AtEach, IsAt}
-use Rattle.tc_engines.specs.Standing.{partition_at, HoldsOwn, HoldWorld, IsSeen, KeepsPart, KeepWorlds}
-use Rattle.tc_engines.specs.WithJobs.{told_of, with_reader, works_of, WithJobs}
-use Rattle.tc_engines.proofs.PlaceLaws.{at_each-join, at_each-length, at_each-same, at_each-so}
+use Rattle.tc_keeper.specs.Places.{AtEach, IsAt}
+use Rattle.tc_keeper.specs.Standing.{partition_at, HoldsOwn, HoldWorld, IsSeen, KeepsPart, KeepWorlds}
+use Rattle.tc_keeper.specs.WithJobs.{told_of, with_reader, works_of, WithJobs}
+use Rattle.tc_keeper.proofs.PlaceLaws.{at_each-join, at_each-length, at_each-same, at_each-so}
 use Rattle.tc_log.specs.Writes.{IsWrite}
 use Rattle.tc_log.specs.declared.write.Write as log
 use Rattle.tc_model.specs.Keyed.{Keyed}

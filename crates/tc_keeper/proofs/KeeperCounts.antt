@@ -4,9 +4,9 @@ use Rattle.std.specs.Prelude.{HoldsAt, IfSome, IsSome, None, Option, option_map,
 use Rattle.std.specs.List.{AllZip}
 use Rattle.std.proofs.lemmas.List.Elements.{All-head, All-tail}
 use Rattle.tc_bytes.specs.Counts.{Rose}
-use Rattle.tc_engines.specs.Places.{AtEach, IsAt}
-use Rattle.tc_engines.specs.WithJobs.{with_reader, WithJobs}
-use Rattle.tc_engines.proofs.PlaceLaws.{at_each-length}
+use Rattle.tc_keeper.specs.Places.{AtEach, IsAt}
+use Rattle.tc_keeper.specs.WithJobs.{with_reader, WithJobs}
+use Rattle.tc_keeper.proofs.PlaceLaws.{at_each-length}
 use Rattle.tc_shown.specs.Scans.{GoesOn, IfDamaged as IfScanDamaged, IfDisk as IfScanDisk, IsFaultOf}
 use Rattle.tc_shown.specs.declared.fault.ScanFault.{ScanFault}
 use Rattle.tc_shown.specs.declared.fault.ScanFault.TheVariants as scan

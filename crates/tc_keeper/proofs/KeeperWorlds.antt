@@ -8,11 +8,11 @@ use Rattle.std.proofs.lemmas.Bool.{false≢true}
 use Rattle.std.proofs.lemmas.List.Elements.{All-cons, All-head, All-nil, All-tail}
 use mathlib.Core.List.{IsPrefix}
 use Rattle.tc_command.specs.Commands.{ask_of, request_of_command}
-use Rattle.tc_engines.specs.Places.{AtEach}
-use Rattle.tc_engines.specs.Standing.{partition_at, HoldsOwn, HoldsPart, HoldWorld, IsSeen}
-use Rattle.tc_engines.specs.WithJobs.{told_of, works_of, WithJobs}
-use Rattle.tc_engines.proofs.PlaceLaws.{at_each-length, at_each-so}
-use Rattle.tc_engines.proofs.SharesLeft.{shares_left, AreLeft}
+use Rattle.tc_keeper.specs.Places.{AtEach}
+use Rattle.tc_keeper.specs.Standing.{partition_at, HoldsOwn, HoldsPart, HoldWorld, IsSeen}
+use Rattle.tc_keeper.specs.WithJobs.{told_of, works_of, WithJobs}
+use Rattle.tc_keeper.proofs.PlaceLaws.{at_each-length, at_each-so}
+use Rattle.tc_keeper.proofs.SharesLeft.{shares_left, AreLeft}
 use Rattle.tc_log.specs.declared.write.Write as log
 use Rattle.tc_lsm_model.specs.Contents.{Partition}
 use Rattle.tc_request_model.specs.Reply.{collected, Row, started, turned_down}
@@ -34,11 +34,10 @@ use Rattle.tc_shown.specs.declared.scan.Pass.{Pass}
 use Rattle.tc_shown.specs.declared.scan.Scan.{Scan as Begun}
 use Rattle.tc_view.specs.Places.{kept_by}
 use Rattle.tc_work.specs.Moving.{Eyes}
-use Rattle.tc_keeper.specs.Together.{IsForPart}
+use Rattle.tc_keeper.specs.Together.{IsForPart, requests_routed, AreTogether, IsRouted}
 use Rattle.tc_keeper.specs.Keeping.{IsOutFor, KeeperState, ServesAt, ShowsPart, ShowWorld}
 use Rattle.tc_keeper.specs.Partitions.{StandAt}
 use Rattle.tc_keeper.specs.Sight.{nothing, sees, sight_after, whole_of, Sight}
-use Rattle.tc_keeper.specs.Together.{requests_routed, AreTogether, IsRouted}
 use Rattle.tc_keeper.proofs.KeysWritten.{keys_after}
 use Rattle.tc_keeper.proofs.ScanReplies.{collects, scan_begun, Collects, LawOfCounts, LawOfGrowth, LawOfViews}
 use Rattle.tc_keeper.proofs.ShownParts.{LawOfPlacing, LawOfWriting}

@@ -1,8 +1,8 @@
 -- Lenses and watches go out one after the other, and come back so: what holds behind each turn.
 use Rattle.std.proofs.Common.{◌≡◌, ◌∙◌, ◌<◌, ◌+◌, ℕ, false, List, [], ◌∷◌, ◌++◌, map, length, length-append, arith, refl, ap, sym, subst}
 use Rattle.std.specs.Prelude.{Some, slice_get}
-use Rattle.tc_engines.specs.Places.{AtEach, IsAt}
-use Rattle.tc_engines.specs.WithJobs.{with_reader, WithJobs}
+use Rattle.tc_keeper.specs.Places.{AtEach, IsAt}
+use Rattle.tc_keeper.specs.WithJobs.{with_reader, WithJobs}
 use Rattle.tc_shown.specs.Shown.{Reads, ShownState}
 use Rattle.tc_shown.specs.declared.scan.Pass.{Pass}
 use Rattle.tc_view.specs.declared.lens.Lens.{Lens}

@@ -1,7 +1,7 @@
 -- The partitions of a world, or one of them, have keys of their own alone behind requests, where they have before them.
 use Rattle.std.proofs.Common.{◌≡◌, ◌+◌, ℕ, zero, suc, Bool, true, false, List, [], ◌∷◌, ◌++◌, length, map, arith, refl, sym, subst, inl, inr}
 use Rattle.std.specs.Prelude.{◌%◌, Option, Some, None, is_some, if◌then◌else◌}
-use Rattle.tc_engines.specs.Standing.{IsSeen}
+use Rattle.tc_keeper.specs.Standing.{IsSeen}
 use Rattle.tc_model.specs.Document.{Document}
 use Rattle.tc_request_model.specs.Request.{Request, Refusal, upsert, delete, get, query, flush, schema, scan, collect, refused}
 use Rattle.tc_model.proofs.KeyedOrder.{All-with_value, All-without_key}

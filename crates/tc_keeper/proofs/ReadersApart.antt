@@ -1,16 +1,15 @@
 -- Engines whose readers' watches went out with a scan, or came back, are otherwise as they were.
 use Rattle.std.proofs.Common.{◌≡◌, ◌∙◌, ◌<◌, ◌≤◌, ℕ, suc, List, [], ◌∷◌, All, map, refl, ap, sym, subst}
 use Rattle.std.specs.Prelude.{None, Option, Some}
-use Rattle.tc_engines.specs.Places.{AtEach, IsAt}
-use Rattle.tc_engines.specs.WithJobs.{with_reader, WithJobs}
-use Rattle.tc_engines.proofs.PlaceLaws.{at_each-length, at_each-so}
+use Rattle.tc_keeper.specs.Places.{AtEach, IsAt, SomeFrom}
+use Rattle.tc_keeper.specs.WithJobs.{with_reader, WithJobs}
+use Rattle.tc_keeper.proofs.PlaceLaws.{at_each-length, at_each-so}
 use Rattle.tc_list.specs.declared.policy.Policy.{Policy}
 use Rattle.tc_part_model.specs.PartState.{told}
 use Rattle.tc_shown.specs.declared.scan.Pass.{Pass}
 use Rattle.tc_store.specs.Disk.{Disk}
 use Rattle.tc_store.specs.DiskFile.{DiskFile}
 use Rattle.tc_keeper.specs.Calls.{AllMayAnswer, IsSettled, IsSpentAt, MayBeAsked}
-use Rattle.tc_keeper.specs.Places.{SomeFrom}
 use Rattle.tc_keeper.proofs.EachLaws.{carried_all, some-beside}
 use Rattle.tc_keeper.proofs.Turns.{is_at-get}
 

@@ -6,8 +6,8 @@ use mathlib.Core.List.{IsPrefix}
 use Rattle.tc_command.specs.Commands.{ask_of}
 use Rattle.tc_command.specs.Replies.{reply_of}
 use Rattle.tc_component.specs.Loaded.{IsLoadedOf}
-use Rattle.tc_engines.specs.Places.{AtEach, IsAt}
-use Rattle.tc_engines.specs.WithJobs.{with_reader, WithJobs}
+use Rattle.tc_keeper.specs.Places.{AtEach, IsAt}
+use Rattle.tc_keeper.specs.WithJobs.{with_reader, WithJobs}
 use Rattle.tc_lsm_model.specs.Contents as documents
 use Rattle.tc_request_model.specs.Request.{collect}
 use Rattle.tc_plain_model.specs.Writes.{Pairs}

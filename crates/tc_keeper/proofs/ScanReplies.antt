@@ -5,9 +5,9 @@ use Rattle.std.specs.List.{AllZip}
 use Rattle.std.proofs.lemmas.List.{length-map}
 use Rattle.std.proofs.lemmas.List.Elements.{All-head, All-tail, All-nil, All-cons}
 use mathlib.Core.List.{IsPrefix}
-use Rattle.tc_engines.specs.Places.{AtEach}
-use Rattle.tc_engines.specs.Standing.{IsSeen}
-use Rattle.tc_engines.proofs.PlaceLaws.{at_each-join, at_each-reads}
+use Rattle.tc_keeper.specs.Places.{AtEach, EachFrom}
+use Rattle.tc_keeper.specs.Standing.{IsSeen}
+use Rattle.tc_keeper.proofs.PlaceLaws.{at_each-join, at_each-reads}
 use Rattle.tc_machine.specs.Logs.{kept_write}
 use Rattle.tc_model.specs.Keyed.{with_value, without_key}
 use Rattle.tc_model.proofs.KeyedOrder.{All-with_value, All-without_key}
@@ -25,7 +25,6 @@ use Rattle.tc_view.specs.Holding.{Holds, HoldsWrites}
 use Rattle.tc_view.specs.Places.{kept_by}
 use Rattle.tc_view.specs.Rules.{IsViewOf}
 use Rattle.tc_keeper.specs.Keeping.{HasOwnKeys, ShowsPart}
-use Rattle.tc_keeper.specs.Places.{EachFrom}
 
 -- ---- laws of views, as they are handed in
 

@@ -5,8 +5,8 @@ use Rattle.std.specs.declared.alloc.Global.{Global}
 use Rattle.std.specs.declared.vec.Vec.{Vec}
 use Rattle.std.proofs.lemmas.Bool.{false≢true}
 use Rattle.tc_component.specs.Loading.{ComponentState}
-use Rattle.tc_engines.specs.Places.{IsAt}
-use Rattle.tc_engines.specs.WithJobs.{WithJobs}
+use Rattle.tc_keeper.specs.Places.{IsAt}
+use Rattle.tc_keeper.specs.WithJobs.{WithJobs}
 use Rattle.tc_log.specs.declared.write.Write as log
 use Rattle.tc_memory.specs.Table.{Table}
 use Rattle.tc_merge.specs.Merging.{GrowNames}

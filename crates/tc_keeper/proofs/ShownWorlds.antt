@@ -3,12 +3,12 @@ use Rattle.std.proofs.Common.{◌≡◌, ◌∙◌, ◌+◌, ℕ, suc, List, [],
 use Rattle.std.specs.Prelude.{Option, Some, slice_get, zip}
 use Rattle.std.specs.declared.alloc.Global.{Global}
 use Rattle.std.specs.declared.vec.Vec.{Vec}
-use Rattle.tc_engines.specs.Places.{AtEach, IsAt}
-use Rattle.tc_engines.specs.Running.{HasFramed}
-use Rattle.tc_engines.specs.Standing.{HoldsOwn, HoldWorld, IsSeen}
-use Rattle.tc_engines.specs.WithJobs.{told_of, WithJobs}
-use Rattle.tc_engines.proofs.PlaceLaws.{at_each-turned}
-use Rattle.tc_engines.proofs.SharesLeft.{AreLeft, IsLeft}
+use Rattle.tc_keeper.specs.Places.{AtEach, IsAt}
+use Rattle.tc_keeper.specs.Running.{HasFramed}
+use Rattle.tc_keeper.specs.Standing.{HoldsOwn, HoldWorld, IsSeen}
+use Rattle.tc_keeper.specs.WithJobs.{told_of, WithJobs}
+use Rattle.tc_keeper.proofs.PlaceLaws.{at_each-turned}
+use Rattle.tc_keeper.proofs.SharesLeft.{AreLeft, IsLeft}
 use Rattle.tc_log.specs.declared.write.Write as log
 use Rattle.tc_machine.specs.Logs.{kept_write}
 use Rattle.tc_machine.specs.Writes.{IsStorableWrite}
@@ -24,8 +24,7 @@ use Rattle.tc_shown.specs.Shown.{wrote, ShownState}
 use Rattle.tc_work.specs.Moving.{Eyes}
 use Rattle.tc_keeper.specs.Keeping.{ShowsPart}
 use Rattle.tc_keeper.specs.Showing.{IsPlacedOver}
-use Rattle.tc_keeper.proofs.EachLaws.{at_each-at, at_each-from}
-use Rattle.tc_keeper.proofs.EachLaws.{zip_places}
+use Rattle.tc_keeper.proofs.EachLaws.{at_each-at, at_each-from, zip_places}
 use Rattle.tc_keeper.proofs.Turns.{is_at-get}
 use Rattle.tc_keeper.proofs.ShownParts.{shows_placed, shows_wrote, LawOfPlacing, LawOfWriting}
 

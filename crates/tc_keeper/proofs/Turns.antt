@@ -3,10 +3,9 @@ use Rattle.std.proofs.Common.{◌≡◌, ◌∙◌, ◌≤◌, ◌<◌, ◌+◌,
 use Rattle.std.specs.Prelude.{slice_get, slice_index_or, Some, zip}
 use Rattle.std.proofs.lemmas.List.{length-set}
 use Rattle.std.proofs.lemmas.List.Elements.{All-head, All-tail}
-use Rattle.tc_engines.specs.Places.{AtEach, IsAt}
-use Rattle.tc_engines.proofs.PlaceLaws.{at_each-length, at_each-same, at_each-so}
-use Rattle.tc_keeper.proofs.EachLaws.{at_each-at, at_each-from}
-use Rattle.tc_keeper.proofs.EachLaws.{zip_places}
+use Rattle.tc_keeper.specs.Places.{AtEach, IsAt}
+use Rattle.tc_keeper.proofs.PlaceLaws.{at_each-length, at_each-same, at_each-so}
+use Rattle.tc_keeper.proofs.EachLaws.{at_each-at, at_each-from, zip_places}
 
 -- ---- what stands at a place
 

@@ -10,8 +10,7 @@ use Rattle.tc_model.specs.Weight.{weight}
 use Rattle.tc_request_model.specs.Light.{IsLight}
 use Rattle.tc_record.specs.Record.{header_size, record_of}
 use Rattle.tc_route.specs.declared.placed.Routed.{Routed}
-use Rattle.tc_keeper.specs.Together.{IsForPart}
-use Rattle.tc_keeper.specs.Together.{requests_routed, weight_of, weight_in, IsRouted, AreTogether}
+use Rattle.tc_keeper.specs.Together.{IsForPart, requests_routed, weight_of, weight_in, IsRouted, AreTogether}
 use Rattle.tc_work.specs.Asked.{IsForPart as IsRunForPart, bytes_for, most_bytes, requests_in, IsWindow}
 
 -- the requests of routed commands

@@ -1,7 +1,7 @@
 -- What the calls of the engines of partitions ask for, and how they leave them.
 use Rattle.std.specs.Prelude.{◌≡◌, ◌-◌, ◌^◌, ◌<◌, ◌≤◌, ℕ, false, true, List, All, length, map, None, Option, option_map, slice_get}
-use Rattle.tc_engines.specs.Standing.{KeepWorlds}
-use Rattle.tc_engines.specs.WithJobs.{WithJobs}
+use Rattle.tc_keeper.specs.Standing.{KeepWorlds}
+use Rattle.tc_keeper.specs.WithJobs.{WithJobs}
 use Rattle.tc_store.specs.Counted.{Counts}
 use Rattle.tc_store.specs.Disk.{Disk}
 use Rattle.tc_store.specs.DiskFile.{DiskFile}

@@ -2,9 +2,9 @@
 -- What its calls ask for, and how they leave it.
 use Rattle.std.specs.Prelude.{◌≡◌, ◌<◌, ◌≤◌, ◌%◌, ℕ, true, false, List, [], All, length, map, None, Option, Some, is_some, option_map, slice_get}
 use Rattle.tc_command.specs.Commands.{ask_of}
-use Rattle.tc_engines.specs.Places.{AtEach}
-use Rattle.tc_engines.specs.Standing.{IsSeen, KeepWorlds}
-use Rattle.tc_engines.specs.WithJobs.{WithJobs}
+use Rattle.tc_keeper.specs.Places.{AtEach, EachFrom, SomeFrom}
+use Rattle.tc_keeper.specs.Standing.{IsSeen, KeepWorlds}
+use Rattle.tc_keeper.specs.WithJobs.{WithJobs}
 use Rattle.tc_list.specs.declared.policy.Policy.{Policy}
 use Rattle.tc_part_model.specs.PartState.{told}
 use Rattle.tc_plain_model.specs.Writes.{after_writes}
@@ -22,7 +22,6 @@ use Rattle.tc_keeper.specs.Calls.{faults_at, AllMayAnswer, IsSettled, IsSpentAt}
 use Rattle.tc_keeper.specs.Faults.{DiskFaults}
 use Rattle.tc_keeper.specs.Partitions.{StandAt}
 use Rattle.tc_keeper.specs.OwnKeys.{AreOwn}
-use Rattle.tc_keeper.specs.Places.{EachFrom, SomeFrom}
 use Rattle.tc_keeper.specs.Sight.{IfKnown, Sight}
 
 -- the engines in ascending number of the partition, what is shown of each, and the scan that is out, as it began

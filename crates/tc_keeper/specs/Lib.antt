@@ -1,4 +1,10 @@
 pub mod Places
+pub mod WithJobs
+pub mod Standing
+pub mod Running
+pub mod EngineFaults
+pub mod Moving
+pub mod SchemaTexts
 pub mod Faults
 pub mod Sight
 pub mod Holds

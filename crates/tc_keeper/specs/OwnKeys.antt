@@ -1,6 +1,6 @@
 -- Keys that are a partition's own.
 use Rattle.std.specs.Prelude.{◌≡◌, ◌%◌, ℕ, length, All, Option}
-use Rattle.tc_engines.specs.Standing.{IsSeen}
+use Rattle.tc_keeper.specs.Standing.{IsSeen}
 use Rattle.tc_plain_model.specs.Writes.{Pairs}
 use Rattle.tc_run_model.specs.World.{World}
 use Rattle.tc_keeper.specs.Places.{EachFrom}

@@ -2,10 +2,10 @@
 use Rattle.std.specs.Prelude.{ℕ, Bool, true, false, List, Result, Ok, Err}
 use Rattle.tc_command.specs.declared.replies.Reply.{Reply}
 use Rattle.tc_command.specs.declared.replies.Reply.TheVariants.{Collected}
-use Rattle.tc_engines.specs.Standing.{HoldWorld}
-use Rattle.tc_engines.specs.WithJobs.{WithJobs}
-use Rattle.tc_engines.specs.declared.fault.EnginesFault.{EnginesFault}
-use Rattle.tc_engines.specs.declared.fault.EnginesFault.TheVariants as engines
+use Rattle.tc_keeper.specs.Standing.{HoldWorld}
+use Rattle.tc_keeper.specs.WithJobs.{WithJobs}
+use Rattle.tc_keeper.specs.declared.engines_fault.EnginesFault.{EnginesFault}
+use Rattle.tc_keeper.specs.declared.engines_fault.EnginesFault.TheVariants as engines
 use Rattle.tc_shown.specs.declared.fault.ScanFault.{ScanFault}
 use Rattle.tc_shown.specs.declared.fault.ScanFault.TheVariants as scan
 use Rattle.tc_shown.specs.declared.scan.Scanned.{Scanned}

@@ -1,6 +1,6 @@
 -- What is shown of a partition, by its engine: when it was opened, and behind a call that moves documents.
 use Rattle.std.specs.Prelude.{◌≡◌, ◌⊎◌, [], ◌∷◌, false, None}
-use Rattle.tc_engines.specs.WithJobs.{WithJobs}
+use Rattle.tc_keeper.specs.WithJobs.{WithJobs}
 use Rattle.tc_shown.specs.Shown.{IsPlaced, ShownState}
 use Rattle.tc_view.specs.declared.happened.Happened.TheVariants.{Placed}
 

@@ -2,17 +2,17 @@
 
 ghost use Rattle.std.specs.Prelude.{◌≡◌, ◌≤◌, ℕ, [], true, false, All, None, Option, Some, length, map, is_some, vec_capacity, vec_len, IfOk, IsTrue};
 ghost use mathlib.Core.List.{IsPrefix};
-ghost use Rattle.tc_engines.specs.Places.{AtEach, IsAt};
-ghost use Rattle.tc_engines.specs.Standing.{HoldWorld, KeepWorlds};
-ghost use Rattle.tc_engines.specs.WithJobs.{with_reader};
+ghost use Rattle.tc_keeper.specs.Places.{AtEach, IsAt};
+ghost use Rattle.tc_keeper.specs.Standing.{HoldWorld, KeepWorlds};
+ghost use Rattle.tc_keeper.specs.WithJobs.{with_reader};
 ghost use Rattle.tc_run_model.specs.World.{World};
 ghost use Rattle.tc_shown.specs.Shown.{Reads};
 ghost use Rattle.tc_view.specs.Places.{kept_by};
 ghost use Rattle.tc_work.specs.Moving.{eyes};
 
+use crate::engines::Engines;
 use std::alloc::Global;
 use tc_bytes::Memory;
-use tc_engines::Engines;
 use tc_running::Pace;
 use tc_shown::{Pass, Shown};
 use tc_store::{Frozen, Store};

@@ -4,9 +4,9 @@ ghost use Rattle.std.specs.Prelude.{◌≡◌, ◌≤◌, ◌∷◌, [], length,
 ghost use Rattle.serde_json.specs.View.{view};
 ghost use Rattle.tc_log.specs.Layout.{empty_size};
 ghost use Rattle.tc_model.specs.Keyed.{values_in};
-ghost use Rattle.tc_engines.specs.Places.{AtEach};
-ghost use Rattle.tc_engines.specs.Running.{HasFramed};
-ghost use Rattle.tc_engines.specs.Standing.{HoldWorld};
+ghost use Rattle.tc_keeper.specs.Places.{AtEach};
+ghost use Rattle.tc_keeper.specs.Running.{HasFramed};
+ghost use Rattle.tc_keeper.specs.Standing.{HoldWorld};
 ghost use Rattle.tc_route.specs.Meaning.{routed_of};
 ghost use Rattle.tc_route.specs.Shares.{share};
 ghost use Rattle.tc_plain_model.specs.Store.{documents};
@@ -15,11 +15,12 @@ ghost use Rattle.tc_schema_model.specs.SchemaText.{schema_text};
 ghost use Rattle.tc_keeper.specs.Partitions.{fault_of_engines, window_fault_at, window_fault_of};
 ghost use Rattle.tc_work.specs.Moving.{eyes};
 
+use crate::engines::Engines;
+use crate::engines_fault::EnginesFault;
 use crate::fault::{RunFault, of_engine};
 use std::alloc::Global;
 use std::thread::Threads;
 use tc_command::Schemas;
-use tc_engines::{Engines, EnginesFault};
 use tc_log::Write;
 use tc_part::parts_hold_devices;
 use tc_record::record_within_weight;

@@ -1,16 +1,16 @@
 //! What is shown of each partition is kept up, behind what its engine did.
 
 ghost use Rattle.std.specs.Prelude.{◌≡◌, ◌≤◌, ◌++◌, [], All, length, vec_capacity, vec_len, OnOk};
-ghost use Rattle.tc_engines.specs.Places.{AtEach, IsAt};
+ghost use Rattle.tc_keeper.specs.Places.{AtEach, IsAt};
 ghost use Rattle.tc_log.specs.Writes.{IsWrite};
 ghost use Rattle.tc_shown.specs.Shown.{wrote, ShownState};
 ghost use Rattle.tc_keeper.specs.Showing.{IsPlacedOver, IsReadAsBefore, IsShownFirst};
 
+use crate::engines::Engines;
 use std::alloc::Global;
 use std::mem;
 use std::sync::Wait;
 use tc_bytes::Memory;
-use tc_engines::Engines;
 use tc_log::Write;
 use tc_running::Pace;
 use tc_shown::Shown;

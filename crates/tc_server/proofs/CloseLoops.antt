@@ -3,7 +3,7 @@ use Rattle.std.proofs.Common.{◌≡◌, ◌≤◌, ◌∙◌, ◌+◌, ℕ, suc
 use Rattle.std.proofs.lemmas.List.{nil_from_length}
 use Rattle.std.proofs.lemmas.List.Elements.{All-cons, All-head, All-nil, All-tail}
 use Rattle.std.specs.Prelude.{None, Option, Result}
-use Rattle.tc_engines.specs.Places.{AtEach}
+use Rattle.tc_keeper.specs.Places.{AtEach}
 use Rattle.tc_work.specs.declared.fault.EngineFault.{EngineFault}
 use Rattle.tc_server.specs.Kits.{fault_before, least_fault}
 use Rattle.tc_keeper.specs.declared.fault.RunFault.{RunFault}

@@ -2,9 +2,9 @@
 use Rattle.std.proofs.Common.{◌≡◌, ◌⊎◌, ◌∙◌, ℕ, List, [], ◌∷◌, Option, Some, None, ap, subst, inl, inr}
 use Rattle.std.specs.Prelude.{slice_get, unwrap_or, Result}
 use Rattle.std.proofs.lemmas.Option.{slice_get-map}
-use Rattle.tc_engines.specs.Standing.{FailsPart, HoldsPart, KeepsPart}
-use Rattle.tc_engines.specs.WithJobs.{told_of, works_of, WithJobs}
-use Rattle.tc_engines.proofs.EnginesHeld.{committed}
+use Rattle.tc_keeper.specs.Standing.{FailsPart, HoldsPart, KeepsPart}
+use Rattle.tc_keeper.specs.WithJobs.{told_of, works_of, WithJobs}
+use Rattle.tc_keeper.proofs.EnginesHeld.{committed}
 use Rattle.tc_lsm_model.specs.Contents.{Partition}
 use Rattle.tc_machine.specs.Pictures.{Recovers}
 use Rattle.tc_machine.specs.Sound.{IsWithOrWithout}

@@ -2,8 +2,8 @@
 use Rattle.std.proofs.Common.{[], ◌∷◌, ◌≡◌, ◌≤◌, ap, arith, inl, inr, is_some, refl, subst, sym, List, ℕ}
 use Rattle.std.specs.Prelude.{Option, Some, None, IfSome, IsSome, IfErr, Result, Ok, Err, option_map, unwrap_or}
 use Rattle.tc_bytes.specs.Counts.{Rose}
-use Rattle.tc_engines.specs.Standing.{partition_at}
-use Rattle.tc_engines.specs.WithJobs.{engine_with, no_jobs, told_part, WithJobs}
+use Rattle.tc_keeper.specs.Standing.{partition_at}
+use Rattle.tc_keeper.specs.WithJobs.{engine_with, no_jobs, told_part, WithJobs}
 use Rattle.tc_list.specs.Policies.{listed_least}
 use Rattle.tc_list.specs.declared.policy.Policy.{Policy}
 use Rattle.tc_lsm_model.specs.Contents.{Content, Partition}

@@ -3,10 +3,10 @@ use Rattle.std.proofs.Common.{◌≡◌, ◌⊎◌, ◌∙◌, ◌≤◌, ◌<�
 use Rattle.std.specs.Prelude.{map, slice_get, zip, Option, Result, Ok, Err, IfErr, OnOk}
 use Rattle.std.proofs.lemmas.Bool.{true≢false}
 use Rattle.std.proofs.lemmas.List.Elements.{All-cons, All-head, All-nil, All-tail}
-use Rattle.tc_engines.specs.Places.{AtEach}
-use Rattle.tc_engines.specs.Standing.{partition_at, HoldsPart, HoldWorld, IsSeen, KeepsPart, KeepWorlds}
-use Rattle.tc_engines.specs.WithJobs.{told_of, works_of, WithJobs}
-use Rattle.tc_engines.proofs.PlaceLaws.{at_each-join}
+use Rattle.tc_keeper.specs.Places.{AtEach, EachFrom}
+use Rattle.tc_keeper.specs.Standing.{partition_at, HoldsPart, HoldWorld, IsSeen, KeepsPart, KeepWorlds}
+use Rattle.tc_keeper.specs.WithJobs.{told_of, works_of, WithJobs}
+use Rattle.tc_keeper.proofs.PlaceLaws.{at_each-join}
 use Rattle.tc_list.specs.Policies.{listed_least}
 use Rattle.tc_log.specs.Layout.{empty_size}
 use Rattle.tc_lsm_model.specs.Contents.{Partition}
@@ -27,7 +27,6 @@ use Rattle.tc_keeper.specs.Calls.{IsSettled}
 use Rattle.tc_keeper.specs.Holds.{IsOneOf}
 use Rattle.tc_server.specs.Kits.{IsClosed}
 use Rattle.tc_server.specs.OverFiles.{IsStoredInOne, LeavesOneOf, LeavesSmall, OpensSmall}
-use Rattle.tc_keeper.specs.Places.{EachFrom}
 use Rattle.tc_server.proofs.ClosedFiles.{held_left, kept_left, leaves_so, stored_there, Leaves}
 use Rattle.tc_keeper.proofs.EachLaws.{at_each-placed, each-right, zip_places}
 use Rattle.tc_server.proofs.FinishedFiles.{few_left, short_log}

@@ -4,8 +4,8 @@ use Rattle.std.specs.Prelude.{Option, Some, None, IfSome, Result, slice_get, unw
 use Rattle.std.specs.Io.KnownBytes.{Appends}
 use Rattle.std.proofs.KnownBytes.{Consumes-nil, Appends-nil, Keeps-refl}
 use Rattle.std.proofs.lemmas.Option.{slice_get-map}
-use Rattle.tc_engines.specs.Standing.{partition_at, IsSeen}
-use Rattle.tc_engines.specs.WithJobs.{told_of, WithJobs}
+use Rattle.tc_keeper.specs.Standing.{partition_at, IsSeen}
+use Rattle.tc_keeper.specs.WithJobs.{told_of, WithJobs}
 use Rattle.tc_lsm_model.specs.Contents.{Partition}
 use Rattle.tc_machine.specs.Pictures.{recovered}
 use Rattle.tc_machine.specs.Sound.{IsWithOrWithout}

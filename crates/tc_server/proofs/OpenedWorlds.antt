@@ -2,9 +2,9 @@
 use Rattle.std.proofs.Common.{◌≡◌, ◌∙◌, ℕ, suc, false, List, [], ◌∷◌, map, length, refl, ap, sym, subst}
 use Rattle.std.specs.Prelude.{Option, None}
 use Rattle.std.proofs.lemmas.Bool.{false≢true}
-use Rattle.tc_engines.specs.Places.{AtEach}
-use Rattle.tc_engines.specs.Standing.{partition_at, HoldsPart, HoldWorld, IsSeen}
-use Rattle.tc_engines.specs.WithJobs.{no_jobs, told_of, works_of, WithJobs}
+use Rattle.tc_keeper.specs.Places.{AtEach, EachFrom}
+use Rattle.tc_keeper.specs.Standing.{partition_at, HoldsPart, HoldWorld, IsSeen}
+use Rattle.tc_keeper.specs.WithJobs.{no_jobs, told_of, works_of, WithJobs}
 use Rattle.tc_store.specs.Disk.{Disk}
 use Rattle.tc_store.specs.KitFaults.{KitFaults}
 use Rattle.tc_lsm_model.specs.Contents.{Partition}
@@ -25,7 +25,6 @@ use Rattle.tc_server.specs.Kits.{AreOpened, IsOpened}
 use Rattle.tc_keeper.specs.OwnKeys.{AreOwn}
 use Rattle.tc_server.specs.OverFiles.{BeginsAs, OpenAs, OpensAs}
 use Rattle.tc_keeper.specs.Partitions.{StandAt}
-use Rattle.tc_keeper.specs.Places.{EachFrom}
 use Rattle.tc_keeper.specs.Sight.{nothing, sees, IsFirst, Sight}
 
 module _ {S D F W : Type 0} (eyes : Eyes S D F W) (options : Options) where

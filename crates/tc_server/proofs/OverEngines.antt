@@ -3,10 +3,10 @@ use Rattle.std.proofs.Common.{◌≡◌, ◌⊎◌, ◌∙◌, ◌≤◌, ◌<�
 use Rattle.std.specs.Prelude.{Option, Some, None, IfErr, IfSome, IsErrOf, IsSome, option_map, slice_get, Result, Ok, Err, OnOk}
 use Rattle.std.proofs.lemmas.List.{length-map}
 use Rattle.std.proofs.lemmas.List.Elements.{All-cons, All-head, All-nil, All-tail, All-weaker}
-use Rattle.tc_engines.specs.Places.{AtEach}
-use Rattle.tc_engines.specs.Standing.{partition_at, HoldsPart, IsSeen}
-use Rattle.tc_engines.specs.WithJobs.{told_of, works_of, WithJobs}
-use Rattle.tc_engines.proofs.PlaceLaws.{at_each-length}
+use Rattle.tc_keeper.specs.Places.{AtEach, SomeFrom}
+use Rattle.tc_keeper.specs.Standing.{partition_at, HoldsPart, IsSeen}
+use Rattle.tc_keeper.specs.WithJobs.{told_of, works_of, WithJobs}
+use Rattle.tc_keeper.proofs.PlaceLaws.{at_each-length}
 use Rattle.tc_list.specs.Policies.{listed_least}
 use Rattle.tc_list.specs.declared.policy.Policy.{Policy}
 use Rattle.tc_log.specs.Layout.{empty_size}
@@ -26,7 +26,6 @@ use Rattle.tc_keeper.specs.Keeping.{AreUnwritten}
 use Rattle.tc_server.specs.KitCauses.{HasLastGeneration}
 use Rattle.tc_server.specs.Kits.{least_fault, IsBegun, IsClosed}
 use Rattle.tc_keeper.specs.Partitions.{StandAt}
-use Rattle.tc_keeper.specs.Places.{SomeFrom}
 use Rattle.tc_keeper.specs.Sight.{nothing, sees, IfKnown, Sight}
 use Rattle.tc_keeper.specs.declared.fault.RunFault.{RunFault}
 use Rattle.tc_keeper.specs.declared.fault.RunFault.TheVariants.{Usage, Read, Write, Spent, Disk as DiskFault, Damaged, Memory, Layout}

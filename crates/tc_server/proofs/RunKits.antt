@@ -3,12 +3,12 @@ use Rattle.std.proofs.Common.{◌≡◌, ◌⊎◌, ◌∙◌, ◌<◌, ℕ, Lis
 use Rattle.std.specs.Prelude.{Option, Some, None, IfSome, IsSomeAnd, option_map, slice_get}
 use Rattle.std.proofs.lemmas.Option.{slice_get-map}
 use Rattle.std.proofs.lemmas.List.{length-map}
-use Rattle.tc_engines.proofs.PlaceLaws.{at_each-length}
-use Rattle.tc_engines.specs.Places.{AtEach}
-use Rattle.tc_engines.specs.Standing.{partition_at}
+use Rattle.tc_keeper.proofs.PlaceLaws.{at_each-length}
+use Rattle.tc_keeper.specs.Places.{AtEach, SomeFrom}
+use Rattle.tc_keeper.specs.Standing.{partition_at}
 use Rattle.tc_lsm_model.specs.Contents.{Partition}
 use Rattle.tc_open.specs.Judged.{ArePassed, AreSpent, IsUntouched, Passes}
-use Rattle.tc_engines.specs.WithJobs.{WithJobs}
+use Rattle.tc_keeper.specs.WithJobs.{WithJobs}
 use Rattle.tc_store.specs.Disk.{Disk}
 use Rattle.tc_store.specs.KitFaults.{KitFaults}
 use Rattle.tc_store.specs.Moments.{IfTold}
@@ -20,7 +20,6 @@ use Rattle.tc_keeper.specs.Calls.{faults_at}
 use Rattle.tc_keeper.specs.Faults.{IfDamaged, IfDisk, IsOfRun, NoneFell, OneRose}
 use Rattle.tc_server.specs.KitCauses.{AreAsked, AreGenerationsSpent, AreJudged, HasDiskCauseOver, HasLastGeneration, HasLayoutCause, IsJudged, NoneFellOf}
 use Rattle.tc_server.specs.Kits.{AreOpened, IsBegun, IsOpened}
-use Rattle.tc_keeper.specs.Places.{SomeFrom}
 use Rattle.tc_keeper.specs.declared.fault.RunFault.{RunFault}
 use Rattle.tc_keeper.specs.declared.fault.RunFault.TheVariants.{Usage, Read, Write, Spent, Disk as DiskFault, Damaged, Memory, Layout}
 use Rattle.tc_keeper.proofs.Causes.{none_fell_twice, one_rose}

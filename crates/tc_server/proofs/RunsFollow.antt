@@ -5,7 +5,7 @@ use Rattle.std.specs.Prelude.{Option, Some, None, slice_get, unwrap_or}
 use Rattle.std.proofs.lemmas.List.{length-map}
 use Rattle.std.proofs.lemmas.List.Elements.{All-nil}
 use Rattle.std.proofs.lemmas.Option.{slice_get-map}
-use Rattle.tc_engines.specs.Standing.{partition_at, IsSeen}
+use Rattle.tc_keeper.specs.Standing.{partition_at, IsSeen}
 use Rattle.tc_machine.specs.Pictures.{recovered}
 use Rattle.tc_plain_model.specs.Room.{Limits}
 use Rattle.tc_plain_model.specs.Store.{Store, empty}

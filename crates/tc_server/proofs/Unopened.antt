@@ -4,10 +4,10 @@ use Rattle.std.proofs.Common.{◌≡◌, ◌⊎◌, ◌∙◌, ◌≤◌, ◌<�
 use Rattle.std.proofs.lemmas.List.{length-map, map-append, nil_from_length}
 use Rattle.std.specs.Prelude.{Option, Some, None, IfSome, IsSomeAnd, Result, option_to_list, slice_get}
 use Rattle.tc_bytes.specs.Counts.{Rose}
-use Rattle.tc_engines.specs.Places.{AtEach}
-use Rattle.tc_engines.specs.Standing.{partition_at}
-use Rattle.tc_engines.specs.WithJobs.{WithJobs}
-use Rattle.tc_engines.proofs.PlaceLaws.{at_each-length, at_each-reads, at_each-so}
+use Rattle.tc_keeper.specs.Places.{AtEach, EachFrom, SomeFrom}
+use Rattle.tc_keeper.specs.Standing.{partition_at}
+use Rattle.tc_keeper.specs.WithJobs.{WithJobs}
+use Rattle.tc_keeper.proofs.PlaceLaws.{at_each-length, at_each-reads, at_each-so}
 use Rattle.tc_open.specs.Judged.{ArePassed, AreSpent, IsUntouched, Passes}
 use Rattle.tc_run_model.specs.Course.{unopened}
 use Rattle.tc_store.specs.Disk.{Disk}
@@ -22,7 +22,6 @@ use Rattle.tc_keeper.specs.Faults.{IfDisk, IsNoDamage, NoneFell, OneRose}
 use Rattle.tc_server.specs.KitCauses.{AreAsked, AreGenerationsSpent, AreJudged, HasDiskCauseOver, HasLastGeneration, IsJudged, NoneFellOf}
 use Rattle.tc_server.specs.Kits.{AreOpened, IsClosed, IsGivenBack, IsNotGiven, IsOfOpening, IsOpened}
 use Rattle.tc_server.specs.OverFiles.{BeginsAs, EndsOver, IsHere, KeepsOpened}
-use Rattle.tc_keeper.specs.Places.{EachFrom, SomeFrom}
 use Rattle.tc_keeper.specs.Sight.{whole_of, Sight}
 use Rattle.tc_keeper.specs.declared.fault.RunFault.{RunFault}
 use Rattle.tc_keeper.specs.declared.fault.RunFault.TheVariants.{Usage, Read, Write, Spent, Disk as DiskFault, Damaged, Memory, Layout}

@@ -3,7 +3,7 @@
 use Rattle.std.specs.Prelude.{◌≡◌, ◌≤◌, ◌<◌, ◌⊎◌, ◌-◌, ◌^◌, ℕ, suc, List, length, Option, Some, None, Err, slice_get, IsSomeAnd}
 use Rattle.std.specs.Io.KnownBytes.{Consumes}
 use Rattle.tc_bytes.specs.Counts.{Rose}
-use Rattle.tc_engines.specs.Standing.{partition_at}
+use Rattle.tc_keeper.specs.Standing.{partition_at}
 use Rattle.tc_store.specs.Disk.{Disk, IsThere}
 use Rattle.tc_store.specs.KitFaults.{KitFaults}
 use Rattle.tc_store.specs.Moments.{IfTold}

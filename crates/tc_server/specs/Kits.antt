@@ -1,8 +1,8 @@
 -- The kit of one partition among others: its engine once it is opened, what comes of a kit whose partition is not, and what an
 -- engine leaves when it is closed.
 use Rattle.std.specs.Prelude.{◌≡◌, ◌⊎◌, ℕ, suc, true, List, [], ◌∷◌, Option, Some, None, is_some, Result, Ok, Err, IfErr, IsErrOf, OnOk}
-use Rattle.tc_engines.specs.Standing.{partition_at}
-use Rattle.tc_engines.specs.WithJobs.{no_jobs, told_of, works_of, WithJobs}
+use Rattle.tc_keeper.specs.Standing.{partition_at}
+use Rattle.tc_keeper.specs.WithJobs.{no_jobs, told_of, works_of, WithJobs}
 use Rattle.tc_list.specs.Policies.{listed_least}
 use Rattle.tc_lsm_model.specs.Contents.{Content, Partition}
 use Rattle.tc_open.specs.Judged.{ArePassed, AreSpent, IsUntouched, Passes}

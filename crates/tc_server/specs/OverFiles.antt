@@ -1,7 +1,7 @@
 -- A run over the files of a shelf: the world in which it begins, how it ends, and what is left of the files of each partition.
 use Rattle.std.specs.Prelude.{◌≡◌, ◌≤◌, ◌<◌, ◌⊎◌, ◌+◌, ℕ, Bool, true, List, [], ◌∷◌, length, All, Option, Some, None, IfSome}
 use Rattle.std.specs.Io.KnownBytes.{Keeps}
-use Rattle.tc_engines.specs.Standing.{partition_at, IsSeen}
+use Rattle.tc_keeper.specs.Standing.{partition_at, IsSeen}
 use Rattle.tc_store.specs.Disk.{Disk, IsPictureOf, Picture}
 use Rattle.tc_store.specs.Moments.{IfTold}
 use Rattle.tc_store.specs.Pictures.{LeavesPictures}

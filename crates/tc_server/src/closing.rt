@@ -1,7 +1,7 @@
 //! The partitions of a run are closed, and their kits given back.
 
 ghost use Rattle.std.specs.Prelude.{◌≡◌, ◌≤◌, ◌+◌, ◌++◌, ◌∷◌, true, false, is_some, All, List, length, map, vec_capacity, vec_len};
-ghost use Rattle.tc_engines.specs.Places.{AtEach};
+ghost use Rattle.tc_keeper.specs.Places.{AtEach};
 ghost use Rattle.tc_part_model.specs.PartState.{told};
 ghost use Rattle.tc_keeper.specs.Faults.{faults_in};
 ghost use Rattle.tc_server.specs.Kits.{fault_before, least_fault, IsClosed};
@@ -12,8 +12,7 @@ ghost use Rattle.tc_work.specs.declared.finishing.Finished.{Finished as finished
 
 use std::alloc::Global;
 use std::thread::Threads;
-use tc_engines::Engines;
-use tc_keeper::{RunFault, of_engine};
+use tc_keeper::{Engines, RunFault, of_engine};
 use tc_part::parts_hold_devices;
 use tc_running::{Pace, Running};
 use tc_store::{Kit, Store};

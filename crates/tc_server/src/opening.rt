@@ -2,12 +2,12 @@
 
 ghost use Rattle.std.specs.Prelude.{◌≡◌, ◌≢◌, ◌≤◌, ◌<◌, ◌∷◌, ◌++◌, ℕ, [], length, None, IfErr, IfSome, IsSome, OnErr, OnOk};
 ghost use Rattle.tc_bytes.specs.Counts.{Rose};
-ghost use Rattle.tc_engines.specs.Standing.{partition_at};
+ghost use Rattle.tc_keeper.specs.Standing.{partition_at};
 ghost use Rattle.tc_list.specs.Policies.{listed_least};
 ghost use Rattle.tc_store.specs.Disk.{IsAtRest};
 ghost use Rattle.tc_store.specs.Moments.{IfTold};
 ghost use Rattle.tc_work.specs.Moving.{eyes};
-ghost use Rattle.tc_engines.specs.WithJobs.{WithJobs};
+ghost use Rattle.tc_keeper.specs.WithJobs.{WithJobs};
 ghost use Rattle.tc_keeper.specs.Faults.{faults_in};
 ghost use Rattle.tc_server.specs.KitCauses.{HasLayoutCause};
 ghost use Rattle.tc_server.specs.Kits.{AreOpened, IsGivenBack, IsNotGiven, IsOpened};
@@ -17,8 +17,7 @@ use crate::outcome::{of_opening, of_shelf};
 use std::alloc::Global;
 use std::sync::Arc;
 use std::thread::Threads;
-use tc_engines::Engines;
-use tc_keeper::RunFault;
+use tc_keeper::{Engines, RunFault};
 use tc_list::Policy;
 use tc_open::{OpenFault, open_part};
 use tc_part::Limits;

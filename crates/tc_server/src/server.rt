@@ -2,7 +2,7 @@
 
 ghost use Rattle.std.specs.Prelude.{◌≡◌, ◌≢◌, ℕ, ◌<◌, ◌≤◌, ◌⊎◌, List, [], true, false, length, map, All, Ok, Option, Some, None, option_to_list, vec_capacity, vec_len, is_some, IfOk, IfErr, IfSome, IsErrOf, OnOk};
 ghost use Rattle.tc_bytes.specs.Counts.{Rose};
-ghost use Rattle.tc_engines.specs.Places.{AtEach};
+ghost use Rattle.tc_keeper.specs.Places.{AtEach, SomeFrom};
 ghost use Rattle.tc_log.specs.Layout.{empty_size};
 ghost use Rattle.tc_run_model.specs.Course.{each_line};
 ghost use Rattle.tc_store.specs.Disk.{Disk};
@@ -14,7 +14,6 @@ ghost use Rattle.tc_keeper.specs.Keeping.{faults_kept, settings_kept, AllRest, A
 ghost use Rattle.tc_server.specs.Kits.{answer_behind, fault_behind, IsBegun};
 ghost use Rattle.tc_server.specs.OverFiles.{partitions_asked, AskedOver, BeginsFor, ServedOver};
 ghost use Rattle.tc_keeper.specs.Partitions.{StandAt};
-ghost use Rattle.tc_keeper.specs.Places.{SomeFrom};
 ghost use Rattle.tc_keeper.specs.Calls.{faults_at, faults_of, settings_of, IsSpent, KeepsAt, MayAsk, Rests, HoldsAt};
 ghost use Rattle.tc_server.specs.Progress.{AsksPromptly, Ends, Goes};
 ghost use Rattle.tc_keeper.specs.Sight.{IsFirst, Sight};
@@ -33,8 +32,7 @@ use std::sync::{Arc, Wait};
 use std::thread::Threads;
 use tc_command::MAX_LINE;
 use tc_edge::{Sink, Source};
-use tc_engines::Engines;
-use tc_keeper::{Keeper, Partitions, RunFault};
+use tc_keeper::{Engines, Keeper, Partitions, RunFault};
 use tc_lines::{Line, Lines};
 use tc_running::Pace;
 use tc_store::{Kit, Shelf, Store};

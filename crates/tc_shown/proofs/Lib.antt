@@ -1,3 +1,6 @@
+mod NewestWrites
+mod NewestDocuments
+mod SnapshotPairs
 pub mod StorableTables
 pub mod ShownParts
 pub mod ShownHistories

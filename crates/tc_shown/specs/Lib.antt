@@ -1,3 +1,4 @@
+pub mod Newest
 pub mod Heads
 pub mod Shown
 pub mod Joined

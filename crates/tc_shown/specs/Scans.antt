@@ -11,7 +11,7 @@ use Rattle.tc_plain_model.specs.Writes.{Pairs}
 use Rattle.tc_query.specs.declared.fault.QueryFault.{QueryFault}
 use Rattle.tc_query.specs.declared.fault.QueryFault.TheVariants as query
 use Rattle.tc_query.specs.Faults.{IsHarmIn}
-use Rattle.tc_scan.specs.Newest.{newest_of}
+use Rattle.tc_shown.specs.Newest.{newest_of}
 use Rattle.tc_query.specs.Shown.{live_keys}
 use Rattle.tc_query.specs.Windows.{most_windows}
 use Rattle.tc_run_model.specs.World.{united}

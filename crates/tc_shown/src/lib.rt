@@ -4,9 +4,11 @@
 mod fault;
 mod joined;
 mod law;
+mod newest;
 mod running;
 mod scan;
 mod shown;
+mod snapshot;
 
 pub use fault::ScanFault;
 pub use law::parts_are_shown;

@@ -18,13 +18,13 @@ ghost use Rattle.tc_shown.specs.Scans.{AreOwn, HasScanned, IsFaultOf, IsRead, Is
 
 use crate::fault::{ScanFault, of_query};
 use crate::joined::joined_rows;
+use crate::snapshot::rows;
 use std::alloc::Global;
 use tc_bytes::Memory;
 use tc_command::{Ask, Counts, Rows};
 use tc_query::QueryFault;
 use tc_route::replies_are_gathered;
 use tc_running::{Pace, Point, Start};
-use tc_scan::rows;
 use tc_store::Frozen;
 use tc_view::{Lens, Snapshot};
 

@@ -2,8 +2,8 @@ use Rattle.std.proofs.Common.{rules, ◌≡◌, ◌∙◌, ◌+◌, ◌++◌, �
 use Rattle.std.specs.Prelude.{is_some, true, None, Some}
 use Rattle.std.specs.Vec.Iter.{into_iter_items}
 use Rattle.std.proofs.lemmas.List.{nil_from_length}
-use Rattle.tc_engines.specs.Places.{AtEach, IsAt}
-use Rattle.tc_engines.specs.WithJobs.{with_reader, ReadsBy, WithJobs}
+use Rattle.tc_keeper.specs.Places.{AtEach, IsAt}
+use Rattle.tc_keeper.specs.WithJobs.{with_reader, ReadsBy, WithJobs}
 use Rattle.tc_shown.specs.declared.scan.Pass.{Pass}
 use Rattle.tc_keeper.proofs.LendLoops.{lenses_more}
 use Rattle.tc_keeper.proofs.Turns.{beside_all, beside_more, beside_none, is_at-there, turns_all, turns_by, turns_next, turns_none, turns_was, Beside, InTurn}

@@ -1,7 +1,7 @@
 use Rattle.std.proofs.Common.{◌≡◌, ◌≤◌, ◌+◌, ◌++◌, ℕ, None, Option, Some, length, map, vec_capacity, vec_len}
 use Rattle.std.specs.Vec.Iter.{into_iter_items, into_iter_len}
-use Rattle.tc_engines.specs.Standing.{HoldWorld}
-use Rattle.tc_engines.specs.WithJobs.{with_reader}
+use Rattle.tc_keeper.specs.Standing.{HoldWorld}
+use Rattle.tc_keeper.specs.WithJobs.{with_reader}
 use Rattle.tc_run_model.specs.World.{World}
 use Rattle.tc_work.specs.Moving.{eyes}
 use Rattle.tc_keeper.proofs.Turns.{Beside, InTurn}

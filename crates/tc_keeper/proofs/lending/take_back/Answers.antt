@@ -3,8 +3,8 @@ use Rattle.std.specs.Prelude.{None, Some, slice_get}
 use Rattle.std.specs.Vec.Iter.{into_iter_items}
 use Rattle.std.proofs.lemmas.List.{nil_from_length}
 use mathlib.Core.List.{IsPrefix}
-use Rattle.tc_engines.specs.Places.{AtEach, IsAt}
-use Rattle.tc_engines.specs.WithJobs.{with_reader, WithJobs}
+use Rattle.tc_keeper.specs.Places.{AtEach, IsAt}
+use Rattle.tc_keeper.specs.WithJobs.{with_reader, WithJobs}
 use Rattle.tc_shown.specs.Shown.{ShownState}
 use Rattle.tc_shown.specs.declared.scan.Pass.{Pass}
 use Rattle.tc_view.specs.Places.{kept_by}

@@ -1,9 +1,9 @@
 use Rattle.std.proofs.Common.{◌≡◌, ◌+◌, ◌++◌, ℕ, false, List, Option, Some, length, IsTrue}
 use Rattle.std.specs.Vec.Iter.{into_iter_items, into_iter_len}
 use mathlib.Core.List.{IsPrefix}
-use Rattle.tc_engines.specs.Places.{IsAt}
-use Rattle.tc_engines.specs.Standing.{HoldWorld, KeepWorlds}
-use Rattle.tc_engines.specs.WithJobs.{with_reader}
+use Rattle.tc_keeper.specs.Places.{IsAt}
+use Rattle.tc_keeper.specs.Standing.{HoldWorld, KeepWorlds}
+use Rattle.tc_keeper.specs.WithJobs.{with_reader}
 use Rattle.tc_run_model.specs.World.{World}
 use Rattle.tc_shown.specs.declared.scan.Pass.{Pass}
 use Rattle.tc_view.specs.Places.{kept_by}

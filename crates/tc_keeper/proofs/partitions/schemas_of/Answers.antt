@@ -1,8 +1,8 @@
 use Rattle.std.proofs.Common.{◌≡◌, ◌∙◌, false, map, ap}
 use Rattle.serde_json.specs.View.{view}
 use Rattle.serde_json.specs.Written.{has_float}
-use Rattle.tc_engines.proofs.PlaceLaws.{all_read, all_second, at_each-so}
-use Rattle.tc_engines.specs.SchemaTexts.{IsSchemaText}
+use Rattle.tc_keeper.proofs.PlaceLaws.{all_read, all_second, at_each-so}
+use Rattle.tc_keeper.specs.SchemaTexts.{IsSchemaText}
 use Rattle.tc_part.specs.Openings.{newest_in}
 use Rattle.tc_part_model.specs.Newest.{names_by, schema_by}
 use Rattle.tc_part_model.specs.PartState.{told}

@@ -1,6 +1,6 @@
 use Rattle.std.proofs.Common.{◌≡◌, ◌∙◌, ◌<◌, ◌≤◌, ◌+◌, ◌∷◌, [], length, arith, ap, sym, subst, length-append}
 use Rattle.std.specs.Prelude.{None, Some, slice_get}
-use Rattle.tc_engines.specs.WithJobs.{WithJobs}
+use Rattle.tc_keeper.specs.WithJobs.{WithJobs}
 use Rattle.tc_view.specs.declared.happened.Happened.TheVariants.{Placed}
 use Rattle.tc_keeper.specs.Showing.{IsShownFirst}
 use Rattle.tc_keeper.proofs.ShowLoops.{extended}

@@ -1,6 +1,6 @@
 use Rattle.std.proofs.Common.{◌≡◌, ◌∙◌, ◌≤◌, ◌<◌, true, ap, arith, length, refl, subst}
 use Rattle.std.specs.Prelude.{is_some}
-use Rattle.tc_engines.specs.WithJobs.{engine_with}
+use Rattle.tc_keeper.specs.WithJobs.{engine_with}
 use Rattle.tc_work.specs.Moving.{eyes}
 use Rattle.tc_work.specs.declared.finishing.Finished.{Finished as finished}
 use Rattle.tc_keeper.specs.Faults.{faults_in}

@@ -7,7 +7,6 @@ use Rattle.tc_work.specs.Moving.{eyes}
 use Rattle.tc_keeper.specs.Keeping.{faults_kept, HasSpent, FailsAt, ServesAt}
 use Rattle.tc_keeper.specs.Holds.{AreWritten, HaveFailed}
 use Rattle.tc_keeper.specs.Sight.{sight_behind}
-use Rattle.tc_keeper.specs.Sight.{sight_behind}
 use Rattle.tc_server.specs.Window.{requests_of}
 use Rattle.tc_server.proofs.DemoCauses.{heard_cause, memory_cause, memory_kind}
 use Rattle.tc_server.proofs.DemoLemmas.{end_unheard, fails_end, hears_end}

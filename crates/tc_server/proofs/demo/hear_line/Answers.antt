@@ -6,7 +6,6 @@ use Rattle.tc_run_model.specs.Windows.{windows_of}
 use Rattle.tc_work.specs.Moving.{eyes}
 use Rattle.tc_keeper.specs.Keeping.{faults_kept, HasSpent, FailsAt, ServesAt}
 use Rattle.tc_keeper.specs.Sight.{sight_behind}
-use Rattle.tc_keeper.specs.Sight.{sight_behind}
 use Rattle.tc_server.specs.Stage.{IsAt}
 use Rattle.tc_server.proofs.DemoCauses.{heard_cause, memory_cause, memory_kind}
 use Rattle.tc_server.proofs.DemoLemmas.{fails_line, hears_line, line_unheard, stands_fresh}

@@ -1,6 +1,6 @@
 use Rattle.std.proofs.Common.{◌∙◌, ap, sym, subst}
-use Rattle.tc_engines.specs.Standing.{partition_at}
-use Rattle.tc_engines.specs.WithJobs.{engine_with, no_jobs}
+use Rattle.tc_keeper.specs.Standing.{partition_at}
+use Rattle.tc_keeper.specs.WithJobs.{engine_with, no_jobs}
 use Rattle.tc_part_model.specs.PartState.{told}
 use Rattle.tc_work.specs.EngineState.{EngineState}
 use Rattle.tc_work.specs.Moving.{eyes}

@@ -1,5 +1,5 @@
 use Rattle.std.proofs.Common.{◌∙◌, List, map, ap, inr, refl}
-use Rattle.tc_engines.specs.WithJobs.{WithJobs}
+use Rattle.tc_keeper.specs.WithJobs.{WithJobs}
 use Rattle.tc_keeper.specs.Calls.{HoldsAt, IsSpent, KeepsAt}
 use Rattle.tc_work.specs.Moving.{eyes}
 use Rattle.tc_words.specs.Options.{options_asked}

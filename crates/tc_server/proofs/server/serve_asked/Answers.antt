@@ -2,8 +2,8 @@ use Rattle.std.proofs.Common.{ℕ, ◌≡◌, ◌<◌, ◌∙◌, ◌++◌, leng
 use Rattle.std.specs.Prelude.{Some, IfSome, map, option_to_list}
 use Rattle.std.proofs.lemmas.List.{length-map}
 use Rattle.tc_bytes.specs.Counts.{Rose}
-use Rattle.tc_engines.specs.Places.{AtEach}
-use Rattle.tc_engines.specs.Standing.{partition_at}
+use Rattle.tc_keeper.specs.Places.{AtEach}
+use Rattle.tc_keeper.specs.Standing.{partition_at}
 use Rattle.tc_part_model.proofs.HeldKeys.{Ascends-stored}
 use Rattle.tc_store.specs.declared.kit.Kit.{Kit}
 use Rattle.tc_work.specs.Moving.{eyes}

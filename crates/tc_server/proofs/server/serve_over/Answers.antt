@@ -2,9 +2,9 @@ use Rattle.std.proofs.Common.{◌≡◌, ◌<◌, ◌∙◌, ◌++◌, ℕ, true
 use Rattle.std.proofs.lemmas.List.{length-map}
 use Rattle.std.specs.Prelude.{IfSome, map}
 use Rattle.tc_bytes.specs.Counts.{Rose}
-use Rattle.tc_engines.specs.Places.{AtEach}
-use Rattle.tc_engines.proofs.PlaceLaws.{at_each-length, at_each-reads, at_each-so}
-use Rattle.tc_engines.specs.WithJobs.{WithJobs}
+use Rattle.tc_keeper.specs.Places.{AtEach}
+use Rattle.tc_keeper.proofs.PlaceLaws.{at_each-length, at_each-reads, at_each-so}
+use Rattle.tc_keeper.specs.WithJobs.{WithJobs}
 use Rattle.tc_store.specs.Moments.{IfTold}
 use Rattle.tc_work.specs.Moving.{eyes}
 use Rattle.tc_work.specs.declared.finishing.Finished.{Finished as finished}

@@ -1,7 +1,7 @@
 use Rattle.std.proofs.Common.{◌≡◌, ◌∙◌, length, ap, sym, subst, refl}
 use Rattle.std.specs.Prelude.{false, None}
 use mathlib.Core.List.{IsPrefix}
-use Rattle.tc_engines.specs.Places.{AtEach}
+use Rattle.tc_keeper.specs.Places.{AtEach}
 use Rattle.tc_shown.specs.Shown.{Reads, ShownState}
 use Rattle.tc_shown.specs.declared.scan.Pass.{Pass}
 use Rattle.tc_view.specs.Places.{kept_by}

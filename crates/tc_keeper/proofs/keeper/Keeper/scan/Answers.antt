@@ -1,7 +1,7 @@
 use Rattle.std.proofs.Common.{◌∙◌, arith, ap, sym, subst}
 use Rattle.std.specs.Prelude.{is_some, None, Some}
 use Rattle.std.proofs.lemmas.Result.{err_from_is_err_and}
-use Rattle.tc_engines.proofs.PlaceLaws.{at_each-length}
+use Rattle.tc_keeper.proofs.PlaceLaws.{at_each-length}
 use Rattle.tc_list.proofs.Shown.{is_none}
 use Rattle.tc_command.specs.Commands.{ask_of}
 use Rattle.tc_shown.specs.declared.scan.Scan.{Scan as Begun}

@@ -1,7 +1,7 @@
 use Rattle.std.proofs.Common.{◌∙◌, ap, sym, subst, refl}
 use Rattle.std.specs.Prelude.{None, Some}
 use Rattle.std.proofs.lemmas.Result.{err_from_is_err_and}
-use Rattle.tc_engines.proofs.PlaceLaws.{at_each-length}
+use Rattle.tc_keeper.proofs.PlaceLaws.{at_each-length}
 use Rattle.tc_work.specs.Moving.{eyes}
 use Rattle.tc_keeper.specs.Calls.{faults_of, AllMayAnswer, HoldsAt, IsSpent, KeepsAt, MayAsk, Rests}
 use Rattle.tc_keeper.specs.Faults.{HasDiskCause}

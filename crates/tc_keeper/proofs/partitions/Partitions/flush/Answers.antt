@@ -1,6 +1,6 @@
 use Rattle.std.proofs.Common.{◌≡◌, ◌<◌, ◌≤◌, [], ◌∷◌, ap, sym, subst, ◌∙◌}
-use Rattle.tc_engines.proofs.PlaceLaws.{at_each-length}
-use Rattle.tc_engines.specs.Moving.{Flushes, FailsFlushing}
+use Rattle.tc_keeper.proofs.PlaceLaws.{at_each-length}
+use Rattle.tc_keeper.specs.Moving.{Flushes, FailsFlushing}
 use Rattle.tc_request_model.specs.Request.{flush}
 use Rattle.tc_work.specs.declared.fault.EngineFault.TheVariants as engine
 use Rattle.std.specs.Prelude.{Err}

@@ -1,6 +1,6 @@
 use Rattle.std.proofs.Common.{◌≡◌, ◌<◌, ◌≤◌, ap, sym, subst, ◌∙◌}
-use Rattle.tc_engines.proofs.PlaceLaws.{at_each-length}
-use Rattle.tc_engines.specs.Moving.{Settles, FailsSettling}
+use Rattle.tc_keeper.proofs.PlaceLaws.{at_each-length}
+use Rattle.tc_keeper.specs.Moving.{Settles, FailsSettling}
 use Rattle.tc_work.specs.declared.fault.EngineFault.TheVariants as engine
 use Rattle.std.specs.Prelude.{Err}
 use Rattle.tc_work.specs.Moving.{eyes}

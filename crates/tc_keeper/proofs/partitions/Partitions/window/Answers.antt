@@ -1,11 +1,11 @@
 use Rattle.std.proofs.Common.{◌≡◌, ◌<◌, ◌≤◌, map, subst, sym}
 use Rattle.std.specs.Prelude.{IfOk}
-use Rattle.tc_engines.proofs.PlaceLaws.{at_each-length}
-use Rattle.tc_engines.specs.Running.{HasOnlyRun}
+use Rattle.tc_keeper.proofs.PlaceLaws.{at_each-length}
+use Rattle.tc_keeper.specs.Running.{HasOnlyRun}
 use Rattle.tc_work.specs.Moving.{eyes}
 use Rattle.tc_route.specs.Answers.{window_answered}
 use Rattle.tc_route.specs.Meaning.{replies_in, routed_of}
-use Rattle.tc_engines.specs.Standing.{KeepWorlds}
+use Rattle.tc_keeper.specs.Standing.{KeepWorlds}
 use Rattle.tc_run_model.specs.World.{after_all}
 use Rattle.tc_work.specs.Asked.{requests_in}
 use Rattle.tc_keeper.specs.Faults.{IsNoDamage}

@@ -1,0 +1,211 @@
+//! A window over all partitions: each engine answers its share, all at once, and the replies are put together.
+
+ghost use Rattle.std.specs.Prelude.{◌≡◌, ◌<◌, ◌≤◌, ℕ, [], false, None, Ok, Option, length, map, All, IfErr, IfOk, IsErrOf, OnErr, OnOk, vec_capacity, vec_len, zip};
+ghost use Rattle.std.specs.Map.{keys_of};
+ghost use Rattle.tc_model.specs.Keyed.{values_in, Ascends};
+ghost use Rattle.tc_run_model.specs.Kinds.{AreOfKinds};
+ghost use Rattle.tc_run_model.specs.World.{World, after_all};
+ghost use Rattle.tc_part.specs.FilesOut.{LogIsOut, OnlyDevicesOut};
+ghost use Rattle.tc_part_model.specs.PartState.{told};
+ghost use Rattle.tc_route.specs.Answers.{window_answered};
+ghost use Rattle.tc_route.specs.Meaning.{replies_in, requests_at, routed_of};
+ghost use Rattle.tc_route.specs.Shares.{share};
+ghost use Rattle.tc_work.specs.Asked.{most_writes, requests_in, IsWindow};
+ghost use Rattle.tc_work.specs.Moving.{eyes};
+ghost use Rattle.tc_work.specs.Reads.{live_in, most_reads, IsCountedWithin};
+ghost use Rattle.tc_work.specs.Settling.{MaySettle};
+ghost use Rattle.tc_keeper.specs.EngineFaults.{IfOf, IsDiskOf, IsFirstFault, StopsFirst};
+ghost use Rattle.tc_keeper.specs.Places.{AtEach};
+ghost use Rattle.tc_keeper.specs.Running.{HasFramed, HasOnlyRun, HasRun, RanMoments};
+ghost use Rattle.tc_keeper.specs.Standing.{HoldWorld, KeepWorlds};
+
+use crate::engines::Engines;
+use crate::engines_fault::EnginesFault;
+use crate::seat::Seat;
+use std::alloc::Global;
+use std::thread;
+use std::thread::Threads;
+use tc_bytes::Memory;
+use tc_log::Write;
+use tc_part::parts_hold_devices;
+use tc_route::{Replies, Routed, gather, kinds_are_gathered, replies_are_gathered, split};
+use tc_running::Pace;
+use tc_store::Store;
+
+impl<S: Store, P: Pace> Engines<S, P> {
+    /// Answers the commands of a window, all engines at once: each commits what its own commands write as one frame. It hands out
+    /// the frames, one a partition, in ascending number. One reply a command, in the order of these. A window for one partition is answered on this thread, and else each but one has a thread
+    /// of its own. Where several engines fail, the fault is that of the least partition. After a fault no more windows are asked
+    /// for; engines of other partitions may have committed theirs.
+    pub fn window<R: Threads + Sync>(
+        &mut self,
+        rt: &R,
+        alloc: Global,
+        commands: Vec<Routed>,
+        frames: &mut Vec<Vec<Write>>,
+    ) -> Result<Replies, EnginesFault>
+        requires some { 0 < length self.old }
+        requires few { length self.old ≤ 16 }
+        requires sound { All (λ e. e.engine.part.failed ≡ false) self.old }
+        requires window { IsWindow commands.items }
+        requires ascending { Ascends (map routed_of commands.items) }
+
+        // From a world at which the engines stand, the replies are the world's, and the engines stand at what it leaves. So does one
+        // engine by itself.
+        ensures replies { (w : World) → HoldWorld (eyes S.history S.Device.history S.Frozen.content S.Device.name S.Frozen.size S.Watch.counts) None self.old w → IfOk result (λ replies. replies_in replies ≡ window_answered (map routed_of commands.items) w) }
+        ensures held { (only : Option ℕ) (w : World) → HoldWorld (eyes S.history S.Device.history S.Frozen.content S.Device.name S.Frozen.size S.Watch.counts) only self.old w → OnOk result (HoldWorld (eyes S.history S.Device.history S.Frozen.content S.Device.name S.Frozen.size S.Watch.counts) only self.new (after_all (requests_in commands.items) w)) }
+
+        // Behind a fault each engine by itself is as before its share or behind it, or has failed and its files keep one of these.
+        ensures kept { (only : Option ℕ) (w : World) → HoldWorld (eyes S.history S.Device.history S.Frozen.content S.Device.name S.Frozen.size S.Watch.counts) only self.old w → OnErr result (KeepWorlds (eyes S.history S.Device.history S.Frozen.content S.Device.name S.Frozen.size S.Watch.counts) only self.new w (after_all (requests_in commands.items) w)) }
+
+        // Over every store there is a frame of each partition, with the writes of its share.
+        ensures frames { OnOk result (AtEach (λ p run frame. HasFramed (eyes S.history S.Device.history S.Frozen.content S.Device.name S.Frozen.size S.Watch.counts) (share (length self.old) p (map routed_of commands.items)) run.0.engine run.1.engine frame.items) 0 (zip self.old self.new) frames.new.items) }
+
+        // Over every store each reply is at the place of its command, and of its kind.
+        ensures places { IfOk result (λ replies. keys_of (replies_in replies) ≡ keys_of (map routed_of commands.items)) }
+        ensures kinds { IfOk result (λ replies. AreOfKinds (requests_in commands.items) (values_in (replies_in replies))) }
+
+        // Over every store each engine may run on, and only what a window writes has changed. The jobs that are out stay.
+        ensures sound { OnOk result (All (λ e. e.engine.part.failed ≡ false) self.new) }
+        ensures ready { OnOk result (AtEach (λ p old new. MaySettle (told S.history S.Device.history S.Frozen.content old.engine.part) → MaySettle (told S.history S.Device.history S.Frozen.content new.engine.part)) 0 self.old self.new) }
+        ensures same { AtEach (λ p old new. HasOnlyRun old.engine.part new.engine.part × (new.engine.policy ≡ old.engine.policy) × (new.jobs ≡ old.jobs)) 0 self.old self.new }
+        ensures looked_up { OnOk result (AtEach (λ p old new. most_writes (values_in (share (length self.old) p (map routed_of commands.items))) ≡ 0 → new.engine.part.log ≡ old.engine.part.log) 0 self.old self.new) }
+
+        // No file is out but those of each part's devices, behind a fault too, and that of its active log is out after Ok.
+        ensures devices { AtEach (λ p old new. OnlyDevicesOut (told S.history S.Device.history S.Frozen.content old.engine.part) → OnlyDevicesOut (told S.history S.Device.history S.Frozen.content new.engine.part)) 0 self.old self.new }
+        ensures log_out { OnOk result (AtEach (λ p old new. LogIsOut (told S.history S.Device.history S.Frozen.content old.engine.part) → LogIsOut (told S.history S.Device.history S.Frozen.content new.engine.part)) 0 self.old self.new) }
+
+        // At each moment of the call a stop leaves of each partition what is stored, without the writes of its share or with them.
+        ensures moments { AtEach (λ p old new. RanMoments (λ part. told S.history S.Device.history S.Frozen.content part) (λ d. S.Device.history d) (share (length self.old) p (map routed_of commands.items)) old.engine new.engine) 0 self.old self.new }
+
+        // The fault is that of an engine which failed, and no engine of a lower partition did. Want of memory is told only where none
+        // failed.
+        ensures first { IfErr result (λ fault. IfOf fault (λ p why. (p < length self.old) × AtEach (λ q old new. StopsFirst (λ part. told S.history S.Device.history S.Frozen.content part) (λ f. S.Frozen.content f) p why q (share (length self.old) q (map routed_of commands.items)) old.engine new.engine) 0 self.old self.new)) }
+        ensures memory { IsErrOf result EnginesFault.Memory → All (λ e. e.engine.part.failed ≡ false) self.new }
+        ensures counted { AtEach (λ p old new. IsCountedWithin (most_reads (live_in old.engine.part) (values_in (share (length self.old) p (map routed_of commands.items)))) (IsDiskOf p result) (S.Watch.counts old.engine.part.main) (S.Watch.counts new.engine.part.main)) 0 self.old self.new }
+    {
+        replies_are_gathered();
+        kinds_are_gathered();
+        parts_hold_devices();
+        let lists = split(alloc, commands, self.seats.len() as u32)?;
+        let room = make_room(alloc, self.seats.len(), frames)?;
+        run_lists(rt, alloc, &lists, &mut self.seats, frames);
+        let parts = take_answers(alloc, &mut self.seats, room)?;
+        let replies = gather(alloc, parts)?;
+        Ok(replies)
+    }
+}
+
+/// Room for the answers of so many partitions, and for their frames. Errs only for want of memory.
+fn make_room(
+    alloc: Global,
+    partitions: usize,
+    frames: &mut Vec<Vec<Write>>,
+) -> Result<Vec<Replies>, Memory>
+    ensures empty { IfOk result (λ room. (room.items ≡ []) × (vec_len room ≡ 0)) }
+    ensures capacity { IfOk result (λ room. partitions ≤ vec_capacity room) }
+    ensures no_frame { OnOk result ((frames.new.items ≡ []) × (vec_len frames.new ≡ 0)) }
+    ensures for_frames { OnOk result (partitions ≤ vec_capacity frames.new) }
+{
+    *frames = Vec::with_capacity(alloc, partitions)?;
+    Vec::with_capacity(alloc, partitions)
+}
+
+/// Runs each list in the engine at its place, and takes the frames of all into this empty list, which has room for them.
+fn run_lists<S: Store, P: Pace, R: Threads + Sync>(
+    rt: &R,
+    alloc: Global,
+    lists: &[Vec<Routed>],
+    seats: &mut [Seat<S, P>],
+    frames: &mut Vec<Vec<Write>>,
+)
+    requires as_many { length lists.now ≡ length seats.old }
+    requires sound { All (λ s. s.engine.part.failed ≡ false) seats.old }
+    requires window { All (λ list. IsWindow list.items) lists.now }
+    requires empty { (frames.old.items ≡ []) × (vec_len frames.old ≡ 0) }
+    requires room { length seats.old ≤ vec_capacity frames.old }
+    ensures ran { AtEach (λ p old new. HasRun (eyes S.history S.Device.history S.Frozen.content S.Device.name S.Frozen.size S.Watch.counts) (requests_at p lists.now) old.engine new.engine new.answer) 0 seats.old seats.new }
+    ensures framed { AtEach (λ p run frame. OnOk run.1.answer (HasFramed (eyes S.history S.Device.history S.Frozen.content S.Device.name S.Frozen.size S.Watch.counts) (requests_at p lists.now) run.0.engine run.1.engine frame.items)) 0 (zip seats.old seats.new) frames.new.items }
+{
+    run_each(rt, alloc, lists, seats);
+    take_frames(alloc, seats, frames);
+}
+
+/// Runs each list in the engine at its place, at once where several have a command.
+fn run_each<S: Store, P: Pace, R: Threads + Sync>(
+    rt: &R,
+    alloc: Global,
+    lists: &[Vec<Routed>],
+    seats: &mut [Seat<S, P>],
+)
+    requires as_many { length lists.now ≡ length seats.old }
+    requires sound { All (λ s. s.engine.part.failed ≡ false) seats.old }
+    requires window { All (λ list. IsWindow list.items) lists.now }
+    ensures ran { AtEach (λ p old new. HasRun (eyes S.history S.Device.history S.Frozen.content S.Device.name S.Frozen.size S.Watch.counts) (requests_at p lists.now) old.engine new.engine new.answer) 0 seats.old seats.new }
+    ensures framed { AtEach (λ p old new. OnOk new.answer (HasFramed (eyes S.history S.Device.history S.Frozen.content S.Device.name S.Frozen.size S.Watch.counts) (requests_at p lists.now) old.engine new.engine new.frame.items)) 0 seats.old seats.new }
+{
+    thread::for_each_mut(
+        rt,
+        seats,
+        threads_for(lists),
+        &|at, seat: &mut Seat<S, P>|
+            requires { (at < length lists.now) × (seat.now.engine.part.failed ≡ false) × All (λ list. IsWindow list.items) lists.now }
+            ensures { HasRun (eyes S.history S.Device.history S.Frozen.content S.Device.name S.Frozen.size S.Watch.counts) (requests_at at lists.entry.now) seat.entry.now.engine seat.exit.now.engine seat.exit.now.answer
+                × OnOk seat.exit.now.answer (HasFramed (eyes S.history S.Device.history S.Frozen.content S.Device.name S.Frozen.size S.Watch.counts) (requests_at at lists.entry.now) seat.entry.now.engine seat.exit.now.engine seat.exit.now.frame.items) }
+        { seat.run(alloc, &lists[at]) },
+    );
+}
+
+/// In how many threads lists are run: in one where at most one has a command, and else each in its own.
+fn threads_for(lists: &[Vec<Routed>]) -> usize
+    ensures { 0 < result }
+{
+    let busy = lists.iter().filter(|list| !list.is_empty()).count();
+    if busy < 2 { 1 } else { lists.len().max(1) }
+}
+
+/// Takes the answers of all into this empty list, which has room for them, or answers the first fault.
+fn take_answers<S: Store, P: Pace>(
+    alloc: Global,
+    seats: &mut [Seat<S, P>],
+    mut parts: Vec<Replies>,
+) -> Result<Vec<Replies>, EnginesFault>
+    requires few { length seats.old ≤ 16 }
+    requires empty { (parts.items ≡ []) × (vec_len parts ≡ 0) }
+    requires room { length seats.old ≤ vec_capacity parts }
+    ensures engines { map (λ s. s.engine) seats.new ≡ map (λ s. s.engine) seats.old }
+    ensures all { IfOk result (λ parts. map (λ s. s.answer) seats.old ≡ map Ok parts.items) }
+    ensures first { IfErr result (λ fault. IfOf fault (λ p why. (p < length seats.old) × IsFirstFault p why (map (λ s. s.answer) seats.old))) }
+    ensures of_engine { IsErrOf result EnginesFault.Memory → ⊥ }
+{
+    for at in 0..seats.len() {
+        match seats[at].take_answer(alloc) {
+            Ok(replies) => parts.push_reserved(replies),
+            Err(fault) => {
+                return Err(EnginesFault::Of {
+                    partition: at as u32,
+                    fault,
+                });
+            }
+        }
+    }
+    Ok(parts)
+}
+
+/// Takes the frames of all into this empty list, which has room for them.
+fn take_frames<S: Store, P: Pace>(
+    alloc: Global,
+    seats: &mut [Seat<S, P>],
+    frames: &mut Vec<Vec<Write>>,
+)
+    requires empty { (frames.old.items ≡ []) × (vec_len frames.old ≡ 0) }
+    requires room { length seats.old ≤ vec_capacity frames.old }
+    ensures engines { map (λ s. s.engine) seats.new ≡ map (λ s. s.engine) seats.old }
+    ensures answers { map (λ s. s.answer) seats.new ≡ map (λ s. s.answer) seats.old }
+    ensures all { frames.new.items ≡ map (λ s. s.frame) seats.old }
+{
+    for at in 0..seats.len() {
+        let frame = seats[at].take_frame(alloc);
+        frames.push_reserved(frame);
+    }
+}

@@ -1,3 +1,0 @@
-pub mod NewestWrites
-pub mod NewestDocuments
-pub mod SnapshotPairs
