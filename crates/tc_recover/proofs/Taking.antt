@@ -1,9 +1,10 @@
 -- Files are taken one after the other.
 use Rattle.std.proofs.Common.{◌≡◌, ◌≤◌, ◌⊎◌, ◌+◌, ℕ, suc, Bool, List, [], ◌∷◌, ◌++◌, filter, length, length-append, inl, inr, refl, sym, subst, ap, append_assoc, append-nil, arith}
-use Rattle.std.specs.Prelude.{OnErr, Result, Ok, Err, Contains, Option, unwrap_or, IsSome, IfSome, true, false, nat_lt, if◌then◌else◌}
+use Rattle.std.specs.Prelude.{◌<◌, ◌^◌, OnErr, Result, Ok, Err, Contains, Option, None, Some, unwrap_or, IsSome, IfSome, true, false, nat_lt, if◌then◌else◌}
 use Rattle.std.specs.List.Sorted.{IsStrictlySortedBy}
 use Rattle.std.proofs.lemmas.List.{map-append}
 use Rattle.std.proofs.lemmas.List.Elements.{All-push, filter-append}
+use Rattle.tc_bytes.specs.Codec.{IsBytes}
 use Rattle.tc_bytes.specs.Counts.{next_count}
 use Rattle.tc_store.specs.Counted.{Counts}
 use Rattle.tc_store.specs.Gate.{is_open_file}
@@ -15,7 +16,7 @@ use Rattle.tc_store.specs.Moments.{IfTold}
 use Rattle.tc_store.specs.NameOrder.{name_cmp}
 use Rattle.tc_store.specs.StoreCalls.{takes, content_at}
 use Rattle.tc_recover.specs.declared.taken.Taken.{Taken}
-use Rattle.tc_recover.specs.Files.{picture_in, AreTold, AreGates, AreNamed, is_long, names_in, picture_at, takes_all, TakesFirst}
+use Rattle.tc_recover.specs.Files.{picture_in, AreBytes, AreTold, AreGates, AreNamed, is_long, names_in, picture_at, takes_all, TakesFirst}
 use Rattle.tc_recover.proofs.Members.{member_first, member_further}
 use Rattle.tc_recover.proofs.NameOrders.{first_apart}
 
@@ -101,26 +102,33 @@ one_taken tells all names n old new ts t p named tells_it = record {
   told = one_told tells names n old new ts t p.history p.at_home p.same p.told named tells_it;
 }
 
+-- as many bytes as the file is long
+pub short_bytes : (told : Option (List ℕ)) (size : ℕ) → IfSome told IsBytes → size < 2 ^ 63 → IfSome told (λ bytes. size ≡ length bytes) → IfSome told (λ bytes. IsBytes bytes × (length bytes < 2 ^ 63))
+short_bytes None size bytes short same = tt
+short_bytes (Some all) size bytes short same = (bytes, subst (λ n. n < 2 ^ 63) same short)
+
 -- with what is read of them
 pub record IsTakingFiles {F W : Type 0} (tells : F → Option (List ℕ)) (named : F → FileName) (size : F → ℕ) (all rest : List FileName) (old new : List Disk) (ts : List (Taken F W))
     (before now : Counts) : Type 0 where
   pub taking : IsTaking tells all rest old new ts
   pub names_are : AreNamed named ts
   pub gates : AreGates tells ts
+  pub bytes : AreBytes tells ts
   pub faults : before.faults ≤ now.faults
   pub reads : now.reads ≡ count_after (length (filter (is_long size) ts)) before.reads
 
 pub one_file : {F W : Type 0} (tells : F → Option (List ℕ)) (named : F → FileName) (size : F → ℕ) (all rest names : List FileName) (n : FileName) (old new later : List Disk)
     (ts us : List (Taken F W)) (t : Taken F W) (before now after : Counts) → IsTakingFiles tells named size all rest old new ts before now
     → rest ≡ n ∷ names → later ≡ takes n new → us ≡ ts ++ t ∷ [] → t.name ≡ n → named t.file ≡ t.name → tells t.file ≡ content_at n new
-    → IfSome (tells t.file) (λ bytes. t.open ≡ is_open_file bytes) → now.faults ≤ after.faults → after.reads ≡ count_after (length (filter (is_long size) (t ∷ []))) now.reads
+    → IfSome (tells t.file) (λ bytes. t.open ≡ is_open_file bytes) → IfSome (tells t.file) (λ bytes. IsBytes bytes × (length bytes < 2 ^ 63)) → now.faults ≤ after.faults → after.reads ≡ count_after (length (filter (is_long size) (t ∷ []))) now.reads
     → IsTakingFiles tells named size all names old later us before after
-one_file tells named size all rest names n old new later ts us t before now after p rests laters pushed name name_is told gate risen read =
+one_file tells named size all rest names n old new later ts us t before now after p rests laters pushed name name_is told gate short risen read =
     subst (λ vs. IsTakingFiles tells named size all names old later vs before after) (sym pushed) record {
       taking = subst (λ disks. IsTaking tells all names old disks (ts ++ t ∷ [])) (sym laters)
           (one_taken tells all names n old new ts t (subst (λ left. IsTaking tells all left old new ts) rests p.taking) name told);
       names_are = All-push (λ u. named u.file ≡ u.name) ts t p.names_are name_is;
       gates = All-push (λ u. IfSome (tells u.file) (λ bytes. u.open ≡ is_open_file bytes)) ts t p.gates gate;
+      bytes = All-push (λ u. IfSome (tells u.file) (λ bytes. IsBytes bytes × (length bytes < 2 ^ 63))) ts t p.bytes short;
       faults = omega (arith, p.faults, risen);
       reads = subst (λ m. after.reads ≡ count_after m before.reads) (sym long) (counted (nat_lt 1 (size t.file)) read);
     }

@@ -1,5 +1,6 @@
 -- Files that were taken: what they tell, and what taking them does to a store.
-use Rattle.std.specs.Prelude.{◌≡◌, ◌<◌, ◌≤◌, ◌^◌, ℕ, nat_lt, Bool, true, List, [], ◌∷◌, ◌++◌, map, Option, unwrap_or, All, IfSome, IsSome}
+use Rattle.std.specs.Prelude.{◌≡◌, ◌<◌, ◌≤◌, ◌^◌, ℕ, nat_lt, Bool, true, List, [], ◌∷◌, ◌++◌, map, length, Option, unwrap_or, All, IfSome, IsSome}
+use Rattle.tc_bytes.specs.Codec.{IsBytes}
 use Rattle.tc_store.specs.declared.file_name.FileName.{FileName}
 use Rattle.tc_store.specs.declared.file_name.FileName.TheVariants.{Component, Log}
 use Rattle.tc_store.specs.Disk.{Disk, Picture, content_of}
@@ -18,6 +19,10 @@ picture_in told ts = map (entry_in told) ts
 -- each of them tells its bytes
 abbrev pub AreTold : {F W : Type 0} → (F → Option (List ℕ)) → List (Taken F W) → Type 0
 AreTold told ts = All (λ t. IsSome (told t.file)) ts
+
+-- what they tell is bytes, no more than a file can have
+abbrev pub AreBytes : {F W : Type 0} → (F → Option (List ℕ)) → List (Taken F W) → Type 0
+AreBytes told ts = All (λ t. IfSome (told t.file) (λ bytes. IsBytes bytes × (length bytes < 2 ^ 63))) ts
 
 -- whether a gate is open is what the bytes say, where they are told
 abbrev pub AreGates : {F W : Type 0} → (F → Option (List ℕ)) → List (Taken F W) → Type 0

@@ -17,7 +17,7 @@ use Rattle.tc_recover.specs.declared.cause.FilesCause.TheVariants.{Disk as DiskF
 use Rattle.tc_recover.specs.declared.interval.Interval.{Interval}
 use Rattle.tc_recover.specs.declared.taken.Taken.{Taken}
 use Rattle.tc_list.specs.Intervals.{last_of}
-use Rattle.tc_recover.specs.Files.{AreGates, AreNamed, AreTold, names_in, picture_at, picture_in, takes_all}
+use Rattle.tc_recover.specs.Files.{AreBytes, AreGates, AreNamed, AreTold, names_in, picture_at, picture_in, takes_all}
 use Rattle.tc_recover.specs.Loading.{IsLoadCause, components_judged, files_of, interval_of, left_of, then_judged}
 use Rattle.tc_recover.specs.Loads.{IsLogCause, logs_judged}
 use Rattle.tc_recover.specs.Refusals.{IsHeadCause, Refusal, breaks, strays, clashes, heads_refused}
@@ -89,6 +89,7 @@ pub record AreAllTaken {F W : Type 0} (content : F → Option (List ℕ)) (name 
   pub ascend : IsStrictlySortedBy name_cmp (names_in files)
   pub named : AreNamed name files
   pub gates : AreGates content files
+  pub bytes : AreBytes content files
   pub exact : IfTold old (λ disk. (n : FileName) → Contains (names_in files) n ↔ IsThere (disk n))
   pub told : IfTold old (λ disk. AreTold content files)
   pub picture : IfTold old (λ disk. picture_in content files ≡ picture_at disk (names_in files))

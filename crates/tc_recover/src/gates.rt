@@ -1,7 +1,8 @@
 //! The files of a partition, each taken and its gate read.
 
-ghost use Rattle.std.specs.Prelude.{◌≡◌, ◌⊎◌, ◌↔◌, [], ◌∷◌, length, filter, Contains, OnOk, OnErr, IfOk, IfSome, IsErrOf};
+ghost use Rattle.std.specs.Prelude.{◌≡◌, ◌⊎◌, ◌↔◌, ◌<◌, ◌^◌, [], ◌∷◌, length, filter, Contains, OnOk, OnErr, IfOk, IfSome, IsErrOf};
 ghost use Rattle.std.specs.List.Sorted.{IsStrictlySortedBy};
+ghost use Rattle.tc_bytes.specs.Codec.{IsBytes};
 ghost use Rattle.tc_store.specs.Disk.{IsAtRest, IsSettledHome, IsThere};
 ghost use Rattle.tc_store.specs.Gate.{is_open_file};
 ghost use Rattle.tc_store.specs.Moments.{IfTold};
@@ -9,7 +10,7 @@ ghost use Rattle.tc_store.specs.NameOrder.{name_cmp};
 ghost use Rattle.tc_store.specs.StoreCalls.{takes, content_at};
 ghost use Rattle.tc_store.specs.declared.file_name.FileName.{FileName as Name};
 ghost use Rattle.tc_recover.specs.Causes.{IsNoRefusal};
-ghost use Rattle.tc_recover.specs.Files.{is_long, picture_in, picture_at, names_in, AreTold, AreGates, AreNamed, takes_all, TakesFirst, TakesSome};
+ghost use Rattle.tc_recover.specs.Files.{is_long, picture_in, picture_at, names_in, AreBytes, AreTold, AreGates, AreNamed, takes_all, TakesFirst, TakesSome};
 ghost use Rattle.tc_recover.specs.Reads.{IsCountedTimes};
 
 use crate::cause::FilesCause;
@@ -35,6 +36,7 @@ pub fn take_all<S: Store>(
     ensures told { IfOk result (λ files. IfTold (S.history store.old) (λ disk. AreTold S.Frozen.content files.items)) }
     ensures picture { IfOk result (λ files. IfTold (S.history store.old) (λ disk. picture_in S.Frozen.content files.items ≡ picture_at disk (names_in files.items))) }
     ensures gates { IfOk result (λ files. AreGates S.Frozen.content files.items) }
+    ensures bytes { IfOk result (λ files. AreBytes S.Frozen.content files.items) }
     ensures causes { IsNoRefusal result }
     ensures counted { IfOk result (λ files. IsCountedTimes ⊥ (Unit {0}) (length (filter (is_long S.Frozen.size) files.items)) (S.Watch.counts watch.old) (S.Watch.counts watch.new)) }
     ensures faults { IsCountedTimes (IsErrOf result FilesCause.Disk) ⊥ 0 (S.Watch.counts watch.old) (S.Watch.counts watch.new) }
@@ -62,6 +64,7 @@ fn take_files<S: Store>(
     ensures told { IfOk result (λ files. IfTold (S.history store.old) (λ disk. AreTold S.Frozen.content files.items)) }
     ensures picture { IfOk result (λ files. IfTold (S.history store.old) (λ disk. picture_in S.Frozen.content files.items ≡ picture_at disk names.now)) }
     ensures gates { IfOk result (λ files. AreGates S.Frozen.content files.items) }
+    ensures bytes { IfOk result (λ files. AreBytes S.Frozen.content files.items) }
     ensures causes { IsNoRefusal result }
     ensures counted { IfOk result (λ files. IsCountedTimes ⊥ (Unit {0}) (length (filter (is_long S.Frozen.size) files.items)) (S.Watch.counts watch.old) (S.Watch.counts watch.new)) }
     ensures faults { IsCountedTimes (IsErrOf result FilesCause.Disk) ⊥ 0 (S.Watch.counts watch.old) (S.Watch.counts watch.new) }
@@ -90,11 +93,14 @@ fn take_file<S: Store>(
     ensures named { IfOk result (λ t. S.Frozen.name t.file ≡ t.name) }
     ensures told { IfOk result (λ t. S.Frozen.content t.file ≡ content_at name (S.history store.old)) }
     ensures gate { IfOk result (λ t. IfSome (S.Frozen.content t.file) (λ bytes. t.open ≡ is_open_file bytes)) }
+    ensures bytes { IfOk result (λ t. IfSome (S.Frozen.content t.file) (λ bytes. IsBytes bytes × (length bytes < 2 ^ 63))) }
     ensures causes { IsNoRefusal result }
     ensures long { IfOk result (λ t. IsCountedTimes ⊥ (Unit {0}) (length (filter (is_long S.Frozen.size) (t ∷ []))) (S.Watch.counts watch.old) (S.Watch.counts watch.new)) }
     ensures faults { IsCountedTimes (IsErrOf result FilesCause.Disk) ⊥ 0 (S.Watch.counts watch.old) (S.Watch.counts watch.new) }
 {
     let file = store.take(alloc, name, watch)?;
+    // A file that is asked for its length says that the bytes it tells are bytes.
+    let _length = file.len();
     let open = is_open(&file, watch)?;
     Ok(Taken { name, file, open })
 }
