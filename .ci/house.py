@@ -29,7 +29,7 @@ LONG_CONTRACTS = {
     "tc_work": ("finish", "force_flush", "settle", "window"),
 }
 # A line of proofs/ is no longer than this. So many are longer today, and the number may only shrink.
-LONGEST_LINE, LONG_LINES = 300, 765
+LONGEST_LINE, LONG_LINES = 300, 40
 # A statement with fewer words and signs than this may stand twice.
 FEWEST_WORDS = 14
 # In these files names are given by the goals that they answer, and nothing else cites them.

@@ -46,7 +46,9 @@ behind_one log list c to one is file listed low sound empty name =
     })
 
 -- what goes behind nothing is a list
-pub one_listed : (before list : List (ComponentState MemFrozen)) (c : ComponentState MemFrozen) → before ≡ [] → list ≡ c ∷ [] → ((number count : ℕ) → IsListOf number count before → IsOf number count c → IsListOf number count (before ++ c ∷ [])) → c.index.head.number ≡ 0 → c.index.head.count ≡ 1 → IsListOf 0 1 list
+pub one_listed : (before list : List (ComponentState MemFrozen)) (c : ComponentState MemFrozen) → before ≡ [] → list ≡ c ∷ []
+    → ((number count : ℕ) → IsListOf number count before → IsOf number count c → IsListOf number count (before ++ c ∷ [])) → c.index.head.number ≡ 0
+    → c.index.head.count ≡ 1 → IsListOf 0 1 list
 one_listed before list c none one go number count =
     let nothing : IsListOf 0 1 before = subst (λ (l : List (ComponentState MemFrozen)). IsListOf 0 1 l) (sym none) (record { each = All-nil _; names = tt }) in
     subst (λ (l : List (ComponentState MemFrozen)). IsListOf 0 1 l) (ap (λ (l : List (ComponentState MemFrozen)). l ++ c ∷ []) none ∙ sym one) (go 0 1 nothing (number, count))

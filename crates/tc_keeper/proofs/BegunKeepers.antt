@@ -29,7 +29,8 @@ begun_counts {S} {P} {W} {D} {F} counts k p same none =
     ap (λ (o : Option (Begun F W)). λ q. counted_out counts (watch_out o q) (option_map (faults_at counts) (slice_get k.engines q))) none
     ∙ ap (λ (es : List (WithJobs S D F W)). λ q. option_map (faults_at counts) (slice_get es q)) same
 
-pub begun_causes : {S P W D F : Type 0} (counts : W → Counts) (k : KeeperState S D F W) (p : Partitions S P W D F) (reads reads' before now : ℕ) (new : DiskFaults) (fault : Option RunFault) → k.engines ≡ p.engines → k.scan ≡ None → HasRunCauses reads reads' before now (faults_kept counts k) new fault
+pub begun_causes : {S P W D F : Type 0} (counts : W → Counts) (k : KeeperState S D F W) (p : Partitions S P W D F) (reads reads' before now : ℕ) (new : DiskFaults)
+    (fault : Option RunFault) → k.engines ≡ p.engines → k.scan ≡ None → HasRunCauses reads reads' before now (faults_kept counts k) new fault
     → HasRunCauses reads reads' before now (faults_of counts p) new fault
 begun_causes counts k p reads reads' before now new fault same none causes = subst (λ old. HasRunCauses reads reads' before now old new fault) (begun_counts counts k p same none) causes
 

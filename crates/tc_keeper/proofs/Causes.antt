@@ -197,7 +197,9 @@ run_by_window fault x y before now a b spent up cause = record {
 }
 
 -- reads alone, of which none failed, or the last one
-pub run_by_reads : (fault : Option RunFault) (x y sink : ℕ) (faults : DiskFaults) → x ≤ y → IfSome fault (λ f. f ≡ Read → Rose x y) → IfSome fault IsOfRun → IfSome fault (λ f. IsWrite f → Rose sink sink) → IfSome fault (λ f. IfDisk f (λ p. HaveRisen (faults p) (faults p))) → IfSome fault (λ f. IfDamaged f (λ p. IsSome (faults p)))
+pub run_by_reads : (fault : Option RunFault) (x y sink : ℕ) (faults : DiskFaults) → x ≤ y → IfSome fault (λ f. f ≡ Read → Rose x y) → IfSome fault IsOfRun
+    → IfSome fault (λ f. IsWrite f → Rose sink sink) → IfSome fault (λ f. IfDisk f (λ p. HaveRisen (faults p) (faults p)))
+    → IfSome fault (λ f. IfDamaged f (λ p. IsSome (faults p)))
     → HasRunCauses x y sink sink faults faults fault
 run_by_reads fault x y sink faults up read kind write disk damaged = record {
   heard = up;

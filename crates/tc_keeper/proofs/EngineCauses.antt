@@ -111,7 +111,13 @@ module _ {E : Type 0} (faults : E → KitFaults) where
   caused_memory last es es' stayed = record { stayed = have_stayed_at 0 es es' stayed; disk = tt; damaged = tt; spent = λ never. absurd (cc) }
 
   caused_disk : (last : Type 0) (p : ℕ) (es es' : List E) → Stayed es es' → p < length es → RoseAt p es es' → Caused last (Some (Disk p)) es es'
-  caused_disk last p es es' stayed below rose = record { stayed = have_stayed_at 0 es es' stayed; disk = let same : 0 + p ≡ p = omega arith in have_risen_at 0 p es es' below (subst (λ m. AtEach (λ i e e'. i ≡ m → OneRose (faults e) (faults e')) 0 es es') (sym same) rose); damaged = tt; spent = λ never. absurd (cc) }
+  caused_disk last p es es' stayed below rose = record {
+    stayed = have_stayed_at 0 es es' stayed;
+    disk = let same : 0 + p ≡ p = omega arith in have_risen_at 0 p es es' below
+        (subst (λ m. AtEach (λ i e e'. i ≡ m → OneRose (faults e) (faults e')) 0 es es') (sym same) rose);
+    damaged = tt;
+    spent = λ never. absurd (cc);
+  }
 
   caused_damaged : (last : Type 0) (p : ℕ) (damage : Damage) (es es' : List E) → Stayed es es' → p < length es → Caused last (Some (Damaged p damage)) es es'
   caused_damaged last p damage es es' stayed below = record {
@@ -144,10 +150,14 @@ disk_counted : {A : Type 0} (p q : ℕ) (why : EngineFault) (result : Result A E
 disk_counted p q why result is disk same = subst (λ r. IsDiskOf q r) (sym is) (sym same, disk)
 
 module _ {S D F W : Type 0} (counts : W → Counts) where
-  pub ran_stayed : (most : ℕ → WithJobs S D F W → ℕ) (failed : ℕ → Type 0) (es es' : List (WithJobs S D F W)) → AtEach (λ p old new. IsCountedWithin (most p old) (failed p) (counts old.engine.part.main) (counts new.engine.part.main)) 0 es es' → AtEach (λ p old new. HasOnlyRun old.engine.part new.engine.part × (new.engine.policy ≡ old.engine.policy) × (new.jobs ≡ old.jobs)) 0 es es'
+  pub ran_stayed : (most : ℕ → WithJobs S D F W → ℕ) (failed : ℕ → Type 0) (es es' : List (WithJobs S D F W))
+      → AtEach (λ p old new. IsCountedWithin (most p old) (failed p) (counts old.engine.part.main) (counts new.engine.part.main)) 0 es es'
+      → AtEach (λ p old new. HasOnlyRun old.engine.part new.engine.part × (new.engine.policy ≡ old.engine.policy) × (new.jobs ≡ old.jobs)) 0 es es'
       → Stayed (faults_at counts) es es'
   ran_stayed most failed es es' counted same =
-      at_each-both (λ p old new. IsCountedWithin (most p old) (failed p) (counts old.engine.part.main) (counts new.engine.part.main)) (λ p old new. HasOnlyRun old.engine.part new.engine.part × (new.engine.policy ≡ old.engine.policy) × (new.jobs ≡ old.jobs)) (λ p old new. NoneFell (faults_at counts old) (faults_at counts new)) 0 es es'
+      at_each-both (λ p old new. IsCountedWithin (most p old) (failed p) (counts old.engine.part.main) (counts new.engine.part.main))
+      (λ p old new. HasOnlyRun old.engine.part new.engine.part × (new.engine.policy ≡ old.engine.policy) × (new.jobs ≡ old.jobs))
+      (λ p old new. NoneFell (faults_at counts old) (faults_at counts new)) 0 es es'
       (λ p old new c s. ran_stays counts (most p old) (failed p) old new c s.0 s.2) counted same
 
   -- the counts of the partition whose engine failed in a window
@@ -202,7 +212,9 @@ module _ {S D F W : Type 0} (eyes : Eyes S D F W) where
       (none_fell (faults_at eyes.counts old)))
       stops
 
-  stopped_rose : (p : ℕ) (failed : Type 0) (Done Stopped : WithJobs S D F W → WithJobs S D F W → Type 0) (es es' : List (WithJobs S D F W)) → ((old new : WithJobs S D F W) → Stopped old new → Moves failed old new) → failed → AtEach (StopsAt p Done Stopped) 0 es es' → RoseAt (faults_at eyes.counts) p es es'
+  stopped_rose : (p : ℕ) (failed : Type 0) (Done Stopped : WithJobs S D F W → WithJobs S D F W → Type 0) (es es' : List (WithJobs S D F W))
+      → ((old new : WithJobs S D F W) → Stopped old new → Moves failed old new) → failed → AtEach (StopsAt p Done Stopped) 0 es es'
+      → RoseAt (faults_at eyes.counts) p es es'
   stopped_rose p failed Done Stopped es es' stopped has stops =
       at_each-so (StopsAt p Done Stopped) (λ q old new. q ≡ p → OneRose (faults_at eyes.counts old) (faults_at eyes.counts new)) 0 es es'
       (λ q old new s here. moved_rose eyes.counts failed (watched_part old.engine.part old.jobs) (watched_part new.engine.part new.jobs) (stopped old new (s.1 here)).watched has) stops
@@ -230,7 +242,9 @@ module _ {S D F W : Type 0} (eyes : Eyes S D F W) where
   -- what counts over a call that failed
   pub call_caused : (Done : WithJobs S D F W → WithJobs S D F W → Type 0) (Stopped : EngineFault → WithJobs S D F W → WithJobs S D F W → Type 0) (fault : EnginesFault) (es es' : List (WithJobs S D F W))
       → ((old new : WithJobs S D F W) → Done old new → Moves ⊥ old new) → ((why : EngineFault) (old new : WithJobs S D F W) → Stopped why old new → Moves (why ≡ engine.Disk) old new) → ((why : EngineFault) (old new : WithJobs S D F W) → Stopped why old new → HasFailedMoving eyes why old new)
-      → All (λ e. MayBeAsked (told_of eyes e) e.engine.part) es → (fault ≡ engines.Memory → ⊥) → IfOf fault (λ p why. (p < length es) × AtEach (StopsAt p Done (Stopped why)) 0 es es') → Caused (faults_at eyes.counts) (SomeFrom (λ q e. IsSpentAt (told_of eyes e) e.engine.part) 0 es') (Some (fault_of_engines fault)) es es'
+      → All (λ e. MayBeAsked (told_of eyes e) e.engine.part) es → (fault ≡ engines.Memory → ⊥)
+      → IfOf fault (λ p why. (p < length es) × AtEach (StopsAt p Done (Stopped why)) 0 es es')
+      → Caused (faults_at eyes.counts) (SomeFrom (λ q e. IsSpentAt (told_of eyes e) e.engine.part) 0 es') (Some (fault_of_engines fault)) es es'
   call_caused Done Stopped engines.Memory es es' done stopped fails asked never stops = absurd (never refl)
   call_caused Done Stopped (engines.Of p why) es es' done stopped fails asked never stops =
       caused_by (faults_at eyes.counts) (SomeFrom (λ q e. IsSpentAt (told_of eyes e) e.engine.part) 0 es') (engines.Of p why) es es' (stopped_stayed p (why ≡ engine.Disk) Done (Stopped why) es es' done (stopped why) stops.1)

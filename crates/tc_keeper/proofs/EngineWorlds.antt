@@ -126,7 +126,9 @@ unflushed_part Works t limits here w part h = record {
 
 pub unflushed : {S D F W : Type 0} (eyes : Eyes S D F W) (only : Option ℕ) (es : List (WithJobs S D F W)) (w : World) → HoldWorld eyes only es (record w { flushed = true }) → HoldWorld eyes only es w
 unflushed eyes only es w h = record {
-  each = at_each-so (λ p e part. IsSeen only p → HoldsPart (works_of eyes e) (told_of eyes e) e.engine.part.limits (partition_at p (length w.parts)) (record w { flushed = true }) part) (λ p e part. IsSeen only p → HoldsPart (works_of eyes e) (told_of eyes e) e.engine.part.limits (partition_at p (length w.parts)) w part) 0 es w.parts
+  each = at_each-so (λ p e part. IsSeen only p → HoldsPart (works_of eyes e) (told_of eyes e) e.engine.part.limits (partition_at p (length w.parts))
+      (record w { flushed = true }) part) (λ p e part. IsSeen only p
+      → HoldsPart (works_of eyes e) (told_of eyes e) e.engine.part.limits (partition_at p (length w.parts)) w part) 0 es w.parts
       (λ p e part held seen. unflushed_part (works_of eyes e) (told_of eyes e) e.engine.part.limits (partition_at p (length w.parts)) w part (held seen)) h.each;
   own = h.own;
 }

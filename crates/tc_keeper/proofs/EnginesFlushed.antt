@@ -29,6 +29,7 @@ pub world_flushed : {S D F W A E : Type 0} (r : Result A E) (eyes : Eyes S D F W
     → HoldWorld eyes only es w → OnOk r (AtEach (λ p e f. Flushes eyes size e f) 0 es fs) → OnOk r (HoldWorld eyes only fs (after flush w))
 world_flushed r eyes size sized only w es fs h done = world_moved r eyes only (Flushes eyes size) w (after flush w) es fs refl (flushed_holds eyes size sized w (after flush w) refl) h done
 
-pub worlds_flushed : {S D F W : Type 0} (eyes : Eyes S D F W) (size : D → ℕ) → ((d : D) → IfTold (eyes.history d) (λ f. size d ≡ length f.content)) → ((t : Told) (p : PartView) → IsPart t p → OnlyDevicesOut t) → (only : Option ℕ) (at : ℕ) (why : EngineFault) (w : World) (es fs : List (WithJobs S D F W))
+pub worlds_flushed : {S D F W : Type 0} (eyes : Eyes S D F W) (size : D → ℕ) → ((d : D) → IfTold (eyes.history d) (λ f. size d ≡ length f.content))
+    → ((t : Told) (p : PartView) → IsPart t p → OnlyDevicesOut t) → (only : Option ℕ) (at : ℕ) (why : EngineFault) (w : World) (es fs : List (WithJobs S D F W))
     → HoldWorld eyes only es w → AtEach (StopsAt at (Flushes eyes size) (FailsFlushing eyes why)) 0 es fs → KeepWorlds eyes only fs w w
 worlds_flushed eyes size sized law only at why w es fs h stops = worlds_moved eyes only (Flushes eyes size) (FailsFlushing eyes why) at w es fs (flushed_holds eyes size sized w w refl) (failing eyes law why w) h stops

@@ -55,10 +55,13 @@ part_held t u limits most here rs w v old new h left same before is tells staged
   flushed = λ now. subst (λ log. IfTold log (λ f. length f.content ≤ empty_size)) (sym (unwritten (writes_same t limits here w old rs h ∙ left.unwritten now))) (h.flushed (before now));
 }
 
-pub keeping : {Works WorksNow : PartView → Type 0} (t : Told) (limits : Limits) (here : Partition) (w : World) (old : Part) (h : HoldsPart Works t limits here w old) (u : Told) (frame : Option (List Write)) → HasFailedKeeping WorksNow u h.view.part (store_of h.view) frame → HasFailedKeeping WorksNow u here old.now.pairs frame
+pub keeping : {Works WorksNow : PartView → Type 0} (t : Told) (limits : Limits) (here : Partition) (w : World) (old : Part) (h : HoldsPart Works t limits here w old)
+    (u : Told) (frame : Option (List Write)) → HasFailedKeeping WorksNow u h.view.part (store_of h.view) frame → HasFailedKeeping WorksNow u here old.now.pairs frame
 keeping t limits here w old h u frame k = record { view = k.view; here = k.here ∙ h.of_number; holds = k.holds ∙ committed t limits here w old h; files = k.files; logs = k.logs; jobs = k.jobs }
 
-pub part_fails : {Works WorksNow : PartView → Type 0} (t u : Told) (limits : Limits) (here : Partition) (rs : List Request) (w v : World) (old new : Part) (h : HoldsPart Works t limits here w old) → IsLeft w.limits v.flushed rs old new → ((t : Told) (p : PartView) → IsPart t p → OnlyDevicesOut t) → (OnlyDevicesOut t → OnlyDevicesOut u)
+pub part_fails : {Works WorksNow : PartView → Type 0} (t u : Told) (limits : Limits) (here : Partition) (rs : List Request) (w v : World) (old new : Part)
+    (h : HoldsPart Works t limits here w old) → IsLeft w.limits v.flushed rs old new → ((t : Told) (p : PartView) → IsPart t p → OnlyDevicesOut t)
+    → (OnlyDevicesOut t → OnlyDevicesOut u)
     → HasFailedWith WorksNow (part_writes_all limits rs (plain_of t h.view)) u h.view → FailsPart WorksNow u here old new
 part_fails t u limits here rs w v old new h left law devices failed = record {
   devices = devices (law t h.view h.is);

@@ -49,7 +49,9 @@ stays_unwritten t p size Due log is tells sized none written stays = subst (λ m
 
 -- ---- one engine
 
-pub part_moved : {Works WorksNow : PartView → Type 0} (t u : Told) (limits most : Limits) (here : Partition) (w v : World) (part : Part) (h : HoldsPart Works t limits here w part) → StoresStill WorksNow t h.view u → u.staged ≡ t.staged → most ≡ limits → v.limits ≡ w.limits → (v.flushed ≡ true → IfTold u.log (λ f. length f.content ≤ empty_size)) → HoldsPart WorksNow u most here v part
+pub part_moved : {Works WorksNow : PartView → Type 0} (t u : Told) (limits most : Limits) (here : Partition) (w v : World) (part : Part)
+    (h : HoldsPart Works t limits here w part) → StoresStill WorksNow t h.view u → u.staged ≡ t.staged → most ≡ limits → v.limits ≡ w.limits
+    → (v.flushed ≡ true → IfTold u.log (λ f. length f.content ≤ empty_size)) → HoldsPart WorksNow u most here v part
 part_moved t u limits most here w v part h still staged same under flushed = record {
   view = still.view;
   is = still.is;

@@ -55,7 +55,9 @@ reads_taken f g h R p (o ∷ olds) (m ∷ mids) (n ∷ news) one two all =
 -- ---- the frames of a window, where all engines answered
 
 -- what was written of the lists is what was written of the shares
-pub shares_framed : {X S D F W : Type 0} (eyes : Eyes S D F W) (f : X → EngineState S D F W) (g : X → Result (List Placed) EngineFault) (lists : List (Vec Routed Global)) (window : Keyed Request) (count p : ℕ) (jobs : List (JobsState F D W)) (olds news : List X) (fs : List (EngineState S D F W)) (parts : List (List Placed)) (frames : List (Vec Write Global))
+pub shares_framed : {X S D F W : Type 0} (eyes : Eyes S D F W) (f : X → EngineState S D F W) (g : X → Result (List Placed) EngineFault)
+    (lists : List (Vec Routed Global)) (window : Keyed Request) (count p : ℕ) (jobs : List (JobsState F D W)) (olds news : List X) (fs : List (EngineState S D F W))
+    (parts : List (List Placed)) (frames : List (Vec Write Global))
     → p + length olds ≡ count → length olds ≡ length jobs → length olds ≡ length news → ((i : ℕ) → i < count → requests_at i lists ≡ share count i window)
     → map g news ≡ map Ok parts → fs ≡ map f news
     → AtEach (λ i (run : X × X) (frame : Vec Write Global). OnOk (g run.1) (HasFramed eyes (requests_at i lists) (f run.0) (f run.1) frame.items)) p (zip olds news) frames

@@ -125,7 +125,9 @@ module _ {S D F W : Type 0} (eyes : Eyes S D F W) where
   pub seats_many : {X : Type 0} (f : X → EngineState S D F W) (xs : List X) (jobs : List (JobsState F D W)) (es : List (WithJobs S D F W)) → AreStaffed eyes (map f xs) jobs → with_jobs (map f xs) jobs ≡ es → length xs ≡ length es
   seats_many f xs jobs es all view = sym (length-map xs f) ∙ sym (with_jobs-length (map f xs) jobs (staffed-many (map f xs) jobs all)) ∙ ap length view
 
-  pub jobs_many : {X : Type 0} (f : X → EngineState S D F W) (olds news : List X) (nows : List (JobsState F D W)) (items : List X) (running : Vec (JobsState F D W) Global) → olds ≡ items → length news ≡ length olds → AreStaffed eyes (map f news) nows → AreStaffed eyes (map f items) running.items → length nows ≡ running.len
+  pub jobs_many : {X : Type 0} (f : X → EngineState S D F W) (olds news : List X) (nows : List (JobsState F D W)) (items : List X)
+      (running : Vec (JobsState F D W) Global) → olds ≡ items → length news ≡ length olds → AreStaffed eyes (map f news) nows
+      → AreStaffed eyes (map f items) running.items → length nows ≡ running.len
   jobs_many f olds news nows items running same many all before =
       let now : length news ≡ length nows = sym (length-map news f) ∙ staffed-many (map f news) nows all in
       let was : length items ≡ length running.items = sym (length-map items f) ∙ staffed-many (map f items) running.items before in
@@ -140,7 +142,9 @@ refilled_both f P seats running news nows many as_many holds =
     subst (λ xs. P (map f xs) (with_items running nows).items) (sym (refilled seats news many)) (subst (P (map f news)) (sym (refilled running nows as_many)) holds)
 
 -- a call was made of them, that took both slices
-pub called : {X S D F W : Type 0} (f : X → EngineState S D F W) (P : List (WithJobs S D F W) → List (WithJobs S D F W) → Type 0) (seats : Vec X Global) (running : Vec (JobsState F D W) Global) (olds : List X) (runs : List (JobsState F D W)) (news : List X) (nows : List (JobsState F D W)) (es : List (WithJobs S D F W))
+pub called : {X S D F W : Type 0} (f : X → EngineState S D F W) (P : List (WithJobs S D F W) → List (WithJobs S D F W) → Type 0) (seats : Vec X Global)
+    (running : Vec (JobsState F D W) Global) (olds : List X) (runs : List (JobsState F D W)) (news : List X) (nows : List (JobsState F D W))
+    (es : List (WithJobs S D F W))
     → olds ≡ seats.items → runs ≡ running.items → with_jobs (map f seats.items) running.items ≡ es → length news ≡ seats.len → length nows ≡ running.len → P (with_jobs (map f olds) runs) (with_jobs (map f news) nows)
     → P es (with_jobs (map f (with_items seats news).items) (with_items running nows).items)
 called f P seats running olds runs news nows es same_olds same_runs view many as_many holds =

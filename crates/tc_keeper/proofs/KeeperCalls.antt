@@ -94,7 +94,9 @@ module _ {S D F W : Type 0} where
 
   -- ---- frames
 
-  pub frames_many : (eyes : Eyes S D F W) (count : ℕ) (window : Keyed Request) (shown : List (ShownState F W)) (es es' : List (WithJobs S D F W)) (frames : List (Vec log.Write Global)) → length shown ≡ length es → SameReaders es es' → AtEach (Framed eyes count window) 0 (zip es es') frames → length shown ≡ length frames
+  pub frames_many : (eyes : Eyes S D F W) (count : ℕ) (window : Keyed Request) (shown : List (ShownState F W)) (es es' : List (WithJobs S D F W))
+      (frames : List (Vec log.Write Global)) → length shown ≡ length es → SameReaders es es' → AtEach (Framed eyes count window) 0 (zip es es') frames
+      → length shown ≡ length frames
   frames_many eyes count window shown es es' frames many readers framed =
       many ∙ sym (zip_length es es' (at_each-length (λ p old new. new.engine.part.reader ≡ old.engine.part.reader) 0 es es' readers)) ∙ at_each-length (Framed eyes count window) 0 (zip es es') frames framed
 

@@ -87,7 +87,9 @@ module _ {W : Type 0} (counts : W → Counts) where
     risen_with None q es es' away same risen = risen
     risen_with (Some w) q es es' away same risen = risen_out w 0 q es es' away same risen
 
-    risen_beside : (out : Option (Begun F W)) (q : ℕ) (es es' : List (WithJobs S D F W)) → AreReadersOut out es → SameReaders es es' → HaveRisen (CountedAt es q) (CountedAt es' q) → HaveRisen (counted_out counts (watch_out out q) (CountedAt es q)) (counted_out counts (watch_out out q) (CountedAt es' q))
+    risen_beside : (out : Option (Begun F W)) (q : ℕ) (es es' : List (WithJobs S D F W)) → AreReadersOut out es → SameReaders es es'
+        → HaveRisen (CountedAt es q) (CountedAt es' q) → HaveRisen (counted_out counts (watch_out out q) (CountedAt es q))
+        (counted_out counts (watch_out out q) (CountedAt es' q))
     risen_beside None q es es' away same risen = risen
     risen_beside (Some out) q es es' away same risen = risen_with (option_map (λ (pass : Pass F W). pass.watch) (slice_get out.passes.items q)) q es es' away.1 same risen
 
@@ -187,7 +189,9 @@ module _ {S D F W : Type 0} (counts : W → Counts) where
   module _ (k : KeeperState S D F W) (es' : List (WithJobs S D F W)) (begun : Begun F W) (passes : List (Pass F W)) (last : Type 0) (some : k.scan ≡ Some begun) (went : AllZip (GoesOn counts) begun.passes.items passes)
       (came : AtEach (λ p old new. IsAt p passes (λ pass. new ≡ with_reader (Some pass.watch) old)) 0 k.engines es') (many : length passes ≡ length k.engines) where
     home : AtEach (λ p (both : WithJobs S D F W × Pass F W) e'. e' ≡ with_reader (Some both.1.watch) both.0) 0 (zip k.engines passes) es'
-    home = at_zip (λ (old : WithJobs S D F W) (pass : Pass F W) new. new ≡ with_reader (Some pass.watch) old) k.engines passes es' (zip_length k.engines passes (sym many) ∙ at_each-length (λ p old new. IsAt p passes (λ (pass : Pass F W). new ≡ with_reader (Some pass.watch) old)) 0 k.engines es' came) came
+    home = at_zip (λ (old : WithJobs S D F W) (pass : Pass F W) new. new ≡ with_reader (Some pass.watch) old) k.engines passes es'
+        (zip_length k.engines passes (sym many) ∙ at_each-length (λ p old new. IsAt p passes (λ (pass : Pass F W). new ≡ with_reader (Some pass.watch) old)) 0
+        k.engines es' came) came
 
     abbrev Now : DiskFaults
     Now = λ q. option_map (λ e. faults_at counts e) (slice_get es' q)

@@ -17,7 +17,8 @@ use Rattle.tc_keeper.proofs.SharesLeft.{IsLeft}
 
 -- ---- keys of one partition alone, in order
 
-own_upsert : (count p n : ℕ) (d : Document) (s : Store) (refusal : Option Refusal) → n % count ≡ p → (Ascends s.pairs × All (λ e. e.0 % count ≡ p) s.pairs) → (Ascends (unless_refused refusal (with_pair n d s) (λ r. s)).pairs × All (λ e. e.0 % count ≡ p) (unless_refused refusal (with_pair n d s) (λ r. s)).pairs)
+own_upsert : (count p n : ℕ) (d : Document) (s : Store) (refusal : Option Refusal) → n % count ≡ p → (Ascends s.pairs × All (λ e. e.0 % count ≡ p) s.pairs)
+    → (Ascends (unless_refused refusal (with_pair n d s) (λ r. s)).pairs × All (λ e. e.0 % count ≡ p) (unless_refused refusal (with_pair n d s) (λ r. s)).pairs)
 own_upsert count p n d s None here own = (sorted-with_value n d s.pairs own.0, All-with_value (λ e. e.0 % count ≡ p) n d s.pairs here own.1)
 own_upsert count p n d s (Some r) here own = own
 

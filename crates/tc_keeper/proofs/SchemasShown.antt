@@ -66,7 +66,8 @@ texts_of eyes size w count p (e ∷ es) (text ∷ texts) (part ∷ parts) none s
 
 -- ---- by what was answered
 
-pub texts_of_seats : {S D F W X E : Type 0} (r : Result (Vec Value Global) E) (f : X → EngineState S D F W) (R : EngineState S D F W → Data → Type 0) (seats : List X) (jobs : List (JobsState F D W)) (es : List (WithJobs S D F W)) → length (map f seats) ≡ length jobs → with_jobs (map f seats) jobs ≡ es
+pub texts_of_seats : {S D F W X E : Type 0} (r : Result (Vec Value Global) E) (f : X → EngineState S D F W) (R : EngineState S D F W → Data → Type 0) (seats : List X)
+    (jobs : List (JobsState F D W)) (es : List (WithJobs S D F W)) → length (map f seats) ≡ length jobs → with_jobs (map f seats) jobs ≡ es
     → IfOk r (λ texts. AtEach (λ p s text. R (f s) (view text)) 0 seats texts.items) → IfOk r (λ texts. AtEach (λ p e text. R e.engine text) 0 es (map view texts.items))
 texts_of_seats (Ok texts) f R seats jobs es many same are =
     subst (λ xs. AtEach (λ p e text. R e.engine text) 0 xs (map view texts.items)) same

@@ -55,7 +55,8 @@ no_length : {X : Type 0} (xs : List X) → length xs ≡ 0 → xs ≡ []
 no_length [] none = refl
 no_length (x ∷ xs) none = absurd (omega (arith, none))
 
-pub placed_there : {S D F W : Type 0} (es : List (WithJobs S D F W)) (p n : ℕ) (list : List (ComponentState F)) (sealed : Option Table) (old new : ShownState F W) → n ≡ 0 → IsAt p es (λ e. n ≡ length e.engine.part.active) → IsAt p es (λ e. list ≡ e.engine.part.list) → IsAt p es (λ e. sealed ≡ e.engine.part.sealed)
+pub placed_there : {S D F W : Type 0} (es : List (WithJobs S D F W)) (p n : ℕ) (list : List (ComponentState F)) (sealed : Option Table) (old new : ShownState F W)
+    → n ≡ 0 → IsAt p es (λ e. n ≡ length e.engine.part.active) → IsAt p es (λ e. list ≡ e.engine.part.list) → IsAt p es (λ e. sealed ≡ e.engine.part.sealed)
     → IsPlaced list sealed old new → PlacedBy es p old new
 placed_there [] p n list sealed old new none count is_list is_sealed placed = absurd count
 placed_there (e ∷ es) zero n list sealed old new none count is_list is_sealed placed =

@@ -90,7 +90,8 @@ module _ {S D F W : Type 0} (reader : Option W) where
   put_staffed eyes f p zero (z ∷ xs) (js ∷ jobs) x y is so all = (so js (subst (λ v. IsStaffed eyes (f v) js) (sym is) all.0), all.1)
   put_staffed eyes f p (suc k) (z ∷ xs) (js ∷ jobs) x y is so all = (all.0, put_staffed eyes f (suc p) k xs jobs x y is so all.1)
 
-  pub lent_staffed : {X : Type 0} (eyes : Eyes S D F W) (f : X → EngineState S D F W) (at : ℕ) (xs : List X) (jobs : List (JobsState F D W)) (x y : X) → x ≡ slice_index_or xs at x → f y ≡ read_by (f x) → ((js : JobsState F D W) → IsOutBy eyes (beside (f x).part js) → IsOutBy eyes (beside (f y).part js))
+  pub lent_staffed : {X : Type 0} (eyes : Eyes S D F W) (f : X → EngineState S D F W) (at : ℕ) (xs : List X) (jobs : List (JobsState F D W)) (x y : X)
+      → x ≡ slice_index_or xs at x → f y ≡ read_by (f x) → ((js : JobsState F D W) → IsOutBy eyes (beside (f x).part js) → IsOutBy eyes (beside (f y).part js))
       → AreStaffed eyes (map f xs) jobs → AreStaffed eyes (map f (set xs at y)) jobs
   lent_staffed eyes f at xs jobs x y is lent out all = put_staffed eyes f 0 at xs jobs x y is still all
     where

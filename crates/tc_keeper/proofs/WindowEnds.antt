@@ -134,7 +134,9 @@ module _ {S P D F W : Type 0} (eyes : Eyes S D F W) (lists : List (Vec Routed Gl
       (at_each-so (λ p (old : Seat S P W D F) (new : Seat S P W D F). HasRun eyes (requests_at p lists) old.engine new.engine new.answer) (λ p (old : Seat S P W D F) (new : Seat S P W D F). (js : JobsState F D W) → IsStaffed eyes old.engine js → IsStaffed eyes new.engine js) 0 room.items mids
       (λ p old new ran. ran.staffed) from_room)) seats.staffed)
 
-  pub seats_ended : (whole : List (Vec Routed Global)) (commands : List Routed) (es : List (WithJobs S D F W)) (parts : ℕ) → lists ≡ whole → ((p : ℕ) → p < parts → requests_at p whole ≡ share parts p (map routed_of commands)) → parts ≡ room.len → with_jobs (map (λ (s : Seat S P W D F). s.engine) room.items) jobs ≡ es
+  pub seats_ended : (whole : List (Vec Routed Global)) (commands : List Routed) (es : List (WithJobs S D F W)) (parts : ℕ) → lists ≡ whole
+      → ((p : ℕ) → p < parts → requests_at p whole ≡ share parts p (map routed_of commands)) → parts ≡ room.len
+      → with_jobs (map (λ (s : Seat S P W D F). s.engine) room.items) jobs ≡ es
       → Ended eyes (map routed_of commands) es (with_jobs (map (λ (s : Seat S P W D F). s.engine) (with_items (with_items room mids) news).items) jobs) (map (λ (s : Seat S P W D F). s.answer) nexts)
   seats_ended whole commands es parts same each many view =
       subst (λ xs. Ended eyes (map routed_of commands) xs (with_jobs (map (λ (s : Seat S P W D F). s.engine) (with_items (with_items room mids) news).items) jobs) (map (λ (s : Seat S P W D F). s.answer) nexts)) view
@@ -144,13 +146,19 @@ module _ {S P D F W : Type 0} (eyes : Eyes S D F W) (lists : List (Vec Routed Gl
       (λ p below. ap (requests_at p) same ∙ each p below) from_room engines_left))
 
   -- the frames are those of the shares, where all answered
-  pub seats_framed : (whole : List (Vec Routed Global)) (commands : List Routed) (es : List (WithJobs S D F W)) (parts : ℕ) (answers : List (List Placed)) (frames : List (Vec Write Global)) → lists ≡ whole → ((p : ℕ) → p < parts → requests_at p whole ≡ share parts p (map routed_of commands)) → parts ≡ room.len
+  pub seats_framed : (whole : List (Vec Routed Global)) (commands : List Routed) (es : List (WithJobs S D F W)) (parts : ℕ) (answers : List (List Placed))
+      (frames : List (Vec Write Global)) → lists ≡ whole → ((p : ℕ) → p < parts → requests_at p whole ≡ share parts p (map routed_of commands)) → parts ≡ room.len
       → with_jobs (map (λ (s : Seat S P W D F). s.engine) room.items) jobs ≡ es → map (λ (s : Seat S P W D F). s.answer) nexts ≡ map Ok answers
       → AtEach (λ p (run : Seat S P W D F × Seat S P W D F) (frame : Vec Write Global). OnOk run.1.answer (HasFramed eyes (requests_at p lists) run.0.engine run.1.engine frame.items)) 0 (zip froms mids) frames
-      → AtEach (λ p (run : WithJobs S D F W × WithJobs S D F W) (frame : Vec Write Global). HasFramed eyes (share (length es) p (map routed_of commands)) run.0.engine run.1.engine frame.items) 0 (zip es (with_jobs (map (λ (s : Seat S P W D F). s.engine) (with_items (with_items room mids) news).items) jobs)) frames
+      → AtEach (λ p (run : WithJobs S D F W × WithJobs S D F W) (frame : Vec Write Global). HasFramed eyes (share (length es) p (map routed_of commands)) run.0.engine
+      run.1.engine frame.items) 0 (zip es (with_jobs (map (λ (s : Seat S P W D F). s.engine) (with_items (with_items room mids) news).items) jobs)) frames
   seats_framed whole commands es parts answers frames same each many view given framed =
-      subst (λ xs. AtEach (λ p (run : WithJobs S D F W × WithJobs S D F W) (frame : Vec Write Global). HasFramed eyes (share (length xs) p (map routed_of commands)) run.0.engine run.1.engine frame.items) 0 (zip xs (with_jobs (map (λ (s : Seat S P W D F). s.engine) (with_items (with_items room mids) news).items) jobs)) frames) view
-      (subst (λ n. AtEach (λ p (run : WithJobs S D F W × WithJobs S D F W) (frame : Vec Write Global). HasFramed eyes (share n p (map routed_of commands)) run.0.engine run.1.engine frame.items) 0 (zip (with_jobs (map (λ (s : Seat S P W D F). s.engine) room.items) jobs) (with_jobs (map (λ (s : Seat S P W D F). s.engine) (with_items (with_items room mids) news).items) jobs)) frames) counted
+      subst (λ xs. AtEach (λ p (run : WithJobs S D F W × WithJobs S D F W) (frame : Vec Write Global). HasFramed eyes (share (length xs) p (map routed_of commands))
+      run.0.engine run.1.engine frame.items) 0 (zip xs (with_jobs (map (λ (s : Seat S P W D F). s.engine)
+      (with_items (with_items room mids) news).items) jobs)) frames) view
+      (subst (λ n. AtEach (λ p (run : WithJobs S D F W × WithJobs S D F W) (frame : Vec Write Global). HasFramed eyes (share n p (map routed_of commands)) run.0.engine
+      run.1.engine frame.items) 0 (zip (with_jobs (map (λ (s : Seat S P W D F). s.engine) room.items) jobs)
+      (with_jobs (map (λ (s : Seat S P W D F). s.engine) (with_items (with_items room mids) news).items) jobs)) frames) counted
       (shares_framed eyes (λ (s : Seat S P W D F). s.engine) (λ (s : Seat S P W D F). s.answer) lists (map routed_of commands) parts 0 jobs room.items mids (map (λ (s : Seat S P W D F). s.engine) (with_items (with_items room mids) news).items) answers frames
       (omega (arith, room.ok.0, many)) as_many (omega (arith, room.ok.0, many_mids)) (λ p below. ap (requests_at p) same ∙ each p below)
       (ap (map (λ (s : Seat S P W D F). s.answer)) (sym same_mids) ∙ given) engines_left

@@ -47,7 +47,9 @@ flush_left part s picture (Some j) is k leaves =
     let image : Image = bytes_at picture (flush_name j) in
     let f : DiskFile = file_for (bytes_at picture (flush_name j)) in (
       put (flush_name j) (home f) s.files,
-      with_one_file part s (flush_name j) (home f) k (flush_called part s f j k.memory.list is k.memory.flush k.memory.merge k.files (leaves_shut (IsFlushed part s.list s.sealed) image leaves)) (λ running sound there. inr (inl (subst (λ o. IsOfFlush o j.from j.to) (sym is) (refl, refl)))) (λ running sound not_made. file_not_log j.from j.to (next_generation s)),
+      with_one_file part s (flush_name j) (home f) k (flush_called part s f j k.memory.list is k.memory.flush k.memory.merge k.files
+          (leaves_shut (IsFlushed part s.list s.sealed) image leaves)) (λ running sound there. inr (inl (subst (λ o. IsOfFlush o j.from j.to) (sym is) (refl, refl))))
+          (λ running sound not_made. file_not_log j.from j.to (next_generation s)),
       λ name other. at_name (flush_name j) name (home f) s.files (λ e. MayLeaveAt (nothing_held name) e (bytes_at picture name))
           (λ same. subst (λ n. MayLeaveAt (nothing_held n) (home f) (bytes_at picture n)) same (leaves_image (flush_name j) image)) (λ apart. other (λ same. apart (sym same))),
     )
@@ -60,7 +62,10 @@ merge_left part s picture (Some m) is k leaves =
     let image : Image = bytes_at picture (file_of m.target) in
     let f : DiskFile = file_for (bytes_at picture (file_of m.target)) in (
       put (file_of m.target) (home f) s.files,
-      with_one_file part s (file_of m.target) (home f) k (merge_called part s f m k.memory.list is k.memory.flush k.memory.merge k.files (leaves_shut (IsComponent m.target) image leaves)) (λ running sound there. inr (inr (subst (λ o. IsOfMerge o m.target.from m.target.to) (sym is) (refl, refl)))) (λ running sound not_made. file_not_log m.target.from m.target.to (next_generation s)),
+      with_one_file part s (file_of m.target) (home f) k (merge_called part s f m k.memory.list is k.memory.flush k.memory.merge k.files
+          (leaves_shut (IsComponent m.target) image leaves)) (λ running sound there. inr
+          (inr (subst (λ o. IsOfMerge o m.target.from m.target.to) (sym is) (refl, refl))))
+          (λ running sound not_made. file_not_log m.target.from m.target.to (next_generation s)),
       λ name other. at_name (file_of m.target) name (home f) s.files (λ e. MayLeaveAt (nothing_held name) e (bytes_at picture name))
           (λ same. subst (λ n. MayLeaveAt (nothing_held n) (home f) (bytes_at picture n)) same (leaves_image (file_of m.target) image)) (λ apart. other (λ same. apart (sym same))),
     )

@@ -107,8 +107,11 @@ active_called : (part : Partition) (s : State) (f : DiskFile) (active : Active) 
     → LeavesAt (LeavesWithOrWithout part (active_generation s) active.writes frame) f
     → AreFilesSound part (record s { files = put (Log (active_generation s)) (home f) s.files })
 active_called part s f active frame is_active is_frame k leaves = record {
-  listed = All-weaker (λ c. LeavesOf s.files (file_of c) (LeavesComponent c)) (λ c. LeavesOf (put name (home f) s.files) (file_of c) (LeavesComponent c)) (λ c was. LeavesOf-other name (file_of c) (home f) s.files (LeavesComponent c) (λ same. log_not_file c (active_generation s) (sym same)) was) s.list k.listed;
-  still = λ running. All-weaker (λ c. IsStillComponent c (s.files (file_of c))) (λ c. IsStillComponent c (put name (home f) s.files (file_of c))) (λ c is. subst (λ e. IsStillComponent c e) (sym (put_other name (file_of c) (home f) s.files (λ same. log_not_file c (active_generation s) (sym same)))) is) s.list (k.still running);
+  listed = All-weaker (λ c. LeavesOf s.files (file_of c) (LeavesComponent c)) (λ c. LeavesOf (put name (home f) s.files) (file_of c) (LeavesComponent c))
+      (λ c was. LeavesOf-other name (file_of c) (home f) s.files (LeavesComponent c) (λ same. log_not_file c (active_generation s) (sym same)) was) s.list k.listed;
+  still = λ running. All-weaker (λ c. IsStillComponent c (s.files (file_of c))) (λ c. IsStillComponent c (put name (home f) s.files (file_of c)))
+      (λ c is. subst (λ e. IsStillComponent c e) (sym (put_other name (file_of c) (home f) s.files (λ same. log_not_file c (active_generation s) (sym same)))) is)
+      s.list (k.still running);
   sealed_logs = LeavesLogs-put part name (home f) s.files (last_of s.list + 1) (sealed_logs s.sealed) (λ g low high same. absurd (omega (arith, high, log_generation (active_generation s) g same))) k.sealed_logs;
   active_log = if_some_from (λ d. LeavesOf (put name (home f) s.files) name (LeavesActive part (active_generation s) d.writes s.frame)) s.active
       (λ d is. LeavesOf-here name (home f) s.files (LeavesActive part (active_generation s) d.writes s.frame) (now d is));

@@ -34,7 +34,8 @@ event_keeps part s (flush_installed c) k m = flush_installed_keeps part s c k m
 event_keeps part s merge_installed k m = merge_installed_keeps part s k m
 event_keeps part s part_failed k m = part_failed_keeps part s k
 event_keeps part s log_made k m =
-    with_one_file part (record s { making = true }) (Log (next_generation s)) (made (s.files (Log (next_generation s)))) (making_keeps part s k) (file_made_keeps part (record s { making = true }) (Log (next_generation s)) (making_keeps part s k).files (record { before = m.before; absent = m.absent }))
+    with_one_file part (record s { making = true }) (Log (next_generation s)) (made (s.files (Log (next_generation s)))) (making_keeps part s k)
+    (file_made_keeps part (record s { making = true }) (Log (next_generation s)) (making_keeps part s k).files (record { before = m.before; absent = m.absent }))
     (λ running sound there. inr (refl, refl)) (λ running sound not_made. absurd (true≢false not_made))
 event_keeps part s (file_wasted name) k m =
     let failed : IsKept part (record s { failed = true }) = part_failed_keeps part s k in

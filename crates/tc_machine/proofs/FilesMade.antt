@@ -113,7 +113,9 @@ pub put_fewer : (part : Partition) (s : State) (name : FileName) (entry : Entry)
     → ((b : List ℕ) → s.files name ≡ still b → ⊥) → AreFilesSound part (record s { files = put name entry s.files })
 put_fewer part s name entry k fewer not_still = record {
   listed = All-weaker (λ c. LeavesOf s.files (file_of c) (LeavesComponent c)) (λ c. LeavesOf (put name entry s.files) (file_of c) (LeavesComponent c)) (λ c leaves. as_before (file_of c) (LeavesComponent c) leaves) s.list k.listed;
-  still = λ running. All-weaker (λ c. IsStillComponent c (s.files (file_of c))) (λ c. IsStillComponent c (put name entry s.files (file_of c))) (λ c is. subst (λ e. IsStillComponent c e) (sym (put_other name (file_of c) entry s.files (λ same. not_still is.0 (ap s.files same ∙ is.1)))) is) s.list (k.still running);
+  still = λ running. All-weaker (λ c. IsStillComponent c (s.files (file_of c))) (λ c. IsStillComponent c (put name entry s.files (file_of c)))
+      (λ c is. subst (λ e. IsStillComponent c e) (sym (put_other name (file_of c) entry s.files (λ same. not_still is.0 (ap s.files same ∙ is.1)))) is)
+      s.list (k.still running);
   sealed_logs = logs_after (last_of s.list + 1) (sealed_logs s.sealed) k.sealed_logs;
   active_log = if_some_map (λ d. LeavesOf s.files (Log (active_generation s)) (LeavesActive part (active_generation s) d.writes s.frame)) (λ d. LeavesOf (put name entry s.files) (Log (active_generation s)) (LeavesActive part (active_generation s) d.writes s.frame)) s.active
       (λ d is leaves. as_before (Log (active_generation s)) (LeavesActive part (active_generation s) d.writes s.frame) leaves) k.active_log;

@@ -49,7 +49,9 @@ flush_install part s d j c k f is_still = record {
     still = λ running. All-append (λ c. IsStillComponent c (s.files (file_of c))) s.list (c ∷ []) (k.files.still running)
         (All-cons (λ c. IsStillComponent c (s.files (file_of c))) c [] is_still (All-nil (λ c. IsStillComponent c (s.files (file_of c)))));
     sealed_logs = tt;
-    active_log = if_some_map (λ x. LeavesOf s.files (Log (active_generation (flushing s d (Some j)))) (LeavesActive part (active_generation (flushing s d (Some j))) x.writes s.frame)) (λ x. LeavesOf s.files (Log (active_generation new)) (LeavesActive part (active_generation new) x.writes s.frame)) s.active
+    active_log = if_some_map (λ x. LeavesOf s.files (Log (active_generation (flushing s d (Some j))))
+        (LeavesActive part (active_generation (flushing s d (Some j))) x.writes s.frame))
+        (λ x. LeavesOf s.files (Log (active_generation new)) (LeavesActive part (active_generation new) x.writes s.frame)) s.active
         (λ x is leaves. subst (λ g. LeavesOf s.files (Log g) (LeavesActive part g x.writes s.frame)) (sym generation) leaves) k.files.active_log;
     others = explained;
     flush_file = tt;

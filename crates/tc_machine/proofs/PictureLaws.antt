@@ -393,7 +393,10 @@ module _ (part : Partition) (s : State) (k : IsKept part s) (picture : Picture) 
           writes = subst (λ l. All IsStorableWrite l) (sym found) (All-append IsStorableWrite (all_writes ls) (all_writes (active_logs s.active) ++ frame_writes s.frame) f.writes (All-append IsStorableWrite (all_writes (active_logs s.active)) (frame_writes s.frame) active_writes k.memory.frame));
           few = subst (λ l. AreFew (names_after (names_of cs) l)) (sym found) (f.few (all_writes (active_logs s.active) ++ frame_writes s.frame) (rest_few (frame_writes s.frame) s.active k.memory.active k.memory.frame_few));
           store = inr (ap (λ l. after_writes (live cs) l) found ∙ holds_after cs ls f (all_writes (active_logs s.active) ++ frame_writes s.frame)
-              ∙ ap (λ l. after_writes s.base l) (ap (λ ws. s.folded ++ ws) (sym (append_assoc (all_writes (sealed_logs s.sealed)) (all_writes (active_logs s.active)) (frame_writes s.frame))) ∙ sym (append_assoc s.folded (all_writes (sealed_logs s.sealed) ++ all_writes (active_logs s.active)) (frame_writes s.frame)) ∙ ap (λ ws. ws ++ frame_writes s.frame) without_frame)
+              ∙ ap (λ l. after_writes s.base l) (ap (λ ws. s.folded ++ ws)
+              (sym (append_assoc (all_writes (sealed_logs s.sealed)) (all_writes (active_logs s.active)) (frame_writes s.frame)))
+              ∙ sym (append_assoc s.folded (all_writes (sealed_logs s.sealed) ++ all_writes (active_logs s.active)) (frame_writes s.frame))
+              ∙ ap (λ ws. ws ++ frame_writes s.frame) without_frame)
               ∙ after_writes-append s.base (history s) (frame_writes s.frame));
         }
   ]

@@ -96,5 +96,7 @@ module _ {F W : Type 0} (content : F → Option (List ℕ)) (name : F → FileNa
     own_longer others own =
         let l = listed.listed in
         subst (λ disks. IfTold disks (AreOwn longer others)) (sym listed.still)
-        (subst (λ cs. IfTold (comes_home (name_of head) frozen_entry listed.device (makes (name_of head) old)) (AreOwn cs others)) (sym l.listed) (own_listed list (list ++ l.component ∷ []) others others (name_of head) (subst (λ (h : Head). Contains (file_names (list ++ l.component ∷ [])) (name_of h)) l.made.has_head (newest_longer list l.component))
+        (subst (λ cs. IfTold (comes_home (name_of head) frozen_entry listed.device (makes (name_of head) old)) (AreOwn cs others)) (sym l.listed)
+        (own_listed list (list ++ l.component ∷ []) others others (name_of head)
+        (subst (λ (h : Head). Contains (file_names (list ++ l.component ∷ [])) (name_of h)) l.made.has_head (newest_longer list l.component))
         (others_longer list l.component others) listed.device old own listed.tells))

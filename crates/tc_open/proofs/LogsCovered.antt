@@ -157,7 +157,9 @@ go_or_stay {F = F} {W = W} name last (t ∷ ts) n among = at (cases_Bool (is_log
       | inr right ↦ Contains-append_right gone (name t.file ∷ kept) n (member_further (name t.file) kept n right)
     ]
 
-    at : (is_log last t ≡ true) ⊎ (is_log last t ≡ false) → (name t.file ≡ n) ⊎ Contains (map (λ (u : Taken F W). name u.file) ts) n → (Contains (map (λ (u : Taken F W). name u.file) ts) n → Contains (gone ++ kept) n) → Contains (needless_names name last (t ∷ ts) ++ map (λ (u : Taken F W). name u.file) (filter (is_log last) (t ∷ ts))) n
+    at : (is_log last t ≡ true) ⊎ (is_log last t ≡ false) → (name t.file ≡ n) ⊎ Contains (map (λ (u : Taken F W). name u.file) ts) n
+        → (Contains (map (λ (u : Taken F W). name u.file) ts) n → Contains (gone ++ kept) n)
+        → Contains (needless_names name last (t ∷ ts) ++ map (λ (u : Taken F W). name u.file) (filter (is_log last) (t ∷ ts))) n
     at (inl is) (inl same) rest = rw is (Contains-append_right gone (name t.file ∷ kept) n (subst (λ m. Contains (m ∷ kept) n) (sym same) (member_first n kept)))
     at (inl is) (inr more) rest = rw is (further (rest more))
     at (inr other) (inl same) rest = rw other (subst (λ m. Contains (m ∷ gone ++ kept) n) (sym same) (member_first n (gone ++ kept)))

@@ -39,7 +39,9 @@ few_listed g (c ∷ list) few lawful = few_listed c.index.head.to list (All-head
 pub few_left : {F : Type 0} (list : List (ComponentState F)) (last : ℕ) → All (λ c. IsIndex c.index) list → last ≡ listed.last_of list → last ≢ 9223372036854775807 → last + 1 < 2 ^ 63
 few_left list last lawful last_is apart = let few = few_listed 0 list (omega arith) lawful in omega (arith, few, last_is, apart)
 
-module _ {F : Type 0} (content : F → Option (List ℕ)) (part : Partition) (list : List (ComponentState F)) (cs : List Content) (of : AllZip IsOfContent (map (told_component content) list) cs) (disks : List Disk) (tidy : IfTold disks (IsTidy part cs [])) (last : ℕ) (last_is : last ≡ listed.last_of list) where
+module _ {F : Type 0} (content : F → Option (List ℕ)) (part : Partition) (list : List (ComponentState F)) (cs : List Content)
+    (of : AllZip IsOfContent (map (told_component content) list) cs) (disks : List Disk) (tidy : IfTold disks (IsTidy part cs [])) (last : ℕ)
+    (last_is : last ≡ listed.last_of list) where
   same : last + 1 ≡ last_of cs + 1
   same = ap (λ n. n + 1) last_is ∙ sym (next_loaded content None 0 list refl) ∙ next_is None 0 (map (told_component content) list) cs refl of
 

@@ -137,12 +137,26 @@ module _ {S D F W : Type 0} (disks : S → List Disk) (moments : D → List Disk
           let m = covering.listed.component in
           let runs : Told = record (told disks moments content new) { failed = old.failed } in
           let told_so : runs
-          ≡ record (told disks moments content old) { disks = removes (covered_name old) (comes_home (covered_name old) frozen_entry (moments l.device) (comes_home (flushed_name old) frozen_entry device (disks old.store))); sealed = None; sealed_log = None; components = map (told_component content) old.list ++ told_component content m ∷ []; flushing = false } =
+          ≡ record (told disks moments content old) {
+            disks = removes (covered_name old)
+                (comes_home (covered_name old) frozen_entry (moments l.device) (comes_home (flushed_name old) frozen_entry device (disks old.store)));
+            sealed = None;
+            sealed_log = None;
+            components = map (told_component content) old.list ++ told_component content m ∷ [];
+            flushing = false;
+          } =
           ap (λ (x : PartState S D F W). record (told disks moments content x) { failed = old.failed }) covering.same
           ∙ ap (λ d. record (told disks moments content old) { disks = d; sealed = None; sealed_log = None; components = map (told_component content) new.list }) gone
           ∙ ap (λ cs. record (told disks moments content old) { disks = removes (covered_name old) (comes_home (covered_name old) frozen_entry (moments l.device) (comes_home (flushed_name old) frozen_entry device (disks old.store))); sealed = None; sealed_log = None; components = cs })
           (ap (map (told_component content)) covering.listed.listed ∙ map-append (told_component content) old.list (m ∷ []))
-          ∙ ap (λ b. record (told disks moments content old) { disks = removes (covered_name old) (comes_home (covered_name old) frozen_entry (moments l.device) (comes_home (flushed_name old) frozen_entry device (disks old.store))); sealed = None; sealed_log = None; components = map (told_component content) old.list ++ told_component content m ∷ []; flushing = b }) back in
+          ∙ ap (λ b. record (told disks moments content old) {
+            disks = removes (covered_name old)
+                (comes_home (covered_name old) frozen_entry (moments l.device) (comes_home (flushed_name old) frozen_entry device (disks old.store)));
+            sealed = None;
+            sealed_log = None;
+            components = map (told_component content) old.list ++ told_component content m ∷ [];
+            flushing = b;
+          }) back in
           fails_so runs failing (flushed_part c p)
           (flush_listed (record (told disks moments content old) { flushing = true }) runs p c (told_component content m) device (moments l.device) is refl some makes of made settled told_so) refl refl refl refl
 

@@ -181,7 +181,8 @@ module _ (t : Told) (p : PartView) (table : Table) (ws : List Write) (is : IsPar
 
   told_home_moments : StoreMomentsLeaveStore (flushed_soon p table ws) (after p table ws c is_flush) t (comes_home (sealed_name p) (λ x. home x) covered (frozen p table ws c is_flush (component_bytes c) made.whole dev t.disks))
   told_home_moments =
-      subst (λ o. MomentsSince (λ disk f g. LeavesStoreAt (flushed_soon p table ws) None g f disk ⊎ LeavesStoreAt (after p table ws c is_flush) None g f disk) t.disks t.log o (comes_home (sealed_name p) (λ x. home x) covered (frozen p table ws c is_flush (component_bytes c) made.whole dev t.disks))) (sym some)
+      subst (λ o. MomentsSince (λ disk f g. LeavesStoreAt (flushed_soon p table ws) None g f disk ⊎ LeavesStoreAt (after p table ws c is_flush) None g f disk) t.disks
+      t.log o (comes_home (sealed_name p) (λ x. home x) covered (frozen p table ws c is_flush (component_bytes c) made.whole dev t.disks))) (sym some)
       (home_moments_since p table ws c is_flush (component_bytes c) made.whole t.disks t.log dev covered is.tells.active made.tells covered_tells kept is.files.jobs made.content)
 
   -- the device of the flush has what a flush makes
@@ -200,7 +201,14 @@ as_soon P t p is flushing covered some go =
     subst P soon.is (go soon.table soon.ws (subst (λ q. IsPart t q) (sym soon.is) is) soon.is)
 
 pub flush_listed : (t u : Told) (p : PartView) (c : Content) (component : ToldComponent) (dev covered : List DiskFile) → IsPart t p → t.flushing ≡ true → t.sealed_log ≡ Some covered → MakesFlush p c → IsOfContent component c → HasMade c t.disks dev → IfTold covered IsSettled
-    → u ≡ record t { disks = removes (Log (t.generation - 1)) (comes_home (Log (t.generation - 1)) frozen_entry covered (comes_home (Component (t.generation - 1) (t.generation - 1)) frozen_entry dev t.disks)); sealed = None; sealed_log = None; components = t.components ++ component ∷ []; flushing = false }
+    → u ≡ record t {
+      disks = removes (Log (t.generation - 1)) (comes_home (Log (t.generation - 1)) frozen_entry covered
+          (comes_home (Component (t.generation - 1) (t.generation - 1)) frozen_entry dev t.disks));
+      sealed = None;
+      sealed_log = None;
+      components = t.components ++ component ∷ [];
+      flushing = false;
+    }
     → IsPart u (flushed_part c p)
 flush_listed t u p c component dev covered is flushing some makes of made settled same =
     as_soon (λ q. MakesFlush q c → IsPart u (flushed_part c q)) t p is flushing covered some

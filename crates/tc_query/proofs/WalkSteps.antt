@@ -147,7 +147,9 @@ last_left f all left older newest key cs same walked last =
     let one : length (newest ∷ walked.passed) ≡ suc (length walked.passed) = refl in
     let long = length-append older (newest ∷ walked.passed) in
     let within : length older < length (older ++ newest ∷ walked.passed) = omega (arith, one, long) in
-    ap (λ ys. slice_get ys (length older)) (sym same) ∙ slice_get-map f all (length older) ∙ ap (option_map f) (ap (λ ys. slice_get ys (length older)) parts ∙ slice_get-get_or (older ++ newest ∷ walked.passed) (length older) newest within ∙ ap Some (get_or-append_seam older newest walked.passed newest))
+    ap (λ ys. slice_get ys (length older)) (sym same) ∙ slice_get-map f all (length older)
+    ∙ ap (option_map f) (ap (λ ys. slice_get ys (length older)) parts ∙ slice_get-get_or (older ++ newest ∷ walked.passed) (length older) newest within
+    ∙ ap Some (get_or-append_seam older newest walked.passed newest))
 
 none_more : {F : Type 0} (c : ComponentState F) (cs : List (ComponentState F)) (key : ℕ) → IsFound c.index.slots key Absent → HaveNone cs key → HaveNone (c ∷ cs) key
 none_more c cs key here rest zero d within = here

@@ -407,7 +407,9 @@ refused_first X Y A B view all_view (Damaged (Bytes file place bytes)) judged ne
 refused_first X Y A B view all_view (Damaged (Files names)) judged next is = ap (λ r. then_judged r next) is
 refused_first X Y A B view all_view (Layout found found_of) judged next is = ap (λ r. then_judged r next) is
 
-pub load_refused : (Y : Type 0) (view : Y → List Index) {F W : Type 0} (tells : F → Option (List ℕ)) (part : Partition) (all us ts : List (Taken F W)) (tiles rest behind : List Interval) (tile : Interval) (list : List (ComponentState F)) (left : List (Taken F W)) (before now : Counts) (t : Taken F W) (cause : FilesCause)
+pub load_refused : (Y : Type 0) (view : Y → List Index) {F W : Type 0} (tells : F → Option (List ℕ)) (part : Partition) (all us ts : List (Taken F W))
+    (tiles rest behind : List Interval) (tile : Interval) (list : List (ComponentState F)) (left : List (Taken F W)) (before now : Counts) (t : Taken F W)
+    (cause : FilesCause)
     → IsStrictlySortedBy name_cmp (names_in all) → AreTilesLeft tells part all us tiles rest list left before now → us ≡ t ∷ ts → rest ≡ tile ∷ behind → is_file_of tile t ≡ true
     → IfSome (tells t.file) (λ bytes. Answers {X = ComponentState F} index_in (Err cause) (component_judged part (newest_names [] list) t.name bytes)) → AreTold tells all
     → Answers view (Err cause) (components_judged part (picture_in tells all) tiles [] [])

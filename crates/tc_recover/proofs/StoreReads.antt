@@ -89,7 +89,8 @@ module _ {T F W : Type 0} (content : F → Option (List ℕ)) (name : F → File
       told_map (IsTakenOf part cs logs disk) (λ now. AreSpare cs now (needless_names name (last x) (left x))) new
       (λ now here. left_is_spare content name disk now cs files (left x) (list x) (last x) here.same taken.ascend taken.named taken.gates tell is read.loaded read.last_is) stays.same
 
-  pub spare_told : EventsKeep → OpeningsKeep → (old new : List Disk) (result : Result T FilesCause) → IfTold old IsAtRest → AreAllTaken content name files old new → IfOk result (λ x. IsReadOf files (list x) (left x) (last x)) → IfTold old (λ disk. AnswersBy (λ x. found_in (list x) (writes x)) result (DiskJudged part disk))
+  pub spare_told : EventsKeep → OpeningsKeep → (old new : List Disk) (result : Result T FilesCause) → IfTold old IsAtRest → AreAllTaken content name files old new
+      → IfOk result (λ x. IsReadOf files (list x) (left x) (last x)) → IfTold old (λ disk. AnswersBy (λ x. found_in (list x) (writes x)) result (DiskJudged part disk))
       → IfTold old (λ disk. (cs : List Content) (logs : List (List Stored)) → DiskOpens part disk cs logs → IfOk result (λ x. IfTold new (λ now. AreSpare cs now (needless_names name (last x) (left x)))))
   spare_told events openings [] new result rests taken is judged = tt
   spare_told events openings (disk ∷ past) new result rests taken is judged = λ cs logs opens. spare_one events openings disk past new cs logs result rests taken is (opened_one disk past new cs logs result rests taken is judged opens) opens

@@ -173,7 +173,8 @@ module _ (head : Head) (cs : List Content) (ws : List Write) (more : List (List 
               each_loaded later
               (subst (λ list. AllZip (IsLoadedOf content) list (cs ++ made.0 ∷ [])) (sym listed.listed) (loaded_behind content old cs listed.component made.0 loaded (loaded_of device_name listed.component listed.made n.now n.past n.is)))
 
-          pub is_flushed : (device_name : FileName) (later : List Disk) → IsListed (IsReadBack content name head device_name device) (FitsBehind old) (behind old) new → later ≡ comes_home (name_of head) frozen_entry device (makes (name_of head) disks) → IsLogsFlushed content head cs (ws ∷ more) new later
+          pub is_flushed : (device_name : FileName) (later : List Disk) → IsListed (IsReadBack content name head device_name device) (FitsBehind old) (behind old) new
+              → later ≡ comes_home (name_of head) frozen_entry device (makes (name_of head) disks) → IsLogsFlushed content head cs (ws ∷ more) new later
           is_flushed device_name later listed came = record {
             made = made.0;
             is_flush = made.1;

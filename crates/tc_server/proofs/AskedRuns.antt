@@ -38,7 +38,8 @@ few_commands (Run options) few = tt
 few_commands (Demo n options) few = few.1
 
 -- over open partitions, whose files are these where they are closed
-pub asked_over : {K : Type 0} (holds : K → Sight → Type 0) (keeps : K → Option ℕ → World → World → Type 0) (rests : Type 0) (spent : K → Type 0) (asked : Invocation) (fault : Option RunFault) (first : Sight) (files : ℕ → List Disk) (most : ℕ) (left left' taken taken' : Option (List ℕ)) (k : K) (kits : List (List Disk))
+pub asked_over : {K : Type 0} (holds : K → Sight → Type 0) (keeps : K → Option ℕ → World → World → Type 0) (rests : Type 0) (spent : K → Type 0) (asked : Invocation)
+    (fault : Option RunFault) (first : Sight) (files : ℕ → List Disk) (most : ℕ) (left left' taken taken' : Option (List ℕ)) (k : K) (kits : List (List Disk))
     → most ≡ (options_asked asked).window → LeavesKits holds keeps rests (options_asked asked) k kits → (fault ≡ None → rests) → IfKnown first (λ only w. length w.parts ≡ (options_asked asked).partitions) → IfSome fault IsOfRun
     → RunsOver asked left left' (λ shown unread unread'. RanLeaving shown holds keeps spent fault first most unread unread' taken taken' k) → AskedOver asked fault first files left left' taken taken' kits
 asked_over holds keeps rests spent asked fault first files most left left' taken taken' k kits same leaves rest many kind ran =

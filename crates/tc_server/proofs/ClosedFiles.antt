@@ -58,7 +58,8 @@ module _ {S D F W : Type 0} (eyes : Eyes S D F W) (size : D → ℕ) where
       Either : Pairs → Type 0
       Either pairs = (pairs ≡ before.now.pairs) ⊎ (pairs ≡ after.now.pairs)
 
-  pub kept_left : (here : Partition) (w v : World) (before after : Part) (e : WithJobs S D F W) (outcome : Result (Unit {0}) EngineFault) (disks : List Disk) (counted : KitFaults) → IsClosed eyes size e outcome disks counted → KeepsPart (works_of eyes e) (told_of eyes e) e.engine.part.limits here w v before after
+  pub kept_left : (here : Partition) (w v : World) (before after : Part) (e : WithJobs S D F W) (outcome : Result (Unit {0}) EngineFault) (disks : List Disk)
+      (counted : KitFaults) → IsClosed eyes size e outcome disks counted → KeepsPart (works_of eyes e) (told_of eyes e) e.engine.part.limits here w v before after
       → Leaves here (λ pairs. (pairs ≡ before.now.pairs) ⊎ (pairs ≡ after.now.pairs)) disks
   kept_left here w v before after e outcome disks counted closed (inl h) =
       leaves_so here (λ pairs. pairs ≡ before.now.pairs) (λ pairs. (pairs ≡ before.now.pairs) ⊎ (pairs ≡ after.now.pairs)) disks (λ pairs is. inl is) (held_left here w before e outcome disks counted closed h)

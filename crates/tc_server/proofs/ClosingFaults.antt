@@ -53,7 +53,9 @@ pub all_well : {K : Type 0} (outcome : K → Result (Unit {0}) EngineFault) (n :
 all_well outcome n [] none = tt
 all_well {K = K} outcome n (k ∷ ks) none = one (outcome k) none (all_well outcome (suc n) ks)
   where
-    one : (r : Result (Unit {0}) EngineFault) → fault_before n r (least_fault (suc n) (map outcome ks)) ≡ None → (least_fault (suc n) (map outcome ks) ≡ None → EachFrom (λ p k. IfErr (outcome k) (λ fault. ⊥)) (suc n) ks) → IfErr r (λ fault. ⊥) × EachFrom (λ p k. IfErr (outcome k) (λ fault. ⊥)) (suc n) ks
+    one : (r : Result (Unit {0}) EngineFault) → fault_before n r (least_fault (suc n) (map outcome ks)) ≡ None
+        → (least_fault (suc n) (map outcome ks) ≡ None → EachFrom (λ p k. IfErr (outcome k) (λ fault. ⊥)) (suc n) ks)
+        → IfErr r (λ fault. ⊥) × EachFrom (λ p k. IfErr (outcome k) (λ fault. ⊥)) (suc n) ks
     one (Ok done) is more = (tt, more is)
     one (Err why) is more = absurd (cc)
 
@@ -160,14 +162,17 @@ module _ {K : Type 0} (holds : K → Sight → Type 0) (keeps : K → Option ℕ
         stands = λ never. absurd (cc);
       }
 
-  ran_behind : (count : ℕ) (shown : Shown) (fault : RunFault) (first : Sight) (most : ℕ) (unread unread' taken taken' : Option (List ℕ)) → IsOfJob fault → ((v : World) → length v.parts ≡ count → holds k (sees None v) ⊎ keeps k None v v → IsNoDamage fault) → IfKnown first (λ only w. length w.parts ≡ count)
+  ran_behind : (count : ℕ) (shown : Shown) (fault : RunFault) (first : Sight) (most : ℕ) (unread unread' taken taken' : Option (List ℕ)) → IsOfJob fault
+      → ((v : World) → length v.parts ≡ count → holds k (sees None v) ⊎ keeps k None v v → IsNoDamage fault) → IfKnown first (λ only w. length w.parts ≡ count)
       → RanLeaving shown holds keeps spent None first most unread unread' taken taken' k → RanLeaving shown holds keeps spent (Some fault) first most unread unread' taken taken' k
   ran_behind count shown fault first most unread unread' taken taken' of sound many r =
       ran_stopped shown fault first most unread unread' taken taken' of r
       (sound_behind count fault first r.run.ran.answered r.run.ran.last sound many (subst (λ e. IsLeft holds keeps k first (λ w. worlds_left e w r.run.ran.answered r.run.ran.last)) r.run.by r.left))
 
 -- over open partitions, whose files are these where they are closed, and whose engines ended by this fault, or by none
-pub closed_over : {K : Type 0} (holds : K → Sight → Type 0) (keeps : K → Option ℕ → World → World → Type 0) (rests : Type 0) (spent : K → Type 0) (asked : Invocation) (answer : Result (Unit {0}) RunFault) (ended : Option RunFault) (first : Sight) (files : ℕ → List Disk) (most : ℕ) (left left' taken taken' : Option (List ℕ)) (k : K) (kits : List (List Disk))
+pub closed_over : {K : Type 0} (holds : K → Sight → Type 0) (keeps : K → Option ℕ → World → World → Type 0) (rests : Type 0) (spent : K → Type 0) (asked : Invocation)
+    (answer : Result (Unit {0}) RunFault) (ended : Option RunFault) (first : Sight) (files : ℕ → List Disk) (most : ℕ) (left left' taken taken' : Option (List ℕ))
+    (k : K) (kits : List (List Disk))
     → most ≡ (options_asked asked).window → LeavesKits holds keeps (rests × (ended ≡ None)) (options_asked asked) k kits → (fault_in answer ≡ None → rests) → IfKnown first (λ only w. length w.parts ≡ (options_asked asked).partitions) → IfSome (fault_in answer) IsOfRun → IfSome ended IsOfJob
     → (rests → (v : World) → length v.parts ≡ (options_asked asked).partitions → holds k (sees None v) ⊎ keeps k None v v → IfSome ended IsNoDamage)
     → RunsOver asked left left' (λ shown unread unread'. RanLeaving shown holds keeps spent (fault_in answer) first most unread unread' taken taken' k) → AskedOver asked (fault_behind answer ended) first files left left' taken taken' kits

@@ -53,7 +53,8 @@ fault_cause (Damaged p damage) lines taken taken' before now a b first spent one
 fault_cause Memory lines taken taken' before now a b first spent one up rose wrote = record { kept = up; failed = λ write. absurd write; kind = tt; disks = call_without_memory a b first spent one }
 fault_cause (Layout p found found_of asked_of) lines taken taken' before now a b first spent one up rose wrote = absurd wrote
 
-pub lines_cause : {T : Type 0} (r : Result T RunFault) (lines : List ℕ) (taken taken' : Option (List ℕ)) (before now : ℕ) (a b : DiskFaults) (first spent : Type 0) → HasDiskCause a b first None → before ≤ now → IfErr r (λ f. IsWrite f → Rose before now) → IfErr r (λ f. WroteSome f lines taken taken')
+pub lines_cause : {T : Type 0} (r : Result T RunFault) (lines : List ℕ) (taken taken' : Option (List ℕ)) (before now : ℕ) (a b : DiskFaults) (first spent : Type 0)
+    → HasDiskCause a b first None → before ≤ now → IfErr r (λ f. IsWrite f → Rose before now) → IfErr r (λ f. WroteSome f lines taken taken')
     → HasCauses before now a b spent (fault_in r)
 lines_cause (Ok x) lines taken taken' before now a b first spent one up rose wrote = all_done before now a b first spent one up
 lines_cause (Err f) lines taken taken' before now a b first spent one up rose wrote = fault_cause f lines taken taken' before now a b first spent one up rose wrote
@@ -69,7 +70,8 @@ module _ {K : Type 0} (holds : K → Sight → Type 0) (keeps : K → Option ℕ
   fault_leaves n Memory first most taken taken' k heard a wrote = makes_no_lines holds keeps spent n first most taken taken' k heard wrote a
   fault_leaves n (Layout p found found_of asked_of) first most taken taken' k heard a wrote = absurd wrote
 
-  pub lines_leave : {T : Type 0} (r : Result T RunFault) (n : ℕ) (first : Sight) (most : ℕ) (taken taken' : Option (List ℕ)) (k : K) (heard : Heard) → HasHeardAll holds first (generated n) k heard → OnOk r (Appends taken taken' (lines_for n heard)) → IfErr r (λ f. WroteSome f (lines_for n heard) taken taken')
+  pub lines_leave : {T : Type 0} (r : Result T RunFault) (n : ℕ) (first : Sight) (most : ℕ) (taken taken' : Option (List ℕ)) (k : K) (heard : Heard)
+      → HasHeardAll holds first (generated n) k heard → OnOk r (Appends taken taken' (lines_for n heard)) → IfErr r (λ f. WroteSome f (lines_for n heard) taken taken')
       → DemoLeaving holds keeps spent n (fault_in r) first most taken taken' k
   lines_leave (Ok x) n first most taken taken' k heard a whole part = writes_lines holds keeps spent n first most taken taken' k heard a whole
   lines_leave (Err f) n first most taken taken' k heard a whole part = fault_leaves n f first most taken taken' k heard a part

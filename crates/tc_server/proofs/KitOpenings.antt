@@ -106,7 +106,8 @@ disk_of p count opening.Memory old new rose = tt
 abbrev pub OfLawful : Partition → List Disk → (List Content → List (List PlainWrite) → Type 0) → Type 0
 OfLawful here came P = IfTold came (λ disk. (cs : List Content) (logs : List (List PlainWrite)) → DiskOpens here disk cs logs → P cs logs)
 
-lawful_both : (here : Partition) (came : List Disk) (P Q : List Content → List (List PlainWrite) → Type 0) (R : List Content → List (List PlainWrite) → Type 0) → ((cs : List Content) (logs : List (List PlainWrite)) → P cs logs → Q cs logs → R cs logs) → OfLawful here came P → OfLawful here came Q → OfLawful here came R
+lawful_both : (here : Partition) (came : List Disk) (P Q : List Content → List (List PlainWrite) → Type 0) (R : List Content → List (List PlainWrite) → Type 0)
+    → ((cs : List Content) (logs : List (List PlainWrite)) → P cs logs → Q cs logs → R cs logs) → OfLawful here came P → OfLawful here came Q → OfLawful here came R
 lawful_both here [] P Q R both p q = tt
 lawful_both here (disk ∷ past) P Q R both p q = λ cs logs opens. both cs logs (p cs logs opens) (q cs logs opens)
 
@@ -120,7 +121,8 @@ given_back disks counts content name p count cause kit back here undamaged keeps
   of = is_of_opening p count cause;
   keeps = told_map (λ disk. (cs : List Content) (logs : List (List PlainWrite)) → DiskOpens (partition_at p count) disk cs logs → step.Keeps (partition_at p count) (recovered cs logs).pairs (disks kit.store) (disks back.store)) _ (disks kit.store)
       (λ disk all cs logs opens. (all cs logs opens).kept) keeps;
-  sound = lawful_both (partition_at p count) (disks kit.store) (λ cs logs. causes.IfLayout cause ⊥) (λ cs logs. causes.IfDamaged cause (λ damage. ⊥)) (λ cs logs. IsNoDamage (fault_of_opening p count cause) × IsHere (fault_of_opening p count cause)) (λ cs logs. undamaged_here p count cause) here undamaged;
+  sound = lawful_both (partition_at p count) (disks kit.store) (λ cs logs. causes.IfLayout cause ⊥) (λ cs logs. causes.IfDamaged cause (λ damage. ⊥))
+      (λ cs logs. IsNoDamage (fault_of_opening p count cause) × IsHere (fault_of_opening p count cause)) (λ cs logs. undamaged_here p count cause) here undamaged;
   judged = told_map (λ disk. CauseJudged content name (partition_at p count) disk cause) (λ disk. IsJudged (partition_at p count) disk (Some (fault_of_opening p count cause))) (disks kit.store) (refused_by content name p count cause) judged;
   untouched = untouched;
   spent = λ is. told_map (λ disk. CauseJudged content name (partition_at p count) disk cause) (λ disk. Passes (partition_at p count) disk AreSpent) (disks kit.store) (λ disk. spent_by content name p count cause disk is) judged;

@@ -68,7 +68,9 @@ module _ {S D F W K : Type 0} (eyes : Eyes S D F W) (size : D → ℕ) (outcome 
       Beside : ℕ → Part → K → Type 0
       Beside p part k = IsSeen only p → LeavesOneOf count worlds p (disks k)
 
-      one : (p : ℕ) (e : WithJobs S D F W) (part : Part) (k : K) → (IsSeen only p → HoldsPart (works_of eyes e) (told_of eyes e) e.engine.part.limits (partition_at p (length w.parts)) w part) × (slice_get w.parts p ≡ Some part) → IsClosed eyes size e (outcome k) (disks k) (faults k) → Beside p part k
+      one : (p : ℕ) (e : WithJobs S D F W) (part : Part) (k : K) →
+          (IsSeen only p → HoldsPart (works_of eyes e) (told_of eyes e) e.engine.part.limits (partition_at p (length w.parts)) w part)
+          × (slice_get w.parts p ≡ Some part) → IsClosed eyes size e (outcome k) (disks k) (faults k) → Beside p part k
       one p e part k (h, there) c = λ seen.
           leaves_so (partition_at p count) (λ pairs. pairs ≡ part.now.pairs) (IsStoredInOne p worlds) (disks k) (λ pairs same. stored_at p w part pairs worlds there is same)
           (subst (λ n. Leaves (partition_at p n) (λ pairs. pairs ≡ part.now.pairs) (disks k)) many (held_left eyes size (partition_at p (length w.parts)) w part e (outcome k) (disks k) (faults k) c (h seen)))
@@ -88,7 +90,9 @@ module _ {S D F W K : Type 0} (eyes : Eyes S D F W) (size : D → ℕ) (outcome 
       Beside : ℕ → Part × Part → K → Type 0
       Beside p parts k = IsSeen only p → LeavesOneOf count worlds p (disks k)
 
-      one : (p : ℕ) (e : WithJobs S D F W) (parts : Part × Part) (k : K) → (IsSeen only p → KeepsPart (works_of eyes e) (told_of eyes e) e.engine.part.limits (partition_at p (length w.parts)) w v parts.0 parts.1) × (slice_get both p ≡ Some parts) → IsClosed eyes size e (outcome k) (disks k) (faults k) → Beside p parts k
+      one : (p : ℕ) (e : WithJobs S D F W) (parts : Part × Part) (k : K)
+          → (IsSeen only p → KeepsPart (works_of eyes e) (told_of eyes e) e.engine.part.limits (partition_at p (length w.parts)) w v parts.0 parts.1)
+          × (slice_get both p ≡ Some parts) → IsClosed eyes size e (outcome k) (disks k) (faults k) → Beside p parts k
       one p e parts k (kept, there) c = λ seen.
           let at = zip_places w.parts v.parts p parts there in
           leaves_so (partition_at p count) (λ pairs. (pairs ≡ parts.0.now.pairs) ⊎ (pairs ≡ parts.1.now.pairs)) (IsStoredInOne p worlds) (disks k)
@@ -144,7 +148,9 @@ module _ {S D F W K : Type 0} (eyes : Eyes S D F W) (size : D → ℕ) (outcome 
 
     -- each part of a world that is looked at is left small, where each engine ended well
     pub held_small : (only : Option ℕ) (options : Options) (w : World) (es : List (WithJobs S D F W)) (ks : List K) → length w.parts ≡ options.partitions → 2 ≤ options.merge → options.merge ≤ 9 → empty_size < options.memory → All (IsSet options) es → All (IsSettled size) es
-        → EachFrom (λ p k. IfErr (outcome k) (λ fault. ⊥)) 0 ks → AtEach (λ p e part. IsSeen only p → HoldsPart (works_of eyes e) (told_of eyes e) e.engine.part.limits (partition_at p (length w.parts)) w part) 0 es w.parts → AreClosed es ks → EachFrom (λ p k. IsSeen only p → LeavesSmall options w.flushed p (disks k)) 0 ks
+        → EachFrom (λ p k. IfErr (outcome k) (λ fault. ⊥)) 0 ks → AtEach
+        (λ p e part. IsSeen only p → HoldsPart (works_of eyes e) (told_of eyes e) e.engine.part.limits (partition_at p (length w.parts)) w part) 0 es w.parts
+        → AreClosed es ks → EachFrom (λ p k. IsSeen only p → LeavesSmall options w.flushed p (disks k)) 0 ks
     held_small only options w es ks many two nine long sets settled well held closed =
         subst (λ n. EachFrom (λ p k. IsSeen only p → Small options (partition_at p n) w (disks k)) 0 ks) many
         (each_small 0 es w.parts ks sets settled well held closed)

@@ -112,7 +112,8 @@ both_many count nothing answered many = tt
 both_many count (sees only w) answered many = (many, many_left count w finished answered [] many (behind w answered) (inl refl))
 
 -- a run over open partitions, whose files are these where they are closed
-pub ran_over : {K : Type 0} (shown : Shown) (holds : K → Sight → Type 0) (keeps : K → Option ℕ → World → World → Type 0) (rests : Type 0) (spent : K → Type 0) (fault : Option RunFault) (first : Sight) (options : Options) (files : ℕ → List Disk) (left left' taken taken' : Option (List ℕ)) (k : K) (kits : List (List Disk))
+pub ran_over : {K : Type 0} (shown : Shown) (holds : K → Sight → Type 0) (keeps : K → Option ℕ → World → World → Type 0) (rests : Type 0) (spent : K → Type 0)
+    (fault : Option RunFault) (first : Sight) (options : Options) (files : ℕ → List Disk) (left left' taken taken' : Option (List ℕ)) (k : K) (kits : List (List Disk))
     → LeavesKits holds keeps rests options k kits → (fault ≡ None → rests) → IfKnown first (λ only w. length w.parts ≡ options.partitions)
     → IfSome fault IsOfRun → RanLeaving shown holds keeps spent fault first options.window left left' taken taken' k → RanOver shown fault first options files left left' taken taken' kits
 ran_over shown holds keeps rests spent fault first options files left left' taken taken' k kits leaves rest many kind r = record {

@@ -87,7 +87,9 @@ set_begun eyes options (e ∷ es) begun =
     let b = All-head (IsBegun eyes options) e es begun in
     All-cons (λ (s : ℕ × Policy). (s.0 ≡ options.memory) × (listed_least s.1 ≡ options.merge)) (e.engine.part.memory, e.engine.policy) (map (λ e. (e.engine.part.memory, e.engine.policy)) es) (b.memory, b.merges) (set_begun eyes options es (All-tail (IsBegun eyes options) e es begun))
 
-set_read : {S D F W : Type 0} (options : Options) (es : List (WithJobs S D F W)) → All (λ (s : ℕ × Policy). (s.0 ≡ options.memory) × (listed_least s.1 ≡ options.merge)) (map (λ e. (e.engine.part.memory, e.engine.policy)) es) → All (λ e. (e.engine.part.memory ≡ options.memory) × (listed_least e.engine.policy ≡ options.merge)) es
+set_read : {S D F W : Type 0} (options : Options) (es : List (WithJobs S D F W))
+    → All (λ (s : ℕ × Policy). (s.0 ≡ options.memory) × (listed_least s.1 ≡ options.merge)) (map (λ e. (e.engine.part.memory, e.engine.policy)) es)
+    → All (λ e. (e.engine.part.memory ≡ options.memory) × (listed_least e.engine.policy ≡ options.merge)) es
 set_read options [] sets = All-nil (λ e. (e.engine.part.memory ≡ options.memory) × (listed_least e.engine.policy ≡ options.merge))
 set_read options (e ∷ es) sets =
     All-cons (λ e. (e.engine.part.memory ≡ options.memory) × (listed_least e.engine.policy ≡ options.merge)) e es
@@ -114,7 +116,9 @@ module _ {S W D F P K : Type 0} (eyes : Eyes S D F W) (size : D → ℕ) (outcom
   }
     where
       sets : All (IsSet eyes size outcome left faults options) k'.engines
-      sets = set_read options k'.engines (subst (All (λ (s : ℕ × Policy). (s.0 ≡ options.memory) × (listed_least s.1 ≡ options.merge))) (sym settings) (subst (λ (p : Partitions S P W D F). All (λ (s : ℕ × Policy). (s.0 ≡ options.memory) × (listed_least s.1 ≡ options.merge)) (settings_of p)) (sym is) (set_begun eyes options es begun)))
+      sets = set_read options k'.engines (subst (All (λ (s : ℕ × Policy). (s.0 ≡ options.memory) × (listed_least s.1 ≡ options.merge))) (sym settings)
+          (subst (λ (p : Partitions S P W D F). All (λ (s : ℕ × Policy). (s.0 ≡ options.memory) × (listed_least s.1 ≡ options.merge)) (settings_of p)) (sym is)
+          (set_begun eyes options es begun)))
 
   pub last_left : IsSpent eyes.disks eyes.history eyes.content k' → SomeFrom (λ p kit. IfTold (left kit) HasLastGeneration) 0 ks
   unfolding IsSpent
@@ -244,7 +248,8 @@ damaged_over counts k k' (Some (Layout p found found_of asked_of)) settings ther
 
 -- ---- what counts of a fault with which an engine ended
 
-module _ {S W D F P K : Type 0} (eyes : Eyes S D F W) (size : D → ℕ) (outcome : K → Result (Unit {0}) EngineFault) (left : K → List Disk) (faults : K → KitFaults) (k k' : Partitions S P W D F) (ks : List K) (closed : AreClosed eyes size outcome left faults k'.engines ks) (settings : settings_of k' ≡ settings_of k) where
+module _ {S W D F P K : Type 0} (eyes : Eyes S D F W) (size : D → ℕ) (outcome : K → Result (Unit {0}) EngineFault) (left : K → List Disk) (faults : K → KitFaults)
+    (k k' : Partitions S P W D F) (ks : List K) (closed : AreClosed eyes size outcome left faults k'.engines ks) (settings : settings_of k' ≡ settings_of k) where
   -- a fault of the disk: a watch of the kit at its place counted one more
   abbrev Rises : ℕ → Type 0
   Rises q = (q < length k.engines) × AtEach (λ p e kit. p ≡ q → OneRose (faults_at eyes.counts e) (faults kit)) 0 k.engines ks

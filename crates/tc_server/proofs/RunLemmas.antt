@@ -142,7 +142,9 @@ ends_as spent Memory stop by cause = let same : stop ≡ gave_up = cc in ap endi
 ends_as spent (Layout p found found_of asked_of) stop by cause = absurd (cc)
 
 -- a fault in windows that have closed ends the run
-ends_among : {K : Type 0} (holds : K → Sight → Type 0) (keeps : K → Option ℕ → World → World → Type 0) (spent : K → Type 0) (first : Sight) (limit : ℕ) (input : List ℕ) (begun left base taken : Option (List ℕ)) (fault : RunFault) (k : K) (closed : List Window) → Consumes begun left input → HaveClosed limit input left closed → (fault ≡ Spent → spent k)
+ends_among : {K : Type 0} (holds : K → Sight → Type 0) (keeps : K → Option ℕ → World → World → Type 0) (spent : K → Type 0) (first : Sight) (limit : ℕ)
+    (input : List ℕ) (begun left base taken : Option (List ℕ)) (fault : RunFault) (k : K) (closed : List Window) → Consumes begun left input
+    → HaveClosed limit input left closed → (fault ≡ Spent → spent k)
     → StopsIn holds keeps first fault base closed taken k → RanLeaving each_line holds keeps spent (Some fault) first limit begun left base taken k
 ends_among holds keeps spent first limit input begun left base taken fault k closed consumed have cause stops = record {
   run = record {
@@ -165,7 +167,9 @@ ends_among holds keeps spent first limit input begun left base taken fault k clo
 }
 
 -- the same in windows with which those that have closed begin
-among_more : {K : Type 0} (holds : K → Sight → Type 0) (keeps : K → Option ℕ → World → World → Type 0) (first : Sight) (fault : RunFault) (base taken : Option (List ℕ)) (k : K) (closed front : List Window) → BeginsWith closed front → StopsIn holds keeps first fault base front taken k → StopsIn holds keeps first fault base closed taken k
+among_more : {K : Type 0} (holds : K → Sight → Type 0) (keeps : K → Option ℕ → World → World → Type 0) (first : Sight) (fault : RunFault)
+    (base taken : Option (List ℕ)) (k : K) (closed front : List Window) → BeginsWith closed front → StopsIn holds keeps first fault base front taken k
+    → StopsIn holds keeps first fault base closed taken k
 among_more holds keeps first fault base taken k closed front begins stops = record {
   stop = stops.stop;
   by = stops.by;
@@ -181,7 +185,9 @@ among_more holds keeps first fault base taken k closed front begins stops = reco
   };
 }
 
-ends_in : {K : Type 0} (holds : K → Sight → Type 0) (keeps : K → Option ℕ → World → World → Type 0) (spent : K → Type 0) (first : Sight) (limit : ℕ) (seen : List (List ℕ)) (input : List ℕ) (begun left base taken : Option (List ℕ)) (fault : RunFault) (k : K) → Consumes begun left input → HasClosed limit seen input left → (fault ≡ Spent → spent k)
+ends_in : {K : Type 0} (holds : K → Sight → Type 0) (keeps : K → Option ℕ → World → World → Type 0) (spent : K → Type 0) (first : Sight) (limit : ℕ)
+    (seen : List (List ℕ)) (input : List ℕ) (begun left base taken : Option (List ℕ)) (fault : RunFault) (k : K) → Consumes begun left input
+    → HasClosed limit seen input left → (fault ≡ Spent → spent k)
     → StopsIn holds keeps first fault base (windows_of limit seen).closed taken k → RanLeaving each_line holds keeps spent (Some fault) first limit begun left base taken k
 ends_in holds keeps spent first limit seen input begun left base taken fault k consumed has cause stops =
     ends_among holds keeps spent first limit input begun left base taken fault k has.closed consumed has.have cause (among_more holds keeps first fault base taken k has.closed (windows_of limit seen).closed has.begin stops)
@@ -200,7 +206,9 @@ goes_on holds first line old new before after begun left left' base taken taken'
   prompt = subst (λ limit. GavePromptly (IsDue each_line (whole_of first) limit base) (come.heard.input ++ now) told told'') (sym same) (asks_promptly holds first old before begun left base taken told told' told'' goes come now reads);
 }
 
-pub fails_at_line : {told told' : Option (List Moment)} {K : Type 0} (holds : K → Sight → Type 0) (keeps : K → Option ℕ → World → World → Type 0) (spent : K → Type 0) (first : Sight) (fault : RunFault) (line : List ℕ) (old new : Reading) (before after : Session K) (begun left left' base taken taken' : Option (List ℕ)) → old.ended ≡ false → (come : HasCome holds first old before begun left base taken told told')
+pub fails_at_line : {told told' : Option (List Moment)} {K : Type 0} (holds : K → Sight → Type 0) (keeps : K → Option ℕ → World → World → Type 0) (spent : K → Type 0)
+    (first : Sight) (fault : RunFault) (line : List ℕ) (old new : Reading) (before after : Session K) (begun left left' base taken taken' : Option (List ℕ))
+    → old.ended ≡ false → (come : HasCome holds first old before begun left base taken told told')
     → (now : List ℕ) → Consumes left left' now → new.taken ≡ old.taken + length now → IsNextLine (old.held ++ now) line new left'
     → (fault ≡ Spent → spent after.keeper) → FailsAtLine holds keeps fault line before taken after taken'
     → RanLeaving each_line holds keeps spent (Some fault) first before.window.limit begun left' base taken' after.keeper
@@ -247,7 +255,9 @@ stands_behind : {K : Type 0} (holds : K → Sight → Type 0) (first : Sight) (c
 stands_behind holds (sees only w) closed k held = held
 stands_behind holds nothing closed k held = tt
 
-pub ran_to_end : {K : Type 0} (holds : K → Sight → Type 0) (keeps : K → Option ℕ → World → World → Type 0) (spent : K → Type 0) (first : Sight) (limit : ℕ) (seen : List (List ℕ)) (session : Session K) (begun left base taken : Option (List ℕ)) → HasHeardAll seen begun left → IsAt holds first base (with_end (windows_of limit seen)) session taken
+pub ran_to_end : {K : Type 0} (holds : K → Sight → Type 0) (keeps : K → Option ℕ → World → World → Type 0) (spent : K → Type 0) (first : Sight) (limit : ℕ)
+    (seen : List (List ℕ)) (session : Session K) (begun left base taken : Option (List ℕ)) → HasHeardAll seen begun left
+    → IsAt holds first base (with_end (windows_of limit seen)) session taken
     → RanLeaving each_line holds keeps spent None first limit begun left base taken session.keeper
 ran_to_end holds keeps spent first limit seen session begun left base taken heard at = record {
   run = record {
@@ -269,14 +279,18 @@ ran_to_end holds keeps spent first limit seen session begun left base taken hear
   stands = λ none. stands_behind holds first (with_end (windows_of limit seen)).closed session.keeper at.store;
 }
 
-pub fails_at_end : {K : Type 0} (holds : K → Sight → Type 0) (keeps : K → Option ℕ → World → World → Type 0) (spent : K → Type 0) (first : Sight) (limit : ℕ) (seen : List (List ℕ)) (fault : RunFault) (begun left base taken : Option (List ℕ)) (k : K) → HasHeardAll seen begun left → (fault ≡ Spent → spent k) → StopsIn holds keeps first fault base (with_end (windows_of limit seen)).closed taken k
+pub fails_at_end : {K : Type 0} (holds : K → Sight → Type 0) (keeps : K → Option ℕ → World → World → Type 0) (spent : K → Type 0) (first : Sight) (limit : ℕ)
+    (seen : List (List ℕ)) (fault : RunFault) (begun left base taken : Option (List ℕ)) (k : K) → HasHeardAll seen begun left → (fault ≡ Spent → spent k)
+    → StopsIn holds keeps first fault base (with_end (windows_of limit seen)).closed taken k
     → RanLeaving each_line holds keeps spent (Some fault) first limit begun left base taken k
 fails_at_end holds keeps spent first limit seen fault begun left base taken k heard cause stops =
     ends_among holds keeps spent first limit heard.input begun left base taken fault k (with_end (windows_of limit seen)).closed heard.consumed (inr (heard.all.at_end, all_windows limit seen heard.input left heard.all)) cause stops
 
 -- ---- a failure of the reader
 
-pub read_failed : {told told' : Option (List Moment)} {K : Type 0} (holds : K → Sight → Type 0) (keeps : K → Option ℕ → World → World → Type 0) (spent : K → Type 0) (first : Sight) (old : Reading) (session : Session K) (begun left left' base taken : Option (List ℕ)) → old.ended ≡ false → HasCome holds first old session begun left base taken told told'
+pub read_failed : {told told' : Option (List Moment)} {K : Type 0} (holds : K → Sight → Type 0) (keeps : K → Option ℕ → World → World → Type 0) (spent : K → Type 0)
+    (first : Sight) (old : Reading) (session : Session K) (begun left left' base taken : Option (List ℕ)) → old.ended ≡ false
+    → HasCome holds first old session begun left base taken told told'
     → (now : List ℕ) → Consumes left left' now → whole_lines (old.held ++ now) ≡ [] → RanLeaving each_line holds keeps spent (Some Read) first session.window.limit begun left' base taken session.keeper
 read_failed holds keeps spent first old session begun left left' base taken goes come now consumed none = record {
   run = record {
@@ -298,7 +312,9 @@ read_failed holds keeps spent first old session begun left left' base taken goes
   stands = λ never. absurd (cc);
 }
 
-pub all_taken : {told told' : Option (List Moment)} {K : Type 0} (holds : K → Sight → Type 0) (keeps : K → Option ℕ → World → World → Type 0) (spent : K → Type 0) (first : Sight) (old new : Reading) (session : Session K) (begun left left' base taken : Option (List ℕ)) → old.ended ≡ false → HasCome holds first old session begun left base taken told told'
+pub all_taken : {told told' : Option (List Moment)} {K : Type 0} (holds : K → Sight → Type 0) (keeps : K → Option ℕ → World → World → Type 0) (spent : K → Type 0)
+    (first : Sight) (old new : Reading) (session : Session K) (begun left left' base taken : Option (List ℕ)) → old.ended ≡ false
+    → HasCome holds first old session begun left base taken told told'
     → (now : List ℕ) → Consumes left left' now → new.taken ≡ old.taken + length now → whole_lines (old.held ++ now) ≡ [] → new.taken ≡ MAX_TAKEN
     → RanLeaving each_line holds keeps spent (Some Spent) first session.window.limit begun left' base taken session.keeper
 all_taken holds keeps spent first old new session begun left left' base taken goes come now consumed counted none all = record {
@@ -325,7 +341,9 @@ all_taken holds keeps spent first old new session begun left left' base taken go
   stands = λ never. absurd (cc);
 }
 
-pub reads_without_memory : {told told' : Option (List Moment)} {K : Type 0} (holds : K → Sight → Type 0) (keeps : K → Option ℕ → World → World → Type 0) (spent : K → Type 0) (first : Sight) (old : Reading) (session : Session K) (begun left left' base taken : Option (List ℕ)) → old.ended ≡ false → HasCome holds first old session begun left base taken told told'
+pub reads_without_memory : {told told' : Option (List Moment)} {K : Type 0} (holds : K → Sight → Type 0) (keeps : K → Option ℕ → World → World → Type 0)
+    (spent : K → Type 0) (first : Sight) (old : Reading) (session : Session K) (begun left left' base taken : Option (List ℕ)) → old.ended ≡ false
+    → HasCome holds first old session begun left base taken told told'
     → (now : List ℕ) → Consumes left left' now → RanLeaving each_line holds keeps spent (Some Memory) first session.window.limit begun left' base taken session.keeper
 reads_without_memory holds keeps spent first old session begun left left' base taken goes come now consumed =
     let limit = session.window.limit in
@@ -396,7 +414,10 @@ begins holds first limit reading session left taken told fresh store requests by
     }
 
 -- a run that gives up between two lines has answered the windows that have closed
-pub gives_up : {told told' : Option (List Moment)} {K : Type 0} (holds : K → Sight → Type 0) (keeps : K → Option ℕ → World → World → Type 0) (spent : K → Type 0) (first : Sight) (reading : Reading) (session : Session K) (begun left base taken : Option (List ℕ)) → HasCome holds first reading session begun left base taken told told' → RanLeaving each_line holds keeps spent (Some Memory) first session.window.limit begun left base taken session.keeper
+pub gives_up : {told told' : Option (List Moment)} {K : Type 0} (holds : K → Sight → Type 0) (keeps : K → Option ℕ → World → World → Type 0) (spent : K → Type 0)
+    (first : Sight) (reading : Reading) (session : Session K) (begun left base taken : Option (List ℕ))
+    → HasCome holds first reading session begun left base taken told told'
+    → RanLeaving each_line holds keeps spent (Some Memory) first session.window.limit begun left base taken session.keeper
 gives_up holds keeps spent first reading session begun left base taken come =
     ends_in holds keeps spent first session.window.limit come.seen come.heard.input begun left base taken Memory session.keeper come.heard.consumed (has_closed session.window.limit come.seen reading begun left come.heard) (λ same. absurd (cc))
     (stops_between holds keeps first base taken (windows_of session.window.limit come.seen) session come.at)
@@ -408,7 +429,9 @@ settles_not : {K : Type 0} (holds : K → Sight → Type 0) (keeps : K → Optio
 settles_not holds keeps (sees only w) k fails = record { one = w; other = w; one_of = inl refl; other_of = inl refl; left = inr (fails only w refl) }
 settles_not holds keeps nothing k fails = tt
 
-pub begins_not : {K : Type 0} (holds : K → Sight → Type 0) (keeps : K → Option ℕ → World → World → Type 0) (spent : K → Type 0) (first : Sight) (most : ℕ) (left taken : Option (List ℕ)) (fault : RunFault) (k : K) → IsOfStore fault → (fault ≡ Spent → spent k) → ((w : World) → first ≡ sees None w → IsNoDamage fault) → ((only : Option ℕ) (w : World) → first ≡ sees only w → keeps k only w w)
+pub begins_not : {K : Type 0} (holds : K → Sight → Type 0) (keeps : K → Option ℕ → World → World → Type 0) (spent : K → Type 0) (first : Sight) (most : ℕ)
+    (left taken : Option (List ℕ)) (fault : RunFault) (k : K) → IsOfStore fault → (fault ≡ Spent → spent k) → ((w : World) → first ≡ sees None w → IsNoDamage fault)
+    → ((only : Option ℕ) (w : World) → first ≡ sees only w → keeps k only w w)
     → RanLeaving each_line holds keeps spent (Some fault) first most left left taken taken k
 begins_not holds keeps spent first most left taken fault k kind cause sound fails =
     ends_among holds keeps spent first most [] left left taken taken fault k (closed_windows most []) (Consumes-nil left) (inl refl) cause (record {

@@ -114,7 +114,8 @@ stands_left holds keeps (sees only w) closed k held = record { one = behind w cl
 stands_left holds keeps nothing closed k held = tt
 
 -- where memory is wanting before more is answered, the windows that had closed were answered
-pub stops_before : {K : Type 0} (holds : K → Sight → Type 0) (keeps : K → Option ℕ → World → World → Type 0) (first : Sight) (base taken : Option (List ℕ)) (ws : Windows) (session : Session K) (k : K) (whole : List Window) → IsAt holds first base ws session taken → k ≡ session.keeper → BeginsWith whole ws.closed
+pub stops_before : {K : Type 0} (holds : K → Sight → Type 0) (keeps : K → Option ℕ → World → World → Type 0) (first : Sight) (base taken : Option (List ℕ))
+    (ws : Windows) (session : Session K) (k : K) (whole : List Window) → IsAt holds first base ws session taken → k ≡ session.keeper → BeginsWith whole ws.closed
     → StopsIn holds keeps first Memory base whole taken k
 stops_before holds keeps first base taken ws session k whole at same among = record {
   stop = gave_up;
@@ -131,7 +132,8 @@ stops_before holds keeps first base taken ws session k whole at same among = rec
   };
 }
 
-pub stops_between : {K : Type 0} (holds : K → Sight → Type 0) (keeps : K → Option ℕ → World → World → Type 0) (first : Sight) (base taken : Option (List ℕ)) (ws : Windows) (session : Session K) → IsAt holds first base ws session taken → StopsIn holds keeps first Memory base ws.closed taken session.keeper
+pub stops_between : {K : Type 0} (holds : K → Sight → Type 0) (keeps : K → Option ℕ → World → World → Type 0) (first : Sight) (base taken : Option (List ℕ))
+    (ws : Windows) (session : Session K) → IsAt holds first base ws session taken → StopsIn holds keeps first Memory base ws.closed taken session.keeper
 stops_between holds keeps first base taken ws session at = stops_before holds keeps first base taken ws session session.keeper ws.closed at refl (BeginsWith-refl ws.closed)
 
 -- the same where the line that came is in no window yet

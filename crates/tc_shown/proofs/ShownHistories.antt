@@ -33,7 +33,8 @@ module _ {F W : Type 0} where
       omega (arith, of_c.upto, fewer c.history history begins, ap (λ ws. length ws) holds.written, length-map writes kept_write)
 
   -- a frame behind the others, which may have no write
-  pub frame_behind : (told : F → Option (List ℕ)) → ((start : Pairs) (writes more : List Write) (history : List (Happened F W)) → HoldsWrites told start writes history → 0 < length history → All IsStorableWrite more → HoldsWrites told start (writes ++ more) (history ++ Wrote (map kept_write more) ∷ []))
+  pub frame_behind : (told : F → Option (List ℕ)) → ((start : Pairs) (writes more : List Write) (history : List (Happened F W)) → HoldsWrites told start writes history
+      → 0 < length history → All IsStorableWrite more → HoldsWrites told start (writes ++ more) (history ++ Wrote (map kept_write more) ∷ []))
       → (start : Pairs) (writes ws : List Write) (history : List (Happened F W)) → HoldsWrites told start writes history → 0 < length history → All IsStorableWrite ws → HoldsWrites told start (writes ++ ws) (history ++ wrote (map kept_write ws))
   frame_behind told law start writes [] history holds some each =
       subst (λ all. HoldsWrites told start all (history ++ [])) (sym (append-nil writes)) (subst (λ all. HoldsWrites told start writes all) (sym (append-nil history)) holds)

@@ -120,7 +120,9 @@ module _ {S D F W : Type 0} (e : Eyes S D F W) (size_of : D → ℕ) (new : Work
     -- ---- of an engine that failed
 
     module _ (old : Working S D F W) (failed : old.part.failed ≡ true) (keeps : KeepsJobs e ⊥ old new) (log_out : LogIsOut (told_by e old) → LogIsOut u) (stays : (p : PartView) (frame : Option (List Write)) → GivesBack (works_by e old) (works_by e new) p frame (told_by e old) u)
-        (nothing : old.jobs.flush ≡ None → old.jobs.merge ≡ None → new.part ≡ old.part) (none_left : (new.jobs.flush ≡ None) × (new.jobs.merge ≡ None)) (same : (new.part.log ≡ old.part.log) × (new.part.generation ≡ old.part.generation) × (new.part.sealed_log ≡ old.part.sealed_log) × (new.part.reader ≡ old.part.reader)) where
+        (nothing : old.jobs.flush ≡ None → old.jobs.merge ≡ None → new.part ≡ old.part) (none_left : (new.jobs.flush ≡ None) × (new.jobs.merge ≡ None))
+        (same : (new.part.log ≡ old.part.log) × (new.part.generation ≡ old.part.generation) × (new.part.sealed_log ≡ old.part.sealed_log)
+        × (new.part.reader ≡ old.part.reader)) where
       abbrev t : Told
       t = told_by e old
 
@@ -159,8 +161,12 @@ module _ {S D F W : Type 0} (e : Eyes S D F W) (size_of : D → ℕ) (new : Work
 
     -- ---- of one that had not
 
-    module _ (old : Working S D F W) (policy : Policy) (r : Result (Unit {0}) EngineFault) (may : MayMove e old) (m : Moves e r old new) (left : OnErr r (new.part.failed ≡ true)) (none : OnOk r (PicksNone policy new.part.list)) (none_sealed : OnOk r (new.part.sealed ≡ None)) (was_sealed : old.part.flushing ≡ is_some old.part.sealed)
-        (nothing : old.jobs.flush ≡ None → old.jobs.merge ≡ None → PicksNone policy old.part.list → OnOk r (new.part ≡ old.part)) (none_left : (new.jobs.flush ≡ None) × (new.jobs.merge ≡ None)) (reader_same : new.part.reader ≡ old.part.reader) (sized : IfTold u.log (λ f. size_of new.part.log.device ≡ length f.content)) (stays : IfTold u.log (λ f. IsImageOf f f.content)) where
+    module _ (old : Working S D F W) (policy : Policy) (r : Result (Unit {0}) EngineFault) (may : MayMove e old) (m : Moves e r old new)
+        (left : OnErr r (new.part.failed ≡ true)) (none : OnOk r (PicksNone policy new.part.list)) (none_sealed : OnOk r (new.part.sealed ≡ None))
+        (was_sealed : old.part.flushing ≡ is_some old.part.sealed)
+        (nothing : old.jobs.flush ≡ None → old.jobs.merge ≡ None → PicksNone policy old.part.list → OnOk r (new.part ≡ old.part))
+        (none_left : (new.jobs.flush ≡ None) × (new.jobs.merge ≡ None)) (reader_same : new.part.reader ≡ old.part.reader)
+        (sized : IfTold u.log (λ f. size_of new.part.log.device ≡ length f.content)) (stays : IfTold u.log (λ f. IsImageOf f f.content)) where
       abbrev before : Told
       before = told_by e old
 
@@ -198,7 +204,9 @@ module _ {S D F W : Type 0} (e : Eyes S D F W) (size_of : D → ℕ) (new : Work
         undamaged = m.undamaged;
         unspent = m.unspent;
         idle = λ n. ok_then r _ _ (λ as_was. (k.main ∙ ap (λ (s : PartState S D F W). s.main) as_was, k.flusher ∙ ap (λ (s : PartState S D F W). s.flusher) as_was, k.merger ∙ ap (λ (s : PartState S D F W). s.merger) as_was)) (nothing n.flush n.merge (n.none may.sound));
-        home = λ n. ok_then r _ _ (λ as_was. subst (λ (s : PartState S D F W). disks ≡ brought_home (Log s.generation) (e.history s.log.device) (option_map (λ moments. (Log (s.generation - 1), moments)) (told_by e (beside s new.jobs)).sealed_log) (e.disks s.store)) as_was k.home) (nothing n.flush n.merge (n.none may.sound));
+        home = λ n. ok_then r _ _ (λ as_was. subst (λ (s : PartState S D F W). disks
+            ≡ brought_home (Log s.generation) (e.history s.log.device) (option_map (λ moments. (Log (s.generation - 1), moments))
+            (told_by e (beside s new.jobs)).sealed_log) (e.disks s.store)) as_was k.home) (nothing n.flush n.merge (n.none may.sound));
         listed = λ n p is. ok_both r _ _ _ (λ as_was sealed.
             let now : IsPart u p = subst (λ (s : PartState S D F W). IsPart (told_by e (beside s new.jobs)) p) (sym as_was) is in
             subst (λ (s : PartState S D F W). IfTold disks (OpensAs p.part p.list (p.active.writes ∷ []) (size_of s.log.device))) as_was

@@ -25,7 +25,9 @@ pub failed_without : (Works : PartView → Type 0) (t u : Told) (p : PartView) (
 failed_without Works t u p ws is files generation sealed_log jobs = inl (record { view = p; here = refl; holds = refl; files = files; logs = logs_stay t u p is generation sealed_log; jobs = jobs })
 
 -- and one whose commit fails
-pub failed_with : (Works : PartView → Type 0) (t u : Told) (p : PartView) (ws : List Write) → p.staged ≡ [] → IsPart t (staged_as ws p) → HasFailedAs u (staged_as ws p) (Some (staged_as ws p).staged) → u.generation ≡ t.generation → u.sealed_log ≡ t.sealed_log → Works (staged_as ws p) → HasFailedWith Works ws u p
+pub failed_with : (Works : PartView → Type 0) (t u : Told) (p : PartView) (ws : List Write) → p.staged ≡ [] → IsPart t (staged_as ws p)
+    → HasFailedAs u (staged_as ws p) (Some (staged_as ws p).staged) → u.generation ≡ t.generation → u.sealed_log ≡ t.sealed_log → Works (staged_as ws p)
+    → HasFailedWith Works ws u p
 failed_with Works t u p ws none is files generation sealed_log jobs = inr (record {
   view = staged_as ws p;
   here = refl;

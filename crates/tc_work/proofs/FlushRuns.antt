@@ -53,7 +53,9 @@ flushed_has part cs None d c bytes is makes has = absurd (cc)
 flushed_has part cs (Some x) d c bytes is makes has = (c, makes, has)
 
 -- a flush that has run, and that works for a part
-module _ {D W : Type 0} (history : D → List DiskFile) (length_of : D → ℕ) (name_of : D → FileName) (counts : W → Counts) (p : PartView) (name : FileName) (disks : List Disk) (job : JobState D W) (works : FlushesFor history name_of p.part p.list p.sealed p.flush job) (own : IsMadeIn name disks (history job.device)) (watch : W) (device : D)
+module _ {D W : Type 0} (history : D → List DiskFile) (length_of : D → ℕ) (name_of : D → FileName) (counts : W → Counts) (p : PartView) (name : FileName)
+    (disks : List Disk) (job : JobState D W) (works : FlushesFor history name_of p.part p.list p.sealed p.flush job) (own : IsMadeIn name disks (history job.device))
+    (watch : W) (device : D)
     (outcome : Result (Unit {0}) DeviceFault) (ran : HasFlushed history length_of name_of counts job watch device outcome) where
   abbrev bytes : List ℕ
   bytes = flush_bytes job.head job.names job.schema works.table.table

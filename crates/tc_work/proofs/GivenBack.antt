@@ -29,7 +29,9 @@ use Rattle.tc_work.proofs.Windows.{err_always}
 pub failed_then : (p : PartView) (frame : Option (List Write)) (t u : Told) (disks : List Disk) → u.log ≡ t.log → u.sealed_log ≡ t.sealed_log → FailedMomentsLeaveStore p frame t u.disks → FailedMomentsLeaveStore p frame u disks → FailedMomentsLeaveStore p frame t disks
 failed_then p frame t u disks log sealed one two = at t.log one (subst (λ o. MomentsSince (λ disk f g. LeavesStoreAt p frame g f disk) u.disks t.log o disks) sealed (subst (λ fs. MomentsSince (λ disk f g. LeavesStoreAt p frame g f disk) u.disks fs u.sealed_log disks) log two))
   where
-    at : (fs : List DiskFile) → MomentsSince (λ disk f g. LeavesStoreAt p frame g f disk) t.disks fs t.sealed_log u.disks → MomentsSince (λ disk f g. LeavesStoreAt p frame g f disk) u.disks fs t.sealed_log disks → MomentsSince (λ disk f g. LeavesStoreAt p frame g f disk) t.disks fs t.sealed_log disks
+    at : (fs : List DiskFile) → MomentsSince (λ disk f g. LeavesStoreAt p frame g f disk) t.disks fs t.sealed_log u.disks
+        → MomentsSince (λ disk f g. LeavesStoreAt p frame g f disk) u.disks fs t.sealed_log disks
+        → MomentsSince (λ disk f g. LeavesStoreAt p frame g f disk) t.disks fs t.sealed_log disks
     at [] first second = tt
     at (f ∷ past) first second = λ g is. EachSince-trans (LeavesStoreAt p frame g f) t.disks u.disks disks (first g is) (second g is)
 

@@ -55,7 +55,8 @@ use Rattle.tc_work.proofs.Watches.{as_watched, flush_handed}
 use Rattle.tc_work.proofs.Windows.{err_always}
 
 -- a merge that is out goes on to work, once what a flush made is listed
-works_listed : {S D F W : Type 0} (e : Eyes S D F W) (p : PartView) (c : Content) (o : Option (merge.JobState F D W)) → IfSome p.merge (MergeFits p.list) → IfSome o (MergesFor e.content e.history e.name_of p.list p.merge) → IfSome o (MergesFor e.content e.history e.name_of (p.list ++ c ∷ []) p.merge)
+works_listed : {S D F W : Type 0} (e : Eyes S D F W) (p : PartView) (c : Content) (o : Option (merge.JobState F D W)) → IfSome p.merge (MergeFits p.list)
+    → IfSome o (MergesFor e.content e.history e.name_of p.list p.merge) → IfSome o (MergesFor e.content e.history e.name_of (p.list ++ c ∷ []) p.merge)
 works_listed e p c None fits works = tt
 works_listed e p c (Some job) fits works = merge_goes_on e.content e.history e.name_of p.list p.merge c job works (subst (λ x. IfSome x (MergeFits p.list)) works.is_out fits).within
 
@@ -110,7 +111,9 @@ module _ {S D F W : Type 0} (e : Eyes S D F W) (file_name : F → FileName) (siz
       device_tells (flushed_name old) (e.disks old.store) (Unit {0}) _ (e.history job.device) (e.history device) back.of.device (told_now back.of.device.was (λ d. Unit {0}) (λ told d. tt))
       (λ needed. back.ran.moments _ table of)
 
-  module _ (back : IsBack) (handed : IsHandedBack) (i : IsInstalled) (both : is_some old.sealed_log ≡ true) (flushing : old.flushing ≡ true) (sound : old.failed ≡ false) (ready : MaySettle t) (out : IsOutBy e (beside old jobs)) (table : Table) (of : IsTableOf table job.kept) (ended : IsOk outcome) where
+  module _ (back : IsBack) (handed : IsHandedBack) (i : IsInstalled) (both : is_some old.sealed_log ≡ true) (flushing : old.flushing ≡ true)
+      (sound : old.failed ≡ false) (ready : MaySettle t) (out : IsOutBy e (beside old jobs)) (table : Table) (of : IsTableOf table job.kept)
+      (ended : IsOk outcome) where
     list : new.list ≡ old.list ++ i.listed.component ∷ []
     list = i.listed.listed
 
@@ -230,7 +233,22 @@ module _ {S D F W : Type 0} (e : Eyes S D F W) (file_name : F → FileName) (siz
     merge_out : OutAs (is_some new.merging) jobs.merge (IsMergeOf e.disks e.history e.content e.name_of new)
     merge_out = elim f.left [
       | inl unlisted ↦ merge_out_still e.disks e.history e.content e.name_of old new fallen_untold jobs.merge
-          (subst (λ (s : PartState S D F W). s ≡ record old { store = s.store; main = s.main; flusher = s.flusher; sealed = s.sealed; sealed_log = s.sealed_log; active = s.active; log = s.log; generation = s.generation; taken = s.taken; live = s.live; writes = s.writes; staged = s.staged; flushing = s.flushing; failed = s.failed }) (sym unlisted.same) refl)
+          (subst (λ (s : PartState S D F W). s ≡ record old {
+            store = s.store;
+            main = s.main;
+            flusher = s.flusher;
+            sealed = s.sealed;
+            sealed_log = s.sealed_log;
+            active = s.active;
+            log = s.log;
+            generation = s.generation;
+            taken = s.taken;
+            live = s.live;
+            writes = s.writes;
+            staged = s.staged;
+            flushing = s.flushing;
+            failed = s.failed;
+          }) (sym unlisted.same) refl)
           out.merge
       | inr covering ↦ merge_out_behind e.disks e.history e.content e.name_of old new fallen_untold jobs.merge covering.listed.component (ap (λ (s : PartState S D F W). s.merging) covering.same) covering.listed.listed handed.merge_named out.merge
     ]

@@ -75,12 +75,42 @@ module _ {S D F W : Type 0} (disks : S → List Disk) (history : D → List Disk
 
   -- while the list stays, and the run
   pub merge_out_still : (o : Option (merge.JobState F D W))
-      → new ≡ record old { store = new.store; main = new.main; flusher = new.flusher; sealed = new.sealed; sealed_log = new.sealed_log; active = new.active; log = new.log; generation = new.generation; taken = new.taken; live = new.live; writes = new.writes; staged = new.staged; flushing = new.flushing; failed = new.failed }
+      → new ≡ record old {
+        store = new.store;
+        main = new.main;
+        flusher = new.flusher;
+        sealed = new.sealed;
+        sealed_log = new.sealed_log;
+        active = new.active;
+        log = new.log;
+        generation = new.generation;
+        taken = new.taken;
+        live = new.live;
+        writes = new.writes;
+        staged = new.staged;
+        flushing = new.flushing;
+        failed = new.failed;
+      }
       → OutAs (is_some old.merging) o (IsMergeOf disks history content name_of old) → OutAs (is_some new.merging) o (IsMergeOf disks history content name_of new)
   merge_out_still o same is = subst (λ (s : PartState S D F W). OutAs (is_some s.merging) o (IsMergeOf disks history content name_of s)) (sym same) (at (is_some old.merging) o is)
     where
       there : PartState S D F W
-      there = record old { store = new.store; main = new.main; flusher = new.flusher; sealed = new.sealed; sealed_log = new.sealed_log; active = new.active; log = new.log; generation = new.generation; taken = new.taken; live = new.live; writes = new.writes; staged = new.staged; flushing = new.flushing; failed = new.failed }
+      there = record old {
+        store = new.store;
+        main = new.main;
+        flusher = new.flusher;
+        sealed = new.sealed;
+        sealed_log = new.sealed_log;
+        active = new.active;
+        log = new.log;
+        generation = new.generation;
+        taken = new.taken;
+        live = new.live;
+        writes = new.writes;
+        staged = new.staged;
+        flushing = new.flushing;
+        failed = new.failed;
+      }
 
       at : (b : Bool) (o : Option (merge.JobState F D W)) → OutAs b o (IsMergeOf disks history content name_of old) → OutAs b o (IsMergeOf disks history content name_of there)
       at false None is = tt
@@ -147,14 +177,30 @@ keeps_same e w Failed out never = record {
 }
 
 -- no job was begun and no table sealed: nothing changed but the store, and whether the part failed
-pub keeps_unless_failed : {S D F W : Type 0} (e : Eyes S D F W) (old new : PartState S D F W) (jobs : JobsState F D W) (Failed First : Type 0) → IsOutBy e (beside old jobs) → new ≡ record old { store = new.store; main = new.main; failed = new.failed } → (e.disks old.store ≡ [] → e.disks new.store ≡ [])
+pub keeps_unless_failed : {S D F W : Type 0} (e : Eyes S D F W) (old new : PartState S D F W) (jobs : JobsState F D W) (Failed First : Type 0)
+    → IsOutBy e (beside old jobs) → new ≡ record old { store = new.store; main = new.main; failed = new.failed } → (e.disks old.store ≡ [] → e.disks new.store ≡ [])
     → (OnlyDevicesOut (told_by e (beside old jobs)) → OnlyDevicesOut (told_by e (beside new jobs))) → IsCounted First (e.counts old.main) (e.counts new.main) → (Failed → First) → KeepsJobs e Failed (beside old jobs) (beside new jobs)
 keeps_unless_failed {S = S} {D = D} {F = F} {W = W} e old new jobs Failed First out same untold devices counted cause = record {
   jobs = record {
     flush = flush_out_still e.disks e.history e.content e.name_of old new untold jobs.flush
         (subst (λ (s : PartState S D F W). s ≡ record old { store = s.store; main = s.main; merger = s.merger; list = s.list; active = s.active; log = s.log; taken = s.taken; live = s.live; writes = s.writes; staged = s.staged; merging = s.merging; failed = s.failed }) (sym same) refl) out.flush;
     merge = merge_out_still e.disks e.history e.content e.name_of old new untold jobs.merge
-        (subst (λ (s : PartState S D F W). s ≡ record old { store = s.store; main = s.main; flusher = s.flusher; sealed = s.sealed; sealed_log = s.sealed_log; active = s.active; log = s.log; generation = s.generation; taken = s.taken; live = s.live; writes = s.writes; staged = s.staged; flushing = s.flushing; failed = s.failed }) (sym same) refl) out.merge;
+        (subst (λ (s : PartState S D F W). s ≡ record old {
+          store = s.store;
+          main = s.main;
+          flusher = s.flusher;
+          sealed = s.sealed;
+          sealed_log = s.sealed_log;
+          active = s.active;
+          log = s.log;
+          generation = s.generation;
+          taken = s.taken;
+          live = s.live;
+          writes = s.writes;
+          staged = s.staged;
+          flushing = s.flushing;
+          failed = s.failed;
+        }) (sym same) refl) out.merge;
   };
   moved = subst (λ (s : PartState S D F W). HasOnlyMoved old s) (sym same) refl;
   untold = untold;

@@ -35,7 +35,8 @@ err_both (Err e) P Q p q = (p, q)
 -- ---- damage
 
 -- the damage that a merge found is told
-pub told_damage : (r : Result (Unit {0}) PartFault) (cause : MergeFault) (P : FileName → ℕ → List ℕ → Type 0) (Q : Damage → Type 0) → r ≡ Err (of_job (of_merge cause)) → IfHarmed cause P → ((file : FileName) (place : ℕ) (bytes : List ℕ) → P file place bytes → Q (Bytes file place bytes)) → part_damaged r Q
+pub told_damage : (r : Result (Unit {0}) PartFault) (cause : MergeFault) (P : FileName → ℕ → List ℕ → Type 0) (Q : Damage → Type 0) → r ≡ Err (of_job (of_merge cause))
+    → IfHarmed cause P → ((file : FileName) (place : ℕ) (bytes : List ℕ) → P file place bytes → Q (Bytes file place bytes)) → part_damaged r Q
 told_damage r cause P Q is harmed go = subst (λ (x : Result (Unit {0}) PartFault). part_damaged x Q) (sym is) (at cause harmed)
   where
     at : (e : MergeFault) → IfHarmed e P → part_damaged {X = Unit {0}} (Err (of_job (of_merge e))) Q

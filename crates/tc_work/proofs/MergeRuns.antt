@@ -75,7 +75,8 @@ name_is_free t p run c is two within is_merge none = at t.disks t.log is.tells.a
 -- the device of a merge has the name of what it makes
 pub merge_device : (t u : Told) (p : PartView) (run : Run) (c : Content) (name : FileName) → IsPart t p → IsPart u (merging_part run c p) → 2 ≤ run.length → run.first + run.length ≤ length p.list → IsMerge (in_run run p.list) c → t.merging ≡ None
     → IsTold t.disks → u.disks ≡ makes name t.disks → name ≡ file_of c
-merge_device t u p run c name is begun two within is_merge in_store tells made = at t.disks tells (name_is_free t p run c is two within is_merge in_store) (subst (λ (ds : List Disk). IfTold ds (λ disk. disk (file_of c) ≡ out)) made (told_map _ _ u.disks (λ disk jobs. jobs.merge_out) begun.files.jobs))
+merge_device t u p run c name is begun two within is_merge in_store tells made = at t.disks tells (name_is_free t p run c is two within is_merge in_store)
+    (subst (λ (ds : List Disk). IfTold ds (λ disk. disk (file_of c) ≡ out)) made (told_map _ _ u.disks (λ disk jobs. jobs.merge_out) begun.files.jobs))
   where
     at : (disks : List Disk) → IsTold disks → IfTold disks (λ disk. IsThere (disk (file_of c)) → ⊥) → IfTold (makes name disks) (λ disk. disk (file_of c) ≡ out) → name ≡ file_of c
     at [] told free is_out = absurd told
@@ -89,7 +90,9 @@ pub record RanMerge (c : Content) (disks : List Disk) (device : List DiskFile) (
   pub leaves : IfTold device (LeavesAt (IsShutOrHas (IsComponent c)))
 
 -- a merge that has run, and that works for a part
-module _ {F D W : Type 0} (content : F → Option (List ℕ)) (history : D → List DiskFile) (length_of : D → ℕ) (name_of : D → FileName) (counts : W → Counts) (list : List Content) (o : Option Merging) (name : FileName) (disks : List Disk) (job : JobState F D W) (works : MergesFor content history name_of list o job) (own : IsMadeIn name disks (history job.device))
+module _ {F D W : Type 0} (content : F → Option (List ℕ)) (history : D → List DiskFile) (length_of : D → ℕ) (name_of : D → FileName) (counts : W → Counts)
+    (list : List Content) (o : Option Merging) (name : FileName) (disks : List Disk) (job : JobState F D W) (works : MergesFor content history name_of list o job)
+    (own : IsMadeIn name disks (history job.device))
     (watch : W) (device : D) (outcome : Result (Unit {0}) MergeFault) (ran : HasMerged content history length_of name_of counts job watch device outcome) where
   abbrev c : Content
   c = works.merging.target

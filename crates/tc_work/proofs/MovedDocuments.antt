@@ -7,7 +7,21 @@ module _ {S D F W : Type 0} where
   pub moved_then : (old mid new : PartState S D F W) → HasOnlyMoved old mid → HasOnlyMoved mid new → HasOnlyMoved old new
   moved_then old mid new one two =
       two
-      ∙ ap (λ (s : PartState S D F W). record s { store = new.store; main = new.main; flusher = new.flusher; merger = new.merger; list = new.list; sealed = new.sealed; sealed_log = new.sealed_log; active = new.active; log = new.log; generation = new.generation; flushing = new.flushing; merging = new.merging; failed = new.failed }) one
+      ∙ ap (λ (s : PartState S D F W). record s {
+        store = new.store;
+        main = new.main;
+        flusher = new.flusher;
+        merger = new.merger;
+        list = new.list;
+        sealed = new.sealed;
+        sealed_log = new.sealed_log;
+        active = new.active;
+        log = new.log;
+        generation = new.generation;
+        flushing = new.flushing;
+        merging = new.merging;
+        failed = new.failed;
+      }) one
 
   -- while components are merged, and while a flush is listed besides
   abbrev pub HasOnlyMerged : PartState S D F W → PartState S D F W → Type 0

@@ -79,7 +79,8 @@ module _ {S D F W X : Type 0} (e : Eyes S D F W) (old new : PartState S D F W) (
   moves_failed out left untold devices counted fails moments damaged undamaged unspent = record {
     keeps = keeps_unless_failed e old new jobs _ _ out (subst (λ (s : PartState S D F W). s ≡ record old { store = s.store; main = s.main; failed = s.failed }) (sym left) refl) untold devices counted (disk_below r below fault is was);
     well = on_err_only r _ _ (err_of r fault is);
-    failed = err_always r _ (λ p of tells works. failed_keeps (works_by e (beside old jobs)) (told_by e (beside old jobs)) (told_by e (beside new jobs)) p p of refl refl (fails p of) (ap (λ (s : PartState S D F W). s.generation) left) (ap (λ (s : PartState S D F W). (told_by e (beside s jobs)).sealed_log) left) works);
+    failed = err_always r _ (λ p of tells works. failed_keeps (works_by e (beside old jobs)) (told_by e (beside old jobs)) (told_by e (beside new jobs)) p p of refl
+        refl (fails p of) (ap (λ (s : PartState S D F W). s.generation) left) (ap (λ (s : PartState S D F W). (told_by e (beside s jobs)).sealed_log) left) works);
     moments = moments;
     logs = (ap (λ (s : PartState S D F W). s.log) left, ap (λ (s : PartState S D F W). s.generation) left);
     sealed_log = inl (ap (λ (s : PartState S D F W). s.sealed_log) left);

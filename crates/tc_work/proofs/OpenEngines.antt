@@ -32,7 +32,9 @@ closed_well {S = S} {D = D} {F = F} {W = W} e inside seen new jobs now same move
     subst (λ (s : PartState S D F W). MovesOver e (Ok tt) (beside seen jobs) (beside s now)) (closed_sound new moves.well.sound) (subst (λ (s : PartState S D F W). MovesOver e (Ok tt) (beside s jobs) (beside new now)) same moves)
 
 -- and one that failed leaves it failed
-pub closed_failed : {S D F W : Type 0} (e : Eyes S D F W) (inside seen new : PartState S D F W) (jobs now : JobsState F D W) (r : Result (Unit {0}) EngineFault) (fault : EngineFault) → r ≡ Err fault → inside ≡ seen → MovesOver e r (beside inside jobs) (beside new now) → MovesOver e r (beside seen jobs) (beside (record new { failed = true }) now)
+pub closed_failed : {S D F W : Type 0} (e : Eyes S D F W) (inside seen new : PartState S D F W) (jobs now : JobsState F D W) (r : Result (Unit {0}) EngineFault)
+    (fault : EngineFault) → r ≡ Err fault → inside ≡ seen → MovesOver e r (beside inside jobs) (beside new now)
+    → MovesOver e r (beside seen jobs) (beside (record new { failed = true }) now)
 closed_failed {S = S} {D = D} {F = F} {W = W} e inside seen new jobs now r fault is same moves = subst (λ (s : PartState S D F W). MovesOver e r (beside s jobs) (beside (record new { failed = true }) now)) same (record {
   keeps = keeps_given_up e _ (beside inside jobs) (beside new now) moves.keeps;
   well = on_err_only r fault _ is;

@@ -24,7 +24,9 @@ use Rattle.tc_part_model.proofs.DeviceFiles.{comes_untold}
 use Rattle.tc_part_model.proofs.Removals.{removal_untold}
 
 -- a store that tells nothing tells nothing behind it
-pub removed_untold : {S D F W : Type 0} (old : PartState S D F W) (disks : S → List Disk) (file_name : F → FileName) (name : FileName) (device : List DiskFile) (run : Run) {now : List Disk} → disks old.store ≡ [] → RemovesSome (map (λ (c : ComponentState F). file_name c.file) (in_run run old.list)) (comes_home name frozen_entry device (disks old.store)) now → now ≡ []
+pub removed_untold : {S D F W : Type 0} (old : PartState S D F W) (disks : S → List Disk) (file_name : F → FileName) (name : FileName) (device : List DiskFile)
+    (run : Run) {now : List Disk} → disks old.store ≡ [] → RemovesSome (map (λ (c : ComponentState F). file_name c.file) (in_run run old.list))
+    (comes_home name frozen_entry device (disks old.store)) now → now ≡ []
 removed_untold old disks file_name name device run {now} none removed =
     removal_untold (map (λ c. file_name c.file) (in_run run old.list)) (comes_home name frozen_entry device (disks old.store)) now removed (ap (λ ds. comes_home name frozen_entry device ds) none ∙ comes_untold name frozen_entry device)
 

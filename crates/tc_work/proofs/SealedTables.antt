@@ -82,7 +82,22 @@ module _ {S D F W X : Type 0} (e : Eyes S D F W) (old new : PartState S D F W) (
       jobs = record {
         flush = subst (λ b. OutAs b jobs.flush (IsFlushOf e.disks e.history e.name_of new)) (sym (ap (λ (x : PartState S D F W). x.flushing) s.same ∙ none_out)) (subst (λ o. OutAs false o (IsFlushOf e.disks e.history e.name_of new)) (sym none) tt);
         merge = merge_out_still e.disks e.history e.content e.name_of old new untold jobs.merge
-            (subst (λ (x : PartState S D F W). x ≡ record old { store = x.store; main = x.main; flusher = x.flusher; sealed = x.sealed; sealed_log = x.sealed_log; active = x.active; log = x.log; generation = x.generation; taken = x.taken; live = x.live; writes = x.writes; staged = x.staged; flushing = x.flushing; failed = x.failed }) (sym s.same) refl)
+            (subst (λ (x : PartState S D F W). x ≡ record old {
+              store = x.store;
+              main = x.main;
+              flusher = x.flusher;
+              sealed = x.sealed;
+              sealed_log = x.sealed_log;
+              active = x.active;
+              log = x.log;
+              generation = x.generation;
+              taken = x.taken;
+              live = x.live;
+              writes = x.writes;
+              staged = x.staged;
+              flushing = x.flushing;
+              failed = x.failed;
+            }) (sym s.same) refl)
             out.merge;
       };
       moved = subst (λ (x : PartState S D F W). HasOnlyMoved old x) (sym s.same) refl;
@@ -144,7 +159,22 @@ module _ {S D F W X : Type 0} (e : Eyes S D F W) (old new : PartState S D F W) (
         flush = subst (λ b. OutAs b jobs.flush (IsFlushOf e.disks e.history e.name_of new)) (sym (ap (λ (x : PartState S D F W). x.flushing) left ∙ none_out))
             (subst (λ o. OutAs false o (IsFlushOf e.disks e.history e.name_of new)) (sym (none_there jobs.flush (IsFlushOf e.disks e.history e.name_of old) old.flushing none_out out.flush)) tt);
         merge = merge_out_still e.disks e.history e.content e.name_of old new still_untold jobs.merge
-            (subst (λ (x : PartState S D F W). x ≡ record old { store = x.store; main = x.main; flusher = x.flusher; sealed = x.sealed; sealed_log = x.sealed_log; active = x.active; log = x.log; generation = x.generation; taken = x.taken; live = x.live; writes = x.writes; staged = x.staged; flushing = x.flushing; failed = x.failed }) (sym left) refl)
+            (subst (λ (x : PartState S D F W). x ≡ record old {
+              store = x.store;
+              main = x.main;
+              flusher = x.flusher;
+              sealed = x.sealed;
+              sealed_log = x.sealed_log;
+              active = x.active;
+              log = x.log;
+              generation = x.generation;
+              taken = x.taken;
+              live = x.live;
+              writes = x.writes;
+              staged = x.staged;
+              flushing = x.flushing;
+              failed = x.failed;
+            }) (sym left) refl)
             out.merge;
       };
       moved = subst (λ (x : PartState S D F W). HasOnlyMoved old x) (sym left) refl;

@@ -68,7 +68,8 @@ pub whole_keeps : (Works : PartView → Type 0) (t : Told) (p q : PartView) → 
 whole_keeps Works t p q here holds has jobs = as_failed Works t p.part (store_of p) None (record { view = q; here = here; holds = holds; files = has.0; logs = has.1; jobs = jobs })
 
 -- a call that fails as the part that it was, whose logs are as they were
-pub failed_keeps : (Works : PartView → Type 0) (t u : Told) (p q : PartView) → IsPart t q → q.part ≡ p.part → store_of q ≡ store_of p → HasFailedAs u q None → u.generation ≡ t.generation → u.sealed_log ≡ t.sealed_log → Works q → HasFailedKeeping Works (record u { failed = true }) p.part (store_of p) None
+pub failed_keeps : (Works : PartView → Type 0) (t u : Told) (p q : PartView) → IsPart t q → q.part ≡ p.part → store_of q ≡ store_of p → HasFailedAs u q None
+    → u.generation ≡ t.generation → u.sealed_log ≡ t.sealed_log → Works q → HasFailedKeeping Works (record u { failed = true }) p.part (store_of p) None
 failed_keeps Works t u p q is here holds files generation sealed_log jobs = whole_keeps Works u p q here holds (files, logs_stay t u q is generation sealed_log) jobs
 
 -- and of one that stores the same

@@ -88,7 +88,22 @@ module _ {S D F W X : Type 0} (e : Eyes S D F W) (old new : PartState S D F W) (
       flush = subst (λ (s : PartState S D F W). OutAs s.flushing (Some job) (IsFlushOf e.disks e.history e.name_of s)) (sym b.same)
           (record { table = b.table; log = both; lawful = b.lawful; name = b.name; device = record { was = e.disks old.store; made = b.file; told = made_there its_name (e.disks old.store) (e.disks new.store) b.made } });
       merge = merge_out_still e.disks e.history e.content e.name_of old new untold jobs.merge
-          (subst (λ (s : PartState S D F W). s ≡ record old { store = s.store; main = s.main; flusher = s.flusher; sealed = s.sealed; sealed_log = s.sealed_log; active = s.active; log = s.log; generation = s.generation; taken = s.taken; live = s.live; writes = s.writes; staged = s.staged; flushing = s.flushing; failed = s.failed }) (sym b.same) refl)
+          (subst (λ (s : PartState S D F W). s ≡ record old {
+            store = s.store;
+            main = s.main;
+            flusher = s.flusher;
+            sealed = s.sealed;
+            sealed_log = s.sealed_log;
+            active = s.active;
+            log = s.log;
+            generation = s.generation;
+            taken = s.taken;
+            live = s.live;
+            writes = s.writes;
+            staged = s.staged;
+            flushing = s.flushing;
+            failed = s.failed;
+          }) (sym b.same) refl)
           out.merge;
     }
 

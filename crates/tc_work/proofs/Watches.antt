@@ -42,7 +42,10 @@ then_watched counts First Second Failed old mid new one two cause = record {
   cause = λ failed. at (two.cause (cause failed));
 }
   where
-    at : Rose (counts mid.main).faults (counts new.main).faults ⊎ (FaultsRose (option_map counts mid.flusher) (option_map counts new.flusher) ⊎ FaultsRose (option_map counts mid.merger) (option_map counts new.merger)) → Rose (counts old.main).faults (counts new.main).faults ⊎ (FaultsRose (option_map counts old.flusher) (option_map counts new.flusher) ⊎ FaultsRose (option_map counts old.merger) (option_map counts new.merger))
+    at : Rose (counts mid.main).faults (counts new.main).faults ⊎
+        (FaultsRose (option_map counts mid.flusher) (option_map counts new.flusher) ⊎ FaultsRose (option_map counts mid.merger) (option_map counts new.merger))
+        → Rose (counts old.main).faults (counts new.main).faults ⊎ (FaultsRose (option_map counts old.flusher) (option_map counts new.flusher)
+        ⊎ FaultsRose (option_map counts old.merger) (option_map counts new.merger))
     at (inl rose) = inl (rose_since (counts old.main) (counts mid.main) (counts new.main) one.main rose)
     at (inr (inl rose)) = inr (inl (rose_behind (option_map counts old.flusher) (option_map counts mid.flusher) (option_map counts new.flusher) one.flusher rose))
     at (inr (inr rose)) = inr (inr (rose_behind (option_map counts old.merger) (option_map counts mid.merger) (option_map counts new.merger) one.merger rose))
@@ -62,7 +65,10 @@ watched_before counts Failed Second old mid new one two = record {
     stays (Some a) (Some b) None rose stay = absurd stay
     stays (Some a) (Some b) (Some c) rose stay = omega (arith, rose, stay)
 
-    at : Rose (counts old.main).faults (counts mid.main).faults ⊎ (FaultsRose (option_map counts old.flusher) (option_map counts mid.flusher) ⊎ FaultsRose (option_map counts old.merger) (option_map counts mid.merger)) → Rose (counts old.main).faults (counts new.main).faults ⊎ (FaultsRose (option_map counts old.flusher) (option_map counts new.flusher) ⊎ FaultsRose (option_map counts old.merger) (option_map counts new.merger))
+    at : Rose (counts old.main).faults (counts mid.main).faults ⊎
+        (FaultsRose (option_map counts old.flusher) (option_map counts mid.flusher) ⊎ FaultsRose (option_map counts old.merger) (option_map counts mid.merger))
+        → Rose (counts old.main).faults (counts new.main).faults ⊎ (FaultsRose (option_map counts old.flusher) (option_map counts new.flusher)
+        ⊎ FaultsRose (option_map counts old.merger) (option_map counts new.merger))
     at (inl rose) = inl (omega (arith, rose, two.main))
     at (inr (inl rose)) = inr (inl (stays (option_map counts old.flusher) (option_map counts mid.flusher) (option_map counts new.flusher) rose two.flusher))
     at (inr (inr rose)) = inr (inr (stays (option_map counts old.merger) (option_map counts mid.merger) (option_map counts new.merger) rose two.merger))
@@ -78,7 +84,9 @@ main_watched {W = W} counts Failed Cause old new is flusher merger cause = recor
 
 -- ---- a job is begun, run and handed back, with the watch of its kind
 
-module _ {S D F W : Type 0} (counts : W → Counts) (Failed First Cause Job : Type 0) (old mid new : PartState S D F W) (w done : W) (begun : IsCounted First (counts old.main) (counts mid.main)) (ended : IsWatched Cause (counts mid.main) (counts new.main)) (ran : IsWatched Job (counts w) (counts done))
+module _ {S D F W : Type 0} (counts : W → Counts) (Failed First Cause Job : Type 0) (old mid new : PartState S D F W) (w done : W)
+    (begun : IsCounted First (counts old.main) (counts mid.main)) (ended : IsWatched Cause (counts mid.main) (counts new.main))
+    (ran : IsWatched Job (counts w) (counts done))
     (cause : Failed → Cause ⊎ Job) where
   rose : Failed → Rose (counts old.main).faults (counts new.main).faults ⊎ Rose (counts w).faults (counts done).faults
   rose failed = elim (cause failed) [

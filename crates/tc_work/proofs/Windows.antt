@@ -87,7 +87,8 @@ left_uncommitted {S = S} {D = D} {F = F} {W = W} first second third one two =
     two ∙ ap (λ (s : PartState S D F W). record s { main = third.main; log = third.log; failed = true }) one in
     subst (λ (s : PartState S D F W). s ≡ record first { main = s.main; active = s.active; staged = s.staged; taken = s.taken; live = s.live; log = s.log; failed = s.failed }) (sym here) refl
 
-pub kept_committed : {S D F W : Type 0} (first second third : PartState S D F W) (count : ℕ) → first.staged ≡ [] → second.failed ≡ false → first.failed ≡ false → HasOnlyStaged first second → third ≡ record second { main = third.main; log = third.log; staged = third.staged; writes = count } → third.staged ≡ []
+pub kept_committed : {S D F W : Type 0} (first second third : PartState S D F W) (count : ℕ) → first.staged ≡ [] → second.failed ≡ false → first.failed ≡ false
+    → HasOnlyStaged first second → third ≡ record second { main = third.main; log = third.log; staged = third.staged; writes = count } → third.staged ≡ []
     → third ≡ record first { main = third.main; active = third.active; log = third.log; taken = third.taken; live = third.live; writes = third.writes }
 kept_committed {S = S} {D = D} {F = F} {W = W} first second third count none sound was one two cleared =
     let here : third ≡ record first { main = third.main; active = second.active; taken = second.taken; live = second.live; log = third.log; writes = count; failed = second.failed; staged = [] } =

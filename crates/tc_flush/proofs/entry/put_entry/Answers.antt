@@ -73,7 +73,9 @@ returns-in_ok-record-in-Live-clause-counted g c =
     let e = entry_of c.args.entry in
     let bytes = c.in-Live.bytes.now in
     let same : c.known-of.result.bytes ≡ bytes = c.known-of.ensures.bytes ∙ c.as_slice.ensures.same in
-    ok_always c.push-in-Live.result _ (schema_is c.one_document.ensures e bytes held stored c.args.names.now c.compact_counted.new.names c.args.schema.now c.compact_counted.new.schema (λ d is. c.in_ok-record-in-Live.ensures.learned d (subst (IsRecordOf d) (sym same) is)) (λ d is. c.in_ok-record-in-Live.ensures.counted d (subst (IsRecordOf d) (sym same) is)))
+    ok_always c.push-in-Live.result _ (schema_is c.one_document.ensures e bytes held stored c.args.names.now c.compact_counted.new.names c.args.schema.now
+    c.compact_counted.new.schema (λ d is. c.in_ok-record-in-Live.ensures.learned d (subst (IsRecordOf d) (sym same) is))
+    (λ d is. c.in_ok-record-in-Live.ensures.counted d (subst (IsRecordOf d) (sym same) is)))
 
 pub returns-in_ok-record-in-Live-clause-pushed : goal.returns-in_ok-record-in-Live-clause-pushed
 returns-in_ok-record-in-Live-clause-pushed g c =
@@ -82,7 +84,9 @@ returns-in_ok-record-in-Live-clause-pushed g c =
     let e = entry_of c.args.entry in
     let bytes = c.in-Live.bytes.now in
     let same : c.known-of.result.bytes ≡ bytes = c.known-of.ensures.bytes ∙ c.as_slice.ensures.same in
-    let compacts : (d : Document) → IsRecordOf d bytes → IsCompactedRecordOf c.compact_counted.new.names d c.as_slice-in-Live.result.now = λ d is. subst (IsCompactedRecordOf c.compact_counted.new.names d) (sym c.as_slice-in-Live.ensures.same) (c.in_ok-record-in-Live.ensures.compacted d (subst (IsRecordOf d) (sym same) is)) in
+    let compacts : (d : Document) → IsRecordOf d bytes → IsCompactedRecordOf c.compact_counted.new.names d c.as_slice-in-Live.result.now = λ d is. subst
+    (IsCompactedRecordOf c.compact_counted.new.names d) (sym c.as_slice-in-Live.ensures.same)
+    (c.in_ok-record-in-Live.ensures.compacted d (subst (IsRecordOf d) (sym same) is)) in
     ok_then c.push-in-Live.result _ _
     (λ pushed t newer rows of dictionary extends has.
     subst (λ rs. HasRows (g.D.Device.history c.push-in-Live.new.self.device) c.push-in-Live.new.self (rows ++ rs))

@@ -15,7 +15,9 @@ loop-at-preserved g c =
       same = set_same l.shown.items l.at c.lend.new.self (subst (λ (x : ShownState _ _). x ≡ slice_index_or l.shown.items l.at x) (sym c.lend.ensures.same) c.index_mut.ensures.value) ∙ l.invariant.same;
       lent = subst (Beside Lent c.args.shown.now.items) (sym c.in_ok-push.ensures.items)
           (beside_more Lent c.args.shown.now.items l.lenses.items c.in_ok-lens.lens
-          (λ s is. let is_at : slice_get c.args.shown.now.items l.at ≡ Some s = subst (λ n. slice_get c.args.shown.now.items n ≡ Some s) l.invariant.many is in let same : one ≡ s = (cc) in subst (λ (s : ShownState _ _). Lent (length l.lenses.items) s c.in_ok-lens.lens) same (c.in_ok-lens.ensures.lens, c.in_ok-lens.ensures.all))
+          (λ s is. let is_at : slice_get c.args.shown.now.items l.at ≡ Some s = subst (λ n. slice_get c.args.shown.now.items n ≡ Some s) l.invariant.many is in
+          let same : one ≡ s = (cc) in subst (λ (s : ShownState _ _). Lent (length l.lenses.items) s c.in_ok-lens.lens) same
+          (c.in_ok-lens.ensures.lens, c.in_ok-lens.ensures.all))
           l.invariant.lent);
       many = ap length c.in_ok-push.ensures.items ∙ length-append l.lenses.items (c.in_ok-lens.lens ∷ []) ∙ ap (λ n. n + 1) l.invariant.many;
       within = omega (arith, below, ap length l.invariant.same);

@@ -17,5 +17,8 @@ invariant-loop-lens g l = record {
   filled : vec_len l.passes ≡ length l.passes.items;
   room : length l.passes.items + length (into_iter_items l.lens-iterator) ≤ vec_capacity l.passes;
   many : length l.passes.items + length (into_iter_items l.lens-iterator) ≡ length l.fn.engines;
-  held : (only : Option ℕ) (w : World) → HoldWorld (eyes g.S.Store.history g.S.Device.Device.history g.S.Frozen.Frozen.content g.S.Device.Device.name g.S.Frozen.Frozen.size g.S.Watch.Watch.counts) only l.fn.engines w → HoldWorld (eyes g.S.Store.history g.S.Device.Device.history g.S.Frozen.Frozen.content g.S.Device.Device.name g.S.Frozen.Frozen.size g.S.Watch.Watch.counts) only l.engines w;
+  held : (only : Option ℕ) (w : World) → HoldWorld (eyes g.S.Store.history g.S.Device.Device.history g.S.Frozen.Frozen.content g.S.Device.Device.name
+      g.S.Frozen.Frozen.size g.S.Watch.Watch.counts) only l.fn.engines w
+      → HoldWorld (eyes g.S.Store.history g.S.Device.Device.history g.S.Frozen.Frozen.content g.S.Device.Device.name g.S.Frozen.Frozen.size
+      g.S.Watch.Watch.counts) only l.engines w;
 }

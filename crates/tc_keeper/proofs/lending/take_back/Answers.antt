@@ -30,7 +30,9 @@ take_watch-requires-clause-out g c κs within =
     let rest = into_iter_items c.next.new.self in
     let steps : into_iter_items l.pass-iterator ≡ c.in-Some.pass ∷ rest = c.in-Some.ensures.steps.0 in
     let below = taken_below l.invariant.back (into_iter_items l.pass-iterator) rest c.args.passes.items c.in-Some.pass l.at l.invariant.here steps l.invariant.passes in
-    turns_next (λ p old new. IsAt p c.args.passes.items (λ (pass : Pass _ _). new ≡ with_reader (Some pass.watch) old)) (λ (e : WithJobs _ _ _ _). e.engine.part.reader ≡ None) c.args.engines.now l.engines l.at l.invariant.home (omega (arith, below, l.invariant.home.many, c.requires.as_many.0)) c.requires.out
+    turns_next (λ p old new. IsAt p c.args.passes.items (λ (pass : Pass _ _). new ≡ with_reader (Some pass.watch) old))
+    (λ (e : WithJobs _ _ _ _). e.engine.part.reader ≡ None) c.args.engines.now l.engines l.at l.invariant.home
+    (omega (arith, below, l.invariant.home.many, c.requires.as_many.0)) c.requires.out
 
 pub bounds-shown-at : goal.bounds-shown-at
 bounds-shown-at g c =
@@ -69,7 +71,9 @@ loop-pass-preserved g c =
           let same : c.index-shown-at.result ≡ s = (cc) in
           subst (λ (s : ShownState _ _). (s.failed ≡ false) × IsPrefix (kept_by pass.lens).history s.history) same (c.covers_too-covered.ensures.works all, c.covers_too-covered.ensures.begins all))
           (l.invariant.covers (c.covers_too-covered.ensures.others all));
-      home = turns_by (λ p old new. IsAt p c.args.passes.items (λ (pass : Pass _ _). new ≡ with_reader (Some pass.watch) old)) (with_reader (Some pass.watch)) c.args.engines.now l.engines c.take_watch.new.self l.at l.invariant.home (λ e. watch_back l.invariant.back rest c.args.passes.items pass l.at l.invariant.here whole e) c.take_watch.ensures.home;
+      home = turns_by (λ p old new. IsAt p c.args.passes.items (λ (pass : Pass _ _). new ≡ with_reader (Some pass.watch) old)) (with_reader (Some pass.watch))
+          c.args.engines.now l.engines c.take_watch.new.self l.at l.invariant.home
+          (λ e. watch_back l.invariant.back rest c.args.passes.items pass l.at l.invariant.here whole e) c.take_watch.ensures.home;
       held = λ only w h. c.take_watch.ensures.held only w (l.invariant.held only w h);
       kept = λ only w v h. c.take_watch.ensures.kept only w v (l.invariant.kept only w v h);
     }
@@ -79,7 +83,9 @@ returns-clause-covers g c =
     let l = c.loop-pass in
     let nothing : into_iter_items l.pass-iterator ≡ [] = nil_from_length (into_iter_items l.pass-iterator) (sym l.invariant.counted ∙ c.in-None.ensures.steps.0) in
     let same : l.invariant.back ≡ c.args.passes.items = sym (append-nil l.invariant.back) ∙ ap (λ ps. l.invariant.back ++ ps) (sym nothing) ∙ l.invariant.passes in
-    λ all. subst (AtEach (λ p (s : ShownState _ _) (pass : Pass _ _). (s.failed ≡ false) × IsPrefix (kept_by pass.lens).history s.history) 0 c.args.shown.now) same (beside_all (λ p (s : ShownState _ _) (pass : Pass _ _). (s.failed ≡ false) × IsPrefix (kept_by pass.lens).history s.history) c.args.shown.now l.invariant.back (omega (arith, c.requires.as_many.0, c.requires.as_many.1, ap length same)) (l.invariant.covers all))
+    λ all. subst (AtEach (λ p (s : ShownState _ _) (pass : Pass _ _). (s.failed ≡ false) × IsPrefix (kept_by pass.lens).history s.history) 0 c.args.shown.now) same
+    (beside_all (λ p (s : ShownState _ _) (pass : Pass _ _). (s.failed ≡ false) × IsPrefix (kept_by pass.lens).history s.history) c.args.shown.now l.invariant.back
+    (omega (arith, c.requires.as_many.0, c.requires.as_many.1, ap length same)) (l.invariant.covers all))
 
 pub returns-clause-home : goal.returns-clause-home
 returns-clause-home g c =

@@ -20,6 +20,12 @@ invariant-loop-pass g l = record {
   here : l.at ≡ length back;
   covers : IsTrue l.covered → Beside (λ p s pass. (s.failed ≡ false) × IsPrefix (kept_by pass.lens).history s.history) l.shown back;
   home : InTurn (λ p old new. IsAt p l.fn.passes.items (λ pass. new ≡ with_reader (Some pass.watch) old)) l.fn.engines l.engines l.at;
-  held : (only : Option ℕ) (w : World) → HoldWorld (eyes g.S.Store.history g.S.Device.Device.history g.S.Frozen.Frozen.content g.S.Device.Device.name g.S.Frozen.Frozen.size g.S.Watch.Watch.counts) only l.fn.engines w → HoldWorld (eyes g.S.Store.history g.S.Device.Device.history g.S.Frozen.Frozen.content g.S.Device.Device.name g.S.Frozen.Frozen.size g.S.Watch.Watch.counts) only l.engines w;
-  kept : (only : Option ℕ) (w v : World) → KeepWorlds (eyes g.S.Store.history g.S.Device.Device.history g.S.Frozen.Frozen.content g.S.Device.Device.name g.S.Frozen.Frozen.size g.S.Watch.Watch.counts) only l.fn.engines w v → KeepWorlds (eyes g.S.Store.history g.S.Device.Device.history g.S.Frozen.Frozen.content g.S.Device.Device.name g.S.Frozen.Frozen.size g.S.Watch.Watch.counts) only l.engines w v;
+  held : (only : Option ℕ) (w : World) → HoldWorld (eyes g.S.Store.history g.S.Device.Device.history g.S.Frozen.Frozen.content g.S.Device.Device.name
+      g.S.Frozen.Frozen.size g.S.Watch.Watch.counts) only l.fn.engines w
+      → HoldWorld (eyes g.S.Store.history g.S.Device.Device.history g.S.Frozen.Frozen.content g.S.Device.Device.name g.S.Frozen.Frozen.size
+      g.S.Watch.Watch.counts) only l.engines w;
+  kept : (only : Option ℕ) (w v : World) → KeepWorlds (eyes g.S.Store.history g.S.Device.Device.history g.S.Frozen.Frozen.content g.S.Device.Device.name
+      g.S.Frozen.Frozen.size g.S.Watch.Watch.counts) only l.fn.engines w v
+      → KeepWorlds (eyes g.S.Store.history g.S.Device.Device.history g.S.Frozen.Frozen.content g.S.Device.Device.name g.S.Frozen.Frozen.size
+      g.S.Watch.Watch.counts) only l.engines w v;
 }

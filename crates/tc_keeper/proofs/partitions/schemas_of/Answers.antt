@@ -15,4 +15,7 @@ of-requires g c =
     let es = c.args.engines.now in
     let texts = map view c.in-Ok.texts.items in
     all_read view (λ text. has_float text ≡ false) c.in-Ok.texts.items (all_second (λ text. has_float text ≡ false) 0 es texts
-    (at_each-so (λ p e text. IsSchemaText (λ part. told g.S.Store.history g.S.Device.Device.history g.S.Frozen.Frozen.content part) g.S.Frozen.Frozen.content g.S.Device.Device.size e.engine text) (λ p e text. has_float text ≡ false) 0 es texts (λ p e text is. ap has_float is.counts ∙ schemas_have_no_floats (names_by (newest_in g.S.Frozen.Frozen.content e.engine.part.list)) (schema_tree (schema_by (newest_in g.S.Frozen.Frozen.content e.engine.part.list)))) c.in-Ok.ensures.each))
+    (at_each-so (λ p e text. IsSchemaText (λ part. told g.S.Store.history g.S.Device.Device.history g.S.Frozen.Frozen.content part) g.S.Frozen.Frozen.content
+    g.S.Device.Device.size e.engine text) (λ p e text. has_float text ≡ false) 0 es texts
+    (λ p e text is. ap has_float is.counts ∙ schemas_have_no_floats (names_by (newest_in g.S.Frozen.Frozen.content e.engine.part.list))
+    (schema_tree (schema_by (newest_in g.S.Frozen.Frozen.content e.engine.part.list)))) c.in-Ok.ensures.each))

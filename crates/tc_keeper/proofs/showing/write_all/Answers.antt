@@ -32,7 +32,8 @@ pub returns-in_err-write-clause-books : goal.returns-in_err-write-clause-books
 returns-in_err-write-clause-books g c =
     let l = c.loop-at in
     let below : l.at < length l.shown.items = let test = c.loop-at-test.true in let end = c.len-at-end.ensures in omega (arith, test, end, l.invariant.turns.many, c.args.shown.now.ok.0) in
-    turns_end (Wrote c.args.frames.now.items) (λ p old new. IsReadAsBefore old new) c.args.shown.now.items l.shown.items l.at c.index_mut-in-loop-at.result.now c.write.new.self (λ q o n is. wrote_read c.args.frames.now.items q o n is) (λ q o. stays_read o) l.invariant.turns below c.index_mut-in-loop-at.ensures.value
+    turns_end (Wrote c.args.frames.now.items) (λ p old new. IsReadAsBefore old new) c.args.shown.now.items l.shown.items l.at c.index_mut-in-loop-at.result.now
+    c.write.new.self (λ q o n is. wrote_read c.args.frames.now.items q o n is) (λ q o. stays_read o) l.invariant.turns below c.index_mut-in-loop-at.ensures.value
     (failed_read c.index_mut-in-loop-at.result.now c.write.new.self c.in_err-write.ensures.failed)
 
 pub loop-at-preserved : goal.loop-at-preserved

@@ -78,11 +78,72 @@ for_each_mut-requires-send-T g c κs within =
     let list : IsSend (ComponentList.the_field (param 5 g.row.S-Frozen) (param 3 g.row.S-Watch) g.S.Frozen.Frozen g.S.Watch.Watch).row = search (sendable, crosses) depth 20 in
     let log : IsSend (Log.the_field (param 4 g.row.S-Device) (param 3 g.row.S-Watch) g.S.Device.Device g.S.Watch.Watch).row = search (sendable, log_send) depth 20 in
     let retired : IsSend (Retired.the_field (param 5 g.row.S-Frozen) (param 3 g.row.S-Watch) g.S.Frozen.Frozen g.S.Watch.Watch).row = search (sendable, crosses) depth 20 in
-    let inside : IsSend (InsidePart.the_row (param 0 g.row.S) (param 3 g.row.S-Watch) (param 4 g.row.S-Device) (param 5 g.row.S-Frozen) g.S.Store g.S.Watch.Watch g.S.Device.Device g.S.Frozen.Frozen) = declared_send (InsidePart.the_type (param 0 g.row.S) (param 3 g.row.S-Watch) (param 4 g.row.S-Device) (param 5 g.row.S-Frozen) g.S.Store g.S.Watch.Watch g.S.Device.Device g.S.Frozen.Frozen)
-    (search sendable depth 20, (search sendable depth 20, (search sendable depth 20, (search sendable depth 20, (search sendable depth 20, (search sendable depth 20, (search sendable depth 20, (search sendable depth 20, (search sendable depth 20, (search (sendable, crosses) depth 20, (search sendable depth 20, (search sendable depth 20, (search sendable depth 20, (search sendable depth 20, (search (sendable, crosses, write_send) depth 20, (search (sendable, names_send) depth 20, (search sendable depth 20, (search sendable depth 20, (search sendable depth 20, (search sendable depth 20, (search sendable depth 20, tt))))))))))))))))))))) in
+    let inside : IsSend (InsidePart.the_row (param 0 g.row.S) (param 3 g.row.S-Watch) (param 4 g.row.S-Device) (param 5 g.row.S-Frozen) g.S.Store g.S.Watch.Watch
+    g.S.Device.Device g.S.Frozen.Frozen) = declared_send (InsidePart.the_type (param 0 g.row.S) (param 3 g.row.S-Watch) (param 4 g.row.S-Device)
+    (param 5 g.row.S-Frozen) g.S.Store g.S.Watch.Watch g.S.Device.Device g.S.Frozen.Frozen) (
+      search sendable depth 20,
+      (
+        search sendable depth 20,
+        (
+          search sendable depth 20,
+          (
+            search sendable depth 20,
+            (
+              search sendable depth 20,
+              (
+                search sendable depth 20,
+                (
+                  search sendable depth 20,
+                  (
+                    search sendable depth 20,
+                    (
+                      search sendable depth 20,
+                      (
+                        search (sendable, crosses) depth 20,
+                        (
+                          search sendable depth 20,
+                          (
+                            search sendable depth 20,
+                            (
+                              search sendable depth 20,
+                              (
+                                search sendable depth 20,
+                                (
+                                  search (sendable, crosses, write_send) depth 20,
+                                  (
+                                    search (sendable, names_send) depth 20,
+                                    (
+                                      search sendable depth 20,
+                                      (
+                                        search sendable depth 20,
+                                        (
+                                          search sendable depth 20,
+                                          (search sendable depth 20, (search sendable depth 20, tt)),
+                                        ),
+                                      ),
+                                    ),
+                                  ),
+                                ),
+                              ),
+                            ),
+                          ),
+                        ),
+                      ),
+                    ),
+                  ),
+                ),
+              ),
+            ),
+          ),
+        ),
+      ),
+    ) in
     let part : IsSend (Part.the_field (param 0 g.row.S) (param 3 g.row.S-Watch) (param 4 g.row.S-Device) (param 5 g.row.S-Frozen) g.S.Store g.S.Watch.Watch g.S.Device.Device g.S.Frozen.Frozen).row = search sendable depth 20 in
     let progress : IsSend (Progress.the_field (param 1 g.row.P)).row = search (sendable, crosses) depth 20 in
-    let engine_inside : IsSend (InsideEngine.the_row (param 0 g.row.S) (param 1 g.row.P) (param 3 g.row.S-Watch) (param 4 g.row.S-Device) (param 5 g.row.S-Frozen) g.S.Store g.S.Watch.Watch g.S.Device.Device g.S.Frozen.Frozen) = declared_send (InsideEngine.the_type (param 0 g.row.S) (param 1 g.row.P) (param 3 g.row.S-Watch) (param 4 g.row.S-Device) (param 5 g.row.S-Frozen) g.S.Store g.S.Watch.Watch g.S.Device.Device g.S.Frozen.Frozen) (search sendable depth 20, (search sendable depth 20, (search sendable depth 20, (search sendable depth 20, tt)))) in
+    let engine_inside : IsSend (InsideEngine.the_row (param 0 g.row.S) (param 1 g.row.P) (param 3 g.row.S-Watch) (param 4 g.row.S-Device) (param 5 g.row.S-Frozen)
+    g.S.Store g.S.Watch.Watch g.S.Device.Device g.S.Frozen.Frozen) = declared_send
+    (InsideEngine.the_type (param 0 g.row.S) (param 1 g.row.P) (param 3 g.row.S-Watch) (param 4 g.row.S-Device) (param 5 g.row.S-Frozen) g.S.Store g.S.Watch.Watch
+    g.S.Device.Device g.S.Frozen.Frozen) (search sendable depth 20, (search sendable depth 20, (search sendable depth 20, (search sendable depth 20, tt)))) in
     let engine : IsSend (Engine.the_field (param 0 g.row.S) (param 1 g.row.P) (param 3 g.row.S-Watch) (param 4 g.row.S-Device) (param 5 g.row.S-Frozen) g.S.Store g.S.Watch.Watch g.S.Device.Device g.S.Frozen.Frozen).row = search sendable depth 20 in
     let doc_send : IsSend (Doc.the_field).row = search (sendable, crosses, text_send, text_sync, both_send-Doc, both_send-Items, both_send-Members) depth 20 in
     let items_send : IsSend (Items.the_field).row = search (sendable, crosses, text_send, text_sync, both_send-Items) depth 20 in
@@ -93,7 +154,13 @@ for_each_mut-requires-send-T g c κs within =
     let reply : IsSend (Reply.the_field).row = search (sendable, upto_send) depth 60 in
     let placed : IsSend (Placed.the_field).row = search sendable depth 20 in
     let replies : IsSend (Replies.the_field).row = search (sendable, crosses) depth 20 in
-    let seat : IsSend (SeatRow.the_row (param 0 g.row.S) (param 1 g.row.P) (param 3 g.row.S-Watch) (param 4 g.row.S-Device) (param 5 g.row.S-Frozen) g.S.Store g.S.Watch.Watch g.S.Device.Device g.S.Frozen.Frozen) = declared_send (SeatRow.the_type (param 0 g.row.S) (param 1 g.row.P) (param 3 g.row.S-Watch) (param 4 g.row.S-Device) (param 5 g.row.S-Frozen) g.S.Store g.S.Watch.Watch g.S.Device.Device g.S.Frozen.Frozen) (search sendable depth 20, (search (sendable, fault_send) depth 20, (search (sendable, crosses, write_send) depth 20, tt))) in
+    let seat : IsSend (SeatRow.the_row (param 0 g.row.S) (param 1 g.row.P) (param 3 g.row.S-Watch) (param 4 g.row.S-Device) (param 5 g.row.S-Frozen) g.S.Store
+    g.S.Watch.Watch g.S.Device.Device g.S.Frozen.Frozen) = declared_send
+    (SeatRow.the_type (param 0 g.row.S) (param 1 g.row.P) (param 3 g.row.S-Watch) (param 4 g.row.S-Device) (param 5 g.row.S-Frozen) g.S.Store g.S.Watch.Watch
+    g.S.Device.Device g.S.Frozen.Frozen) (
+      search sendable depth 20,
+      (search (sendable, fault_send) depth 20, (search (sendable, crosses, write_send) depth 20, tt)),
+    ) in
     search sendable depth 20
 
 pub for_each_mut-requires-sync-F : goal.for_each_mut-requires-sync-F
@@ -111,12 +178,18 @@ for_each_mut-requires-clause-accepts g c κs within = λ i p below is.
 
 pub returns : goal.returns
 returns g c = record {
-  ran = at_each-so Both (λ p old new. HasRun (eyes g.S.Store.history g.S.Device.Device.history g.S.Frozen.Frozen.content g.S.Device.Device.name g.S.Frozen.Frozen.size g.S.Watch.Watch.counts) (requests_at p c.args.lists.now) old.engine new.engine new.answer) 0 c.args.seats.now c.for_each_mut.new.s (λ p old new both. both.0) all;
-  framed = at_each-so Both (λ p old new. OnOk new.answer (HasFramed (eyes g.S.Store.history g.S.Device.Device.history g.S.Frozen.Frozen.content g.S.Device.Device.name g.S.Frozen.Frozen.size g.S.Watch.Watch.counts) (requests_at p c.args.lists.now) old.engine new.engine new.frame.items)) 0 c.args.seats.now c.for_each_mut.new.s (λ p old new both. both.1) all;
+  ran = at_each-so Both (λ p old new. HasRun (eyes g.S.Store.history g.S.Device.Device.history g.S.Frozen.Frozen.content g.S.Device.Device.name g.S.Frozen.Frozen.size
+      g.S.Watch.Watch.counts) (requests_at p c.args.lists.now) old.engine new.engine new.answer) 0 c.args.seats.now c.for_each_mut.new.s (λ p old new both. both.0) all;
+  framed = at_each-so Both (λ p old new. OnOk new.answer (HasFramed
+      (eyes g.S.Store.history g.S.Device.Device.history g.S.Frozen.Frozen.content g.S.Device.Device.name g.S.Frozen.Frozen.size g.S.Watch.Watch.counts)
+      (requests_at p c.args.lists.now) old.engine new.engine new.frame.items)) 0 c.args.seats.now c.for_each_mut.new.s (λ p old new both. both.1) all;
 }
   where
     Both : ℕ → Seat g.row.S.Denot g.row.P.Denot g.row.S-Watch.Denot g.row.S-Device.Denot g.row.S-Frozen.Denot → Seat g.row.S.Denot g.row.P.Denot g.row.S-Watch.Denot g.row.S-Device.Denot g.row.S-Frozen.Denot → Type 0
-    Both p old new = HasRun (eyes g.S.Store.history g.S.Device.Device.history g.S.Frozen.Frozen.content g.S.Device.Device.name g.S.Frozen.Frozen.size g.S.Watch.Watch.counts) (requests_at p c.args.lists.now) old.engine new.engine new.answer × OnOk new.answer (HasFramed (eyes g.S.Store.history g.S.Device.Device.history g.S.Frozen.Frozen.content g.S.Device.Device.name g.S.Frozen.Frozen.size g.S.Watch.Watch.counts) (requests_at p c.args.lists.now) old.engine new.engine new.frame.items)
+    Both p old new = HasRun (eyes g.S.Store.history g.S.Device.Device.history g.S.Frozen.Frozen.content g.S.Device.Device.name g.S.Frozen.Frozen.size
+        g.S.Watch.Watch.counts) (requests_at p c.args.lists.now) old.engine new.engine new.answer
+        × OnOk new.answer (HasFramed (eyes g.S.Store.history g.S.Device.Device.history g.S.Frozen.Frozen.content g.S.Device.Device.name g.S.Frozen.Frozen.size
+        g.S.Watch.Watch.counts) (requests_at p c.args.lists.now) old.engine new.engine new.frame.items)
 
     all : AtEach Both 0 c.args.seats.now c.for_each_mut.new.s
     all =

@@ -10,19 +10,28 @@ loop-at-init g c =
 pub returns-in-Err-clause-engines : goal.returns-in-Err-clause-engines
 returns-in-Err-clause-engines g c =
     let below : c.loop-at.at < length c.loop-at.seats = omega (arith, c.loop-at-test.true, c.loop-at.invariant.0.many) in
-    taking_put (λ (s : Seat _ _ _ _ _). s.engine) (λ (s : Seat _ _ _ _ _). s.answer) c.args.seats.now c.loop-at.seats c.loop-at.at c.loop-at.parts.items c.index-seats-at.result c.take_answer.new.self c.loop-at.invariant.0 below c.index-seats-at.is (c.take_answer.ensures.same ∙ sym (ap (λ (s : Seat _ _ _ _ _). s.engine) c.index-seats-at.is))
+    taking_put (λ (s : Seat _ _ _ _ _). s.engine) (λ (s : Seat _ _ _ _ _). s.answer) c.args.seats.now c.loop-at.seats c.loop-at.at c.loop-at.parts.items
+    c.index-seats-at.result c.take_answer.new.self c.loop-at.invariant.0 below c.index-seats-at.is
+    (c.take_answer.ensures.same ∙ sym (ap (λ (s : Seat _ _ _ _ _). s.engine) c.index-seats-at.is))
 
 pub returns-in-Err-clause-first : goal.returns-in-Err-clause-first
 returns-in-Err-clause-first g c =
     let below : c.loop-at.at < length c.loop-at.seats = omega (arith, c.loop-at-test.true, c.loop-at.invariant.0.many) in
-    let within : c.loop-at.at < length c.args.seats.now = omega (arith, below, c.loop-at.invariant.0.many) in
-    (within, taking_fault (λ (s : Seat _ _ _ _ _). s.engine) (λ (s : Seat _ _ _ _ _). s.answer) c.args.seats.now c.loop-at.seats c.loop-at.at c.loop-at.parts.items c.index-seats-at.result c.in-Err.fault c.loop-at.invariant.0 below c.index-seats-at.is (ap (λ (s : Seat _ _ _ _ _). s.answer) c.index-seats-at.is ∙ sym c.take_answer.ensures.answer ∙ c.in-Err.is))
+    let within : c.loop-at.at < length c.args.seats.now = omega (arith, below, c.loop-at.invariant.0.many) in (
+      within,
+      taking_fault (λ (s : Seat _ _ _ _ _). s.engine) (λ (s : Seat _ _ _ _ _). s.answer) c.args.seats.now c.loop-at.seats c.loop-at.at c.loop-at.parts.items
+          c.index-seats-at.result c.in-Err.fault c.loop-at.invariant.0 below c.index-seats-at.is
+          (ap (λ (s : Seat _ _ _ _ _). s.answer) c.index-seats-at.is ∙ sym c.take_answer.ensures.answer ∙ c.in-Err.is),
+    )
 
 pub loop-at-preserved : goal.loop-at-preserved
 loop-at-preserved g c =
     let below : c.loop-at.at < length c.loop-at.seats = omega (arith, c.loop-at-test.true, c.loop-at.invariant.0.many) in
     let more : Taking (λ (s : Seat _ _ _ _ _). s.engine) (λ (s : Seat _ _ _ _ _). s.answer) c.args.seats.now (set c.loop-at.seats c.loop-at.at c.take_answer.new.self) (c.loop-at.at + 1) (c.loop-at.parts.items ++ c.in-Ok.replies ∷ []) =
-    taking_more (λ (s : Seat _ _ _ _ _). s.engine) (λ (s : Seat _ _ _ _ _). s.answer) c.args.seats.now c.loop-at.seats c.loop-at.at c.loop-at.parts.items c.index-seats-at.result c.take_answer.new.self c.in-Ok.replies c.loop-at.invariant.0 below c.index-seats-at.is (c.take_answer.ensures.same ∙ sym (ap (λ (s : Seat _ _ _ _ _). s.engine) c.index-seats-at.is)) (ap (λ (s : Seat _ _ _ _ _). s.answer) c.index-seats-at.is ∙ sym c.take_answer.ensures.answer ∙ c.in-Ok.is) in
+    taking_more (λ (s : Seat _ _ _ _ _). s.engine) (λ (s : Seat _ _ _ _ _). s.answer) c.args.seats.now c.loop-at.seats c.loop-at.at c.loop-at.parts.items
+    c.index-seats-at.result c.take_answer.new.self c.in-Ok.replies c.loop-at.invariant.0 below c.index-seats-at.is
+    (c.take_answer.ensures.same ∙ sym (ap (λ (s : Seat _ _ _ _ _). s.engine) c.index-seats-at.is))
+    (ap (λ (s : Seat _ _ _ _ _). s.answer) c.index-seats-at.is ∙ sym c.take_answer.ensures.answer ∙ c.in-Ok.is) in
     let room : vec_capacity c.push_reserved.new.self ≡ vec_capacity c.args.parts = c.push_reserved.ensures.capacity ∙ c.loop-at.invariant.2 in
     let filled : vec_len c.push_reserved.new.self ≡ c.loop-at.at + 1 = c.push_reserved.ensures.len ∙ ap (λ n. n + 1) c.loop-at.invariant.1 in
     (subst (Taking (λ (s : Seat _ _ _ _ _). s.engine) (λ (s : Seat _ _ _ _ _). s.answer) c.args.seats.now (set c.loop-at.seats c.loop-at.at c.take_answer.new.self) (c.loop-at.at + 1)) (sym c.push_reserved.ensures.items) more, filled, room)

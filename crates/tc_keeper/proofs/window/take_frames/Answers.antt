@@ -23,9 +23,13 @@ loop-at-preserved g c =
     let below : c.loop-at.at < length c.loop-at.seats = omega (arith, c.loop-at-test.true, c.loop-at.invariant.0.many) in
     let frame : ◌≡◌ {A = Result (Vec Write Global) EngineFault} (Ok c.index-seats-at.result.frame) (Ok c.take_frame-frame.result) = ap (λ (v : Vec Write Global). Ok v) (ap (λ (s : Seat _ _ _ _ _). s.frame) c.index-seats-at.is ∙ sym c.take_frame-frame.ensures.frame) in
     let engines : Taking (λ (s : Seat _ _ _ _ _). s.engine) (λ (s : Seat _ _ _ _ _). Ok s.frame) c.args.seats.now (set c.loop-at.seats c.loop-at.at c.take_frame-frame.new.self) (c.loop-at.at + 1) (c.loop-at.frames.items ++ c.take_frame-frame.result ∷ []) =
-    taking_more (λ (s : Seat _ _ _ _ _). s.engine) (λ (s : Seat _ _ _ _ _). Ok s.frame) c.args.seats.now c.loop-at.seats c.loop-at.at c.loop-at.frames.items c.index-seats-at.result c.take_frame-frame.new.self c.take_frame-frame.result c.loop-at.invariant.0 below c.index-seats-at.is (c.take_frame-frame.ensures.same.0 ∙ sym (ap (λ (s : Seat _ _ _ _ _). s.engine) c.index-seats-at.is)) frame in
+    taking_more (λ (s : Seat _ _ _ _ _). s.engine) (λ (s : Seat _ _ _ _ _). Ok s.frame) c.args.seats.now c.loop-at.seats c.loop-at.at c.loop-at.frames.items
+    c.index-seats-at.result c.take_frame-frame.new.self c.take_frame-frame.result c.loop-at.invariant.0 below c.index-seats-at.is
+    (c.take_frame-frame.ensures.same.0 ∙ sym (ap (λ (s : Seat _ _ _ _ _). s.engine) c.index-seats-at.is)) frame in
     let answers : Taking (λ (s : Seat _ _ _ _ _). s.answer) (λ (s : Seat _ _ _ _ _). Ok s.frame) c.args.seats.now (set c.loop-at.seats c.loop-at.at c.take_frame-frame.new.self) (c.loop-at.at + 1) (c.loop-at.frames.items ++ c.take_frame-frame.result ∷ []) =
-    taking_more (λ (s : Seat _ _ _ _ _). s.answer) (λ (s : Seat _ _ _ _ _). Ok s.frame) c.args.seats.now c.loop-at.seats c.loop-at.at c.loop-at.frames.items c.index-seats-at.result c.take_frame-frame.new.self c.take_frame-frame.result c.loop-at.invariant.1 below c.index-seats-at.is (c.take_frame-frame.ensures.same.1 ∙ sym (ap (λ (s : Seat _ _ _ _ _). s.answer) c.index-seats-at.is)) frame in
+    taking_more (λ (s : Seat _ _ _ _ _). s.answer) (λ (s : Seat _ _ _ _ _). Ok s.frame) c.args.seats.now c.loop-at.seats c.loop-at.at c.loop-at.frames.items
+    c.index-seats-at.result c.take_frame-frame.new.self c.take_frame-frame.result c.loop-at.invariant.1 below c.index-seats-at.is
+    (c.take_frame-frame.ensures.same.1 ∙ sym (ap (λ (s : Seat _ _ _ _ _). s.answer) c.index-seats-at.is)) frame in
     let room : vec_capacity c.push_reserved.new.self ≡ vec_capacity c.args.frames.now = c.push_reserved.ensures.capacity ∙ c.loop-at.invariant.3 in
     let filled : vec_len c.push_reserved.new.self ≡ c.loop-at.at + 1 = c.push_reserved.ensures.len ∙ ap (λ n. n + 1) c.loop-at.invariant.2 in (
       subst (Taking (λ (s : Seat _ _ _ _ _). s.engine) (λ (s : Seat _ _ _ _ _). Ok s.frame) c.args.seats.now (set c.loop-at.seats c.loop-at.at c.take_frame-frame.new.self) (c.loop-at.at + 1)) (sym c.push_reserved.ensures.items) engines,

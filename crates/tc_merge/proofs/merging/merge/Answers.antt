@@ -27,7 +27,9 @@ loop-next-init g c =
       going_on = c.requires.going_on;
       name = refl;
       moments = EachSince-none (LeavesAt IsClosed) (h b.device) (h b.device) refl;
-      reads = begins (λ file. g.S.Frozen.Frozen.content file) c.args.from c.args.inputs.now (λ done. (g.S.Watch.Watch.counts c.args.watch.now).reads ≤ (g.S.Watch.Watch.counts c.args.watch.now).reads + live_rows done) (no_read (g.S.Watch.Watch.counts c.args.watch.now).reads (g.S.Watch.Watch.counts c.args.watch.now).reads 0 refl);
+      reads = begins (λ file. g.S.Frozen.Frozen.content file) c.args.from c.args.inputs.now
+          (λ done. (g.S.Watch.Watch.counts c.args.watch.now).reads ≤ (g.S.Watch.Watch.counts c.args.watch.now).reads + live_rows done)
+          (no_read (g.S.Watch.Watch.counts c.args.watch.now).reads (g.S.Watch.Watch.counts c.args.watch.now).reads 0 refl);
       faults = omega arith;
     }
 
@@ -95,4 +97,6 @@ returns-clause-judged g c = λ told.
 
 pub returns-clause-reads : goal.returns-clause-reads
 returns-clause-reads g c =
-    ends (λ file. g.S.Frozen.Frozen.content file) c.args.from c.args.inputs.now c.loop-next.inputs (λ done. (g.S.Watch.Watch.counts c.loop-next.watch).reads ≤ (g.S.Watch.Watch.counts c.args.watch.now).reads + live_rows done) c.loop-next.invariant.reads (subst (IsNextOf c.loop-next.inputs) c.in_default.is c.loop-next.invariant.next)
+    ends (λ file. g.S.Frozen.Frozen.content file) c.args.from c.args.inputs.now c.loop-next.inputs
+    (λ done. (g.S.Watch.Watch.counts c.loop-next.watch).reads ≤ (g.S.Watch.Watch.counts c.args.watch.now).reads + live_rows done) c.loop-next.invariant.reads
+    (subst (IsNextOf c.loop-next.inputs) c.in_default.is c.loop-next.invariant.next)

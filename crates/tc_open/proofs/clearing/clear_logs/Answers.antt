@@ -38,14 +38,17 @@ pub returns-in-Ok-clause-refused : goal.returns-in-Ok-clause-refused
 returns-in-Ok-clause-refused g c =
     let found = found_in c.in-Ok.tidied.list c.in-Ok.tidied.writes.items in
     told_map _ _ (g.S.Store.history c.args.kit.store) (λ disk judged. IfErr-weaker c.flush_above.result _ _
-    (λ fault is. job_judged (λ file. g.S.Frozen.Frozen.content file) (λ file. g.S.Frozen.Frozen.name file) (asked c.args.part) found disk fault.cause judged is.0 (damage_weaker _ _ fault.cause (λ damage of. inl of) is.1)) (err_joined c.flush_above.result _ _ c.flush_above.ensures.causes c.flush_above.ensures.damaged))
+    (λ fault is. job_judged (λ file. g.S.Frozen.Frozen.content file) (λ file. g.S.Frozen.Frozen.name file) (asked c.args.part) found disk fault.cause judged is.0
+    (damage_weaker _ _ fault.cause (λ damage of. inl of) is.1)) (err_joined c.flush_above.result _ _ c.flush_above.ensures.causes c.flush_above.ensures.damaged))
     c.in-Ok.ensures.judged
 
 pub returns-in-Ok-clause-causes : goal.returns-in-Ok-clause-causes
 returns-in-Ok-clause-causes g c =
     let found = found_in c.in-Ok.tidied.list c.in-Ok.tidied.writes.items in
     IfErr-weaker c.flush_above.result _ _
-    (λ fault is. job_caused (λ file. g.S.Frozen.Frozen.content file) (λ file. g.S.Frozen.Frozen.name file) (asked c.args.part) found _ (λ file. g.S.Frozen.Frozen.size file) fault.cause is.0 (damage_weaker _ _ fault.cause (λ damage of. inl of) is.1)) (err_joined c.flush_above.result _ _ c.flush_above.ensures.causes c.flush_above.ensures.damaged)
+    (λ fault is. job_caused (λ file. g.S.Frozen.Frozen.content file) (λ file. g.S.Frozen.Frozen.name file) (asked c.args.part) found _
+    (λ file. g.S.Frozen.Frozen.size file) fault.cause is.0 (damage_weaker _ _ fault.cause (λ damage of. inl of) is.1))
+    (err_joined c.flush_above.result _ _ c.flush_above.ensures.causes c.flush_above.ensures.damaged)
 
 pub returns-in-Ok-clause-undamaged : goal.returns-in-Ok-clause-undamaged
 returns-in-Ok-clause-undamaged g c = both_lawful (asked c.args.part) _ _ _ (g.S.Store.history c.args.kit.store) c.in-Ok.ensures.stands c.in-Ok.ensures.stands (λ cs logs stands same. c.flush_above.ensures.undamaged cs logs stands)

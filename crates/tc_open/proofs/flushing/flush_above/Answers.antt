@@ -116,7 +116,8 @@ returns-in-Ok-remove_files-clause-flushed g c =
     let head : Head = record { number = c.args.part.number; count = c.args.part.count; from = t.last + 1; to = t.last + c.len.result } in
     let count : c.len.result ≡ length t.writes.items = c.len.ensures ∙ sym c.deref.ensures.len ∙ ap length c.deref.ensures.value in
     let some : 0 < length t.writes.items = search rules in
-    flushed_longer (λ file. g.S.Frozen.Frozen.content file) (λ file. g.S.Frozen.Frozen.name file) head t.list t.logs.items t.writes.items t.last c.len.result c.requires.above count refl refl c.in-Ok.field-0.list (g.S.Store.history t.kit.store) (g.S.Store.history c.in-Ok.field-0.kit.store) c.in-Ok.ensures.listed
+    flushed_longer (λ file. g.S.Frozen.Frozen.content file) (λ file. g.S.Frozen.Frozen.name file) head t.list t.logs.items t.writes.items t.last c.len.result
+    c.requires.above count refl refl c.in-Ok.field-0.list (g.S.Store.history t.kit.store) (g.S.Store.history c.in-Ok.field-0.kit.store) c.in-Ok.ensures.listed
     some
 
 pub returns-in-Ok-remove_files-clause-own : goal.returns-in-Ok-remove_files-clause-own

@@ -165,7 +165,8 @@ returns-in-Ok-remove_replaced-clause-merged g c =
     let content = g.S.Frozen.Frozen.content in
     let name = g.S.Frozen.Frozen.name in
     let many : most_listed < length r.list = omega (arith, c.len.ensures, c.if-len-le-MOST_LISTED.false) in
-    let m : IsMergeListed (λ file. content file) (λ file. name file) (head_over c.args.part.number c.args.part.count r.list) r.list c.merge_listed-watch.new.list (g.S.Store.history r.kit.store) (g.S.Store.history c.merge_listed-watch.new.store) = IfOk-at_ok _ c.in-Ok.is c.merge_listed-watch.ensures.listed in
+    let m : IsMergeListed (λ file. content file) (λ file. name file) (head_over c.args.part.number c.args.part.count r.list) r.list c.merge_listed-watch.new.list
+    (g.S.Store.history r.kit.store) (g.S.Store.history c.merge_listed-watch.new.store) = IfOk-at_ok _ c.in-Ok.is c.merge_listed-watch.ensures.listed in
     merged_intervals (λ file. content file) (λ file. name file) (asked c.args.part) r.list many c.requires.listed c.merge_listed-watch.new.list (g.S.Store.history r.kit.store) (g.S.Store.history c.merge_listed-watch.new.store) m
 
 pub returns-in-Ok-remove_replaced-clause-listed : goal.returns-in-Ok-remove_replaced-clause-listed
@@ -174,7 +175,8 @@ returns-in-Ok-remove_replaced-clause-listed g c =
     let content = g.S.Frozen.Frozen.content in
     let name = g.S.Frozen.Frozen.name in
     let many : most_listed < length r.list = omega (arith, c.len.ensures, c.if-len-le-MOST_LISTED.false) in
-    let m : IsMergeListed (λ file. content file) (λ file. name file) (head_over c.args.part.number c.args.part.count r.list) r.list c.merge_listed-watch.new.list (g.S.Store.history r.kit.store) (g.S.Store.history c.merge_listed-watch.new.store) = IfOk-at_ok _ c.in-Ok.is c.merge_listed-watch.ensures.listed in
+    let m : IsMergeListed (λ file. content file) (λ file. name file) (head_over c.args.part.number c.args.part.count r.list) r.list c.merge_listed-watch.new.list
+    (g.S.Store.history r.kit.store) (g.S.Store.history c.merge_listed-watch.new.store) = IfOk-at_ok _ c.in-Ok.is c.merge_listed-watch.ensures.listed in
     merged_listed (λ file. content file) (λ file. name file) (asked c.args.part) r.list many c.requires.listed c.merge_listed-watch.new.list (g.S.Store.history r.kit.store) (g.S.Store.history c.merge_listed-watch.new.store) m (IfOk-at_ok _ c.in-Ok.is c.merge_listed-watch.ensures.partition)
 
 pub returns-in-Ok-remove_replaced-clause-few : goal.returns-in-Ok-remove_replaced-clause-few
@@ -183,5 +185,6 @@ returns-in-Ok-remove_replaced-clause-few g c =
     let content = g.S.Frozen.Frozen.content in
     let name = g.S.Frozen.Frozen.name in
     let many : most_listed < length r.list = omega (arith, c.len.ensures, c.if-len-le-MOST_LISTED.false) in
-    let m : IsMergeListed (λ file. content file) (λ file. name file) (head_over c.args.part.number c.args.part.count r.list) r.list c.merge_listed-watch.new.list (g.S.Store.history r.kit.store) (g.S.Store.history c.merge_listed-watch.new.store) = IfOk-at_ok _ c.in-Ok.is c.merge_listed-watch.ensures.listed in
+    let m : IsMergeListed (λ file. content file) (λ file. name file) (head_over c.args.part.number c.args.part.count r.list) r.list c.merge_listed-watch.new.list
+    (g.S.Store.history r.kit.store) (g.S.Store.history c.merge_listed-watch.new.store) = IfOk-at_ok _ c.in-Ok.is c.merge_listed-watch.ensures.listed in
     subst (λ (cs : List (ComponentState g.row.S-Frozen.Denot)). length cs ≤ most_listed) (sym m.listed) (omega arith)

@@ -32,8 +32,12 @@ loop-component-preserved g c =
     let short = ap length steps in
     let gone = c.remove.ensures.removed ∙ ap (λ f. removes (g.S.Frozen.Frozen.name f) disks) (c.into_file.ensures ∙ ap (λ (m : ComponentState g.row.S-Frozen.Denot). m.file) c.in-Ok.ensures.ok) in
     record {
-      exact = ap (removes_all (map (λ (m : ComponentState g.row.S-Frozen.Denot). g.S.Frozen.Frozen.name m.file) (map arc_value rest))) gone ∙ sym (ap (λ items. removes_all (map (λ (m : ComponentState g.row.S-Frozen.Denot). g.S.Frozen.Frozen.name m.file) (map arc_value items)) disks) steps) ∙ at.invariant.exact;
-      some = λ new some. at.invariant.some new (subst (λ items. RemovesSome (map (λ (m : ComponentState g.row.S-Frozen.Denot). g.S.Frozen.Frozen.name m.file) (map arc_value items)) disks new) (sym steps) (inr (subst (λ ds. RemovesSome (map (λ (m : ComponentState g.row.S-Frozen.Denot). g.S.Frozen.Frozen.name m.file) (map arc_value rest)) ds new) gone some)));
+      exact = ap (removes_all (map (λ (m : ComponentState g.row.S-Frozen.Denot). g.S.Frozen.Frozen.name m.file) (map arc_value rest))) gone
+          ∙ sym (ap (λ items. removes_all (map (λ (m : ComponentState g.row.S-Frozen.Denot). g.S.Frozen.Frozen.name m.file) (map arc_value items)) disks) steps)
+          ∙ at.invariant.exact;
+      some = λ new some. at.invariant.some new (subst (λ items. RemovesSome
+          (map (λ (m : ComponentState g.row.S-Frozen.Denot). g.S.Frozen.Frozen.name m.file) (map arc_value items)) disks new) (sym steps)
+          (inr (subst (λ ds. RemovesSome (map (λ (m : ComponentState g.row.S-Frozen.Denot). g.S.Frozen.Frozen.name m.file) (map arc_value rest)) ds new) gone some)));
       left = omega (arith, at.invariant.left, c.in-Some.ensures.steps.1, short);
       same = ap (λ (k : Kit _ _ _ _). record k { store = c.remove.new.self; main = c.remove.new.watch }) at.invariant.same;
       watched = record { faults = omega (arith, at.invariant.watched.faults, c.remove.ensures.counted.faults); cause = λ never. absurd never };
@@ -47,7 +51,9 @@ returns-in-Err-remove-clause-partly g c =
     let steps : into_iter_items at.component-iterator ≡ c.in-Some.component ∷ rest = c.in-Some.ensures.steps.0 in
     let last = g.S.Store.history c.remove.new.self in
     let gone = c.remove.ensures.removed ∙ ap (λ f. removes (g.S.Frozen.Frozen.name f) disks) (c.into_file.ensures ∙ ap (λ (m : ComponentState g.row.S-Frozen.Denot). m.file) c.in-Ok.ensures.ok) in
-    at.invariant.some last (subst (λ items. RemovesSome (map (λ (m : ComponentState g.row.S-Frozen.Denot). g.S.Frozen.Frozen.name m.file) (map arc_value items)) disks last) (sym steps) (inr (subst (λ ds. RemovesSome (map (λ (m : ComponentState g.row.S-Frozen.Denot). g.S.Frozen.Frozen.name m.file) (map arc_value rest)) ds last) gone (none_some (map (λ (m : ComponentState g.row.S-Frozen.Denot). g.S.Frozen.Frozen.name m.file) (map arc_value rest)) last last refl))))
+    at.invariant.some last (subst (λ items. RemovesSome (map (λ (m : ComponentState g.row.S-Frozen.Denot). g.S.Frozen.Frozen.name m.file) (map arc_value items)) disks
+    last) (sym steps) (inr (subst (λ ds. RemovesSome (map (λ (m : ComponentState g.row.S-Frozen.Denot). g.S.Frozen.Frozen.name m.file) (map arc_value rest)) ds
+    last) gone (none_some (map (λ (m : ComponentState g.row.S-Frozen.Denot). g.S.Frozen.Frozen.name m.file) (map arc_value rest)) last last refl))))
 
 pub returns-in-Err-remove-clause-given_back : goal.returns-in-Err-remove-clause-given_back
 returns-in-Err-remove-clause-given_back g c = ap (λ (k : Kit _ _ _ _). record k { store = c.remove.new.self; main = c.remove.new.watch }) c.loop-component.invariant.same

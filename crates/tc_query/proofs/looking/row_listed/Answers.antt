@@ -77,4 +77,15 @@ returns-in-Absent-clause-shown g c = (None, c.in-Absent.ensures, refl)
 
 pub returns-in-At-clause-shown : goal.returns-in-At-clause-shown
 returns-in-At-clause-shown g c =
-    IfOk-weaker c.row_stored.result _ _ (λ row is. (Some is.0, record { at = c.in-At.at; place = c.in-At.place; newest = c.in-At.ensures; component = c.component_at-component.result.now; here = c.component_at-component.ensures.there; read = is.1 }, is.2 ∙ rows_with_one (ask_of c.args.ask.now) c.args.key is.0)) c.row_stored.ensures.document
+    IfOk-weaker c.row_stored.result _ _ (λ row is. (
+      Some is.0,
+      record {
+        at = c.in-At.at;
+        place = c.in-At.place;
+        newest = c.in-At.ensures;
+        component = c.component_at-component.result.now;
+        here = c.component_at-component.ensures.there;
+        read = is.1;
+      },
+      is.2 ∙ rows_with_one (ask_of c.args.ask.now) c.args.key is.0,
+    )) c.row_stored.ensures.document

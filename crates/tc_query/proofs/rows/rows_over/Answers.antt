@@ -19,7 +19,9 @@ pub loop-key-init : goal.loop-key-init
 loop-key-init g c = record {
   walk = c.in_ok-walk.ensures.walk;
   rows = λ pairs h. ap (map row_of) c.new-rows.ensures.items ∙ sym (rows-start (ask_of c.args.ask.now) pairs);
-  held = subst (HoldBelow g.F.Frozen.content 0 c.args.list.now (option_map (λ t. t.now) c.args.sealed) c.args.active.now (ask_of c.args.ask.now)) (sym (ap (map row_of) c.new-rows.ensures.items)) (below_none g.F.Frozen.content c.args.list.now (option_map (λ t. t.now) c.args.sealed) c.args.active.now (ask_of c.args.ask.now));
+  held = subst (HoldBelow g.F.Frozen.content 0 c.args.list.now (option_map (λ t. t.now) c.args.sealed) c.args.active.now (ask_of c.args.ask.now))
+      (sym (ap (map row_of) c.new-rows.ensures.items)) (below_none g.F.Frozen.content c.args.list.now (option_map (λ t. t.now) c.args.sealed) c.args.active.now
+      (ask_of c.args.ask.now));
   reads = omega arith;
   cursors = start_cursors g.F.Frozen.content c.args.list.now _ _ c.in_ok-cursors.ensures c.len.ensures;
   read = start_read c.args.list.now _ _;
@@ -93,7 +95,8 @@ loop-key-preserved g c =
       rows = λ pairs h.
           rows_more g.F.Frozen.content cs sealed active pairs h tables.sealed tables.active (c.loaded_components_show_contents.ensures.shown cs h.contents h.loaded) (ask_of c.args.ask.now) low key
           (map row_of l.rows.items) (option_to_list (option_map row_of c.in_ok-row.row)) (map row_of c.push_row.new.rows.items) next (l.invariant.rows pairs h) (c.in_ok-row.ensures.row pairs h) c.in_ok-push_row.ensures;
-      held = let may = c.in_ok-row.ensures.shown in below_next g.F.Frozen.content cs sealed active (ask_of c.args.ask.now) low key (map row_of l.rows.items) may.0 (option_to_list (option_map row_of c.in_ok-row.row)) (map row_of c.push_row.new.rows.items) next l.invariant.held may.1 may.2 c.in_ok-push_row.ensures;
+      held = let may = c.in_ok-row.ensures.shown in below_next g.F.Frozen.content cs sealed active (ask_of c.args.ask.now) low key (map row_of l.rows.items) may.0
+          (option_to_list (option_map row_of c.in_ok-row.row)) (map row_of c.push_row.new.rows.items) next l.invariant.held may.1 may.2 c.in_ok-push_row.ensures;
       reads = reads_more g.F.Frozen.content cs sealed active low key (counts c.args.watch.now).reads (counts l.watch) (counts c.row_at.new.watch) c.next_key.ensures.lawful next c.row_at.ensures.reads l.invariant.reads;
       cursors = subst (λ ks. AreCursors g.F.Frozen.content cs ks) (sym written) c.row_at.ensures.of;
       read = subst (λ ks. AreRead (key + 1) cs ks (counts c.args.watch.now).reads (counts c.row_at.new.watch).reads) (sym written)

@@ -36,7 +36,9 @@ returns-in-Ok-clause-moments g c = λ cs ws is loaded same.
     subst (λ disks. EndsHome (IsOk c.run_flush.result.outcome) (name_of c.args.head) device disks store) c.in-Ok.ensures.made
     (subst (λ n. EndsHome (IsOk c.run_flush.result.outcome) n device (g.S.Store.history c.begin_flush.new.store) store) named
     (in_both c.end_flush.result.outcome _ _ (EndsHome (IsOk c.run_flush.result.outcome) (g.S.Device.Device.name c.run_flush.result.device) device (g.S.Store.history c.begin_flush.new.store) store) (λ done. inl (done.0, inl done.1)) (λ home. home)
-    (ok_both c.end_flush.result.outcome _ _ (IsOk c.run_flush.result.outcome × (store ≡ comes_home (g.S.Device.Device.name c.run_flush.result.device) frozen_entry device (g.S.Store.history c.begin_flush.new.store))) (λ whole still. (whole, still)) c.end_flush.ensures.whole c.end_flush.ensures.still) c.end_flush.ensures.home)) in
+    (ok_both c.end_flush.result.outcome _ _ (IsOk c.run_flush.result.outcome
+    × (store ≡ comes_home (g.S.Device.Device.name c.run_flush.result.device) frozen_entry device (g.S.Store.history c.begin_flush.new.store)))
+    (λ whole still. (whole, still)) c.end_flush.ensures.whole c.end_flush.ensures.still) c.end_flush.ensures.home)) in
     (home_kept_so (λ file. g.S.Frozen.Frozen.content file) c.args.head c.args.list.now c.args.logs.now (g.S.Store.history c.args.store.now) c.requires.some c.requires.from c.requires.to c.requires.free
     c.in-Ok.begun.inputs.names c.in-Ok.begun.inputs.schema (arc_value c.in-Ok.begun.inputs.sealed) (flush_bytes c.args.head c.in-Ok.begun.inputs.names c.in-Ok.begun.inputs.schema) (g.S.Device.Device.history c.in-Ok.begun.device) device c.requires.last
     (λ cs all. c.in-Ok.ensures.names ∙ c.inputs_are_newest.ensures.names c.args.list.now cs all) (λ cs all. c.in-Ok.ensures.schema ∙ c.inputs_are_newest.ensures.schema c.args.list.now cs all)
@@ -51,7 +53,9 @@ returns-in-Ok-clause-kept g c = λ cs ws is loaded same.
     subst (λ disks. EndsHome (IsOk c.run_flush.result.outcome) (name_of c.args.head) device disks store) c.in-Ok.ensures.made
     (subst (λ n. EndsHome (IsOk c.run_flush.result.outcome) n device (g.S.Store.history c.begin_flush.new.store) store) named
     (in_both c.end_flush.result.outcome _ _ (EndsHome (IsOk c.run_flush.result.outcome) (g.S.Device.Device.name c.run_flush.result.device) device (g.S.Store.history c.begin_flush.new.store) store) (λ done. inl (done.0, inl done.1)) (λ home. home)
-    (ok_both c.end_flush.result.outcome _ _ (IsOk c.run_flush.result.outcome × (store ≡ comes_home (g.S.Device.Device.name c.run_flush.result.device) frozen_entry device (g.S.Store.history c.begin_flush.new.store))) (λ whole still. (whole, still)) c.end_flush.ensures.whole c.end_flush.ensures.still) c.end_flush.ensures.home)) in
+    (ok_both c.end_flush.result.outcome _ _ (IsOk c.run_flush.result.outcome
+    × (store ≡ comes_home (g.S.Device.Device.name c.run_flush.result.device) frozen_entry device (g.S.Store.history c.begin_flush.new.store)))
+    (λ whole still. (whole, still)) c.end_flush.ensures.whole c.end_flush.ensures.still) c.end_flush.ensures.home)) in
     (home_kept_so (λ file. g.S.Frozen.Frozen.content file) c.args.head c.args.list.now c.args.logs.now (g.S.Store.history c.args.store.now) c.requires.some c.requires.from c.requires.to c.requires.free
     c.in-Ok.begun.inputs.names c.in-Ok.begun.inputs.schema (arc_value c.in-Ok.begun.inputs.sealed) (flush_bytes c.args.head c.in-Ok.begun.inputs.names c.in-Ok.begun.inputs.schema) (g.S.Device.Device.history c.in-Ok.begun.device) device c.requires.last
     (λ cs all. c.in-Ok.ensures.names ∙ c.inputs_are_newest.ensures.names c.args.list.now cs all) (λ cs all. c.in-Ok.ensures.schema ∙ c.inputs_are_newest.ensures.schema c.args.list.now cs all)

@@ -50,7 +50,9 @@ returns-in_err-tally-clause-ran g c =
     let spent = HasSpent g.S.Store.history g.S.Device.Device.history g.S.Frozen.Frozen.content in
     let p = err_from_is_err_and c.from_residual-in_err-tally.result c.from_residual-in_err-tally.ensures.1 in
     rw (p.1, p.2, ← ap (λ (w : Window). w.limit) c.begin.ensures.window) (λ first held.
-    gives_up holds keeps spent c.args.commands c.in_err-tally.field-0.0 first c.begin.new.self.window.limit (g.O.Sink.taken c.args.sink.now) (g.O.Sink.taken c.args.sink.now) c.hear_all.new.session.keeper c.in_err-tally.ensures.kinds c.in_err-tally.ensures.cause.spent (Keeps-refl (g.O.Sink.taken c.args.sink.now))
+    gives_up holds keeps spent c.args.commands c.in_err-tally.field-0.0 first c.begin.new.self.window.limit (g.O.Sink.taken c.args.sink.now)
+    (g.O.Sink.taken c.args.sink.now) c.hear_all.new.session.keeper c.in_err-tally.ensures.kinds c.in_err-tally.ensures.cause.spent
+    (Keeps-refl (g.O.Sink.taken c.args.sink.now))
     (c.in_err-tally.ensures.fault first (c.in_ok-begin.ensures.held first held)))
 
 pub returns-in_err-tally-clause-cause : goal.returns-in_err-tally-clause-cause

@@ -31,7 +31,8 @@ hear_line-requires-clause-size g c κs within =
     let holds = ServesAt (eyes g.S.Store.history g.S.Device.Device.history g.S.Frozen.Frozen.content g.S.Device.Device.name g.S.Frozen.Frozen.size g.S.Watch.Watch.counts) in
     let keeps = FailsAt (eyes g.S.Store.history g.S.Device.Device.history g.S.Frozen.Frozen.content g.S.Device.Device.name g.S.Frozen.Frozen.size g.S.Watch.Watch.counts) in
     let came = c.in_ok-line.ensures.given ∙ ap (λ o. option_to_list o ++ c.next.new.self) c.in-Some.is in
-    line_is holds keeps (holds c.args.session.now.keeper) (generated c.args.commands) c.args.session.now.window.limit (λ line. length line ≤ max_line) c.loop.feed c.in-Some.line c.next.new.self c.loop.session c.loop.tally came (generated_short c.args.commands (omega (arith, c.requires.few))) c.loop.invariant.comes
+    line_is holds keeps (holds c.args.session.now.keeper) (generated c.args.commands) c.args.session.now.window.limit (λ line. length line ≤ max_line) c.loop.feed
+    c.in-Some.line c.next.new.self c.loop.session c.loop.tally came (generated_short c.args.commands (omega (arith, c.requires.few))) c.loop.invariant.comes
 
 pub loop-preserved : goal.loop-preserved
 loop-preserved g c =
@@ -44,7 +45,9 @@ loop-preserved g c =
       ready = heard.ready;
       limit = heard.limit ∙ i.limit;
       settings = c.hear_line.ensures.settings ∙ i.settings;
-      comes = comes_next holds keeps (holds c.args.session.now.keeper) (generated c.args.commands) c.args.session.now.window.limit c.loop.feed c.in-Some.line c.next.new.self c.loop.session c.hear_line.new.session c.loop.tally c.hear_line.new.tally came i.limit (omega (arith, c.requires.few, generated_count c.args.commands)) heard.heard i.comes;
+      comes = comes_next holds keeps (holds c.args.session.now.keeper) (generated c.args.commands) c.args.session.now.window.limit c.loop.feed c.in-Some.line
+          c.next.new.self c.loop.session c.hear_line.new.session c.loop.tally c.hear_line.new.tally came i.limit
+          (omega (arith, c.requires.few, generated_count c.args.commands)) heard.heard i.comes;
       cause = calls_follow None _ _ _ _ _ i.cause heard.cause;
     }
 
@@ -54,7 +57,9 @@ returns-in_err-hear_line-in-Some-clause-fault g c =
     let keeps = FailsAt (eyes g.S.Store.history g.S.Device.Device.history g.S.Frozen.Frozen.content g.S.Device.Device.name g.S.Frozen.Frozen.size g.S.Watch.Watch.counts) in
     let p = err_from_is_err_and c.from_residual-in_err-hear_line-in-Some.result c.from_residual-in_err-hear_line-in-Some.ensures.1 in
     let came = c.in_ok-line.ensures.given ∙ ap (λ o. option_to_list o ++ c.next.new.self) c.in-Some.is in
-    rw (p.1, p.2) (ends_at_line holds keeps (holds c.args.session.now.keeper) (generated c.args.commands) c.args.session.now.window.limit c.loop.feed c.in-Some.line c.next.new.self c.loop.session c.hear_line.new.session c.loop.tally c.in_err-hear_line-in-Some.field-0.0 came c.loop.invariant.limit c.in_err-hear_line-in-Some.ensures.fault c.loop.invariant.comes)
+    rw (p.1, p.2) (ends_at_line holds keeps (holds c.args.session.now.keeper) (generated c.args.commands) c.args.session.now.window.limit c.loop.feed c.in-Some.line
+    c.next.new.self c.loop.session c.hear_line.new.session c.loop.tally c.in_err-hear_line-in-Some.field-0.0 came c.loop.invariant.limit
+    c.in_err-hear_line-in-Some.ensures.fault c.loop.invariant.comes)
 
 pub returns-in_err-hear_line-in-Some-clause-cause : goal.returns-in_err-hear_line-in-Some-clause-cause
 returns-in_err-hear_line-in-Some-clause-cause g c =
@@ -82,7 +87,9 @@ returns-in_err-hear_end-in-None-clause-fault g c =
     let holds = ServesAt (eyes g.S.Store.history g.S.Device.Device.history g.S.Frozen.Frozen.content g.S.Device.Device.name g.S.Frozen.Frozen.size g.S.Watch.Watch.counts) in
     let keeps = FailsAt (eyes g.S.Store.history g.S.Device.Device.history g.S.Frozen.Frozen.content g.S.Device.Device.name g.S.Frozen.Frozen.size g.S.Watch.Watch.counts) in
     let p = err_from_is_err_and c.from_residual-in_err-hear_end-in-None.result c.from_residual-in_err-hear_end-in-None.ensures.1 in
-    rw (p.1, p.2) (ends_at_end holds keeps (holds c.args.session.now.keeper) (generated c.args.commands) c.args.session.now.window.limit c.loop.feed c.loop.session c.hear_end.new.session c.loop.tally c.in_err-hear_end-in-None.field-0.0 (c.in_ok-line.ensures.end.0 c.in-None.is) c.loop.invariant.limit c.in_err-hear_end-in-None.ensures.fault c.loop.invariant.comes)
+    rw (p.1, p.2) (ends_at_end holds keeps (holds c.args.session.now.keeper) (generated c.args.commands) c.args.session.now.window.limit c.loop.feed c.loop.session
+    c.hear_end.new.session c.loop.tally c.in_err-hear_end-in-None.field-0.0 (c.in_ok-line.ensures.end.0 c.in-None.is) c.loop.invariant.limit
+    c.in_err-hear_end-in-None.ensures.fault c.loop.invariant.comes)
 
 pub returns-in_err-hear_end-in-None-clause-cause : goal.returns-in_err-hear_end-in-None-clause-cause
 returns-in_err-hear_end-in-None-clause-cause g c =
@@ -93,7 +100,9 @@ pub returns-in-None-clause-heard : goal.returns-in-None-clause-heard
 returns-in-None-clause-heard g c =
     let holds = ServesAt (eyes g.S.Store.history g.S.Device.Device.history g.S.Frozen.Frozen.content g.S.Device.Device.name g.S.Frozen.Frozen.size g.S.Watch.Watch.counts) in
     let keeps = FailsAt (eyes g.S.Store.history g.S.Device.Device.history g.S.Frozen.Frozen.content g.S.Device.Device.name g.S.Frozen.Frozen.size g.S.Watch.Watch.counts) in
-    ends_well holds keeps (holds c.args.session.now.keeper) (generated c.args.commands) c.args.session.now.window.limit c.loop.feed c.loop.session c.hear_end.new.session c.loop.tally c.hear_end.new.tally (c.in_ok-line.ensures.end.0 c.in-None.is) c.loop.invariant.limit (omega (arith, c.requires.few, generated_count c.args.commands)) c.in_ok-hear_end-in-None.ensures.heard c.loop.invariant.comes
+    ends_well holds keeps (holds c.args.session.now.keeper) (generated c.args.commands) c.args.session.now.window.limit c.loop.feed c.loop.session
+    c.hear_end.new.session c.loop.tally c.hear_end.new.tally (c.in_ok-line.ensures.end.0 c.in-None.is) c.loop.invariant.limit
+    (omega (arith, c.requires.few, generated_count c.args.commands)) c.in_ok-hear_end-in-None.ensures.heard c.loop.invariant.comes
 
 pub returns-in-None-clause-cause : goal.returns-in-None-clause-cause
 returns-in-None-clause-cause g c = calls_follow None _ _ _ _ _ c.loop.invariant.cause c.in_ok-hear_end-in-None.ensures.cause

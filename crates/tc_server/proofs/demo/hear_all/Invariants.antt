@@ -15,6 +15,8 @@ invariant-loop g l =
       ready : IsReady (MayServe g.S.Store.history g.S.Device.Device.history g.S.Frozen.Frozen.content) l.session;
       limit : l.session.window.limit ≡ l.fn.session.window.limit;
       settings : settings_kept l.session.keeper ≡ settings_kept l.fn.session.keeper;
-      comes : ComesOn (ServesAt (eyes g.S.Store.history g.S.Device.Device.history g.S.Frozen.Frozen.content g.S.Device.Device.name g.S.Frozen.Frozen.size g.S.Watch.Watch.counts)) (ServesAt (eyes g.S.Store.history g.S.Device.Device.history g.S.Frozen.Frozen.content g.S.Device.Device.name g.S.Frozen.Frozen.size g.S.Watch.Watch.counts) l.fn.session.keeper) (generated l.commands) l.feed l.fn.session.window.limit l.session l.tally;
+      comes : ComesOn (ServesAt (eyes g.S.Store.history g.S.Device.Device.history g.S.Frozen.Frozen.content g.S.Device.Device.name g.S.Frozen.Frozen.size
+          g.S.Watch.Watch.counts)) (ServesAt (eyes g.S.Store.history g.S.Device.Device.history g.S.Frozen.Frozen.content g.S.Device.Device.name g.S.Frozen.Frozen.size
+          g.S.Watch.Watch.counts) l.fn.session.keeper) (generated l.commands) l.feed l.fn.session.window.limit l.session l.tally;
       cause : HasDiskCause (faults_kept g.S.Watch.Watch.counts l.fn.session.keeper) (faults_kept g.S.Watch.Watch.counts l.session.keeper) (HasSpent g.S.Store.history g.S.Device.Device.history g.S.Frozen.Frozen.content l.session.keeper) None;
     }

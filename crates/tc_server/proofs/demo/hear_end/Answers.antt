@@ -49,7 +49,8 @@ returns-in-Ok-clause-kinds g c = IfErr-weaker c.heard.result _ _ (λ f memory. r
 
 pub returns-in-Ok-clause-cause : goal.returns-in-Ok-clause-cause
 returns-in-Ok-clause-cause g c =
-    heard_cause c.heard.result (faults_kept g.S.Watch.Watch.counts c.args.session.now.keeper) (faults_kept g.S.Watch.Watch.counts c.close.new.self.keeper) _ (HasSpent g.S.Store.history g.S.Device.Device.history g.S.Frozen.Frozen.content c.close.new.self.keeper) c.in-Ok.ensures.cause.disks c.heard.ensures.memory
+    heard_cause c.heard.result (faults_kept g.S.Watch.Watch.counts c.args.session.now.keeper) (faults_kept g.S.Watch.Watch.counts c.close.new.self.keeper) _
+    (HasSpent g.S.Store.history g.S.Device.Device.history g.S.Frozen.Frozen.content c.close.new.self.keeper) c.in-Ok.ensures.cause.disks c.heard.ensures.memory
 
 pub returns-clause-fault : goal.returns-clause-fault
 returns-clause-fault g c =

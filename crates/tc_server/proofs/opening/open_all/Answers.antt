@@ -9,7 +9,9 @@ use Rattle.tc_server.proofs.opening.open_all.Goals as goal
 
 pub loop-number-init : goal.loop-number-init
 loop-number-init g c = record {
-  opened = opened_none (eyes g.H.Store.Store.history g.H.Store.Device.Device.history g.H.Store.Frozen.Frozen.content g.H.Store.Device.Device.name g.H.Store.Frozen.Frozen.size g.H.Store.Watch.Watch.counts) c.args.options.now (g.H.Shelf.files c.args.shelf.now) (g.H.Shelf.kit_faults c.args.shelf.now) c.args.engines.now c.requires.none;
+  opened = opened_none (eyes g.H.Store.Store.history g.H.Store.Device.Device.history g.H.Store.Frozen.Frozen.content g.H.Store.Device.Device.name
+      g.H.Store.Frozen.Frozen.size g.H.Store.Watch.Watch.counts) c.args.options.now (g.H.Shelf.files c.args.shelf.now) (g.H.Shelf.kit_faults c.args.shelf.now)
+      c.args.engines.now c.requires.none;
   many = ap length c.requires.none;
   within = omega arith;
   others = λ other from. (refl, refl);
@@ -24,7 +26,10 @@ loop-number-preserved g c =
     let more : l.number < c.args.options.now.partitions = let test = c.loop-number-test.true in omega arith in
     let many = one_more l.engines c.open_next.new.engines e.0 l.number l.invariant.many e.1 in
     record {
-      opened = opened_more (eyes g.H.Store.Store.history g.H.Store.Device.Device.history g.H.Store.Frozen.Frozen.content g.H.Store.Device.Device.name g.H.Store.Frozen.Frozen.size g.H.Store.Watch.Watch.counts) c.args.options.now (g.H.Shelf.files c.args.shelf.now) (g.H.Shelf.files l.shelf) (g.H.Shelf.kit_faults c.args.shelf.now) (g.H.Shelf.kit_faults l.shelf) l.engines c.open_next.new.engines l.number e.0 l.invariant.many e.1 (l.invariant.others l.number (omega arith)) l.invariant.opened e.2;
+      opened = opened_more (eyes g.H.Store.Store.history g.H.Store.Device.Device.history g.H.Store.Frozen.Frozen.content g.H.Store.Device.Device.name
+          g.H.Store.Frozen.Frozen.size g.H.Store.Watch.Watch.counts) c.args.options.now (g.H.Shelf.files c.args.shelf.now) (g.H.Shelf.files l.shelf)
+          (g.H.Shelf.kit_faults c.args.shelf.now) (g.H.Shelf.kit_faults l.shelf) l.engines c.open_next.new.engines l.number e.0 l.invariant.many e.1
+          (l.invariant.others l.number (omega arith)) l.invariant.opened e.2;
       many = many;
       within = omega (arith, more);
       others = λ other from.
@@ -37,7 +42,10 @@ loop-number-preserved g c =
     }
 
 pub returns-in_err-open_next-clause-opened : goal.returns-in_err-open_next-clause-opened
-returns-in_err-open_next-clause-opened g c = subst (AreOpened (eyes g.H.Store.Store.history g.H.Store.Device.Device.history g.H.Store.Frozen.Frozen.content g.H.Store.Device.Device.name g.H.Store.Frozen.Frozen.size g.H.Store.Watch.Watch.counts) c.args.options.now (g.H.Shelf.files c.args.shelf.now) (g.H.Shelf.kit_faults c.args.shelf.now)) (sym c.in_err-open_next.ensures.stays) c.loop-number.invariant.opened
+returns-in_err-open_next-clause-opened g c = subst (AreOpened
+    (eyes g.H.Store.Store.history g.H.Store.Device.Device.history g.H.Store.Frozen.Frozen.content g.H.Store.Device.Device.name g.H.Store.Frozen.Frozen.size
+    g.H.Store.Watch.Watch.counts) c.args.options.now (g.H.Shelf.files c.args.shelf.now) (g.H.Shelf.kit_faults c.args.shelf.now)) (sym c.in_err-open_next.ensures.stays)
+    c.loop-number.invariant.opened
 
 pub returns-in_err-open_next-clause-some : goal.returns-in_err-open_next-clause-some
 returns-in_err-open_next-clause-some g c =

@@ -23,7 +23,11 @@ pub returns-in-Ok-push-clause-opened : goal.returns-in-Ok-push-clause-opened
 returns-in-Ok-push-clause-opened g c = (
   engine_with c.new.result no_jobs,
   c.in-Ok-push.ensures.pushed,
-  subst (λ engine. IsOpened (eyes g.S.Store.history g.S.Device.Device.history g.S.Frozen.Frozen.content g.S.Device.Device.name g.S.Frozen.Frozen.size g.S.Watch.Watch.counts) c.args.options.now (partition_at c.args.number c.args.options.now.partitions) (g.S.Store.history c.args.kit.store) (faults_in g.S.Watch.Watch.counts c.args.kit) (engine_with engine no_jobs)) (sym c.new.ensures.made) (engine_opened (eyes g.S.Store.history g.S.Device.Device.history g.S.Frozen.Frozen.content g.S.Device.Device.name g.S.Frozen.Frozen.size g.S.Watch.Watch.counts) c.args.options.now (partition_at c.args.number c.args.options.now.partitions) (g.S.Store.history c.args.kit.store) c.args.kit c.in-Ok.part c.policy_of.result
+  subst (λ engine. IsOpened (eyes g.S.Store.history g.S.Device.Device.history g.S.Frozen.Frozen.content g.S.Device.Device.name g.S.Frozen.Frozen.size
+      g.S.Watch.Watch.counts) c.args.options.now (partition_at c.args.number c.args.options.now.partitions) (g.S.Store.history c.args.kit.store)
+      (faults_in g.S.Watch.Watch.counts c.args.kit) (engine_with engine no_jobs)) (sym c.new.ensures.made)
+      (engine_opened (eyes g.S.Store.history g.S.Device.Device.history g.S.Frozen.Frozen.content g.S.Device.Device.name g.S.Frozen.Frozen.size g.S.Watch.Watch.counts)
+      c.args.options.now (partition_at c.args.number c.args.options.now.partitions) (g.S.Store.history c.args.kit.store) c.args.kit c.in-Ok.part c.policy_of.result
       (record { sound = ap (λ p. p.failed) c.in-Ok.ensures.begun; log = c.in-Ok.ensures.log_out })
       (ap (λ p. p.staged) c.in-Ok.ensures.begun) (ap (λ p. p.limits) c.in-Ok.ensures.begun) (ap (λ p. p.memory) c.in-Ok.ensures.begun) c.policy_of.ensures c.in-Ok.ensures.opened c.in-Ok.ensures.judged c.in-Ok.ensures.watched
       (ap (λ p. p.flusher) c.in-Ok.ensures.begun) (ap (λ p. p.merger) c.in-Ok.ensures.begun) (ap (λ p. p.reader) c.in-Ok.ensures.begun) (ap (λ p. p.sealed) c.in-Ok.ensures.begun) (ap (λ p. p.active) c.in-Ok.ensures.begun)),
@@ -31,8 +35,19 @@ returns-in-Ok-push-clause-opened g c = (
 
 pub returns-in-Err-push-clause-back : goal.returns-in-Err-push-clause-back
 returns-in-Err-push-clause-back g c =
-    pushed_back (eyes g.S.Store.history g.S.Device.Device.history g.S.Frozen.Frozen.content g.S.Device.Device.name g.S.Frozen.Frozen.size g.S.Watch.Watch.counts) g.S.Device.Device.size c.args.options.now (partition_at c.args.number c.args.options.now.partitions) (g.S.Store.history c.args.kit.store) (faults_in g.S.Watch.Watch.counts c.args.kit) (engine_with c.in-Err-push.engine c.new-in-Err-push.result) c.close.result.outcome (g.S.Store.history c.close.result.kit.store) (faults_in g.S.Watch.Watch.counts c.close.result.kit)
-    (subst (λ jobs. IsOpened (eyes g.S.Store.history g.S.Device.Device.history g.S.Frozen.Frozen.content g.S.Device.Device.name g.S.Frozen.Frozen.size g.S.Watch.Watch.counts) c.args.options.now (partition_at c.args.number c.args.options.now.partitions) (g.S.Store.history c.args.kit.store) (faults_in g.S.Watch.Watch.counts c.args.kit) (engine_with c.in-Err-push.engine jobs)) (sym c.new-in-Err-push.ensures) (subst (λ engine. IsOpened (eyes g.S.Store.history g.S.Device.Device.history g.S.Frozen.Frozen.content g.S.Device.Device.name g.S.Frozen.Frozen.size g.S.Watch.Watch.counts) c.args.options.now (partition_at c.args.number c.args.options.now.partitions) (g.S.Store.history c.args.kit.store) (faults_in g.S.Watch.Watch.counts c.args.kit) (engine_with engine no_jobs)) (sym (c.in-Err-push.ensures.back ∙ c.new.ensures.made)) (engine_opened (eyes g.S.Store.history g.S.Device.Device.history g.S.Frozen.Frozen.content g.S.Device.Device.name g.S.Frozen.Frozen.size g.S.Watch.Watch.counts) c.args.options.now (partition_at c.args.number c.args.options.now.partitions) (g.S.Store.history c.args.kit.store) c.args.kit c.in-Ok.part c.policy_of.result
+    pushed_back (eyes g.S.Store.history g.S.Device.Device.history g.S.Frozen.Frozen.content g.S.Device.Device.name g.S.Frozen.Frozen.size g.S.Watch.Watch.counts)
+    g.S.Device.Device.size c.args.options.now (partition_at c.args.number c.args.options.now.partitions) (g.S.Store.history c.args.kit.store)
+    (faults_in g.S.Watch.Watch.counts c.args.kit) (engine_with c.in-Err-push.engine c.new-in-Err-push.result) c.close.result.outcome
+    (g.S.Store.history c.close.result.kit.store) (faults_in g.S.Watch.Watch.counts c.close.result.kit)
+    (subst (λ jobs. IsOpened (eyes g.S.Store.history g.S.Device.Device.history g.S.Frozen.Frozen.content g.S.Device.Device.name g.S.Frozen.Frozen.size
+    g.S.Watch.Watch.counts) c.args.options.now (partition_at c.args.number c.args.options.now.partitions) (g.S.Store.history c.args.kit.store)
+    (faults_in g.S.Watch.Watch.counts c.args.kit) (engine_with c.in-Err-push.engine jobs)) (sym c.new-in-Err-push.ensures)
+    (subst (λ engine. IsOpened (eyes g.S.Store.history g.S.Device.Device.history g.S.Frozen.Frozen.content g.S.Device.Device.name g.S.Frozen.Frozen.size
+    g.S.Watch.Watch.counts) c.args.options.now (partition_at c.args.number c.args.options.now.partitions) (g.S.Store.history c.args.kit.store)
+    (faults_in g.S.Watch.Watch.counts c.args.kit) (engine_with engine no_jobs)) (sym (c.in-Err-push.ensures.back ∙ c.new.ensures.made))
+    (engine_opened (eyes g.S.Store.history g.S.Device.Device.history g.S.Frozen.Frozen.content g.S.Device.Device.name g.S.Frozen.Frozen.size
+    g.S.Watch.Watch.counts) c.args.options.now (partition_at c.args.number c.args.options.now.partitions) (g.S.Store.history c.args.kit.store) c.args.kit
+    c.in-Ok.part c.policy_of.result
     (record { sound = ap (λ p. p.failed) c.in-Ok.ensures.begun; log = c.in-Ok.ensures.log_out })
     (ap (λ p. p.staged) c.in-Ok.ensures.begun) (ap (λ p. p.limits) c.in-Ok.ensures.begun) (ap (λ p. p.memory) c.in-Ok.ensures.begun) c.policy_of.ensures c.in-Ok.ensures.opened c.in-Ok.ensures.judged c.in-Ok.ensures.watched
     (ap (λ p. p.flusher) c.in-Ok.ensures.begun) (ap (λ p. p.merger) c.in-Ok.ensures.begun) (ap (λ p. p.reader) c.in-Ok.ensures.begun) (ap (λ p. p.sealed) c.in-Ok.ensures.begun) (ap (λ p. p.active) c.in-Ok.ensures.begun)))) c.close.ensures

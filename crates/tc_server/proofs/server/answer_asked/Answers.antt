@@ -19,7 +19,10 @@ returns-in-Run-clause-spent g c =
     let spent = HasSpent g.S.Store.history g.S.Device.Device.history g.S.Frozen.Frozen.content c.answer_lines.new.session.keeper in
     rw c.in-Run.is (λ same.
     ⊎_elim (λ input. inl (tt, input)) (λ last. inr last)
-    (spent_by spent (fault_in c.answer_lines.result) nothing c.args.session.now.window.limit (g.I.Source.left c.args.source.now) (g.I.Source.left c.answer_lines.new.source) (g.O.Sink.taken c.args.sink.now) (g.O.Sink.taken c.answer_lines.new.sink) (c.answer_lines.ensures.ran nothing (serves_unknown (eyes g.S.Store.history g.S.Device.Device.history g.S.Frozen.Frozen.content g.S.Device.Device.name g.S.Frozen.Frozen.size g.S.Watch.Watch.counts) c.args.session.now.keeper)).run same))
+    (spent_by spent (fault_in c.answer_lines.result) nothing c.args.session.now.window.limit (g.I.Source.left c.args.source.now)
+    (g.I.Source.left c.answer_lines.new.source) (g.O.Sink.taken c.args.sink.now) (g.O.Sink.taken c.answer_lines.new.sink)
+    (c.answer_lines.ensures.ran nothing (serves_unknown (eyes g.S.Store.history g.S.Device.Device.history g.S.Frozen.Frozen.content g.S.Device.Device.name
+    g.S.Frozen.Frozen.size g.S.Watch.Watch.counts) c.args.session.now.keeper)).run same))
 
 -- ---- a demonstration
 

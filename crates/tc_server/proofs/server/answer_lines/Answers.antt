@@ -12,7 +12,10 @@ use Rattle.tc_server.proofs.server.answer_lines.Goals as goal
 pub returns-in_err-begin-clause-ran : goal.returns-in_err-begin-clause-ran
 returns-in_err-begin-clause-ran g c =
     let p = err_from_is_err_and c.from_residual.result c.from_residual.ensures.1 in
-    rw (p.1, p.2) (λ first holds. begins_not (ServesAt (eyes g.S.Store.history g.S.Device.Device.history g.S.Frozen.Frozen.content g.S.Device.Device.name g.S.Frozen.Frozen.size g.S.Watch.Watch.counts)) (FailsAt (eyes g.S.Store.history g.S.Device.Device.history g.S.Frozen.Frozen.content g.S.Device.Device.name g.S.Frozen.Frozen.size g.S.Watch.Watch.counts)) (HasSpent g.S.Store.history g.S.Device.Device.history g.S.Frozen.Frozen.content) first c.args.session.now.window.limit (g.I.Source.left c.args.source.now) (g.O.Sink.taken c.args.sink.now) c.in_err-begin.field-0.0 c.begin.new.self.keeper
+    rw (p.1, p.2) (λ first holds. begins_not (ServesAt (eyes g.S.Store.history g.S.Device.Device.history g.S.Frozen.Frozen.content g.S.Device.Device.name
+    g.S.Frozen.Frozen.size g.S.Watch.Watch.counts)) (FailsAt (eyes g.S.Store.history g.S.Device.Device.history g.S.Frozen.Frozen.content g.S.Device.Device.name
+    g.S.Frozen.Frozen.size g.S.Watch.Watch.counts)) (HasSpent g.S.Store.history g.S.Device.Device.history g.S.Frozen.Frozen.content) first
+    c.args.session.now.window.limit (g.I.Source.left c.args.source.now) (g.O.Sink.taken c.args.sink.now) c.in_err-begin.field-0.0 c.begin.new.self.keeper
     c.in_err-begin.ensures.kinds c.in_err-begin.ensures.cause.spent
     (λ w is. c.in_err-begin.ensures.undamaged w (subst ((ServesAt (eyes g.S.Store.history g.S.Device.Device.history g.S.Frozen.Frozen.content g.S.Device.Device.name g.S.Frozen.Frozen.size g.S.Watch.Watch.counts)) c.args.session.now.keeper) is holds))
     (λ only w is. c.in_err-begin.ensures.failed only w (subst ((ServesAt (eyes g.S.Store.history g.S.Device.Device.history g.S.Frozen.Frozen.content g.S.Device.Device.name g.S.Frozen.Frozen.size g.S.Watch.Watch.counts)) c.args.session.now.keeper) is holds)))
@@ -33,7 +36,9 @@ loop-init g c = record {
   limit = ap (λ (w : Window). w.limit) c.begin.ensures.window;
   settings = c.begin.ensures.settings;
   come = λ first holds.
-      begins (ServesAt (eyes g.S.Store.history g.S.Device.Device.history g.S.Frozen.Frozen.content g.S.Device.Device.name g.S.Frozen.Frozen.size g.S.Watch.Watch.counts)) first 1048576 c.new-lines.result c.begin.new.self (g.I.Source.left c.args.source.now) (g.O.Sink.taken c.args.sink.now) (g.I.Source.moments c.args.source.now) c.new-lines.ensures
+      begins (ServesAt (eyes g.S.Store.history g.S.Device.Device.history g.S.Frozen.Frozen.content g.S.Device.Device.name g.S.Frozen.Frozen.size
+      g.S.Watch.Watch.counts)) first 1048576 c.new-lines.result c.begin.new.self (g.I.Source.left c.args.source.now) (g.O.Sink.taken c.args.sink.now)
+      (g.I.Source.moments c.args.source.now) c.new-lines.ensures
       (c.in_ok-begin.ensures.held first holds) (ap requests_of c.begin.ensures.window ∙ c.requires.requests) (ap (λ (w : Window). w.bytes) c.begin.ensures.window ∙ c.requires.bytes);
   cause = run_by_call None (g.I.Source.faults c.args.source.now) (g.O.Sink.faults c.args.sink.now) _ _ _ tt c.in_ok-begin.ensures.cause;
 }
@@ -86,7 +91,11 @@ returns-then-not-branch-clause-settings g c = c.answer_line.ensures.settings ∙
 
 pub returns-clause-ran : goal.returns-clause-ran
 returns-clause-ran g c = λ first holds.
-    rw (← c.loop.invariant.limit) (gives_up (ServesAt (eyes g.S.Store.history g.S.Device.Device.history g.S.Frozen.Frozen.content g.S.Device.Device.name g.S.Frozen.Frozen.size g.S.Watch.Watch.counts)) (FailsAt (eyes g.S.Store.history g.S.Device.Device.history g.S.Frozen.Frozen.content g.S.Device.Device.name g.S.Frozen.Frozen.size g.S.Watch.Watch.counts)) (HasSpent g.S.Store.history g.S.Device.Device.history g.S.Frozen.Frozen.content) first c.loop.lines c.loop.session (g.I.Source.left c.args.source.now) (g.I.Source.left c.loop.source) (g.O.Sink.taken c.args.sink.now) (g.O.Sink.taken c.loop.sink) (c.loop.invariant.come first holds))
+    rw (← c.loop.invariant.limit) (gives_up (ServesAt (eyes g.S.Store.history g.S.Device.Device.history g.S.Frozen.Frozen.content g.S.Device.Device.name
+    g.S.Frozen.Frozen.size g.S.Watch.Watch.counts)) (FailsAt (eyes g.S.Store.history g.S.Device.Device.history g.S.Frozen.Frozen.content g.S.Device.Device.name
+    g.S.Frozen.Frozen.size g.S.Watch.Watch.counts)) (HasSpent g.S.Store.history g.S.Device.Device.history g.S.Frozen.Frozen.content) first c.loop.lines
+    c.loop.session (g.I.Source.left c.args.source.now) (g.I.Source.left c.loop.source) (g.O.Sink.taken c.args.sink.now) (g.O.Sink.taken c.loop.sink)
+    (c.loop.invariant.come first holds))
 
 pub returns-clause-prompt : goal.returns-clause-prompt
 returns-clause-prompt g c = λ first holds. rw (← c.loop.invariant.limit) (let come = c.loop.invariant.come first holds in (come.heard.input, come.prompt))

@@ -18,6 +18,8 @@ invariant-loop g l =
       limit : l.session.window.limit ≡ l.fn.session.window.limit;
       settings : settings_kept l.session.keeper ≡ settings_kept l.fn.session.keeper;
       come : (first : Sight) → (ServesAt (eyes g.S.Store.history g.S.Device.Device.history g.S.Frozen.Frozen.content g.S.Device.Device.name g.S.Frozen.Frozen.size g.S.Watch.Watch.counts)) l.fn.session.keeper first
-          → HasCome (ServesAt (eyes g.S.Store.history g.S.Device.Device.history g.S.Frozen.Frozen.content g.S.Device.Device.name g.S.Frozen.Frozen.size g.S.Watch.Watch.counts)) first l.lines l.session (g.I.Source.left l.fn.source) (g.I.Source.left l.source) (g.O.Sink.taken l.fn.sink) (g.O.Sink.taken l.sink) (g.I.Source.moments l.fn.source) (g.I.Source.moments l.source);
+          → HasCome (ServesAt (eyes g.S.Store.history g.S.Device.Device.history g.S.Frozen.Frozen.content g.S.Device.Device.name g.S.Frozen.Frozen.size
+          g.S.Watch.Watch.counts)) first l.lines l.session (g.I.Source.left l.fn.source) (g.I.Source.left l.source) (g.O.Sink.taken l.fn.sink)
+          (g.O.Sink.taken l.sink) (g.I.Source.moments l.fn.source) (g.I.Source.moments l.source);
       cause : HasRunCauses (g.I.Source.faults l.fn.source) (g.I.Source.faults l.source) (g.O.Sink.faults l.fn.sink) (g.O.Sink.faults l.sink) ((faults_kept g.S.Watch.Watch.counts) l.fn.session.keeper) ((faults_kept g.S.Watch.Watch.counts) l.session.keeper) None;
     }

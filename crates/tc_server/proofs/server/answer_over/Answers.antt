@@ -23,7 +23,11 @@ pub returns-in-Ok-clause-cause : goal.returns-in-Ok-clause-cause
 returns-in-Ok-clause-cause g c = begun_causes g.S.Watch.Watch.counts c.in-Ok.keeper c.args.partitions _ _ _ _ _ _ c.in-Ok.ensures.opened.0 c.in-Ok.ensures.opened.1 c.answer_with.ensures.cause
 
 pub returns-in-Err-clause-ran : goal.returns-in-Err-clause-ran
-returns-in-Err-clause-ran g c = rw c.in-Err.ensures.back (λ first begins stands. without_room (HoldsAt (eyes g.S.Store.history g.S.Device.Device.history g.S.Frozen.Frozen.content g.S.Device.Device.name g.S.Frozen.Frozen.size g.S.Watch.Watch.counts)) (KeepsAt (eyes g.S.Store.history g.S.Device.Device.history g.S.Frozen.Frozen.content g.S.Device.Device.name g.S.Frozen.Frozen.size g.S.Watch.Watch.counts)) (IsSpent g.S.Store.history g.S.Device.Device.history g.S.Frozen.Frozen.content) c.args.partitions c.args.asked.now first (options_asked c.args.asked.now).window (g.I.Source.left c.args.source.now) (g.O.Sink.taken c.args.sink.now) stands)
+returns-in-Err-clause-ran g c = rw c.in-Err.ensures.back (λ first begins stands. without_room
+    (HoldsAt (eyes g.S.Store.history g.S.Device.Device.history g.S.Frozen.Frozen.content g.S.Device.Device.name g.S.Frozen.Frozen.size g.S.Watch.Watch.counts))
+    (KeepsAt (eyes g.S.Store.history g.S.Device.Device.history g.S.Frozen.Frozen.content g.S.Device.Device.name g.S.Frozen.Frozen.size g.S.Watch.Watch.counts))
+    (IsSpent g.S.Store.history g.S.Device.Device.history g.S.Frozen.Frozen.content) c.args.partitions c.args.asked.now first (options_asked c.args.asked.now).window
+    (g.I.Source.left c.args.source.now) (g.O.Sink.taken c.args.sink.now) stands)
 
 pub returns-in-Err-clause-unread : goal.returns-in-Err-clause-unread
 returns-in-Err-clause-unread g c = inr refl

@@ -14,28 +14,65 @@ pub returns-clause-ran : goal.returns-clause-ran
 returns-clause-ran g c =
     let limit = c.new-session.ensures.limit ∙ ap (λ (o : Options). o.window) c.options_asked-options.ensures in
     rw c.with_fault.ensures (λ first serves.
-    subst (λ most. RunsOver c.args.asked.now (g.I.Source.left c.args.source.now) (g.I.Source.left c.answer_asked-answer.new.source) (λ shown unread unread'. RanLeaving shown (HoldsAt (eyes g.S.Store.history g.S.Device.Device.history g.S.Frozen.Frozen.content g.S.Device.Device.name g.S.Frozen.Frozen.size g.S.Watch.Watch.counts)) (KeepsAt (eyes g.S.Store.history g.S.Device.Device.history g.S.Frozen.Frozen.content g.S.Device.Device.name g.S.Frozen.Frozen.size g.S.Watch.Watch.counts)) (IsSpent g.S.Store.history g.S.Device.Device.history g.S.Frozen.Frozen.content) (fault_in (answer_behind c.answer_asked-answer.result c.end-partitions.result.1)) first most unread unread' (g.O.Sink.taken c.args.sink.now) (g.O.Sink.taken c.answer_asked-answer.new.sink) c.end-partitions.result.0)) limit
-    (ended_run (ServesAt (eyes g.S.Store.history g.S.Device.Device.history g.S.Frozen.Frozen.content g.S.Device.Device.name g.S.Frozen.Frozen.size g.S.Watch.Watch.counts)) (FailsAt (eyes g.S.Store.history g.S.Device.Device.history g.S.Frozen.Frozen.content g.S.Device.Device.name g.S.Frozen.Frozen.size g.S.Watch.Watch.counts)) (HasSpent g.S.Store.history g.S.Device.Device.history g.S.Frozen.Frozen.content) (HoldsAt (eyes g.S.Store.history g.S.Device.Device.history g.S.Frozen.Frozen.content g.S.Device.Device.name g.S.Frozen.Frozen.size g.S.Watch.Watch.counts)) (KeepsAt (eyes g.S.Store.history g.S.Device.Device.history g.S.Frozen.Frozen.content g.S.Device.Device.name g.S.Frozen.Frozen.size g.S.Watch.Watch.counts)) (IsSpent g.S.Store.history g.S.Device.Device.history g.S.Frozen.Frozen.content) c.into_keeper.result c.end-partitions.result.0 c.end-partitions.ensures.held c.end-partitions.ensures.failed c.end-partitions.ensures.spent c.args.asked.now c.answer_asked-answer.result c.end-partitions.result.1 first c.new-session.result.window.limit (g.I.Source.left c.args.source.now) (g.I.Source.left c.answer_asked-answer.new.source) (g.O.Sink.taken c.args.sink.now) (g.O.Sink.taken c.answer_asked-answer.new.sink) c.end-partitions.ensures.kind c.end-partitions.ensures.undamaged
-    (subst (λ (k : KeeperState g.row.S.Denot g.row.S-Device.Denot g.row.S-Frozen.Denot g.row.S-Watch.Denot). RunsOver c.args.asked.now (g.I.Source.left c.args.source.now) (g.I.Source.left c.answer_asked-answer.new.source) (λ shown unread unread'. RanLeaving shown (ServesAt (eyes g.S.Store.history g.S.Device.Device.history g.S.Frozen.Frozen.content g.S.Device.Device.name g.S.Frozen.Frozen.size g.S.Watch.Watch.counts)) (FailsAt (eyes g.S.Store.history g.S.Device.Device.history g.S.Frozen.Frozen.content g.S.Device.Device.name g.S.Frozen.Frozen.size g.S.Watch.Watch.counts)) (HasSpent g.S.Store.history g.S.Device.Device.history g.S.Frozen.Frozen.content) (fault_in c.answer_asked-answer.result) first c.new-session.result.window.limit unread unread' (g.O.Sink.taken c.args.sink.now) (g.O.Sink.taken c.answer_asked-answer.new.sink) k)) (sym c.into_keeper.ensures)
-    (c.answer_asked-answer.ensures.ran first (subst (λ (k : KeeperState g.row.S.Denot g.row.S-Device.Denot g.row.S-Frozen.Denot g.row.S-Watch.Denot). ServesAt (eyes g.S.Store.history g.S.Device.Device.history g.S.Frozen.Frozen.content g.S.Device.Device.name g.S.Frozen.Frozen.size g.S.Watch.Watch.counts) k first) (sym c.new-session.ensures.keeper) serves)))))
+    subst (λ most. RunsOver c.args.asked.now (g.I.Source.left c.args.source.now) (g.I.Source.left c.answer_asked-answer.new.source)
+    (λ shown unread unread'. RanLeaving shown (HoldsAt (eyes g.S.Store.history g.S.Device.Device.history g.S.Frozen.Frozen.content g.S.Device.Device.name
+    g.S.Frozen.Frozen.size g.S.Watch.Watch.counts)) (KeepsAt (eyes g.S.Store.history g.S.Device.Device.history g.S.Frozen.Frozen.content g.S.Device.Device.name
+    g.S.Frozen.Frozen.size g.S.Watch.Watch.counts)) (IsSpent g.S.Store.history g.S.Device.Device.history g.S.Frozen.Frozen.content)
+    (fault_in (answer_behind c.answer_asked-answer.result c.end-partitions.result.1)) first most unread unread' (g.O.Sink.taken c.args.sink.now)
+    (g.O.Sink.taken c.answer_asked-answer.new.sink) c.end-partitions.result.0)) limit
+    (ended_run (ServesAt (eyes g.S.Store.history g.S.Device.Device.history g.S.Frozen.Frozen.content g.S.Device.Device.name g.S.Frozen.Frozen.size
+    g.S.Watch.Watch.counts)) (FailsAt (eyes g.S.Store.history g.S.Device.Device.history g.S.Frozen.Frozen.content g.S.Device.Device.name g.S.Frozen.Frozen.size
+    g.S.Watch.Watch.counts)) (HasSpent g.S.Store.history g.S.Device.Device.history g.S.Frozen.Frozen.content)
+    (HoldsAt (eyes g.S.Store.history g.S.Device.Device.history g.S.Frozen.Frozen.content g.S.Device.Device.name g.S.Frozen.Frozen.size g.S.Watch.Watch.counts))
+    (KeepsAt (eyes g.S.Store.history g.S.Device.Device.history g.S.Frozen.Frozen.content g.S.Device.Device.name g.S.Frozen.Frozen.size g.S.Watch.Watch.counts))
+    (IsSpent g.S.Store.history g.S.Device.Device.history g.S.Frozen.Frozen.content) c.into_keeper.result c.end-partitions.result.0 c.end-partitions.ensures.held
+    c.end-partitions.ensures.failed c.end-partitions.ensures.spent c.args.asked.now c.answer_asked-answer.result c.end-partitions.result.1 first
+    c.new-session.result.window.limit (g.I.Source.left c.args.source.now) (g.I.Source.left c.answer_asked-answer.new.source) (g.O.Sink.taken c.args.sink.now)
+    (g.O.Sink.taken c.answer_asked-answer.new.sink) c.end-partitions.ensures.kind c.end-partitions.ensures.undamaged
+    (subst (λ (k : KeeperState g.row.S.Denot g.row.S-Device.Denot g.row.S-Frozen.Denot g.row.S-Watch.Denot). RunsOver c.args.asked.now
+    (g.I.Source.left c.args.source.now) (g.I.Source.left c.answer_asked-answer.new.source)
+    (λ shown unread unread'. RanLeaving shown (ServesAt (eyes g.S.Store.history g.S.Device.Device.history g.S.Frozen.Frozen.content g.S.Device.Device.name
+    g.S.Frozen.Frozen.size g.S.Watch.Watch.counts)) (FailsAt (eyes g.S.Store.history g.S.Device.Device.history g.S.Frozen.Frozen.content g.S.Device.Device.name
+    g.S.Frozen.Frozen.size g.S.Watch.Watch.counts)) (HasSpent g.S.Store.history g.S.Device.Device.history g.S.Frozen.Frozen.content)
+    (fault_in c.answer_asked-answer.result) first c.new-session.result.window.limit unread unread' (g.O.Sink.taken c.args.sink.now)
+    (g.O.Sink.taken c.answer_asked-answer.new.sink) k)) (sym c.into_keeper.ensures)
+    (c.answer_asked-answer.ensures.ran first (subst (λ (k : KeeperState g.row.S.Denot g.row.S-Device.Denot g.row.S-Frozen.Denot g.row.S-Watch.Denot). ServesAt
+    (eyes g.S.Store.history g.S.Device.Device.history g.S.Frozen.Frozen.content g.S.Device.Device.name g.S.Frozen.Frozen.size g.S.Watch.Watch.counts) k first)
+    (sym c.new-session.ensures.keeper) serves)))))
 
 pub returns-clause-prompt : goal.returns-clause-prompt
 returns-clause-prompt g c = λ first serves.
     subst (λ most. AskedPromptly c.args.asked.now first most (g.O.Sink.taken c.args.sink.now) (g.I.Source.moments c.args.source.now) (g.I.Source.moments c.answer_asked-answer.new.source)) (c.new-session.ensures.limit ∙ ap (λ (o : Options). o.window) c.options_asked-options.ensures)
-    (c.answer_asked-answer.ensures.prompt first (subst (λ (k : KeeperState g.row.S.Denot g.row.S-Device.Denot g.row.S-Frozen.Denot g.row.S-Watch.Denot). ServesAt (eyes g.S.Store.history g.S.Device.Device.history g.S.Frozen.Frozen.content g.S.Device.Device.name g.S.Frozen.Frozen.size g.S.Watch.Watch.counts) k first) (sym c.new-session.ensures.keeper) serves))
+    (c.answer_asked-answer.ensures.prompt first (subst (λ (k : KeeperState g.row.S.Denot g.row.S-Device.Denot g.row.S-Frozen.Denot g.row.S-Watch.Denot). ServesAt
+    (eyes g.S.Store.history g.S.Device.Device.history g.S.Frozen.Frozen.content g.S.Device.Device.name g.S.Frozen.Frozen.size g.S.Watch.Watch.counts) k first)
+    (sym c.new-session.ensures.keeper) serves))
 
 pub returns-clause-rests : goal.returns-clause-rests
 returns-clause-rests g c = rw c.with_fault.ensures (well_behind c.answer_asked-answer.result c.end-partitions.result.1 (λ rests. c.end-partitions.ensures.rests (rw c.into_keeper.ensures rests)) c.answer_asked-answer.ensures.rests)
 
 pub returns-clause-settings : goal.returns-clause-settings
-returns-clause-settings g c = c.end-partitions.ensures.settings ∙ ap (λ (k : KeeperState g.row.S.Denot g.row.S-Device.Denot g.row.S-Frozen.Denot g.row.S-Watch.Denot). settings_kept k) c.into_keeper.ensures ∙ c.answer_asked-answer.ensures.settings ∙ ap (λ (k : KeeperState g.row.S.Denot g.row.S-Device.Denot g.row.S-Frozen.Denot g.row.S-Watch.Denot). settings_kept k) c.new-session.ensures.keeper
+returns-clause-settings g c = c.end-partitions.ensures.settings
+    ∙ ap (λ (k : KeeperState g.row.S.Denot g.row.S-Device.Denot g.row.S-Frozen.Denot g.row.S-Watch.Denot). settings_kept k) c.into_keeper.ensures
+    ∙ c.answer_asked-answer.ensures.settings ∙ ap (λ (k : KeeperState g.row.S.Denot g.row.S-Device.Denot g.row.S-Frozen.Denot g.row.S-Watch.Denot). settings_kept k)
+    c.new-session.ensures.keeper
 
 pub returns-clause-cause : goal.returns-clause-cause
 returns-clause-cause g c =
-    rw c.with_fault.ensures (run_ended c.answer_asked-answer.result c.end-partitions.result.1 (g.I.Source.faults c.args.source.now) (g.I.Source.faults c.answer_asked-answer.new.source) (g.O.Sink.faults c.args.sink.now) (g.O.Sink.faults c.answer_asked-answer.new.sink) _ _ _ _ c.end-partitions.ensures.kind
-    (subst (λ (k : KeeperState g.row.S.Denot g.row.S-Device.Denot g.row.S-Frozen.Denot g.row.S-Watch.Denot). HasRunCauses (g.I.Source.faults c.args.source.now) (g.I.Source.faults c.answer_asked-answer.new.source) (g.O.Sink.faults c.args.sink.now) (g.O.Sink.faults c.answer_asked-answer.new.sink) (faults_kept g.S.Watch.Watch.counts k) (faults_kept g.S.Watch.Watch.counts c.into_keeper.result) (fault_in c.answer_asked-answer.result)) c.new-session.ensures.keeper
-    (subst (λ (k : KeeperState g.row.S.Denot g.row.S-Device.Denot g.row.S-Frozen.Denot g.row.S-Watch.Denot). HasRunCauses (g.I.Source.faults c.args.source.now) (g.I.Source.faults c.answer_asked-answer.new.source) (g.O.Sink.faults c.args.sink.now) (g.O.Sink.faults c.answer_asked-answer.new.sink) (faults_kept g.S.Watch.Watch.counts c.new-session.result.keeper) (faults_kept g.S.Watch.Watch.counts k) (fault_in c.answer_asked-answer.result)) (sym c.into_keeper.ensures) c.answer_asked-answer.ensures.cause))
+    rw c.with_fault.ensures (run_ended c.answer_asked-answer.result c.end-partitions.result.1 (g.I.Source.faults c.args.source.now)
+    (g.I.Source.faults c.answer_asked-answer.new.source) (g.O.Sink.faults c.args.sink.now) (g.O.Sink.faults c.answer_asked-answer.new.sink) _ _ _ _
+    c.end-partitions.ensures.kind
+    (subst (λ (k : KeeperState g.row.S.Denot g.row.S-Device.Denot g.row.S-Frozen.Denot g.row.S-Watch.Denot). HasRunCauses (g.I.Source.faults c.args.source.now)
+    (g.I.Source.faults c.answer_asked-answer.new.source) (g.O.Sink.faults c.args.sink.now) (g.O.Sink.faults c.answer_asked-answer.new.sink)
+    (faults_kept g.S.Watch.Watch.counts k) (faults_kept g.S.Watch.Watch.counts c.into_keeper.result) (fault_in c.answer_asked-answer.result))
+    c.new-session.ensures.keeper
+    (subst (λ (k : KeeperState g.row.S.Denot g.row.S-Device.Denot g.row.S-Frozen.Denot g.row.S-Watch.Denot). HasRunCauses (g.I.Source.faults c.args.source.now)
+    (g.I.Source.faults c.answer_asked-answer.new.source) (g.O.Sink.faults c.args.sink.now) (g.O.Sink.faults c.answer_asked-answer.new.sink)
+    (faults_kept g.S.Watch.Watch.counts c.new-session.result.keeper) (faults_kept g.S.Watch.Watch.counts k) (fault_in c.answer_asked-answer.result))
+    (sym c.into_keeper.ensures) c.answer_asked-answer.ensures.cause))
     c.end-partitions.ensures.cause)
 
 pub returns-clause-spent : goal.returns-clause-spent
-returns-clause-spent g c = rw c.with_fault.ensures (spent_with c.answer_asked-answer.result c.end-partitions.result.1 c.end-partitions.ensures.kind (subst (λ (k : KeeperState g.row.S.Denot g.row.S-Device.Denot g.row.S-Frozen.Denot g.row.S-Watch.Denot). HasSpent g.S.Store.history g.S.Device.Device.history g.S.Frozen.Frozen.content k → IsSpent g.S.Store.history g.S.Device.Device.history g.S.Frozen.Frozen.content c.end-partitions.result.0) c.into_keeper.ensures c.end-partitions.ensures.spent) c.answer_asked-answer.ensures.spent)
+returns-clause-spent g c = rw c.with_fault.ensures (spent_with c.answer_asked-answer.result c.end-partitions.result.1 c.end-partitions.ensures.kind
+    (subst (λ (k : KeeperState g.row.S.Denot g.row.S-Device.Denot g.row.S-Frozen.Denot g.row.S-Watch.Denot). HasSpent g.S.Store.history g.S.Device.Device.history
+    g.S.Frozen.Frozen.content k → IsSpent g.S.Store.history g.S.Device.Device.history g.S.Frozen.Frozen.content c.end-partitions.result.0) c.into_keeper.ensures
+    c.end-partitions.ensures.spent) c.answer_asked-answer.ensures.spent)

@@ -27,4 +27,5 @@ serve_asked-requires-clause-few g c κs within = few_commands c.in-Ok.asked (ask
 pub returns-in-Err-clause-served : goal.returns-in-Err-clause-served
 returns-in-Err-clause-served g c =
     let none = ap (λ kits. kits.items) c.of.ensures.kits ∙ c.new.ensures.items in
-    rw (c.of.ensures.fault, none) (λ first begins. served_nothing (invocation_of c.args.words.now) c.in-Err.fault first (g.H.Shelf.files c.args.shelf.now) (g.I.Source.left c.args.source.now) (g.O.Sink.taken c.args.sink.now) begins c.in-Err.ensures.kinds (λ same. c.in-Err.ensures.usage (ap Err same)))
+    rw (c.of.ensures.fault, none) (λ first begins. served_nothing (invocation_of c.args.words.now) c.in-Err.fault first (g.H.Shelf.files c.args.shelf.now)
+    (g.I.Source.left c.args.source.now) (g.O.Sink.taken c.args.sink.now) begins c.in-Err.ensures.kinds (λ same. c.in-Err.ensures.usage (ap Err same)))

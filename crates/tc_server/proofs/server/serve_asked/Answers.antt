@@ -50,20 +50,38 @@ serve_over-kits-requires-clause-all g c κs within = c.in-Ok-open_all.ensures.al
 
 pub serve_over-kits-requires-clause-begun : goal.serve_over-kits-requires-clause-begun
 serve_over-kits-requires-clause-begun g c κs within =
-    all_begun (eyes g.H.Store.Store.history g.H.Store.Device.Device.history g.H.Store.Frozen.Frozen.content g.H.Store.Device.Device.name g.H.Store.Frozen.Frozen.size g.H.Store.Watch.Watch.counts) (λ (kit : Kit g.row.H-Store.Denot g.row.H-Store-Watch.Denot g.row.H-Store-Device.Denot g.row.H-Store-Frozen.Denot). g.H.Store.Store.history kit.store) (faults_in g.H.Store.Watch.Watch.counts) (options_asked c.args.asked.now) (g.H.Shelf.files c.args.shelf.now) (g.H.Shelf.kit_faults c.args.shelf.now) c.open_all.new.engines (subst (λ o. AreOpened (eyes g.H.Store.Store.history g.H.Store.Device.Device.history g.H.Store.Frozen.Frozen.content g.H.Store.Device.Device.name g.H.Store.Frozen.Frozen.size g.H.Store.Watch.Watch.counts) o (g.H.Shelf.files c.args.shelf.now) (g.H.Shelf.kit_faults c.args.shelf.now) c.open_all.new.engines) c.options_asked-options.ensures c.open_all.ensures.opened)
+    all_begun (eyes g.H.Store.Store.history g.H.Store.Device.Device.history g.H.Store.Frozen.Frozen.content g.H.Store.Device.Device.name g.H.Store.Frozen.Frozen.size
+    g.H.Store.Watch.Watch.counts) (λ (kit : Kit g.row.H-Store.Denot g.row.H-Store-Watch.Denot g.row.H-Store-Device.Denot g.row.H-Store-Frozen.Denot).
+    g.H.Store.Store.history kit.store) (faults_in g.H.Store.Watch.Watch.counts) (options_asked c.args.asked.now) (g.H.Shelf.files c.args.shelf.now)
+    (g.H.Shelf.kit_faults c.args.shelf.now) c.open_all.new.engines
+    (subst (λ o. AreOpened (eyes g.H.Store.Store.history g.H.Store.Device.Device.history g.H.Store.Frozen.Frozen.content g.H.Store.Device.Device.name
+    g.H.Store.Frozen.Frozen.size g.H.Store.Watch.Watch.counts) o (g.H.Shelf.files c.args.shelf.now) (g.H.Shelf.kit_faults c.args.shelf.now) c.open_all.new.engines)
+    c.options_asked-options.ensures c.open_all.ensures.opened)
 
 pub returns-in-Ok-open_all-clause-ran : goal.returns-in-Ok-open_all-clause-ran
 returns-in-Ok-open_all-clause-ran g c =
     let kits = ap (λ kits. kits.items) c.of-in-Ok-open_all.ensures.kits in
-    let opened = subst (λ o. AreOpened (eyes g.H.Store.Store.history g.H.Store.Device.Device.history g.H.Store.Frozen.Frozen.content g.H.Store.Device.Device.name g.H.Store.Frozen.Frozen.size g.H.Store.Watch.Watch.counts) o (g.H.Shelf.files c.args.shelf.now) (g.H.Shelf.kit_faults c.args.shelf.now) c.open_all.new.engines) c.options_asked-options.ensures c.open_all.ensures.opened in
+    let opened = subst (λ o. AreOpened (eyes g.H.Store.Store.history g.H.Store.Device.Device.history g.H.Store.Frozen.Frozen.content g.H.Store.Device.Device.name
+    g.H.Store.Frozen.Frozen.size g.H.Store.Watch.Watch.counts) o (g.H.Shelf.files c.args.shelf.now) (g.H.Shelf.kit_faults c.args.shelf.now) c.open_all.new.engines)
+    c.options_asked-options.ensures c.open_all.ensures.opened in
     let all : length c.open_all.new.engines ≡ (options_asked c.args.asked.now).partitions = c.in-Ok-open_all.ensures.all ∙ ap (λ (o : Options). o.partitions) c.options_asked-options.ensures in
-    rw (c.of-in-Ok-open_all.ensures.fault, kits) (λ first begins. c.serve_over-kits.ensures.ran first (g.H.Shelf.files c.args.shelf.now) (begins_first (limits_of (options_asked c.args.asked.now)) (options_asked c.args.asked.now).partitions (g.H.Shelf.files c.args.shelf.now) first begins) (stand_opened (eyes g.H.Store.Store.history g.H.Store.Device.Device.history g.H.Store.Frozen.Frozen.content g.H.Store.Device.Device.name g.H.Store.Frozen.Frozen.size g.H.Store.Watch.Watch.counts) (options_asked c.args.asked.now) Ascends-stored (g.H.Shelf.files c.args.shelf.now) (g.H.Shelf.kit_faults c.args.shelf.now) c.open_all.new.engines first all opened begins))
+    rw (c.of-in-Ok-open_all.ensures.fault, kits) (λ first begins. c.serve_over-kits.ensures.ran first (g.H.Shelf.files c.args.shelf.now)
+    (begins_first (limits_of (options_asked c.args.asked.now)) (options_asked c.args.asked.now).partitions (g.H.Shelf.files c.args.shelf.now) first begins)
+    (stand_opened (eyes g.H.Store.Store.history g.H.Store.Device.Device.history g.H.Store.Frozen.Frozen.content g.H.Store.Device.Device.name
+    g.H.Store.Frozen.Frozen.size g.H.Store.Watch.Watch.counts) (options_asked c.args.asked.now) Ascends-stored (g.H.Shelf.files c.args.shelf.now)
+    (g.H.Shelf.kit_faults c.args.shelf.now) c.open_all.new.engines first all opened begins))
 
 pub returns-in-Ok-open_all-clause-prompt : goal.returns-in-Ok-open_all-clause-prompt
 returns-in-Ok-open_all-clause-prompt g c =
-    let opened = subst (λ o. AreOpened (eyes g.H.Store.Store.history g.H.Store.Device.Device.history g.H.Store.Frozen.Frozen.content g.H.Store.Device.Device.name g.H.Store.Frozen.Frozen.size g.H.Store.Watch.Watch.counts) o (g.H.Shelf.files c.args.shelf.now) (g.H.Shelf.kit_faults c.args.shelf.now) c.open_all.new.engines) c.options_asked-options.ensures c.open_all.ensures.opened in
+    let opened = subst (λ o. AreOpened (eyes g.H.Store.Store.history g.H.Store.Device.Device.history g.H.Store.Frozen.Frozen.content g.H.Store.Device.Device.name
+    g.H.Store.Frozen.Frozen.size g.H.Store.Watch.Watch.counts) o (g.H.Shelf.files c.args.shelf.now) (g.H.Shelf.kit_faults c.args.shelf.now) c.open_all.new.engines)
+    c.options_asked-options.ensures c.open_all.ensures.opened in
     let all : length c.open_all.new.engines ≡ (options_asked c.args.asked.now).partitions = c.in-Ok-open_all.ensures.all ∙ ap (λ (o : Options). o.partitions) c.options_asked-options.ensures in
-    λ first begins. c.serve_over-kits.ensures.prompt first (begins_first (limits_of (options_asked c.args.asked.now)) (options_asked c.args.asked.now).partitions (g.H.Shelf.files c.args.shelf.now) first begins) (stand_opened (eyes g.H.Store.Store.history g.H.Store.Device.Device.history g.H.Store.Frozen.Frozen.content g.H.Store.Device.Device.name g.H.Store.Frozen.Frozen.size g.H.Store.Watch.Watch.counts) (options_asked c.args.asked.now) Ascends-stored (g.H.Shelf.files c.args.shelf.now) (g.H.Shelf.kit_faults c.args.shelf.now) c.open_all.new.engines first all opened begins)
+    λ first begins. c.serve_over-kits.ensures.prompt first (begins_first (limits_of (options_asked c.args.asked.now)) (options_asked c.args.asked.now).partitions
+    (g.H.Shelf.files c.args.shelf.now) first begins) (stand_opened
+    (eyes g.H.Store.Store.history g.H.Store.Device.Device.history g.H.Store.Frozen.Frozen.content g.H.Store.Device.Device.name g.H.Store.Frozen.Frozen.size
+    g.H.Store.Watch.Watch.counts) (options_asked c.args.asked.now) Ascends-stored (g.H.Shelf.files c.args.shelf.now) (g.H.Shelf.kit_faults c.args.shelf.now)
+    c.open_all.new.engines first all opened begins)
 
 pub returns-in-Ok-open_all-clause-kits : goal.returns-in-Ok-open_all-clause-kits
 returns-in-Ok-open_all-clause-kits g c =
@@ -73,13 +91,24 @@ returns-in-Ok-open_all-clause-kits g c =
 pub returns-in-Ok-open_all-clause-asked : goal.returns-in-Ok-open_all-clause-asked
 returns-in-Ok-open_all-clause-asked g c =
     let kits = ap (λ kits. kits.items) c.of-in-Ok-open_all.ensures.kits in
-    rw (c.of-in-Ok-open_all.ensures.fault, kits, c.serve_over-kits.ensures.kits) (asked_all (options_asked c.args.asked.now).partitions c.serve_over-kits.result.1 c.requires.partitions.0 c.serve_over-kits.ensures.kind (disk_within _ (λ q. q < (options_asked c.args.asked.now).partitions) c.serve_over-kits.result.1 (λ q d. d.0) c.serve_over-kits.ensures.disk) c.serve_over-kits.ensures.damaged)
+    rw (c.of-in-Ok-open_all.ensures.fault, kits, c.serve_over-kits.ensures.kits)
+    (asked_all (options_asked c.args.asked.now).partitions c.serve_over-kits.result.1 c.requires.partitions.0 c.serve_over-kits.ensures.kind
+    (disk_within _ (λ q. q < (options_asked c.args.asked.now).partitions) c.serve_over-kits.result.1 (λ q d. d.0) c.serve_over-kits.ensures.disk)
+    c.serve_over-kits.ensures.damaged)
 
 pub returns-in-Ok-open_all-clause-counts : goal.returns-in-Ok-open_all-clause-counts
 returns-in-Ok-open_all-clause-counts g c =
     let kits = ap (λ kits. kits.items) c.of-in-Ok-open_all.ensures.kits in
-    let opened = subst (λ o. AreOpened (eyes g.H.Store.Store.history g.H.Store.Device.Device.history g.H.Store.Frozen.Frozen.content g.H.Store.Device.Device.name g.H.Store.Frozen.Frozen.size g.H.Store.Watch.Watch.counts) o (g.H.Shelf.files c.args.shelf.now) (g.H.Shelf.kit_faults c.args.shelf.now) c.open_all.new.engines) c.options_asked-options.ensures c.open_all.ensures.opened in
-    rw kits (c.open_all.ensures.faults, none_fell_all (eyes g.H.Store.Store.history g.H.Store.Device.Device.history g.H.Store.Frozen.Frozen.content g.H.Store.Device.Device.name g.H.Store.Frozen.Frozen.size g.H.Store.Watch.Watch.counts) (λ (kit : Kit _ _ _ _). g.H.Store.Store.history kit.store) (faults_in g.H.Store.Watch.Watch.counts) (options_asked c.args.asked.now) (g.H.Shelf.files c.args.shelf.now) (g.H.Shelf.kit_faults c.args.shelf.now) c.open_all.new.engines opened c.serve_over-kits.result.0.items c.serve_over-kits.ensures.counts)
+    let opened = subst (λ o. AreOpened (eyes g.H.Store.Store.history g.H.Store.Device.Device.history g.H.Store.Frozen.Frozen.content g.H.Store.Device.Device.name
+    g.H.Store.Frozen.Frozen.size g.H.Store.Watch.Watch.counts) o (g.H.Shelf.files c.args.shelf.now) (g.H.Shelf.kit_faults c.args.shelf.now) c.open_all.new.engines)
+    c.options_asked-options.ensures c.open_all.ensures.opened in
+    rw kits (
+      c.open_all.ensures.faults,
+      none_fell_all (eyes g.H.Store.Store.history g.H.Store.Device.Device.history g.H.Store.Frozen.Frozen.content
+          g.H.Store.Device.Device.name g.H.Store.Frozen.Frozen.size g.H.Store.Watch.Watch.counts) (λ (kit : Kit _ _ _ _). g.H.Store.Store.history kit.store)
+          (faults_in g.H.Store.Watch.Watch.counts) (options_asked c.args.asked.now) (g.H.Shelf.files c.args.shelf.now) (g.H.Shelf.kit_faults c.args.shelf.now)
+          c.open_all.new.engines opened c.serve_over-kits.result.0.items c.serve_over-kits.ensures.counts,
+    )
 
 pub returns-in-Ok-open_all-clause-other_kits : goal.returns-in-Ok-open_all-clause-other_kits
 returns-in-Ok-open_all-clause-other_kits g c =
@@ -105,16 +134,30 @@ returns-in-Ok-open_all-clause-usage g c =
 pub returns-in-Ok-open_all-clause-disk : goal.returns-in-Ok-open_all-clause-disk
 returns-in-Ok-open_all-clause-disk g c =
     let kits = ap (λ kits. kits.items) c.of-in-Ok-open_all.ensures.kits in
-    let opened = subst (λ o. AreOpened (eyes g.H.Store.Store.history g.H.Store.Device.Device.history g.H.Store.Frozen.Frozen.content g.H.Store.Device.Device.name g.H.Store.Frozen.Frozen.size g.H.Store.Watch.Watch.counts) o (g.H.Shelf.files c.args.shelf.now) (g.H.Shelf.kit_faults c.args.shelf.now) c.open_all.new.engines) c.options_asked-options.ensures c.open_all.ensures.opened in
+    let opened = subst (λ o. AreOpened (eyes g.H.Store.Store.history g.H.Store.Device.Device.history g.H.Store.Frozen.Frozen.content g.H.Store.Device.Device.name
+    g.H.Store.Frozen.Frozen.size g.H.Store.Watch.Watch.counts) o (g.H.Shelf.files c.args.shelf.now) (g.H.Shelf.kit_faults c.args.shelf.now) c.open_all.new.engines)
+    c.options_asked-options.ensures c.open_all.ensures.opened in
     let all : length c.open_all.new.engines ≡ (options_asked c.args.asked.now).partitions = c.in-Ok-open_all.ensures.all ∙ ap (λ (o : Options). o.partitions) c.options_asked-options.ensures in
-    rw (c.of-in-Ok-open_all.ensures.fault, kits) (disk_all (eyes g.H.Store.Store.history g.H.Store.Device.Device.history g.H.Store.Frozen.Frozen.content g.H.Store.Device.Device.name g.H.Store.Frozen.Frozen.size g.H.Store.Watch.Watch.counts) (λ (kit : Kit _ _ _ _). g.H.Store.Store.history kit.store) (faults_in g.H.Store.Watch.Watch.counts) (options_asked c.args.asked.now) (g.H.Shelf.files c.args.shelf.now) (g.H.Shelf.kit_faults c.args.shelf.now) c.open_all.new.engines opened (g.H.Shelf.faults c.args.shelf.now) (g.H.Shelf.faults c.open_all.new.shelf) c.serve_over-kits.result.0.items c.serve_over-kits.result.1
-    (disk_within _ (λ q. (q < length c.open_all.new.engines) × AtEach (λ p e k. p ≡ q → OneRose (faults_at g.H.Store.Watch.Watch.counts e) (faults_in g.H.Store.Watch.Watch.counts k)) 0 c.open_all.new.engines c.serve_over-kits.result.0.items) c.serve_over-kits.result.1 (λ q d. (subst (λ n. q < n) (sym all) d.0, d.1)) c.serve_over-kits.ensures.disk))
+    rw (c.of-in-Ok-open_all.ensures.fault, kits) (disk_all (eyes g.H.Store.Store.history g.H.Store.Device.Device.history g.H.Store.Frozen.Frozen.content
+    g.H.Store.Device.Device.name g.H.Store.Frozen.Frozen.size g.H.Store.Watch.Watch.counts) (λ (kit : Kit _ _ _ _). g.H.Store.Store.history kit.store)
+    (faults_in g.H.Store.Watch.Watch.counts) (options_asked c.args.asked.now) (g.H.Shelf.files c.args.shelf.now) (g.H.Shelf.kit_faults c.args.shelf.now)
+    c.open_all.new.engines opened (g.H.Shelf.faults c.args.shelf.now) (g.H.Shelf.faults c.open_all.new.shelf) c.serve_over-kits.result.0.items
+    c.serve_over-kits.result.1
+    (disk_within _ (λ q. (q < length c.open_all.new.engines) × AtEach
+    (λ p e k. p ≡ q → OneRose (faults_at g.H.Store.Watch.Watch.counts e) (faults_in g.H.Store.Watch.Watch.counts k)) 0 c.open_all.new.engines
+    c.serve_over-kits.result.0.items) c.serve_over-kits.result.1 (λ q d. (subst (λ n. q < n) (sym all) d.0, d.1)) c.serve_over-kits.ensures.disk))
 
 pub returns-in-Ok-open_all-clause-judged : goal.returns-in-Ok-open_all-clause-judged
 returns-in-Ok-open_all-clause-judged g c =
     let kits = ap (λ kits. kits.items) c.of-in-Ok-open_all.ensures.kits in
-    let opened = subst (λ o. AreOpened (eyes g.H.Store.Store.history g.H.Store.Device.Device.history g.H.Store.Frozen.Frozen.content g.H.Store.Device.Device.name g.H.Store.Frozen.Frozen.size g.H.Store.Watch.Watch.counts) o (g.H.Shelf.files c.args.shelf.now) (g.H.Shelf.kit_faults c.args.shelf.now) c.open_all.new.engines) c.options_asked-options.ensures c.open_all.ensures.opened in
-    rw (c.of-in-Ok-open_all.ensures.fault, kits) (judged_all (eyes g.H.Store.Store.history g.H.Store.Device.Device.history g.H.Store.Frozen.Frozen.content g.H.Store.Device.Device.name g.H.Store.Frozen.Frozen.size g.H.Store.Watch.Watch.counts) (λ (kit : Kit g.row.H-Store.Denot g.row.H-Store-Watch.Denot g.row.H-Store-Device.Denot g.row.H-Store-Frozen.Denot). g.H.Store.Store.history kit.store) (faults_in g.H.Store.Watch.Watch.counts) (options_asked c.args.asked.now) (g.H.Shelf.files c.args.shelf.now) (g.H.Shelf.kit_faults c.args.shelf.now) c.open_all.new.engines opened c.serve_over-kits.result.0.items c.serve_over-kits.result.1 c.serve_over-kits.ensures.counts c.serve_over-kits.ensures.kind)
+    let opened = subst (λ o. AreOpened (eyes g.H.Store.Store.history g.H.Store.Device.Device.history g.H.Store.Frozen.Frozen.content g.H.Store.Device.Device.name
+    g.H.Store.Frozen.Frozen.size g.H.Store.Watch.Watch.counts) o (g.H.Shelf.files c.args.shelf.now) (g.H.Shelf.kit_faults c.args.shelf.now) c.open_all.new.engines)
+    c.options_asked-options.ensures c.open_all.ensures.opened in
+    rw (c.of-in-Ok-open_all.ensures.fault, kits) (judged_all (eyes g.H.Store.Store.history g.H.Store.Device.Device.history g.H.Store.Frozen.Frozen.content
+    g.H.Store.Device.Device.name g.H.Store.Frozen.Frozen.size g.H.Store.Watch.Watch.counts)
+    (λ (kit : Kit g.row.H-Store.Denot g.row.H-Store-Watch.Denot g.row.H-Store-Device.Denot g.row.H-Store-Frozen.Denot). g.H.Store.Store.history kit.store)
+    (faults_in g.H.Store.Watch.Watch.counts) (options_asked c.args.asked.now) (g.H.Shelf.files c.args.shelf.now) (g.H.Shelf.kit_faults c.args.shelf.now)
+    c.open_all.new.engines opened c.serve_over-kits.result.0.items c.serve_over-kits.result.1 c.serve_over-kits.ensures.counts c.serve_over-kits.ensures.kind)
 
 pub returns-in-Ok-open_all-clause-layout : goal.returns-in-Ok-open_all-clause-layout
 returns-in-Ok-open_all-clause-layout g c =
@@ -123,8 +166,14 @@ returns-in-Ok-open_all-clause-layout g c =
 pub returns-in-Ok-open_all-clause-spent : goal.returns-in-Ok-open_all-clause-spent
 returns-in-Ok-open_all-clause-spent g c =
     let kits = ap (λ kits. kits.items) c.of-in-Ok-open_all.ensures.kits in
-    let opened = subst (λ o. AreOpened (eyes g.H.Store.Store.history g.H.Store.Device.Device.history g.H.Store.Frozen.Frozen.content g.H.Store.Device.Device.name g.H.Store.Frozen.Frozen.size g.H.Store.Watch.Watch.counts) o (g.H.Shelf.files c.args.shelf.now) (g.H.Shelf.kit_faults c.args.shelf.now) c.open_all.new.engines) c.options_asked-options.ensures c.open_all.ensures.opened in
-    rw (c.of-in-Ok-open_all.ensures.fault, kits) (λ is. ⊎_elim (λ input. inl input) (λ last. inr (spent_all (eyes g.H.Store.Store.history g.H.Store.Device.Device.history g.H.Store.Frozen.Frozen.content g.H.Store.Device.Device.name g.H.Store.Frozen.Frozen.size g.H.Store.Watch.Watch.counts) (λ (kit : Kit _ _ _ _). g.H.Store.Store.history kit.store) (faults_in g.H.Store.Watch.Watch.counts) (options_asked c.args.asked.now) (g.H.Shelf.files c.args.shelf.now) (g.H.Shelf.kit_faults c.args.shelf.now) c.open_all.new.engines opened c.serve_over-kits.result.0.items last)) (c.serve_over-kits.ensures.spent is))
+    let opened = subst (λ o. AreOpened (eyes g.H.Store.Store.history g.H.Store.Device.Device.history g.H.Store.Frozen.Frozen.content g.H.Store.Device.Device.name
+    g.H.Store.Frozen.Frozen.size g.H.Store.Watch.Watch.counts) o (g.H.Shelf.files c.args.shelf.now) (g.H.Shelf.kit_faults c.args.shelf.now) c.open_all.new.engines)
+    c.options_asked-options.ensures c.open_all.ensures.opened in
+    rw (c.of-in-Ok-open_all.ensures.fault, kits) (λ is. ⊎_elim (λ input. inl input)
+    (λ last. inr (spent_all (eyes g.H.Store.Store.history g.H.Store.Device.Device.history g.H.Store.Frozen.Frozen.content g.H.Store.Device.Device.name
+    g.H.Store.Frozen.Frozen.size g.H.Store.Watch.Watch.counts) (λ (kit : Kit _ _ _ _). g.H.Store.Store.history kit.store) (faults_in g.H.Store.Watch.Watch.counts)
+    (options_asked c.args.asked.now) (g.H.Shelf.files c.args.shelf.now) (g.H.Shelf.kit_faults c.args.shelf.now) c.open_all.new.engines opened
+    c.serve_over-kits.result.0.items last)) (c.serve_over-kits.ensures.spent is))
 
 pub returns-in-Err-open_all-clause-ran : goal.returns-in-Err-open_all-clause-ran
 returns-in-Err-open_all-clause-ran g c =
@@ -132,10 +181,22 @@ returns-in-Err-open_all-clause-ran g c =
     let last = c.in-Err-open_all.field-0.kit in
     let same = c.close_all-closed.ensures.1 ∙ ap (λ more. ks ++ more) c.with_kit.ensures.items in
     let kits = ap (λ kits. kits.items) c.of-in-Err-open_all.ensures.kits ∙ same in
-    let opened = subst (λ o. AreOpened (eyes g.H.Store.Store.history g.H.Store.Device.Device.history g.H.Store.Frozen.Frozen.content g.H.Store.Device.Device.name g.H.Store.Frozen.Frozen.size g.H.Store.Watch.Watch.counts) o (g.H.Shelf.files c.args.shelf.now) (g.H.Shelf.kit_faults c.args.shelf.now) c.open_all.new.engines) c.options_asked-options.ensures c.open_all.ensures.opened in
+    let opened = subst (λ o. AreOpened (eyes g.H.Store.Store.history g.H.Store.Device.Device.history g.H.Store.Frozen.Frozen.content g.H.Store.Device.Device.name
+    g.H.Store.Frozen.Frozen.size g.H.Store.Watch.Watch.counts) o (g.H.Shelf.files c.args.shelf.now) (g.H.Shelf.kit_faults c.args.shelf.now) c.open_all.new.engines)
+    c.options_asked-options.ensures c.open_all.ensures.opened in
     let some : length c.open_all.new.engines < (options_asked c.args.asked.now).partitions = subst (λ (o : Options). length c.open_all.new.engines < o.partitions) c.options_asked-options.ensures c.in-Err-open_all.ensures.some in
-    let back = subst (λ (o : Options). IfSome last (λ kit. IsGivenBack (partition_at (length c.open_all.new.engines) o.partitions) (g.H.Shelf.files c.args.shelf.now (length c.open_all.new.engines)) (g.H.Shelf.kit_faults c.args.shelf.now (length c.open_all.new.engines)) c.in-Err-open_all.field-0.fault (g.H.Store.Store.history kit.store) (faults_in g.H.Store.Watch.Watch.counts kit))) c.options_asked-options.ensures c.in-Err-open_all.ensures.back in
-    let b = given_back_all (eyes g.H.Store.Store.history g.H.Store.Device.Device.history g.H.Store.Frozen.Frozen.content g.H.Store.Device.Device.name g.H.Store.Frozen.Frozen.size g.H.Store.Watch.Watch.counts) g.H.Store.Device.Device.size (λ (kit : Kit _ _ _ _). g.H.Store.Store.history kit.store) (faults_in g.H.Store.Watch.Watch.counts) (options_asked c.args.asked.now) (g.H.Shelf.files c.args.shelf.now) (g.H.Shelf.kit_faults c.args.shelf.now) (g.H.Shelf.faults c.args.shelf.now) (g.H.Shelf.faults c.open_all.new.shelf) c.open_all.new.engines ks last c.in-Err-open_all.field-0.fault some opened (kits_ended (eyes g.H.Store.Store.history g.H.Store.Device.Device.history g.H.Store.Frozen.Frozen.content g.H.Store.Device.Device.name g.H.Store.Frozen.Frozen.size g.H.Store.Watch.Watch.counts) g.H.Store.Device.Device.size (λ (f : finished _ _ _ _). f.kit) (λ (f : finished _ _ _ _). f.outcome) (λ (kit : Kit _ _ _ _). g.H.Store.Store.history kit.store) (faults_in g.H.Store.Watch.Watch.counts) c.open_all.new.engines c.close_all-closed.ensures.0 c.close_all-closed.ensures.3) back c.in-Err-open_all.ensures.not_given in
+    let back = subst (λ (o : Options). IfSome last (λ kit. IsGivenBack (partition_at (length c.open_all.new.engines) o.partitions)
+    (g.H.Shelf.files c.args.shelf.now (length c.open_all.new.engines)) (g.H.Shelf.kit_faults c.args.shelf.now (length c.open_all.new.engines))
+    c.in-Err-open_all.field-0.fault (g.H.Store.Store.history kit.store) (faults_in g.H.Store.Watch.Watch.counts kit))) c.options_asked-options.ensures
+    c.in-Err-open_all.ensures.back in
+    let b = given_back_all (eyes g.H.Store.Store.history g.H.Store.Device.Device.history g.H.Store.Frozen.Frozen.content g.H.Store.Device.Device.name
+    g.H.Store.Frozen.Frozen.size g.H.Store.Watch.Watch.counts) g.H.Store.Device.Device.size (λ (kit : Kit _ _ _ _). g.H.Store.Store.history kit.store)
+    (faults_in g.H.Store.Watch.Watch.counts) (options_asked c.args.asked.now) (g.H.Shelf.files c.args.shelf.now) (g.H.Shelf.kit_faults c.args.shelf.now)
+    (g.H.Shelf.faults c.args.shelf.now) (g.H.Shelf.faults c.open_all.new.shelf) c.open_all.new.engines ks last c.in-Err-open_all.field-0.fault some opened
+    (kits_ended (eyes g.H.Store.Store.history g.H.Store.Device.Device.history g.H.Store.Frozen.Frozen.content g.H.Store.Device.Device.name
+    g.H.Store.Frozen.Frozen.size g.H.Store.Watch.Watch.counts) g.H.Store.Device.Device.size (λ (f : finished _ _ _ _). f.kit) (λ (f : finished _ _ _ _). f.outcome)
+    (λ (kit : Kit _ _ _ _). g.H.Store.Store.history kit.store) (faults_in g.H.Store.Watch.Watch.counts) c.open_all.new.engines c.close_all-closed.ensures.0
+    c.close_all-closed.ensures.3) back c.in-Err-open_all.ensures.not_given in
     rw (c.of-in-Err-open_all.ensures.fault, kits) (λ first begins. asked_unopened c.args.asked.now c.in-Err-open_all.field-0.fault first (g.H.Shelf.files c.args.shelf.now) (g.I.Source.left c.args.source.now) (g.O.Sink.taken c.args.sink.now) _ b.by begins (b.sound first begins) b.few b.keep)
 
 pub returns-in-Err-open_all-clause-kits : goal.returns-in-Err-open_all-clause-kits
@@ -144,10 +205,22 @@ returns-in-Err-open_all-clause-kits g c =
     let last = c.in-Err-open_all.field-0.kit in
     let same = c.close_all-closed.ensures.1 ∙ ap (λ more. ks ++ more) c.with_kit.ensures.items in
     let kits = ap (λ kits. kits.items) c.of-in-Err-open_all.ensures.kits ∙ same in
-    let opened = subst (λ o. AreOpened (eyes g.H.Store.Store.history g.H.Store.Device.Device.history g.H.Store.Frozen.Frozen.content g.H.Store.Device.Device.name g.H.Store.Frozen.Frozen.size g.H.Store.Watch.Watch.counts) o (g.H.Shelf.files c.args.shelf.now) (g.H.Shelf.kit_faults c.args.shelf.now) c.open_all.new.engines) c.options_asked-options.ensures c.open_all.ensures.opened in
+    let opened = subst (λ o. AreOpened (eyes g.H.Store.Store.history g.H.Store.Device.Device.history g.H.Store.Frozen.Frozen.content g.H.Store.Device.Device.name
+    g.H.Store.Frozen.Frozen.size g.H.Store.Watch.Watch.counts) o (g.H.Shelf.files c.args.shelf.now) (g.H.Shelf.kit_faults c.args.shelf.now) c.open_all.new.engines)
+    c.options_asked-options.ensures c.open_all.ensures.opened in
     let some : length c.open_all.new.engines < (options_asked c.args.asked.now).partitions = subst (λ (o : Options). length c.open_all.new.engines < o.partitions) c.options_asked-options.ensures c.in-Err-open_all.ensures.some in
-    let back = subst (λ (o : Options). IfSome last (λ kit. IsGivenBack (partition_at (length c.open_all.new.engines) o.partitions) (g.H.Shelf.files c.args.shelf.now (length c.open_all.new.engines)) (g.H.Shelf.kit_faults c.args.shelf.now (length c.open_all.new.engines)) c.in-Err-open_all.field-0.fault (g.H.Store.Store.history kit.store) (faults_in g.H.Store.Watch.Watch.counts kit))) c.options_asked-options.ensures c.in-Err-open_all.ensures.back in
-    let b = given_back_all (eyes g.H.Store.Store.history g.H.Store.Device.Device.history g.H.Store.Frozen.Frozen.content g.H.Store.Device.Device.name g.H.Store.Frozen.Frozen.size g.H.Store.Watch.Watch.counts) g.H.Store.Device.Device.size (λ (kit : Kit _ _ _ _). g.H.Store.Store.history kit.store) (faults_in g.H.Store.Watch.Watch.counts) (options_asked c.args.asked.now) (g.H.Shelf.files c.args.shelf.now) (g.H.Shelf.kit_faults c.args.shelf.now) (g.H.Shelf.faults c.args.shelf.now) (g.H.Shelf.faults c.open_all.new.shelf) c.open_all.new.engines ks last c.in-Err-open_all.field-0.fault some opened (kits_ended (eyes g.H.Store.Store.history g.H.Store.Device.Device.history g.H.Store.Frozen.Frozen.content g.H.Store.Device.Device.name g.H.Store.Frozen.Frozen.size g.H.Store.Watch.Watch.counts) g.H.Store.Device.Device.size (λ (f : finished _ _ _ _). f.kit) (λ (f : finished _ _ _ _). f.outcome) (λ (kit : Kit _ _ _ _). g.H.Store.Store.history kit.store) (faults_in g.H.Store.Watch.Watch.counts) c.open_all.new.engines c.close_all-closed.ensures.0 c.close_all-closed.ensures.3) back c.in-Err-open_all.ensures.not_given in
+    let back = subst (λ (o : Options). IfSome last (λ kit. IsGivenBack (partition_at (length c.open_all.new.engines) o.partitions)
+    (g.H.Shelf.files c.args.shelf.now (length c.open_all.new.engines)) (g.H.Shelf.kit_faults c.args.shelf.now (length c.open_all.new.engines))
+    c.in-Err-open_all.field-0.fault (g.H.Store.Store.history kit.store) (faults_in g.H.Store.Watch.Watch.counts kit))) c.options_asked-options.ensures
+    c.in-Err-open_all.ensures.back in
+    let b = given_back_all (eyes g.H.Store.Store.history g.H.Store.Device.Device.history g.H.Store.Frozen.Frozen.content g.H.Store.Device.Device.name
+    g.H.Store.Frozen.Frozen.size g.H.Store.Watch.Watch.counts) g.H.Store.Device.Device.size (λ (kit : Kit _ _ _ _). g.H.Store.Store.history kit.store)
+    (faults_in g.H.Store.Watch.Watch.counts) (options_asked c.args.asked.now) (g.H.Shelf.files c.args.shelf.now) (g.H.Shelf.kit_faults c.args.shelf.now)
+    (g.H.Shelf.faults c.args.shelf.now) (g.H.Shelf.faults c.open_all.new.shelf) c.open_all.new.engines ks last c.in-Err-open_all.field-0.fault some opened
+    (kits_ended (eyes g.H.Store.Store.history g.H.Store.Device.Device.history g.H.Store.Frozen.Frozen.content g.H.Store.Device.Device.name
+    g.H.Store.Frozen.Frozen.size g.H.Store.Watch.Watch.counts) g.H.Store.Device.Device.size (λ (f : finished _ _ _ _). f.kit) (λ (f : finished _ _ _ _). f.outcome)
+    (λ (kit : Kit _ _ _ _). g.H.Store.Store.history kit.store) (faults_in g.H.Store.Watch.Watch.counts) c.open_all.new.engines c.close_all-closed.ensures.0
+    c.close_all-closed.ensures.3) back c.in-Err-open_all.ensures.not_given in
     let many = length-map (ks ++ option_to_list last) (λ (kit : Kit _ _ _ _). g.H.Store.Store.history kit.store) in
     rw kits (omega (arith, many, b.few))
 
@@ -157,10 +230,22 @@ returns-in-Err-open_all-clause-asked g c =
     let last = c.in-Err-open_all.field-0.kit in
     let same = c.close_all-closed.ensures.1 ∙ ap (λ more. ks ++ more) c.with_kit.ensures.items in
     let kits = ap (λ kits. kits.items) c.of-in-Err-open_all.ensures.kits ∙ same in
-    let opened = subst (λ o. AreOpened (eyes g.H.Store.Store.history g.H.Store.Device.Device.history g.H.Store.Frozen.Frozen.content g.H.Store.Device.Device.name g.H.Store.Frozen.Frozen.size g.H.Store.Watch.Watch.counts) o (g.H.Shelf.files c.args.shelf.now) (g.H.Shelf.kit_faults c.args.shelf.now) c.open_all.new.engines) c.options_asked-options.ensures c.open_all.ensures.opened in
+    let opened = subst (λ o. AreOpened (eyes g.H.Store.Store.history g.H.Store.Device.Device.history g.H.Store.Frozen.Frozen.content g.H.Store.Device.Device.name
+    g.H.Store.Frozen.Frozen.size g.H.Store.Watch.Watch.counts) o (g.H.Shelf.files c.args.shelf.now) (g.H.Shelf.kit_faults c.args.shelf.now) c.open_all.new.engines)
+    c.options_asked-options.ensures c.open_all.ensures.opened in
     let some : length c.open_all.new.engines < (options_asked c.args.asked.now).partitions = subst (λ (o : Options). length c.open_all.new.engines < o.partitions) c.options_asked-options.ensures c.in-Err-open_all.ensures.some in
-    let back = subst (λ (o : Options). IfSome last (λ kit. IsGivenBack (partition_at (length c.open_all.new.engines) o.partitions) (g.H.Shelf.files c.args.shelf.now (length c.open_all.new.engines)) (g.H.Shelf.kit_faults c.args.shelf.now (length c.open_all.new.engines)) c.in-Err-open_all.field-0.fault (g.H.Store.Store.history kit.store) (faults_in g.H.Store.Watch.Watch.counts kit))) c.options_asked-options.ensures c.in-Err-open_all.ensures.back in
-    let b = given_back_all (eyes g.H.Store.Store.history g.H.Store.Device.Device.history g.H.Store.Frozen.Frozen.content g.H.Store.Device.Device.name g.H.Store.Frozen.Frozen.size g.H.Store.Watch.Watch.counts) g.H.Store.Device.Device.size (λ (kit : Kit _ _ _ _). g.H.Store.Store.history kit.store) (faults_in g.H.Store.Watch.Watch.counts) (options_asked c.args.asked.now) (g.H.Shelf.files c.args.shelf.now) (g.H.Shelf.kit_faults c.args.shelf.now) (g.H.Shelf.faults c.args.shelf.now) (g.H.Shelf.faults c.open_all.new.shelf) c.open_all.new.engines ks last c.in-Err-open_all.field-0.fault some opened (kits_ended (eyes g.H.Store.Store.history g.H.Store.Device.Device.history g.H.Store.Frozen.Frozen.content g.H.Store.Device.Device.name g.H.Store.Frozen.Frozen.size g.H.Store.Watch.Watch.counts) g.H.Store.Device.Device.size (λ (f : finished _ _ _ _). f.kit) (λ (f : finished _ _ _ _). f.outcome) (λ (kit : Kit _ _ _ _). g.H.Store.Store.history kit.store) (faults_in g.H.Store.Watch.Watch.counts) c.open_all.new.engines c.close_all-closed.ensures.0 c.close_all-closed.ensures.3) back c.in-Err-open_all.ensures.not_given in
+    let back = subst (λ (o : Options). IfSome last (λ kit. IsGivenBack (partition_at (length c.open_all.new.engines) o.partitions)
+    (g.H.Shelf.files c.args.shelf.now (length c.open_all.new.engines)) (g.H.Shelf.kit_faults c.args.shelf.now (length c.open_all.new.engines))
+    c.in-Err-open_all.field-0.fault (g.H.Store.Store.history kit.store) (faults_in g.H.Store.Watch.Watch.counts kit))) c.options_asked-options.ensures
+    c.in-Err-open_all.ensures.back in
+    let b = given_back_all (eyes g.H.Store.Store.history g.H.Store.Device.Device.history g.H.Store.Frozen.Frozen.content g.H.Store.Device.Device.name
+    g.H.Store.Frozen.Frozen.size g.H.Store.Watch.Watch.counts) g.H.Store.Device.Device.size (λ (kit : Kit _ _ _ _). g.H.Store.Store.history kit.store)
+    (faults_in g.H.Store.Watch.Watch.counts) (options_asked c.args.asked.now) (g.H.Shelf.files c.args.shelf.now) (g.H.Shelf.kit_faults c.args.shelf.now)
+    (g.H.Shelf.faults c.args.shelf.now) (g.H.Shelf.faults c.open_all.new.shelf) c.open_all.new.engines ks last c.in-Err-open_all.field-0.fault some opened
+    (kits_ended (eyes g.H.Store.Store.history g.H.Store.Device.Device.history g.H.Store.Frozen.Frozen.content g.H.Store.Device.Device.name
+    g.H.Store.Frozen.Frozen.size g.H.Store.Watch.Watch.counts) g.H.Store.Device.Device.size (λ (f : finished _ _ _ _). f.kit) (λ (f : finished _ _ _ _). f.outcome)
+    (λ (kit : Kit _ _ _ _). g.H.Store.Store.history kit.store) (faults_in g.H.Store.Watch.Watch.counts) c.open_all.new.engines c.close_all-closed.ensures.0
+    c.close_all-closed.ensures.3) back c.in-Err-open_all.ensures.not_given in
     let many = length-map (ks ++ option_to_list last) (λ (kit : Kit _ _ _ _). g.H.Store.Store.history kit.store) in
     rw (c.of-in-Err-open_all.ensures.fault, kits) (subst (AreAsked (options_asked c.args.asked.now).partitions (Some c.in-Err-open_all.field-0.fault)) many b.asked)
 
@@ -170,10 +255,22 @@ returns-in-Err-open_all-clause-counts g c =
     let last = c.in-Err-open_all.field-0.kit in
     let same = c.close_all-closed.ensures.1 ∙ ap (λ more. ks ++ more) c.with_kit.ensures.items in
     let kits = ap (λ kits. kits.items) c.of-in-Err-open_all.ensures.kits ∙ same in
-    let opened = subst (λ o. AreOpened (eyes g.H.Store.Store.history g.H.Store.Device.Device.history g.H.Store.Frozen.Frozen.content g.H.Store.Device.Device.name g.H.Store.Frozen.Frozen.size g.H.Store.Watch.Watch.counts) o (g.H.Shelf.files c.args.shelf.now) (g.H.Shelf.kit_faults c.args.shelf.now) c.open_all.new.engines) c.options_asked-options.ensures c.open_all.ensures.opened in
+    let opened = subst (λ o. AreOpened (eyes g.H.Store.Store.history g.H.Store.Device.Device.history g.H.Store.Frozen.Frozen.content g.H.Store.Device.Device.name
+    g.H.Store.Frozen.Frozen.size g.H.Store.Watch.Watch.counts) o (g.H.Shelf.files c.args.shelf.now) (g.H.Shelf.kit_faults c.args.shelf.now) c.open_all.new.engines)
+    c.options_asked-options.ensures c.open_all.ensures.opened in
     let some : length c.open_all.new.engines < (options_asked c.args.asked.now).partitions = subst (λ (o : Options). length c.open_all.new.engines < o.partitions) c.options_asked-options.ensures c.in-Err-open_all.ensures.some in
-    let back = subst (λ (o : Options). IfSome last (λ kit. IsGivenBack (partition_at (length c.open_all.new.engines) o.partitions) (g.H.Shelf.files c.args.shelf.now (length c.open_all.new.engines)) (g.H.Shelf.kit_faults c.args.shelf.now (length c.open_all.new.engines)) c.in-Err-open_all.field-0.fault (g.H.Store.Store.history kit.store) (faults_in g.H.Store.Watch.Watch.counts kit))) c.options_asked-options.ensures c.in-Err-open_all.ensures.back in
-    let b = given_back_all (eyes g.H.Store.Store.history g.H.Store.Device.Device.history g.H.Store.Frozen.Frozen.content g.H.Store.Device.Device.name g.H.Store.Frozen.Frozen.size g.H.Store.Watch.Watch.counts) g.H.Store.Device.Device.size (λ (kit : Kit _ _ _ _). g.H.Store.Store.history kit.store) (faults_in g.H.Store.Watch.Watch.counts) (options_asked c.args.asked.now) (g.H.Shelf.files c.args.shelf.now) (g.H.Shelf.kit_faults c.args.shelf.now) (g.H.Shelf.faults c.args.shelf.now) (g.H.Shelf.faults c.open_all.new.shelf) c.open_all.new.engines ks last c.in-Err-open_all.field-0.fault some opened (kits_ended (eyes g.H.Store.Store.history g.H.Store.Device.Device.history g.H.Store.Frozen.Frozen.content g.H.Store.Device.Device.name g.H.Store.Frozen.Frozen.size g.H.Store.Watch.Watch.counts) g.H.Store.Device.Device.size (λ (f : finished _ _ _ _). f.kit) (λ (f : finished _ _ _ _). f.outcome) (λ (kit : Kit _ _ _ _). g.H.Store.Store.history kit.store) (faults_in g.H.Store.Watch.Watch.counts) c.open_all.new.engines c.close_all-closed.ensures.0 c.close_all-closed.ensures.3) back c.in-Err-open_all.ensures.not_given in
+    let back = subst (λ (o : Options). IfSome last (λ kit. IsGivenBack (partition_at (length c.open_all.new.engines) o.partitions)
+    (g.H.Shelf.files c.args.shelf.now (length c.open_all.new.engines)) (g.H.Shelf.kit_faults c.args.shelf.now (length c.open_all.new.engines))
+    c.in-Err-open_all.field-0.fault (g.H.Store.Store.history kit.store) (faults_in g.H.Store.Watch.Watch.counts kit))) c.options_asked-options.ensures
+    c.in-Err-open_all.ensures.back in
+    let b = given_back_all (eyes g.H.Store.Store.history g.H.Store.Device.Device.history g.H.Store.Frozen.Frozen.content g.H.Store.Device.Device.name
+    g.H.Store.Frozen.Frozen.size g.H.Store.Watch.Watch.counts) g.H.Store.Device.Device.size (λ (kit : Kit _ _ _ _). g.H.Store.Store.history kit.store)
+    (faults_in g.H.Store.Watch.Watch.counts) (options_asked c.args.asked.now) (g.H.Shelf.files c.args.shelf.now) (g.H.Shelf.kit_faults c.args.shelf.now)
+    (g.H.Shelf.faults c.args.shelf.now) (g.H.Shelf.faults c.open_all.new.shelf) c.open_all.new.engines ks last c.in-Err-open_all.field-0.fault some opened
+    (kits_ended (eyes g.H.Store.Store.history g.H.Store.Device.Device.history g.H.Store.Frozen.Frozen.content g.H.Store.Device.Device.name
+    g.H.Store.Frozen.Frozen.size g.H.Store.Watch.Watch.counts) g.H.Store.Device.Device.size (λ (f : finished _ _ _ _). f.kit) (λ (f : finished _ _ _ _). f.outcome)
+    (λ (kit : Kit _ _ _ _). g.H.Store.Store.history kit.store) (faults_in g.H.Store.Watch.Watch.counts) c.open_all.new.engines c.close_all-closed.ensures.0
+    c.close_all-closed.ensures.3) back c.in-Err-open_all.ensures.not_given in
     rw kits (c.open_all.ensures.faults, b.none_fell)
 
 pub returns-in-Err-open_all-clause-other_kits : goal.returns-in-Err-open_all-clause-other_kits
@@ -182,8 +279,17 @@ returns-in-Err-open_all-clause-other_kits g c =
     let last = c.in-Err-open_all.field-0.kit in
     let same = c.close_all-closed.ensures.1 ∙ ap (λ more. ks ++ more) c.with_kit.ensures.items in
     let kits = ap (λ kits. kits.items) c.of-in-Err-open_all.ensures.kits ∙ same in
-    let placed = last_many (λ (p : ℕ) e (kit : Kit _ _ _ _). IsEnded (eyes g.H.Store.Store.history g.H.Store.Device.Device.history g.H.Store.Frozen.Frozen.content g.H.Store.Device.Device.name g.H.Store.Frozen.Frozen.size g.H.Store.Watch.Watch.counts) g.H.Store.Device.Device.size (λ (kit : Kit _ _ _ _). g.H.Store.Store.history kit.store) (faults_in g.H.Store.Watch.Watch.counts) e kit) c.open_all.new.engines ks last (ks ++ option_to_list last) refl (kits_ended (eyes g.H.Store.Store.history g.H.Store.Device.Device.history g.H.Store.Frozen.Frozen.content g.H.Store.Device.Device.name g.H.Store.Frozen.Frozen.size g.H.Store.Watch.Watch.counts) g.H.Store.Device.Device.size (λ (f : finished _ _ _ _). f.kit) (λ (f : finished _ _ _ _). f.outcome) (λ (kit : Kit _ _ _ _). g.H.Store.Store.history kit.store) (faults_in g.H.Store.Watch.Watch.counts) c.open_all.new.engines c.close_all-closed.ensures.0 c.close_all-closed.ensures.3) in
-    rw kits (others_back (λ other. (g.H.Shelf.files c.open_all.new.shelf other ≡ g.H.Shelf.files c.args.shelf.now other) × (g.H.Shelf.kit_faults c.open_all.new.shelf other ≡ g.H.Shelf.kit_faults c.args.shelf.now other)) (length c.open_all.new.engines) (length (ks ++ option_to_list last)) last placed c.open_all.ensures.others)
+    let placed = last_many (λ (p : ℕ) e (kit : Kit _ _ _ _). IsEnded
+    (eyes g.H.Store.Store.history g.H.Store.Device.Device.history g.H.Store.Frozen.Frozen.content g.H.Store.Device.Device.name g.H.Store.Frozen.Frozen.size
+    g.H.Store.Watch.Watch.counts) g.H.Store.Device.Device.size (λ (kit : Kit _ _ _ _). g.H.Store.Store.history kit.store) (faults_in g.H.Store.Watch.Watch.counts)
+    e kit) c.open_all.new.engines ks last (ks ++ option_to_list last) refl
+    (kits_ended (eyes g.H.Store.Store.history g.H.Store.Device.Device.history g.H.Store.Frozen.Frozen.content g.H.Store.Device.Device.name
+    g.H.Store.Frozen.Frozen.size g.H.Store.Watch.Watch.counts) g.H.Store.Device.Device.size (λ (f : finished _ _ _ _). f.kit) (λ (f : finished _ _ _ _). f.outcome)
+    (λ (kit : Kit _ _ _ _). g.H.Store.Store.history kit.store) (faults_in g.H.Store.Watch.Watch.counts) c.open_all.new.engines c.close_all-closed.ensures.0
+    c.close_all-closed.ensures.3) in
+    rw kits (others_back (λ other. (g.H.Shelf.files c.open_all.new.shelf other ≡ g.H.Shelf.files c.args.shelf.now other)
+    × (g.H.Shelf.kit_faults c.open_all.new.shelf other ≡ g.H.Shelf.kit_faults c.args.shelf.now other)) (length c.open_all.new.engines)
+    (length (ks ++ option_to_list last)) last placed c.open_all.ensures.others)
 
 pub returns-in-Err-open_all-clause-next_kit : goal.returns-in-Err-open_all-clause-next_kit
 returns-in-Err-open_all-clause-next_kit g c =
@@ -192,8 +298,19 @@ returns-in-Err-open_all-clause-next_kit g c =
     let same = c.close_all-closed.ensures.1 ∙ ap (λ more. ks ++ more) c.with_kit.ensures.items in
     let kits = ap (λ kits. kits.items) c.of-in-Err-open_all.ensures.kits ∙ same in
     let some : length c.open_all.new.engines < (options_asked c.args.asked.now).partitions = subst (λ (o : Options). length c.open_all.new.engines < o.partitions) c.options_asked-options.ensures c.in-Err-open_all.ensures.some in
-    let placed = last_many (λ (p : ℕ) e (kit : Kit _ _ _ _). IsEnded (eyes g.H.Store.Store.history g.H.Store.Device.Device.history g.H.Store.Frozen.Frozen.content g.H.Store.Device.Device.name g.H.Store.Frozen.Frozen.size g.H.Store.Watch.Watch.counts) g.H.Store.Device.Device.size (λ (kit : Kit _ _ _ _). g.H.Store.Store.history kit.store) (faults_in g.H.Store.Watch.Watch.counts) e kit) c.open_all.new.engines ks last (ks ++ option_to_list last) refl (kits_ended (eyes g.H.Store.Store.history g.H.Store.Device.Device.history g.H.Store.Frozen.Frozen.content g.H.Store.Device.Device.name g.H.Store.Frozen.Frozen.size g.H.Store.Watch.Watch.counts) g.H.Store.Device.Device.size (λ (f : finished _ _ _ _). f.kit) (λ (f : finished _ _ _ _). f.outcome) (λ (kit : Kit _ _ _ _). g.H.Store.Store.history kit.store) (faults_in g.H.Store.Watch.Watch.counts) c.open_all.new.engines c.close_all-closed.ensures.0 c.close_all-closed.ensures.3) in
-    rw kits (next_back (λ other. (g.H.Shelf.files c.open_all.new.shelf other ≡ g.H.Shelf.files c.args.shelf.now other) × (g.H.Shelf.kit_faults c.open_all.new.shelf other ≡ g.H.Shelf.kit_faults c.args.shelf.now other)) (Rose (g.H.Shelf.faults c.args.shelf.now) (g.H.Shelf.faults c.open_all.new.shelf)) (options_asked c.args.asked.now).partitions (length c.open_all.new.engines) (length (ks ++ option_to_list last)) c.in-Err-open_all.field-0.fault last placed some c.open_all.ensures.others c.in-Err-open_all.ensures.unasked c.in-Err-open_all.ensures.not_given)
+    let placed = last_many (λ (p : ℕ) e (kit : Kit _ _ _ _). IsEnded
+    (eyes g.H.Store.Store.history g.H.Store.Device.Device.history g.H.Store.Frozen.Frozen.content g.H.Store.Device.Device.name g.H.Store.Frozen.Frozen.size
+    g.H.Store.Watch.Watch.counts) g.H.Store.Device.Device.size (λ (kit : Kit _ _ _ _). g.H.Store.Store.history kit.store) (faults_in g.H.Store.Watch.Watch.counts)
+    e kit) c.open_all.new.engines ks last (ks ++ option_to_list last) refl
+    (kits_ended (eyes g.H.Store.Store.history g.H.Store.Device.Device.history g.H.Store.Frozen.Frozen.content g.H.Store.Device.Device.name
+    g.H.Store.Frozen.Frozen.size g.H.Store.Watch.Watch.counts) g.H.Store.Device.Device.size (λ (f : finished _ _ _ _). f.kit) (λ (f : finished _ _ _ _). f.outcome)
+    (λ (kit : Kit _ _ _ _). g.H.Store.Store.history kit.store) (faults_in g.H.Store.Watch.Watch.counts) c.open_all.new.engines c.close_all-closed.ensures.0
+    c.close_all-closed.ensures.3) in
+    rw kits (next_back (λ other. (g.H.Shelf.files c.open_all.new.shelf other ≡ g.H.Shelf.files c.args.shelf.now other)
+    × (g.H.Shelf.kit_faults c.open_all.new.shelf other ≡ g.H.Shelf.kit_faults c.args.shelf.now other))
+    (Rose (g.H.Shelf.faults c.args.shelf.now) (g.H.Shelf.faults c.open_all.new.shelf)) (options_asked c.args.asked.now).partitions (length c.open_all.new.engines)
+    (length (ks ++ option_to_list last)) c.in-Err-open_all.field-0.fault last placed some c.open_all.ensures.others c.in-Err-open_all.ensures.unasked
+    c.in-Err-open_all.ensures.not_given)
 
 pub returns-in-Err-open_all-clause-unasked : goal.returns-in-Err-open_all-clause-unasked
 returns-in-Err-open_all-clause-unasked g c =
@@ -201,8 +318,16 @@ returns-in-Err-open_all-clause-unasked g c =
     let last = c.in-Err-open_all.field-0.kit in
     let same = c.close_all-closed.ensures.1 ∙ ap (λ more. ks ++ more) c.with_kit.ensures.items in
     let kits = ap (λ kits. kits.items) c.of-in-Err-open_all.ensures.kits ∙ same in
-    let placed = last_many (λ (p : ℕ) e (kit : Kit _ _ _ _). IsEnded (eyes g.H.Store.Store.history g.H.Store.Device.Device.history g.H.Store.Frozen.Frozen.content g.H.Store.Device.Device.name g.H.Store.Frozen.Frozen.size g.H.Store.Watch.Watch.counts) g.H.Store.Device.Device.size (λ (kit : Kit _ _ _ _). g.H.Store.Store.history kit.store) (faults_in g.H.Store.Watch.Watch.counts) e kit) c.open_all.new.engines ks last (ks ++ option_to_list last) refl (kits_ended (eyes g.H.Store.Store.history g.H.Store.Device.Device.history g.H.Store.Frozen.Frozen.content g.H.Store.Device.Device.name g.H.Store.Frozen.Frozen.size g.H.Store.Watch.Watch.counts) g.H.Store.Device.Device.size (λ (f : finished _ _ _ _). f.kit) (λ (f : finished _ _ _ _). f.outcome) (λ (kit : Kit _ _ _ _). g.H.Store.Store.history kit.store) (faults_in g.H.Store.Watch.Watch.counts) c.open_all.new.engines c.close_all-closed.ensures.0 c.close_all-closed.ensures.3) in
-    rw kits (unasked_back _ (Rose (g.H.Shelf.faults c.args.shelf.now) (g.H.Shelf.faults c.open_all.new.shelf)) c.open_all.new.engines (ks ++ option_to_list last) (length c.open_all.new.engines) c.in-Err-open_all.field-0.fault last refl placed c.in-Err-open_all.ensures.not_given c.in-Err-open_all.ensures.same)
+    let placed = last_many (λ (p : ℕ) e (kit : Kit _ _ _ _). IsEnded
+    (eyes g.H.Store.Store.history g.H.Store.Device.Device.history g.H.Store.Frozen.Frozen.content g.H.Store.Device.Device.name g.H.Store.Frozen.Frozen.size
+    g.H.Store.Watch.Watch.counts) g.H.Store.Device.Device.size (λ (kit : Kit _ _ _ _). g.H.Store.Store.history kit.store) (faults_in g.H.Store.Watch.Watch.counts)
+    e kit) c.open_all.new.engines ks last (ks ++ option_to_list last) refl
+    (kits_ended (eyes g.H.Store.Store.history g.H.Store.Device.Device.history g.H.Store.Frozen.Frozen.content g.H.Store.Device.Device.name
+    g.H.Store.Frozen.Frozen.size g.H.Store.Watch.Watch.counts) g.H.Store.Device.Device.size (λ (f : finished _ _ _ _). f.kit) (λ (f : finished _ _ _ _). f.outcome)
+    (λ (kit : Kit _ _ _ _). g.H.Store.Store.history kit.store) (faults_in g.H.Store.Watch.Watch.counts) c.open_all.new.engines c.close_all-closed.ensures.0
+    c.close_all-closed.ensures.3) in
+    rw kits (unasked_back _ (Rose (g.H.Shelf.faults c.args.shelf.now) (g.H.Shelf.faults c.open_all.new.shelf)) c.open_all.new.engines (ks ++ option_to_list last)
+    (length c.open_all.new.engines) c.in-Err-open_all.field-0.fault last refl placed c.in-Err-open_all.ensures.not_given c.in-Err-open_all.ensures.same)
 
 pub returns-in-Err-open_all-clause-disk : goal.returns-in-Err-open_all-clause-disk
 returns-in-Err-open_all-clause-disk g c =
@@ -210,10 +335,22 @@ returns-in-Err-open_all-clause-disk g c =
     let last = c.in-Err-open_all.field-0.kit in
     let same = c.close_all-closed.ensures.1 ∙ ap (λ more. ks ++ more) c.with_kit.ensures.items in
     let kits = ap (λ kits. kits.items) c.of-in-Err-open_all.ensures.kits ∙ same in
-    let opened = subst (λ o. AreOpened (eyes g.H.Store.Store.history g.H.Store.Device.Device.history g.H.Store.Frozen.Frozen.content g.H.Store.Device.Device.name g.H.Store.Frozen.Frozen.size g.H.Store.Watch.Watch.counts) o (g.H.Shelf.files c.args.shelf.now) (g.H.Shelf.kit_faults c.args.shelf.now) c.open_all.new.engines) c.options_asked-options.ensures c.open_all.ensures.opened in
+    let opened = subst (λ o. AreOpened (eyes g.H.Store.Store.history g.H.Store.Device.Device.history g.H.Store.Frozen.Frozen.content g.H.Store.Device.Device.name
+    g.H.Store.Frozen.Frozen.size g.H.Store.Watch.Watch.counts) o (g.H.Shelf.files c.args.shelf.now) (g.H.Shelf.kit_faults c.args.shelf.now) c.open_all.new.engines)
+    c.options_asked-options.ensures c.open_all.ensures.opened in
     let some : length c.open_all.new.engines < (options_asked c.args.asked.now).partitions = subst (λ (o : Options). length c.open_all.new.engines < o.partitions) c.options_asked-options.ensures c.in-Err-open_all.ensures.some in
-    let back = subst (λ (o : Options). IfSome last (λ kit. IsGivenBack (partition_at (length c.open_all.new.engines) o.partitions) (g.H.Shelf.files c.args.shelf.now (length c.open_all.new.engines)) (g.H.Shelf.kit_faults c.args.shelf.now (length c.open_all.new.engines)) c.in-Err-open_all.field-0.fault (g.H.Store.Store.history kit.store) (faults_in g.H.Store.Watch.Watch.counts kit))) c.options_asked-options.ensures c.in-Err-open_all.ensures.back in
-    let b = given_back_all (eyes g.H.Store.Store.history g.H.Store.Device.Device.history g.H.Store.Frozen.Frozen.content g.H.Store.Device.Device.name g.H.Store.Frozen.Frozen.size g.H.Store.Watch.Watch.counts) g.H.Store.Device.Device.size (λ (kit : Kit _ _ _ _). g.H.Store.Store.history kit.store) (faults_in g.H.Store.Watch.Watch.counts) (options_asked c.args.asked.now) (g.H.Shelf.files c.args.shelf.now) (g.H.Shelf.kit_faults c.args.shelf.now) (g.H.Shelf.faults c.args.shelf.now) (g.H.Shelf.faults c.open_all.new.shelf) c.open_all.new.engines ks last c.in-Err-open_all.field-0.fault some opened (kits_ended (eyes g.H.Store.Store.history g.H.Store.Device.Device.history g.H.Store.Frozen.Frozen.content g.H.Store.Device.Device.name g.H.Store.Frozen.Frozen.size g.H.Store.Watch.Watch.counts) g.H.Store.Device.Device.size (λ (f : finished _ _ _ _). f.kit) (λ (f : finished _ _ _ _). f.outcome) (λ (kit : Kit _ _ _ _). g.H.Store.Store.history kit.store) (faults_in g.H.Store.Watch.Watch.counts) c.open_all.new.engines c.close_all-closed.ensures.0 c.close_all-closed.ensures.3) back c.in-Err-open_all.ensures.not_given in
+    let back = subst (λ (o : Options). IfSome last (λ kit. IsGivenBack (partition_at (length c.open_all.new.engines) o.partitions)
+    (g.H.Shelf.files c.args.shelf.now (length c.open_all.new.engines)) (g.H.Shelf.kit_faults c.args.shelf.now (length c.open_all.new.engines))
+    c.in-Err-open_all.field-0.fault (g.H.Store.Store.history kit.store) (faults_in g.H.Store.Watch.Watch.counts kit))) c.options_asked-options.ensures
+    c.in-Err-open_all.ensures.back in
+    let b = given_back_all (eyes g.H.Store.Store.history g.H.Store.Device.Device.history g.H.Store.Frozen.Frozen.content g.H.Store.Device.Device.name
+    g.H.Store.Frozen.Frozen.size g.H.Store.Watch.Watch.counts) g.H.Store.Device.Device.size (λ (kit : Kit _ _ _ _). g.H.Store.Store.history kit.store)
+    (faults_in g.H.Store.Watch.Watch.counts) (options_asked c.args.asked.now) (g.H.Shelf.files c.args.shelf.now) (g.H.Shelf.kit_faults c.args.shelf.now)
+    (g.H.Shelf.faults c.args.shelf.now) (g.H.Shelf.faults c.open_all.new.shelf) c.open_all.new.engines ks last c.in-Err-open_all.field-0.fault some opened
+    (kits_ended (eyes g.H.Store.Store.history g.H.Store.Device.Device.history g.H.Store.Frozen.Frozen.content g.H.Store.Device.Device.name
+    g.H.Store.Frozen.Frozen.size g.H.Store.Watch.Watch.counts) g.H.Store.Device.Device.size (λ (f : finished _ _ _ _). f.kit) (λ (f : finished _ _ _ _). f.outcome)
+    (λ (kit : Kit _ _ _ _). g.H.Store.Store.history kit.store) (faults_in g.H.Store.Watch.Watch.counts) c.open_all.new.engines c.close_all-closed.ensures.0
+    c.close_all-closed.ensures.3) back c.in-Err-open_all.ensures.not_given in
     rw (c.of-in-Err-open_all.ensures.fault, kits) b.disk
 
 pub returns-in-Err-open_all-clause-judged : goal.returns-in-Err-open_all-clause-judged
@@ -222,25 +359,55 @@ returns-in-Err-open_all-clause-judged g c =
     let last = c.in-Err-open_all.field-0.kit in
     let same = c.close_all-closed.ensures.1 ∙ ap (λ more. ks ++ more) c.with_kit.ensures.items in
     let kits = ap (λ kits. kits.items) c.of-in-Err-open_all.ensures.kits ∙ same in
-    let opened = subst (λ o. AreOpened (eyes g.H.Store.Store.history g.H.Store.Device.Device.history g.H.Store.Frozen.Frozen.content g.H.Store.Device.Device.name g.H.Store.Frozen.Frozen.size g.H.Store.Watch.Watch.counts) o (g.H.Shelf.files c.args.shelf.now) (g.H.Shelf.kit_faults c.args.shelf.now) c.open_all.new.engines) c.options_asked-options.ensures c.open_all.ensures.opened in
+    let opened = subst (λ o. AreOpened (eyes g.H.Store.Store.history g.H.Store.Device.Device.history g.H.Store.Frozen.Frozen.content g.H.Store.Device.Device.name
+    g.H.Store.Frozen.Frozen.size g.H.Store.Watch.Watch.counts) o (g.H.Shelf.files c.args.shelf.now) (g.H.Shelf.kit_faults c.args.shelf.now) c.open_all.new.engines)
+    c.options_asked-options.ensures c.open_all.ensures.opened in
     let some : length c.open_all.new.engines < (options_asked c.args.asked.now).partitions = subst (λ (o : Options). length c.open_all.new.engines < o.partitions) c.options_asked-options.ensures c.in-Err-open_all.ensures.some in
-    let back = subst (λ (o : Options). IfSome last (λ kit. IsGivenBack (partition_at (length c.open_all.new.engines) o.partitions) (g.H.Shelf.files c.args.shelf.now (length c.open_all.new.engines)) (g.H.Shelf.kit_faults c.args.shelf.now (length c.open_all.new.engines)) c.in-Err-open_all.field-0.fault (g.H.Store.Store.history kit.store) (faults_in g.H.Store.Watch.Watch.counts kit))) c.options_asked-options.ensures c.in-Err-open_all.ensures.back in
-    let b = given_back_all (eyes g.H.Store.Store.history g.H.Store.Device.Device.history g.H.Store.Frozen.Frozen.content g.H.Store.Device.Device.name g.H.Store.Frozen.Frozen.size g.H.Store.Watch.Watch.counts) g.H.Store.Device.Device.size (λ (kit : Kit _ _ _ _). g.H.Store.Store.history kit.store) (faults_in g.H.Store.Watch.Watch.counts) (options_asked c.args.asked.now) (g.H.Shelf.files c.args.shelf.now) (g.H.Shelf.kit_faults c.args.shelf.now) (g.H.Shelf.faults c.args.shelf.now) (g.H.Shelf.faults c.open_all.new.shelf) c.open_all.new.engines ks last c.in-Err-open_all.field-0.fault some opened (kits_ended (eyes g.H.Store.Store.history g.H.Store.Device.Device.history g.H.Store.Frozen.Frozen.content g.H.Store.Device.Device.name g.H.Store.Frozen.Frozen.size g.H.Store.Watch.Watch.counts) g.H.Store.Device.Device.size (λ (f : finished _ _ _ _). f.kit) (λ (f : finished _ _ _ _). f.outcome) (λ (kit : Kit _ _ _ _). g.H.Store.Store.history kit.store) (faults_in g.H.Store.Watch.Watch.counts) c.open_all.new.engines c.close_all-closed.ensures.0 c.close_all-closed.ensures.3) back c.in-Err-open_all.ensures.not_given in
+    let back = subst (λ (o : Options). IfSome last (λ kit. IsGivenBack (partition_at (length c.open_all.new.engines) o.partitions)
+    (g.H.Shelf.files c.args.shelf.now (length c.open_all.new.engines)) (g.H.Shelf.kit_faults c.args.shelf.now (length c.open_all.new.engines))
+    c.in-Err-open_all.field-0.fault (g.H.Store.Store.history kit.store) (faults_in g.H.Store.Watch.Watch.counts kit))) c.options_asked-options.ensures
+    c.in-Err-open_all.ensures.back in
+    let b = given_back_all (eyes g.H.Store.Store.history g.H.Store.Device.Device.history g.H.Store.Frozen.Frozen.content g.H.Store.Device.Device.name
+    g.H.Store.Frozen.Frozen.size g.H.Store.Watch.Watch.counts) g.H.Store.Device.Device.size (λ (kit : Kit _ _ _ _). g.H.Store.Store.history kit.store)
+    (faults_in g.H.Store.Watch.Watch.counts) (options_asked c.args.asked.now) (g.H.Shelf.files c.args.shelf.now) (g.H.Shelf.kit_faults c.args.shelf.now)
+    (g.H.Shelf.faults c.args.shelf.now) (g.H.Shelf.faults c.open_all.new.shelf) c.open_all.new.engines ks last c.in-Err-open_all.field-0.fault some opened
+    (kits_ended (eyes g.H.Store.Store.history g.H.Store.Device.Device.history g.H.Store.Frozen.Frozen.content g.H.Store.Device.Device.name
+    g.H.Store.Frozen.Frozen.size g.H.Store.Watch.Watch.counts) g.H.Store.Device.Device.size (λ (f : finished _ _ _ _). f.kit) (λ (f : finished _ _ _ _). f.outcome)
+    (λ (kit : Kit _ _ _ _). g.H.Store.Store.history kit.store) (faults_in g.H.Store.Watch.Watch.counts) c.open_all.new.engines c.close_all-closed.ensures.0
+    c.close_all-closed.ensures.3) back c.in-Err-open_all.ensures.not_given in
     rw (c.of-in-Err-open_all.ensures.fault, kits) b.judged
 
 pub returns-in-Err-open_all-clause-usage : goal.returns-in-Err-open_all-clause-usage
 returns-in-Err-open_all-clause-usage g c =
-    let ends = ends_unopened (Rose (g.H.Shelf.faults c.args.shelf.now) (g.H.Shelf.faults c.open_all.new.shelf)) (partition_at (length c.open_all.new.engines) c.options_asked-options.result.partitions) (length c.open_all.new.engines) c.in-Err-open_all.field-0.fault (λ (kit : Kit g.row.H-Store.Denot g.row.H-Store-Watch.Denot g.row.H-Store-Device.Denot g.row.H-Store-Frozen.Denot). IsGivenBack (partition_at (length c.open_all.new.engines) c.options_asked-options.result.partitions) (g.H.Shelf.files c.args.shelf.now (length c.open_all.new.engines)) (g.H.Shelf.kit_faults c.args.shelf.now (length c.open_all.new.engines)) c.in-Err-open_all.field-0.fault (g.H.Store.Store.history kit.store) (faults_in g.H.Store.Watch.Watch.counts kit)) c.in-Err-open_all.field-0.kit (λ kit b. b.of) c.in-Err-open_all.ensures.back c.in-Err-open_all.ensures.not_given in
+    let ends = ends_unopened (Rose (g.H.Shelf.faults c.args.shelf.now) (g.H.Shelf.faults c.open_all.new.shelf))
+    (partition_at (length c.open_all.new.engines) c.options_asked-options.result.partitions) (length c.open_all.new.engines) c.in-Err-open_all.field-0.fault
+    (λ (kit : Kit g.row.H-Store.Denot g.row.H-Store-Watch.Denot g.row.H-Store-Device.Denot g.row.H-Store-Frozen.Denot). IsGivenBack
+    (partition_at (length c.open_all.new.engines) c.options_asked-options.result.partitions) (g.H.Shelf.files c.args.shelf.now (length c.open_all.new.engines))
+    (g.H.Shelf.kit_faults c.args.shelf.now (length c.open_all.new.engines)) c.in-Err-open_all.field-0.fault (g.H.Store.Store.history kit.store)
+    (faults_in g.H.Store.Watch.Watch.counts kit)) c.in-Err-open_all.field-0.kit (λ kit b. b.of) c.in-Err-open_all.ensures.back
+    c.in-Err-open_all.ensures.not_given in
     rw c.of-in-Err-open_all.ensures.fault (no_usage c.in-Err-open_all.field-0.fault ends)
 
 pub returns-in-Err-open_all-clause-read : goal.returns-in-Err-open_all-clause-read
 returns-in-Err-open_all-clause-read g c =
-    let ends = ends_unopened (Rose (g.H.Shelf.faults c.args.shelf.now) (g.H.Shelf.faults c.open_all.new.shelf)) (partition_at (length c.open_all.new.engines) c.options_asked-options.result.partitions) (length c.open_all.new.engines) c.in-Err-open_all.field-0.fault (λ (kit : Kit g.row.H-Store.Denot g.row.H-Store-Watch.Denot g.row.H-Store-Device.Denot g.row.H-Store-Frozen.Denot). IsGivenBack (partition_at (length c.open_all.new.engines) c.options_asked-options.result.partitions) (g.H.Shelf.files c.args.shelf.now (length c.open_all.new.engines)) (g.H.Shelf.kit_faults c.args.shelf.now (length c.open_all.new.engines)) c.in-Err-open_all.field-0.fault (g.H.Store.Store.history kit.store) (faults_in g.H.Store.Watch.Watch.counts kit)) c.in-Err-open_all.field-0.kit (λ kit b. b.of) c.in-Err-open_all.ensures.back c.in-Err-open_all.ensures.not_given in
+    let ends = ends_unopened (Rose (g.H.Shelf.faults c.args.shelf.now) (g.H.Shelf.faults c.open_all.new.shelf))
+    (partition_at (length c.open_all.new.engines) c.options_asked-options.result.partitions) (length c.open_all.new.engines) c.in-Err-open_all.field-0.fault
+    (λ (kit : Kit g.row.H-Store.Denot g.row.H-Store-Watch.Denot g.row.H-Store-Device.Denot g.row.H-Store-Frozen.Denot). IsGivenBack
+    (partition_at (length c.open_all.new.engines) c.options_asked-options.result.partitions) (g.H.Shelf.files c.args.shelf.now (length c.open_all.new.engines))
+    (g.H.Shelf.kit_faults c.args.shelf.now (length c.open_all.new.engines)) c.in-Err-open_all.field-0.fault (g.H.Store.Store.history kit.store)
+    (faults_in g.H.Store.Watch.Watch.counts kit)) c.in-Err-open_all.field-0.kit (λ kit b. b.of) c.in-Err-open_all.ensures.back
+    c.in-Err-open_all.ensures.not_given in
     rw c.of-in-Err-open_all.ensures.fault (no_read c.in-Err-open_all.field-0.fault ends)
 
 pub returns-in-Err-open_all-clause-write : goal.returns-in-Err-open_all-clause-write
 returns-in-Err-open_all-clause-write g c =
-    let ends = ends_unopened (Rose (g.H.Shelf.faults c.args.shelf.now) (g.H.Shelf.faults c.open_all.new.shelf)) (partition_at (length c.open_all.new.engines) c.options_asked-options.result.partitions) (length c.open_all.new.engines) c.in-Err-open_all.field-0.fault (λ (kit : Kit g.row.H-Store.Denot g.row.H-Store-Watch.Denot g.row.H-Store-Device.Denot g.row.H-Store-Frozen.Denot). IsGivenBack (partition_at (length c.open_all.new.engines) c.options_asked-options.result.partitions) (g.H.Shelf.files c.args.shelf.now (length c.open_all.new.engines)) (g.H.Shelf.kit_faults c.args.shelf.now (length c.open_all.new.engines)) c.in-Err-open_all.field-0.fault (g.H.Store.Store.history kit.store) (faults_in g.H.Store.Watch.Watch.counts kit)) c.in-Err-open_all.field-0.kit (λ kit b. b.of) c.in-Err-open_all.ensures.back c.in-Err-open_all.ensures.not_given in
+    let ends = ends_unopened (Rose (g.H.Shelf.faults c.args.shelf.now) (g.H.Shelf.faults c.open_all.new.shelf))
+    (partition_at (length c.open_all.new.engines) c.options_asked-options.result.partitions) (length c.open_all.new.engines) c.in-Err-open_all.field-0.fault
+    (λ (kit : Kit g.row.H-Store.Denot g.row.H-Store-Watch.Denot g.row.H-Store-Device.Denot g.row.H-Store-Frozen.Denot). IsGivenBack
+    (partition_at (length c.open_all.new.engines) c.options_asked-options.result.partitions) (g.H.Shelf.files c.args.shelf.now (length c.open_all.new.engines))
+    (g.H.Shelf.kit_faults c.args.shelf.now (length c.open_all.new.engines)) c.in-Err-open_all.field-0.fault (g.H.Store.Store.history kit.store)
+    (faults_in g.H.Store.Watch.Watch.counts kit)) c.in-Err-open_all.field-0.kit (λ kit b. b.of) c.in-Err-open_all.ensures.back
+    c.in-Err-open_all.ensures.not_given in
     rw c.of-in-Err-open_all.ensures.fault (no_write c.in-Err-open_all.field-0.fault ends)
 
 pub returns-in-Err-open_all-clause-layout : goal.returns-in-Err-open_all-clause-layout
@@ -253,10 +420,22 @@ returns-in-Err-open_all-clause-spent g c =
     let last = c.in-Err-open_all.field-0.kit in
     let same = c.close_all-closed.ensures.1 ∙ ap (λ more. ks ++ more) c.with_kit.ensures.items in
     let kits = ap (λ kits. kits.items) c.of-in-Err-open_all.ensures.kits ∙ same in
-    let opened = subst (λ o. AreOpened (eyes g.H.Store.Store.history g.H.Store.Device.Device.history g.H.Store.Frozen.Frozen.content g.H.Store.Device.Device.name g.H.Store.Frozen.Frozen.size g.H.Store.Watch.Watch.counts) o (g.H.Shelf.files c.args.shelf.now) (g.H.Shelf.kit_faults c.args.shelf.now) c.open_all.new.engines) c.options_asked-options.ensures c.open_all.ensures.opened in
+    let opened = subst (λ o. AreOpened (eyes g.H.Store.Store.history g.H.Store.Device.Device.history g.H.Store.Frozen.Frozen.content g.H.Store.Device.Device.name
+    g.H.Store.Frozen.Frozen.size g.H.Store.Watch.Watch.counts) o (g.H.Shelf.files c.args.shelf.now) (g.H.Shelf.kit_faults c.args.shelf.now) c.open_all.new.engines)
+    c.options_asked-options.ensures c.open_all.ensures.opened in
     let some : length c.open_all.new.engines < (options_asked c.args.asked.now).partitions = subst (λ (o : Options). length c.open_all.new.engines < o.partitions) c.options_asked-options.ensures c.in-Err-open_all.ensures.some in
-    let back = subst (λ (o : Options). IfSome last (λ kit. IsGivenBack (partition_at (length c.open_all.new.engines) o.partitions) (g.H.Shelf.files c.args.shelf.now (length c.open_all.new.engines)) (g.H.Shelf.kit_faults c.args.shelf.now (length c.open_all.new.engines)) c.in-Err-open_all.field-0.fault (g.H.Store.Store.history kit.store) (faults_in g.H.Store.Watch.Watch.counts kit))) c.options_asked-options.ensures c.in-Err-open_all.ensures.back in
-    let b = given_back_all (eyes g.H.Store.Store.history g.H.Store.Device.Device.history g.H.Store.Frozen.Frozen.content g.H.Store.Device.Device.name g.H.Store.Frozen.Frozen.size g.H.Store.Watch.Watch.counts) g.H.Store.Device.Device.size (λ (kit : Kit _ _ _ _). g.H.Store.Store.history kit.store) (faults_in g.H.Store.Watch.Watch.counts) (options_asked c.args.asked.now) (g.H.Shelf.files c.args.shelf.now) (g.H.Shelf.kit_faults c.args.shelf.now) (g.H.Shelf.faults c.args.shelf.now) (g.H.Shelf.faults c.open_all.new.shelf) c.open_all.new.engines ks last c.in-Err-open_all.field-0.fault some opened (kits_ended (eyes g.H.Store.Store.history g.H.Store.Device.Device.history g.H.Store.Frozen.Frozen.content g.H.Store.Device.Device.name g.H.Store.Frozen.Frozen.size g.H.Store.Watch.Watch.counts) g.H.Store.Device.Device.size (λ (f : finished _ _ _ _). f.kit) (λ (f : finished _ _ _ _). f.outcome) (λ (kit : Kit _ _ _ _). g.H.Store.Store.history kit.store) (faults_in g.H.Store.Watch.Watch.counts) c.open_all.new.engines c.close_all-closed.ensures.0 c.close_all-closed.ensures.3) back c.in-Err-open_all.ensures.not_given in
+    let back = subst (λ (o : Options). IfSome last (λ kit. IsGivenBack (partition_at (length c.open_all.new.engines) o.partitions)
+    (g.H.Shelf.files c.args.shelf.now (length c.open_all.new.engines)) (g.H.Shelf.kit_faults c.args.shelf.now (length c.open_all.new.engines))
+    c.in-Err-open_all.field-0.fault (g.H.Store.Store.history kit.store) (faults_in g.H.Store.Watch.Watch.counts kit))) c.options_asked-options.ensures
+    c.in-Err-open_all.ensures.back in
+    let b = given_back_all (eyes g.H.Store.Store.history g.H.Store.Device.Device.history g.H.Store.Frozen.Frozen.content g.H.Store.Device.Device.name
+    g.H.Store.Frozen.Frozen.size g.H.Store.Watch.Watch.counts) g.H.Store.Device.Device.size (λ (kit : Kit _ _ _ _). g.H.Store.Store.history kit.store)
+    (faults_in g.H.Store.Watch.Watch.counts) (options_asked c.args.asked.now) (g.H.Shelf.files c.args.shelf.now) (g.H.Shelf.kit_faults c.args.shelf.now)
+    (g.H.Shelf.faults c.args.shelf.now) (g.H.Shelf.faults c.open_all.new.shelf) c.open_all.new.engines ks last c.in-Err-open_all.field-0.fault some opened
+    (kits_ended (eyes g.H.Store.Store.history g.H.Store.Device.Device.history g.H.Store.Frozen.Frozen.content g.H.Store.Device.Device.name
+    g.H.Store.Frozen.Frozen.size g.H.Store.Watch.Watch.counts) g.H.Store.Device.Device.size (λ (f : finished _ _ _ _). f.kit) (λ (f : finished _ _ _ _). f.outcome)
+    (λ (kit : Kit _ _ _ _). g.H.Store.Store.history kit.store) (faults_in g.H.Store.Watch.Watch.counts) c.open_all.new.engines c.close_all-closed.ensures.0
+    c.close_all-closed.ensures.3) back c.in-Err-open_all.ensures.not_given in
     rw (c.of-in-Err-open_all.ensures.fault, kits) (λ is. inr (b.spent (cc)))
 
 pub returns-in-Err-new-clause-ran : goal.returns-in-Err-new-clause-ran
@@ -287,5 +466,11 @@ close_all-closed-requires-clause-room g c κs within =
 
 pub close_all-closed-requires-clause-readers : goal.close_all-closed-requires-clause-readers
 close_all-closed-requires-clause-readers g c κs within =
-    let begun = all_begun (eyes g.H.Store.Store.history g.H.Store.Device.Device.history g.H.Store.Frozen.Frozen.content g.H.Store.Device.Device.name g.H.Store.Frozen.Frozen.size g.H.Store.Watch.Watch.counts) (λ (kit : Kit g.row.H-Store.Denot g.row.H-Store-Watch.Denot g.row.H-Store-Device.Denot g.row.H-Store-Frozen.Denot). g.H.Store.Store.history kit.store) (faults_in g.H.Store.Watch.Watch.counts) (options_asked c.args.asked.now) (g.H.Shelf.files c.args.shelf.now) (g.H.Shelf.kit_faults c.args.shelf.now) c.open_all.new.engines (subst (λ o. AreOpened (eyes g.H.Store.Store.history g.H.Store.Device.Device.history g.H.Store.Frozen.Frozen.content g.H.Store.Device.Device.name g.H.Store.Frozen.Frozen.size g.H.Store.Watch.Watch.counts) o (g.H.Shelf.files c.args.shelf.now) (g.H.Shelf.kit_faults c.args.shelf.now) c.open_all.new.engines) c.options_asked-options.ensures c.open_all.ensures.opened) in
+    let begun = all_begun (eyes g.H.Store.Store.history g.H.Store.Device.Device.history g.H.Store.Frozen.Frozen.content g.H.Store.Device.Device.name
+    g.H.Store.Frozen.Frozen.size g.H.Store.Watch.Watch.counts) (λ
+    (kit : Kit g.row.H-Store.Denot g.row.H-Store-Watch.Denot g.row.H-Store-Device.Denot g.row.H-Store-Frozen.Denot). g.H.Store.Store.history kit.store)
+    (faults_in g.H.Store.Watch.Watch.counts) (options_asked c.args.asked.now) (g.H.Shelf.files c.args.shelf.now) (g.H.Shelf.kit_faults c.args.shelf.now)
+    c.open_all.new.engines (subst (λ o. AreOpened (eyes g.H.Store.Store.history g.H.Store.Device.Device.history g.H.Store.Frozen.Frozen.content
+    g.H.Store.Device.Device.name g.H.Store.Frozen.Frozen.size g.H.Store.Watch.Watch.counts) o (g.H.Shelf.files c.args.shelf.now)
+    (g.H.Shelf.kit_faults c.args.shelf.now) c.open_all.new.engines) c.options_asked-options.ensures c.open_all.ensures.opened) in
     readers_home c.open_all.new.engines (unwritten_all (eyes g.H.Store.Store.history g.H.Store.Device.Device.history g.H.Store.Frozen.Frozen.content g.H.Store.Device.Device.name g.H.Store.Frozen.Frozen.size g.H.Store.Watch.Watch.counts) (options_asked c.args.asked.now) c.open_all.new.engines begun)

@@ -26,11 +26,15 @@ use Rattle.tc_server.proofs.server.serve_over.Goals as goal
 
 pub answer_over-partitions-requires-clause-works : goal.answer_over-partitions-requires-clause-works
 answer_over-partitions-requires-clause-works g c κs within =
-    begins_asked (eyes g.S.Store.history g.S.Device.Device.history g.S.Frozen.Frozen.content g.S.Device.Device.name g.S.Frozen.Frozen.size g.S.Watch.Watch.counts) (options_asked c.args.asked.now) c.args.engines c.of-partitions.result c.of-partitions.ensures c.requires.all c.requires.partitions.0 c.requires.partitions.1 c.requires.begun
+    begins_asked (eyes g.S.Store.history g.S.Device.Device.history g.S.Frozen.Frozen.content g.S.Device.Device.name g.S.Frozen.Frozen.size g.S.Watch.Watch.counts)
+    (options_asked c.args.asked.now) c.args.engines c.of-partitions.result c.of-partitions.ensures c.requires.all c.requires.partitions.0
+    c.requires.partitions.1 c.requires.begun
 
 pub answer_over-partitions-requires-clause-unwritten : goal.answer_over-partitions-requires-clause-unwritten
 answer_over-partitions-requires-clause-unwritten g c κs within =
-    subst (λ (p : Partitions _ _ _ _ _). AreUnwritten p.engines) (sym c.of-partitions.ensures) (unwritten_all (eyes g.S.Store.history g.S.Device.Device.history g.S.Frozen.Frozen.content g.S.Device.Device.name g.S.Frozen.Frozen.size g.S.Watch.Watch.counts) (options_asked c.args.asked.now) c.args.engines c.requires.begun)
+    subst (λ (p : Partitions _ _ _ _ _). AreUnwritten p.engines) (sym c.of-partitions.ensures)
+    (unwritten_all (eyes g.S.Store.history g.S.Device.Device.history g.S.Frozen.Frozen.content g.S.Device.Device.name g.S.Frozen.Frozen.size
+    g.S.Watch.Watch.counts) (options_asked c.args.asked.now) c.args.engines c.requires.begun)
 
 pub close_all-closed-requires-clause-readers : goal.close_all-closed-requires-clause-readers
 close_all-closed-requires-clause-readers g c κs within = subst (All (λ e. is_some e.engine.part.reader ≡ true)) (sym c.into_engines.ensures) c.answer_over-partitions.ensures.readers
@@ -62,19 +66,35 @@ returns-clause-ran g c =
     let ended = c.close_all-closed.ensures.0 in
     let items = c.close_all-closed.ensures.1 ∙ ap (λ more. map (λ (f : finished _ _ _ _). f.kit) ended ++ more) c.requires.none ∙ append-nil (map (λ (f : finished _ _ _ _). f.kit) ended) in
     let same = c.into_engines.ensures in
-    let closed = subst (λ es. AreClosed (eyes g.S.Store.history g.S.Device.Device.history g.S.Frozen.Frozen.content g.S.Device.Device.name g.S.Frozen.Frozen.size g.S.Watch.Watch.counts) g.S.Device.Device.size (λ (f : finished _ _ _ _). f.outcome) (λ (f : finished _ _ _ _). g.S.Store.history f.kit.store) (λ (f : finished _ _ _ _). faults_in g.S.Watch.Watch.counts f.kit) es ended) same c.close_all-closed.ensures.3 in
+    let closed = subst (λ es. AreClosed (eyes g.S.Store.history g.S.Device.Device.history g.S.Frozen.Frozen.content g.S.Device.Device.name g.S.Frozen.Frozen.size
+    g.S.Watch.Watch.counts) g.S.Device.Device.size (λ (f : finished _ _ _ _). f.outcome) (λ (f : finished _ _ _ _). g.S.Store.history f.kit.store)
+    (λ (f : finished _ _ _ _). faults_in g.S.Watch.Watch.counts f.kit) es ended) same c.close_all-closed.ensures.3 in
     let laws = g.met.S.Device.Device g.world.𝓛 g.world.𝓜 g.world.𝓡 ((λ s x. x), (λ x. x), (λ x. x), λ x. x) in
     let fault = c.fault_of.ensures ∙ ap (fault_behind c.answer_over-partitions.result.1) c.close_all-closed.ensures.2 in
     rw (fault, items) (λ first files begins stands.
-    subst (λ kits. AskedOver c.args.asked.now (fault_behind c.answer_over-partitions.result.1 (least_fault 0 (map (λ (f : finished _ _ _ _). f.outcome) ended))) first files (g.I.Source.left c.args.source.now) (g.I.Source.left c.answer_over-partitions.new.source) (g.O.Sink.taken c.args.sink.now) (g.O.Sink.taken c.answer_over-partitions.new.sink) kits) (sym (ended_stores g.S.Store.history ended))
-    (closed_over (HoldsAt (eyes g.S.Store.history g.S.Device.Device.history g.S.Frozen.Frozen.content g.S.Device.Device.name g.S.Frozen.Frozen.size g.S.Watch.Watch.counts)) (KeepsAt (eyes g.S.Store.history g.S.Device.Device.history g.S.Frozen.Frozen.content g.S.Device.Device.name g.S.Frozen.Frozen.size g.S.Watch.Watch.counts)) (Rests g.S.Device.Device.size k') (IsSpent g.S.Store.history g.S.Device.Device.history g.S.Frozen.Frozen.content) c.args.asked.now c.answer_over-partitions.result.1 (least_fault 0 (map (λ (f : finished _ _ _ _). f.outcome) ended)) first files options.window (g.I.Source.left c.args.source.now) (g.I.Source.left c.answer_over-partitions.new.source) (g.O.Sink.taken c.args.sink.now) (g.O.Sink.taken c.answer_over-partitions.new.sink) k' (map (λ (f : finished _ _ _ _). g.S.Store.history f.kit.store) ended)
+    subst (λ kits. AskedOver c.args.asked.now (fault_behind c.answer_over-partitions.result.1 (least_fault 0 (map (λ (f : finished _ _ _ _). f.outcome) ended))) first
+    files (g.I.Source.left c.args.source.now) (g.I.Source.left c.answer_over-partitions.new.source) (g.O.Sink.taken c.args.sink.now)
+    (g.O.Sink.taken c.answer_over-partitions.new.sink) kits) (sym (ended_stores g.S.Store.history ended))
+    (closed_over (HoldsAt (eyes g.S.Store.history g.S.Device.Device.history g.S.Frozen.Frozen.content g.S.Device.Device.name g.S.Frozen.Frozen.size
+    g.S.Watch.Watch.counts)) (KeepsAt (eyes g.S.Store.history g.S.Device.Device.history g.S.Frozen.Frozen.content g.S.Device.Device.name g.S.Frozen.Frozen.size
+    g.S.Watch.Watch.counts)) (Rests g.S.Device.Device.size k') (IsSpent g.S.Store.history g.S.Device.Device.history g.S.Frozen.Frozen.content) c.args.asked.now
+    c.answer_over-partitions.result.1 (least_fault 0 (map (λ (f : finished _ _ _ _). f.outcome) ended)) first files options.window
+    (g.I.Source.left c.args.source.now) (g.I.Source.left c.answer_over-partitions.new.source) (g.O.Sink.taken c.args.sink.now)
+    (g.O.Sink.taken c.answer_over-partitions.new.sink) k' (map (λ (f : finished _ _ _ _). g.S.Store.history f.kit.store) ended)
     refl
-    (kits_left (eyes g.S.Store.history g.S.Device.Device.history g.S.Frozen.Frozen.content g.S.Device.Device.name g.S.Frozen.Frozen.size g.S.Watch.Watch.counts) g.S.Device.Device.size (λ (f : finished _ _ _ _). f.outcome) (λ (f : finished _ _ _ _). g.S.Store.history f.kit.store) (λ (f : finished _ _ _ _). faults_in g.S.Watch.Watch.counts f.kit) k' ended closed options c.args.engines k (λ e. laws.told_size e.engine.part.log.device) begun c.requires.all c.requires.merge.0 c.requires.merge.1 c.requires.memory c.requires.begun c.answer_over-partitions.ensures.settings)
+    (kits_left (eyes g.S.Store.history g.S.Device.Device.history g.S.Frozen.Frozen.content g.S.Device.Device.name g.S.Frozen.Frozen.size g.S.Watch.Watch.counts)
+    g.S.Device.Device.size (λ (f : finished _ _ _ _). f.outcome) (λ (f : finished _ _ _ _). g.S.Store.history f.kit.store)
+    (λ (f : finished _ _ _ _). faults_in g.S.Watch.Watch.counts f.kit) k' ended closed options c.args.engines k (λ e. laws.told_size e.engine.part.log.device)
+    begun c.requires.all c.requires.merge.0 c.requires.merge.1 c.requires.memory c.requires.begun c.answer_over-partitions.ensures.settings)
     (λ none. ok_where c.answer_over-partitions.result.1 none c.answer_over-partitions.ensures.rests)
     (as_many_parts (eyes g.S.Store.history g.S.Device.Device.history g.S.Frozen.Frozen.content g.S.Device.Device.name g.S.Frozen.Frozen.size g.S.Watch.Watch.counts) options.partitions c.args.engines first c.requires.all stands)
     c.answer_over-partitions.ensures.cause.kind
-    (ended_of (eyes g.S.Store.history g.S.Device.Device.history g.S.Frozen.Frozen.content g.S.Device.Device.name g.S.Frozen.Frozen.size g.S.Watch.Watch.counts) g.S.Device.Device.size (λ (f : finished _ _ _ _). f.outcome) (λ (f : finished _ _ _ _). g.S.Store.history f.kit.store) (λ (f : finished _ _ _ _). faults_in g.S.Watch.Watch.counts f.kit) k' ended closed)
-    (λ rests v many at. ended_sound (eyes g.S.Store.history g.S.Device.Device.history g.S.Frozen.Frozen.content g.S.Device.Device.name g.S.Frozen.Frozen.size g.S.Watch.Watch.counts) g.S.Device.Device.size (λ (f : finished _ _ _ _). f.outcome) (λ (f : finished _ _ _ _). g.S.Store.history f.kit.store) (λ (f : finished _ _ _ _). faults_in g.S.Watch.Watch.counts f.kit) k' ended closed rests v at)
+    (ended_of (eyes g.S.Store.history g.S.Device.Device.history g.S.Frozen.Frozen.content g.S.Device.Device.name g.S.Frozen.Frozen.size g.S.Watch.Watch.counts)
+    g.S.Device.Device.size (λ (f : finished _ _ _ _). f.outcome) (λ (f : finished _ _ _ _). g.S.Store.history f.kit.store)
+    (λ (f : finished _ _ _ _). faults_in g.S.Watch.Watch.counts f.kit) k' ended closed)
+    (λ rests v many at. ended_sound (eyes g.S.Store.history g.S.Device.Device.history g.S.Frozen.Frozen.content g.S.Device.Device.name g.S.Frozen.Frozen.size
+    g.S.Watch.Watch.counts) g.S.Device.Device.size (λ (f : finished _ _ _ _). f.outcome) (λ (f : finished _ _ _ _). g.S.Store.history f.kit.store)
+    (λ (f : finished _ _ _ _). faults_in g.S.Watch.Watch.counts f.kit) k' ended closed rests v at)
     (c.answer_over-partitions.ensures.ran first begins (begins_held (eyes g.S.Store.history g.S.Device.Device.history g.S.Frozen.Frozen.content g.S.Device.Device.name g.S.Frozen.Frozen.size g.S.Watch.Watch.counts) c.args.engines k first begun stands))))
 
 pub returns-clause-prompt : goal.returns-clause-prompt
@@ -91,7 +111,9 @@ returns-clause-kits g c =
     let ended = c.close_all-closed.ensures.0 in
     let items = c.close_all-closed.ensures.1 ∙ ap (λ more. map (λ (f : finished _ _ _ _). f.kit) ended ++ more) c.requires.none ∙ append-nil (map (λ (f : finished _ _ _ _). f.kit) ended) in
     let same = c.into_engines.ensures in
-    let closed = subst (λ es. AreClosed (eyes g.S.Store.history g.S.Device.Device.history g.S.Frozen.Frozen.content g.S.Device.Device.name g.S.Frozen.Frozen.size g.S.Watch.Watch.counts) g.S.Device.Device.size (λ (f : finished _ _ _ _). f.outcome) (λ (f : finished _ _ _ _). g.S.Store.history f.kit.store) (λ (f : finished _ _ _ _). faults_in g.S.Watch.Watch.counts f.kit) es ended) same c.close_all-closed.ensures.3 in
+    let closed = subst (λ es. AreClosed (eyes g.S.Store.history g.S.Device.Device.history g.S.Frozen.Frozen.content g.S.Device.Device.name g.S.Frozen.Frozen.size
+    g.S.Watch.Watch.counts) g.S.Device.Device.size (λ (f : finished _ _ _ _). f.outcome) (λ (f : finished _ _ _ _). g.S.Store.history f.kit.store)
+    (λ (f : finished _ _ _ _). faults_in g.S.Watch.Watch.counts f.kit) es ended) same c.close_all-closed.ensures.3 in
     rw items (length-map ended (λ (f : finished _ _ _ _). f.kit) ∙ sym (at_each-length (λ p e f. _) 0 k'.engines ended closed) ∙ as_many_engines k k' c.answer_over-partitions.ensures.settings ∙ ap (λ (p : Partitions _ _ _ _ _). length p.engines) begun ∙ c.requires.all)
 
 pub returns-clause-kind : goal.returns-clause-kind
@@ -102,8 +124,13 @@ returns-clause-kind g c =
     let ended = c.close_all-closed.ensures.0 in
     let items = c.close_all-closed.ensures.1 ∙ ap (λ more. map (λ (f : finished _ _ _ _). f.kit) ended ++ more) c.requires.none ∙ append-nil (map (λ (f : finished _ _ _ _). f.kit) ended) in
     let same = c.into_engines.ensures in
-    let closed = subst (λ es. AreClosed (eyes g.S.Store.history g.S.Device.Device.history g.S.Frozen.Frozen.content g.S.Device.Device.name g.S.Frozen.Frozen.size g.S.Watch.Watch.counts) g.S.Device.Device.size (λ (f : finished _ _ _ _). f.outcome) (λ (f : finished _ _ _ _). g.S.Store.history f.kit.store) (λ (f : finished _ _ _ _). faults_in g.S.Watch.Watch.counts f.kit) es ended) same c.close_all-closed.ensures.3 in
-    rw (c.fault_of.ensures, c.close_all-closed.ensures.2) (behind_so IsOfRun c.answer_over-partitions.result.1 _ c.answer_over-partitions.ensures.cause.kind (λ none. ended_so IsOfRun _ job_of_run (ended_of (eyes g.S.Store.history g.S.Device.Device.history g.S.Frozen.Frozen.content g.S.Device.Device.name g.S.Frozen.Frozen.size g.S.Watch.Watch.counts) g.S.Device.Device.size (λ (f : finished _ _ _ _). f.outcome) (λ (f : finished _ _ _ _). g.S.Store.history f.kit.store) (λ (f : finished _ _ _ _). faults_in g.S.Watch.Watch.counts f.kit) k' ended closed)))
+    let closed = subst (λ es. AreClosed (eyes g.S.Store.history g.S.Device.Device.history g.S.Frozen.Frozen.content g.S.Device.Device.name g.S.Frozen.Frozen.size
+    g.S.Watch.Watch.counts) g.S.Device.Device.size (λ (f : finished _ _ _ _). f.outcome) (λ (f : finished _ _ _ _). g.S.Store.history f.kit.store)
+    (λ (f : finished _ _ _ _). faults_in g.S.Watch.Watch.counts f.kit) es ended) same c.close_all-closed.ensures.3 in
+    rw (c.fault_of.ensures, c.close_all-closed.ensures.2) (behind_so IsOfRun c.answer_over-partitions.result.1 _ c.answer_over-partitions.ensures.cause.kind
+    (λ none. ended_so IsOfRun _ job_of_run (ended_of (eyes g.S.Store.history g.S.Device.Device.history g.S.Frozen.Frozen.content g.S.Device.Device.name
+    g.S.Frozen.Frozen.size g.S.Watch.Watch.counts) g.S.Device.Device.size (λ (f : finished _ _ _ _). f.outcome)
+    (λ (f : finished _ _ _ _). g.S.Store.history f.kit.store) (λ (f : finished _ _ _ _). faults_in g.S.Watch.Watch.counts f.kit) k' ended closed)))
 
 pub returns-clause-read : goal.returns-clause-read
 returns-clause-read g c =
@@ -113,8 +140,15 @@ returns-clause-read g c =
     let ended = c.close_all-closed.ensures.0 in
     let items = c.close_all-closed.ensures.1 ∙ ap (λ more. map (λ (f : finished _ _ _ _). f.kit) ended ++ more) c.requires.none ∙ append-nil (map (λ (f : finished _ _ _ _). f.kit) ended) in
     let same = c.into_engines.ensures in
-    let closed = subst (λ es. AreClosed (eyes g.S.Store.history g.S.Device.Device.history g.S.Frozen.Frozen.content g.S.Device.Device.name g.S.Frozen.Frozen.size g.S.Watch.Watch.counts) g.S.Device.Device.size (λ (f : finished _ _ _ _). f.outcome) (λ (f : finished _ _ _ _). g.S.Store.history f.kit.store) (λ (f : finished _ _ _ _). faults_in g.S.Watch.Watch.counts f.kit) es ended) same c.close_all-closed.ensures.3 in
-    rw (c.fault_of.ensures, c.close_all-closed.ensures.2) (behind_so (λ f. f ≡ Read → Rose (g.I.Source.faults c.args.source.now) (g.I.Source.faults c.answer_over-partitions.new.source)) c.answer_over-partitions.result.1 _ c.answer_over-partitions.ensures.cause.read (λ none. ended_so _ _ (λ f of. never_read f of) (ended_of (eyes g.S.Store.history g.S.Device.Device.history g.S.Frozen.Frozen.content g.S.Device.Device.name g.S.Frozen.Frozen.size g.S.Watch.Watch.counts) g.S.Device.Device.size (λ (f : finished _ _ _ _). f.outcome) (λ (f : finished _ _ _ _). g.S.Store.history f.kit.store) (λ (f : finished _ _ _ _). faults_in g.S.Watch.Watch.counts f.kit) k' ended closed)))
+    let closed = subst (λ es. AreClosed (eyes g.S.Store.history g.S.Device.Device.history g.S.Frozen.Frozen.content g.S.Device.Device.name g.S.Frozen.Frozen.size
+    g.S.Watch.Watch.counts) g.S.Device.Device.size (λ (f : finished _ _ _ _). f.outcome) (λ (f : finished _ _ _ _). g.S.Store.history f.kit.store)
+    (λ (f : finished _ _ _ _). faults_in g.S.Watch.Watch.counts f.kit) es ended) same c.close_all-closed.ensures.3 in
+    rw (c.fault_of.ensures, c.close_all-closed.ensures.2) (behind_so
+    (λ f. f ≡ Read → Rose (g.I.Source.faults c.args.source.now) (g.I.Source.faults c.answer_over-partitions.new.source)) c.answer_over-partitions.result.1 _
+    c.answer_over-partitions.ensures.cause.read (λ none. ended_so _ _ (λ f of. never_read f of)
+    (ended_of (eyes g.S.Store.history g.S.Device.Device.history g.S.Frozen.Frozen.content g.S.Device.Device.name g.S.Frozen.Frozen.size g.S.Watch.Watch.counts)
+    g.S.Device.Device.size (λ (f : finished _ _ _ _). f.outcome) (λ (f : finished _ _ _ _). g.S.Store.history f.kit.store)
+    (λ (f : finished _ _ _ _). faults_in g.S.Watch.Watch.counts f.kit) k' ended closed)))
 
 pub returns-clause-write : goal.returns-clause-write
 returns-clause-write g c =
@@ -124,8 +158,15 @@ returns-clause-write g c =
     let ended = c.close_all-closed.ensures.0 in
     let items = c.close_all-closed.ensures.1 ∙ ap (λ more. map (λ (f : finished _ _ _ _). f.kit) ended ++ more) c.requires.none ∙ append-nil (map (λ (f : finished _ _ _ _). f.kit) ended) in
     let same = c.into_engines.ensures in
-    let closed = subst (λ es. AreClosed (eyes g.S.Store.history g.S.Device.Device.history g.S.Frozen.Frozen.content g.S.Device.Device.name g.S.Frozen.Frozen.size g.S.Watch.Watch.counts) g.S.Device.Device.size (λ (f : finished _ _ _ _). f.outcome) (λ (f : finished _ _ _ _). g.S.Store.history f.kit.store) (λ (f : finished _ _ _ _). faults_in g.S.Watch.Watch.counts f.kit) es ended) same c.close_all-closed.ensures.3 in
-    rw (c.fault_of.ensures, c.close_all-closed.ensures.2) (behind_so (λ f. IsWrite f → Rose (g.O.Sink.faults c.args.sink.now) (g.O.Sink.faults c.answer_over-partitions.new.sink)) c.answer_over-partitions.result.1 _ c.answer_over-partitions.ensures.cause.failed (λ none. ended_so _ _ (λ f of. never_write f of) (ended_of (eyes g.S.Store.history g.S.Device.Device.history g.S.Frozen.Frozen.content g.S.Device.Device.name g.S.Frozen.Frozen.size g.S.Watch.Watch.counts) g.S.Device.Device.size (λ (f : finished _ _ _ _). f.outcome) (λ (f : finished _ _ _ _). g.S.Store.history f.kit.store) (λ (f : finished _ _ _ _). faults_in g.S.Watch.Watch.counts f.kit) k' ended closed)))
+    let closed = subst (λ es. AreClosed (eyes g.S.Store.history g.S.Device.Device.history g.S.Frozen.Frozen.content g.S.Device.Device.name g.S.Frozen.Frozen.size
+    g.S.Watch.Watch.counts) g.S.Device.Device.size (λ (f : finished _ _ _ _). f.outcome) (λ (f : finished _ _ _ _). g.S.Store.history f.kit.store)
+    (λ (f : finished _ _ _ _). faults_in g.S.Watch.Watch.counts f.kit) es ended) same c.close_all-closed.ensures.3 in
+    rw (c.fault_of.ensures, c.close_all-closed.ensures.2) (behind_so
+    (λ f. IsWrite f → Rose (g.O.Sink.faults c.args.sink.now) (g.O.Sink.faults c.answer_over-partitions.new.sink)) c.answer_over-partitions.result.1 _
+    c.answer_over-partitions.ensures.cause.failed (λ none. ended_so _ _ (λ f of. never_write f of)
+    (ended_of (eyes g.S.Store.history g.S.Device.Device.history g.S.Frozen.Frozen.content g.S.Device.Device.name g.S.Frozen.Frozen.size g.S.Watch.Watch.counts)
+    g.S.Device.Device.size (λ (f : finished _ _ _ _). f.outcome) (λ (f : finished _ _ _ _). g.S.Store.history f.kit.store)
+    (λ (f : finished _ _ _ _). faults_in g.S.Watch.Watch.counts f.kit) k' ended closed)))
 
 pub returns-clause-counts : goal.returns-clause-counts
 returns-clause-counts g c =
@@ -135,9 +176,14 @@ returns-clause-counts g c =
     let ended = c.close_all-closed.ensures.0 in
     let items = c.close_all-closed.ensures.1 ∙ ap (λ more. map (λ (f : finished _ _ _ _). f.kit) ended ++ more) c.requires.none ∙ append-nil (map (λ (f : finished _ _ _ _). f.kit) ended) in
     let same = c.into_engines.ensures in
-    let closed = subst (λ es. AreClosed (eyes g.S.Store.history g.S.Device.Device.history g.S.Frozen.Frozen.content g.S.Device.Device.name g.S.Frozen.Frozen.size g.S.Watch.Watch.counts) g.S.Device.Device.size (λ (f : finished _ _ _ _). f.outcome) (λ (f : finished _ _ _ _). g.S.Store.history f.kit.store) (λ (f : finished _ _ _ _). faults_in g.S.Watch.Watch.counts f.kit) es ended) same c.close_all-closed.ensures.3 in
+    let closed = subst (λ es. AreClosed (eyes g.S.Store.history g.S.Device.Device.history g.S.Frozen.Frozen.content g.S.Device.Device.name g.S.Frozen.Frozen.size
+    g.S.Watch.Watch.counts) g.S.Device.Device.size (λ (f : finished _ _ _ _). f.outcome) (λ (f : finished _ _ _ _). g.S.Store.history f.kit.store)
+    (λ (f : finished _ _ _ _). faults_in g.S.Watch.Watch.counts f.kit) es ended) same c.close_all-closed.ensures.3 in
     rw items (at_each-reads (λ (f : finished _ _ _ _). f.kit) (λ q e kit. NoneFell (faults_at g.S.Watch.Watch.counts e) (faults_in g.S.Watch.Watch.counts kit)) 0 c.args.engines ended
-    (subst (λ (p : Partitions _ _ _ _ _). AtEach (λ q e f. NoneFell (faults_at g.S.Watch.Watch.counts e) ((λ (f : finished _ _ _ _). faults_in g.S.Watch.Watch.counts f.kit) f)) 0 p.engines ended) begun (counts_over g.S.Watch.Watch.counts (λ (f : finished _ _ _ _). faults_in g.S.Watch.Watch.counts f.kit) k k' ended c.answer_over-partitions.ensures.settings c.answer_over-partitions.ensures.cause.stayed (at_each-so (λ p e f. _) _ 0 k'.engines ended (λ p e f is. is.none_fell) closed))))
+    (subst (λ (p : Partitions _ _ _ _ _). AtEach (λ q e f. NoneFell (faults_at g.S.Watch.Watch.counts e)
+    ((λ (f : finished _ _ _ _). faults_in g.S.Watch.Watch.counts f.kit) f)) 0 p.engines ended) begun
+    (counts_over g.S.Watch.Watch.counts (λ (f : finished _ _ _ _). faults_in g.S.Watch.Watch.counts f.kit) k k' ended c.answer_over-partitions.ensures.settings
+    c.answer_over-partitions.ensures.cause.stayed (at_each-so (λ p e f. _) _ 0 k'.engines ended (λ p e f is. is.none_fell) closed))))
 
 pub returns-clause-disk : goal.returns-clause-disk
 returns-clause-disk g c =
@@ -147,14 +193,21 @@ returns-clause-disk g c =
     let ended = c.close_all-closed.ensures.0 in
     let items = c.close_all-closed.ensures.1 ∙ ap (λ more. map (λ (f : finished _ _ _ _). f.kit) ended ++ more) c.requires.none ∙ append-nil (map (λ (f : finished _ _ _ _). f.kit) ended) in
     let same = c.into_engines.ensures in
-    let closed = subst (λ es. AreClosed (eyes g.S.Store.history g.S.Device.Device.history g.S.Frozen.Frozen.content g.S.Device.Device.name g.S.Frozen.Frozen.size g.S.Watch.Watch.counts) g.S.Device.Device.size (λ (f : finished _ _ _ _). f.outcome) (λ (f : finished _ _ _ _). g.S.Store.history f.kit.store) (λ (f : finished _ _ _ _). faults_in g.S.Watch.Watch.counts f.kit) es ended) same c.close_all-closed.ensures.3 in
+    let closed = subst (λ es. AreClosed (eyes g.S.Store.history g.S.Device.Device.history g.S.Frozen.Frozen.content g.S.Device.Device.name g.S.Frozen.Frozen.size
+    g.S.Watch.Watch.counts) g.S.Device.Device.size (λ (f : finished _ _ _ _). f.outcome) (λ (f : finished _ _ _ _). g.S.Store.history f.kit.store)
+    (λ (f : finished _ _ _ _). faults_in g.S.Watch.Watch.counts f.kit) es ended) same c.close_all-closed.ensures.3 in
     let Rises : List (WithJobs _ _ _ _) → ℕ → Type 0 = λ es q. (q < length es) × AtEach (λ p e f. p ≡ q → OneRose (faults_at g.S.Watch.Watch.counts e) ((λ (f : finished _ _ _ _). faults_in g.S.Watch.Watch.counts f.kit) f)) 0 es ended in
     rw (c.fault_of.ensures, c.close_all-closed.ensures.2, items, ← c.requires.all)
     (disk_within (Rises c.args.engines) _ _ (λ q rises. (rises.0, at_each-reads (λ (f : finished _ _ _ _). f.kit) (λ p e kit. p ≡ q → OneRose (faults_at g.S.Watch.Watch.counts e) (faults_in g.S.Watch.Watch.counts kit)) 0 c.args.engines ended rises.1))
     (subst (λ (p : Partitions _ _ _ _ _). IfSome (fault_behind c.answer_over-partitions.result.1 (least_fault 0 (map (λ (f : finished _ _ _ _). f.outcome) ended))) (λ f. IfDisk f (Rises p.engines))) begun
     (behind_so (λ f. IfDisk f (Rises k.engines)) c.answer_over-partitions.result.1 _
-    (disk_over g.S.Watch.Watch.counts (λ (f : finished _ _ _ _). faults_in g.S.Watch.Watch.counts f.kit) k k' ended (fault_in c.answer_over-partitions.result.1) c.answer_over-partitions.ensures.settings c.answer_over-partitions.ensures.cause.disk (at_each-so (λ p e f. _) _ 0 k'.engines ended (λ p e f is. is.none_fell) closed))
-    (λ none. disk_ended (eyes g.S.Store.history g.S.Device.Device.history g.S.Frozen.Frozen.content g.S.Device.Device.name g.S.Frozen.Frozen.size g.S.Watch.Watch.counts) g.S.Device.Device.size (λ (f : finished _ _ _ _). f.outcome) (λ (f : finished _ _ _ _). g.S.Store.history f.kit.store) (λ (f : finished _ _ _ _). faults_in g.S.Watch.Watch.counts f.kit) k k' ended closed c.answer_over-partitions.ensures.settings c.answer_over-partitions.ensures.cause.stayed))))
+    (disk_over g.S.Watch.Watch.counts (λ (f : finished _ _ _ _). faults_in g.S.Watch.Watch.counts f.kit) k k' ended (fault_in c.answer_over-partitions.result.1)
+    c.answer_over-partitions.ensures.settings c.answer_over-partitions.ensures.cause.disk
+    (at_each-so (λ p e f. _) _ 0 k'.engines ended (λ p e f is. is.none_fell) closed))
+    (λ none. disk_ended (eyes g.S.Store.history g.S.Device.Device.history g.S.Frozen.Frozen.content g.S.Device.Device.name g.S.Frozen.Frozen.size
+    g.S.Watch.Watch.counts) g.S.Device.Device.size (λ (f : finished _ _ _ _). f.outcome) (λ (f : finished _ _ _ _). g.S.Store.history f.kit.store)
+    (λ (f : finished _ _ _ _). faults_in g.S.Watch.Watch.counts f.kit) k k' ended closed c.answer_over-partitions.ensures.settings
+    c.answer_over-partitions.ensures.cause.stayed))))
 
 pub returns-clause-damaged : goal.returns-clause-damaged
 returns-clause-damaged g c =
@@ -164,11 +217,15 @@ returns-clause-damaged g c =
     let ended = c.close_all-closed.ensures.0 in
     let items = c.close_all-closed.ensures.1 ∙ ap (λ more. map (λ (f : finished _ _ _ _). f.kit) ended ++ more) c.requires.none ∙ append-nil (map (λ (f : finished _ _ _ _). f.kit) ended) in
     let same = c.into_engines.ensures in
-    let closed = subst (λ es. AreClosed (eyes g.S.Store.history g.S.Device.Device.history g.S.Frozen.Frozen.content g.S.Device.Device.name g.S.Frozen.Frozen.size g.S.Watch.Watch.counts) g.S.Device.Device.size (λ (f : finished _ _ _ _). f.outcome) (λ (f : finished _ _ _ _). g.S.Store.history f.kit.store) (λ (f : finished _ _ _ _). faults_in g.S.Watch.Watch.counts f.kit) es ended) same c.close_all-closed.ensures.3 in
+    let closed = subst (λ es. AreClosed (eyes g.S.Store.history g.S.Device.Device.history g.S.Frozen.Frozen.content g.S.Device.Device.name g.S.Frozen.Frozen.size
+    g.S.Watch.Watch.counts) g.S.Device.Device.size (λ (f : finished _ _ _ _). f.outcome) (λ (f : finished _ _ _ _). g.S.Store.history f.kit.store)
+    (λ (f : finished _ _ _ _). faults_in g.S.Watch.Watch.counts f.kit) es ended) same c.close_all-closed.ensures.3 in
     rw (c.fault_of.ensures, c.close_all-closed.ensures.2, ← c.requires.all) (subst (λ (p : Partitions _ _ _ _ _). IfSome (fault_behind c.answer_over-partitions.result.1 (least_fault 0 (map (λ (f : finished _ _ _ _). f.outcome) ended))) (λ f. IfDamaged f (λ q. q < length p.engines))) begun
     (behind_so (λ f. IfDamaged f (λ q. q < length k.engines)) c.answer_over-partitions.result.1 _
     (damaged_over g.S.Watch.Watch.counts k k' (fault_in c.answer_over-partitions.result.1) c.answer_over-partitions.ensures.settings c.answer_over-partitions.ensures.cause.damaged)
-    (λ none. damaged_ended (eyes g.S.Store.history g.S.Device.Device.history g.S.Frozen.Frozen.content g.S.Device.Device.name g.S.Frozen.Frozen.size g.S.Watch.Watch.counts) g.S.Device.Device.size (λ (f : finished _ _ _ _). f.outcome) (λ (f : finished _ _ _ _). g.S.Store.history f.kit.store) (λ (f : finished _ _ _ _). faults_in g.S.Watch.Watch.counts f.kit) k k' ended closed c.answer_over-partitions.ensures.settings)))
+    (λ none. damaged_ended (eyes g.S.Store.history g.S.Device.Device.history g.S.Frozen.Frozen.content g.S.Device.Device.name g.S.Frozen.Frozen.size
+    g.S.Watch.Watch.counts) g.S.Device.Device.size (λ (f : finished _ _ _ _). f.outcome) (λ (f : finished _ _ _ _). g.S.Store.history f.kit.store)
+    (λ (f : finished _ _ _ _). faults_in g.S.Watch.Watch.counts f.kit) k k' ended closed c.answer_over-partitions.ensures.settings)))
 
 pub returns-clause-spent : goal.returns-clause-spent
 returns-clause-spent g c =
@@ -178,6 +235,14 @@ returns-clause-spent g c =
     let ended = c.close_all-closed.ensures.0 in
     let items = c.close_all-closed.ensures.1 ∙ ap (λ more. map (λ (f : finished _ _ _ _). f.kit) ended ++ more) c.requires.none ∙ append-nil (map (λ (f : finished _ _ _ _). f.kit) ended) in
     let same = c.into_engines.ensures in
-    let closed = subst (λ es. AreClosed (eyes g.S.Store.history g.S.Device.Device.history g.S.Frozen.Frozen.content g.S.Device.Device.name g.S.Frozen.Frozen.size g.S.Watch.Watch.counts) g.S.Device.Device.size (λ (f : finished _ _ _ _). f.outcome) (λ (f : finished _ _ _ _). g.S.Store.history f.kit.store) (λ (f : finished _ _ _ _). faults_in g.S.Watch.Watch.counts f.kit) es ended) same c.close_all-closed.ensures.3 in
-    rw (c.fault_of.ensures, c.close_all-closed.ensures.2, items) (spent_behind c.answer_over-partitions.result.1 _ (ended_of (eyes g.S.Store.history g.S.Device.Device.history g.S.Frozen.Frozen.content g.S.Device.Device.name g.S.Frozen.Frozen.size g.S.Watch.Watch.counts) g.S.Device.Device.size (λ (f : finished _ _ _ _). f.outcome) (λ (f : finished _ _ _ _). g.S.Store.history f.kit.store) (λ (f : finished _ _ _ _). faults_in g.S.Watch.Watch.counts f.kit) k' ended closed)
-    (λ is. ⊎_elim (λ input. inl input) (λ last. inr (some-map (λ (f : finished _ _ _ _). f.kit) (λ p kit. IfTold (g.S.Store.history kit.store) HasLastGeneration) 0 ended (last_left (eyes g.S.Store.history g.S.Device.Device.history g.S.Frozen.Frozen.content g.S.Device.Device.name g.S.Frozen.Frozen.size g.S.Watch.Watch.counts) g.S.Device.Device.size (λ (f : finished _ _ _ _). f.outcome) (λ (f : finished _ _ _ _). g.S.Store.history f.kit.store) (λ (f : finished _ _ _ _). faults_in g.S.Watch.Watch.counts f.kit) k' ended closed last))) (c.answer_over-partitions.ensures.spent is)))
+    let closed = subst (λ es. AreClosed (eyes g.S.Store.history g.S.Device.Device.history g.S.Frozen.Frozen.content g.S.Device.Device.name g.S.Frozen.Frozen.size
+    g.S.Watch.Watch.counts) g.S.Device.Device.size (λ (f : finished _ _ _ _). f.outcome) (λ (f : finished _ _ _ _). g.S.Store.history f.kit.store)
+    (λ (f : finished _ _ _ _). faults_in g.S.Watch.Watch.counts f.kit) es ended) same c.close_all-closed.ensures.3 in
+    rw (c.fault_of.ensures, c.close_all-closed.ensures.2, items)
+    (spent_behind c.answer_over-partitions.result.1 _ (ended_of (eyes g.S.Store.history g.S.Device.Device.history g.S.Frozen.Frozen.content g.S.Device.Device.name
+    g.S.Frozen.Frozen.size g.S.Watch.Watch.counts) g.S.Device.Device.size (λ (f : finished _ _ _ _). f.outcome)
+    (λ (f : finished _ _ _ _). g.S.Store.history f.kit.store) (λ (f : finished _ _ _ _). faults_in g.S.Watch.Watch.counts f.kit) k' ended closed)
+    (λ is. ⊎_elim (λ input. inl input) (λ last. inr (some-map (λ (f : finished _ _ _ _). f.kit) (λ p kit. IfTold (g.S.Store.history kit.store) HasLastGeneration) 0
+    ended (last_left (eyes g.S.Store.history g.S.Device.Device.history g.S.Frozen.Frozen.content g.S.Device.Device.name g.S.Frozen.Frozen.size
+    g.S.Watch.Watch.counts) g.S.Device.Device.size (λ (f : finished _ _ _ _). f.outcome) (λ (f : finished _ _ _ _). g.S.Store.history f.kit.store)
+    (λ (f : finished _ _ _ _). faults_in g.S.Watch.Watch.counts f.kit) k' ended closed last))) (c.answer_over-partitions.ensures.spent is)))

@@ -13,13 +13,17 @@ use Rattle.tc_server.proofs.session.answer_whole.Goals as goal
 pub returns-in_err-reply-clause-left : goal.returns-in_err-reply-clause-left
 returns-in_err-reply-clause-left g c =
     let p = err_from_is_err_and c.from_residual.result c.from_residual.ensures.1 in
-    λ known holds. rw p.1 (left_before (ServesAt (eyes g.S.Store.history g.S.Device.Device.history g.S.Frozen.Frozen.content g.S.Device.Device.name g.S.Frozen.Frozen.size g.S.Watch.Watch.counts)) (FailsAt (eyes g.S.Store.history g.S.Device.Device.history g.S.Frozen.Frozen.content g.S.Device.Device.name g.S.Frozen.Frozen.size g.S.Watch.Watch.counts)) c.reply_whole.new.keeper (request_whole c.args.control ∷ []) known
+    λ known holds. rw p.1 (left_before (ServesAt (eyes g.S.Store.history g.S.Device.Device.history g.S.Frozen.Frozen.content g.S.Device.Device.name
+    g.S.Frozen.Frozen.size g.S.Watch.Watch.counts)) (FailsAt (eyes g.S.Store.history g.S.Device.Device.history g.S.Frozen.Frozen.content g.S.Device.Device.name
+    g.S.Frozen.Frozen.size g.S.Watch.Watch.counts)) c.reply_whole.new.keeper (request_whole c.args.control ∷ []) known
     (λ only w is. c.in_err-reply.ensures.failed only w (subst ((ServesAt (eyes g.S.Store.history g.S.Device.Device.history g.S.Frozen.Frozen.content g.S.Device.Device.name g.S.Frozen.Frozen.size g.S.Watch.Watch.counts)) c.args.keeper.now) is holds)))
 
 pub returns-in_err-push_reply-clause-left : goal.returns-in_err-push_reply-clause-left
 returns-in_err-push_reply-clause-left g c =
     let p = err_from_is_err_and c.from_residual-in_err-push_reply.result c.from_residual-in_err-push_reply.ensures.1 in
-    λ known holds. rw p.1 (left_standing (ServesAt (eyes g.S.Store.history g.S.Device.Device.history g.S.Frozen.Frozen.content g.S.Device.Device.name g.S.Frozen.Frozen.size g.S.Watch.Watch.counts)) (FailsAt (eyes g.S.Store.history g.S.Device.Device.history g.S.Frozen.Frozen.content g.S.Device.Device.name g.S.Frozen.Frozen.size g.S.Watch.Watch.counts)) c.reply_whole.new.keeper gave_up (request_whole c.args.control ∷ []) known
+    λ known holds. rw p.1 (left_standing (ServesAt (eyes g.S.Store.history g.S.Device.Device.history g.S.Frozen.Frozen.content g.S.Device.Device.name
+    g.S.Frozen.Frozen.size g.S.Watch.Watch.counts)) (FailsAt (eyes g.S.Store.history g.S.Device.Device.history g.S.Frozen.Frozen.content g.S.Device.Device.name
+    g.S.Frozen.Frozen.size g.S.Watch.Watch.counts)) c.reply_whole.new.keeper gave_up (request_whole c.args.control ∷ []) known
     (c.in_ok-reply.ensures.held known holds))
 
 pub returns-in_err-push_reply-clause-cause : goal.returns-in_err-push_reply-clause-cause

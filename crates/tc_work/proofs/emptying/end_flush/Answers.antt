@@ -21,10 +21,14 @@ returns-then-not-is_flushing-clause-moves g c = moves_nothing (eyes g.S.Store.hi
 pub returns-in_err-make_room-clause-moves : goal.returns-in_err-make_room-clause-moves
 returns-in_err-make_room-clause-moves g c =
     let mid = beside c.make_room.new.part c.make_room.new.jobs in
-    moves_err (eyes g.S.Store.history g.S.Device.Device.history g.S.Frozen.Frozen.content g.S.Device.Device.name g.S.Frozen.Frozen.size g.S.Watch.Watch.counts) (beside c.args.part.now c.args.jobs.now) mid mid c.from_residual.result c.make_room.result c.in_err-make_room.field-0.0 c.from_residual.ensures.1 c.in_err-make_room.was c.make_room.ensures.moves
+    moves_err (eyes g.S.Store.history g.S.Device.Device.history g.S.Frozen.Frozen.content g.S.Device.Device.name g.S.Frozen.Frozen.size g.S.Watch.Watch.counts)
+    (beside c.args.part.now c.args.jobs.now) mid mid c.from_residual.result c.make_room.result c.in_err-make_room.field-0.0 c.from_residual.ensures.1
+    c.in_err-make_room.was c.make_room.ensures.moves
 
 pub install_flush-requires-clause-may : goal.install_flush-requires-clause-may
-install_flush-requires-clause-may g c κs within = may_then (eyes g.S.Store.history g.S.Device.Device.history g.S.Frozen.Frozen.content g.S.Device.Device.name g.S.Frozen.Frozen.size g.S.Watch.Watch.counts) (beside c.args.part.now c.args.jobs.now) (beside c.make_room.new.part c.make_room.new.jobs) (beside c.make_room.new.part c.make_room.new.jobs) c.in_ok-make_room.ensures.moves
+install_flush-requires-clause-may g c κs within = may_then (eyes g.S.Store.history g.S.Device.Device.history g.S.Frozen.Frozen.content g.S.Device.Device.name
+    g.S.Frozen.Frozen.size g.S.Watch.Watch.counts) (beside c.args.part.now c.args.jobs.now) (beside c.make_room.new.part c.make_room.new.jobs)
+    (beside c.make_room.new.part c.make_room.new.jobs) c.in_ok-make_room.ensures.moves
 
 -- ---- the flush is listed, or not
 
@@ -34,7 +38,9 @@ returns-in_err-install_flush-clause-moves g c =
     let mid = beside c.make_room.new.part c.make_room.new.jobs in
     let new = beside c.install_flush.new.part c.install_flush.new.jobs in
     moves_then (eyes g.S.Store.history g.S.Device.Device.history g.S.Frozen.Frozen.content g.S.Device.Device.name g.S.Frozen.Frozen.size g.S.Watch.Watch.counts) (beside c.args.part.now c.args.jobs.now) mid new r c.in_ok-make_room.ensures.moves
-    (moves_err (eyes g.S.Store.history g.S.Device.Device.history g.S.Frozen.Frozen.content g.S.Device.Device.name g.S.Frozen.Frozen.size g.S.Watch.Watch.counts) mid new new r c.install_flush.result c.in_err-install_flush.field-0.0 c.from_residual-in_err-install_flush.ensures.1 c.in_err-install_flush.was c.install_flush.ensures.moves)
+    (moves_err (eyes g.S.Store.history g.S.Device.Device.history g.S.Frozen.Frozen.content g.S.Device.Device.name g.S.Frozen.Frozen.size g.S.Watch.Watch.counts) mid
+    new new r c.install_flush.result c.in_err-install_flush.field-0.0 c.from_residual-in_err-install_flush.ensures.1 c.in_err-install_flush.was
+    c.install_flush.ensures.moves)
 
 pub returns-in_err-install_flush-clause-damaged : goal.returns-in_err-install_flush-clause-damaged
 returns-in_err-install_flush-clause-damaged g c = λ few.
@@ -74,14 +80,23 @@ returns-clause-behind g c = ok_then c.start_merge.result _ _ (λ (begun : c.star
 
 pub returns-clause-moves : goal.returns-clause-moves
 returns-clause-moves g c =
-    moves_then (eyes g.S.Store.history g.S.Device.Device.history g.S.Frozen.Frozen.content g.S.Device.Device.name g.S.Frozen.Frozen.size g.S.Watch.Watch.counts) (beside c.args.part.now c.args.jobs.now) (beside c.make_room.new.part c.make_room.new.jobs) (beside c.start_merge.new.part c.start_merge.new.jobs) c.start_merge.result c.in_ok-make_room.ensures.moves
-    (moves_then (eyes g.S.Store.history g.S.Device.Device.history g.S.Frozen.Frozen.content g.S.Device.Device.name g.S.Frozen.Frozen.size g.S.Watch.Watch.counts) (beside c.make_room.new.part c.make_room.new.jobs) (beside c.install_flush.new.part c.install_flush.new.jobs) (beside c.start_merge.new.part c.start_merge.new.jobs) c.start_merge.result c.in_ok-install_flush.ensures.moves c.start_merge.ensures.moves)
+    moves_then (eyes g.S.Store.history g.S.Device.Device.history g.S.Frozen.Frozen.content g.S.Device.Device.name g.S.Frozen.Frozen.size g.S.Watch.Watch.counts)
+    (beside c.args.part.now c.args.jobs.now) (beside c.make_room.new.part c.make_room.new.jobs) (beside c.start_merge.new.part c.start_merge.new.jobs)
+    c.start_merge.result c.in_ok-make_room.ensures.moves
+    (moves_then (eyes g.S.Store.history g.S.Device.Device.history g.S.Frozen.Frozen.content g.S.Device.Device.name g.S.Frozen.Frozen.size g.S.Watch.Watch.counts)
+    (beside c.make_room.new.part c.make_room.new.jobs) (beside c.install_flush.new.part c.install_flush.new.jobs)
+    (beside c.start_merge.new.part c.start_merge.new.jobs) c.start_merge.result c.in_ok-install_flush.ensures.moves c.start_merge.ensures.moves)
 
 pub returns-clause-listed : goal.returns-clause-listed
 returns-clause-listed g c = ok_then c.start_merge.result _ _ (λ lists.
     let one = c.in_ok-make_room.ensures.listed in
-    lists_then (eyes g.S.Store.history g.S.Device.Device.history g.S.Frozen.Frozen.content g.S.Device.Device.name g.S.Frozen.Frozen.size g.S.Watch.Watch.counts) (beside c.args.part.now c.args.jobs.now) (beside c.make_room.new.part c.make_room.new.jobs) (beside c.start_merge.new.part c.start_merge.new.jobs) c.args.policy one
-    (lists_then (eyes g.S.Store.history g.S.Device.Device.history g.S.Frozen.Frozen.content g.S.Device.Device.name g.S.Frozen.Frozen.size g.S.Watch.Watch.counts) (beside c.make_room.new.part c.make_room.new.jobs) (beside c.install_flush.new.part c.install_flush.new.jobs) (beside c.start_merge.new.part c.start_merge.new.jobs) c.args.policy (c.in_ok-install_flush.ensures.listed c.args.policy one.picked) lists)) c.start_merge.ensures.listed
+    lists_then (eyes g.S.Store.history g.S.Device.Device.history g.S.Frozen.Frozen.content g.S.Device.Device.name g.S.Frozen.Frozen.size g.S.Watch.Watch.counts)
+    (beside c.args.part.now c.args.jobs.now) (beside c.make_room.new.part c.make_room.new.jobs)
+    (beside c.start_merge.new.part c.start_merge.new.jobs) c.args.policy one
+    (lists_then (eyes g.S.Store.history g.S.Device.Device.history g.S.Frozen.Frozen.content g.S.Device.Device.name g.S.Frozen.Frozen.size g.S.Watch.Watch.counts)
+    (beside c.make_room.new.part c.make_room.new.jobs) (beside c.install_flush.new.part c.install_flush.new.jobs)
+    (beside c.start_merge.new.part c.start_merge.new.jobs) c.args.policy (c.in_ok-install_flush.ensures.listed c.args.policy one.picked) lists))
+    c.start_merge.ensures.listed
 
 pub returns-clause-damaged : goal.returns-clause-damaged
 returns-clause-damaged g c = λ few. undamaged_any c.start_merge.result _ c.start_merge.ensures.undamaged

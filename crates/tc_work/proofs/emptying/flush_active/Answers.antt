@@ -18,7 +18,9 @@ use Rattle.tc_work.proofs.emptying.flush_active.Goals as goal
 pub returns-in_err-seal_and_start-clause-moves : goal.returns-in_err-seal_and_start-clause-moves
 returns-in_err-seal_and_start-clause-moves g c =
     let mid = beside c.seal_and_start.new.part c.seal_and_start.new.jobs in
-    over_err (eyes g.S.Store.history g.S.Device.Device.history g.S.Frozen.Frozen.content g.S.Device.Device.name g.S.Frozen.Frozen.size g.S.Watch.Watch.counts) (beside c.args.part.now c.args.jobs.now) mid mid c.from_residual.result c.seal_and_start.result c.in_err-seal_and_start.field-0.0 c.from_residual.ensures.1 c.in_err-seal_and_start.was c.seal_and_start.ensures.moves
+    over_err (eyes g.S.Store.history g.S.Device.Device.history g.S.Frozen.Frozen.content g.S.Device.Device.name g.S.Frozen.Frozen.size g.S.Watch.Watch.counts)
+    (beside c.args.part.now c.args.jobs.now) mid mid c.from_residual.result c.seal_and_start.result c.in_err-seal_and_start.field-0.0 c.from_residual.ensures.1
+    c.in_err-seal_and_start.was c.seal_and_start.ensures.moves
 
 pub returns-in_err-seal_and_start-clause-damaged : goal.returns-in_err-seal_and_start-clause-damaged
 returns-in_err-seal_and_start-clause-damaged g c = λ few. handed_on c.from_residual.result c.in_err-seal_and_start.field-0.0 _ c.from_residual.ensures.1
@@ -27,7 +29,9 @@ returns-in_err-seal_and_start-clause-damaged g c = λ few. handed_on c.from_resi
 -- ---- it is, and its flush ends
 
 pub end_flush-requires-clause-may : goal.end_flush-requires-clause-may
-end_flush-requires-clause-may g c κs within = may_over (eyes g.S.Store.history g.S.Device.Device.history g.S.Frozen.Frozen.content g.S.Device.Device.name g.S.Frozen.Frozen.size g.S.Watch.Watch.counts) (beside c.args.part.now c.args.jobs.now) (beside c.seal_and_start.new.part c.seal_and_start.new.jobs) (beside c.seal_and_start.new.part c.seal_and_start.new.jobs) c.in_ok-seal_and_start.ensures.moves
+end_flush-requires-clause-may g c κs within = may_over (eyes g.S.Store.history g.S.Device.Device.history g.S.Frozen.Frozen.content g.S.Device.Device.name
+    g.S.Frozen.Frozen.size g.S.Watch.Watch.counts) (beside c.args.part.now c.args.jobs.now) (beside c.seal_and_start.new.part c.seal_and_start.new.jobs)
+    (beside c.seal_and_start.new.part c.seal_and_start.new.jobs) c.in_ok-seal_and_start.ensures.moves
 
 pub end_flush-requires-clause-picked : goal.end_flush-requires-clause-picked
 end_flush-requires-clause-picked g c κs within = (c.in_ok-seal_and_start.ensures.listed c.args.policy c.requires.picked).picked
@@ -48,11 +52,16 @@ returns-clause-flushed g c = ok_then c.end_flush.result _ _ (λ behind few.
 
 pub returns-clause-moves : goal.returns-clause-moves
 returns-clause-moves g c =
-    over_then (eyes g.S.Store.history g.S.Device.Device.history g.S.Frozen.Frozen.content g.S.Device.Device.name g.S.Frozen.Frozen.size g.S.Watch.Watch.counts) (beside c.args.part.now c.args.jobs.now) (beside c.seal_and_start.new.part c.seal_and_start.new.jobs) (beside c.end_flush.new.part c.end_flush.new.jobs) c.end_flush.result c.in_ok-seal_and_start.ensures.moves c.in_ok-seal_and_start.ensures.sealed.2 c.in_ok-seal_and_start.ensures.emptied.2 c.end_flush.ensures.moves
+    over_then (eyes g.S.Store.history g.S.Device.Device.history g.S.Frozen.Frozen.content g.S.Device.Device.name g.S.Frozen.Frozen.size g.S.Watch.Watch.counts)
+    (beside c.args.part.now c.args.jobs.now) (beside c.seal_and_start.new.part c.seal_and_start.new.jobs) (beside c.end_flush.new.part c.end_flush.new.jobs)
+    c.end_flush.result c.in_ok-seal_and_start.ensures.moves c.in_ok-seal_and_start.ensures.sealed.2 c.in_ok-seal_and_start.ensures.emptied.2
+    c.end_flush.ensures.moves
 
 pub returns-clause-listed : goal.returns-clause-listed
 returns-clause-listed g c = ok_then c.end_flush.result _ _ (λ lists.
-    lists_then (eyes g.S.Store.history g.S.Device.Device.history g.S.Frozen.Frozen.content g.S.Device.Device.name g.S.Frozen.Frozen.size g.S.Watch.Watch.counts) (beside c.args.part.now c.args.jobs.now) (beside c.seal_and_start.new.part c.seal_and_start.new.jobs) (beside c.end_flush.new.part c.end_flush.new.jobs) c.args.policy (c.in_ok-seal_and_start.ensures.listed c.args.policy c.requires.picked) lists) c.end_flush.ensures.listed
+    lists_then (eyes g.S.Store.history g.S.Device.Device.history g.S.Frozen.Frozen.content g.S.Device.Device.name g.S.Frozen.Frozen.size g.S.Watch.Watch.counts)
+    (beside c.args.part.now c.args.jobs.now) (beside c.seal_and_start.new.part c.seal_and_start.new.jobs) (beside c.end_flush.new.part c.end_flush.new.jobs)
+    c.args.policy (c.in_ok-seal_and_start.ensures.listed c.args.policy c.requires.picked) lists) c.end_flush.ensures.listed
 
 pub returns-clause-damaged : goal.returns-clause-damaged
 returns-clause-damaged g c = λ few.

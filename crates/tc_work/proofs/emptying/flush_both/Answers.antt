@@ -17,21 +17,30 @@ returns-in_err-end_flush-clause-moves g c =
 -- ---- the log has no frame
 
 pub returns-then-log_len-le-EMPTY_LOG-clause-moves : goal.returns-then-log_len-le-EMPTY_LOG-clause-moves
-returns-then-log_len-le-EMPTY_LOG-clause-moves g c = over_of (eyes g.S.Store.history g.S.Device.Device.history g.S.Frozen.Frozen.content g.S.Device.Device.name g.S.Frozen.Frozen.size g.S.Watch.Watch.counts) (beside c.args.part.now c.args.jobs.now) (beside c.end_flush.new.part c.end_flush.new.jobs) _ c.in_ok-end_flush.ensures.moves
+returns-then-log_len-le-EMPTY_LOG-clause-moves g c = over_of
+    (eyes g.S.Store.history g.S.Device.Device.history g.S.Frozen.Frozen.content g.S.Device.Device.name g.S.Frozen.Frozen.size g.S.Watch.Watch.counts)
+    (beside c.args.part.now c.args.jobs.now) (beside c.end_flush.new.part c.end_flush.new.jobs) _ c.in_ok-end_flush.ensures.moves
 
 -- ---- it has one
 
 pub flush_active-requires-clause-may : goal.flush_active-requires-clause-may
-flush_active-requires-clause-may g c κs within = may_then (eyes g.S.Store.history g.S.Device.Device.history g.S.Frozen.Frozen.content g.S.Device.Device.name g.S.Frozen.Frozen.size g.S.Watch.Watch.counts) (beside c.args.part.now c.args.jobs.now) (beside c.end_flush.new.part c.end_flush.new.jobs) (beside c.end_flush.new.part c.end_flush.new.jobs) c.in_ok-end_flush.ensures.moves
+flush_active-requires-clause-may g c κs within = may_then (eyes g.S.Store.history g.S.Device.Device.history g.S.Frozen.Frozen.content g.S.Device.Device.name
+    g.S.Frozen.Frozen.size g.S.Watch.Watch.counts) (beside c.args.part.now c.args.jobs.now) (beside c.end_flush.new.part c.end_flush.new.jobs)
+    (beside c.end_flush.new.part c.end_flush.new.jobs) c.in_ok-end_flush.ensures.moves
 
 pub flush_active-requires-clause-picked : goal.flush_active-requires-clause-picked
 flush_active-requires-clause-picked g c κs within = c.in_ok-end_flush.ensures.listed.picked
 
 pub returns-clause-moves : goal.returns-clause-moves
-returns-clause-moves g c = then_over (eyes g.S.Store.history g.S.Device.Device.history g.S.Frozen.Frozen.content g.S.Device.Device.name g.S.Frozen.Frozen.size g.S.Watch.Watch.counts) (beside c.args.part.now c.args.jobs.now) (beside c.end_flush.new.part c.end_flush.new.jobs) (beside c.flush_active.new.part c.flush_active.new.jobs) c.flush_active.result c.requires.may c.in_ok-end_flush.ensures.moves c.flush_active.ensures.moves
+returns-clause-moves g c = then_over (eyes g.S.Store.history g.S.Device.Device.history g.S.Frozen.Frozen.content g.S.Device.Device.name g.S.Frozen.Frozen.size
+    g.S.Watch.Watch.counts) (beside c.args.part.now c.args.jobs.now) (beside c.end_flush.new.part c.end_flush.new.jobs)
+    (beside c.flush_active.new.part c.flush_active.new.jobs) c.flush_active.result c.requires.may c.in_ok-end_flush.ensures.moves c.flush_active.ensures.moves
 
 pub returns-clause-listed : goal.returns-clause-listed
-returns-clause-listed g c = ok_then c.flush_active.result _ _ (λ lists. lists_then (eyes g.S.Store.history g.S.Device.Device.history g.S.Frozen.Frozen.content g.S.Device.Device.name g.S.Frozen.Frozen.size g.S.Watch.Watch.counts) (beside c.args.part.now c.args.jobs.now) (beside c.end_flush.new.part c.end_flush.new.jobs) (beside c.flush_active.new.part c.flush_active.new.jobs) c.args.policy c.in_ok-end_flush.ensures.listed lists) c.flush_active.ensures.listed
+returns-clause-listed g c = ok_then c.flush_active.result _ _
+    (λ lists. lists_then (eyes g.S.Store.history g.S.Device.Device.history g.S.Frozen.Frozen.content g.S.Device.Device.name g.S.Frozen.Frozen.size
+    g.S.Watch.Watch.counts) (beside c.args.part.now c.args.jobs.now) (beside c.end_flush.new.part c.end_flush.new.jobs)
+    (beside c.flush_active.new.part c.flush_active.new.jobs) c.args.policy c.in_ok-end_flush.ensures.listed lists) c.flush_active.ensures.listed
 
 pub returns-clause-flushed : goal.returns-clause-flushed
 returns-clause-flushed g c = ok_then c.flush_active.result _ _ (λ flushed written none few.

@@ -22,7 +22,8 @@ seal-requires-clause-own g c κs within = c.requires.may.ready.own
 
 pub returns-in_err-seal-clause-moves : goal.returns-in_err-seal-clause-moves
 returns-in_err-seal-clause-moves g c =
-    unsealed (eyes g.S.Store.history g.S.Device.Device.history g.S.Frozen.Frozen.content g.S.Device.Device.name g.S.Frozen.Frozen.size g.S.Watch.Watch.counts) c.args.part.now c.seal.new.self c.args.jobs.now c.seal.result c.in_err-seal.ensures.left c.requires.none_out c.requires.may.jobs c.seal.ensures.untold
+    unsealed (eyes g.S.Store.history g.S.Device.Device.history g.S.Frozen.Frozen.content g.S.Device.Device.name g.S.Frozen.Frozen.size g.S.Watch.Watch.counts)
+    c.args.part.now c.seal.new.self c.args.jobs.now c.seal.result c.in_err-seal.ensures.left c.requires.none_out c.requires.may.jobs c.seal.ensures.untold
     c.from_residual.result c.in_err-seal.field-0.0 c.from_residual.ensures.1 c.in_err-seal.was c.seal.ensures.devices c.seal.ensures.counted c.in_err-seal.ensures.failed c.seal.ensures.moments c.in_err-seal.ensures.undamaged
     (λ spent. c.seal.ensures.spent.0 spent) c.seal.ensures.unspent
 
@@ -34,7 +35,9 @@ returns-in_err-seal-clause-damaged g c = undamaged_so c.from_residual.result c.i
 pub start_flush-requires-clause-may : goal.start_flush-requires-clause-may
 start_flush-requires-clause-may g c κs within =
     may_over (eyes g.S.Store.history g.S.Device.Device.history g.S.Frozen.Frozen.content g.S.Device.Device.name g.S.Frozen.Frozen.size g.S.Watch.Watch.counts) (beside c.args.part.now c.args.jobs.now) (beside c.seal.new.self c.args.jobs.now) (beside c.seal.new.self c.args.jobs.now)
-    (sealed (eyes g.S.Store.history g.S.Device.Device.history g.S.Frozen.Frozen.content g.S.Device.Device.name g.S.Frozen.Frozen.size g.S.Watch.Watch.counts) c.args.part.now c.seal.new.self c.args.jobs.now c.seal.result has_sealed c.requires.may.sound c.requires.none_out c.requires.none_sealed c.requires.may.ready c.requires.may.jobs c.seal.ensures.counted)
+    (sealed (eyes g.S.Store.history g.S.Device.Device.history g.S.Frozen.Frozen.content g.S.Device.Device.name g.S.Frozen.Frozen.size g.S.Watch.Watch.counts)
+    c.args.part.now c.seal.new.self c.args.jobs.now c.seal.result has_sealed c.requires.may.sound c.requires.none_out c.requires.none_sealed c.requires.may.ready
+    c.requires.may.jobs c.seal.ensures.counted)
   where
     has_sealed : HasSealed (eyes g.S.Store.history g.S.Device.Device.history g.S.Frozen.Frozen.content g.S.Device.Device.name g.S.Frozen.Frozen.size g.S.Watch.Watch.counts) c.args.part.now c.seal.new.self c.args.jobs.now c.seal.result
     has_sealed =
@@ -69,8 +72,11 @@ returns-clause-list g c = ok_then c.start_flush.result _ _ (λ (begun : c.start_
 
 pub returns-clause-moves : goal.returns-clause-moves
 returns-clause-moves g c =
-    over_then (eyes g.S.Store.history g.S.Device.Device.history g.S.Frozen.Frozen.content g.S.Device.Device.name g.S.Frozen.Frozen.size g.S.Watch.Watch.counts) (beside c.args.part.now c.args.jobs.now) (beside c.seal.new.self c.args.jobs.now) (beside c.start_flush.new.part c.start_flush.new.jobs) c.start_flush.result
-    (sealed (eyes g.S.Store.history g.S.Device.Device.history g.S.Frozen.Frozen.content g.S.Device.Device.name g.S.Frozen.Frozen.size g.S.Watch.Watch.counts) c.args.part.now c.seal.new.self c.args.jobs.now c.seal.result has_sealed c.requires.may.sound c.requires.none_out c.requires.none_sealed c.requires.may.ready c.requires.may.jobs c.seal.ensures.counted)
+    over_then (eyes g.S.Store.history g.S.Device.Device.history g.S.Frozen.Frozen.content g.S.Device.Device.name g.S.Frozen.Frozen.size g.S.Watch.Watch.counts)
+    (beside c.args.part.now c.args.jobs.now) (beside c.seal.new.self c.args.jobs.now) (beside c.start_flush.new.part c.start_flush.new.jobs) c.start_flush.result
+    (sealed (eyes g.S.Store.history g.S.Device.Device.history g.S.Frozen.Frozen.content g.S.Device.Device.name g.S.Frozen.Frozen.size g.S.Watch.Watch.counts)
+    c.args.part.now c.seal.new.self c.args.jobs.now c.seal.result has_sealed c.requires.may.sound c.requires.none_out c.requires.none_sealed c.requires.may.ready
+    c.requires.may.jobs c.seal.ensures.counted)
     (ap (λ (s : PartState _ _ _ _). s.sealed_log) c.in_ok-seal.ensures.same) (ap (λ (s : PartState _ _ _ _). s.generation) c.in_ok-seal.ensures.same) c.start_flush.ensures.moves
   where
     has_sealed : HasSealed (eyes g.S.Store.history g.S.Device.Device.history g.S.Frozen.Frozen.content g.S.Device.Device.name g.S.Frozen.Frozen.size g.S.Watch.Watch.counts) c.args.part.now c.seal.new.self c.args.jobs.now c.seal.result
@@ -80,8 +86,12 @@ returns-clause-moves g c =
 
 pub returns-clause-listed : goal.returns-clause-listed
 returns-clause-listed g c = ok_then c.start_flush.result _ _ (λ lists policy picked.
-    let one = sealed_lists (eyes g.S.Store.history g.S.Device.Device.history g.S.Frozen.Frozen.content g.S.Device.Device.name g.S.Frozen.Frozen.size g.S.Watch.Watch.counts) c.args.part.now c.seal.new.self c.args.jobs.now c.seal.result has_sealed c.requires.may.sound c.requires.none_out c.requires.none_sealed c.requires.may.ready c.requires.may.jobs policy picked in
-    lists_then (eyes g.S.Store.history g.S.Device.Device.history g.S.Frozen.Frozen.content g.S.Device.Device.name g.S.Frozen.Frozen.size g.S.Watch.Watch.counts) (beside c.args.part.now c.args.jobs.now) (beside c.seal.new.self c.args.jobs.now) (beside c.start_flush.new.part c.start_flush.new.jobs) policy one (lists policy one.picked)) c.start_flush.ensures.listed
+    let one = sealed_lists (eyes g.S.Store.history g.S.Device.Device.history g.S.Frozen.Frozen.content g.S.Device.Device.name g.S.Frozen.Frozen.size
+    g.S.Watch.Watch.counts) c.args.part.now c.seal.new.self c.args.jobs.now c.seal.result has_sealed c.requires.may.sound c.requires.none_out
+    c.requires.none_sealed c.requires.may.ready c.requires.may.jobs policy picked in
+    lists_then (eyes g.S.Store.history g.S.Device.Device.history g.S.Frozen.Frozen.content g.S.Device.Device.name g.S.Frozen.Frozen.size g.S.Watch.Watch.counts)
+    (beside c.args.part.now c.args.jobs.now) (beside c.seal.new.self c.args.jobs.now) (beside c.start_flush.new.part c.start_flush.new.jobs) policy one
+    (lists policy one.picked)) c.start_flush.ensures.listed
   where
     has_sealed : HasSealed (eyes g.S.Store.history g.S.Device.Device.history g.S.Frozen.Frozen.content g.S.Device.Device.name g.S.Frozen.Frozen.size g.S.Watch.Watch.counts) c.args.part.now c.seal.new.self c.args.jobs.now c.seal.result
     has_sealed =

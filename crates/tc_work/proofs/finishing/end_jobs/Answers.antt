@@ -11,7 +11,8 @@ use Rattle.tc_work.proofs.finishing.end_jobs.Goals as goal
 pub give_back-requires-clause-jobs : goal.give_back-requires-clause-jobs
 give_back-requires-clause-jobs g c κs within =
     subst (λ (s : PartState _ _ _ _). IsOutBy (eyes g.S.Store.history g.S.Device.Device.history g.S.Frozen.Frozen.content g.S.Device.Device.name g.S.Frozen.Frozen.size g.S.Watch.Watch.counts) (beside s c.install_both.new.jobs)) (sym c.fail.ensures)
-    (keeps_given_up (eyes g.S.Store.history g.S.Device.Device.history g.S.Frozen.Frozen.content g.S.Device.Device.name g.S.Frozen.Frozen.size g.S.Watch.Watch.counts) _ (beside c.args.part.now c.args.jobs.now) (beside c.install_both.new.part c.install_both.new.jobs) c.install_both.ensures.moves.keeps).jobs
+    (keeps_given_up (eyes g.S.Store.history g.S.Device.Device.history g.S.Frozen.Frozen.content g.S.Device.Device.name g.S.Frozen.Frozen.size g.S.Watch.Watch.counts) _
+    (beside c.args.part.now c.args.jobs.now) (beside c.install_both.new.part c.install_both.new.jobs) c.install_both.ensures.moves.keeps).jobs
 
 pub returns-in-Ok-clause-moves : goal.returns-in-Ok-clause-moves
 returns-in-Ok-clause-moves g c = c.in-Ok.ensures.moves

@@ -14,7 +14,19 @@ returns g c =
     let laws = g.met.S.Device.Device g.world.𝓛 g.world.𝓜 g.world.𝓡 ((λ s x. x), (λ x. x), (λ x. x), λ x. x) in
     let new = beside c.end_jobs-outcome.new.part c.end_jobs-outcome.new.jobs in
     let device = c.end_jobs-outcome.new.part.log.device in
-    let k : IsClosed e g.S.Device.Device.size new c.close.result.store c.close.result.main c.close.result.flusher c.close.result.merger c.close.result.reader = record { home = c.close.ensures.home; brought_in = c.close.ensures.brought_in; kept = c.close.ensures.kept; failed = c.close.ensures.failed; opens = c.close.ensures.opens; moments = c.close.ensures.moments; failed_moments = c.close.ensures.failed_moments; main = c.close.ensures.main; flusher = c.close.ensures.flusher; merger = c.close.ensures.merger; reader = c.close.ensures.reader } in
+    let k : IsClosed e g.S.Device.Device.size new c.close.result.store c.close.result.main c.close.result.flusher c.close.result.merger c.close.result.reader = record {
+      home = c.close.ensures.home;
+      brought_in = c.close.ensures.brought_in;
+      kept = c.close.ensures.kept;
+      failed = c.close.ensures.failed;
+      opens = c.close.ensures.opens;
+      moments = c.close.ensures.moments;
+      failed_moments = c.close.ensures.failed_moments;
+      main = c.close.ensures.main;
+      flusher = c.close.ensures.flusher;
+      merger = c.close.ensures.merger;
+      reader = c.close.ensures.reader;
+    } in
     let ended = c.end_jobs-outcome.ensures in
     record {
       ends = sound_finishes e g.S.Device.Device.size new c.close.result.store c.close.result.main c.close.result.flusher c.close.result.merger c.close.result.reader k (beside c.args.part c.args.jobs) c.args.policy c.end_jobs-outcome.result c.requires.may ended.moves ended.left ended.none

@@ -12,7 +12,9 @@ pub give_back_flush-requires-clause-jobs : goal.give_back_flush-requires-clause-
 give_back_flush-requires-clause-jobs g c κs within = c.give_back_merge.ensures.keeps.jobs
 
 pub returns-clause-keeps : goal.returns-clause-keeps
-returns-clause-keeps g c = keeps_then (eyes g.S.Store.history g.S.Device.Device.history g.S.Frozen.Frozen.content g.S.Device.Device.name g.S.Frozen.Frozen.size g.S.Watch.Watch.counts) (beside c.args.part.now c.args.jobs.now) (beside c.give_back_merge.new.part c.give_back_merge.new.jobs) (beside c.give_back_flush.new.part c.give_back_flush.new.jobs) ⊥ ⊥ ⊥ c.give_back_merge.ensures.keeps c.give_back_flush.ensures.keeps (λ never. never)
+returns-clause-keeps g c = keeps_then (eyes g.S.Store.history g.S.Device.Device.history g.S.Frozen.Frozen.content g.S.Device.Device.name g.S.Frozen.Frozen.size
+    g.S.Watch.Watch.counts) (beside c.args.part.now c.args.jobs.now) (beside c.give_back_merge.new.part c.give_back_merge.new.jobs)
+    (beside c.give_back_flush.new.part c.give_back_flush.new.jobs) ⊥ ⊥ ⊥ c.give_back_merge.ensures.keeps c.give_back_flush.ensures.keeps (λ never. never)
 
 pub returns-clause-stays : goal.returns-clause-stays
 returns-clause-stays g c = λ p frame has works.

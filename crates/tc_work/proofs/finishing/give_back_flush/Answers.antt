@@ -29,8 +29,21 @@ returns-in-Some-clause-keeps g c =
     let back : IsBack e g.S.Frozen.Frozen.name g.S.Device.Device.size c.args.part.now c.finish_flush-given.new.self c.args.jobs.now found.0 out.watch out.device out.outcome = record { is_job = found.1; of = of.1; ran = ran; sized = laws.told_size out.device } in
     let handed : IsHandedBack e g.S.Frozen.Frozen.name g.S.Device.Device.size c.args.part.now c.finish_flush-given.new.self c.args.jobs.now found.0 out.watch out.device out.outcome = record { devices = c.finish_flush-given.ensures.devices; merge_named = c.finish_flush-given.ensures.merge_named } in
     let home = c.finish_flush-given.ensures.home c.requires.failed in
-    let f : HasFallen e g.S.Frozen.Frozen.name g.S.Device.Device.size c.args.part.now c.finish_flush-given.new.self c.args.jobs.now found.0 out.watch out.device out.outcome = record { left = inl (record { same = subst (λ (s : PartState _ _ _ _). s ≡ record c.args.part.now { store = s.store; main = s.main; flusher = Some out.watch; flushing = false; failed = s.failed }) (sym home.1) refl; home = inr home.2 }); failed = λ p content part makes made. absurd (true≢false (sym c.requires.failed ∙ part.sound)); moments = c.finish_flush-given.ensures.moments; unmade_failed = c.finish_flush-given.ensures.unmade_failed; unmade_moments = c.finish_flush-given.ensures.unmade_moments } in
-    subst (λ (j : JobsState _ _ _). KeepsJobs e ⊥ (beside c.args.part.now c.args.jobs.now) (beside c.finish_flush-given.new.self j)) (sym c.join_flush.ensures.taken) (fallen_keeps e g.S.Frozen.Frozen.name g.S.Device.Device.size c.args.part.now c.finish_flush-given.new.self c.args.jobs.now found.0 out.watch out.device out.outcome back handed f of.1.log of.0 c.requires.jobs documents.table documents.of ⊥ _ c.finish_flush-given.ensures.watched (λ never. absurd never))
+    let f : HasFallen e g.S.Frozen.Frozen.name g.S.Device.Device.size c.args.part.now c.finish_flush-given.new.self c.args.jobs.now found.0 out.watch out.device
+    out.outcome = record {
+      left = inl (record {
+        same = subst (λ (s : PartState _ _ _ _). s
+            ≡ record c.args.part.now { store = s.store; main = s.main; flusher = Some out.watch; flushing = false; failed = s.failed }) (sym home.1) refl;
+        home = inr home.2;
+      });
+      failed = λ p content part makes made. absurd (true≢false (sym c.requires.failed ∙ part.sound));
+      moments = c.finish_flush-given.ensures.moments;
+      unmade_failed = c.finish_flush-given.ensures.unmade_failed;
+      unmade_moments = c.finish_flush-given.ensures.unmade_moments;
+    } in
+    subst (λ (j : JobsState _ _ _). KeepsJobs e ⊥ (beside c.args.part.now c.args.jobs.now) (beside c.finish_flush-given.new.self j)) (sym c.join_flush.ensures.taken)
+    (fallen_keeps e g.S.Frozen.Frozen.name g.S.Device.Device.size c.args.part.now c.finish_flush-given.new.self c.args.jobs.now found.0 out.watch out.device
+    out.outcome back handed f of.1.log of.0 c.requires.jobs documents.table documents.of ⊥ _ c.finish_flush-given.ensures.watched (λ never. absurd never))
 
 pub returns-in-Some-clause-stays : goal.returns-in-Some-clause-stays
 returns-in-Some-clause-stays g c = λ p frame has works.
@@ -52,9 +65,15 @@ returns-in-Some-clause-stays g c = λ p frame has works.
 pub returns-in-None-clause-keeps : goal.returns-in-None-clause-keeps
 returns-in-None-clause-keeps g c =
     let e = eyes g.S.Store.history g.S.Device.Device.history g.S.Frozen.Frozen.content g.S.Device.Device.name g.S.Frozen.Frozen.size g.S.Watch.Watch.counts in
-    subst (λ (j : JobsState _ _ _). KeepsJobs e ⊥ (beside c.args.part.now c.args.jobs.now) (beside c.args.part.now j)) (sym (c.join_flush.ensures.taken ∙ ap (λ o. record c.args.jobs.now { flush = o }) (sym (none_back c.args.jobs.now.flush c.in-None.ensures.some)))) (keeps_same e (beside c.args.part.now c.args.jobs.now) ⊥ c.requires.jobs (λ never. never))
+    subst (λ (j : JobsState _ _ _). KeepsJobs e ⊥ (beside c.args.part.now c.args.jobs.now) (beside c.args.part.now j))
+    (sym (c.join_flush.ensures.taken ∙ ap (λ o. record c.args.jobs.now { flush = o }) (sym (none_back c.args.jobs.now.flush c.in-None.ensures.some))))
+    (keeps_same e (beside c.args.part.now c.args.jobs.now) ⊥ c.requires.jobs (λ never. never))
 
 pub returns-in-None-clause-stays : goal.returns-in-None-clause-stays
 returns-in-None-clause-stays g c = λ p frame has works.
-    let e = eyes g.S.Store.history g.S.Device.Device.history g.S.Frozen.Frozen.content g.S.Device.Device.name g.S.Frozen.Frozen.size g.S.Watch.Watch.counts in
-    (has, subst (λ (j : JobsState _ _ _). works_by e (beside c.args.part.now j) p) (sym (c.join_flush.ensures.taken ∙ ap (λ o. record c.args.jobs.now { flush = o }) (sym (none_back c.args.jobs.now.flush c.in-None.ensures.some)))) works, failed_none p frame (told_by e (beside c.args.part.now c.args.jobs.now)))
+    let e = eyes g.S.Store.history g.S.Device.Device.history g.S.Frozen.Frozen.content g.S.Device.Device.name g.S.Frozen.Frozen.size g.S.Watch.Watch.counts in (
+      has,
+      subst (λ (j : JobsState _ _ _). works_by e (beside c.args.part.now j) p)
+          (sym (c.join_flush.ensures.taken ∙ ap (λ o. record c.args.jobs.now { flush = o }) (sym (none_back c.args.jobs.now.flush c.in-None.ensures.some)))) works,
+      failed_none p frame (told_by e (beside c.args.part.now c.args.jobs.now)),
+    )

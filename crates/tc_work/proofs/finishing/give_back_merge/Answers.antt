@@ -27,8 +27,21 @@ returns-in-Some-clause-keeps g c =
     let ran = job_ran c.args.jobs.now.merge found.0 (λ (job : merge.JobState _ _ _). HasMerged e.content e.history g.S.Device.Device.size e.name_of e.counts job out.watch out.device out.outcome) found.1 c.in-Some.ensures.ran in
     let back : IsBack e g.S.Frozen.Frozen.name g.S.Device.Device.size c.args.part.now c.finish_merge-given.new.self c.args.jobs.now found.0 out.watch out.device out.outcome = record { is_job = found.1; of = of.1; ran = ran; sized = laws.told_size out.device } in
     let home = c.finish_merge-given.ensures.home c.requires.failed in
-    let f : HasFallen e g.S.Frozen.Frozen.name g.S.Device.Device.size c.args.part.now c.finish_merge-given.new.self c.args.jobs.now found.0 out.watch out.device out.outcome = record { left = inl (record { same = subst (λ (s : PartState _ _ _ _). s ≡ record c.args.part.now { store = s.store; main = s.main; merger = Some out.watch; merging = None; failed = s.failed }) (sym home.1) refl; home = inr home.2 }); failed = λ p m part is made told. absurd (true≢false (sym c.requires.failed ∙ part.sound)); moments = c.finish_merge-given.ensures.moments; unmade_failed = c.finish_merge-given.ensures.unmade_failed; unmade_moments = c.finish_merge-given.ensures.unmade_moments } in
-    subst (λ (j : JobsState _ _ _). KeepsJobs e ⊥ (beside c.args.part.now c.args.jobs.now) (beside c.finish_merge-given.new.self j)) (sym c.join_merge.ensures.taken) (fallen_keeps e g.S.Frozen.Frozen.name g.S.Device.Device.size c.args.part.now c.finish_merge-given.new.self c.args.jobs.now found.0 out.watch out.device out.outcome back c.finish_merge-given.ensures.devices f c.requires.jobs ⊥ _ c.finish_merge-given.ensures.watched (λ never. absurd never))
+    let f : HasFallen e g.S.Frozen.Frozen.name g.S.Device.Device.size c.args.part.now c.finish_merge-given.new.self c.args.jobs.now found.0 out.watch out.device
+    out.outcome = record {
+      left = inl (record {
+        same = subst (λ (s : PartState _ _ _ _). s
+            ≡ record c.args.part.now { store = s.store; main = s.main; merger = Some out.watch; merging = None; failed = s.failed }) (sym home.1) refl;
+        home = inr home.2;
+      });
+      failed = λ p m part is made told. absurd (true≢false (sym c.requires.failed ∙ part.sound));
+      moments = c.finish_merge-given.ensures.moments;
+      unmade_failed = c.finish_merge-given.ensures.unmade_failed;
+      unmade_moments = c.finish_merge-given.ensures.unmade_moments;
+    } in
+    subst (λ (j : JobsState _ _ _). KeepsJobs e ⊥ (beside c.args.part.now c.args.jobs.now) (beside c.finish_merge-given.new.self j)) (sym c.join_merge.ensures.taken)
+    (fallen_keeps e g.S.Frozen.Frozen.name g.S.Device.Device.size c.args.part.now c.finish_merge-given.new.self c.args.jobs.now found.0 out.watch out.device
+    out.outcome back c.finish_merge-given.ensures.devices f c.requires.jobs ⊥ _ c.finish_merge-given.ensures.watched (λ never. absurd never))
 
 pub returns-in-Some-clause-stays : goal.returns-in-Some-clause-stays
 returns-in-Some-clause-stays g c = λ p frame has works.
@@ -50,9 +63,15 @@ returns-in-Some-clause-stays g c = λ p frame has works.
 pub returns-in-None-clause-keeps : goal.returns-in-None-clause-keeps
 returns-in-None-clause-keeps g c =
     let e = eyes g.S.Store.history g.S.Device.Device.history g.S.Frozen.Frozen.content g.S.Device.Device.name g.S.Frozen.Frozen.size g.S.Watch.Watch.counts in
-    subst (λ (j : JobsState _ _ _). KeepsJobs e ⊥ (beside c.args.part.now c.args.jobs.now) (beside c.args.part.now j)) (sym (c.join_merge.ensures.taken ∙ ap (λ o. record c.args.jobs.now { merge = o }) (sym (none_back c.args.jobs.now.merge c.in-None.ensures.some)))) (keeps_same e (beside c.args.part.now c.args.jobs.now) ⊥ c.requires.jobs (λ never. never))
+    subst (λ (j : JobsState _ _ _). KeepsJobs e ⊥ (beside c.args.part.now c.args.jobs.now) (beside c.args.part.now j))
+    (sym (c.join_merge.ensures.taken ∙ ap (λ o. record c.args.jobs.now { merge = o }) (sym (none_back c.args.jobs.now.merge c.in-None.ensures.some))))
+    (keeps_same e (beside c.args.part.now c.args.jobs.now) ⊥ c.requires.jobs (λ never. never))
 
 pub returns-in-None-clause-stays : goal.returns-in-None-clause-stays
 returns-in-None-clause-stays g c = λ p frame has works.
-    let e = eyes g.S.Store.history g.S.Device.Device.history g.S.Frozen.Frozen.content g.S.Device.Device.name g.S.Frozen.Frozen.size g.S.Watch.Watch.counts in
-    (has, subst (λ (j : JobsState _ _ _). works_by e (beside c.args.part.now j) p) (sym (c.join_merge.ensures.taken ∙ ap (λ o. record c.args.jobs.now { merge = o }) (sym (none_back c.args.jobs.now.merge c.in-None.ensures.some)))) works, failed_none p frame (told_by e (beside c.args.part.now c.args.jobs.now)))
+    let e = eyes g.S.Store.history g.S.Device.Device.history g.S.Frozen.Frozen.content g.S.Device.Device.name g.S.Frozen.Frozen.size g.S.Watch.Watch.counts in (
+      has,
+      subst (λ (j : JobsState _ _ _). works_by e (beside c.args.part.now j) p)
+          (sym (c.join_merge.ensures.taken ∙ ap (λ o. record c.args.jobs.now { merge = o }) (sym (none_back c.args.jobs.now.merge c.in-None.ensures.some)))) works,
+      failed_none p frame (told_by e (beside c.args.part.now c.args.jobs.now)),
+    )

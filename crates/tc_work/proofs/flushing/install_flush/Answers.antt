@@ -37,7 +37,14 @@ returns-in_err-finish_flush-in-Some-clause-moves g c =
     let was = c.in_err-finish_flush-in-Some.was in
     let failed = c.in_err-finish_flush-in-Some.ensures in
     let sound = c.requires.may.sound in
-    let f : HasFallen e g.S.Frozen.Frozen.name g.S.Device.Device.size c.args.part.now c.finish_flush.new.self c.args.jobs.now found.0 out.watch out.device out.outcome = record { left = failed.left.1; failed = failed.failed; moments = c.finish_flush.ensures.moments; unmade_failed = c.finish_flush.ensures.unmade_failed; unmade_moments = c.finish_flush.ensures.unmade_moments } in
+    let f : HasFallen e g.S.Frozen.Frozen.name g.S.Device.Device.size c.args.part.now c.finish_flush.new.self c.args.jobs.now found.0 out.watch out.device out.outcome
+    = record {
+      left = failed.left.1;
+      failed = failed.failed;
+      moments = c.finish_flush.ensures.moments;
+      unmade_failed = c.finish_flush.ensures.unmade_failed;
+      unmade_moments = c.finish_flush.ensures.unmade_moments;
+    } in
     subst (λ (j : JobsState _ _ _). Moves e r (beside c.args.part.now c.args.jobs.now) (beside c.finish_flush.new.self j)) (sym c.join_flush.ensures.taken)
     (fallen e g.S.Frozen.Frozen.name g.S.Device.Device.size c.args.part.now c.finish_flush.new.self c.args.jobs.now found.0 out.watch out.device out.outcome back handed f of.1.log of.0 c.requires.may.jobs documents.table documents.of r _ (err_of r fault is) _ c.finish_flush.ensures.watched
     (λ disk. flush_cause out.outcome c.finish_flush.result (if_err out.outcome _ _ (λ cause made. (made sound).0) c.finish_flush.ensures.unmade) (disk_below r c.finish_flush.result fault is was disk))
@@ -64,10 +71,20 @@ returns-in_ok-finish_flush-in-Some-clause-moves g c =
     let handed : IsHandedBack e g.S.Frozen.Frozen.name g.S.Device.Device.size c.args.part.now c.finish_flush.new.self c.args.jobs.now found.0 out.watch out.device out.outcome = record { devices = c.finish_flush.ensures.devices; merge_named = c.finish_flush.ensures.merge_named } in
     let ok = c.in_ok-finish_flush-in-Some.ensures in
     let sound = c.requires.may.sound in
-    let i : IsInstalled e g.S.Frozen.Frozen.name g.S.Device.Device.size c.args.part.now c.finish_flush.new.self c.args.jobs.now found.0 out.watch out.device out.outcome = record { same = ok.same sound; listed = ok.listed sound; flushed = ok.flushed sound; moments = c.finish_flush.ensures.moments; uncovered = ok.uncovered sound; own = ok.own sound c.requires.may.ready.own; log_out = ok.log_out } in
+    let i : IsInstalled e g.S.Frozen.Frozen.name g.S.Device.Device.size c.args.part.now c.finish_flush.new.self c.args.jobs.now found.0 out.watch out.device
+    out.outcome = record {
+      same = ok.same sound;
+      listed = ok.listed sound;
+      flushed = ok.flushed sound;
+      moments = c.finish_flush.ensures.moments;
+      uncovered = ok.uncovered sound;
+      own = ok.own sound c.requires.may.ready.own;
+      log_out = ok.log_out;
+    } in
     let ended = ended_well out.outcome c.finish_flush.result _ _ of_device c.finish_flush.ensures.unmade (λ cause made. (made sound).0) c.in_ok-finish_flush-in-Some.was in
     subst (λ (j : JobsState _ _ _). Moves e (Ok tt) (beside c.args.part.now c.args.jobs.now) (beside c.finish_flush.new.self j)) (sym c.join_flush.ensures.taken)
-    (installed e g.S.Frozen.Frozen.name g.S.Device.Device.size c.args.part.now c.finish_flush.new.self c.args.jobs.now found.0 out.watch out.device out.outcome back handed i of.1.log of.0 sound c.requires.may.ready c.requires.may.jobs documents.table documents.of ended _ c.finish_flush.ensures.watched)
+    (installed e g.S.Frozen.Frozen.name g.S.Device.Device.size c.args.part.now c.finish_flush.new.self c.args.jobs.now found.0 out.watch out.device out.outcome back
+    handed i of.1.log of.0 sound c.requires.may.ready c.requires.may.jobs documents.table documents.of ended _ c.finish_flush.ensures.watched)
 
 pub returns-in_ok-finish_flush-in-Some-clause-listed : goal.returns-in_ok-finish_flush-in-Some-clause-listed
 returns-in_ok-finish_flush-in-Some-clause-listed g c =
@@ -82,7 +99,16 @@ returns-in_ok-finish_flush-in-Some-clause-listed g c =
     let handed : IsHandedBack e g.S.Frozen.Frozen.name g.S.Device.Device.size c.args.part.now c.finish_flush.new.self c.args.jobs.now found.0 out.watch out.device out.outcome = record { devices = c.finish_flush.ensures.devices; merge_named = c.finish_flush.ensures.merge_named } in
     let ok = c.in_ok-finish_flush-in-Some.ensures in
     let sound = c.requires.may.sound in
-    let i : IsInstalled e g.S.Frozen.Frozen.name g.S.Device.Device.size c.args.part.now c.finish_flush.new.self c.args.jobs.now found.0 out.watch out.device out.outcome = record { same = ok.same sound; listed = ok.listed sound; flushed = ok.flushed sound; moments = c.finish_flush.ensures.moments; uncovered = ok.uncovered sound; own = ok.own sound c.requires.may.ready.own; log_out = ok.log_out } in
+    let i : IsInstalled e g.S.Frozen.Frozen.name g.S.Device.Device.size c.args.part.now c.finish_flush.new.self c.args.jobs.now found.0 out.watch out.device
+    out.outcome = record {
+      same = ok.same sound;
+      listed = ok.listed sound;
+      flushed = ok.flushed sound;
+      moments = c.finish_flush.ensures.moments;
+      uncovered = ok.uncovered sound;
+      own = ok.own sound c.requires.may.ready.own;
+      log_out = ok.log_out;
+    } in
     let ended = ended_well out.outcome c.finish_flush.result _ _ of_device c.finish_flush.ensures.unmade (λ cause made. (made sound).0) c.in_ok-finish_flush-in-Some.was in
     subst (λ (j : JobsState _ _ _). (policy : Policy) → IsPickedBy e policy (beside c.args.part.now c.args.jobs.now) → ListsPicked e policy (beside c.args.part.now c.args.jobs.now) (beside c.finish_flush.new.self j)) (sym c.join_flush.ensures.taken)
     (installed_lists e g.S.Frozen.Frozen.name g.S.Device.Device.size c.args.part.now c.finish_flush.new.self c.args.jobs.now found.0 out.watch out.device out.outcome back handed i of.1.log of.0 sound c.requires.may.ready c.requires.may.jobs documents.table documents.of ended)
@@ -95,4 +121,6 @@ returns-in_ok-finish_flush-in-Some-clause-behind g c = λ out. let listed = c.in
 pub returns-in-None-clause-moves : goal.returns-in-None-clause-moves
 returns-in-None-clause-moves g c =
     let e = eyes g.S.Store.history g.S.Device.Device.history g.S.Frozen.Frozen.content g.S.Device.Device.name g.S.Frozen.Frozen.size g.S.Watch.Watch.counts in
-    subst (λ (j : JobsState _ _ _). Moves e (Ok tt) (beside c.args.part.now c.args.jobs.now) (beside c.args.part.now j)) (sym (c.join_flush.ensures.taken ∙ ap (λ o. record c.args.jobs.now { flush = o }) (sym (none_back c.args.jobs.now.flush c.in-None.ensures.some)))) (moves_nothing e (beside c.args.part.now c.args.jobs.now) c.requires.may)
+    subst (λ (j : JobsState _ _ _). Moves e (Ok tt) (beside c.args.part.now c.args.jobs.now) (beside c.args.part.now j))
+    (sym (c.join_flush.ensures.taken ∙ ap (λ o. record c.args.jobs.now { flush = o }) (sym (none_back c.args.jobs.now.flush c.in-None.ensures.some))))
+    (moves_nothing e (beside c.args.part.now c.args.jobs.now) c.requires.may)

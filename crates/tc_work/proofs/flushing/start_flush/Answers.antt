@@ -58,7 +58,10 @@ returns-clause-moves g c =
 
 pub returns-clause-listed : goal.returns-clause-listed
 returns-clause-listed g c =
-    subst (λ (j : JobsState _ _ _). (policy : Policy) → IsPickedBy (eyes g.S.Store.history g.S.Device.Device.history g.S.Frozen.Frozen.content g.S.Device.Device.name g.S.Frozen.Frozen.size g.S.Watch.Watch.counts) policy (beside c.args.part.now c.args.jobs.now) → ListsPicked (eyes g.S.Store.history g.S.Device.Device.history g.S.Frozen.Frozen.content g.S.Device.Device.name g.S.Frozen.Frozen.size g.S.Watch.Watch.counts) policy (beside c.args.part.now c.args.jobs.now) (beside c.begin_flush.new.self j)) (sym c.start_flush.ensures)
+    subst (λ (j : JobsState _ _ _). (policy : Policy) → IsPickedBy
+    (eyes g.S.Store.history g.S.Device.Device.history g.S.Frozen.Frozen.content g.S.Device.Device.name g.S.Frozen.Frozen.size g.S.Watch.Watch.counts) policy
+    (beside c.args.part.now c.args.jobs.now) → ListsPicked (eyes g.S.Store.history g.S.Device.Device.history g.S.Frozen.Frozen.content g.S.Device.Device.name
+    g.S.Frozen.Frozen.size g.S.Watch.Watch.counts) policy (beside c.args.part.now c.args.jobs.now) (beside c.begin_flush.new.self j)) (sym c.start_flush.ensures)
     (started_lists (eyes g.S.Store.history g.S.Device.Device.history g.S.Frozen.Frozen.content g.S.Device.Device.name g.S.Frozen.Frozen.size g.S.Watch.Watch.counts) c.args.part.now c.begin_flush.new.self c.args.jobs.now c.in_ok-job.job c.begin_flush.result begun
     c.requires.may.sound c.requires.none_out c.requires.both c.requires.may.ready c.requires.may.jobs)
   where

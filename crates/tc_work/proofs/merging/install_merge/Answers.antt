@@ -42,7 +42,14 @@ returns-in_err-finish_merge-in-Some-clause-moves g c =
     let was = c.in_err-finish_merge-in-Some.was in
     let failed = c.in_err-finish_merge-in-Some.ensures in
     let sound = c.requires.may.sound in
-    let f : HasFallen e g.S.Frozen.Frozen.name g.S.Device.Device.size c.args.part.now c.finish_merge.new.self c.args.jobs.now found.0 out.watch out.device out.outcome = record { left = failed.left.1; failed = failed.failed; moments = c.finish_merge.ensures.moments; unmade_failed = c.finish_merge.ensures.unmade_failed; unmade_moments = c.finish_merge.ensures.unmade_moments } in
+    let f : HasFallen e g.S.Frozen.Frozen.name g.S.Device.Device.size c.args.part.now c.finish_merge.new.self c.args.jobs.now found.0 out.watch out.device out.outcome
+    = record {
+      left = failed.left.1;
+      failed = failed.failed;
+      moments = c.finish_merge.ensures.moments;
+      unmade_failed = c.finish_merge.ensures.unmade_failed;
+      unmade_moments = c.finish_merge.ensures.unmade_moments;
+    } in
     subst (λ (j : JobsState _ _ _). Moves e r (beside c.args.part.now c.args.jobs.now) (beside c.finish_merge.new.self j)) (sym c.join_merge.ensures.taken)
     (fallen e g.S.Frozen.Frozen.name g.S.Device.Device.size c.args.part.now c.finish_merge.new.self c.args.jobs.now found.0 out.watch out.device out.outcome back c.finish_merge.ensures.devices f c.requires.may.jobs r _ (err_of r fault is) _ c.finish_merge.ensures.watched
     (λ disk. merge_cause out.outcome result (if_err out.outcome _ _ (λ cause made. (made sound).0) c.finish_merge.ensures.unmade) (disk_below r result fault is was disk))
@@ -56,7 +63,10 @@ returns-in_err-finish_merge-in-Some-clause-moves g c =
     damaged_so r result fault (λ damage. ⊥) (λ damage. ⊥) is was
     (by_outcome out.outcome _ (part_damaged result (λ damage. ⊥)) (err_both out.outcome _ _ c.finish_merge.ensures.unmade ran.damaged)
     (λ cause both. told_damage result cause (IsHarmIn e.content found.0.run) (λ damage. ⊥) (both.0 sound).0 both.1 (λ file place bytes. not_harmed_run e.content contents.found contents.fetched found.0.run (contents_in_run m.merging.run p.list) file place bytes m.loaded))
-    (λ ended. where_told (e.disks c.args.part.now.store) (part_damaged result (λ damage. ⊥)) told.store (c.finish_merge.ensures.undamaged ended p m.merging part m.is_out ((ran_for e g.S.Frozen.Frozen.name g.S.Device.Device.size c.args.part.now c.finish_merge.new.self c.args.jobs.now found.0 out.watch out.device out.outcome back p part told works).made ended)))) (λ damage never. never))
+    (λ ended. where_told (e.disks c.args.part.now.store) (part_damaged result (λ damage. ⊥)) told.store
+    (c.finish_merge.ensures.undamaged ended p m.merging part m.is_out
+    ((ran_for e g.S.Frozen.Frozen.name g.S.Device.Device.size c.args.part.now c.finish_merge.new.self c.args.jobs.now found.0 out.watch out.device out.outcome back
+    p part told works).made ended)))) (λ damage never. never))
     (λ spent. c.finish_merge.ensures.unspent (spent_below r result fault is was spent)))
 
 -- ---- it is listed
@@ -72,7 +82,16 @@ returns-in_ok-finish_merge-in-Some-clause-moves g c =
     let back : IsBack e g.S.Frozen.Frozen.name g.S.Device.Device.size c.args.part.now c.finish_merge.new.self c.args.jobs.now found.0 out.watch out.device out.outcome = record { is_job = found.1; of = of.1; ran = ran; sized = laws.told_size out.device } in
     let ok = c.in_ok-finish_merge-in-Some.ensures in
     let sound = c.requires.may.sound in
-    let i : IsInstalled e g.S.Frozen.Frozen.name g.S.Device.Device.size c.args.part.now c.finish_merge.new.self c.args.jobs.now found.0 out.watch out.device out.outcome = record { same = ok.same sound; listed = ok.listed sound; merged = ok.merged; moments = c.finish_merge.ensures.moments; removed = ok.removed sound; own = ok.own sound c.requires.may.ready.own; log_out = ok.log_out } in
+    let i : IsInstalled e g.S.Frozen.Frozen.name g.S.Device.Device.size c.args.part.now c.finish_merge.new.self c.args.jobs.now found.0 out.watch out.device
+    out.outcome = record {
+      same = ok.same sound;
+      listed = ok.listed sound;
+      merged = ok.merged;
+      moments = c.finish_merge.ensures.moments;
+      removed = ok.removed sound;
+      own = ok.own sound c.requires.may.ready.own;
+      log_out = ok.log_out;
+    } in
     let ended = ended_well out.outcome c.finish_merge.result _ _ (λ cause. of_job (of_merge cause)) c.finish_merge.ensures.unmade (λ cause made. (made sound).0) c.in_ok-finish_merge-in-Some.was in
     subst (λ (j : JobsState _ _ _). Moves e (Ok tt) (beside c.args.part.now c.args.jobs.now) (beside c.finish_merge.new.self j)) (sym c.join_merge.ensures.taken)
     (installed e g.S.Frozen.Frozen.name g.S.Device.Device.size c.args.part.now c.finish_merge.new.self c.args.jobs.now found.0 out.watch out.device out.outcome back c.finish_merge.ensures.devices i sound c.requires.may.ready c.requires.may.jobs ended _ c.finish_merge.ensures.watched)
@@ -88,7 +107,16 @@ returns-in_ok-finish_merge-in-Some-clause-listed g c =
     let back : IsBack e g.S.Frozen.Frozen.name g.S.Device.Device.size c.args.part.now c.finish_merge.new.self c.args.jobs.now found.0 out.watch out.device out.outcome = record { is_job = found.1; of = of.1; ran = ran; sized = laws.told_size out.device } in
     let ok = c.in_ok-finish_merge-in-Some.ensures in
     let sound = c.requires.may.sound in
-    let i : IsInstalled e g.S.Frozen.Frozen.name g.S.Device.Device.size c.args.part.now c.finish_merge.new.self c.args.jobs.now found.0 out.watch out.device out.outcome = record { same = ok.same sound; listed = ok.listed sound; merged = ok.merged; moments = c.finish_merge.ensures.moments; removed = ok.removed sound; own = ok.own sound c.requires.may.ready.own; log_out = ok.log_out } in
+    let i : IsInstalled e g.S.Frozen.Frozen.name g.S.Device.Device.size c.args.part.now c.finish_merge.new.self c.args.jobs.now found.0 out.watch out.device
+    out.outcome = record {
+      same = ok.same sound;
+      listed = ok.listed sound;
+      merged = ok.merged;
+      moments = c.finish_merge.ensures.moments;
+      removed = ok.removed sound;
+      own = ok.own sound c.requires.may.ready.own;
+      log_out = ok.log_out;
+    } in
     let ended = ended_well out.outcome c.finish_merge.result _ _ (λ cause. of_job (of_merge cause)) c.finish_merge.ensures.unmade (λ cause made. (made sound).0) c.in_ok-finish_merge-in-Some.was in
     subst (λ (j : JobsState _ _ _). (policy : Policy) → IsPickedBy e policy (beside c.args.part.now c.args.jobs.now) → ListsPicked e policy (beside c.args.part.now c.args.jobs.now) (beside c.finish_merge.new.self j)) (sym c.join_merge.ensures.taken)
     (installed_lists e g.S.Frozen.Frozen.name g.S.Device.Device.size c.args.part.now c.finish_merge.new.self c.args.jobs.now found.0 out.watch out.device out.outcome back c.finish_merge.ensures.devices i sound c.requires.may.ready c.requires.may.jobs ended)
@@ -98,4 +126,6 @@ returns-in_ok-finish_merge-in-Some-clause-listed g c =
 pub returns-in-None-clause-moves : goal.returns-in-None-clause-moves
 returns-in-None-clause-moves g c =
     let e = eyes g.S.Store.history g.S.Device.Device.history g.S.Frozen.Frozen.content g.S.Device.Device.name g.S.Frozen.Frozen.size g.S.Watch.Watch.counts in
-    subst (λ (j : JobsState _ _ _). Moves e (Ok tt) (beside c.args.part.now c.args.jobs.now) (beside c.args.part.now j)) (sym (c.join_merge.ensures.taken ∙ ap (λ o. record c.args.jobs.now { merge = o }) (sym (none_back c.args.jobs.now.merge c.in-None.ensures.some)))) (moves_nothing e (beside c.args.part.now c.args.jobs.now) c.requires.may)
+    subst (λ (j : JobsState _ _ _). Moves e (Ok tt) (beside c.args.part.now c.args.jobs.now) (beside c.args.part.now j))
+    (sym (c.join_merge.ensures.taken ∙ ap (λ o. record c.args.jobs.now { merge = o }) (sym (none_back c.args.jobs.now.merge c.in-None.ensures.some))))
+    (moves_nothing e (beside c.args.part.now c.args.jobs.now) c.requires.may)

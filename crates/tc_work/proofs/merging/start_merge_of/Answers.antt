@@ -63,7 +63,9 @@ returns-clause-moves g c =
 
 pub returns-clause-listed : goal.returns-clause-listed
 returns-clause-listed g c =
-    subst (λ (j : JobsState _ _ _). (policy : Policy) → IsPicked policy (map (λ m. g.S.Frozen.Frozen.size m.file) c.args.part.now.list) c.args.run → ListsPicked (eyes g.S.Store.history g.S.Device.Device.history g.S.Frozen.Frozen.content g.S.Device.Device.name g.S.Frozen.Frozen.size g.S.Watch.Watch.counts) policy (beside c.args.part.now c.args.jobs.now) (beside c.begin_merge.new.self j)) (sym c.start_merge.ensures)
+    subst (λ (j : JobsState _ _ _). (policy : Policy) → IsPicked policy (map (λ m. g.S.Frozen.Frozen.size m.file) c.args.part.now.list) c.args.run
+    → ListsPicked (eyes g.S.Store.history g.S.Device.Device.history g.S.Frozen.Frozen.content g.S.Device.Device.name g.S.Frozen.Frozen.size g.S.Watch.Watch.counts)
+    policy (beside c.args.part.now c.args.jobs.now) (beside c.begin_merge.new.self j)) (sym c.start_merge.ensures)
     (started_lists (eyes g.S.Store.history g.S.Device.Device.history g.S.Frozen.Frozen.content g.S.Device.Device.name g.S.Frozen.Frozen.size g.S.Watch.Watch.counts) c.args.part.now c.begin_merge.new.self c.args.jobs.now c.in_ok-job.job c.args.run c.begin_merge.result begun
     c.requires.may.sound c.requires.none_out c.requires.run c.requires.may.ready c.requires.may.jobs)
   where

@@ -29,7 +29,9 @@ returns-clause-few g c = ok_then c.start_merge.result _ _ (λ (begun : c.start_m
 
 pub returns-clause-merged : goal.returns-clause-merged
 returns-clause-merged g c = ok_then c.start_merge.result _ _ (λ (begun : c.start_merge.new.part ≡ _).
-    merged_then c.args.part.now c.make_room.new.part c.start_merge.new.part c.in_ok-make_room.ensures.merged (subst (λ (s : PartState _ _ _ _). s ≡ record c.make_room.new.part { store = s.store; main = s.main; merger = s.merger; list = s.list; merging = s.merging }) (sym begun) refl)) c.start_merge.ensures.begun
+    merged_then c.args.part.now c.make_room.new.part c.start_merge.new.part c.in_ok-make_room.ensures.merged
+    (subst (λ (s : PartState _ _ _ _). s ≡ record c.make_room.new.part { store = s.store; main = s.main; merger = s.merger; list = s.list; merging = s.merging })
+    (sym begun) refl)) c.start_merge.ensures.begun
 
 pub returns-clause-flush : goal.returns-clause-flush
 returns-clause-flush g c = c.start_merge.ensures.flush ∙ c.make_room.ensures.flush

@@ -12,7 +12,9 @@ use Rattle.tc_work.proofs.settling.settle_part.Goals as goal
 -- ---- nothing shares them any more
 
 pub go_on-requires-clause-may : goal.go_on-requires-clause-may
-go_on-requires-clause-may g c κs within = may_then (eyes g.S.Store.history g.S.Device.Device.history g.S.Frozen.Frozen.content g.S.Device.Device.name g.S.Frozen.Frozen.size g.S.Watch.Watch.counts) (beside c.args.part.now c.args.jobs.now) (beside c.sweep.new.part c.args.jobs.now) (beside c.sweep.new.part c.args.jobs.now) (c.in_ok-sweep.ensures.moves c.args.jobs.now c.requires.may)
+go_on-requires-clause-may g c κs within = may_then (eyes g.S.Store.history g.S.Device.Device.history g.S.Frozen.Frozen.content g.S.Device.Device.name
+    g.S.Frozen.Frozen.size g.S.Watch.Watch.counts) (beside c.args.part.now c.args.jobs.now) (beside c.sweep.new.part c.args.jobs.now)
+    (beside c.sweep.new.part c.args.jobs.now) (c.in_ok-sweep.ensures.moves c.args.jobs.now c.requires.may)
 
 pub go_on-requires-clause-nothing_staged : goal.go_on-requires-clause-nothing_staged
 go_on-requires-clause-nothing_staged g c κs within = ap (λ (s : PartState _ _ _ _). s.staged) c.sweep.ensures.same ∙ c.requires.nothing_staged
@@ -54,9 +56,13 @@ returns-clause-short g c = subst (λ (s : PartState _ _ _ _). OnOk c.go_on.resul
 
 pub returns-clause-moves : goal.returns-clause-moves
 returns-clause-moves g c =
-    then_over (eyes g.S.Store.history g.S.Device.Device.history g.S.Frozen.Frozen.content g.S.Device.Device.name g.S.Frozen.Frozen.size g.S.Watch.Watch.counts) (beside c.args.part.now c.args.jobs.now) (beside c.sweep.new.part c.args.jobs.now) (beside c.go_on.new.part c.go_on.new.jobs) c.go_on.result c.requires.may
+    then_over (eyes g.S.Store.history g.S.Device.Device.history g.S.Frozen.Frozen.content g.S.Device.Device.name g.S.Frozen.Frozen.size g.S.Watch.Watch.counts)
+    (beside c.args.part.now c.args.jobs.now) (beside c.sweep.new.part c.args.jobs.now) (beside c.go_on.new.part c.go_on.new.jobs) c.go_on.result c.requires.may
     (c.in_ok-sweep.ensures.moves c.args.jobs.now c.requires.may) c.go_on.ensures.moves
 
 pub returns-clause-listed : goal.returns-clause-listed
 returns-clause-listed g c =
-    ok_then c.go_on.result _ _ (λ lists. lists_then (eyes g.S.Store.history g.S.Device.Device.history g.S.Frozen.Frozen.content g.S.Device.Device.name g.S.Frozen.Frozen.size g.S.Watch.Watch.counts) (beside c.args.part.now c.args.jobs.now) (beside c.sweep.new.part c.args.jobs.now) (beside c.go_on.new.part c.go_on.new.jobs) c.args.policy (c.in_ok-sweep.ensures.listed c.args.policy c.args.jobs.now c.requires.picked) lists) c.go_on.ensures.listed
+    ok_then c.go_on.result _ _ (λ lists. lists_then (eyes g.S.Store.history g.S.Device.Device.history g.S.Frozen.Frozen.content g.S.Device.Device.name
+    g.S.Frozen.Frozen.size g.S.Watch.Watch.counts) (beside c.args.part.now c.args.jobs.now) (beside c.sweep.new.part c.args.jobs.now)
+    (beside c.go_on.new.part c.go_on.new.jobs) c.args.policy (c.in_ok-sweep.ensures.listed c.args.policy c.args.jobs.now c.requires.picked) lists)
+    c.go_on.ensures.listed

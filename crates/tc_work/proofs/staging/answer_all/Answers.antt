@@ -146,7 +146,9 @@ returns-clause-staged g c = λ p is.
     let list = c.args.list.now in
     let none : drop c.loop-routed.routed-index list ≡ [] = drop_of_length-le list (omega (arith, c.loop-routed-test.false)) in
     ends_staged c.args.part.now.limits (map routed_of list) (plain_of old p) p (AreTold old.components) (replies_in c.loop-routed.replies.items) (told g.S.Store.history g.S.Device.Device.history g.S.Frozen.Frozen.content c.loop-routed.part)
-    (subst (λ xs. IsUnderway c.args.part.now.limits (map routed_of list) (plain_of old p) p (AreTold old.components) (map routed_of xs) (replies_in c.loop-routed.replies.items) (told g.S.Store.history g.S.Device.Device.history g.S.Frozen.Frozen.content c.loop-routed.part)) none (c.loop-routed.invariant.underway p is))
+    (subst (λ xs. IsUnderway c.args.part.now.limits (map routed_of list) (plain_of old p) p (AreTold old.components) (map routed_of xs)
+    (replies_in c.loop-routed.replies.items) (told g.S.Store.history g.S.Device.Device.history g.S.Frozen.Frozen.content c.loop-routed.part)) none
+    (c.loop-routed.invariant.underway p is))
 
 pub returns-clause-replies : goal.returns-clause-replies
 returns-clause-replies g c = λ p is are_told.
@@ -155,7 +157,9 @@ returns-clause-replies g c = λ p is are_told.
     let none : drop c.loop-routed.routed-index list ≡ [] = drop_of_length-le list (omega (arith, c.loop-routed-test.false)) in
     ap replies_in c.of.ensures
     ∙ ends_replied c.args.part.now.limits (map routed_of list) (plain_of old p) p (AreTold old.components) (replies_in c.loop-routed.replies.items) (told g.S.Store.history g.S.Device.Device.history g.S.Frozen.Frozen.content c.loop-routed.part)
-    (subst (λ xs. IsUnderway c.args.part.now.limits (map routed_of list) (plain_of old p) p (AreTold old.components) (map routed_of xs) (replies_in c.loop-routed.replies.items) (told g.S.Store.history g.S.Device.Device.history g.S.Frozen.Frozen.content c.loop-routed.part)) none (c.loop-routed.invariant.underway p is)) are_told
+    (subst (λ xs. IsUnderway c.args.part.now.limits (map routed_of list) (plain_of old p) p (AreTold old.components) (map routed_of xs)
+    (replies_in c.loop-routed.replies.items) (told g.S.Store.history g.S.Device.Device.history g.S.Frozen.Frozen.content c.loop-routed.part)) none
+    (c.loop-routed.invariant.underway p is)) are_told
 
 pub returns-clause-places : goal.returns-clause-places
 returns-clause-places g c =

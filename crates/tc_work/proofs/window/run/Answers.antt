@@ -18,7 +18,10 @@ use Rattle.tc_work.proofs.window.run.Goals as goal
 
 pub returns-in_err-replies-clause-moments : goal.returns-in_err-replies-clause-moments
 returns-in_err-replies-clause-moments g c = λ p is.
-    no_moments (told g.S.Store.history g.S.Device.Device.history g.S.Frozen.Frozen.content c.args.part.now) (staged_as (part_writes_all c.args.part.now.limits (requests_in c.args.list.now) (plain_of (told g.S.Store.history g.S.Device.Device.history g.S.Frozen.Frozen.content c.args.part.now) p)) p) (g.S.Device.Device.history c.answer_all.new.part.log.device) (ap (λ (s : PartState _ _ _ _). g.S.Device.Device.history s.log.device) c.answer_all.ensures.same)
+    no_moments (told g.S.Store.history g.S.Device.Device.history g.S.Frozen.Frozen.content c.args.part.now)
+    (staged_as (part_writes_all c.args.part.now.limits (requests_in c.args.list.now)
+    (plain_of (told g.S.Store.history g.S.Device.Device.history g.S.Frozen.Frozen.content c.args.part.now) p)) p)
+    (g.S.Device.Device.history c.answer_all.new.part.log.device) (ap (λ (s : PartState _ _ _ _). g.S.Device.Device.history s.log.device) c.answer_all.ensures.same)
 
 pub returns-in_err-replies-clause-failed : goal.returns-in_err-replies-clause-failed
 returns-in_err-replies-clause-failed g c =
@@ -44,13 +47,18 @@ returns-in_err-replies-clause-unspent g c = λ spent. ap (λ (s : PartState _ _ 
 
 pub returns-in_err-replies-clause-counted : goal.returns-in_err-replies-clause-counted
 returns-in_err-replies-clause-counted g c =
-    counted_weaker (most_reads (live_in c.args.part.now) (requests_in c.args.list.now)) (most_reads (live_in c.args.part.now) (requests_in c.args.list.now)) _ _ _ _ (omega arith) (same_fault c.from_residual.result c.answer_all.result c.in_err-replies.field-0.0 _ c.from_residual.ensures.1 c.in_err-replies.was) c.answer_all.ensures.counted
+    counted_weaker (most_reads (live_in c.args.part.now) (requests_in c.args.list.now)) (most_reads (live_in c.args.part.now) (requests_in c.args.list.now)) _ _ _ _
+    (omega arith) (same_fault c.from_residual.result c.answer_all.result c.in_err-replies.field-0.0 _ c.from_residual.ensures.1 c.in_err-replies.was)
+    c.answer_all.ensures.counted
 
 -- ---- the commit fails
 
 pub returns-in_err-frame-clause-moments : goal.returns-in_err-frame-clause-moments
 returns-in_err-frame-clause-moments g c = λ p is.
-    subst (λ (t : Told). LogMomentsLeaveStore (staged_as (part_writes_all c.args.part.now.limits (requests_in c.args.list.now) (plain_of (told g.S.Store.history g.S.Device.Device.history g.S.Frozen.Frozen.content c.args.part.now) p)) p) t (g.S.Device.Device.history c.commit.new.self.log.device)) (ap (told g.S.Store.history g.S.Device.Device.history g.S.Frozen.Frozen.content) c.answer_all.ensures.same)
+    subst (λ (t : Told). LogMomentsLeaveStore (staged_as (part_writes_all c.args.part.now.limits (requests_in c.args.list.now)
+    (plain_of (told g.S.Store.history g.S.Device.Device.history g.S.Frozen.Frozen.content c.args.part.now) p)) p) t
+    (g.S.Device.Device.history c.commit.new.self.log.device)) (ap (told g.S.Store.history g.S.Device.Device.history g.S.Frozen.Frozen.content)
+    c.answer_all.ensures.same)
     (c.commit.ensures.moments (staged_as (part_writes_all c.args.part.now.limits (requests_in c.args.list.now) (plain_of (told g.S.Store.history g.S.Device.Device.history g.S.Frozen.Frozen.content c.args.part.now) p)) p) (c.in_ok-replies.ensures.staged p is).part)
 
 pub returns-in_err-frame-clause-failed : goal.returns-in_err-frame-clause-failed
@@ -109,16 +117,25 @@ pub returns-clause-writes : goal.returns-clause-writes
 returns-clause-writes g c = λ p is.
     ap (λ (s : PartState _ _ _ _). s.writes) c.in_ok-frame.ensures.same
     ∙ ap (λ n. n + length c.answer_all.new.part.staged) (ap (λ (s : PartState _ _ _ _). s.writes) c.answer_all.ensures.same)
-    ∙ ap (λ n. c.args.part.now.writes + n) (count_staged (told g.S.Store.history g.S.Device.Device.history g.S.Frozen.Frozen.content c.answer_all.new.part) p (part_writes_all c.args.part.now.limits (requests_in c.args.list.now) (plain_of (told g.S.Store.history g.S.Device.Device.history g.S.Frozen.Frozen.content c.args.part.now) p)) (none_staged_in (told g.S.Store.history g.S.Device.Device.history g.S.Frozen.Frozen.content c.args.part.now) p is c.requires.nothing_staged) (c.in_ok-replies.ensures.staged p is).part)
+    ∙ ap (λ n. c.args.part.now.writes + n) (count_staged (told g.S.Store.history g.S.Device.Device.history g.S.Frozen.Frozen.content c.answer_all.new.part) p
+    (part_writes_all c.args.part.now.limits (requests_in c.args.list.now)
+    (plain_of (told g.S.Store.history g.S.Device.Device.history g.S.Frozen.Frozen.content c.args.part.now) p))
+    (none_staged_in (told g.S.Store.history g.S.Device.Device.history g.S.Frozen.Frozen.content c.args.part.now) p is c.requires.nothing_staged)
+    (c.in_ok-replies.ensures.staged p is).part)
 
 pub returns-clause-moments : goal.returns-clause-moments
 returns-clause-moments g c = λ p is.
-    subst (λ (t : Told). LogMomentsLeaveStore (staged_as (part_writes_all c.args.part.now.limits (requests_in c.args.list.now) (plain_of (told g.S.Store.history g.S.Device.Device.history g.S.Frozen.Frozen.content c.args.part.now) p)) p) t (g.S.Device.Device.history c.commit.new.self.log.device)) (ap (told g.S.Store.history g.S.Device.Device.history g.S.Frozen.Frozen.content) c.answer_all.ensures.same)
+    subst (λ (t : Told). LogMomentsLeaveStore (staged_as (part_writes_all c.args.part.now.limits (requests_in c.args.list.now)
+    (plain_of (told g.S.Store.history g.S.Device.Device.history g.S.Frozen.Frozen.content c.args.part.now) p)) p) t
+    (g.S.Device.Device.history c.commit.new.self.log.device)) (ap (told g.S.Store.history g.S.Device.Device.history g.S.Frozen.Frozen.content)
+    c.answer_all.ensures.same)
     (c.commit.ensures.moments (staged_as (part_writes_all c.args.part.now.limits (requests_in c.args.list.now) (plain_of (told g.S.Store.history g.S.Device.Device.history g.S.Frozen.Frozen.content c.args.part.now) p)) p) (c.in_ok-replies.ensures.staged p is).part)
 
 pub returns-clause-counted : goal.returns-clause-counted
 returns-clause-counted g c =
-    committed_counted (most_reads (live_in c.args.part.now) (requests_in c.args.list.now)) _ _ _ (g.S.Watch.Watch.counts c.args.part.now.main) (g.S.Watch.Watch.counts c.answer_all.new.part.main) (g.S.Watch.Watch.counts c.commit.new.self.main) c.answer_all.ensures.counted c.commit.ensures.counted (λ failed. absurd (cc))
+    committed_counted (most_reads (live_in c.args.part.now) (requests_in c.args.list.now)) _ _ _ (g.S.Watch.Watch.counts c.args.part.now.main)
+    (g.S.Watch.Watch.counts c.answer_all.new.part.main) (g.S.Watch.Watch.counts c.commit.new.self.main) c.answer_all.ensures.counted c.commit.ensures.counted
+    (λ failed. absurd (cc))
 
 pub returns-clause-sound : goal.returns-clause-sound
 returns-clause-sound g c = ap (λ (s : PartState _ _ _ _). s.failed) c.in_ok-frame.ensures.same ∙ c.in_ok-replies.ensures.sound

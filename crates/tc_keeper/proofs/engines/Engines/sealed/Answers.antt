@@ -11,11 +11,21 @@ use Rattle.tc_keeper.proofs.engines.Engines.sealed.Goals as goal
 
 pub index-requires : goal.index-requires
 index-requires g c =
-    let many = seats_many (eyes g.S.Store.history g.S.Device.Device.history g.S.Frozen.Frozen.content g.S.Device.Device.name g.S.Frozen.Frozen.size g.S.Watch.Watch.counts) (λ (s : Seat g.row.S.Denot g.row.P.Denot g.row.S-Watch.Denot g.row.S-Device.Denot g.row.S-Frozen.Denot). s.engine) c.self.inside.seats.items c.self.inside.running.items c.args.self.now c.self.invariant c.self.view_is in
+    let many = seats_many (eyes g.S.Store.history g.S.Device.Device.history g.S.Frozen.Frozen.content g.S.Device.Device.name g.S.Frozen.Frozen.size
+    g.S.Watch.Watch.counts) (λ (s : Seat g.row.S.Denot g.row.P.Denot g.row.S-Watch.Denot g.row.S-Device.Denot g.row.S-Frozen.Denot). s.engine)
+    c.self.inside.seats.items c.self.inside.running.items c.args.self.now c.self.invariant c.self.view_is in
     omega (arith, c.requires.there, many, c.self.inside.seats.ok.0)
 
 pub returns : goal.returns
 returns g c =
-    let many = seats_many (eyes g.S.Store.history g.S.Device.Device.history g.S.Frozen.Frozen.content g.S.Device.Device.name g.S.Frozen.Frozen.size g.S.Watch.Watch.counts) (λ (s : Seat g.row.S.Denot g.row.P.Denot g.row.S-Watch.Denot g.row.S-Device.Denot g.row.S-Frozen.Denot). s.engine) c.self.inside.seats.items c.self.inside.running.items c.args.self.now c.self.invariant c.self.view_is in
+    let many = seats_many (eyes g.S.Store.history g.S.Device.Device.history g.S.Frozen.Frozen.content g.S.Device.Device.name g.S.Frozen.Frozen.size
+    g.S.Watch.Watch.counts) (λ (s : Seat g.row.S.Denot g.row.P.Denot g.row.S-Watch.Denot g.row.S-Device.Denot g.row.S-Frozen.Denot). s.engine)
+    c.self.inside.seats.items c.self.inside.running.items c.args.self.now c.self.invariant c.self.view_is in
     subst (λ es. IsAt c.args.at es (λ e. option_map (λ table. arc_value table.now) c.sealed.result ≡ e.engine.part.sealed)) c.self.view_is
-    (engine_placed (λ (s : Seat g.row.S.Denot g.row.P.Denot g.row.S-Watch.Denot g.row.S-Device.Denot g.row.S-Frozen.Denot). s.engine) (λ e. option_map (λ table. arc_value table.now) c.sealed.result ≡ e.part.sealed) c.args.at c.self.inside.seats.items c.self.inside.running.items c.index.result.now (sym (length-map c.self.inside.seats.items (λ (s : Seat g.row.S.Denot g.row.P.Denot g.row.S-Watch.Denot g.row.S-Device.Denot g.row.S-Frozen.Denot). s.engine)) ∙ staffed-many (eyes g.S.Store.history g.S.Device.Device.history g.S.Frozen.Frozen.content g.S.Device.Device.name g.S.Frozen.Frozen.size g.S.Watch.Watch.counts) (map (λ (s : Seat g.row.S.Denot g.row.P.Denot g.row.S-Watch.Denot g.row.S-Device.Denot g.row.S-Frozen.Denot). s.engine) c.self.inside.seats.items) c.self.inside.running.items c.self.invariant) (omega (arith, c.requires.there, many)) c.index.ensures c.sealed.ensures)
+    (engine_placed (λ (s : Seat g.row.S.Denot g.row.P.Denot g.row.S-Watch.Denot g.row.S-Device.Denot g.row.S-Frozen.Denot). s.engine)
+    (λ e. option_map (λ table. arc_value table.now) c.sealed.result ≡ e.part.sealed) c.args.at c.self.inside.seats.items c.self.inside.running.items
+    c.index.result.now (sym (length-map c.self.inside.seats.items
+    (λ (s : Seat g.row.S.Denot g.row.P.Denot g.row.S-Watch.Denot g.row.S-Device.Denot g.row.S-Frozen.Denot). s.engine))
+    ∙ staffed-many (eyes g.S.Store.history g.S.Device.Device.history g.S.Frozen.Frozen.content g.S.Device.Device.name g.S.Frozen.Frozen.size
+    g.S.Watch.Watch.counts) (map (λ (s : Seat g.row.S.Denot g.row.P.Denot g.row.S-Watch.Denot g.row.S-Device.Denot g.row.S-Frozen.Denot). s.engine)
+    c.self.inside.seats.items) c.self.inside.running.items c.self.invariant) (omega (arith, c.requires.there, many)) c.index.ensures c.sealed.ensures)

@@ -12,7 +12,9 @@ use Rattle.tc_keeper.proofs.engines.Engines.take_watch.Goals as goal
 
 pub index_mut-requires : goal.index_mut-requires
 index_mut-requires g c =
-    let many = seats_many (eyes g.S.Store.history g.S.Device.Device.history g.S.Frozen.Frozen.content g.S.Device.Device.name g.S.Frozen.Frozen.size g.S.Watch.Watch.counts) (λ (s : Seat g.row.S.Denot g.row.P.Denot g.row.S-Watch.Denot g.row.S-Device.Denot g.row.S-Frozen.Denot). s.engine) c.self.inside.seats.items c.self.inside.running.items c.args.self.now c.self.invariant c.self.view_is in
+    let many = seats_many (eyes g.S.Store.history g.S.Device.Device.history g.S.Frozen.Frozen.content g.S.Device.Device.name g.S.Frozen.Frozen.size
+    g.S.Watch.Watch.counts) (λ (s : Seat g.row.S.Denot g.row.P.Denot g.row.S-Watch.Denot g.row.S-Device.Denot g.row.S-Frozen.Denot). s.engine)
+    c.self.inside.seats.items c.self.inside.running.items c.args.self.now c.self.invariant c.self.view_is in
     let below = place_below (λ e. e.engine.part.reader ≡ None) c.args.at c.args.self.now c.requires.out in
     omega (arith, below, many, c.self.inside.seats.ok.0)
 
@@ -22,14 +24,28 @@ take_watch-requires-clause-out g c κs within =
     (subst (λ es. IsAt c.args.at es (λ e. e.engine.part.reader ≡ None)) (sym c.self.view_is) c.requires.out)
 
 pub invariant_of-self : goal.invariant_of-self
-invariant_of-self g c = lent_staffed (Some c.args.watch) (eyes g.S.Store.history g.S.Device.Device.history g.S.Frozen.Frozen.content g.S.Device.Device.name g.S.Frozen.Frozen.size g.S.Watch.Watch.counts) (λ (s : Seat g.row.S.Denot g.row.P.Denot g.row.S-Watch.Denot g.row.S-Device.Denot g.row.S-Frozen.Denot). s.engine) c.args.at c.self.inside.seats.items c.self.inside.running.items c.index_mut.result.now (record c.index_mut.result.now { engine = c.take_watch.new.self }) c.index_mut.ensures.value c.take_watch.ensures.home c.take_watch.ensures.jobs c.self.invariant
+invariant_of-self g c = lent_staffed (Some c.args.watch) (eyes g.S.Store.history g.S.Device.Device.history g.S.Frozen.Frozen.content g.S.Device.Device.name
+    g.S.Frozen.Frozen.size g.S.Watch.Watch.counts) (λ (s : Seat g.row.S.Denot g.row.P.Denot g.row.S-Watch.Denot g.row.S-Device.Denot g.row.S-Frozen.Denot). s.engine)
+    c.args.at c.self.inside.seats.items c.self.inside.running.items c.index_mut.result.now (record c.index_mut.result.now { engine = c.take_watch.new.self })
+    c.index_mut.ensures.value c.take_watch.ensures.home c.take_watch.ensures.jobs c.self.invariant
 
-reads : (g : Over) (c : goal.After-self-1 g) → AtEach (ReadsBy c.args.at (Some c.args.watch)) 0 c.args.self.now (with_jobs (map (λ (s : Seat g.row.S.Denot g.row.P.Denot g.row.S-Watch.Denot g.row.S-Device.Denot g.row.S-Frozen.Denot). s.engine) (set c.self.inside.seats.items c.args.at (record c.index_mut.result.now { engine = c.take_watch.new.self }))) c.self.inside.running.items)
+reads : (g : Over) (c : goal.After-self-1 g) → AtEach (ReadsBy c.args.at (Some c.args.watch)) 0 c.args.self.now
+    (with_jobs (map (λ (s : Seat g.row.S.Denot g.row.P.Denot g.row.S-Watch.Denot g.row.S-Device.Denot g.row.S-Frozen.Denot). s.engine)
+    (set c.self.inside.seats.items c.args.at (record c.index_mut.result.now { engine = c.take_watch.new.self }))) c.self.inside.running.items)
 reads g c =
-    let many = seats_many (eyes g.S.Store.history g.S.Device.Device.history g.S.Frozen.Frozen.content g.S.Device.Device.name g.S.Frozen.Frozen.size g.S.Watch.Watch.counts) (λ (s : Seat g.row.S.Denot g.row.P.Denot g.row.S-Watch.Denot g.row.S-Device.Denot g.row.S-Frozen.Denot). s.engine) c.self.inside.seats.items c.self.inside.running.items c.args.self.now c.self.invariant c.self.view_is in
+    let many = seats_many (eyes g.S.Store.history g.S.Device.Device.history g.S.Frozen.Frozen.content g.S.Device.Device.name g.S.Frozen.Frozen.size
+    g.S.Watch.Watch.counts) (λ (s : Seat g.row.S.Denot g.row.P.Denot g.row.S-Watch.Denot g.row.S-Device.Denot g.row.S-Frozen.Denot). s.engine)
+    c.self.inside.seats.items c.self.inside.running.items c.args.self.now c.self.invariant c.self.view_is in
     let below = place_below (λ e. e.engine.part.reader ≡ None) c.args.at c.args.self.now c.requires.out in
-    subst (λ es. AtEach (ReadsBy c.args.at (Some c.args.watch)) 0 es (with_jobs (map (λ (s : Seat g.row.S.Denot g.row.P.Denot g.row.S-Watch.Denot g.row.S-Device.Denot g.row.S-Frozen.Denot). s.engine) (set c.self.inside.seats.items c.args.at (record c.index_mut.result.now { engine = c.take_watch.new.self }))) c.self.inside.running.items)) c.self.view_is
-    (reader_put (Some c.args.watch) (λ (s : Seat g.row.S.Denot g.row.P.Denot g.row.S-Watch.Denot g.row.S-Device.Denot g.row.S-Frozen.Denot). s.engine) c.args.at c.self.inside.seats.items c.self.inside.running.items c.index_mut.result.now (record c.index_mut.result.now { engine = c.take_watch.new.self }) (sym (length-map c.self.inside.seats.items (λ (s : Seat g.row.S.Denot g.row.P.Denot g.row.S-Watch.Denot g.row.S-Device.Denot g.row.S-Frozen.Denot). s.engine)) ∙ staffed-many (eyes g.S.Store.history g.S.Device.Device.history g.S.Frozen.Frozen.content g.S.Device.Device.name g.S.Frozen.Frozen.size g.S.Watch.Watch.counts) (map (λ (s : Seat g.row.S.Denot g.row.P.Denot g.row.S-Watch.Denot g.row.S-Device.Denot g.row.S-Frozen.Denot). s.engine) c.self.inside.seats.items) c.self.inside.running.items c.self.invariant) (omega (arith, below, many)) c.index_mut.ensures.value c.take_watch.ensures.home)
+    subst (λ es. AtEach (ReadsBy c.args.at (Some c.args.watch)) 0 es
+    (with_jobs (map (λ (s : Seat g.row.S.Denot g.row.P.Denot g.row.S-Watch.Denot g.row.S-Device.Denot g.row.S-Frozen.Denot). s.engine)
+    (set c.self.inside.seats.items c.args.at (record c.index_mut.result.now { engine = c.take_watch.new.self }))) c.self.inside.running.items)) c.self.view_is
+    (reader_put (Some c.args.watch) (λ (s : Seat g.row.S.Denot g.row.P.Denot g.row.S-Watch.Denot g.row.S-Device.Denot g.row.S-Frozen.Denot). s.engine) c.args.at
+    c.self.inside.seats.items c.self.inside.running.items c.index_mut.result.now (record c.index_mut.result.now { engine = c.take_watch.new.self })
+    (sym (length-map c.self.inside.seats.items (λ (s : Seat g.row.S.Denot g.row.P.Denot g.row.S-Watch.Denot g.row.S-Device.Denot g.row.S-Frozen.Denot). s.engine))
+    ∙ staffed-many (eyes g.S.Store.history g.S.Device.Device.history g.S.Frozen.Frozen.content g.S.Device.Device.name g.S.Frozen.Frozen.size
+    g.S.Watch.Watch.counts) (map (λ (s : Seat g.row.S.Denot g.row.P.Denot g.row.S-Watch.Denot g.row.S-Device.Denot g.row.S-Frozen.Denot). s.engine)
+    c.self.inside.seats.items) c.self.inside.running.items c.self.invariant) (omega (arith, below, many)) c.index_mut.ensures.value c.take_watch.ensures.home)
 
 pub returns-clause-home : goal.returns-clause-home
 returns-clause-home g c = reads g c

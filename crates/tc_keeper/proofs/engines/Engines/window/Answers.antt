@@ -27,7 +27,9 @@ use Rattle.tc_keeper.proofs.engines.Engines.window.Goals as goal
 -- ---- nothing was run
 
 pub returns-in_err-lists-clause-kept : goal.returns-in_err-lists-clause-kept
-returns-in_err-lists-clause-kept g c = λ only w h. on_err c.from_residual.result (nothing_run (eyes g.S.Store.history g.S.Device.Device.history g.S.Frozen.Frozen.content g.S.Device.Device.name g.S.Frozen.Frozen.size g.S.Watch.Watch.counts) only (map routed_of c.args.commands.items) w c.args.self.now h (window_for_parts c.args.commands.items c.requires.window))
+returns-in_err-lists-clause-kept g c = λ only w h. on_err c.from_residual.result
+    (nothing_run (eyes g.S.Store.history g.S.Device.Device.history g.S.Frozen.Frozen.content g.S.Device.Device.name g.S.Frozen.Frozen.size g.S.Watch.Watch.counts) only
+    (map routed_of c.args.commands.items) w c.args.self.now h (window_for_parts c.args.commands.items c.requires.window))
 
 pub returns-in_err-lists-clause-same : goal.returns-in_err-lists-clause-same
 returns-in_err-lists-clause-same g c = nothing_same (eyes g.S.Store.history g.S.Device.Device.history g.S.Frozen.Frozen.content g.S.Device.Device.name g.S.Frozen.Frozen.size g.S.Watch.Watch.counts) (map routed_of c.args.commands.items) c.args.self.now
@@ -39,10 +41,14 @@ pub returns-in_err-lists-clause-moments : goal.returns-in_err-lists-clause-momen
 returns-in_err-lists-clause-moments g c = nothing_written (eyes g.S.Store.history g.S.Device.Device.history g.S.Frozen.Frozen.content g.S.Device.Device.name g.S.Frozen.Frozen.size g.S.Watch.Watch.counts) (map routed_of c.args.commands.items) c.args.self.now
 
 pub returns-in_err-lists-clause-counted : goal.returns-in_err-lists-clause-counted
-returns-in_err-lists-clause-counted g c = nothing_counted (eyes g.S.Store.history g.S.Device.Device.history g.S.Frozen.Frozen.content g.S.Device.Device.name g.S.Frozen.Frozen.size g.S.Watch.Watch.counts) (map routed_of c.args.commands.items) c.args.self.now (λ p. IsDiskOf p c.from_residual.result) (no_disk c.from_residual.result c.from_residual.ensures.1)
+returns-in_err-lists-clause-counted g c = nothing_counted (eyes g.S.Store.history g.S.Device.Device.history g.S.Frozen.Frozen.content g.S.Device.Device.name
+    g.S.Frozen.Frozen.size g.S.Watch.Watch.counts) (map routed_of c.args.commands.items) c.args.self.now (λ p. IsDiskOf p c.from_residual.result)
+    (no_disk c.from_residual.result c.from_residual.ensures.1)
 
 pub returns-in_err-room-clause-kept : goal.returns-in_err-room-clause-kept
-returns-in_err-room-clause-kept g c = λ only w h. on_err c.from_residual-in_err-room.result (nothing_run (eyes g.S.Store.history g.S.Device.Device.history g.S.Frozen.Frozen.content g.S.Device.Device.name g.S.Frozen.Frozen.size g.S.Watch.Watch.counts) only (map routed_of c.args.commands.items) w c.args.self.now h (window_for_parts c.args.commands.items c.requires.window))
+returns-in_err-room-clause-kept g c = λ only w h. on_err c.from_residual-in_err-room.result
+    (nothing_run (eyes g.S.Store.history g.S.Device.Device.history g.S.Frozen.Frozen.content g.S.Device.Device.name g.S.Frozen.Frozen.size g.S.Watch.Watch.counts) only
+    (map routed_of c.args.commands.items) w c.args.self.now h (window_for_parts c.args.commands.items c.requires.window))
 
 pub returns-in_err-room-clause-same : goal.returns-in_err-room-clause-same
 returns-in_err-room-clause-same g c = nothing_same (eyes g.S.Store.history g.S.Device.Device.history g.S.Frozen.Frozen.content g.S.Device.Device.name g.S.Frozen.Frozen.size g.S.Watch.Watch.counts) (map routed_of c.args.commands.items) c.args.self.now
@@ -54,18 +60,26 @@ pub returns-in_err-room-clause-moments : goal.returns-in_err-room-clause-moments
 returns-in_err-room-clause-moments g c = nothing_written (eyes g.S.Store.history g.S.Device.Device.history g.S.Frozen.Frozen.content g.S.Device.Device.name g.S.Frozen.Frozen.size g.S.Watch.Watch.counts) (map routed_of c.args.commands.items) c.args.self.now
 
 pub returns-in_err-room-clause-counted : goal.returns-in_err-room-clause-counted
-returns-in_err-room-clause-counted g c = nothing_counted (eyes g.S.Store.history g.S.Device.Device.history g.S.Frozen.Frozen.content g.S.Device.Device.name g.S.Frozen.Frozen.size g.S.Watch.Watch.counts) (map routed_of c.args.commands.items) c.args.self.now (λ p. IsDiskOf p c.from_residual-in_err-room.result) (no_disk c.from_residual-in_err-room.result c.from_residual-in_err-room.ensures.1)
+returns-in_err-room-clause-counted g c = nothing_counted (eyes g.S.Store.history g.S.Device.Device.history g.S.Frozen.Frozen.content g.S.Device.Device.name
+    g.S.Frozen.Frozen.size g.S.Watch.Watch.counts) (map routed_of c.args.commands.items) c.args.self.now (λ p. IsDiskOf p c.from_residual-in_err-room.result)
+    (no_disk c.from_residual-in_err-room.result c.from_residual-in_err-room.ensures.1)
 
 -- ---- what is asked for
 
 pub overflow_cast-len : goal.overflow_cast-len
 overflow_cast-len g c =
-    let many : length c.self.inside.seats.items ≡ length c.args.self.now = seats_many (eyes g.S.Store.history g.S.Device.Device.history g.S.Frozen.Frozen.content g.S.Device.Device.name g.S.Frozen.Frozen.size g.S.Watch.Watch.counts) (λ (s : Seat g.row.S.Denot g.row.P.Denot g.row.S-Watch.Denot g.row.S-Device.Denot g.row.S-Frozen.Denot). s.engine) c.self.inside.seats.items c.self.inside.running.items c.args.self.now c.self.invariant c.self.view_is in
+    let many : length c.self.inside.seats.items ≡ length c.args.self.now = seats_many
+    (eyes g.S.Store.history g.S.Device.Device.history g.S.Frozen.Frozen.content g.S.Device.Device.name g.S.Frozen.Frozen.size g.S.Watch.Watch.counts)
+    (λ (s : Seat g.row.S.Denot g.row.P.Denot g.row.S-Watch.Denot g.row.S-Device.Denot g.row.S-Frozen.Denot). s.engine) c.self.inside.seats.items
+    c.self.inside.running.items c.args.self.now c.self.invariant c.self.view_is in
     omega (arith, many, c.len.ensures, c.self.inside.seats.ok.0, c.requires.few)
 
 pub split-requires : goal.split-requires
 split-requires g c =
-    let many : length c.self.inside.seats.items ≡ length c.args.self.now = seats_many (eyes g.S.Store.history g.S.Device.Device.history g.S.Frozen.Frozen.content g.S.Device.Device.name g.S.Frozen.Frozen.size g.S.Watch.Watch.counts) (λ (s : Seat g.row.S.Denot g.row.P.Denot g.row.S-Watch.Denot g.row.S-Device.Denot g.row.S-Frozen.Denot). s.engine) c.self.inside.seats.items c.self.inside.running.items c.args.self.now c.self.invariant c.self.view_is in
+    let many : length c.self.inside.seats.items ≡ length c.args.self.now = seats_many
+    (eyes g.S.Store.history g.S.Device.Device.history g.S.Frozen.Frozen.content g.S.Device.Device.name g.S.Frozen.Frozen.size g.S.Watch.Watch.counts)
+    (λ (s : Seat g.row.S.Denot g.row.P.Denot g.row.S-Watch.Denot g.row.S-Device.Denot g.row.S-Frozen.Denot). s.engine) c.self.inside.seats.items
+    c.self.inside.running.items c.args.self.now c.self.invariant c.self.view_is in
     omega (arith, many, c.len.ensures, c.self.inside.seats.ok.0, c.requires.some)
 
 pub run_lists-requires-clause-as_many : goal.run_lists-requires-clause-as_many
@@ -74,7 +88,13 @@ run_lists-requires-clause-as_many g c κs within = omega (arith, ap length c.der
 pub run_lists-requires-clause-sound : goal.run_lists-requires-clause-sound
 run_lists-requires-clause-sound g c κs within =
     subst (All (λ (s : Seat g.row.S.Denot g.row.P.Denot g.row.S-Watch.Denot g.row.S-Device.Denot g.row.S-Frozen.Denot). s.engine.part.failed ≡ false)) (sym c.deref_mut.ensures.value)
-    (all_read (λ (s : Seat g.row.S.Denot g.row.P.Denot g.row.S-Watch.Denot g.row.S-Device.Denot g.row.S-Frozen.Denot). s.engine) (λ e. e.part.failed ≡ false) c.self.inside.seats.items (with_jobs-all (λ e. e.part.failed ≡ false) (map (λ (s : Seat g.row.S.Denot g.row.P.Denot g.row.S-Watch.Denot g.row.S-Device.Denot g.row.S-Frozen.Denot). s.engine) c.self.inside.seats.items) c.self.inside.running.items (staffed-many (eyes g.S.Store.history g.S.Device.Device.history g.S.Frozen.Frozen.content g.S.Device.Device.name g.S.Frozen.Frozen.size g.S.Watch.Watch.counts) (map (λ (s : Seat g.row.S.Denot g.row.P.Denot g.row.S-Watch.Denot g.row.S-Device.Denot g.row.S-Frozen.Denot). s.engine) c.self.inside.seats.items) c.self.inside.running.items c.self.invariant) (subst (All (λ e. e.engine.part.failed ≡ false)) (sym c.self.view_is) c.requires.sound)))
+    (all_read (λ (s : Seat g.row.S.Denot g.row.P.Denot g.row.S-Watch.Denot g.row.S-Device.Denot g.row.S-Frozen.Denot). s.engine) (λ e. e.part.failed ≡ false)
+    c.self.inside.seats.items (with_jobs-all (λ e. e.part.failed ≡ false)
+    (map (λ (s : Seat g.row.S.Denot g.row.P.Denot g.row.S-Watch.Denot g.row.S-Device.Denot g.row.S-Frozen.Denot). s.engine) c.self.inside.seats.items)
+    c.self.inside.running.items (staffed-many (eyes g.S.Store.history g.S.Device.Device.history g.S.Frozen.Frozen.content g.S.Device.Device.name
+    g.S.Frozen.Frozen.size g.S.Watch.Watch.counts) (map (λ (s : Seat g.row.S.Denot g.row.P.Denot g.row.S-Watch.Denot g.row.S-Device.Denot g.row.S-Frozen.Denot).
+    s.engine) c.self.inside.seats.items) c.self.inside.running.items c.self.invariant)
+    (subst (All (λ e. e.engine.part.failed ≡ false)) (sym c.self.view_is) c.requires.sound)))
 
 pub run_lists-requires-clause-window : goal.run_lists-requires-clause-window
 run_lists-requires-clause-window g c κs within =
@@ -85,7 +105,10 @@ run_lists-requires-clause-room g c κs within = omega (arith, ap length c.deref_
 
 pub take_answers-requires-clause-few : goal.take_answers-requires-clause-few
 take_answers-requires-clause-few g c κs within =
-    let many : length c.self.inside.seats.items ≡ length c.args.self.now = seats_many (eyes g.S.Store.history g.S.Device.Device.history g.S.Frozen.Frozen.content g.S.Device.Device.name g.S.Frozen.Frozen.size g.S.Watch.Watch.counts) (λ (s : Seat g.row.S.Denot g.row.P.Denot g.row.S-Watch.Denot g.row.S-Device.Denot g.row.S-Frozen.Denot). s.engine) c.self.inside.seats.items c.self.inside.running.items c.args.self.now c.self.invariant c.self.view_is in
+    let many : length c.self.inside.seats.items ≡ length c.args.self.now = seats_many
+    (eyes g.S.Store.history g.S.Device.Device.history g.S.Frozen.Frozen.content g.S.Device.Device.name g.S.Frozen.Frozen.size g.S.Watch.Watch.counts)
+    (λ (s : Seat g.row.S.Denot g.row.P.Denot g.row.S-Watch.Denot g.row.S-Device.Denot g.row.S-Frozen.Denot). s.engine) c.self.inside.seats.items
+    c.self.inside.running.items c.args.self.now c.self.invariant c.self.view_is in
     let ran : length c.deref_mut.result.now ≡ length c.run_lists.new.seats = at_each-length _ 0 c.deref_mut.result.now c.run_lists.new.seats c.run_lists.ensures.ran in
     let filled : length c.run_lists.new.seats ≡ c.self.inside.seats.len = omega (arith, ran, ap length c.deref_mut.ensures.value, c.self.inside.seats.ok.0) in
     let there : c.deref_mut-2.result.now ≡ c.run_lists.new.seats = c.deref_mut-2.ensures.value ∙ refilled c.self.inside.seats c.run_lists.new.seats filled in
@@ -100,129 +123,326 @@ take_answers-requires-clause-room g c κs within =
 
 -- ---- an engine failed
 
-failed_ran : (g : Over) (c : goal.After-drop-lists-in_err-parts g) → SeatsRan (eyes g.S.Store.history g.S.Device.Device.history g.S.Frozen.Frozen.content g.S.Device.Device.name g.S.Frozen.Frozen.size g.S.Watch.Watch.counts) c.deref.result.now c.self.inside.seats c.self.inside.running.items c.deref_mut.result.now c.run_lists.new.seats c.deref_mut-2.result.now c.take_answers.new.seats
+failed_ran : (g : Over) (c : goal.After-drop-lists-in_err-parts g)
+    → SeatsRan (eyes g.S.Store.history g.S.Device.Device.history g.S.Frozen.Frozen.content g.S.Device.Device.name g.S.Frozen.Frozen.size g.S.Watch.Watch.counts)
+    c.deref.result.now c.self.inside.seats c.self.inside.running.items c.deref_mut.result.now c.run_lists.new.seats c.deref_mut-2.result.now c.take_answers.new.seats
 failed_ran g c = record { olds = c.deref_mut.ensures.value; left = c.deref_mut-2.ensures.value; ran = c.run_lists.ensures.ran; same = c.take_answers.ensures.engines; staffed = c.self.invariant }
 
-failed_ended : (g : Over) (c : goal.After-drop-lists-in_err-parts g) → Ended (eyes g.S.Store.history g.S.Device.Device.history g.S.Frozen.Frozen.content g.S.Device.Device.name g.S.Frozen.Frozen.size g.S.Watch.Watch.counts) (map routed_of c.args.commands.items) c.args.self.now (with_jobs (map (λ (s : Seat g.row.S.Denot g.row.P.Denot g.row.S-Watch.Denot g.row.S-Device.Denot g.row.S-Frozen.Denot). s.engine) (with_items (with_items c.self.inside.seats c.run_lists.new.seats) c.take_answers.new.seats).items) c.self.inside.running.items) (map (λ (s : Seat g.row.S.Denot g.row.P.Denot g.row.S-Watch.Denot g.row.S-Device.Denot g.row.S-Frozen.Denot). s.answer) c.deref_mut-2.result.now)
+failed_ended : (g : Over) (c : goal.After-drop-lists-in_err-parts g)
+    → Ended (eyes g.S.Store.history g.S.Device.Device.history g.S.Frozen.Frozen.content g.S.Device.Device.name g.S.Frozen.Frozen.size g.S.Watch.Watch.counts)
+    (map routed_of c.args.commands.items) c.args.self.now (with_jobs
+    (map (λ (s : Seat g.row.S.Denot g.row.P.Denot g.row.S-Watch.Denot g.row.S-Device.Denot g.row.S-Frozen.Denot). s.engine)
+    (with_items (with_items c.self.inside.seats c.run_lists.new.seats) c.take_answers.new.seats).items) c.self.inside.running.items)
+    (map (λ (s : Seat g.row.S.Denot g.row.P.Denot g.row.S-Watch.Denot g.row.S-Device.Denot g.row.S-Frozen.Denot). s.answer) c.deref_mut-2.result.now)
 failed_ended g c =
-    seats_ended (eyes g.S.Store.history g.S.Device.Device.history g.S.Frozen.Frozen.content g.S.Device.Device.name g.S.Frozen.Frozen.size g.S.Watch.Watch.counts) c.deref.result.now c.self.inside.seats c.self.inside.running.items c.deref_mut.result.now c.run_lists.new.seats c.deref_mut-2.result.now c.take_answers.new.seats (failed_ran g c) c.in_ok-lists.lists.items c.args.commands.items c.args.self.now _
+    seats_ended (eyes g.S.Store.history g.S.Device.Device.history g.S.Frozen.Frozen.content g.S.Device.Device.name g.S.Frozen.Frozen.size g.S.Watch.Watch.counts)
+    c.deref.result.now c.self.inside.seats c.self.inside.running.items c.deref_mut.result.now c.run_lists.new.seats c.deref_mut-2.result.now
+    c.take_answers.new.seats (failed_ran g c) c.in_ok-lists.lists.items c.args.commands.items c.args.self.now _
     c.deref.ensures.value c.in_ok-lists.ensures.each
-    (omega (arith, c.len.ensures, c.self.inside.seats.ok.0, seats_many (eyes g.S.Store.history g.S.Device.Device.history g.S.Frozen.Frozen.content g.S.Device.Device.name g.S.Frozen.Frozen.size g.S.Watch.Watch.counts) (λ (s : Seat g.row.S.Denot g.row.P.Denot g.row.S-Watch.Denot g.row.S-Device.Denot g.row.S-Frozen.Denot). s.engine) c.self.inside.seats.items c.self.inside.running.items c.args.self.now c.self.invariant c.self.view_is, c.requires.few)) c.self.view_is
+    (omega (
+      arith,
+      c.len.ensures,
+      c.self.inside.seats.ok.0,
+      seats_many
+          (eyes g.S.Store.history g.S.Device.Device.history g.S.Frozen.Frozen.content g.S.Device.Device.name g.S.Frozen.Frozen.size g.S.Watch.Watch.counts)
+          (λ (s : Seat g.row.S.Denot g.row.P.Denot g.row.S-Watch.Denot g.row.S-Device.Denot g.row.S-Frozen.Denot). s.engine) c.self.inside.seats.items
+          c.self.inside.running.items c.args.self.now c.self.invariant c.self.view_is,
+      c.requires.few,
+    )) c.self.view_is
 
 pub invariant_of-self : goal.invariant_of-self
-invariant_of-self g c = seats_staffed (eyes g.S.Store.history g.S.Device.Device.history g.S.Frozen.Frozen.content g.S.Device.Device.name g.S.Frozen.Frozen.size g.S.Watch.Watch.counts) c.deref.result.now c.self.inside.seats c.self.inside.running.items c.deref_mut.result.now c.run_lists.new.seats c.deref_mut-2.result.now c.take_answers.new.seats (failed_ran g c)
+invariant_of-self g c = seats_staffed (eyes g.S.Store.history g.S.Device.Device.history g.S.Frozen.Frozen.content g.S.Device.Device.name g.S.Frozen.Frozen.size
+    g.S.Watch.Watch.counts) c.deref.result.now c.self.inside.seats c.self.inside.running.items c.deref_mut.result.now c.run_lists.new.seats c.deref_mut-2.result.now
+    c.take_answers.new.seats (failed_ran g c)
 
 pub returns-in_err-parts-clause-kept : goal.returns-in_err-parts-clause-kept
-returns-in_err-parts-clause-kept g c = λ only w h. on_err c.from_residual-in_err-parts.result (ended_kept (eyes g.S.Store.history g.S.Device.Device.history g.S.Frozen.Frozen.content g.S.Device.Device.name g.S.Frozen.Frozen.size g.S.Watch.Watch.counts) (map routed_of c.args.commands.items) c.args.self.now (with_jobs (map (λ (s : Seat g.row.S.Denot g.row.P.Denot g.row.S-Watch.Denot g.row.S-Device.Denot g.row.S-Frozen.Denot). s.engine) (with_items (with_items c.self.inside.seats c.run_lists.new.seats) c.take_answers.new.seats).items) c.self.inside.running.items) (map (λ (s : Seat g.row.S.Denot g.row.P.Denot g.row.S-Watch.Denot g.row.S-Device.Denot g.row.S-Frozen.Denot). s.answer) c.deref_mut-2.result.now) (failed_ended g c) c.parts_hold_devices.ensures.devices (window_for_parts c.args.commands.items c.requires.window) only w h)
+returns-in_err-parts-clause-kept g c = λ only w h. on_err c.from_residual-in_err-parts.result
+    (ended_kept (eyes g.S.Store.history g.S.Device.Device.history g.S.Frozen.Frozen.content g.S.Device.Device.name g.S.Frozen.Frozen.size g.S.Watch.Watch.counts)
+    (map routed_of c.args.commands.items) c.args.self.now (with_jobs
+    (map (λ (s : Seat g.row.S.Denot g.row.P.Denot g.row.S-Watch.Denot g.row.S-Device.Denot g.row.S-Frozen.Denot). s.engine)
+    (with_items (with_items c.self.inside.seats c.run_lists.new.seats) c.take_answers.new.seats).items) c.self.inside.running.items)
+    (map (λ (s : Seat g.row.S.Denot g.row.P.Denot g.row.S-Watch.Denot g.row.S-Device.Denot g.row.S-Frozen.Denot). s.answer) c.deref_mut-2.result.now)
+    (failed_ended g c) c.parts_hold_devices.ensures.devices (window_for_parts c.args.commands.items c.requires.window) only w h)
 
 pub returns-in_err-parts-clause-same : goal.returns-in_err-parts-clause-same
-returns-in_err-parts-clause-same g c = ended_same (eyes g.S.Store.history g.S.Device.Device.history g.S.Frozen.Frozen.content g.S.Device.Device.name g.S.Frozen.Frozen.size g.S.Watch.Watch.counts) (map routed_of c.args.commands.items) c.args.self.now (with_jobs (map (λ (s : Seat g.row.S.Denot g.row.P.Denot g.row.S-Watch.Denot g.row.S-Device.Denot g.row.S-Frozen.Denot). s.engine) (with_items (with_items c.self.inside.seats c.run_lists.new.seats) c.take_answers.new.seats).items) c.self.inside.running.items) (map (λ (s : Seat g.row.S.Denot g.row.P.Denot g.row.S-Watch.Denot g.row.S-Device.Denot g.row.S-Frozen.Denot). s.answer) c.deref_mut-2.result.now) (failed_ended g c)
+returns-in_err-parts-clause-same g c = ended_same (eyes g.S.Store.history g.S.Device.Device.history g.S.Frozen.Frozen.content g.S.Device.Device.name
+    g.S.Frozen.Frozen.size g.S.Watch.Watch.counts) (map routed_of c.args.commands.items) c.args.self.now
+    (with_jobs (map (λ (s : Seat g.row.S.Denot g.row.P.Denot g.row.S-Watch.Denot g.row.S-Device.Denot g.row.S-Frozen.Denot). s.engine)
+    (with_items (with_items c.self.inside.seats c.run_lists.new.seats) c.take_answers.new.seats).items) c.self.inside.running.items)
+    (map (λ (s : Seat g.row.S.Denot g.row.P.Denot g.row.S-Watch.Denot g.row.S-Device.Denot g.row.S-Frozen.Denot). s.answer) c.deref_mut-2.result.now) (failed_ended g c)
 
 pub returns-in_err-parts-clause-devices : goal.returns-in_err-parts-clause-devices
-returns-in_err-parts-clause-devices g c = ended_devices (eyes g.S.Store.history g.S.Device.Device.history g.S.Frozen.Frozen.content g.S.Device.Device.name g.S.Frozen.Frozen.size g.S.Watch.Watch.counts) (map routed_of c.args.commands.items) c.args.self.now (with_jobs (map (λ (s : Seat g.row.S.Denot g.row.P.Denot g.row.S-Watch.Denot g.row.S-Device.Denot g.row.S-Frozen.Denot). s.engine) (with_items (with_items c.self.inside.seats c.run_lists.new.seats) c.take_answers.new.seats).items) c.self.inside.running.items) (map (λ (s : Seat g.row.S.Denot g.row.P.Denot g.row.S-Watch.Denot g.row.S-Device.Denot g.row.S-Frozen.Denot). s.answer) c.deref_mut-2.result.now) (failed_ended g c)
+returns-in_err-parts-clause-devices g c = ended_devices (eyes g.S.Store.history g.S.Device.Device.history g.S.Frozen.Frozen.content g.S.Device.Device.name
+    g.S.Frozen.Frozen.size g.S.Watch.Watch.counts) (map routed_of c.args.commands.items) c.args.self.now
+    (with_jobs (map (λ (s : Seat g.row.S.Denot g.row.P.Denot g.row.S-Watch.Denot g.row.S-Device.Denot g.row.S-Frozen.Denot). s.engine)
+    (with_items (with_items c.self.inside.seats c.run_lists.new.seats) c.take_answers.new.seats).items) c.self.inside.running.items)
+    (map (λ (s : Seat g.row.S.Denot g.row.P.Denot g.row.S-Watch.Denot g.row.S-Device.Denot g.row.S-Frozen.Denot). s.answer) c.deref_mut-2.result.now) (failed_ended g c)
 
 pub returns-in_err-parts-clause-moments : goal.returns-in_err-parts-clause-moments
-returns-in_err-parts-clause-moments g c = ended_moments (eyes g.S.Store.history g.S.Device.Device.history g.S.Frozen.Frozen.content g.S.Device.Device.name g.S.Frozen.Frozen.size g.S.Watch.Watch.counts) (map routed_of c.args.commands.items) c.args.self.now (with_jobs (map (λ (s : Seat g.row.S.Denot g.row.P.Denot g.row.S-Watch.Denot g.row.S-Device.Denot g.row.S-Frozen.Denot). s.engine) (with_items (with_items c.self.inside.seats c.run_lists.new.seats) c.take_answers.new.seats).items) c.self.inside.running.items) (map (λ (s : Seat g.row.S.Denot g.row.P.Denot g.row.S-Watch.Denot g.row.S-Device.Denot g.row.S-Frozen.Denot). s.answer) c.deref_mut-2.result.now) (failed_ended g c)
+returns-in_err-parts-clause-moments g c = ended_moments (eyes g.S.Store.history g.S.Device.Device.history g.S.Frozen.Frozen.content g.S.Device.Device.name
+    g.S.Frozen.Frozen.size g.S.Watch.Watch.counts) (map routed_of c.args.commands.items) c.args.self.now
+    (with_jobs (map (λ (s : Seat g.row.S.Denot g.row.P.Denot g.row.S-Watch.Denot g.row.S-Device.Denot g.row.S-Frozen.Denot). s.engine)
+    (with_items (with_items c.self.inside.seats c.run_lists.new.seats) c.take_answers.new.seats).items) c.self.inside.running.items)
+    (map (λ (s : Seat g.row.S.Denot g.row.P.Denot g.row.S-Watch.Denot g.row.S-Device.Denot g.row.S-Frozen.Denot). s.answer) c.deref_mut-2.result.now) (failed_ended g c)
 
 pub returns-in_err-parts-clause-first : goal.returns-in_err-parts-clause-first
 returns-in_err-parts-clause-first g c =
-    let many : length c.self.inside.seats.items ≡ length c.args.self.now = seats_many (eyes g.S.Store.history g.S.Device.Device.history g.S.Frozen.Frozen.content g.S.Device.Device.name g.S.Frozen.Frozen.size g.S.Watch.Watch.counts) (λ (s : Seat g.row.S.Denot g.row.P.Denot g.row.S-Watch.Denot g.row.S-Device.Denot g.row.S-Frozen.Denot). s.engine) c.self.inside.seats.items c.self.inside.running.items c.args.self.now c.self.invariant c.self.view_is in
+    let many : length c.self.inside.seats.items ≡ length c.args.self.now = seats_many
+    (eyes g.S.Store.history g.S.Device.Device.history g.S.Frozen.Frozen.content g.S.Device.Device.name g.S.Frozen.Frozen.size g.S.Watch.Watch.counts)
+    (λ (s : Seat g.row.S.Denot g.row.P.Denot g.row.S-Watch.Denot g.row.S-Device.Denot g.row.S-Frozen.Denot). s.engine) c.self.inside.seats.items
+    c.self.inside.running.items c.args.self.now c.self.invariant c.self.view_is in
     let ran : length c.deref_mut.result.now ≡ length c.run_lists.new.seats = at_each-length _ 0 c.deref_mut.result.now c.run_lists.new.seats c.run_lists.ensures.ran in
     let filled : length c.run_lists.new.seats ≡ c.self.inside.seats.len = omega (arith, ran, ap length c.deref_mut.ensures.value, c.self.inside.seats.ok.0) in
     let there : c.deref_mut-2.result.now ≡ c.run_lists.new.seats = c.deref_mut-2.ensures.value ∙ refilled c.self.inside.seats c.run_lists.new.seats filled in
     if_err c.from_residual-in_err-parts.result c.in_err-parts.field-0.0 _ c.from_residual-in_err-parts.ensures.1
-    (ended_first (eyes g.S.Store.history g.S.Device.Device.history g.S.Frozen.Frozen.content g.S.Device.Device.name g.S.Frozen.Frozen.size g.S.Watch.Watch.counts) (map routed_of c.args.commands.items) c.args.self.now (with_jobs (map (λ (s : Seat g.row.S.Denot g.row.P.Denot g.row.S-Watch.Denot g.row.S-Device.Denot g.row.S-Frozen.Denot). s.engine) (with_items (with_items c.self.inside.seats c.run_lists.new.seats) c.take_answers.new.seats).items) c.self.inside.running.items) (map (λ (s : Seat g.row.S.Denot g.row.P.Denot g.row.S-Watch.Denot g.row.S-Device.Denot g.row.S-Frozen.Denot). s.answer) c.deref_mut-2.result.now) (failed_ended g c) c.in_err-parts.field-0.0 (length c.deref_mut-2.result.now) (omega (arith, ap length there, filled, c.self.inside.seats.ok.0, many)) c.in_err-parts.ensures.first)
+    (ended_first (eyes g.S.Store.history g.S.Device.Device.history g.S.Frozen.Frozen.content g.S.Device.Device.name g.S.Frozen.Frozen.size g.S.Watch.Watch.counts)
+    (map routed_of c.args.commands.items) c.args.self.now (with_jobs
+    (map (λ (s : Seat g.row.S.Denot g.row.P.Denot g.row.S-Watch.Denot g.row.S-Device.Denot g.row.S-Frozen.Denot). s.engine)
+    (with_items (with_items c.self.inside.seats c.run_lists.new.seats) c.take_answers.new.seats).items) c.self.inside.running.items)
+    (map (λ (s : Seat g.row.S.Denot g.row.P.Denot g.row.S-Watch.Denot g.row.S-Device.Denot g.row.S-Frozen.Denot). s.answer) c.deref_mut-2.result.now)
+    (failed_ended g c) c.in_err-parts.field-0.0 (length c.deref_mut-2.result.now) (omega (arith, ap length there, filled, c.self.inside.seats.ok.0, many))
+    c.in_err-parts.ensures.first)
 
 pub returns-in_err-parts-clause-counted : goal.returns-in_err-parts-clause-counted
-returns-in_err-parts-clause-counted g c = ended_counted (eyes g.S.Store.history g.S.Device.Device.history g.S.Frozen.Frozen.content g.S.Device.Device.name g.S.Frozen.Frozen.size g.S.Watch.Watch.counts) (map routed_of c.args.commands.items) c.args.self.now (with_jobs (map (λ (s : Seat g.row.S.Denot g.row.P.Denot g.row.S-Watch.Denot g.row.S-Device.Denot g.row.S-Frozen.Denot). s.engine) (with_items (with_items c.self.inside.seats c.run_lists.new.seats) c.take_answers.new.seats).items) c.self.inside.running.items) (map (λ (s : Seat g.row.S.Denot g.row.P.Denot g.row.S-Watch.Denot g.row.S-Device.Denot g.row.S-Frozen.Denot). s.answer) c.deref_mut-2.result.now) (failed_ended g c) c.from_residual-in_err-parts.result c.in_err-parts.field-0.0 (length c.deref_mut-2.result.now) c.from_residual-in_err-parts.ensures.1 c.in_err-parts.ensures.first
+returns-in_err-parts-clause-counted g c = ended_counted (eyes g.S.Store.history g.S.Device.Device.history g.S.Frozen.Frozen.content g.S.Device.Device.name
+    g.S.Frozen.Frozen.size g.S.Watch.Watch.counts) (map routed_of c.args.commands.items) c.args.self.now
+    (with_jobs (map (λ (s : Seat g.row.S.Denot g.row.P.Denot g.row.S-Watch.Denot g.row.S-Device.Denot g.row.S-Frozen.Denot). s.engine)
+    (with_items (with_items c.self.inside.seats c.run_lists.new.seats) c.take_answers.new.seats).items) c.self.inside.running.items)
+    (map (λ (s : Seat g.row.S.Denot g.row.P.Denot g.row.S-Watch.Denot g.row.S-Device.Denot g.row.S-Frozen.Denot). s.answer) c.deref_mut-2.result.now)
+    (failed_ended g c) c.from_residual-in_err-parts.result c.in_err-parts.field-0.0 (length c.deref_mut-2.result.now) c.from_residual-in_err-parts.ensures.1
+    c.in_err-parts.ensures.first
 
 -- ---- the replies were not put together
 
-lost_ran : (g : Over) (c : goal.After-drop-lists-in_err-replies g) → SeatsRan (eyes g.S.Store.history g.S.Device.Device.history g.S.Frozen.Frozen.content g.S.Device.Device.name g.S.Frozen.Frozen.size g.S.Watch.Watch.counts) c.deref.result.now c.self.inside.seats c.self.inside.running.items c.deref_mut.result.now c.run_lists.new.seats c.deref_mut-2.result.now c.take_answers.new.seats
+lost_ran : (g : Over) (c : goal.After-drop-lists-in_err-replies g)
+    → SeatsRan (eyes g.S.Store.history g.S.Device.Device.history g.S.Frozen.Frozen.content g.S.Device.Device.name g.S.Frozen.Frozen.size g.S.Watch.Watch.counts)
+    c.deref.result.now c.self.inside.seats c.self.inside.running.items c.deref_mut.result.now c.run_lists.new.seats c.deref_mut-2.result.now c.take_answers.new.seats
 lost_ran g c = record { olds = c.deref_mut.ensures.value; left = c.deref_mut-2.ensures.value; ran = c.run_lists.ensures.ran; same = c.take_answers.ensures.engines; staffed = c.self.invariant }
 
-lost_ended : (g : Over) (c : goal.After-drop-lists-in_err-replies g) → Ended (eyes g.S.Store.history g.S.Device.Device.history g.S.Frozen.Frozen.content g.S.Device.Device.name g.S.Frozen.Frozen.size g.S.Watch.Watch.counts) (map routed_of c.args.commands.items) c.args.self.now (with_jobs (map (λ (s : Seat g.row.S.Denot g.row.P.Denot g.row.S-Watch.Denot g.row.S-Device.Denot g.row.S-Frozen.Denot). s.engine) (with_items (with_items c.self.inside.seats c.run_lists.new.seats) c.take_answers.new.seats).items) c.self.inside.running.items) (map (λ (s : Seat g.row.S.Denot g.row.P.Denot g.row.S-Watch.Denot g.row.S-Device.Denot g.row.S-Frozen.Denot). s.answer) c.deref_mut-2.result.now)
+lost_ended : (g : Over) (c : goal.After-drop-lists-in_err-replies g)
+    → Ended (eyes g.S.Store.history g.S.Device.Device.history g.S.Frozen.Frozen.content g.S.Device.Device.name g.S.Frozen.Frozen.size g.S.Watch.Watch.counts)
+    (map routed_of c.args.commands.items) c.args.self.now (with_jobs
+    (map (λ (s : Seat g.row.S.Denot g.row.P.Denot g.row.S-Watch.Denot g.row.S-Device.Denot g.row.S-Frozen.Denot). s.engine)
+    (with_items (with_items c.self.inside.seats c.run_lists.new.seats) c.take_answers.new.seats).items) c.self.inside.running.items)
+    (map (λ (s : Seat g.row.S.Denot g.row.P.Denot g.row.S-Watch.Denot g.row.S-Device.Denot g.row.S-Frozen.Denot). s.answer) c.deref_mut-2.result.now)
 lost_ended g c =
-    seats_ended (eyes g.S.Store.history g.S.Device.Device.history g.S.Frozen.Frozen.content g.S.Device.Device.name g.S.Frozen.Frozen.size g.S.Watch.Watch.counts) c.deref.result.now c.self.inside.seats c.self.inside.running.items c.deref_mut.result.now c.run_lists.new.seats c.deref_mut-2.result.now c.take_answers.new.seats (lost_ran g c) c.in_ok-lists.lists.items c.args.commands.items c.args.self.now _
+    seats_ended (eyes g.S.Store.history g.S.Device.Device.history g.S.Frozen.Frozen.content g.S.Device.Device.name g.S.Frozen.Frozen.size g.S.Watch.Watch.counts)
+    c.deref.result.now c.self.inside.seats c.self.inside.running.items c.deref_mut.result.now c.run_lists.new.seats c.deref_mut-2.result.now
+    c.take_answers.new.seats (lost_ran g c) c.in_ok-lists.lists.items c.args.commands.items c.args.self.now _
     c.deref.ensures.value c.in_ok-lists.ensures.each
-    (omega (arith, c.len.ensures, c.self.inside.seats.ok.0, seats_many (eyes g.S.Store.history g.S.Device.Device.history g.S.Frozen.Frozen.content g.S.Device.Device.name g.S.Frozen.Frozen.size g.S.Watch.Watch.counts) (λ (s : Seat g.row.S.Denot g.row.P.Denot g.row.S-Watch.Denot g.row.S-Device.Denot g.row.S-Frozen.Denot). s.engine) c.self.inside.seats.items c.self.inside.running.items c.args.self.now c.self.invariant c.self.view_is, c.requires.few)) c.self.view_is
+    (omega (
+      arith,
+      c.len.ensures,
+      c.self.inside.seats.ok.0,
+      seats_many
+          (eyes g.S.Store.history g.S.Device.Device.history g.S.Frozen.Frozen.content g.S.Device.Device.name g.S.Frozen.Frozen.size g.S.Watch.Watch.counts)
+          (λ (s : Seat g.row.S.Denot g.row.P.Denot g.row.S-Watch.Denot g.row.S-Device.Denot g.row.S-Frozen.Denot). s.engine) c.self.inside.seats.items
+          c.self.inside.running.items c.args.self.now c.self.invariant c.self.view_is,
+      c.requires.few,
+    )) c.self.view_is
 
 pub invariant_of-self-in_err-replies : goal.invariant_of-self-in_err-replies
-invariant_of-self-in_err-replies g c = seats_staffed (eyes g.S.Store.history g.S.Device.Device.history g.S.Frozen.Frozen.content g.S.Device.Device.name g.S.Frozen.Frozen.size g.S.Watch.Watch.counts) c.deref.result.now c.self.inside.seats c.self.inside.running.items c.deref_mut.result.now c.run_lists.new.seats c.deref_mut-2.result.now c.take_answers.new.seats (lost_ran g c)
+invariant_of-self-in_err-replies g c = seats_staffed (eyes g.S.Store.history g.S.Device.Device.history g.S.Frozen.Frozen.content g.S.Device.Device.name
+    g.S.Frozen.Frozen.size g.S.Watch.Watch.counts) c.deref.result.now c.self.inside.seats c.self.inside.running.items c.deref_mut.result.now c.run_lists.new.seats
+    c.deref_mut-2.result.now c.take_answers.new.seats (lost_ran g c)
 
 pub returns-in_err-replies-clause-kept : goal.returns-in_err-replies-clause-kept
-returns-in_err-replies-clause-kept g c = λ only w h. on_err c.from_residual-in_err-replies.result (ended_kept (eyes g.S.Store.history g.S.Device.Device.history g.S.Frozen.Frozen.content g.S.Device.Device.name g.S.Frozen.Frozen.size g.S.Watch.Watch.counts) (map routed_of c.args.commands.items) c.args.self.now (with_jobs (map (λ (s : Seat g.row.S.Denot g.row.P.Denot g.row.S-Watch.Denot g.row.S-Device.Denot g.row.S-Frozen.Denot). s.engine) (with_items (with_items c.self.inside.seats c.run_lists.new.seats) c.take_answers.new.seats).items) c.self.inside.running.items) (map (λ (s : Seat g.row.S.Denot g.row.P.Denot g.row.S-Watch.Denot g.row.S-Device.Denot g.row.S-Frozen.Denot). s.answer) c.deref_mut-2.result.now) (lost_ended g c) c.parts_hold_devices.ensures.devices (window_for_parts c.args.commands.items c.requires.window) only w h)
+returns-in_err-replies-clause-kept g c = λ only w h. on_err c.from_residual-in_err-replies.result
+    (ended_kept (eyes g.S.Store.history g.S.Device.Device.history g.S.Frozen.Frozen.content g.S.Device.Device.name g.S.Frozen.Frozen.size g.S.Watch.Watch.counts)
+    (map routed_of c.args.commands.items) c.args.self.now (with_jobs
+    (map (λ (s : Seat g.row.S.Denot g.row.P.Denot g.row.S-Watch.Denot g.row.S-Device.Denot g.row.S-Frozen.Denot). s.engine)
+    (with_items (with_items c.self.inside.seats c.run_lists.new.seats) c.take_answers.new.seats).items) c.self.inside.running.items)
+    (map (λ (s : Seat g.row.S.Denot g.row.P.Denot g.row.S-Watch.Denot g.row.S-Device.Denot g.row.S-Frozen.Denot). s.answer) c.deref_mut-2.result.now) (lost_ended g c)
+    c.parts_hold_devices.ensures.devices (window_for_parts c.args.commands.items c.requires.window) only w h)
 
 pub returns-in_err-replies-clause-same : goal.returns-in_err-replies-clause-same
-returns-in_err-replies-clause-same g c = ended_same (eyes g.S.Store.history g.S.Device.Device.history g.S.Frozen.Frozen.content g.S.Device.Device.name g.S.Frozen.Frozen.size g.S.Watch.Watch.counts) (map routed_of c.args.commands.items) c.args.self.now (with_jobs (map (λ (s : Seat g.row.S.Denot g.row.P.Denot g.row.S-Watch.Denot g.row.S-Device.Denot g.row.S-Frozen.Denot). s.engine) (with_items (with_items c.self.inside.seats c.run_lists.new.seats) c.take_answers.new.seats).items) c.self.inside.running.items) (map (λ (s : Seat g.row.S.Denot g.row.P.Denot g.row.S-Watch.Denot g.row.S-Device.Denot g.row.S-Frozen.Denot). s.answer) c.deref_mut-2.result.now) (lost_ended g c)
+returns-in_err-replies-clause-same g c = ended_same (eyes g.S.Store.history g.S.Device.Device.history g.S.Frozen.Frozen.content g.S.Device.Device.name
+    g.S.Frozen.Frozen.size g.S.Watch.Watch.counts) (map routed_of c.args.commands.items) c.args.self.now
+    (with_jobs (map (λ (s : Seat g.row.S.Denot g.row.P.Denot g.row.S-Watch.Denot g.row.S-Device.Denot g.row.S-Frozen.Denot). s.engine)
+    (with_items (with_items c.self.inside.seats c.run_lists.new.seats) c.take_answers.new.seats).items) c.self.inside.running.items)
+    (map (λ (s : Seat g.row.S.Denot g.row.P.Denot g.row.S-Watch.Denot g.row.S-Device.Denot g.row.S-Frozen.Denot). s.answer) c.deref_mut-2.result.now) (lost_ended g c)
 
 pub returns-in_err-replies-clause-devices : goal.returns-in_err-replies-clause-devices
-returns-in_err-replies-clause-devices g c = ended_devices (eyes g.S.Store.history g.S.Device.Device.history g.S.Frozen.Frozen.content g.S.Device.Device.name g.S.Frozen.Frozen.size g.S.Watch.Watch.counts) (map routed_of c.args.commands.items) c.args.self.now (with_jobs (map (λ (s : Seat g.row.S.Denot g.row.P.Denot g.row.S-Watch.Denot g.row.S-Device.Denot g.row.S-Frozen.Denot). s.engine) (with_items (with_items c.self.inside.seats c.run_lists.new.seats) c.take_answers.new.seats).items) c.self.inside.running.items) (map (λ (s : Seat g.row.S.Denot g.row.P.Denot g.row.S-Watch.Denot g.row.S-Device.Denot g.row.S-Frozen.Denot). s.answer) c.deref_mut-2.result.now) (lost_ended g c)
+returns-in_err-replies-clause-devices g c = ended_devices (eyes g.S.Store.history g.S.Device.Device.history g.S.Frozen.Frozen.content g.S.Device.Device.name
+    g.S.Frozen.Frozen.size g.S.Watch.Watch.counts) (map routed_of c.args.commands.items) c.args.self.now
+    (with_jobs (map (λ (s : Seat g.row.S.Denot g.row.P.Denot g.row.S-Watch.Denot g.row.S-Device.Denot g.row.S-Frozen.Denot). s.engine)
+    (with_items (with_items c.self.inside.seats c.run_lists.new.seats) c.take_answers.new.seats).items) c.self.inside.running.items)
+    (map (λ (s : Seat g.row.S.Denot g.row.P.Denot g.row.S-Watch.Denot g.row.S-Device.Denot g.row.S-Frozen.Denot). s.answer) c.deref_mut-2.result.now) (lost_ended g c)
 
 pub returns-in_err-replies-clause-moments : goal.returns-in_err-replies-clause-moments
-returns-in_err-replies-clause-moments g c = ended_moments (eyes g.S.Store.history g.S.Device.Device.history g.S.Frozen.Frozen.content g.S.Device.Device.name g.S.Frozen.Frozen.size g.S.Watch.Watch.counts) (map routed_of c.args.commands.items) c.args.self.now (with_jobs (map (λ (s : Seat g.row.S.Denot g.row.P.Denot g.row.S-Watch.Denot g.row.S-Device.Denot g.row.S-Frozen.Denot). s.engine) (with_items (with_items c.self.inside.seats c.run_lists.new.seats) c.take_answers.new.seats).items) c.self.inside.running.items) (map (λ (s : Seat g.row.S.Denot g.row.P.Denot g.row.S-Watch.Denot g.row.S-Device.Denot g.row.S-Frozen.Denot). s.answer) c.deref_mut-2.result.now) (lost_ended g c)
+returns-in_err-replies-clause-moments g c = ended_moments (eyes g.S.Store.history g.S.Device.Device.history g.S.Frozen.Frozen.content g.S.Device.Device.name
+    g.S.Frozen.Frozen.size g.S.Watch.Watch.counts) (map routed_of c.args.commands.items) c.args.self.now
+    (with_jobs (map (λ (s : Seat g.row.S.Denot g.row.P.Denot g.row.S-Watch.Denot g.row.S-Device.Denot g.row.S-Frozen.Denot). s.engine)
+    (with_items (with_items c.self.inside.seats c.run_lists.new.seats) c.take_answers.new.seats).items) c.self.inside.running.items)
+    (map (λ (s : Seat g.row.S.Denot g.row.P.Denot g.row.S-Watch.Denot g.row.S-Device.Denot g.row.S-Frozen.Denot). s.answer) c.deref_mut-2.result.now) (lost_ended g c)
 
 pub returns-in_err-replies-clause-memory : goal.returns-in_err-replies-clause-memory
-returns-in_err-replies-clause-memory g c = λ is. ended_sound (eyes g.S.Store.history g.S.Device.Device.history g.S.Frozen.Frozen.content g.S.Device.Device.name g.S.Frozen.Frozen.size g.S.Watch.Watch.counts) (map routed_of c.args.commands.items) c.args.self.now (with_jobs (map (λ (s : Seat g.row.S.Denot g.row.P.Denot g.row.S-Watch.Denot g.row.S-Device.Denot g.row.S-Frozen.Denot). s.engine) (with_items (with_items c.self.inside.seats c.run_lists.new.seats) c.take_answers.new.seats).items) c.self.inside.running.items) (map (λ (s : Seat g.row.S.Denot g.row.P.Denot g.row.S-Watch.Denot g.row.S-Device.Denot g.row.S-Frozen.Denot). s.answer) c.deref_mut-2.result.now) (lost_ended g c) c.in_ok-parts.parts.items c.in_ok-parts.ensures.all
+returns-in_err-replies-clause-memory g c = λ is. ended_sound
+    (eyes g.S.Store.history g.S.Device.Device.history g.S.Frozen.Frozen.content g.S.Device.Device.name g.S.Frozen.Frozen.size g.S.Watch.Watch.counts)
+    (map routed_of c.args.commands.items) c.args.self.now (with_jobs
+    (map (λ (s : Seat g.row.S.Denot g.row.P.Denot g.row.S-Watch.Denot g.row.S-Device.Denot g.row.S-Frozen.Denot). s.engine)
+    (with_items (with_items c.self.inside.seats c.run_lists.new.seats) c.take_answers.new.seats).items) c.self.inside.running.items)
+    (map (λ (s : Seat g.row.S.Denot g.row.P.Denot g.row.S-Watch.Denot g.row.S-Device.Denot g.row.S-Frozen.Denot). s.answer) c.deref_mut-2.result.now) (lost_ended g c)
+    c.in_ok-parts.parts.items c.in_ok-parts.ensures.all
 
 pub returns-in_err-replies-clause-counted : goal.returns-in_err-replies-clause-counted
-returns-in_err-replies-clause-counted g c = ended_uncounted (eyes g.S.Store.history g.S.Device.Device.history g.S.Frozen.Frozen.content g.S.Device.Device.name g.S.Frozen.Frozen.size g.S.Watch.Watch.counts) (map routed_of c.args.commands.items) c.args.self.now (with_jobs (map (λ (s : Seat g.row.S.Denot g.row.P.Denot g.row.S-Watch.Denot g.row.S-Device.Denot g.row.S-Frozen.Denot). s.engine) (with_items (with_items c.self.inside.seats c.run_lists.new.seats) c.take_answers.new.seats).items) c.self.inside.running.items) (map (λ (s : Seat g.row.S.Denot g.row.P.Denot g.row.S-Watch.Denot g.row.S-Device.Denot g.row.S-Frozen.Denot). s.answer) c.deref_mut-2.result.now) (lost_ended g c) (λ p. IsDiskOf p c.from_residual-in_err-replies.result) (no_disk c.from_residual-in_err-replies.result c.from_residual-in_err-replies.ensures.1)
+returns-in_err-replies-clause-counted g c = ended_uncounted (eyes g.S.Store.history g.S.Device.Device.history g.S.Frozen.Frozen.content g.S.Device.Device.name
+    g.S.Frozen.Frozen.size g.S.Watch.Watch.counts) (map routed_of c.args.commands.items) c.args.self.now
+    (with_jobs (map (λ (s : Seat g.row.S.Denot g.row.P.Denot g.row.S-Watch.Denot g.row.S-Device.Denot g.row.S-Frozen.Denot). s.engine)
+    (with_items (with_items c.self.inside.seats c.run_lists.new.seats) c.take_answers.new.seats).items) c.self.inside.running.items)
+    (map (λ (s : Seat g.row.S.Denot g.row.P.Denot g.row.S-Watch.Denot g.row.S-Device.Denot g.row.S-Frozen.Denot). s.answer) c.deref_mut-2.result.now) (lost_ended g c)
+    (λ p. IsDiskOf p c.from_residual-in_err-replies.result) (no_disk c.from_residual-in_err-replies.result c.from_residual-in_err-replies.ensures.1)
 
 -- ---- all answered
 
-all_ran : (g : Over) (c : goal.After-drop-lists-2 g) → SeatsRan (eyes g.S.Store.history g.S.Device.Device.history g.S.Frozen.Frozen.content g.S.Device.Device.name g.S.Frozen.Frozen.size g.S.Watch.Watch.counts) c.deref.result.now c.self.inside.seats c.self.inside.running.items c.deref_mut.result.now c.run_lists.new.seats c.deref_mut-2.result.now c.take_answers.new.seats
+all_ran : (g : Over) (c : goal.After-drop-lists-2 g) → SeatsRan
+    (eyes g.S.Store.history g.S.Device.Device.history g.S.Frozen.Frozen.content g.S.Device.Device.name g.S.Frozen.Frozen.size g.S.Watch.Watch.counts)
+    c.deref.result.now c.self.inside.seats c.self.inside.running.items c.deref_mut.result.now c.run_lists.new.seats c.deref_mut-2.result.now c.take_answers.new.seats
 all_ran g c = record { olds = c.deref_mut.ensures.value; left = c.deref_mut-2.ensures.value; ran = c.run_lists.ensures.ran; same = c.take_answers.ensures.engines; staffed = c.self.invariant }
 
-all_ended : (g : Over) (c : goal.After-drop-lists-2 g) → Ended (eyes g.S.Store.history g.S.Device.Device.history g.S.Frozen.Frozen.content g.S.Device.Device.name g.S.Frozen.Frozen.size g.S.Watch.Watch.counts) (map routed_of c.args.commands.items) c.args.self.now (with_jobs (map (λ (s : Seat g.row.S.Denot g.row.P.Denot g.row.S-Watch.Denot g.row.S-Device.Denot g.row.S-Frozen.Denot). s.engine) (with_items (with_items c.self.inside.seats c.run_lists.new.seats) c.take_answers.new.seats).items) c.self.inside.running.items) (map (λ (s : Seat g.row.S.Denot g.row.P.Denot g.row.S-Watch.Denot g.row.S-Device.Denot g.row.S-Frozen.Denot). s.answer) c.deref_mut-2.result.now)
+all_ended : (g : Over) (c : goal.After-drop-lists-2 g) → Ended
+    (eyes g.S.Store.history g.S.Device.Device.history g.S.Frozen.Frozen.content g.S.Device.Device.name g.S.Frozen.Frozen.size g.S.Watch.Watch.counts)
+    (map routed_of c.args.commands.items) c.args.self.now (with_jobs
+    (map (λ (s : Seat g.row.S.Denot g.row.P.Denot g.row.S-Watch.Denot g.row.S-Device.Denot g.row.S-Frozen.Denot). s.engine)
+    (with_items (with_items c.self.inside.seats c.run_lists.new.seats) c.take_answers.new.seats).items) c.self.inside.running.items)
+    (map (λ (s : Seat g.row.S.Denot g.row.P.Denot g.row.S-Watch.Denot g.row.S-Device.Denot g.row.S-Frozen.Denot). s.answer) c.deref_mut-2.result.now)
 all_ended g c =
-    seats_ended (eyes g.S.Store.history g.S.Device.Device.history g.S.Frozen.Frozen.content g.S.Device.Device.name g.S.Frozen.Frozen.size g.S.Watch.Watch.counts) c.deref.result.now c.self.inside.seats c.self.inside.running.items c.deref_mut.result.now c.run_lists.new.seats c.deref_mut-2.result.now c.take_answers.new.seats (all_ran g c) c.in_ok-lists.lists.items c.args.commands.items c.args.self.now _
+    seats_ended (eyes g.S.Store.history g.S.Device.Device.history g.S.Frozen.Frozen.content g.S.Device.Device.name g.S.Frozen.Frozen.size g.S.Watch.Watch.counts)
+    c.deref.result.now c.self.inside.seats c.self.inside.running.items c.deref_mut.result.now c.run_lists.new.seats c.deref_mut-2.result.now
+    c.take_answers.new.seats (all_ran g c) c.in_ok-lists.lists.items c.args.commands.items c.args.self.now _
     c.deref.ensures.value c.in_ok-lists.ensures.each
-    (omega (arith, c.len.ensures, c.self.inside.seats.ok.0, seats_many (eyes g.S.Store.history g.S.Device.Device.history g.S.Frozen.Frozen.content g.S.Device.Device.name g.S.Frozen.Frozen.size g.S.Watch.Watch.counts) (λ (s : Seat g.row.S.Denot g.row.P.Denot g.row.S-Watch.Denot g.row.S-Device.Denot g.row.S-Frozen.Denot). s.engine) c.self.inside.seats.items c.self.inside.running.items c.args.self.now c.self.invariant c.self.view_is, c.requires.few)) c.self.view_is
+    (omega (
+      arith,
+      c.len.ensures,
+      c.self.inside.seats.ok.0,
+      seats_many
+          (eyes g.S.Store.history g.S.Device.Device.history g.S.Frozen.Frozen.content g.S.Device.Device.name g.S.Frozen.Frozen.size g.S.Watch.Watch.counts)
+          (λ (s : Seat g.row.S.Denot g.row.P.Denot g.row.S-Watch.Denot g.row.S-Device.Denot g.row.S-Frozen.Denot). s.engine) c.self.inside.seats.items
+          c.self.inside.running.items c.args.self.now c.self.invariant c.self.view_is,
+      c.requires.few,
+    )) c.self.view_is
 
 pub invariant_of-self-2 : goal.invariant_of-self-2
-invariant_of-self-2 g c = seats_staffed (eyes g.S.Store.history g.S.Device.Device.history g.S.Frozen.Frozen.content g.S.Device.Device.name g.S.Frozen.Frozen.size g.S.Watch.Watch.counts) c.deref.result.now c.self.inside.seats c.self.inside.running.items c.deref_mut.result.now c.run_lists.new.seats c.deref_mut-2.result.now c.take_answers.new.seats (all_ran g c)
+invariant_of-self-2 g c = seats_staffed (eyes g.S.Store.history g.S.Device.Device.history g.S.Frozen.Frozen.content g.S.Device.Device.name g.S.Frozen.Frozen.size
+    g.S.Watch.Watch.counts) c.deref.result.now c.self.inside.seats c.self.inside.running.items c.deref_mut.result.now c.run_lists.new.seats c.deref_mut-2.result.now
+    c.take_answers.new.seats (all_ran g c)
 
 pub returns-clause-replies : goal.returns-clause-replies
-returns-clause-replies g c = λ w h. c.in_ok-replies.ensures ∙ ended_replied (eyes g.S.Store.history g.S.Device.Device.history g.S.Frozen.Frozen.content g.S.Device.Device.name g.S.Frozen.Frozen.size g.S.Watch.Watch.counts) (map routed_of c.args.commands.items) c.args.self.now (with_jobs (map (λ (s : Seat g.row.S.Denot g.row.P.Denot g.row.S-Watch.Denot g.row.S-Device.Denot g.row.S-Frozen.Denot). s.engine) (with_items (with_items c.self.inside.seats c.run_lists.new.seats) c.take_answers.new.seats).items) c.self.inside.running.items) (map (λ (s : Seat g.row.S.Denot g.row.P.Denot g.row.S-Watch.Denot g.row.S-Device.Denot g.row.S-Frozen.Denot). s.answer) c.deref_mut-2.result.now) (all_ended g c) c.in_ok-parts.parts.items c.in_ok-parts.ensures.all c.replies_are_gathered.ensures c.requires.some c.requires.ascending (window_for_parts c.args.commands.items c.requires.window) w h
+returns-clause-replies g c = λ w h. c.in_ok-replies.ensures ∙ ended_replied
+    (eyes g.S.Store.history g.S.Device.Device.history g.S.Frozen.Frozen.content g.S.Device.Device.name g.S.Frozen.Frozen.size g.S.Watch.Watch.counts)
+    (map routed_of c.args.commands.items) c.args.self.now (with_jobs
+    (map (λ (s : Seat g.row.S.Denot g.row.P.Denot g.row.S-Watch.Denot g.row.S-Device.Denot g.row.S-Frozen.Denot). s.engine)
+    (with_items (with_items c.self.inside.seats c.run_lists.new.seats) c.take_answers.new.seats).items) c.self.inside.running.items)
+    (map (λ (s : Seat g.row.S.Denot g.row.P.Denot g.row.S-Watch.Denot g.row.S-Device.Denot g.row.S-Frozen.Denot). s.answer) c.deref_mut-2.result.now) (all_ended g c)
+    c.in_ok-parts.parts.items c.in_ok-parts.ensures.all c.replies_are_gathered.ensures c.requires.some c.requires.ascending
+    (window_for_parts c.args.commands.items c.requires.window) w h
 
 pub returns-clause-frames : goal.returns-clause-frames
 returns-clause-frames g c =
-    seats_framed (eyes g.S.Store.history g.S.Device.Device.history g.S.Frozen.Frozen.content g.S.Device.Device.name g.S.Frozen.Frozen.size g.S.Watch.Watch.counts) c.deref.result.now c.self.inside.seats c.self.inside.running.items c.deref_mut.result.now c.run_lists.new.seats c.deref_mut-2.result.now c.take_answers.new.seats (all_ran g c) c.in_ok-lists.lists.items c.args.commands.items c.args.self.now _ c.in_ok-parts.parts.items c.run_lists.new.frames.items
+    seats_framed (eyes g.S.Store.history g.S.Device.Device.history g.S.Frozen.Frozen.content g.S.Device.Device.name g.S.Frozen.Frozen.size g.S.Watch.Watch.counts)
+    c.deref.result.now c.self.inside.seats c.self.inside.running.items c.deref_mut.result.now c.run_lists.new.seats c.deref_mut-2.result.now
+    c.take_answers.new.seats (all_ran g c) c.in_ok-lists.lists.items c.args.commands.items c.args.self.now _ c.in_ok-parts.parts.items c.run_lists.new.frames.items
     c.deref.ensures.value c.in_ok-lists.ensures.each
-    (omega (arith, c.len.ensures, c.self.inside.seats.ok.0, seats_many (eyes g.S.Store.history g.S.Device.Device.history g.S.Frozen.Frozen.content g.S.Device.Device.name g.S.Frozen.Frozen.size g.S.Watch.Watch.counts) (λ (s : Seat g.row.S.Denot g.row.P.Denot g.row.S-Watch.Denot g.row.S-Device.Denot g.row.S-Frozen.Denot). s.engine) c.self.inside.seats.items c.self.inside.running.items c.args.self.now c.self.invariant c.self.view_is, c.requires.few)) c.self.view_is
+    (omega (
+      arith,
+      c.len.ensures,
+      c.self.inside.seats.ok.0,
+      seats_many
+          (eyes g.S.Store.history g.S.Device.Device.history g.S.Frozen.Frozen.content g.S.Device.Device.name g.S.Frozen.Frozen.size g.S.Watch.Watch.counts)
+          (λ (s : Seat g.row.S.Denot g.row.P.Denot g.row.S-Watch.Denot g.row.S-Device.Denot g.row.S-Frozen.Denot). s.engine) c.self.inside.seats.items
+          c.self.inside.running.items c.args.self.now c.self.invariant c.self.view_is,
+      c.requires.few,
+    )) c.self.view_is
     c.in_ok-parts.ensures.all c.run_lists.ensures.framed
 
 pub returns-clause-held : goal.returns-clause-held
-returns-clause-held g c = λ only w h. ended_held (eyes g.S.Store.history g.S.Device.Device.history g.S.Frozen.Frozen.content g.S.Device.Device.name g.S.Frozen.Frozen.size g.S.Watch.Watch.counts) (map routed_of c.args.commands.items) c.args.self.now (with_jobs (map (λ (s : Seat g.row.S.Denot g.row.P.Denot g.row.S-Watch.Denot g.row.S-Device.Denot g.row.S-Frozen.Denot). s.engine) (with_items (with_items c.self.inside.seats c.run_lists.new.seats) c.take_answers.new.seats).items) c.self.inside.running.items) (map (λ (s : Seat g.row.S.Denot g.row.P.Denot g.row.S-Watch.Denot g.row.S-Device.Denot g.row.S-Frozen.Denot). s.answer) c.deref_mut-2.result.now) (all_ended g c) c.in_ok-parts.parts.items c.in_ok-parts.ensures.all (window_for_parts c.args.commands.items c.requires.window) only w h
+returns-clause-held g c = λ only w h. ended_held (eyes g.S.Store.history g.S.Device.Device.history g.S.Frozen.Frozen.content g.S.Device.Device.name
+    g.S.Frozen.Frozen.size g.S.Watch.Watch.counts) (map routed_of c.args.commands.items) c.args.self.now
+    (with_jobs (map (λ (s : Seat g.row.S.Denot g.row.P.Denot g.row.S-Watch.Denot g.row.S-Device.Denot g.row.S-Frozen.Denot). s.engine)
+    (with_items (with_items c.self.inside.seats c.run_lists.new.seats) c.take_answers.new.seats).items) c.self.inside.running.items)
+    (map (λ (s : Seat g.row.S.Denot g.row.P.Denot g.row.S-Watch.Denot g.row.S-Device.Denot g.row.S-Frozen.Denot). s.answer) c.deref_mut-2.result.now) (all_ended g c)
+    c.in_ok-parts.parts.items c.in_ok-parts.ensures.all (window_for_parts c.args.commands.items c.requires.window) only w h
 
 pub returns-clause-places : goal.returns-clause-places
-returns-clause-places g c = ap keys_of c.in_ok-replies.ensures ∙ places_of (map routed_of c.args.commands.items) (gathered (map replies_in c.in_ok-parts.parts.items)) (ended_answers (eyes g.S.Store.history g.S.Device.Device.history g.S.Frozen.Frozen.content g.S.Device.Device.name g.S.Frozen.Frozen.size g.S.Watch.Watch.counts) (map routed_of c.args.commands.items) c.args.self.now (with_jobs (map (λ (s : Seat g.row.S.Denot g.row.P.Denot g.row.S-Watch.Denot g.row.S-Device.Denot g.row.S-Frozen.Denot). s.engine) (with_items (with_items c.self.inside.seats c.run_lists.new.seats) c.take_answers.new.seats).items) c.self.inside.running.items) (map (λ (s : Seat g.row.S.Denot g.row.P.Denot g.row.S-Watch.Denot g.row.S-Device.Denot g.row.S-Frozen.Denot). s.answer) c.deref_mut-2.result.now) (all_ended g c) c.in_ok-parts.parts.items c.in_ok-parts.ensures.all c.kinds_are_gathered.ensures c.requires.some c.requires.ascending (window_for_parts c.args.commands.items c.requires.window))
+returns-clause-places g c = ap keys_of c.in_ok-replies.ensures
+    ∙ places_of (map routed_of c.args.commands.items) (gathered (map replies_in c.in_ok-parts.parts.items))
+    (ended_answers (eyes g.S.Store.history g.S.Device.Device.history g.S.Frozen.Frozen.content g.S.Device.Device.name g.S.Frozen.Frozen.size g.S.Watch.Watch.counts)
+    (map routed_of c.args.commands.items) c.args.self.now (with_jobs
+    (map (λ (s : Seat g.row.S.Denot g.row.P.Denot g.row.S-Watch.Denot g.row.S-Device.Denot g.row.S-Frozen.Denot). s.engine)
+    (with_items (with_items c.self.inside.seats c.run_lists.new.seats) c.take_answers.new.seats).items) c.self.inside.running.items)
+    (map (λ (s : Seat g.row.S.Denot g.row.P.Denot g.row.S-Watch.Denot g.row.S-Device.Denot g.row.S-Frozen.Denot). s.answer) c.deref_mut-2.result.now) (all_ended g c)
+    c.in_ok-parts.parts.items c.in_ok-parts.ensures.all c.kinds_are_gathered.ensures c.requires.some c.requires.ascending
+    (window_for_parts c.args.commands.items c.requires.window))
 
 pub returns-clause-kinds : goal.returns-clause-kinds
 returns-clause-kinds g c =
     subst (λ replies. AreOfKinds (requests_in c.args.commands.items) (values_in replies)) (sym c.in_ok-replies.ensures)
-    (kinds_of (map routed_of c.args.commands.items) (gathered (map replies_in c.in_ok-parts.parts.items)) (ended_answers (eyes g.S.Store.history g.S.Device.Device.history g.S.Frozen.Frozen.content g.S.Device.Device.name g.S.Frozen.Frozen.size g.S.Watch.Watch.counts) (map routed_of c.args.commands.items) c.args.self.now (with_jobs (map (λ (s : Seat g.row.S.Denot g.row.P.Denot g.row.S-Watch.Denot g.row.S-Device.Denot g.row.S-Frozen.Denot). s.engine) (with_items (with_items c.self.inside.seats c.run_lists.new.seats) c.take_answers.new.seats).items) c.self.inside.running.items) (map (λ (s : Seat g.row.S.Denot g.row.P.Denot g.row.S-Watch.Denot g.row.S-Device.Denot g.row.S-Frozen.Denot). s.answer) c.deref_mut-2.result.now) (all_ended g c) c.in_ok-parts.parts.items c.in_ok-parts.ensures.all c.kinds_are_gathered.ensures c.requires.some c.requires.ascending (window_for_parts c.args.commands.items c.requires.window)))
+    (kinds_of (map routed_of c.args.commands.items) (gathered (map replies_in c.in_ok-parts.parts.items))
+    (ended_answers (eyes g.S.Store.history g.S.Device.Device.history g.S.Frozen.Frozen.content g.S.Device.Device.name g.S.Frozen.Frozen.size
+    g.S.Watch.Watch.counts) (map routed_of c.args.commands.items) c.args.self.now
+    (with_jobs (map (λ (s : Seat g.row.S.Denot g.row.P.Denot g.row.S-Watch.Denot g.row.S-Device.Denot g.row.S-Frozen.Denot). s.engine)
+    (with_items (with_items c.self.inside.seats c.run_lists.new.seats) c.take_answers.new.seats).items) c.self.inside.running.items)
+    (map (λ (s : Seat g.row.S.Denot g.row.P.Denot g.row.S-Watch.Denot g.row.S-Device.Denot g.row.S-Frozen.Denot). s.answer) c.deref_mut-2.result.now)
+    (all_ended g c) c.in_ok-parts.parts.items c.in_ok-parts.ensures.all c.kinds_are_gathered.ensures c.requires.some c.requires.ascending
+    (window_for_parts c.args.commands.items c.requires.window)))
 
 pub returns-clause-sound : goal.returns-clause-sound
-returns-clause-sound g c = ended_sound (eyes g.S.Store.history g.S.Device.Device.history g.S.Frozen.Frozen.content g.S.Device.Device.name g.S.Frozen.Frozen.size g.S.Watch.Watch.counts) (map routed_of c.args.commands.items) c.args.self.now (with_jobs (map (λ (s : Seat g.row.S.Denot g.row.P.Denot g.row.S-Watch.Denot g.row.S-Device.Denot g.row.S-Frozen.Denot). s.engine) (with_items (with_items c.self.inside.seats c.run_lists.new.seats) c.take_answers.new.seats).items) c.self.inside.running.items) (map (λ (s : Seat g.row.S.Denot g.row.P.Denot g.row.S-Watch.Denot g.row.S-Device.Denot g.row.S-Frozen.Denot). s.answer) c.deref_mut-2.result.now) (all_ended g c) c.in_ok-parts.parts.items c.in_ok-parts.ensures.all
+returns-clause-sound g c = ended_sound (eyes g.S.Store.history g.S.Device.Device.history g.S.Frozen.Frozen.content g.S.Device.Device.name g.S.Frozen.Frozen.size
+    g.S.Watch.Watch.counts) (map routed_of c.args.commands.items) c.args.self.now
+    (with_jobs (map (λ (s : Seat g.row.S.Denot g.row.P.Denot g.row.S-Watch.Denot g.row.S-Device.Denot g.row.S-Frozen.Denot). s.engine)
+    (with_items (with_items c.self.inside.seats c.run_lists.new.seats) c.take_answers.new.seats).items) c.self.inside.running.items)
+    (map (λ (s : Seat g.row.S.Denot g.row.P.Denot g.row.S-Watch.Denot g.row.S-Device.Denot g.row.S-Frozen.Denot). s.answer) c.deref_mut-2.result.now) (all_ended g c)
+    c.in_ok-parts.parts.items c.in_ok-parts.ensures.all
 
 pub returns-clause-ready : goal.returns-clause-ready
-returns-clause-ready g c = ended_ready (eyes g.S.Store.history g.S.Device.Device.history g.S.Frozen.Frozen.content g.S.Device.Device.name g.S.Frozen.Frozen.size g.S.Watch.Watch.counts) (map routed_of c.args.commands.items) c.args.self.now (with_jobs (map (λ (s : Seat g.row.S.Denot g.row.P.Denot g.row.S-Watch.Denot g.row.S-Device.Denot g.row.S-Frozen.Denot). s.engine) (with_items (with_items c.self.inside.seats c.run_lists.new.seats) c.take_answers.new.seats).items) c.self.inside.running.items) (map (λ (s : Seat g.row.S.Denot g.row.P.Denot g.row.S-Watch.Denot g.row.S-Device.Denot g.row.S-Frozen.Denot). s.answer) c.deref_mut-2.result.now) (all_ended g c) c.in_ok-parts.parts.items c.in_ok-parts.ensures.all
+returns-clause-ready g c = ended_ready (eyes g.S.Store.history g.S.Device.Device.history g.S.Frozen.Frozen.content g.S.Device.Device.name g.S.Frozen.Frozen.size
+    g.S.Watch.Watch.counts) (map routed_of c.args.commands.items) c.args.self.now
+    (with_jobs (map (λ (s : Seat g.row.S.Denot g.row.P.Denot g.row.S-Watch.Denot g.row.S-Device.Denot g.row.S-Frozen.Denot). s.engine)
+    (with_items (with_items c.self.inside.seats c.run_lists.new.seats) c.take_answers.new.seats).items) c.self.inside.running.items)
+    (map (λ (s : Seat g.row.S.Denot g.row.P.Denot g.row.S-Watch.Denot g.row.S-Device.Denot g.row.S-Frozen.Denot). s.answer) c.deref_mut-2.result.now) (all_ended g c)
+    c.in_ok-parts.parts.items c.in_ok-parts.ensures.all
 
 pub returns-clause-same : goal.returns-clause-same
-returns-clause-same g c = ended_same (eyes g.S.Store.history g.S.Device.Device.history g.S.Frozen.Frozen.content g.S.Device.Device.name g.S.Frozen.Frozen.size g.S.Watch.Watch.counts) (map routed_of c.args.commands.items) c.args.self.now (with_jobs (map (λ (s : Seat g.row.S.Denot g.row.P.Denot g.row.S-Watch.Denot g.row.S-Device.Denot g.row.S-Frozen.Denot). s.engine) (with_items (with_items c.self.inside.seats c.run_lists.new.seats) c.take_answers.new.seats).items) c.self.inside.running.items) (map (λ (s : Seat g.row.S.Denot g.row.P.Denot g.row.S-Watch.Denot g.row.S-Device.Denot g.row.S-Frozen.Denot). s.answer) c.deref_mut-2.result.now) (all_ended g c)
+returns-clause-same g c = ended_same (eyes g.S.Store.history g.S.Device.Device.history g.S.Frozen.Frozen.content g.S.Device.Device.name g.S.Frozen.Frozen.size
+    g.S.Watch.Watch.counts) (map routed_of c.args.commands.items) c.args.self.now
+    (with_jobs (map (λ (s : Seat g.row.S.Denot g.row.P.Denot g.row.S-Watch.Denot g.row.S-Device.Denot g.row.S-Frozen.Denot). s.engine)
+    (with_items (with_items c.self.inside.seats c.run_lists.new.seats) c.take_answers.new.seats).items) c.self.inside.running.items)
+    (map (λ (s : Seat g.row.S.Denot g.row.P.Denot g.row.S-Watch.Denot g.row.S-Device.Denot g.row.S-Frozen.Denot). s.answer) c.deref_mut-2.result.now) (all_ended g c)
 
 pub returns-clause-looked_up : goal.returns-clause-looked_up
-returns-clause-looked_up g c = ended_looked_up (eyes g.S.Store.history g.S.Device.Device.history g.S.Frozen.Frozen.content g.S.Device.Device.name g.S.Frozen.Frozen.size g.S.Watch.Watch.counts) (map routed_of c.args.commands.items) c.args.self.now (with_jobs (map (λ (s : Seat g.row.S.Denot g.row.P.Denot g.row.S-Watch.Denot g.row.S-Device.Denot g.row.S-Frozen.Denot). s.engine) (with_items (with_items c.self.inside.seats c.run_lists.new.seats) c.take_answers.new.seats).items) c.self.inside.running.items) (map (λ (s : Seat g.row.S.Denot g.row.P.Denot g.row.S-Watch.Denot g.row.S-Device.Denot g.row.S-Frozen.Denot). s.answer) c.deref_mut-2.result.now) (all_ended g c) c.in_ok-parts.parts.items c.in_ok-parts.ensures.all
+returns-clause-looked_up g c = ended_looked_up (eyes g.S.Store.history g.S.Device.Device.history g.S.Frozen.Frozen.content g.S.Device.Device.name
+    g.S.Frozen.Frozen.size g.S.Watch.Watch.counts) (map routed_of c.args.commands.items) c.args.self.now
+    (with_jobs (map (λ (s : Seat g.row.S.Denot g.row.P.Denot g.row.S-Watch.Denot g.row.S-Device.Denot g.row.S-Frozen.Denot). s.engine)
+    (with_items (with_items c.self.inside.seats c.run_lists.new.seats) c.take_answers.new.seats).items) c.self.inside.running.items)
+    (map (λ (s : Seat g.row.S.Denot g.row.P.Denot g.row.S-Watch.Denot g.row.S-Device.Denot g.row.S-Frozen.Denot). s.answer) c.deref_mut-2.result.now) (all_ended g c)
+    c.in_ok-parts.parts.items c.in_ok-parts.ensures.all
 
 pub returns-clause-devices : goal.returns-clause-devices
-returns-clause-devices g c = ended_devices (eyes g.S.Store.history g.S.Device.Device.history g.S.Frozen.Frozen.content g.S.Device.Device.name g.S.Frozen.Frozen.size g.S.Watch.Watch.counts) (map routed_of c.args.commands.items) c.args.self.now (with_jobs (map (λ (s : Seat g.row.S.Denot g.row.P.Denot g.row.S-Watch.Denot g.row.S-Device.Denot g.row.S-Frozen.Denot). s.engine) (with_items (with_items c.self.inside.seats c.run_lists.new.seats) c.take_answers.new.seats).items) c.self.inside.running.items) (map (λ (s : Seat g.row.S.Denot g.row.P.Denot g.row.S-Watch.Denot g.row.S-Device.Denot g.row.S-Frozen.Denot). s.answer) c.deref_mut-2.result.now) (all_ended g c)
+returns-clause-devices g c = ended_devices (eyes g.S.Store.history g.S.Device.Device.history g.S.Frozen.Frozen.content g.S.Device.Device.name g.S.Frozen.Frozen.size
+    g.S.Watch.Watch.counts) (map routed_of c.args.commands.items) c.args.self.now
+    (with_jobs (map (λ (s : Seat g.row.S.Denot g.row.P.Denot g.row.S-Watch.Denot g.row.S-Device.Denot g.row.S-Frozen.Denot). s.engine)
+    (with_items (with_items c.self.inside.seats c.run_lists.new.seats) c.take_answers.new.seats).items) c.self.inside.running.items)
+    (map (λ (s : Seat g.row.S.Denot g.row.P.Denot g.row.S-Watch.Denot g.row.S-Device.Denot g.row.S-Frozen.Denot). s.answer) c.deref_mut-2.result.now) (all_ended g c)
 
 pub returns-clause-log_out : goal.returns-clause-log_out
-returns-clause-log_out g c = ended_log_out (eyes g.S.Store.history g.S.Device.Device.history g.S.Frozen.Frozen.content g.S.Device.Device.name g.S.Frozen.Frozen.size g.S.Watch.Watch.counts) (map routed_of c.args.commands.items) c.args.self.now (with_jobs (map (λ (s : Seat g.row.S.Denot g.row.P.Denot g.row.S-Watch.Denot g.row.S-Device.Denot g.row.S-Frozen.Denot). s.engine) (with_items (with_items c.self.inside.seats c.run_lists.new.seats) c.take_answers.new.seats).items) c.self.inside.running.items) (map (λ (s : Seat g.row.S.Denot g.row.P.Denot g.row.S-Watch.Denot g.row.S-Device.Denot g.row.S-Frozen.Denot). s.answer) c.deref_mut-2.result.now) (all_ended g c) c.in_ok-parts.parts.items c.in_ok-parts.ensures.all
+returns-clause-log_out g c = ended_log_out (eyes g.S.Store.history g.S.Device.Device.history g.S.Frozen.Frozen.content g.S.Device.Device.name g.S.Frozen.Frozen.size
+    g.S.Watch.Watch.counts) (map routed_of c.args.commands.items) c.args.self.now
+    (with_jobs (map (λ (s : Seat g.row.S.Denot g.row.P.Denot g.row.S-Watch.Denot g.row.S-Device.Denot g.row.S-Frozen.Denot). s.engine)
+    (with_items (with_items c.self.inside.seats c.run_lists.new.seats) c.take_answers.new.seats).items) c.self.inside.running.items)
+    (map (λ (s : Seat g.row.S.Denot g.row.P.Denot g.row.S-Watch.Denot g.row.S-Device.Denot g.row.S-Frozen.Denot). s.answer) c.deref_mut-2.result.now) (all_ended g c)
+    c.in_ok-parts.parts.items c.in_ok-parts.ensures.all
 
 pub returns-clause-moments : goal.returns-clause-moments
-returns-clause-moments g c = ended_moments (eyes g.S.Store.history g.S.Device.Device.history g.S.Frozen.Frozen.content g.S.Device.Device.name g.S.Frozen.Frozen.size g.S.Watch.Watch.counts) (map routed_of c.args.commands.items) c.args.self.now (with_jobs (map (λ (s : Seat g.row.S.Denot g.row.P.Denot g.row.S-Watch.Denot g.row.S-Device.Denot g.row.S-Frozen.Denot). s.engine) (with_items (with_items c.self.inside.seats c.run_lists.new.seats) c.take_answers.new.seats).items) c.self.inside.running.items) (map (λ (s : Seat g.row.S.Denot g.row.P.Denot g.row.S-Watch.Denot g.row.S-Device.Denot g.row.S-Frozen.Denot). s.answer) c.deref_mut-2.result.now) (all_ended g c)
+returns-clause-moments g c = ended_moments (eyes g.S.Store.history g.S.Device.Device.history g.S.Frozen.Frozen.content g.S.Device.Device.name g.S.Frozen.Frozen.size
+    g.S.Watch.Watch.counts) (map routed_of c.args.commands.items) c.args.self.now
+    (with_jobs (map (λ (s : Seat g.row.S.Denot g.row.P.Denot g.row.S-Watch.Denot g.row.S-Device.Denot g.row.S-Frozen.Denot). s.engine)
+    (with_items (with_items c.self.inside.seats c.run_lists.new.seats) c.take_answers.new.seats).items) c.self.inside.running.items)
+    (map (λ (s : Seat g.row.S.Denot g.row.P.Denot g.row.S-Watch.Denot g.row.S-Device.Denot g.row.S-Frozen.Denot). s.answer) c.deref_mut-2.result.now) (all_ended g c)
 
 pub returns-clause-counted : goal.returns-clause-counted
-returns-clause-counted g c = ended_uncounted (eyes g.S.Store.history g.S.Device.Device.history g.S.Frozen.Frozen.content g.S.Device.Device.name g.S.Frozen.Frozen.size g.S.Watch.Watch.counts) (map routed_of c.args.commands.items) c.args.self.now (with_jobs (map (λ (s : Seat g.row.S.Denot g.row.P.Denot g.row.S-Watch.Denot g.row.S-Device.Denot g.row.S-Frozen.Denot). s.engine) (with_items (with_items c.self.inside.seats c.run_lists.new.seats) c.take_answers.new.seats).items) c.self.inside.running.items) (map (λ (s : Seat g.row.S.Denot g.row.P.Denot g.row.S-Watch.Denot g.row.S-Device.Denot g.row.S-Frozen.Denot). s.answer) c.deref_mut-2.result.now) (all_ended g c) (λ p. ⊥) (λ p cause. cause)
+returns-clause-counted g c = ended_uncounted (eyes g.S.Store.history g.S.Device.Device.history g.S.Frozen.Frozen.content g.S.Device.Device.name g.S.Frozen.Frozen.size
+    g.S.Watch.Watch.counts) (map routed_of c.args.commands.items) c.args.self.now
+    (with_jobs (map (λ (s : Seat g.row.S.Denot g.row.P.Denot g.row.S-Watch.Denot g.row.S-Device.Denot g.row.S-Frozen.Denot). s.engine)
+    (with_items (with_items c.self.inside.seats c.run_lists.new.seats) c.take_answers.new.seats).items) c.self.inside.running.items)
+    (map (λ (s : Seat g.row.S.Denot g.row.P.Denot g.row.S-Watch.Denot g.row.S-Device.Denot g.row.S-Frozen.Denot). s.answer) c.deref_mut-2.result.now) (all_ended g c)
+    (λ p. ⊥) (λ p cause. cause)

@@ -34,13 +34,22 @@ pub returns-in-None-clause-reply : goal.returns-in-None-clause-reply
 unfolding MayServe ServesAt FailsAt AllRest faults_kept HasSpent MayAsk HoldsAt KeepsAt Rests faults_of IsSpent
 returns-in-None-clause-reply g c =
     let none = sym c.take.ensures.value ∙ c.in-None.is in
-    λ known serves. replies_none (eyes g.S.Store.history g.S.Device.Device.history g.S.Frozen.Frozen.content g.S.Device.Device.name g.S.Frozen.Frozen.size g.S.Watch.Watch.counts) (record { engines = c.self.inside.partitions.engines; shown = c.self.inside.shown.items; scan = c.self.inside.scan }) known none (subst (λ (k : KeeperState _ _ _ _). ServesAt (eyes g.S.Store.history g.S.Device.Device.history g.S.Frozen.Frozen.content g.S.Device.Device.name g.S.Frozen.Frozen.size g.S.Watch.Watch.counts) k (known)) (sym c.self.view_is) serves)
+    λ known serves. replies_none (eyes g.S.Store.history g.S.Device.Device.history g.S.Frozen.Frozen.content g.S.Device.Device.name g.S.Frozen.Frozen.size
+    g.S.Watch.Watch.counts) (record { engines = c.self.inside.partitions.engines; shown = c.self.inside.shown.items; scan = c.self.inside.scan }) known none
+    (subst (λ (k : KeeperState _ _ _ _). ServesAt (eyes g.S.Store.history g.S.Device.Device.history g.S.Frozen.Frozen.content g.S.Device.Device.name
+    g.S.Frozen.Frozen.size g.S.Watch.Watch.counts) k (known)) (sym c.self.view_is) serves)
 
 pub returns-in-None-clause-held : goal.returns-in-None-clause-held
 unfolding MayServe ServesAt FailsAt AllRest faults_kept HasSpent MayAsk HoldsAt KeepsAt Rests faults_of IsSpent
 returns-in-None-clause-held g c =
     let none = sym c.take.ensures.value ∙ c.in-None.is in
-    λ known serves. subst (λ o. ServesAt (eyes g.S.Store.history g.S.Device.Device.history g.S.Frozen.Frozen.content g.S.Device.Device.name g.S.Frozen.Frozen.size g.S.Watch.Watch.counts) (record { engines = c.self.inside.partitions.engines; shown = c.self.inside.shown.items; scan = o }) (sight_after (collect ∷ []) known)) (none ∙ sym c.take.ensures.after) (serves_none (eyes g.S.Store.history g.S.Device.Device.history g.S.Frozen.Frozen.content g.S.Device.Device.name g.S.Frozen.Frozen.size g.S.Watch.Watch.counts) (record { engines = c.self.inside.partitions.engines; shown = c.self.inside.shown.items; scan = c.self.inside.scan }) known none (subst (λ (k : KeeperState _ _ _ _). ServesAt (eyes g.S.Store.history g.S.Device.Device.history g.S.Frozen.Frozen.content g.S.Device.Device.name g.S.Frozen.Frozen.size g.S.Watch.Watch.counts) k (known)) (sym c.self.view_is) serves))
+    λ known serves. subst (λ o. ServesAt (eyes g.S.Store.history g.S.Device.Device.history g.S.Frozen.Frozen.content g.S.Device.Device.name g.S.Frozen.Frozen.size
+    g.S.Watch.Watch.counts) (record { engines = c.self.inside.partitions.engines; shown = c.self.inside.shown.items; scan = o })
+    (sight_after (collect ∷ []) known)) (none ∙ sym c.take.ensures.after)
+    (serves_none (eyes g.S.Store.history g.S.Device.Device.history g.S.Frozen.Frozen.content g.S.Device.Device.name g.S.Frozen.Frozen.size g.S.Watch.Watch.counts)
+    (record { engines = c.self.inside.partitions.engines; shown = c.self.inside.shown.items; scan = c.self.inside.scan }) known none
+    (subst (λ (k : KeeperState _ _ _ _). ServesAt (eyes g.S.Store.history g.S.Device.Device.history g.S.Frozen.Frozen.content g.S.Device.Device.name
+    g.S.Frozen.Frozen.size g.S.Watch.Watch.counts) k (known)) (sym c.self.view_is) serves))
 
 pub returns-in-None-clause-settings : goal.returns-in-None-clause-settings
 returns-in-None-clause-settings g c =
@@ -49,12 +58,27 @@ returns-in-None-clause-settings g c =
 pub returns-in-None-clause-cause : goal.returns-in-None-clause-cause
 returns-in-None-clause-cause g c =
     let none = sym c.take.ensures.value ∙ c.in-None.is in
-    (subst (λ (k : KeeperState _ _ _ _). HasDiskCause (faults_kept g.S.Watch.Watch.counts k) (faults_kept g.S.Watch.Watch.counts (record { engines = c.self.inside.partitions.engines; shown = c.self.inside.shown.items; scan = c.take.new.self })) (HasSpent g.S.Store.history g.S.Device.Device.history g.S.Frozen.Frozen.content (record { engines = c.self.inside.partitions.engines; shown = c.self.inside.shown.items; scan = c.take.new.self })) None) c.self.view_is (subst (λ o. HasDiskCause (faults_kept g.S.Watch.Watch.counts (record { engines = c.self.inside.partitions.engines; shown = c.self.inside.shown.items; scan = c.self.inside.scan })) (faults_kept g.S.Watch.Watch.counts (record { engines = c.self.inside.partitions.engines; shown = c.self.inside.shown.items; scan = o })) (HasSpent g.S.Store.history g.S.Device.Device.history g.S.Frozen.Frozen.content (record { engines = c.self.inside.partitions.engines; shown = c.self.inside.shown.items; scan = c.take.new.self })) None) (none ∙ sym c.take.ensures.after) (nothing_counted (faults_kept g.S.Watch.Watch.counts (record { engines = c.self.inside.partitions.engines; shown = c.self.inside.shown.items; scan = c.self.inside.scan })) (HasSpent g.S.Store.history g.S.Device.Device.history g.S.Frozen.Frozen.content (record { engines = c.self.inside.partitions.engines; shown = c.self.inside.shown.items; scan = c.take.new.self })))))
+    (subst (λ (k : KeeperState _ _ _ _). HasDiskCause (faults_kept g.S.Watch.Watch.counts k)
+    (faults_kept g.S.Watch.Watch.counts (record { engines = c.self.inside.partitions.engines; shown = c.self.inside.shown.items; scan = c.take.new.self }))
+    (HasSpent g.S.Store.history g.S.Device.Device.history g.S.Frozen.Frozen.content
+    (record { engines = c.self.inside.partitions.engines; shown = c.self.inside.shown.items; scan = c.take.new.self })) None) c.self.view_is
+    (subst (λ o. HasDiskCause (faults_kept g.S.Watch.Watch.counts
+    (record { engines = c.self.inside.partitions.engines; shown = c.self.inside.shown.items; scan = c.self.inside.scan }))
+    (faults_kept g.S.Watch.Watch.counts (record { engines = c.self.inside.partitions.engines; shown = c.self.inside.shown.items; scan = o }))
+    (HasSpent g.S.Store.history g.S.Device.Device.history g.S.Frozen.Frozen.content
+    (record { engines = c.self.inside.partitions.engines; shown = c.self.inside.shown.items; scan = c.take.new.self })) None) (none ∙ sym c.take.ensures.after)
+    (nothing_counted (faults_kept g.S.Watch.Watch.counts (record
+    { engines = c.self.inside.partitions.engines; shown = c.self.inside.shown.items; scan = c.self.inside.scan }))
+    (HasSpent g.S.Store.history g.S.Device.Device.history g.S.Frozen.Frozen.content
+    (record { engines = c.self.inside.partitions.engines; shown = c.self.inside.shown.items; scan = c.take.new.self })))))
 
 pub take_back-covered-requires-clause-as_many : goal.take_back-covered-requires-clause-as_many
 take_back-covered-requires-clause-as_many g c κs within =
-    let some = sym c.take.ensures.value ∙ c.in-Some.is in
-    (back_many g.S.Watch.Watch.counts (record { engines = c.self.inside.partitions.engines; shown = c.self.inside.shown.items; scan = c.self.inside.scan }) c.in-Some.scan c.join-passes.result.passes.items some c.join-passes.ensures.back c.self.invariant, ap length c.deref.ensures.value ∙ c.self.invariant.as_many)
+    let some = sym c.take.ensures.value ∙ c.in-Some.is in (
+      back_many g.S.Watch.Watch.counts (record { engines = c.self.inside.partitions.engines; shown = c.self.inside.shown.items; scan = c.self.inside.scan })
+          c.in-Some.scan c.join-passes.result.passes.items some c.join-passes.ensures.back c.self.invariant,
+      ap length c.deref.ensures.value ∙ c.self.invariant.as_many,
+    )
 
 pub take_back-covered-requires-clause-out : goal.take_back-covered-requires-clause-out
 take_back-covered-requires-clause-out g c κs within =
@@ -64,39 +88,82 @@ take_back-covered-requires-clause-out g c κs within =
 pub take_back-covered-requires-clause-lenses : goal.take_back-covered-requires-clause-lenses
 take_back-covered-requires-clause-lenses g c κs within =
     let some = sym c.take.ensures.value ∙ c.in-Some.is in
-    subst (λ shown. AtEach (λ p (s : ShownState g.row.S-Frozen.Denot g.row.S-Watch.Denot) (pass : Pass g.row.S-Frozen.Denot g.row.S-Watch.Denot). s.failed ≡ false → Reads s.book pass.lens) 0 shown c.join-passes.result.passes.items) (sym c.deref.ensures.value) (lenses_back g.S.Watch.Watch.counts (record { engines = c.self.inside.partitions.engines; shown = c.self.inside.shown.items; scan = c.self.inside.scan }) c.in-Some.scan c.join-passes.result.passes.items some c.join-passes.ensures.back c.self.invariant)
+    subst (λ shown. AtEach (λ p (s : ShownState g.row.S-Frozen.Denot g.row.S-Watch.Denot) (pass : Pass g.row.S-Frozen.Denot g.row.S-Watch.Denot). s.failed ≡ false
+    → Reads s.book pass.lens) 0 shown c.join-passes.result.passes.items) (sym c.deref.ensures.value)
+    (lenses_back g.S.Watch.Watch.counts (record { engines = c.self.inside.partitions.engines; shown = c.self.inside.shown.items; scan = c.self.inside.scan })
+    c.in-Some.scan c.join-passes.result.passes.items some c.join-passes.ensures.back c.self.invariant)
 
 pub invariant_of-self-in-Some : goal.invariant_of-self-in-Some
 invariant_of-self-in-Some g c =
     let some = sym c.take.ensures.value ∙ c.in-Some.is in
-    manned_back (record { engines = c.self.inside.partitions.engines; shown = c.self.inside.shown.items; scan = c.self.inside.scan }) (record { engines = c.take_back-covered.new.engines; shown = c.self.inside.shown.items; scan = c.take.new.self }) c.join-passes.result.passes.items c.take.ensures.after refl c.take_back-covered.ensures.home c.self.invariant
+    manned_back (record { engines = c.self.inside.partitions.engines; shown = c.self.inside.shown.items; scan = c.self.inside.scan })
+    (record { engines = c.take_back-covered.new.engines; shown = c.self.inside.shown.items; scan = c.take.new.self }) c.join-passes.result.passes.items
+    c.take.ensures.after refl c.take_back-covered.ensures.home c.self.invariant
 
 pub returns-in-Some-clause-works : goal.returns-in-Some-clause-works
 unfolding MayServe ServesAt FailsAt AllRest faults_kept HasSpent MayAsk HoldsAt KeepsAt Rests faults_of IsSpent
 returns-in-Some-clause-works g c =
-    ok_always c.reply_to_collect.result (works_reread g.S.Store.history g.S.Device.Device.history g.S.Frozen.Frozen.content c.self.inside.partitions.engines c.take_back-covered.new.engines (reread_back c.join-passes.result.passes.items c.self.inside.partitions.engines c.take_back-covered.new.engines c.take_back-covered.ensures.home) (subst (λ (k : KeeperState _ _ _ _). AllMayAnswer g.S.Store.history g.S.Device.Device.history g.S.Frozen.Frozen.content k.engines) (sym c.self.view_is) c.requires.works))
+    ok_always c.reply_to_collect.result (works_reread g.S.Store.history g.S.Device.Device.history g.S.Frozen.Frozen.content c.self.inside.partitions.engines
+    c.take_back-covered.new.engines (reread_back c.join-passes.result.passes.items c.self.inside.partitions.engines c.take_back-covered.new.engines
+    c.take_back-covered.ensures.home) (subst (λ (k : KeeperState _ _ _ _). AllMayAnswer g.S.Store.history g.S.Device.Device.history g.S.Frozen.Frozen.content
+    k.engines) (sym c.self.view_is) c.requires.works))
 
 pub returns-in-Some-clause-reply : goal.returns-in-Some-clause-reply
 unfolding MayServe ServesAt FailsAt AllRest faults_kept HasSpent MayAsk HoldsAt KeepsAt Rests faults_of IsSpent
 returns-in-Some-clause-reply g c =
     let some = sym c.take.ensures.value ∙ c.in-Some.is in
-    λ known serves. rw c.reply_to_collect.ensures (collect_reply (eyes g.S.Store.history g.S.Device.Device.history g.S.Frozen.Frozen.content g.S.Device.Device.name g.S.Frozen.Frozen.size g.S.Watch.Watch.counts) c.histories_hold_writes.ensures.seen c.parts_are_shown.ensures.counted c.parts_are_shown.ensures.longer (record { engines = c.self.inside.partitions.engines; shown = c.self.inside.shown.items; scan = c.self.inside.scan }) c.in-Some.scan c.join-passes.result.passes.items some (lenses_away (record { engines = c.self.inside.partitions.engines; shown = c.self.inside.shown.items; scan = c.self.inside.scan }) c.in-Some.scan some c.self.invariant) c.take_back-covered.result c.join-passes.result.outcome known c.join-passes.ensures (λ all. subst (λ shown. AtEach (λ p (s : ShownState g.row.S-Frozen.Denot g.row.S-Watch.Denot) (pass : Pass g.row.S-Frozen.Denot g.row.S-Watch.Denot). (s.failed ≡ false) × IsPrefix (kept_by pass.lens).history s.history) 0 shown c.join-passes.result.passes.items) c.deref.ensures.value (c.take_back-covered.ensures.covers all)) (subst (λ (k : KeeperState _ _ _ _). ServesAt (eyes g.S.Store.history g.S.Device.Device.history g.S.Frozen.Frozen.content g.S.Device.Device.name g.S.Frozen.Frozen.size g.S.Watch.Watch.counts) k (known)) (sym c.self.view_is) serves))
+    λ known serves. rw c.reply_to_collect.ensures (collect_reply
+    (eyes g.S.Store.history g.S.Device.Device.history g.S.Frozen.Frozen.content g.S.Device.Device.name g.S.Frozen.Frozen.size g.S.Watch.Watch.counts)
+    c.histories_hold_writes.ensures.seen c.parts_are_shown.ensures.counted c.parts_are_shown.ensures.longer
+    (record { engines = c.self.inside.partitions.engines; shown = c.self.inside.shown.items; scan = c.self.inside.scan }) c.in-Some.scan
+    c.join-passes.result.passes.items some (lenses_away (record {
+      engines = c.self.inside.partitions.engines;
+      shown = c.self.inside.shown.items;
+      scan = c.self.inside.scan;
+    }) c.in-Some.scan some c.self.invariant) c.take_back-covered.result c.join-passes.result.outcome known c.join-passes.ensures
+    (λ all. subst (λ shown. AtEach (λ p (s : ShownState g.row.S-Frozen.Denot g.row.S-Watch.Denot) (pass : Pass g.row.S-Frozen.Denot g.row.S-Watch.Denot).
+    (s.failed ≡ false) × IsPrefix (kept_by pass.lens).history s.history) 0 shown c.join-passes.result.passes.items) c.deref.ensures.value
+    (c.take_back-covered.ensures.covers all)) (subst (λ (k : KeeperState _ _ _ _). ServesAt
+    (eyes g.S.Store.history g.S.Device.Device.history g.S.Frozen.Frozen.content g.S.Device.Device.name g.S.Frozen.Frozen.size g.S.Watch.Watch.counts) k (known))
+    (sym c.self.view_is) serves))
 
 pub returns-in-Some-clause-held : goal.returns-in-Some-clause-held
 unfolding MayServe ServesAt FailsAt AllRest faults_kept HasSpent MayAsk HoldsAt KeepsAt Rests faults_of IsSpent
 returns-in-Some-clause-held g c =
-    λ known serves. ok_always c.reply_to_collect.result (serves_collected (eyes g.S.Store.history g.S.Device.Device.history g.S.Frozen.Frozen.content g.S.Device.Device.name g.S.Frozen.Frozen.size g.S.Watch.Watch.counts) (record { engines = c.self.inside.partitions.engines; shown = c.self.inside.shown.items; scan = c.self.inside.scan }) (record { engines = c.take_back-covered.new.engines; shown = c.self.inside.shown.items; scan = c.take.new.self }) known c.take.ensures.after refl c.take_back-covered.ensures.held (subst (λ (k : KeeperState _ _ _ _). ServesAt (eyes g.S.Store.history g.S.Device.Device.history g.S.Frozen.Frozen.content g.S.Device.Device.name g.S.Frozen.Frozen.size g.S.Watch.Watch.counts) k (known)) (sym c.self.view_is) serves))
+    λ known serves. ok_always c.reply_to_collect.result (serves_collected
+    (eyes g.S.Store.history g.S.Device.Device.history g.S.Frozen.Frozen.content g.S.Device.Device.name g.S.Frozen.Frozen.size g.S.Watch.Watch.counts)
+    (record { engines = c.self.inside.partitions.engines; shown = c.self.inside.shown.items; scan = c.self.inside.scan })
+    (record { engines = c.take_back-covered.new.engines; shown = c.self.inside.shown.items; scan = c.take.new.self }) known c.take.ensures.after refl
+    c.take_back-covered.ensures.held (subst (λ (k : KeeperState _ _ _ _). ServesAt
+    (eyes g.S.Store.history g.S.Device.Device.history g.S.Frozen.Frozen.content g.S.Device.Device.name g.S.Frozen.Frozen.size g.S.Watch.Watch.counts) k (known))
+    (sym c.self.view_is) serves))
 
 pub returns-in-Some-clause-failed : goal.returns-in-Some-clause-failed
 unfolding MayServe ServesAt FailsAt AllRest faults_kept HasSpent MayAsk HoldsAt KeepsAt Rests faults_of IsSpent
 returns-in-Some-clause-failed g c =
-    λ only w serves. err_always c.reply_to_collect.result (held_keeps (eyes g.S.Store.history g.S.Device.Device.history g.S.Frozen.Frozen.content g.S.Device.Device.name g.S.Frozen.Frozen.size g.S.Watch.Watch.counts) only c.take_back-covered.new.engines w (c.take_back-covered.ensures.held only w (subst (λ (k : KeeperState _ _ _ _). ServesAt (eyes g.S.Store.history g.S.Device.Device.history g.S.Frozen.Frozen.content g.S.Device.Device.name g.S.Frozen.Frozen.size g.S.Watch.Watch.counts) k (sees only w)) (sym c.self.view_is) serves).0))
+    λ only w serves. err_always c.reply_to_collect.result (held_keeps
+    (eyes g.S.Store.history g.S.Device.Device.history g.S.Frozen.Frozen.content g.S.Device.Device.name g.S.Frozen.Frozen.size g.S.Watch.Watch.counts) only
+    c.take_back-covered.new.engines w (c.take_back-covered.ensures.held only w
+    (subst (λ (k : KeeperState _ _ _ _). ServesAt (eyes g.S.Store.history g.S.Device.Device.history g.S.Frozen.Frozen.content g.S.Device.Device.name
+    g.S.Frozen.Frozen.size g.S.Watch.Watch.counts) k (sees only w)) (sym c.self.view_is) serves).0))
 
 pub returns-in-Some-clause-undamaged : goal.returns-in-Some-clause-undamaged
 unfolding MayServe ServesAt FailsAt AllRest faults_kept HasSpent MayAsk HoldsAt KeepsAt Rests faults_of IsSpent
 returns-in-Some-clause-undamaged g c =
     let some = sym c.take.ensures.value ∙ c.in-Some.is in
-    λ w serves. rw c.reply_to_collect.ensures (collect_sound (eyes g.S.Store.history g.S.Device.Device.history g.S.Frozen.Frozen.content g.S.Device.Device.name g.S.Frozen.Frozen.size g.S.Watch.Watch.counts) c.histories_hold_writes.ensures.seen c.parts_are_shown.ensures.counted c.parts_are_shown.ensures.longer (record { engines = c.self.inside.partitions.engines; shown = c.self.inside.shown.items; scan = c.self.inside.scan }) c.in-Some.scan c.join-passes.result.passes.items some (lenses_away (record { engines = c.self.inside.partitions.engines; shown = c.self.inside.shown.items; scan = c.self.inside.scan }) c.in-Some.scan some c.self.invariant) c.take_back-covered.result c.join-passes.result.outcome w c.join-passes.ensures (λ all. subst (λ shown. AtEach (λ p (s : ShownState g.row.S-Frozen.Denot g.row.S-Watch.Denot) (pass : Pass g.row.S-Frozen.Denot g.row.S-Watch.Denot). (s.failed ≡ false) × IsPrefix (kept_by pass.lens).history s.history) 0 shown c.join-passes.result.passes.items) c.deref.ensures.value (c.take_back-covered.ensures.covers all)) (subst (λ (k : KeeperState _ _ _ _). ServesAt (eyes g.S.Store.history g.S.Device.Device.history g.S.Frozen.Frozen.content g.S.Device.Device.name g.S.Frozen.Frozen.size g.S.Watch.Watch.counts) k (sees None w)) (sym c.self.view_is) serves))
+    λ w serves. rw c.reply_to_collect.ensures (collect_sound (eyes g.S.Store.history g.S.Device.Device.history g.S.Frozen.Frozen.content g.S.Device.Device.name
+    g.S.Frozen.Frozen.size g.S.Watch.Watch.counts) c.histories_hold_writes.ensures.seen c.parts_are_shown.ensures.counted c.parts_are_shown.ensures.longer
+    (record { engines = c.self.inside.partitions.engines; shown = c.self.inside.shown.items; scan = c.self.inside.scan }) c.in-Some.scan
+    c.join-passes.result.passes.items some (lenses_away (record {
+      engines = c.self.inside.partitions.engines;
+      shown = c.self.inside.shown.items;
+      scan = c.self.inside.scan;
+    }) c.in-Some.scan some c.self.invariant) c.take_back-covered.result c.join-passes.result.outcome w c.join-passes.ensures
+    (λ all. subst (λ shown. AtEach (λ p (s : ShownState g.row.S-Frozen.Denot g.row.S-Watch.Denot) (pass : Pass g.row.S-Frozen.Denot g.row.S-Watch.Denot).
+    (s.failed ≡ false) × IsPrefix (kept_by pass.lens).history s.history) 0 shown c.join-passes.result.passes.items) c.deref.ensures.value
+    (c.take_back-covered.ensures.covers all)) (subst (λ (k : KeeperState _ _ _ _). ServesAt
+    (eyes g.S.Store.history g.S.Device.Device.history g.S.Frozen.Frozen.content g.S.Device.Device.name g.S.Frozen.Frozen.size g.S.Watch.Watch.counts) k
+    (sees None w)) (sym c.self.view_is) serves))
 
 pub returns-in-Some-clause-kinds : goal.returns-in-Some-clause-kinds
 returns-in-Some-clause-kinds g c =
@@ -110,4 +177,21 @@ pub returns-in-Some-clause-cause : goal.returns-in-Some-clause-cause
 unfolding MayServe ServesAt FailsAt AllRest faults_kept HasSpent MayAsk HoldsAt KeepsAt Rests faults_of IsSpent
 returns-in-Some-clause-cause g c =
     let some = sym c.take.ensures.value ∙ c.in-Some.is in
-    rw c.reply_to_collect.ensures (subst (λ (k : KeeperState _ _ _ _). HasDiskCause (faults_kept g.S.Watch.Watch.counts k) (faults_kept g.S.Watch.Watch.counts (record { engines = c.take_back-covered.new.engines; shown = c.self.inside.shown.items; scan = c.take.new.self })) (HasSpent g.S.Store.history g.S.Device.Device.history g.S.Frozen.Frozen.content (record { engines = c.take_back-covered.new.engines; shown = c.self.inside.shown.items; scan = c.take.new.self })) (fault_in (collected_as c.take_back-covered.result c.join-passes.result.outcome))) c.self.view_is (subst (λ o. HasDiskCause (faults_kept g.S.Watch.Watch.counts (record { engines = c.self.inside.partitions.engines; shown = c.self.inside.shown.items; scan = c.self.inside.scan })) (faults_kept g.S.Watch.Watch.counts (record { engines = c.take_back-covered.new.engines; shown = c.self.inside.shown.items; scan = o })) (HasSpent g.S.Store.history g.S.Device.Device.history g.S.Frozen.Frozen.content (record { engines = c.take_back-covered.new.engines; shown = c.self.inside.shown.items; scan = c.take.new.self })) (fault_in (collected_as c.take_back-covered.result c.join-passes.result.outcome))) (sym c.take.ensures.after) (collect_cause g.S.Watch.Watch.counts g.S.Frozen.Frozen.content (record { engines = c.self.inside.partitions.engines; shown = c.self.inside.shown.items; scan = c.self.inside.scan }) c.take_back-covered.new.engines c.in-Some.scan c.join-passes.result.passes.items some c.take_back-covered.ensures.home (back_many g.S.Watch.Watch.counts (record { engines = c.self.inside.partitions.engines; shown = c.self.inside.shown.items; scan = c.self.inside.scan }) c.in-Some.scan c.join-passes.result.passes.items some c.join-passes.ensures.back c.self.invariant) c.take_back-covered.result c.join-passes.result.outcome (HasSpent g.S.Store.history g.S.Device.Device.history g.S.Frozen.Frozen.content (record { engines = c.take_back-covered.new.engines; shown = c.self.inside.shown.items; scan = c.take.new.self })) c.join-passes.ensures)))
+    rw c.reply_to_collect.ensures (subst (λ (k : KeeperState _ _ _ _). HasDiskCause (faults_kept g.S.Watch.Watch.counts k)
+    (faults_kept g.S.Watch.Watch.counts (record { engines = c.take_back-covered.new.engines; shown = c.self.inside.shown.items; scan = c.take.new.self }))
+    (HasSpent g.S.Store.history g.S.Device.Device.history g.S.Frozen.Frozen.content
+    (record { engines = c.take_back-covered.new.engines; shown = c.self.inside.shown.items; scan = c.take.new.self }))
+    (fault_in (collected_as c.take_back-covered.result c.join-passes.result.outcome))) c.self.view_is
+    (subst (λ o. HasDiskCause (faults_kept g.S.Watch.Watch.counts
+    (record { engines = c.self.inside.partitions.engines; shown = c.self.inside.shown.items; scan = c.self.inside.scan }))
+    (faults_kept g.S.Watch.Watch.counts (record { engines = c.take_back-covered.new.engines; shown = c.self.inside.shown.items; scan = o }))
+    (HasSpent g.S.Store.history g.S.Device.Device.history g.S.Frozen.Frozen.content
+    (record { engines = c.take_back-covered.new.engines; shown = c.self.inside.shown.items; scan = c.take.new.self }))
+    (fault_in (collected_as c.take_back-covered.result c.join-passes.result.outcome))) (sym c.take.ensures.after)
+    (collect_cause g.S.Watch.Watch.counts g.S.Frozen.Frozen.content
+    (record { engines = c.self.inside.partitions.engines; shown = c.self.inside.shown.items; scan = c.self.inside.scan }) c.take_back-covered.new.engines
+    c.in-Some.scan c.join-passes.result.passes.items some c.take_back-covered.ensures.home
+    (back_many g.S.Watch.Watch.counts (record { engines = c.self.inside.partitions.engines; shown = c.self.inside.shown.items; scan = c.self.inside.scan })
+    c.in-Some.scan c.join-passes.result.passes.items some c.join-passes.ensures.back c.self.invariant) c.take_back-covered.result c.join-passes.result.outcome
+    (HasSpent g.S.Store.history g.S.Device.Device.history g.S.Frozen.Frozen.content
+    (record { engines = c.take_back-covered.new.engines; shown = c.self.inside.shown.items; scan = c.take.new.self })) c.join-passes.ensures)))

@@ -49,12 +49,23 @@ returns-in-None-clause-readers g c =
 
 pub returns-in-None-clause-cause : goal.returns-in-None-clause-cause
 returns-in-None-clause-cause g c =
-    (subst (λ (k : KeeperState _ _ _ _). HasDiskCause (faults_kept g.S.Watch.Watch.counts k) (faults_of g.S.Watch.Watch.counts c.self.inside.partitions) (IsSpent g.S.Store.history g.S.Device.Device.history g.S.Frozen.Frozen.content c.self.inside.partitions) None) c.self.view_is (subst (λ counted. HasDiskCause (faults_kept g.S.Watch.Watch.counts (record { engines = c.self.inside.partitions.engines; shown = c.self.inside.shown.items; scan = c.self.inside.scan })) counted (IsSpent g.S.Store.history g.S.Device.Device.history g.S.Frozen.Frozen.content c.self.inside.partitions) None) (begun_counts g.S.Watch.Watch.counts (record { engines = c.self.inside.partitions.engines; shown = c.self.inside.shown.items; scan = c.self.inside.scan }) c.self.inside.partitions refl c.in-None.is) (nothing_counted (faults_kept g.S.Watch.Watch.counts (record { engines = c.self.inside.partitions.engines; shown = c.self.inside.shown.items; scan = c.self.inside.scan })) (IsSpent g.S.Store.history g.S.Device.Device.history g.S.Frozen.Frozen.content c.self.inside.partitions))))
+    (subst (λ (k : KeeperState _ _ _ _). HasDiskCause (faults_kept g.S.Watch.Watch.counts k) (faults_of g.S.Watch.Watch.counts c.self.inside.partitions)
+    (IsSpent g.S.Store.history g.S.Device.Device.history g.S.Frozen.Frozen.content c.self.inside.partitions) None) c.self.view_is
+    (subst (λ counted. HasDiskCause (faults_kept g.S.Watch.Watch.counts
+    (record { engines = c.self.inside.partitions.engines; shown = c.self.inside.shown.items; scan = c.self.inside.scan })) counted
+    (IsSpent g.S.Store.history g.S.Device.Device.history g.S.Frozen.Frozen.content c.self.inside.partitions) None)
+    (begun_counts g.S.Watch.Watch.counts (record { engines = c.self.inside.partitions.engines; shown = c.self.inside.shown.items; scan = c.self.inside.scan })
+    c.self.inside.partitions refl c.in-None.is) (nothing_counted
+    (faults_kept g.S.Watch.Watch.counts (record { engines = c.self.inside.partitions.engines; shown = c.self.inside.shown.items; scan = c.self.inside.scan }))
+    (IsSpent g.S.Store.history g.S.Device.Device.history g.S.Frozen.Frozen.content c.self.inside.partitions))))
 
 pub take_back-covered-requires-clause-as_many : goal.take_back-covered-requires-clause-as_many
 take_back-covered-requires-clause-as_many g c κs within =
-    let some = c.in-Some.is in
-    (back_many g.S.Watch.Watch.counts (record { engines = c.self.inside.partitions.engines; shown = c.self.inside.shown.items; scan = c.self.inside.scan }) c.in-Some.scan c.join-passes.result.passes.items some c.join-passes.ensures.back c.self.invariant, ap length c.deref.ensures.value ∙ c.self.invariant.as_many)
+    let some = c.in-Some.is in (
+      back_many g.S.Watch.Watch.counts (record { engines = c.self.inside.partitions.engines; shown = c.self.inside.shown.items; scan = c.self.inside.scan })
+          c.in-Some.scan c.join-passes.result.passes.items some c.join-passes.ensures.back c.self.invariant,
+      ap length c.deref.ensures.value ∙ c.self.invariant.as_many,
+    )
 
 pub take_back-covered-requires-clause-out : goal.take_back-covered-requires-clause-out
 take_back-covered-requires-clause-out g c κs within =
@@ -64,12 +75,18 @@ take_back-covered-requires-clause-out g c κs within =
 pub take_back-covered-requires-clause-lenses : goal.take_back-covered-requires-clause-lenses
 take_back-covered-requires-clause-lenses g c κs within =
     let some = c.in-Some.is in
-    subst (λ shown. AtEach (λ p (s : ShownState g.row.S-Frozen.Denot g.row.S-Watch.Denot) (pass : Pass g.row.S-Frozen.Denot g.row.S-Watch.Denot). s.failed ≡ false → Reads s.book pass.lens) 0 shown c.join-passes.result.passes.items) (sym c.deref.ensures.value) (lenses_back g.S.Watch.Watch.counts (record { engines = c.self.inside.partitions.engines; shown = c.self.inside.shown.items; scan = c.self.inside.scan }) c.in-Some.scan c.join-passes.result.passes.items some c.join-passes.ensures.back c.self.invariant)
+    subst (λ shown. AtEach (λ p (s : ShownState g.row.S-Frozen.Denot g.row.S-Watch.Denot) (pass : Pass g.row.S-Frozen.Denot g.row.S-Watch.Denot). s.failed ≡ false
+    → Reads s.book pass.lens) 0 shown c.join-passes.result.passes.items) (sym c.deref.ensures.value)
+    (lenses_back g.S.Watch.Watch.counts (record { engines = c.self.inside.partitions.engines; shown = c.self.inside.shown.items; scan = c.self.inside.scan })
+    c.in-Some.scan c.join-passes.result.passes.items some c.join-passes.ensures.back c.self.invariant)
 
 pub returns-clause-held : goal.returns-clause-held
 unfolding MayServe ServesAt FailsAt AllRest faults_kept HasSpent MayAsk HoldsAt KeepsAt Rests faults_of IsSpent
 returns-clause-held g c =
-    λ known serves. stand_still (eyes g.S.Store.history g.S.Device.Device.history g.S.Frozen.Frozen.content g.S.Device.Device.name g.S.Frozen.Frozen.size g.S.Watch.Watch.counts) c.self.inside.partitions.engines c.take_back-covered.new.engines known (subst (λ (k : KeeperState _ _ _ _). ServesAt (eyes g.S.Store.history g.S.Device.Device.history g.S.Frozen.Frozen.content g.S.Device.Device.name g.S.Frozen.Frozen.size g.S.Watch.Watch.counts) k (known)) (sym c.self.view_is) serves).0 c.take_back-covered.ensures.held
+    λ known serves. stand_still (eyes g.S.Store.history g.S.Device.Device.history g.S.Frozen.Frozen.content g.S.Device.Device.name g.S.Frozen.Frozen.size
+    g.S.Watch.Watch.counts) c.self.inside.partitions.engines c.take_back-covered.new.engines known
+    (subst (λ (k : KeeperState _ _ _ _). ServesAt (eyes g.S.Store.history g.S.Device.Device.history g.S.Frozen.Frozen.content g.S.Device.Device.name
+    g.S.Frozen.Frozen.size g.S.Watch.Watch.counts) k (known)) (sym c.self.view_is) serves).0 c.take_back-covered.ensures.held
 
 pub returns-clause-failed : goal.returns-clause-failed
 unfolding MayServe ServesAt FailsAt AllRest faults_kept HasSpent MayAsk HoldsAt KeepsAt Rests faults_of IsSpent
@@ -79,12 +96,16 @@ returns-clause-failed g c =
 pub returns-clause-rests : goal.returns-clause-rests
 unfolding MayServe ServesAt FailsAt AllRest faults_kept HasSpent MayAsk HoldsAt KeepsAt Rests faults_of IsSpent
 returns-clause-rests g c =
-    λ rest. rests_reread g.S.Device.Device.size c.self.inside.partitions.engines c.take_back-covered.new.engines (reread_back c.join-passes.result.passes.items c.self.inside.partitions.engines c.take_back-covered.new.engines c.take_back-covered.ensures.home) (subst (λ (k : KeeperState _ _ _ _). AllRest g.S.Device.Device.size k) (sym c.self.view_is) rest)
+    λ rest. rests_reread g.S.Device.Device.size c.self.inside.partitions.engines c.take_back-covered.new.engines
+    (reread_back c.join-passes.result.passes.items c.self.inside.partitions.engines c.take_back-covered.new.engines c.take_back-covered.ensures.home)
+    (subst (λ (k : KeeperState _ _ _ _). AllRest g.S.Device.Device.size k) (sym c.self.view_is) rest)
 
 pub returns-clause-spent : goal.returns-clause-spent
 unfolding MayServe ServesAt FailsAt AllRest faults_kept HasSpent MayAsk HoldsAt KeepsAt Rests faults_of IsSpent
 returns-clause-spent g c =
-    λ spent. spent_reread g.S.Store.history g.S.Device.Device.history g.S.Frozen.Frozen.content c.self.inside.partitions.engines c.take_back-covered.new.engines (reread_back c.join-passes.result.passes.items c.self.inside.partitions.engines c.take_back-covered.new.engines c.take_back-covered.ensures.home) (subst (λ (k : KeeperState _ _ _ _). HasSpent g.S.Store.history g.S.Device.Device.history g.S.Frozen.Frozen.content k) (sym c.self.view_is) spent)
+    λ spent. spent_reread g.S.Store.history g.S.Device.Device.history g.S.Frozen.Frozen.content c.self.inside.partitions.engines c.take_back-covered.new.engines
+    (reread_back c.join-passes.result.passes.items c.self.inside.partitions.engines c.take_back-covered.new.engines c.take_back-covered.ensures.home)
+    (subst (λ (k : KeeperState _ _ _ _). HasSpent g.S.Store.history g.S.Device.Device.history g.S.Frozen.Frozen.content k) (sym c.self.view_is) spent)
 
 pub returns-clause-settings : goal.returns-clause-settings
 returns-clause-settings g c =
@@ -98,7 +119,19 @@ pub returns-clause-undamaged : goal.returns-clause-undamaged
 unfolding MayServe ServesAt FailsAt AllRest faults_kept HasSpent MayAsk HoldsAt KeepsAt Rests faults_of IsSpent
 returns-clause-undamaged g c =
     let some = c.in-Some.is in
-    λ w serves. rw c.fault_of_scan.ensures (end_sound (eyes g.S.Store.history g.S.Device.Device.history g.S.Frozen.Frozen.content g.S.Device.Device.name g.S.Frozen.Frozen.size g.S.Watch.Watch.counts) c.histories_hold_writes.ensures.seen c.parts_are_shown.ensures.counted c.parts_are_shown.ensures.longer (record { engines = c.self.inside.partitions.engines; shown = c.self.inside.shown.items; scan = c.self.inside.scan }) c.in-Some.scan c.join-passes.result.passes.items some (lenses_away (record { engines = c.self.inside.partitions.engines; shown = c.self.inside.shown.items; scan = c.self.inside.scan }) c.in-Some.scan some c.self.invariant) c.take_back-covered.result c.join-passes.result.outcome w c.join-passes.ensures (λ all. subst (λ shown. AtEach (λ p (s : ShownState g.row.S-Frozen.Denot g.row.S-Watch.Denot) (pass : Pass g.row.S-Frozen.Denot g.row.S-Watch.Denot). (s.failed ≡ false) × IsPrefix (kept_by pass.lens).history s.history) 0 shown c.join-passes.result.passes.items) c.deref.ensures.value (c.take_back-covered.ensures.covers all)) (subst (λ (k : KeeperState _ _ _ _). ServesAt (eyes g.S.Store.history g.S.Device.Device.history g.S.Frozen.Frozen.content g.S.Device.Device.name g.S.Frozen.Frozen.size g.S.Watch.Watch.counts) k (sees None w)) (sym c.self.view_is) serves))
+    λ w serves. rw c.fault_of_scan.ensures (end_sound (eyes g.S.Store.history g.S.Device.Device.history g.S.Frozen.Frozen.content g.S.Device.Device.name
+    g.S.Frozen.Frozen.size g.S.Watch.Watch.counts) c.histories_hold_writes.ensures.seen c.parts_are_shown.ensures.counted c.parts_are_shown.ensures.longer
+    (record { engines = c.self.inside.partitions.engines; shown = c.self.inside.shown.items; scan = c.self.inside.scan }) c.in-Some.scan
+    c.join-passes.result.passes.items some (lenses_away (record {
+      engines = c.self.inside.partitions.engines;
+      shown = c.self.inside.shown.items;
+      scan = c.self.inside.scan;
+    }) c.in-Some.scan some c.self.invariant) c.take_back-covered.result c.join-passes.result.outcome w c.join-passes.ensures
+    (λ all. subst (λ shown. AtEach (λ p (s : ShownState g.row.S-Frozen.Denot g.row.S-Watch.Denot) (pass : Pass g.row.S-Frozen.Denot g.row.S-Watch.Denot).
+    (s.failed ≡ false) × IsPrefix (kept_by pass.lens).history s.history) 0 shown c.join-passes.result.passes.items) c.deref.ensures.value
+    (c.take_back-covered.ensures.covers all)) (subst (λ (k : KeeperState _ _ _ _). ServesAt
+    (eyes g.S.Store.history g.S.Device.Device.history g.S.Frozen.Frozen.content g.S.Device.Device.name g.S.Frozen.Frozen.size g.S.Watch.Watch.counts) k
+    (sees None w)) (sym c.self.view_is) serves))
 
 pub returns-clause-kind : goal.returns-clause-kind
 returns-clause-kind g c =
@@ -108,4 +141,14 @@ pub returns-clause-cause : goal.returns-clause-cause
 unfolding MayServe ServesAt FailsAt AllRest faults_kept HasSpent MayAsk HoldsAt KeepsAt Rests faults_of IsSpent
 returns-clause-cause g c =
     let some = c.in-Some.is in
-    rw c.fault_of_scan.ensures (subst (λ (k : KeeperState _ _ _ _). HasDiskCause (faults_kept g.S.Watch.Watch.counts k) (faults_of {P = g.row.P.Denot} g.S.Watch.Watch.counts (record { engines = c.take_back-covered.new.engines })) (IsSpent {P = g.row.P.Denot} g.S.Store.history g.S.Device.Device.history g.S.Frozen.Frozen.content (record { engines = c.take_back-covered.new.engines })) (fault_in (collected_as c.take_back-covered.result c.join-passes.result.outcome))) c.self.view_is (collect_cause g.S.Watch.Watch.counts g.S.Frozen.Frozen.content (record { engines = c.self.inside.partitions.engines; shown = c.self.inside.shown.items; scan = c.self.inside.scan }) c.take_back-covered.new.engines c.in-Some.scan c.join-passes.result.passes.items some c.take_back-covered.ensures.home (back_many g.S.Watch.Watch.counts (record { engines = c.self.inside.partitions.engines; shown = c.self.inside.shown.items; scan = c.self.inside.scan }) c.in-Some.scan c.join-passes.result.passes.items some c.join-passes.ensures.back c.self.invariant) c.take_back-covered.result c.join-passes.result.outcome (IsSpent {P = g.row.P.Denot} g.S.Store.history g.S.Device.Device.history g.S.Frozen.Frozen.content (record { engines = c.take_back-covered.new.engines })) c.join-passes.ensures))
+    rw c.fault_of_scan.ensures (subst (λ (k : KeeperState _ _ _ _). HasDiskCause (faults_kept g.S.Watch.Watch.counts k)
+    (faults_of {P = g.row.P.Denot} g.S.Watch.Watch.counts (record { engines = c.take_back-covered.new.engines }))
+    (IsSpent {P = g.row.P.Denot} g.S.Store.history g.S.Device.Device.history g.S.Frozen.Frozen.content (record { engines = c.take_back-covered.new.engines }))
+    (fault_in (collected_as c.take_back-covered.result c.join-passes.result.outcome))) c.self.view_is
+    (collect_cause g.S.Watch.Watch.counts g.S.Frozen.Frozen.content
+    (record { engines = c.self.inside.partitions.engines; shown = c.self.inside.shown.items; scan = c.self.inside.scan }) c.take_back-covered.new.engines
+    c.in-Some.scan c.join-passes.result.passes.items some c.take_back-covered.ensures.home
+    (back_many g.S.Watch.Watch.counts (record { engines = c.self.inside.partitions.engines; shown = c.self.inside.shown.items; scan = c.self.inside.scan })
+    c.in-Some.scan c.join-passes.result.passes.items some c.join-passes.ensures.back c.self.invariant) c.take_back-covered.result c.join-passes.result.outcome
+    (IsSpent {P = g.row.P.Denot} g.S.Store.history g.S.Device.Device.history g.S.Frozen.Frozen.content (record { engines = c.take_back-covered.new.engines }))
+    c.join-passes.ensures))

@@ -14,4 +14,6 @@ invariant_of-result g c =
 pub returns-in-Ok-show_all-clause-held : goal.returns-in-Ok-show_all-clause-held
 unfolding MayServe ServesAt FailsAt AllRest faults_kept HasSpent MayAsk HoldsAt KeepsAt Rests faults_of IsSpent
 returns-in-Ok-show_all-clause-held g c =
-    λ known first stands. serves_first (eyes g.S.Store.history g.S.Device.Device.history g.S.Frozen.Frozen.content g.S.Device.Device.name g.S.Frozen.Frozen.size g.S.Watch.Watch.counts) (record { engines = c.args.partitions.engines; shown = c.show_all.new.shown.items; scan = None }) known c.parts_are_shown.ensures.opened c.requires.begun c.in-Ok-show_all.ensures.shown refl first stands
+    λ known first stands. serves_first (eyes g.S.Store.history g.S.Device.Device.history g.S.Frozen.Frozen.content g.S.Device.Device.name g.S.Frozen.Frozen.size
+    g.S.Watch.Watch.counts) (record { engines = c.args.partitions.engines; shown = c.show_all.new.shown.items; scan = None }) known
+    c.parts_are_shown.ensures.opened c.requires.begun c.in-Ok-show_all.ensures.shown refl first stands

@@ -86,7 +86,10 @@ pub returns-in_err-lenses-clause-failed : goal.returns-in_err-lenses-clause-fail
 unfolding MayServe ServesAt FailsAt AllRest faults_kept HasSpent MayAsk HoldsAt KeepsAt Rests faults_of IsSpent
 returns-in_err-lenses-clause-failed g c =
     let p = err_from_is_err_and c.from_residual-in_err-lenses.result c.from_residual-in_err-lenses.ensures.1 in
-    λ only w serves. rw p.1 (held_keeps (eyes g.S.Store.history g.S.Device.Device.history g.S.Frozen.Frozen.content g.S.Device.Device.name g.S.Frozen.Frozen.size g.S.Watch.Watch.counts) only c.self.inside.partitions.engines w (subst (λ (k : KeeperState _ _ _ _). ServesAt (eyes g.S.Store.history g.S.Device.Device.history g.S.Frozen.Frozen.content g.S.Device.Device.name g.S.Frozen.Frozen.size g.S.Watch.Watch.counts) k (sees only w)) (sym c.self.view_is) serves).0)
+    λ only w serves. rw p.1 (held_keeps (eyes g.S.Store.history g.S.Device.Device.history g.S.Frozen.Frozen.content g.S.Device.Device.name g.S.Frozen.Frozen.size
+    g.S.Watch.Watch.counts) only c.self.inside.partitions.engines w
+    (subst (λ (k : KeeperState _ _ _ _). ServesAt (eyes g.S.Store.history g.S.Device.Device.history g.S.Frozen.Frozen.content g.S.Device.Device.name
+    g.S.Frozen.Frozen.size g.S.Watch.Watch.counts) k (sees only w)) (sym c.self.view_is) serves).0)
 
 pub returns-in_err-lenses-clause-undamaged : goal.returns-in_err-lenses-clause-undamaged
 unfolding MayServe ServesAt FailsAt AllRest faults_kept HasSpent MayAsk HoldsAt KeepsAt Rests faults_of IsSpent
@@ -107,7 +110,14 @@ pub returns-in_err-lenses-clause-cause : goal.returns-in_err-lenses-clause-cause
 unfolding MayServe ServesAt FailsAt AllRest faults_kept HasSpent MayAsk HoldsAt KeepsAt Rests faults_of IsSpent
 returns-in_err-lenses-clause-cause g c =
     let p = err_from_is_err_and c.from_residual-in_err-lenses.result c.from_residual-in_err-lenses.ensures.1 in
-    rw (p.1, p.2) (subst (λ (k : KeeperState _ _ _ _). HasDiskCause (faults_kept g.S.Watch.Watch.counts k) (faults_kept g.S.Watch.Watch.counts (record { engines = c.self.inside.partitions.engines; shown = c.lend_lenses.new.shown.items; scan = c.self.inside.scan })) (HasSpent g.S.Store.history g.S.Device.Device.history g.S.Frozen.Frozen.content (record { engines = c.self.inside.partitions.engines; shown = c.lend_lenses.new.shown.items; scan = c.self.inside.scan })) _) c.self.view_is (no_memory_counted (faults_kept g.S.Watch.Watch.counts (record { engines = c.self.inside.partitions.engines; shown = c.self.inside.shown.items; scan = c.self.inside.scan })) (HasSpent g.S.Store.history g.S.Device.Device.history g.S.Frozen.Frozen.content (record { engines = c.self.inside.partitions.engines; shown = c.lend_lenses.new.shown.items; scan = c.self.inside.scan }))))
+    rw (p.1, p.2) (subst (λ (k : KeeperState _ _ _ _). HasDiskCause (faults_kept g.S.Watch.Watch.counts k)
+    (faults_kept g.S.Watch.Watch.counts (record { engines = c.self.inside.partitions.engines; shown = c.lend_lenses.new.shown.items; scan = c.self.inside.scan }))
+    (HasSpent g.S.Store.history g.S.Device.Device.history g.S.Frozen.Frozen.content
+    (record { engines = c.self.inside.partitions.engines; shown = c.lend_lenses.new.shown.items; scan = c.self.inside.scan })) _) c.self.view_is
+    (no_memory_counted (faults_kept g.S.Watch.Watch.counts (record
+    { engines = c.self.inside.partitions.engines; shown = c.self.inside.shown.items; scan = c.self.inside.scan }))
+    (HasSpent g.S.Store.history g.S.Device.Device.history g.S.Frozen.Frozen.content
+    (record { engines = c.self.inside.partitions.engines; shown = c.lend_lenses.new.shown.items; scan = c.self.inside.scan }))))
 
 pub lend_watches-passes-requires-clause-as_many : goal.lend_watches-passes-requires-clause-as_many
 lend_watches-passes-requires-clause-as_many g c κs within =
@@ -140,18 +150,27 @@ invariant_of-self-2 g c =
     let begun : Begun g.row.S-Frozen.Denot g.row.S-Watch.Denot = record { passes = c.lend_watches-passes.result; ask = c.args.ask } in
     let some = ap Some c.start.ensures in
     let lent = passes_lent c.self.inside.shown.items c.in_ok-lenses.lenses.items c.lend_watches-passes.result.items c.lend_watches-passes.ensures.lenses c.in_ok-lenses.ensures.lent in
-    manned_lent (record { engines = c.self.inside.partitions.engines; shown = c.self.inside.shown.items; scan = c.self.inside.scan }) (record { engines = c.lend_watches-passes.new.engines; shown = c.lend_lenses.new.shown.items; scan = Some c.start.result }) begun some c.lend_lenses.ensures.same c.lend_watches-passes.ensures.out lent c.self.invariant
+    manned_lent (record { engines = c.self.inside.partitions.engines; shown = c.self.inside.shown.items; scan = c.self.inside.scan })
+    (record { engines = c.lend_watches-passes.new.engines; shown = c.lend_lenses.new.shown.items; scan = Some c.start.result }) begun some
+    c.lend_lenses.ensures.same c.lend_watches-passes.ensures.out lent c.self.invariant
 
 pub returns-clause-works : goal.returns-clause-works
 unfolding MayServe ServesAt FailsAt AllRest faults_kept HasSpent MayAsk HoldsAt KeepsAt Rests faults_of IsSpent
 returns-clause-works g c =
-    works_reread g.S.Store.history g.S.Device.Device.history g.S.Frozen.Frozen.content c.self.inside.partitions.engines c.lend_watches-passes.new.engines (reread_lent c.self.inside.partitions.engines c.lend_watches-passes.new.engines c.lend_watches-passes.ensures.out) (subst (λ (k : KeeperState _ _ _ _). AllMayAnswer g.S.Store.history g.S.Device.Device.history g.S.Frozen.Frozen.content k.engines) (sym c.self.view_is) c.requires.works)
+    works_reread g.S.Store.history g.S.Device.Device.history g.S.Frozen.Frozen.content c.self.inside.partitions.engines c.lend_watches-passes.new.engines
+    (reread_lent c.self.inside.partitions.engines c.lend_watches-passes.new.engines c.lend_watches-passes.ensures.out)
+    (subst (λ (k : KeeperState _ _ _ _). AllMayAnswer g.S.Store.history g.S.Device.Device.history g.S.Frozen.Frozen.content k.engines)
+    (sym c.self.view_is) c.requires.works)
 
 pub returns-clause-reply : goal.returns-clause-reply
 unfolding MayServe ServesAt FailsAt AllRest faults_kept HasSpent MayAsk HoldsAt KeepsAt Rests faults_of IsSpent
 returns-clause-reply g c =
     let none = is_none c.self.inside.scan (sym c.is_some.ensures ∙ c.if-is_some.false) in
-    λ known serves. replies_started (eyes g.S.Store.history g.S.Device.Device.history g.S.Frozen.Frozen.content g.S.Device.Device.name g.S.Frozen.Frozen.size g.S.Watch.Watch.counts) (record { engines = c.self.inside.partitions.engines; shown = c.self.inside.shown.items; scan = c.self.inside.scan }) (ask_of c.args.ask) known none (subst (λ (k : KeeperState _ _ _ _). ServesAt (eyes g.S.Store.history g.S.Device.Device.history g.S.Frozen.Frozen.content g.S.Device.Device.name g.S.Frozen.Frozen.size g.S.Watch.Watch.counts) k (known)) (sym c.self.view_is) serves)
+    λ known serves. replies_started (eyes g.S.Store.history g.S.Device.Device.history g.S.Frozen.Frozen.content g.S.Device.Device.name g.S.Frozen.Frozen.size
+    g.S.Watch.Watch.counts) (record { engines = c.self.inside.partitions.engines; shown = c.self.inside.shown.items; scan = c.self.inside.scan })
+    (ask_of c.args.ask) known none (subst (λ (k : KeeperState _ _ _ _). ServesAt
+    (eyes g.S.Store.history g.S.Device.Device.history g.S.Frozen.Frozen.content g.S.Device.Device.name g.S.Frozen.Frozen.size g.S.Watch.Watch.counts) k (known))
+    (sym c.self.view_is) serves)
 
 pub returns-clause-held : goal.returns-clause-held
 unfolding MayServe ServesAt FailsAt AllRest faults_kept HasSpent MayAsk HoldsAt KeepsAt Rests faults_of IsSpent
@@ -160,7 +179,12 @@ returns-clause-held g c =
     let begun : Begun g.row.S-Frozen.Denot g.row.S-Watch.Denot = record { passes = c.lend_watches-passes.result; ask = c.args.ask } in
     let some = ap Some c.start.ensures in
     let lent = passes_lent c.self.inside.shown.items c.in_ok-lenses.lenses.items c.lend_watches-passes.result.items c.lend_watches-passes.ensures.lenses c.in_ok-lenses.ensures.lent in
-    λ known serves. serves_started (eyes g.S.Store.history g.S.Device.Device.history g.S.Frozen.Frozen.content g.S.Device.Device.name g.S.Frozen.Frozen.size g.S.Watch.Watch.counts) (record { engines = c.self.inside.partitions.engines; shown = c.self.inside.shown.items; scan = c.self.inside.scan }) (record { engines = c.lend_watches-passes.new.engines; shown = c.lend_lenses.new.shown.items; scan = Some c.start.result }) begun known none some c.lend_lenses.ensures.same lent c.lend_watches-passes.ensures.held (subst (λ (k : KeeperState _ _ _ _). ServesAt (eyes g.S.Store.history g.S.Device.Device.history g.S.Frozen.Frozen.content g.S.Device.Device.name g.S.Frozen.Frozen.size g.S.Watch.Watch.counts) k (known)) (sym c.self.view_is) serves)
+    λ known serves. serves_started (eyes g.S.Store.history g.S.Device.Device.history g.S.Frozen.Frozen.content g.S.Device.Device.name g.S.Frozen.Frozen.size
+    g.S.Watch.Watch.counts) (record { engines = c.self.inside.partitions.engines; shown = c.self.inside.shown.items; scan = c.self.inside.scan })
+    (record { engines = c.lend_watches-passes.new.engines; shown = c.lend_lenses.new.shown.items; scan = Some c.start.result }) begun known none some
+    c.lend_lenses.ensures.same lent c.lend_watches-passes.ensures.held
+    (subst (λ (k : KeeperState _ _ _ _). ServesAt (eyes g.S.Store.history g.S.Device.Device.history g.S.Frozen.Frozen.content g.S.Device.Device.name
+    g.S.Frozen.Frozen.size g.S.Watch.Watch.counts) k (known)) (sym c.self.view_is) serves)
 
 pub returns-clause-settings : goal.returns-clause-settings
 returns-clause-settings g c =
@@ -171,4 +195,15 @@ returns-clause-cause g c =
     let none = is_none c.self.inside.scan (sym c.is_some.ensures ∙ c.if-is_some.false) in
     let begun : Begun g.row.S-Frozen.Denot g.row.S-Watch.Denot = record { passes = c.lend_watches-passes.result; ask = c.args.ask } in
     let some = ap Some c.start.ensures in
-    (subst (λ (k : KeeperState _ _ _ _). HasDiskCause (faults_kept g.S.Watch.Watch.counts k) (faults_kept g.S.Watch.Watch.counts (record { engines = c.lend_watches-passes.new.engines; shown = c.lend_lenses.new.shown.items; scan = Some c.start.result })) (HasSpent g.S.Store.history g.S.Device.Device.history g.S.Frozen.Frozen.content (record { engines = c.lend_watches-passes.new.engines; shown = c.lend_lenses.new.shown.items; scan = Some c.start.result })) None) c.self.view_is (caused_lending g.S.Watch.Watch.counts (record { engines = c.self.inside.partitions.engines; shown = c.self.inside.shown.items; scan = c.self.inside.scan }) (record { engines = c.lend_watches-passes.new.engines; shown = c.lend_lenses.new.shown.items; scan = Some c.start.result }) begun (HasSpent g.S.Store.history g.S.Device.Device.history g.S.Frozen.Frozen.content (record { engines = c.lend_watches-passes.new.engines; shown = c.lend_lenses.new.shown.items; scan = Some c.start.result })) none some c.lend_watches-passes.ensures.watches c.lend_watches-passes.ensures.out))
+    (subst (λ (k : KeeperState _ _ _ _). HasDiskCause (faults_kept g.S.Watch.Watch.counts k)
+    (faults_kept g.S.Watch.Watch.counts (record {
+      engines = c.lend_watches-passes.new.engines;
+      shown = c.lend_lenses.new.shown.items;
+      scan = Some c.start.result;
+    })) (HasSpent g.S.Store.history g.S.Device.Device.history g.S.Frozen.Frozen.content
+    (record { engines = c.lend_watches-passes.new.engines; shown = c.lend_lenses.new.shown.items; scan = Some c.start.result })) None) c.self.view_is
+    (caused_lending g.S.Watch.Watch.counts (record { engines = c.self.inside.partitions.engines; shown = c.self.inside.shown.items; scan = c.self.inside.scan })
+    (record { engines = c.lend_watches-passes.new.engines; shown = c.lend_lenses.new.shown.items; scan = Some c.start.result }) begun
+    (HasSpent g.S.Store.history g.S.Device.Device.history g.S.Frozen.Frozen.content
+    (record { engines = c.lend_watches-passes.new.engines; shown = c.lend_lenses.new.shown.items; scan = Some c.start.result })) none some
+    c.lend_watches-passes.ensures.watches c.lend_watches-passes.ensures.out))

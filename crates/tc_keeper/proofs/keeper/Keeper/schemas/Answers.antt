@@ -29,13 +29,17 @@ pub returns-in_err-schemas-clause-failed : goal.returns-in_err-schemas-clause-fa
 unfolding MayServe ServesAt FailsAt AllRest faults_kept HasSpent MayAsk HoldsAt KeepsAt Rests faults_of IsSpent
 returns-in_err-schemas-clause-failed g c =
     let p = err_from_is_err_and c.from_residual.result c.from_residual.ensures.1 in
-    λ only w serves. rw p.1 (c.in_err-schemas.ensures.failed only w (subst (λ (k : KeeperState _ _ _ _). ServesAt (eyes g.S.Store.history g.S.Device.Device.history g.S.Frozen.Frozen.content g.S.Device.Device.name g.S.Frozen.Frozen.size g.S.Watch.Watch.counts) k (sees only w)) (sym c.self.view_is) serves).0)
+    λ only w serves. rw p.1 (c.in_err-schemas.ensures.failed only w
+    (subst (λ (k : KeeperState _ _ _ _). ServesAt (eyes g.S.Store.history g.S.Device.Device.history g.S.Frozen.Frozen.content g.S.Device.Device.name
+    g.S.Frozen.Frozen.size g.S.Watch.Watch.counts) k (sees only w)) (sym c.self.view_is) serves).0)
 
 pub returns-in_err-schemas-clause-undamaged : goal.returns-in_err-schemas-clause-undamaged
 unfolding MayServe ServesAt FailsAt AllRest faults_kept HasSpent MayAsk HoldsAt KeepsAt Rests faults_of IsSpent
 returns-in_err-schemas-clause-undamaged g c =
     let p = err_from_is_err_and c.from_residual.result c.from_residual.ensures.1 in
-    λ w serves. rw (p.1, p.2) (c.in_err-schemas.ensures.undamaged w (subst (λ (k : KeeperState _ _ _ _). ServesAt (eyes g.S.Store.history g.S.Device.Device.history g.S.Frozen.Frozen.content g.S.Device.Device.name g.S.Frozen.Frozen.size g.S.Watch.Watch.counts) k (sees None w)) (sym c.self.view_is) serves).0)
+    λ w serves. rw (p.1, p.2) (c.in_err-schemas.ensures.undamaged w
+    (subst (λ (k : KeeperState _ _ _ _). ServesAt (eyes g.S.Store.history g.S.Device.Device.history g.S.Frozen.Frozen.content g.S.Device.Device.name
+    g.S.Frozen.Frozen.size g.S.Watch.Watch.counts) k (sees None w)) (sym c.self.view_is) serves).0)
 
 pub returns-in_err-schemas-clause-settings : goal.returns-in_err-schemas-clause-settings
 unfolding MayServe ServesAt FailsAt AllRest faults_kept HasSpent MayAsk HoldsAt KeepsAt Rests faults_of IsSpent
@@ -46,13 +50,25 @@ pub returns-in_err-schemas-clause-cause : goal.returns-in_err-schemas-clause-cau
 unfolding MayServe ServesAt FailsAt AllRest faults_kept HasSpent MayAsk HoldsAt KeepsAt Rests faults_of IsSpent
 returns-in_err-schemas-clause-cause g c =
     let p = err_from_is_err_and c.from_residual.result c.from_residual.ensures.1 in
-    rw (p.1, p.2) (subst (λ (k : KeeperState _ _ _ _). HasDiskCause (faults_kept g.S.Watch.Watch.counts k) (faults_kept g.S.Watch.Watch.counts (record { engines = c.schemas.new.self.engines; shown = c.self.inside.shown.items; scan = c.self.inside.scan })) (HasSpent g.S.Store.history g.S.Device.Device.history g.S.Frozen.Frozen.content (record { engines = c.schemas.new.self.engines; shown = c.self.inside.shown.items; scan = c.self.inside.scan })) (Some c.in_err-schemas.field-0.0)) c.self.view_is (caused_beside g.S.Watch.Watch.counts (record { engines = c.self.inside.partitions.engines; shown = c.self.inside.shown.items; scan = c.self.inside.scan }) (record { engines = c.schemas.new.self.engines; shown = c.self.inside.shown.items; scan = c.self.inside.scan }) _ _ (Some c.in_err-schemas.field-0.0) refl c.self.invariant.readers c.schemas.ensures.readers (λ last. last) c.in_err-schemas.ensures.cause))
+    rw (p.1, p.2) (subst (λ (k : KeeperState _ _ _ _). HasDiskCause (faults_kept g.S.Watch.Watch.counts k)
+    (faults_kept g.S.Watch.Watch.counts (record { engines = c.schemas.new.self.engines; shown = c.self.inside.shown.items; scan = c.self.inside.scan }))
+    (HasSpent g.S.Store.history g.S.Device.Device.history g.S.Frozen.Frozen.content
+    (record { engines = c.schemas.new.self.engines; shown = c.self.inside.shown.items; scan = c.self.inside.scan })) (Some c.in_err-schemas.field-0.0))
+    c.self.view_is (caused_beside g.S.Watch.Watch.counts (record
+    { engines = c.self.inside.partitions.engines; shown = c.self.inside.shown.items; scan = c.self.inside.scan })
+    (record { engines = c.schemas.new.self.engines; shown = c.self.inside.shown.items; scan = c.self.inside.scan }) _ _ (Some c.in_err-schemas.field-0.0) refl
+    c.self.invariant.readers c.schemas.ensures.readers (λ last. last) c.in_err-schemas.ensures.cause))
 
 pub returns-in_err-place_all-clause-failed : goal.returns-in_err-place_all-clause-failed
 unfolding MayServe ServesAt FailsAt AllRest faults_kept HasSpent MayAsk HoldsAt KeepsAt Rests faults_of IsSpent
 returns-in_err-place_all-clause-failed g c =
     let p = err_from_is_err_and c.from_residual-in_err-place_all.result c.from_residual-in_err-place_all.ensures.1 in
-    λ only w serves. rw p.1 (held_keeps (eyes g.S.Store.history g.S.Device.Device.history g.S.Frozen.Frozen.content g.S.Device.Device.name g.S.Frozen.Frozen.size g.S.Watch.Watch.counts) only c.schemas.new.self.engines w (unflushed (eyes g.S.Store.history g.S.Device.Device.history g.S.Frozen.Frozen.content g.S.Device.Device.name g.S.Frozen.Frozen.size g.S.Watch.Watch.counts) only c.schemas.new.self.engines w (c.in_ok-schemas.ensures.held (sees only w) (subst (λ (k : KeeperState _ _ _ _). ServesAt (eyes g.S.Store.history g.S.Device.Device.history g.S.Frozen.Frozen.content g.S.Device.Device.name g.S.Frozen.Frozen.size g.S.Watch.Watch.counts) k (sees only w)) (sym c.self.view_is) serves).0)))
+    λ only w serves. rw p.1 (held_keeps (eyes g.S.Store.history g.S.Device.Device.history g.S.Frozen.Frozen.content g.S.Device.Device.name g.S.Frozen.Frozen.size
+    g.S.Watch.Watch.counts) only c.schemas.new.self.engines w (unflushed
+    (eyes g.S.Store.history g.S.Device.Device.history g.S.Frozen.Frozen.content g.S.Device.Device.name g.S.Frozen.Frozen.size g.S.Watch.Watch.counts) only
+    c.schemas.new.self.engines w (c.in_ok-schemas.ensures.held (sees only w)
+    (subst (λ (k : KeeperState _ _ _ _). ServesAt (eyes g.S.Store.history g.S.Device.Device.history g.S.Frozen.Frozen.content g.S.Device.Device.name
+    g.S.Frozen.Frozen.size g.S.Watch.Watch.counts) k (sees only w)) (sym c.self.view_is) serves).0)))
 
 pub returns-in_err-place_all-clause-undamaged : goal.returns-in_err-place_all-clause-undamaged
 unfolding MayServe ServesAt FailsAt AllRest faults_kept HasSpent MayAsk HoldsAt KeepsAt Rests faults_of IsSpent
@@ -75,12 +91,34 @@ pub returns-in_err-place_all-clause-cause : goal.returns-in_err-place_all-clause
 unfolding MayServe ServesAt FailsAt AllRest faults_kept HasSpent MayAsk HoldsAt KeepsAt Rests faults_of IsSpent
 returns-in_err-place_all-clause-cause g c =
     let p = err_from_is_err_and c.from_residual-in_err-place_all.result c.from_residual-in_err-place_all.ensures.1 in
-    rw (p.1, p.2) (subst (λ (k : KeeperState _ _ _ _). HasDiskCause (faults_kept g.S.Watch.Watch.counts k) (faults_kept g.S.Watch.Watch.counts (record { engines = c.schemas.new.self.engines; shown = c.place_all.new.shown.items; scan = c.self.inside.scan })) (HasSpent g.S.Store.history g.S.Device.Device.history g.S.Frozen.Frozen.content (record { engines = c.schemas.new.self.engines; shown = c.place_all.new.shown.items; scan = c.self.inside.scan })) _) c.self.view_is (call_without_memory (faults_kept g.S.Watch.Watch.counts (record { engines = c.self.inside.partitions.engines; shown = c.self.inside.shown.items; scan = c.self.inside.scan })) (faults_kept g.S.Watch.Watch.counts (record { engines = c.schemas.new.self.engines; shown = c.place_all.new.shown.items; scan = c.self.inside.scan })) _ (HasSpent g.S.Store.history g.S.Device.Device.history g.S.Frozen.Frozen.content (record { engines = c.schemas.new.self.engines; shown = c.place_all.new.shown.items; scan = c.self.inside.scan })) (caused_beside g.S.Watch.Watch.counts (record { engines = c.self.inside.partitions.engines; shown = c.self.inside.shown.items; scan = c.self.inside.scan }) (record { engines = c.schemas.new.self.engines; shown = c.place_all.new.shown.items; scan = c.self.inside.scan }) _ (HasSpent g.S.Store.history g.S.Device.Device.history g.S.Frozen.Frozen.content (record { engines = c.schemas.new.self.engines; shown = c.place_all.new.shown.items; scan = c.self.inside.scan })) None refl c.self.invariant.readers c.schemas.ensures.readers (λ last. last) c.in_ok-schemas.ensures.cause)))
+    rw (p.1, p.2) (subst (λ (k : KeeperState _ _ _ _). HasDiskCause (faults_kept g.S.Watch.Watch.counts k)
+    (faults_kept g.S.Watch.Watch.counts (record { engines = c.schemas.new.self.engines; shown = c.place_all.new.shown.items; scan = c.self.inside.scan }))
+    (HasSpent g.S.Store.history g.S.Device.Device.history g.S.Frozen.Frozen.content
+    (record { engines = c.schemas.new.self.engines; shown = c.place_all.new.shown.items; scan = c.self.inside.scan })) _) c.self.view_is
+    (call_without_memory (faults_kept g.S.Watch.Watch.counts (record
+    { engines = c.self.inside.partitions.engines; shown = c.self.inside.shown.items; scan = c.self.inside.scan }))
+    (faults_kept g.S.Watch.Watch.counts (record { engines = c.schemas.new.self.engines; shown = c.place_all.new.shown.items; scan = c.self.inside.scan })) _
+    (HasSpent g.S.Store.history g.S.Device.Device.history g.S.Frozen.Frozen.content
+    (record { engines = c.schemas.new.self.engines; shown = c.place_all.new.shown.items; scan = c.self.inside.scan }))
+    (caused_beside g.S.Watch.Watch.counts (record { engines = c.self.inside.partitions.engines; shown = c.self.inside.shown.items; scan = c.self.inside.scan })
+    (record { engines = c.schemas.new.self.engines; shown = c.place_all.new.shown.items; scan = c.self.inside.scan }) _
+    (HasSpent g.S.Store.history g.S.Device.Device.history g.S.Frozen.Frozen.content
+    (record { engines = c.schemas.new.self.engines; shown = c.place_all.new.shown.items; scan = c.self.inside.scan })) None refl c.self.invariant.readers
+    c.schemas.ensures.readers (λ last. last) c.in_ok-schemas.ensures.cause)))
 
 pub returns-clause-held : goal.returns-clause-held
 unfolding MayServe ServesAt FailsAt AllRest faults_kept HasSpent MayAsk HoldsAt KeepsAt Rests faults_of IsSpent
 returns-clause-held g c =
-    λ known serves. serves_flushed (eyes g.S.Store.history g.S.Device.Device.history g.S.Frozen.Frozen.content g.S.Device.Device.name g.S.Frozen.Frozen.size g.S.Watch.Watch.counts) (record { engines = c.self.inside.partitions.engines; shown = c.self.inside.shown.items; scan = c.self.inside.scan }) (record { engines = c.schemas.new.self.engines; shown = c.place_all.new.shown.items; scan = c.self.inside.scan }) known c.parts_are_shown.ensures.placed refl (sym (at_each-length (λ p old new. IsReadAsBefore old new) 0 c.self.inside.shown.items c.place_all.new.shown.items c.place_all.ensures.books) ∙ shown_many (record { engines = c.self.inside.partitions.engines; shown = c.self.inside.shown.items; scan = c.self.inside.scan }) c.schemas.new.self.engines c.schemas.ensures.readers c.self.invariant) (c.in_ok-schemas.ensures.held known (subst (λ (k : KeeperState _ _ _ _). ServesAt (eyes g.S.Store.history g.S.Device.Device.history g.S.Frozen.Frozen.content g.S.Device.Device.name g.S.Frozen.Frozen.size g.S.Watch.Watch.counts) k (known)) (sym c.self.view_is) serves).0) c.in_ok-place_all.ensures.placed (subst (λ (k : KeeperState _ _ _ _). ServesAt (eyes g.S.Store.history g.S.Device.Device.history g.S.Frozen.Frozen.content g.S.Device.Device.name g.S.Frozen.Frozen.size g.S.Watch.Watch.counts) k known) (sym c.self.view_is) serves)
+    λ known serves. serves_flushed (eyes g.S.Store.history g.S.Device.Device.history g.S.Frozen.Frozen.content g.S.Device.Device.name g.S.Frozen.Frozen.size
+    g.S.Watch.Watch.counts) (record { engines = c.self.inside.partitions.engines; shown = c.self.inside.shown.items; scan = c.self.inside.scan })
+    (record { engines = c.schemas.new.self.engines; shown = c.place_all.new.shown.items; scan = c.self.inside.scan }) known c.parts_are_shown.ensures.placed refl
+    (sym (at_each-length (λ p old new. IsReadAsBefore old new) 0 c.self.inside.shown.items c.place_all.new.shown.items c.place_all.ensures.books)
+    ∙ shown_many (record { engines = c.self.inside.partitions.engines; shown = c.self.inside.shown.items; scan = c.self.inside.scan }) c.schemas.new.self.engines
+    c.schemas.ensures.readers c.self.invariant) (c.in_ok-schemas.ensures.held known
+    (subst (λ (k : KeeperState _ _ _ _). ServesAt (eyes g.S.Store.history g.S.Device.Device.history g.S.Frozen.Frozen.content g.S.Device.Device.name
+    g.S.Frozen.Frozen.size g.S.Watch.Watch.counts) k (known)) (sym c.self.view_is) serves).0) c.in_ok-place_all.ensures.placed
+    (subst (λ (k : KeeperState _ _ _ _). ServesAt (eyes g.S.Store.history g.S.Device.Device.history g.S.Frozen.Frozen.content g.S.Device.Device.name
+    g.S.Frozen.Frozen.size g.S.Watch.Watch.counts) k known) (sym c.self.view_is) serves)
 
 pub returns-clause-shown : goal.returns-clause-shown
 unfolding MayServe ServesAt FailsAt AllRest faults_kept HasSpent MayAsk HoldsAt KeepsAt Rests faults_of IsSpent
@@ -90,17 +128,23 @@ returns-clause-shown g c =
 pub invariant_of-self : goal.invariant_of-self
 unfolding MayServe ServesAt FailsAt AllRest faults_kept HasSpent MayAsk HoldsAt KeepsAt Rests faults_of IsSpent
 invariant_of-self g c =
-    manned_beside (record { engines = c.self.inside.partitions.engines; shown = c.self.inside.shown.items; scan = c.self.inside.scan }) (record { engines = c.schemas.new.self.engines; shown = c.self.inside.shown.items; scan = c.self.inside.scan }) refl c.schemas.ensures.readers (read_as_before c.self.inside.shown.items) c.self.invariant
+    manned_beside (record { engines = c.self.inside.partitions.engines; shown = c.self.inside.shown.items; scan = c.self.inside.scan })
+    (record { engines = c.schemas.new.self.engines; shown = c.self.inside.shown.items; scan = c.self.inside.scan }) refl c.schemas.ensures.readers
+    (read_as_before c.self.inside.shown.items) c.self.invariant
 
 pub invariant_of-self-in_err-place_all : goal.invariant_of-self-in_err-place_all
 unfolding MayServe ServesAt FailsAt AllRest faults_kept HasSpent MayAsk HoldsAt KeepsAt Rests faults_of IsSpent
 invariant_of-self-in_err-place_all g c =
-    manned_beside (record { engines = c.self.inside.partitions.engines; shown = c.self.inside.shown.items; scan = c.self.inside.scan }) (record { engines = c.schemas.new.self.engines; shown = c.place_all.new.shown.items; scan = c.self.inside.scan }) refl c.schemas.ensures.readers c.place_all.ensures.books c.self.invariant
+    manned_beside (record { engines = c.self.inside.partitions.engines; shown = c.self.inside.shown.items; scan = c.self.inside.scan })
+    (record { engines = c.schemas.new.self.engines; shown = c.place_all.new.shown.items; scan = c.self.inside.scan }) refl c.schemas.ensures.readers
+    c.place_all.ensures.books c.self.invariant
 
 pub invariant_of-self-2 : goal.invariant_of-self-2
 unfolding MayServe ServesAt FailsAt AllRest faults_kept HasSpent MayAsk HoldsAt KeepsAt Rests faults_of IsSpent
 invariant_of-self-2 g c =
-    manned_beside (record { engines = c.self.inside.partitions.engines; shown = c.self.inside.shown.items; scan = c.self.inside.scan }) (record { engines = c.schemas.new.self.engines; shown = c.place_all.new.shown.items; scan = c.self.inside.scan }) refl c.schemas.ensures.readers c.place_all.ensures.books c.self.invariant
+    manned_beside (record { engines = c.self.inside.partitions.engines; shown = c.self.inside.shown.items; scan = c.self.inside.scan })
+    (record { engines = c.schemas.new.self.engines; shown = c.place_all.new.shown.items; scan = c.self.inside.scan }) refl c.schemas.ensures.readers
+    c.place_all.ensures.books c.self.invariant
 
 pub returns-clause-works : goal.returns-clause-works
 unfolding MayServe ServesAt FailsAt AllRest faults_kept HasSpent MayAsk HoldsAt KeepsAt Rests faults_of IsSpent
@@ -115,4 +159,12 @@ returns-clause-settings g c =
 pub returns-clause-cause : goal.returns-clause-cause
 unfolding MayServe ServesAt FailsAt AllRest faults_kept HasSpent MayAsk HoldsAt KeepsAt Rests faults_of IsSpent
 returns-clause-cause g c =
-    (subst (λ (k : KeeperState _ _ _ _). HasDiskCause (faults_kept g.S.Watch.Watch.counts k) (faults_kept g.S.Watch.Watch.counts (record { engines = c.schemas.new.self.engines; shown = c.place_all.new.shown.items; scan = c.self.inside.scan })) (HasSpent g.S.Store.history g.S.Device.Device.history g.S.Frozen.Frozen.content (record { engines = c.schemas.new.self.engines; shown = c.place_all.new.shown.items; scan = c.self.inside.scan })) None) c.self.view_is (caused_beside g.S.Watch.Watch.counts (record { engines = c.self.inside.partitions.engines; shown = c.self.inside.shown.items; scan = c.self.inside.scan }) (record { engines = c.schemas.new.self.engines; shown = c.place_all.new.shown.items; scan = c.self.inside.scan }) _ (HasSpent g.S.Store.history g.S.Device.Device.history g.S.Frozen.Frozen.content (record { engines = c.schemas.new.self.engines; shown = c.place_all.new.shown.items; scan = c.self.inside.scan })) None refl c.self.invariant.readers c.schemas.ensures.readers (λ last. last) c.in_ok-schemas.ensures.cause))
+    (subst (λ (k : KeeperState _ _ _ _). HasDiskCause (faults_kept g.S.Watch.Watch.counts k)
+    (faults_kept g.S.Watch.Watch.counts (record { engines = c.schemas.new.self.engines; shown = c.place_all.new.shown.items; scan = c.self.inside.scan }))
+    (HasSpent g.S.Store.history g.S.Device.Device.history g.S.Frozen.Frozen.content
+    (record { engines = c.schemas.new.self.engines; shown = c.place_all.new.shown.items; scan = c.self.inside.scan })) None) c.self.view_is
+    (caused_beside g.S.Watch.Watch.counts (record { engines = c.self.inside.partitions.engines; shown = c.self.inside.shown.items; scan = c.self.inside.scan })
+    (record { engines = c.schemas.new.self.engines; shown = c.place_all.new.shown.items; scan = c.self.inside.scan }) _
+    (HasSpent g.S.Store.history g.S.Device.Device.history g.S.Frozen.Frozen.content
+    (record { engines = c.schemas.new.self.engines; shown = c.place_all.new.shown.items; scan = c.self.inside.scan })) None refl c.self.invariant.readers
+    c.schemas.ensures.readers (λ last. last) c.in_ok-schemas.ensures.cause))

@@ -40,20 +40,29 @@ pub returns-in-Ok-clause-works : goal.returns-in-Ok-clause-works
 unfolding MayAsk
 returns-in-Ok-clause-works g c =
     let es = c.args.self.now.engines in
-    let same = at_each-length (λ p old new. HasOnlyRun old.engine.part new.engine.part × (new.engine.policy ≡ old.engine.policy) × (new.jobs ≡ old.jobs)) 0 es c.window.new.self c.window.ensures.same in
-    (subst (λ n. 0 < n) same c.requires.works.0, subst (λ n. n ≤ 16) same c.requires.works.1, asked_after (eyes g.S.Store.history g.S.Device.Device.history g.S.Frozen.Frozen.content g.S.Device.Device.name g.S.Frozen.Frozen.size g.S.Watch.Watch.counts) 0 es c.window.new.self c.requires.works.2 c.in-Ok.ensures.sound c.in-Ok.ensures.log_out)
+    let same = at_each-length (λ p old new. HasOnlyRun old.engine.part new.engine.part × (new.engine.policy ≡ old.engine.policy) × (new.jobs ≡ old.jobs)) 0 es c.window.new.self c.window.ensures.same in (
+      subst (λ n. 0 < n) same c.requires.works.0,
+      subst (λ n. n ≤ 16) same c.requires.works.1,
+      asked_after
+          (eyes g.S.Store.history g.S.Device.Device.history g.S.Frozen.Frozen.content g.S.Device.Device.name g.S.Frozen.Frozen.size g.S.Watch.Watch.counts) 0 es
+          c.window.new.self c.requires.works.2 c.in-Ok.ensures.sound c.in-Ok.ensures.log_out,
+    )
 
 pub returns-in-Ok-clause-replies : goal.returns-in-Ok-clause-replies
 unfolding HoldsAt
 returns-in-Ok-clause-replies g c = λ known stands.
-    window_replied (eyes g.S.Store.history g.S.Device.Device.history g.S.Frozen.Frozen.content g.S.Device.Device.name g.S.Frozen.Frozen.size g.S.Watch.Watch.counts) c.args.self.now.engines c.args.commands.items known (replies_in c.in-Ok.replies) stands (all_for_part c.args.commands.items c.requires.together) c.in-Ok.ensures.kinds
+    window_replied (eyes g.S.Store.history g.S.Device.Device.history g.S.Frozen.Frozen.content g.S.Device.Device.name g.S.Frozen.Frozen.size g.S.Watch.Watch.counts)
+    c.args.self.now.engines c.args.commands.items known (replies_in c.in-Ok.replies) stands (all_for_part c.args.commands.items c.requires.together)
+    c.in-Ok.ensures.kinds
     (λ w h. subst (λ r. IfOk r (λ replies. replies_in replies ≡ window_answered (map routed_of c.args.commands.items) w)) c.in-Ok.is (c.window.ensures.replies w h))
 
 pub returns-in-Ok-clause-held : goal.returns-in-Ok-clause-held
 unfolding HoldsAt
 returns-in-Ok-clause-held g c = λ known stands.
     subst (λ rs. StandAt (eyes g.S.Store.history g.S.Device.Device.history g.S.Frozen.Frozen.content g.S.Device.Device.name g.S.Frozen.Frozen.size g.S.Watch.Watch.counts) c.window.new.self (sight_after rs known)) (requests_same c.args.commands.items)
-    (stand_after (eyes g.S.Store.history g.S.Device.Device.history g.S.Frozen.Frozen.content g.S.Device.Device.name g.S.Frozen.Frozen.size g.S.Watch.Watch.counts) c.args.self.now.engines c.window.new.self (requests_in c.args.commands.items) known stands (λ only w h. on_ok c.window.result c.in-Ok.replies c.in-Ok.is (c.window.ensures.held only w h)))
+    (stand_after (eyes g.S.Store.history g.S.Device.Device.history g.S.Frozen.Frozen.content g.S.Device.Device.name g.S.Frozen.Frozen.size g.S.Watch.Watch.counts)
+    c.args.self.now.engines c.window.new.self (requests_in c.args.commands.items) known stands
+    (λ only w h. on_ok c.window.result c.in-Ok.replies c.in-Ok.is (c.window.ensures.held only w h)))
 
 pub returns-in-Ok-clause-settings : goal.returns-in-Ok-clause-settings
 returns-in-Ok-clause-settings g c = ran_settings c.args.self.now.engines c.window.new.self c.window.ensures.same
@@ -65,12 +74,16 @@ returns-in-Ok-clause-cause g c = caused_none (faults_at g.S.Watch.Watch.counts) 
 pub returns-in-Err-clause-failed : goal.returns-in-Err-clause-failed
 unfolding HoldsAt KeepsAt
 returns-in-Err-clause-failed g c = λ only w h.
-    subst (λ rs. KeepWorlds (eyes g.S.Store.history g.S.Device.Device.history g.S.Frozen.Frozen.content g.S.Device.Device.name g.S.Frozen.Frozen.size g.S.Watch.Watch.counts) only c.window.new.self w (after_all rs w)) (requests_same c.args.commands.items) (on_err c.window.result c.in-Err.fault c.in-Err.is (c.window.ensures.kept only w h))
+    subst (λ rs. KeepWorlds (eyes g.S.Store.history g.S.Device.Device.history g.S.Frozen.Frozen.content g.S.Device.Device.name g.S.Frozen.Frozen.size
+    g.S.Watch.Watch.counts) only c.window.new.self w (after_all rs w)) (requests_same c.args.commands.items)
+    (on_err c.window.result c.in-Err.fault c.in-Err.is (c.window.ensures.kept only w h))
 
 pub returns-in-Err-clause-undamaged : goal.returns-in-Err-clause-undamaged
 unfolding HoldsAt
 returns-in-Err-clause-undamaged g c = λ w h.
-    subst IsNoDamage (sym c.of_window.ensures) (window_undamaged (eyes g.S.Store.history g.S.Device.Device.history g.S.Frozen.Frozen.content g.S.Device.Device.name g.S.Frozen.Frozen.size g.S.Watch.Watch.counts) c.args.self.now.engines c.window.new.self w h g.S.Frozen.Frozen.content (λ q. _) c.in-Err.fault c.in-Err.ensures.first)
+    subst IsNoDamage (sym c.of_window.ensures) (window_undamaged
+    (eyes g.S.Store.history g.S.Device.Device.history g.S.Frozen.Frozen.content g.S.Device.Device.name g.S.Frozen.Frozen.size g.S.Watch.Watch.counts)
+    c.args.self.now.engines c.window.new.self w h g.S.Frozen.Frozen.content (λ q. _) c.in-Err.fault c.in-Err.ensures.first)
 
 pub returns-in-Err-clause-settings : goal.returns-in-Err-clause-settings
 returns-in-Err-clause-settings g c = ran_settings c.args.self.now.engines c.window.new.self c.window.ensures.same

@@ -7,7 +7,9 @@ use Rattle.tc_keeper.proofs.seat.Seat.run.Goals as goal
 pub returns-clause-framed : goal.returns-clause-framed
 returns-clause-framed g c =
     let ran = c.window.ensures in
-    framed_of (eyes g.S.Store.history g.S.Device.Device.history g.S.Frozen.Frozen.content g.S.Device.Device.name g.S.Frozen.Frozen.size g.S.Watch.Watch.counts) (map routed_of c.args.list.now) c.args.self.now.engine c.window.new.self c.window.new.frame.items c.window.result ran.frame ran.storable ran.frame_stored ran.frame_counted
+    framed_of (eyes g.S.Store.history g.S.Device.Device.history g.S.Frozen.Frozen.content g.S.Device.Device.name g.S.Frozen.Frozen.size g.S.Watch.Watch.counts)
+    (map routed_of c.args.list.now) c.args.self.now.engine c.window.new.self c.window.new.frame.items c.window.result ran.frame ran.storable
+    ran.frame_stored ran.frame_counted
 
 pub returns-clause-ran : goal.returns-clause-ran
 returns-clause-ran g c =
@@ -20,7 +22,9 @@ returns-clause-ran g c =
       same = only_run c.window.result c.args.self.now.engine.part c.window.new.self.part ran.same ran.left;
       unstaged = still_staged c.window.result c.args.self.now.engine.part c.window.new.self.part ran.same;
       policy = ran.policy;
-      staffed = λ jobs. run_staffed c.window.result (eyes g.S.Store.history g.S.Device.Device.history g.S.Frozen.Frozen.content g.S.Device.Device.name g.S.Frozen.Frozen.size g.S.Watch.Watch.counts) c.args.self.now.engine c.window.new.self jobs c.requires.sound (ran.jobs jobs) ran.ready (left_failed c.window.result c.args.self.now.engine.part c.window.new.self.part ran.left);
+      staffed = λ jobs. run_staffed c.window.result (eyes g.S.Store.history g.S.Device.Device.history g.S.Frozen.Frozen.content g.S.Device.Device.name
+          g.S.Frozen.Frozen.size g.S.Watch.Watch.counts) c.args.self.now.engine c.window.new.self jobs c.requires.sound (ran.jobs jobs) ran.ready
+          (left_failed c.window.result c.args.self.now.engine.part c.window.new.self.part ran.left);
       ready = ran.ready;
       tells = ran.tells;
       devices = ran.devices;

@@ -28,7 +28,8 @@ pub returns-in-Ok-clause-own : goal.returns-in-Ok-clause-own
 returns-in-Ok-clause-own g c =
     let s = c.args.self.now in
     let same = c.in-Ok.ensures.same in
-    merge_begun_own g.S.Frozen.Frozen.content (told g.S.Store.history g.S.Device.Device.history g.S.Frozen.Frozen.content s) s.list refl c.args.run c.requires.run.0 c.requires.run.1 (told g.S.Store.history g.S.Device.Device.history g.S.Frozen.Frozen.content (left_of same)) c.requires.none_out c.in-Ok.ensures.made
+    merge_begun_own g.S.Frozen.Frozen.content (told g.S.Store.history g.S.Device.Device.history g.S.Frozen.Frozen.content s) s.list refl c.args.run c.requires.run.0
+    c.requires.run.1 (told g.S.Store.history g.S.Device.Device.history g.S.Frozen.Frozen.content (left_of same)) c.requires.none_out c.in-Ok.ensures.made
     (ap (λ (x : PartState _ _ _ _). x.generation) same) (ap (λ (x : PartState _ _ _ _). map (told_component g.S.Frozen.Frozen.content) x.list) same)
     (ap (λ (x : PartState _ _ _ _). x.flushing) same) (ap (λ (x : PartState _ _ _ _). x.merging) same) c.requires.own
 

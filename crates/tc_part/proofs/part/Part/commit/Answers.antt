@@ -92,7 +92,9 @@ returns-clause-log_out g c =
     let t = told g.S.Store.history g.S.Device.Device.history g.S.Frozen.Frozen.content (left_of c.self.view_is) in
     let log = g.S.Device.Device.history c.append.new.self.device in
     rw (← c.self.view_is)
-    (log_grows t log (λ tells. appended_tells (g.S.Device.Device.size c.reserve.new.self.device - 1) (with_closed_gate c.in_ok-frame.frame) (g.S.Device.Device.history c.reserve.new.self.device) log c.in_ok-append.ensures.appended (subst (λ (l : LogState _). IsTold (g.S.Device.Device.history l.device)) (sym c.reserve.ensures.same) tells)))
+    (log_grows t log (λ tells. appended_tells (g.S.Device.Device.size c.reserve.new.self.device - 1) (with_closed_gate c.in_ok-frame.frame)
+    (g.S.Device.Device.history c.reserve.new.self.device) log c.in_ok-append.ensures.appended
+    (subst (λ (l : LogState _). IsTold (g.S.Device.Device.history l.device)) (sym c.reserve.ensures.same) tells)))
 
 pub returns-clause-stored : goal.returns-clause-stored
 returns-clause-stored g c =

@@ -86,7 +86,9 @@ returns-in-Err-clause-moments g c =
     let there = log_there s.sealed_log (c.self.invariant.sealed_both is.sound ∙ sealed) in
     let out = subst (λ b. IsPart (record (told_in is) { flushing = b }) p) flushing is in
     subst (λ (x : PartState _ _ _ _). StoreMomentsLeaveStore p (flushed_part m p) (told_in is) (g.S.Store.history x.store)) (sym c.self-2.view_is)
-    (ended_moments g.S.Store.history g.S.Device.Device.history g.S.Frozen.Frozen.content g.S.Frozen.Frozen.name (record (left_of c.self.view_is) { flusher = Some c.args.out.watch; flushing = false }) c.end_flush.new.self p m (g.S.Device.Device.history c.args.out.device) there.0 out there.1 makes made c.in-Err.ensures.left)
+    (ended_moments g.S.Store.history g.S.Device.Device.history g.S.Frozen.Frozen.content g.S.Frozen.Frozen.name
+    (record (left_of c.self.view_is) { flusher = Some c.args.out.watch; flushing = false }) c.end_flush.new.self p m (g.S.Device.Device.history c.args.out.device)
+    there.0 out there.1 makes made c.in-Err.ensures.left)
 
 pub returns-in-Err-clause-unmade : goal.returns-in-Err-clause-unmade
 returns-in-Err-clause-unmade g c =
@@ -131,8 +133,12 @@ returns-in-Err-clause-failed g c =
     let there = log_there s.sealed_log (c.self.invariant.sealed_both is.sound ∙ sealed) in
     let out = subst (λ b. IsPart (record (told_in is) { flushing = b }) p) flushing is in
     let head = flush_headed _ p m is (still_some arc_value s.sealed ∙ sealed) makes in
-    subst (λ (x : PartState _ _ _ _). HasFailedWhole (record (told g.S.Store.history g.S.Device.Device.history g.S.Frozen.Frozen.content x) { failed = true }) p ⊎ HasFailedWhole (record (told g.S.Store.history g.S.Device.Device.history g.S.Frozen.Frozen.content x) { failed = true }) (flushed_part m p)) (sym c.self-2.view_is)
-    (ended_failed g.S.Store.history g.S.Device.Device.history g.S.Frozen.Frozen.content g.S.Frozen.Frozen.name (record (left_of c.self.view_is) { flusher = Some c.args.out.watch; flushing = false }) c.end_flush.new.self p m (g.S.Device.Device.history c.args.out.device) there.0 out there.1 makes made refl head
+    subst (λ (x : PartState _ _ _ _). HasFailedWhole (record (told g.S.Store.history g.S.Device.Device.history g.S.Frozen.Frozen.content x) { failed = true }) p
+    ⊎ HasFailedWhole (record (told g.S.Store.history g.S.Device.Device.history g.S.Frozen.Frozen.content x) { failed = true }) (flushed_part m p))
+    (sym c.self-2.view_is)
+    (ended_failed g.S.Store.history g.S.Device.Device.history g.S.Frozen.Frozen.content g.S.Frozen.Frozen.name
+    (record (left_of c.self.view_is) { flusher = Some c.args.out.watch; flushing = false }) c.end_flush.new.self p m (g.S.Device.Device.history c.args.out.device)
+    there.0 out there.1 makes made refl head
     (λ component. c.told_components_are_loaded.ensures.of_content component m) c.in-Err.ensures.left)
 
 pub returns-then-self-clause-undamaged : goal.returns-then-self-clause-undamaged
@@ -167,7 +173,9 @@ returns-in-Err-clause-merge_named g c =
     let s = c.self.inside in
     let start = record (left_of c.self.view_is) { flusher = Some c.args.out.watch; flushing = false } in
     rw (← c.self.view_is) λ out.
-    subst (λ (x : PartState _ _ _ _). merged_name (run_out x) x ≡ merged_name (run_out start) start) (sym c.self-2.view_is) (ended_named g.S.Store.history g.S.Device.Device.history g.S.Frozen.Frozen.content g.S.Frozen.Frozen.name start c.end_flush.new.self (g.S.Device.Device.history c.args.out.device) s.merging refl c.self.invariant.run out c.in-Err.ensures.left)
+    subst (λ (x : PartState _ _ _ _). merged_name (run_out x) x ≡ merged_name (run_out start) start) (sym c.self-2.view_is)
+    (ended_named g.S.Store.history g.S.Device.Device.history g.S.Frozen.Frozen.content g.S.Frozen.Frozen.name start c.end_flush.new.self
+    (g.S.Device.Device.history c.args.out.device) s.merging refl c.self.invariant.run out c.in-Err.ensures.left)
 
 pub returns-then-self-clause-own : goal.returns-then-self-clause-own
 returns-then-self-clause-own g c = rw (← c.self.view_is) λ sound own. both c.self.inside.failed c.if-self.true sound

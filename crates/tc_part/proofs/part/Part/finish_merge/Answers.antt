@@ -55,8 +55,11 @@ returns-in-Ok-clause-merged g c =
     let gone = ap (option_map neighbours) c.take-merging.ensures.after in
     let start = record (left_of c.self.view_is) { merger = Some c.args.out.watch; merging = option_map neighbours c.take-merging.new.self } in
     rw (← c.self.view_is) λ p m is some made files.
-    let before = subst (λ o. IsPart (record (told_in is) { merging = o }) p) out is in
-    (done g.S.Store.history g.S.Device.Device.history g.S.Frozen.Frozen.content g.S.Frozen.Frozen.name start c.end_merge.new.self p m device run before some lies gone made files c.self.invariant.named c.in-Ok.ensures.listed c.in-Ok.ensures.same c.in-Ok.ensures.removed, merge_keeps_store _ p m is some)
+    let before = subst (λ o. IsPart (record (told_in is) { merging = o }) p) out is in (
+      done g.S.Store.history g.S.Device.Device.history g.S.Frozen.Frozen.content g.S.Frozen.Frozen.name start c.end_merge.new.self p m device run before some lies gone
+          made files c.self.invariant.named c.in-Ok.ensures.listed c.in-Ok.ensures.same c.in-Ok.ensures.removed,
+      merge_keeps_store _ p m is some,
+    )
 
 pub returns-in-Ok-clause-moments : goal.returns-in-Ok-clause-moments
 returns-in-Ok-clause-moments g c =
@@ -116,7 +119,9 @@ returns-in-Err-clause-unmade g c =
     let here : run_out (left_of c.self.view_is) ≡ run = ap positions out ∙ positions_back run lies.0 in
     rw (← c.self.view_is) (if_err c.args.out.outcome _ _ (λ e unmade sound. (
       unmade.0,
-      subst (λ (x : PartState _ _ _ _). record x { failed = true } ≡ record start { store = x.store; merging = None; failed = true }) (sym c.self-in-Some.view_is) (ap (λ (x : PartState _ _ _ _). record x { failed = true }) unmade.1 ∙ ap (λ o. record start { store = c.end_merge.new.self.store; merging = o; failed = true }) gone),
+      subst (λ (x : PartState _ _ _ _). record x { failed = true } ≡ record start { store = x.store; merging = None; failed = true }) (sym c.self-in-Some.view_is)
+          (ap (λ (x : PartState _ _ _ _). record x { failed = true }) unmade.1
+          ∙ ap (λ o. record start { store = c.end_merge.new.self.store; merging = o; failed = true }) gone),
       subst (λ (x : PartState _ _ _ _). g.S.Store.history x.store ≡ comes_home (merged_name (run_out (left_of c.self.view_is)) start) (λ f. home f) device (g.S.Store.history s.store)) (sym c.self-in-Some.view_is)
           (unmade.2 ∙ ap (λ r. comes_home (merged_name r start) (λ f. home f) device (g.S.Store.history s.store)) (sym here)),
     )) c.in-Err.ensures.unmade)
@@ -167,7 +172,9 @@ returns-in-Err-clause-left g c =
     (left_failed g.S.Store.history g.S.Frozen.Frozen.content g.S.Frozen.Frozen.name start c.end_merge.new.self device run c.in-Err.ensures.left) in
     rw (← c.self.view_is) (
       refl,
-      subst (λ (x : PartState _ _ _ _). IsMergeUnlisted g.S.Store.history device (run_out (left_of c.self.view_is)) (record start { merging = None }) (record x { failed = true }) ⊎ IsMergeRemoving g.S.Frozen.Frozen.content g.S.Frozen.Frozen.name g.S.Store.history device (run_out (left_of c.self.view_is)) (record start { merging = None }) (record x { failed = true })) (sym c.self-in-Some.view_is)
+      subst (λ (x : PartState _ _ _ _). IsMergeUnlisted g.S.Store.history device (run_out (left_of c.self.view_is)) (record start { merging = None })
+          (record x { failed = true }) ⊎ IsMergeRemoving g.S.Frozen.Frozen.content g.S.Frozen.Frozen.name g.S.Store.history device (run_out (left_of c.self.view_is))
+          (record start { merging = None }) (record x { failed = true })) (sym c.self-in-Some.view_is)
           (subst (λ r. IsMergeUnlisted g.S.Store.history device r (record start { merging = None }) ended ⊎ IsMergeRemoving g.S.Frozen.Frozen.content g.S.Frozen.Frozen.name g.S.Store.history device r (record start { merging = None }) ended) (sym here) left),
     )
 
@@ -183,7 +190,9 @@ returns-in-Err-clause-failed g c =
     let start = record (left_of c.self.view_is) { merger = Some c.args.out.watch; merging = option_map neighbours c.take-merging.new.self } in
     rw (← c.self.view_is) λ p m is some made files.
     let before = subst (λ o. IsPart (record (told_in is) { merging = o }) p) out is in
-    subst (λ (x : PartState _ _ _ _). HasFailedWhole (record (told g.S.Store.history g.S.Device.Device.history g.S.Frozen.Frozen.content x) { failed = true }) p ⊎ HasFailedWhole (record (told g.S.Store.history g.S.Device.Device.history g.S.Frozen.Frozen.content x) { failed = true }) (merged_part p)) (sym c.self-in-Some.view_is)
+    subst (λ (x : PartState _ _ _ _). HasFailedWhole (record (told g.S.Store.history g.S.Device.Device.history g.S.Frozen.Frozen.content x) { failed = true }) p
+    ⊎ HasFailedWhole (record (told g.S.Store.history g.S.Device.Device.history g.S.Frozen.Frozen.content x) { failed = true }) (merged_part p))
+    (sym c.self-in-Some.view_is)
     (ended_failed g.S.Store.history g.S.Device.Device.history g.S.Frozen.Frozen.content g.S.Frozen.Frozen.name start c.end_merge.new.self p m device run before some lies gone made files c.self.invariant.named c.in-Err.ensures.left)
 
 pub returns-in-Err-clause-damaged : goal.returns-in-Err-clause-damaged

@@ -116,7 +116,9 @@ returns-in-Ok-clause-own g c =
     let own = subst (λ s. HasOwnFiles (told g.S.Store.history g.S.Device.Device.history g.S.Frozen.Frozen.content s)) (sym c.self.view_is) c.requires.own in
     let behind = c.put_behind.ensures in
     let disks = ap (λ (x : PartState _ _ _ _). g.S.Store.history x.store) behind ∙ c.in_ok-device.ensures.made in
-    sealed_own (told g.S.Store.history g.S.Device.Device.history g.S.Frozen.Frozen.content (left_of c.self.view_is)) (told g.S.Store.history g.S.Device.Device.history g.S.Frozen.Frozen.content (left_of behind)) (no_flush_out arc_value c.self.inside.flusher c.self.inside.sealed (c.self.invariant.flush sound) none) disks
+    sealed_own (told g.S.Store.history g.S.Device.Device.history g.S.Frozen.Frozen.content (left_of c.self.view_is))
+    (told g.S.Store.history g.S.Device.Device.history g.S.Frozen.Frozen.content (left_of behind))
+    (no_flush_out arc_value c.self.inside.flusher c.self.inside.sealed (c.self.invariant.flush sound) none) disks
     (ap (λ (x : PartState _ _ _ _). x.generation) behind) (ap (λ (x : PartState _ _ _ _). map (told_component g.S.Frozen.Frozen.content) x.list) behind)
     (ap (λ (x : PartState _ _ _ _). x.flushing) behind) (ap (λ (x : PartState _ _ _ _). x.merging) behind) own
 
@@ -141,7 +143,9 @@ returns-in-Ok-clause-devices g c =
     let behind = c.put_behind.ensures in
     let disks = ap (λ (x : PartState _ _ _ _). g.S.Store.history x.store) behind ∙ c.in_ok-device.ensures.made in
     rw (← c.self.view_is)
-    (seal_out (told g.S.Store.history g.S.Device.Device.history g.S.Frozen.Frozen.content (left_of c.self.view_is)) (told g.S.Store.history g.S.Device.Device.history g.S.Frozen.Frozen.content (left_of behind)) (no_flush_out arc_value c.self.inside.flusher c.self.inside.sealed (c.self.invariant.flush sound) none)
+    (seal_out (told g.S.Store.history g.S.Device.Device.history g.S.Frozen.Frozen.content (left_of c.self.view_is))
+    (told g.S.Store.history g.S.Device.Device.history g.S.Frozen.Frozen.content (left_of behind))
+    (no_flush_out arc_value c.self.inside.flusher c.self.inside.sealed (c.self.invariant.flush sound) none)
     (none_with arc_value (λ l. g.S.Device.Device.history l.device) c.self.inside.sealed_log c.self.inside.sealed (c.self.invariant.sealed_both sound) none) disks (ap (λ (x : PartState _ _ _ _). x.generation) behind)
     (ap (λ (x : PartState _ _ _ _). is_some ((told g.S.Store.history g.S.Device.Device.history g.S.Frozen.Frozen.content x).sealed_log)) behind) (ap (λ (x : PartState _ _ _ _). map (told_component g.S.Frozen.Frozen.content) x.list) behind) (ap (λ (x : PartState _ _ _ _). x.merging) behind))
 

@@ -13,13 +13,20 @@ pub returns-in_err-answer-clause-fault : goal.returns-in_err-answer-clause-fault
 returns-in_err-answer-clause-fault g c =
     let p = err_from_is_err_and c.from_residual.result c.from_residual.ensures.1 in
     rw (p.1, p.2) (λ known holds.
-    none_written (ServesAt (eyes g.S.Store.history g.S.Device.Device.history g.S.Frozen.Frozen.content g.S.Device.Device.name g.S.Frozen.Frozen.size g.S.Watch.Watch.counts)) (FailsAt (eyes g.S.Store.history g.S.Device.Device.history g.S.Frozen.Frozen.content g.S.Device.Device.name g.S.Frozen.Frozen.size g.S.Watch.Watch.counts)) c.in_err-answer.field-0.0 known (requests_of c.args.self.now.window) c.answer.new.keeper (g.O.Sink.taken c.args.sink.now) (g.O.Sink.taken c.args.sink.now)
-    c.in_err-answer.ensures.kinds (λ w is. c.in_err-answer.ensures.undamaged w (subst ((ServesAt (eyes g.S.Store.history g.S.Device.Device.history g.S.Frozen.Frozen.content g.S.Device.Device.name g.S.Frozen.Frozen.size g.S.Watch.Watch.counts)) c.args.self.now.keeper) is holds)) (Keeps-refl (g.O.Sink.taken c.args.sink.now)) (c.in_err-answer.ensures.left known holds))
+    none_written (ServesAt (eyes g.S.Store.history g.S.Device.Device.history g.S.Frozen.Frozen.content g.S.Device.Device.name g.S.Frozen.Frozen.size
+    g.S.Watch.Watch.counts)) (FailsAt (eyes g.S.Store.history g.S.Device.Device.history g.S.Frozen.Frozen.content g.S.Device.Device.name g.S.Frozen.Frozen.size
+    g.S.Watch.Watch.counts)) c.in_err-answer.field-0.0 known (requests_of c.args.self.now.window) c.answer.new.keeper (g.O.Sink.taken c.args.sink.now)
+    (g.O.Sink.taken c.args.sink.now)
+    c.in_err-answer.ensures.kinds (λ w is. c.in_err-answer.ensures.undamaged w
+    (subst ((ServesAt (eyes g.S.Store.history g.S.Device.Device.history g.S.Frozen.Frozen.content g.S.Device.Device.name g.S.Frozen.Frozen.size
+    g.S.Watch.Watch.counts)) c.args.self.now.keeper) is holds)) (Keeps-refl (g.O.Sink.taken c.args.sink.now)) (c.in_err-answer.ensures.left known holds))
 
 pub returns-in_err-answer-clause-cause : goal.returns-in_err-answer-clause-cause
 returns-in_err-answer-clause-cause g c =
     let p = err_from_is_err_and c.from_residual.result c.from_residual.ensures.1 in
-    rw (p.1, p.2) (store_failed c.in_err-answer.field-0.0 (g.O.Sink.faults c.args.sink.now) ((faults_kept g.S.Watch.Watch.counts) c.args.self.now.keeper) ((faults_kept g.S.Watch.Watch.counts) c.answer.new.keeper) (HasSpent g.S.Store.history g.S.Device.Device.history g.S.Frozen.Frozen.content c.answer.new.keeper) c.in_err-answer.ensures.kinds c.in_err-answer.ensures.cause)
+    rw (p.1, p.2) (store_failed c.in_err-answer.field-0.0 (g.O.Sink.faults c.args.sink.now) ((faults_kept g.S.Watch.Watch.counts) c.args.self.now.keeper)
+    ((faults_kept g.S.Watch.Watch.counts) c.answer.new.keeper) (HasSpent g.S.Store.history g.S.Device.Device.history g.S.Frozen.Frozen.content c.answer.new.keeper)
+    c.in_err-answer.ensures.kinds c.in_err-answer.ensures.cause)
 
 pub returns-clause-written : goal.returns-clause-written
 returns-clause-written g c =

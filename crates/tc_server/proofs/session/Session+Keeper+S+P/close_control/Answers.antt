@@ -13,13 +13,21 @@ pub returns-in_err-answer_whole-clause-fault : goal.returns-in_err-answer_whole-
 returns-in_err-answer_whole-clause-fault g c =
     let p = err_from_is_err_and c.from_residual.result c.from_residual.ensures.1 in
     rw (p.1, p.2) (λ known holds.
-    none_written (ServesAt (eyes g.S.Store.history g.S.Device.Device.history g.S.Frozen.Frozen.content g.S.Device.Device.name g.S.Frozen.Frozen.size g.S.Watch.Watch.counts)) (FailsAt (eyes g.S.Store.history g.S.Device.Device.history g.S.Frozen.Frozen.content g.S.Device.Device.name g.S.Frozen.Frozen.size g.S.Watch.Watch.counts)) c.in_err-answer_whole.field-0.0 known (request_whole c.args.control ∷ []) c.answer_whole.new.keeper (g.O.Sink.taken c.args.sink.now) (g.O.Sink.taken c.args.sink.now)
-    c.in_err-answer_whole.ensures.kinds (λ w is. c.in_err-answer_whole.ensures.undamaged w (subst ((ServesAt (eyes g.S.Store.history g.S.Device.Device.history g.S.Frozen.Frozen.content g.S.Device.Device.name g.S.Frozen.Frozen.size g.S.Watch.Watch.counts)) c.args.self.now.keeper) is holds)) (Keeps-refl (g.O.Sink.taken c.args.sink.now)) (c.in_err-answer_whole.ensures.left known holds))
+    none_written (ServesAt (eyes g.S.Store.history g.S.Device.Device.history g.S.Frozen.Frozen.content g.S.Device.Device.name g.S.Frozen.Frozen.size
+    g.S.Watch.Watch.counts)) (FailsAt (eyes g.S.Store.history g.S.Device.Device.history g.S.Frozen.Frozen.content g.S.Device.Device.name g.S.Frozen.Frozen.size
+    g.S.Watch.Watch.counts)) c.in_err-answer_whole.field-0.0 known (request_whole c.args.control ∷ []) c.answer_whole.new.keeper (g.O.Sink.taken c.args.sink.now)
+    (g.O.Sink.taken c.args.sink.now)
+    c.in_err-answer_whole.ensures.kinds (λ w is. c.in_err-answer_whole.ensures.undamaged w
+    (subst ((ServesAt (eyes g.S.Store.history g.S.Device.Device.history g.S.Frozen.Frozen.content g.S.Device.Device.name g.S.Frozen.Frozen.size
+    g.S.Watch.Watch.counts)) c.args.self.now.keeper) is holds)) (Keeps-refl (g.O.Sink.taken c.args.sink.now)) (c.in_err-answer_whole.ensures.left known holds))
 
 pub returns-in_err-answer_whole-clause-cause : goal.returns-in_err-answer_whole-clause-cause
 returns-in_err-answer_whole-clause-cause g c =
     let p = err_from_is_err_and c.from_residual.result c.from_residual.ensures.1 in
-    rw (p.1, p.2) (store_failed c.in_err-answer_whole.field-0.0 (g.O.Sink.faults c.args.sink.now) ((faults_kept g.S.Watch.Watch.counts) c.args.self.now.keeper) ((faults_kept g.S.Watch.Watch.counts) c.answer_whole.new.keeper) (HasSpent g.S.Store.history g.S.Device.Device.history g.S.Frozen.Frozen.content c.answer_whole.new.keeper) c.in_err-answer_whole.ensures.kinds c.in_err-answer_whole.ensures.cause)
+    rw (p.1, p.2) (store_failed c.in_err-answer_whole.field-0.0 (g.O.Sink.faults c.args.sink.now) ((faults_kept g.S.Watch.Watch.counts) c.args.self.now.keeper)
+    ((faults_kept g.S.Watch.Watch.counts) c.answer_whole.new.keeper)
+    (HasSpent g.S.Store.history g.S.Device.Device.history g.S.Frozen.Frozen.content c.answer_whole.new.keeper) c.in_err-answer_whole.ensures.kinds
+    c.in_err-answer_whole.ensures.cause)
 
 pub returns-clause-written : goal.returns-clause-written
 returns-clause-written g c =

@@ -22,7 +22,10 @@ returns-in_err-close-clause-fault g c =
     let p = err_from_is_err_and c.from_residual.result c.from_residual.ensures.1 in
     rw (p.1, p.2) (λ line asks first base ws at.
     rw (with_line-control c.args.self.now.window.limit ws line (sym asks.whole))
-    (fails_closing (ServesAt (eyes g.S.Store.history g.S.Device.Device.history g.S.Frozen.Frozen.content g.S.Device.Device.name g.S.Frozen.Frozen.size g.S.Watch.Watch.counts)) (FailsAt (eyes g.S.Store.history g.S.Device.Device.history g.S.Frozen.Frozen.content g.S.Device.Device.name g.S.Frozen.Frozen.size g.S.Watch.Watch.counts)) first base (g.O.Sink.taken c.args.sink.now) (g.O.Sink.taken c.close.new.sink) ws c.args.self.now c.in_err-close.field-0.0 c.close.new.self.keeper (with_end (with_pushed (with_end ws) line)).closed at
+    (fails_closing (ServesAt (eyes g.S.Store.history g.S.Device.Device.history g.S.Frozen.Frozen.content g.S.Device.Device.name g.S.Frozen.Frozen.size
+    g.S.Watch.Watch.counts)) (FailsAt (eyes g.S.Store.history g.S.Device.Device.history g.S.Frozen.Frozen.content g.S.Device.Device.name g.S.Frozen.Frozen.size
+    g.S.Watch.Watch.counts)) first base (g.O.Sink.taken c.args.sink.now) (g.O.Sink.taken c.close.new.sink) ws c.args.self.now c.in_err-close.field-0.0
+    c.close.new.self.keeper (with_end (with_pushed (with_end ws) line)).closed at
     c.in_err-close.ensures.fault (record { more = (line ∷ []) ∷ []; goes_on = refl })))
 
 pub returns-in_err-close-clause-cause : goal.returns-in_err-close-clause-cause
@@ -36,7 +39,9 @@ returns-clause-ok g c =
     let before = closes (ServesAt (eyes g.S.Store.history g.S.Device.Device.history g.S.Frozen.Frozen.content g.S.Device.Device.name g.S.Frozen.Frozen.size g.S.Watch.Watch.counts)) first base (g.O.Sink.taken c.args.sink.now) (g.O.Sink.taken c.close.new.sink) ws c.args.self.now c.close.new.self at
     c.in_ok-close.ensures.written c.in_ok-close.ensures.requests c.in_ok-close.ensures.bytes in
     rw (with_line-control c.args.self.now.window.limit ws line (sym asks.whole))
-    (closes_line (ServesAt (eyes g.S.Store.history g.S.Device.Device.history g.S.Frozen.Frozen.content g.S.Device.Device.name g.S.Frozen.Frozen.size g.S.Watch.Watch.counts)) first base (g.O.Sink.taken c.close.new.sink) (g.O.Sink.taken c.close_control.new.sink) ws line (whole c.args.control) c.args.size c.close.new.self c.close_control.new.self asks before
+    (closes_line (ServesAt (eyes g.S.Store.history g.S.Device.Device.history g.S.Frozen.Frozen.content g.S.Device.Device.name g.S.Frozen.Frozen.size
+    g.S.Watch.Watch.counts)) first base (g.O.Sink.taken c.close.new.sink) (g.O.Sink.taken c.close_control.new.sink) ws line (whole c.args.control) c.args.size
+    c.close.new.self c.close_control.new.self asks before
     c.close_control.ensures.window c.in_ok-close.ensures.requests c.in_ok-close.ensures.bytes writes))
     c.close_control.ensures.written
 
@@ -56,7 +61,10 @@ returns-clause-fault g c =
     let before = closes (ServesAt (eyes g.S.Store.history g.S.Device.Device.history g.S.Frozen.Frozen.content g.S.Device.Device.name g.S.Frozen.Frozen.size g.S.Watch.Watch.counts)) first base (g.O.Sink.taken c.args.sink.now) (g.O.Sink.taken c.close.new.sink) ws c.args.self.now c.close.new.self at
     c.in_ok-close.ensures.written c.in_ok-close.ensures.requests c.in_ok-close.ensures.bytes in
     rw (with_line-control c.args.self.now.window.limit ws line (sym asks.whole))
-    (fails_line (ServesAt (eyes g.S.Store.history g.S.Device.Device.history g.S.Frozen.Frozen.content g.S.Device.Device.name g.S.Frozen.Frozen.size g.S.Watch.Watch.counts)) (FailsAt (eyes g.S.Store.history g.S.Device.Device.history g.S.Frozen.Frozen.content g.S.Device.Device.name g.S.Frozen.Frozen.size g.S.Watch.Watch.counts)) first base (g.O.Sink.taken c.close.new.sink) (g.O.Sink.taken c.close_control.new.sink) ws line (whole c.args.control) c.args.size c.close.new.self f c.close_control.new.self.keeper asks before fails))
+    (fails_line (ServesAt (eyes g.S.Store.history g.S.Device.Device.history g.S.Frozen.Frozen.content g.S.Device.Device.name g.S.Frozen.Frozen.size
+    g.S.Watch.Watch.counts)) (FailsAt (eyes g.S.Store.history g.S.Device.Device.history g.S.Frozen.Frozen.content g.S.Device.Device.name g.S.Frozen.Frozen.size
+    g.S.Watch.Watch.counts)) first base (g.O.Sink.taken c.close.new.sink) (g.O.Sink.taken c.close_control.new.sink) ws line (whole c.args.control) c.args.size
+    c.close.new.self f c.close_control.new.self.keeper asks before fails))
     c.close_control.ensures.fault
 
 pub returns-clause-cause : goal.returns-clause-cause

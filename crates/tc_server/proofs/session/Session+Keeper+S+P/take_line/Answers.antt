@@ -24,7 +24,10 @@ close-requires-clause-bytes g c = omega (arith, c.in_ok-push.ensures.bytes, c.re
 pub returns-in_err-push-clause-fault : goal.returns-in_err-push-clause-fault
 returns-in_err-push-clause-fault g c =
     let p = err_from_is_err_and c.from_residual.result c.from_residual.ensures.1 in
-    rw (p.1, p.2) (λ line asks first base ws at. fails_before (ServesAt (eyes g.S.Store.history g.S.Device.Device.history g.S.Frozen.Frozen.content g.S.Device.Device.name g.S.Frozen.Frozen.size g.S.Watch.Watch.counts)) (FailsAt (eyes g.S.Store.history g.S.Device.Device.history g.S.Frozen.Frozen.content g.S.Device.Device.name g.S.Frozen.Frozen.size g.S.Watch.Watch.counts)) first c.args.self.now.window.limit base (g.O.Sink.taken c.args.sink.now) ws line c.args.self.now c.args.self.now.keeper at refl)
+    rw (p.1, p.2) (λ line asks first base ws at. fails_before (ServesAt
+    (eyes g.S.Store.history g.S.Device.Device.history g.S.Frozen.Frozen.content g.S.Device.Device.name g.S.Frozen.Frozen.size g.S.Watch.Watch.counts))
+    (FailsAt (eyes g.S.Store.history g.S.Device.Device.history g.S.Frozen.Frozen.content g.S.Device.Device.name g.S.Frozen.Frozen.size g.S.Watch.Watch.counts))
+    first c.args.self.now.window.limit base (g.O.Sink.taken c.args.sink.now) ws line c.args.self.now c.args.self.now.keeper at refl)
 
 pub returns-in_err-push-clause-cause : goal.returns-in_err-push-clause-cause
 returns-in_err-push-clause-cause g c =
@@ -37,11 +40,18 @@ returns-in_err-close-clause-fault g c =
     rw (p.1, p.2) (λ line asks first base ws at.
     let pushed : Session _ = record c.args.self.now { window = c.push.new.self } in
     let held : IsAt (ServesAt (eyes g.S.Store.history g.S.Device.Device.history g.S.Frozen.Frozen.content g.S.Device.Device.name g.S.Frozen.Frozen.size g.S.Watch.Watch.counts)) first base (with_pushed ws line) pushed (g.O.Sink.taken c.args.sink.now) =
-    holds_line (ServesAt (eyes g.S.Store.history g.S.Device.Device.history g.S.Frozen.Frozen.content g.S.Device.Device.name g.S.Frozen.Frozen.size g.S.Watch.Watch.counts)) first base (g.O.Sink.taken c.args.sink.now) ws line c.args.action c.args.size c.args.self.now pushed asks at refl c.in_ok-push.ensures.requests c.in_ok-push.ensures.bytes in
+    holds_line (ServesAt (eyes g.S.Store.history g.S.Device.Device.history g.S.Frozen.Frozen.content g.S.Device.Device.name g.S.Frozen.Frozen.size
+    g.S.Watch.Watch.counts)) first base (g.O.Sink.taken c.args.sink.now) ws line c.args.action c.args.size c.args.self.now pushed asks at refl
+    c.in_ok-push.ensures.requests c.in_ok-push.ensures.bytes in
     let full : is_full c.args.self.now.window.limit (ws.open_lines ++ line ∷ []) ≡ true =
-    sym (is_full-found (ServesAt (eyes g.S.Store.history g.S.Device.Device.history g.S.Frozen.Frozen.content g.S.Device.Device.name g.S.Frozen.Frozen.size g.S.Watch.Watch.counts)) first c.args.self.now.window.limit base (g.O.Sink.taken c.args.sink.now) (with_pushed ws line) pushed c.in_ok-push.ensures.sound held) ∙ rw (← c.in_ok-push.ensures.limit) (sym c.is_full.ensures ∙ c.if-not-is_full.false) in
+    sym (is_full-found (ServesAt (eyes g.S.Store.history g.S.Device.Device.history g.S.Frozen.Frozen.content g.S.Device.Device.name g.S.Frozen.Frozen.size
+    g.S.Watch.Watch.counts)) first c.args.self.now.window.limit base (g.O.Sink.taken c.args.sink.now) (with_pushed ws line) pushed c.in_ok-push.ensures.sound held)
+    ∙ rw (← c.in_ok-push.ensures.limit) (sym c.is_full.ensures ∙ c.if-not-is_full.false) in
     rw (with_line-full c.args.self.now.window.limit ws line (sym asks.whole ∙ c.requires.plain) full)
-    (fails_closing (ServesAt (eyes g.S.Store.history g.S.Device.Device.history g.S.Frozen.Frozen.content g.S.Device.Device.name g.S.Frozen.Frozen.size g.S.Watch.Watch.counts)) (FailsAt (eyes g.S.Store.history g.S.Device.Device.history g.S.Frozen.Frozen.content g.S.Device.Device.name g.S.Frozen.Frozen.size g.S.Watch.Watch.counts)) first base (g.O.Sink.taken c.args.sink.now) (g.O.Sink.taken c.close.new.sink) (with_pushed ws line) pushed c.in_err-close.field-0.0 c.close.new.self.keeper (with_end (with_pushed ws line)).closed held
+    (fails_closing (ServesAt (eyes g.S.Store.history g.S.Device.Device.history g.S.Frozen.Frozen.content g.S.Device.Device.name g.S.Frozen.Frozen.size
+    g.S.Watch.Watch.counts)) (FailsAt (eyes g.S.Store.history g.S.Device.Device.history g.S.Frozen.Frozen.content g.S.Device.Device.name g.S.Frozen.Frozen.size
+    g.S.Watch.Watch.counts)) first base (g.O.Sink.taken c.args.sink.now) (g.O.Sink.taken c.close.new.sink) (with_pushed ws line) pushed c.in_err-close.field-0.0
+    c.close.new.self.keeper (with_end (with_pushed ws line)).closed held
     c.in_err-close.ensures.fault (BeginsWith-refl _)))
 
 pub returns-in_err-close-clause-cause : goal.returns-in_err-close-clause-cause
@@ -53,9 +63,13 @@ pub returns-clause-ok : goal.returns-clause-ok
 returns-clause-ok g c = λ line asks first base ws at.
     let pushed : Session _ = record c.args.self.now { window = c.push.new.self } in
     let held : IsAt (ServesAt (eyes g.S.Store.history g.S.Device.Device.history g.S.Frozen.Frozen.content g.S.Device.Device.name g.S.Frozen.Frozen.size g.S.Watch.Watch.counts)) first base (with_pushed ws line) pushed (g.O.Sink.taken c.args.sink.now) =
-    holds_line (ServesAt (eyes g.S.Store.history g.S.Device.Device.history g.S.Frozen.Frozen.content g.S.Device.Device.name g.S.Frozen.Frozen.size g.S.Watch.Watch.counts)) first base (g.O.Sink.taken c.args.sink.now) ws line c.args.action c.args.size c.args.self.now pushed asks at refl c.in_ok-push.ensures.requests c.in_ok-push.ensures.bytes in
+    holds_line (ServesAt (eyes g.S.Store.history g.S.Device.Device.history g.S.Frozen.Frozen.content g.S.Device.Device.name g.S.Frozen.Frozen.size
+    g.S.Watch.Watch.counts)) first base (g.O.Sink.taken c.args.sink.now) ws line c.args.action c.args.size c.args.self.now pushed asks at refl
+    c.in_ok-push.ensures.requests c.in_ok-push.ensures.bytes in
     let full : is_full c.args.self.now.window.limit (ws.open_lines ++ line ∷ []) ≡ true =
-    sym (is_full-found (ServesAt (eyes g.S.Store.history g.S.Device.Device.history g.S.Frozen.Frozen.content g.S.Device.Device.name g.S.Frozen.Frozen.size g.S.Watch.Watch.counts)) first c.args.self.now.window.limit base (g.O.Sink.taken c.args.sink.now) (with_pushed ws line) pushed c.in_ok-push.ensures.sound held) ∙ rw (← c.in_ok-push.ensures.limit) (sym c.is_full.ensures ∙ c.if-not-is_full.false) in
+    sym (is_full-found (ServesAt (eyes g.S.Store.history g.S.Device.Device.history g.S.Frozen.Frozen.content g.S.Device.Device.name g.S.Frozen.Frozen.size
+    g.S.Watch.Watch.counts)) first c.args.self.now.window.limit base (g.O.Sink.taken c.args.sink.now) (with_pushed ws line) pushed c.in_ok-push.ensures.sound held)
+    ∙ rw (← c.in_ok-push.ensures.limit) (sym c.is_full.ensures ∙ c.if-not-is_full.false) in
     rw (with_line-full c.args.self.now.window.limit ws line (sym asks.whole ∙ c.requires.plain) full)
     (closes (ServesAt (eyes g.S.Store.history g.S.Device.Device.history g.S.Frozen.Frozen.content g.S.Device.Device.name g.S.Frozen.Frozen.size g.S.Watch.Watch.counts)) first base (g.O.Sink.taken c.args.sink.now) (g.O.Sink.taken c.close.new.sink) (with_pushed ws line) pushed c.close.new.self held
     c.in_ok-close.ensures.written c.in_ok-close.ensures.requests c.in_ok-close.ensures.bytes)
@@ -73,9 +87,13 @@ pub returns-then-not-is_full-clause-ok : goal.returns-then-not-is_full-clause-ok
 returns-then-not-is_full-clause-ok g c = λ line asks first base ws at.
     let pushed : Session _ = record c.args.self.now { window = c.push.new.self } in
     let held : IsAt (ServesAt (eyes g.S.Store.history g.S.Device.Device.history g.S.Frozen.Frozen.content g.S.Device.Device.name g.S.Frozen.Frozen.size g.S.Watch.Watch.counts)) first base (with_pushed ws line) pushed (g.O.Sink.taken c.args.sink.now) =
-    holds_line (ServesAt (eyes g.S.Store.history g.S.Device.Device.history g.S.Frozen.Frozen.content g.S.Device.Device.name g.S.Frozen.Frozen.size g.S.Watch.Watch.counts)) first base (g.O.Sink.taken c.args.sink.now) ws line c.args.action c.args.size c.args.self.now pushed asks at refl c.in_ok-push.ensures.requests c.in_ok-push.ensures.bytes in
+    holds_line (ServesAt (eyes g.S.Store.history g.S.Device.Device.history g.S.Frozen.Frozen.content g.S.Device.Device.name g.S.Frozen.Frozen.size
+    g.S.Watch.Watch.counts)) first base (g.O.Sink.taken c.args.sink.now) ws line c.args.action c.args.size c.args.self.now pushed asks at refl
+    c.in_ok-push.ensures.requests c.in_ok-push.ensures.bytes in
     let open_yet : is_full c.args.self.now.window.limit (ws.open_lines ++ line ∷ []) ≡ false =
-    sym (is_full-found (ServesAt (eyes g.S.Store.history g.S.Device.Device.history g.S.Frozen.Frozen.content g.S.Device.Device.name g.S.Frozen.Frozen.size g.S.Watch.Watch.counts)) first c.args.self.now.window.limit base (g.O.Sink.taken c.args.sink.now) (with_pushed ws line) pushed c.in_ok-push.ensures.sound held) ∙ rw (← c.in_ok-push.ensures.limit) (sym c.is_full.ensures ∙ c.if-not-is_full.true) in
+    sym (is_full-found (ServesAt (eyes g.S.Store.history g.S.Device.Device.history g.S.Frozen.Frozen.content g.S.Device.Device.name g.S.Frozen.Frozen.size
+    g.S.Watch.Watch.counts)) first c.args.self.now.window.limit base (g.O.Sink.taken c.args.sink.now) (with_pushed ws line) pushed c.in_ok-push.ensures.sound held)
+    ∙ rw (← c.in_ok-push.ensures.limit) (sym c.is_full.ensures ∙ c.if-not-is_full.true) in
     rw (with_line-open c.args.self.now.window.limit ws line (sym asks.whole ∙ c.requires.plain) open_yet) held
 
 pub returns-then-not-is_full-clause-ready : goal.returns-then-not-is_full-clause-ready

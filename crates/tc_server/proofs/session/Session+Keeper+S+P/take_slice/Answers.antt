@@ -9,7 +9,10 @@ use Rattle.tc_server.proofs.session.Session+Keeper+S+P.take_slice.Goals as goal
 pub returns-in_err-asked-clause-fault : goal.returns-in_err-asked-clause-fault
 returns-in_err-asked-clause-fault g c =
     let p = err_from_is_err_and c.from_residual.result c.from_residual.ensures.1 in
-    rw (p.1, p.2) (λ first base ws at. fails_before (ServesAt (eyes g.S.Store.history g.S.Device.Device.history g.S.Frozen.Frozen.content g.S.Device.Device.name g.S.Frozen.Frozen.size g.S.Watch.Watch.counts)) (FailsAt (eyes g.S.Store.history g.S.Device.Device.history g.S.Frozen.Frozen.content g.S.Device.Device.name g.S.Frozen.Frozen.size g.S.Watch.Watch.counts)) first c.args.self.now.window.limit base (g.O.Sink.taken c.args.sink.now) ws c.args.line.now c.args.self.now c.args.self.now.keeper at refl)
+    rw (p.1, p.2) (λ first base ws at. fails_before (ServesAt (eyes g.S.Store.history g.S.Device.Device.history g.S.Frozen.Frozen.content g.S.Device.Device.name
+    g.S.Frozen.Frozen.size g.S.Watch.Watch.counts)) (FailsAt (eyes g.S.Store.history g.S.Device.Device.history g.S.Frozen.Frozen.content g.S.Device.Device.name
+    g.S.Frozen.Frozen.size g.S.Watch.Watch.counts)) first c.args.self.now.window.limit base (g.O.Sink.taken c.args.sink.now) ws c.args.line.now c.args.self.now
+    c.args.self.now.keeper at refl)
 
 pub returns-in_err-asked-clause-cause : goal.returns-in_err-asked-clause-cause
 returns-in_err-asked-clause-cause g c =

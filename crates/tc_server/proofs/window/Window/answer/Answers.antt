@@ -27,17 +27,30 @@ pub returns-in_err-answers-clause-left : goal.returns-in_err-answers-clause-left
 returns-in_err-answers-clause-left g c =
     let p = err_from_is_err_and c.from_residual.result c.from_residual.ensures.1 in
     let w = c.args.self.now in
-    λ known holds. rw p.1 (left_failed (ServesAt (eyes g.S.Store.history g.S.Device.Device.history g.S.Frozen.Frozen.content g.S.Device.Device.name g.S.Frozen.Frozen.size g.S.Watch.Watch.counts)) (FailsAt (eyes g.S.Store.history g.S.Device.Device.history g.S.Frozen.Frozen.content g.S.Device.Device.name g.S.Frozen.Frozen.size g.S.Watch.Watch.counts)) c.window.new.self (requests_of w) known
-    (λ only v is. subst ((FailsAt (eyes g.S.Store.history g.S.Device.Device.history g.S.Frozen.Frozen.content g.S.Device.Device.name g.S.Frozen.Frozen.size g.S.Watch.Watch.counts)) c.window.new.self only v) (sym (mixed_leaves w.refusals.items (requests_routed w.commands.items) v (c.requires.sound.whole ∙ sym (length-map w.commands.items _))))
-    (subst (λ list. (FailsAt (eyes g.S.Store.history g.S.Device.Device.history g.S.Frozen.Frozen.content g.S.Device.Device.name g.S.Frozen.Frozen.size g.S.Watch.Watch.counts)) c.window.new.self only v (after_all (requests_routed list) v)) (ap (λ v. v.items) c.replace-commands.ensures.value) (c.in_err-answers.ensures.failed only v (subst ((ServesAt (eyes g.S.Store.history g.S.Device.Device.history g.S.Frozen.Frozen.content g.S.Device.Device.name g.S.Frozen.Frozen.size g.S.Watch.Watch.counts)) c.args.keeper.now) is holds)))))
+    λ known holds. rw p.1 (left_failed (ServesAt (eyes g.S.Store.history g.S.Device.Device.history g.S.Frozen.Frozen.content g.S.Device.Device.name
+    g.S.Frozen.Frozen.size g.S.Watch.Watch.counts)) (FailsAt (eyes g.S.Store.history g.S.Device.Device.history g.S.Frozen.Frozen.content g.S.Device.Device.name
+    g.S.Frozen.Frozen.size g.S.Watch.Watch.counts)) c.window.new.self (requests_of w) known
+    (λ only v is. subst ((FailsAt (eyes g.S.Store.history g.S.Device.Device.history g.S.Frozen.Frozen.content g.S.Device.Device.name g.S.Frozen.Frozen.size
+    g.S.Watch.Watch.counts)) c.window.new.self only v) (sym (mixed_leaves w.refusals.items (requests_routed w.commands.items) v
+    (c.requires.sound.whole ∙ sym (length-map w.commands.items _))))
+    (subst (λ list. (FailsAt (eyes g.S.Store.history g.S.Device.Device.history g.S.Frozen.Frozen.content g.S.Device.Device.name g.S.Frozen.Frozen.size
+    g.S.Watch.Watch.counts)) c.window.new.self only v (after_all (requests_routed list) v)) (ap (λ v. v.items) c.replace-commands.ensures.value)
+    (c.in_err-answers.ensures.failed only v (subst ((ServesAt (eyes g.S.Store.history g.S.Device.Device.history g.S.Frozen.Frozen.content g.S.Device.Device.name
+    g.S.Frozen.Frozen.size g.S.Watch.Watch.counts)) c.args.keeper.now) is holds)))))
 
 pub returns-in_err-push_all-clause-left : goal.returns-in_err-push_all-clause-left
 returns-in_err-push_all-clause-left g c =
     let p = err_from_is_err_and c.from_residual-in_err-push_all.result c.from_residual-in_err-push_all.ensures.1 in
     let w = c.args.self.now in
-    λ known holds. rw p.1 (left_standing (ServesAt (eyes g.S.Store.history g.S.Device.Device.history g.S.Frozen.Frozen.content g.S.Device.Device.name g.S.Frozen.Frozen.size g.S.Watch.Watch.counts)) (FailsAt (eyes g.S.Store.history g.S.Device.Device.history g.S.Frozen.Frozen.content g.S.Device.Device.name g.S.Frozen.Frozen.size g.S.Watch.Watch.counts)) c.window.new.self gave_up (requests_of w) known
-    (subst ((ServesAt (eyes g.S.Store.history g.S.Device.Device.history g.S.Frozen.Frozen.content g.S.Device.Device.name g.S.Frozen.Frozen.size g.S.Watch.Watch.counts)) c.window.new.self) (sym (mixed_known w.refusals.items (requests_routed w.commands.items) known (c.requires.sound.whole ∙ sym (length-map w.commands.items _))))
-    (subst (λ list. (ServesAt (eyes g.S.Store.history g.S.Device.Device.history g.S.Frozen.Frozen.content g.S.Device.Device.name g.S.Frozen.Frozen.size g.S.Watch.Watch.counts)) c.window.new.self (sight_after (requests_routed list) known)) (ap (λ v. v.items) c.replace-commands.ensures.value) (c.in_ok-answers.ensures.held known holds))))
+    λ known holds. rw p.1 (left_standing (ServesAt (eyes g.S.Store.history g.S.Device.Device.history g.S.Frozen.Frozen.content g.S.Device.Device.name
+    g.S.Frozen.Frozen.size g.S.Watch.Watch.counts)) (FailsAt (eyes g.S.Store.history g.S.Device.Device.history g.S.Frozen.Frozen.content g.S.Device.Device.name
+    g.S.Frozen.Frozen.size g.S.Watch.Watch.counts)) c.window.new.self gave_up (requests_of w) known
+    (subst ((ServesAt (eyes g.S.Store.history g.S.Device.Device.history g.S.Frozen.Frozen.content g.S.Device.Device.name g.S.Frozen.Frozen.size
+    g.S.Watch.Watch.counts)) c.window.new.self) (sym (mixed_known w.refusals.items (requests_routed w.commands.items) known
+    (c.requires.sound.whole ∙ sym (length-map w.commands.items _))))
+    (subst (λ list. (ServesAt (eyes g.S.Store.history g.S.Device.Device.history g.S.Frozen.Frozen.content g.S.Device.Device.name g.S.Frozen.Frozen.size
+    g.S.Watch.Watch.counts)) c.window.new.self (sight_after (requests_routed list) known)) (ap (λ v. v.items) c.replace-commands.ensures.value)
+    (c.in_ok-answers.ensures.held known holds))))
 
 pub returns-in_err-push_all-clause-cause : goal.returns-in_err-push_all-clause-cause
 returns-in_err-push_all-clause-cause g c =
@@ -58,7 +71,9 @@ returns-clause-answered g c = λ known holds.
           ∙ ap (λ list. c.clear.new.self.items ++ each_line (mixed reply_refused w.refusals.items (map (λ (a : Placed). reply_of a.reply) list))) c.as_slice-2.ensures
           ∙ ap (λ bytes. bytes ++ each_line (mixed reply_refused w.refusals.items (map (λ (a : Placed). reply_of a.reply) c.in_ok-answers.answers))) c.clear.ensures.items;
       held = subst ((ServesAt (eyes g.S.Store.history g.S.Device.Device.history g.S.Frozen.Frozen.content g.S.Device.Device.name g.S.Frozen.Frozen.size g.S.Watch.Watch.counts)) c.window.new.self) (sym (mixed_known w.refusals.items rs known same))
-          (subst (λ list. (ServesAt (eyes g.S.Store.history g.S.Device.Device.history g.S.Frozen.Frozen.content g.S.Device.Device.name g.S.Frozen.Frozen.size g.S.Watch.Watch.counts)) c.window.new.self (sight_after (requests_routed list) known)) (ap (λ v. v.items) c.replace-commands.ensures.value) (c.in_ok-answers.ensures.held known holds));
+          (subst (λ list. (ServesAt (eyes g.S.Store.history g.S.Device.Device.history g.S.Frozen.Frozen.content g.S.Device.Device.name g.S.Frozen.Frozen.size
+          g.S.Watch.Watch.counts)) c.window.new.self (sight_after (requests_routed list) known)) (ap (λ v. v.items) c.replace-commands.ensures.value)
+          (c.in_ok-answers.ensures.held known holds));
     }
 
 pub returns-clause-sound : goal.returns-clause-sound

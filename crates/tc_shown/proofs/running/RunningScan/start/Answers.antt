@@ -92,16 +92,25 @@ mark_sends g = search (sendable, seen_send) depth 20
 mark_syncs : (g : Over) → IsSync (Mark.the_field (param 0 g.row.F) (param 1 g.row.F-Watch) g.F.Frozen g.F.Watch.Watch).row
 mark_syncs g = search (sendable, seen_sync) depth 20
 
-view_send : (g : Over) → IsSend (ComponentList.the_field (param 0 g.row.F) (param 1 g.row.F-Watch) g.F.Frozen g.F.Watch.Watch).row → IsSync (ComponentList.the_field (param 0 g.row.F) (param 1 g.row.F-Watch) g.F.Frozen g.F.Watch.Watch).row → IsSend (View.the_field (param 0 g.row.F) (param 1 g.row.F-Watch) g.F.Frozen g.F.Watch.Watch).row
+view_send : (g : Over) → IsSend (ComponentList.the_field (param 0 g.row.F) (param 1 g.row.F-Watch) g.F.Frozen g.F.Watch.Watch).row
+    → IsSync (ComponentList.the_field (param 0 g.row.F) (param 1 g.row.F-Watch) g.F.Frozen g.F.Watch.Watch).row
+    → IsSend (View.the_field (param 0 g.row.F) (param 1 g.row.F-Watch) g.F.Frozen g.F.Watch.Watch).row
 view_send g list_send list_sync = search (sendable, crosses, chunk_send, chunk_sync, sealed_send, sealed_sync, mark_sends) depth 20
 
-view_sync : (g : Over) → IsSend (ComponentList.the_field (param 0 g.row.F) (param 1 g.row.F-Watch) g.F.Frozen g.F.Watch.Watch).row → IsSync (ComponentList.the_field (param 0 g.row.F) (param 1 g.row.F-Watch) g.F.Frozen g.F.Watch.Watch).row → IsSync (View.the_field (param 0 g.row.F) (param 1 g.row.F-Watch) g.F.Frozen g.F.Watch.Watch).row
+view_sync : (g : Over) → IsSend (ComponentList.the_field (param 0 g.row.F) (param 1 g.row.F-Watch) g.F.Frozen g.F.Watch.Watch).row
+    → IsSync (ComponentList.the_field (param 0 g.row.F) (param 1 g.row.F-Watch) g.F.Frozen g.F.Watch.Watch).row
+    → IsSync (View.the_field (param 0 g.row.F) (param 1 g.row.F-Watch) g.F.Frozen g.F.Watch.Watch).row
 view_sync g list_send list_sync = search (sendable, crosses, chunk_send, chunk_sync, sealed_send, sealed_sync, mark_syncs) depth 20
 
-snapshot_send : (g : Over) → IsSend (View.the_field (param 0 g.row.F) (param 1 g.row.F-Watch) g.F.Frozen g.F.Watch.Watch).row → IsSync (View.the_field (param 0 g.row.F) (param 1 g.row.F-Watch) g.F.Frozen g.F.Watch.Watch).row → IsSend (Snapshot.the_field (param 0 g.row.F) (param 1 g.row.F-Watch) g.F.Frozen g.F.Watch.Watch).row
+snapshot_send : (g : Over) → IsSend (View.the_field (param 0 g.row.F) (param 1 g.row.F-Watch) g.F.Frozen g.F.Watch.Watch).row
+    → IsSync (View.the_field (param 0 g.row.F) (param 1 g.row.F-Watch) g.F.Frozen g.F.Watch.Watch).row
+    → IsSend (Snapshot.the_field (param 0 g.row.F) (param 1 g.row.F-Watch) g.F.Frozen g.F.Watch.Watch).row
 snapshot_send g send sync = search (sendable, crosses) depth 20
 
-lens_send : (g : Over) → IsSend (View.the_field (param 0 g.row.F) (param 1 g.row.F-Watch) g.F.Frozen g.F.Watch.Watch).row → IsSync (View.the_field (param 0 g.row.F) (param 1 g.row.F-Watch) g.F.Frozen g.F.Watch.Watch).row → IsSend (Snapshot.the_field (param 0 g.row.F) (param 1 g.row.F-Watch) g.F.Frozen g.F.Watch.Watch).row → IsSend (Lens.the_row (param 0 g.row.F) (param 1 g.row.F-Watch) g.F.Frozen g.F.Watch.Watch)
+lens_send : (g : Over) → IsSend (View.the_field (param 0 g.row.F) (param 1 g.row.F-Watch) g.F.Frozen g.F.Watch.Watch).row
+    → IsSync (View.the_field (param 0 g.row.F) (param 1 g.row.F-Watch) g.F.Frozen g.F.Watch.Watch).row
+    → IsSend (Snapshot.the_field (param 0 g.row.F) (param 1 g.row.F-Watch) g.F.Frozen g.F.Watch.Watch).row
+    → IsSend (Lens.the_row (param 0 g.row.F) (param 1 g.row.F-Watch) g.F.Frozen g.F.Watch.Watch)
 lens_send g send sync kept = declared_send (Lens.the_type (param 0 g.row.F) (param 1 g.row.F-Watch) g.F.Frozen g.F.Watch.Watch) (search sendable depth 20, (search (reader_send, sendable, crosses) depth 20, (search sendable depth 20, tt)))
 
 pass_send : (g : Over) → IsSend (param 0 g.row.F) → IsSend (param 1 g.row.F-Watch) → IsSync (param 0 g.row.F) → IsSend (Pass.the_row (param 0 g.row.F) (param 1 g.row.F-Watch) g.F.Frozen g.F.Watch.Watch)

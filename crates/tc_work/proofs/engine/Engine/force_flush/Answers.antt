@@ -21,7 +21,10 @@ use Rattle.tc_work.proofs.engine.Engine.force_flush.Goals as goal
 -- ---- the call
 
 pub flush_both-requires-clause-may : goal.flush_both-requires-clause-may
-flush_both-requires-clause-may g c κs within = subst (λ (s : PartState _ _ _ _). MayMove (eyes g.S.Store.history g.S.Device.Device.history g.S.Frozen.Frozen.content g.S.Device.Device.name g.S.Frozen.Frozen.size g.S.Watch.Watch.counts) (beside s c.args.jobs.now)) (sym (inside_is c.self.inside.part c.self.inside.failed c.args.self.now.part (ap (λ (e : EngineState _ _ _ _). e.part) c.self.view_is) c.requires.sound c.self.invariant))
+flush_both-requires-clause-may g c κs within = subst (λ (s : PartState _ _ _ _). MayMove
+    (eyes g.S.Store.history g.S.Device.Device.history g.S.Frozen.Frozen.content g.S.Device.Device.name g.S.Frozen.Frozen.size g.S.Watch.Watch.counts)
+    (beside s c.args.jobs.now)) (sym (inside_is c.self.inside.part c.self.inside.failed c.args.self.now.part (ap (λ (e : EngineState _ _ _ _). e.part) c.self.view_is)
+    c.requires.sound c.self.invariant))
     (record { sound = c.requires.sound; ready = c.requires.ready; jobs = c.requires.jobs })
 
 pub flush_both-requires-clause-nothing_staged : goal.flush_both-requires-clause-nothing_staged
@@ -39,8 +42,12 @@ flush_both-requires-clause-picked g c κs within = (c.self.invariant (ap (λ (s 
 same : (g : Over) (c : goal.After-self-2-1 g) → c.self.inside.part ≡ c.args.self.now.part
 same g c = inside_is c.self.inside.part c.self.inside.failed c.args.self.now.part (ap (λ (e : EngineState _ _ _ _). e.part) c.self.view_is) c.requires.sound c.self.invariant
 
-ended : (g : Over) (c : goal.After-self-2-1 g) → MovesOver (eyes g.S.Store.history g.S.Device.Device.history g.S.Frozen.Frozen.content g.S.Device.Device.name g.S.Frozen.Frozen.size g.S.Watch.Watch.counts) (Ok tt) (beside c.args.self.now.part c.args.jobs.now) (beside (record c.flush_both.new.part { failed = false }) c.flush_both.new.jobs)
-ended g c = closed_well (eyes g.S.Store.history g.S.Device.Device.history g.S.Frozen.Frozen.content g.S.Device.Device.name g.S.Frozen.Frozen.size g.S.Watch.Watch.counts) c.self.inside.part c.args.self.now.part c.flush_both.new.part c.args.jobs.now c.flush_both.new.jobs (same g c) c.in_ok-flush_both.ensures.moves
+ended : (g : Over) (c : goal.After-self-2-1 g) → MovesOver (eyes g.S.Store.history g.S.Device.Device.history g.S.Frozen.Frozen.content g.S.Device.Device.name
+    g.S.Frozen.Frozen.size g.S.Watch.Watch.counts) (Ok tt) (beside c.args.self.now.part c.args.jobs.now)
+    (beside (record c.flush_both.new.part { failed = false }) c.flush_both.new.jobs)
+ended g c = closed_well (eyes g.S.Store.history g.S.Device.Device.history g.S.Frozen.Frozen.content g.S.Device.Device.name g.S.Frozen.Frozen.size
+    g.S.Watch.Watch.counts) c.self.inside.part c.args.self.now.part c.flush_both.new.part c.args.jobs.now c.flush_both.new.jobs (same g c)
+    c.in_ok-flush_both.ensures.moves
 
 pub returns-clause-jobs : goal.returns-clause-jobs
 returns-clause-jobs g c = (ended g c).keeps.jobs
@@ -83,9 +90,15 @@ returns-clause-listed g c =
 same_before : (g : Over) (c : goal.After-from_residual g) → c.self.inside.part ≡ c.args.self.now.part
 same_before g c = inside_is c.self.inside.part c.self.inside.failed c.args.self.now.part (ap (λ (e : EngineState _ _ _ _). e.part) c.self.view_is) c.requires.sound c.self.invariant
 
-stopped : (g : Over) (c : goal.After-from_residual g) → MovesOver (eyes g.S.Store.history g.S.Device.Device.history g.S.Frozen.Frozen.content g.S.Device.Device.name g.S.Frozen.Frozen.size g.S.Watch.Watch.counts) c.from_residual.result (beside c.args.self.now.part c.args.jobs.now) (beside (record c.flush_both.new.part { failed = true }) c.flush_both.new.jobs)
-stopped g c = closed_failed (eyes g.S.Store.history g.S.Device.Device.history g.S.Frozen.Frozen.content g.S.Device.Device.name g.S.Frozen.Frozen.size g.S.Watch.Watch.counts) c.self.inside.part c.args.self.now.part c.flush_both.new.part c.args.jobs.now c.flush_both.new.jobs c.from_residual.result c.in_err-flush_both.field-0.0 (err_is c.from_residual.result c.in_err-flush_both.field-0.0 c.from_residual.ensures.1) (same_before g c)
-    (over_err (eyes g.S.Store.history g.S.Device.Device.history g.S.Frozen.Frozen.content g.S.Device.Device.name g.S.Frozen.Frozen.size g.S.Watch.Watch.counts) (beside c.self.inside.part c.args.jobs.now) (beside c.flush_both.new.part c.flush_both.new.jobs) (beside c.flush_both.new.part c.flush_both.new.jobs) c.from_residual.result c.flush_both.result c.in_err-flush_both.field-0.0 c.from_residual.ensures.1 c.in_err-flush_both.was c.flush_both.ensures.moves)
+stopped : (g : Over) (c : goal.After-from_residual g) → MovesOver
+    (eyes g.S.Store.history g.S.Device.Device.history g.S.Frozen.Frozen.content g.S.Device.Device.name g.S.Frozen.Frozen.size g.S.Watch.Watch.counts)
+    c.from_residual.result (beside c.args.self.now.part c.args.jobs.now) (beside (record c.flush_both.new.part { failed = true }) c.flush_both.new.jobs)
+stopped g c = closed_failed (eyes g.S.Store.history g.S.Device.Device.history g.S.Frozen.Frozen.content g.S.Device.Device.name g.S.Frozen.Frozen.size
+    g.S.Watch.Watch.counts) c.self.inside.part c.args.self.now.part c.flush_both.new.part c.args.jobs.now c.flush_both.new.jobs c.from_residual.result
+    c.in_err-flush_both.field-0.0 (err_is c.from_residual.result c.in_err-flush_both.field-0.0 c.from_residual.ensures.1) (same_before g c)
+    (over_err (eyes g.S.Store.history g.S.Device.Device.history g.S.Frozen.Frozen.content g.S.Device.Device.name g.S.Frozen.Frozen.size g.S.Watch.Watch.counts)
+    (beside c.self.inside.part c.args.jobs.now) (beside c.flush_both.new.part c.flush_both.new.jobs) (beside c.flush_both.new.part c.flush_both.new.jobs)
+    c.from_residual.result c.flush_both.result c.in_err-flush_both.field-0.0 c.from_residual.ensures.1 c.in_err-flush_both.was c.flush_both.ensures.moves)
 
 pub returns-in_err-flush_both-clause-jobs : goal.returns-in_err-flush_both-clause-jobs
 returns-in_err-flush_both-clause-jobs g c = (stopped g c).keeps.jobs
@@ -174,4 +187,6 @@ returns-clause-none_sealed g c = (c.in_ok-flush_both.ensures.ended.0, c.in_ok-fl
 pub returns-in_err-flush_both-clause-damaged_alone : goal.returns-in_err-flush_both-clause-damaged_alone
 returns-in_err-flush_both-clause-damaged_alone g c =
     subst (λ (s : PartState _ _ _ _). s.sealed ≡ None → length s.list < 8 → IfErr c.from_residual.result (λ fault. IfDamaged fault (AreOfFiles (file_names s.list) (Component s.generation s.generation)))) (same_before g c)
-    (λ none few. subst (λ (r : Result (Unit {0}) EngineFault). IfErr r (λ fault. IfDamaged fault (AreOfFiles (file_names c.self.inside.part.list) (Component c.self.inside.part.generation c.self.inside.part.generation)))) (c.in_err-flush_both.was ∙ sym (err_is c.from_residual.result c.in_err-flush_both.field-0.0 c.from_residual.ensures.1)) (c.flush_both.ensures.damaged none few))
+    (λ none few. subst (λ (r : Result (Unit {0}) EngineFault). IfErr r
+    (λ fault. IfDamaged fault (AreOfFiles (file_names c.self.inside.part.list) (Component c.self.inside.part.generation c.self.inside.part.generation))))
+    (c.in_err-flush_both.was ∙ sym (err_is c.from_residual.result c.in_err-flush_both.field-0.0 c.from_residual.ensures.1)) (c.flush_both.ensures.damaged none few))

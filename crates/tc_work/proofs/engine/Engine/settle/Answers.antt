@@ -16,7 +16,10 @@ use Rattle.tc_work.proofs.engine.Engine.settle.Goals as goal
 -- ---- the call
 
 pub settle_part-requires-clause-may : goal.settle_part-requires-clause-may
-settle_part-requires-clause-may g c κs within = subst (λ (s : PartState _ _ _ _). MayMove (eyes g.S.Store.history g.S.Device.Device.history g.S.Frozen.Frozen.content g.S.Device.Device.name g.S.Frozen.Frozen.size g.S.Watch.Watch.counts) (beside s c.args.jobs.now)) (sym (inside_is c.self.inside.part c.self.inside.failed c.args.self.now.part (ap (λ (e : EngineState _ _ _ _). e.part) c.self.view_is) c.requires.sound c.self.invariant))
+settle_part-requires-clause-may g c κs within = subst (λ (s : PartState _ _ _ _). MayMove
+    (eyes g.S.Store.history g.S.Device.Device.history g.S.Frozen.Frozen.content g.S.Device.Device.name g.S.Frozen.Frozen.size g.S.Watch.Watch.counts)
+    (beside s c.args.jobs.now)) (sym (inside_is c.self.inside.part c.self.inside.failed c.args.self.now.part (ap (λ (e : EngineState _ _ _ _). e.part) c.self.view_is)
+    c.requires.sound c.self.invariant))
     (record { sound = c.requires.sound; ready = c.requires.ready; jobs = c.requires.jobs })
 
 pub settle_part-requires-clause-nothing_staged : goal.settle_part-requires-clause-nothing_staged
@@ -34,8 +37,12 @@ settle_part-requires-clause-picked g c κs within = (c.self.invariant (ap (λ (s
 same : (g : Over) (c : goal.After-generations_follow g) → c.self.inside.part ≡ c.args.self.now.part
 same g c = inside_is c.self.inside.part c.self.inside.failed c.args.self.now.part (ap (λ (e : EngineState _ _ _ _). e.part) c.self.view_is) c.requires.sound c.self.invariant
 
-ended : (g : Over) (c : goal.After-generations_follow g) → MovesOver (eyes g.S.Store.history g.S.Device.Device.history g.S.Frozen.Frozen.content g.S.Device.Device.name g.S.Frozen.Frozen.size g.S.Watch.Watch.counts) (Ok tt) (beside c.args.self.now.part c.args.jobs.now) (beside (record c.settle_part.new.part { failed = false }) c.settle_part.new.jobs)
-ended g c = closed_well (eyes g.S.Store.history g.S.Device.Device.history g.S.Frozen.Frozen.content g.S.Device.Device.name g.S.Frozen.Frozen.size g.S.Watch.Watch.counts) c.self.inside.part c.args.self.now.part c.settle_part.new.part c.args.jobs.now c.settle_part.new.jobs (same g c) c.in_ok-settle_part.ensures.moves
+ended : (g : Over) (c : goal.After-generations_follow g) → MovesOver
+    (eyes g.S.Store.history g.S.Device.Device.history g.S.Frozen.Frozen.content g.S.Device.Device.name g.S.Frozen.Frozen.size g.S.Watch.Watch.counts) (Ok tt)
+    (beside c.args.self.now.part c.args.jobs.now) (beside (record c.settle_part.new.part { failed = false }) c.settle_part.new.jobs)
+ended g c = closed_well (eyes g.S.Store.history g.S.Device.Device.history g.S.Frozen.Frozen.content g.S.Device.Device.name g.S.Frozen.Frozen.size
+    g.S.Watch.Watch.counts) c.self.inside.part c.args.self.now.part c.settle_part.new.part c.args.jobs.now c.settle_part.new.jobs (same g c)
+    c.in_ok-settle_part.ensures.moves
 
 pub returns-clause-jobs : goal.returns-clause-jobs
 returns-clause-jobs g c = (ended g c).keeps.jobs
@@ -78,9 +85,15 @@ returns-clause-listed g c =
 same_before : (g : Over) (c : goal.After-from_residual g) → c.self.inside.part ≡ c.args.self.now.part
 same_before g c = inside_is c.self.inside.part c.self.inside.failed c.args.self.now.part (ap (λ (e : EngineState _ _ _ _). e.part) c.self.view_is) c.requires.sound c.self.invariant
 
-stopped : (g : Over) (c : goal.After-from_residual g) → MovesOver (eyes g.S.Store.history g.S.Device.Device.history g.S.Frozen.Frozen.content g.S.Device.Device.name g.S.Frozen.Frozen.size g.S.Watch.Watch.counts) c.from_residual.result (beside c.args.self.now.part c.args.jobs.now) (beside (record c.settle_part.new.part { failed = true }) c.settle_part.new.jobs)
-stopped g c = closed_failed (eyes g.S.Store.history g.S.Device.Device.history g.S.Frozen.Frozen.content g.S.Device.Device.name g.S.Frozen.Frozen.size g.S.Watch.Watch.counts) c.self.inside.part c.args.self.now.part c.settle_part.new.part c.args.jobs.now c.settle_part.new.jobs c.from_residual.result c.in_err-settle_part.field-0.0 (err_is c.from_residual.result c.in_err-settle_part.field-0.0 c.from_residual.ensures.1) (same_before g c)
-    (over_err (eyes g.S.Store.history g.S.Device.Device.history g.S.Frozen.Frozen.content g.S.Device.Device.name g.S.Frozen.Frozen.size g.S.Watch.Watch.counts) (beside c.self.inside.part c.args.jobs.now) (beside c.settle_part.new.part c.settle_part.new.jobs) (beside c.settle_part.new.part c.settle_part.new.jobs) c.from_residual.result c.settle_part.result c.in_err-settle_part.field-0.0 c.from_residual.ensures.1 c.in_err-settle_part.was c.settle_part.ensures.moves)
+stopped : (g : Over) (c : goal.After-from_residual g) → MovesOver
+    (eyes g.S.Store.history g.S.Device.Device.history g.S.Frozen.Frozen.content g.S.Device.Device.name g.S.Frozen.Frozen.size g.S.Watch.Watch.counts)
+    c.from_residual.result (beside c.args.self.now.part c.args.jobs.now) (beside (record c.settle_part.new.part { failed = true }) c.settle_part.new.jobs)
+stopped g c = closed_failed (eyes g.S.Store.history g.S.Device.Device.history g.S.Frozen.Frozen.content g.S.Device.Device.name g.S.Frozen.Frozen.size
+    g.S.Watch.Watch.counts) c.self.inside.part c.args.self.now.part c.settle_part.new.part c.args.jobs.now c.settle_part.new.jobs c.from_residual.result
+    c.in_err-settle_part.field-0.0 (err_is c.from_residual.result c.in_err-settle_part.field-0.0 c.from_residual.ensures.1) (same_before g c)
+    (over_err (eyes g.S.Store.history g.S.Device.Device.history g.S.Frozen.Frozen.content g.S.Device.Device.name g.S.Frozen.Frozen.size g.S.Watch.Watch.counts)
+    (beside c.self.inside.part c.args.jobs.now) (beside c.settle_part.new.part c.settle_part.new.jobs) (beside c.settle_part.new.part c.settle_part.new.jobs)
+    c.from_residual.result c.settle_part.result c.in_err-settle_part.field-0.0 c.from_residual.ensures.1 c.in_err-settle_part.was c.settle_part.ensures.moves)
 
 pub returns-in_err-settle_part-clause-jobs : goal.returns-in_err-settle_part-clause-jobs
 returns-in_err-settle_part-clause-jobs g c = (stopped g c).keeps.jobs
@@ -132,7 +145,9 @@ returns-clause-emptied g c =
 
 pub returns-clause-stays : goal.returns-clause-stays
 returns-clause-stays g c =
-    subst (λ (s : PartState _ _ _ _). (IsDue (λ d. g.S.Device.Device.size d) s → ⊥) → (c.settle_part.new.part.active ≡ s.active) × (c.settle_part.new.part.log ≡ s.log) × (c.settle_part.new.part.generation ≡ s.generation) × (c.settle_part.new.part.sealed ≡ s.sealed) × (c.settle_part.new.jobs.flush ≡ c.args.jobs.now.flush)) (same g c)
+    subst (λ (s : PartState _ _ _ _). (IsDue (λ d. g.S.Device.Device.size d) s → ⊥)
+    → (c.settle_part.new.part.active ≡ s.active) × (c.settle_part.new.part.log ≡ s.log) × (c.settle_part.new.part.generation ≡ s.generation)
+    × (c.settle_part.new.part.sealed ≡ s.sealed) × (c.settle_part.new.jobs.flush ≡ c.args.jobs.now.flush)) (same g c)
     c.in_ok-settle_part.ensures.undue
 
 pub returns-clause-short : goal.returns-clause-short
@@ -142,7 +157,9 @@ returns-clause-short g c =
 
 pub returns-clause-none : goal.returns-clause-none
 returns-clause-none g c = λ none.
-    subst (λ (policy : Policy). PicksNone policy c.settle_part.new.part.list) (ap (λ (e : EngineState _ _ _ _). e.policy) c.self.view_is) (c.in_ok-settle_part.ensures.none (none_merging c.settle_part.new.part.merging c.settle_part.new.jobs.merge _ none c.in_ok-settle_part.ensures.moves.keeps.jobs.merge))
+    subst (λ (policy : Policy). PicksNone policy c.settle_part.new.part.list) (ap (λ (e : EngineState _ _ _ _). e.policy) c.self.view_is)
+    (c.in_ok-settle_part.ensures.none (none_merging c.settle_part.new.part.merging c.settle_part.new.jobs.merge _ none
+    c.in_ok-settle_part.ensures.moves.keeps.jobs.merge))
 
 pub returns-clause-few : goal.returns-clause-few
 returns-clause-few g c = λ least. elim c.in_ok-settle_part.ensures.few [

@@ -36,43 +36,83 @@ run-requires-clause-nothing_staged g c κs within = (c.self.invariant (ap (λ (s
 
 pub returns-clause-replies : goal.returns-clause-replies
 returns-clause-replies g c =
-    subst (λ (s : PartState _ _ _ _). (p : PartView) → IsPart (told g.S.Store.history g.S.Device.Device.history g.S.Frozen.Frozen.content s) p → AreTold (told g.S.Store.history g.S.Device.Device.history g.S.Frozen.Frozen.content s).components → replies_in c.in_ok-replies.replies ≡ answered s.limits (map routed_of c.args.list.now) (plain_of (told g.S.Store.history g.S.Device.Device.history g.S.Frozen.Frozen.content s) p)) (inside_is c.self.inside.part c.self.inside.failed c.args.self.now.part (ap (λ (e : EngineState _ _ _ _). e.part) c.self.view_is) c.requires.sound c.self.invariant)
+    subst (λ (s : PartState _ _ _ _). (p : PartView) → IsPart (told g.S.Store.history g.S.Device.Device.history g.S.Frozen.Frozen.content s) p
+    → AreTold (told g.S.Store.history g.S.Device.Device.history g.S.Frozen.Frozen.content s).components
+    → replies_in c.in_ok-replies.replies ≡ answered s.limits (map routed_of c.args.list.now)
+    (plain_of (told g.S.Store.history g.S.Device.Device.history g.S.Frozen.Frozen.content s) p))
+    (inside_is c.self.inside.part c.self.inside.failed c.args.self.now.part (ap (λ (e : EngineState _ _ _ _). e.part) c.self.view_is)
+    c.requires.sound c.self.invariant)
     (c.in_ok-replies.ensures.replies)
 
 pub returns-clause-windowed : goal.returns-clause-windowed
 returns-clause-windowed g c =
-    subst (λ (u : PartState _ _ _ _). (p : PartView) → IsPart (told g.S.Store.history g.S.Device.Device.history g.S.Frozen.Frozen.content c.args.self.now.part) p → IsWindowed c.args.self.now.part.limits (requests_in c.args.list.now) (told g.S.Store.history g.S.Device.Device.history g.S.Frozen.Frozen.content c.args.self.now.part) p (told g.S.Store.history g.S.Device.Device.history g.S.Frozen.Frozen.content u)) (closed_sound c.run.new.part c.in_ok-replies.ensures.sound)
-    (subst (λ (s : PartState _ _ _ _). (p : PartView) → IsPart (told g.S.Store.history g.S.Device.Device.history g.S.Frozen.Frozen.content s) p → IsWindowed s.limits (requests_in c.args.list.now) (told g.S.Store.history g.S.Device.Device.history g.S.Frozen.Frozen.content s) p (told g.S.Store.history g.S.Device.Device.history g.S.Frozen.Frozen.content c.run.new.part)) (inside_is c.self.inside.part c.self.inside.failed c.args.self.now.part (ap (λ (e : EngineState _ _ _ _). e.part) c.self.view_is) c.requires.sound c.self.invariant)
+    subst (λ (u : PartState _ _ _ _). (p : PartView) → IsPart (told g.S.Store.history g.S.Device.Device.history g.S.Frozen.Frozen.content c.args.self.now.part) p
+    → IsWindowed c.args.self.now.part.limits (requests_in c.args.list.now)
+    (told g.S.Store.history g.S.Device.Device.history g.S.Frozen.Frozen.content c.args.self.now.part) p
+    (told g.S.Store.history g.S.Device.Device.history g.S.Frozen.Frozen.content u)) (closed_sound c.run.new.part c.in_ok-replies.ensures.sound)
+    (subst (λ (s : PartState _ _ _ _). (p : PartView) → IsPart (told g.S.Store.history g.S.Device.Device.history g.S.Frozen.Frozen.content s) p
+    → IsWindowed s.limits (requests_in c.args.list.now) (told g.S.Store.history g.S.Device.Device.history g.S.Frozen.Frozen.content s) p
+    (told g.S.Store.history g.S.Device.Device.history g.S.Frozen.Frozen.content c.run.new.part))
+    (inside_is c.self.inside.part c.self.inside.failed c.args.self.now.part (ap (λ (e : EngineState _ _ _ _). e.part) c.self.view_is)
+    c.requires.sound c.self.invariant)
     (c.in_ok-replies.ensures.windowed))
 
 pub returns-clause-writes : goal.returns-clause-writes
 returns-clause-writes g c =
-    subst (λ (s : PartState _ _ _ _). (p : PartView) → IsPart (told g.S.Store.history g.S.Device.Device.history g.S.Frozen.Frozen.content s) p → c.run.new.part.writes ≡ s.writes + length (part_writes_all s.limits (requests_in c.args.list.now) (plain_of (told g.S.Store.history g.S.Device.Device.history g.S.Frozen.Frozen.content s) p))) (inside_is c.self.inside.part c.self.inside.failed c.args.self.now.part (ap (λ (e : EngineState _ _ _ _). e.part) c.self.view_is) c.requires.sound c.self.invariant)
+    subst (λ (s : PartState _ _ _ _). (p : PartView) → IsPart (told g.S.Store.history g.S.Device.Device.history g.S.Frozen.Frozen.content s) p
+    → c.run.new.part.writes ≡ s.writes + length (part_writes_all s.limits (requests_in c.args.list.now)
+    (plain_of (told g.S.Store.history g.S.Device.Device.history g.S.Frozen.Frozen.content s) p)))
+    (inside_is c.self.inside.part c.self.inside.failed c.args.self.now.part (ap (λ (e : EngineState _ _ _ _). e.part) c.self.view_is)
+    c.requires.sound c.self.invariant)
     (c.in_ok-replies.ensures.writes)
 
 pub returns-clause-moments : goal.returns-clause-moments
 returns-clause-moments g c =
-    subst (λ (s : PartState _ _ _ _). (p : PartView) → IsPart (told g.S.Store.history g.S.Device.Device.history g.S.Frozen.Frozen.content s) p → LogMomentsLeaveStore (staged_as (part_writes_all s.limits (requests_in c.args.list.now) (plain_of (told g.S.Store.history g.S.Device.Device.history g.S.Frozen.Frozen.content s) p)) p) (told g.S.Store.history g.S.Device.Device.history g.S.Frozen.Frozen.content s) (g.S.Device.Device.history c.run.new.part.log.device)) (inside_is c.self.inside.part c.self.inside.failed c.args.self.now.part (ap (λ (e : EngineState _ _ _ _). e.part) c.self.view_is) c.requires.sound c.self.invariant)
+    subst (λ (s : PartState _ _ _ _). (p : PartView) → IsPart (told g.S.Store.history g.S.Device.Device.history g.S.Frozen.Frozen.content s) p
+    → LogMomentsLeaveStore (staged_as (part_writes_all s.limits (requests_in c.args.list.now)
+    (plain_of (told g.S.Store.history g.S.Device.Device.history g.S.Frozen.Frozen.content s) p)) p)
+    (told g.S.Store.history g.S.Device.Device.history g.S.Frozen.Frozen.content s) (g.S.Device.Device.history c.run.new.part.log.device))
+    (inside_is c.self.inside.part c.self.inside.failed c.args.self.now.part (ap (λ (e : EngineState _ _ _ _). e.part) c.self.view_is)
+    c.requires.sound c.self.invariant)
     (c.run.ensures.moments)
 
 pub returns-clause-same : goal.returns-clause-same
 returns-clause-same g c = sym (closed_sound c.run.new.part c.in_ok-replies.ensures.sound) ∙
-    subst (λ (s : PartState _ _ _ _). c.run.new.part ≡ record s { main = c.run.new.part.main; active = c.run.new.part.active; log = c.run.new.part.log; taken = c.run.new.part.taken; live = c.run.new.part.live; writes = c.run.new.part.writes }) (inside_is c.self.inside.part c.self.inside.failed c.args.self.now.part (ap (λ (e : EngineState _ _ _ _). e.part) c.self.view_is) c.requires.sound c.self.invariant)
+    subst (λ (s : PartState _ _ _ _). c.run.new.part ≡ record s {
+      main = c.run.new.part.main;
+      active = c.run.new.part.active;
+      log = c.run.new.part.log;
+      taken = c.run.new.part.taken;
+      live = c.run.new.part.live;
+      writes = c.run.new.part.writes;
+    })
+    (inside_is c.self.inside.part c.self.inside.failed c.args.self.now.part (ap (λ (e : EngineState _ _ _ _). e.part) c.self.view_is)
+    c.requires.sound c.self.invariant)
     (c.in_ok-replies.ensures.same)
 
 pub returns-clause-counted : goal.returns-clause-counted
-returns-clause-counted g c = counted_inside g.S.Watch.Watch.counts (requests_in c.args.list.now) _ _ c.self.inside.part c.args.self.now.part c.run.new.part (inside_is c.self.inside.part c.self.inside.failed c.args.self.now.part (ap (λ (e : EngineState _ _ _ _). e.part) c.self.view_is) c.requires.sound c.self.invariant) c.run.ensures.counted (λ failed. absurd (cc))
+returns-clause-counted g c = counted_inside g.S.Watch.Watch.counts (requests_in c.args.list.now) _ _ c.self.inside.part c.args.self.now.part c.run.new.part
+    (inside_is c.self.inside.part c.self.inside.failed c.args.self.now.part (ap (λ (e : EngineState _ _ _ _). e.part) c.self.view_is) c.requires.sound
+    c.self.invariant) c.run.ensures.counted (λ failed. absurd (cc))
 
 -- ---- the frame
 
 pub returns-clause-frame : goal.returns-clause-frame
 returns-clause-frame g c =
-    subst (λ (s : PartState _ _ _ _). (p : PartView) → IsPart (told g.S.Store.history g.S.Device.Device.history g.S.Frozen.Frozen.content s) p → c.run.new.frame.items ≡ map kept_write (part_writes_all s.limits (requests_in c.args.list.now) (plain_of (told g.S.Store.history g.S.Device.Device.history g.S.Frozen.Frozen.content s) p))) (inside_is c.self.inside.part c.self.inside.failed c.args.self.now.part (ap (λ (e : EngineState _ _ _ _). e.part) c.self.view_is) c.requires.sound c.self.invariant)
+    subst (λ (s : PartState _ _ _ _). (p : PartView) → IsPart (told g.S.Store.history g.S.Device.Device.history g.S.Frozen.Frozen.content s) p
+    → c.run.new.frame.items ≡ map kept_write (part_writes_all s.limits (requests_in c.args.list.now)
+    (plain_of (told g.S.Store.history g.S.Device.Device.history g.S.Frozen.Frozen.content s) p)))
+    (inside_is c.self.inside.part c.self.inside.failed c.args.self.now.part (ap (λ (e : EngineState _ _ _ _). e.part) c.self.view_is)
+    c.requires.sound c.self.invariant)
     (c.in_ok-replies.ensures.frame)
 
 pub returns-clause-storable : goal.returns-clause-storable
 returns-clause-storable g c =
-    subst (λ (s : PartState _ _ _ _). (p : PartView) → IsPart (told g.S.Store.history g.S.Device.Device.history g.S.Frozen.Frozen.content s) p → All IsStorableWrite (part_writes_all s.limits (requests_in c.args.list.now) (plain_of (told g.S.Store.history g.S.Device.Device.history g.S.Frozen.Frozen.content s) p))) (inside_is c.self.inside.part c.self.inside.failed c.args.self.now.part (ap (λ (e : EngineState _ _ _ _). e.part) c.self.view_is) c.requires.sound c.self.invariant)
+    subst (λ (s : PartState _ _ _ _). (p : PartView) → IsPart (told g.S.Store.history g.S.Device.Device.history g.S.Frozen.Frozen.content s) p
+    → All IsStorableWrite (part_writes_all s.limits (requests_in c.args.list.now)
+    (plain_of (told g.S.Store.history g.S.Device.Device.history g.S.Frozen.Frozen.content s) p)))
+    (inside_is c.self.inside.part c.self.inside.failed c.args.self.now.part (ap (λ (e : EngineState _ _ _ _). e.part) c.self.view_is)
+    c.requires.sound c.self.invariant)
     (c.in_ok-replies.ensures.storable)
 
 pub returns-clause-frame_counted : goal.returns-clause-frame_counted
@@ -84,22 +124,47 @@ returns-clause-frame_counted g c =
 
 pub returns-in_err-replies-clause-moments : goal.returns-in_err-replies-clause-moments
 returns-in_err-replies-clause-moments g c =
-    subst (λ (s : PartState _ _ _ _). (p : PartView) → IsPart (told g.S.Store.history g.S.Device.Device.history g.S.Frozen.Frozen.content s) p → LogMomentsLeaveStore (staged_as (part_writes_all s.limits (requests_in c.args.list.now) (plain_of (told g.S.Store.history g.S.Device.Device.history g.S.Frozen.Frozen.content s) p)) p) (told g.S.Store.history g.S.Device.Device.history g.S.Frozen.Frozen.content s) (g.S.Device.Device.history c.run.new.part.log.device)) (inside_is c.self.inside.part c.self.inside.failed c.args.self.now.part (ap (λ (e : EngineState _ _ _ _). e.part) c.self.view_is) c.requires.sound c.self.invariant)
+    subst (λ (s : PartState _ _ _ _). (p : PartView) → IsPart (told g.S.Store.history g.S.Device.Device.history g.S.Frozen.Frozen.content s) p
+    → LogMomentsLeaveStore (staged_as (part_writes_all s.limits (requests_in c.args.list.now)
+    (plain_of (told g.S.Store.history g.S.Device.Device.history g.S.Frozen.Frozen.content s) p)) p)
+    (told g.S.Store.history g.S.Device.Device.history g.S.Frozen.Frozen.content s) (g.S.Device.Device.history c.run.new.part.log.device))
+    (inside_is c.self.inside.part c.self.inside.failed c.args.self.now.part (ap (λ (e : EngineState _ _ _ _). e.part) c.self.view_is)
+    c.requires.sound c.self.invariant)
     (c.run.ensures.moments)
 
 pub returns-in_err-replies-clause-failed : goal.returns-in_err-replies-clause-failed
 returns-in_err-replies-clause-failed g c = err_always c.from_residual.result _
-    (subst (λ (s : PartState _ _ _ _). (p : PartView) (jobs : JobsState _ _ _) → IsPart (told g.S.Store.history g.S.Device.Device.history g.S.Frozen.Frozen.content s) p → WorkFor g.S.Frozen.Frozen.content g.S.Device.Device.history g.S.Device.Device.name jobs p → HasFailedWith (WorkFor g.S.Frozen.Frozen.content g.S.Device.Device.history g.S.Device.Device.name jobs) (part_writes_all s.limits (requests_in c.args.list.now) (plain_of (told g.S.Store.history g.S.Device.Device.history g.S.Frozen.Frozen.content s) p)) (record (told g.S.Store.history g.S.Device.Device.history g.S.Frozen.Frozen.content c.run.new.part) { failed = true }) p) (inside_is c.self.inside.part c.self.inside.failed c.args.self.now.part (ap (λ (e : EngineState _ _ _ _). e.part) c.self.view_is) c.requires.sound c.self.invariant)
+    (subst (λ (s : PartState _ _ _ _). (p : PartView) (jobs : JobsState _ _ _)
+    → IsPart (told g.S.Store.history g.S.Device.Device.history g.S.Frozen.Frozen.content s) p
+    → WorkFor g.S.Frozen.Frozen.content g.S.Device.Device.history g.S.Device.Device.name jobs p
+    → HasFailedWith (WorkFor g.S.Frozen.Frozen.content g.S.Device.Device.history g.S.Device.Device.name jobs)
+    (part_writes_all s.limits (requests_in c.args.list.now) (plain_of (told g.S.Store.history g.S.Device.Device.history g.S.Frozen.Frozen.content s) p))
+    (record (told g.S.Store.history g.S.Device.Device.history g.S.Frozen.Frozen.content c.run.new.part) { failed = true }) p)
+    (inside_is c.self.inside.part c.self.inside.failed c.args.self.now.part (ap (λ (e : EngineState _ _ _ _). e.part) c.self.view_is)
+    c.requires.sound c.self.invariant)
     (c.in_err-replies.ensures.failed))
 
 pub returns-in_err-replies-clause-left : goal.returns-in_err-replies-clause-left
 returns-in_err-replies-clause-left g c = err_always c.from_residual.result _
-    (subst (λ (s : PartState _ _ _ _). record c.run.new.part { failed = true } ≡ record s { main = c.run.new.part.main; active = c.run.new.part.active; staged = c.run.new.part.staged; taken = c.run.new.part.taken; live = c.run.new.part.live; log = c.run.new.part.log; failed = true }) (inside_is c.self.inside.part c.self.inside.failed c.args.self.now.part (ap (λ (e : EngineState _ _ _ _). e.part) c.self.view_is) c.requires.sound c.self.invariant)
+    (subst (λ (s : PartState _ _ _ _). record c.run.new.part { failed = true }
+    ≡ record s {
+      main = c.run.new.part.main;
+      active = c.run.new.part.active;
+      staged = c.run.new.part.staged;
+      taken = c.run.new.part.taken;
+      live = c.run.new.part.live;
+      log = c.run.new.part.log;
+      failed = true;
+    })
+    (inside_is c.self.inside.part c.self.inside.failed c.args.self.now.part (ap (λ (e : EngineState _ _ _ _). e.part) c.self.view_is)
+    c.requires.sound c.self.invariant)
     (ap (λ (x : PartState _ _ _ _). record x { failed = true }) c.in_err-replies.ensures.left))
 
 pub returns-in_err-replies-clause-harmed : goal.returns-in_err-replies-clause-harmed
 returns-in_err-replies-clause-harmed g c = same_harm c.from_residual.result c.in_err-replies.field-0.0 _ c.from_residual.ensures.1
-    (subst (λ (s : PartState _ _ _ _). IfDamage c.in_err-replies.field-0.0 (λ file at bytes. IsHarmIn (λ file. g.S.Frozen.Frozen.content file) s.list file at bytes)) (inside_is c.self.inside.part c.self.inside.failed c.args.self.now.part (ap (λ (e : EngineState _ _ _ _). e.part) c.self.view_is) c.requires.sound c.self.invariant)
+    (subst (λ (s : PartState _ _ _ _). IfDamage c.in_err-replies.field-0.0 (λ file at bytes. IsHarmIn (λ file. g.S.Frozen.Frozen.content file) s.list file at bytes))
+    (inside_is c.self.inside.part c.self.inside.failed c.args.self.now.part (ap (λ (e : EngineState _ _ _ _). e.part) c.self.view_is)
+    c.requires.sound c.self.invariant)
     (c.in_err-replies.ensures.harmed))
 
 pub returns-in_err-replies-clause-spent : goal.returns-in_err-replies-clause-spent
@@ -114,12 +179,17 @@ returns-in_err-replies-clause-unspent g c = λ spent.
 
 pub returns-in_err-replies-clause-counted : goal.returns-in_err-replies-clause-counted
 returns-in_err-replies-clause-counted g c =
-    counted_inside g.S.Watch.Watch.counts (requests_in c.args.list.now) _ _ c.self.inside.part c.args.self.now.part c.run.new.part (inside_is c.self.inside.part c.self.inside.failed c.args.self.now.part (ap (λ (e : EngineState _ _ _ _). e.part) c.self.view_is) c.requires.sound c.self.invariant) c.run.ensures.counted
+    counted_inside g.S.Watch.Watch.counts (requests_in c.args.list.now) _ _ c.self.inside.part c.args.self.now.part c.run.new.part
+    (inside_is c.self.inside.part c.self.inside.failed c.args.self.now.part (ap (λ (e : EngineState _ _ _ _). e.part) c.self.view_is) c.requires.sound
+    c.self.invariant) c.run.ensures.counted
     (same_fault c.from_residual.result c.run.result c.in_err-replies.field-0.0 _ c.from_residual.ensures.1 c.in_err-replies.was)
 
 pub returns-clause-unwritten : goal.returns-clause-unwritten
 returns-clause-unwritten g c =
-    subst (λ (s : PartState _ _ _ _). (p : PartView) → IsPart (told g.S.Store.history g.S.Device.Device.history g.S.Frozen.Frozen.content s) p → part_writes_all s.limits (requests_in c.args.list.now) (plain_of (told g.S.Store.history g.S.Device.Device.history g.S.Frozen.Frozen.content s) p) ≡ [] → c.run.new.part.log ≡ s.log) (inside_is c.self.inside.part c.self.inside.failed c.args.self.now.part (ap (λ (e : EngineState _ _ _ _). e.part) c.self.view_is) c.requires.sound c.self.invariant)
+    subst (λ (s : PartState _ _ _ _). (p : PartView) → IsPart (told g.S.Store.history g.S.Device.Device.history g.S.Frozen.Frozen.content s) p
+    → part_writes_all s.limits (requests_in c.args.list.now) (plain_of (told g.S.Store.history g.S.Device.Device.history g.S.Frozen.Frozen.content s) p) ≡ []
+    → c.run.new.part.log ≡ s.log) (inside_is c.self.inside.part c.self.inside.failed c.args.self.now.part (ap (λ (e : EngineState _ _ _ _). e.part) c.self.view_is)
+    c.requires.sound c.self.invariant)
     (c.in_ok-replies.ensures.unwritten)
 
 pub returns-clause-looked_up : goal.returns-clause-looked_up
@@ -155,17 +225,24 @@ returns-clause-devices g c = λ only. subst (λ (s : PartState _ _ _ _). OnlyDev
 pub returns-in_err-replies-clause-devices : goal.returns-in_err-replies-clause-devices
 returns-in_err-replies-clause-devices g c = λ only.
     subst (λ (s : PartState _ _ _ _). OnlyDevicesOut (told g.S.Store.history g.S.Device.Device.history g.S.Frozen.Frozen.content s)) (sym c.in_err-replies.ensures.left)
-    (subst (λ (s : PartState _ _ _ _). OnlyDevicesOut (told g.S.Store.history g.S.Device.Device.history g.S.Frozen.Frozen.content s)) (sym (inside_is c.self.inside.part c.self.inside.failed c.args.self.now.part (ap (λ (e : EngineState _ _ _ _). e.part) c.self.view_is) c.requires.sound c.self.invariant)) only)
+    (subst (λ (s : PartState _ _ _ _). OnlyDevicesOut (told g.S.Store.history g.S.Device.Device.history g.S.Frozen.Frozen.content s))
+    (sym (inside_is c.self.inside.part c.self.inside.failed c.args.self.now.part (ap (λ (e : EngineState _ _ _ _). e.part) c.self.view_is) c.requires.sound
+    c.self.invariant)) only)
 
 pub returns-clause-log_out : goal.returns-clause-log_out
-returns-clause-log_out g c = subst (λ (s : PartState _ _ _ _). LogIsOut (told g.S.Store.history g.S.Device.Device.history g.S.Frozen.Frozen.content s) → LogIsOut (told g.S.Store.history g.S.Device.Device.history g.S.Frozen.Frozen.content c.run.new.part)) (inside_is c.self.inside.part c.self.inside.failed c.args.self.now.part (ap (λ (e : EngineState _ _ _ _). e.part) c.self.view_is) c.requires.sound c.self.invariant) c.in_ok-replies.ensures.log_out
+returns-clause-log_out g c = subst (λ (s : PartState _ _ _ _). LogIsOut (told g.S.Store.history g.S.Device.Device.history g.S.Frozen.Frozen.content s)
+    → LogIsOut (told g.S.Store.history g.S.Device.Device.history g.S.Frozen.Frozen.content c.run.new.part))
+    (inside_is c.self.inside.part c.self.inside.failed c.args.self.now.part (ap (λ (e : EngineState _ _ _ _). e.part) c.self.view_is) c.requires.sound
+    c.self.invariant) c.in_ok-replies.ensures.log_out
 
 pub returns-in_err-replies-clause-log_out_spent : goal.returns-in_err-replies-clause-log_out_spent
 returns-in_err-replies-clause-log_out_spent g c = λ spent is.
     let log = c.run.ensures.unspent (same_fault c.from_residual.result c.run.result c.in_err-replies.field-0.0 _ c.from_residual.ensures.1 c.in_err-replies.was spent) in
     subst (λ (s : PartState _ _ _ _). LogIsOut (told g.S.Store.history g.S.Device.Device.history g.S.Frozen.Frozen.content s)) (sym c.in_err-replies.ensures.left)
     (subst (λ (l : LogState _). LogIsOut (record (told g.S.Store.history g.S.Device.Device.history g.S.Frozen.Frozen.content c.self.inside.part) { log = g.S.Device.Device.history l.device })) (sym log)
-    (subst (λ (s : PartState _ _ _ _). LogIsOut (told g.S.Store.history g.S.Device.Device.history g.S.Frozen.Frozen.content s)) (sym (inside_is c.self.inside.part c.self.inside.failed c.args.self.now.part (ap (λ (e : EngineState _ _ _ _). e.part) c.self.view_is) c.requires.sound c.self.invariant)) is))
+    (subst (λ (s : PartState _ _ _ _). LogIsOut (told g.S.Store.history g.S.Device.Device.history g.S.Frozen.Frozen.content s))
+    (sym (inside_is c.self.inside.part c.self.inside.failed c.args.self.now.part (ap (λ (e : EngineState _ _ _ _). e.part) c.self.view_is) c.requires.sound
+    c.self.invariant)) is))
 
 -- ---- the jobs
 
@@ -175,17 +252,92 @@ returns-clause-jobs g c = λ jobs out.
     let same = returns-clause-same g c in
     let untold : g.S.Store.history old.store ≡ [] → g.S.Store.history c.run.new.part.store ≡ [] = λ none. ap (λ (s : PartState _ _ _ _). g.S.Store.history s.store) same ∙ none in
     record {
-      flush = flush_out_still g.S.Store.history g.S.Device.Device.history g.S.Frozen.Frozen.content g.S.Device.Device.name old (record c.run.new.part { failed = false }) untold jobs.flush (subst (λ (s : PartState _ _ _ _). s ≡ record old { store = s.store; main = s.main; merger = s.merger; list = s.list; active = s.active; log = s.log; taken = s.taken; live = s.live; writes = s.writes; staged = s.staged; merging = s.merging; failed = s.failed }) (sym same) refl) out.flush;
-      merge = merge_out_still g.S.Store.history g.S.Device.Device.history g.S.Frozen.Frozen.content g.S.Device.Device.name old (record c.run.new.part { failed = false }) untold jobs.merge (subst (λ (s : PartState _ _ _ _). s ≡ record old { store = s.store; main = s.main; flusher = s.flusher; sealed = s.sealed; sealed_log = s.sealed_log; active = s.active; log = s.log; generation = s.generation; taken = s.taken; live = s.live; writes = s.writes; staged = s.staged; flushing = s.flushing; failed = s.failed }) (sym same) refl) out.merge;
+      flush = flush_out_still g.S.Store.history g.S.Device.Device.history g.S.Frozen.Frozen.content g.S.Device.Device.name old
+          (record c.run.new.part { failed = false }) untold jobs.flush
+          (subst (λ (s : PartState _ _ _ _). s ≡ record old {
+            store = s.store;
+            main = s.main;
+            merger = s.merger;
+            list = s.list;
+            active = s.active;
+            log = s.log;
+            taken = s.taken;
+            live = s.live;
+            writes = s.writes;
+            staged = s.staged;
+            merging = s.merging;
+            failed = s.failed;
+          }) (sym same) refl) out.flush;
+      merge = merge_out_still g.S.Store.history g.S.Device.Device.history g.S.Frozen.Frozen.content g.S.Device.Device.name old
+          (record c.run.new.part { failed = false }) untold jobs.merge
+          (subst (λ (s : PartState _ _ _ _). s ≡ record old {
+            store = s.store;
+            main = s.main;
+            flusher = s.flusher;
+            sealed = s.sealed;
+            sealed_log = s.sealed_log;
+            active = s.active;
+            log = s.log;
+            generation = s.generation;
+            taken = s.taken;
+            live = s.live;
+            writes = s.writes;
+            staged = s.staged;
+            flushing = s.flushing;
+            failed = s.failed;
+          }) (sym same) refl) out.merge;
     }
 
 pub returns-in_err-replies-clause-jobs : goal.returns-in_err-replies-clause-jobs
 returns-in_err-replies-clause-jobs g c = λ jobs out.
     let old = c.args.self.now.part in
-    let same = subst (λ (s : PartState _ _ _ _). record c.run.new.part { failed = true } ≡ record s { main = c.run.new.part.main; active = c.run.new.part.active; staged = c.run.new.part.staged; taken = c.run.new.part.taken; live = c.run.new.part.live; log = c.run.new.part.log; failed = true }) (inside_is c.self.inside.part c.self.inside.failed c.args.self.now.part (ap (λ (e : EngineState _ _ _ _). e.part) c.self.view_is) c.requires.sound c.self.invariant)
+    let same = subst (λ (s : PartState _ _ _ _). record c.run.new.part { failed = true }
+    ≡ record s {
+      main = c.run.new.part.main;
+      active = c.run.new.part.active;
+      staged = c.run.new.part.staged;
+      taken = c.run.new.part.taken;
+      live = c.run.new.part.live;
+      log = c.run.new.part.log;
+      failed = true;
+    })
+    (inside_is c.self.inside.part c.self.inside.failed c.args.self.now.part (ap (λ (e : EngineState _ _ _ _). e.part) c.self.view_is)
+    c.requires.sound c.self.invariant)
     (ap (λ (x : PartState _ _ _ _). record x { failed = true }) c.in_err-replies.ensures.left) in
     let untold : g.S.Store.history old.store ≡ [] → g.S.Store.history c.run.new.part.store ≡ [] = λ none. ap (λ (s : PartState _ _ _ _). g.S.Store.history s.store) same ∙ none in
     record {
-      flush = flush_out_still g.S.Store.history g.S.Device.Device.history g.S.Frozen.Frozen.content g.S.Device.Device.name old (record c.run.new.part { failed = true }) untold jobs.flush (subst (λ (s : PartState _ _ _ _). s ≡ record old { store = s.store; main = s.main; merger = s.merger; list = s.list; active = s.active; log = s.log; taken = s.taken; live = s.live; writes = s.writes; staged = s.staged; merging = s.merging; failed = s.failed }) (sym same) refl) out.flush;
-      merge = merge_out_still g.S.Store.history g.S.Device.Device.history g.S.Frozen.Frozen.content g.S.Device.Device.name old (record c.run.new.part { failed = true }) untold jobs.merge (subst (λ (s : PartState _ _ _ _). s ≡ record old { store = s.store; main = s.main; flusher = s.flusher; sealed = s.sealed; sealed_log = s.sealed_log; active = s.active; log = s.log; generation = s.generation; taken = s.taken; live = s.live; writes = s.writes; staged = s.staged; flushing = s.flushing; failed = s.failed }) (sym same) refl) out.merge;
+      flush = flush_out_still g.S.Store.history g.S.Device.Device.history g.S.Frozen.Frozen.content g.S.Device.Device.name old
+          (record c.run.new.part { failed = true }) untold jobs.flush (subst
+          (λ (s : PartState _ _ _ _). s ≡ record old {
+            store = s.store;
+            main = s.main;
+            merger = s.merger;
+            list = s.list;
+            active = s.active;
+            log = s.log;
+            taken = s.taken;
+            live = s.live;
+            writes = s.writes;
+            staged = s.staged;
+            merging = s.merging;
+            failed = s.failed;
+          }) (sym same) refl) out.flush;
+      merge = merge_out_still g.S.Store.history g.S.Device.Device.history g.S.Frozen.Frozen.content g.S.Device.Device.name old
+          (record c.run.new.part { failed = true }) untold jobs.merge (subst
+          (λ (s : PartState _ _ _ _). s ≡ record old {
+            store = s.store;
+            main = s.main;
+            flusher = s.flusher;
+            sealed = s.sealed;
+            sealed_log = s.sealed_log;
+            active = s.active;
+            log = s.log;
+            generation = s.generation;
+            taken = s.taken;
+            live = s.live;
+            writes = s.writes;
+            staged = s.staged;
+            flushing = s.flushing;
+            failed = s.failed;
+          }) (sym same) refl) out.merge;
     }
