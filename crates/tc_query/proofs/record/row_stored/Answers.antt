@@ -1,5 +1,5 @@
-use Rattle.std.proofs.Common.{◌≡◌, ◌∙◌, Err, length, inr, sym, ap, subst}
-use Rattle.std.specs.Prelude.{IfSome}
+use Rattle.std.proofs.Common.{◌≡◌, ◌∙◌, Err, length, inr, refl, sym, ap, subst}
+use Rattle.std.specs.Prelude.{IfErr, IfSome}
 use Rattle.std.proofs.lemmas.Option.{IfSome_then}
 use Rattle.tc_command.specs.Commands.{ask_of}
 use Rattle.tc_compact.specs.Meant.{IsRecordUnder}
@@ -8,6 +8,7 @@ use Rattle.tc_component.specs.Meaning.{IsRecordOfOne}
 use Rattle.tc_request_model.specs.Paths.{reached}
 use Rattle.tc_request_model.specs.Rows.{row_of}
 use Rattle.tc_query.proofs.Spelled.{means_one}
+use Rattle.tc_query.specs.declared.fault.QueryFault.TheVariants.{Disk}
 use Rattle.tc_query.proofs.record.row_stored.Goals as goal
 
 pub known-requires : goal.known-requires
@@ -26,6 +27,9 @@ no_document-requires-clause-cause g c κs within = λ is d under.
 
 pub returns-in-Ok-clause-watched : goal.returns-in-Ok-clause-watched
 returns-in-Ok-clause-watched g c = record { faults = c.hold.ensures.watched.faults; cause = λ e. absurd (cc) }
+
+pub returns-in-Err-clause-watched : goal.returns-in-Err-clause-watched
+returns-in-Err-clause-watched g c = record { faults = c.hold.ensures.watched.faults; cause = λ failed. absurd (subst (λ r. IfErr r (λ fault. fault ≡ Disk → ⊥)) failed c.no_document.ensures.cause refl) }
 
 pub returns-in-Ok-clause-row : goal.returns-in-Ok-clause-row
 returns-in-Ok-clause-row g c = λ d.
