@@ -1,3 +1,4 @@
 mod GrammarLemmas
 mod OptionsLemmas
+mod CheckLemmas
 pub mod OptionRanges

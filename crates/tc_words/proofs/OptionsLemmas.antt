@@ -18,13 +18,17 @@ pub is_asked : (words : List Text) (met : Option (Text × List Row)) → named_m
 unfolding invocation_of
 is_asked words met is = ap (option_and_then invocation_in) is
 
--- an error that is handed on as words that are no run is not want of memory
+-- an error that is one of usage is not want of memory
+pub usage_kind : (fault : WordsFault) (kind : ErrorKind) → fault ≡ fault_of_kind kind → fault ≡ Usage → kind ≢ OutOfMemory
+usage_kind fault kind named usage memory =
+    let is : fault ≡ Memory = named ∙ ap fault_of_kind memory in
+    cc
+
+-- nor is one that is handed on as usage
 pub not_memory : {T : Type 0} (r : Result T WordsFault) (kind : ErrorKind) → IsErrAnd r (λ fault. fault ≡ fault_of_kind kind)
     → IsErrOf r Usage → kind ≢ OutOfMemory
 not_memory (Ok x) kind named usage memory = absurd named
-not_memory (Err fault) kind named usage memory =
-    let is : fault ≡ Memory = named ∙ ap fault_of_kind memory in
-    cc
+not_memory (Err fault) kind named usage memory = usage_kind fault kind named (cc) memory
 
 -- ---- options that are there, or else a fault
 

@@ -1,4 +1,4 @@
--- The command line, as clap's grammar has it: the options of `run`, and the number of `demo`.
+-- The command line, as clap's grammar has it: the options of `run`, the number of `demo`, and the option of `check`.
 use Rattle.std.specs.Prelude.{ℕ, Bool, true, List, [], ◌∷◌, map, Option, Some, None, is_some, not, codes}
 use Rattle.clap.specs.Words.{App, Kinds, Row, Rule, Shape, Text, fault_of, new_app, new_rule, subcommand_of, with_subcommand}
 use Rattle.clap.specs.Simple.{new_shape, on_top}
@@ -45,11 +45,13 @@ abbrev pub option_rule : Text → Bool → Rule
 option_rule name is_required =
     record (new_rule name) { long = Some name; action = Some Set; required = is_required }
 
+-- the option of a setting, which has to be given where there is no default
+abbrev pub rule_of_setting : Setting → Rule
+rule_of_setting s = option_rule s.name (not (is_some s.default))
+
 -- the subcommand `run`
 abbrev pub run_shape : Shape
-run_shape = record (new_shape (codes "run")) {
-  rules = map (λ s. option_rule s.name (not (is_some s.default))) settings;
-}
+run_shape = record (new_shape (codes "run")) { rules = map rule_of_setting settings }
 
 -- the number of commands of a demonstration, which stands by itself
 abbrev pub commands_name : Text
@@ -65,10 +67,14 @@ commands_rule = record (new_rule commands_name) { action = Some Set; required = 
 abbrev pub demo_shape : Shape
 demo_shape = record (new_shape (codes "demo")) { rules = commands_rule ∷ [] }
 
+-- the subcommand `check`
+abbrev pub check_shape : Shape
+check_shape = record (new_shape (codes "check")) { rules = rule_of_setting partitions ∷ [] }
+
 -- the command line: a subcommand, with no program's name before it
 unfoldable pub grammar : App
-grammar = with_subcommand (with_subcommand (on_top (λ s. record s { no_binary_name = true; subcommand_required = true })
-    (new_app (codes "tuple_store"))) run_shape) demo_shape
+grammar = with_subcommand (with_subcommand (with_subcommand (on_top (λ s. record s { no_binary_name = true; subcommand_required = true })
+    (new_app (codes "tuple_store"))) run_shape) demo_shape) check_shape
 
 -- the matches, and none where clap has a kind of error for the words
 abbrev pub unless_refused : Kinds → Option (Text × List Row) → Option (Text × List Row)

@@ -1,4 +1,4 @@
--- What words ask for: a run with its options, or a demonstration of so many commands.
+-- What words ask for: a run with its options, a demonstration of so many commands, or a check of so many partitions.
 use Rattle.std.specs.Prelude.{ℕ, List, codes, Option, Some, None, is_some, unwrap_or, if◌then◌else◌, option_and_then, option_map}
 use Rattle.std.specs.List.{list_all}
 use Rattle.std.specs.Option.{option_map_or}
@@ -59,7 +59,7 @@ invocation_in named =
     else (if bytes_eq named.0 (codes "demo") then option_map (λ n. Demo n demo_options) (commands_in named.1)
     else None)
 
--- what the words ask for; nothing where they are no command line
+-- what the words ask for; nothing where they are no `run` and no `demo`
 unfoldable pub invocation_of : List Text → Option Invocation
 invocation_of words = option_and_then invocation_in (named_matches words)
 
@@ -67,3 +67,13 @@ invocation_of words = option_and_then invocation_in (named_matches words)
 abbrev pub options_asked : Invocation → Options
 options_asked (Run options) = options
 options_asked (Demo n options) = options
+
+-- ---- a check
+
+-- how many partitions a subcommand with these matches has checked; nothing where it is another one
+abbrev pub check_in : Text × List Row → Option ℕ
+check_in named = if bytes_eq named.0 (codes "check") then number_in named.1 line.partitions else None
+
+-- how many partitions the words have checked; nothing where they are no `check`
+unfoldable pub check_of : List Text → Option ℕ
+check_of words = option_and_then check_in (named_matches words)

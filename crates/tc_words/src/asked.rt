@@ -1,9 +1,9 @@
 //! What words ask for: a run, or a demonstration.
 ghost use Rattle.std.specs.Prelude.{◌≡◌, option_and_then};
 ghost use Rattle.clap.specs.Words.{found_of, rows_of, subcommand_rows_of};
-ghost use Rattle.tc_words.specs.Options.{commands_in, invocation_in};
+ghost use Rattle.tc_words.specs.Options.{check_in, commands_in, invocation_in};
 
-use crate::run::{Options, demo_options, options_in};
+use crate::run::{Options, demo_options, options_in, partitions_in};
 use clap::ArgMatches;
 use tc_number::number_between;
 
@@ -37,6 +37,28 @@ fn named(name: &str, found: &ArgMatches<'_>) -> Option<Invocation>
             commands: commands_in(found)? as u32,
             options: demo_options(),
         })
+    } else {
+        None
+    }
+}
+
+/// How many partitions the matches of the command line have checked; nothing where they ask for no check, or where the number
+/// is out of form or out of its range.
+pub fn check_in(matches: &ArgMatches<'_>) -> Option<u32>
+    ensures { result ≡ option_and_then check_in (subcommand_rows_of matches.now) }
+{
+    match matches.subcommand() {
+        Some((name, found)) => checked(name, found),
+        None => None,
+    }
+}
+
+// How many partitions the subcommand of this name has checked.
+fn checked(name: &str, found: &ArgMatches<'_>) -> Option<u32>
+    ensures { result ≡ check_in (name.now, rows_of (found_of found.now)) }
+{
+    if name == "check" {
+        partitions_in(found)
     } else {
         None
     }

@@ -11,7 +11,7 @@ use thiserror::Error;
 /// Why words are refused.
 #[derive(Clone, Copy, Debug, PartialEq, Eq, Error)]
 pub enum WordsFault {
-    /// The words are no command line: they name no subcommand, ask for help, or have an option or a number out of form.
+    /// The words are no `run` and no `demo`: they name neither, ask for help, or have an option or a number out of form.
     #[error("the words are no command line")]
     Usage,
     /// No memory was left.

@@ -3,7 +3,7 @@ ghost use Rattle.std.specs.Prelude.{◌≡◌, ◌≢◌, IfOk, IfErr, None, fal
 ghost use Rattle.clap.specs.Words.{app_of, kind_of, rule_of, shape_of, subcommand_rows_of};
 ghost use Rattle.clap.specs.declared.builder.command.Command.TheViews.{out-Command as fields_of};
 ghost use Rattle.clap.specs.declared.error.kind.ErrorKind.TheVariants.{OutOfMemory};
-ghost use Rattle.tc_words.specs.Grammar.{commands_rule, demo_shape, grammar, named_matches, option_rule, run_shape};
+ghost use Rattle.tc_words.specs.Grammar.{check_shape, commands_rule, demo_shape, grammar, named_matches, option_rule, run_shape};
 
 use clap::{Arg, ArgAction, ArgMatches, Command, Error};
 use std::alloc::{AllocError, Global};
@@ -26,7 +26,8 @@ fn command_line<'a>(alloc: Global) -> Result<Command<'a>, AllocError>
         .no_binary_name(true)
         .subcommand_required(true)
         .subcommand(run(alloc)?)?
-        .subcommand(demo(alloc)?)
+        .subcommand(demo(alloc)?)?
+        .subcommand(check(alloc)?)
 }
 
 // The subcommand `run`.
@@ -50,6 +51,14 @@ fn demo<'a>(alloc: Global) -> Result<Command<'a>, AllocError>
     ensures shape { IfOk result (λ command. shape_of command ≡ demo_shape) }
 {
     Command::new(alloc, "demo").arg(commands(alloc))
+}
+
+// The subcommand `check`.
+fn check<'a>(alloc: Global) -> Result<Command<'a>, AllocError>
+    ensures local { IfOk result (λ command. (fields_of command).has_globals ≡ false) }
+    ensures shape { IfOk result (λ command. shape_of command ≡ check_shape) }
+{
+    Command::new(alloc, "check").arg(option(alloc, "partitions"))
 }
 
 // The number of commands, which stands by itself.

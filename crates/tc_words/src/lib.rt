@@ -10,4 +10,4 @@ mod words;
 pub use asked::Invocation;
 pub use fault::WordsFault;
 pub use run::Options;
-pub use words::invocation;
+pub use words::{check_asked, invocation};

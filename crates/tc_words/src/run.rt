@@ -1,7 +1,8 @@
-//! The options of a run.
+//! The options of a run, of which a check has the first.
 ghost use Rattle.std.specs.Prelude.{◌≡◌};
 ghost use Rattle.clap.specs.Words.{found_of, rows_of};
 ghost use Rattle.tc_words.specs.Options.{demo_options, number_in, options_in};
+ghost use Rattle.tc_words.specs.Grammar.{partitions};
 
 use clap::ArgMatches;
 use tc_number::number_between;
@@ -30,7 +31,7 @@ pub fn options_in(run: &ArgMatches<'_>) -> Option<Options>
     ensures { result ≡ options_in (rows_of (found_of run.now)) }
 {
     Some(Options {
-        partitions: number_in(run, "partitions", 1, 16, Some(PARTITIONS))? as u32,
+        partitions: partitions_in(run)?,
         memory: number_in(run, "memory", 4_096, 16_777_216, Some(MEMORY))?,
         names: number_in(run, "names", 1, 16_777_216, Some(NAMES))? as u32,
         docs: number_in(run, "docs", 1, 4_000_000_000, Some(DOCS))? as u32,
@@ -38,6 +39,13 @@ pub fn options_in(run: &ArgMatches<'_>) -> Option<Options>
         merge: number_in(run, "merge", 2, 8, Some(MERGE))? as u32,
         limit: number_in(run, "limit", 0, 1_099_511_627_776, Some(LIMIT))?,
     })
+}
+
+/// How many partitions the matches of `run` or `check` give; nothing where the number is out of form or out of its range.
+pub fn partitions_in(matches: &ArgMatches<'_>) -> Option<u32>
+    ensures { result ≡ number_in (rows_of (found_of matches.now)) partitions }
+{
+    Some(number_in(matches, "partitions", 1, 16, Some(PARTITIONS))? as u32)
 }
 
 /// The options of a demonstration: the defaults.

@@ -12,5 +12,6 @@ returns c =
     let unnamed = name_left_out _ _ c.no_binary_name.ensures ∙ ap (on_top without_name) c.new.ensures.app in
     let top = subcommand_needed _ _ c.subcommand_required.ensures ∙ ap (on_top needing_subcommand) unnamed in
     let one = c.in_ok-subcommand.ensures.shape c.in_ok-run.ensures.local ∙ ap₂ with_subcommand top c.in_ok-run.ensures.shape in
-    IfOk-weaker c.subcommand-2.result _ _ (λ m h. h.shape c.in_ok-demo.ensures.local ∙ ap₂ with_subcommand one c.in_ok-demo.ensures.shape)
-    c.subcommand-2.ensures
+    let two = c.in_ok-subcommand-2.ensures.shape c.in_ok-demo.ensures.local ∙ ap₂ with_subcommand one c.in_ok-demo.ensures.shape in
+    IfOk-weaker c.subcommand-3.result _ _ (λ m h. h.shape c.in_ok-check.ensures.local ∙ ap₂ with_subcommand two c.in_ok-check.ensures.shape)
+    c.subcommand-3.ensures
