@@ -17,7 +17,7 @@ use crate::cause::FilesCause;
 use crate::listing::listed;
 use crate::taken::Taken;
 use std::alloc::Global;
-use tc_store::{FileName, Store, is_open};
+use tc_store::{FileName, Frozen, Store, is_open};
 
 /// Takes all files that are there, and reads the gate of each, by one read of a file of more than one byte: components
 /// first, by their first and then by their last generation, then logs. Where that fails, some are still, and nothing else
