@@ -31,11 +31,23 @@ impl Drop for Desk {
 impl Desk {
     /// A shelf over a folder, with no kit given.
     pub(crate) fn new(rt: HostRuntime, folder: &str) -> Option<Desk> {
-        let folder = Text::of(String::from_str(rt.alloc(), folder).ok()?);
-        Some(Desk {
-            shelf: FileShelf::new(rt, folder),
+        Some(Desk::of(FileShelf::new(rt, text(rt, folder)?)))
+    }
+
+    /// The same with a shelf for those who only read.
+    pub(crate) fn to_read(rt: HostRuntime, folder: &str) -> Option<Desk> {
+        Some(Desk::of(FileShelf::to_read(rt, text(rt, folder)?)))
+    }
+
+    fn of(shelf: FileShelf) -> Desk {
+        Desk {
+            shelf,
             kit: None,
             hand: Hand::Nothing,
-        })
+        }
     }
+}
+
+fn text(rt: HostRuntime, folder: &str) -> Option<Text> {
+    Some(Text::of(String::from_str(rt.alloc(), folder).ok()?))
 }

@@ -71,6 +71,7 @@ fn answer_of(rt: HostRuntime, desk: &mut Desk, call: &str) -> Option<String> {
         "folder" => others::folder(rt, argument),
         "link" => others::link(rt, argument),
         "shelf" => shelves::shelf(rt, desk, argument),
+        "reader" => shelves::reader(rt, desk, argument),
         "leave" => shelves::leave(alloc, desk),
         "kit" => shelves::kit(alloc, desk, argument.parse::<u32>().ok()?, true),
         "other" => shelves::kit(alloc, desk, argument.parse::<u32>().ok()?, false),

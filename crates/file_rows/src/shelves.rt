@@ -11,6 +11,12 @@ pub(crate) fn shelf(rt: HostRuntime, desk: &mut Desk, folder: &str) -> Option<St
     word(rt.alloc(), "ok")
 }
 
+/// The same for those who only read.
+pub(crate) fn reader(rt: HostRuntime, desk: &mut Desk, folder: &str) -> Option<String> {
+    *desk = Desk::to_read(rt, folder)?;
+    word(rt.alloc(), "ok")
+}
+
 /// The kit of a partition, which is kept, or which is another beside the one that is kept.
 pub(crate) fn kit(alloc: Global, desk: &mut Desk, number: u32, is_kept: bool) -> Option<String> {
     match desk.shelf.kit(alloc, number) {

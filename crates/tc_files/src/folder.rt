@@ -61,6 +61,16 @@ fn is_folder(rt: &HostRuntime, path: &str) -> bool {
     }
 }
 
+/// Whether a partition has no folder: nothing has its path, in a folder of the store that is one, or nothing has the path of
+/// that. A link that leads nowhere is something: what it leads to may come back.
+pub(crate) fn is_missing(rt: &HostRuntime, store: &str, path: &str) -> bool {
+    let first = if is_folder(rt, store) { path } else { store };
+    match uninterrupted(&|| fs::symlink_metadata(rt, first)) {
+        Ok(_) => false,
+        Err(error) => error.kind() == ErrorKind::NotFound,
+    }
+}
+
 /// Syncs the folder that the last name of a path stands in.
 fn sync_above(rt: &HostRuntime, path: &str) -> io::Result<()> {
     match Path::new(path).parent() {

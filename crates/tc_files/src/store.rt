@@ -19,11 +19,12 @@ use std::sync::Arc;
 use std::{fs, io};
 use tc_store::{FileName, Store, StoreFault};
 
-/// The files of one folder, which this store alone holds. Files of other names are neither listed nor touched.
+/// The files of one folder, which this store alone holds. Files of other names are neither listed nor touched. Without a folder
+/// there are no files, and none can be made.
 pub struct FileStore {
     pub(crate) rt: HostRuntime,
     pub(crate) path: PathBuf,
-    pub(crate) folder: Arc<File>,
+    pub(crate) folder: Option<Arc<File>>,
 }
 
 impl Drop for FileStore {
@@ -50,6 +51,9 @@ impl FileStore {
     /// The files whose names are those of a store. No other is looked at.
     fn listed(&self, alloc: Global) -> io::Result<Vec<FileName>> {
         let mut names = Vec::new(alloc);
+        if self.folder.is_none() {
+            return Ok(names);
+        }
         for entry in fs::read_dir(&self.rt, self.path.as_str())? {
             match entry {
                 Ok(entry) => {
@@ -88,8 +92,11 @@ impl FileStore {
         ensures name { IfOk result (λ device. device.name ≡ name) }
         ensures empty { IfOk result (λ device. device.len ≡ 0) }
     {
+        let Some(folder) = &self.folder else {
+            return Err(ErrorKind::NotFound.into());
+        };
+        let folder = Arc::try_clone(folder)?;
         let path = self.path_of(alloc, name)?;
-        let folder = Arc::try_clone(&self.folder)?;
         let own_folder = open_folder(&self.rt, self.path.as_str())?;
         let file = make_file(&self.rt, path.as_str())?;
         Ok(FileDevice {
