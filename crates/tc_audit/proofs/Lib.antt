@@ -1,0 +1,4 @@
+mod NamesAgain
+mod LackedLabels
+mod StoredLaws
+mod ContentLaws
