@@ -51,8 +51,12 @@ stored_document reads names bytes dictionary s =
 
 -- ---- the entries of stored records
 
-pub one_more : (s : Slot) (slots : List Slot) → lengths_of (s ∷ slots) ≡ s.length + lengths_of slots
-one_more s slots = let more : lengths_of (s ∷ slots) ≡ lengths_of (s ∷ []) + lengths_of slots = sum_by-append (λ (t : Slot). t.length) (s ∷ []) slots in omega (arith, more)
+-- the slot of the first record, and the others behind it
+first_sum : (s : Slot) (slots : List Slot) → s.length + lengths_of slots ≡ lengths_of (s ∷ slots)
+first_sum s slots = let more : lengths_of (s ∷ slots) ≡ lengths_of (s ∷ []) + lengths_of slots = sum_by-append (λ (t : Slot). t.length) (s ∷ []) slots in omega (arith, more)
+
+pub drop_first : {A : Type 0} (s : Slot) (slots : List Slot) (xs : List A) → drop (lengths_of (s ∷ slots)) xs ≡ drop (lengths_of slots) (drop s.length xs)
+drop_first s slots xs = ap (λ n. drop n xs) (sym (first_sum s slots)) ∙ sym (drop-drop (lengths_of slots) s.length xs)
 
 module _ (names : List Name) where
   -- each slot that has a record has a stored one, where the records stand one behind the other
@@ -68,9 +72,7 @@ module _ (names : List Name) where
 
   behind : (s : Slot) (slots : List Slot) (bytes : List ℕ) → AllStored (s ∷ slots) bytes → AllStored slots (drop s.length bytes)
   behind s slots bytes stored = λ at t here some.
-      let place : drop (lengths_of (take (suc at) (s ∷ slots))) bytes ≡ drop (lengths_of (take at slots)) (drop s.length bytes) =
-      ap (λ n. drop n bytes) (one_more s (take at slots)) ∙ sym (drop-drop (lengths_of (take at slots)) s.length bytes) in
-      subst (λ rest. IsStoredIn names (take t.length rest)) place (stored (suc at) t here some)
+      subst (λ rest. IsStoredIn names (take t.length rest)) (drop_first s (take at slots) bytes) (stored (suc at) t here some)
 
   front_and_rest : (n more : ℕ) (bytes : List ℕ) → n ≤ length bytes → take (n + more) bytes ≡ take n bytes ++ take more (drop n bytes)
   front_and_rest n more bytes within =
@@ -82,7 +84,7 @@ module _ (names : List Name) where
   cons_entries s slots bytes v ws within held is short rest = record {
     slots_are = ap (λ n. slot s.key n ∷ slots_of (rows_of names ws)) (ap length held ∙ length-take-le s.length bytes within) ∙ ap (λ ss. s ∷ ss) rest.slots_are;
     records_are = ap (λ front. front ++ records (rows_of names ws)) held ∙ ap (λ all. take s.length bytes ++ all) rest.records_are
-        ∙ sym (front_and_rest s.length (lengths_of slots) bytes within) ∙ ap (λ n. take n bytes) (sym (one_more s slots));
+        ∙ sym (front_and_rest s.length (lengths_of slots) bytes within) ∙ ap (λ n. take n bytes) (first_sum s slots);
     entries = All-cons (contents.IsEntry names) (s.key, v) ws is rest.entries;
     short = All-cons IsShortWrite (s.key, v) ws short rest.short;
   }
@@ -106,7 +108,7 @@ module _ (names : List Name) where
     entries_made : (slots : List Slot) (bytes : List ℕ) → AllByRecursion IsSlot slots → lengths_of slots ≤ length bytes → AllStored slots bytes → AreEntries slots bytes (entries_in names slots bytes)
     entries_made [] bytes each within stored = record { slots_are = refl; records_are = refl; entries = All-nil (contents.IsEntry names); short = All-nil IsShortWrite }
     entries_made (s ∷ slots) bytes each within stored =
-        let sum = one_more s slots in
+        let sum = first_sum s slots in
         let rest = entries_made slots (drop s.length bytes) each.1 (omega (arith, within, sum, length-drop s.length bytes)) (behind s slots bytes stored) in
         first_entry s slots bytes (entries_in names slots (drop s.length bytes)) each.0 (omega (arith, within, sum)) (stored 0 s refl) rest
 
@@ -116,10 +118,6 @@ keys_in names (s ∷ slots) bytes = ap (λ keys. s.key ∷ keys) (keys_in names 
 
 -- ---- the content of a component
 
--- the records, and what stands behind them
-records_there : (c : Index) (rs : List ℕ) → drop 61 (file_with c rs) ≡ rs ++ (directory c.slots ++ (section c.names ++ schema_bytes (schema_tree c.schema)))
-records_there c rs = drop_at (1 ∷ head_bytes c.head (sizes_in c)) (rs ++ (directory c.slots ++ (section c.names ++ schema_bytes (schema_tree c.schema)))) 61 refl
-
 -- the record of a slot, where it stands
 pub record_here : (slots : List Slot) (at : ℕ) (s : Slot) (bytes : List ℕ) → slice_get slots at ≡ Some s → record_at slots at bytes ≡ take s.length (drop (lengths_of (take at slots)) (drop 61 bytes))
 record_here slots at s bytes here =
@@ -127,7 +125,7 @@ record_here slots at s bytes here =
 
 module _ (reads : ReadsMeant) (c : Index) (bytes : List ℕ) (holds : Holds bytes c) where
   rest_is : drop 61 bytes ≡ holds.records ++ (directory c.slots ++ (section c.names ++ schema_bytes (schema_tree c.schema)))
-  rest_is = ap (drop 61) holds.spelled ∙ records_there c holds.records
+  rest_is = ap (drop 61) holds.spelled ∙ drop_at (1 ∷ head_bytes c.head (sizes_in c)) (holds.records ++ (directory c.slots ++ (section c.names ++ schema_bytes (schema_tree c.schema)))) 61 refl
 
   made_entries : AreStoredUpTo c bytes (length c.slots) → AreEntries c.names c.slots (drop 61 bytes) (content_in c bytes).entries
   made_entries stored =
@@ -190,12 +188,10 @@ entry_of_slot names (w ∷ ws) (suc at) s each short is =
     let rest = entry_of_slot names ws at s (All-tail (contents.IsEntry names) w ws each) (All-tail IsShortWrite w ws short) is in
     record { value = rest.value; here = rest.here; sized = rest.sized; entry = rest.entry; short = rest.short }
 
--- at the place of a document stands its record
-abbrev pub FetchesRecords : Type 0
-FetchesRecords = (c : Content) (bytes : List ℕ) (at key : ℕ) (d : Document) → IsComponent c bytes → slice_get c.entries at ≡ Some (set key d) → record_at (component_index c).slots at bytes ≡ record_in c.names d
-
-pub stored_up_to : FetchesRecords → (c : Content) (bytes : List ℕ) (end : ℕ) → IsComponent c bytes → AreStoredUpTo (component_index c) bytes end
-stored_up_to fetches c bytes end is = λ at s below here some.
+-- where at the place of each document stands its record
+pub stored_up_to : (c : Content) (bytes : List ℕ) (end : ℕ) → ((at key : ℕ) (d : Document) → IsComponent c bytes → slice_get c.entries at ≡ Some (set key d) → record_at (component_index c).slots at bytes ≡ record_in c.names d) → IsComponent c bytes
+    → AreStoredUpTo (component_index c) bytes end
+stored_up_to c bytes end fetches is = λ at s below here some.
     let e = entry_of_slot c.names c.entries at s is.content.entries is.records here in
     of_value at s some e.value e.here e.sized e.entry e.short
   where
@@ -203,4 +199,4 @@ stored_up_to fetches c bytes end is = λ at s below here some.
         → IsStoredIn c.names (record_at (component_index c).slots at bytes)
     of_value at s some None here sized entry short = absurd (omega (arith, some, sized))
     of_value at s some (Some d) here sized entry short =
-        record { document = d; is_document = entry.document; storable = entry.storable; named = entry.named; short = short; spelled = fetches c bytes at s.key d is here }
+        record { document = d; is_document = entry.document; storable = entry.storable; named = entry.named; short = short; spelled = fetches at s.key d is here }

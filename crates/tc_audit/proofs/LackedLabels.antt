@@ -78,7 +78,7 @@ module _ (names : List Name) (wanted : Name) where
               let equal : bytes_eq n wanted ≡ true = (bytes_eq-Decides n wanted).1 one in
               cc
 
-  picked : {A : Type 0} (b : Bool) (x : A) (o : Option A) → (if b then false else not (is_some o)) ≡ not (is_some (if b then Some x else o))
+  picked : (b : Bool) (x : Document) (o : Option Document) → (if b then false else not (is_some o)) ≡ not (is_some (if b then Some x else o))
   picked true x o = refl
   picked false x o = refl
 
@@ -116,7 +116,7 @@ module _ (names : List Name) (wanted : Name) where
   told None has ms known = sym (not_among has ms known)
   told (Some k) has ms known = among k has ms known
 
-nothing_is : {A : Type 0} (o : Option A) → not (is_some o) ≡ true → o ≡ None
+nothing_is : (o : Option Document) → not (is_some o) ≡ true → o ≡ None
 nothing_is None e = refl
 nothing_is (Some x) e = cc
 

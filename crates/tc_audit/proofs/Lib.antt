@@ -2,3 +2,12 @@ mod NamesAgain
 mod LackedLabels
 mod StoredLaws
 mod ContentLaws
+mod CountedSteps
+mod ManyLive
+mod Rooms
+mod RightLists
+mod WalkSteps
+mod OlderRecords
+mod CountedComponents
+mod AuditSteps
+mod Outcomes

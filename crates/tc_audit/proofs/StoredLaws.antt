@@ -79,3 +79,11 @@ short_tested names r again short same told test n is = ((subst (λ t. TellsShort
 pub passes_spelling : (names : List Name) (r : Record) (spelled : Bool) → IsDictionary names → (spelled ≡ false → (d : Document) → IsRecordUnder names d r.bytes → ⊥) → IsStoredIn names r.bytes → IsTrue spelled
 passes_spelling names r true dictionary none s = refl
 passes_spelling names r false dictionary none s = absurd (none refl s.document (stored_under names r.bytes dictionary s))
+
+-- ---- what else it is
+
+pub stored_within : (names : List Name) (bytes : List ℕ) → IsDictionary names → IsStoredIn names bytes → IsRecordWithin (length names) bytes
+stored_within names bytes dictionary s = subst (IsRecordWithin (length names)) (sym s.spelled) (within_names names s.document (kept_in names bytes dictionary s))
+
+pub stored_at_under : (names : List Name) (bytes same : List ℕ) (d : Document) → IsDictionary names → bytes ≡ same → (s : IsStoredIn names bytes) → s.document ≡ d → IsRecordUnder names d same
+stored_at_under names bytes same d dictionary are s is = subst (IsRecordUnder names d) are (subst (λ e. IsRecordUnder names e bytes) is (stored_under names bytes dictionary s))

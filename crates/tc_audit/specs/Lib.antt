@@ -1,3 +1,6 @@
 pub mod Stored
 pub mod Lacking
 pub mod Told
+pub mod Reasons
+pub mod Stops
+pub mod Walking

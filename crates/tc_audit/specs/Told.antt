@@ -1,5 +1,5 @@
 -- The contents that the files of components tell.
-use Rattle.std.specs.Prelude.{◌≡◌, ◌<◌, ◌==◌, ℕ, if◌then◌else◌, List, [], ◌∷◌, map, take, drop, slice_get, Option, Some, None, unwrap_or}
+use Rattle.std.specs.Prelude.{◌≡◌, ◌<◌, ◌==◌, ℕ, if◌then◌else◌, List, [], ◌∷◌, take, drop, slice_get, Option, Some, None, unwrap_or}
 use Rattle.tc_bytes.specs.Reading.{◌>>=◌}
 use Rattle.tc_model.specs.Document.{Name, Document}
 use Rattle.tc_plain_model.specs.Writes.{Write}
@@ -42,12 +42,6 @@ content_in index bytes = record {
 -- what the files tell, where they do
 abbrev pub bytes_told : {F : Type 0} → (F → Option (List ℕ)) → ComponentState F → List ℕ
 bytes_told told c = unwrap_or (told c.file) []
-
-abbrev pub content_told : {F : Type 0} → (F → Option (List ℕ)) → ComponentState F → Content
-content_told told c = content_in c.index (bytes_told told c)
-
-abbrev pub contents_told : {F : Type 0} → (F → Option (List ℕ)) → List (ComponentState F) → List Content
-contents_told told list = map (content_told told) list
 
 -- a component of this partition
 abbrev pub IsOf : {F : Type 0} → Partition → ComponentState F → Type 0

@@ -1,8 +1,18 @@
-//! Layer 3, files: which components are those of contents, by each of their records.
+//! Layer 3, files: an audit of components, which reads each record and counts all documents anew.
 #![tactic(auto)]
 
+mod auditing;
+mod counting;
+mod fault;
 mod law;
+mod older;
+mod stop;
 mod stored;
+mod verdict;
+mod walk;
 
+pub use auditing::audit;
+pub use fault::AuditFault;
 pub use law::stored_records_make_contents;
 pub use stored::spells_stored;
+pub use verdict::{Verdict, Wrong};

@@ -1,0 +1,55 @@
+use Rattle.std.proofs.Common.{rules, ◌≡◌, Err, length, sym, subst, arith}
+use Rattle.std.proofs.lemmas.Result.{err_from_is_err_and}
+use Rattle.tc_lsm_model.specs.Lists.{live}
+use Rattle.tc_audit.specs.Walking.{IsCounting, IsUpTo}
+use Rattle.tc_audit.proofs.Outcomes.{watched_behind, watched_out, wrong_out, wrong_then}
+use Rattle.tc_audit.proofs.walk.count_entries.Goals as goal
+
+pub loop-at-init : goal.loop-at-init
+loop-at-init g c = record {
+  of = search rules;
+  names = c.requires.names;
+  few = omega (arith, c.requires.none);
+  counting = subst (IsCounting c.args.component.now.index.names c.args.recount.now.schema) (sym c.requires.none) c.requires.counting;
+  counted = λ part cs whole right tells u. subst (IsUpTo c.args.component.now.index whole (live cs) 0 c.args.recount.now.schema) (sym c.requires.none) u;
+  faults = omega arith;
+}
+
+pub count_entry-requires-clause-at : goal.count_entry-requires-clause-at
+count_entry-requires-clause-at g c κs within = let more = c.loop-at-test.true in let many = c.len-at-end.ensures in omega arith
+
+pub returns-in_err-count_entry-clause-wrong : goal.returns-in_err-count_entry-clause-wrong
+returns-in_err-count_entry-clause-wrong g c =
+    wrong_out c.from_residual.result c.in_err-count_entry.field-0.0 _ (err_from_is_err_and c.from_residual.result c.from_residual.ensures.1)
+    (wrong_then {X = Unit {0}} (Err c.in_err-count_entry.field-0.0) _ _ (λ w wrong part cs whole right tells u. wrong part cs whole right tells (c.loop-at.invariant.counted part cs whole right tells u)) c.in_err-count_entry.ensures.wrong)
+
+pub returns-in_err-count_entry-clause-watched : goal.returns-in_err-count_entry-clause-watched
+returns-in_err-count_entry-clause-watched g c =
+    watched_out c.from_residual.result c.in_err-count_entry.field-0.0 _ _ (err_from_is_err_and c.from_residual.result c.from_residual.ensures.1)
+    (watched_behind _ _ _ _ c.loop-at.invariant.faults c.in_err-count_entry.ensures.watched)
+
+pub loop-at-preserved : goal.loop-at-preserved
+loop-at-preserved g c =
+    let l = c.loop-at in
+    let one = c.in_ok-count_entry.ensures in
+    record {
+      of = one.of;
+      names = one.names;
+      few = one.few;
+      counting = one.counting;
+      counted = λ part cs whole right tells u. one.counted part cs whole right tells (l.invariant.counted part cs whole right tells u);
+      faults = omega (arith, l.invariant.faults, one.watched.faults);
+    }
+
+pub returns-clause-counted : goal.returns-clause-counted
+returns-clause-counted g c = λ part cs whole right tells u.
+    let l = c.loop-at in
+    let all : l.at ≡ length c.args.component.now.index.slots = let most = l.auto.at-end in let done = c.loop-at-test.false in let many = c.len-at-end.ensures in omega arith in
+    subst (λ at. IsUpTo c.args.component.now.index whole (live cs) at l.recount.schema l.recount.gained) all (l.invariant.counted part cs whole right tells u)
+
+pub returns-clause-watched : goal.returns-clause-watched
+returns-clause-watched g c = record { faults = c.loop-at.invariant.faults; cause = λ failed. absurd (cc) }
+
+pub returns-in_err-count_entry-clause-place : goal.returns-in_err-count_entry-clause-place
+returns-in_err-count_entry-clause-place g c =
+    wrong_out c.from_residual.result c.in_err-count_entry.field-0.0 _ (err_from_is_err_and c.from_residual.result c.from_residual.ensures.1) c.in_err-count_entry.ensures.place

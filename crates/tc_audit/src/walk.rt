@@ -1,0 +1,255 @@
+//! The entries of a component, read and counted in ascending key.
+
+ghost use Rattle.std.specs.Prelude.{◌≡◌, ◌↔◌, ◌≤◌, ◌<◌, ◌+◌, ◌^◌, ℕ, List, Some, OnOk, IsErrOf, IsTrue, length};
+ghost use Rattle.tc_lsm_model.specs.Contents.{Partition, Content};
+ghost use Rattle.tc_lsm_model.specs.Lists.{live};
+ghost use Rattle.tc_model.specs.Keyed.{value_of, values_in};
+ghost use Rattle.tc_plain_model.specs.Writes.{Pairs};
+ghost use Rattle.tc_schema_model.specs.Stands.{StandsFor};
+ghost use Rattle.tc_component.specs.Cursors.{HoldsPart, HasRecord, record_held};
+ghost use Rattle.tc_component.specs.Fetching.{IsPlace, IsRecordWithin, record_at};
+ghost use Rattle.tc_audit.specs.declared.verdict.Wrong.{Wrong as Reason};
+ghost use Rattle.tc_audit.specs.Reasons.{AreRight, IsWrongBehind, IsWatched};
+ghost use Rattle.tc_audit.specs.Stops.{IfWrong, position_of};
+ghost use Rattle.tc_audit.specs.Stored.{IsStoredIn};
+ghost use Rattle.tc_audit.specs.Told.{document_in};
+ghost use Rattle.tc_audit.specs.Walking.{IsCounting, IsHarmAt, IsLessBy, IsMoreBy, IsUpTo, Tells};
+
+use crate::counting::{Recount, count_record};
+use crate::older::take_off;
+use crate::stop::{Stop, of_read};
+use crate::stored::spells_stored;
+use std::alloc::Global;
+use tc_bytes::Memory;
+use tc_compact::document_meant;
+use tc_component::{Component, Place, RecordCursor};
+use tc_list::ComponentList;
+use tc_record::RecordRef;
+use tc_store::{Frozen, damaged};
+
+/// Documents are fewer than this.
+const MOST: u64 = 0x1_0000_0000;
+
+/// Reads all entries of a component in ascending key, judges each record, takes off what was live of the key before, and
+/// counts the document. Once 4,294,967,296 entries have a document, which then are live, the records are judged alone.
+pub(crate) fn count_entries<F: Frozen>(
+    alloc: Global,
+    older: &ComponentList<F>,
+    component: &Component<F>,
+    recount: &mut Recount,
+    watch: &mut F::Watch,
+) -> Result<(), Stop>
+    requires names { recount.old.names ≡ component.now.index.names }
+    requires none { recount.old.gained ≡ 0 }
+    requires counting { IsCounting component.now.index.names recount.old.schema 0 }
+    ensures counting { OnOk result (IsCounting component.now.index.names recount.new.schema recount.new.gained) }
+    ensures counted { OnOk result ((part : Partition) (cs : List Content) (whole : List ℕ) → AreRight F.content part older.now cs → Tells F.content component.now whole
+        → IsUpTo component.now.index whole (live cs) 0 recount.old.schema 0 → IsUpTo component.now.index whole (live cs) (length component.now.index.slots) recount.new.schema recount.new.gained) }
+    ensures place { IfWrong result (λ w. position_of w ≤ length older.now) }
+    ensures wrong { IfWrong result (λ w. (part : Partition) (cs : List Content) (whole : List ℕ) → AreRight F.content part older.now cs → Tells F.content component.now whole
+        → IsUpTo component.now.index whole (live cs) 0 recount.old.schema 0 → IsWrongBehind F.content cs component.now w) }
+    ensures watched { IsWatched (IsErrOf result Stop.Disk) (F.Watch.counts watch.old) (F.Watch.counts watch.new) }
+{
+    let mut cursor = RecordCursor::new(alloc);
+    for at in 0..component.len() {
+        count_entry(alloc, older, component, at, &mut cursor, recount, watch)?;
+    }
+    Ok(())
+}
+
+/// One entry more.
+fn count_entry<F: Frozen>(
+    alloc: Global,
+    older: &ComponentList<F>,
+    component: &Component<F>,
+    at: usize,
+    cursor: &mut RecordCursor,
+    recount: &mut Recount,
+    watch: &mut F::Watch,
+) -> Result<(), Stop>
+    requires at { at < length component.now.index.slots }
+    requires names { recount.old.names ≡ component.now.index.names }
+    requires few { recount.old.gained ≤ at }
+    requires counting { IsCounting component.now.index.names recount.old.schema recount.old.gained }
+    requires of { HoldsPart (F.content component.now.file) cursor.old }
+    ensures of { HoldsPart (F.content component.now.file) cursor.new }
+    ensures names { OnOk result (recount.new.names ≡ component.now.index.names) }
+    ensures few { OnOk result (recount.new.gained ≤ at + 1) }
+    ensures counting { OnOk result (IsCounting component.now.index.names recount.new.schema recount.new.gained) }
+    ensures counted { OnOk result ((part : Partition) (cs : List Content) (whole : List ℕ) → AreRight F.content part older.now cs → Tells F.content component.now whole
+        → IsUpTo component.now.index whole (live cs) at recount.old.schema recount.old.gained → IsUpTo component.now.index whole (live cs) (at + 1) recount.new.schema recount.new.gained) }
+    ensures place { IfWrong result (λ w. position_of w ≤ length older.now) }
+    ensures wrong { IfWrong result (λ w. (part : Partition) (cs : List Content) (whole : List ℕ) → AreRight F.content part older.now cs → Tells F.content component.now whole
+        → IsUpTo component.now.index whole (live cs) at recount.old.schema recount.old.gained → IsWrongBehind F.content cs component.now w) }
+    ensures watched { IsWatched (IsErrOf result Stop.Disk) (F.Watch.counts watch.old) (F.Watch.counts watch.new) }
+{
+    document_meant();
+    // that keys ascend, and that the names are a dictionary
+    let _lawful = component.file_len();
+    let entry = component.entry(at);
+    take_few(alloc, older, entry.key, recount, watch)?;
+    match entry.place {
+        Some(place) => count_place(alloc, older.len(), component, place, cursor, recount, watch),
+        None => Ok(()),
+    }
+}
+
+/// Takes off what was live of a key, unless it is known that too many documents are live.
+fn take_few<F: Frozen>(
+    alloc: Global,
+    older: &ComponentList<F>,
+    key: u64,
+    recount: &mut Recount,
+    watch: &mut F::Watch,
+) -> Result<(), Stop>
+    requires counting { IsCounting recount.old.names recount.old.schema recount.old.gained }
+    ensures names { recount.new.names ≡ recount.old.names }
+    ensures gained { recount.new.gained ≡ recount.old.gained }
+    ensures counting { OnOk result (IsCounting recount.old.names recount.new.schema recount.old.gained) }
+    ensures taken { OnOk result ((part : Partition) (cs : List Content) → AreRight F.content part older.now cs → recount.old.gained ≤ 2 ^ 32 → IsLessBy (value_of key (live cs)) recount.old.names recount.old.schema recount.new.schema) }
+    ensures place { IfWrong result (λ w. position_of w < length older.now) }
+    ensures harmless { IfWrong result (λ w. (part : Partition) (cs : List Content) (ps : Pairs) → AreRight F.content part older.now cs → value_of key ps ≡ value_of key (live cs) → StandsFor recount.old.names recount.old.schema (values_in ps) → ⊥) }
+    ensures few { IfWrong result (λ w. recount.old.gained ≤ 2 ^ 32) }
+    ensures watched { IsWatched (IsErrOf result Stop.Disk) (F.Watch.counts watch.old) (F.Watch.counts watch.new) }
+{
+    if is_over(recount.gained) {
+        return Ok(());
+    }
+    take_off(alloc, older, key, recount, watch)
+}
+
+/// Whether more documents were counted than may be live.
+fn is_over(gained: u64) -> bool
+    ensures { IsTrue result ↔ 2 ^ 32 < gained }
+{
+    gained > MOST
+}
+
+/// Whether no document more may be live, where there are so many.
+pub(crate) fn is_full(gained: u64) -> bool
+    ensures { IsTrue result ↔ 2 ^ 32 ≤ gained }
+{
+    gained >= MOST
+}
+
+/// The record of the entry at a place, judged and counted.
+fn count_place<F: Frozen>(
+    alloc: Global,
+    number: usize,
+    component: &Component<F>,
+    place: Place,
+    cursor: &mut RecordCursor,
+    recount: &mut Recount,
+    watch: &mut F::Watch,
+) -> Result<(), Stop>
+    requires place { IsPlace component.now.index.slots place }
+    requires names { recount.old.names ≡ component.now.index.names }
+    requires few { recount.old.gained + 1 < 2 ^ 64 }
+    requires counting { IsCounting component.now.index.names recount.old.schema recount.old.gained }
+    requires of { HoldsPart (F.content component.now.file) cursor.old }
+    ensures of { HoldsPart (F.content component.now.file) cursor.new }
+    ensures names { OnOk result (recount.new.names ≡ component.now.index.names) }
+    ensures gained { OnOk result (recount.new.gained ≡ recount.old.gained + 1) }
+    ensures counting { OnOk result (IsCounting component.now.index.names recount.new.schema recount.new.gained) }
+    ensures stored { OnOk result ((whole : List ℕ) → F.content component.now.file ≡ Some whole → IsStoredIn component.now.index.names (record_at component.now.index.slots place.at whole)) }
+    ensures counted { OnOk result ((whole : List ℕ) → F.content component.now.file ≡ Some whole → recount.old.gained < 2 ^ 32
+        → IsMoreBy (document_in component.now.index.names (record_at component.now.index.slots place.at whole)) component.now.index.names recount.old.schema recount.new.schema) }
+    ensures place { IfWrong result (λ w. position_of w ≡ number) }
+    ensures harmed { IfWrong result (λ w. (whole : List ℕ) → F.content component.now.file ≡ Some whole → IsHarmAt number component.now.index place.at whole w) }
+    ensures watched { IsWatched (IsErrOf result Stop.Disk) (F.Watch.counts watch.old) (F.Watch.counts watch.new) }
+{
+    read_stored(alloc, number, component, place, cursor, watch)?;
+    let bytes = cursor.record(component, place);
+    count_few(alloc, bytes, recount)?;
+    recount.gained += 1;
+    Ok(())
+}
+
+/// Counts the document of a stored record, unless it is known that too many documents are live. Errs only for want of memory.
+fn count_few(alloc: Global, bytes: &[u8], recount: &mut Recount) -> Result<(), Memory>
+    requires stored { IsStoredIn recount.old.names bytes.now }
+    requires counting { IsCounting recount.old.names recount.old.schema recount.old.gained }
+    ensures names { OnOk result (recount.new.names ≡ recount.old.names) }
+    ensures gained { recount.new.gained ≡ recount.old.gained }
+    ensures counting { OnOk result (IsCounting recount.old.names recount.new.schema (recount.old.gained + 1)) }
+    ensures counted { OnOk result (recount.old.gained < 2 ^ 32 → IsMoreBy (document_in recount.old.names bytes.now) recount.old.names recount.old.schema recount.new.schema) }
+{
+    // that the names are a dictionary
+    let _known = recount.names.len();
+    if is_full(recount.gained) {
+        return Ok(());
+    }
+    count_record(alloc, RecordRef::known(bytes), recount)
+}
+
+/// Holds the record of the entry at a place, which is found to be wrong where it spells no document as it is stored.
+fn read_stored<F: Frozen>(
+    alloc: Global,
+    number: usize,
+    component: &Component<F>,
+    place: Place,
+    cursor: &mut RecordCursor,
+    watch: &mut F::Watch,
+) -> Result<(), Stop>
+    requires place { IsPlace component.now.index.slots place }
+    requires of { HoldsPart (F.content component.now.file) cursor.old }
+    ensures of { HoldsPart (F.content component.now.file) cursor.new }
+    ensures has { OnOk result (HasRecord component.now.index place.at cursor.new) }
+    ensures stored { OnOk result (IsStoredIn component.now.index.names (record_held component.now.index place.at cursor.new)) }
+    ensures read { OnOk result ((whole : List ℕ) → F.content component.now.file ≡ Some whole → record_held component.now.index place.at cursor.new ≡ record_at component.now.index.slots place.at whole) }
+    ensures place { IfWrong result (λ w. position_of w ≡ number) }
+    ensures harmed { IfWrong result (λ w. (whole : List ℕ) → F.content component.now.file ≡ Some whole → IsHarmAt number component.now.index place.at whole w) }
+    ensures watched { IsWatched (IsErrOf result Stop.Disk) (F.Watch.counts watch.old) (F.Watch.counts watch.new) }
+{
+    hold(number, component, place, cursor, watch)?;
+    let bytes = cursor.record(component, place);
+    if spells_stored(RecordRef::known(bytes), component.names()) {
+        return Ok(());
+    }
+    Err(unstored(alloc, number, component, place, bytes))
+}
+
+/// Holds the record at a place of the component at a position, by at most one read.
+fn hold<F: Frozen>(
+    number: usize,
+    component: &Component<F>,
+    place: Place,
+    cursor: &mut RecordCursor,
+    watch: &mut F::Watch,
+) -> Result<(), Stop>
+    requires place { IsPlace component.now.index.slots place }
+    requires of { HoldsPart (F.content component.now.file) cursor.old }
+    ensures of { HoldsPart (F.content component.now.file) cursor.new }
+    ensures has { OnOk result (HasRecord component.now.index place.at cursor.new) }
+    ensures found { OnOk result (IsRecordWithin (length component.now.index.names) (record_held component.now.index place.at cursor.new)) }
+    ensures read { OnOk result ((whole : List ℕ) → F.content component.now.file ≡ Some whole → record_held component.now.index place.at cursor.new ≡ record_at component.now.index.slots place.at whole) }
+    ensures place { IfWrong result (λ w. position_of w ≡ number) }
+    ensures harmed { IfWrong result (λ w. (whole : List ℕ) → F.content component.now.file ≡ Some whole → IsHarmAt number component.now.index place.at whole w) }
+    ensures watched { IsWatched (IsErrOf result Stop.Disk) (F.Watch.counts watch.old) (F.Watch.counts watch.new) }
+{
+    // that the names are a dictionary
+    let _lawful = component.file_len();
+    match cursor.read(component, place, watch) {
+        Ok(()) => Ok(()),
+        Err(fault) => Err(of_read(number, fault)),
+    }
+}
+
+/// That the record at a place of the component at a position is no stored one, or want of memory.
+fn unstored<F: Frozen>(
+    alloc: Global,
+    number: usize,
+    component: &Component<F>,
+    place: Place,
+    bytes: &[u8],
+) -> Stop
+    requires place { IsPlace component.now.index.slots place }
+    requires read { (whole : List ℕ) → F.content component.now.file ≡ Some whole → bytes.now ≡ record_at component.now.index.slots place.at whole }
+    requires harmed { IsStoredIn component.now.index.names bytes.now → ⊥ }
+    ensures no_disk { result ≡ Stop.Disk → ⊥ }
+    ensures place { (w : Reason) → result ≡ Stop.Wrong w → position_of w ≡ number }
+    ensures harmed { (w : Reason) → result ≡ Stop.Wrong w → (whole : List ℕ) → F.content component.now.file ≡ Some whole → IsHarmAt number component.now.index place.at whole w }
+{
+    let (begin, _count) = component.record_range(place);
+    of_read(number, damaged(alloc, begin as usize, bytes))
+}
