@@ -25,7 +25,7 @@ ROOT = pathlib.Path(__file__).resolve().parents[2]
 PROGRAM = pathlib.Path(os.environ.get("TUPLE_STORE") or ROOT / "crates/tuple_store/out/tuple_store").resolve()
 NOBODY = 65534
 
-USAGE = "usage: tuple_store FOLDER run [OPTIONS] or tuple_store FOLDER demo N"
+USAGE = "usage: tuple_store FOLDER run [OPTIONS], tuple_store FOLDER demo N or tuple_store FOLDER check [OPTIONS]"
 OPTIONS = [
     "FOLDER keeps the documents, and is made where it is missing; :memory: keeps them in memory, until the end",
     "run answers commands on standard input, a line of JSON each: upsert, delete, get, query, scan, collect, schema, flush",
@@ -38,6 +38,7 @@ OPTIONS = [
     "  --merge       2 to 8 components (default 4)",
     "  --limit       0 to 1,099,511,627,776 bytes (default 0)",
     "demo N answers N commands of its own, 1 to 1,000,000",
+    "check says whether the files of each partition are as a store leaves them, and changes nothing; it takes --partitions",
     "example: echo '{\"op\":\"upsert\",\"doc\":{\"id\":1,\"name\":\"Ada\"}}' | tuple_store store run",
 ]
 
@@ -55,14 +56,14 @@ COMMANDS = {
 
 # Words, and what is said of the first that does not fit.
 UNFIT = [
-    ([], "no word: FOLDER comes first, and then run or demo N"),
-    (["data"], "data: a folder alone; run or demo N comes next"),
-    (["run"], "run: a folder alone; run or demo N comes next"),
-    (["data", "start"], "start: after the folder data comes run or demo N"),
-    (["--window", "5", "run"], "5: after the folder --window comes run or demo N"),
-    (["data", "--window", "5", "run"], "--window: after the folder data comes run or demo N"),
-    (["data", "--", "run"], "--: after the folder data comes run or demo N"),
-    (["data", ""], ": after the folder data comes run or demo N"),
+    ([], "no word: FOLDER comes first, and then run, demo N or check"),
+    (["data"], "data: a folder alone; run, demo N or check comes next"),
+    (["run"], "run: a folder alone; run, demo N or check comes next"),
+    (["data", "start"], "start: after the folder data comes run, demo N or check"),
+    (["--window", "5", "run"], "5: after the folder --window comes run, demo N or check"),
+    (["data", "--window", "5", "run"], "--window: after the folder data comes run, demo N or check"),
+    (["data", "--", "run"], "--: after the folder data comes run, demo N or check"),
+    (["data", ""], ": after the folder data comes run, demo N or check"),
     (["data", "run", "--window", "5000"], "--window 5000: 1 to 4,096"),
     (["data", "run", "--window=5000"], "--window=5000: 1 to 4,096"),
     (["data", "run", "--window", "0"], "--window 0: 1 to 4,096"),
@@ -97,12 +98,19 @@ UNFIT = [
     (["data", "demo", "5", "6"], "6: demo takes one number, and nothing else"),
     (["data", "demo", "5", "--window", "6"], "--window: demo takes one number, and nothing else"),
     (["data", "demo", "--window", "6"], "--window: demo takes one number, and nothing else"),
+    (["data", "check", "--partitions", "17"], "--partitions 17: 1 to 16"),
+    (["data", "check", "--partitions=0"], "--partitions=0: 1 to 16"),
+    (["data", "check", "--partitions"], "--partitions: a number is missing, 1 to 16"),
+    (["data", "check", "--partitions", "2", "--partitions", "2"], "--partitions: given twice"),
+    (["data", "check", "--window", "64"], "--window: no option of check"),
+    (["data", "check", "2"], "2: no option of check"),
+    (["data", "check", "--", "2"], "2: no option of check"),
     (["data", b"\xff"], "a word is not UTF-8"),
 ]
 
 # Words that ask for help: nothing is wrong with them.
 HELP = [["--help"], ["-h"], ["help"], ["data", "--help"], ["data", "-h"], ["data", "help"], ["data", "run", "--help"],
-        ["data", "run", "-h"], ["data", "demo", "--help"], ["data", "run", "--window", "5", "--help"]]
+        ["data", "run", "-h"], ["data", "demo", "--help"], ["data", "check", "--help"], ["data", "run", "--window", "5", "--help"]]
 
 
 def component(first, last, partition=0, count=1, mark=b"TCC1"):
@@ -212,7 +220,7 @@ class UsageMessages(Messages):
 
     def test_each_refused_line_has_its_word(self):
         # A line is accepted in silence, or refused with a word that does not fit: no refusal is without one.
-        alphabet = ["run", "demo", "--window", "--window=5", "5", "0", "--", "-h"]
+        alphabet = ["run", "demo", "check", "--window", "--window=5", "5", "0", "--", "-h"]
         for length in range(4):
             for words in itertools.product(alphabet, repeat=length):
                 ended = self.run_program(":memory:", *words)

@@ -1,9 +1,9 @@
-//! The options of `run`, and the numbers that they take.
+//! The options of `run` and `check`, and the numbers that they take.
 
 use crate::shown::Grouped;
 use std::fmt;
 
-/// An option of `run`, with the numbers that it takes.
+/// An option, with the numbers that it takes.
 #[derive(Clone, Copy)]
 pub(crate) struct Setting {
     /// As it is written, `--window`.
@@ -32,14 +32,20 @@ impl fmt::Display for Limits {
 /// How many partitions a store may have.
 pub(crate) const MOST_PARTITIONS: u32 = 16;
 
-/// The options of `run`. They are those that `tc_words` reads, which `clients/tests/test_messages.py` compares.
-pub(crate) const SETTINGS: [Setting; 7] = [
-    Setting {
-        name: "--partitions",
-        limits: Limits { least: 1, most: 16 },
-        unit: "",
-        default: 2,
-    },
+const PARTITIONS: Setting = Setting {
+    name: "--partitions",
+    limits: Limits { least: 1, most: 16 },
+    unit: "",
+    default: 2,
+};
+
+/// The option of `check`. It and those of `run` are the ones that `tc_words` reads, which `clients/tests/test_messages.py`
+/// compares.
+pub(crate) const CHECK_SETTINGS: [Setting; 1] = [PARTITIONS];
+
+/// The options of `run`.
+pub(crate) const RUN_SETTINGS: [Setting; 7] = [
+    PARTITIONS,
     Setting {
         name: "--window",
         limits: Limits {

@@ -1,6 +1,6 @@
 //! The first word of a command line that does not fit.
 
-use crate::settings::{DEMO_LIMITS, Limits, SETTINGS, Setting};
+use crate::settings::{CHECK_SETTINGS, DEMO_LIMITS, Limits, RUN_SETTINGS, Setting};
 use tc_number::number_between;
 use tc_value::Text;
 
@@ -12,19 +12,37 @@ pub(crate) enum Unfit<'a> {
     /// A word asks for help, and nothing is wrong.
     Help,
     /// No word comes after the folder.
-    FolderAlone { folder: &'a str },
+    FolderAlone {
+        folder: &'a str,
+    },
     /// The word after the folder names no command.
-    Command { word: &'a str, folder: &'a str },
-    /// A word after `run` is none of its options.
-    Option { word: &'a str },
+    Command {
+        word: &'a str,
+        folder: &'a str,
+    },
+    /// A word after `run` or `check` is none of its options.
+    Option {
+        word: &'a str,
+        command: &'static str,
+    },
     /// An option is given again.
-    Again { name: &'static str },
+    Again {
+        name: &'static str,
+    },
     /// An option, or `demo`, ends without its number.
-    NoNumber { name: &'static str, limits: Limits },
+    NoNumber {
+        name: &'static str,
+        limits: Limits,
+    },
     /// A number is out of form or out of its limits.
-    Number { number: Number<'a>, limits: Limits },
+    Number {
+        number: Number<'a>,
+        limits: Limits,
+    },
     /// A word of `demo` is not its one number.
-    AfterDemo { word: &'a str },
+    AfterDemo {
+        word: &'a str,
+    },
 }
 
 /// The text of a number as it was given: behind a name, and a blank or an equals sign.
@@ -35,7 +53,14 @@ pub(crate) struct Number<'a> {
     pub(crate) text: &'a str,
 }
 
-/// What may come next in the words of `run`.
+/// A command that takes options.
+#[derive(Clone, Copy)]
+struct Command<'s> {
+    name: &'static str,
+    settings: &'s [Setting],
+}
+
+/// What may come next among the words of options.
 #[derive(Clone, Copy)]
 enum Next {
     Option,
@@ -64,6 +89,8 @@ fn walk<'a>(words: &'a [Text]) -> Result<(), Unfit<'a>> {
         walk_run(rest)
     } else if word == "demo" {
         walk_demo(rest)
+    } else if word == "check" {
+        walk_check(rest)
     } else if asks_for_help(word) || word == "help" {
         Err(Unfit::Help)
     } else {
@@ -81,13 +108,29 @@ fn of_one_word<'a>(folder: &'a str) -> Unfit<'a> {
 }
 
 fn walk_run<'a>(words: &'a [Text]) -> Result<(), Unfit<'a>> {
+    let run = Command {
+        name: "run",
+        settings: &RUN_SETTINGS,
+    };
+    walk_options(run, words)
+}
+
+fn walk_check<'a>(words: &'a [Text]) -> Result<(), Unfit<'a>> {
+    let check = Command {
+        name: "check",
+        settings: &CHECK_SETTINGS,
+    };
+    walk_options(check, words)
+}
+
+fn walk_options<'a>(command: Command<'_>, words: &'a [Text]) -> Result<(), Unfit<'a>> {
     let mut next = Next::Option;
     for (at, word) in words.iter().enumerate() {
         let word = word.as_str();
         next = match next {
-            Next::Option => after_option(words, at, word)?,
+            Next::Option => after_option(command, words, at, word)?,
             Next::Number(setting) => after_number(setting, ' ', word)?,
-            Next::End => return Err(Unfit::Option { word }),
+            Next::End => return Err(no_option(command, word)),
         };
     }
     match next {
@@ -97,14 +140,19 @@ fn walk_run<'a>(words: &'a [Text]) -> Result<(), Unfit<'a>> {
 }
 
 // What may come after the word at this place, which is to be an option.
-fn after_option<'a>(words: &'a [Text], at: usize, word: &'a str) -> Result<Next, Unfit<'a>> {
+fn after_option<'a>(
+    command: Command<'_>,
+    words: &'a [Text],
+    at: usize,
+    word: &'a str,
+) -> Result<Next, Unfit<'a>> {
     if word == "--" {
         return Ok(Next::End);
     }
     if asks_for_help(word) {
         return Err(Unfit::Help);
     }
-    for setting in SETTINGS {
+    for &setting in command.settings {
         if let Some(rest) = word.strip_prefix(setting.name) {
             if rest.is_empty() {
                 return first_of(words, at, setting, Next::Number(setting));
@@ -115,7 +163,14 @@ fn after_option<'a>(words: &'a [Text], at: usize, word: &'a str) -> Result<Next,
             }
         }
     }
-    Err(Unfit::Option { word })
+    Err(no_option(command, word))
+}
+
+fn no_option<'a>(command: Command<'_>, word: &'a str) -> Unfit<'a> {
+    Unfit::Option {
+        word,
+        command: command.name,
+    }
 }
 
 // What may come next, where no word in front of this place gives the option too.

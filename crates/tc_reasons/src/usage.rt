@@ -1,11 +1,14 @@
 //! What is said of words that are no command line: the first one that does not fit, and all that would.
 
-use crate::settings::{DEMO_LIMITS, SETTINGS};
+use crate::settings::{DEMO_LIMITS, RUN_SETTINGS};
 use crate::shown::{Grouped, Plain};
 use crate::unfit::{Number, Unfit, unfit_in};
 use std::fmt;
 use std::io::Error;
 use tc_value::Text;
+
+/// What may come after the folder.
+const COMMANDS: &str = "run, demo N or check";
 
 /// Says which word does not fit, and what would. Words that could not be read, since one is no text, are none here. The
 /// commands are those that `tc_command` reads, which `clients/tests/test_messages.py` compares.
@@ -21,7 +24,7 @@ pub fn say_usage(rt: HostRuntime, words: Option<&[Text]>) -> Result<(), Error> {
         "run answers commands on standard input, a line of JSON each: upsert, delete, get, query, scan, collect, schema, flush"
     )?;
     eprintln!(rt; "the options of run:")?;
-    for setting in SETTINGS {
+    for setting in RUN_SETTINGS {
         let name = setting.name;
         let limits = setting.limits;
         let unit = setting.unit;
@@ -29,6 +32,9 @@ pub fn say_usage(rt: HostRuntime, words: Option<&[Text]>) -> Result<(), Error> {
         eprintln!(rt; "  {name:<12}  {limits}{unit} (default {default})")?;
     }
     eprintln!(rt; "demo N answers N commands of its own, {DEMO_LIMITS}")?;
+    eprintln!(rt;
+        "check says whether the files of each partition are as a store leaves them, and changes nothing; it takes --partitions"
+    )?;
     eprintln!(rt;
         "example: echo '{{\"op\":\"upsert\",\"doc\":{{\"id\":1,\"name\":\"Ada\"}}}}' | tuple_store store run"
     )
@@ -46,20 +52,20 @@ impl<'a> fmt::Display for Unfit<'a> {
     /// What is wrong, and what would fit.
     fn fmt<W: fmt::Write>(&self, f: &mut fmt::Formatter<W>) -> fmt::Result {
         match *self {
-            Unfit::NoWord => f.write_str("no word: FOLDER comes first, and then run or demo N"),
+            Unfit::NoWord => write!(f, "no word: FOLDER comes first, and then {COMMANDS}"),
             Unfit::Help => f.write_str("help"),
             Unfit::FolderAlone { folder } => {
                 let folder = Plain(folder);
-                write!(f, "{folder}: a folder alone; run or demo N comes next")
+                write!(f, "{folder}: a folder alone; {COMMANDS} comes next")
             }
             Unfit::Command { word, folder } => {
                 let word = Plain(word);
                 let folder = Plain(folder);
-                write!(f, "{word}: after the folder {folder} comes run or demo N")
+                write!(f, "{word}: after the folder {folder} comes {COMMANDS}")
             }
-            Unfit::Option { word } => {
+            Unfit::Option { word, command } => {
                 let word = Plain(word);
-                write!(f, "{word}: no option of run")
+                write!(f, "{word}: no option of {command}")
             }
             Unfit::Again { name } => write!(f, "{name}: given twice"),
             Unfit::NoNumber { name, limits } => write!(f, "{name}: a number is missing, {limits}"),

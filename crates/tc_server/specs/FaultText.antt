@@ -13,7 +13,7 @@ damage_text p (Bytes file place bytes) =
 damage_text p (Files names) = codes "files of partition " ++ (decimal p ++ codes " do not fit together")
 
 abbrev pub text_of_fault : RunFault → List ℕ
-text_of_fault Usage = codes "usage: tuple_store FOLDER run [OPTIONS] or tuple_store FOLDER demo N"
+text_of_fault Usage = codes "usage: tuple_store FOLDER run [OPTIONS], tuple_store FOLDER demo N or tuple_store FOLDER check [OPTIONS]"
 text_of_fault Read = codes "read fault"
 text_of_fault (Write n) = codes "write fault after " ++ (decimal n ++ codes " bytes")
 text_of_fault Spent = codes "no number left"

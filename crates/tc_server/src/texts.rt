@@ -17,7 +17,7 @@ pub fn fault_text(alloc: Global, fault: &RunFault) -> Result<Text, AllocError>
         RunFault::Damaged { partition, damage } => damage_text(alloc, *partition, damage),
         RunFault::Usage => Ok(Text::of(String::from_str(
             alloc,
-            "usage: tuple_store FOLDER run [OPTIONS] or tuple_store FOLDER demo N",
+            "usage: tuple_store FOLDER run [OPTIONS], tuple_store FOLDER demo N or tuple_store FOLDER check [OPTIONS]",
         )?)),
         RunFault::Read => Ok(Text::of(String::from_str(alloc, "read fault")?)),
         RunFault::Spent => Ok(Text::of(String::from_str(alloc, "no number left")?)),
