@@ -305,6 +305,13 @@ class DiskMessages(Messages):
             shown = subprocess.run(["sh", "-c", command], cwd=self.folder, capture_output=True, text=True, timeout=60)
             self.assertIn(str(os.getpid()), shown.stdout + shown.stderr)
 
+    def test_the_command_takes_a_folder_that_begins_with_a_dash_for_none_of_its_options(self):
+        for folder, shown in ("-x", "./-x/p0"), ("-my store", "./'-my store/p0'"):
+            self.assertEqual(self.run_program(folder, *self.ONE, lines=self.LINE).returncode, 0)
+            with self.held(self.folder / folder / "p0"):
+                self.check(5, ["disk fault in partition 0", f"{folder}/p0: another program holds it",
+                    f"to see which one: fuser -v {shown}"], folder, *self.ONE)
+
     def test_a_command_that_is_no_line_is_left_out(self):
         place = self.folder / "a\nb"
         self.assertEqual(self.run_program("a\nb", *self.ONE, lines=self.LINE).returncode, 0)

@@ -56,13 +56,15 @@ fn say_folder(rt: HostRuntime, path: &str, error: Error) -> Result<(), Error> {
     }
 }
 
-// Says which command shows who holds a folder. One with a control character would not stand on one line, and is left out.
+// Says which command shows who holds a folder. One with a control character would not stand on one line, and is left out. A
+// path that begins with a dash would be an option.
 fn say_who_holds(rt: HostRuntime, path: &str) -> Result<(), Error> {
     if !path.chars().all(|letter| !letter.is_control()) {
         return Ok(());
     }
+    let here = if path.starts_with('-') { "./" } else { "" };
     let quoted = Quoted(path);
-    eprintln!(rt; "to see which one: fuser -v {quoted}")
+    eprintln!(rt; "to see which one: fuser -v {here}{quoted}")
 }
 
 // Whether the system refuses by this what is asked of the last folder on a path that is there.

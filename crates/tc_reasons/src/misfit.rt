@@ -44,7 +44,7 @@ fn follow(names: &[FileName]) -> Result<(), Misfit> {
     Ok(())
 }
 
-// The newest component that counts behind this one, which is the next in order.
+// The newest component that counts after this one, which is the next in order.
 fn after_component(newest: Interval, next: Interval) -> Result<Interval, Misfit> {
     if next.to <= newest.to {
         return Ok(newest);
@@ -62,7 +62,7 @@ fn after_component(newest: Interval, next: Interval) -> Result<Interval, Misfit>
     Ok(next)
 }
 
-// What is there behind a log, whose generation counts only where no component has it.
+// What is there after a log, whose generation counts only where no component has it.
 fn after_log(newest: Interval, generation: u64) -> Result<Interval, Misfit> {
     if generation <= newest.to {
         return Ok(newest);

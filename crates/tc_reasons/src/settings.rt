@@ -9,7 +9,7 @@ pub(crate) struct Setting {
     /// As it is written, `--window`.
     pub(crate) name: &'static str,
     pub(crate) limits: Limits,
-    /// What it counts, behind a blank; no text where the name says so.
+    /// What it counts, after a blank; no text where the name says so.
     pub(crate) unit: &'static str,
     pub(crate) default: u64,
 }

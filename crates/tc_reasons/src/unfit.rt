@@ -45,7 +45,7 @@ pub(crate) enum Unfit<'a> {
     },
 }
 
-/// The text of a number as it was given: behind a name, and a blank or an equals sign.
+/// The text of a number as it was given: after a name, and a blank or an equals sign.
 #[derive(Clone, Copy)]
 pub(crate) struct Number<'a> {
     pub(crate) name: &'static str,

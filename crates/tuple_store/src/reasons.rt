@@ -1,4 +1,4 @@
-//! What is said below the first line of the fault that ended a run.
+//! What is said below the first line of the fault that ended a run or a check.
 
 use crate::IN_MEMORY;
 use std::io::Error;
@@ -10,7 +10,7 @@ use tc_server::{RunFault, words};
 use tc_value::Text;
 use tc_words::WordsFault;
 
-/// The errors of the system behind a fault.
+/// The errors of the system that a fault came of.
 #[derive(Clone, Copy)]
 pub(crate) struct Errors {
     /// Why the last read failed of those that did.
