@@ -27,11 +27,12 @@ use Rattle.tc_machine.proofs.DeviceSteps.{settled_image}
 use Rattle.tc_recover.specs.declared.taken.Taken.{Taken}
 use Rattle.tc_recover.specs.Files.{picture_at, picture_in}
 use Rattle.tc_recover.specs.Lawful.{DiskOpens, found_of}
+use Rattle.tc_recover.specs.Loading.{interval_of, tile_name}
 use Rattle.tc_recover.specs.Opening.{AreAllTaken, Found, IsReadOf, found_in}
 use Rattle.tc_recover.proofs.LawfulDisks.{all_bytes, left_bytes, opens_same}
 use Rattle.tc_lawful.specs.Audited.{IsAudited}
 use Rattle.tc_lawful.specs.Files.{IsReadable, IsWhole}
-use Rattle.tc_lawful.proofs.LoadedFiles.{ends_as, indexes_are, loaded_there, there_loaded}
+use Rattle.tc_lawful.proofs.LoadedFiles.{IsOwn, ends_as, indexes_are, loaded_there, there_loaded}
 use Rattle.tc_lawful.proofs.OpenFiles.{not_before_itself}
 
 -- ---- the picture of a disk at rest
@@ -73,6 +74,13 @@ pub told_same : {F W : Type 0} (content : F → Option (List ℕ)) (name : F →
     → ((n : FileName) → Contains names n ↔ IsThere (disk n)) → (n : FileName) → bytes_at (picture_in content files) n ≡ bytes_at (picture_at disk names) n
 told_same content name files disk past new names rests taken exact n =
     ap (λ (picture : Picture). bytes_at picture n) taken.picture ∙ (all_bytes disk rests (map (λ t. t.name) files) taken.exact n ∙ sym (all_bytes disk rests names exact n))
+
+-- what a component's own file tells is what the disk has under the component's name
+pub disk_own : {F W : Type 0} (content : F → Option (List ℕ)) (name : F → FileName) (files : List (Taken F W)) (disk : Disk) (past new : List Disk) (list : List (ComponentState F)) → IsAtRest disk → AreAllTaken content name files (disk ∷ past) new
+    → All (IsOwn content (picture_in content files)) list → All (λ x. content x.file ≡ content_of (disk (tile_name (interval_of x)))) list
+disk_own {F = F} content name files disk past new list rests taken own =
+    let held : (n : FileName) → bytes_at (picture_in content files) n ≡ content_of (disk n) = λ n. ap (λ (picture : Picture). bytes_at picture n) taken.picture ∙ all_bytes disk rests (map (λ t. t.name) files) taken.exact n in
+    All-weaker (IsOwn {F = F} content (picture_in content files)) (λ (x : ComponentState F). content x.file ≡ content_of (disk (tile_name (interval_of x)))) (λ x is. is ∙ held (tile_name (interval_of x))) list own
 
 -- ---- pictures with the same files
 

@@ -1,6 +1,6 @@
 -- The file of each component that was read is a component with what was read of it, where it is bytes.
-use Rattle.std.proofs.Common.{◌≡◌, ◌∙◌, ◌<◌, ℕ, true, List, [], ◌∷◌, map, Option, None, Some, Ok, length, sym, subst}
-use Rattle.std.specs.Prelude.{All, IfSome, unwrap_or}
+use Rattle.std.proofs.Common.{◌≡◌, ◌∙◌, ◌<◌, ℕ, true, List, [], ◌∷◌, map, Option, None, Some, Ok, length, refl, sym, subst}
+use Rattle.std.specs.Prelude.{All, IfSome, IsSome, unwrap_or}
 use Rattle.std.proofs.lemmas.Bool.{and_parts}
 use Rattle.std.proofs.lemmas.List.Elements.{All-cons, All-head, All-nil, All-tail, All-weaker}
 use Rattle.tc_bytes.specs.Codec.{IsBytes}
@@ -12,7 +12,7 @@ use Rattle.tc_component.specs.Loading.{ComponentState, index_in}
 use Rattle.tc_component.specs.Reading.{file_judged}
 use Rattle.tc_component.specs.Spelling.{Holds, Index, name_of}
 use Rattle.tc_recover.specs.declared.taken.Taken.{Taken}
-use Rattle.tc_recover.specs.Files.{AreGates}
+use Rattle.tc_recover.specs.Files.{AreGates, AreTold}
 use Rattle.tc_recover.specs.Loading.{interval_of, tile_name}
 use Rattle.tc_lawful.proofs.CountedTiles.{IsJudgedAt}
 use Rattle.tc_lawful.proofs.LoadedFiles.{HoldsBy, IsOwn}
@@ -45,19 +45,30 @@ files_open {F = F} {W = W} content (t ∷ files) gates each =
 abbrev pub AreHeld : Type 0
 AreHeld = (name : FileName) (bytes : List ℕ) (c : Index) → IsBytes bytes → is_open_file bytes ≡ true → length bytes < number_end → file_judged name bytes ≡ Ok c → Holds bytes c
 
-one_held : AreHeld → (told : Option (List ℕ)) (c : Index) → file_judged (name_of c.head) (unwrap_or told []) ≡ Ok c → IfSome told IsOpenFile → IfSome told (λ bytes. Holds bytes c)
-one_held held None c judged is = tt
-one_held held (Some bytes) c judged is = held (name_of c.head) bytes c is.1.0 is.0 is.1.1 judged
+-- the file tells a component with this index
+abbrev pub IsHeldBy : {F : Type 0} → (F → Option (List ℕ)) → ComponentState F → Type 0
+IsHeldBy content x = (bytes : List ℕ) × (content x.file ≡ Some bytes) × Holds bytes x.index
 
-pub all_held : {F : Type 0} → AreHeld → (content : F → Option (List ℕ)) (picture : Picture) (list : List (ComponentState F)) → All (IsOwn content picture) list → All (IsJudgedAt picture) (map index_in list) → All (λ x. IfSome (content x.file) IsOpenFile) list
-    → All (λ x. IfSome (content x.file) (λ bytes. Holds bytes x.index)) list
-all_held {F = F} held content picture [] own judged opened = All-nil (λ (x : ComponentState F). IfSome (content x.file) (λ bytes. Holds bytes x.index))
-all_held {F = F} held content picture (x ∷ list) own judged opened =
+one_held : AreHeld → (told : Option (List ℕ)) (c : Index) → IsSome told → file_judged (name_of c.head) (unwrap_or told []) ≡ Ok c → IfSome told IsOpenFile → (bytes : List ℕ) × (told ≡ Some bytes) × Holds bytes c
+one_held held None c some judged is = absurd (cc)
+one_held held (Some bytes) c some judged is = (bytes, refl, held (name_of c.head) bytes c is.1.0 is.0 is.1.1 judged)
+
+pub all_held : {F : Type 0} → AreHeld → (content : F → Option (List ℕ)) (picture : Picture) (list : List (ComponentState F)) → All (IsOwn content picture) list → All (IsJudgedAt picture) (map index_in list) → All (λ x. IsSome (content x.file)) list
+    → All (λ x. IfSome (content x.file) IsOpenFile) list → All (IsHeldBy content) list
+all_held {F = F} held content picture [] own judged some opened = All-nil (IsHeldBy {F = F} content)
+all_held {F = F} held content picture (x ∷ list) own judged some opened =
     let told : content x.file ≡ bytes_at picture (name_of x.index.head) = All-head (IsOwn {F = F} content picture) x list own in
     let here : file_judged (name_of x.index.head) (unwrap_or (bytes_at picture (name_of x.index.head)) []) ≡ Ok x.index = All-head (IsJudgedAt picture) x.index (map index_in list) judged in
-    All-cons (λ (y : ComponentState F). IfSome (content y.file) (λ bytes. Holds bytes y.index)) x list
-    (one_held held (content x.file) x.index (subst (λ image. file_judged (name_of x.index.head) (unwrap_or image []) ≡ Ok x.index) (sym told) here) (All-head (λ (y : ComponentState F). IfSome (content y.file) IsOpenFile) x list opened))
-    (all_held held content picture list (All-tail (IsOwn {F = F} content picture) x list own) (All-tail (IsJudgedAt picture) x.index (map index_in list) judged) (All-tail (λ (y : ComponentState F). IfSome (content y.file) IsOpenFile) x list opened))
+    let judged_so = subst (λ image. file_judged (name_of x.index.head) (unwrap_or image []) ≡ Ok x.index) (sym told) here in
+    All-cons (IsHeldBy {F = F} content) x list
+    (one_held held (content x.file) x.index (All-head (λ (y : ComponentState F). IsSome (content y.file)) x list some) judged_so (All-head (λ (y : ComponentState F). IfSome (content y.file) IsOpenFile) x list opened))
+    (all_held held content picture list (All-tail (IsOwn {F = F} content picture) x list own) (All-tail (IsJudgedAt picture) x.index (map index_in list) judged) (All-tail (λ (y : ComponentState F). IsSome (content y.file)) x list some)
+    (All-tail (λ (y : ComponentState F). IfSome (content y.file) IsOpenFile) x list opened))
+
+-- each file that was taken tells its bytes
+pub files_some : {F W : Type 0} (content : F → Option (List ℕ)) (files : List (Taken F W)) → AreTold content files → All (HoldsBy (λ x. IsSome (content x.file))) files
+files_some {F = F} {W = W} content files told =
+    All-weaker (λ (t : Taken F W). IsSome (content t.file)) (HoldsBy {F = F} {W = W} (λ x. IsSome (content x.file))) (λ t some x same is. subst (λ f. IsSome (content f)) (sym same) some) files told
 
 -- pictures with the same files
 pub own_same : {F : Type 0} (content : F → Option (List ℕ)) (p q : Picture) (list : List (ComponentState F)) → ((name : FileName) → bytes_at p name ≡ bytes_at q name) → All (IsOwn content p) list → All (IsOwn content q) list

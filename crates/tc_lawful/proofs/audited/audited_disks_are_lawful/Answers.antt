@@ -10,12 +10,13 @@ use Rattle.tc_lawful.proofs.CountedTiles.{same_answer}
 use Rattle.tc_lawful.proofs.LoadedFiles.{each_told}
 use Rattle.tc_lawful.proofs.audited.audited_disks_are_lawful.Goals as goal
 
-pub returns-clause-opens : goal.returns-clause-opens
-returns-clause-opens g c = λ part disk past new files left list writes last cs logs rests taken readable judged read.
+pub returns : goal.returns
+returns g c = λ part disk past new files left list writes last cs logs rests taken judged read.
     let content : g.row.S-Frozen.Denot → Option (List ℕ) = λ f. g.S.Frozen.Frozen.content f in
     let name : g.row.S-Frozen.Denot → FileName = λ f. g.S.Frozen.Frozen.name f in
     let names = judged.0 in
     let picture = picture_at disk names in
+    let readable = c.judged_files_are_lawful.ensures.bytes (picture_in content files) last (each_told content (λ bytes. IsBytes bytes × (length bytes < number_end)) files taken.told taken.bytes) in
     let ascend = disk_ascends disk names judged.2 in (
       λ audited.
           let whole = audited_whole content name part disk past new files left list writes last cs logs rests taken read names judged.1 judged.2 audited in
@@ -27,7 +28,3 @@ returns-clause-opens g c = λ part disk past new files left list writes last cs 
           let found = same_answer (found_in list writes) (found_of cs logs) (law.one_way part picture (Ok (found_in list writes)) (Ok (found_of cs logs)) judged.3 (law.read part picture cs logs ascend opened)) in
           opened_audited content name part disk past new files left list writes last cs logs rests taken read names judged.1 judged.2 opened found,
     )
-
-pub returns-clause-bytes : goal.returns-clause-bytes
-returns-clause-bytes g c = λ files last told each.
-    c.judged_files_are_lawful.ensures.bytes (picture_in (λ f. g.S.Frozen.Frozen.content f) files) last (each_told (λ f. g.S.Frozen.Frozen.content f) (λ bytes. IsBytes bytes × (length bytes < number_end)) files told each)
