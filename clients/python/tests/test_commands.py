@@ -15,6 +15,7 @@ from unittest import mock
 
 from tuple_store_client import Store, unwrap, wrap
 from tuple_store_client.arguments import ABOUT
+from tuple_store_client.check import verdict_lines
 from tuple_store_client.folder import held, partition_folders
 from tuple_store_client.paths import hops
 
@@ -101,6 +102,40 @@ class Commands(StoreTest):
         self.assertEqual(lines[0], "people/p0: 0 documents in components, 0 writes in logs, 0 names")
         size = os.path.getsize("people/p1/l-1")
         self.assertIn(f"  l-1         {size:>15,} bytes  log   2 writes in 2 frames", lines)
+
+    def test_check(self) -> None:
+        self.assertEqual(self.tuplectl("people", "check"), (0, "p0: right, 0 documents\np1: right, 2 documents\n", ""))
+        os.remove("people/p1/l-1")
+        self.assertEqual(self.tuplectl("people", "check"), (0, "p0: right, 0 documents\np1: right, 0 documents\n", ""))
+
+    def test_a_check_that_finds_something(self) -> None:
+        rows = [
+            ({118: 2}, "c-1-1 counts 2 objects at the top, and its documents have 1"),
+            ({135: 2}, "c-1-1 counts 2 booleans at a, and its documents have 1"),
+            ({87: 2}, "c-1-1 is damaged at byte 61"),
+            ({8: 1, 12: 2}, "a file is of partition 1 of 2"),
+        ]
+        for changes, why in rows:
+            content = bytearray(spelled(FIRST))
+            for place, byte in changes.items():
+                content[place] = byte
+            self.write("store/p0/c-1-1", bytes(content))
+            self.assertEqual(self.tuplectl("store", "check"), (1, f"p0: wrong: {why}\n", ""))
+        os.remove("store/p0/c-1-1")
+        self.write("store/p0/c-2-2", component(2, 2, [], [], b"\0"))
+        self.assertEqual(self.tuplectl("store", "check"), (1, "p0: wrong: the files c-2-2 do not fit together\n", ""))
+
+    def test_verdicts_as_lines(self) -> None:
+        deep = {"counted": 1000, "file": "c-1-9", "kept": 0, "kind": "null", "path": [None, "a", None, "b c"]}
+        whys = [
+            (deep, 'c-1-9 counts 0 null at [].a[]."b c", and its documents have 1,000'),
+            ({"number": 4294967296, "over": "documents"}, "it has 4,294,967,296 documents, and no partition has so many"),
+            ({"number": 4294967296, "over": "names"}, "it has 4,294,967,296 names, and no partition has so many"),
+            ({"number": 1073741824, "over": "record_bytes"}, "a record in a log has 1,073,741,824 bytes"),
+        ]
+        for why, said in whys:
+            lines = list(verdict_lines([{"check": "wrong", "partition": 3, "why": why}]))
+            self.assertEqual(lines, [f"p3: wrong: {said}"])
 
     def test_backup(self) -> None:
         self.tuplectl("people", "words", "--memory", "8192")
@@ -203,9 +238,10 @@ class Stores(StoreTest):
     def test_a_folder_that_holds_no_store_is_not_made_one_by_reading(self) -> None:
         os.mkdir("empty")
         self.write("file", "")
-        self.refuses("nowhere", 10, "nowhere is not there")
-        self.refuses("empty", 10, "empty holds no store: no folder p0 is in it")
-        self.refuses("file", 10, "file is no folder")
+        commands = [*READS, ["check"]]
+        self.refuses("nowhere", 10, "nowhere is not there", commands)
+        self.refuses("empty", 10, "empty holds no store: no folder p0 is in it", commands)
+        self.refuses("file", 10, "file is no folder", commands)
         self.assertEqual(sorted(os.listdir()), ["empty", "file"])
         self.assertEqual(os.listdir("empty"), [])
 
@@ -220,7 +256,7 @@ class Stores(StoreTest):
     def test_a_store_that_is_held(self) -> None:
         with Store("people", program=PROGRAM):
             commands = [it for it in READS if it[0] != "stats"]
-            self.refuses("people", 5, "another program holds it", [*commands, ["put", '{"id":1}']])
+            self.refuses("people", 5, "another program holds it", [*commands, ["check"], ["put", '{"id":1}']])
             ran = self.tuplectl("people", "load", "-", stdin='{"id":1}')
             self.assertEqual((ran.status, ran.out), (5, ""))
 
@@ -247,7 +283,7 @@ class Stores(StoreTest):
         self.assertFalse(os.path.exists("copy"))
 
     def test_a_store_in_memory(self) -> None:
-        self.refuses(":memory:", 2, "would be gone at the end", [["put", '{"id":1}'], ["load", "-"]])
+        self.refuses(":memory:", 2, "would be gone at the end", [["put", '{"id":1}'], ["load", "-"], ["check"]])
         self.assertEqual(self.tuplectl("./:memory:", "put", '{"id":1}').status, 0)
 
     def test_a_program_that_is_not_there(self) -> None:

@@ -14,7 +14,7 @@ _TOP = """Works on the store in FOLDER. `tuplectl FOLDER COMMAND --help` shows a
 
 _STATUSES = """exit statuses:
   0    done
-  1    something was refused or not found; of schema --diff, something differs
+  1    something was refused or not found; of schema --diff, something differs; of check, something is wrong
   2    the words of the command line, or the options kept in FOLDER, are wrong
   3    an input file cannot be read as documents
   4    the output was closed
@@ -80,6 +80,13 @@ the document itself.""",
         "shows what lies in the folder",
         "Shows the files of each partition, from the files alone, also while a program is at work on the store.",
         "  tuplectl people stats --json",
+    ),
+    "check": (
+        "audits the files",
+        """Has the program read all files of the store and says of each partition that they are right, with the number of its
+documents, or what is wrong first. It finds what an opening does not look at: each record, and each number of the schema.
+Nothing is changed.""",
+        "  tuplectl people check",
     ),
     "dump": (
         "prints all documents",
@@ -219,6 +226,7 @@ _OPTIONS: "dict[str, Callable[[argparse.ArgumentParser], None]]" = {
     "find": _find,
     "schema": _schema,
     "stats": _stats,
+    "check": _nothing,
     "dump": _dump,
     "backup": _backup,
     "words": _words,

@@ -12,6 +12,7 @@ from typing import Any, Dict, Iterator, List, Optional
 from . import errors
 from .arguments import parser
 from .backup import BadCopy, backup
+from .check import check, is_right, verdict_lines
 from .dump import dump, dump_rows, keys
 from .folder import partition_count, partition_folders
 from .inputs import BadInput, Input, Item, JsonValues
@@ -87,8 +88,7 @@ def say(text: str) -> None:
 
 def open_store(asked: argparse.Namespace, words: Words, must_exist: bool = True) -> Store:
     """Opens the store with the options that are kept in its folder, and with these where none is."""
-    if asked.folder == ":memory:":
-        raise BadWords(":memory: would be gone at the end of the command; a folder of that name is ./:memory:")
+    _refuse_memory(asked.folder)
     count = len(partition_folders(asked.folder)) if must_exist else partition_count(asked.folder)
     kept = kept_words(asked.folder)
     if count and kept.partitions not in (None, count):
@@ -98,6 +98,11 @@ def open_store(asked: argparse.Namespace, words: Words, must_exist: bool = True)
         )
     options = kept.over(Words(partitions=count)).over(words).said()
     return Store(asked.folder, program=asked.program, **options)  # type: ignore[arg-type]
+
+
+def _refuse_memory(folder: str) -> None:
+    if folder == ":memory:":
+        raise BadWords(":memory: would be gone at the end of the command; a folder of that name is ./:memory:")
 
 
 def _load(asked: argparse.Namespace) -> int:
@@ -273,6 +278,13 @@ def _stats(asked: argparse.Namespace) -> int:
     return DONE
 
 
+def _check(asked: argparse.Namespace) -> int:
+    _refuse_memory(asked.folder)
+    verdicts = check(asked.folder, asked.program)
+    print("\n".join(verdict_lines(verdicts)))
+    return DONE if all(map(is_right, verdicts)) else REFUSED
+
+
 def _dump(asked: argparse.Namespace) -> int:
     if asked.rows and asked.fractions:
         raise BadWords("--rows prints what the store has: it goes without --fractions")
@@ -314,6 +326,7 @@ _COMMANDS = {
     "find": _find,
     "schema": _schema,
     "stats": _stats,
+    "check": _check,
     "dump": _dump,
     "backup": _backup,
     "words": _words,

@@ -60,6 +60,13 @@ def file_names(folder: str) -> List[FileName]:
 
 def partition_folders(folder: str) -> List[str]:
     """The folders of the partitions, by number. Raises `NoStore` where there is none."""
+    count = folder_count(folder)
+    _check_count(folder, count)
+    return [os.path.join(folder, f"p{number}") for number in range(count)]
+
+
+def folder_count(folder: str) -> int:
+    """How many folders of partitions there are, whatever is in them. Raises `NoStore` where there is none."""
     try:
         found = sorted(int(match[1]) for match in map(_PARTITION.fullmatch, os.listdir(folder)) if match)
     except FileNotFoundError:
@@ -71,8 +78,7 @@ def partition_folders(folder: str) -> List[str]:
     if found != list(range(len(found))):
         missing = next(number for number in range(len(found)) if number not in found)
         raise PartitionsDiffer(f"{folder}: the folder p{missing} of a partition is missing")
-    _check_count(folder, len(found))
-    return [os.path.join(folder, f"p{number}") for number in found]
+    return len(found)
 
 
 def _check_count(folder: str, count: int) -> None:
