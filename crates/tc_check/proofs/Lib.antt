@@ -1,0 +1,6 @@
+mod LongRecords
+mod DocumentCounts
+mod NamedLogs
+mod RightLogs
+mod CheckedReads
+mod CheckedDisks

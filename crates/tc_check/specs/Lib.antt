@@ -1,0 +1,6 @@
+pub mod Counting
+pub mod Long
+pub mod Naming
+pub mod Faults
+pub mod Answers
+pub mod Verdicts
