@@ -1,9 +1,13 @@
 //! Layer 6, programs: a document store that answers lines of JSON on standard input, and keeps its documents in a folder.
 #![tactic(auto)]
 
+mod checks;
+mod disk;
 mod kits;
 mod reasons;
 
+use checks::check_in;
+use disk::disk_error;
 use kits::empty_kits;
 use reasons::{Errors, say_reason};
 use std::alloc::Global;
@@ -12,40 +16,54 @@ use std::process::ExitCode;
 use std::sync::Wait;
 use std::thread::Threads;
 use tc_edge::{StdSink, StdSource};
-use tc_files::{FileShelf, FileStore};
+use tc_files::FileShelf;
 use tc_reasons::{DiskError, Kept};
 use tc_running::Free;
-use tc_server::{RunFault, Served, run_program, words};
+use tc_server::{Served, run_program, words};
 use tc_store::{MemShelf, Shelf, Store};
 use tc_value::Text;
-use tc_words::WordsFault;
+use tc_words::{WordsFault, check_asked};
 
 /// The folder that stands for stores in memory, which hold nothing at first and are gone when the program ends.
 const IN_MEMORY: &str = ":memory:";
 
 fn main(rt: HostRuntime) -> ExitCode {
     match words(&rt) {
-        Ok(words) => run_in(rt, &rt, words),
+        Ok(words) => start(rt, &rt, words),
         Err(fault) => run_in_memory(rt, &rt, Err(fault)),
     }
 }
 
-// Runs the words behind the first one, which is the folder. Without a word there is none behind it either. Threads come as a
-// handle of their own, since only `main` has them to give.
-fn run_in(
+// Does what the words after the first one ask for, which is the folder. Without a word there is none after it either. Threads
+// come as a handle of their own, since only `main` has them to give.
+fn start(
     rt: HostRuntime,
     threads: &(impl Eprint + AllocGlobal + Threads + Wait + Sync),
     words: Vec<Text>,
 ) -> ExitCode {
     let (folder, rest) = split_folder(rt.alloc(), words);
-    if folder.as_str() == IN_MEMORY {
-        run_in_memory(rt, threads, Ok(rest))
-    } else {
-        run_in_folder(rt, threads, folder, rest)
+    match check_asked(rt.alloc(), rest.as_slice()) {
+        Ok(Some(partitions)) => check_in(rt, folder, partitions),
+        Ok(None) => run_in(rt, threads, folder, rest),
+        Err(fault) => run_in_memory(rt, threads, Err(fault)),
     }
 }
 
-// The first word, and those behind it.
+// Runs these words over the store of a folder.
+fn run_in(
+    rt: HostRuntime,
+    threads: &(impl Eprint + AllocGlobal + Threads + Wait + Sync),
+    folder: Text,
+    words: Vec<Text>,
+) -> ExitCode {
+    if folder.as_str() == IN_MEMORY {
+        run_in_memory(rt, threads, Ok(words))
+    } else {
+        run_in_folder(rt, threads, folder, words)
+    }
+}
+
+// The first word, and those after it.
 fn split_folder(alloc: Global, mut words: Vec<Text>) -> (Text, Vec<Text>) {
     if words.is_empty() {
         return (Text::of(String::new(alloc)), words);
@@ -78,7 +96,7 @@ fn run_in_folder(
 ) -> ExitCode {
     let mut shelf = FileShelf::new(rt, folder);
     let run = run_over(rt, threads, Ok(words), &mut shelf);
-    let error = disk_error(&shelf, &run.served);
+    let error = disk_error(&shelf, &run.served.fault, run.served.kits.as_slice());
     report(rt, &run, error)
 }
 
@@ -111,24 +129,6 @@ where
         read_error: source.into_inner().last_error(),
         write_error: sink.into_inner().last_error(),
     }
-}
-
-// Why the kit of a partition was not given, or else why a call on its files failed; nothing where none did.
-fn disk_error(shelf: &FileShelf, served: &Served<FileStore>) -> Option<DiskError> {
-    let Some(RunFault::Disk { partition }) = &served.fault else {
-        return None;
-    };
-    if let Some(error) = shelf.last_error() {
-        return Some(DiskError::Folder(error));
-    }
-    let kit = served.kits.as_slice().get(*partition as usize)?;
-    let error = kit
-        .main
-        .last_error()
-        .or(kit.flusher.last_error())
-        .or(kit.merger.last_error())
-        .or(kit.reader.last_error())?;
-    Some(DiskError::File(error))
 }
 
 // Says why a run ended, below the line that it has said, and answers its exit status.
