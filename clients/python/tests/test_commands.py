@@ -345,6 +345,9 @@ class Processes(StoreTest):
         os.close(main_end)
 
     def test_a_load_that_is_stopped_says_what_is_stored(self) -> None:
+        # A shell has what it runs in the background ignore this signal, and so would the command.
+        before = signal.signal(signal.SIGINT, signal.default_int_handler)
+        self.addCleanup(signal.signal, signal.SIGINT, before)
         environment = {**os.environ, "PYTHONPATH": CLIENT, "TUPLE_STORE": PROGRAM}
         words = [sys.executable, "-m", "tuple_store_client", "people", "load", "-"]
         for stop, status, said in ((signal.SIGINT, 130, "stopped"), (signal.SIGKILL, -9, "")):
