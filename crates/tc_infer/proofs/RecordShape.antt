@@ -1,16 +1,19 @@
 -- The tokens of a record with names tell the shape of its document, and the names of that shape in their order.
-use Rattle.std.proofs.Common.{◌≡◌, ◌∙◌, true, List, ◌++◌, Option, None, Some, inl, inr, refl, sym, ap, subst, append-nil}
+use Rattle.std.proofs.Common.{◌≡◌, ◌∙◌, ℕ, true, List, ◌++◌, Option, None, Some, inl, inr, refl, sym, ap, subst, append-nil}
 use Rattle.std.proofs.lemmas.Bool.{true≢false}
 use Rattle.std.proofs.lemmas.List.Concat.{flat_map-append}
 use Rattle.tc_model.specs.Tree.{leaf, array, object, Items, no_items, item, Members, no_members, member, relabel, items_relabel, members_relabel}
 use Rattle.tc_model.specs.Document.{Name, Document, Scalar, ShapeTree, scalar_kind, document_shape}
+use Rattle.tc_model.specs.Stored.{IsObject}
 use Rattle.tc_model.specs.ShapeNames.{names_within, names_of_items, names_of_members}
 use Rattle.tc_record.specs.Preorder.{Token, preorder, items_preorder, members_preorder}
 use Rattle.tc_record.specs.Walk.{Key, name}
 use Rattle.tc_record.specs.Record.{IsRecordOf}
 use Rattle.tc_record.specs.Borrowed.{Record, Spells, named_tokens}
 use Rattle.tc_record.proofs.OneDocument.{documents_are_one}
-use Rattle.tc_infer.specs.Levels.{label_names, names_told, shape_told}
+use Rattle.tc_compact.specs.Meant.{tokens_meant, IsRecordUnder}
+use Rattle.tc_compact.proofs.Meanings.{tokens_are}
+use Rattle.tc_infer.specs.Levels.{label_names, names_told, shape_told, shape_under}
 use Rattle.tc_infer.proofs.LevelLaws.{document_told}
 
 -- ---- names
@@ -36,6 +39,14 @@ mutual
 
 -- ---- records
 
+object_under : (names : List Name) (d : Document) (bytes : List ℕ) → IsRecordUnder names d bytes → IsObject d
+object_under names d bytes (inl is) = is.is_object
+object_under names d bytes (inr (whole, is, form1)) = is.is_object
+
+-- the tokens of a record mean the shape of its document
+pub meant_shape : (names : List Name) (r : Record) (d : Document) → Spells r → IsRecordUnder names d r.bytes → shape_under names r.tokens ≡ document_shape d
+meant_shape names r d spells is = ap shape_told (tokens_are names r d spells is) ∙ document_told d (object_under names d r.bytes is)
+
 module _ (r : Record) (spells : Spells r) (named : r.named ≡ true) where
   -- a record with names is that of a document
   record Told : Type 0 where
@@ -60,6 +71,10 @@ module _ (r : Record) (spells : Spells r) (named : r.named ≡ true) where
   -- what holds of the shape of each document of the record holds of the shape that the tokens tell
   pub of_told : (P : ShapeTree → Type 0) → ((d : Document) → IsRecordOf d r.bytes → P (document_shape d)) → P (shape_told r.tokens)
   of_told P each = subst P (sym shape_is) (each told.document told.is_record)
+
+  -- names mean themselves
+  pub plain : (names : List Name) → tokens_meant names r.tokens ≡ r.tokens
+  plain names = tokens_are names r told.document spells (inl told.is_record) ∙ sym told.tokens
 
   pub names_agree : names_told r.tokens ≡ names_within (shape_told r.tokens)
   names_agree = ap names_told told.tokens ∙ told-preorder None told.document ∙ ap names_within (sym shape_is)

@@ -1,11 +1,12 @@
 -- What is left of a walk over the tokens of a record: the shapes that each open array and each open object still holds.
-use Rattle.std.specs.Prelude.{List, [], ◌∷◌, flat_map, Option, None, Some}
+use Rattle.std.specs.Prelude.{List, [], ◌∷◌, flat_map, Option, None, Some, option_map}
 use Rattle.tc_model.specs.Tree.{leaf, array, object, Items, no_items, item, Members, no_members, member}
 use Rattle.tc_model.specs.Document.{Name, Scalar, ScalarKind, ShapeTree, scalar_kind}
 use Rattle.tc_model.specs.Kinds as kinds
 use Rattle.tc_record.specs.Preorder.{Piece, scalar, array_opened, object_opened, closed, Token}
 use Rattle.tc_record.specs.Walk.{Key, name, number}
 use Rattle.tc_record.specs.Building.{name_told}
+use Rattle.tc_compact.specs.Meant.{key_meant, tokens_meant}
 
 -- the kind of the value that a piece is or opens; a close has none
 abbrev pub piece_kind : Piece Scalar → Option kinds.Kind
@@ -68,3 +69,15 @@ label_names (Some (number k)) = []
 
 abbrev pub names_told : List (Token Key Scalar) → List Name
 names_told ts = flat_map (λ t. label_names t.label) ts
+
+-- ---- the same under a dictionary, where numbers stand for names
+
+-- the name that a label carries, or whose number it carries
+abbrev pub name_under : List Name → Option Key → Name
+name_under names l = name_told (option_map (key_meant names) l)
+
+abbrev pub levels_under : List Name → List (Token Key Scalar) → List Level
+levels_under names ts = levels (tokens_meant names ts)
+
+abbrev pub shape_under : List Name → List (Token Key Scalar) → ShapeTree
+shape_under names ts = shape_told (tokens_meant names ts)

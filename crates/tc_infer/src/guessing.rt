@@ -1,21 +1,92 @@
-//! The field of a name, found by a guess at its place. Documents of one kind have the same names in the same order, so
-//! that most guesses are right, and then the name is compared and not looked up.
+//! The field of a name or of its number, found by a guess at its place. Documents of one kind have the same names in the
+//! same order, so that most guesses are right, and then the name is compared and not looked up.
 
-ghost use Rattle.std.specs.Prelude.{◌≡◌, ◌≢◌, ◌<◌, ◌^◌, IfOk, IsOk, IsTrue, OnOk, is_some, length, map, slice_get, slice_set, Some};
+ghost use Rattle.std.specs.Prelude.{◌≡◌, ◌≢◌, ◌<◌, ◌^◌, IfOk, IfSome, IfNone, IsOk, IsTrue, OnOk, is_some, length, map, slice_get, slice_set, Some};
 ghost use Rattle.tc_model.specs.Dictionary.{learned, number_of, number};
+ghost use Rattle.tc_record.specs.WalkView.{key_of};
+ghost use Rattle.tc_record.specs.Building.{name_told};
 ghost use Rattle.tc_schema_model.specs.Counted.{Counted, nothing, field_at, AreFieldsOrdered};
 ghost use Rattle.tc_schema_model.specs.Added.{put_field};
 ghost use Rattle.tc_schema.specs.Places.{field_counted, fields_counted, listed};
 ghost use Rattle.tc_schema.specs.Search.{IsPlaceOf};
+ghost use Rattle.tc_infer.specs.Levels.{name_under};
 
 use crate::counting::place_of;
+use crate::tokens::name_in;
 use std::alloc::{AllocError, Global};
 use tc_bytes::Memory;
 use tc_names::Names;
+use tc_record::Label;
 use tc_schema::Field;
 
+/// Where the field of a label stands, whatever the guess: that of the name that it carries, or whose number it carries. One
+/// where nothing is counted is made where there is none.
+pub fn place_of_label(
+    label: Label<'_>,
+    guess: usize,
+    names: &Names,
+    fields: &mut Vec<Field>,
+    alloc: Global,
+) -> Result<usize, AllocError>
+    requires known { IsTrue (is_some (number_of names.now (name_under names.now (key_of label)))) }
+    requires ordered { AreFieldsOrdered 0 (fields_counted fields.old.items) }
+    ensures inside { IfOk result (λ i. i < length fields.new.items) }
+    ensures here { IfOk result (λ i. slice_get (map field_counted fields.new.items) i ≡ Some (number names.now (name_under names.now (key_of label.entry)), field_at (number names.now (name_under names.now (key_of label.entry))) (fields_counted fields.old.items))) }
+    ensures sure { field_at (number names.now (name_under names.now (key_of label.entry))) (fields_counted fields.old.items) ≢ nothing → IsOk result }
+    ensures written { IfOk result (λ i. (d : Counted) → listed (slice_set (map field_counted fields.new.items) i (number names.now (name_under names.now (key_of label.entry)), d)) ≡ put_field (number names.now (name_under names.now (key_of label.entry))) d (fields_counted fields.old.items)) }
+{
+    match known_number(label, names) {
+        Some(number) => place_of_number(number, guess, fields, alloc),
+        None => place_by_guess(name_in(label), guess, names, fields, alloc),
+    }
+}
+
+/// The number that a label carries in place of a name, if it has one. Where it has none it means no other name than it is.
+fn known_number(label: Label<'_>, names: &Names) -> Option<u32>
+    ensures some { IfSome result (λ n. number_of names.now (name_under names.now (key_of label.entry)) ≡ Some n) }
+    ensures none { IfNone result (name_under names.now (key_of label.entry) ≡ name_told (key_of label.entry)) }
+{
+    // that the names are distinct
+    let known = names.len();
+    match label {
+        Label::Number(number) => { if number < known { Some(number) } else { None } }
+        Label::Name(_) => None,
+        Label::Bare => None,
+    }
+}
+
+/// Where the field of a number stands, whatever the guess.
+fn place_of_number(
+    number: u32,
+    guess: usize,
+    fields: &mut Vec<Field>,
+    alloc: Global,
+) -> Result<usize, AllocError>
+    requires ordered { AreFieldsOrdered 0 (fields_counted fields.old.items) }
+    ensures inside { IfOk result (λ i. i < length fields.new.items) }
+    ensures here { IfOk result (λ i. slice_get (map field_counted fields.new.items) i ≡ Some (number, field_at number (fields_counted fields.old.items))) }
+    ensures sure { field_at number (fields_counted fields.old.items) ≢ nothing → IsOk result }
+    ensures written { IfOk result (λ i. (d : Counted) → listed (slice_set (map field_counted fields.new.items) i (number, d)) ≡ put_field number d (fields_counted fields.old.items)) }
+{
+    if has_number_at(fields, guess, number) {
+        return Ok(guess);
+    }
+    place_of(number, fields, alloc)
+}
+
+/// Whether the field of a number stands just there.
+fn has_number_at(fields: &[Field], at: usize, number: u32) -> bool
+    requires { AreFieldsOrdered 0 (fields_counted fields.now) }
+    ensures { IsTrue result → IsPlaceOf number (map field_counted fields.now) at }
+{
+    if at >= fields.len() {
+        return false;
+    }
+    fields[at].number == number
+}
+
 /// Where the field of a name stands, whatever the guess. One where nothing is counted is made where there is none.
-pub fn place_by_guess(
+fn place_by_guess(
     name: &str,
     guess: usize,
     names: &Names,

@@ -11,9 +11,9 @@ ghost use Rattle.tc_schema_model.specs.Occurrences.{Path};
 ghost use Rattle.tc_schema_model.specs.Values.{values_at};
 ghost use Rattle.tc_infer.specs.Levels.{shape_told};
 
+use crate::known::in_document;
 use crate::met::Met;
 use crate::numbering::learn_value;
-use crate::tallying::in_document;
 use std::mem;
 use tc_bytes::Memory;
 use tc_names::Names;

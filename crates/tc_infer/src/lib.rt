@@ -5,6 +5,7 @@ mod adding;
 mod counting;
 mod fresh;
 mod guessing;
+mod known;
 mod learned;
 mod learning;
 mod looking;
@@ -18,6 +19,7 @@ mod walking;
 
 pub use adding::add;
 pub use fresh::count_fresh;
+pub use known::add_known;
 pub use learned::add_learning;
 pub use met::Met;
 pub use recording::add_record;

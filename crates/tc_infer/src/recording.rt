@@ -2,11 +2,12 @@
 
 ghost use Rattle.std.specs.Prelude.{◌≡◌, ◌+◌, ◌<◌, ◌^◌, ◌∷◌, All, List, OnOk, OnErr, length, true};
 ghost use Rattle.std.specs.List.{AllByRecursion};
-ghost use Rattle.tc_model.specs.Document.{Document, document_shape};
+ghost use Rattle.tc_model.specs.Document.{Name, Document, document_shape};
 ghost use Rattle.tc_model.specs.Dictionary.{Extends, all_learned};
 ghost use Rattle.tc_model.specs.Kinds as kinds;
 ghost use Rattle.tc_model.specs.ShapeNames.{names_within};
 ghost use Rattle.tc_record.specs.Record.{IsRecordOf};
+ghost use Rattle.tc_compact.specs.Meant.{tokens_meant};
 ghost use Rattle.tc_schema_model.specs.Added.{added};
 ghost use Rattle.tc_schema_model.specs.Counted.{nothing, shows, total_at, IsCanonical, CountsObjects};
 ghost use Rattle.tc_schema_model.specs.Occurrences.{Path, occurrences};
@@ -15,7 +16,7 @@ ghost use Rattle.tc_schema_model.specs.Stands.{StandsFor};
 ghost use Rattle.tc_schema_model.specs.Values.{values_at};
 ghost use Rattle.tc_infer.specs.Levels.{names_told, shape_told};
 
-use crate::tallying::in_document;
+use crate::known::in_document;
 use crate::walking::count_value;
 use std::mem;
 use tc_bytes::Memory;
@@ -50,6 +51,7 @@ pub fn add_record(schema: &mut Schema, names: &mut Names, of: RecordRef<'_>) -> 
 
 /// The same by the shape that the tokens tell.
 fn add_told(schema: &mut Schema, names: &mut Names, of: &RecordRef<'_>) -> Result<(), Memory>
+    requires plain { (known : List Name) → tokens_meant known of.now.tokens ≡ of.now.tokens }
     requires canonical { IsCanonical (length names.old) schema.old }
     requires agree { names_told of.now.tokens ≡ names_within (shape_told of.now.tokens) }
     requires counters { (path : Path) → total_at names.old schema.old path + values_at (shape_told of.now.tokens) path < 2 ^ 64 }

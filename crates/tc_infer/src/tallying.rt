@@ -5,6 +5,7 @@ ghost use Rattle.std.specs.Bool.{OnTrue, OnFalse};
 ghost use Rattle.tc_model.specs.Document.{Document, document_shape};
 ghost use Rattle.tc_model.specs.Kinds as kinds;
 ghost use Rattle.tc_record.specs.Record.{IsRecordOf};
+ghost use Rattle.tc_compact.specs.Meant.{tokens_meant};
 ghost use Rattle.tc_schema_model.specs.Added.{added};
 ghost use Rattle.tc_schema_model.specs.Counted.{shows, total_at, IsCanonical, CountsObjects};
 ghost use Rattle.tc_schema_model.specs.HasCounters.{HasCounters, has_counters};
@@ -12,13 +13,12 @@ ghost use Rattle.tc_schema_model.specs.Occurrences.{Path, occurrences};
 ghost use Rattle.tc_schema_model.specs.SchemaBytes.{IsSchema};
 ghost use Rattle.tc_schema_model.specs.Stands.{StandsFor};
 ghost use Rattle.tc_schema_model.specs.Values.{values_at};
-ghost use Rattle.tc_infer.specs.Levels.{begun, levels, shape_told};
+ghost use Rattle.tc_infer.specs.Levels.{shape_told};
 
+use crate::known::{add_meant, in_document};
 use crate::looking::is_counted;
-use crate::walking::count_value;
-use std::mem;
 use tc_names::Names;
-use tc_record::{Cursor, RecordRef};
+use tc_record::RecordRef;
 use tc_schema::Schema;
 use tc_value::Kind;
 
@@ -44,6 +44,7 @@ pub fn tally(schema: &mut Schema, names: &Names, of: RecordRef<'_>) -> bool
 
 /// The same by the shape that the tokens tell.
 fn tally_told(schema: &mut Schema, names: &Names, of: &RecordRef<'_>) -> bool
+    requires plain { tokens_meant names.now of.now.tokens ≡ of.now.tokens }
     requires canonical { IsCanonical (length names.now) schema.old }
     requires counters { (path : Path) → total_at names.now schema.old path + values_at (shape_told of.now.tokens) path < 2 ^ 64 }
     ensures test { result ≡ has_counters names.now (shape_told of.now.tokens) schema.old }
@@ -53,16 +54,8 @@ fn tally_told(schema: &mut Schema, names: &Names, of: &RecordRef<'_>) -> bool
     if !is_told_counted(schema, names, of) {
         return false;
     }
-    // that the names are fewer than 2^32
-    let _known = names.len();
-    let alloc = *schema.root().fields.allocator();
-    let mut root = mem::replace(schema, Schema::empty(alloc)).into_root();
-    let mut cursor = in_document(of);
-    match count_value(&mut cursor, Kind::Object, names, &mut root, alloc) {
-        Ok(()) => {
-            *schema = Schema::of(root);
-            true
-        }
+    match add_meant(schema, names, of) {
+        Ok(()) => true,
         Err(_) => unreachable!(),
     }
 }
@@ -73,13 +66,4 @@ fn is_told_counted(schema: &Schema, names: &Names, of: &RecordRef<'_>) -> bool
 {
     let mut cursor = in_document(of);
     is_counted(&mut cursor, Kind::Object, names, schema.root())
-}
-
-/// A cursor behind the first token of a record, which opens the document.
-pub fn in_document<'a>(of: &RecordRef<'a>) -> Cursor<'a>
-    ensures { begun kinds.objects (levels result) ≡ shape_told of.now.tokens }
-{
-    let mut cursor = of.cursor();
-    let _document = cursor.next();
-    cursor
 }

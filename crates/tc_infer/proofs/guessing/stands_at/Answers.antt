@@ -1,14 +1,10 @@
-use Rattle.std.proofs.Common.{◌≡◌, ◌<◌, ℕ, Some, is_some, unwrap_or, option_map, length, map, get_or, sym, ap, ◌∙◌, arith}
-use Rattle.std.specs.Prelude.{slice_get}
-use Rattle.std.proofs.lemmas.Option.{slice_get-map, slice_get-get_or}
+use Rattle.std.proofs.Common.{◌≡◌, ◌<◌, Some, is_some, unwrap_or, length, get_or, sym, ap, ◌∙◌, arith}
+use Rattle.std.proofs.lemmas.Option.{slice_get-get_or}
 use Rattle.std.proofs.lemmas.Slice.Eq.{bytes_eq-Decides}
 use Rattle.tc_model.specs.Dictionary.{number_of, number}
 use Rattle.tc_model.proofs.NameNumbers.{number_of-slice_get}
-use Rattle.tc_schema_model.specs.Counted.{Counted}
-use Rattle.tc_schema.specs.Places.{place_counted, field_counted}
 use Rattle.tc_schema.specs.declared.place.Field.TheViews.{out-Field}
-use Rattle.tc_schema.proofs.PlaceViews.{field_parts}
-use Rattle.tc_schema.proofs.PlacesOfFields.{place_from}
+use Rattle.tc_infer.proofs.GuessedFields.{stands_here}
 use Rattle.tc_infer.proofs.guessing.stands_at.Goals as goal
 
 -- the number of the field is that of the name
@@ -24,12 +20,7 @@ returns-in-Some-clause-place c = λ same.
     let name = c.args.name.now in
     let fs = c.args.fields.now in
     let f = get_or fs c.args.at c.index-fields-at.result in
-    let d = place_counted (out-Field f).node.value in
     let equal : c.in-Some.known.now ≡ name = (bytes_eq-Decides c.in-Some.known.now name).0 (sym c.eq.ensures ∙ same) in
-    let known : number_of names name ≡ Some (out-Field f).number = known_here c equal in
-    let its_number : (out-Field f).number ≡ number names name = sym (ap (λ o. unwrap_or o 0) known) in
+    let its_number : (out-Field f).number ≡ number names name = sym (ap (λ o. unwrap_or o 0) (known_here c equal)) in
     let inside : c.args.at < length fs = omega (arith, c.if-at-fields.false) in
-    let there : slice_get fs c.args.at ≡ Some f = slice_get-get_or fs c.args.at c.index-fields-at.result inside in
-    let here : slice_get (map field_counted fs) c.args.at ≡ Some (number names name, d) =
-    slice_get-map field_counted fs c.args.at ∙ ap (option_map field_counted) there ∙ ap Some (field_parts f ∙ ap (λ n. let pair : ℕ × Counted = (n, d) in pair) its_number) in
-    place_from 0 (number names name) d (map field_counted fs) c.args.at c.requires here
+    stands_here (number names name) fs c.args.at f c.requires (slice_get-get_or fs c.args.at c.index-fields-at.result inside) its_number

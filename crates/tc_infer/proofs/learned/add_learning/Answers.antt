@@ -1,14 +1,12 @@
-use Rattle.std.proofs.Common.{◌≡◌, ◌+◌, ◌<◌, ◌^◌, length, map, ap, ◌∙◌}
+use Rattle.std.proofs.Common.{◌+◌, ◌<◌, ◌^◌, length, map, ap, ◌∙◌}
 use Rattle.std.proofs.lemmas.Result.{on_ok_weaker}
 use Rattle.tc_model.specs.Dictionary.{all_learned, number}
-use Rattle.tc_model.specs.Document.{Document, document_shape}
 use Rattle.tc_model.specs.ShapeNames.{names_within}
-use Rattle.tc_record.specs.Record.{IsRecordOf, joined}
+use Rattle.tc_record.specs.Record.{joined}
 use Rattle.tc_schema_model.specs.Occurrences.{Path}
 use Rattle.tc_schema_model.specs.Counted.{total_at}
 use Rattle.tc_schema_model.specs.Added.{added}
 use Rattle.tc_schema_model.specs.Values.{values_at}
-use Rattle.tc_infer.specs.Levels.{shape_told}
 use Rattle.tc_infer.proofs.RecordShape.{told_shape, of_told}
 use Rattle.tc_infer.proofs.learned.add_learning.Goals as goal
 

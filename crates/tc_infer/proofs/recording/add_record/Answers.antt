@@ -18,8 +18,11 @@ use Rattle.tc_schema_model.proofs.Grown.{grown_fits, added_canonical, added_show
 use Rattle.tc_schema_model.proofs.Readable.{schema-added}
 use Rattle.tc_infer.specs.Levels.{shape_told}
 use Rattle.tc_infer.proofs.LevelLaws.{object_told}
-use Rattle.tc_infer.proofs.RecordShape.{told_shape, of_told, names_agree}
+use Rattle.tc_infer.proofs.RecordShape.{told_shape, of_told, plain, names_agree}
 use Rattle.tc_infer.proofs.recording.add_record.Goals as goal
+
+pub add_told-requires-clause-plain : goal.add_told-requires-clause-plain
+add_told-requires-clause-plain c = plain c.args.of c.bytes-bytes.ensures.spells c.requires.named
 
 pub add_told-requires-clause-agree : goal.add_told-requires-clause-agree
 add_told-requires-clause-agree c = names_agree c.args.of c.bytes-bytes.ensures.spells c.requires.named

@@ -18,7 +18,9 @@ pub count_value-requires-clause-named : goal.count_value-requires-clause-named
 count_value-requires-clause-named c =
     let grown = c.in_ok-learn_told.ensures.ok ∙ ap (all_learned c.args.names.now) c.requires.agree in
     let s = shape_told c.args.of.now.tokens in
-    subst (IsNamed c.learn_told.new.names) (sym c.in_document-cursor.ensures) (subst (λ names. IsNamed names s) (sym grown) (named-all_learned c.args.names.now s))
+    let names = c.learn_told.new.names in
+    let told = c.in_document-cursor.ensures.under names ∙ ap shape_told (c.requires.plain names) in
+    subst (IsNamed names) (sym told) (subst (λ names. IsNamed names s) (sym grown) (named-all_learned c.args.names.now s))
 
 pub count_value-requires-clause-canonical : goal.count_value-requires-clause-canonical
 count_value-requires-clause-canonical c =
@@ -31,7 +33,8 @@ count_value-requires-clause-fits c =
     let s = shape_told c.args.of.now.tokens in
     let names = c.learn_told.new.names in
     let root = place_counted c.into_root-root.result in
-    subst (λ s. DoesFit names (added names s root)) (sym c.in_document-cursor.ensures)
+    let told = c.in_document-cursor.ensures.under names ∙ ap shape_told (c.requires.plain names) in
+    subst (λ s. DoesFit names (added names s root)) (sym told)
     (subst (λ d. DoesFit names (added names s d)) (sym (taken c))
     (subst (λ names. DoesFit names (added names s c.args.schema.now)) (sym grown) (grown_fits c.args.names.now s c.args.schema.now c.requires.canonical c.requires.counters)))
 
@@ -41,7 +44,8 @@ of-requires c =
     let s = shape_told c.args.of.now.tokens in
     let names = c.learn_told.new.names in
     let d = c.args.schema.now in
+    let told = c.in_document-cursor.ensures.under names ∙ ap shape_told (c.requires.plain names) in
     let counted : place_counted c.count_value.new.place ≡ added names s d =
-    c.in_ok-count_value.ensures.counted ∙ ap (λ s. added names s (place_counted c.into_root-root.result)) c.in_document-cursor.ensures ∙ ap (added names s) (c.into_root-root.ensures.counted ∙ c.replace.ensures.value) in
+    c.in_ok-count_value.ensures.counted ∙ ap (λ s. added names s (place_counted c.into_root-root.result)) told ∙ ap (added names s) (c.into_root-root.ensures.counted ∙ c.replace.ensures.value) in
     let canonical = subst (λ names. IsCanonical (length names) (added names s d)) (sym grown) (added_canonical c.args.names.now s d c.requires.canonical) in
     rw (counted) (canonical_below (length names) most_names (added names s d) (omega (arith, c.len-known.ensures.dictionary.few)) canonical)

@@ -18,8 +18,11 @@ use Rattle.tc_schema_model.proofs.MoreNames.{added_fits}
 use Rattle.tc_schema_model.proofs.Readable.{schema-added}
 use Rattle.tc_infer.specs.Levels.{shape_told}
 use Rattle.tc_infer.proofs.LevelLaws.{object_told}
-use Rattle.tc_infer.proofs.RecordShape.{told_shape, of_told}
+use Rattle.tc_infer.proofs.RecordShape.{told_shape, of_told, plain}
 use Rattle.tc_infer.proofs.tallying.tally.Goals as goal
+
+pub tally_told-requires-clause-plain : goal.tally_told-requires-clause-plain
+tally_told-requires-clause-plain c = plain c.args.of c.bytes-bytes.ensures.spells c.requires.named c.args.names.now
 
 pub tally_told-requires-clause-counters : goal.tally_told-requires-clause-counters
 tally_told-requires-clause-counters c =

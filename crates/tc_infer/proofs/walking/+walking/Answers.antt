@@ -3,6 +3,7 @@ use Rattle.std.proofs.lemmas.Bool.{and_parts, false≢true}
 use Rattle.std.proofs.lemmas.Result.{IfOk-weaker}
 use Rattle.tc_model.specs.Tree.{array, object, item, no_items, member, no_members}
 use Rattle.tc_model.specs.Dictionary.{number}
+use Rattle.tc_record.specs.WalkView.{key_of}
 use Rattle.tc_schema_model.specs.Counted.{held, field_at, IsCanonical, IsBelowCanonical, AreFieldsCanonical}
 use Rattle.tc_schema_model.specs.Added.{added, items_added, members_added, IsNamed, AreItemsNamed, AreMembersNamed}
 use Rattle.tc_schema_model.specs.HasCounters.{has_counters, items_have_counters, members_have_counters}
@@ -17,22 +18,22 @@ use Rattle.tc_schema.specs.declared.place.Field.TheViews.{out-Node, roll-Node, o
 use Rattle.tc_schema.proofs.PlaceViews.{place_parts}
 use Rattle.tc_schema.proofs.FieldViews.{counted_at}
 use Rattle.tc_schema.proofs.FieldWrites.{number_at, written_field}
-use Rattle.tc_infer.specs.Levels.{begun, behind, innermost, outside, with_shape, without_names, levels}
-use Rattle.tc_infer.proofs.LevelSteps.{one_less, value_next}
+use Rattle.tc_infer.specs.Levels.{begun, behind, innermost, outside, without_names, levels_under, name_under}
+use Rattle.tc_infer.proofs.LevelSteps.{one_less, value_under}
 use Rattle.tc_infer.proofs.PlaceRoom.{room_here, items_fit, members_fit}
 use Rattle.tc_infer.proofs.walking.+walking.Goals as goal
 
 -- ---- the place itself
 
 pub count_value-raise-requires : goal.count_value-raise-requires
-count_value-raise-requires t c = room_here c.args.names.now (begun (kind_meant c.args.kind) (levels c.args.cursor.now)) c.args.place.now c.requires.fits
+count_value-raise-requires t c = room_here c.args.names.now (begun (kind_meant c.args.kind) (levels_under c.args.names.now c.args.cursor.now)) c.args.place.now c.requires.fits
 
 pub count_value-count_items-requires : goal.count_value-count_items-requires
 count_value-count_items-requires t c =
     let names = c.args.names.now in
     let p = c.args.place.now in
-    let xs = without_names (innermost (levels c.args.cursor.now)) in
-    let whole : begun (kind_meant c.args.kind) (levels c.args.cursor.now) ≡ array xs = ap (λ k. begun (kind_meant k) (levels c.args.cursor.now)) c.in-Array.is in
+    let xs = without_names (innermost (levels_under c.args.names.now c.args.cursor.now)) in
+    let whole : begun (kind_meant c.args.kind) (levels_under c.args.names.now c.args.cursor.now) ≡ array xs = ap (λ k. begun (kind_meant k) (levels_under c.args.names.now c.args.cursor.now)) c.in-Array.is in
     let fits = subst (λ s. DoesFit names (added names s (place_counted p))) whole c.requires.fits in
     let canonical = subst (IsCanonical (length names)) (place_parts p) c.requires.canonical in
     (omega (arith, c.decreases), (subst (IsNamed names) whole c.requires.named, (rw (out-roll-Node) canonical.2, rw (out-roll-Node) (items_fit names xs p fits))))
@@ -41,8 +42,8 @@ pub count_value-count_members-requires : goal.count_value-count_members-requires
 count_value-count_members-requires t c =
     let names = c.args.names.now in
     let p = c.args.place.now in
-    let ms = innermost (levels c.args.cursor.now) in
-    let whole : begun (kind_meant c.args.kind) (levels c.args.cursor.now) ≡ object ms = ap (λ k. begun (kind_meant k) (levels c.args.cursor.now)) c.in-Object.is in
+    let ms = innermost (levels_under c.args.names.now c.args.cursor.now) in
+    let whole : begun (kind_meant c.args.kind) (levels_under c.args.names.now c.args.cursor.now) ≡ object ms = ap (λ k. begun (kind_meant k) (levels_under c.args.names.now c.args.cursor.now)) c.in-Object.is in
     let fits = subst (λ s. DoesFit names (added names s (place_counted p))) whole c.requires.fits in
     let canonical = subst (IsCanonical (length names)) (place_parts p) c.requires.canonical in
     (omega (arith, c.decreases), (subst (IsNamed names) whole c.requires.named, (rw (out-roll-Node) canonical.3, rw (out-roll-Node) (members_fit names ms p fits))))
@@ -51,9 +52,9 @@ pub count_value-returns-in-Object-clause-counted : goal.count_value-returns-in-O
 count_value-returns-in-Object-clause-counted t c =
     let names = c.args.names.now in
     let p = c.args.place.now in
-    let ms = innermost (levels c.args.cursor.now) in
-    let s = begun (kind_meant c.args.kind) (levels c.args.cursor.now) in
-    let whole : s ≡ object ms = ap (λ k. begun (kind_meant k) (levels c.args.cursor.now)) c.in-Object.is in
+    let ms = innermost (levels_under c.args.names.now c.args.cursor.now) in
+    let s = begun (kind_meant c.args.kind) (levels_under c.args.names.now c.args.cursor.now) in
+    let whole : s ≡ object ms = ap (λ k. begun (kind_meant k) (levels_under c.args.names.now c.args.cursor.now)) c.in-Object.is in
     let half = roll-Node record { counts = c.raise.new.self; item = (out-Node p).item; fields = (out-Node p).fields } in
     let made = roll-Node record { counts = (out-Node half).counts; item = (out-Node half).item; fields = c.count_members.new.fields } in
     IfOk-weaker c.count_members.result
@@ -70,8 +71,8 @@ count_items-count_item-requires t c =
     let names = c.args.names.now in
     let below = below_counted l.below in
     let k = kind_meant c.in-Some-kind_begun.kind in
-    let rest = levels c.next.new.self in
-    let here = value_next l.cursor c.next.new.self c.in-Some.token c.in-Some.ensures.taken c.kind_begun.result c.in-Some-kind_begun.kind c.kind_begun.ensures c.in-Some-kind_begun.is in
+    let rest = levels_under names c.next.new.self in
+    let here = value_under l.cursor c.next.new.self c.in-Some.token c.in-Some.ensures.taken names c.kind_begun.result c.in-Some-kind_begun.kind c.kind_begun.ensures c.in-Some-kind_begun.is in
     let less = one_less l.cursor c.next.new.self c.in-Some.token c.in-Some.ensures.taken in
     let named = subst (λ ls. AreItemsNamed names (without_names (innermost ls))) here l.invariant.named in
     let whole = ap (λ ls. items_added names (without_names (innermost ls)) below) (sym here) ∙ l.invariant.left in
@@ -84,10 +85,10 @@ count_items-loop-token-preserved t c =
     let names = c.args.names.now in
     let below = below_counted l.below in
     let k = kind_meant c.in-Some-kind_begun.kind in
-    let rest = levels c.next.new.self in
+    let rest = levels_under names c.next.new.self in
     let s = begun k rest in
     let xs = without_names (innermost (behind k rest)) in
-    let here = value_next l.cursor c.next.new.self c.in-Some.token c.in-Some.ensures.taken c.kind_begun.result c.in-Some-kind_begun.kind c.kind_begun.ensures c.in-Some-kind_begun.is in
+    let here = value_under l.cursor c.next.new.self c.in-Some.token c.in-Some.ensures.taken names c.kind_begun.result c.in-Some-kind_begun.kind c.kind_begun.ensures c.in-Some-kind_begun.is in
     let less = one_less l.cursor c.next.new.self c.in-Some.token c.in-Some.ensures.taken in
     let named = subst (λ ls. AreItemsNamed names (without_names (innermost ls))) here l.invariant.named in
     let whole = ap (λ ls. items_added names (without_names (innermost ls)) below) (sym here) ∙ l.invariant.left in
@@ -107,25 +108,25 @@ count_items-loop-token-preserved t c =
 
 -- ---- members
 
-pub count_member-place_by_guess-requires : goal.count_member-place_by_guess-requires
-count_member-place_by_guess-requires t c = record { known = c.requires.1.1.0; ordered = fields_ordered (length c.args.names.now) 0 (fields_counted c.args.fields.now.items) c.requires.1.1.1.1.0 }
+pub count_member-place_of_label-requires : goal.count_member-place_of_label-requires
+count_member-place_of_label-requires t c = record { known = c.requires.known; ordered = fields_ordered (length c.args.names.now) 0 (fields_counted c.args.fields.now.items) c.requires.canonical }
 
 pub count_member-count_value-requires : goal.count_member-count_value-requires
 count_member-count_value-requires t c =
     let names = c.args.names.now in
-    let name = c.args.name.now in
-    let s = begun (kind_meant c.args.kind) (levels c.args.cursor.now) in
+    let name = name_under names (key_of c.args.label) in
+    let s = begun (kind_meant c.args.kind) (levels_under c.args.names.now c.args.cursor.now) in
     let fields = fields_counted c.args.fields.now.items in
     let here = c.index_mut.result.now in
-    let stands = counted_at c.place_by_guess.new.fields.items c.in_ok-at.at here (number names name) (field_at (number names name) fields) c.in_ok-at.ensures.here in
+    let stands = counted_at c.place_of_label.new.fields.items c.in_ok-at.at here (number names name) (field_at (number names name) fields) c.in_ok-at.ensures.here in
     let counted : place_counted c.deref_mut.result.now ≡ field_at (number names name) fields =
     ap place_counted c.deref_mut.ensures.value ∙ ap (λ f. place_counted (out-Field f).node.value) c.index_mut.ensures.value ∙ stands in (
-      omega (arith, c.requires.1.0),
+      omega (arith, c.decreases),
       (
-        c.requires.1.1.1.0,
+        c.requires.named,
         (
-          subst (IsCanonical (length names)) (sym counted) (field_canonical (length names) 0 (number names name) fields c.requires.1.1.1.1.0),
-          subst (λ d. DoesFit names (added names s d)) (sym counted) c.requires.1.1.1.1.1,
+          subst (IsCanonical (length names)) (sym counted) (field_canonical (length names) 0 (number names name) fields c.requires.canonical),
+          subst (λ d. DoesFit names (added names s d)) (sym counted) c.requires.fits,
         ),
       ),
     )
@@ -133,10 +134,10 @@ count_member-count_value-requires t c =
 pub count_member-returns-clause-counted : goal.count_member-returns-clause-counted
 count_member-returns-clause-counted t c =
     let names = c.args.names.now in
-    let name = c.args.name.now in
-    let s = begun (kind_meant c.args.kind) (levels c.args.cursor.now) in
+    let name = name_under names (key_of c.args.label) in
+    let s = begun (kind_meant c.args.kind) (levels_under c.args.names.now c.args.cursor.now) in
     let n = number names name in
-    let all = c.place_by_guess.new.fields.items in
+    let all = c.place_of_label.new.fields.items in
     let fields = fields_counted c.args.fields.now.items in
     let here = c.index_mut.result.now in
     let d = added names s (field_at (number names name) fields) in
@@ -150,10 +151,10 @@ count_member-returns-clause-counted t c =
 pub count_member-returns-in_err-count_value-clause-sure : goal.count_member-returns-in_err-count_value-clause-sure
 count_member-returns-in_err-count_value-clause-sure t c = λ there.
     let names = c.args.names.now in
-    let name = c.args.name.now in
-    let s = begun (kind_meant c.args.kind) (levels c.args.cursor.now) in
+    let name = name_under names (key_of c.args.label) in
+    let s = begun (kind_meant c.args.kind) (levels_under c.args.names.now c.args.cursor.now) in
     let fields = fields_counted c.args.fields.now.items in
-    let stands = counted_at c.place_by_guess.new.fields.items c.in_ok-at.at c.index_mut.result.now (number names name) (field_at (number names name) fields) c.in_ok-at.ensures.here in
+    let stands = counted_at c.place_of_label.new.fields.items c.in_ok-at.at c.index_mut.result.now (number names name) (field_at (number names name) fields) c.in_ok-at.ensures.here in
     let counted : place_counted c.deref_mut.result.now ≡ field_at (number names name) fields =
     ap place_counted c.deref_mut.ensures.value ∙ ap (λ f. place_counted (out-Field f).node.value) c.index_mut.ensures.value ∙ stands in
     absurd (false≢true (c.in_err-count_value.ensures.sure (ap (has_counters names s) counted ∙ there)))
@@ -164,11 +165,10 @@ count_members-count_member-requires t c =
     let names = c.args.names.now in
     let fields = fields_counted l.fields.items in
     let k = kind_meant c.in-Some-kind_begun.kind in
-    let rest = levels c.next.new.self in
-    let name = c.name_in-name.result.now in
+    let rest = levels_under names c.next.new.self in
+    let name = name_under names (key_of c.in-Some.token.label) in
     let here =
-    value_next l.cursor c.next.new.self c.in-Some.token c.in-Some.ensures.taken c.kind_begun.result c.in-Some-kind_begun.kind c.kind_begun.ensures c.in-Some-kind_begun.is
-    ∙ ap (λ n. with_shape n (begun k rest) (behind k rest)) (sym c.name_in-name.ensures) in
+    value_under l.cursor c.next.new.self c.in-Some.token c.in-Some.ensures.taken names c.kind_begun.result c.in-Some-kind_begun.kind c.kind_begun.ensures c.in-Some-kind_begun.is in
     let less = one_less l.cursor c.next.new.self c.in-Some.token c.in-Some.ensures.taken in
     let named = subst (λ ls. AreMembersNamed names (innermost ls)) here l.invariant.named in
     let whole = ap (λ ls. members_added names (innermost ls) fields) (sym here) ∙ l.invariant.left in
@@ -181,13 +181,12 @@ count_members-loop-token-preserved t c =
     let names = c.args.names.now in
     let fields = fields_counted l.fields.items in
     let k = kind_meant c.in-Some-kind_begun.kind in
-    let rest = levels c.next.new.self in
-    let name = c.name_in-name.result.now in
+    let rest = levels_under names c.next.new.self in
+    let name = name_under names (key_of c.in-Some.token.label) in
     let s = begun k rest in
     let ms = innermost (behind k rest) in
     let here =
-    value_next l.cursor c.next.new.self c.in-Some.token c.in-Some.ensures.taken c.kind_begun.result c.in-Some-kind_begun.kind c.kind_begun.ensures c.in-Some-kind_begun.is
-    ∙ ap (λ n. with_shape n (begun k rest) (behind k rest)) (sym c.name_in-name.ensures) in
+    value_under l.cursor c.next.new.self c.in-Some.token c.in-Some.ensures.taken names c.kind_begun.result c.in-Some-kind_begun.kind c.kind_begun.ensures c.in-Some-kind_begun.is in
     let less = one_less l.cursor c.next.new.self c.in-Some.token c.in-Some.ensures.taken in
     let named = subst (λ ls. AreMembersNamed names (innermost ls)) here l.invariant.named in
     let whole = ap (λ ls. members_added names (innermost ls) fields) (sym here) ∙ l.invariant.left in
