@@ -1,5 +1,6 @@
 mod NamesAgain
 mod LackedLabels
+mod FirstMember
 mod StoredLaws
 mod ContentLaws
 mod CountedSteps

@@ -11,7 +11,7 @@ use Rattle.tc_compact.specs.Compacted.{compacted}
 use Rattle.tc_compact.specs.Meant.{name_at, expanded}
 
 module _ (names : List Name) where
-  again : (n : Name) → HasNumber names n → name_at names (name_number names n) ≡ n
+  pub again : (n : Name) → HasNumber names n → name_at names (name_number names n) ≡ n
   again n known = ap (λ o. unwrap_or o []) (slice_get-number_of names n (name_number names n) (numbered names n known))
 
   mutual

@@ -32,18 +32,12 @@ module _ (fewer : (d : Document) (whole : List ℕ) → IsRecordOf d whole → t
       let k : (t : Kind) → shows names after path t ≡ shows names before path t + occurrences (document_shape d) path t = λ t. omega (arith, more path t) in
       omega (arith, k (scalar null_kind), k (scalar boolean_kind), k (scalar integer_kind), k (scalar text_kind), k arrays, k objects, document_values_at-size d path, fewer d (record_of d) whole, short)
 
-  -- by its shape
-  pub counters_room : (names : List Name) (before : Counted) (d : Document) (s : ShapeTree) → IsRecordOf d (record_of d) → length (record_of d) < 2 ^ 30 → s ≡ document_shape d → ((path : Path) → total_at names before path + 2 ^ 30 < 2 ^ 64)
-      → (path : Path) → total_at names before path + values_at s path < 2 ^ 64
-  counters_room names before d s whole short shape room path =
-      let own : values_at s path ≡ values_at (document_shape d) path = ap (λ u. values_at u path) shape in
-      omega (arith, own, document_values_at-size d path, fewer d (record_of d) whole, short, room path)
+  pub counters_room : (names : List Name) (before : Counted) (d : Document) → IsRecordOf d (record_of d) → length (record_of d) < 2 ^ 30 → ((path : Path) → total_at names before path + 2 ^ 30 < 2 ^ 64)
+      → (path : Path) → total_at names before path + values_at (document_shape d) path < 2 ^ 64
+  counters_room names before d whole short room path = omega (arith, document_values_at-size d path, fewer d (record_of d) whole, short, room path)
 
-pub more_by : (names newer : List Name) (before after : Counted) (d : Document) (s : ShapeTree) → newer ≡ names → s ≡ document_shape d → ((path : Path) (t : Kind) → shows newer after path t ≡ shows names before path t + occurrences s path t) → IsMoreBy (Some d) names before after
-more_by names newer before after d s same shape shown path t =
-    let after_is : shows newer after path t ≡ shows names after path t = ap (λ ns. shows ns after path t) same in
-    let own : occurrences s path t ≡ occurrences (document_shape d) path t = ap (λ u. occurrences u path t) shape in
-    omega (arith, after_is, own, shown path t)
+pub more_by : (names : List Name) (before after : Counted) (d : Document) → ((path : Path) (t : Kind) → shows names after path t ≡ shows names before path t + occurrences (document_shape d) path t) → IsMoreBy (Some d) names before after
+more_by names before after d shown path t = omega (arith, shown path t)
 
 -- ---- one less
 

@@ -1,22 +1,27 @@
 -- Which records spell documents as components keep them.
-use Rattle.std.proofs.Common.{◌≡◌, ◌∙◌, ◌↔◌, ◌<◌, ◌^◌, ℕ, Bool, true, false, IsTrue, List, length, refl, sym, ap, subst, arith, inl, inr}
+use Rattle.std.proofs.Common.{◌≡◌, ◌∙◌, ◌↔◌, ◌<◌, ◌≤◌, ◌+◌, ◌*◌, ◌^◌, nat_lt, ℕ, Bool, true, false, IsTrue, List, length, refl, sym, ap, subst, arith, inl, inr}
 use Rattle.std.specs.List.{AllByRecursion}
 use Rattle.std.proofs.lemmas.Bool.{both_ways}
+use Rattle.std.proofs.lemmas.Bool.Decides.{nat_tests}
 use Rattle.tc_model.specs.Document.{Name, Document, document_shape}
 use Rattle.tc_model.specs.Dictionary.{IsDictionary}
 use Rattle.tc_model.specs.KnownNames.{HasEach}
 use Rattle.tc_model.specs.ShapeNames.{names_within}
+use Rattle.tc_names.specs.Longest.{longest_of}
 use Rattle.tc_record.specs.Record.{labels, record_of, NumberedTree, IsNumberedRecordOf}
+use Rattle.tc_record.specs.Preorder.{tokens_of}
 use Rattle.tc_record.specs.Borrowed.{Record, Spells, IsBelow, numbered_tokens}
 use Rattle.tc_compact.specs.Compacted.{compacted, IsCompactedRecordOf}
 use Rattle.tc_compact.specs.Meant.{expanded, IsRecordUnder}
 use Rattle.tc_compact.proofs.Agreeing.{same_order}
 use Rattle.tc_compact.proofs.Compacts.{document_names, document_tokens}
 use Rattle.tc_compact.proofs.Expands.{tree_tokens}
+use Rattle.tc_compact.proofs.NamedSizes.{named_most}
 use Rattle.tc_component.specs.Fetching.{IsRecordWithin}
 use Rattle.tc_component.proofs.EntryRecords.{kept, within_names, IsKept}
-use Rattle.tc_audit.specs.Lacking.{lacks_id}
+use Rattle.tc_audit.specs.Lacking.{begins_behind, lacks_id}
 use Rattle.tc_audit.specs.Stored.{IsStoredIn}
+use Rattle.tc_audit.proofs.FirstMember.{keyless_behind}
 use Rattle.tc_audit.proofs.LackedLabels.{keyless_by_test, test_of_keyless}
 use Rattle.tc_audit.proofs.NamesAgain.{tree_again}
 
@@ -48,11 +53,23 @@ pub stored_lacks : (names : List Name) (r : Record) → IsDictionary names → S
 stored_lacks names r dictionary spells s =
     ap (lacks_id names) (tree_tokens r (compacted names s.document) spells (stored_numbered names r.bytes dictionary s)) ∙ test_of_keyless names s.document s.storable.1 s.named
 
+-- the dictionary has the names of a document whose numbers a record carries
+known_under : (names : List Name) (d : Document) (bytes : List ℕ) → IsCompactedRecordOf names d bytes → HasEach names (names_within (document_shape d))
+known_under names d bytes form1 = subst (HasEach names) (sym (document_names d) ∙ same_order d) form1.known
+
+-- an object whose first member is called by a name behind `id` has no member `id`
+pub lacks_by_first : (names : List Name) (r : Record) (d : Document) → r.named ≡ false → Spells r → IsRecordUnder names d r.bytes → ((n : NumberedTree) → r.tokens ≡ numbered_tokens n → IsTrue (begins_behind names (labels (tokens_of n)))) → lacks_id names r.tokens ≡ true
+lacks_by_first names r d unnamed spells (inl is) begins = absurd (both_ways r.named unnamed (document_tokens r d spells is).0)
+lacks_by_first names r d unnamed spells (inr (whole, is, form1)) begins =
+    let known = known_under names d r.bytes form1 in
+    let tokens_are : r.tokens ≡ numbered_tokens (compacted names d) = tree_tokens r (compacted names d) spells form1.numbered in
+    ap (lacks_id names) tokens_are ∙ test_of_keyless names d (keyless_behind names d is.is_object is.document known (begins (compacted names d) tokens_are)) known
+
 pub stored_by_tests : (names : List Name) (r : Record) (d : Document) → r.named ≡ false → Spells r → IsRecordUnder names d r.bytes
     → ((n : NumberedTree) → IsNumberedRecordOf n r.bytes → length (record_of (expanded names n)) < 2 ^ 30) → lacks_id names r.tokens ≡ true → IsStoredIn names r.bytes
 stored_by_tests names r d unnamed spells (inl is) short lacks = absurd (both_ways r.named unnamed (document_tokens r d spells is).0)
 stored_by_tests names r d unnamed spells (inr (whole, is, form1)) short lacks =
-    let known : HasEach names (names_within (document_shape d)) = subst (HasEach names) (sym (document_names d) ∙ same_order d) form1.known in
+    let known = known_under names d r.bytes form1 in
     let test : lacks_id names (numbered_tokens (compacted names d)) ≡ true = ap (lacks_id names) (sym (tree_tokens r (compacted names d) spells form1.numbered)) ∙ lacks in
     record {
       document = d;
@@ -65,6 +82,14 @@ stored_by_tests names r d unnamed spells (inr (whole, is, form1)) short lacks =
 
 -- ---- what is tested
 
+-- a record with names is short where it is with the longest name in place of each number
+pub short_by_bound : (names : List Name) (r : Record) (n : NumberedTree) → Spells r → r.named ≡ false → IsNumberedRecordOf n r.bytes → nat_lt (length r.bytes + length (labels r.tokens) * (longest_of names + 4)) (2 ^ 30) ≡ true
+    → length (record_of (expanded names n)) < 2 ^ 30
+short_by_bound names r n spells unnamed is test = under (length (record_of (expanded names n))) _ (named_most names r n spells unnamed is) test
+  where
+    under : (len most : ℕ) → len ≤ most → nat_lt most (2 ^ 30) ≡ true → len < 2 ^ 30
+    under len most less test = grind (arith, nat_tests)
+
 -- that a record is short, by the same record once more
 abbrev pub TellsShort : List Name → Record → Bool → Type 0
 TellsShort names r short = (n : NumberedTree) → IsNumberedRecordOf n r.bytes → IsTrue short ↔ AllByRecursion (IsBelow (length names)) (labels r.tokens) × (length (record_of (expanded names n)) < 2 ^ 30)
@@ -76,9 +101,17 @@ passes_short names r again short dictionary spells same told s =
 pub short_tested : (names : List Name) (r again : Record) (short : Bool) → again ≡ r → TellsShort names again short → IsTrue short → (n : NumberedTree) → IsNumberedRecordOf n r.bytes → length (record_of (expanded names n)) < 2 ^ 30
 short_tested names r again short same told test n is = ((subst (λ t. TellsShort names t short) same told n is).0 test).1
 
-pub passes_spelling : (names : List Name) (r : Record) (spelled : Bool) → IsDictionary names → (spelled ≡ false → (d : Document) → IsRecordUnder names d r.bytes → ⊥) → IsStoredIn names r.bytes → IsTrue spelled
-passes_spelling names r true dictionary none s = refl
-passes_spelling names r false dictionary none s = absurd (none refl s.document (stored_under names r.bytes dictionary s))
+pub passes_spelling : (names : List Name) (r again : Record) (spelled : Bool) → IsDictionary names → again ≡ r → (spelled ≡ false → (d : Document) → IsRecordUnder names d again.bytes → ⊥) → IsStoredIn names r.bytes → IsTrue spelled
+passes_spelling names r again true dictionary same none s = refl
+passes_spelling names r again false dictionary same none s = absurd (none refl s.document (subst (λ (t : Record). IsRecordUnder names s.document t.bytes) (sym same) (stored_under names r.bytes dictionary s)))
+
+pub spelled_again : (names : List Name) (r again : Record) → again ≡ r → (d : Document) × IsRecordUnder names d again.bytes → (d : Document) × IsRecordUnder names d r.bytes
+spelled_again names r again same found = subst (λ (t : Record). (d : Document) × IsRecordUnder names d t.bytes) same found
+
+-- a record that is held under names is tested by the same record once more, under the same names
+pub test_of_held : (names own : List Name) (r again : Record) (held : List ℕ) (spelled : Bool) → names ≡ own → again ≡ r → r.bytes ≡ held → IsTrue spelled ↔ IsStoredIn names again.bytes → IsTrue spelled ↔ IsStoredIn own held
+test_of_held names own r again held spelled names_are same bytes_are told =
+    subst (λ bytes. IsTrue spelled ↔ IsStoredIn own bytes) (ap (λ (t : Record). t.bytes) same ∙ bytes_are) (subst (λ ns. IsTrue spelled ↔ IsStoredIn ns again.bytes) names_are told)
 
 -- ---- what else it is
 

@@ -1,18 +1,17 @@
 //! What is counted of the documents that are live, and one document more.
 
-ghost use Rattle.std.specs.Prelude.{◌≡◌, ◌≤◌, ◌<◌, ◌+◌, ◌^◌, OnOk, false, length};
+ghost use Rattle.std.specs.Prelude.{◌≡◌, ◌≤◌, ◌<◌, ◌+◌, ◌^◌, OnOk, length};
 ghost use Rattle.tc_schema_model.specs.Counted.{total_at, IsCanonical};
 ghost use Rattle.tc_schema_model.specs.Occurrences.{Path};
 ghost use Rattle.tc_audit.specs.Stored.{IsStoredIn};
 ghost use Rattle.tc_audit.specs.Told.{document_in};
 ghost use Rattle.tc_audit.specs.Walking.{IsMoreBy};
 
-use std::alloc::{AllocError, Global};
 use tc_bytes::Memory;
-use tc_compact::{document_meant, names_agree, shape_of};
-use tc_infer::add;
+use tc_compact::{document_meant, names_agree};
+use tc_infer::add_known;
 use tc_names::Names;
-use tc_record::{RecordFault, RecordRef};
+use tc_record::RecordRef;
 use tc_schema::Schema;
 
 /// The schema of the documents that are live after the entries so far, under the names of their component, and how many of
@@ -51,12 +50,7 @@ impl Recount {
 }
 
 /// Counts the document of a stored record once more. Its names are all known. Errs only for want of memory.
-pub(crate) fn count_record(
-    alloc: Global,
-    of: RecordRef<'_>,
-    recount: &mut Recount,
-) -> Result<(), Memory>
-    requires numbered { of.named ≡ false }
+pub(crate) fn count_record(of: RecordRef<'_>, recount: &mut Recount) -> Result<(), Memory>
     requires stored { IsStoredIn recount.old.names of.bytes }
     requires canonical { IsCanonical (length recount.old.names) recount.old.schema }
     requires room { (path : Path) → total_at recount.old.names recount.old.schema path + 2 ^ 30 < 2 ^ 64 }
@@ -70,18 +64,5 @@ pub(crate) fn count_record(
     document_meant();
     // that the names are a dictionary
     let _known = recount.names.len();
-    match shape_of(alloc, of, &recount.names) {
-        Ok(shape) => add(&mut recount.schema, &mut recount.names, &shape),
-        Err(fault) => Err(no_memory(fault)),
-    }
-}
-
-/// Want of memory, where the record spells a document.
-fn no_memory(fault: RecordFault) -> Memory
-    requires { fault ≡ RecordFault.NotARecord → ⊥ }
-{
-    match fault {
-        RecordFault::Memory => AllocError,
-        RecordFault::NotARecord => unreachable!(),
-    }
+    add_known(&mut recount.schema, &recount.names, of)
 }

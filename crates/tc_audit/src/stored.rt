@@ -1,13 +1,15 @@
 //! Whether a record spells a document as it is stored.
 
-ghost use Rattle.std.specs.Prelude.{◌≡◌, ◌↔◌, ◌<◌, ◌+◌, ◌^◌, IsTrue, length, false};
+ghost use Rattle.std.specs.Prelude.{◌≡◌, ◌↔◌, ◌<◌, ◌+◌, ◌*◌, ◌^◌, IsTrue, Some, codes, length, nat_lt, false};
 ghost use Rattle.std.specs.List.{AllByRecursion};
-ghost use Rattle.tc_record.specs.Borrowed.{IsBelow};
+ghost use Rattle.tc_record.specs.Borrowed.{IsBelow, numbered_tokens};
+ghost use Rattle.tc_record.specs.Preorder.{tokens_of};
 ghost use Rattle.tc_record.specs.Record.{labels, NumberedTree, record_of, IsNumberedRecordOf};
 ghost use Rattle.tc_record.specs.StoredTest.{depth_behind};
+ghost use Rattle.tc_record.specs.Walk.{is_above};
 ghost use Rattle.tc_record.specs.WalkView.{key_of, piece_of};
-ghost use Rattle.tc_compact.specs.Meant.{expanded};
-ghost use Rattle.tc_audit.specs.Lacking.{is_numbered, lacks, lacks_id};
+ghost use Rattle.tc_compact.specs.Meant.{expanded, name_at};
+ghost use Rattle.tc_audit.specs.Lacking.{begins_behind, is_numbered, lacks, lacks_id};
 ghost use Rattle.tc_audit.specs.Stored.{IsStoredIn};
 
 use tc_compact::{expanded_size, spells_document};
@@ -31,19 +33,59 @@ pub fn spells_stored(of: RecordRef<'_>, names: &Names) -> bool
     if !is_short(of.again(), names) {
         return false;
     }
-    if !has_no_id(&of, names) {
+    if !spells_document(of.again(), names) {
         return false;
     }
-    spells_document(of, names)
+    if begins_behind_id(&of, names) {
+        return true;
+    }
+    has_no_id(&of, names)
 }
 
-/// Whether each number has a name, and the record with names is short enough to be compacted.
+/// Whether each number has a name, and the record with names is short enough to be compacted. The members are walked only
+/// where it could grow too long with the longest name in place of each number.
 fn is_short(of: RecordRef<'_>, names: &Names) -> bool
     requires numbered { of.named ≡ false }
     ensures { (n : NumberedTree) → IsNumberedRecordOf n of.entry.bytes → IsTrue result ↔ AllByRecursion (IsBelow (length names.now)) (labels of.entry.tokens) × (length (record_of (expanded names.now n)) < 2 ^ 30) }
 {
+    let bytes = of.bytes();
+    if of.numbers_below(names.len())
+        && is_short_with_names(bytes.len(), of.member_count(), names.longest_name())
+    {
+        return true;
+    }
     match expanded_size(of, names) {
         Some(len) => len < LONG,
+        None => false,
+    }
+}
+
+/// Whether a record of so many bytes and members is short with a name in place of each number, and names of at most so many
+/// bytes. The slot of a name has at most four bytes.
+fn is_short_with_names(len: usize, members: u32, longest: u32) -> bool
+    ensures { result ≡ nat_lt (len + members * (longest + 4)) (2 ^ 30) }
+{
+    let most = u64::from(members).saturating_mul(u64::from(longest) + 4);
+    most.saturating_add(len as u64) < u64::from(LONG)
+}
+
+/// Whether the first member of the outermost object is called by a name behind `id`. As names ascend all others are then too.
+fn begins_behind_id(of: &RecordRef<'_>, names: &Names) -> bool
+    ensures { (n : NumberedTree) → of.now.tokens ≡ numbered_tokens n → IsTrue result → IsTrue (begins_behind names.now (labels (tokens_of n))) }
+{
+    let mut slots = of.slots();
+    match slots.next() {
+        Some(number) => is_behind_id(number, names),
+        None => false,
+    }
+}
+
+/// Whether a number stands for a name behind `id`.
+fn is_behind_id(number: u32, names: &Names) -> bool
+    ensures { IsTrue result → IsTrue (is_above (Some (codes "id")) (name_at names.now number)) }
+{
+    match names.name_of(number) {
+        Some(name) => "id" < name,
         None => false,
     }
 }

@@ -158,55 +158,30 @@ fn count_place<F: Frozen>(
     ensures harmed { IfWrong result (λ w. (whole : List ℕ) → F.content component.now.file ≡ Some whole → IsHarmAt number component.now.index place.at whole w) }
     ensures watched { IsWatched (IsErrOf result Stop.Disk) (F.Watch.counts watch.old) (F.Watch.counts watch.new) }
 {
-    read_stored(alloc, number, component, place, cursor, watch)?;
+    hold(number, component, place, cursor, watch)?;
     let bytes = cursor.record(component, place);
-    count_few(alloc, bytes, recount)?;
+    let of = RecordRef::known(bytes);
+    if !spells_stored(of.again(), component.names()) {
+        return Err(unstored(alloc, number, component, place, bytes));
+    }
+    count_few(of, recount)?;
     recount.gained += 1;
     Ok(())
 }
 
 /// Counts the document of a stored record, unless it is known that too many documents are live. Errs only for want of memory.
-fn count_few(alloc: Global, bytes: &[u8], recount: &mut Recount) -> Result<(), Memory>
-    requires stored { IsStoredIn recount.old.names bytes.now }
+fn count_few(of: RecordRef<'_>, recount: &mut Recount) -> Result<(), Memory>
+    requires stored { IsStoredIn recount.old.names of.bytes }
     requires counting { IsCounting recount.old.names recount.old.schema recount.old.gained }
     ensures names { OnOk result (recount.new.names ≡ recount.old.names) }
     ensures gained { recount.new.gained ≡ recount.old.gained }
     ensures counting { OnOk result (IsCounting recount.old.names recount.new.schema (recount.old.gained + 1)) }
-    ensures counted { OnOk result (recount.old.gained < 2 ^ 32 → IsMoreBy (document_in recount.old.names bytes.now) recount.old.names recount.old.schema recount.new.schema) }
+    ensures counted { OnOk result (recount.old.gained < 2 ^ 32 → IsMoreBy (document_in recount.old.names of.entry.bytes) recount.old.names recount.old.schema recount.new.schema) }
 {
-    // that the names are a dictionary
-    let _known = recount.names.len();
     if is_full(recount.gained) {
         return Ok(());
     }
-    count_record(alloc, RecordRef::known(bytes), recount)
-}
-
-/// Holds the record of the entry at a place, which is found to be wrong where it spells no document as it is stored.
-fn read_stored<F: Frozen>(
-    alloc: Global,
-    number: usize,
-    component: &Component<F>,
-    place: Place,
-    cursor: &mut RecordCursor,
-    watch: &mut F::Watch,
-) -> Result<(), Stop>
-    requires place { IsPlace component.now.index.slots place }
-    requires of { HoldsPart (F.content component.now.file) cursor.old }
-    ensures of { HoldsPart (F.content component.now.file) cursor.new }
-    ensures has { OnOk result (HasRecord component.now.index place.at cursor.new) }
-    ensures stored { OnOk result (IsStoredIn component.now.index.names (record_held component.now.index place.at cursor.new)) }
-    ensures read { OnOk result ((whole : List ℕ) → F.content component.now.file ≡ Some whole → record_held component.now.index place.at cursor.new ≡ record_at component.now.index.slots place.at whole) }
-    ensures place { IfWrong result (λ w. position_of w ≡ number) }
-    ensures harmed { IfWrong result (λ w. (whole : List ℕ) → F.content component.now.file ≡ Some whole → IsHarmAt number component.now.index place.at whole w) }
-    ensures watched { IsWatched (IsErrOf result Stop.Disk) (F.Watch.counts watch.old) (F.Watch.counts watch.new) }
-{
-    hold(number, component, place, cursor, watch)?;
-    let bytes = cursor.record(component, place);
-    if spells_stored(RecordRef::known(bytes), component.names()) {
-        return Ok(());
-    }
-    Err(unstored(alloc, number, component, place, bytes))
+    count_record(of, recount)
 }
 
 /// Holds the record at a place of the component at a position, by at most one read.

@@ -1,24 +1,8 @@
-use Rattle.std.proofs.Common.{◌^◌, inr, sym, subst, arith}
+use Rattle.std.proofs.Common.{◌^◌, arith}
 use Rattle.std.proofs.lemmas.Result.{on_ok_weaker}
-use Rattle.tc_compact.specs.Compacted.{compacted}
-use Rattle.tc_audit.specs.Stored.{IsStoredIn}
-use Rattle.tc_audit.specs.Told.{document_in}
-use Rattle.tc_audit.specs.Walking.{IsMoreBy}
 use Rattle.tc_audit.proofs.Outcomes.{ok_and}
 use Rattle.tc_audit.proofs.Rooms.{below, counting_more, counting_room}
-use Rattle.tc_audit.proofs.StoredLaws.{stored_numbered}
 use Rattle.tc_audit.proofs.walk.count_few.Goals as goal
-
-pub known-requires : goal.known-requires
-known-requires c =
-    let s = c.requires.stored in inr (compacted c.args.recount.now.names s.document, stored_numbered c.args.recount.now.names c.args.bytes.now c.len-known.ensures.dictionary s)
-
-pub count_record-requires-clause-numbered : goal.count_record-requires-clause-numbered
-count_record-requires-clause-numbered c =
-    let s = c.requires.stored in (c.known.ensures.numbered (compacted c.args.recount.now.names s.document) (stored_numbered c.args.recount.now.names c.args.bytes.now c.len-known.ensures.dictionary s)).0
-
-pub count_record-requires-clause-stored : goal.count_record-requires-clause-stored
-count_record-requires-clause-stored c = subst (IsStoredIn c.args.recount.now.names) (sym c.known.ensures.bytes) c.requires.stored
 
 pub count_record-requires-clause-canonical : goal.count_record-requires-clause-canonical
 count_record-requires-clause-canonical c = c.requires.counting.canonical
@@ -43,7 +27,4 @@ returns-clause-counting c =
     ok_and c.count_record.result c.count_record.ensures.canonical c.count_record.ensures.room (λ canonical more. counting_more old.names old.schema c.count_record.new.recount.schema old.gained less c.requires.counting canonical more)
 
 pub returns-clause-counted : goal.returns-clause-counted
-returns-clause-counted c =
-    on_ok_weaker c.count_record.result
-    (λ more _. subst (λ bytes. IsMoreBy (document_in c.args.recount.now.names bytes) c.args.recount.now.names c.args.recount.now.schema c.count_record.new.recount.schema) c.known.ensures.bytes more)
-    c.count_record.ensures.counted
+returns-clause-counted c = on_ok_weaker c.count_record.result (λ more _. more) c.count_record.ensures.counted

@@ -1,14 +1,49 @@
-use Rattle.std.proofs.Common.{◌∙◌, ◌+◌, sym, subst}
-use Rattle.tc_component.specs.Cursors.{record_held}
+use Rattle.std.proofs.Common.{◌≡◌, ◌∙◌, ◌+◌, false, length, inr, refl, sym, ap, subst}
+use Rattle.std.proofs.lemmas.Bool.{both_ways}
+use Rattle.tc_record.specs.Borrowed.{Record}
+use Rattle.tc_component.specs.Fetching.{IsRecordWithin}
 use Rattle.tc_audit.specs.Stored.{IsStoredIn}
 use Rattle.tc_audit.specs.Told.{document_in}
 use Rattle.tc_audit.specs.Walking.{IsCounting, IsMoreBy}
+use Rattle.tc_audit.proofs.Outcomes.{stop_told}
+use Rattle.tc_audit.proofs.StoredLaws.{test_of_held}
 use Rattle.tc_audit.proofs.walk.count_place.Goals as goal
 
--- the record that is held, under the names of the count
+-- ---- the record that is held
+
+pub known-of-requires : goal.known-of-requires
+known-of-requires g c =
+    let found : IsRecordWithin (length c.args.component.now.index.names) c.record-bytes.result.now = subst (IsRecordWithin (length c.args.component.now.index.names)) (sym c.record-bytes.ensures.same) c.in_ok-hold.ensures.found in
+    inr (found.tree, found.is_record)
+
+pub spells_stored-requires : goal.spells_stored-requires
+spells_stored-requires g c =
+    let found : IsRecordWithin (length c.args.component.now.index.names) c.record-bytes.result.now = subst (IsRecordWithin (length c.args.component.now.index.names)) (sym c.record-bytes.ensures.same) c.in_ok-hold.ensures.found in
+    let unnamed : c.again.result.named ≡ false = ap (λ (r : Record). r.named) c.again.ensures ∙ (c.known-of.ensures.numbered found.tree found.is_record).0 in
+    record { numbered = unnamed }
+
+-- ---- where it is no stored one
+
+pub unstored-requires-clause-read : goal.unstored-requires-clause-read
+unstored-requires-clause-read g c κs within = λ whole tells. c.record-bytes.ensures.same ∙ c.in_ok-hold.ensures.read whole tells
+
+pub unstored-requires-clause-harmed : goal.unstored-requires-clause-harmed
+unstored-requires-clause-harmed g c κs within = λ stored.
+    let told = test_of_held _ _ _ _ _ c.spells_stored.result c.names.ensures c.again.ensures c.known-of.ensures.bytes c.spells_stored.ensures in
+    both_ways c.spells_stored.result c.if-not-spells_stored.true (told.1 stored)
+
+pub returns-then-not-spells_stored-clause-place : goal.returns-then-not-spells_stored-clause-place
+returns-then-not-spells_stored-clause-place g c = stop_told c.unstored.result _ c.unstored.ensures.place
+
+pub returns-then-not-spells_stored-clause-harmed : goal.returns-then-not-spells_stored-clause-harmed
+returns-then-not-spells_stored-clause-harmed g c = stop_told c.unstored.result _ c.unstored.ensures.harmed
+
+-- ---- where it is one, under the names of the count
+
 pub count_few-requires-clause-stored : goal.count_few-requires-clause-stored
 count_few-requires-clause-stored g c =
-    subst (IsStoredIn c.args.recount.now.names) (sym c.record-bytes.ensures.same) (subst (λ names. IsStoredIn names (record_held c.args.component.now.index c.args.place.at c.read_stored.new.cursor)) (sym c.requires.names) c.in_ok-read_stored.ensures.stored)
+    let told = test_of_held _ _ _ _ c.known-of.result.bytes c.spells_stored.result c.names.ensures c.again.ensures refl c.spells_stored.ensures in
+    subst (λ names. IsStoredIn names c.known-of.result.bytes) (sym c.requires.names) (told.0 c.if-not-spells_stored.false)
 
 pub count_few-requires-clause-counting : goal.count_few-requires-clause-counting
 count_few-requires-clause-counting g c = subst (λ names. IsCounting names c.args.recount.now.schema c.args.recount.now.gained) (sym c.requires.names) c.requires.counting
@@ -22,11 +57,13 @@ returns-clause-counting g c =
     (subst (λ names. IsCounting names c.count_few.new.recount.schema (c.args.recount.now.gained + 1)) c.requires.names c.in_ok-count_few.ensures.counting)
 
 pub returns-clause-stored : goal.returns-clause-stored
-returns-clause-stored g c = λ whole tells. subst (IsStoredIn c.args.component.now.index.names) (c.in_ok-read_stored.ensures.read whole tells) c.in_ok-read_stored.ensures.stored
+returns-clause-stored g c = λ whole tells.
+    let told = test_of_held _ _ _ _ _ c.spells_stored.result c.names.ensures c.again.ensures (c.known-of.ensures.bytes ∙ c.record-bytes.ensures.same) c.spells_stored.ensures in
+    subst (IsStoredIn c.args.component.now.index.names) (c.in_ok-hold.ensures.read whole tells) (told.0 c.if-not-spells_stored.false)
 
 pub returns-clause-counted : goal.returns-clause-counted
 returns-clause-counted g c = λ whole tells few.
     let m = c.args.component.now in
-    let bytes = c.record-bytes.ensures.same ∙ c.in_ok-read_stored.ensures.read whole tells in
+    let bytes = c.known-of.ensures.bytes ∙ c.record-bytes.ensures.same ∙ c.in_ok-hold.ensures.read whole tells in
     subst (λ bs. IsMoreBy (document_in m.index.names bs) m.index.names c.args.recount.now.schema c.count_few.new.recount.schema) bytes
-    (subst (λ names. IsMoreBy (document_in names c.record-bytes.result.now) names c.args.recount.now.schema c.count_few.new.recount.schema) c.requires.names (c.in_ok-count_few.ensures.counted few))
+    (subst (λ names. IsMoreBy (document_in names c.known-of.result.bytes) names c.args.recount.now.schema c.count_few.new.recount.schema) c.requires.names (c.in_ok-count_few.ensures.counted few))
