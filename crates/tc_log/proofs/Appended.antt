@@ -1,5 +1,5 @@
--- What a stop may leave of a log while a frame is appended.
-use Rattle.std.proofs.Common.{◌≡◌, ◌∙◌, ◌<◌, ◌≤◌, ◌+◌, ◌-◌, ℕ, List, [], ◌∷◌, ◌++◌, Some, Result, Ok, Err, length, flat_map, refl, sym, ap, subst, inl, inr, arith, length-append, append_assoc, append-nil}
+-- What a stop may leave of a log while a frame is appended, and how long a log is.
+use Rattle.std.proofs.Common.{◌≡◌, ◌↔◌, ◌∙◌, ◌<◌, ◌≤◌, ◌+◌, ◌-◌, ℕ, List, [], ◌∷◌, ◌++◌, Some, Result, Ok, Err, length, flat_map, refl, sym, ap, subst, inl, inr, arith, length-append, append_assoc, append-nil}
 use Rattle.std.specs.Prelude.{OnOk, OnErr, All}
 use Rattle.std.specs.List.{AllByRecursion}
 use Rattle.std.proofs.lemmas.Bool.{cases_eq}
@@ -16,6 +16,7 @@ use Rattle.tc_log.specs.declared.head.LogHead.{LogHead}
 use Rattle.tc_log.specs.declared.write.Write.{Write}
 use Rattle.tc_log.specs.Appending.{IsAtRest, appended, MeansWithOrWithout, Appends}
 use Rattle.tc_log.specs.Frame.{with_closed_gate, IsFrameKept}
+use Rattle.tc_log.specs.Layout.{empty_size}
 use Rattle.tc_log.specs.Spelling.{head_bytes, IsHead, frame_fields, frame_bytes, IsFrame, IsShut, log_bytes, log_at_rest, writes_of, Means}
 use Rattle.tc_store.proofs.Judged.{same_Ok}
 use Rattle.tc_log.proofs.Logs.{judged_spelled}
@@ -247,3 +248,31 @@ created_means (f ∷ past) head is created =
 pub told_settled : (moments : List DiskFile) → IfTold moments IsAtRest → IfTold moments IsSettled
 told_settled [] rest = tt
 told_settled (f ∷ past) rest = rest.file ∙ ap settled_file (sym (ap (λ (g : DiskFile). g.content) rest.file))
+
+-- ---- how long a log is
+
+no_frames : (frames : List (List Write)) → AllByRecursion IsFrame frames → writes_of frames ≡ [] → frames ≡ []
+no_frames [] each none = refl
+no_frames ([] ∷ frames) each none = absurd (omega (arith, each.0.some))
+no_frames ((w ∷ ws) ∷ frames) each none = absurd (cc)
+
+no_bytes : (frames : List (List Write)) → length (flat_map frame_bytes frames) ≡ 0 → frames ≡ []
+no_bytes [] none = refl
+no_bytes (f ∷ frames) none = absurd (omega (arith, none))
+
+rest_length : (head : LogHead) (frames : List (List Write)) → length (log_at_rest head frames) ≡ empty_size + length (flat_map frame_bytes frames)
+rest_length head frames = omega (arith, length-append (flat_map frame_bytes frames) (0 ∷ []))
+
+-- it is as long as its gates and its header exactly where it has no write
+rest_empty : (f : DiskFile) (size : ℕ) (head : LogHead) (writes : List Write) → IsAtRest f → size ≡ length f.content → Means f.content head writes → (size ≡ empty_size) ↔ (writes ≡ [])
+rest_empty f size head writes rest sized means =
+    let own : writes ≡ writes_of rest.frames = (means_same f.content head rest.head writes (writes_of rest.frames) means (own_means f rest)).1 in
+    let long : size ≡ empty_size + length (flat_map frame_bytes rest.frames) = sized ∙ ap (λ (g : DiskFile). length g.content) rest.file ∙ rest_length rest.head rest.frames in (
+      λ empty. own ∙ ap writes_of (no_bytes rest.frames (omega (arith, long, empty))),
+      λ none. long ∙ ap (λ (frames : List (List Write)). empty_size + length (flat_map frame_bytes frames)) (no_frames rest.frames rest.each (sym own ∙ none)),
+    )
+
+pub told_empty : (moments : List DiskFile) (size : ℕ) → IfTold moments IsAtRest → IfTold moments (λ f. size ≡ length f.content)
+    → IfTold moments (λ f. (head : LogHead) (writes : List Write) → Means f.content head writes → (size ≡ empty_size) ↔ (writes ≡ []))
+told_empty [] size rest sized = tt
+told_empty (f ∷ past) size rest sized = λ head writes means. rest_empty f size head writes rest sized means

@@ -1,6 +1,6 @@
 //! The log that is written.
 
-ghost use Rattle.std.specs.Prelude.{◌≡◌, ◌<◌, ◌≤◌, ◌+◌, ◌-◌, ◌^◌, ◌++◌, [], List, true, false, length, IfOk, IfErr, OnOk, OnErr, IsErrOf};
+ghost use Rattle.std.specs.Prelude.{◌≡◌, ◌↔◌, ◌<◌, ◌≤◌, ◌+◌, ◌-◌, ◌^◌, ◌++◌, [], List, true, false, length, IfOk, IfErr, OnOk, OnErr, IsErrOf};
 ghost use Rattle.std.specs.List.{AllByRecursion};
 ghost use Rattle.std.specs.Result.{IsErrAnd};
 ghost use Rattle.tc_store.specs.Counted.{IsCounted};
@@ -132,7 +132,10 @@ impl<D: Device> Log<D> {
 
     /// The length of the file in bytes. Takes no memory.
     pub fn len(&self) -> u64
-        ensures { result ≡ D.size self.now.device }
+        ensures size { result ≡ D.size self.now.device }
+
+        // While no append failed it is 22 exactly where the log has no write.
+        ensures empty { self.now.failed ≡ false → IfTold (D.history self.now.device) (λ f. (head : Head) (writes : List OneWrite) → Means f.content head writes → (result ≡ empty_size) ↔ (writes ≡ [])) }
     {
         self.device.len()
     }
