@@ -1,7 +1,7 @@
 //! Whether neighbouring components can be merged into one.
 
 ghost use Rattle.std.specs.Arc.{arc_value};
-ghost use Rattle.std.specs.Prelude.{◌≡◌, ◌↔◌, IsTrue, map};
+ghost use Rattle.std.specs.Prelude.{◌≡◌, ◌↔◌, ◌+◌, IsTrue, map};
 ghost use Rattle.std.specs.List.{AllByRecursion};
 ghost use Rattle.tc_merge.specs.Merging.{GrowNames, IsRun, Tile};
 
@@ -30,10 +30,12 @@ pub fn can_merge<F: Frozen>(head: Head, run: &[Arc<Component<F>>]) -> bool
 fn are_of<F: Frozen>(head: Head, run: &[Arc<Component<F>>]) -> bool
     ensures exact { IsTrue result ↔ AllByRecursion (λ c. (c.index.head.number ≡ head.number) × (c.index.head.count ≡ head.count)) (map arc_value run.now) }
 {
-    match run {
-        [] => true,
-        [first, rest @ ..] => is_of(head, first.head()) && are_of(head, rest),
+    for component in run {
+        if !is_of(head, component.head()) {
+            return false;
+        }
     }
+    true
 }
 
 fn is_of(head: Head, other: Head) -> bool
@@ -46,22 +48,35 @@ fn is_of(head: Head, other: Head) -> bool
 fn tile<F: Frozen>(from: u64, to: u64, run: &[Arc<Component<F>>]) -> bool
     ensures exact { IsTrue result ↔ Tile from to (map arc_value run.now) }
 {
-    match run {
-        [] => to.checked_add(1) == Some(from),
-        [first, rest @ ..] => {
-            // that its generations are lawful
-            let _lawful = first.file_len();
-            first.head().from == from && tile(first.head().to + 1, to, rest)
+    let mut next = from;
+    for component in run {
+        // that its generations are lawful
+        let _lawful = component.file_len();
+        if component.head().from != next {
+            return false;
         }
+        next = component.head().to + 1;
     }
+    is_behind(to, next)
+}
+
+/// Whether a generation is the one behind another.
+fn is_behind(to: u64, next: u64) -> bool
+    ensures exact { IsTrue result ↔ (next ≡ to + 1) }
+{
+    to.checked_add(1) == Some(next)
 }
 
 /// Whether the names of each go on from those of the one before.
 fn grow<F: Frozen>(older: &Names, run: &[Arc<Component<F>>]) -> bool
     ensures exact { IsTrue result ↔ GrowNames older.now (map arc_value run.now) }
 {
-    match run {
-        [] => true,
-        [first, rest @ ..] => first.names().extends(older) && grow(first.names(), rest),
+    let mut before = older;
+    for component in run {
+        if !component.names().extends(before) {
+            return false;
+        }
+        before = component.names();
     }
+    true
 }
