@@ -154,6 +154,13 @@ slice_get-map f [] n x here = absurd (cc)
 slice_get-map f (y ∷ xs) zero x here = ap (λ z. Some (f z)) (same_Some y x here)
 slice_get-map f (y ∷ xs) (suc n) x here = slice_get-map f xs n x here
 
+-- the first of what is left from a place on stands there
+pub first_there : {X : Type 0} (xs : List X) (n : ℕ) (x : X) (rest : List X) → drop n xs ≡ x ∷ rest → slice_get xs n ≡ Some x
+first_there [] zero x rest is = absurd (cc)
+first_there [] (suc n) x rest is = absurd (cc)
+first_there (y ∷ xs) zero x rest is = cc
+first_there (y ∷ xs) (suc n) x rest is = first_there xs n x rest is
+
 -- what is mapped there
 record Mapped {X Y : Type 0} (f : X → Y) (xs : List X) (n : ℕ) (y : Y) : Type 0 where
   from : X

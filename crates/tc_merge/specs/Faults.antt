@@ -7,6 +7,7 @@ use Rattle.tc_component.specs.declared.found.Place.{Place}
 use Rattle.tc_component.specs.Fetching.{IsPlace, record_place, length_at, record_at, IsRecordWithin}
 use Rattle.tc_component.specs.Loading.{ComponentState}
 use Rattle.tc_component.specs.Spelling.{Row, name_of}
+use Rattle.tc_merge.specs.Merging.{rows_told}
 use Rattle.tc_merge.specs.declared.fault.MergeFault.{MergeFault}
 use Rattle.tc_merge.specs.declared.fault.MergeFault.TheVariants.{Disk, Damaged, Memory}
 
@@ -38,11 +39,14 @@ pub record IsHarmIn {F : Type 0} (content : F → Option (List ℕ)) (run : List
   pub here : slice_get run at ≡ Some component
   pub harm : IsHarmOf content component file place bytes
 
--- the record of a row, if it has one, is one of form 1 whose numbers a component of the run has
-pub record IsJudged {F : Type 0} (run : List (ComponentState F)) (row : Row) : Type 0 where
+-- the row is that of an entry of a component of the run, and its record, if it has one, is one of form 1 whose numbers that
+-- component has
+pub record IsJudged {F : Type 0} (content : F → Option (List ℕ)) (run : List (ComponentState F)) (row : Row) : Type 0 where
   pub at : ℕ
   pub component : ComponentState F
   pub here : slice_get run at ≡ Some component
+  pub entry : ℕ
+  pub own : slice_get (rows_told content component) entry ≡ Some row
   pub form : IfSome row.1 (λ bytes. IsRecordWithin (length component.index.names) bytes)
 
 -- Calls, some of which may be reads. Where one failed for a fault, one was counted.

@@ -86,8 +86,8 @@ impl<S: Store> MergeJob<S> {
         ensures merged { (cs : List Content) → AllZip (IsLoadedOf (λ file. S.Frozen.content file)) self.run cs
             → (c : Content) × IsMerge cs c × All IsShortWrite c.entries × (component_bytes c ≡ merge_bytes (λ file. S.Frozen.content file) self.head self.run) }
 
-        // Each record of the merge was judged as one of a component of the run.
-        ensures judged { IsOk result.outcome → AreTold (λ file. S.Frozen.content file) self.run → All (IsJudged self.run) (merged_rows (λ file. S.Frozen.content file) self.head.from self.run) }
+        // Each record of the merge was judged as one of the component that it is of.
+        ensures judged { IsOk result.outcome → AreTold (λ file. S.Frozen.content file) self.run → All (IsJudged (λ file. S.Frozen.content file) self.run) (merged_rows (λ file. S.Frozen.content file) self.head.from self.run) }
 
         // At each moment the file is absent, closed, the one before, or this one.
         ensures moments { (before : Image) → AreTold (λ file. S.Frozen.content file) self.run → IfTold (S.Device.history self.device) (LeavesAt (IsShutOr before))

@@ -29,7 +29,7 @@ pub(crate) fn merge<S: Store>(
     ensures same { map (λ i. i.component) inputs.new ≡ map (λ i. i.component) inputs.old }
     ensures pushed { OnOk result ((rows : List Row) → AreTold (λ file. S.Frozen.content file) (map (λ i. i.component) inputs.old) → HasRows (S.Device.history builder.old.device) builder.old rows
         → HasRows (S.Device.history builder.new.device) builder.new (rows ++ kept from (newest (map (rows_left (λ file. S.Frozen.content file)) inputs.old)))) }
-    ensures judged { OnOk result (AreTold (λ file. S.Frozen.content file) (map (λ i. i.component) inputs.old) → All (IsJudged (map (λ i. i.component) inputs.old)) (kept from (newest (map (rows_left (λ file. S.Frozen.content file)) inputs.old)))) }
+    ensures judged { OnOk result (AreTold (λ file. S.Frozen.content file) (map (λ i. i.component) inputs.old) → All (IsJudged (λ file. S.Frozen.content file) (map (λ i. i.component) inputs.old)) (kept from (newest (map (rows_left (λ file. S.Frozen.content file)) inputs.old)))) }
     ensures more { OnOk result ((rows : List Row) → HasRows (S.Device.history builder.old.device) builder.old rows → (all : List Row) × HasRows (S.Device.history builder.new.device) builder.new all) }
     ensures harmed { IfErr result (λ fault. IfHarmed fault (λ file place bytes. IsHarmIn (λ f. S.Frozen.content f) (map (λ i. i.component) inputs.old) file place bytes)) }
     ensures head { builder.new.head ≡ builder.old.head }
@@ -66,7 +66,7 @@ fn put_entry<S: Store>(
     ensures fewer { OnOk result (left_of inputs.new < left_of inputs.old) }
     ensures pushed { OnOk result ((rows : List Row) → AreTold (λ file. S.Frozen.content file) (map (λ i. i.component) inputs.old) → HasRows (S.Device.history builder.old.device) builder.old rows
         → IsUpTo (λ file. S.Frozen.content file) from inputs.old inputs.new (λ done. HasRows (S.Device.history builder.new.device) builder.new (rows ++ done))) }
-    ensures judged { OnOk result (AreTold (λ file. S.Frozen.content file) (map (λ i. i.component) inputs.old) → IsUpTo (λ file. S.Frozen.content file) from inputs.old inputs.new (λ done. All (IsJudged (map (λ i. i.component) inputs.old)) done)) }
+    ensures judged { OnOk result (AreTold (λ file. S.Frozen.content file) (map (λ i. i.component) inputs.old) → IsUpTo (λ file. S.Frozen.content file) from inputs.old inputs.new (λ done. All (IsJudged (λ file. S.Frozen.content file) (map (λ i. i.component) inputs.old)) done)) }
     ensures more { OnOk result ((rows : List Row) → HasRows (S.Device.history builder.old.device) builder.old rows → (all : List Row) × HasRows (S.Device.history builder.new.device) builder.new all) }
     ensures harmed { IfErr result (λ fault. IfHarmed fault (λ file place bytes. IsHarmIn (λ f. S.Frozen.content f) (map (λ i. i.component) inputs.old) file place bytes)) }
     ensures head { builder.new.head ≡ builder.old.head }

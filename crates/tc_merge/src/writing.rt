@@ -50,7 +50,7 @@ pub(crate) fn write<S: Store>(
         → IfOk result (λ written. LeavesOnly (IsShutOrWhole before (merge_bytes (λ file. S.Frozen.content file) head (map arc_value run.now))) (S.Device.history device) (S.Device.history written)) }
     ensures failed_moments { (before : Image) → AreTold (λ file. S.Frozen.content file) (map arc_value run.now) → IfTold (S.Device.history device) (LeavesAt (IsShutOr before))
         → IfErr result (λ failed. LeavesOnly (IsShutOrWhole before (merge_bytes (λ file. S.Frozen.content file) head (map arc_value run.now))) (S.Device.history device) (S.Device.history failed.device)) }
-    ensures judged { IfOk result (λ written. AreTold (λ file. S.Frozen.content file) (map arc_value run.now) → All (IsJudged (map arc_value run.now)) (merged_rows (λ file. S.Frozen.content file) head.from (map arc_value run.now))) }
+    ensures judged { IfOk result (λ written. AreTold (λ file. S.Frozen.content file) (map arc_value run.now) → All (IsJudged (λ file. S.Frozen.content file) (map arc_value run.now)) (merged_rows (λ file. S.Frozen.content file) head.from (map arc_value run.now))) }
     ensures untold { S.Device.history device ≡ [] → IfOk result (λ written. S.Device.history written ≡ []) }
     ensures failed_untold { S.Device.history device ≡ [] → IfErr result (λ failed. S.Device.history failed.device ≡ []) }
     ensures harmed { IfErr result (λ failed. IfHarmed failed.cause (λ file place bytes. IsHarmIn (λ f. S.Frozen.content f) (map arc_value run.now) file place bytes)) }

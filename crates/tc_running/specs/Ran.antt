@@ -41,7 +41,7 @@ pub record HasMerged {F D W : Type 0} (content : F → Option (List ℕ)) (histo
   pub whole : IsOk outcome → AreTold content job.run → IfTold (history device) (λ f. f ≡ settled_file (merge_bytes content job.head job.run))
   pub merged : (cs : List Content) → AllZip (IsLoadedOf content) job.run cs
       → (c : Content) × IsMerge cs c × All IsShortWrite c.entries × (component_bytes c ≡ merge_bytes content job.head job.run)
-  pub judged : IsOk outcome → AreTold content job.run → All (IsJudged job.run) (merged_rows content job.head.from job.run)
+  pub judged : IsOk outcome → AreTold content job.run → All (IsJudged content job.run) (merged_rows content job.head.from job.run)
   pub moments : (before : Image) → AreTold content job.run → IfTold (history job.device) (LeavesAt (IsShutOr before))
       → LeavesOnly (IsShutOrWhole before (merge_bytes content job.head job.run)) (history job.device) (history device)
   pub untold : history job.device ≡ [] → history device ≡ []

@@ -20,7 +20,9 @@ loop-next-init g c =
     record {
       next = c.next_of-next.ensures;
       up = λ rows told has. begins (λ file. g.S.Frozen.Frozen.content file) c.args.from c.args.inputs.now (λ done. HasRows (h b.device) b (rows ++ done)) (subst (HasRows (h b.device) b) (sym (append-nil rows)) has);
-      judged = λ told. begins (λ file. g.S.Frozen.Frozen.content file) c.args.from c.args.inputs.now (λ done. All (IsJudged (map (λ i. i.component) c.args.inputs.now)) done) (All-nil (IsJudged (map (λ i. i.component) c.args.inputs.now)));
+      judged = λ told.
+          let judged = IsJudged (λ file. g.S.Frozen.Frozen.content file) (map (λ i. i.component) c.args.inputs.now) in
+          begins (λ file. g.S.Frozen.Frozen.content file) c.args.from c.args.inputs.now (λ done. All judged done) (All-nil judged);
       more = λ rows has. (rows, has);
       same = refl;
       head = refl;
@@ -52,12 +54,12 @@ loop-next-preserved g c =
           (λ done more pushed. subst (HasRows (h new.builder.device) new.builder) (append_assoc rows done more) pushed);
       judged = λ told.
           let components = map (λ i. i.component) c.args.inputs.now in
-          goes_on (λ file. content file) c.args.from c.args.inputs.now l.inputs new.inputs (λ done. All (IsJudged components) done) (λ done. All (IsJudged components) done)
-          (λ done more. All (IsJudged components) done × All (IsJudged components) more) (l.invariant.judged told)
-          (λ done judged. adds_to (λ file. content file) c.args.from l.inputs new.inputs (All (IsJudged components) done) (λ more. All (IsJudged components) more) judged
-          (subst (λ cs. IsUpTo (λ file. content file) c.args.from l.inputs new.inputs (λ more. All (IsJudged cs) more)) l.invariant.same
+          goes_on (λ file. content file) c.args.from c.args.inputs.now l.inputs new.inputs (λ done. All (IsJudged (λ file. content file) components) done) (λ done. All (IsJudged (λ file. content file) components) done)
+          (λ done more. All (IsJudged (λ file. content file) components) done × All (IsJudged (λ file. content file) components) more) (l.invariant.judged told)
+          (λ done judged. adds_to (λ file. content file) c.args.from l.inputs new.inputs (All (IsJudged (λ file. content file) components) done) (λ more. All (IsJudged (λ file. content file) components) more) judged
+          (subst (λ cs. IsUpTo (λ file. content file) c.args.from l.inputs new.inputs (λ more. All (IsJudged (λ file. content file) cs) more)) l.invariant.same
           (c.in-Ok.ensures.judged (subst (AreTold (λ file. content file)) (sym l.invariant.same) told))))
-          (λ done more judged. All-append (IsJudged components) done more judged.0 judged.1);
+          (λ done more judged. All-append (IsJudged (λ file. content file) components) done more judged.0 judged.1);
       more = λ rows has. let before = l.invariant.more rows has in c.in-Ok.ensures.more before.0 before.1;
       same = c.put_entry.ensures.same ∙ l.invariant.same;
       head = c.put_entry.ensures.head ∙ l.invariant.head;
@@ -93,7 +95,8 @@ returns-in-Err-clause-harmed g c =
 
 pub returns-clause-judged : goal.returns-clause-judged
 returns-clause-judged g c = λ told.
-    ends (λ file. g.S.Frozen.Frozen.content file) c.args.from c.args.inputs.now c.loop-next.inputs (λ done. All (IsJudged (map (λ i. i.component) c.args.inputs.now)) done) (c.loop-next.invariant.judged told) (subst (IsNextOf c.loop-next.inputs) c.in_default.is c.loop-next.invariant.next)
+    let judged = IsJudged (λ file. g.S.Frozen.Frozen.content file) (map (λ i. i.component) c.args.inputs.now) in
+    ends (λ file. g.S.Frozen.Frozen.content file) c.args.from c.args.inputs.now c.loop-next.inputs (λ done. All judged done) (c.loop-next.invariant.judged told) (subst (IsNextOf c.loop-next.inputs) c.in_default.is c.loop-next.invariant.next)
 
 pub returns-clause-reads : goal.returns-clause-reads
 returns-clause-reads g c =

@@ -17,7 +17,7 @@ invariant-loop-next g l =
       next : IsNextOf l.inputs l.next;
       up : (rows : List Row) → AreTold (λ file. content file) (map (λ i. i.component) l.fn.inputs) → HasRows (h l.fn.builder.device) l.fn.builder rows
           → IsUpTo (λ file. content file) l.from l.fn.inputs l.inputs (λ done. HasRows (h l.builder.device) l.builder (rows ++ done));
-      judged : AreTold (λ file. content file) (map (λ i. i.component) l.fn.inputs) → IsUpTo (λ file. content file) l.from l.fn.inputs l.inputs (λ done. All (IsJudged (map (λ i. i.component) l.fn.inputs)) done);
+      judged : AreTold (λ file. content file) (map (λ i. i.component) l.fn.inputs) → IsUpTo (λ file. content file) l.from l.fn.inputs l.inputs (λ done. All (IsJudged (λ file. content file) (map (λ i. i.component) l.fn.inputs)) done);
       more : (rows : List Row) → HasRows (h l.fn.builder.device) l.fn.builder rows → (all : List Row) × HasRows (h l.builder.device) l.builder all;
       same : map (λ i. i.component) l.inputs ≡ map (λ i. i.component) l.fn.inputs;
       head : l.builder.head ≡ l.fn.builder.head;

@@ -5,12 +5,12 @@ use Rattle.tc_component.specs.Fetching.{IsRecordWithin}
 use Rattle.tc_component.specs.Spans.{IsSpan}
 use Rattle.tc_merge.specs.Faults.{IfHarmed, IsHarmOf, IsJudged}
 use Rattle.tc_merge.specs.Inputs.{rows_from, passed, left_of, IsUpTo}
-use Rattle.tc_merge.specs.Merging.{live_rows}
+use Rattle.tc_merge.specs.Merging.{live_rows, rows_told}
 use Rattle.tc_merge.proofs.Chosen.{chosen_is, all_behind, same_component, put_back}
 use Rattle.tc_merge.proofs.ReadsCounted.{live_kept}
 use Rattle.tc_merge.proofs.EntryRows.{all_kept}
 use Rattle.tc_merge.proofs.Harms.{harm_in}
-use Rattle.tc_merge.proofs.InputSteps.{slice_get-map, ahead, row_ahead, next_row, up_to}
+use Rattle.tc_merge.proofs.InputSteps.{slice_get-map, first_there, ahead, row_ahead, next_row, up_to}
 use Rattle.tc_merge.proofs.SetBack.{all_at}
 use Rattle.tc_merge.proofs.UpTo.{fewer, passed_components}
 use Rattle.tc_merge.proofs.merging.put_entry.Goals as goal
@@ -78,13 +78,15 @@ returns-in-Ok-clause-judged g c = λ told.
     let rows_are = subst (λ m. rows_from content m is.input.at ≡ row ∷ rest) (sym same) (next_row content inputs c.args.next is c.requires.lawful) in
     let held = subst (λ m. IsSome (content m.file)) (sym same) (all_at (λ m. IsSome (content m.file)) (λ i. i.component) inputs c.args.next.input is.input told is.here) in
     let components = map (λ i. i.component) inputs in
-    subst (λ last. IsUpTo content c.args.from inputs last (λ done. All (IsJudged components) done)) (sym left)
-    (up_to content inputs c.args.next is c.requires.lawful c.args.from (λ done. All (IsJudged components) done)
-    (all_kept (IsJudged components) c.args.from row
+    subst (λ last. IsUpTo content c.args.from inputs last (λ done. All (IsJudged content components) done)) (sym left)
+    (up_to content inputs c.args.next is c.requires.lawful c.args.from (λ done. All (IsJudged content components) done)
+    (all_kept (IsJudged content components) c.args.from row
     (record {
       at = c.args.next.input;
       component = is.input.component;
       here = slice_get-map (λ i. i.component) inputs c.args.next.input is.input is.here;
+      entry = is.input.at;
+      own = first_there (rows_told content is.input.component) is.input.at row rest (next_row content inputs c.args.next is c.requires.lawful);
       form = subst (λ m. IfSome row.1 (λ bytes. IsRecordWithin (length m.index.names) bytes)) same (c.in-Ok.ensures.judged is.input.at row rest entry held rows_are);
     })))
 

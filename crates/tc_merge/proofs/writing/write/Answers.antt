@@ -140,8 +140,8 @@ returns-in-Ok-merge-clause-judged g c =
     let run = map arc_value c.args.run.now in
     let inputs = c.deref_mut.ensures.value ∙ c.in-Ok.ensures.inputs in
     let components = ap (map (λ i. i.component)) inputs ∙ started_components run in
-    subst (λ ls. All (IsJudged run) (kept c.args.head.from (newest ls))) (ap (map (rows_left (λ file. content file))) inputs ∙ started (λ file. content file) run)
-    (subst (λ cs. All (IsJudged cs) (kept c.args.head.from (newest (map (rows_left (λ file. content file)) c.deref_mut.result.now)))) components
+    subst (λ ls. All (IsJudged (λ file. content file) run) (kept c.args.head.from (newest ls))) (ap (map (rows_left (λ file. content file))) inputs ∙ started (λ file. content file) run)
+    (subst (λ cs. All (IsJudged (λ file. content file) cs) (kept c.args.head.from (newest (map (rows_left (λ file. content file)) c.deref_mut.result.now)))) components
     (c.in-Ok-merge.ensures.judged (subst (AreTold (λ file. content file)) (sym components) told))))
     c.finish.ensures.size
 

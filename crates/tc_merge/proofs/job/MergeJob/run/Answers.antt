@@ -52,7 +52,7 @@ returns-in-Ok-clause-judged g c =
     let content = g.S.Frozen.Frozen.content in
     let parts = c.self.inside.parts in
     let items = c.as_slice.ensures.value in
-    rw (← c.self.view_is) (λ ok told. subst (λ run. All (IsJudged (map arc_value run)) (merged_rows (λ file. content file) parts.head.from (map arc_value run))) items
+    rw (← c.self.view_is) (λ ok told. subst (λ run. All (IsJudged (λ file. content file) (map arc_value run)) (merged_rows (λ file. content file) parts.head.from (map arc_value run))) items
     (c.in-Ok.ensures.judged (subst (λ run. AreTold (λ file. content file) (map arc_value run)) (sym items) told)))
 
 pub returns-in-Ok-clause-reads : goal.returns-in-Ok-clause-reads
