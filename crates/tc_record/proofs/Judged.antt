@@ -1,5 +1,5 @@
 -- What a step of a walk leaves, and what a walk is by its first step.
-use Rattle.std.proofs.Common.{◌≡◌, ◌≢◌, ◌∙◌, ◌<◌, ◌≤◌, ◌+◌, ◌-◌, ◌==◌, ℕ, Bool, true, false, if◌then◌else◌, List, ◌∷◌, Option, None, Some, option_map, is_some, length, get_or, drop, set, refl, sym, ap, subst, arith}
+use Rattle.std.proofs.Common.{◌≡◌, ◌≢◌, ◌∙◌, ◌<◌, ◌≤◌, ◌+◌, ◌==◌, ℕ, Bool, true, false, if◌then◌else◌, List, [], ◌∷◌, Option, None, Some, option_map, is_some, length, get_or, drop, refl, sym, ap, subst, arith}
 use Rattle.std.proofs.lemmas.Bool.Decides.{nat_tests}
 use Rattle.std.proofs.lemmas.List.{drop_all, drop_more}
 use Rattle.std.proofs.lemmas.Option.{same_Some}
@@ -7,12 +7,8 @@ use Rattle.tc_bytes.specs.Reading.{◌>>=◌}
 use Rattle.tc_model.specs.Document.{Scalar}
 use Rattle.tc_record.specs.Preorder.{Piece, Token, token}
 use Rattle.tc_record.specs.Walk as walk
-use Rattle.tc_record.specs.WalkView.{level_of}
 use Rattle.tc_record.specs.Moves.{behind_label, label_moves, behind_token, token_moves}
-use Rattle.tc_record.specs.Stack.{stack_of}
-use Rattle.tc_record.specs.declared.reader.Level.{Level}
-use Rattle.tc_record.specs.declared.reader.Level.TheVariants as level
-use Rattle.tc_record.proofs.Stacks.{stepped_none, stepped_some, walk_open}
+use Rattle.tc_record.proofs.Stacks.{not_close}
 
 -- ---- a walk by its first step
 
@@ -59,10 +55,11 @@ walk_stops f tags i levels c told within tells gives =
     walk_ends f (get_or tags i 0) (drop (i + 1) tags) levels c gives ∙ at_drop tags i (λ ts. is_some (walk.walk f ts levels c)) within ∙ tells
 
 -- behind the last tag nothing is open
-pub walk_left_open : (f : walk.Format) (tags : List ℕ) (i : ℕ) (ls : List Level) (n : ℕ) (c : walk.Columns) (told : Bool) → length tags ≤ i → is_some (walk.walk f (drop i tags) (stack_of ls n) c) ≡ told
+pub walk_left_open : (f : walk.Format) (tags : List ℕ) (i n : ℕ) (levels : List walk.Level) (c : walk.Columns) (told : Bool) → length tags ≤ i → is_some (walk.walk f (drop i tags) levels c) ≡ told → length levels ≡ n
     → n ≢ 0 → (n == 0) ≡ told
-walk_left_open f tags i ls n c told all tells some =
-    let none : is_some (walk.walk f (drop i tags) (stack_of ls n) c) ≡ false = rw (drop_all i tags all) (ap is_some (walk_open f ls n c (omega (arith, some)))) in
+walk_left_open f tags i n [] c told all tells many some = absurd (omega (arith, many, some))
+walk_left_open f tags i n (level ∷ levels) c told all tells many some =
+    let none : is_some (walk.walk f (drop i tags) (level ∷ levels) c) ≡ false = rw (drop_all i tags all) refl in
     unequal n some ∙ sym none ∙ tells
   where
     unequal : (n : ℕ) → n ≢ 0 → (n == 0) ≡ false
@@ -115,22 +112,22 @@ a_value f level behind tag c rest after p gives read = by_label (walk.label_at f
 
 -- ---- a step, by what stands in the innermost level
 
-abbrev innermost : List Level → ℕ → walk.Level
-innermost ls n = level_of (get_or ls (n - 1) level.Array)
+pub closed_on : (f : walk.Format) (tag : ℕ) (level : walk.Level) (levels : List walk.Level) (c : walk.Columns) → tag ≡ 7 → token_moves f tag (level ∷ levels) c ≡ Some (levels, c)
+closed_on f tag level levels c is = rw is refl
 
-pub stuck_label : (f : walk.Format) (tag : ℕ) (ls : List Level) (n : ℕ) (c : walk.Columns) → 0 < n → tag ≢ 7 → label_moves f (innermost ls n) c ≡ None → token_moves f tag (stack_of ls n) c ≡ None
-stuck_label f tag ls n c some goes none = rw (stepped_none f tag ls n c some goes (no_label f (innermost ls n) tag c none)) refl
+pub stuck_label : (f : walk.Format) (tag : ℕ) (level : walk.Level) (levels : List walk.Level) (c : walk.Columns) → tag ≢ 7 → label_moves f level c ≡ None → token_moves f tag (level ∷ levels) c ≡ None
+stuck_label f tag level levels c goes none = rw (not_close tag goes, no_label f level tag c none) refl
 
-pub stuck_piece : (f : walk.Format) (tag : ℕ) (ls : List Level) (n : ℕ) (c rest : walk.Columns) (behind : Level) → 0 < n → tag ≢ 7
-    → label_moves f (innermost ls n) c ≡ Some (level_of behind, rest) → walk.piece_at tag rest ≡ None → token_moves f tag (stack_of ls n) c ≡ None
-stuck_piece f tag ls n c rest behind some goes labelled none = rw (stepped_none f tag ls n c some goes (no_piece f (innermost ls n) (level_of behind) tag c rest labelled none)) refl
+pub stuck_piece : (f : walk.Format) (tag : ℕ) (level behind : walk.Level) (levels : List walk.Level) (c rest : walk.Columns) → tag ≢ 7
+    → label_moves f level c ≡ Some (behind, rest) → walk.piece_at tag rest ≡ None → token_moves f tag (level ∷ levels) c ≡ None
+stuck_piece f tag level behind levels c rest goes labelled none = rw (not_close tag goes, no_piece f level behind tag c rest labelled none) refl
 
-pub moved_on : (f : walk.Format) (tag : ℕ) (ls : List Level) (n : ℕ) (c rest after : walk.Columns) (behind : Level) (p : Piece Scalar) (r : Bool) (inner : List walk.Level) → 0 < n → n ≤ length ls → tag ≢ 7
-    → label_moves f (innermost ls n) c ≡ Some (level_of behind, rest) → walk.piece_at tag rest ≡ Some (p, after)
-    → (if r then Some inner else None) ≡ walk.opened p (stack_of (set ls (n - 1) behind) n) → token_moves f tag (stack_of ls n) c ≡ (if r then Some (inner, after) else None)
-moved_on f tag ls n c rest after behind p r inner some inside goes labelled read opens =
-    let value = a_value f (innermost ls n) (level_of behind) tag c rest after p labelled read in
-    rw (stepped_some f tag ls n c (token value.0 p) behind after some inside goes value.1, ← opens) (by_test (token value.0 p) r)
+pub moved_on : (f : walk.Format) (tag : ℕ) (level behind : walk.Level) (levels : List walk.Level) (c rest after : walk.Columns) (p : Piece Scalar) (r : Bool) (inner : List walk.Level) → tag ≢ 7
+    → label_moves f level c ≡ Some (behind, rest) → walk.piece_at tag rest ≡ Some (p, after)
+    → (if r then Some inner else None) ≡ walk.opened p (behind ∷ levels) → token_moves f tag (level ∷ levels) c ≡ (if r then Some (inner, after) else None)
+moved_on f tag level behind levels c rest after p r inner goes labelled read opens =
+    let value = a_value f level behind tag c rest after p labelled read in
+    rw (not_close tag goes, value.1, ← opens) (by_test (token value.0 p) r)
   where
     with_token : Token walk.Key Scalar → List walk.Level → Option Stepped
     with_token t i = Some (t, i, after)

@@ -1,6 +1,6 @@
 -- A walk over a record that was judged comes to the same tokens without the names of the members before.
-use Rattle.std.proofs.Common.{◌≡◌, ◌≢◌, ◌∙◌, ◌<◌, ◌≤◌, ◌-◌, ◌==◌, ℕ, zero, suc, nat_lt, Bool, true, false, if◌then◌else◌, List, [], ◌∷◌, length, get_or, map, Option, None, Some, option_map, is_some, refl, sym, ap, arith}
-use Rattle.std.proofs.lemmas.List.{get_or-map, length-map}
+use Rattle.std.proofs.Common.{◌≡◌, ◌≢◌, ◌∙◌, ◌<◌, ◌-◌, ◌/◌, ◌==◌, ℕ, zero, suc, nat_lt, Bool, true, false, if◌then◌else◌, List, [], ◌∷◌, length, map, Option, None, Some, option_map, is_some, refl, sym, ap}
+use Rattle.std.proofs.lemmas.List.{length-map}
 use Rattle.std.proofs.lemmas.Option.{same_Some}
 use Rattle.tc_bytes.specs.Reading.{◌>>=◌}
 use Rattle.tc_bytes.proofs.Codecs.{then_parts}
@@ -8,16 +8,15 @@ use Rattle.tc_model.specs.Document.{Name, Scalar}
 use Rattle.tc_record.specs.Preorder.{Piece, scalar, array_opened, object_opened, closed, Token, token}
 use Rattle.tc_record.specs.Walk.{Key, name, number, Level, in_array, in_object, Format, Columns, number_next, utf8_at, is_above, name_at, label_at, piece_at, value_at, opened, step, walk, nameless, without_last, without_names, known_step, known_walk}
 use Rattle.tc_record.specs.Walk as walk
-use Rattle.tc_record.specs.WalkView.{level_of, columns_of, format_of}
+use Rattle.tc_record.specs.WalkView.{columns_of, format_of}
 use Rattle.tc_record.specs.SectionsView.{cut_columns_of}
 use Rattle.tc_record.specs.Held.{tokens_held, tokens_left}
 use Rattle.tc_record.specs.declared.sections.Sections.{Sections}
 use Rattle.tc_record.specs.declared.walking.Walk.{Walk}
-use Rattle.tc_record.specs.Stack.{level_told, kind_of, kinds_of}
-use Rattle.tc_record.specs.declared.reader.Level.TheVariants as level
+use Rattle.tc_record.specs.Stack.{is_array, kind_of, kinds_of}
 use Rattle.tc_record.proofs.Judged.{Labelled, Valued, valued}
 use Rattle.tc_record.proofs.Labels.{if_parts}
-use Rattle.tc_record.proofs.Stacks.{not_close, stack_of-read, kind_of-read}
+use Rattle.tc_record.proofs.Stacks.{not_close, kinds_of-read}
 
 abbrev Tokens : Type 0
 Tokens = List (Token Key Scalar)
@@ -131,11 +130,9 @@ kind_nameless : (in_array : Bool) → nameless (kind_of in_array) ≡ kind_of in
 kind_nameless true = refl
 kind_nameless false = refl
 
-kinds_nameless : (told : List Bool) (n : ℕ) → n ≤ length told → map nameless (kinds_of told n) ≡ kinds_of told n
-kinds_nameless told zero within = refl
-kinds_nameless told (suc n) within =
-    let top : level_of (get_or (map level_told told) n level.Array) ≡ kind_of (get_or told n true) = ap level_of (get_or-map level_told told n true level.Array (omega arith)) in
-    rw (top, kind_nameless (get_or told n true)) (ap (λ ls. kind_of (get_or told n true) ∷ ls) (kinds_nameless told n (omega (arith, within))))
+kinds_nameless : (a n : ℕ) → map nameless (kinds_of a n) ≡ kinds_of a n
+kinds_nameless a zero = refl
+kinds_nameless a (suc n) = rw (kind_nameless (is_array a)) (ap (λ ls. kind_of (is_array a) ∷ ls) (kinds_nameless (a / 2) n))
 
 opened_nameless : (p : Piece Scalar) (levels : List Level) → option_map (map nameless) (opened p levels) ≡ opened p (map nameless levels)
 opened_nameless (scalar s) levels = refl
@@ -151,45 +148,45 @@ opened_nameless object_opened levels = rw (length-map levels nameless) (by_room 
     by_room false = refl
 opened_nameless closed levels = refl
 
-pub closed_known : (f : Format) (tag : ℕ) (told : List Bool) (n : ℕ) (c : Columns) → 0 < n → n ≤ length told → tag ≡ 7 → known_step f tag (kinds_of told n) c ≡ Some (token None closed, kinds_of told (n - 1), c)
-closed_known f tag told n c some within is =
-    rw (is, stack_of-read (map level_told told) n some) (ap (λ ls. Some (token None closed, ls, c)) (kinds_nameless told (n - 1) (omega (arith, within))))
+pub closed_known : (f : Format) (tag : ℕ) (a n : ℕ) (c : Columns) → 0 < n → tag ≡ 7 → known_step f tag (kinds_of a n) c ≡ Some (token None closed, kinds_of (a / 2) (n - 1), c)
+closed_known f tag a n c some is =
+    rw (is, kinds_of-read a n some) (ap (λ ls. Some (token None closed, ls, c)) (kinds_nameless (a / 2) (n - 1)))
 
-known_stepped : (f : Format) (tag : ℕ) (told : List Bool) (n : ℕ) (d : Bool) (c : Columns) → 0 < n → n ≤ length told → tag ≢ 7
-    → known_step f tag (kinds_of told n) c ≡ option_map without_names (value_at f (kind_of (get_or told (n - 1) d)) tag c >>= opening (kinds_of told (n - 1)))
-known_stepped f tag told n d c some within goes = rw (stack_of-read (map level_told told) n some, kind_of-read told n d some within, not_close tag goes) refl
+known_stepped : (f : Format) (tag : ℕ) (a n : ℕ) (c : Columns) → 0 < n → tag ≢ 7
+    → known_step f tag (kinds_of a n) c ≡ option_map without_names (value_at f (kind_of (is_array a)) tag c >>= opening (kinds_of (a / 2) (n - 1)))
+known_stepped f tag a n c some goes = rw (kinds_of-read a n some, not_close tag goes) refl
 
-pub no_label_known : (f : Format) (tag : ℕ) (told : List Bool) (n : ℕ) (d : Bool) (c : Columns) → 0 < n → n ≤ length told → tag ≢ 7
-    → option_map without_last (label_at f (kind_of (get_or told (n - 1) d)) c) ≡ None → known_step f tag (kinds_of told n) c ≡ None
-no_label_known f tag told n d c some within goes none = known_stepped f tag told n d c some within goes ∙ by_label (label_at f (kind_of (get_or told (n - 1) d)) c) none
+pub no_label_known : (f : Format) (tag : ℕ) (a n : ℕ) (c : Columns) → 0 < n → tag ≢ 7
+    → option_map without_last (label_at f (kind_of (is_array a)) c) ≡ None → known_step f tag (kinds_of a n) c ≡ None
+no_label_known f tag a n c some goes none = known_stepped f tag a n c some goes ∙ by_label (label_at f (kind_of (is_array a)) c) none
   where
     by_label : (l : Option Labelled) → option_map without_last l ≡ None
-        → option_map without_names ((l >>= valued f tag) >>= opening (kinds_of told (n - 1))) ≡ None
+        → option_map without_names ((l >>= valued f tag) >>= opening (kinds_of (a / 2) (n - 1))) ≡ None
     by_label None e = refl
     by_label (Some x) e = cc
 
-pub no_piece_known : (f : Format) (tag : ℕ) (told : List Bool) (n : ℕ) (d : Bool) (c rest : Columns) (k : Option Key) (kind : Level) → 0 < n → n ≤ length told → tag ≢ 7
-    → option_map without_last (label_at f (kind_of (get_or told (n - 1) d)) c) ≡ Some (k, kind, rest) → piece_at tag rest ≡ None → known_step f tag (kinds_of told n) c ≡ None
-no_piece_known f tag told n d c rest k kind some within goes labels none = known_stepped f tag told n d c some within goes ∙ by_label (label_at f (kind_of (get_or told (n - 1) d)) c) labels
+pub no_piece_known : (f : Format) (tag : ℕ) (a n : ℕ) (c rest : Columns) (k : Option Key) (kind : Level) → 0 < n → tag ≢ 7
+    → option_map without_last (label_at f (kind_of (is_array a)) c) ≡ Some (k, kind, rest) → piece_at tag rest ≡ None → known_step f tag (kinds_of a n) c ≡ None
+no_piece_known f tag a n c rest k kind some goes labels none = known_stepped f tag a n c some goes ∙ by_label (label_at f (kind_of (is_array a)) c) labels
   where
     by_label : (l : Option Labelled) → option_map without_last l ≡ Some (k, kind, rest)
-        → option_map without_names ((l >>= valued f tag) >>= opening (kinds_of told (n - 1))) ≡ None
+        → option_map without_names ((l >>= valued f tag) >>= opening (kinds_of (a / 2) (n - 1))) ≡ None
     by_label None e = cc
     by_label (Some x) e =
         let columns : x.2 ≡ rest = ap (λ (q : Labelled). q.2) (same_Some (without_last x) (k, kind, rest) e) in
         rw (columns, none) refl
 
-pub token_known : (f : Format) (tag : ℕ) (told : List Bool) (n : ℕ) (d : Bool) (c rest after : Columns) (k : Option Key) (p : Piece Scalar) (r : Bool) (inner : List Level) → 0 < n → n ≤ length told → tag ≢ 7
-    → option_map without_last (label_at f (kind_of (get_or told (n - 1) d)) c) ≡ Some (k, kind_of (get_or told (n - 1) d), rest) → piece_at tag rest ≡ Some (p, after)
-    → (if r then Some inner else None) ≡ opened p (kinds_of told n) → known_step f tag (kinds_of told n) c ≡ (if r then Some (token k p, inner, after) else None)
-token_known f tag told n d c rest after k p r inner some within goes labels read opens =
-    known_stepped f tag told n d c some within goes ∙ by_label (label_at f (kind_of (get_or told (n - 1) d)) c) labels
+pub token_known : (f : Format) (tag : ℕ) (a n : ℕ) (c rest after : Columns) (k : Option Key) (p : Piece Scalar) (r : Bool) (inner : List Level) → 0 < n → tag ≢ 7
+    → option_map without_last (label_at f (kind_of (is_array a)) c) ≡ Some (k, kind_of (is_array a), rest) → piece_at tag rest ≡ Some (p, after)
+    → (if r then Some inner else None) ≡ opened p (kinds_of a n) → known_step f tag (kinds_of a n) c ≡ (if r then Some (token k p, inner, after) else None)
+token_known f tag a n c rest after k p r inner some goes labels read opens =
+    known_stepped f tag a n c some goes ∙ by_label (label_at f (kind_of (is_array a)) c) labels
   where
     below : List Level
-    below = kinds_of told (n - 1)
+    below = kinds_of (a / 2) (n - 1)
 
-    levels_are : kinds_of told n ≡ kind_of (get_or told (n - 1) d) ∷ below
-    levels_are = stack_of-read (map level_told told) n some ∙ ap (λ l. l ∷ below) (kind_of-read told n d some within)
+    levels_are : kinds_of a n ≡ kind_of (is_array a) ∷ below
+    levels_are = kinds_of-read a n some
 
     with_levels : (t : Token Key Scalar) (o : Option (List Level)) (r : Bool) → option_map (map nameless) o ≡ (if r then Some inner else None)
         → option_map without_names (o >>= λ i. Some (t, i, after)) ≡ (if r then Some (t, inner, after) else None)
@@ -198,15 +195,15 @@ token_known f tag told n d c rest after k p r inner some within goes labels read
     with_levels t (Some i) true e = ap (λ ls. Some (t, ls, after)) (same_Some (map nameless i) inner e)
     with_levels t (Some i) false e = cc
 
-    opens_so : (behind : Level) → nameless behind ≡ kind_of (get_or told (n - 1) d) → option_map (map nameless) (opened p (behind ∷ below)) ≡ (if r then Some inner else None)
+    opens_so : (behind : Level) → nameless behind ≡ kind_of (is_array a) → option_map (map nameless) (opened p (behind ∷ below)) ≡ (if r then Some inner else None)
     opens_so behind is =
-        opened_nameless p (behind ∷ below) ∙ ap (opened p) (ap (λ l. l ∷ map nameless below) is ∙ ap (λ ls. kind_of (get_or told (n - 1) d) ∷ ls) (kinds_nameless told (n - 1) (omega (arith, within))) ∙ sym levels_are) ∙ sym opens
+        opened_nameless p (behind ∷ below) ∙ ap (opened p) (ap (λ l. l ∷ map nameless below) is ∙ ap (λ ls. kind_of (is_array a) ∷ ls) (kinds_nameless (a / 2) (n - 1)) ∙ sym levels_are) ∙ sym opens
 
-    by_label : (l : Option Labelled) → option_map without_last l ≡ Some (k, kind_of (get_or told (n - 1) d), rest)
+    by_label : (l : Option Labelled) → option_map without_last l ≡ Some (k, kind_of (is_array a), rest)
         → option_map without_names ((l >>= valued f tag) >>= opening below) ≡ (if r then Some (token k p, inner, after) else None)
     by_label None e = cc
     by_label (Some x) e =
-        let same = same_Some (without_last x) (k, kind_of (get_or told (n - 1) d), rest) e in
+        let same = same_Some (without_last x) (k, kind_of (is_array a), rest) e in
         let columns : x.2 ≡ rest = ap (λ (q : Labelled). q.2) same in
         let label : x.0 ≡ k = ap (λ (q : Labelled). q.0) same in
         rw (columns, read, label) (with_levels (token k p) (opened p (x.1 ∷ below)) r (opens_so x.1 (ap (λ (q : Labelled). q.1) same)))

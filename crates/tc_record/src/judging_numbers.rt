@@ -48,10 +48,10 @@ fn passes(format: Format, tag: u8, kinds: &mut Kinds, columns: &mut Columns<'_>)
         return false;
     }
     if tag == CLOSE_TAG {
-        kinds.depth -= 1;
+        kinds.close();
         return true;
     }
-    if !passes_label(format, kinds.arrays[kinds.depth - 1], columns) {
+    if !passes_label(format, kinds.arrays % 2 == 1, columns) {
         return false;
     }
     match piece_in(tag, columns) {

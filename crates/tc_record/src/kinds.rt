@@ -1,6 +1,6 @@
 //! What is open in a walk that keeps no names: of each array and object, which of both it is.
 
-ghost use Rattle.std.specs.Prelude.{◌≡◌, ◌≤◌, ◌∷◌, [], length, nat_lt, if◌then◌else◌};
+ghost use Rattle.std.specs.Prelude.{◌≡◌, ◌<◌, ◌≤◌, ◌-◌, ◌/◌, ◌^◌, ◌∷◌, [], length, nat_lt, if◌then◌else◌};
 ghost use Rattle.tc_model.specs.Limits.{max_depth};
 ghost use Rattle.tc_record.specs.Walk.{opened, in_object};
 ghost use Rattle.tc_record.specs.WalkView.{piece_of};
@@ -12,13 +12,13 @@ use tc_value::MAX_DEPTH;
 /// How many arrays and objects may be open at once.
 pub(crate) const MAX_LEVELS: usize = MAX_DEPTH as usize;
 
-/// The arrays and objects that are open, innermost last: which of them are arrays.
+/// How many arrays and objects are open, and which of them are arrays: a bit each, that of the innermost one lowest.
 #[derive(Clone, Copy)]
 pub(crate) struct Kinds {
-    pub(crate) arrays: [bool; MAX_LEVELS],
-    pub(crate) depth: usize,
-    ghost room: { length arrays ≡ max_depth },
+    pub(crate) arrays: u32,
+    pub(crate) depth: u8,
     ghost shallow: { depth ≤ max_depth },
+    ghost few: { arrays < 2 ^ depth },
 }
 
 impl Kinds {
@@ -28,9 +28,19 @@ impl Kinds {
         ensures { kinds_of result.arrays result.depth ≡ in_object None ∷ [] }
     {
         Kinds {
-            arrays: [false; MAX_LEVELS],
+            arrays: 0,
             depth: 1,
         }
+    }
+
+    /// Closes the innermost one.
+    #[inline(always)]
+    pub(crate) fn close(&mut self)
+        requires { 0 < self.old.depth }
+        ensures { kinds_of self.new.arrays self.new.depth ≡ kinds_of (self.old.arrays / 2) (self.old.depth - 1) }
+    {
+        self.arrays /= 2;
+        self.depth -= 1;
     }
 
     /// Opens what a value opens, or answers `false` where that would nest too deep.
@@ -53,10 +63,10 @@ impl Kinds {
     fn push(&mut self, array: bool) -> bool
         ensures { (if result then Some (kinds_of self.new.arrays self.new.depth) else None) ≡ (if nat_lt (length (kinds_of self.old.arrays self.old.depth)) max_depth then Some (kind_of array ∷ kinds_of self.old.arrays self.old.depth) else None) }
     {
-        if self.depth >= MAX_LEVELS {
+        if usize::from(self.depth) >= MAX_LEVELS {
             return false;
         }
-        self.arrays[self.depth] = array;
+        self.arrays = self.arrays * 2 + u32::from(array);
         self.depth += 1;
         true
     }

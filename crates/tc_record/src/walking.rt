@@ -57,13 +57,13 @@ fn token_in<'a>(
         return None;
     }
     if tag == CLOSE_TAG {
-        kinds.depth -= 1;
+        kinds.close();
         return Some(Token {
             label: Label::Bare,
             value: Piece::Close,
         });
     }
-    let label = label_in(format, kinds.arrays[kinds.depth - 1], columns)?;
+    let label = label_in(format, kinds.arrays % 2 == 1, columns)?;
     let value = piece_in(tag, columns)?;
     if kinds.open(value) {
         Some(Token { label, value })

@@ -1,6 +1,7 @@
 use Rattle.tc_record.specs.WalkView.{columns_of, format_of}
 use Rattle.tc_record.specs.Stack.{stack_of}
 use Rattle.tc_record.proofs.Judged.{walk_goes_on, walk_stops, walk_left_open}
+use Rattle.tc_record.proofs.Stacks.{length-stack_of}
 use Rattle.tc_record.proofs.judging.has_further_tokens.Goals as goal
 
 pub loop-tag-preserved : goal.loop-tag-preserved
@@ -16,4 +17,4 @@ returns-then-not-passes c =
 pub returns-else-nesting-eq0 : goal.returns-else-nesting-eq0
 returns-else-nesting-eq0 c =
     let l = c.loop-tag in
-    walk_left_open (format_of c.args.format) c.args.tags.now l.tag-index l.nesting.levels l.nesting.depth (columns_of l.left) _ c.loop-tag-test.false l.invariant c.if-nesting-eq0.false
+    walk_left_open (format_of c.args.format) c.args.tags.now l.tag-index l.nesting.depth (stack_of l.nesting.levels l.nesting.depth) (columns_of l.left) _ c.loop-tag-test.false l.invariant (length-stack_of l.nesting.levels l.nesting.depth) c.if-nesting-eq0.false

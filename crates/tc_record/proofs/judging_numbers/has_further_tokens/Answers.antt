@@ -1,7 +1,7 @@
-use Rattle.std.proofs.Common.{map}
 use Rattle.tc_record.specs.WalkView.{columns_of, format_of}
-use Rattle.tc_record.specs.Stack.{level_told, kinds_of}
+use Rattle.tc_record.specs.Stack.{kinds_of}
 use Rattle.tc_record.proofs.Judged.{walk_goes_on, walk_stops, walk_left_open}
+use Rattle.tc_record.proofs.Stacks.{length-kinds_of}
 use Rattle.tc_record.proofs.judging_numbers.has_further_tokens.Goals as goal
 
 pub loop-tag-preserved : goal.loop-tag-preserved
@@ -17,4 +17,4 @@ returns-then-not-passes c =
 pub returns-else-kinds-eq0 : goal.returns-else-kinds-eq0
 returns-else-kinds-eq0 c =
     let l = c.loop-tag in
-    walk_left_open (format_of c.args.format) c.args.tags.now l.tag-index (map level_told l.kinds.arrays) l.kinds.depth (columns_of l.left) _ c.loop-tag-test.false l.invariant c.if-kinds-eq0.false
+    walk_left_open (format_of c.args.format) c.args.tags.now l.tag-index l.kinds.depth (kinds_of l.kinds.arrays l.kinds.depth) (columns_of l.left) _ c.loop-tag-test.false l.invariant (length-kinds_of l.kinds.arrays l.kinds.depth) c.if-kinds-eq0.false
