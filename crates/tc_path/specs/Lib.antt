@@ -1,4 +1,2 @@
 pub mod Reached
-pub mod Left
 pub mod Same
-pub mod Skipped

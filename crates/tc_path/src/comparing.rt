@@ -10,9 +10,9 @@ ghost use Rattle.tc_compact.specs.Meant.{levels_meant};
 ghost use Rattle.tc_request_model.specs.Equal.{same_document, same_items, same_members};
 ghost use Rattle.tc_path.specs.Same.{is_same, holds_none};
 
-use crate::labels::{closes, has_name};
 use tc_names::Names;
 use tc_record::{Cursor, Piece, Token};
+use tc_record_text::{closes, has_name};
 use tc_value::{Doc, Member};
 
 /// Whether the value that a token is or opens is this document. If it is, the cursor stands behind it.

@@ -8,16 +8,15 @@ ghost use Rattle.tc_record.specs.Building.{outer, value_read};
 ghost use Rattle.tc_compact.specs.Meant.{levels_meant, IsRecordUnder};
 ghost use Rattle.tc_request_model.specs.Paths.{reached, hopped};
 ghost use Rattle.tc_path.specs.Reached.{value_at, first_in, first_reached, IsLawful};
-ghost use Rattle.tc_path.specs.Left.{array_left, object_left, items_left, members_left};
-ghost use Rattle.tc_path.specs.Skipped.{is_close};
+ghost use Rattle.tc_record_text.specs.Left.{array_left, object_left, items_left, members_left};
+ghost use Rattle.tc_record_text.specs.Skipped.{is_close};
 
-use crate::labels::{closes, has_name};
-use crate::skipping::{skip, skip_to_close};
 use crate::value::ValueRef;
 use tc_command::{Hop, PathExpr};
 use tc_compact::document_meant;
 use tc_names::Names;
 use tc_record::{Cursor, Piece, RecordRef, Token};
+use tc_record_text::{closes, has_name, skip, skip_to_close};
 
 /// The first value, in preorder, that a path reaches in the document that a record of either form spells under a
 /// dictionary; `None` where it reaches none. The dictionary is read for records of form 1 alone. Takes no memory.

@@ -3,9 +3,7 @@
 
 mod comparing;
 mod finding;
-mod labels;
 mod selecting;
-mod skipping;
 mod value;
 
 pub use finding::first;

@@ -6,7 +6,7 @@ ghost use Rattle.tc_value.specs.Meaning.{tree_of};
 ghost use Rattle.tc_record.specs.WalkView.{token_of, piece_of};
 ghost use Rattle.tc_request_model.specs.Equal.{same_document};
 ghost use Rattle.tc_path.specs.Reached.{value_at, IsLawful};
-ghost use Rattle.tc_path.specs.Skipped.{is_close};
+ghost use Rattle.tc_record_text.specs.Skipped.{is_close};
 
 use crate::comparing::equals_value;
 use std::alloc::{AllocError, Global};
@@ -37,7 +37,7 @@ impl<'a> Model for ValueRef<'a> {
 
     ghost use Rattle.std.specs.Prelude.{◌≡◌, false};
     ghost use Rattle.tc_record.specs.WalkView.{piece_of};
-    ghost use Rattle.tc_path.specs.Skipped.{is_close};
+    ghost use Rattle.tc_record_text.specs.Skipped.{is_close};
 
     ghost invariant = { λ v. is_close (piece_of v.first.value) ≡ false };
 }

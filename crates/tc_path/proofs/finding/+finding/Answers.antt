@@ -2,7 +2,7 @@ use Rattle.std.proofs.Common.{map, option_map}
 use Rattle.tc_command.specs.Asks.{hop_of}
 use Rattle.tc_record.specs.WalkView.{key_of, piece_of}
 use Rattle.tc_compact.specs.Meant.{key_meant, tokens_meant, levels_meant}
-use Rattle.tc_path.specs.Left.{array_left, object_left}
+use Rattle.tc_record_text.specs.Left.{array_left, object_left}
 use Rattle.tc_path.proofs.Firsts.{hop_then}
 use Rattle.tc_path.proofs.Lawful.{token_holds}
 use Rattle.tc_path.proofs.finding.+finding.Goals as goal

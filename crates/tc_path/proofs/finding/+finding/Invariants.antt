@@ -4,7 +4,7 @@ use Rattle.tc_command.specs.Asks.{hop_of}
 use Rattle.tc_record.specs.Building.{outer}
 use Rattle.tc_compact.specs.Meant.{levels_meant}
 use Rattle.tc_path.specs.Reached.{first_reached, IsLawful}
-use Rattle.tc_path.specs.Left.{items_left, members_left}
+use Rattle.tc_record_text.specs.Left.{items_left, members_left}
 use Rattle.tc_path.proofs.finding.+finding.Given as goal
 
 abbrev pub decreases-first_and_close : goal.decreases-first_and_close

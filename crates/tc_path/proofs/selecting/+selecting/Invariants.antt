@@ -6,7 +6,7 @@ use Rattle.tc_record.specs.Building.{outer}
 use Rattle.tc_compact.specs.Meant.{levels_meant}
 use Rattle.tc_request_model.specs.Paths.{reached}
 use Rattle.tc_path.specs.Reached.{values_at, IsLawful}
-use Rattle.tc_path.specs.Left.{items_left, members_left}
+use Rattle.tc_record_text.specs.Left.{items_left, members_left}
 use Rattle.tc_path.proofs.selecting.+selecting.Given as goal
 
 abbrev pub decreases-all_from : goal.decreases-all_from
