@@ -1,2 +1,3 @@
 pub mod LineWeight
 pub mod RequestWrites
+pub mod RenderedLines

@@ -4,4 +4,5 @@ pub mod Paths
 pub mod Equal
 pub mod Reply
 pub mod Rows
+pub mod Rendered
 pub mod Part
