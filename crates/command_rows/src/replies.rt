@@ -1,11 +1,10 @@
 //! Replies, as they are written.
 
-use serde_json::{Value, json};
+use serde_json::json;
 use std::alloc::Global;
 use std::str;
-use tc_command::{Counts, Reply, Row, Rows, Schemas, reply_text};
-use tc_json::doc_of;
-use tc_value::{Doc, Items};
+use tc_bytes::Bytes;
+use tc_command::{Counts, Reply, Row, Rows, Schemas, put_line};
 
 /// The line of a reply that goes by this name here.
 pub(crate) fn written(alloc: Global, name: &str) -> Option<String> {
@@ -14,8 +13,9 @@ pub(crate) fn written(alloc: Global, name: &str) -> Option<String> {
 
 /// The line of a reply.
 pub(crate) fn line_of(alloc: Global, reply: &Reply) -> Option<String> {
-    let line = reply_text(alloc, reply).ok()?;
-    String::from_str(alloc, str::from_utf8(line.as_slice()).ok()?).ok()
+    let mut line = Vec::new(alloc);
+    put_line(alloc, reply, &mut line).ok()?;
+    String::from_str(alloc, str::from_utf8(&line).ok()?).ok()
 }
 
 fn reply_named(alloc: Global, name: &str) -> Option<Reply> {
@@ -47,20 +47,20 @@ fn short_reply(name: &str) -> Option<Reply> {
             id: 1,
             found: false,
         }),
-        "nothing" => Some(Reply::Got { id: 2, doc: None }),
+        "nothing" => Some(Reply::Got { id: 2, text: None }),
         "flushed" => Some(Reply::Flushed),
         "started" => Some(Reply::Started),
         _ => None,
     }
 }
 
-fn document(alloc: Global, text: &str) -> Option<Doc> {
-    doc_of(alloc, &Value::from_str(alloc, text).ok()?).ok()
+fn bytes(alloc: Global, text: &str) -> Option<Bytes> {
+    Some(Bytes::of(Vec::from_slice(alloc, text.as_bytes()).ok()?))
 }
 
 fn got(alloc: Global) -> Option<Reply> {
-    let doc = Some(document(alloc, "{\"a\":true,\"z\":[-1,null]}")?);
-    Some(Reply::Got { id: 1, doc })
+    let text = Some(bytes(alloc, "{\"a\":true,\"id\":1,\"z\":[-1,null]}")?);
+    Some(Reply::Got { id: 1, text })
 }
 
 fn rows(alloc: Global) -> Option<Reply> {
@@ -70,12 +70,9 @@ fn rows(alloc: Global) -> Option<Reply> {
 }
 
 fn row(alloc: Global) -> Option<Row> {
-    let mut values = Vec::new(alloc);
-    values.push(document(alloc, "14")?).ok()?;
-    values.push(document(alloc, "{\"b\":\"\\n\"}")?).ok()?;
     Some(Row {
         id: 15,
-        values: Items::of(values),
+        text: bytes(alloc, "{\"id\":15,\"values\":[14,{\"b\":\"\\n\"}]}")?,
     })
 }
 

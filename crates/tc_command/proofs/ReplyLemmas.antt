@@ -1,65 +1,33 @@
 -- Lemmas on the JSON of replies.
-use Rattle.std.proofs.Common.{◌≡◌, ℕ, List, [], ◌∷◌, ◌++◌, codes, true, false, refl, sym, ap, ◌∙◌, append_assoc}
+use Rattle.std.proofs.Common.{◌≡◌, ℕ, List, [], ◌∷◌, ◌++◌, codes, true, false, cond, Result, Ok, Err, is_ok, OnOk, refl, sym, ap, ◌∙◌, append_assoc}
 use Rattle.std.specs.Prelude.{decimal}
-use Rattle.serde_json.specs.Data.{Data, array, item}
+use Rattle.serde_json.specs.Data.{Data, item}
 use Rattle.serde_json.specs.View as seen
-use Rattle.serde_json.specs.Written.{compact_text}
 use Rattle.serde_json.proofs.OnLiterals.{serde_json_on_literals}
-use Rattle.tc_model.specs.Document.{Document}
-use Rattle.tc_model.specs.Json.{data_of, items_data}
-use Rattle.tc_model.specs.Lines.{feed}
-use Rattle.tc_model.specs.Tree.{items_of}
 use Rattle.tc_request_model.specs.Request.{Refusal, oversized, malformed, unknown, not_whole, too_deep, no_key, names_full, full, busy, no_scan}
-use Rattle.tc_request_model.specs.Reply.{Row, values_data, row_data, count, schemas_data, one_member, two_members, reply_line, refusal_name, upserted, deleted, flushed, started, turned_down}
+use Rattle.tc_request_model.specs.Reply.{schemas_data, reply_line, refusal_name, upserted, deleted, flushed, started, turned_down}
 
 -- ---- lists of replies are the items of arrays
-
-pub values_listed : (ds : List Document) → items_data (items_of ds) ≡ values_data ds
-values_listed [] = refl
-values_listed (d ∷ ds) = ap (item (data_of d)) (values_listed ds)
 
 pub schemas_listed : (ds : List Data) → seen.items_of ds ≡ schemas_data ds
 schemas_listed [] = refl
 schemas_listed (d ∷ ds) = ap (item d) (schemas_listed ds)
 
--- ---- the lines of replies that hold documents, from the pieces that are put one after the other
+-- ---- pieces that are put one after the other
 
-three_pieces : (a b c d p q r : List ℕ) → b ≡ a ++ p → c ≡ b ++ q → d ≡ c ++ r → d ≡ a ++ (p ++ (q ++ r))
+-- what a call adds is there where it gives `Ok`
+pub added : {T E : Type 0} (r : Result T E) (now whole was : List ℕ) → now ≡ cond (is_ok r) whole was → OnOk r (now ≡ whole)
+added (Ok v) now whole was e = e
+added (Err x) now whole was e = tt
+
+pub three_pieces : (a b c d p q r : List ℕ) → b ≡ a ++ p → c ≡ b ++ q → d ≡ c ++ r → d ≡ a ++ (p ++ (q ++ r))
 three_pieces a b c d p q r first second third =
     third ∙ ap (λ bs. bs ++ r) (second ∙ ap (λ bs. bs ++ q) first ∙ append_assoc a p q) ∙ append_assoc a (p ++ q) r ∙ ap (λ bs. a ++ bs) (append_assoc p q r)
 
-five_pieces : (a b c d e f p q r s t : List ℕ) → b ≡ a ++ p → c ≡ b ++ q → d ≡ c ++ r → e ≡ d ++ s → f ≡ e ++ t → f ≡ a ++ (p ++ (q ++ (r ++ (s ++ t))))
+pub five_pieces : (a b c d e f p q r s t : List ℕ) → b ≡ a ++ p → c ≡ b ++ q → d ≡ c ++ r → e ≡ d ++ s → f ≡ e ++ t → f ≡ a ++ (p ++ (q ++ (r ++ (s ++ t))))
 five_pieces a b c d e f p q r s t first second third fourth fifth =
     three_pieces c d e f r s t third fourth fifth ∙ ap (λ bs. bs ++ (r ++ (s ++ t))) (second ∙ ap (λ bs. bs ++ q) first)
     ∙ append_assoc (a ++ p) q (r ++ (s ++ t)) ∙ append_assoc a p (q ++ (r ++ (s ++ t)))
-
-pub got_line : (a b c text : List ℕ) (d : Data) → a ≡ [] → b ≡ a ++ codes "{\"doc\":" → c ≡ b ++ compact_text d → text ≡ c ++ codes "}\n" → text ≡ compact_text (one_member (codes "doc") d) ++ feed ∷ []
-unfolding serde_json_on_literals
-got_line a b c text d none first second third =
-    three_pieces a b c text (codes "{\"doc\":") (compact_text d) (codes "}\n") first second third ∙ ap (λ bs. bs ++ (codes "{\"doc\":" ++ (compact_text d ++ codes "}\n"))) none
-    ∙ ap (λ more. codes "{\"doc\":" ++ more) (sym (append_assoc (compact_text d) (codes "}") (codes "\n")))
-
-pub rows_line : (a b c text : List ℕ) (d : Data) → a ≡ [] → b ≡ a ++ codes "{\"rows\":" → c ≡ b ++ compact_text d → text ≡ c ++ codes "}\n" → text ≡ compact_text (one_member (codes "rows") d) ++ feed ∷ []
-unfolding serde_json_on_literals
-rows_line a b c text d none first second third =
-    three_pieces a b c text (codes "{\"rows\":") (compact_text d) (codes "}\n") first second third ∙ ap (λ bs. bs ++ (codes "{\"rows\":" ++ (compact_text d ++ codes "}\n"))) none
-    ∙ ap (λ more. codes "{\"rows\":" ++ more) (sym (append_assoc (compact_text d) (codes "}") (codes "\n")))
-
-pub collected_line : (a b c e f text : List ℕ) (d g : Data) → a ≡ [] → b ≡ a ++ codes "{\"rows\":" → c ≡ b ++ compact_text d → e ≡ c ++ codes ",\"upto\":" → f ≡ e ++ compact_text g → text ≡ f ++ codes "}\n"
-    → text ≡ compact_text (two_members (codes "rows") d (codes "upto") g) ++ feed ∷ []
-unfolding serde_json_on_literals
-collected_line a b c e f text d g none first second third fourth fifth =
-    five_pieces a b c e f text (codes "{\"rows\":") (compact_text d) (codes ",\"upto\":") (compact_text g) (codes "}\n") first second third fourth fifth
-    ∙ ap (λ bs. bs ++ (codes "{\"rows\":" ++ (compact_text d ++ (codes ",\"upto\":" ++ (compact_text g ++ codes "}\n"))))) none
-    ∙ ap (λ more. codes "{\"rows\":" ++ (compact_text d ++ (codes ",\"upto\":" ++ more))) (sym (append_assoc (compact_text g) (codes "}") (codes "\n")))
-    ∙ ap (λ more. codes "{\"rows\":" ++ more) (sym (append_assoc (compact_text d) (codes ",\"upto\":" ++ (compact_text g ++ codes "}")) (codes "\n")))
-
-pub row_text : (a b c d e text : List ℕ) (row : Row) → b ≡ a ++ codes "{" → c ≡ b ++ (codes "\"id\":" ++ compact_text (count row.key)) → d ≡ c ++ codes ",\"values\":"
-    → e ≡ d ++ compact_text (array (items_data (items_of row.values))) → text ≡ e ++ codes "}" → text ≡ a ++ compact_text (row_data row)
-unfolding serde_json_on_literals
-row_text a b c d e text row first second third fourth fifth =
-    five_pieces a b c d e text (codes "{") (codes "\"id\":" ++ compact_text (count row.key)) (codes ",\"values\":") (compact_text (array (items_data (items_of row.values)))) (codes "}") first second third fourth fifth
-    ∙ ap (λ ds. a ++ (codes "{\"id\":" ++ (compact_text (count row.key) ++ (codes ",\"values\":" ++ (compact_text (array ds) ++ codes "}"))))) (values_listed row.values)
 
 -- ---- the lines of short replies
 

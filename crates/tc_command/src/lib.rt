@@ -4,7 +4,7 @@
 mod asks;
 mod commands;
 mod conversions;
-mod document_texts;
+mod document_lines;
 mod forms;
 mod line;
 mod refusals;
@@ -16,4 +16,4 @@ pub use commands::Command;
 pub use line::{MAX_LINE, parse};
 pub use refusals::{ParseFault, Refusal};
 pub use replies::{Counts, Reply, Row, Rows, Schemas};
-pub use texts::reply_text;
+pub use texts::put_line;

@@ -7,13 +7,13 @@ ghost use Rattle.serde_json.specs.Written.{has_float};
 use crate::refusals::Refusal;
 use serde_json::Value;
 use std::marker::Model;
-use tc_value::{Doc, Items};
+use tc_bytes::Bytes;
 
-/// The values that a query reached in the document of a key.
+/// The row of a key: its JSON text, which has the id and the values that a query reached in the document.
 #[derive(Drop, Debug)]
 pub struct Row {
     pub id: u64,
-    pub values: Items,
+    pub text: Bytes,
 }
 
 /// Rows of a reply. Contracts see the list.
@@ -25,10 +25,10 @@ pub struct Rows {
 impl Model for Rows {
     ghost use Rattle.std.specs.Prelude.{List, map};
     ghost use Rattle.std.specs.Coded.{coded_list};
-    ghost use Rattle.tc_request_model.specs.Reply.{Row};
+    ghost use Rattle.tc_request_model.specs.Rendered.{RowText};
     ghost use Rattle.tc_command.specs.Rows.{row_of, coded_row};
 
-    ghost Value = { List Row };
+    ghost Value = { List RowText };
 
     ghost coded = { coded_list coded_row };
 
@@ -147,12 +147,12 @@ impl Schemas {
     }
 }
 
-/// What the store answers. The document of `Got` lacks the member `id`.
+/// What the store answers. The text of `Got` is that of the document with its member `id`.
 #[derive(Drop)]
 pub enum Reply {
     Upserted { id: u64, replaced: bool },
     Deleted { id: u64, found: bool },
-    Got { id: u64, doc: Option<Doc> },
+    Got { id: u64, text: Option<Bytes> },
     Rows(Rows),
     Flushed,
     Schemas(Schemas),

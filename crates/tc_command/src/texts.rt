@@ -1,16 +1,17 @@
 //! The line of a reply: compact JSON, whose members stand in ascending order, and a line feed.
 
-ghost use Rattle.std.specs.Prelude.{◌≡◌, ◌++◌, ◌∷◌, [], IfOk, All, map, false};
+ghost use Rattle.std.specs.Prelude.{◌≡◌, ◌++◌, ◌∷◌, [], IfOk, OnOk, All, map, false};
 ghost use Rattle.serde_json.specs.Data.{array};
 ghost use Rattle.serde_json.specs.View.{view};
 ghost use Rattle.serde_json.specs.Written.{has_float, compact_text};
 ghost use Rattle.tc_model.specs.Lines.{feed};
 ghost use Rattle.tc_request_model.specs.Reply.{reply_line, reply_data, schemas_data};
 ghost use Rattle.tc_request_model.specs.Reply as meant;
+ghost use Rattle.tc_request_model.specs.Rendered.{rendered_line};
 ghost use Rattle.tc_command.specs.Refusals.{refusal_of};
-ghost use Rattle.tc_command.specs.Replies.{reply_of};
+ghost use Rattle.tc_command.specs.Replies.{rendered_of};
 
-use crate::document_texts::{collected_line, got_line, rows_line};
+use crate::document_lines::{put_collected_line, put_found_line, put_rows_line};
 use crate::refusals::Refusal;
 use crate::replies::{Reply, Schemas};
 use itoa::Buffer;
@@ -18,84 +19,85 @@ use serde_json::{Value, json};
 use std::alloc::{AllocError, Global};
 use tc_bytes::Bytes;
 
-/// The line of a reply, with its line feed. Errs only for want of memory.
-pub fn reply_text(alloc: Global, reply: &Reply) -> Result<Bytes, AllocError>
-    ensures { IfOk result (λ text. text ≡ reply_line (reply_of reply.now)) }
+/// Puts the line of a reply, with its line feed. Errs only for want of memory, and then leaves some first part of the line.
+pub fn put_line(alloc: Global, reply: &Reply, out: &mut Vec<u8>) -> Result<(), AllocError>
+    ensures { OnOk result (out.new.items ≡ out.old.items ++ rendered_line (rendered_of reply.now)) }
 {
     match reply {
-        Reply::Upserted { id, replaced } => upserted_line(alloc, *id, *replaced),
-        Reply::Deleted { id, found } => deleted_line(alloc, *id, *found),
-        Reply::Got { id, doc } => got_line(alloc, *id, doc),
-        Reply::Rows(rows) => rows_line(alloc, rows),
-        Reply::Flushed => flushed_line(alloc),
-        Reply::Schemas(schemas) => line_of(alloc, &schemas_value(alloc, schemas)?),
-        Reply::Started => started_line(alloc),
-        Reply::Collected { rows, upto } => collected_line(alloc, rows, upto),
-        Reply::Refused(refusal) => refused_line(alloc, *refusal),
+        Reply::Upserted { id, replaced } => put_upserted(*id, *replaced, out),
+        Reply::Deleted { id, found } => put_deleted(*id, *found, out),
+        Reply::Got { id: _, text } => put_found_line(text, out),
+        Reply::Rows(rows) => put_rows_line(rows, out),
+        Reply::Flushed => put_flushed(out),
+        Reply::Schemas(schemas) => put_schemas(alloc, schemas, out),
+        Reply::Started => put_started(out),
+        Reply::Collected { rows, upto } => put_collected_line(rows, upto, out),
+        Reply::Refused(refusal) => put_refused(*refusal, out),
     }
 }
 
 // ---- short replies, of which each write has one
 
-fn upserted_line(alloc: Global, id: u64, replaced: bool) -> Result<Bytes, AllocError>
-    ensures { IfOk result (λ text. text ≡ reply_line (meant.upserted id replaced)) }
+fn put_upserted(id: u64, replaced: bool, out: &mut Vec<u8>) -> Result<(), AllocError>
+    ensures { OnOk result (out.new.items ≡ out.old.items ++ reply_line (meant.upserted id replaced)) }
 {
     let mut digits = Buffer::new();
     let id = digits.format(id).as_bytes();
     if replaced {
-        joined(alloc, b"{\"id\":", id, b",\"replaced\":true}\n")
+        put_three(b"{\"id\":", id, b",\"replaced\":true}\n", out)
     } else {
-        joined(alloc, b"{\"id\":", id, b",\"replaced\":false}\n")
+        put_three(b"{\"id\":", id, b",\"replaced\":false}\n", out)
     }
 }
 
-fn deleted_line(alloc: Global, id: u64, found: bool) -> Result<Bytes, AllocError>
-    ensures { IfOk result (λ text. text ≡ reply_line (meant.deleted id found)) }
+fn put_deleted(id: u64, found: bool, out: &mut Vec<u8>) -> Result<(), AllocError>
+    ensures { OnOk result (out.new.items ≡ out.old.items ++ reply_line (meant.deleted id found)) }
 {
     let mut digits = Buffer::new();
     let id = digits.format(id).as_bytes();
     if found {
-        joined(alloc, b"{\"found\":true,\"id\":", id, b"}\n")
+        put_three(b"{\"found\":true,\"id\":", id, b"}\n", out)
     } else {
-        joined(alloc, b"{\"found\":false,\"id\":", id, b"}\n")
+        put_three(b"{\"found\":false,\"id\":", id, b"}\n", out)
     }
 }
 
-fn flushed_line(alloc: Global) -> Result<Bytes, AllocError>
-    ensures { IfOk result (λ text. text ≡ reply_line meant.flushed) }
+fn put_flushed(out: &mut Vec<u8>) -> Result<(), AllocError>
+    ensures { OnOk result (out.new.items ≡ out.old.items ++ reply_line meant.flushed) }
 {
-    joined(alloc, b"{\"flush\":", b"\"done\"", b"}\n")
+    put_three(b"{\"flush\":", b"\"done\"", b"}\n", out)
 }
 
-fn started_line(alloc: Global) -> Result<Bytes, AllocError>
-    ensures { IfOk result (λ text. text ≡ reply_line meant.started) }
+fn put_started(out: &mut Vec<u8>) -> Result<(), AllocError>
+    ensures { OnOk result (out.new.items ≡ out.old.items ++ reply_line meant.started) }
 {
-    joined(alloc, b"{\"scan\":", b"\"started\"", b"}\n")
+    put_three(b"{\"scan\":", b"\"started\"", b"}\n", out)
 }
 
-fn refused_line(alloc: Global, refusal: Refusal) -> Result<Bytes, AllocError>
-    ensures { IfOk result (λ text. text ≡ reply_line (meant.turned_down (refusal_of refusal))) }
+fn put_refused(refusal: Refusal, out: &mut Vec<u8>) -> Result<(), AllocError>
+    ensures { OnOk result (out.new.items ≡ out.old.items ++ reply_line (meant.turned_down (refusal_of refusal))) }
 {
-    joined(
-        alloc,
-        b"{\"refused\":\"",
-        refusal.name().as_bytes(),
-        b"\"}\n",
-    )
+    put_three(b"{\"refused\":\"", refusal.name().as_bytes(), b"\"}\n", out)
 }
 
-// The bytes of three pieces, which are short.
-fn joined(alloc: Global, first: &[u8], second: &[u8], third: &[u8]) -> Result<Bytes, AllocError>
-    ensures { IfOk result (λ text. text ≡ first.now ++ (second.now ++ third.now)) }
+// Three pieces, one after the other.
+fn put_three(first: &[u8], second: &[u8], third: &[u8], out: &mut Vec<u8>) -> Result<(), AllocError>
+    ensures { OnOk result (out.new.items ≡ out.old.items ++ (first.now ++ (second.now ++ third.now))) }
 {
-    let mut text = Vec::with_capacity(alloc, 64)?;
-    text.extend_from_slice(first)?;
-    text.extend_from_slice(second)?;
-    text.extend_from_slice(third)?;
-    Ok(Bytes::of(text))
+    out.extend_from_slice(first)?;
+    out.extend_from_slice(second)?;
+    out.extend_from_slice(third)
 }
 
 // ---- schemas, which are JSON values
+
+fn put_schemas(alloc: Global, schemas: &Schemas, out: &mut Vec<u8>) -> Result<(), AllocError>
+    ensures { OnOk result (out.new.items ≡ out.old.items ++ reply_line (meant.schemas (map view schemas.now))) }
+{
+    let value = schemas_value(alloc, schemas)?;
+    let line = line_of(alloc, &value)?;
+    out.extend_from_slice(line.as_slice())
+}
 
 // The compact text of a value and a line feed.
 fn line_of(alloc: Global, value: &Value) -> Result<Bytes, AllocError>
