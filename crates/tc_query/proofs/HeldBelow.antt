@@ -1,5 +1,5 @@
 -- Documents that keys may have, gathered key by key.
-use Rattle.std.proofs.Common.{◌≡◌, ◌<◌, ◌≤◌, ◌+◌, ℕ, false, List, [], ◌∷◌, ◌++◌, Option, Some, None, append-nil, refl, sym, ap, ◌∙◌, subst, arith, inl, inr}
+use Rattle.std.proofs.Common.{◌≡◌, ◌<◌, ◌≤◌, ◌+◌, ℕ, false, List, [], ◌∷◌, ◌++◌, Option, Some, None, map, append-nil, refl, sym, ap, ◌∙◌, subst, arith, inl, inr}
 use Rattle.std.specs.Prelude.{◌==◌, if◌then◌else◌}
 use Rattle.std.specs.List.{AllByRecursion}
 use Rattle.std.specs.Map.{keys_of}
@@ -7,6 +7,7 @@ use Rattle.std.specs.Ordering.{nat_cmp}
 use Rattle.std.proofs.lemmas.Bool.{cases_lt, lt-ltb}
 use Rattle.std.proofs.lemmas.Bool.Decides.{nat_tests}
 use Rattle.std.proofs.lemmas.Grind.{flat_map-append}
+use Rattle.std.proofs.lemmas.List.{map-append}
 use Rattle.std.proofs.lemmas.Map.Keys.{sorted_head, sorted_tail}
 use Rattle.tc_component.specs.Loading.{ComponentState}
 use Rattle.tc_memory.specs.Table.{Table}
@@ -14,14 +15,14 @@ use Rattle.tc_model.proofs.KeyedEquality.{value_of-here}
 use Rattle.tc_model.proofs.KeyedOrder.{AreAbove, sorted_nil, sorted_cons, less_by}
 use Rattle.tc_model.specs.Document.{Document}
 use Rattle.tc_model.specs.Keyed.{Keyed, Ascends, value_of}
-use Rattle.tc_request_model.specs.Reply.{Row}
 use Rattle.tc_request_model.specs.Request.{Ask}
 use Rattle.tc_request_model.specs.Paths.{reached}
 use Rattle.tc_request_model.specs.Rows.{row_of, rows_over}
+use Rattle.tc_request_model.specs.Rendered.{RowText, row_text}
 use Rattle.tc_plain_model.specs.Writes.{Pairs}
 use Rattle.tc_query.proofs.AheadKeys.{all_lesser, all_push}
 use Rattle.tc_query.proofs.BelowKeys.{value_of-behind}
-use Rattle.tc_query.specs.Rows.{rows_with}
+use Rattle.tc_query.specs.Rows.{rows_with, texts_with}
 use Rattle.tc_query.specs.Shown.{held_newest, MayHave, MayHold}
 use Rattle.tc_query.specs.Walking.{IsNext, HasNoneIn}
 
@@ -52,12 +53,12 @@ Ascends-pushed key low v (e ∷ es) up lesser from =
 -- ---- keys up to one
 
 -- documents of the keys below one, where each has one that it may have, and their rows
-pub record HoldBelow {F : Type 0} (told : F → Option (List ℕ)) (low : ℕ) (cs : List (ComponentState F)) (sealed : Option Table) (active : Table) (ask : Ask) (rows : List Row) : Type 0 where
+pub record HoldBelow {F : Type 0} (told : F → Option (List ℕ)) (low : ℕ) (cs : List (ComponentState F)) (sealed : Option Table) (active : Table) (ask : Ask) (rows : List RowText) : Type 0 where
   pub pairs : Pairs
   pub ascend : Ascends pairs
   pub lesser : AllByRecursion (λ e. e.0 < low) pairs
   pub each : (k : ℕ) → k < low → MayHave told (held_newest k sealed active) cs k (value_of k pairs)
-  pub rows_are : rows ≡ rows_over ask pairs
+  pub rows_are : rows ≡ map row_text (rows_over ask pairs)
 
 module _ {F : Type 0} (told : F → Option (List ℕ)) (cs : List (ComponentState F)) (sealed : Option Table) (active : Table) where
   -- a key that no source has has no document
@@ -82,8 +83,8 @@ module _ {F : Type 0} (told : F → Option (List ℕ)) (cs : List (ComponentStat
     | inr from ↦ subst P (omega (arith, less, from)) here
   ]
 
-  pub below_next : (ask : Ask) (low key : ℕ) (before : List Row) (document : Option Document) (row after : List Row) → IsNext low (Some key) (HasNoneIn cs sealed active) → HoldBelow told low cs sealed active ask before
-      → MayHave told (held_newest key sealed active) cs key document → row ≡ rows_with ask key document → after ≡ before ++ row → HoldBelow told (key + 1) cs sealed active ask after
+  pub below_next : (ask : Ask) (low key : ℕ) (before : List RowText) (document : Option Document) (row after : List RowText) → IsNext low (Some key) (HasNoneIn cs sealed active) → HoldBelow told low cs sealed active ask before
+      → MayHave told (held_newest key sealed active) cs key document → row ≡ texts_with ask key document → after ≡ before ++ row → HoldBelow told (key + 1) cs sealed active ask after
   below_next ask low key before None row after next b may one pushed = record {
     pairs = b.pairs;
     ascend = b.ascend;
@@ -101,12 +102,13 @@ module _ {F : Type 0} (told : F → Option (List ℕ)) (cs : List (ComponentStat
         each = up_to key (λ k. MayHave told (held_newest k sealed active) cs k (value_of k pairs))
             (λ k less. subst (MayHave told (held_newest k sealed active) cs k) (sym (value_of-before k key d b.pairs less)) (before_next low key b.pairs b.each b.lesser next k less))
             (subst (MayHave told (held_newest key sealed active) cs key) (sym (value_of-pushed key low d b.pairs b.lesser next.0)) may);
-        rows_are = pushed ∙ ap (λ rows. before ++ rows) one ∙ ap (λ rows. rows ++ rows_with ask key (Some d)) b.rows_are
-            ∙ sym (flat_map-append (λ p. row_of ask.equal_to p.0 (reached ask.path p.1)) b.pairs ((key, d) ∷ []));
+        rows_are = pushed ∙ ap (λ rows. before ++ rows) one ∙ ap (λ rows. rows ++ texts_with ask key (Some d)) b.rows_are
+            ∙ sym (map-append row_text (rows_over ask b.pairs) (rows_with ask key (Some d)))
+            ∙ ap (map row_text) (sym (flat_map-append (λ p. row_of ask.equal_to p.0 (reached ask.path p.1)) b.pairs ((key, d) ∷ [])));
       }
 
   -- where none is next
-  pub below_all : (ask : Ask) (low : ℕ) (rows : List Row) → IsNext low None (HasNoneIn cs sealed active) → HoldBelow told low cs sealed active ask rows → (pairs : Pairs) × MayHold told cs sealed active pairs × (rows ≡ rows_over ask pairs)
+  pub below_all : (ask : Ask) (low : ℕ) (rows : List RowText) → IsNext low None (HasNoneIn cs sealed active) → HoldBelow told low cs sealed active ask rows → (pairs : Pairs) × MayHold told cs sealed active pairs × (rows ≡ map row_text (rows_over ask pairs))
   below_all ask low rows next b = (b.pairs, record { ascend = b.ascend; each = each }, b.rows_are)
     where
       each : (k : ℕ) → MayHave told (held_newest k sealed active) cs k (value_of k b.pairs)

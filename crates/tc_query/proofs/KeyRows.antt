@@ -1,21 +1,22 @@
 -- What one key more adds to rows and to reads.
-use Rattle.std.proofs.Common.{◌≡◌, ◌≤◌, ◌+◌, ◌++◌, ◌∙◌, ℕ, List, Option, Some, None, length, sym, ap, arith}
+use Rattle.std.proofs.Common.{◌≡◌, ◌≤◌, ◌+◌, ◌++◌, ◌∙◌, ℕ, List, Option, Some, None, length, map, sym, ap, arith}
+use Rattle.std.proofs.lemmas.List.{map-append}
 use Rattle.std.specs.Prelude.{All, IfSome}
 use Rattle.std.specs.List.{AllZip}
 use Rattle.tc_component.specs.Loading.{ComponentState}
 use Rattle.tc_component.specs.Spelling.{IsIndex}
 use Rattle.tc_list.specs.Contents.{Shows}
 use Rattle.tc_memory.specs.Table.{Table, IsTable}
-use Rattle.tc_request_model.specs.Reply.{Row}
 use Rattle.tc_request_model.specs.Request.{Ask}
 use Rattle.tc_request_model.specs.Rows.{rows_over}
+use Rattle.tc_request_model.specs.Rendered.{RowText, row_text}
 use Rattle.tc_plain_model.specs.Writes.{Pairs}
 use Rattle.tc_query.proofs.RowSteps.{rows-next, rows-end, reads-next}
 use Rattle.tc_query.proofs.ShownKeys.{Ascends-shown, live_shown, few_below}
 use Rattle.tc_query.proofs.StoredKeys.{Ascends-stored}
 use Rattle.tc_query.proofs.WalkedKeys.{gap_stored, gap_shown, end_stored}
 use Rattle.tc_query.specs.Faults.{IsReadIf}
-use Rattle.tc_query.specs.Rows.{rows_at, below}
+use Rattle.tc_query.specs.Rows.{rows_at, texts_at, below}
 use Rattle.tc_query.specs.Shown.{IsListed, unread, shown, live_keys}
 use Rattle.tc_query.specs.Stored.{Holds}
 use Rattle.tc_query.specs.Walking.{IsNext, HasNoneIn}
@@ -41,12 +42,13 @@ module _ {F : Type 0} (told : F → Option (List ℕ)) (cs : List (ComponentStat
   -- ---- rows
 
   module _ (pairs : Pairs) (h : Holds told cs sealed active pairs) (sealed_is : IfSome sealed IsTable) (active_is : IsTable active) (shows : AllZip Shows cs h.contents) (ask : Ask) where
-    pub rows_more : (low key : ℕ) (before row after : List Row) → IsNext low (Some key) (HasNoneIn cs sealed active) → before ≡ rows_over ask (below low pairs) → row ≡ rows_at ask key pairs → after ≡ before ++ row
-        → after ≡ rows_over ask (below (key + 1) pairs)
+    pub rows_more : (low key : ℕ) (before row after : List RowText) → IsNext low (Some key) (HasNoneIn cs sealed active) → before ≡ map row_text (rows_over ask (below low pairs)) → row ≡ texts_at ask key pairs
+        → after ≡ before ++ row → after ≡ map row_text (rows_over ask (below (key + 1) pairs))
     rows_more low key before row after next done one pushed =
-        pushed ∙ ap (λ rows. rows ++ row) done ∙ ap (λ rows. rows_over ask (below low pairs) ++ rows) one
-        ∙ sym (rows-next ask low key pairs (Ascends-stored told cs sealed active pairs h) next.0 (gap_stored told cs sealed active pairs h sealed_is active_is shows low key next))
+        pushed ∙ ap (λ rows. rows ++ row) done ∙ ap (λ rows. map row_text (rows_over ask (below low pairs)) ++ rows) one
+        ∙ sym (map-append row_text (rows_over ask (below low pairs)) (rows_at ask key pairs))
+        ∙ sym (ap (map row_text) (rows-next ask low key pairs (Ascends-stored told cs sealed active pairs h) next.0 (gap_stored told cs sealed active pairs h sealed_is active_is shows low key next)))
 
-    pub rows_whole : (low : ℕ) (rows : List Row) → IsNext low None (HasNoneIn cs sealed active) → rows ≡ rows_over ask (below low pairs) → rows ≡ rows_over ask pairs
+    pub rows_whole : (low : ℕ) (rows : List RowText) → IsNext low None (HasNoneIn cs sealed active) → rows ≡ map row_text (rows_over ask (below low pairs)) → rows ≡ map row_text (rows_over ask pairs)
     rows_whole low rows next done =
-        done ∙ rows-end ask low pairs (Ascends-stored told cs sealed active pairs h) (end_stored told cs sealed active pairs h sealed_is active_is shows low next)
+        done ∙ ap (map row_text) (rows-end ask low pairs (Ascends-stored told cs sealed active pairs h) (end_stored told cs sealed active pairs h sealed_is active_is shows low next))

@@ -1,4 +1,5 @@
 pub mod ReachedValues
+mod PutRows
 pub mod BelowKeys
 pub mod AheadKeys
 pub mod ShownKeys

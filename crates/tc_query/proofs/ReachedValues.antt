@@ -1,5 +1,5 @@
 -- The values that are left of those that were reached, and the row that they make.
-use Rattle.std.proofs.Common.{◌≡◌, ℕ, Bool, true, false, List, [], ◌∷◌, map, Option, Some, if◌then◌else◌, refl, sym, ap, ◌∙◌, subst}
+use Rattle.std.proofs.Common.{◌≡◌, ℕ, Bool, true, false, List, [], ◌∷◌, map, Option, Some, if◌then◌else◌, refl, sym, ap, ◌∙◌}
 use Rattle.tc_model.specs.Document.{Document}
 use Rattle.tc_request_model.specs.Equal.{same_document}
 use Rattle.tc_request_model.specs.Rows.{is_among, meets, row_of}
@@ -70,49 +70,7 @@ none_left at d rest ds none so_far = so_far.same ∙ ap (is_among d) (empty so_f
 
 -- ---- the row
 
-pub same_values : {D : Type 0} (ds es : List D) → map {B = Option D} Some ds ≡ map Some es → ds ≡ es
-same_values [] [] same = refl
-same_values [] (e ∷ es) same = absurd (something e es same)
-  where
-    something : {D : Type 0} (e : D) (es : List D) → map {B = Option D} Some [] ≡ map Some (e ∷ es) → ⊥
-    something e es same = cc
-same_values (d ∷ ds) [] same = absurd (something d ds same)
-  where
-    something : {D : Type 0} (d : D) (ds : List D) → map {B = Option D} Some (d ∷ ds) ≡ map Some [] → ⊥
-    something d ds same = cc
-same_values (d ∷ ds) (e ∷ es) same = both d e ds es (first_same d e ds es same) (same_values ds es (rest_same d e ds es same))
-  where
-    first_same : {D : Type 0} (d e : D) (ds es : List D) → map {B = Option D} Some (d ∷ ds) ≡ map Some (e ∷ es) → d ≡ e
-    first_same d e ds es same = cc
-
-    rest_same : {D : Type 0} (d e : D) (ds es : List D) → map {B = Option D} Some (d ∷ ds) ≡ map Some (e ∷ es) → map {B = Option D} Some ds ≡ map Some es
-    rest_same d e ds es same = cc
-
-    both : {D : Type 0} (d e : D) (ds es : List D) → d ≡ e → ds ≡ es → d ∷ ds ≡ e ∷ es
-    both d e ds es first rest = cc
-
--- none where nothing was reached
-pub no_row : {V : Type 0} (at : V → Option Document) (vs : List V) (wanted : Option Document) (key : ℕ) (ds : List Document) → vs ≡ [] → map at vs ≡ map Some ds → row_of wanted key ds ≡ []
-no_row at vs wanted key [] none meant = refl
-no_row at vs wanted key (d ∷ ds) none meant = absurd (something d ds (ap (map at) (sym none) ∙ meant))
-  where
-    something : (d : Document) (ds : List Document) → [] ≡ map {B = Option Document} Some (d ∷ ds) → ⊥
-    something d ds same = cc
-
--- or not what is asked for
+-- there is none where what is asked for was not reached
 pub left_out : (wanted : Option Document) (key : ℕ) (ds : List Document) → meets wanted ds ≡ false → row_of wanted key ds ≡ []
 left_out wanted key [] other = refl
 left_out wanted key (d ∷ ds) other = ap (λ b. if b then record { key = key; values = d ∷ ds } ∷ [] else []) other
-
--- else all that was
-pub one_row : {V : Type 0} (at : V → Option Document) (vs : List V) (wanted : Option Document) (key : ℕ) (ds : List Document) → (vs ≡ [] → ⊥) → map at vs ≡ map Some ds → meets wanted ds ≡ true
-    → row_of wanted key ds ≡ record { key = key; values = ds } ∷ []
-one_row at [] wanted key ds some meant meeting = absurd (some refl)
-one_row at (v ∷ vs) wanted key ds some meant meeting =
-    let parts = cut at v vs ds meant in
-    subst (λ es. meets wanted es ≡ true → row_of wanted key es ≡ record { key = key; values = es } ∷ []) (sym parts.is) (λ met. ap (λ b. if b then record { key = key; values = parts.first ∷ parts.behind } ∷ [] else []) met) meeting
-
--- the values of the row, which are all that was reached
-pub row_with : {V : Type 0} (at : V → Option Document) (vs : List V) (wanted : Option Document) (key : ℕ) (ds values : List Document) → values ≡ ds → (vs ≡ [] → ⊥) → map at vs ≡ map Some ds → meets wanted ds ≡ true
-    → row_of wanted key ds ≡ record { key = key; values = values } ∷ []
-row_with at vs wanted key ds values same some meant meeting = subst (λ es. row_of wanted key ds ≡ record { key = key; values = es } ∷ []) (sym same) (one_row at vs wanted key ds some meant meeting)

@@ -1,6 +1,6 @@
 //! The row of a key, of which the newest entry decides.
 
-ghost use Rattle.std.specs.Prelude.{◌≡◌, ◌<◌, ◌≤◌, ◌+◌, ℕ, List, Option, Some, None, IfOk, IfErr, IfSome, IsErrOf, length, slice_get, option_map, option_to_list};
+ghost use Rattle.std.specs.Prelude.{◌≡◌, ◌<◌, ◌≤◌, ◌+◌, ℕ, List, Option, Some, None, IfOk, IfErr, IfSome, IsErrOf, length, map, slice_get, option_map, option_to_list};
 ghost use Rattle.std.specs.List.{AllZip};
 ghost use Rattle.tc_command.specs.Commands.{ask_of};
 ghost use Rattle.tc_command.specs.Rows.{row_of};
@@ -16,9 +16,10 @@ ghost use Rattle.tc_memory.specs.Table.{IsTable};
 ghost use Rattle.tc_model.specs.Document.{Document};
 ghost use Rattle.tc_request_model.specs.Paths.{reached};
 ghost use Rattle.tc_request_model.specs.Rows.{row_of as row_reached};
+ghost use Rattle.tc_request_model.specs.Rendered.{row_text};
 ghost use Rattle.tc_plain_model.specs.Writes.{Pairs};
 ghost use Rattle.tc_query.specs.Faults.{OfDamage, IsHarmIn, IsReadIf, IsWatched};
-ghost use Rattle.tc_query.specs.Rows.{rows_with, rows_at};
+ghost use Rattle.tc_query.specs.Rows.{texts_with, texts_at};
 ghost use Rattle.tc_query.specs.Shown.{held_newest, IsListed, MayHave};
 ghost use Rattle.tc_query.specs.Stored.{Holds};
 ghost use Rattle.tc_query.specs.Walking.{StandAt};
@@ -56,8 +57,8 @@ pub(crate) fn row_at<F: Frozen>(
     requires of { AreCursors F.content list.now cursors.old }
 
     ensures of { AreCursors F.content list.now cursors.new }
-    ensures row { (pairs : Pairs) → Holds F.content list.now (option_map (λ t. t.now) sealed.entry) active.now pairs → IfOk result (λ row. option_to_list (option_map row_of row) ≡ rows_at (ask_of ask.now) key pairs) }
-    ensures shown { IfOk result (λ row. (document : Option Document) × MayHave (λ file. F.content file) (held_newest key (option_map (λ t. t.now) sealed.entry) active.now) list.now key document × (option_to_list (option_map row_of row) ≡ rows_with (ask_of ask.now) key document)) }
+    ensures row { (pairs : Pairs) → Holds F.content list.now (option_map (λ t. t.now) sealed.entry) active.now pairs → IfOk result (λ row. option_to_list (option_map row_of row) ≡ texts_at (ask_of ask.now) key pairs) }
+    ensures shown { IfOk result (λ row. (document : Option Document) × MayHave (λ file. F.content file) (held_newest key (option_map (λ t. t.now) sealed.entry) active.now) list.now key document × (option_to_list (option_map row_of row) ≡ texts_with (ask_of ask.now) key document)) }
     ensures harmed { IfErr result (λ fault. OfDamage fault (λ file at bytes. IsHarmIn (λ file. F.content file) list.now file at bytes)) }
     ensures reads { IsReadIf (IsListed list.now (option_map (λ t. t.now) sealed.entry) active.now key) (F.Watch.counts watch.old) (F.Watch.counts watch.new) }
     ensures read { IfOk result (λ row. (low first : ℕ) → low ≤ key → AreRead low list.now cursors.old first (F.Watch.counts watch.old).reads → AreRead (key + 1) list.now cursors.new first (F.Watch.counts watch.new).reads) }
@@ -95,7 +96,7 @@ fn newest_held<'a>(sealed: Option<&'a Sealed>, active: &'a Memtable, key: u64) -
 /// The row that an ask gets of a key, whose record a table keeps. Errs only for want of memory.
 fn row_held(alloc: Global, bytes: &[u8], key: u64, ask: &Ask) -> Result<Option<Row>, AllocError>
     requires { IsStoredRecord bytes.now }
-    ensures row { (d : Document) → IsRecordOf d bytes.now → IfOk result (λ row. option_to_list (option_map row_of row) ≡ row_reached (ask_of ask.now).equal_to key (reached (ask_of ask.now).path d)) }
+    ensures row { (d : Document) → IsRecordOf d bytes.now → IfOk result (λ row. option_to_list (option_map row_of row) ≡ map row_text (row_reached (ask_of ask.now).equal_to key (reached (ask_of ask.now).path d))) }
 {
     let names = Names::new(alloc);
     row_of_known(alloc, key, RecordRef::known(bytes), &names, ask)
@@ -115,8 +116,8 @@ fn row_listed<F: Frozen>(
     requires of { AreCursors F.content list.now cursors.old }
 
     ensures of { AreCursors F.content list.now cursors.new }
-    ensures row { (part : Partition) (cs : List Content) → IsList part cs → AllZip (IsLoadedOf F.content) list.now cs → IfOk result (λ row. option_to_list (option_map row_of row) ≡ rows_at (ask_of ask.now) key (live cs)) }
-    ensures shown { IfOk result (λ row. (document : Option Document) × MayHave (λ file. F.content file) None list.now key document × (option_to_list (option_map row_of row) ≡ rows_with (ask_of ask.now) key document)) }
+    ensures row { (part : Partition) (cs : List Content) → IsList part cs → AllZip (IsLoadedOf F.content) list.now cs → IfOk result (λ row. option_to_list (option_map row_of row) ≡ texts_at (ask_of ask.now) key (live cs)) }
+    ensures shown { IfOk result (λ row. (document : Option Document) × MayHave (λ file. F.content file) None list.now key document × (option_to_list (option_map row_of row) ≡ texts_with (ask_of ask.now) key document)) }
     ensures harmed { IfErr result (λ fault. OfDamage fault (λ file at bytes. IsHarmIn (λ file. F.content file) list.now file at bytes)) }
     ensures reads { IsReadIf ((at : ℕ) × (place : OnePlace) × IsWhere list.now key (listed_at at place)) (F.Watch.counts watch.old) (F.Watch.counts watch.new) }
     ensures read { IfOk result (λ row. (low first : ℕ) → low ≤ key → AreRead low list.now cursors.old first (F.Watch.counts watch.old).reads → AreRead (key + 1) list.now cursors.new first (F.Watch.counts watch.new).reads) }

@@ -1,6 +1,6 @@
 //! The row of a key whose record stands in a component.
 
-ghost use Rattle.std.specs.Prelude.{◌≡◌, ◌⊎◌, length, IfOk, OnOk, IfErr, IfSome, IsErrOf, option_map, option_to_list};
+ghost use Rattle.std.specs.Prelude.{◌≡◌, ◌⊎◌, length, map, IfOk, OnOk, IfErr, IfSome, IsErrOf, option_map, option_to_list};
 ghost use Rattle.tc_bytes.specs.Counts.{next_count};
 ghost use Rattle.tc_command.specs.Commands.{ask_of};
 ghost use Rattle.tc_command.specs.Rows.{row_of};
@@ -12,6 +12,7 @@ ghost use Rattle.tc_component.specs.Spelling.{name_of as name_meant};
 ghost use Rattle.tc_model.specs.Document.{Document};
 ghost use Rattle.tc_request_model.specs.Paths.{reached};
 ghost use Rattle.tc_request_model.specs.Rows.{row_of as row_reached};
+ghost use Rattle.tc_request_model.specs.Rendered.{row_text};
 ghost use Rattle.tc_query.specs.Faults.{OfDamage, IsHarmOf, IsWatched};
 ghost use Rattle.tc_query.specs.Shown.{IsReadOf};
 
@@ -39,8 +40,8 @@ pub(crate) fn row_stored<F: Frozen>(
 
     ensures of { HoldsPart (F.content component.now.file) cursor.new }
     ensures row { IfOk result (λ row. (d : Document) → IfSome (F.content component.now.file) (λ whole. IsRecordOfOne component.now.index.names d (bytes_of_record component.now.index.slots place.at whole)
-        → option_to_list (option_map row_of row) ≡ row_reached (ask_of ask.now).equal_to key (reached (ask_of ask.now).path d))) }
-    ensures document { IfOk result (λ row. (d : Document) × IsReadOf (λ file. F.content file) component.now place d × (option_to_list (option_map row_of row) ≡ row_reached (ask_of ask.now).equal_to key (reached (ask_of ask.now).path d))) }
+        → option_to_list (option_map row_of row) ≡ map row_text (row_reached (ask_of ask.now).equal_to key (reached (ask_of ask.now).path d)))) }
+    ensures document { IfOk result (λ row. (d : Document) × IsReadOf (λ file. F.content file) component.now place d × (option_to_list (option_map row_of row) ≡ map row_text (row_reached (ask_of ask.now).equal_to key (reached (ask_of ask.now).path d)))) }
     ensures harmed { IfErr result (λ fault. OfDamage fault (λ file at bytes. IsHarmOf (λ file. F.content file) component.now file at bytes)) }
     ensures held { HasRecord component.now.index place.at cursor.old → (cursor.new ≡ cursor.old) × (F.Watch.counts watch.new ≡ F.Watch.counts watch.old) }
     ensures window { IfOk result (λ row. (HasRecord component.now.index place.at cursor.old → ⊥) → BeginsAtRecord component.now.index place.at cursor.new) }

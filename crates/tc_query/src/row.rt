@@ -1,27 +1,29 @@
 //! The row of one record.
 
-ghost use Rattle.std.specs.Prelude.{◌≡◌, List, Some, IfOk, IsErrOf, map, option_map, option_to_list};
-ghost use Rattle.std.specs.List.{AllByRecursion};
+ghost use Rattle.std.specs.Prelude.{◌≡◌, List, Some, None, IfOk, IsErrOf, map, option_map, option_to_list};
 ghost use Rattle.tc_model.specs.Document.{Document};
 ghost use Rattle.tc_value.specs.Meaning.{tree_of};
 ghost use Rattle.tc_compact.specs.Meant.{IsRecordUnder};
-ghost use Rattle.tc_path.specs.Reached.{values_at, IsLawful};
+ghost use Rattle.tc_path.specs.Reached.{values_at};
 ghost use Rattle.tc_request_model.specs.Paths.{reached};
 ghost use Rattle.tc_request_model.specs.Rows.{is_among, meets as meets_value, row_of as row_reached};
+ghost use Rattle.tc_request_model.specs.Rendered.{row_text};
 ghost use Rattle.tc_command.specs.Commands.{ask_of};
 ghost use Rattle.tc_command.specs.Rows.{row_of};
 
 use std::alloc::{AllocError, Global};
-use tc_command::{Ask, Row};
+use tc_bytes::Bytes;
+use tc_command::{Ask, PathExpr, Row};
 use tc_compact::spells_document;
 use tc_names::Names;
 use tc_path::{ValueRef, select};
 use tc_record::{RecordFault, RecordRef};
-use tc_value::{Doc, Items};
+use tc_record_text::put_row;
+use tc_value::Doc;
 
 /// The row that an ask gets of a key's document, by a record of either form whose numbers mean names of the dictionary;
 /// `None` where the document gives none. `NotARecord` comes exactly where the record spells no document under the
-/// dictionary. Takes memory for the values of a row alone.
+/// dictionary.
 pub fn row_of_record(
     alloc: Global,
     key: u64,
@@ -29,7 +31,7 @@ pub fn row_of_record(
     names: &Names,
     ask: &Ask,
 ) -> Result<Option<Row>, RecordFault>
-    ensures row { (d : Document) → IsRecordUnder names.now d of.entry.bytes → IfOk result (λ row. option_to_list (option_map row_of row) ≡ row_reached (ask_of ask.now).equal_to key (reached (ask_of ask.now).path d)) }
+    ensures row { (d : Document) → IsRecordUnder names.now d of.entry.bytes → IfOk result (λ row. option_to_list (option_map row_of row) ≡ map row_text (row_reached (ask_of ask.now).equal_to key (reached (ask_of ask.now).path d))) }
     ensures document { IfOk result (λ row. (d : Document) × IsRecordUnder names.now d of.entry.bytes) }
     ensures refused { IsErrOf result RecordFault.NotARecord → (d : Document) → IsRecordUnder names.now d of.entry.bytes → ⊥ }
 {
@@ -48,31 +50,61 @@ pub fn row_of_known(
     names: &Names,
     ask: &Ask,
 ) -> Result<Option<Row>, AllocError>
-    requires document { (d : Document) × IsRecordUnder names.now d of.bytes }
-    ensures row { (d : Document) → IsRecordUnder names.now d of.entry.bytes → IfOk result (λ row. option_to_list (option_map row_of row) ≡ row_reached (ask_of ask.now).equal_to key (reached (ask_of ask.now).path d)) }
+    ensures { (d : Document) → IsRecordUnder names.now d of.entry.bytes → IfOk result (λ row. option_to_list (option_map row_of row) ≡ map row_text (row_reached (ask_of ask.now).equal_to key (reached (ask_of ask.now).path d))) }
 {
-    let values = select(alloc, of, names, &ask.path)?;
-    if values.is_empty() {
+    let met = meets(alloc, of.again(), names, ask)?;
+    if !met {
         return Ok(None);
     }
-    if !meets(&values, names, &ask.eq) {
+    row_of_path(alloc, key, of, names, &ask.path)
+}
+
+/// The row of all that a path reaches.
+fn row_of_path(
+    alloc: Global,
+    key: u64,
+    of: RecordRef<'_>,
+    names: &Names,
+    path: &PathExpr,
+) -> Result<Option<Row>, AllocError>
+    ensures { (d : Document) → IsRecordUnder names.now d of.entry.bytes → IfOk result (λ row. option_to_list (option_map row_of row) ≡ map row_text (row_reached None key (reached path.now d))) }
+{
+    // A text has the names of members that a record has the numbers of.
+    let room = of.bytes().len().saturating_mul(2);
+    let mut text = Vec::with_capacity(alloc, room)?;
+    put_row(of, names, path, key, &mut text)?;
+    if text.as_slice().is_empty() {
         return Ok(None);
     }
-    let docs = documents_of(alloc, &values, names)?;
+    text.shrink_to_fit();
     Ok(Some(Row {
         id: key,
-        values: Items::of(docs),
+        text: Bytes::of(text),
     }))
 }
 
-/// Whether one of the values is the one that is asked for, if one is.
-fn meets(values: &[ValueRef<'_>], names: &Names, wanted: &Option<Doc>) -> bool
-    ensures { (ds : List Document) → values_at names.now values.now ≡ map Some ds → result ≡ meets_value (option_map tree_of wanted.now) ds }
+/// Whether what an ask asks for is among the values that its path reaches, if it asks for one.
+fn meets(alloc: Global, of: RecordRef<'_>, names: &Names, ask: &Ask) -> Result<bool, AllocError>
+    ensures { (d : Document) → IsRecordUnder names.now d of.entry.bytes → IfOk result (λ met. met ≡ meets_value (ask_of ask.now).equal_to (reached (ask_of ask.now).path d)) }
 {
-    match wanted {
-        None => true,
-        Some(doc) => is_one_of(values, names, doc),
+    match &ask.eq {
+        None => Ok(true),
+        Some(doc) => reaches(alloc, of, names, &ask.path, doc),
     }
+}
+
+/// Whether a path reaches this document.
+fn reaches(
+    alloc: Global,
+    of: RecordRef<'_>,
+    names: &Names,
+    path: &PathExpr,
+    doc: &Doc,
+) -> Result<bool, AllocError>
+    ensures { (d : Document) → IsRecordUnder names.now d of.entry.bytes → IfOk result (λ found. found ≡ is_among (tree_of doc.now) (reached path.now d)) }
+{
+    let values = select(alloc, of, names, path)?;
+    Ok(is_one_of(&values, names, doc))
 }
 
 /// Whether one of the values is this document.
@@ -85,20 +117,4 @@ fn is_one_of(values: &[ValueRef<'_>], names: &Names, doc: &Doc) -> bool
         }
     }
     false
-}
-
-/// The values as documents.
-fn documents_of(
-    alloc: Global,
-    values: &[ValueRef<'_>],
-    names: &Names,
-) -> Result<Vec<Doc>, AllocError>
-    requires { AllByRecursion (IsLawful names.now) values.now }
-    ensures { IfOk result (λ docs. values_at names.now values.now ≡ map Some (map tree_of docs.items)) }
-{
-    let mut docs = Vec::with_capacity(alloc, values.len())?;
-    for value in values {
-        docs.push(value.to_doc(alloc, names)?)?;
-    }
-    Ok(docs)
 }

@@ -8,6 +8,7 @@ ghost use Rattle.tc_component.specs.Cursors.{holds_nothing};
 ghost use Rattle.tc_component.specs.Loaded.{IsLoadedOf};
 ghost use Rattle.tc_lsm_model.specs.Contents.{Content};
 ghost use Rattle.tc_request_model.specs.Rows.{rows_over as rows_of_pairs};
+ghost use Rattle.tc_request_model.specs.Rendered.{row_text};
 ghost use Rattle.tc_plain_model.specs.Writes.{Pairs};
 ghost use Rattle.tc_query.specs.Faults.{OfDamage, IsUnharmed, IsHarmIn, IsWatched};
 ghost use Rattle.tc_query.specs.Shown.{MayHold, live_keys};
@@ -37,11 +38,11 @@ pub fn rows_over<F: Frozen>(
     watch: &mut F::Watch,
 ) -> Result<Rows, QueryFault>
     // Where the files tell what they hold.
-    ensures rows { (pairs : Pairs) → Holds F.content list.now (option_map (λ t. t.now) sealed.entry) active.now pairs → IfOk result (λ rows. rows ≡ rows_of_pairs (ask_of ask.now) pairs) }
+    ensures rows { (pairs : Pairs) → Holds F.content list.now (option_map (λ t. t.now) sealed.entry) active.now pairs → IfOk result (λ rows. rows ≡ map row_text (rows_of_pairs (ask_of ask.now) pairs)) }
     ensures unharmed { (cs : List Content) → AllZip (IsLoadedOf F.content) list.now cs → IfErr result IsUnharmed }
 
     // Over every store.
-    ensures shown { IfOk result (λ rows. (pairs : Pairs) × MayHold (λ file. F.content file) list.now (option_map (λ t. t.now) sealed.entry) active.now pairs × (rows ≡ rows_of_pairs (ask_of ask.now) pairs)) }
+    ensures shown { IfOk result (λ rows. (pairs : Pairs) × MayHold (λ file. F.content file) list.now (option_map (λ t. t.now) sealed.entry) active.now pairs × (rows ≡ map row_text (rows_of_pairs (ask_of ask.now) pairs))) }
     ensures harmed { IfErr result (λ fault. OfDamage fault (λ file at bytes. IsHarmIn (λ file. F.content file) list.now file at bytes)) }
     ensures reads { (F.Watch.counts watch.new).reads ≤ (F.Watch.counts watch.old).reads + live_keys list.now (option_map (λ t. t.now) sealed.entry) active.now }
     ensures windows { (F.Watch.counts watch.new).reads ≤ (F.Watch.counts watch.old).reads + most_windows list.now }

@@ -1,10 +1,11 @@
-use Rattle.std.proofs.Common.{◌<◌, ◌+◌, ◌∙◌, Some, None, length, get_or, refl, sym, subst, arith}
+use Rattle.std.proofs.Common.{◌<◌, ◌+◌, ◌∙◌, Some, None, length, map, get_or, refl, sym, ap, subst, arith}
 use Rattle.std.proofs.lemmas.Option.{slice_get-get_or, slice_get_within}
 use Rattle.std.proofs.lemmas.Result.{IfOk-weaker, IfErr-weaker}
 use Rattle.tc_command.specs.Commands.{ask_of}
 use Rattle.tc_list.proofs.Shown.{where_live}
 use Rattle.tc_list.specs.declared.whereabouts.Whereabouts.TheVariants.{Absent}
 use Rattle.tc_lsm_model.specs.Lists.{live}
+use Rattle.tc_request_model.specs.Rendered.{row_text}
 use Rattle.tc_query.proofs.ListedRows.{place_there, found_there, listed_row}
 use Rattle.tc_query.proofs.RowSteps.{rows_with_one, rows_of_none}
 use Rattle.tc_query.proofs.Spelled.{of_damage_then}
@@ -17,7 +18,8 @@ row_stored-requires-clause-place g c = λ κs lives.
 
 pub returns-in-Absent-clause-row : goal.returns-in-Absent-clause-row
 returns-in-Absent-clause-row g c = λ part cs is all.
-    rows_of_none (ask_of c.args.ask.now) c.args.key (live cs) (where_live part c.args.list.now cs c.args.key Absent is (c.loaded_components_show_contents.ensures.shown c.args.list.now cs all) c.in-Absent.ensures)
+    ap (map row_text) (rows_of_none (ask_of c.args.ask.now) c.args.key (live cs)
+    (where_live part c.args.list.now cs c.args.key Absent is (c.loaded_components_show_contents.ensures.shown c.args.list.now cs all) c.in-Absent.ensures))
 
 pub returns-in-Absent-clause-read : goal.returns-in-Absent-clause-read
 returns-in-Absent-clause-read g c = λ low first order a. later_reads low (c.args.key + 1) c.args.list.now c.args.cursors.now first (g.F.Watch.Watch.counts c.args.watch.now).reads (omega (arith, order)) a
@@ -87,5 +89,5 @@ returns-in-At-clause-shown g c =
         here = c.component_at-component.ensures.there;
         read = is.1;
       },
-      is.2 ∙ rows_with_one (ask_of c.args.ask.now) c.args.key is.0,
+      is.2 ∙ ap (map row_text) (rows_with_one (ask_of c.args.ask.now) c.args.key is.0),
     )) c.row_stored.ensures.document

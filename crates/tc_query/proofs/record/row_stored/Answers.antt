@@ -1,4 +1,4 @@
-use Rattle.std.proofs.Common.{◌≡◌, ◌∙◌, Err, length, inr, refl, sym, ap, subst}
+use Rattle.std.proofs.Common.{◌≡◌, ◌∙◌, Err, length, map, inr, refl, sym, ap, subst}
 use Rattle.std.specs.Prelude.{IfErr, IfSome}
 use Rattle.std.proofs.lemmas.Option.{IfSome_then}
 use Rattle.tc_command.specs.Commands.{ask_of}
@@ -7,6 +7,7 @@ use Rattle.tc_component.specs.Fetching.{record_at, IsRecordWithin}
 use Rattle.tc_component.specs.Meaning.{IsRecordOfOne}
 use Rattle.tc_request_model.specs.Paths.{reached}
 use Rattle.tc_request_model.specs.Rows.{row_of}
+use Rattle.tc_request_model.specs.Rendered.{row_text}
 use Rattle.tc_query.proofs.Spelled.{means_one}
 use Rattle.tc_query.specs.declared.fault.QueryFault.TheVariants.{Disk}
 use Rattle.tc_query.proofs.record.row_stored.Goals as goal
@@ -42,7 +43,7 @@ returns-in-Ok-clause-row g c = λ d.
     IfSome_then (g.F.Frozen.content component.file) c.in_ok-hold.ensures.read
     (λ whole read one.
     c.in-Ok.ensures.row e found.1
-    ∙ ap (λ x. row_of ask.equal_to c.args.key (reached ask.path x))
+    ∙ ap (λ x. map row_text (row_of ask.equal_to c.args.key (reached ask.path x)))
     (means_one component.index.names bytes c.known.result.named d e (λ x is. (c.known.ensures.document x is).0) (λ n is. (c.known.ensures.numbered n is).0) under
     (subst (IsRecordOfOne component.index.names d) (sym (c.record-bytes.ensures.same ∙ read)) one)))
 

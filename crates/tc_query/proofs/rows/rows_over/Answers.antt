@@ -3,6 +3,7 @@ use Rattle.std.proofs.lemmas.Result.{err_from_is_err_and}
 use Rattle.std.specs.Prelude.{IfErr, option_to_list}
 use Rattle.tc_command.specs.Commands.{ask_of}
 use Rattle.tc_command.specs.Rows.{row_of}
+use Rattle.tc_request_model.specs.Rendered.{row_text}
 use Rattle.tc_component.specs.Cursors.{CursorState}
 use Rattle.tc_query.proofs.HeldBelow.{HoldBelow, below_none, below_next, below_all}
 use Rattle.tc_query.proofs.KeyRows.{reads_more, reads_within, reads_ended, rows_more, rows_whole}
@@ -18,7 +19,7 @@ use Rattle.tc_query.proofs.rows.rows_over.Goals as goal
 pub loop-key-init : goal.loop-key-init
 loop-key-init g c = record {
   walk = c.in_ok-walk.ensures.walk;
-  rows = λ pairs h. ap (map row_of) c.new-rows.ensures.items ∙ sym (rows-start (ask_of c.args.ask.now) pairs);
+  rows = λ pairs h. ap (map row_of) c.new-rows.ensures.items ∙ sym (ap (map row_text) (rows-start (ask_of c.args.ask.now) pairs));
   held = subst (HoldBelow g.F.Frozen.content 0 c.args.list.now (option_map (λ t. t.now) c.args.sealed) c.args.active.now (ask_of c.args.ask.now))
       (sym (ap (map row_of) c.new-rows.ensures.items)) (below_none g.F.Frozen.content c.args.list.now (option_map (λ t. t.now) c.args.sealed) c.args.active.now
       (ask_of c.args.ask.now));

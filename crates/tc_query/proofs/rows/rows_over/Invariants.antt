@@ -3,6 +3,7 @@ use Rattle.std.specs.Prelude.{option_map}
 use Rattle.tc_command.specs.Commands.{ask_of}
 use Rattle.tc_command.specs.Rows.{row_of}
 use Rattle.tc_request_model.specs.Rows.{rows_over}
+use Rattle.tc_request_model.specs.Rendered.{row_text}
 use Rattle.tc_plain_model.specs.Writes.{Pairs}
 use Rattle.tc_query.proofs.HeldBelow.{HoldBelow}
 use Rattle.tc_query.specs.Rows.{below}
@@ -20,7 +21,7 @@ invariant-loop-key g l =
     let counts = g.F.Watch.Watch.counts in
     record {
       walk : IsWalk low l.list sealed l.active l.walk;
-      rows : (pairs : Pairs) → Holds (λ file. g.F.Frozen.content file) l.list sealed l.active pairs → map row_of l.rows.items ≡ rows_over (ask_of l.ask) (below low pairs);
+      rows : (pairs : Pairs) → Holds (λ file. g.F.Frozen.content file) l.list sealed l.active pairs → map row_of l.rows.items ≡ map row_text (rows_over (ask_of l.ask) (below low pairs));
       held : HoldBelow (λ file. g.F.Frozen.content file) low l.list sealed l.active (ask_of l.ask) (map row_of l.rows.items);
       reads : (counts l.watch).reads ≤ (counts l.fn.watch).reads + length (below low (shown l.list sealed l.active));
       cursors : AreCursors (λ file. g.F.Frozen.content file) l.list l.cursors.items;
