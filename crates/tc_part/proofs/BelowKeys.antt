@@ -182,7 +182,7 @@ absent (Some k) is = absurd (cc)
 pub none_held : (key : ℕ) (table : memory.Table) → is_some (value_of key table) ≡ false → held_at key table ≡ None
 none_held key table none = ap (option_map (λ k. k.held)) (absent (value_of key table) none)
 
-no_document : (o : Option Document) → Some (is_some o) ≡ Some false → o ≡ None
+no_document : {A : Type 0} (o : Option A) → Some (is_some o) ≡ Some false → o ≡ None
 no_document None is = refl
 no_document (Some d) is = absurd (cc)
 
@@ -195,20 +195,22 @@ module _ (t : Told) (p : PartView) (is : IsPart t p) (key : ℕ) where
       at None same there = absurd (cc)
       at (Some k) same there = same_Some live (is_document k.held) there ∙ is_held k.held (value_of key (stored_with p)) (keys.active_held t p is key k same)
 
-  pub active_document : (o : Option Document) → Some (is_some o) ≡ option_map is_document (held_at key t.active)
-      → ((d : Document) (bytes : List ℕ) → held_at key t.active ≡ Some (memory.live bytes) → IsRecordOf d bytes → o ≡ Some d) → ((bytes : List ℕ) → held_at key t.active ≡ Some (memory.live bytes) → IsStoredRecord bytes)
-      → o ≡ value_of key (stored_with p)
-  active_document o there spelled stored = at (value_of key t.active) refl there
+  -- what is read of the record that the active table holds is read of the document that is stored
+  pub active_read : {A : Type 0} (f : Document → A) (o : Option A) → Some (is_some o) ≡ option_map is_document (held_at key t.active)
+      → ((d : Document) (bytes : List ℕ) → held_at key t.active ≡ Some (memory.live bytes) → IsRecordOf d bytes → o ≡ Some (f d)) → ((bytes : List ℕ) → held_at key t.active ≡ Some (memory.live bytes) → IsStoredRecord bytes)
+      → o ≡ option_map f (value_of key (stored_with p))
+  active_read f o there spelled stored = at (value_of key t.active) refl there
     where
-      held : (h : memory.Held) (k : memory.Kept) → value_of key t.active ≡ Some k → k.held ≡ h → Some (is_some o) ≡ Some (is_document h) → o ≡ value_of key (stored_with p)
-      held memory.gone k same holds there = no_document o there ∙ sym (as_gone (value_of key (stored_with p)) (subst (λ h. IsHeldAs h (value_of key (stored_with p))) holds (keys.active_held t p is key k same)))
+      held : (h : memory.Held) (k : memory.Kept) → value_of key t.active ≡ Some k → k.held ≡ h → Some (is_some o) ≡ Some (is_document h) → o ≡ option_map f (value_of key (stored_with p))
+      held memory.gone k same holds there =
+          no_document o there ∙ sym (ap (option_map f) (as_gone (value_of key (stored_with p)) (subst (λ h. IsHeldAs h (value_of key (stored_with p))) holds (keys.active_held t p is key k same))))
       held (memory.live bytes) k same holds there =
           let found : held_at key t.active ≡ Some (memory.live bytes) = ap (option_map (λ k. k.held)) same ∙ ap Some holds in
           let d = as_live bytes (value_of key (stored_with p)) (subst (λ h. IsHeldAs h (value_of key (stored_with p))) holds (keys.active_held t p is key k same)) in
           let lawful = keys.active_stored t p is key k d.0 same d.1 in
-          spelled d.0 bytes found (record { document = lawful.0; is_object = keyless_object d.0 lawful.1.1; shallow = lawful.1.0; spelled = d.2; short = short bytes (stored bytes found) }) ∙ sym d.1
+          spelled d.0 bytes found (record { document = lawful.0; is_object = keyless_object d.0 lawful.1.1; shallow = lawful.1.0; spelled = d.2; short = short bytes (stored bytes found) }) ∙ sym (ap (option_map f) d.1)
 
-      at : (x : Option memory.Kept) → value_of key t.active ≡ x → Some (is_some o) ≡ option_map is_document (option_map (λ k. k.held) x) → o ≡ value_of key (stored_with p)
+      at : (x : Option memory.Kept) → value_of key t.active ≡ x → Some (is_some o) ≡ option_map is_document (option_map (λ k. k.held) x) → o ≡ option_map f (value_of key (stored_with p))
       at None same there = absurd (cc)
       at (Some k) same there = held k.held k same refl there
 

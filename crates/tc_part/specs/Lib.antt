@@ -5,6 +5,7 @@ pub mod FilesOut
 pub mod Below
 pub mod Harms
 pub mod Reads
+pub mod Texts
 pub mod Stages
 pub mod Closing
 pub mod Openings

@@ -1,9 +1,10 @@
 //! The rows of a query.
 
 ghost use Rattle.std.specs.Arc.{arc_value};
-ghost use Rattle.std.specs.Prelude.{◌≡◌, ◌≤◌, ◌+◌, false, true, None, option_map, IfErr, IfOk, OnErr, OnOk, IsErrOf};
+ghost use Rattle.std.specs.Prelude.{◌≡◌, ◌≤◌, ◌+◌, false, true, None, map, option_map, IfErr, IfOk, OnErr, OnOk, IsErrOf};
 ghost use Rattle.tc_command.specs.Commands.{ask_of};
 ghost use Rattle.tc_request_model.specs.Rows.{rows_over as rows_of_pairs};
+ghost use Rattle.tc_request_model.specs.Rendered.{row_text};
 ghost use Rattle.tc_plain_model.specs.Writes.{Pairs};
 ghost use Rattle.tc_part_model.specs.PartState.{told, AreTold};
 ghost use Rattle.tc_part_model.specs.PartView.{PartView, stored_with};
@@ -32,7 +33,7 @@ impl<S: Store> Part<S> {
 
         // Where the files are told, the rows are those of the plain store, and none of the files is found damaged.
         ensures rows { (p : PartView) → IsPart (told S.history S.Device.history S.Frozen.content self.old) p → AreTold (told S.history S.Device.history S.Frozen.content self.old).components
-            → IfOk result (λ rows. rows ≡ rows_of_pairs (ask_of ask.now) (stored_with p)) }
+            → IfOk result (λ rows. rows ≡ map row_text (rows_of_pairs (ask_of ask.now) (stored_with p))) }
         ensures undamaged { (p : PartView) → IsPart (told S.history S.Device.history S.Frozen.content self.old) p → AreTold (told S.history S.Device.history S.Frozen.content self.old).components
             → IfErr result IsUndamaged }
         ensures same { OnOk result (self.new ≡ record self.old { main = self.new.main }) }
@@ -43,7 +44,7 @@ impl<S: Store> Part<S> {
         ensures left { OnErr result (self.new ≡ record self.old { main = self.new.main; failed = true }) }
 
         // Whatever they tell, the newest entry of a key decides: by the record that a table keeps, or by one that was read.
-        ensures shown { IfOk result (λ rows. (pairs : Pairs) × MayHold (λ file. S.Frozen.content file) self.old.list self.old.sealed self.old.active pairs × (rows ≡ rows_of_pairs (ask_of ask.now) pairs)) }
+        ensures shown { IfOk result (λ rows. (pairs : Pairs) × MayHold (λ file. S.Frozen.content file) self.old.list self.old.sealed self.old.active pairs × (rows ≡ map row_text (rows_of_pairs (ask_of ask.now) pairs))) }
 
         ensures harmed { IfErr result (λ fault. IsOfRead fault (λ file at bytes. IsHarmIn (λ file. S.Frozen.content file) self.old.list file at bytes)) }
 
@@ -67,11 +68,11 @@ impl<S: Store> Part<S> {
     /// The rows that an ask gets of what is stored. Where this errs the part has not failed yet.
     fn rows_stored(&mut self, alloc: Global, ask: &Ask) -> Result<Rows, PartFault>
         ensures rows { (p : PartView) → IsPart (told S.history S.Device.history S.Frozen.content self.old) p → AreTold (told S.history S.Device.history S.Frozen.content self.old).components
-            → IfOk result (λ rows. rows ≡ rows_of_pairs (ask_of ask.now) (stored_with p)) }
+            → IfOk result (λ rows. rows ≡ map row_text (rows_of_pairs (ask_of ask.now) (stored_with p))) }
         ensures undamaged { (p : PartView) → IsPart (told S.history S.Device.history S.Frozen.content self.old) p → AreTold (told S.history S.Device.history S.Frozen.content self.old).components
             → IfErr result IsUndamaged }
         ensures same { self.new ≡ record self.old { main = self.new.main } }
-        ensures shown { IfOk result (λ rows. (pairs : Pairs) × MayHold (λ file. S.Frozen.content file) self.old.list self.old.sealed self.old.active pairs × (rows ≡ rows_of_pairs (ask_of ask.now) pairs)) }
+        ensures shown { IfOk result (λ rows. (pairs : Pairs) × MayHold (λ file. S.Frozen.content file) self.old.list self.old.sealed self.old.active pairs × (rows ≡ map row_text (rows_of_pairs (ask_of ask.now) pairs))) }
         ensures harmed { IfErr result (λ fault. IsOfRead fault (λ file at bytes. IsHarmIn (λ file. S.Frozen.content file) self.old.list file at bytes)) }
         ensures reads { (S.Watch.counts self.new.main).reads ≤ (S.Watch.counts self.old.main).reads + live_keys self.old.list self.old.sealed self.old.active }
         ensures windows { (S.Watch.counts self.new.main).reads ≤ (S.Watch.counts self.old.main).reads + most_windows self.old.list }

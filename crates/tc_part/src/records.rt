@@ -3,8 +3,8 @@
 ghost use Rattle.std.specs.Prelude.{◌≡◌, ◌<◌, ◌⊎◌, List, Some, length, slice_get, IfOk, IfErr, IfSome, IsErrOf};
 ghost use Rattle.std.specs.Result.{IsOk};
 ghost use Rattle.tc_model.specs.Document.{Document, document_shape};
-ghost use Rattle.tc_value.specs.Meaning.{tree_of};
 ghost use Rattle.tc_value.specs.ShapeMeaning.{shape_tree};
+ghost use Rattle.tc_request_model.specs.Rendered.{document_text};
 ghost use Rattle.tc_compact.specs.Meant.{IsRecordUnder};
 ghost use Rattle.tc_store.specs.Counted.{IsCountedOnce};
 ghost use Rattle.tc_component.specs.Fetching.{IsPlace, record_at as bytes_of_record, length_at, IsRecordWithin};
@@ -15,12 +15,13 @@ ghost use Rattle.tc_part.specs.Harms.{IsHarmOf, IsOfRead};
 use crate::fault::{PartFault, of_read, of_record};
 use std::alloc::Global;
 use tc_bytes::Bytes;
-use tc_compact::{document_of, shape_of};
+use tc_compact::shape_of;
 use tc_component::{Component, Place};
 use tc_list::ComponentList;
 use tc_record::{RecordFault, RecordRef};
+use tc_record_text::text_of_document;
 use tc_store::{FileName, Frozen};
-use tc_value::{Doc, Shape};
+use tc_value::Shape;
 
 /// The component at a position of the list.
 pub(crate) fn component_at<F: Frozen>(list: &ComponentList<F>, at: usize) -> &Component<F>
@@ -50,21 +51,28 @@ pub fn shape_at<F: Frozen>(
     }
 }
 
-/// The document at a place of a component, by one read.
-pub(crate) fn document_at<F: Frozen>(
+/// The text of the document at a place of a component, with its member `id`, by one read.
+pub(crate) fn text_at<F: Frozen>(
     alloc: Global,
     component: &Component<F>,
     place: Place,
+    key: u64,
     watch: &mut F::Watch,
-) -> Result<Doc, PartFault>
+) -> Result<Bytes, PartFault>
     requires { IsPlace component.now.index.slots place }
-    ensures document { IfOk result (λ doc. (d : Document) → IfSome (F.content component.now.file) (λ whole. IsRecordOfOne component.now.index.names d (bytes_of_record component.now.index.slots place.at whole) → tree_of doc ≡ d)) }
+    ensures text { IfOk result (λ text. (d : Document) → IfSome (F.content component.now.file) (λ whole. IsRecordOfOne component.now.index.names d (bytes_of_record component.now.index.slots place.at whole) → text ≡ document_text key d)) }
+    ensures document { IfOk result (λ text. (d : Document) × (text ≡ document_text key d)) }
     ensures harmed { IfErr result (λ fault. IsOfRead fault (λ file at bytes. IsHarmOf (λ file. F.content file) component.now file at bytes)) }
     ensures counted { IsCountedOnce (IsErrOf result PartFault.Disk) (IsOk result) (F.Watch.counts watch.old) (F.Watch.counts watch.new) }
 {
     let bytes = record_at(alloc, component, place, watch)?;
-    match document_of(alloc, RecordRef::known(bytes.as_slice()), component.names()) {
-        Ok(doc) => Ok(doc),
+    match text_of_document(
+        alloc,
+        key,
+        RecordRef::known(bytes.as_slice()),
+        component.names(),
+    ) {
+        Ok(text) => Ok(text),
         Err(fault) => Err(no_document(component, place, bytes, fault)),
     }
 }

@@ -1,7 +1,8 @@
-use Rattle.std.proofs.Common.{◌≡◌, subst, sym}
+use Rattle.std.proofs.Common.{◌≡◌, map, subst, sym}
 use Rattle.tc_command.specs.Commands.{ask_of}
 use Rattle.tc_part_model.specs.PartState.{told}
 use Rattle.tc_part_model.specs.PartView.{stored_with}
+use Rattle.tc_request_model.specs.Rendered.{row_text}
 use Rattle.tc_request_model.specs.Rows.{rows_over}
 use Rattle.tc_plain_model.specs.Writes.{Pairs}
 use Rattle.tc_query.specs.Shown.{MayHold}
@@ -47,7 +48,7 @@ returns-clause-shown g c =
     (elim c.match-rows_over.branch [
       | in-Ok w ↦
           rw w.result-is
-          (subst (λ sealed. (pairs : Pairs) × MayHold content list sealed c.self.inside.active pairs × (w.in-Ok.rows ≡ rows_over (ask_of c.args.ask.now) pairs)) c.table_of-sealed.ensures w.in-Ok.ensures.shown)
+          (subst (λ sealed. (pairs : Pairs) × MayHold content list sealed c.self.inside.active pairs × (w.in-Ok.rows ≡ map row_text (rows_over (ask_of c.args.ask.now) pairs))) c.table_of-sealed.ensures w.in-Ok.ensures.shown)
       | in-Err w ↦ rw w.result-is tt
     ])
 

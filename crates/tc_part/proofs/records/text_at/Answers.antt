@@ -1,0 +1,23 @@
+use Rattle.std.proofs.Common.{◌∙◌, sym, ap, subst}
+use Rattle.tc_request_model.specs.Rendered.{document_text}
+use Rattle.tc_component.specs.Meaning.{IsRecordOfOne}
+use Rattle.tc_compact.specs.Meant.{IsRecordUnder}
+use Rattle.tc_part.proofs.Spelled.{one_under, if_some_then}
+use Rattle.tc_part.proofs.records.text_at.Goals as goal
+
+pub returns-in-Ok-clause-text : goal.returns-in-Ok-clause-text
+returns-in-Ok-clause-text g c = λ d.
+    let component = c.args.component.now in
+    let bytes = c.as_slice.result.now in
+    let found = c.in-Ok.ensures.document in
+    let e = found.0 in
+    let under = subst (IsRecordUnder component.index.names e) c.known.ensures.bytes (subst (λ names. IsRecordUnder names e c.known.result.bytes) c.names.ensures found.1) in
+    if_some_then (g.F.Frozen.content component.file) _ _
+    (λ whole read one.
+    c.in-Ok.ensures.text e found.1
+    ∙ ap (document_text c.args.key) (one_under component.index.names d e bytes c.known.result.named (λ x is. (c.known.ensures.document x is).0) (λ n is. (c.known.ensures.numbered n is).0)
+    (subst (IsRecordOfOne component.index.names d) (sym (c.as_slice.ensures.same ∙ read)) one) under))
+    c.in_ok-bytes.ensures.read
+
+pub returns-in-Ok-clause-document : goal.returns-in-Ok-clause-document
+returns-in-Ok-clause-document g c = let found = c.in-Ok.ensures.document in (found.0, c.in-Ok.ensures.text found.0 found.1)
