@@ -6,3 +6,4 @@ mod GatheredWindows
 mod KindsGathered
 mod PartsGiven
 mod RepliesPut
+mod RenderedGathered

@@ -2,9 +2,9 @@
 
 ghost use Rattle.std.specs.Prelude.{◌≡◌, IfOk, OnOk, fold, map, option_map};
 ghost use Rattle.tc_model.specs.Keyed.{Ascends, on_value};
-ghost use Rattle.tc_command.specs.Replies.{reply_of};
-ghost use Rattle.tc_route.specs.Gathered.{gathered, with_reply, beside, joined};
-ghost use Rattle.tc_route.specs.Meaning.{placed_of, replies_in};
+ghost use Rattle.tc_command.specs.Replies.{rendered_of};
+ghost use Rattle.tc_route.specs.Gathered.{gathered_rendered, with_rendered, beside_rendered, joined_rendered};
+ghost use Rattle.tc_route.specs.Meaning.{placed_of, rendered_in};
 
 use crate::placed::{Placed, Replies};
 use crate::rows::joined_rows;
@@ -16,7 +16,7 @@ use tc_command::Reply;
 /// The replies of all parts in ascending place. Where several parts have rows at one place, these are one reply, with the
 /// rows in ascending id; of other replies at one place the first part's stays. Errs only for want of memory.
 pub fn gather(alloc: Global, parts: Vec<Replies>) -> Result<Replies, Memory>
-    ensures { IfOk result (λ replies. replies_in replies ≡ gathered (map replies_in parts.items)) }
+    ensures { IfOk result (λ replies. rendered_in replies ≡ gathered_rendered (map rendered_in parts.items)) }
 {
     let mut all = BTreeMap::new(alloc);
     for part in parts {
@@ -31,8 +31,8 @@ pub fn gather(alloc: Global, parts: Vec<Replies>) -> Result<Replies, Memory>
 
 // Puts the replies of a part to those of the parts before it.
 fn take_in(alloc: Global, part: Vec<Placed>, all: &mut BTreeMap<u32, Reply>) -> Result<(), Memory>
-    requires { Ascends (map (on_value reply_of) all.old.entries) }
-    ensures { OnOk result (map (on_value reply_of) all.new.entries ≡ fold with_reply (map (on_value reply_of) all.old.entries) (map placed_of part.items)) }
+    requires { Ascends (map (on_value rendered_of) all.old.entries) }
+    ensures { OnOk result (map (on_value rendered_of) all.new.entries ≡ fold with_rendered (map (on_value rendered_of) all.old.entries) (map placed_of part.items)) }
 {
     for placed in part {
         put(alloc, placed, all)?;
@@ -41,8 +41,8 @@ fn take_in(alloc: Global, part: Vec<Placed>, all: &mut BTreeMap<u32, Reply>) -> 
 }
 
 fn put(alloc: Global, placed: Placed, all: &mut BTreeMap<u32, Reply>) -> Result<(), Memory>
-    requires { Ascends (map (on_value reply_of) all.old.entries) }
-    ensures { OnOk result (map (on_value reply_of) all.new.entries ≡ with_reply (map (on_value reply_of) all.old.entries) (placed_of placed)) }
+    requires { Ascends (map (on_value rendered_of) all.old.entries) }
+    ensures { OnOk result (map (on_value rendered_of) all.new.entries ≡ with_rendered (map (on_value rendered_of) all.old.entries) (placed_of placed)) }
 {
     let first = all.remove(&placed.at);
     let reply = beside(alloc, first, placed.reply)?;
@@ -52,7 +52,7 @@ fn put(alloc: Global, placed: Placed, all: &mut BTreeMap<u32, Reply>) -> Result<
 
 // A reply beside the one of an earlier part, if there is one.
 fn beside(alloc: Global, first: Option<Reply>, reply: Reply) -> Result<Reply, Memory>
-    ensures { IfOk result (λ put. reply_of put ≡ beside (option_map reply_of first) (reply_of reply)) }
+    ensures { IfOk result (λ put. rendered_of put ≡ beside_rendered (option_map rendered_of first) (rendered_of reply)) }
 {
     match first {
         Some(first) => join(alloc, first, reply),
@@ -62,7 +62,7 @@ fn beside(alloc: Global, first: Option<Reply>, reply: Reply) -> Result<Reply, Me
 
 // Two replies to one command, of two parts.
 fn join(alloc: Global, first: Reply, more: Reply) -> Result<Reply, Memory>
-    ensures { IfOk result (λ reply. reply_of reply ≡ joined (reply_of first) (reply_of more)) }
+    ensures { IfOk result (λ reply. rendered_of reply ≡ joined_rendered (rendered_of first) (rendered_of more)) }
 {
     match first {
         Reply::Rows(rows) => match more {

@@ -8,6 +8,6 @@ mod rows;
 mod splitting;
 
 pub use gathering::gather;
-pub use laws::{kinds_are_gathered, replies_are_gathered};
+pub use laws::{kinds_are_gathered, rendered_are_gathered, replies_are_gathered};
 pub use placed::{Placed, Replies, Routed};
 pub use splitting::split;

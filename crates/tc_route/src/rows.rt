@@ -3,7 +3,7 @@
 ghost use Rattle.std.specs.Prelude.{◌≡◌, ◌++◌, IfOk, OnOk, fold, map};
 ghost use Rattle.tc_model.specs.Keyed.{on_value};
 ghost use Rattle.tc_command.specs.Rows.{row_of};
-ghost use Rattle.tc_route.specs.Gathered.{in_order, with_row};
+ghost use Rattle.tc_route.specs.Gathered.{texts_in_order, with_text};
 
 use std::alloc::Global;
 use std::collections::BTreeMap;
@@ -12,7 +12,7 @@ use tc_command::{Row, Rows};
 
 /// The rows of two lists in ascending id.
 pub(crate) fn joined_rows(alloc: Global, first: Rows, more: Rows) -> Result<Rows, Memory>
-    ensures { IfOk result (λ rows. rows ≡ in_order (first ++ more)) }
+    ensures { IfOk result (λ rows. rows ≡ texts_in_order (first ++ more)) }
 {
     let mut all = BTreeMap::new(alloc);
     put_rows(first.into_inner(), &mut all)?;
@@ -25,7 +25,7 @@ pub(crate) fn joined_rows(alloc: Global, first: Rows, more: Rows) -> Result<Rows
 }
 
 fn put_rows(rows: Vec<Row>, all: &mut BTreeMap<u64, Row>) -> Result<(), Memory>
-    ensures { OnOk result (map (on_value row_of) all.new.entries ≡ fold with_row (map (on_value row_of) all.old.entries) (map row_of rows.items)) }
+    ensures { OnOk result (map (on_value row_of) all.new.entries ≡ fold with_text (map (on_value row_of) all.old.entries) (map row_of rows.items)) }
 {
     for row in rows {
         drop(all.insert(row.id, row)?);

@@ -3,6 +3,7 @@ use Rattle.std.specs.Prelude.{◌≡◌, ◌⊎◌, ℕ, Bool, List, [], ◌∷�
 use Rattle.serde_json.specs.Data.{Data}
 use Rattle.tc_model.specs.Document.{Document}
 use Rattle.tc_request_model.specs.Request.{Request, upsert, delete, get, query, flush, schema, scan, collect, refused, names_full, full, busy, no_scan}
+use Rattle.tc_request_model.specs.Rendered.{Rendered, rendered}
 use Rattle.tc_request_model.specs.Reply.{Reply, Row, upserted, deleted, got, rows, flushed, schemas, started, collected, turned_down}
 
 -- An upsert may be refused for its names or for want of room. A refused line has its refusal.
@@ -23,3 +24,14 @@ AreOfKinds [] [] = Unit {0}
 AreOfKinds [] (a ∷ more) = ⊥
 AreOfKinds (r ∷ rs) [] = ⊥
 AreOfKinds (r ∷ rs) (a ∷ more) = IsOfKind r a × AreOfKinds rs more
+
+-- ---- what such replies render
+
+abbrev pub IsRenderedOfKind : Request → Rendered → Type 0
+IsRenderedOfKind r text = (a : Reply) × IsOfKind r a × (text ≡ rendered a)
+
+abbrev pub AreRenderedOfKinds : List Request → List Rendered → Type 0
+AreRenderedOfKinds [] [] = Unit {0}
+AreRenderedOfKinds [] (text ∷ more) = ⊥
+AreRenderedOfKinds (r ∷ rs) [] = ⊥
+AreRenderedOfKinds (r ∷ rs) (text ∷ more) = IsRenderedOfKind r text × AreRenderedOfKinds rs more

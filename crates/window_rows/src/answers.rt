@@ -2,9 +2,9 @@
 
 use std::alloc::Global;
 use std::str;
-use tc_command::{Command, Reply, Row, Rows, reply_text};
+use tc_bytes::Bytes;
+use tc_command::{Command, Reply, Row, Rows, put_line};
 use tc_route::{Placed, Replies, Routed, gather, split};
-use tc_value::Items;
 
 /// The places that each partition gets, a line each, and then the line of each reply.
 pub(crate) fn answers(alloc: Global, window: Vec<Routed>, partitions: u32) -> Option<String> {
@@ -39,10 +39,11 @@ fn put_places(alloc: Global, number: u64, share: &[Routed], out: &mut String) ->
 fn put_replies(alloc: Global, replies: &Replies, out: &mut String) -> Option<()> {
     for placed in replies.as_slice() {
         let at = placed.at;
-        let text = reply_text(alloc, &placed.reply).ok()?;
+        let mut text = Vec::new(alloc);
+        put_line(alloc, &placed.reply, &mut text).ok()?;
         out.push_str(format!(in alloc; "{at} ").ok()?.as_str())
             .ok()?;
-        out.push_str(str::from_utf8(text.as_slice()).ok()?).ok()?;
+        out.push_str(str::from_utf8(&text).ok()?).ok()?;
     }
     Some(())
 }
@@ -62,7 +63,7 @@ fn replies(alloc: Global, share: &[Routed], number: u64, count: u64) -> Option<R
             },
             Command::Get { key } => Reply::Got {
                 id: *key,
-                doc: None,
+                text: None,
             },
             _query => Reply::Rows(rows(alloc, number, number.checked_add(count)?)?),
         };
@@ -78,15 +79,13 @@ fn replies(alloc: Global, share: &[Routed], number: u64, count: u64) -> Option<R
 
 fn rows(alloc: Global, first: u64, second: u64) -> Option<Rows> {
     let mut rows = Vec::new(alloc);
-    rows.push(Row {
-        id: first,
-        values: Items::of(Vec::new(alloc)),
-    })
-    .ok()?;
-    rows.push(Row {
-        id: second,
-        values: Items::of(Vec::new(alloc)),
-    })
-    .ok()?;
+    rows.push(row(alloc, first)?).ok()?;
+    rows.push(row(alloc, second)?).ok()?;
     Some(Rows::of(rows))
+}
+
+fn row(alloc: Global, id: u64) -> Option<Row> {
+    let text = format!(in alloc; "{{\"id\":{id},\"values\":[]}}").ok()?;
+    let text = Bytes::of(Vec::from_slice(alloc, text.as_str().as_bytes()).ok()?);
+    Some(Row { id, text })
 }
