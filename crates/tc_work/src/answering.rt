@@ -4,8 +4,9 @@ ghost use Rattle.std.specs.Prelude.{◌≡◌, ◌≤◌, ◌+◌, false, IfErr,
 ghost use Rattle.tc_request_model.specs.Request.{upsert, delete, get, query};
 ghost use Rattle.tc_value.specs.Meaning.{tree_of};
 ghost use Rattle.tc_command.specs.Commands.{ask_of, request_of_command};
-ghost use Rattle.tc_command.specs.Replies.{reply_of};
-ghost use Rattle.tc_run_model.specs.Kinds.{IsOfKind};
+ghost use Rattle.tc_command.specs.Replies.{rendered_of};
+ghost use Rattle.tc_request_model.specs.Rendered.{rendered};
+ghost use Rattle.tc_run_model.specs.Kinds.{IsRenderedOfKind};
 ghost use Rattle.tc_request_model.specs.Part.{part_left, part_reply, part_writes};
 ghost use Rattle.tc_part_model.specs.Meaning.{IsPart, plain_of};
 ghost use Rattle.tc_part_model.specs.PartState.{told, AreTold};
@@ -40,8 +41,8 @@ pub(crate) fn answer<S: Store>(
     ensures staged { (p : PartView) → IsPart (told S.history S.Device.history S.Frozen.content part.old) p
         → OnOk result (IsStagedAs (part_writes part.old.limits (request_of_command command.now) (plain_of (told S.history S.Device.history S.Frozen.content part.old) p)) (part_left part.old.limits (request_of_command command.now) (plain_of (told S.history S.Device.history S.Frozen.content part.old) p)) p (told S.history S.Device.history S.Frozen.content part.new)) }
     ensures reply { (p : PartView) → IsPart (told S.history S.Device.history S.Frozen.content part.old) p → AreTold (told S.history S.Device.history S.Frozen.content part.old).components
-        → IfOk result (λ reply. reply_of reply ≡ part_reply part.old.limits (request_of_command command.now) (plain_of (told S.history S.Device.history S.Frozen.content part.old) p)) }
-    ensures kind { IfOk result (λ reply. IsOfKind (request_of_command command.now) (reply_of reply)) }
+        → IfOk result (λ reply. rendered_of reply ≡ rendered (part_reply part.old.limits (request_of_command command.now) (plain_of (told S.history S.Device.history S.Frozen.content part.old) p))) }
+    ensures kind { IfOk result (λ reply. IsRenderedOfKind (request_of_command command.now) (rendered_of reply)) }
     ensures grown { OnOk result (HasGrown (request_of_command command.now) part.old.staged part.new.staged) }
     ensures same { HasOnlyStaged part.old part.new }
     ensures sound { OnOk result (part.new.failed ≡ false) }
@@ -71,8 +72,8 @@ fn upsert<S: Store>(
     ensures staged { (p : PartView) → IsPart (told S.history S.Device.history S.Frozen.content part.old) p
         → OnOk result (IsStagedAs (part_writes part.old.limits (upsert key (tree_of doc.now)) (plain_of (told S.history S.Device.history S.Frozen.content part.old) p)) (part_left part.old.limits (upsert key (tree_of doc.now)) (plain_of (told S.history S.Device.history S.Frozen.content part.old) p)) p (told S.history S.Device.history S.Frozen.content part.new)) }
     ensures reply { (p : PartView) → IsPart (told S.history S.Device.history S.Frozen.content part.old) p → AreTold (told S.history S.Device.history S.Frozen.content part.old).components
-        → IfOk result (λ reply. reply_of reply ≡ part_reply part.old.limits (upsert key (tree_of doc.now)) (plain_of (told S.history S.Device.history S.Frozen.content part.old) p)) }
-    ensures kind { IfOk result (λ reply. IsOfKind (upsert key (tree_of doc.now)) (reply_of reply)) }
+        → IfOk result (λ reply. rendered_of reply ≡ rendered (part_reply part.old.limits (upsert key (tree_of doc.now)) (plain_of (told S.history S.Device.history S.Frozen.content part.old) p))) }
+    ensures kind { IfOk result (λ reply. IsRenderedOfKind (upsert key (tree_of doc.now)) (rendered_of reply)) }
     ensures grown { OnOk result (HasGrown (upsert key (tree_of doc.now)) part.old.staged part.new.staged) }
     ensures same { HasOnlyStaged part.old part.new }
     ensures sound { OnOk result (part.new.failed ≡ false) }
@@ -91,7 +92,7 @@ fn upsert<S: Store>(
 
 /// The reply to the upsert of a key.
 fn upserted(key: u64, staged: Staged) -> Reply
-    ensures { reply_of result ≡ reply_to_upsert key staged }
+    ensures { rendered_of result ≡ rendered (reply_to_upsert key staged) }
 {
     match staged {
         Staged::Done { was_live } => Reply::Upserted {
@@ -110,8 +111,8 @@ fn delete<S: Store>(alloc: Global, part: &mut Part<S>, key: u64) -> Result<Reply
     ensures staged { (p : PartView) → IsPart (told S.history S.Device.history S.Frozen.content part.old) p
         → OnOk result (IsStagedAs (part_writes part.old.limits (delete key) (plain_of (told S.history S.Device.history S.Frozen.content part.old) p)) (part_left part.old.limits (delete key) (plain_of (told S.history S.Device.history S.Frozen.content part.old) p)) p (told S.history S.Device.history S.Frozen.content part.new)) }
     ensures reply { (p : PartView) → IsPart (told S.history S.Device.history S.Frozen.content part.old) p → AreTold (told S.history S.Device.history S.Frozen.content part.old).components
-        → IfOk result (λ reply. reply_of reply ≡ part_reply part.old.limits (delete key) (plain_of (told S.history S.Device.history S.Frozen.content part.old) p)) }
-    ensures kind { IfOk result (λ reply. IsOfKind (delete key) (reply_of reply)) }
+        → IfOk result (λ reply. rendered_of reply ≡ rendered (part_reply part.old.limits (delete key) (plain_of (told S.history S.Device.history S.Frozen.content part.old) p))) }
+    ensures kind { IfOk result (λ reply. IsRenderedOfKind (delete key) (rendered_of reply)) }
     ensures grown { OnOk result (HasGrown (delete key) part.old.staged part.new.staged) }
     ensures same { HasOnlyStaged part.old part.new }
     ensures sound { OnOk result (part.new.failed ≡ false) }
@@ -127,7 +128,7 @@ fn delete<S: Store>(alloc: Global, part: &mut Part<S>, key: u64) -> Result<Reply
 
 /// The reply to the delete of a key. A delete is never refused.
 fn deleted(key: u64, staged: Staged) -> Reply
-    ensures { reply_of result ≡ reply_to_delete key staged }
+    ensures { rendered_of result ≡ rendered (reply_to_delete key staged) }
 {
     match staged {
         Staged::Done { was_live } => Reply::Deleted {
@@ -148,8 +149,8 @@ fn get<S: Store>(alloc: Global, part: &mut Part<S>, key: u64) -> Result<Reply, E
     ensures staged { (p : PartView) → IsPart (told S.history S.Device.history S.Frozen.content part.old) p
         → OnOk result (IsStagedAs (part_writes part.old.limits (get key) (plain_of (told S.history S.Device.history S.Frozen.content part.old) p)) (part_left part.old.limits (get key) (plain_of (told S.history S.Device.history S.Frozen.content part.old) p)) p (told S.history S.Device.history S.Frozen.content part.new)) }
     ensures reply { (p : PartView) → IsPart (told S.history S.Device.history S.Frozen.content part.old) p → AreTold (told S.history S.Device.history S.Frozen.content part.old).components
-        → IfOk result (λ reply. reply_of reply ≡ part_reply part.old.limits (get key) (plain_of (told S.history S.Device.history S.Frozen.content part.old) p)) }
-    ensures kind { IfOk result (λ reply. IsOfKind (get key) (reply_of reply)) }
+        → IfOk result (λ reply. rendered_of reply ≡ rendered (part_reply part.old.limits (get key) (plain_of (told S.history S.Device.history S.Frozen.content part.old) p))) }
+    ensures kind { IfOk result (λ reply. IsRenderedOfKind (get key) (rendered_of reply)) }
     ensures grown { OnOk result (HasGrown (get key) part.old.staged part.new.staged) }
     ensures same { HasOnlyStaged part.old part.new }
     ensures sound { OnOk result (part.new.failed ≡ false) }
@@ -158,8 +159,8 @@ fn get<S: Store>(alloc: Global, part: &mut Part<S>, key: u64) -> Result<Reply, E
     ensures live { OnOk result (live_in part.new ≤ live_in part.old + writes_for (get key)) }
     ensures counted { IsCountedWithin (reads_for (live_in part.old) (get key)) (IsErrOf result EngineFault.Disk) (S.Watch.counts part.old.main) (S.Watch.counts part.new.main) }
 {
-    let doc = part.lookup(alloc, key)?;
-    Ok(Reply::Got { id: key, doc })
+    let text = part.lookup(alloc, key)?;
+    Ok(Reply::Got { id: key, text })
 }
 
 fn query<S: Store>(alloc: Global, part: &mut Part<S>, ask: &Ask) -> Result<Reply, EngineFault>
@@ -169,8 +170,8 @@ fn query<S: Store>(alloc: Global, part: &mut Part<S>, ask: &Ask) -> Result<Reply
     ensures staged { (p : PartView) → IsPart (told S.history S.Device.history S.Frozen.content part.old) p
         → OnOk result (IsStagedAs (part_writes part.old.limits (query (ask_of ask.now)) (plain_of (told S.history S.Device.history S.Frozen.content part.old) p)) (part_left part.old.limits (query (ask_of ask.now)) (plain_of (told S.history S.Device.history S.Frozen.content part.old) p)) p (told S.history S.Device.history S.Frozen.content part.new)) }
     ensures reply { (p : PartView) → IsPart (told S.history S.Device.history S.Frozen.content part.old) p → AreTold (told S.history S.Device.history S.Frozen.content part.old).components
-        → IfOk result (λ reply. reply_of reply ≡ part_reply part.old.limits (query (ask_of ask.now)) (plain_of (told S.history S.Device.history S.Frozen.content part.old) p)) }
-    ensures kind { IfOk result (λ reply. IsOfKind (query (ask_of ask.now)) (reply_of reply)) }
+        → IfOk result (λ reply. rendered_of reply ≡ rendered (part_reply part.old.limits (query (ask_of ask.now)) (plain_of (told S.history S.Device.history S.Frozen.content part.old) p))) }
+    ensures kind { IfOk result (λ reply. IsRenderedOfKind (query (ask_of ask.now)) (rendered_of reply)) }
     ensures grown { OnOk result (HasGrown (query (ask_of ask.now)) part.old.staged part.new.staged) }
     ensures same { HasOnlyStaged part.old part.new }
     ensures sound { OnOk result (part.new.failed ≡ false) }

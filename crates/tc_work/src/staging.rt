@@ -1,15 +1,16 @@
 //! The commands of a window, one after the other: their writes are staged, and their replies put together.
 
 ghost use Rattle.std.specs.Prelude.{◌≡◌, [], false, map, IfErr, IfOk, OnOk, IsErrOf};
-ghost use Rattle.tc_model.specs.Keyed.{values_in};
-ghost use Rattle.tc_run_model.specs.Kinds.{AreOfKinds};
+ghost use Rattle.tc_model.specs.Keyed.{values_in, on_value};
+ghost use Rattle.tc_request_model.specs.Rendered.{rendered};
+ghost use Rattle.tc_run_model.specs.Kinds.{AreRenderedOfKinds};
 ghost use Rattle.tc_request_model.specs.Part.{part_left_all, part_writes_all};
 ghost use Rattle.tc_part_model.specs.Meaning.{IsPart, plain_of};
 ghost use Rattle.tc_part_model.specs.PartState.{told, AreTold};
 ghost use Rattle.tc_part_model.specs.PartView.{PartView};
 ghost use Rattle.tc_part.specs.Harms.{IsHarmIn};
 ghost use Rattle.tc_route.specs.Answers.{answered};
-ghost use Rattle.tc_route.specs.Meaning.{replies_in, routed_of};
+ghost use Rattle.tc_route.specs.Meaning.{rendered_in, routed_of};
 ghost use Rattle.tc_work.specs.Asked.{most_bytes, most_writes, requests_in, IsWindow};
 ghost use Rattle.tc_work.specs.Faults.{IfDamage};
 ghost use Rattle.tc_work.specs.Frames.{AreWithin};
@@ -39,9 +40,9 @@ pub(crate) fn answer_all<S: Store, P: Pace>(
     ensures staged { (p : PartView) → IsPart (told S.history S.Device.history S.Frozen.content part.old) p
         → OnOk result (IsStagedAs (part_writes_all part.old.limits (requests_in list.now) (plain_of (told S.history S.Device.history S.Frozen.content part.old) p)) (part_left_all part.old.limits (requests_in list.now) (plain_of (told S.history S.Device.history S.Frozen.content part.old) p)) p (told S.history S.Device.history S.Frozen.content part.new)) }
     ensures replies { (p : PartView) → IsPart (told S.history S.Device.history S.Frozen.content part.old) p → AreTold (told S.history S.Device.history S.Frozen.content part.old).components
-        → IfOk result (λ replies. replies_in replies ≡ answered part.old.limits (map routed_of list.now) (plain_of (told S.history S.Device.history S.Frozen.content part.old) p)) }
+        → IfOk result (λ replies. rendered_in replies ≡ map (on_value rendered) (answered part.old.limits (map routed_of list.now) (plain_of (told S.history S.Device.history S.Frozen.content part.old) p))) }
     ensures places { IfOk result (λ replies. map (λ a. a.at) replies ≡ map (λ r. r.at) list.now) }
-    ensures kinds { IfOk result (λ replies. AreOfKinds (requests_in list.now) (values_in (replies_in replies))) }
+    ensures kinds { IfOk result (λ replies. AreRenderedOfKinds (requests_in list.now) (values_in (rendered_in replies))) }
     ensures grown { OnOk result (AreWithin (most_writes (requests_in list.now)) (most_bytes (requests_in list.now)) part.new.staged []) }
     ensures same { HasOnlyStaged part.old part.new }
     ensures sound { OnOk result (part.new.failed ≡ false) }

@@ -1,8 +1,9 @@
 //! A window: what its commands write is made one frame.
 
 ghost use Rattle.std.specs.Prelude.{◌≡◌, ◌≤◌, ◌+◌, ◌^◌, [], false, true, length, map, All, IfErr, IfOk, OnErr, OnOk, IsErrOf};
-ghost use Rattle.tc_model.specs.Keyed.{values_in};
-ghost use Rattle.tc_run_model.specs.Kinds.{AreOfKinds};
+ghost use Rattle.tc_model.specs.Keyed.{values_in, on_value};
+ghost use Rattle.tc_request_model.specs.Rendered.{rendered};
+ghost use Rattle.tc_run_model.specs.Kinds.{AreRenderedOfKinds};
 ghost use Rattle.tc_log.specs.Writes.{IsWrite};
 ghost use Rattle.tc_machine.specs.Logs.{kept_write};
 ghost use Rattle.tc_machine.specs.Writes.{IsStorableWrite};
@@ -14,7 +15,7 @@ ghost use Rattle.tc_part_model.specs.PartState.{told, AreTold};
 ghost use Rattle.tc_part_model.specs.PartView.{PartView};
 ghost use Rattle.tc_part.specs.Harms.{IsHarmIn};
 ghost use Rattle.tc_route.specs.Answers.{answered};
-ghost use Rattle.tc_route.specs.Meaning.{replies_in, routed_of};
+ghost use Rattle.tc_route.specs.Meaning.{rendered_in, routed_of};
 ghost use Rattle.tc_work.specs.Asked.{most_writes, requests_in, IsWindow};
 ghost use Rattle.tc_running.specs.Jobs.{JobsState};
 ghost use Rattle.tc_work.specs.Failing.{HasFailedWith};
@@ -53,11 +54,11 @@ impl<S: Store, P: Pace> Engine<S, P> {
 
         // Where the files are told, the replies are those of the plain store, and over every store each is at the place of its command.
         ensures replies { (p : PartView) → IsPart (told S.history S.Device.history S.Frozen.content self.old.part) p → AreTold (told S.history S.Device.history S.Frozen.content self.old.part).components
-            → IfOk result (λ replies. replies_in replies ≡ answered self.old.part.limits (map routed_of list.now) (plain_of (told S.history S.Device.history S.Frozen.content self.old.part) p)) }
+            → IfOk result (λ replies. rendered_in replies ≡ map (on_value rendered) (answered self.old.part.limits (map routed_of list.now) (plain_of (told S.history S.Device.history S.Frozen.content self.old.part) p))) }
         ensures places { IfOk result (λ replies. map (λ a. a.at) replies ≡ map (λ r. r.at) list.now) }
 
         // Over every store a reply is of the kind of its command.
-        ensures kinds { IfOk result (λ replies. AreOfKinds (requests_in list.now) (values_in (replies_in replies))) }
+        ensures kinds { IfOk result (λ replies. AreRenderedOfKinds (requests_in list.now) (values_in (rendered_in replies))) }
 
         // On Ok the part is the one in which the writes of the window are committed.
         ensures windowed { OnOk result ((p : PartView) → IsPart (told S.history S.Device.history S.Frozen.content self.old.part) p → IsWindowed self.old.part.limits (requests_in list.now) (told S.history S.Device.history S.Frozen.content self.old.part) p (told S.history S.Device.history S.Frozen.content self.new.part)) }
@@ -122,9 +123,9 @@ fn run<S: Store, P: Pace>(
     requires nothing_staged { part.old.staged ≡ [] }
     requires window { IsWindow list.now }
     ensures replies { (p : PartView) → IsPart (told S.history S.Device.history S.Frozen.content part.old) p → AreTold (told S.history S.Device.history S.Frozen.content part.old).components
-        → IfOk result (λ replies. replies_in replies ≡ answered part.old.limits (map routed_of list.now) (plain_of (told S.history S.Device.history S.Frozen.content part.old) p)) }
+        → IfOk result (λ replies. rendered_in replies ≡ map (on_value rendered) (answered part.old.limits (map routed_of list.now) (plain_of (told S.history S.Device.history S.Frozen.content part.old) p))) }
     ensures places { IfOk result (λ replies. map (λ a. a.at) replies ≡ map (λ r. r.at) list.now) }
-    ensures kinds { IfOk result (λ replies. AreOfKinds (requests_in list.now) (values_in (replies_in replies))) }
+    ensures kinds { IfOk result (λ replies. AreRenderedOfKinds (requests_in list.now) (values_in (rendered_in replies))) }
     ensures windowed { OnOk result ((p : PartView) → IsPart (told S.history S.Device.history S.Frozen.content part.old) p → IsWindowed part.old.limits (requests_in list.now) (told S.history S.Device.history S.Frozen.content part.old) p (told S.history S.Device.history S.Frozen.content part.new)) }
     ensures same { OnOk result (part.new ≡ record part.old { main = part.new.main; active = part.new.active; log = part.new.log; taken = part.new.taken; live = part.new.live; writes = part.new.writes }) }
     ensures writes { OnOk result ((p : PartView) → IsPart (told S.history S.Device.history S.Frozen.content part.old) p → part.new.writes ≡ part.old.writes + length (part_writes_all part.old.limits (requests_in list.now) (plain_of (told S.history S.Device.history S.Frozen.content part.old) p))) }

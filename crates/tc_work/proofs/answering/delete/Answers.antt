@@ -1,4 +1,4 @@
-use Rattle.std.proofs.Common.{◌∙◌, None, ap, subst, sym, refl, is_some}
+use Rattle.std.proofs.Common.{◌∙◌, None, ap, subst, refl, is_some}
 use Rattle.tc_model.specs.Keyed.{value_of}
 use Rattle.tc_request_model.specs.Request.{delete}
 use Rattle.tc_log.specs.declared.write.Write.TheVariants.{Delete}
@@ -11,7 +11,7 @@ use Rattle.tc_work.proofs.HandedFaults.{harmed, unspent, disk_below}
 use Rattle.tc_work.proofs.ReadCounts.{one_lookup}
 use Rattle.tc_work.proofs.StagedAnswers.{delete_staged, delete_taken, one_more_live, only_staged, still_sound, staged_or_not}
 use Rattle.tc_work.proofs.StorableAsks.{storable_delete, delete_for}
-use Rattle.tc_run_model.specs.Kinds.{IsOfKind}
+use Rattle.tc_request_model.specs.Rendered.{rendered}
 use Rattle.tc_work.proofs.ReplyKinds.{kind_of_delete}
 use Rattle.tc_work.proofs.answering.delete.Goals as goal
 
@@ -44,7 +44,7 @@ returns-clause-staged g c = λ p is.
 
 pub returns-clause-reply : goal.returns-clause-reply
 returns-clause-reply g c = λ p is are_told.
-    c.deleted.ensures ∙ ap (reply_to_delete c.args.key) (c.in_ok-staged.ensures.answered p (c.args.key, None) is (storable_delete c.args.key c.requires.asked) refl)
+    c.deleted.ensures ∙ ap (λ staged. rendered (reply_to_delete c.args.key staged)) (c.in_ok-staged.ensures.answered p (c.args.key, None) is (storable_delete c.args.key c.requires.asked) refl)
 
 pub returns-clause-grown : goal.returns-clause-grown
 returns-clause-grown g c =
@@ -61,7 +61,7 @@ pub returns-clause-counted : goal.returns-clause-counted
 returns-clause-counted g c = one_lookup _ _ _ _ _ (λ failed. absurd (cc)) c.stage.ensures.counted
 
 pub returns-clause-kind : goal.returns-clause-kind
-returns-clause-kind g c = subst (IsOfKind (delete c.args.key)) (sym c.deleted.ensures) (kind_of_delete c.args.key c.in_ok-staged.staged)
+returns-clause-kind g c = (reply_to_delete c.args.key c.in_ok-staged.staged, kind_of_delete c.args.key c.in_ok-staged.staged, c.deleted.ensures)
 
 pub returns-clause-live : goal.returns-clause-live
 returns-clause-live g c = one_more_live c.in_ok-staged.staged (Delete c.args.key) c.args.part.now c.stage.new.self c.in_ok-staged.ensures.same

@@ -1,11 +1,13 @@
-use Rattle.std.proofs.Common.{◌≡◌, ap, refl, subst, sym}
+use Rattle.std.proofs.Common.{◌≡◌, ap, subst, sym}
 use Rattle.tc_request_model.specs.Request.{query}
+use Rattle.tc_request_model.specs.Rows.{rows_over}
 use Rattle.tc_part_model.specs.Meaning.{IsPart}
 use Rattle.tc_part_model.specs.PartState.{PartState, told}
 use Rattle.tc_command.specs.Commands.{ask_of}
 use Rattle.tc_work.proofs.GrownFrames.{not_grown}
 use Rattle.tc_work.proofs.HandedFaults.{harmed, unspent, disk_below}
 use Rattle.tc_work.proofs.ReadCounts.{one_query}
+use Rattle.tc_work.proofs.ReplyKinds.{kind_of_query}
 use Rattle.tc_work.proofs.StagedAnswers.{stages_nothing, still_live}
 use Rattle.tc_work.proofs.answering.query.Goals as goal
 
@@ -32,7 +34,9 @@ pub returns-clause-counted : goal.returns-clause-counted
 returns-clause-counted g c = one_query _ _ _ _ _ (λ failed. absurd (cc)) c.rows.ensures.watched c.rows.ensures.reads
 
 pub returns-clause-kind : goal.returns-clause-kind
-returns-clause-kind g c = (_, refl)
+returns-clause-kind g c =
+    let shown = c.in_ok-rows.ensures.shown in
+    kind_of_query (ask_of c.args.ask.now) c.in_ok-rows.rows (rows_over (ask_of c.args.ask.now) shown.0) shown.2
 
 pub returns-clause-live : goal.returns-clause-live
 returns-clause-live g c = still_live 0 c.args.part.now c.rows.new.self c.in_ok-rows.ensures.same

@@ -1,4 +1,4 @@
-use Rattle.std.proofs.Common.{◌∙◌, ap, subst, sym, Some, is_some}
+use Rattle.std.proofs.Common.{◌∙◌, ap, subst, Some, is_some}
 use Rattle.tc_model.specs.Keyed.{value_of}
 use Rattle.tc_request_model.specs.Request.{upsert}
 use Rattle.tc_value.specs.Meaning.{tree_of}
@@ -13,7 +13,7 @@ use Rattle.tc_work.proofs.HandedFaults.{harmed, unspent, disk_below, no_memory}
 use Rattle.tc_work.proofs.ReadCounts.{none_counted, one_lookup}
 use Rattle.tc_work.proofs.StagedAnswers.{upsert_replied, upsert_staged, upsert_taken, one_more_live, only_staged, still_sound, staged_or_not}
 use Rattle.tc_work.proofs.StorableAsks.{storable_upsert, short_record, record_upserted, upsert_for}
-use Rattle.tc_run_model.specs.Kinds.{IsOfKind}
+use Rattle.tc_request_model.specs.Rendered.{rendered}
 use Rattle.tc_work.proofs.ReplyKinds.{kind_of_upsert}
 use Rattle.tc_work.proofs.answering.upsert.Goals as goal
 
@@ -68,7 +68,7 @@ returns-clause-reply g c = λ p is are_told.
     let limits = c.args.part.now.limits in
     let storable = storable_upsert key d c.requires.asked c.depth-depth.ensures.lawful in
     let kept = ap (Upsert key) c.in_ok-bytes.ensures.spelled in
-    c.upserted.ensures ∙ ap (reply_to_upsert key) (c.in_ok-staged.ensures.answered p (key, Some d) is storable kept)
+    c.upserted.ensures ∙ ap (λ staged. rendered (reply_to_upsert key staged)) (c.in_ok-staged.ensures.answered p (key, Some d) is storable kept)
     ∙ upsert_replied limits key d (plain_of old p) (is_some (value_of key (stored_with p)))
 
 pub returns-clause-grown : goal.returns-clause-grown
@@ -87,7 +87,7 @@ pub returns-clause-counted : goal.returns-clause-counted
 returns-clause-counted g c = one_lookup _ _ _ _ _ (λ failed. absurd (cc)) c.stage.ensures.counted
 
 pub returns-clause-kind : goal.returns-clause-kind
-returns-clause-kind g c = subst (IsOfKind (upsert c.args.key (tree_of c.args.doc.now))) (sym c.upserted.ensures) (kind_of_upsert c.args.key (tree_of c.args.doc.now) c.in_ok-staged.staged)
+returns-clause-kind g c = (reply_to_upsert c.args.key c.in_ok-staged.staged, kind_of_upsert c.args.key (tree_of c.args.doc.now) c.in_ok-staged.staged, c.upserted.ensures)
 
 pub returns-clause-live : goal.returns-clause-live
 returns-clause-live g c = one_more_live c.in_ok-staged.staged (Upsert c.args.key c.in_ok-bytes.bytes) c.args.part.now c.stage.new.self c.in_ok-staged.ensures.same

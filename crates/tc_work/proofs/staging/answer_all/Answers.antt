@@ -3,14 +3,14 @@ use Rattle.std.proofs.lemmas.List.Elements.{All-get_or}
 use Rattle.std.proofs.lemmas.List.{map-append, append-nil}
 use Rattle.tc_value.proofs.Sizes.{from_place}
 use Rattle.tc_model.specs.Keyed.{values_in}
-use Rattle.tc_run_model.specs.Kinds.{AreOfKinds}
-use Rattle.tc_command.specs.Replies.{reply_of}
+use Rattle.tc_run_model.specs.Kinds.{AreRenderedOfKinds}
+use Rattle.tc_command.specs.Replies.{rendered_of}
 use Rattle.tc_command.specs.Commands.{request_of_command}
 use Rattle.tc_part.specs.Harms.{IsHarmIn}
 use Rattle.tc_part_model.specs.Meaning.{plain_of}
 use Rattle.tc_part_model.specs.PartState.{PartState, told, AreTold}
 use Rattle.tc_route.specs.declared.placed.Placed.{Placed}
-use Rattle.tc_route.specs.Meaning.{placed_of, replies_in, routed_of}
+use Rattle.tc_route.specs.Meaning.{placed_of, rendered_in, routed_of}
 use Rattle.tc_work.specs.Asked.{most_bytes, most_writes, requests_in, IsForPart}
 use Rattle.tc_work.specs.Faults.{IfDamage}
 use Rattle.tc_work.specs.Frames.{AreWithin}
@@ -38,17 +38,17 @@ loop-routed-preserved g c =
     let placed : Placed = record { at = r.at; reply = c.in_ok-reply.reply } in
     record {
       underway = λ p is.
-          let before = subst (λ xs. IsUnderway c.args.part.now.limits (map routed_of list) (plain_of old p) p (AreTold old.components) (map routed_of xs) (replies_in l.replies.items) now) step (l.invariant.underway p is) in
+          let before = subst (λ xs. IsUnderway c.args.part.now.limits (map routed_of list) (plain_of old p) p (AreTold old.components) (map routed_of xs) (rendered_in l.replies.items) now) step (l.invariant.underway p is) in
           let q = staged_as before.writes p in
           subst (λ made. IsUnderway c.args.part.now.limits (map routed_of list) (plain_of old p) p (AreTold old.components) (map routed_of (drop (i + 1) list)) made new)
-          (sym (ap replies_in c.in_ok-push.ensures.items ∙ map-append placed_of l.replies.items (placed ∷ [])))
-          (goes_on c.args.part.now.limits l.part.limits (map routed_of list) (plain_of old p) p (AreTold old.components) (routed_of r) (map routed_of (drop (i + 1) list)) (replies_in l.replies.items) (placed_of placed) now new before
+          (sym (ap rendered_in c.in_ok-push.ensures.items ∙ map-append placed_of l.replies.items (placed ∷ [])))
+          (goes_on c.args.part.now.limits l.part.limits (map routed_of list) (plain_of old p) p (AreTold old.components) (routed_of r) (map routed_of (drop (i + 1) list)) (rendered_in l.replies.items) (placed_of placed) now new before
           (ap (λ (s : PartState _ _ _ _). s.limits) l.invariant.same) refl (c.in_ok-reply.ensures.staged q before.staged.part)
           (λ are_told. c.in_ok-reply.ensures.reply q before.staged.part (subst AreTold (sym (ap (λ (s : PartState _ _ _ _). (told g.S.Store.history g.S.Device.Device.history g.S.Frozen.Frozen.content s).components) l.invariant.same)) are_told)));
       places = ap (λ xs. map (λ a. a.at) xs ++ map (λ r. r.at) (drop (i + 1) list)) c.in_ok-push.ensures.items
           ∙ place_moves (λ a. a.at) (λ r. r.at) l.replies.items placed r (drop (i + 1) list) (map (λ r. r.at) list) refl (subst (λ xs. map (λ a. a.at) l.replies.items ++ map (λ r. r.at) xs ≡ map (λ r. r.at) list) step l.invariant.places);
-      kinds = λ more given. subst (AreOfKinds (requests_in list)) (sym (one_more_reply l.replies.items _ placed more c.in_ok-push.ensures.items))
-          (l.invariant.kinds (reply_of c.in_ok-reply.reply ∷ more) (subst (λ xs. AreOfKinds (requests_in xs) (reply_of c.in_ok-reply.reply ∷ more)) (sym step) (c.in_ok-reply.ensures.kind, given)));
+      kinds = λ more given. subst (AreRenderedOfKinds (requests_in list)) (sym (one_more_reply l.replies.items _ placed more c.in_ok-push.ensures.items))
+          (l.invariant.kinds (rendered_of c.in_ok-reply.reply ∷ more) (subst (λ xs. AreRenderedOfKinds (requests_in xs) (rendered_of c.in_ok-reply.reply ∷ more)) (sym step) (c.in_ok-reply.ensures.kind, given)));
       within = still_within _ _ (routed_of r).1 l.part.staged c.answer.new.part.staged (requests_in (drop (i + 1) list))
           (subst (λ xs. AreWithin (most_writes (requests_in list)) (most_bytes (requests_in list)) l.part.staged (requests_in xs)) step l.invariant.within) c.in_ok-reply.ensures.grown;
       same = staged_again c.args.part.now l.part c.answer.new.part l.invariant.same c.answer.ensures.same;
@@ -65,10 +65,10 @@ loop-routed-init g c =
     let none = c.in_ok-replies.ensures.items in
     record {
       underway = λ p is.
-          subst (λ made. IsUnderway c.args.part.now.limits (map routed_of list) (plain_of old p) p (AreTold old.components) (map routed_of list) (replies_in made) old) (sym none)
+          subst (λ made. IsUnderway c.args.part.now.limits (map routed_of list) (plain_of old p) p (AreTold old.components) (map routed_of list) (rendered_in made) old) (sym none)
           (begins c.args.part.now.limits (map routed_of list) p (AreTold old.components) old is);
       places = subst (λ made. map (λ a. a.at) made ++ map (λ r. r.at) list ≡ map (λ r. r.at) list) (sym none) refl;
-      kinds = λ more given. subst (λ made. AreOfKinds (requests_in list) (values_in (replies_in made) ++ more)) (sym none) given;
+      kinds = λ more given. subst (λ made. AreRenderedOfKinds (requests_in list) (values_in (rendered_in made) ++ more)) (sym none) given;
       within = subst (λ ws. AreWithin (most_writes (requests_in list)) (most_bytes (requests_in list)) ws (requests_in list)) (sym c.requires.nothing_staged) (record { each = tt; few = omega arith; short = omega arith });
       same = refl;
       sound = c.requires.sound;
@@ -145,9 +145,9 @@ returns-clause-staged g c = λ p is.
     let old = told g.S.Store.history g.S.Device.Device.history g.S.Frozen.Frozen.content c.args.part.now in
     let list = c.args.list.now in
     let none : drop c.loop-routed.routed-index list ≡ [] = drop_of_length-le list (omega (arith, c.loop-routed-test.false)) in
-    ends_staged c.args.part.now.limits (map routed_of list) (plain_of old p) p (AreTold old.components) (replies_in c.loop-routed.replies.items) (told g.S.Store.history g.S.Device.Device.history g.S.Frozen.Frozen.content c.loop-routed.part)
+    ends_staged c.args.part.now.limits (map routed_of list) (plain_of old p) p (AreTold old.components) (rendered_in c.loop-routed.replies.items) (told g.S.Store.history g.S.Device.Device.history g.S.Frozen.Frozen.content c.loop-routed.part)
     (subst (λ xs. IsUnderway c.args.part.now.limits (map routed_of list) (plain_of old p) p (AreTold old.components) (map routed_of xs)
-    (replies_in c.loop-routed.replies.items) (told g.S.Store.history g.S.Device.Device.history g.S.Frozen.Frozen.content c.loop-routed.part)) none
+    (rendered_in c.loop-routed.replies.items) (told g.S.Store.history g.S.Device.Device.history g.S.Frozen.Frozen.content c.loop-routed.part)) none
     (c.loop-routed.invariant.underway p is))
 
 pub returns-clause-replies : goal.returns-clause-replies
@@ -155,10 +155,10 @@ returns-clause-replies g c = λ p is are_told.
     let old = told g.S.Store.history g.S.Device.Device.history g.S.Frozen.Frozen.content c.args.part.now in
     let list = c.args.list.now in
     let none : drop c.loop-routed.routed-index list ≡ [] = drop_of_length-le list (omega (arith, c.loop-routed-test.false)) in
-    ap replies_in c.of.ensures
-    ∙ ends_replied c.args.part.now.limits (map routed_of list) (plain_of old p) p (AreTold old.components) (replies_in c.loop-routed.replies.items) (told g.S.Store.history g.S.Device.Device.history g.S.Frozen.Frozen.content c.loop-routed.part)
+    ap rendered_in c.of.ensures
+    ∙ ends_replied c.args.part.now.limits (map routed_of list) (plain_of old p) p (AreTold old.components) (rendered_in c.loop-routed.replies.items) (told g.S.Store.history g.S.Device.Device.history g.S.Frozen.Frozen.content c.loop-routed.part)
     (subst (λ xs. IsUnderway c.args.part.now.limits (map routed_of list) (plain_of old p) p (AreTold old.components) (map routed_of xs)
-    (replies_in c.loop-routed.replies.items) (told g.S.Store.history g.S.Device.Device.history g.S.Frozen.Frozen.content c.loop-routed.part)) none
+    (rendered_in c.loop-routed.replies.items) (told g.S.Store.history g.S.Device.Device.history g.S.Frozen.Frozen.content c.loop-routed.part)) none
     (c.loop-routed.invariant.underway p is)) are_told
 
 pub returns-clause-places : goal.returns-clause-places
@@ -183,5 +183,5 @@ pub returns-clause-kinds : goal.returns-clause-kinds
 returns-clause-kinds g c =
     let list = c.args.list.now in
     let none : drop c.loop-routed.routed-index list ≡ [] = drop_of_length-le list (omega (arith, c.loop-routed-test.false)) in
-    subst (λ xs. AreOfKinds (requests_in list) (values_in (replies_in xs))) (sym c.of.ensures)
-    (subst (AreOfKinds (requests_in list)) (append-nil (values_in (replies_in c.loop-routed.replies.items))) (c.loop-routed.invariant.kinds [] (subst (λ xs. AreOfKinds (requests_in xs) []) (sym none) tt)))
+    subst (λ xs. AreRenderedOfKinds (requests_in list) (values_in (rendered_in xs))) (sym c.of.ensures)
+    (subst (AreRenderedOfKinds (requests_in list)) (append-nil (values_in (rendered_in c.loop-routed.replies.items))) (c.loop-routed.invariant.kinds [] (subst (λ xs. AreRenderedOfKinds (requests_in xs) []) (sym none) tt)))

@@ -7,9 +7,11 @@ use Rattle.tc_part_model.specs.Leaving.{LogMomentsLeaveStore}
 use Rattle.tc_part_model.specs.Meaning.{IsPart, plain_of}
 use Rattle.tc_part_model.specs.PartState.{PartState, told, AreTold}
 use Rattle.tc_part_model.specs.PartView.{PartView}
+use Rattle.tc_model.specs.Keyed.{on_value}
 use Rattle.tc_request_model.specs.Part.{part_writes_all}
+use Rattle.tc_request_model.specs.Rendered.{rendered}
 use Rattle.tc_route.specs.Answers.{answered}
-use Rattle.tc_route.specs.Meaning.{replies_in, routed_of}
+use Rattle.tc_route.specs.Meaning.{rendered_in, routed_of}
 use Rattle.tc_work.specs.Asked.{most_writes, requests_in}
 use Rattle.tc_work.specs.Faults.{IfDamage}
 use Rattle.tc_work.specs.EngineState.{EngineState}
@@ -38,8 +40,8 @@ pub returns-clause-replies : goal.returns-clause-replies
 returns-clause-replies g c =
     subst (λ (s : PartState _ _ _ _). (p : PartView) → IsPart (told g.S.Store.history g.S.Device.Device.history g.S.Frozen.Frozen.content s) p
     → AreTold (told g.S.Store.history g.S.Device.Device.history g.S.Frozen.Frozen.content s).components
-    → replies_in c.in_ok-replies.replies ≡ answered s.limits (map routed_of c.args.list.now)
-    (plain_of (told g.S.Store.history g.S.Device.Device.history g.S.Frozen.Frozen.content s) p))
+    → rendered_in c.in_ok-replies.replies ≡ map (on_value rendered) (answered s.limits (map routed_of c.args.list.now)
+    (plain_of (told g.S.Store.history g.S.Device.Device.history g.S.Frozen.Frozen.content s) p)))
     (inside_is c.self.inside.part c.self.inside.failed c.args.self.now.part (ap (λ (e : EngineState _ _ _ _). e.part) c.self.view_is)
     c.requires.sound c.self.invariant)
     (c.in_ok-replies.ensures.replies)
