@@ -129,7 +129,7 @@ module _ {F W : Type 0} where
   -- ---- the end
 
   pub scan_failed : (content : F → Option (List ℕ)) (counts : W → Counts) (ask : Ask) (olds news : List (Pass F W)) (fault : ScanFault) → AllZip (GoesOn counts) olds news → IsFaultOf content counts olds news fault → HasScanned content counts ask olds news (Err fault)
-  scan_failed content counts ask olds news fault back is = record { back = back; rows = λ parts shows own. tt; upto = tt; fault = is }
+  scan_failed content counts ask olds news fault back is = record { back = back; rows = λ parts shows own. tt; texts = tt; upto = tt; fault = is }
 
   pub no_memory : (content : F → Option (List ℕ)) (counts : W → Counts) (olds news : List (Pass F W)) (fault : ScanFault) → fault ≡ Memory → IsFaultOf content counts olds news fault
   no_memory content counts olds news fault is = subst (λ (f : ScanFault). IsFaultOf content counts olds news f) (sym is) (record { disk_within = tt; damaged_within = tt; cause = tt; harmed = tt; unharmed = tt })

@@ -6,6 +6,8 @@ use Rattle.tc_bytes.specs.Counts.{Rose}
 use Rattle.tc_component.specs.Loaded.{IsLoadedOf}
 use Rattle.tc_lsm_model.specs.Contents as documents
 use Rattle.tc_request_model.specs.Request.{Ask}
+use Rattle.tc_request_model.specs.Rendered.{row_text}
+use Rattle.tc_request_model.specs.Reply.{Row}
 use Rattle.tc_request_model.specs.Rows.{rows_over}
 use Rattle.tc_plain_model.specs.Writes.{Pairs}
 use Rattle.tc_query.specs.declared.fault.QueryFault.{QueryFault}
@@ -102,6 +104,7 @@ module _ {F W : Type 0} where
   -- those of the documents of all partitions.
   pub record HasScanned (content : F → Option (List ℕ)) (counts : W → Counts) (ask : Ask) (old new : List (Pass F W)) (outcome : Result Scanned ScanFault) : Type 0 where
     pub back : AllZip (GoesOn counts) old new
-    pub rows : (parts : List Pairs) → ShowAll content new parts → AreOwn (length parts) 0 parts → IfOk outcome (λ s. s.rows ≡ rows_over ask (united parts))
+    pub rows : (parts : List Pairs) → ShowAll content new parts → AreOwn (length parts) 0 parts → IfOk outcome (λ s. s.rows ≡ map row_text (rows_over ask (united parts)))
+    pub texts : IfOk outcome (λ s. (rs : List Row) × (s.rows ≡ map row_text rs))
     pub upto : IfOk outcome (λ s. s.upto ≡ map (λ pass. (kept_by pass.lens).upto) new)
     pub fault : IfErr outcome (IsFaultOf content counts old new)

@@ -1,7 +1,7 @@
 //! The rows of several partitions, in ascending key.
 
 ghost use Rattle.std.specs.Prelude.{◌≡◌, ◌≤◌, IfOk, length};
-ghost use Rattle.tc_route.specs.Meaning.{replies_in};
+ghost use Rattle.tc_route.specs.Meaning.{rendered_in};
 ghost use Rattle.tc_shown.specs.Joined.{alone, first_rows, joined};
 
 use std::alloc::Global;
@@ -23,7 +23,7 @@ pub(crate) fn joined_rows(alloc: Global, found: Vec<Rows>) -> Result<Rows, Memor
 
 /// The reply of these rows, by itself.
 fn reply_of(alloc: Global, rows: Rows) -> Result<Replies, Memory>
-    ensures { IfOk result (λ replies. replies_in replies ≡ alone rows) }
+    ensures { IfOk result (λ replies. rendered_in replies ≡ alone rows) }
 {
     let mut replies = Vec::new(alloc);
     replies.push(Placed {
@@ -35,8 +35,8 @@ fn reply_of(alloc: Global, rows: Rows) -> Result<Replies, Memory>
 
 /// The rows of the only reply, if there is one.
 fn rows_in(alloc: Global, replies: Replies) -> Rows
-    requires one { length (replies_in replies) ≤ 1 }
-    ensures { result ≡ first_rows (replies_in replies) }
+    requires one { length (rendered_in replies) ≤ 1 }
+    ensures { result ≡ first_rows (rendered_in replies) }
 {
     let mut replies = replies.into_inner();
     match replies.pop() {

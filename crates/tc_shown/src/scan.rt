@@ -8,6 +8,8 @@ ghost use Rattle.tc_component.specs.Loaded.{IsLoadedOf};
 ghost use Rattle.tc_log.specs.Writes.{IsWrite};
 ghost use Rattle.tc_lsm_model.specs.Contents.{Content};
 ghost use Rattle.tc_request_model.specs.Rows.{rows_over};
+ghost use Rattle.tc_request_model.specs.Rendered.{row_text};
+ghost use Rattle.tc_request_model.specs.Reply.{Row};
 ghost use Rattle.tc_plain_model.specs.Writes.{Pairs};
 ghost use Rattle.tc_query.specs.Faults.{OfDamage, IsHarmIn, IsUnharmed};
 ghost use Rattle.tc_run_model.specs.World.{united};
@@ -23,7 +25,7 @@ use std::alloc::Global;
 use tc_bytes::Memory;
 use tc_command::{Ask, Counts, Rows};
 use tc_query::QueryFault;
-use tc_route::replies_are_gathered;
+use tc_route::{rendered_are_gathered, replies_are_gathered};
 use tc_running::{Pace, Point, Start};
 use tc_store::Frozen;
 use tc_view::{Lens, Snapshot};
@@ -134,10 +136,12 @@ fn rows_of_each<F: Frozen>(
     requires shown { map shown_by snapshots.now ≡ map (λ pass. kept_by pass.lens) passes.old }
     requires stored { All (λ pass. All IsWrite (kept_by pass.lens).written) passes.old }
     ensures read { AllZip (IsRead F.Watch.counts) passes.old passes.new }
-    ensures rows { (parts : List Pairs) → ShowAll F.content passes.old parts → AreOwn (length parts) 0 parts → IfOk result (λ rows. rows ≡ rows_over (ask_of ask.now) (united parts)) }
+    ensures rows { (parts : List Pairs) → ShowAll F.content passes.old parts → AreOwn (length parts) 0 parts → IfOk result (λ rows. rows ≡ map row_text (rows_over (ask_of ask.now) (united parts))) }
+    ensures texts { IfOk result (λ rows. (rs : List Row) × (rows ≡ map row_text rs)) }
     ensures fault { IfErr result (IsFaultOf (λ file. F.content file) F.Watch.counts passes.old passes.new) }
 {
     replies_are_gathered();
+    rendered_are_gathered();
     let mut found = Vec::with_capacity(alloc, passes.len())?;
     for at in 0..passes.len() {
         match rows_of(alloc, &mut passes[at], &snapshots[at], ask) {
@@ -158,7 +162,8 @@ fn rows_of<F: Frozen>(
     requires shown { shown_by snapshot.now ≡ kept_by pass.old.lens }
     requires stored { All IsWrite (kept_by pass.old.lens).written }
     ensures read { IsRead F.Watch.counts pass.old pass.new }
-    ensures rows { (pairs : Pairs) → Holds F.content (showing_in (kept_by pass.old.lens)) pairs → IfOk result (λ rows. rows ≡ rows_over (ask_of ask.now) pairs) }
+    ensures rows { (pairs : Pairs) → Holds F.content (showing_in (kept_by pass.old.lens)) pairs → IfOk result (λ rows. rows ≡ map row_text (rows_over (ask_of ask.now) pairs)) }
+    ensures texts { IfOk result (λ rows. (rs : List Row) × (rows ≡ map row_text rs)) }
     ensures cause { IsErrOf result QueryFault.Disk → Rose (F.Watch.counts pass.old.watch).faults (F.Watch.counts pass.new.watch).faults }
     ensures harmed { IfErr result (λ fault. OfDamage fault (λ file place bytes. IsHarmIn (λ file. F.content file) (kept_by pass.old.lens).list file place bytes)) }
     ensures unharmed { (cs : List Content) → AllZip (IsLoadedOf F.content) (kept_by pass.old.lens).list cs → IfErr result IsUnharmed }

@@ -1,6 +1,6 @@
 //! The rows over what a snapshot shows.
 
-ghost use Rattle.std.specs.Prelude.{◌≡◌, ◌≤◌, ◌+◌, All, List, IfOk, IfErr, IsErrOf, option_map};
+ghost use Rattle.std.specs.Prelude.{◌≡◌, ◌≤◌, ◌+◌, All, List, IfOk, IfErr, IsErrOf, map, option_map};
 ghost use Rattle.std.specs.Arc.{arc_value};
 ghost use Rattle.std.specs.List.{AllZip};
 ghost use Rattle.tc_command.specs.Commands.{ask_of};
@@ -8,6 +8,7 @@ ghost use Rattle.tc_component.specs.Loaded.{IsLoadedOf};
 ghost use Rattle.tc_log.specs.Writes.{IsWrite};
 ghost use Rattle.tc_lsm_model.specs.Contents.{Content};
 ghost use Rattle.tc_request_model.specs.Rows.{rows_over as rows_of_pairs};
+ghost use Rattle.tc_request_model.specs.Rendered.{row_text};
 ghost use Rattle.tc_plain_model.specs.Writes.{Pairs};
 ghost use Rattle.tc_query.specs.Faults.{OfDamage, IsUnharmed, IsHarmIn, IsWatched};
 ghost use Rattle.tc_shown.specs.Newest.{newest_of};
@@ -38,11 +39,11 @@ pub(crate) fn rows<F: Frozen>(
     requires stored { All IsWrite (shown_by of.now).written }
 
     // Where the files tell what they hold.
-    ensures rows { (pairs : Pairs) → Holds F.content (showing_in (shown_by of.now)) pairs → IfOk result (λ rows. rows ≡ rows_of_pairs (ask_of ask.now) pairs) }
+    ensures rows { (pairs : Pairs) → Holds F.content (showing_in (shown_by of.now)) pairs → IfOk result (λ rows. rows ≡ map row_text (rows_of_pairs (ask_of ask.now) pairs)) }
     ensures unharmed { (cs : List Content) → AllZip (IsLoadedOf F.content) (shown_by of.now).list cs → IfErr result IsUnharmed }
 
     // Over every store.
-    ensures shown { IfOk result (λ rows. (pairs : Pairs) × MayHold (λ file. F.content file) (shown_by of.now).list (shown_by of.now).sealed (newest_of (shown_by of.now).written) pairs × (rows ≡ rows_of_pairs (ask_of ask.now) pairs)) }
+    ensures shown { IfOk result (λ rows. (pairs : Pairs) × MayHold (λ file. F.content file) (shown_by of.now).list (shown_by of.now).sealed (newest_of (shown_by of.now).written) pairs × (rows ≡ map row_text (rows_of_pairs (ask_of ask.now) pairs))) }
     ensures harmed { IfErr result (λ fault. OfDamage fault (λ file at bytes. IsHarmIn (λ file. F.content file) (shown_by of.now).list file at bytes)) }
     ensures reads { (F.Watch.counts watch.new).reads ≤ (F.Watch.counts watch.old).reads + live_keys (shown_by of.now).list (shown_by of.now).sealed (newest_of (shown_by of.now).written) }
     ensures windows { (F.Watch.counts watch.new).reads ≤ (F.Watch.counts watch.old).reads + most_windows (shown_by of.now).list }

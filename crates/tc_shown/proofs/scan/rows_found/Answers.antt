@@ -66,6 +66,7 @@ returns g c =
     record {
       back = all_read counts olds taken news c.take_each.ensures.taken read;
       rows = λ parts shows own. c.in_ok-rows.ensures.rows parts (zip_lenses counts (λ (l : Lens _ _) (ps : Pairs). Holds content (showing_in (kept_by l)) ps) taken news parts read shows) own;
+      texts = c.in_ok-rows.ensures.texts;
       upto = c.in_ok-upto.ensures
           ∙ ap (map (λ (s : Snapshot _ _). (shown_by s).upto)) c.deref.ensures.value
           ∙ map_twice shown_by (λ (x : Content _ _). x.upto) snapshots

@@ -1,6 +1,9 @@
 use Rattle.std.proofs.Common.{sym, subst, refl}
+use Rattle.std.proofs.lemmas.Result.{IfOk-weaker}
 use Rattle.std.specs.Prelude.{All, IfErr}
 use Rattle.std.specs.List.{AllZip}
+use Rattle.tc_command.specs.Commands.{ask_of}
+use Rattle.tc_request_model.specs.Rows.{rows_over}
 use Rattle.tc_component.specs.Loaded.{IsLoadedOf}
 use Rattle.tc_log.specs.Writes.{IsWrite}
 use Rattle.tc_query.specs.Faults.{OfDamage, IsHarmIn}
@@ -29,3 +32,6 @@ returns-clause-harmed g c =
 
 pub returns-clause-unharmed : goal.returns-clause-unharmed
 returns-clause-unharmed g c = λ cs loaded. c.rows.ensures.unharmed cs (subst (λ (x : Content _ _). AllZip (IsLoadedOf g.F.Frozen.content) x.list cs) (sym c.requires.shown) loaded)
+
+pub returns-clause-texts : goal.returns-clause-texts
+returns-clause-texts g c = IfOk-weaker c.rows.result _ _ (λ rows is. (rows_over (ask_of c.args.ask.now) is.0, is.2)) c.rows.ensures.shown

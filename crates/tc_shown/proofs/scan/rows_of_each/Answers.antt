@@ -1,11 +1,12 @@
-use Rattle.std.proofs.Common.{◌≡◌, ◌∙◌, ◌<◌, ap, sym, subst, map, set, length, arith, Err}
+use Rattle.std.proofs.Common.{◌≡◌, ◌∙◌, ◌<◌, ◌++◌, ◌∷◌, [], ap, sym, subst, map, set, length, arith, Err}
 use Rattle.std.specs.Prelude.{All}
 use Rattle.std.specs.List.{AllZip}
-use Rattle.std.proofs.lemmas.List.{length-map, take_all}
+use Rattle.std.proofs.lemmas.List.{length-map, map-append, take_all}
 use Rattle.tc_bytes.specs.Counts.{Rose}
 use Rattle.tc_command.specs.Commands.{ask_of}
 use Rattle.tc_component.specs.Loaded.{IsLoadedOf}
 use Rattle.tc_log.specs.Writes.{IsWrite}
+use Rattle.tc_request_model.specs.Rendered.{row_text}
 use Rattle.tc_request_model.specs.Rows.{rows_over}
 use Rattle.tc_plain_model.specs.Writes.{Pairs}
 use Rattle.tc_query.specs.Faults.{OfDamage, IsHarmIn}
@@ -18,7 +19,7 @@ use Rattle.tc_shown.specs.Scans.{IsFaultOf, IsRead}
 use Rattle.tc_shown.proofs.PassLaws.{fault_there, read_same}
 use Rattle.tc_shown.proofs.ShownPairs.{all_ascend}
 use Rattle.tc_shown.proofs.Turns.{all_at, map_at, take_next, turned_all, turned_many, turned_more, turned_next, zip_length, zip_same}
-use Rattle.tc_shown.proofs.UnitedRows.{joined_united}
+use Rattle.tc_shown.proofs.UnitedRows.{joined_united, rows_joined, texts_joined}
 use Rattle.tc_shown.proofs.scan.rows_of_each.Goals as goal
 
 pub returns-in_err-found-clause-read : goal.returns-in_err-found-clause-read
@@ -98,9 +99,12 @@ loop-at-preserved g c =
     let done : R s c.rows_of.new.pass = subst (λ (p : Pass _ _). R p c.rows_of.new.pass) (sym is) c.rows_of.ensures.read in (
       turned_more R l.at olds l.passes s c.rows_of.new.pass l.invariant.0 below is done,
       λ parts shows. c.in_ok-push-in-Ok.ensures.items
-          ∙ take_next (λ (p : Pass _ _) (ps : Pairs). Holds g.F.Frozen.content (showing_in (kept_by p.lens)) ps) (rows_over (ask_of c.args.ask.now)) olds parts l.at s l.found.items _ shows (omega (arith, below, many))
-          (turned_next R l.at olds l.passes s l.invariant.0 below is) (l.invariant.1 parts shows)
+          ∙ take_next (λ (p : Pass _ _) (ps : Pairs). Holds g.F.Frozen.content (showing_in (kept_by p.lens)) ps) (λ ps. map row_text (rows_over (ask_of c.args.ask.now) ps)) olds parts l.at s l.found.items _ shows (omega (arith, below, many))
+          (turned_next R l.at olds l.passes s l.invariant.0 below is) (l.invariant.1.0 parts shows)
           (λ ps holds. c.in-Ok.ensures.rows ps (subst (λ (p : Pass _ _). Holds g.F.Frozen.content (showing_in (kept_by p.lens)) ps) is holds)),
+      let before = l.invariant.1.1 in
+          let one = c.in-Ok.ensures.texts in
+          (before.0 ++ one.0 ∷ [], c.in_ok-push-in-Ok.ensures.items ∙ ap (λ found. found ++ _ ∷ []) before.1 ∙ ap (λ rows. map (map row_text) before.0 ++ rows ∷ []) one.1 ∙ sym (map-append (map row_text) before.0 (one.0 ∷ []))),
     )
 
 pub returns-in_err-joined_rows-clause-read : goal.returns-in_err-joined_rows-clause-read
@@ -115,5 +119,10 @@ returns-clause-rows g c = λ parts shows own.
     let olds = c.args.passes.now in
     let many : length parts ≡ length olds = zip_length (λ (p : Pass _ _) (ps : Pairs). Holds g.F.Frozen.content (showing_in (kept_by p.lens)) ps) olds parts shows in
     c.in_ok-joined_rows.ensures
-    ∙ ap joined (l.invariant.1 parts shows ∙ ap (map (rows_over (ask_of c.args.ask.now))) (take_all l.at parts (omega (arith, c.loop-at-test.false, many))))
-    ∙ joined_united c.replies_are_gathered.ensures (ask_of c.args.ask.now) parts (all_ascend g.F.Frozen.content olds parts shows) own
+    ∙ ap joined (l.invariant.1.0 parts shows ∙ ap (map (λ ps. map row_text (rows_over (ask_of c.args.ask.now) ps))) (take_all l.at parts (omega (arith, c.loop-at-test.false, many))))
+    ∙ joined_united c.replies_are_gathered.ensures c.rendered_are_gathered.ensures (ask_of c.args.ask.now) parts (all_ascend g.F.Frozen.content olds parts shows) own
+
+pub returns-clause-texts : goal.returns-clause-texts
+returns-clause-texts g c =
+    let found = c.loop-at.invariant.1.1 in
+    (rows_joined found.0, c.in_ok-joined_rows.ensures ∙ ap joined found.1 ∙ texts_joined c.rendered_are_gathered.ensures found.0)

@@ -1,9 +1,10 @@
-use Rattle.std.proofs.Common.{◌≡◌, ◌∙◌, List, ap, subst}
+use Rattle.std.proofs.Common.{◌≡◌, ◌∙◌, List, map, ap, subst}
 use Rattle.std.specs.Prelude.{IfOk, IfErr, Option, option_map}
 use Rattle.tc_command.specs.Commands.{ask_of}
 use Rattle.tc_component.specs.Loading.{ComponentState}
 use Rattle.tc_memory.specs.Table.{Table}
 use Rattle.tc_request_model.specs.Rows.{rows_over as rows_of_pairs}
+use Rattle.tc_request_model.specs.Rendered.{row_text}
 use Rattle.tc_plain_model.specs.Writes.{Pairs}
 use Rattle.tc_shown.proofs.SnapshotPairs.{shown_is_stored, of_same}
 use Rattle.tc_query.specs.Faults.{OfDamage, IsHarmIn}
@@ -24,7 +25,7 @@ returns-clause-shown g c =
     let shown = shown_by c.args.of.now in
     of_same
     (λ (cs : List (ComponentState _)) (sealed : Option Table) (active : Table).
-    IfOk c.rows_over.result (λ rows. (pairs : Pairs) × MayHold (λ file. g.F.Frozen.content file) cs sealed active pairs × (rows ≡ rows_of_pairs (ask_of c.args.ask.now) pairs)))
+    IfOk c.rows_over.result (λ rows. (pairs : Pairs) × MayHold (λ file. g.F.Frozen.content file) cs sealed active pairs × (rows ≡ map row_text (rows_of_pairs (ask_of c.args.ask.now) pairs))))
     c.list.result.now shown.list (option_map (λ t. t.now) c.table_of.result) shown.sealed c.in_ok-active.active (newest_of shown.written)
     c.list.ensures (c.table_of.ensures ∙ c.sealed.ensures) (c.in_ok-active.ensures ∙ ap newest_of c.chunks.ensures) c.rows_over.ensures.shown
 
