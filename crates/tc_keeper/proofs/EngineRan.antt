@@ -13,7 +13,7 @@ use Rattle.tc_request_model.specs.Part.{part_writes_all}
 use Rattle.tc_part_model.specs.Meaning.{IsPart, plain_of}
 use Rattle.tc_part_model.specs.PartView.{PartView}
 use Rattle.tc_part_model.specs.PartState.{PartState}
-use Rattle.tc_route.specs.Meaning.{placed_of, replies_in, routed_of}
+use Rattle.tc_route.specs.Meaning.{placed_of, rendered_in, routed_of}
 use Rattle.tc_route.specs.declared.placed.Placed.{Placed}
 use Rattle.tc_route.specs.declared.placed.Routed.{Routed}
 use Rattle.tc_running.specs.Jobs.{JobsState}
@@ -38,7 +38,7 @@ pub left_failed : {S D F W T E : Type 0} (answer : Result T E) (old new : PartSt
 left_failed (Ok x) old new left = tt
 left_failed (Err e) old new left = ap (λ (s : PartState _ _ _ _). s.failed) left
 
-pub places_read : (answer : Result (List Placed) EngineFault) (list : List Routed) → IfOk answer (λ replies. map (λ a. a.at) replies ≡ map (λ r. r.at) list) → IfOk answer (λ replies. keys_of (replies_in replies) ≡ keys_of (map routed_of list))
+pub places_read : (answer : Result (List Placed) EngineFault) (list : List Routed) → IfOk answer (λ replies. map (λ a. a.at) replies ≡ map (λ r. r.at) list) → IfOk answer (λ replies. keys_of (rendered_in replies) ≡ keys_of (map routed_of list))
 places_read (Ok replies) list same = read_again (λ e. e.0) placed_of replies ∙ same ∙ sym (read_again (λ e. e.0) routed_of list)
 places_read (Err fault) list same = tt
 

@@ -1,5 +1,5 @@
 -- Engines that stand at a world that may not be known, behind each call.
-use Rattle.std.proofs.Common.{◌≡◌, ◌∙◌, ◌<◌, ℕ, suc, true, List, [], ◌∷◌, length, map, refl, ap, sym, subst, inl}
+use Rattle.std.proofs.Common.{◌≡◌, ◌∙◌, ◌<◌, ℕ, suc, true, List, [], ◌∷◌, length, map, refl, ap, subst, inl}
 use Rattle.std.specs.List.{AllByRecursion}
 use Rattle.std.specs.Prelude.{Option, Some, None, Result, Ok, Err, IfOk, OnErr, OnOk, slice_get, zip}
 use Rattle.serde_json.specs.View.{view}
@@ -12,7 +12,8 @@ use Rattle.tc_keeper.specs.WithJobs.{told_of, told_part, works_of, WithJobs}
 use Rattle.tc_keeper.specs.declared.engines_fault.EnginesFault.{EnginesFault}
 use Rattle.tc_keeper.specs.declared.engines_fault.EnginesFault.TheVariants as engines
 use Rattle.tc_keeper.proofs.PlaceLaws.{at_each-so}
-use Rattle.tc_model.specs.Keyed.{Keyed, values_in}
+use Rattle.tc_model.specs.Keyed.{Keyed, values_in, on_value}
+use Rattle.tc_request_model.specs.Rendered.{Rendered, rendered}
 use Rattle.tc_request_model.specs.Reply.{Reply, schemas}
 use Rattle.tc_request_model.specs.Request.{Request, upsert, delete, get, query, flush, schema, scan, collect, refused}
 use Rattle.tc_schema_model.specs.SchemaText.{schema_text}
@@ -21,11 +22,12 @@ use Rattle.tc_plain_model.specs.Store.{documents}
 use Rattle.tc_lsm_model.specs.Contents.{Partition}
 use Rattle.tc_part_model.specs.PartState.{Told}
 use Rattle.tc_part_model.specs.PartView.{PartView}
-use Rattle.tc_run_model.specs.Kinds.{AreOfKinds}
-use Rattle.tc_run_model.specs.Known.{MayReply}
+use Rattle.tc_run_model.specs.Kinds.{AreRenderedOfKinds}
+use Rattle.tc_run_model.specs.Known.{MayRender, MayReply}
 use Rattle.tc_command.specs.Commands.{request_of_command}
-use Rattle.tc_run_model.specs.Replies.{AreReplies, replies_to, reply_to}
+use Rattle.tc_run_model.specs.Replies.{replies_to, reply_to}
 use Rattle.tc_run_model.specs.World.{Part, World, after, after_all}
+use Rattle.tc_run_model.proofs.KindLaws.{kinds_rendered}
 use Rattle.tc_run_model.proofs.ReplyLaws.{AreReplies-replies_to, IsNoCollect}
 use Rattle.tc_route.specs.Answers.{window_answered}
 use Rattle.tc_route.specs.Meaning.{routed_of}
@@ -72,12 +74,21 @@ answered_values : (list : List Routed) (w : World) → values_in (window_answere
 answered_values [] w = refl
 answered_values (r ∷ list) w = ap (λ replies. reply_to (request_of_command r.command) w ∷ replies) (answered_values list (after (request_of_command r.command) w))
 
-pub window_replied : {S D F W : Type 0} (eyes : Eyes S D F W) (es : List (WithJobs S D F W)) (list : List Routed) (known : Sight) (replies : Keyed Reply) → StandAt eyes es known → AllByRecursion IsForPart (requests_routed list) → AreOfKinds (requests_in list) (values_in replies)
-    → ((w : World) → HoldWorld eyes None es w → replies ≡ window_answered (map routed_of list) w) → MayReply (requests_routed list) (whole_of known) (values_in replies)
-window_replied eyes es list nothing replies stands for_parts kinds exact = subst (λ rs. AreOfKinds rs (values_in replies)) (requests_same list) kinds
-window_replied eyes es list (sees (Some p) w) replies stands for_parts kinds exact = subst (λ rs. AreOfKinds rs (values_in replies)) (requests_same list) kinds
-window_replied eyes es list (sees None w) replies stands for_parts kinds exact =
-    subst (AreReplies (requests_routed list) w) (sym (ap values_in (exact w stands) ∙ answered_values list w)) (AreReplies-replies_to (requests_routed list) w (no_collects (requests_routed list) for_parts))
+values_rendered : (replies : Keyed Reply) → values_in (map (on_value rendered) replies) ≡ map rendered (values_in replies)
+values_rendered [] = refl
+values_rendered (a ∷ replies) = ap (λ more. rendered a.1 ∷ more) (values_rendered replies)
+
+pub window_replied : {S D F W : Type 0} (eyes : Eyes S D F W) (es : List (WithJobs S D F W)) (list : List Routed) (known : Sight) (texts : Keyed Rendered) → StandAt eyes es known → AllByRecursion IsForPart (requests_routed list) → AreRenderedOfKinds (requests_in list) (values_in texts)
+    → ((w : World) → HoldWorld eyes None es w → texts ≡ map (on_value rendered) (window_answered (map routed_of list) w)) → MayRender (requests_routed list) (whole_of known) (values_in texts)
+window_replied eyes es list nothing texts stands for_parts kinds exact =
+    kinds_rendered (requests_routed list) (values_in texts) (subst (λ rs. AreRenderedOfKinds rs (values_in texts)) (requests_same list) kinds)
+window_replied eyes es list (sees (Some p) w) texts stands for_parts kinds exact =
+    kinds_rendered (requests_routed list) (values_in texts) (subst (λ rs. AreRenderedOfKinds rs (values_in texts)) (requests_same list) kinds)
+window_replied eyes es list (sees None w) texts stands for_parts kinds exact = (
+  replies_to (requests_routed list) w,
+  AreReplies-replies_to (requests_routed list) w (no_collects (requests_routed list) for_parts),
+  ap values_in (exact w stands) ∙ values_rendered (window_answered (map routed_of list) w) ∙ ap (map rendered) (answered_values list w),
+)
 
 -- the schemas of the partitions, behind a flush
 pub schemas_replied : {S D F W E : Type 0} (eyes : Eyes S D F W) (es : List (WithJobs S D F W)) (known : Sight) (r : Result (List Value) E) → StandAt eyes es known

@@ -15,6 +15,8 @@ use Rattle.tc_keeper.proofs.PlaceLaws.{at_each-length, at_each-so}
 use Rattle.tc_keeper.proofs.SharesLeft.{shares_left, AreLeft}
 use Rattle.tc_log.specs.declared.write.Write as log
 use Rattle.tc_lsm_model.specs.Contents.{Partition}
+use Rattle.tc_request_model.specs.Rendered.{RowText, row_text, rendered}
+use Rattle.tc_request_model.specs.Rendered as renders
 use Rattle.tc_request_model.specs.Reply.{collected, Row, started, turned_down}
 use Rattle.tc_request_model.specs.Request.{busy, no_scan, Ask, Request, upsert, delete, get, query, flush, schema, scan, collect, refused}
 use Rattle.tc_part_model.specs.PartState.{Told}
@@ -25,7 +27,7 @@ use Rattle.tc_plain_model.specs.Writes.{Pairs}
 use Rattle.tc_route.specs.Answers.{IsForParts}
 use Rattle.tc_route.specs.Meaning.{routed_of}
 use Rattle.tc_route.specs.declared.placed.Routed.{Routed}
-use Rattle.tc_run_model.specs.Known.{MayReply}
+use Rattle.tc_run_model.specs.Known.{MayRender}
 use Rattle.tc_run_model.specs.Replies.{IsCollectReply}
 use Rattle.tc_run_model.specs.World.{after, after_all, pairs_at, united, Part, Scan, World}
 use Rattle.tc_shown.specs.Scans.{AreOwn, GoesOn, ShowAll}
@@ -197,13 +199,13 @@ module _ {S D F W : Type 0} (eyes : Eyes S D F W) where
   serves_started k k' begun nothing none some shown lent held serves = (tt, tt)
   serves_started k k' begun (sees only w) none some shown lent held serves = shown_started only k k' begun w none some shown lent (held only w serves.0) serves.1
 
-  pub replies_started : (k : KeeperState S D F W) (ask : Ask) (known : Sight) → k.scan ≡ None → ServesAt eyes k known → MayReply (scan ask ∷ []) (whole_of known) (started ∷ [])
+  pub replies_started : (k : KeeperState S D F W) (ask : Ask) (known : Sight) → k.scan ≡ None → ServesAt eyes k known → MayRender (scan ask ∷ []) (whole_of known) (rendered started ∷ [])
   unfolding ServesAt
-  replies_started k ask nothing none serves = (inl refl, tt)
-  replies_started k ask (sees (Some p) w) none serves = (inl refl, tt)
+  replies_started k ask nothing none serves = (started ∷ [], (inl refl, tt), refl)
+  replies_started k ask (sees (Some p) w) none serves = (started ∷ [], (inl refl, tt), refl)
   replies_started k ask (sees None w) none serves =
       let idle = no_scan_out None w.running (subst (λ o. IsOutFor None o w.running) none serves.1.scan) in
-      (sym (ap (λ (o : Option Scan). if is_some o then turned_down busy else started) idle), tt)
+      (started ∷ [], (sym (ap (λ (o : Option Scan). if is_some o then turned_down busy else started) idle), tt), refl)
 
   pub serves_busy : (k : KeeperState S D F W) (ask : Ask) (known : Sight) → is_some k.scan ≡ true → ServesAt eyes k known → ServesAt eyes k (sight_after (scan ask ∷ []) known)
   unfolding ServesAt
@@ -212,13 +214,13 @@ module _ {S D F W : Type 0} (eyes : Eyes S D F W) where
       let s = scan_out only k.scan w.running some serves.1.scan in
       subst (λ (u : World). HoldWorld eyes only k.engines u × ShowWorld eyes.content only k u) (sym (busy_world ask w s.0 s.1)) serves
 
-  pub replies_busy : (k : KeeperState S D F W) (ask : Ask) (known : Sight) → is_some k.scan ≡ true → ServesAt eyes k known → MayReply (scan ask ∷ []) (whole_of known) (turned_down busy ∷ [])
+  pub replies_busy : (k : KeeperState S D F W) (ask : Ask) (known : Sight) → is_some k.scan ≡ true → ServesAt eyes k known → MayRender (scan ask ∷ []) (whole_of known) (rendered (turned_down busy) ∷ [])
   unfolding ServesAt
-  replies_busy k ask nothing some serves = (inr refl, tt)
-  replies_busy k ask (sees (Some p) w) some serves = (inr refl, tt)
+  replies_busy k ask nothing some serves = (turned_down busy ∷ [], (inr refl, tt), refl)
+  replies_busy k ask (sees (Some p) w) some serves = (turned_down busy ∷ [], (inr refl, tt), refl)
   replies_busy k ask (sees None w) some serves =
       let s = scan_out None k.scan w.running some serves.1.scan in
-      (sym (ap (λ (o : Option Scan). if is_some o then turned_down busy else started) s.1), tt)
+      (turned_down busy ∷ [], (sym (ap (λ (o : Option Scan). if is_some o then turned_down busy else started) s.1), tt), refl)
 
   -- ---- a collect
 
@@ -231,13 +233,13 @@ module _ {S D F W : Type 0} (eyes : Eyes S D F W) where
     record { each = serves.1.each; scan = subst (λ o. IsOutFor only o None) (sym none) tt; own = serves.1.own },
   )
 
-  pub replies_none : (k : KeeperState S D F W) (known : Sight) → k.scan ≡ None → ServesAt eyes k known → MayReply (collect ∷ []) (whole_of known) (turned_down no_scan ∷ [])
+  pub replies_none : (k : KeeperState S D F W) (known : Sight) → k.scan ≡ None → ServesAt eyes k known → MayRender (collect ∷ []) (whole_of known) (rendered (turned_down no_scan) ∷ [])
   unfolding ServesAt
-  replies_none k nothing none serves = (inr refl, tt)
-  replies_none k (sees (Some p) w) none serves = (inr refl, tt)
+  replies_none k nothing none serves = (turned_down no_scan ∷ [], (inr refl, tt), refl)
+  replies_none k (sees (Some p) w) none serves = (turned_down no_scan ∷ [], (inr refl, tt), refl)
   replies_none k (sees None w) none serves =
       let idle = no_scan_out None w.running (subst (λ o. IsOutFor None o w.running) none serves.1.scan) in
-      (subst (λ o. IsCollectReply o w (turned_down no_scan)) (sym idle) refl, tt)
+      (turned_down no_scan ∷ [], (subst (λ o. IsCollectReply o w (turned_down no_scan)) (sym idle) refl, tt), refl)
 
   -- where one was out, it is no more
   pub serves_collected : (k k' : KeeperState S D F W) (known : Sight) → k'.scan ≡ None → k'.shown ≡ k.shown → ((only : Option ℕ) (w : World) → HoldWorld eyes only k.engines w → HoldWorld eyes only k'.engines w)
@@ -261,26 +263,32 @@ module _ {S D F W : Type 0} (eyes : Eyes S D F W) where
     scanned k begun passes w s out reads went covered shows =
         collects eyes.content eyes.counts views counted grows (length w.parts) 0 k.shown begun.passes.items passes w.parts s.seen reads went covered shows.each out.1 (shows.own refl)
 
-    collected_so : (k : KeeperState S D F W) (begun : Begun F W) (passes : List (Pass F W)) (w : World) (running : Option Scan) (rows : List Row) (upto : List ℕ) → IsOutFor None (Some begun) running → AtEach (λ p s pass. s.failed ≡ false → Reads s.book pass.lens) 0 k.shown begun.passes.items
+    collected_so : (k : KeeperState S D F W) (begun : Begun F W) (passes : List (Pass F W)) (w : World) (running : Option Scan) (rows : List RowText) (upto : List ℕ) → IsOutFor None (Some begun) running → AtEach (λ p s pass. s.failed ≡ false → Reads s.book pass.lens) 0 k.shown begun.passes.items
         → AllZip (GoesOn eyes.counts) begun.passes.items passes → AtEach (λ p s pass. (s.failed ≡ false) × IsPrefix (kept_by pass.lens).history s.history) 0 k.shown passes → ShowWorld eyes.content None k w
-        → upto ≡ map (λ (pass : Pass F W). (kept_by pass.lens).upto) passes → ((parts : List Pairs) → ShowAll eyes.content passes parts → AreOwn (length parts) 0 parts → rows ≡ rows_over (ask_of begun.ask) (united parts))
-        → IsCollectReply running w (collected rows upto)
+        → upto ≡ map (λ (pass : Pass F W). (kept_by pass.lens).upto) passes → ((parts : List Pairs) → ShowAll eyes.content passes parts → AreOwn (length parts) 0 parts → rows ≡ map row_text (rows_over (ask_of begun.ask) (united parts)))
+        → (rs : List Row) × IsCollectReply running w (collected rs upto) × (rows ≡ map row_text rs)
     collected_so k begun passes w None rows upto out reads went covered shows counted_upto found = absurd out
     collected_so k begun passes w (Some s) rows upto out reads went covered shows counted_upto found =
         let c = scanned k begun passes w s out reads went covered shows in
-        let all : List Pairs = map (λ (p : ℕ × Part). pairs_at p.0 p.1) (zip (map (λ (pass : Pass F W). (kept_by pass.lens).upto) passes) w.parts) in record {
-          upto = upto;
-          may_cover = rw counted_upto (c.least, c.most);
-          is_over = rw counted_upto (ap (λ rs. collected rs (map (λ (pass : Pass F W). (kept_by pass.lens).upto) passes))
-              (found all c.shows (subst (λ n. AreOwn n 0 all) (sym c.many) c.own) ∙ ap (λ ask. rows_over ask (united all)) out.0));
-        }
+        let all : List Pairs = map (λ (p : ℕ × Part). pairs_at p.0 p.1) (zip (map (λ (pass : Pass F W). (kept_by pass.lens).upto) passes) w.parts) in (
+          rows_over (ask_of begun.ask) (united all),
+          record {
+            upto = upto;
+            may_cover = rw counted_upto (c.least, c.most);
+            is_over = rw counted_upto (ap (λ rs. collected rs (map (λ (pass : Pass F W). (kept_by pass.lens).upto) passes)) (ap (λ ask. rows_over ask (united all)) out.0));
+          },
+          found all c.shows (subst (λ n. AreOwn n 0 all) (sym c.many) c.own),
+        )
 
-    pub replies_collected : (k : KeeperState S D F W) (begun : Begun F W) (passes : List (Pass F W)) (rows : List Row) (upto : List ℕ) (known : Sight) → k.scan ≡ Some begun → AtEach (λ p s pass. s.failed ≡ false → Reads s.book pass.lens) 0 k.shown begun.passes.items
+    pub replies_collected : (k : KeeperState S D F W) (begun : Begun F W) (passes : List (Pass F W)) (rows : List RowText) (upto : List ℕ) (known : Sight) → k.scan ≡ Some begun → AtEach (λ p s pass. s.failed ≡ false → Reads s.book pass.lens) 0 k.shown begun.passes.items
         → AllZip (GoesOn eyes.counts) begun.passes.items passes → AtEach (λ p s pass. (s.failed ≡ false) × IsPrefix (kept_by pass.lens).history s.history) 0 k.shown passes
-        → upto ≡ map (λ (pass : Pass F W). (kept_by pass.lens).upto) passes → ((parts : List Pairs) → ShowAll eyes.content passes parts → AreOwn (length parts) 0 parts → rows ≡ rows_over (ask_of begun.ask) (united parts))
-        → ServesAt eyes k known → MayReply (collect ∷ []) (whole_of known) (collected rows upto ∷ [])
+        → upto ≡ map (λ (pass : Pass F W). (kept_by pass.lens).upto) passes → ((parts : List Pairs) → ShowAll eyes.content passes parts → AreOwn (length parts) 0 parts → rows ≡ map row_text (rows_over (ask_of begun.ask) (united parts)))
+        → (rs : List Row) × (rows ≡ map row_text rs) → ServesAt eyes k known → MayRender (collect ∷ []) (whole_of known) (renders.collected rows upto ∷ [])
     unfolding ServesAt
-    replies_collected k begun passes rows upto nothing some reads went covered counted_upto found serves = (inl (rows, upto, refl), tt)
-    replies_collected k begun passes rows upto (sees (Some p) w) some reads went covered counted_upto found serves = (inl (rows, upto, refl), tt)
-    replies_collected k begun passes rows upto (sees None w) some reads went covered counted_upto found serves =
-        (collected_so k begun passes w w.running rows upto (subst (λ o. IsOutFor None o w.running) some serves.1.scan) reads went covered serves.1 counted_upto found, tt)
+    replies_collected k begun passes rows upto nothing some reads went covered counted_upto found texts serves =
+        (collected texts.0 upto ∷ [], (inl (texts.0, upto, refl), tt), ap (λ ts. renders.collected ts upto ∷ []) texts.1)
+    replies_collected k begun passes rows upto (sees (Some p) w) some reads went covered counted_upto found texts serves =
+        (collected texts.0 upto ∷ [], (inl (texts.0, upto, refl), tt), ap (λ ts. renders.collected ts upto ∷ []) texts.1)
+    replies_collected k begun passes rows upto (sees None w) some reads went covered counted_upto found texts serves =
+        let so = collected_so k begun passes w w.running rows upto (subst (λ o. IsOutFor None o w.running) some serves.1.scan) reads went covered serves.1 counted_upto found in
+        (collected so.0 upto ∷ [], (so.1, tt), ap (λ ts. renders.collected ts upto ∷ []) so.2)

@@ -4,14 +4,14 @@ use Rattle.std.specs.Prelude.{Bool, HoldsAt, IfErr, IfOk, IfSome, IsTrue, None, 
 use Rattle.std.specs.List.{AllZip}
 use mathlib.Core.List.{IsPrefix}
 use Rattle.tc_command.specs.Commands.{ask_of}
-use Rattle.tc_command.specs.Replies.{reply_of}
+use Rattle.tc_command.specs.Replies.{rendered_of}
 use Rattle.tc_component.specs.Loaded.{IsLoadedOf}
 use Rattle.tc_keeper.specs.Places.{AtEach, IsAt}
 use Rattle.tc_keeper.specs.WithJobs.{with_reader, WithJobs}
 use Rattle.tc_lsm_model.specs.Contents as documents
 use Rattle.tc_request_model.specs.Request.{collect}
 use Rattle.tc_plain_model.specs.Writes.{Pairs}
-use Rattle.tc_run_model.specs.Known.{MayReply}
+use Rattle.tc_run_model.specs.Known.{MayRender}
 use Rattle.tc_run_model.specs.World.{pairs_at, Part, World}
 use Rattle.tc_shown.specs.Scans.{GoesOn, HasScanned, IsFaultOf, ShowAll}
 use Rattle.tc_shown.specs.Shown.{Reads}
@@ -80,10 +80,10 @@ module _ {S D F W : Type 0} (eyes : Eyes S D F W) (views : LawOfViews W eyes.con
   abbrev Ran : Result Scanned ScanFault → Type 0
   Ran outcome = HasScanned eyes.content eyes.counts (ask_of begun.ask) begun.passes.items passes outcome
 
-  pub collect_reply : (covered : Bool) (outcome : Result Scanned ScanFault) (known : Sight) → Ran outcome → Covers covered → ServesAt eyes k known → IfOk (collected_as covered outcome) (λ reply. MayReply (collect ∷ []) (whole_of known) (reply_of reply ∷ []))
+  pub collect_reply : (covered : Bool) (outcome : Result Scanned ScanFault) (known : Sight) → Ran outcome → Covers covered → ServesAt eyes k known → IfOk (collected_as covered outcome) (λ reply. MayRender (collect ∷ []) (whole_of known) (rendered_of reply ∷ []))
   collect_reply false outcome known ran covers serves = tt
   collect_reply true (Err fault) known ran covers serves = tt
-  collect_reply true (Ok s) known ran covers serves = replies_collected eyes views counted grows k begun passes s.rows s.upto known some reads ran.back (covers refl) ran.upto ran.rows serves
+  collect_reply true (Ok s) known ran covers serves = replies_collected eyes views counted grows k begun passes s.rows s.upto known some reads ran.back (covers refl) ran.upto ran.rows ran.texts serves
 
   shown_all : (w : World) → AllZip (GoesOn eyes.counts) begun.passes.items passes → Covers true → ShowWorld eyes.content None k w → (parts : List Pairs) × ShowAll eyes.content passes parts
   shown_all w went covers shows =

@@ -5,15 +5,16 @@ use Rattle.std.proofs.lemmas.List.{length-map}
 use Rattle.std.specs.Vec.{with_items}
 use Rattle.std.specs.declared.alloc.Global.{Global}
 use Rattle.std.specs.declared.vec.Vec.{Vec}
-use Rattle.tc_model.specs.Keyed.{Keyed, Ascends, values_in}
+use Rattle.tc_model.specs.Keyed.{Keyed, Ascends, values_in, on_value}
 use Rattle.tc_request_model.specs.Request.{Request}
 use Rattle.tc_part.specs.FilesOut.{LogIsOut, OnlyDevicesOut}
 use Rattle.tc_part_model.specs.Meaning.{IsPart}
 use Rattle.tc_part_model.specs.PartState.{Told}
 use Rattle.tc_part_model.specs.PartView.{PartView}
-use Rattle.tc_route.specs.Answers.{window_answered, AreAnswers, AreGathered, AreKindsGathered, IsForParts}
-use Rattle.tc_route.specs.Gathered.{gathered}
-use Rattle.tc_route.specs.Meaning.{replies_in, requests_at, routed_of}
+use Rattle.tc_route.specs.Answers.{window_answered, AreGathered, AreKindsGathered, IsForParts}
+use Rattle.tc_route.specs.Gathered.{gathered_rendered, AreRenderedGathered}
+use Rattle.tc_request_model.specs.Rendered.{rendered}
+use Rattle.tc_route.specs.Meaning.{rendered_in, requests_at, routed_of}
 use Rattle.tc_route.specs.Shares.{share}
 use Rattle.tc_route.specs.declared.placed.Placed.{Placed}
 use Rattle.tc_route.specs.declared.placed.Routed.{Routed}
@@ -37,7 +38,7 @@ use Rattle.tc_log.specs.declared.write.Write.{Write}
 use Rattle.tc_keeper.proofs.EnginesRun.{all_sound, counted_first, if_given, if_run, stops_first}
 use Rattle.tc_keeper.proofs.FramesTaken.{shares_framed}
 use Rattle.tc_keeper.proofs.JobsBeside.{staffed-many, with_jobs-length}
-use Rattle.tc_keeper.proofs.KindsGiven.{window_answers}
+use Rattle.tc_keeper.proofs.KindsGiven.{window_answers, RenderAnswers}
 use Rattle.tc_keeper.proofs.PlaceLaws.{at_each-join, at_each-length, at_each-read, at_each-so, refilled}
 use Rattle.tc_keeper.proofs.SharesRun.{each_ran, read_again}
 use Rattle.tc_keeper.proofs.WindowsHeld.{window_replied, world_held, worlds_kept, EachRan, HasRunBeside, Ran}
@@ -231,12 +232,13 @@ module _ {S D F W : Type 0} (eyes : Eyes S D F W) (window : Keyed Request) (es f
   ended_kept law for_parts only w h =
       subst (λ gs. KeepWorlds eyes only gs w (after_all (values_in window) w)) (sym end.engines) (worlds_kept eyes only window w es end.runs law h end.ran for_parts)
 
-  pub ended_replied : (xs : List (List Placed)) → answers ≡ map Ok xs → AreGathered → 0 < length es → Ascends window → All (λ r. IsForParts r.1) window → (w : World) → HoldWorld eyes None es w
-      → gathered (map replies_in xs) ≡ window_answered window w
-  ended_replied xs given law some ascends for_parts w h = window_replied eyes window w es end.runs xs law some h end.ran (end.said ∙ given) ascends for_parts
+  pub ended_replied : (xs : List (List Placed)) → answers ≡ map Ok xs → AreGathered → AreRenderedGathered → 0 < length es → Ascends window → All (λ r. IsForParts r.1) window → (w : World) → HoldWorld eyes None es w
+      → gathered_rendered (map rendered_in xs) ≡ map (on_value rendered) (window_answered window w)
+  ended_replied xs given law rendering some ascends for_parts w h = window_replied eyes window w es end.runs xs law rendering some h end.ran (end.said ∙ given) ascends for_parts
 
-  pub ended_answers : (xs : List (List Placed)) → answers ≡ map Ok xs → AreKindsGathered → 0 < length es → Ascends window → All (λ r. IsForParts r.1) window → AreAnswers window (gathered (map replies_in xs))
-  ended_answers xs given law some ascends for_parts = window_answers eyes window es end.runs xs law some (end.said ∙ given) end.ran ascends for_parts
+  pub ended_answers : (xs : List (List Placed)) → answers ≡ map Ok xs → AreKindsGathered → AreRenderedGathered → 0 < length es → Ascends window → All (λ r. IsForParts r.1) window
+      → RenderAnswers window (gathered_rendered (map rendered_in xs))
+  ended_answers xs given law rendering some ascends for_parts = window_answers eyes window es end.runs xs law rendering some (end.said ∙ given) end.ran ascends for_parts
 
   -- ---- faults
 

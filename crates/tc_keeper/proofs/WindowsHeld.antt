@@ -2,15 +2,16 @@
 use Rattle.std.proofs.Common.{◌≡◌, ◌∙◌, ℕ, suc, ◌<◌, List, [], ◌∷◌, length, map, refl, ap, sym, subst, inl, inr}
 use Rattle.std.specs.List.{AllByRecursion}
 use Rattle.std.specs.Prelude.{All, None, Option, Result, Ok, Err}
-use Rattle.tc_model.specs.Keyed.{Keyed, Ascends, values_in}
+use Rattle.tc_model.specs.Keyed.{Keyed, Ascends, values_in, on_value}
 use Rattle.tc_request_model.specs.Request.{Request}
 use Rattle.tc_part.specs.FilesOut.{OnlyDevicesOut}
 use Rattle.tc_part_model.specs.Meaning.{IsPart}
 use Rattle.tc_part_model.specs.PartState.{Told}
 use Rattle.tc_part_model.specs.PartView.{PartView}
 use Rattle.tc_route.specs.Answers.{answered, shares_answered, stores_of, window_answered, AreGathered, IsForParts, KeepOwn}
-use Rattle.tc_route.specs.Gathered.{gathered}
-use Rattle.tc_route.specs.Meaning.{replies_in}
+use Rattle.tc_route.specs.Gathered.{gathered, gathered_rendered, AreRenderedGathered}
+use Rattle.tc_request_model.specs.Rendered.{rendered}
+use Rattle.tc_route.specs.Meaning.{rendered_in}
 use Rattle.tc_route.specs.Shares.{share}
 use Rattle.tc_route.specs.declared.placed.Placed.{Placed}
 use Rattle.tc_run_model.specs.World.{Part, World, after_all}
@@ -149,15 +150,15 @@ nothing_run eyes only window w es h for_parts =
 
 -- what an engine answers is what its part of the world does
 answered_one : {S D F W : Type 0} (eyes : Eyes S D F W) (count : ℕ) (window : Keyed Request) (w : World) (p : ℕ) (part : Part) (f : WithJobs S D F W) (x : List Placed)
-    → RanFrom eyes None count window w p part (f, Ok x) → replies_in x ≡ answered w.limits (share count p window) part.now
+    → RanFrom eyes None count window w p part (f, Ok x) → rendered_in x ≡ map (on_value rendered) (answered w.limits (share count p window) part.now)
 answered_one eyes count window w p part f x from =
     let holds = from.holds tt in
     from.ran.0.replies holds.view holds.is holds.tells.components
-    ∙ ap (answered from.engine.engine.part.limits (share count p window)) holds.stores
-    ∙ sym (ap (λ l. answered l (share count p window) part.now) holds.under)
+    ∙ ap (λ s. map (on_value rendered) (answered from.engine.engine.part.limits (share count p window) s)) holds.stores
+    ∙ sym (ap (λ l. map (on_value rendered) (answered l (share count p window) part.now)) holds.under)
 
 answered_each : {S D F W : Type 0} (eyes : Eyes S D F W) (count : ℕ) (window : Keyed Request) (w : World) (p : ℕ) (rs : List (Ran S D F W)) (xs : List (List Placed)) (parts : List Part)
-    → map (λ r. r.1) rs ≡ map Ok xs → AtEach (RanFrom eyes None count window w) p parts rs → map replies_in xs ≡ shares_answered w.limits count p window (map (λ part. part.now) parts)
+    → map (λ r. r.1) rs ≡ map Ok xs → AtEach (RanFrom eyes None count window w) p parts rs → map rendered_in xs ≡ map (map (on_value rendered)) (shares_answered w.limits count p window (map (λ part. part.now) parts))
 answered_each eyes count window w p [] [] [] same from = refl
 answered_each eyes count window w p [] [] (part ∷ parts) same from = absurd from
 answered_each eyes count window w p [] (x ∷ xs) parts same from = absurd (cc)
@@ -166,17 +167,18 @@ answered_each eyes count window w p (r ∷ rs) (x ∷ xs) [] same from = absurd 
 answered_each eyes count window w p (r ∷ rs) (x ∷ xs) (part ∷ parts) same from =
     let first : r.1 ≡ Ok x = head_same same in
     let rest : map (λ r. r.1) rs ≡ map Ok xs = tail_same same in
-    let here : replies_in x ≡ answered w.limits (share count p window) part.now =
+    let here : rendered_in x ≡ map (on_value rendered) (answered w.limits (share count p window) part.now) =
     answered_one eyes count window w p part r.0 x
     (record { engine = from.0.engine; holds = from.0.holds; ran = subst (HasRunBeside eyes (share count p window) from.0.engine r.0) first from.0.ran }) in
-    let more : map replies_in xs ≡ shares_answered w.limits count (suc p) window (map (λ part. part.now) parts) = answered_each eyes count window w (suc p) rs xs parts rest from.1 in
-    ap (λ first. first ∷ map replies_in xs) here ∙ ap (λ all. answered w.limits (share count p window) part.now ∷ all) more
+    let more : map rendered_in xs ≡ map (map (on_value rendered)) (shares_answered w.limits count (suc p) window (map (λ part. part.now) parts)) = answered_each eyes count window w (suc p) rs xs parts rest from.1 in
+    ap (λ first. first ∷ map rendered_in xs) here ∙ ap (λ all. map (on_value rendered) (answered w.limits (share count p window) part.now) ∷ all) more
 
-pub window_replied : {S D F W : Type 0} (eyes : Eyes S D F W) (window : Keyed Request) (w : World) (es : List (WithJobs S D F W)) (rs : List (Ran S D F W)) (xs : List (List Placed)) → AreGathered
+pub window_replied : {S D F W : Type 0} (eyes : Eyes S D F W) (window : Keyed Request) (w : World) (es : List (WithJobs S D F W)) (rs : List (Ran S D F W)) (xs : List (List Placed)) → AreGathered → AreRenderedGathered
     → 0 < length es → HoldWorld eyes None es w → EachRan eyes window es rs → map (λ r. r.1) rs ≡ map Ok xs → Ascends window → All (λ r. IsForParts r.1) window
-    → gathered (map replies_in xs) ≡ window_answered window w
-window_replied eyes window w es rs xs law some h ran answers ascends for_parts =
+    → gathered_rendered (map rendered_in xs) ≡ map (on_value rendered) (window_answered window w)
+window_replied eyes window w es rs xs law rendering some h ran answers ascends for_parts =
     let many : length w.parts ≡ length es = many_parts eyes None w es h in
-    ap gathered (answered_each eyes (length es) window w 0 rs xs w.parts answers (ran_from eyes None window w es rs h ran))
-    ∙ ap (λ n. gathered (shares_answered w.limits n 0 window (stores_of w))) (sym many)
-    ∙ law w window (subst (λ n. 0 < n) (sym many) some) (h.own refl) ascends for_parts
+    ap gathered_rendered (answered_each eyes (length es) window w 0 rs xs w.parts answers (ran_from eyes None window w es rs h ran))
+    ∙ rendering (shares_answered w.limits (length es) 0 window (stores_of w))
+    ∙ ap (λ n. map (on_value rendered) (gathered (shares_answered w.limits n 0 window (stores_of w)))) (sym many)
+    ∙ ap (map (on_value rendered)) (law w window (subst (λ n. 0 < n) (sym many) some) (h.own refl) ascends for_parts)

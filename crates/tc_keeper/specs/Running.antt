@@ -1,7 +1,8 @@
 -- What comes of the share of a window that an engine gets: what a call of its window promises.
 use Rattle.std.specs.Prelude.{◌≡◌, ◌≤◌, ◌+◌, ◌^◌, false, true, List, [], All, length, map, Result, IfErr, IfOk, IsErrOf, OnErr, OnOk}
 use Rattle.std.specs.Map.{keys_of}
-use Rattle.tc_model.specs.Keyed.{Keyed, values_in}
+use Rattle.tc_model.specs.Keyed.{Keyed, values_in, on_value}
+use Rattle.tc_request_model.specs.Rendered.{rendered}
 use Rattle.tc_request_model.specs.Request.{Request}
 use Rattle.tc_store.specs.DiskFile.{DiskFile}
 use Rattle.tc_log.specs.declared.write.Write.{Write}
@@ -16,9 +17,9 @@ use Rattle.tc_part_model.specs.Meaning.{IsPart, plain_of}
 use Rattle.tc_part_model.specs.PartState.{AreTold, PartState, Told}
 use Rattle.tc_part_model.specs.PartView.{PartView}
 use Rattle.tc_route.specs.Answers.{answered}
-use Rattle.tc_route.specs.Meaning.{replies_in}
+use Rattle.tc_route.specs.Meaning.{rendered_in}
 use Rattle.tc_route.specs.declared.placed.Placed.{Placed}
-use Rattle.tc_run_model.specs.Kinds.{AreOfKinds}
+use Rattle.tc_run_model.specs.Kinds.{AreRenderedOfKinds}
 use Rattle.tc_running.specs.Jobs.{JobsState}
 use Rattle.tc_work.specs.Asked.{most_writes}
 use Rattle.tc_work.specs.EngineState.{EngineState}
@@ -45,9 +46,9 @@ RanMoments tell moments rs old new =
 
 -- what an engine promises of a window, by its share and its answer, with any jobs that are out
 pub record HasRun {S D F W : Type 0} (eyes : Eyes S D F W) (rs : Keyed Request) (old new : EngineState S D F W) (answer : Result (List Placed) EngineFault) : Type 0 where
-  pub replies : (p : PartView) → IsPart (told_part eyes old.part) p → AreTold (told_part eyes old.part).components → IfOk answer (λ replies. replies_in replies ≡ answered old.part.limits rs (plain_of (told_part eyes old.part) p))
-  pub places : IfOk answer (λ replies. keys_of (replies_in replies) ≡ keys_of rs)
-  pub kinds : IfOk answer (λ replies. AreOfKinds (values_in rs) (values_in (replies_in replies)))
+  pub replies : (p : PartView) → IsPart (told_part eyes old.part) p → AreTold (told_part eyes old.part).components → IfOk answer (λ replies. rendered_in replies ≡ map (on_value rendered) (answered old.part.limits rs (plain_of (told_part eyes old.part) p)))
+  pub places : IfOk answer (λ replies. keys_of (rendered_in replies) ≡ keys_of rs)
+  pub kinds : IfOk answer (λ replies. AreRenderedOfKinds (values_in rs) (values_in (rendered_in replies)))
   pub windowed : OnOk answer ((p : PartView) → IsPart (told_part eyes old.part) p → IsWindowed old.part.limits (values_in rs) (told_part eyes old.part) p (told_part eyes new.part))
   pub sound : OnOk answer (new.part.failed ≡ false)
   pub same : HasOnlyRun old.part new.part

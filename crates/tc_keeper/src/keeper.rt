@@ -59,12 +59,12 @@ impl<S: Store, P: Pace> Keeper<S, P> {
     ghost use Rattle.std.specs.Prelude.{◌≡◌, ◌∷◌, [], ℕ, true, length, map, All, None, Some, Ok, Option, IfErr, IfOk, IfSome, is_some, OnErr, OnOk};
     ghost use Rattle.serde_json.specs.View.{view};
     ghost use Rattle.tc_command.specs.Commands.{ask_of};
-    ghost use Rattle.tc_command.specs.Replies.{reply_of};
+    ghost use Rattle.tc_command.specs.Replies.{rendered_of};
     ghost use Rattle.tc_model.specs.Keyed.{values_in};
     ghost use Rattle.tc_request_model.specs.Reply.{schemas};
     ghost use Rattle.tc_request_model.specs.Request.{collect, flush, scan, schema};
-    ghost use Rattle.tc_route.specs.Meaning.{replies_in};
-    ghost use Rattle.tc_run_model.specs.Known.{MayReply};
+    ghost use Rattle.tc_route.specs.Meaning.{rendered_in};
+    ghost use Rattle.tc_run_model.specs.Known.{MayRender, MayReply};
     ghost use Rattle.tc_run_model.specs.World.{World, after_all};
     ghost use Rattle.tc_work.specs.Moving.{eyes};
     ghost use Rattle.tc_keeper.specs.Calls.{faults_of, settings_of, HoldsAt, IsSpent, KeepsAt, MayAsk, Rests};
@@ -116,7 +116,7 @@ impl<S: Store, P: Pace> Keeper<S, P> {
         requires works { MayServe S.history S.Device.history S.Frozen.content self.old }
         requires together { AreTogether commands.items }
         ensures works { OnOk result (MayServe S.history S.Device.history S.Frozen.content self.new) }
-        ensures replies { (known : Sight) → ServesAt (eyes S.history S.Device.history S.Frozen.content S.Device.name S.Frozen.size S.Watch.counts) self.old known → IfOk result (λ replies. MayReply (requests_routed commands.items) (whole_of known) (values_in (replies_in replies))) }
+        ensures replies { (known : Sight) → ServesAt (eyes S.history S.Device.history S.Frozen.content S.Device.name S.Frozen.size S.Watch.counts) self.old known → IfOk result (λ replies. MayRender (requests_routed commands.items) (whole_of known) (values_in (rendered_in replies))) }
         ensures held { (known : Sight) → ServesAt (eyes S.history S.Device.history S.Frozen.content S.Device.name S.Frozen.size S.Watch.counts) self.old known → OnOk result (ServesAt (eyes S.history S.Device.history S.Frozen.content S.Device.name S.Frozen.size S.Watch.counts) self.new (sight_after (requests_routed commands.items) known)) }
         ensures failed { (only : Option ℕ) (w : World) → ServesAt (eyes S.history S.Device.history S.Frozen.content S.Device.name S.Frozen.size S.Watch.counts) self.old (sees only w) → OnErr result (FailsAt (eyes S.history S.Device.history S.Frozen.content S.Device.name S.Frozen.size S.Watch.counts) self.new only w (after_all (requests_routed commands.items) w)) }
         ensures undamaged { (w : World) → ServesAt (eyes S.history S.Device.history S.Frozen.content S.Device.name S.Frozen.size S.Watch.counts) self.old (sees None w) → IfErr result IsNoDamage }
@@ -217,7 +217,7 @@ impl<S: Store, P: Pace> Keeper<S, P> {
         P: 'static,
         requires works { MayServe S.history S.Device.history S.Frozen.content self.old }
         ensures works { OnOk result (MayServe S.history S.Device.history S.Frozen.content self.new) }
-        ensures reply { (known : Sight) → ServesAt (eyes S.history S.Device.history S.Frozen.content S.Device.name S.Frozen.size S.Watch.counts) self.old known → IfOk result (λ reply. MayReply (scan (ask_of ask) ∷ []) (whole_of known) (reply_of reply ∷ [])) }
+        ensures reply { (known : Sight) → ServesAt (eyes S.history S.Device.history S.Frozen.content S.Device.name S.Frozen.size S.Watch.counts) self.old known → IfOk result (λ reply. MayRender (scan (ask_of ask) ∷ []) (whole_of known) (rendered_of reply ∷ [])) }
         ensures held { (known : Sight) → ServesAt (eyes S.history S.Device.history S.Frozen.content S.Device.name S.Frozen.size S.Watch.counts) self.old known → OnOk result (ServesAt (eyes S.history S.Device.history S.Frozen.content S.Device.name S.Frozen.size S.Watch.counts) self.new (sight_after (scan (ask_of ask) ∷ []) known)) }
         ensures failed { (only : Option ℕ) (w : World) → ServesAt (eyes S.history S.Device.history S.Frozen.content S.Device.name S.Frozen.size S.Watch.counts) self.old (sees only w) → OnErr result (FailsAt (eyes S.history S.Device.history S.Frozen.content S.Device.name S.Frozen.size S.Watch.counts) self.new only w (w)) }
         ensures undamaged { (w : World) → ServesAt (eyes S.history S.Device.history S.Frozen.content S.Device.name S.Frozen.size S.Watch.counts) self.old (sees None w) → IfErr result IsNoDamage }
@@ -248,7 +248,7 @@ impl<S: Store, P: Pace> Keeper<S, P> {
         P: 'static,
         requires works { MayServe S.history S.Device.history S.Frozen.content self.old }
         ensures works { OnOk result (MayServe S.history S.Device.history S.Frozen.content self.new) }
-        ensures reply { (known : Sight) → ServesAt (eyes S.history S.Device.history S.Frozen.content S.Device.name S.Frozen.size S.Watch.counts) self.old known → IfOk result (λ reply. MayReply (collect ∷ []) (whole_of known) (reply_of reply ∷ [])) }
+        ensures reply { (known : Sight) → ServesAt (eyes S.history S.Device.history S.Frozen.content S.Device.name S.Frozen.size S.Watch.counts) self.old known → IfOk result (λ reply. MayRender (collect ∷ []) (whole_of known) (rendered_of reply ∷ [])) }
         ensures held { (known : Sight) → ServesAt (eyes S.history S.Device.history S.Frozen.content S.Device.name S.Frozen.size S.Watch.counts) self.old known → OnOk result (ServesAt (eyes S.history S.Device.history S.Frozen.content S.Device.name S.Frozen.size S.Watch.counts) self.new (sight_after (collect ∷ []) known)) }
         ensures failed { (only : Option ℕ) (w : World) → ServesAt (eyes S.history S.Device.history S.Frozen.content S.Device.name S.Frozen.size S.Watch.counts) self.old (sees only w) → OnErr result (FailsAt (eyes S.history S.Device.history S.Frozen.content S.Device.name S.Frozen.size S.Watch.counts) self.new only w (w)) }
         ensures undamaged { (w : World) → ServesAt (eyes S.history S.Device.history S.Frozen.content S.Device.name S.Frozen.size S.Watch.counts) self.old (sees None w) → IfErr result IsNoDamage }

@@ -40,8 +40,8 @@ impl<S: Store, P: Pace> Partitions<S, P> {
     ghost use Rattle.std.specs.Prelude.{ℕ, None, Ok, Option, OnErr, OnOk};
     ghost use Rattle.tc_request_model.specs.Reply.{schemas};
     ghost use Rattle.tc_request_model.specs.Request.{flush, schema};
-    ghost use Rattle.tc_route.specs.Meaning.{replies_in};
-    ghost use Rattle.tc_run_model.specs.Known.{MayReply};
+    ghost use Rattle.tc_route.specs.Meaning.{rendered_in};
+    ghost use Rattle.tc_run_model.specs.Known.{MayRender, MayReply};
     ghost use Rattle.tc_run_model.specs.World.{World, after_all};
     ghost use Rattle.tc_keeper.specs.Calls.{faults_of, settings_of, HoldsAt, IsSpent, KeepsAt, MayAsk, Rests};
     ghost use Rattle.tc_keeper.specs.Faults.{fault_in, HasDiskCause, IsNoDamage, IsOfStore};
@@ -74,7 +74,7 @@ impl<S: Store, P: Pace> Partitions<S, P> {
         requires works { MayAsk S.history S.Device.history S.Frozen.content self.old }
         requires together { AreTogether commands.items }
         ensures works { OnOk result (MayAsk S.history S.Device.history S.Frozen.content self.new) }
-        ensures replies { (known : Sight) → HoldsAt (eyes S.history S.Device.history S.Frozen.content S.Device.name S.Frozen.size S.Watch.counts) self.old known → IfOk result (λ replies. MayReply (requests_routed commands.items) (whole_of known) (values_in (replies_in replies))) }
+        ensures replies { (known : Sight) → HoldsAt (eyes S.history S.Device.history S.Frozen.content S.Device.name S.Frozen.size S.Watch.counts) self.old known → IfOk result (λ replies. MayRender (requests_routed commands.items) (whole_of known) (values_in (rendered_in replies))) }
         ensures held { (known : Sight) → HoldsAt (eyes S.history S.Device.history S.Frozen.content S.Device.name S.Frozen.size S.Watch.counts) self.old known → OnOk result (HoldsAt (eyes S.history S.Device.history S.Frozen.content S.Device.name S.Frozen.size S.Watch.counts) self.new (sight_after (requests_routed commands.items) known)) }
         ensures failed { (only : Option ℕ) (w : World) → HoldsAt (eyes S.history S.Device.history S.Frozen.content S.Device.name S.Frozen.size S.Watch.counts) self.old (sees only w) → OnErr result (KeepsAt (eyes S.history S.Device.history S.Frozen.content S.Device.name S.Frozen.size S.Watch.counts) self.new only w (after_all (requests_routed commands.items) w)) }
         ensures undamaged { (w : World) → HoldsAt (eyes S.history S.Device.history S.Frozen.content S.Device.name S.Frozen.size S.Watch.counts) self.old (sees None w) → IfErr result IsNoDamage }

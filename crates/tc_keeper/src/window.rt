@@ -2,13 +2,14 @@
 
 ghost use Rattle.std.specs.Prelude.{◌≡◌, ◌<◌, ◌≤◌, ℕ, [], false, None, Ok, Option, length, map, All, IfErr, IfOk, IsErrOf, OnErr, OnOk, vec_capacity, vec_len, zip};
 ghost use Rattle.std.specs.Map.{keys_of};
-ghost use Rattle.tc_model.specs.Keyed.{values_in, Ascends};
-ghost use Rattle.tc_run_model.specs.Kinds.{AreOfKinds};
+ghost use Rattle.tc_model.specs.Keyed.{values_in, Ascends, on_value};
+ghost use Rattle.tc_run_model.specs.Kinds.{AreRenderedOfKinds};
 ghost use Rattle.tc_run_model.specs.World.{World, after_all};
 ghost use Rattle.tc_part.specs.FilesOut.{LogIsOut, OnlyDevicesOut};
 ghost use Rattle.tc_part_model.specs.PartState.{told};
 ghost use Rattle.tc_route.specs.Answers.{window_answered};
-ghost use Rattle.tc_route.specs.Meaning.{replies_in, requests_at, routed_of};
+ghost use Rattle.tc_request_model.specs.Rendered.{rendered};
+ghost use Rattle.tc_route.specs.Meaning.{rendered_in, requests_at, routed_of};
 ghost use Rattle.tc_route.specs.Shares.{share};
 ghost use Rattle.tc_work.specs.Asked.{most_writes, requests_in, IsWindow};
 ghost use Rattle.tc_work.specs.Moving.{eyes};
@@ -28,7 +29,9 @@ use std::thread::Threads;
 use tc_bytes::Memory;
 use tc_log::Write;
 use tc_part::parts_hold_devices;
-use tc_route::{Replies, Routed, gather, kinds_are_gathered, replies_are_gathered, split};
+use tc_route::{
+    Replies, Routed, gather, kinds_are_gathered, rendered_are_gathered, replies_are_gathered, split,
+};
 use tc_running::Pace;
 use tc_store::Store;
 
@@ -52,7 +55,7 @@ impl<S: Store, P: Pace> Engines<S, P> {
 
         // From a world at which the engines stand, the replies are the world's, and the engines stand at what it leaves. So does one
         // engine by itself.
-        ensures replies { (w : World) → HoldWorld (eyes S.history S.Device.history S.Frozen.content S.Device.name S.Frozen.size S.Watch.counts) None self.old w → IfOk result (λ replies. replies_in replies ≡ window_answered (map routed_of commands.items) w) }
+        ensures replies { (w : World) → HoldWorld (eyes S.history S.Device.history S.Frozen.content S.Device.name S.Frozen.size S.Watch.counts) None self.old w → IfOk result (λ replies. rendered_in replies ≡ map (on_value rendered) (window_answered (map routed_of commands.items) w)) }
         ensures held { (only : Option ℕ) (w : World) → HoldWorld (eyes S.history S.Device.history S.Frozen.content S.Device.name S.Frozen.size S.Watch.counts) only self.old w → OnOk result (HoldWorld (eyes S.history S.Device.history S.Frozen.content S.Device.name S.Frozen.size S.Watch.counts) only self.new (after_all (requests_in commands.items) w)) }
 
         // Behind a fault each engine by itself is as before its share or behind it, or has failed and its files keep one of these.
@@ -62,8 +65,8 @@ impl<S: Store, P: Pace> Engines<S, P> {
         ensures frames { OnOk result (AtEach (λ p run frame. HasFramed (eyes S.history S.Device.history S.Frozen.content S.Device.name S.Frozen.size S.Watch.counts) (share (length self.old) p (map routed_of commands.items)) run.0.engine run.1.engine frame.items) 0 (zip self.old self.new) frames.new.items) }
 
         // Over every store each reply is at the place of its command, and of its kind.
-        ensures places { IfOk result (λ replies. keys_of (replies_in replies) ≡ keys_of (map routed_of commands.items)) }
-        ensures kinds { IfOk result (λ replies. AreOfKinds (requests_in commands.items) (values_in (replies_in replies))) }
+        ensures places { IfOk result (λ replies. keys_of (rendered_in replies) ≡ keys_of (map routed_of commands.items)) }
+        ensures kinds { IfOk result (λ replies. AreRenderedOfKinds (requests_in commands.items) (values_in (rendered_in replies))) }
 
         // Over every store each engine may run on, and only what a window writes has changed. The jobs that are out stay.
         ensures sound { OnOk result (All (λ e. e.engine.part.failed ≡ false) self.new) }
@@ -86,6 +89,7 @@ impl<S: Store, P: Pace> Engines<S, P> {
     {
         replies_are_gathered();
         kinds_are_gathered();
+        rendered_are_gathered();
         parts_hold_devices();
         let lists = split(alloc, commands, self.seats.len() as u32)?;
         let room = make_room(alloc, self.seats.len(), frames)?;

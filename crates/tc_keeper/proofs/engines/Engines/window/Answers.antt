@@ -4,10 +4,10 @@ use Rattle.std.specs.Vec.{with_items}
 use Rattle.std.specs.declared.alloc.Global.{Global}
 use Rattle.std.specs.declared.vec.Vec.{Vec}
 use Rattle.tc_model.specs.Keyed.{values_in}
-use Rattle.tc_route.specs.Gathered.{gathered}
-use Rattle.tc_route.specs.Meaning.{replies_in, routed_of}
+use Rattle.tc_route.specs.Gathered.{gathered_rendered}
+use Rattle.tc_route.specs.Meaning.{rendered_in, routed_of}
 use Rattle.tc_route.specs.declared.placed.Routed.{Routed}
-use Rattle.tc_run_model.specs.Kinds.{AreOfKinds}
+use Rattle.tc_run_model.specs.Kinds.{AreRenderedOfKinds}
 use Rattle.tc_work.specs.Asked.{requests_in, IsWindow}
 use Rattle.tc_work.specs.Moving.{eyes}
 use Rattle.tc_keeper.specs.EngineFaults.{IsDiskOf}
@@ -334,7 +334,7 @@ returns-clause-replies g c = λ w h. c.in_ok-replies.ensures ∙ ended_replied
     (map (λ (s : Seat g.row.S.Denot g.row.P.Denot g.row.S-Watch.Denot g.row.S-Device.Denot g.row.S-Frozen.Denot). s.engine)
     (with_items (with_items c.self.inside.seats c.run_lists.new.seats) c.take_answers.new.seats).items) c.self.inside.running.items)
     (map (λ (s : Seat g.row.S.Denot g.row.P.Denot g.row.S-Watch.Denot g.row.S-Device.Denot g.row.S-Frozen.Denot). s.answer) c.deref_mut-2.result.now) (all_ended g c)
-    c.in_ok-parts.parts.items c.in_ok-parts.ensures.all c.replies_are_gathered.ensures c.requires.some c.requires.ascending
+    c.in_ok-parts.parts.items c.in_ok-parts.ensures.all c.replies_are_gathered.ensures c.rendered_are_gathered.ensures c.requires.some c.requires.ascending
     (window_for_parts c.args.commands.items c.requires.window) w h
 
 pub returns-clause-frames : goal.returns-clause-frames
@@ -365,25 +365,25 @@ returns-clause-held g c = λ only w h. ended_held (eyes g.S.Store.history g.S.De
 
 pub returns-clause-places : goal.returns-clause-places
 returns-clause-places g c = ap keys_of c.in_ok-replies.ensures
-    ∙ places_of (map routed_of c.args.commands.items) (gathered (map replies_in c.in_ok-parts.parts.items))
+    ∙ places_of (map routed_of c.args.commands.items) (gathered_rendered (map rendered_in c.in_ok-parts.parts.items))
     (ended_answers (eyes g.S.Store.history g.S.Device.Device.history g.S.Frozen.Frozen.content g.S.Device.Device.name g.S.Frozen.Frozen.size g.S.Watch.Watch.counts)
     (map routed_of c.args.commands.items) c.args.self.now (with_jobs
     (map (λ (s : Seat g.row.S.Denot g.row.P.Denot g.row.S-Watch.Denot g.row.S-Device.Denot g.row.S-Frozen.Denot). s.engine)
     (with_items (with_items c.self.inside.seats c.run_lists.new.seats) c.take_answers.new.seats).items) c.self.inside.running.items)
     (map (λ (s : Seat g.row.S.Denot g.row.P.Denot g.row.S-Watch.Denot g.row.S-Device.Denot g.row.S-Frozen.Denot). s.answer) c.deref_mut-2.result.now) (all_ended g c)
-    c.in_ok-parts.parts.items c.in_ok-parts.ensures.all c.kinds_are_gathered.ensures c.requires.some c.requires.ascending
+    c.in_ok-parts.parts.items c.in_ok-parts.ensures.all c.kinds_are_gathered.ensures c.rendered_are_gathered.ensures c.requires.some c.requires.ascending
     (window_for_parts c.args.commands.items c.requires.window))
 
 pub returns-clause-kinds : goal.returns-clause-kinds
 returns-clause-kinds g c =
-    subst (λ replies. AreOfKinds (requests_in c.args.commands.items) (values_in replies)) (sym c.in_ok-replies.ensures)
-    (kinds_of (map routed_of c.args.commands.items) (gathered (map replies_in c.in_ok-parts.parts.items))
+    subst (λ replies. AreRenderedOfKinds (requests_in c.args.commands.items) (values_in replies)) (sym c.in_ok-replies.ensures)
+    (kinds_of (map routed_of c.args.commands.items) (gathered_rendered (map rendered_in c.in_ok-parts.parts.items))
     (ended_answers (eyes g.S.Store.history g.S.Device.Device.history g.S.Frozen.Frozen.content g.S.Device.Device.name g.S.Frozen.Frozen.size
     g.S.Watch.Watch.counts) (map routed_of c.args.commands.items) c.args.self.now
     (with_jobs (map (λ (s : Seat g.row.S.Denot g.row.P.Denot g.row.S-Watch.Denot g.row.S-Device.Denot g.row.S-Frozen.Denot). s.engine)
     (with_items (with_items c.self.inside.seats c.run_lists.new.seats) c.take_answers.new.seats).items) c.self.inside.running.items)
     (map (λ (s : Seat g.row.S.Denot g.row.P.Denot g.row.S-Watch.Denot g.row.S-Device.Denot g.row.S-Frozen.Denot). s.answer) c.deref_mut-2.result.now)
-    (all_ended g c) c.in_ok-parts.parts.items c.in_ok-parts.ensures.all c.kinds_are_gathered.ensures c.requires.some c.requires.ascending
+    (all_ended g c) c.in_ok-parts.parts.items c.in_ok-parts.ensures.all c.kinds_are_gathered.ensures c.rendered_are_gathered.ensures c.requires.some c.requires.ascending
     (window_for_parts c.args.commands.items c.requires.window)))
 
 pub returns-clause-sound : goal.returns-clause-sound

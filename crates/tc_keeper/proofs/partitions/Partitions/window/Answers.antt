@@ -4,7 +4,9 @@ use Rattle.tc_keeper.proofs.PlaceLaws.{at_each-length}
 use Rattle.tc_keeper.specs.Running.{HasOnlyRun}
 use Rattle.tc_work.specs.Moving.{eyes}
 use Rattle.tc_route.specs.Answers.{window_answered}
-use Rattle.tc_route.specs.Meaning.{replies_in, routed_of}
+use Rattle.tc_model.specs.Keyed.{on_value}
+use Rattle.tc_request_model.specs.Rendered.{rendered}
+use Rattle.tc_route.specs.Meaning.{rendered_in, routed_of}
 use Rattle.tc_keeper.specs.Standing.{KeepWorlds}
 use Rattle.tc_run_model.specs.World.{after_all}
 use Rattle.tc_work.specs.Asked.{requests_in}
@@ -52,9 +54,9 @@ pub returns-in-Ok-clause-replies : goal.returns-in-Ok-clause-replies
 unfolding HoldsAt
 returns-in-Ok-clause-replies g c = λ known stands.
     window_replied (eyes g.S.Store.history g.S.Device.Device.history g.S.Frozen.Frozen.content g.S.Device.Device.name g.S.Frozen.Frozen.size g.S.Watch.Watch.counts)
-    c.args.self.now.engines c.args.commands.items known (replies_in c.in-Ok.replies) stands (all_for_part c.args.commands.items c.requires.together)
+    c.args.self.now.engines c.args.commands.items known (rendered_in c.in-Ok.replies) stands (all_for_part c.args.commands.items c.requires.together)
     c.in-Ok.ensures.kinds
-    (λ w h. subst (λ r. IfOk r (λ replies. replies_in replies ≡ window_answered (map routed_of c.args.commands.items) w)) c.in-Ok.is (c.window.ensures.replies w h))
+    (λ w h. subst (λ r. IfOk r (λ replies. rendered_in replies ≡ map (on_value rendered) (window_answered (map routed_of c.args.commands.items) w))) c.in-Ok.is (c.window.ensures.replies w h))
 
 pub returns-in-Ok-clause-held : goal.returns-in-Ok-clause-held
 unfolding HoldsAt
