@@ -1,26 +1,29 @@
 -- Laws of lines of which some are refused.
-use Rattle.std.proofs.Common.{◌≡◌, ◌≤◌, ℕ, ◌+◌, List, [], ◌∷◌, ◌++◌, length, map, refl, ap, arith}
+use Rattle.std.proofs.Common.{◌≡◌, ◌∙◌, ◌≤◌, ℕ, ◌+◌, List, [], ◌∷◌, ◌++◌, length, map, refl, ap, arith}
 use Rattle.std.specs.Prelude.{Option, Some, None}
 use Rattle.std.proofs.lemmas.List.{map-append}
 use Rattle.tc_request_model.specs.Request.{Request, upsert, delete, get, query, flush, schema, scan, collect, refused}
-use Rattle.tc_request_model.specs.Reply.{Reply}
+use Rattle.tc_request_model.specs.Rendered.{Rendered, rendered}
+use Rattle.tc_request_model.specs.Reply.{Reply, reply_line}
+use Rattle.tc_request_model.proofs.RenderedLines.{rendered_is_line}
 use Rattle.tc_model.specs.Limits.{max_line}
 use Rattle.tc_request_model.specs.Light.{IsLight}
 use Rattle.tc_command.specs.Commands.{request_of_command}
 use Rattle.tc_command.specs.declared.refusals.Refusal.{Refusal}
-use Rattle.tc_command.specs.Replies.{reply_of}
+use Rattle.tc_command.specs.Replies.{rendered_of}
 use Rattle.tc_model.specs.Keyed.{values_in}
-use Rattle.tc_route.specs.Meaning.{replies_in}
+use Rattle.tc_route.specs.Meaning.{rendered_in}
 use Rattle.tc_route.specs.declared.placed.Placed.{Placed}
 use Rattle.tc_route.specs.declared.placed.Routed.{Routed}
 use Rattle.tc_run_model.specs.World.{World, after, after_all}
 use Rattle.tc_run_model.specs.Replies.{AreReplies}
+use Rattle.tc_run_model.specs.Course.{each_line}
 use Rattle.tc_run_model.specs.Kinds.{AreOfKinds}
 use Rattle.tc_run_model.specs.Known.{MayReply}
 use Rattle.tc_run_model.specs.Windows.{max_window}
 use Rattle.tc_keeper.specs.Sight.{nothing, sees, sight_after, Sight}
 use Rattle.tc_keeper.specs.Together.{requests_routed, weight_of, weight_in, AreTogether}
-use Rattle.tc_server.specs.Window.{mixed, count_asked, request_refused, reply_refused, IsSoundWindow}
+use Rattle.tc_server.specs.Window.{mixed, count_asked, each_rendered, rendered_refused, request_refused, reply_refused, IsSoundWindow}
 use Rattle.tc_server.specs.declared.window.Window.{Window}
 
 -- ---- lists
@@ -91,9 +94,26 @@ mixed_given lines rs (Some w) xs same given = mixed_replies lines rs w xs same g
 mixed_given lines rs None xs same given = mixed_kinds lines rs xs same given
 
 -- the replies of a list, without their places
-pub values_of_replies : (list : List Placed) → values_in (replies_in list) ≡ map (λ (a : Placed). reply_of a.reply) list
+pub values_of_replies : (list : List Placed) → values_in (rendered_in list) ≡ map (λ (a : Placed). rendered_of a.reply) list
 values_of_replies [] = refl
-values_of_replies (a ∷ list) = ap (λ xs. reply_of a.reply ∷ xs) (values_of_replies list)
+values_of_replies (a ∷ list) = ap (λ xs. rendered_of a.reply ∷ xs) (values_of_replies list)
+
+-- ---- lines
+
+pub lines_rendered : (replies : List Reply) → each_rendered (map rendered replies) ≡ each_line replies
+lines_rendered [] = refl
+lines_rendered (a ∷ replies) = ap (λ line. line ++ each_rendered (map rendered replies)) (rendered_is_line a) ∙ ap (λ lines. reply_line a ++ lines) (lines_rendered replies)
+
+mixed_rendered : (lines : List (Option Refusal)) (replies : List Reply) → mixed rendered_refused lines (map rendered replies) ≡ map rendered (mixed reply_refused lines replies)
+mixed_rendered [] replies = refl
+mixed_rendered (Some r ∷ lines) replies = ap (λ texts. rendered_refused r ∷ texts) (mixed_rendered lines replies)
+mixed_rendered (None ∷ lines) [] = mixed_rendered lines []
+mixed_rendered (None ∷ lines) (a ∷ replies) = ap (λ texts. rendered a ∷ texts) (mixed_rendered lines replies)
+
+-- the lines of what replies render, mixed, are those of the replies
+pub mixed_lines : (lines : List (Option Refusal)) (texts : List Rendered) (replies : List Reply) → texts ≡ map rendered replies → each_rendered (mixed rendered_refused lines texts) ≡ each_line (mixed reply_refused lines replies)
+mixed_lines lines texts replies same =
+    ap (λ ts. each_rendered (mixed rendered_refused lines ts)) same ∙ ap each_rendered (mixed_rendered lines replies) ∙ lines_rendered (mixed reply_refused lines replies)
 
 -- ---- weights
 

@@ -1,5 +1,6 @@
 -- What the lines of a window ask for: some are refused, and the others are commands for partitions.
-use Rattle.std.specs.Prelude.{◌≡◌, ◌≤◌, ◌<◌, ℕ, suc, List, [], ◌∷◌, length, map, All, Option, Some, None}
+use Rattle.std.specs.Prelude.{◌≡◌, ◌≤◌, ◌<◌, ℕ, suc, List, [], ◌∷◌, flat_map, length, map, All, Option, Some, None}
+use Rattle.tc_request_model.specs.Rendered.{Rendered, rendered, rendered_line}
 use Rattle.tc_request_model.specs.Reply.{Reply, turned_down}
 use Rattle.tc_request_model.specs.Request.{Request, refused}
 use Rattle.tc_command.specs.Refusals.{refusal_of}
@@ -29,6 +30,13 @@ request_refused r = refused (refusal_of r)
 
 abbrev pub reply_refused : Refusal → Reply
 reply_refused r = turned_down (refusal_of r)
+
+abbrev pub rendered_refused : Refusal → Rendered
+rendered_refused r = rendered (reply_refused r)
+
+-- the lines of what replies render
+abbrev pub each_rendered : List Rendered → List ℕ
+each_rendered texts = flat_map rendered_line texts
 
 -- ---- the window
 

@@ -1,9 +1,7 @@
-//! What a line asks for, and the line of a reply.
+//! What a line asks for.
 
-ghost use Rattle.std.specs.Prelude.{◌≡◌, ◌++◌, length, IfOk, OnOk};
+ghost use Rattle.std.specs.Prelude.{◌≡◌, length, IfOk};
 ghost use Rattle.tc_command.specs.Commands.{request_of_command, IsLawful};
-ghost use Rattle.tc_command.specs.Replies.{reply_of};
-ghost use Rattle.tc_request_model.specs.Reply.{reply_line};
 ghost use Rattle.tc_request_model.specs.Request.{request_of};
 ghost use Rattle.tc_request_model.specs.Light.{IsLight};
 ghost use Rattle.tc_run_model.specs.Windows.{is_control};
@@ -12,7 +10,7 @@ ghost use Rattle.tc_server.specs.declared.answer.Action.TheVariants.{Refuse};
 
 use std::alloc::{AllocError, Global};
 use std::marker::Model;
-use tc_command::{Ask, Command, ParseFault, Refusal, Reply, parse, reply_text};
+use tc_command::{Ask, Command, ParseFault, Refusal, parse};
 
 /// What is asked of the whole store.
 #[derive(Drop)]
@@ -99,13 +97,4 @@ fn action_of(command: Command) -> Action
         Command::Collect => Action::Whole(Control::Collect),
         command => Action::Run(command),
     }
-}
-
-/// Puts the line of a reply behind the others. Errs only for want of memory.
-pub fn push_reply(alloc: Global, reply: &Reply, replies: &mut Vec<u8>) -> Result<(), AllocError>
-    ensures { OnOk result (replies.new.items ≡ replies.old.items ++ reply_line (reply_of reply.now)) }
-{
-    let line = reply_text(alloc, reply)?;
-    replies.extend_from_slice(line.as_slice())?;
-    Ok(())
 }

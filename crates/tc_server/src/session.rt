@@ -1,11 +1,11 @@
 //! A run between two lines: what keeps the documents, and the window that is open.
 
 ghost use Rattle.std.specs.Prelude.{◌≡◌, ◌∷◌, ℕ, ◌+◌, ◌<◌, ◌≤◌, false, List, [], length, Option, IfErr, IfOk, OnErr, OnOk};
-ghost use Rattle.tc_command.specs.Replies.{reply_of};
+ghost use Rattle.tc_command.specs.Replies.{rendered_of};
 ghost use Rattle.tc_model.specs.Limits.{max_line};
 ghost use Rattle.tc_request_model.specs.Request.{Request};
 ghost use Rattle.tc_request_model.specs.Light.{IsLight};
-ghost use Rattle.tc_run_model.specs.Known.{MayReply};
+ghost use Rattle.tc_run_model.specs.Known.{MayRender};
 ghost use Rattle.tc_run_model.specs.Windows.{max_window};
 ghost use Rattle.tc_run_model.specs.World.{World};
 ghost use Rattle.tc_server.specs.Asked.{is_whole, request_asked, request_whole, IsRunForPart};
@@ -18,13 +18,13 @@ ghost use Rattle.tc_server.specs.Window.{requests_of, IsSoundWindow};
 ghost use Rattle.tc_work.specs.Moving.{eyes};
 ghost use Rattle.tc_server.specs.declared.answer.Action.TheVariants.{Whole as whole};
 
-use crate::answer::{Action, Asked, Control, push_reply};
+use crate::answer::{Action, Asked, Control};
 use crate::window::Window;
 use std::alloc::Global;
 use std::sync::Wait;
 use std::thread::Threads;
 use tc_bytes::Bytes;
-use tc_command::{Refusal, Reply};
+use tc_command::{Refusal, Reply, put_line};
 use tc_edge::{Sink, write_all};
 use tc_keeper::{Keeper, RunFault};
 use tc_running::Pace;
@@ -336,7 +336,7 @@ where
 {
     replies.clear();
     let reply = reply_whole(rt, alloc, keeper, control)?;
-    push_reply(alloc, &reply, replies)?;
+    put_line(alloc, &reply, replies)?;
     Ok(())
 }
 
@@ -353,7 +353,7 @@ where
     S::Watch: 'static,
     requires works { MayServe S.history S.Device.history S.Frozen.content keeper.old }
     ensures works { OnOk result (MayServe S.history S.Device.history S.Frozen.content keeper.new) }
-    ensures reply { (known : Sight) → ServesAt (eyes S.history S.Device.history S.Frozen.content S.Device.name S.Frozen.size S.Watch.counts) keeper.old known → IfOk result (λ reply. MayReply (request_whole control ∷ []) (whole_of known) (reply_of reply ∷ [])) }
+    ensures reply { (known : Sight) → ServesAt (eyes S.history S.Device.history S.Frozen.content S.Device.name S.Frozen.size S.Watch.counts) keeper.old known → IfOk result (λ reply. MayRender (request_whole control ∷ []) (whole_of known) (rendered_of reply ∷ [])) }
     ensures held { (known : Sight) → ServesAt (eyes S.history S.Device.history S.Frozen.content S.Device.name S.Frozen.size S.Watch.counts) keeper.old known → OnOk result (ServesAt (eyes S.history S.Device.history S.Frozen.content S.Device.name S.Frozen.size S.Watch.counts) keeper.new (sight_after (request_whole control ∷ []) known)) }
     ensures failed { (only : Option ℕ) (w : World) → ServesAt (eyes S.history S.Device.history S.Frozen.content S.Device.name S.Frozen.size S.Watch.counts) keeper.old (sees only w) → OnErr result (FailsAt (eyes S.history S.Device.history S.Frozen.content S.Device.name S.Frozen.size S.Watch.counts) keeper.new only w w) }
     ensures undamaged { (w : World) → ServesAt (eyes S.history S.Device.history S.Frozen.content S.Device.name S.Frozen.size S.Watch.counts) keeper.old (sees None w) → IfErr result IsNoDamage }

@@ -2,10 +2,9 @@
 
 ghost use Rattle.std.specs.Prelude.{◌≡◌, false, ◌+◌, ◌≤◌, ◌<◌, ◌^◌, ◌||◌, ◌++◌, [], ◌∷◌, length, map, nat_le, Option, Some, IfErr, OnErr, OnOk};
 ghost use Rattle.tc_command.specs.Commands.{request_of_command};
-ghost use Rattle.tc_command.specs.Replies.{reply_of};
+ghost use Rattle.tc_command.specs.Replies.{rendered_of};
 ghost use Rattle.tc_model.specs.Limits.{max_line};
 ghost use Rattle.tc_request_model.specs.Light.{IsLight};
-ghost use Rattle.tc_run_model.specs.Course.{each_line};
 ghost use Rattle.tc_run_model.specs.Windows.{max_window};
 ghost use Rattle.tc_run_model.specs.World.{World};
 ghost use Rattle.tc_keeper.specs.Together.{IsForPart};
@@ -15,14 +14,14 @@ ghost use Rattle.tc_keeper.specs.Holds.{worlds_at, AreAnswered, IsLeft};
 ghost use Rattle.tc_keeper.specs.Keeping.{faults_kept, settings_kept, HasSpent, FailsAt, MayServe, ServesAt};
 ghost use Rattle.tc_work.specs.Moving.{eyes};
 ghost use Rattle.tc_keeper.specs.Sight.{sees, Sight};
-ghost use Rattle.tc_server.specs.Window.{mixed, reply_refused, request_refused, requests_of, IsSoundWindow};
+ghost use Rattle.tc_server.specs.Window.{each_rendered, mixed, rendered_refused, request_refused, requests_of, IsSoundWindow};
 
-use crate::answer::{Action, push_reply};
+use crate::answer::Action;
 use std::alloc::{AllocError, Global};
 use std::mem;
 use std::sync::Wait;
 use std::thread::Threads;
-use tc_command::{Command, Refusal, Reply};
+use tc_command::{Command, Refusal, Reply, put_line};
 use tc_keeper::{Keeper, RunFault};
 use tc_route::{Placed, Routed};
 use tc_running::Pace;
@@ -169,15 +168,15 @@ fn push_all(
     answers: &[Placed],
     replies: &mut Vec<u8>,
 ) -> Result<(), AllocError>
-    ensures { OnOk result (replies.new.items ≡ replies.old.items ++ each_line (mixed reply_refused refusals.now (map (λ a. reply_of a.reply) answers.now))) }
+    ensures { OnOk result (replies.new.items ≡ replies.old.items ++ each_rendered (mixed rendered_refused refusals.now (map (λ a. rendered_of a.reply) answers.now))) }
 {
     let mut rest = answers;
     for refusal in refusals {
         match refusal {
-            Some(refusal) => push_reply(alloc, &Reply::Refused(*refusal), replies)?,
+            Some(refusal) => put_line(alloc, &Reply::Refused(*refusal), replies)?,
             None => {
                 if let Some((first, more)) = rest.split_first() {
-                    push_reply(alloc, &first.reply, replies)?;
+                    put_line(alloc, &first.reply, replies)?;
                     rest = more;
                 }
             }

@@ -1,23 +1,22 @@
 use Rattle.std.proofs.Common.{rules, ◌∙◌, ◌++◌, map, ap, sym, subst}
 use Rattle.std.proofs.lemmas.List.{length-map}
 use Rattle.std.proofs.lemmas.Result.{err_from_is_err_and}
-use Rattle.tc_command.specs.Replies.{reply_of}
+use Rattle.tc_command.specs.Replies.{rendered_of}
 use Rattle.tc_model.specs.Keyed.{values_in}
-use Rattle.tc_route.specs.Meaning.{replies_in}
+use Rattle.tc_route.specs.Meaning.{rendered_in}
 use Rattle.tc_route.specs.declared.placed.Placed.{Placed}
-use Rattle.tc_run_model.specs.Course.{each_line}
-use Rattle.tc_run_model.specs.Known.{MayReply}
+use Rattle.tc_run_model.specs.Known.{MayRender}
 use Rattle.tc_run_model.specs.World.{after_all}
 use Rattle.tc_work.specs.Moving.{eyes}
 use Rattle.tc_keeper.specs.Faults.{gave_up}
 use Rattle.tc_keeper.specs.Sight.{sight_after, whole_of}
 use Rattle.tc_keeper.specs.Together.{requests_routed, AreTogether}
-use Rattle.tc_server.specs.Window.{mixed, reply_refused, requests_of}
+use Rattle.tc_server.specs.Window.{each_rendered, mixed, rendered_refused, reply_refused, requests_of}
 use Rattle.tc_keeper.specs.Keeping.{faults_kept, HasSpent, FailsAt, ServesAt}
 use Rattle.tc_server.proofs.Answering.{left_failed, left_standing}
 use Rattle.tc_keeper.proofs.Causes.{call_without_memory}
 use Rattle.tc_server.proofs.CommandPlaces.{sound_empty}
-use Rattle.tc_server.proofs.Mixing.{are_together, mixed_given, mixed_known, mixed_leaves, values_of_replies}
+use Rattle.tc_server.proofs.Mixing.{are_together, mixed_given, mixed_known, mixed_leaves, mixed_lines, values_of_replies}
 use Rattle.tc_server.proofs.window.Window.answer.Goals as goal
 
 pub window-requires-clause-together : goal.window-requires-clause-together
@@ -62,14 +61,16 @@ returns-clause-answered g c = λ known holds.
     let w = c.args.self.now in
     let rs = requests_routed w.commands.items in
     let same = c.requires.sound.whole ∙ sym (length-map w.commands.items _) in
-    let given = subst (λ list. MayReply (requests_routed list) (whole_of known) (values_in (replies_in c.in_ok-answers.answers))) (ap (λ v. v.items) c.replace-commands.ensures.value) (c.in_ok-answers.ensures.replies known holds) in
+    let answers = c.in_ok-answers.answers in
+    let given = subst (λ list. MayRender (requests_routed list) (whole_of known) (values_in (rendered_in answers))) (ap (λ v. v.items) c.replace-commands.ensures.value) (c.in_ok-answers.ensures.replies known holds) in
     record {
-      replies = mixed reply_refused w.refusals.items (map (λ a. reply_of a.reply) c.in_ok-answers.answers);
-      given = mixed_given w.refusals.items rs (whole_of known) _ same (subst (MayReply rs (whole_of known)) (values_of_replies _) given);
+      replies = mixed reply_refused w.refusals.items given.0;
+      given = mixed_given w.refusals.items rs (whole_of known) given.0 same given.1;
       lines = c.in_ok-push_all.ensures
-          ∙ ap (λ lines. c.clear.new.self.items ++ each_line (mixed reply_refused lines (map (λ (a : Placed). reply_of a.reply) c.as_slice-2.result.now))) c.as_slice.ensures.value
-          ∙ ap (λ list. c.clear.new.self.items ++ each_line (mixed reply_refused w.refusals.items (map (λ (a : Placed). reply_of a.reply) list))) c.as_slice-2.ensures
-          ∙ ap (λ bytes. bytes ++ each_line (mixed reply_refused w.refusals.items (map (λ (a : Placed). reply_of a.reply) c.in_ok-answers.answers))) c.clear.ensures.items;
+          ∙ ap (λ lines. c.clear.new.self.items ++ each_rendered (mixed rendered_refused lines (map (λ (a : Placed). rendered_of a.reply) c.as_slice-2.result.now))) c.as_slice.ensures.value
+          ∙ ap (λ list. c.clear.new.self.items ++ each_rendered (mixed rendered_refused w.refusals.items (map (λ (a : Placed). rendered_of a.reply) list))) c.as_slice-2.ensures
+          ∙ ap (λ bytes. bytes ++ each_rendered (mixed rendered_refused w.refusals.items (map (λ (a : Placed). rendered_of a.reply) answers))) c.clear.ensures.items
+          ∙ mixed_lines w.refusals.items _ given.0 (sym (values_of_replies answers) ∙ given.2);
       held = subst ((ServesAt (eyes g.S.Store.history g.S.Device.Device.history g.S.Frozen.Frozen.content g.S.Device.Device.name g.S.Frozen.Frozen.size g.S.Watch.Watch.counts)) c.window.new.self) (sym (mixed_known w.refusals.items rs known same))
           (subst (λ list. (ServesAt (eyes g.S.Store.history g.S.Device.Device.history g.S.Frozen.Frozen.content g.S.Device.Device.name g.S.Frozen.Frozen.size
           g.S.Watch.Watch.counts)) c.window.new.self (sight_after (requests_routed list) known)) (ap (λ v. v.items) c.replace-commands.ensures.value)
