@@ -10,7 +10,7 @@ use std::alloc::Global;
 use std::fmt::Write as _;
 use std::marker::Model;
 use std::str;
-use tc_command::{Ask, Reply, Rows, reply_text};
+use tc_command::{Ask, Reply, Rows, put_line};
 use tc_list::{ComponentList, Run};
 use tc_log::Write;
 use tc_part::{Limits, Opened, Part, PartFault, Staged};
@@ -281,8 +281,9 @@ fn record_of(alloc: Global, doc: &Doc) -> Option<String> {
 }
 
 fn rows_text(alloc: Global, rows: Rows) -> Option<String> {
-    let line = reply_text(alloc, &Reply::Rows(rows)).ok()?;
-    let text = str::from_utf8(line.as_slice()).ok()?;
+    let mut line = Vec::new(alloc);
+    put_line(alloc, &Reply::Rows(rows), &mut line).ok()?;
+    let text = str::from_utf8(&line).ok()?;
     String::from_str(alloc, text.trim_end()).ok()
 }
 
