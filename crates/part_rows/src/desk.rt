@@ -2,7 +2,7 @@
 
 ghost use Rattle.std.specs.Prelude.{◌≡◌};
 
-use crate::arguments::{fault_word, shown, word};
+use crate::arguments::{fault_word, word};
 use crate::first_logs::unfailing;
 use crate::laid::Laid;
 use crate::steps;
@@ -10,13 +10,12 @@ use std::alloc::Global;
 use std::fmt::Write as _;
 use std::marker::Model;
 use std::str;
+use tc_bytes::Bytes;
 use tc_command::{Ask, Reply, Rows, put_line};
 use tc_list::{ComponentList, Run};
 use tc_log::Write;
 use tc_part::{Limits, Opened, Part, PartFault, Staged};
-use tc_record::{encode, size};
 use tc_store::{Kit, MemFrozen, MemStore, MemWatch};
-use tc_value::Doc;
 
 // The writes of one frame, at most.
 const MOST: u32 = 1024;
@@ -190,13 +189,13 @@ impl Desk {
         }
     }
 
-    /// The record of the document of a key.
+    /// The text of the document of a key.
     pub(crate) fn get(&mut self, alloc: Global, key: u64) -> Option<String> {
         if self.part.failed() {
             return word(alloc, "failed");
         }
         match steps::lookup(alloc, &mut self.part, key, self.waiting, self.stands) {
-            Ok(Some(doc)) => record_of(alloc, &doc),
+            Ok(Some(text)) => text_word(alloc, &text),
             Ok(None) => word(alloc, "none"),
             Err(fault) => fault_word(alloc, fault),
         }
@@ -274,10 +273,8 @@ fn staged_word(staged: Staged) -> &'static str {
     }
 }
 
-fn record_of(alloc: Global, doc: &Doc) -> Option<String> {
-    let _length = size(doc)?;
-    let record = encode(alloc, doc).ok()?;
-    shown(alloc, record.as_slice())
+fn text_word(alloc: Global, text: &Bytes) -> Option<String> {
+    String::from_str(alloc, str::from_utf8(text.as_slice()).ok()?).ok()
 }
 
 fn rows_text(alloc: Global, rows: Rows) -> Option<String> {

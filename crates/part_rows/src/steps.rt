@@ -6,13 +6,13 @@ ghost use Rattle.part_rows.specs.Standing.{IsAtDesk};
 ghost use Rattle.part_rows.specs.Waiting.{IsShortWrite};
 
 use std::alloc::Global;
+use tc_bytes::Bytes;
 use tc_command::{Ask, Rows};
 use tc_list::Run;
 use tc_log::Write;
 use tc_part::{Part, PartFault, Staged, parts_own_files};
 use tc_part_model::{jobs_have_made, sealed_tables_can_flush};
 use tc_store::MemStore;
-use tc_value::Doc;
 
 /// Stages a write behind so many, at most.
 pub(crate) fn stage(
@@ -65,14 +65,14 @@ pub(crate) fn seal(
     part.seal(alloc)
 }
 
-/// Looks for the document of a key.
+/// Looks for the text of the document of a key.
 pub(crate) fn lookup(
     alloc: Global,
     part: &mut Part<MemStore>,
     key: u64,
     waiting: u32,
     stands: bool,
-) -> Result<Option<Doc>, PartFault>
+) -> Result<Option<Bytes>, PartFault>
     requires desk { IsAtDesk part.old waiting stands }
     requires sound { part.old.failed ≡ false }
     ensures { IsAtDesk part.new waiting stands }
