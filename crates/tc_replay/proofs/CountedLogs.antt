@@ -5,6 +5,7 @@ use Rattle.std.specs.List.{AllZip}
 use Rattle.std.proofs.lemmas.List.Elements.{All-cons, All-nil, All-weaker}
 use Rattle.tc_log.specs.declared.write.Write as log
 use Rattle.tc_plain_model.specs.Writes.{Write}
+use Rattle.tc_store.specs.declared.damage.Damage.{Damage}
 use Rattle.tc_store.specs.Disk.{Disk}
 use Rattle.tc_component.specs.Loaded.{IsLoadedOf}
 use Rattle.tc_component.specs.Loading.{ComponentState}
@@ -74,6 +75,18 @@ no_logs logs ws some same none = omega (arith, some, ap (λ (ls : List (List log
 -- ---- the test
 
 -- a fault that is handed on is no damage where the table passes
+-- damage of which a call below told two things
+pub told_twice : {X Y : Type 0} (r : Result X JobFault) (below : Result Y JobFault) (fault : JobFault) (P Q R : Damage → Type 0) → r ≡ Err fault → below ≡ Err fault → IfDamaged below P → IfDamaged below Q
+    → ((damage : Damage) → P damage → Q damage → R damage) → IfDamaged r R
+told_twice {X = X} {Y = Y} r below fault P Q R is failed p q so =
+    subst (λ (s : Result X JobFault). IfDamaged s R) (sym is)
+    (at fault (subst (λ (s : Result Y JobFault). IfDamaged s P) failed p) (subst (λ (s : Result Y JobFault). IfDamaged s Q) failed q))
+  where
+    at : (f : JobFault) → IfDamaged {X = Y} (Err f) P → IfDamaged {X = Y} (Err f) Q → IfDamaged {X = X} (Err f) R
+    at job.Disk p q = tt
+    at (job.Damaged damage) p q = so damage p q
+    at job.Memory p q = tt
+
 pub counted_sound : {X Y : Type 0} (r : Result X JobFault) (below : Result Y JobFault) (fault : JobFault) (Passes : Type 0) → r ≡ Err fault → below ≡ Err fault → IfDamaged below (λ damage. Passes → ⊥) → Passes → IfDamaged r (λ damage. ⊥)
 counted_sound {X = X} {Y = Y} r below fault Passes is failed fails passes =
     subst (λ (s : Result X JobFault). IfDamaged s (λ damage. ⊥)) (sym is) (at fault (subst (λ (s : Result Y JobFault). IfDamaged s (λ damage. Passes → ⊥)) failed fails))

@@ -40,8 +40,9 @@ use Rattle.tc_jobs.specs.declared.fault.JobFault.{JobFault}
 use Rattle.tc_jobs.specs.declared.fault.JobFault.TheVariants as job
 use Rattle.tc_jobs.specs.Faults.{IfDamaged}
 use Rattle.tc_jobs.specs.Listing.{FitsBehind, IsListed, IsReadBack, behind}
+use Rattle.tc_part_model.specs.PartState.{IsTold}
 use Rattle.tc_part_model.proofs.DeviceFiles.{comes_untold}
-use Rattle.tc_replay.specs.FlushedLogs.{EndsHome, IsLogsFlushed}
+use Rattle.tc_replay.specs.FlushedLogs.{EndsHome, IsFlushGivenUp, IsLogsFlushed}
 use Rattle.tc_replay.specs.LogFlushes.{IsDeviceNow, IsKeptBehind, made_name}
 use Rattle.tc_replay.specs.Openings.{IsOpening}
 use Rattle.tc_replay.proofs.CountedLogs.{no_logs}
@@ -189,6 +190,15 @@ module _ (head : Head) (cs : List Content) (ws : List Write) (more : List (List 
 pub in_both : {X E : Type 0} (r : Result X E) (P Q R : Type 0) → (P → R) → (Q → R) → OnOk r P → OnErr r Q → R
 in_both (Ok done) P Q R f h p q = f p
 in_both (Err fault) P Q R f h p q = h q
+
+pub in_err : {X E : Type 0} (r : Result X E) (P Q : Type 0) → Q → OnErr r P → OnErr r (P × Q)
+in_err (Ok done) P Q q p = tt
+in_err (Err fault) P Q q p = (p, q)
+
+-- a device that tells came home
+pub given_up : (head : Head) (disks later : List Disk) (device : List DiskFile) (Whole : Type 0) → IfTold disks (λ disk. IsTold device) → EndsHome Whole (name_of head) device (makes (name_of head) disks) later → IsFlushGivenUp head disks later
+given_up head disks later device Whole tells (inl back) = inr (device, tells, back.1)
+given_up head disks later device Whole tells (inr is) = inr (device, tells, inr is)
 
 -- what follows in either case of a job, where it follows of itself from a failure
 pub either_way : {E : Type 0} (o : Result (Unit {0}) E) (P : Type 0) → (IsOk o → P) → IfErr o (λ cause. P) → P

@@ -4,7 +4,7 @@ use Rattle.std.specs.List.{AllZip}
 use Rattle.tc_store.specs.declared.damage.Damage.{Damage}
 use Rattle.tc_store.specs.declared.file_name.FileName.{FileName}
 use Rattle.tc_store.specs.Disk.{Disk}
-use Rattle.tc_store.specs.DiskFile.{DiskFile}
+use Rattle.tc_store.specs.DiskFile.{settled_file, DiskFile}
 use Rattle.tc_store.specs.Moments.{IfTold}
 use Rattle.tc_component.specs.declared.head.Head.{Head}
 use Rattle.tc_component.specs.Loaded.{IsLoadedOf}
@@ -18,6 +18,7 @@ use Rattle.tc_list.specs.declared.run.Run.{Run}
 use Rattle.tc_machine.specs.Components.{file_of}
 use Rattle.tc_list.specs.Intervals.{first_of, last_of}
 use Rattle.tc_merge.specs.Faults as merge
+use Rattle.tc_merge.specs.Merging.{merge_bytes, AreTold}
 use Rattle.tc_jobs.specs.Faults.{AreBytes}
 use Rattle.tc_jobs.specs.Listing.{FitsFor, IsReadBack, IsUnlisted}
 use Rattle.tc_part_model.specs.PartState.{IsTold}
@@ -44,11 +45,17 @@ pub record IsMergeListed {F : Type 0} (content : F → Option (List ℕ)) (name 
   pub still : IsMadeStill head device disks later
   pub tells : IfTold disks (λ disk. IsTold device)
 
--- a record of a component is damaged, or the component that was made is when it is read back, or its names do not fit
+-- A device that has all that the merge of them all writes, where they are told, is read back as damaged, or as a component whose names
+-- do not fit.
+pub record IsMergeUnfit {F : Type 0} (content : F → Option (List ℕ)) (name : F → FileName) (head : Head) (list : List (ComponentState F)) (damage : Damage) : Type 0 where
+  pub size : ℕ
+  pub device : List DiskFile
+  pub written : AreTold content list → IfTold device (λ f. f ≡ settled_file (merge_bytes content head list))
+  pub unlisted : IsUnlisted (IsReadBack content name head (name_of head) device) (FitsFor (whole_run list) list) head size device damage
+
+-- a record of a component is damaged, or the component that was made is read back as none that can be listed
 abbrev pub IsMergeDamage : {F : Type 0} → (F → Option (List ℕ)) → (F → FileName) → Head → List (ComponentState F) → Damage → Type 0
-IsMergeDamage content name head list damage =
-    AreBytes (merge.IsHarmIn content list) damage
-    ⊎ ((size : ℕ) × (device : List DiskFile) × IsUnlisted (IsReadBack content name head (name_of head) device) (FitsFor (whole_run list) list) head size device damage)
+IsMergeDamage content name head list damage = AreBytes (merge.IsHarmIn content list) damage ⊎ IsMergeUnfit content name head list damage
 
 -- ---- where the files are told
 

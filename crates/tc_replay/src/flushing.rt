@@ -93,7 +93,7 @@ pub fn flush_logs<S: Store>(
     ensures partition { OnOk result.outcome (IsListOf head.number head.count list.old → IsListOf head.number head.count list.new) }
     ensures left { OnErr result.outcome ((list.new ≡ list.old) × IsFlushGivenUp head (S.history store.old) (S.history store.new)) }
 
-    ensures damaged { IfDamaged result.outcome (IsReplayDamage (λ file. S.Frozen.content file) (λ file. S.Frozen.name file) head list.old) }
+    ensures damaged { IfDamaged result.outcome (IsReplayDamage (λ file. S.Frozen.content file) (λ file. S.Frozen.name file) head logs.now list.old) }
 
     // Where the files are told and lawful, nothing is damaged.
     ensures undamaged { (cs : List Content) (ws : List (List PlainWrite)) → IsOpening (part_of head) cs ws (S.history store.old) → AllZip (IsLoadedOf (λ file. S.Frozen.content file)) list.old cs → logs.now ≡ map (λ log. map kept_write log) ws
@@ -102,6 +102,7 @@ pub fn flush_logs<S: Store>(
     ensures watched { IsWatched (IsErrOf result.outcome JobFault.Disk) (S.Watch.counts watch) (S.Watch.counts result.watch) }
 {
     inputs_are_newest::<S::Frozen>();
+    tables_keep_documents();
     let mut watch = watch;
     match begin_flush(alloc, store, list, logs, head, &mut watch) {
         Ok(begun) => end_flush(
@@ -151,7 +152,7 @@ fn begin_flush<S: Store>(
     ensures file { IfOk result (λ begun. S.Device.history begun.device ≡ fresh_file_at (name_of head) (S.history store.old)) }
     ensures made { OnOk result (S.history store.new ≡ makes (name_of head) (S.history store.old)) }
     ensures failed { OnErr result (FailsMaking (name_of head) (S.history store.old) (S.history store.new)) }
-    ensures damaged { IfDamaged result (IsBeginDamage (λ file. S.Frozen.content file) head list.now) }
+    ensures damaged { IfDamaged result (IsBeginDamage (λ file. S.Frozen.content file) head logs.now list.now) }
     ensures undamaged { (cs : List Content) (ws : List (List PlainWrite)) → IsOpening (part_of head) cs ws (S.history store.old) → AllZip (IsLoadedOf (λ file. S.Frozen.content file)) list.now cs → logs.now ≡ map (λ log. map kept_write log) ws
         → IfDamaged result (λ damage. ⊥) }
     ensures watched { IsWatched (IsErrOf result JobFault.Disk) (S.Watch.counts watch.old) (S.Watch.counts watch.new) }

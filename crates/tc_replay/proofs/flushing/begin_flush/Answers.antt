@@ -1,4 +1,4 @@
-use Rattle.std.proofs.Common.{◌∙◌, [], Err, sym, ap, subst}
+use Rattle.std.proofs.Common.{◌∙◌, [], Err, inr, sym, ap, subst}
 use Rattle.std.specs.Arc.{arc_value}
 use Rattle.std.proofs.lemmas.Result.{err_from_is_err_and}
 use Rattle.tc_schema_model.specs.Counted.{nothing}
@@ -10,7 +10,9 @@ use Rattle.tc_lsm_model.specs.Tables.{table_over}
 use Rattle.tc_memory.specs.DocumentTables.{IsTableOf}
 use Rattle.tc_memory.specs.Table.{IsTable}
 use Rattle.tc_machine.specs.Logs.{all_writes}
-use Rattle.tc_replay.proofs.CountedLogs.{all_counted, counted_sound, no_logs}
+use Rattle.tc_replay.specs.FlushedLogs.{IsBeginDamage}
+use Rattle.tc_replay.specs.LastWrites.{written_in, HoldsLast}
+use Rattle.tc_replay.proofs.CountedLogs.{all_counted, told_twice, counted_sound, no_logs}
 use Rattle.tc_replay.proofs.FlushedLogs.{indices}
 use Rattle.tc_replay.proofs.UnharmedReads.{sound_reads}
 use Rattle.tc_replay.proofs.flushing.begin_flush.Goals as goal
@@ -37,3 +39,17 @@ returns-in_err-inputs-clause-undamaged g c = λ cs ws is loaded same.
     (λ storable. subst (λ t. IsTableOf (table_over (live cs) (all_writes ws)) t) (sym sealed) (c.in_ok-table.ensures.table (part_of c.args.head) cs ws is.memory.list loaded same storable)) in
     counted_sound c.from_residual-in_err-inputs.result c.inputs_over.result c.in_err-inputs.field-0.0 (IsCounted (newest_names [] list) (newest_schema nothing list) kept) (p.1 ∙ ap Err p.2) c.in_err-inputs.was c.inputs_over.ensures.uncounted
     (subst (λ ns. IsCounted ns (newest_schema nothing list) kept) (sym (c.inputs_are_newest.ensures.names list cs each)) (subst (λ s. IsCounted (names_of cs) s kept) (sym (c.inputs_are_newest.ensures.schema list cs each)) passes))
+
+pub returns-in_err-inputs-clause-damaged : goal.returns-in_err-inputs-clause-damaged
+returns-in_err-inputs-clause-damaged g c =
+    let list = c.args.list.now in
+    let logs = c.args.logs.now in
+    let sealed = c.in_ok-sealed.ensures.ok ∙ c.seal.ensures.same in
+    let p = err_from_is_err_and c.from_residual-in_err-inputs.result c.from_residual-in_err-inputs.ensures.1 in
+    told_twice c.from_residual-in_err-inputs.result c.inputs_over.result c.in_err-inputs.field-0.0 _ _ (IsBeginDamage (λ file. g.S.Frozen.Frozen.content file) c.args.head logs list) (p.1 ∙ ap Err p.2) c.in_err-inputs.was
+    c.inputs_over.ensures.damaged c.inputs_over.ensures.uncounted (λ damage files uncounted. inr (record {
+      files = files;
+      table = arc_value c.in_ok-sealed.sealed;
+      holds = subst (λ t. HoldsLast list (written_in logs) t) (sym sealed) c.in_ok-table.ensures.last;
+      uncounted = uncounted;
+    }))

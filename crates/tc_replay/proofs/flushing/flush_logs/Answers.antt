@@ -1,10 +1,14 @@
-use Rattle.std.proofs.Common.{◌≡◌, ◌∙◌, inl, inr, ap, subst, sym}
+use Rattle.std.proofs.Common.{◌≡◌, ◌∙◌, List, [], inl, inr, ap, subst, sym}
 use Rattle.std.specs.Prelude.{IfSome}
 use Rattle.std.proofs.lemmas.Result.{IfErr-weaker}
 use Rattle.tc_component.specs.Rows.{head_of, IsComponent}
 use Rattle.tc_jobs.specs.Faults.{IfDamaged}
 use Rattle.tc_lsm_model.specs.Contents.{Content}
+use Rattle.tc_merge.specs.Merging.{newest_names}
 use Rattle.tc_model.specs.Dictionary.{Extends}
+use Rattle.tc_model.specs.Document.{Name}
+use Rattle.tc_schema_model.specs.Counted.{Counted}
+use Rattle.tc_store.specs.DiskFile.{settled_file}
 use Rattle.tc_store.proofs.MomentLemmas.{told_map}
 use Rattle.tc_store.specs.Moments.{IfTold}
 use Rattle.std.specs.Arc.{arc_value}
@@ -15,7 +19,7 @@ use Rattle.tc_jobs.specs.Listing.{FitsBehind, IsListed, IsReadBack, IsUnlisted, 
 use Rattle.tc_store.specs.StoreCalls.{comes_home, content_now, frozen_entry, makes}
 use Rattle.tc_component.specs.Spelling.{name_of}
 use Rattle.tc_replay.specs.FlushedLogs.{EndsHome, IsFlushListed, IsLogsFlushed, IsReplayDamage}
-use Rattle.tc_replay.proofs.FlushedLogs.{either_way, flushed_so, harmed_then, home_kept_so, in_both, sound_so, unmade_kept}
+use Rattle.tc_replay.proofs.FlushedLogs.{either_way, flushed_so, given_up, harmed_then, home_kept_so, in_both, in_err, sound_so, unmade_kept}
 use Rattle.tc_replay.proofs.ToldMoments.{device_tells}
 use Rattle.tc_replay.proofs.flushing.flush_logs.Goals as goal
 
@@ -73,16 +77,39 @@ returns-in-Ok-clause-listed g c =
       tells = device_tells (name_of c.args.head) (g.S.Store.history c.args.store.now) (g.S.Device.Device.history c.in-Ok.begun.device) device c.in-Ok.ensures.file c.run_flush.ensures.tells;
     }) c.end_flush.ensures.listed c.end_flush.ensures.still
 
+pub returns-in-Ok-clause-left : goal.returns-in-Ok-clause-left
+returns-in-Ok-clause-left g c =
+    let device = g.S.Device.Device.history c.run_flush.result.device in
+    let store = g.S.Store.history c.end_flush.new.store in
+    let disks = g.S.Store.history c.args.store.now in
+    let named = c.run_flush.ensures.name ∙ c.in-Ok.ensures.name in
+    let home : EndsHome (IsOk c.run_flush.result.outcome) (name_of c.args.head) device (makes (name_of c.args.head) disks) store =
+    subst (λ ds. EndsHome (IsOk c.run_flush.result.outcome) (name_of c.args.head) device ds store) c.in-Ok.ensures.made
+    (subst (λ n. EndsHome (IsOk c.run_flush.result.outcome) n device (g.S.Store.history c.begin_flush.new.store) store) named
+    (in_both c.end_flush.result.outcome _ _ (EndsHome (IsOk c.run_flush.result.outcome) (g.S.Device.Device.name c.run_flush.result.device) device (g.S.Store.history c.begin_flush.new.store) store) (λ done. inl (done.0, inl done.1)) (λ home. home)
+    (ok_both c.end_flush.result.outcome _ _ (IsOk c.run_flush.result.outcome
+    × (store ≡ comes_home (g.S.Device.Device.name c.run_flush.result.device) frozen_entry device (g.S.Store.history c.begin_flush.new.store)))
+    (λ whole still. (whole, still)) c.end_flush.ensures.whole c.end_flush.ensures.still) c.end_flush.ensures.home)) in
+    let tells = device_tells (name_of c.args.head) disks (g.S.Device.Device.history c.in-Ok.begun.device) device c.in-Ok.ensures.file c.run_flush.ensures.tells in
+    in_err c.end_flush.result.outcome _ _ (given_up c.args.head disks store device (IsOk c.run_flush.result.outcome) tells home) c.end_flush.ensures.unlisted
+
 pub returns-in-Ok-clause-damaged : goal.returns-in-Ok-clause-damaged
 returns-in-Ok-clause-damaged g c =
     let device = g.S.Device.Device.history c.run_flush.result.device in
     let size = g.S.Device.Device.size c.run_flush.result.device in
     let named = c.run_flush.ensures.name ∙ c.in-Ok.ensures.name in
-    harmed_then _ (IsReplayDamage (λ file. g.S.Frozen.Frozen.content file) (λ file. g.S.Frozen.Frozen.name file) c.args.head c.args.list.now) (λ damage unlisted. inr (
-      size,
-      device,
-      subst (λ n. IsUnlisted (IsReadBack (λ file. g.S.Frozen.Frozen.content file) (λ file. g.S.Frozen.Frozen.name file) c.args.head n device) (FitsBehind c.args.list.now) c.args.head size device damage) named unlisted,
-    )) c.end_flush.result.outcome c.end_flush.ensures.damaged
+    let harm = IsReplayDamage (λ file. g.S.Frozen.Frozen.content file) (λ file. g.S.Frozen.Frozen.name file) c.args.head c.args.logs.now c.args.list.now in
+    let documents = c.tables_keep_documents.ensures.some (arc_value c.in-Ok.begun.inputs.sealed) c.in-Ok.ensures.lawful in
+    let Wrote = λ (ns : List Name) (s : Counted). IfTold device (λ f. f ≡ settled_file (flush_bytes c.args.head ns s documents.table)) in
+    either_way c.run_flush.result.outcome (IfDamaged c.end_flush.result.outcome harm)
+    (λ whole. harmed_then _ harm (λ damage unlisted. inr (record {
+      size = size;
+      device = device;
+      table = documents.table;
+      written = subst (λ s. Wrote (newest_names [] c.args.list.now) s) c.in-Ok.ensures.schema (subst (λ ns. Wrote ns c.in-Ok.begun.inputs.schema) c.in-Ok.ensures.names (c.run_flush.ensures.whole whole documents.table documents.of));
+      unlisted = subst (λ n. IsUnlisted (IsReadBack (λ file. g.S.Frozen.Frozen.content file) (λ file. g.S.Frozen.Frozen.name file) c.args.head n device) (FitsBehind c.args.list.now) c.args.head size device damage) named unlisted;
+    })) c.end_flush.result.outcome c.end_flush.ensures.damaged)
+    (IfErr-weaker c.run_flush.result.outcome _ (λ cause. IfDamaged c.end_flush.result.outcome harm) (λ cause sound. harmed_then (λ damage. ⊥) harm (λ damage never. absurd never) c.end_flush.result.outcome sound) c.end_flush.ensures.unmade)
 
 pub returns-in-Ok-clause-flushed : goal.returns-in-Ok-clause-flushed
 returns-in-Ok-clause-flushed g c = λ cs ws is loaded same.

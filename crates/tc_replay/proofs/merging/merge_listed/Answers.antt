@@ -22,8 +22,8 @@ use Rattle.tc_component.specs.Loading.{ComponentState}
 use Rattle.tc_component.specs.Rows.{IsComponent, head_of}
 use Rattle.tc_component.specs.Spelling.{name_of}
 use Rattle.tc_replay.specs.FlushedLogs.{EndsHome}
-use Rattle.tc_replay.specs.Merges.{IsListMerged, IsMergeListed, head_over, whole_run}
-use Rattle.tc_replay.proofs.FlushedLogs.{either_way, harmed_then, in_both}
+use Rattle.tc_replay.specs.Merges.{IsListMerged, IsMergeListed, IsMergeUnfit, head_over, whole_run}
+use Rattle.tc_replay.proofs.FlushedLogs.{either_way, given_up, harmed_then, in_both, in_err}
 use Rattle.tc_replay.proofs.MergedLists.{MergeRan, all_in, ended_kept, ended_merged, ended_sound, merge_damage, merge_tells, merge_unmade, none_behind, on_each, unmade_sound}
 use Rattle.tc_replay.proofs.UnharmedReads.{sound_merge}
 use Rattle.tc_replay.proofs.merging.merge_listed.Goals as goal
@@ -176,6 +176,48 @@ returns-in-Ok-clause-listed g c =
       tells = merge_tells (λ file. content file) number count list disks c.requires.several c.requires.free fresh device is_fresh size (IsOk o) ran c.requires.told;
     }) c.end_merge.ensures.listed c.end_merge.ensures.still)
 
+pub returns-in-Ok-clause-left : goal.returns-in-Ok-clause-left
+returns-in-Ok-clause-left g c =
+    let content = g.S.Frozen.Frozen.content in
+    let file_name = g.S.Frozen.Frozen.name in
+    let number = c.args.number in
+    let count = c.args.count in
+    let list = c.args.list.now in
+    let disks = g.S.Store.history c.args.store.now in
+    let last = c.len.result - 1 in
+    let at_last : last + 1 ≡ length list = omega (arith, c.len.ensures, c.requires.several) in
+    let in_all = all_in list last at_last in
+    let ho : Head = head_over number count list in
+    let head : c.merged_head-head.result ≡ ho = c.merged_head-head.ensures.exact ∙ ap (λ (l : List (ComponentState g.row.S-Frozen.Denot)). record { number = number; count = count; from = first_of l; to = last_of l }) in_all in
+    let laws = g.met.S.Device.Device g.world.𝓛 g.world.𝓜 g.world.𝓡 ((λ s x. x), (λ x. x), (λ x. x), λ x. x) in
+    let components = c.in-Ok.ensures.components ∙ in_all in
+    let fresh = g.S.Device.Device.history c.in-Ok.begun.device in
+    let device = g.S.Device.Device.history c.run_merge.result.device in
+    let size = g.S.Device.Device.size c.run_merge.result.device in
+    let o = c.run_merge.result.outcome in
+    let r = c.end_merge.result.outcome in
+    let mid = g.S.Store.history c.begin_merge.new.store in
+    let store = g.S.Store.history c.end_merge.new.store in
+    let dn = g.S.Device.Device.name c.run_merge.result.device in
+    let is_fresh = c.in-Ok.ensures.file ∙ ap (λ h. fresh_file_at (name_of h) disks) head in
+    let made = c.in-Ok.ensures.made ∙ ap (λ h. makes (name_of h) disks) head in
+    let named = c.run_merge.ensures.name ∙ c.in-Ok.ensures.name ∙ ap name_of head in
+    let ran : MergeRan (λ file. content file) ho list fresh device size (IsOk o) =
+    subst (λ h. MergeRan (λ file. content file) h list fresh device size (IsOk o)) head (subst (λ l. MergeRan (λ file. content file) c.merged_head-head.result l fresh device size (IsOk o)) components (record {
+      merged = c.run_merge.ensures.merged;
+      moments = c.run_merge.ensures.moments;
+      whole = c.run_merge.ensures.whole;
+      untold = c.run_merge.ensures.untold;
+      fits = c.run_merge.ensures.size;
+      sized = laws.told_size c.run_merge.result.device;
+    })) in
+    let home : EndsHome (IsOk o) (name_of ho) device (makes (name_of ho) disks) store =
+    subst (λ ds. EndsHome (IsOk o) (name_of ho) device ds store) made (subst (λ n. EndsHome (IsOk o) n device mid store) named
+    (in_both r _ _ (EndsHome (IsOk o) dn device mid store) (λ done. inl (done.0, inl done.1)) (λ back. back)
+    (ok_both r _ _ (IsOk o × (store ≡ comes_home dn frozen_entry device mid)) (λ whole still. (whole, still)) c.end_merge.ensures.whole c.end_merge.ensures.still) c.end_merge.ensures.home)) in
+    let tells = merge_tells (λ file. content file) number count list disks c.requires.several c.requires.free fresh device is_fresh size (IsOk o) ran c.requires.told in
+    in_err r _ _ (given_up ho disks store device (IsOk o) tells home) c.end_merge.ensures.unlisted
+
 pub returns-in-Ok-clause-damaged : goal.returns-in-Ok-clause-damaged
 returns-in-Ok-clause-damaged g c =
     let content = g.S.Frozen.Frozen.content in
@@ -216,7 +258,12 @@ returns-in-Ok-clause-damaged g c =
     let Un = λ (x : Run) (h : Head) (n : _) (damage : Damage). IsUnlisted (IsReadBack (λ file. content file) (λ file. file_name file) h n device) (FitsFor x list) h size device damage in
     merge_damage o r (IsHarmIn (λ file. content file) list) _ c.end_merge.ensures.unmade
     (subst (λ l. IfErr o (λ fault. IfHarmed fault (λ file place bytes. IsHarmIn (λ f. content f) l file place bytes))) components c.run_merge.ensures.damaged)
-    (λ e. harmed_then _ _ (λ damage un. (size, device, subst (λ n. Un (whole_run list) ho n damage) named (subst (λ h. Un (whole_run list) h dn damage) head (subst (λ x. Un x c.merged_head-head.result dn damage) runs un)))) r (c.end_merge.ensures.damaged e))
+    (λ e. harmed_then _ (IsMergeUnfit (λ file. content file) (λ file. file_name file) ho list) (λ damage un. record {
+      size = size;
+      device = device;
+      written = ran.whole e;
+      unlisted = subst (λ n. Un (whole_run list) ho n damage) named (subst (λ h. Un (whole_run list) h dn damage) head (subst (λ x. Un x c.merged_head-head.result dn damage) runs un));
+    }) r (c.end_merge.ensures.damaged e))
 
 pub returns-in-Ok-clause-undamaged : goal.returns-in-Ok-clause-undamaged
 returns-in-Ok-clause-undamaged g c = λ cs is loaded.
