@@ -22,6 +22,7 @@ use Rattle.tc_recover.specs.Loads.{is_above, is_log}
 use Rattle.tc_recover.specs.Opening.{AreAllTaken, IsReadOf}
 use Rattle.tc_recover.specs.Sorting.{Follow, logs_above, open_names}
 use Rattle.tc_recover.proofs.Members.{member_cases, member_first, member_further, no_member}
+use Rattle.tc_replay.specs.Openings.{AreIn}
 use Rattle.tc_open.specs.Resting.{AreOwn, IsTaken}
 use Rattle.tc_open.specs.Steps.{IsLogUpTo}
 
@@ -41,7 +42,7 @@ taken_is (home f) = tt
 taken_is (still bytes) = tt
 taken_is out = tt
 
-taken_in : (e : Entry) → is_out e ≡ false → is_out (taken e) ≡ false
+pub taken_in : (e : Entry) → is_out e ≡ false → is_out (taken e) ≡ false
 taken_in (none before) is = refl
 taken_in (home f) is = refl
 taken_in (still bytes) is = refl
@@ -90,13 +91,15 @@ all_taken all [] disks is = is
 all_taken all (m ∷ rest) [] is = all_taken all rest [] tt
 all_taken all (m ∷ rest) (disk ∷ past) is = all_taken all rest (takes m (disk ∷ past)) (one_taken all m rest disk is)
 
-to_take : (all : List FileName) (disk : Disk) → IsAtRest disk → ((n : FileName) → Contains all n ↔ IsThere (disk n)) → AreToTake all all disk
-to_take all disk rest exact = record { is_in = λ n. inside n (rest n); there = λ n. (exact n).1; waits = λ n. waiting n (rest n) }
-  where
-    inside : (n : FileName) → (disk n ≡ none None) ⊎ IsSettledHome (disk n) → is_out (disk n) ≡ false
-    inside n (inl absent) = ap is_out absent
-    inside n (inr settled) = settled_in (disk n) settled
+pub in_at_rest : (disk : Disk) → IsAtRest disk → AreIn disk
+in_at_rest disk rest n = elim (rest n) [
+  | inl absent ↦ ap is_out absent
+  | inr settled ↦ settled_in (disk n) settled
+]
 
+to_take : (all : List FileName) (disk : Disk) → IsAtRest disk → ((n : FileName) → Contains all n ↔ IsThere (disk n)) → AreToTake all all disk
+to_take all disk rest exact = record { is_in = in_at_rest disk rest; there = λ n. (exact n).1; waits = λ n. waiting n (rest n) }
+  where
     waiting : (n : FileName) → (disk n ≡ none None) ⊎ IsSettledHome (disk n) → IsTaken (disk n) ⊎ Contains all n
     waiting n (inl absent) = inl (subst IsTaken (sym absent) tt)
     waiting n (inr settled) = inr ((exact n).1 (settled_there (disk n) settled))

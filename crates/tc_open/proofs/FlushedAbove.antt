@@ -12,12 +12,12 @@ use Rattle.tc_component.specs.Rows.{part_of}
 use Rattle.tc_component.specs.Spelling.{name_of}
 use Rattle.tc_log.specs.declared.write.Write as log
 use Rattle.tc_list.specs.Intervals.{last_of}
-use Rattle.tc_lsm_model.specs.Contents.{Content}
+use Rattle.tc_lsm_model.specs.Contents.{Content, Partition}
 use Rattle.tc_jobs.specs.Lists.{IsListOf, file_names}
 use Rattle.tc_plain_model.specs.Writes.{Write}
 use Rattle.tc_recover.specs.declared.taken.Taken.{Taken}
 use Rattle.tc_recover.specs.Loads.{is_log}
-use Rattle.tc_recover.specs.Opening.{found_in}
+use Rattle.tc_recover.specs.Opening.{found_in, Found}
 use Rattle.tc_recover.specs.Removing.{needless_names}
 use Rattle.tc_replay.specs.FlushedLogs.{IsFlushListed, IsLogsFlushed, IsReplayDamage}
 use Rattle.tc_replay.specs.Openings.{AreNeedless}
@@ -40,6 +40,11 @@ damage_weaker P Q (cause.Layout found found_of) weaker harmed = tt
 damage_weaker P Q cause.Spent weaker harmed = tt
 damage_weaker P Q cause.Memory weaker harmed = tt
 
+-- more is known of the components that were read
+pub logs_so : {F : Type 0} (content : F → Option (List ℕ)) (name : F → FileName) (part : Partition) (P Q : List (ComponentState F) → Type 0) (found : Found) (damage : Damage) → ((list : List (ComponentState F)) → P list → Q list)
+    → IsOfLogs content name part P found damage → IsOfLogs content name part Q found damage
+logs_so content name part P Q found damage so of = record { list = of.list; head = of.head; are = so of.list of.are; components = of.components; here = of.here; from = of.from; to = of.to; harm = of.harm }
+
 module _ {F W : Type 0} (content : F → Option (List ℕ)) (name : F → FileName) (head : Head) (list : List (ComponentState F)) (logs : List (Taken F W)) (writes : List (List log.Write)) (last count : ℕ) (above : AreAbove name list logs writes last) (count_is : count ≡ length writes)
     (from : head.from ≡ last + 1) (to : head.to ≡ last + count) where
   same : last + length writes ≡ last + count
@@ -59,10 +64,11 @@ module _ {F W : Type 0} (content : F → Option (List ℕ)) (name : F → FileNa
   pub none_left : filter (is_log (last + count)) logs ≡ []
   none_left = none_stay name (last + count) logs (subst (λ most. All (λ t. IsLogUpTo most t.name) logs) same above.up_to)
 
-  pub harmed_logs : (c : OpenCause) → IfDamaged c (IsReplayDamage content name head list) → IfDamaged c (IsOfLogs content name (part_of head) (found_in list writes))
-  harmed_logs c = damage_weaker (IsReplayDamage content name head list) (IsOfLogs content name (part_of head) (found_in list writes)) c (λ damage harm. record {
+  pub harmed_logs : (c : OpenCause) → IfDamaged c (IsReplayDamage content name head writes list) → IfDamaged c (IsOfLogs content name (part_of head) (λ read. read ≡ list) (found_in list writes))
+  harmed_logs c = damage_weaker (IsReplayDamage content name head writes list) (IsOfLogs content name (part_of head) (λ read. read ≡ list) (found_in list writes)) c (λ damage harm. record {
     list = list;
     head = head;
+    are = refl;
     components = refl;
     here = refl;
     from = behind;
@@ -77,7 +83,7 @@ module _ {F W : Type 0} (content : F → Option (List ℕ)) (name : F → FileNa
         subst (λ cs. AreListed name (part_of head) cs) (sym l.listed)
         (list_longer content name (part_of head) list l.component head listed.device before l.made (subst (λ cs. IsListOf head.number head.count cs) l.listed of) behind (omega (arith, from, to, count_is, some)))
 
-    pub flushed_longer : 0 < length writes → AreFlushed (found_in list writes) longer
+    pub flushed_longer : 0 < length writes → AreFlushed (λ older. older ≡ list) (found_in list writes) longer
     flushed_longer some =
         let l = listed.listed in
         let e = end_by 0 (map index_in list) in
@@ -87,6 +93,7 @@ module _ {F W : Type 0} (content : F → Option (List ℕ)) (name : F → FileNa
         record {
           older = list;
           newer = l.component ∷ [];
+          are = refl;
           is = l.listed;
           read = refl;
           flushed = ap (λ (h : Head). one_interval h.from h.to) l.made.has_head ∙ ap (λ n. one_interval n head.to) begins ∙ ap (λ n. one_interval (e + 1) n) ends ∙ sym (flushed_some e (length writes) some);

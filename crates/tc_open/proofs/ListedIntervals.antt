@@ -41,14 +41,18 @@ end_flushed : (g n : ℕ) → end_of g (flushed_as g n) ≡ g + n
 end_flushed g zero = omega arith
 end_flushed g (suc n) = refl
 
-pub none_flushed : {F : Type 0} (list : List (ComponentState F)) → AreFlushed (found_in list []) list
-none_flushed list = record { older = list; newer = []; is = sym (append-nil list); read = refl; flushed = refl }
+pub none_flushed : {F : Type 0} (list : List (ComponentState F)) → AreFlushed (λ older. older ≡ list) (found_in list []) list
+none_flushed list = record { older = list; newer = []; are = refl; is = sym (append-nil list); read = refl; flushed = refl }
+
+-- more is known of the components that were read
+pub flushed_so : {F : Type 0} (P Q : List (ComponentState F) → Type 0) (found : Found) (list : List (ComponentState F)) → ((older : List (ComponentState F)) → P older → Q older) → AreFlushed P found list → AreFlushed Q found list
+flushed_so P Q found list so are = record { older = are.older; newer = are.newer; are = so are.older are.are; is = are.is; read = are.read; flushed = are.flushed }
 
 intervals_read : {F : Type 0} (list : List (ComponentState F)) → map interval_of list ≡ intervals_in (map index_in list)
 intervals_read [] = refl
 intervals_read (c ∷ list) = ap (λ is. interval_of c ∷ is) (intervals_read list)
 
-pub flushed_listed : {F : Type 0} (found : Found) (list : List (ComponentState F)) → AreFlushed found list → map interval_of list ≡ intervals_in found.components ++ flushed_as (end_by 0 found.components) (length found.logs)
+pub flushed_listed : {F : Type 0} {Are : List (ComponentState F) → Type 0} (found : Found) (list : List (ComponentState F)) → AreFlushed Are found list → map interval_of list ≡ intervals_in found.components ++ flushed_as (end_by 0 found.components) (length found.logs)
 flushed_listed found list are =
     ap (map interval_of) are.is ∙ map-append interval_of are.older are.newer
     ∙ ap (λ is. is ++ map interval_of are.newer) (intervals_read are.older ∙ ap intervals_in (sym are.read))

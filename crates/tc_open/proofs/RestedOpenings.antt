@@ -16,12 +16,12 @@ use Rattle.tc_recover.specs.Opening.{DiskJudged, Found, found_in}
 use Rattle.tc_open.specs.declared.fault.OpenCause.{OpenCause}
 use Rattle.tc_open.specs.declared.fault.OpenCause.TheVariants.{Disk as DiskFault, Damaged, Layout, Spent, Memory}
 use Rattle.tc_replay.specs.Merges.{IsMergeDamage, head_over}
-use Rattle.tc_open.specs.Judged.{CauseJudged, IsOfFound, IsOpenCause, Passes}
+use Rattle.tc_open.specs.Judged.{AreOfDisk, CauseJudged, IsOfFound, IsOpenCause, Passes}
 use Rattle.tc_open.specs.Listed.{AreFlushed, AreFlushedFrom, AreMergedFrom, AreOpenedFrom, listed_as, most_listed}
 use Rattle.tc_open.specs.OpenCauses.{IfDamaged, IsOfJob, IsOfNoFile}
 use Rattle.tc_open.specs.Steps.{Keeps, Rests}
 use Rattle.tc_open.proofs.FlushedAbove.{damage_weaker}
-use Rattle.tc_open.proofs.ListedIntervals.{ends_listed, none_flushed}
+use Rattle.tc_open.proofs.ListedIntervals.{ends_listed, flushed_so, none_flushed}
 use Rattle.tc_open.proofs.OpenStates.{keeps_on}
 
 -- ---- an answer of which both hold
@@ -37,14 +37,14 @@ err_joined (Err e) P Q p q = (p, q)
 -- ---- causes
 
 module _ {F : Type 0} (content : F → Option (List ℕ)) (name : F → FileName) (part : Partition) (found : Found) where
-  pub job_judged : (disk : Disk) (cause : OpenCause) → DiskJudged part disk (Ok found) → IsOfJob cause → IfDamaged cause (IsOfFound content name part found) → CauseJudged content name part disk cause
+  pub job_judged : (disk : Disk) (cause : OpenCause) → DiskJudged part disk (Ok found) → IsOfJob cause → IfDamaged cause (IsOfFound content name part (AreOfDisk content disk) found) → CauseJudged content name part disk cause
   job_judged disk DiskFault judged is of = tt
   job_judged disk (Damaged damage) judged is of = inr (found, judged, of)
   job_judged disk (Layout found found_of) judged is of = absurd is
   job_judged disk Spent judged is of = absurd is
   job_judged disk Memory judged is of = tt
 
-  pub job_caused : (W : Type 0) (size : F → ℕ) (cause : OpenCause) → IsOfJob cause → IfDamaged cause (IsOfFound content name part found) → IsOpenCause W size content name part cause
+  pub job_caused : (W : Type 0) (size : F → ℕ) (cause : OpenCause) → IsOfJob cause → IfDamaged cause (IsOfFound content name part (λ list. Unit {0}) found) → IsOpenCause W size content name part cause
   job_caused W size DiskFault is of = tt
   job_caused W size (Damaged damage) is of = inr (found, of)
   job_caused W size (Layout found found_of) is of = absurd is
@@ -72,14 +72,14 @@ module _ {F : Type 0} (content : F → Option (List ℕ)) (name : F → FileName
   abbrev Harms : OpenCause → Type 0
   Harms cause = IfDamaged cause Harm
 
-  of_merge : (found : Found) (cause : OpenCause) → AreFlushed found list → Harms cause → IfDamaged cause (IsOfFound content name part found)
-  of_merge found cause flushed harms = damage_weaker Harm (IsOfFound content name part found) cause (λ damage harm. inr (record { list = list; flushed = flushed; many = harm.0; harm = harm.1 })) harms
+  of_merge : (Are : List (ComponentState F) → Type 0) (found : Found) (cause : OpenCause) → AreFlushed Are found list → Harms cause → IfDamaged cause (IsOfFound content name part Are found)
+  of_merge Are found cause flushed harms = damage_weaker Harm (IsOfFound content name part Are found) cause (λ damage harm. inr (record { list = list; flushed = flushed; many = harm.0; harm = harm.1 })) harms
 
-  pub merge_judged : (disk : Disk) (cause : OpenCause) → Passes part disk (λ found. AreFlushed found list) → IsOfJob cause → Harms cause → CauseJudged content name part disk cause
-  merge_judged disk cause passes is harms = job_judged content name part passes.0 disk cause passes.1 is (of_merge passes.0 cause passes.2 harms)
+  pub merge_judged : (disk : Disk) (cause : OpenCause) → Passes part disk (λ found. AreFlushed (AreOfDisk content disk) found list) → IsOfJob cause → Harms cause → CauseJudged content name part disk cause
+  merge_judged disk cause passes is harms = job_judged content name part passes.0 disk cause passes.1 is (of_merge (AreOfDisk content disk) passes.0 cause passes.2 harms)
 
   pub merge_caused : (W : Type 0) (size : F → ℕ) (cause : OpenCause) → IsOfJob cause → Harms cause → IsOpenCause W size content name part cause
-  merge_caused W size cause is harms = job_caused content name part (found_in list []) W size cause is (of_merge (found_in list []) cause (none_flushed list) harms)
+  merge_caused W size cause is harms = job_caused content name part (found_in list []) W size cause is (of_merge (λ read. Unit {0}) (found_in list []) cause (flushed_so (λ older. older ≡ list) (λ older. Unit {0}) (found_in list []) list (λ older same. tt) (none_flushed list)) harms)
 
 -- ---- the partition starts
 

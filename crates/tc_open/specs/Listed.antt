@@ -42,10 +42,11 @@ merged_as is = if nat_lt most_listed (length is) then record { from = 1; to = en
 abbrev pub listed_as : Found → List Interval
 listed_as found = merged_as (intervals_in found.components ++ flushed_as (end_by 0 found.components) (length found.logs))
 
--- the components that were read are listed, and behind them that of the logs, where there is one
-pub record AreFlushed {F : Type 0} (found : Found) (list : List (ComponentState F)) : Type 0 where
+-- the components that were read, of which this holds, are listed, and behind them that of the logs, where there is one
+pub record AreFlushed {F : Type 0} (Are : List (ComponentState F) → Type 0) (found : Found) (list : List (ComponentState F)) : Type 0 where
   pub older : List (ComponentState F)
   pub newer : List (ComponentState F)
+  pub are : Are older
   pub is : list ≡ older ++ newer
   pub read : found.components ≡ map index_in older
   pub flushed : map interval_of newer ≡ flushed_as (end_by 0 found.components) (length found.logs)

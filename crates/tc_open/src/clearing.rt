@@ -11,7 +11,8 @@ ghost use Rattle.tc_plain_model.specs.Writes.{Write as PlainWrite};
 ghost use Rattle.tc_recover.specs.Files.{TakesSome};
 ghost use Rattle.tc_recover.specs.Lawful.{DiskOpens};
 ghost use Rattle.tc_recover.specs.Refusals.{asked};
-ghost use Rattle.tc_open.specs.Judged.{CauseJudged, IsOpenCause, IsUntouched, Passes};
+ghost use Rattle.tc_replay.specs.Openings.{AreIn};
+ghost use Rattle.tc_open.specs.Judged.{AreOfDisk, CauseJudged, IsOpenCause, IsUntouched, Passes};
 ghost use Rattle.tc_open.specs.Listed.{AreFlushed, AreFlushedFrom};
 ghost use Rattle.tc_open.specs.OpenCauses.{IfDamaged, IfLayout};
 ghost use Rattle.tc_open.specs.Resting.{AreOwn};
@@ -46,11 +47,12 @@ pub(crate) fn clear_logs<S: Store>(
         → IfErr result (λ fault. IfDamaged fault.cause (λ damage. ⊥))) }
 
     // Where the store tells its files, the answer is what is judged of them.
-    ensures judged { IfTold (S.history kit.store) (λ disk. IfOk result (λ r. Passes (asked part) disk (λ found. AreFlushed found r.list))) }
+    ensures judged { IfTold (S.history kit.store) (λ disk. IfOk result (λ r. Passes (asked part) disk (λ found. AreFlushed (AreOfDisk (λ file. S.Frozen.content file) disk) found r.list))) }
     ensures refused { IfTold (S.history kit.store) (λ disk. IfErr result (λ fault. CauseJudged (λ file. S.Frozen.content file) (λ file. S.Frozen.name file) (asked part) disk fault.cause)) }
     ensures causes { IfErr result (λ fault. IsOpenCause S.Watch (λ file. S.Frozen.size file) (λ file. S.Frozen.content file) (λ file. S.Frozen.name file) (asked part) fault.cause) }
     ensures layout { IfErr result (λ fault. IfLayout fault.cause (TakesSome (S.history kit.store) (S.history fault.kit.store))) }
     ensures untouched { IfErr result (λ fault. IsUntouched (asked part) (S.history kit.store) (S.history fault.kit.store)) }
+    ensures home { IfErr result (λ fault. IfTold (S.history fault.kit.store) AreIn) }
 
     // Where it still tells them, so do the files of the components.
     ensures components { IfOk result (λ r. IfTold (S.history r.kit.store) (λ disk. AreTold (map (told_component S.Frozen.content) r.list))) }

@@ -66,11 +66,12 @@ pub(crate) fn flush_above<S: Store>(
     // So it is over every store: behind the components that there were one has the generations of the logs, and no other file is
     // left.
     ensures listed { IfOk result (λ r. AreListed (λ file. S.Frozen.name file) (asked part) r.list) }
-    ensures flushed { IfOk result (λ r. AreFlushed (found_in tidied.list tidied.writes.items) r.list) }
+    ensures flushed { IfOk result (λ r. AreFlushed (λ older. older ≡ tidied.list) (found_in tidied.list tidied.writes.items) r.list) }
     ensures own { IfOk result (λ r. IfTold (S.history r.kit.store) (AreOwn r.list [])) }
 
-    ensures damaged { IfErr result (λ fault. IfDamaged fault.cause (IsOfLogs (λ file. S.Frozen.content file) (λ file. S.Frozen.name file) (asked part) (found_in tidied.list tidied.writes.items))) }
+    ensures damaged { IfErr result (λ fault. IfDamaged fault.cause (IsOfLogs (λ file. S.Frozen.content file) (λ file. S.Frozen.name file) (asked part) (λ list. list ≡ tidied.list) (found_in tidied.list tidied.writes.items))) }
     ensures causes { IfErr result (λ fault. IsOfJob fault.cause) }
+    ensures home { IfErr result (λ fault. IfTold (S.history fault.kit.store) AreIn) }
     ensures kit { IfOk result (λ r. r.kit ≡ record tidied.kit { store = r.kit.store; main = r.kit.main }) }
     ensures given_back { IfErr result (λ fault. fault.kit ≡ record tidied.kit { store = fault.kit.store; main = fault.kit.main }) }
     ensures watched { IfOk result (λ r. IsWatched ⊥ (S.Watch.counts tidied.kit.main) (S.Watch.counts r.kit.main)) }
@@ -130,8 +131,9 @@ fn flush_kit<S: Store>(
 
     ensures listed { IfOk result (λ r. IsFlushListed (λ file. S.Frozen.content file) (λ file. S.Frozen.name file) head list r.list (S.history kit.store) (S.history r.kit.store)) }
     ensures partition { IfOk result (λ r. IsListOf head.number head.count list → IsListOf head.number head.count r.list) }
-    ensures damaged { IfErr result (λ fault. IfDamaged fault.cause (IsReplayDamage (λ file. S.Frozen.content file) (λ file. S.Frozen.name file) head list)) }
+    ensures damaged { IfErr result (λ fault. IfDamaged fault.cause (IsReplayDamage (λ file. S.Frozen.content file) (λ file. S.Frozen.name file) head writes.now list)) }
     ensures causes { IfErr result (λ fault. IsOfJob fault.cause) }
+    ensures home { IfTold (S.history kit.store) AreIn → IfErr result (λ fault. IfTold (S.history fault.kit.store) AreIn) }
     ensures kit { IfOk result (λ r. r.kit ≡ record kit { store = r.kit.store; main = r.kit.main }) }
     ensures given_back { IfErr result (λ fault. fault.kit ≡ record kit { store = fault.kit.store; main = fault.kit.main }) }
     ensures watched { IfOk result (λ r. IsWatched ⊥ (S.Watch.counts kit.main) (S.Watch.counts r.kit.main)) }

@@ -13,6 +13,7 @@ ghost use Rattle.tc_recover.specs.Loading.{interval_of};
 ghost use Rattle.tc_recover.specs.Refusals.{asked};
 ghost use Rattle.tc_recover.specs.Removing.{removes_all};
 ghost use Rattle.tc_replay.specs.Merges.{head_over, IsMergeDamage};
+ghost use Rattle.tc_replay.specs.Openings.{AreIn};
 ghost use Rattle.tc_open.specs.Listed.{AreMergedFrom, merged_as, most_listed};
 ghost use Rattle.tc_open.specs.OpenCauses.{IfDamaged, IsOfCall, IsOfJob};
 ghost use Rattle.tc_open.specs.Resting.{AreOwn};
@@ -59,6 +60,7 @@ pub(crate) fn merge_many<S: Store>(
 
     ensures damaged { IfErr result (λ fault. IfDamaged fault.cause (λ damage. (most_listed < length rested.list) × IsMergeDamage (λ file. S.Frozen.content file) (λ file. S.Frozen.name file) (head_over part.number part.count rested.list) rested.list damage)) }
     ensures causes { IfErr result (λ fault. IsOfJob fault.cause) }
+    ensures home { IfErr result (λ fault. IfTold (S.history fault.kit.store) AreIn) }
     ensures kit { IfOk result (λ r. r.kit ≡ record rested.kit { store = r.kit.store; main = r.kit.main }) }
     ensures given_back { IfErr result (λ fault. fault.kit ≡ record rested.kit { store = fault.kit.store; main = fault.kit.main }) }
     ensures watched { IfOk result (λ r. IsWatched ⊥ (S.Watch.counts rested.kit.main) (S.Watch.counts r.kit.main)) }

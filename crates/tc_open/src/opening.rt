@@ -21,6 +21,7 @@ ghost use Rattle.tc_plain_model.specs.Writes.{Write as PlainWrite};
 ghost use Rattle.tc_recover.specs.Files.{TakesSome};
 ghost use Rattle.tc_recover.specs.Lawful.{DiskOpens};
 ghost use Rattle.tc_recover.specs.Loading.{interval_of};
+ghost use Rattle.tc_replay.specs.Openings.{AreIn};
 ghost use Rattle.tc_open.specs.Judged.{CauseJudged, IsOpenCause, IsUntouched, Passes};
 ghost use Rattle.tc_open.specs.Listed.{listed_as, most_listed};
 ghost use Rattle.tc_open.specs.OpenCauses.{IfDamaged, IfLayout};
@@ -74,8 +75,9 @@ pub fn open_part<S: Store>(
     ensures causes { IfErr result (λ fault. IsOpenCause S.Watch (λ file. S.Frozen.size file) (λ file. S.Frozen.content file) (λ file. S.Frozen.name file) (record { number = number; count = count }) fault.cause) }
     ensures layout { IfErr result (λ fault. IfLayout fault.cause (TakesSome (S.history kit.store) (S.history fault.kit.store))) }
 
-    // A refusal in reading leaves each file its bytes.
+    // A refusal in reading leaves each file its bytes, and behind a fault no file is out.
     ensures untouched { IfErr result (λ fault. IsUntouched (record { number = number; count = count }) (S.history kit.store) (S.history fault.kit.store)) }
+    ensures home { IfErr result (λ fault. IfTold (S.history fault.kit.store) AreIn) }
 
     // Where its store tells its files, so do those of its components.
     ensures components { IfOk result (λ p. IfTold (S.history p.store) (λ disk. AreTold (told S.history S.Device.history S.Frozen.content p).components)) }

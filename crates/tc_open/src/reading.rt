@@ -15,8 +15,8 @@ ghost use Rattle.tc_recover.specs.Loads.{is_log as of_log};
 ghost use Rattle.tc_recover.specs.Opening.{DiskJudged, found_in};
 ghost use Rattle.tc_recover.specs.Refusals.{asked};
 ghost use Rattle.tc_recover.specs.Removing.{needless_names};
-ghost use Rattle.tc_replay.specs.Openings.{AreNeedless};
-ghost use Rattle.tc_open.specs.Judged.{CauseJudged, IsOpenCause, IsUntouched};
+ghost use Rattle.tc_replay.specs.Openings.{AreIn, AreNeedless};
+ghost use Rattle.tc_open.specs.Judged.{AreOfDisk, CauseJudged, IsOpenCause, IsUntouched};
 ghost use Rattle.tc_open.specs.OpenCauses.{IfDamaged, IfLayout};
 ghost use Rattle.tc_open.specs.Resting.{AreOwn};
 ghost use Rattle.tc_open.specs.Steps.{AreAbove, AreListed, Keeps, Stands};
@@ -24,6 +24,7 @@ ghost use Rattle.tc_open.specs.Steps.{AreAbove, AreListed, Keeps, Stands};
 use crate::fault::{OpenCause, OpenFault};
 use crate::steps::ReadKit;
 use std::alloc::Global;
+use tc_lawful::loaded_files_hold;
 use tc_recover::{Partition, read_files};
 use tc_store::{Kit, Store};
 
@@ -53,8 +54,10 @@ pub(crate) fn read_kit<S: Store>(
     ensures causes { IfErr result (λ fault. IsOpenCause S.Watch (λ file. S.Frozen.size file) (λ file. S.Frozen.content file) (λ file. S.Frozen.name file) (asked part) fault.cause) }
     ensures layout { IfErr result (λ fault. IfLayout fault.cause (TakesSome (S.history kit.store) (S.history fault.kit.store))) }
     ensures untouched { IfErr result (λ fault. IsUntouched (asked part) (S.history kit.store) (S.history fault.kit.store)) }
+    ensures home { IfErr result (λ fault. IfTold (S.history fault.kit.store) AreIn) }
 
-    // Where it still tells them, so do the files of the components.
+    // Then the components are of its files, and where it still tells them, so do the files of these.
+    ensures files { IfTold (S.history kit.store) (λ disk. IfOk result (λ r. AreOfDisk (λ file. S.Frozen.content file) disk r.read.list)) }
     ensures components { IfOk result (λ r. IfTold (S.history r.kit.store) (λ disk. AreTold (map (told_component S.Frozen.content) r.read.list))) }
 
     // So it is over every store.
@@ -66,6 +69,7 @@ pub(crate) fn read_kit<S: Store>(
     ensures watched { IfOk result (λ r. IsWatched ⊥ (S.Watch.counts kit.main) (S.Watch.counts r.kit.main)) }
     ensures failed { IfErr result (λ fault. IsWatched (fault.cause ≡ OpenCause.Disk) (S.Watch.counts kit.main) (S.Watch.counts fault.kit.main)) }
 {
+    loaded_files_hold::<S>();
     let mut kit = kit;
     match read_files(alloc, &mut kit.store, part, &mut kit.main) {
         Ok(read) => Ok(ReadKit { kit, read }),

@@ -10,7 +10,7 @@ ghost use Rattle.tc_part_model.specs.PartState.{IsTold};
 ghost use Rattle.tc_plain_model.specs.Writes.{Write};
 ghost use Rattle.tc_recover.specs.Loads.{is_log as of_log};
 ghost use Rattle.tc_recover.specs.Removing.{needless_names};
-ghost use Rattle.tc_replay.specs.Openings.{AreNeedless, IsOpening};
+ghost use Rattle.tc_replay.specs.Openings.{AreIn, AreNeedless, IsOpening};
 ghost use Rattle.tc_open.specs.OpenCauses.{IsOfCall};
 ghost use Rattle.tc_open.specs.Resting.{AreOwn};
 ghost use Rattle.tc_open.specs.Steps.{Keeps};
@@ -44,6 +44,7 @@ pub(crate) fn remove_files<S: Store>(
     ensures own { (list : List (ComponentState S.Frozen)) → IfTold (S.history kit.store) (AreOwn list (map (λ t. S.Frozen.name t.file) files.items))
         → IfOk result (λ r. IfTold (S.history r.kit.store) (AreOwn list (map (λ t. S.Frozen.name t.file) r.logs.items))) }
 
+    ensures home { IfTold (S.history kit.store) AreIn → IfErr result (λ fault. IfTold (S.history fault.kit.store) AreIn) }
     ensures kit { IfOk result (λ r. r.kit ≡ record kit { store = r.kit.store; main = r.kit.main }) }
     ensures given_back { IfErr result (λ fault. fault.kit ≡ record kit { store = fault.kit.store; main = fault.kit.main }) }
     ensures causes { IfErr result (λ fault. IsOfCall fault.cause) }

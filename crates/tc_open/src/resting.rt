@@ -12,6 +12,7 @@ ghost use Rattle.tc_recover.specs.Files.{TakesSome};
 ghost use Rattle.tc_recover.specs.Lawful.{DiskOpens};
 ghost use Rattle.tc_recover.specs.Loading.{interval_of};
 ghost use Rattle.tc_recover.specs.Refusals.{asked};
+ghost use Rattle.tc_replay.specs.Openings.{AreIn};
 ghost use Rattle.tc_open.specs.Judged.{CauseJudged, IsOpenCause, IsUntouched, Passes};
 ghost use Rattle.tc_open.specs.Listed.{AreOpenedFrom, listed_as, most_listed};
 ghost use Rattle.tc_open.specs.OpenCauses.{IfDamaged, IfLayout};
@@ -52,6 +53,7 @@ pub(crate) fn bring_to_rest<S: Store>(
     ensures causes { IfErr result (λ fault. IsOpenCause S.Watch (λ file. S.Frozen.size file) (λ file. S.Frozen.content file) (λ file. S.Frozen.name file) (asked part) fault.cause) }
     ensures layout { IfErr result (λ fault. IfLayout fault.cause (TakesSome (S.history kit.store) (S.history fault.kit.store))) }
     ensures untouched { IfErr result (λ fault. IsUntouched (asked part) (S.history kit.store) (S.history fault.kit.store)) }
+    ensures home { IfErr result (λ fault. IfTold (S.history fault.kit.store) AreIn) }
 
     // Where it still tells them, so do the files of the components.
     ensures components { IfOk result (λ r. IfTold (S.history r.kit.store) (λ disk. AreTold (map (told_component S.Frozen.content) r.list))) }

@@ -12,7 +12,8 @@ ghost use Rattle.tc_recover.specs.Files.{TakesSome};
 ghost use Rattle.tc_recover.specs.Lawful.{DiskOpens};
 ghost use Rattle.tc_recover.specs.Opening.{DiskJudged, found_in};
 ghost use Rattle.tc_recover.specs.Refusals.{asked};
-ghost use Rattle.tc_open.specs.Judged.{CauseJudged, IsOpenCause, IsUntouched};
+ghost use Rattle.tc_replay.specs.Openings.{AreIn};
+ghost use Rattle.tc_open.specs.Judged.{AreOfDisk, CauseJudged, IsOpenCause, IsUntouched};
 ghost use Rattle.tc_open.specs.OpenCauses.{IfDamaged, IfLayout};
 ghost use Rattle.tc_open.specs.Resting.{AreOwn};
 ghost use Rattle.tc_open.specs.Steps.{AreAbove, AreListed, Keeps, Stands};
@@ -52,8 +53,10 @@ pub(crate) fn tidy<S: Store>(
     ensures causes { IfErr result (λ fault. IsOpenCause S.Watch (λ file. S.Frozen.size file) (λ file. S.Frozen.content file) (λ file. S.Frozen.name file) (asked part) fault.cause) }
     ensures layout { IfErr result (λ fault. IfLayout fault.cause (TakesSome (S.history kit.store) (S.history fault.kit.store))) }
     ensures untouched { IfErr result (λ fault. IsUntouched (asked part) (S.history kit.store) (S.history fault.kit.store)) }
+    ensures home { IfErr result (λ fault. IfTold (S.history fault.kit.store) AreIn) }
 
-    // Where it still tells them, so do the files of the components.
+    // Then the components are of its files, and where it still tells them, so do the files of these.
+    ensures files { IfTold (S.history kit.store) (λ disk. IfOk result (λ t. AreOfDisk (λ file. S.Frozen.content file) disk t.list)) }
     ensures components { IfOk result (λ t. IfTold (S.history t.kit.store) (λ disk. AreTold (map (told_component S.Frozen.content) t.list))) }
 
     // So it is over every store.

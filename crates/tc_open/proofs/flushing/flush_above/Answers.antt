@@ -1,13 +1,16 @@
 use Rattle.std.proofs.Common.{rules, ◌≡◌, ◌∙◌, ◌+◌, ◌<◌, ◌++◌, List, [], ◌∷◌, length, map, refl, sym, ap, subst}
 use Rattle.std.proofs.lemmas.List.{nil_from_length}
 use Rattle.tc_store.specs.Moments.{IfTold}
+use Rattle.tc_store.proofs.MomentLemmas.{told_map}
 use Rattle.tc_component.specs.declared.head.Head.{Head}
 use Rattle.tc_log.specs.declared.write.Write.{Write}
 use Rattle.tc_machine.specs.Pictures.{recovered}
 use Rattle.tc_recover.specs.Opening.{found_in}
 use Rattle.tc_recover.specs.Refusals.{asked}
+use Rattle.tc_replay.specs.FlushedLogs.{IsReplayDamage}
 use Rattle.tc_replay.proofs.ToldMoments.{tells_on}
 use Rattle.tc_open.specs.Listed.{AreFlushed}
+use Rattle.tc_open.specs.OpenCauses.{IfDamaged}
 use Rattle.tc_open.specs.Openings.{LeavesStored}
 use Rattle.tc_open.specs.Resting.{AreOwn}
 use Rattle.tc_open.proofs.FlushedAbove.{covered, flushed_longer, harmed_logs, listed_longer, none_left, own_longer}
@@ -31,7 +34,7 @@ pub returns-then-is_empty-clause-flushed : goal.returns-then-is_empty-clause-flu
 returns-then-is_empty-clause-flushed g c =
     let t = c.args.tidied in
     let none : t.writes.items ≡ [] = nil_from_length t.writes.items (search rules) in
-    subst (λ (ws : List (List Write)). AreFlushed (found_in t.list ws) t.list) (sym none) (none_flushed t.list)
+    subst (λ (ws : List (List Write)). AreFlushed (λ older. older ≡ t.list) (found_in t.list ws) t.list) (sym none) (none_flushed t.list)
 
 pub flush_kit-requires-clause-free : goal.flush_kit-requires-clause-free
 flush_kit-requires-clause-free g c κs within =
@@ -47,7 +50,8 @@ returns-clause-damaged g c =
     let t = c.args.tidied in
     let head : Head = record { number = c.args.part.number; count = c.args.part.count; from = t.last + 1; to = t.last + c.len.result } in
     let count : c.len.result ≡ length t.writes.items = c.len.ensures ∙ sym c.deref.ensures.len ∙ ap length c.deref.ensures.value in
-    harmed_logs (λ file. g.S.Frozen.Frozen.content file) (λ file. g.S.Frozen.Frozen.name file) head t.list t.logs.items t.writes.items t.last c.len.result c.requires.above count refl refl c.in-Err.fault.cause c.in-Err.ensures.damaged
+    harmed_logs (λ file. g.S.Frozen.Frozen.content file) (λ file. g.S.Frozen.Frozen.name file) head t.list t.logs.items t.writes.items t.last c.len.result c.requires.above count refl refl c.in-Err.fault.cause
+    (subst (λ (ws : List (List Write)). IfDamaged c.in-Err.fault.cause (IsReplayDamage (λ file. g.S.Frozen.Frozen.content file) (λ file. g.S.Frozen.Frozen.name file) head ws t.list)) c.deref.ensures.value c.in-Err.ensures.damaged)
 
 pub returns-in-Ok-clause-kept : goal.returns-in-Ok-clause-kept
 returns-in-Ok-clause-kept g c = λ cs logs stands.
@@ -144,3 +148,17 @@ returns-in-Ok-remove_files-clause-components g c = λ told.
     let head : Head = record { number = c.args.part.number; count = c.args.part.count; from = t.last + 1; to = t.last + c.len.result } in
     flushed_tells (λ file. g.S.Frozen.Frozen.content file) (λ file. g.S.Frozen.Frozen.name file) head t.list c.in-Ok.field-0.list (g.S.Store.history t.kit.store) (g.S.Store.history c.in-Ok.field-0.kit.store) (g.S.Store.history c.in-Ok-remove_files.removed.kit.store)
     c.in-Ok.ensures.listed c.in-Ok-remove_files.ensures.untold told
+
+pub returns-clause-home : goal.returns-clause-home
+returns-clause-home g c = c.in-Err.ensures.home (told_map _ _ (g.S.Store.history c.args.tidied.kit.store) (λ disk own. own.is_in) c.requires.own)
+
+pub returns-in-Ok-clause-home : goal.returns-in-Ok-clause-home
+returns-in-Ok-clause-home g c =
+    let t = c.args.tidied in
+    let name = g.S.Frozen.Frozen.name in
+    let content = g.S.Frozen.Frozen.content in
+    let head : Head = record { number = c.args.part.number; count = c.args.part.count; from = t.last + 1; to = t.last + c.len.result } in
+    let count : c.len.result ≡ length t.writes.items = c.len.ensures ∙ sym c.deref.ensures.len ∙ ap length c.deref.ensures.value in
+    let store = g.S.Store.history c.in-Ok.field-0.kit.store in
+    let mid = own_longer content name head t.list t.logs.items t.writes.items t.last c.len.result c.requires.above count refl refl c.in-Ok.field-0.list (g.S.Store.history t.kit.store) store c.in-Ok.ensures.listed (map (λ u. name u.file) t.logs.items) c.requires.own in
+    c.in-Err-remove_files.ensures.home (told_map _ _ store (λ disk own. own.is_in) mid)

@@ -1,4 +1,4 @@
-use Rattle.std.proofs.Common.{◌∙◌, ◌<◌, ◌≤◌, List, [], ◌∷◌, ap, arith, length, map, subst, sym}
+use Rattle.std.proofs.Common.{◌∙◌, ◌<◌, ◌≤◌, List, [], ◌∷◌, ap, arith, inl, inr, length, map, subst, sym}
 use Rattle.std.proofs.lemmas.List.{length-map}
 use Rattle.std.proofs.lemmas.Result.{IfOk-at_ok}
 use Rattle.tc_component.specs.Loading.{ComponentState}
@@ -15,6 +15,8 @@ use Rattle.tc_replay.specs.Merges.{IsListMerged, IsMergeDamage, IsMergeListed, h
 use Rattle.tc_replay.specs.Openings.{IsKeptWriting}
 use Rattle.tc_open.specs.Listed.{most_listed}
 use Rattle.tc_open.specs.OpenCauses.{IfDamaged, of_job}
+use Rattle.tc_store.proofs.MomentLemmas.{told_map}
+use Rattle.tc_open.proofs.FilesIn.{fault_in, given_up_in, removes_some_in}
 use Rattle.tc_open.proofs.FlushedAbove.{damage_weaker}
 use Rattle.tc_open.proofs.FlushedOpenings.{job_damage, same_keeps}
 use Rattle.tc_open.proofs.ListedIntervals.{few_stay}
@@ -188,3 +190,22 @@ returns-in-Ok-remove_replaced-clause-few g c =
     let m : IsMergeListed (λ file. content file) (λ file. name file) (head_over c.args.part.number c.args.part.count r.list) r.list c.merge_listed-watch.new.list
     (g.S.Store.history r.kit.store) (g.S.Store.history c.merge_listed-watch.new.store) = IfOk-at_ok _ c.in-Ok.is c.merge_listed-watch.ensures.listed in
     subst (λ (cs : List (ComponentState g.row.S-Frozen.Denot)). length cs ≤ most_listed) (sym m.listed) (omega arith)
+
+pub returns-in-Err-clause-home : goal.returns-in-Err-clause-home
+returns-in-Err-clause-home g c =
+    let r = c.args.rested in
+    let old = g.S.Store.history r.kit.store in
+    fault_in _ (head_over c.args.part.number c.args.part.count r.list) old (g.S.Store.history c.merge_listed-watch.new.store) c.merge_listed-watch.result.outcome c.in-Err.fault c.in-Err.is c.merge_listed-watch.ensures.left
+    (told_map _ _ old (λ disk own. own.is_in) c.requires.own)
+
+pub returns-in-Err-remove_replaced-clause-home : goal.returns-in-Err-remove_replaced-clause-home
+returns-in-Err-remove_replaced-clause-home g c =
+    let r = c.args.rested in
+    let content = g.S.Frozen.Frozen.content in
+    let name = g.S.Frozen.Frozen.name in
+    let old = g.S.Store.history r.kit.store in
+    let later = g.S.Store.history c.merge_listed-watch.new.store in
+    let head = head_over c.args.part.number c.args.part.count r.list in
+    let m : IsMergeListed (λ file. content file) (λ file. name file) head r.list c.merge_listed-watch.new.list old later = IfOk-at_ok _ c.in-Ok.is c.merge_listed-watch.ensures.listed in
+    removes_some_in _ later (g.S.Store.history c.in-Err-remove_replaced.fault.kit.store) c.in-Err-remove_replaced.ensures.partly
+    (given_up_in head old later (inr (m.device, m.tells, inl m.still)) (told_map _ _ old (λ disk own. own.is_in) c.requires.own))

@@ -112,3 +112,7 @@ pub returns-in-Ok-clause-untouched : goal.returns-in-Ok-clause-untouched
 returns-in-Ok-clause-untouched g c =
     let passed = told_map _ _ (g.S.Store.history c.args.kit.store) (λ disk passes. (passes.0, passes.1, tt)) c.in-Ok.ensures.judged in
     IfErr-weaker c.start_part.result _ _ (λ fault given. inr passed) c.start_part.ensures.given_back
+
+pub returns-in-Ok-clause-home : goal.returns-in-Ok-clause-home
+returns-in-Ok-clause-home g c =
+    IfErr-weaker c.start_part.result _ _ (λ fault home. home (told_map _ _ (g.S.Store.history c.in-Ok.field-0.kit.store) (λ disk own. own.is_in) c.in-Ok.ensures.own)) c.start_part.ensures.home

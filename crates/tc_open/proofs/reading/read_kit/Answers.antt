@@ -1,14 +1,19 @@
 use Rattle.std.proofs.Common.{List, inl, subst, sym}
+use Rattle.tc_store.specs.Disk.{IsAtRest}
 use Rattle.tc_store.specs.Moments.{IfTold}
+use Rattle.tc_store.proofs.MomentLemmas.{told_map}
+use Rattle.tc_replay.specs.Openings.{AreIn}
 use Rattle.tc_plain_model.specs.Writes.{Write}
 use Rattle.tc_lsm_model.specs.Contents.{Content}
 use Rattle.tc_recover.specs.declared.reading.FilesRead.{FilesRead}
 use Rattle.tc_recover.specs.Lawful.{DiskOpens}
-use Rattle.tc_recover.specs.Opening.{Found, found_in}
+use Rattle.tc_recover.specs.Opening.{AreAllTaken, Found, found_in}
 use Rattle.tc_recover.specs.Refusals.{asked}
-use Rattle.tc_open.specs.Judged.{CauseJudged, IsOpenCause}
+use Rattle.tc_open.specs.Judged.{AreOfDisk, CauseJudged, IsOpenCause}
 use Rattle.tc_open.specs.OpenCauses.{IfDamaged, IfLayout}
-use Rattle.tc_open.proofs.FilesRead.{own_read}
+use Rattle.tc_open.proofs.FilesIn.{takes_in}
+use Rattle.tc_open.proofs.FilesRead.{in_at_rest, own_read}
+use Rattle.tc_open.proofs.Lawfully.{told_last}
 use Rattle.tc_open.proofs.ReadKits.{files_kept, lawful_passes, lawful_sound, read_above, read_listed, read_stands, refusal_caused, refusal_judged}
 use Rattle.tc_open.proofs.ToldOpenings.{read_tells}
 use Rattle.tc_open.proofs.reading.read_kit.Goals as goal
@@ -41,6 +46,14 @@ returns-in-Ok-clause-own g c =
     let read = c.in-Ok.ensures.read in
     own_read (λ file. g.S.Frozen.Frozen.name file) c.in-Ok.read.list c.in-Ok.read.left.items read.0 c.in-Ok.read.last (g.S.Store.history c.args.kit.store) (g.S.Store.history c.read_files.new.store) c.requires.at_rest read.1 read.2
 
+pub returns-in-Ok-clause-files : goal.returns-in-Ok-clause-files
+returns-in-Ok-clause-files g c =
+    let read = c.in-Ok.ensures.read in
+    let old = g.S.Store.history c.args.kit.store in
+    let new = g.S.Store.history c.read_files.new.store in
+    told_last (λ disk. AreOfDisk g.S.Frozen.Frozen.content disk c.in-Ok.read.list) old (λ disk past is. c.loaded_files_hold.ensures.told disk past new read.0 c.in-Ok.read.left.items c.in-Ok.read.list c.in-Ok.read.last
+    (subst (λ ds. IfTold ds IsAtRest) is c.requires.at_rest) (subst (λ ds. AreAllTaken g.S.Frozen.Frozen.content g.S.Frozen.Frozen.name read.0 ds new) is read.1) read.2)
+
 pub returns-in-Err-clause-lawful : goal.returns-in-Err-clause-lawful
 returns-in-Err-clause-lawful g c =
     subst (λ e. IfTold (g.S.Store.history c.args.kit.store) (λ disk. (cs : List Content) (logs : List (List Write)) → DiskOpens (asked c.args.part) disk cs logs → IfLayout e ⊥)) (sym c.from.ensures)
@@ -66,6 +79,12 @@ pub returns-in-Ok-clause-components : goal.returns-in-Ok-clause-components
 returns-in-Ok-clause-components g c =
     let read = c.in-Ok.ensures.read in
     read_tells (λ file. g.S.Frozen.Frozen.content file) (λ file. g.S.Frozen.Frozen.name file) c.in-Ok.read.list c.in-Ok.read.left.items read.0 c.in-Ok.read.last (g.S.Store.history c.args.kit.store) (g.S.Store.history c.read_files.new.store) read.1 read.2
+
+pub returns-in-Err-clause-home : goal.returns-in-Err-clause-home
+returns-in-Err-clause-home g c =
+    let old = g.S.Store.history c.args.kit.store in
+    let partly = c.in-Err.ensures.partly in
+    subst (λ ds. IfTold ds AreIn) (sym partly.1) (takes_in partly.0 old (told_map IsAtRest AreIn old in_at_rest c.requires.at_rest))
 
 pub returns-in-Err-clause-untouched : goal.returns-in-Err-clause-untouched
 returns-in-Err-clause-untouched g c = inl c.in-Err.ensures.partly

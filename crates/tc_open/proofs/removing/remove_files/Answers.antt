@@ -6,6 +6,7 @@ use Rattle.tc_recover.specs.declared.taken.Taken.{Taken}
 use Rattle.tc_recover.specs.Loads.{is_log}
 use Rattle.tc_recover.specs.Removing.{needless_names, removes_all}
 use Rattle.tc_open.specs.Resting.{AreOwn}
+use Rattle.tc_open.proofs.FilesIn.{removes_some_in}
 use Rattle.tc_open.proofs.LogsCovered.{go_or_stay}
 use Rattle.tc_open.proofs.OpenStates.{opening_keeps, partly_some, removed_some, removes_tells}
 use Rattle.tc_open.proofs.OwnFiles.{own_removed}
@@ -52,3 +53,10 @@ pub returns-in-Ok-clause-untold : goal.returns-in-Ok-clause-untold
 returns-in-Ok-clause-untold g c = λ none.
     let names = needless_names (λ file. g.S.Frozen.Frozen.name file) c.args.last c.args.files.items in
     c.in-Ok.ensures.removed ∙ ap (removes_all names) none ∙ removes_untold names
+
+pub returns-in-Err-clause-home : goal.returns-in-Err-clause-home
+returns-in-Err-clause-home g c = λ are.
+    let names = needless_names (λ file. g.S.Frozen.Frozen.name file) c.args.last c.args.files.items in
+    let old = g.S.Store.history c.args.kit.store in
+    let new = g.S.Store.history c.remove_needless.new.store in
+    removes_some_in names old new (partly_some names old new c.in-Err.ensures.partly) are

@@ -39,12 +39,18 @@ returns-in-Err-remove_files-clause-kept g c =
     (λ cs logs stands spare. c.in-Err-remove_files.ensures.kept part cs logs stands.opening spare)) c.in-Ok.ensures.keeps
     (λ cs logs after before. keeps_on part (recovered cs logs).pairs old (g.S.Store.history c.in-Ok.field-0.kit.store) (g.S.Store.history c.in-Err-remove_files.fault.kit.store) before after)
 
+pub returns-in-Ok-remove_files-clause-files : goal.returns-in-Ok-remove_files-clause-files
+returns-in-Ok-remove_files-clause-files g c = c.in-Ok.ensures.files
+
 pub returns-in-Ok-remove_files-clause-components : goal.returns-in-Ok-remove_files-clause-components
 returns-in-Ok-remove_files-clause-components g c = told_still _ (g.S.Store.history c.in-Ok.field-0.kit.store) (g.S.Store.history c.in-Ok-remove_files.field-0.kit.store) c.in-Ok-remove_files.ensures.untold c.in-Ok.ensures.components
 
 pub returns-in-Err-remove_files-clause-undamaged : goal.returns-in-Err-remove_files-clause-undamaged
 returns-in-Err-remove_files-clause-undamaged g c =
     both_lawful (asked c.args.part) _ _ _ (g.S.Store.history c.args.kit.store) c.in-Ok.ensures.stands c.in-Ok.ensures.stands (λ cs logs stands same. call_sound c.in-Err-remove_files.fault.cause c.in-Err-remove_files.ensures.causes)
+
+pub returns-in-Err-remove_files-clause-home : goal.returns-in-Err-remove_files-clause-home
+returns-in-Err-remove_files-clause-home g c = c.in-Err-remove_files.ensures.home (told_map _ _ (g.S.Store.history c.in-Ok.field-0.kit.store) (λ disk own. own.is_in) c.in-Ok.ensures.own)
 
 pub returns-in-Err-remove_files-clause-untouched : goal.returns-in-Err-remove_files-clause-untouched
 returns-in-Err-remove_files-clause-untouched g c =
