@@ -4,7 +4,7 @@ use Rattle.std.specs.Prelude.{◌⊎◌, Result, Ok, Err, OnErr, OnOk, if◌then
 use Rattle.std.proofs.lemmas.Bool.{true≢false}
 use Rattle.std.proofs.lemmas.List.{length-map}
 use Rattle.std.proofs.lemmas.Slice.Zip.{AllZip-long}
-use Rattle.tc_flush.proofs.Outcomes.{ok_both, ok_then}
+use Rattle.tc_flush.proofs.Outcomes.{if_err, ok_both, ok_then}
 use Rattle.tc_list.specs.Policies.{listed_least}
 use Rattle.tc_list.specs.declared.policy.Policy.{Policy}
 use Rattle.tc_log.specs.Appending.{LogState}
@@ -27,12 +27,15 @@ use Rattle.tc_store.specs.Images.{IsImageOf}
 use Rattle.tc_store.specs.Moments.{IfTold}
 use Rattle.tc_store.specs.StoreCalls.{comes_home}
 use Rattle.tc_work.specs.declared.fault.EngineFault.{EngineFault}
+use Rattle.tc_work.specs.Damage.{HasMetDamage, IsPartDamage}
 use Rattle.tc_work.specs.Ending.{EndsSmall, Finishes, GivesBack}
+use Rattle.tc_work.specs.Faults.{IfDamaged}
 use Rattle.tc_work.specs.JobsOut.{flusher_of, merger_of, watched_part}
 use Rattle.tc_work.specs.Moving.{Eyes, Working, beside, told_by, works_by, KeepsJobs, MayMove, Moves}
 use Rattle.tc_work.specs.Settling.{IsWatchedIn, MomentsLeavePairs, PicksNone, TellsFiles}
 use Rattle.tc_work.proofs.EmptyLogs.{one_log_opens, unwritten}
 use Rattle.tc_work.proofs.GivenBack.{failed_then}
+use Rattle.tc_work.proofs.MergeFaults.{fault_damage_so}
 use Rattle.tc_work.proofs.MovingCalls.{sealed_still}
 use Rattle.tc_work.proofs.OnResults.{on_err_is, on_err_only, on_ok}
 use Rattle.tc_work.proofs.StoredMoments.{moments_of, no_moments, store_moments, then_moments, where_told}
@@ -200,7 +203,10 @@ module _ {S D F W : Type 0} (e : Eyes S D F W) (size_of : D → ℕ) (new : Work
         moments = λ p is works. at_moments p is works (before.disks) refl;
         failed_moments = λ part pairs frame has. absurd (true≢false (sym has.files.failed ∙ may.sound));
         outcome = λ failed. absurd (true≢false (sym failed ∙ may.sound));
-        damaged = m.damaged;
+        damaged = if_err r (λ fault. IfDamaged fault (IsPartDamage e.content e.history new.part))
+            (λ fault. IfDamaged fault (HasMetDamage e.content e.history old.part))
+            (λ fault told. fault_damage_so fault (IsPartDamage e.content e.history new.part) (HasMetDamage e.content e.history old.part)
+            (λ damage is. record { part = new.part; moved = m.keeps.moved; indexed = m.keeps.indexed; is = is }) told) m.damaged;
         undamaged = m.undamaged;
         unspent = m.unspent;
         idle = λ n. ok_then r _ _ (λ as_was. (k.main ∙ ap (λ (s : PartState S D F W). s.main) as_was, k.flusher ∙ ap (λ (s : PartState S D F W). s.flusher) as_was, k.merger ∙ ap (λ (s : PartState S D F W). s.merger) as_was)) (nothing n.flush n.merge (n.none may.sound));

@@ -1,6 +1,6 @@
 -- A part that failed, whose jobs are given back: what it keeps.
-use Rattle.std.proofs.Common.{◌≡◌, ◌∙◌, Bool, true, List, [], ◌∷◌, Option, None, is_some, refl, ap, subst, inl, inr}
-use Rattle.std.specs.Prelude.{Result, Err}
+use Rattle.std.proofs.Common.{◌≡◌, ◌∙◌, Bool, true, false, List, [], ◌∷◌, Option, None, is_some, refl, sym, ap, subst, inl, inr}
+use Rattle.std.specs.Prelude.{Result, Err, IfErr}
 use Rattle.tc_log.specs.Appending.{LogState}
 use Rattle.tc_part_model.specs.Leaving.{FailedMomentsLeaveStore, LeavesStoreAt}
 use Rattle.tc_part_model.specs.PartState.{PartState, Told}
@@ -13,7 +13,9 @@ use Rattle.tc_store.specs.DiskFile.{DiskFile}
 use Rattle.tc_store.proofs.MomentLemmas.{EachSince-trans}
 use Rattle.tc_plain_model.specs.Writes.{Write}
 use Rattle.tc_work.specs.declared.fault.EngineFault.{EngineFault}
+use Rattle.tc_work.specs.Damage.{IsPartDamage}
 use Rattle.tc_work.specs.Ending.{GivesBack}
+use Rattle.tc_work.specs.Faults.{IfDamaged}
 use Rattle.tc_work.specs.JobsOut.{watched_part}
 use Rattle.tc_work.specs.Moving.{Eyes, Working, beside, told_by, works_by, FailsMoving, IsOutBy, KeepsJobs, Moves}
 use Rattle.tc_work.proofs.KeptJobs.{flush_out_still, merge_out_still}
@@ -50,6 +52,7 @@ pub keeps_given_up : {S D F W : Type 0} (e : Eyes S D F W) (Failed : Type 0) (ol
 keeps_given_up {S = S} {D = D} {F = F} {W = W} e Failed old new keeps = record {
   jobs = out_given_up e new keeps.jobs;
   moved = ap (λ (s : PartState S D F W). record s { failed = true }) keeps.moved;
+  indexed = keeps.indexed;
   untold = keeps.untold;
   tells = keeps.tells;
   devices = keeps.devices;
@@ -73,6 +76,7 @@ module _ {S D F W : Type 0} (e : Eyes S D F W) (old mid new : Working S D F W) w
       record {
         jobs = two.jobs;
         moved = moved_then old.part up.part new.part one.moved two.moved;
+        indexed = λ all. two.indexed (one.indexed all);
         untold = λ none. two.untold (one.untold none);
         tells = λ tells. two.tells (one.tells tells);
         devices = λ tells only. two.devices (one.tells tells) (one.devices tells only);
@@ -81,8 +85,8 @@ module _ {S D F W : Type 0} (e : Eyes S D F W) (old mid new : Working S D F W) w
 
   -- a call failed, and then the jobs are given back
   pub given_back : (r : Result (Unit {0}) EngineFault) (fault : EngineFault) → r ≡ Err fault → Moves e r old mid → KeepsJobs e ⊥ up new → ((p : PartView) (frame : Option (List Write)) → GivesBack (works_by e up) (works_by e new) p frame (told_by e up) (told_by e new))
-      → (new.part.log ≡ mid.part.log) × (new.part.generation ≡ mid.part.generation) × (new.part.sealed_log ≡ mid.part.sealed_log) → Moves e r old new
-  given_back r fault is one back stays same = record {
+      → new.part ≡ record mid.part { store = new.part.store; flusher = new.part.flusher; merger = new.part.merger; flushing = false; merging = None; failed = true } → Moves e r old new
+  given_back r fault is one back stays given_up = record {
     keeps = keeps_before _ ⊥ one.keeps back;
     well = on_err_only r fault _ is;
     failed = err_always r _ (λ p is_part tells works.
@@ -103,10 +107,13 @@ module _ {S D F W : Type 0} (e : Eyes S D F W) (old mid new : Working S D F W) w
         (moments_of (told_by e up) p has.view (e.disks new.part.store) has.here has.holds (store_moments (told_by e up) has.view has.view (e.disks new.part.store) refl refl (run_on (told_by e up) has.view (e.disks new.part.store) given.2)));
     logs = (same.0 ∙ one.logs.0, same.1 ∙ one.logs.1);
     sealed_log = elim one.sealed_log [ inl was ↦ inl (same.2 ∙ was) | inr none ↦ inr (same.2 ∙ none) ];
-    damaged = one.damaged;
+    damaged = subst (λ (s : PartState S D F W). IfErr r (λ f. IfDamaged f (IsPartDamage e.content e.history s))) (sym given_up) one.damaged;
     undamaged = one.undamaged;
     unspent = one.unspent;
   }
     where
+      same : (new.part.log ≡ mid.part.log) × (new.part.generation ≡ mid.part.generation) × (new.part.sealed_log ≡ mid.part.sealed_log)
+      same = (ap (λ (s : PartState S D F W). s.log) given_up, ap (λ (s : PartState S D F W). s.generation) given_up, ap (λ (s : PartState S D F W). s.sealed_log) given_up)
+
       failing : FailsMoving e old mid
       failing = on_err_is r fault _ is one.failed

@@ -2,7 +2,8 @@
 use Rattle.std.proofs.Common.{◌≡◌, ◌∙◌, ◌+◌, ◌++◌, ℕ, true, false, List, [], ◌∷◌, Option, Some, None, map, is_some, refl, sym, ap, subst, arith, inl, inr}
 use Rattle.std.specs.Prelude.{◌⊎◌, IfErr, IfSome, IsErrOf, IsOk, IsSome, Result, Ok, Err}
 use Rattle.tc_flush.specs.Jobs as flush
-use Rattle.tc_jobs.specs.Listing.{FailsRemoving}
+use Rattle.tc_component.specs.Loading.{ComponentState}
+use Rattle.tc_jobs.specs.Listing.{behind, FailsRemoving, FitsBehind}
 use Rattle.tc_jobs.specs.ReadBack.{ComesHome}
 use Rattle.tc_list.specs.declared.policy.Policy.{Policy}
 use Rattle.tc_log.specs.Appending.{LogState}
@@ -15,7 +16,8 @@ use Rattle.tc_merge.specs.Faults.{IsWatched}
 use Rattle.tc_merge.specs.Jobs as merge
 use Rattle.tc_part.specs.Closing.{HasFailedWhole}
 use Rattle.tc_part.specs.FilesOut.{LogIsOut, OnlyDevicesOut, TellsLogs}
-use Rattle.tc_part.specs.FlushEnds.{HasListed, HasUncovered, IsFlushCovering, IsFlushUnlisted, covered_name, flushed_name}
+use Rattle.tc_part.specs.FlushEnds.{HasListed, HasUncovered, IsFlushCovering, IsFlushDamage, IsFlushUnlisted, covered_name, flushed_name}
+use Rattle.tc_part.specs.JobHeads.{flushed_head}
 use Rattle.tc_part.specs.MergeEnds.{merged_name, run_out}
 use Rattle.tc_part.specs.OwnFiles.{HasOwnFiles}
 use Rattle.tc_part_model.specs.Calls.{HasMade, MakesFlush}
@@ -28,6 +30,7 @@ use Rattle.tc_part_model.proofs.DeviceFiles.{comes_untold}
 use Rattle.tc_part_model.proofs.FollowingMoments.{run_on}
 use Rattle.tc_running.specs.Jobs.{JobsState}
 use Rattle.tc_running.specs.Ran.{HasFlushed}
+use Rattle.tc_store.specs.declared.damage.Damage.{Damage}
 use Rattle.tc_store.specs.declared.fault.DeviceFault.{DeviceFault}
 use Rattle.tc_store.specs.declared.fault.DeviceFault.TheVariants as device_fault
 use Rattle.tc_store.specs.declared.file_name.FileName.{FileName}
@@ -37,8 +40,9 @@ use Rattle.tc_store.specs.Moments.{IfTold, LeavesAt}
 use Rattle.tc_store.specs.StoreCalls.{comes_home, frozen_entry, removes}
 use Rattle.tc_work.specs.declared.fault.EngineFault.{EngineFault}
 use Rattle.tc_work.specs.declared.fault.EngineFault.TheVariants as engine
+use Rattle.tc_work.specs.Damage.{AreIndexed, IsPartDamage, WereListed}
 use Rattle.tc_work.specs.Failing.{HasFailedKeeping}
-use Rattle.tc_work.specs.Faults.{AreOfComponents, IfDamaged}
+use Rattle.tc_work.specs.Faults.{IfDamaged}
 use Rattle.tc_work.specs.JobsOut.{FlushesFor, IsFlushOf, IsMergeOf, IsPickedOut, MergesFor, OutAs, flusher_of, merger_of, watched_part}
 use Rattle.tc_work.specs.Moving.{Eyes, beside, told_by, works_by, FailsMoving, IsOutBy, IsPickedBy, KeepsJobs, ListsPicked, Moves, MovesWell}
 use Rattle.tc_work.specs.Settling.{waiting, HasOnlyMoved, MaySettle, MomentsLeavePairs, MomentsStay, TellsFiles}
@@ -47,6 +51,7 @@ use Rattle.tc_work.proofs.JobEnds.{by_outcome, job_stores, IsSized}
 use Rattle.tc_work.proofs.JobsGoOn.{device_tells, merge_goes_on, told_still}
 use Rattle.tc_work.proofs.KeptJobs.{merge_out_behind, merge_out_still}
 use Rattle.tc_work.proofs.OnResults.{on_err_only}
+use Rattle.tc_work.proofs.PartDamage.{indexed_behind, unfit_of}
 use Rattle.tc_work.proofs.PickedMerges.{flush_listed, picked_behind}
 use Rattle.tc_work.proofs.SealedFlushes.{flushed_keeps, uncovered_untold}
 use Rattle.tc_work.proofs.Settled.{components_still, content_told, told_behind, told_now, whole_keeps, GoesOnUntold}
@@ -135,6 +140,7 @@ module _ {S D F W : Type 0} (e : Eyes S D F W) (file_name : F → FileName) (siz
         merge = merge_out_behind e.disks e.history e.content e.name_of old new untold jobs.merge i.listed.component (ap (λ (s : PartState S D F W). s.merging) i.same) list handed.merge_named out.merge;
       };
       moved = subst (λ (s : PartState S D F W). HasOnlyMoved old s) (sym i.same) refl;
+      indexed = λ all. subst (λ (xs : List (ComponentState F)). AreIndexed e.content xs) (sym list) (indexed_behind e.content file_name _ (flushed_name old) (e.history device) old.list i.listed.component i.listed.made all);
       untold = untold;
       tells = λ told. record {
         active = told_still (e.disks old.store) (e.disks new.store) (IsTold u.log) untold (subst (λ (s : PartState S D F W). IfTold (e.disks old.store) (λ disk. IsTold (e.history s.log.device))) (sym i.same) told.active);
@@ -257,6 +263,10 @@ module _ {S D F W : Type 0} (e : Eyes S D F W) (file_name : F → FileName) (siz
     fallen_keeps Failed Ended watched cause = record {
       jobs = record { flush = subst (λ b. OutAs b None (IsFlushOf e.disks e.history e.name_of new)) (sym logs_same.4) tt; merge = merge_out };
       moved = logs_same.5;
+      indexed = λ all. elim f.left [
+        | inl unlisted ↦ subst (λ (s : PartState S D F W). AreIndexed e.content s.list) (sym unlisted.same) all
+        | inr covering ↦ subst (λ (xs : List (ComponentState F)). AreIndexed e.content xs) (sym covering.listed.listed) (indexed_behind e.content file_name _ (flushed_name old) (e.history device) old.list covering.listed.component covering.listed.made all)
+      ];
       untold = fallen_untold;
       tells = λ told. record {
         active = told_still (e.disks old.store) (e.disks new.store) (IsTold u.log) fallen_untold (subst (λ l. IfTold (e.disks old.store) (λ disk. IsTold (e.history l.device))) (sym logs_same.0) told.active);
@@ -310,8 +320,37 @@ module _ {S D F W : Type 0} (e : Eyes S D F W) (file_name : F → FileName) (siz
       | inr covering ↦ ap (λ (s : PartState S D F W). s.generation) covering.same
     ]
 
+    were_listed : WereListed old.list (behind old.list) new.list
+    were_listed = elim f.left [
+      | inl unlisted ↦ inl (ap (λ (s : PartState S D F W). s.list) unlisted.same)
+      | inr covering ↦ inr (covering.listed.component, covering.listed.listed)
+    ]
+
+    -- whatever is listed, it is of the same partition
+    there : new ≡ record old { store = new.store; main = new.main; flusher = Some watch; flushing = false; list = new.list; sealed = new.sealed; sealed_log = new.sealed_log; failed = new.failed }
+    there = elim f.left [
+      | inl unlisted ↦ subst (λ (s : PartState S D F W). s ≡ record old { store = s.store; main = s.main; flusher = Some watch; flushing = false; list = s.list; sealed = s.sealed; sealed_log = s.sealed_log; failed = s.failed }) (sym unlisted.same) refl
+      | inr covering ↦ subst (λ (s : PartState S D F W). s ≡ record old { store = s.store; main = s.main; flusher = Some watch; flushing = false; list = s.list; sealed = s.sealed; sealed_log = s.sealed_log; failed = s.failed }) (sym covering.same) refl
+    ]
+
+    -- what the flush wrote was read back
+    pub fallen_damage : IsOk outcome → (damage : Damage) → IsFlushDamage e.content file_name (size_of device) (e.history device) old damage → IsPartDamage e.content e.history new damage
+    fallen_damage ended damage is = subst (λ (s : PartState S D F W). IsPartDamage e.content e.history s damage) (sym there) (inr (inr (inl (record {
+      device = device;
+      made = job.head;
+      names = job.names;
+      schema = job.schema;
+      table = table;
+      written = back.ran.whole ended table of;
+      among = old.list;
+      listed = were_listed;
+      unfit = unfit_of e.content file_name (FitsBehind old.list) (flushed_head old.number old.count old.generation) (flushed_name old) (size_of device) (e.history device) damage is;
+    }))))
+
     pub fallen : (r : Result (Unit {0}) EngineFault) (fault : EngineFault) → r ≡ Err fault → (Ended : Type 0) → IsWatched Ended (e.counts old.main) (e.counts new.main) → (IsErrOf r engine.Disk → Ended ⊎ IsErrOf outcome device_fault.Fault)
-        → IfErr r (λ f. IfDamaged f AreOfComponents) → ((p : PartView) → IsPart t p → TellsFiles t → works_by e (beside old jobs) p → IfErr r (λ f. IfDamaged f (λ damage. ⊥))) → (IsErrOf r engine.Spent → ⊥) → Moves e r (beside old jobs) (beside new (record jobs { flush = None }))
+        → IfErr r (λ f. IfDamaged f (IsPartDamage e.content e.history new))
+        → ((p : PartView) → IsPart t p → TellsFiles t → works_by e (beside old jobs) p → IfErr r (λ f. IfDamaged f (λ damage. ⊥))) → (IsErrOf r engine.Spent → ⊥)
+        → Moves e r (beside old jobs) (beside new (record jobs { flush = None }))
     fallen r fault is Ended watched cause damaged undamaged unspent = record {
       keeps = fallen_keeps _ Ended watched cause;
       well = on_err_only r fault _ is;

@@ -1,8 +1,10 @@
 -- A merge that was out is handed back to its part: what stays.
-use Rattle.std.proofs.Common.{◌≡◌, ◌∙◌, ◌<◌, ◌+◌, ℕ, true, false, Option, Some, None, length, map, is_some, refl, sym, ap, subst, arith, inl, inr}
+use Rattle.std.proofs.Common.{◌≡◌, ◌∙◌, ◌<◌, ◌+◌, ℕ, true, false, List, Option, Some, None, length, map, is_some, refl, sym, ap, subst, arith, inl, inr}
 use Rattle.std.specs.Prelude.{◌⊎◌, IfErr, IfSome, IsErrOf, IsOk, IsSome, Result, Ok, Err}
+use Rattle.tc_component.specs.Loading.{ComponentState}
 use Rattle.tc_component.specs.Rows.{IsComponent}
 use Rattle.tc_flush.specs.Jobs as flush
+use Rattle.tc_jobs.specs.Listing.{in_place, FitsFor}
 use Rattle.tc_list.specs.Runs.{swapped}
 use Rattle.tc_list.specs.declared.policy.Policy.{Policy}
 use Rattle.tc_lsm_model.specs.Lists.{IsList}
@@ -12,11 +14,14 @@ use Rattle.tc_machine.specs.State.{Merging}
 use Rattle.tc_machine.specs.Steps.{IsShutOrHas}
 use Rattle.tc_merge.specs.declared.fault.MergeFault.{MergeFault}
 use Rattle.tc_merge.specs.declared.fault.MergeFault.TheVariants as merge_fault
-use Rattle.tc_merge.specs.Faults.{IsWatched}
+use Rattle.tc_merge.specs.Faults.{IsHarmIn, IsWatched}
 use Rattle.tc_merge.specs.Jobs as merge
+use Rattle.tc_merge.specs.Merging.{merge_bytes, AreTold as AreRunTold}
 use Rattle.tc_part.specs.Closing.{HasFailedWhole}
 use Rattle.tc_part.specs.FilesOut.{LogIsOut, OnlyDevicesOut}
-use Rattle.tc_part.specs.MergeEnds.{HasRemovedRun, HasReplaced, IsMergeRemoving, IsMergeUnlisted, merged_name, positions, run_out}
+use Rattle.tc_part.specs.Harms.{IsHarmIn as IsListedHarm}
+use Rattle.tc_part.specs.JobHeads.{merged_head}
+use Rattle.tc_part.specs.MergeEnds.{HasRemovedRun, HasReplaced, IsMergeDamage, IsMergeRemoving, IsMergeUnlisted, merged_name, positions, run_out}
 use Rattle.tc_part.specs.OwnFiles.{HasOwnFiles}
 use Rattle.tc_part_model.specs.Calls.{HasMade}
 use Rattle.tc_part_model.specs.Changes.{merged_part}
@@ -28,12 +33,16 @@ use Rattle.tc_part_model.proofs.FollowingMoments.{run_on}
 use Rattle.tc_part_model.proofs.MergedParts.{merge_keeps_store}
 use Rattle.tc_running.specs.Jobs.{JobsState}
 use Rattle.tc_running.specs.Ran.{HasMerged}
+use Rattle.tc_store.specs.declared.damage.Damage.{Damage}
+use Rattle.tc_store.specs.declared.damage.Damage.TheVariants.{Bytes}
 use Rattle.tc_store.specs.declared.file_name.FileName.{FileName}
+use Rattle.tc_store.specs.DiskFile.{settled_file}
 use Rattle.tc_store.specs.Moments.{IfTold, LeavesAt}
 use Rattle.tc_work.specs.declared.fault.EngineFault.{EngineFault}
 use Rattle.tc_work.specs.declared.fault.EngineFault.TheVariants as engine
 use Rattle.tc_work.specs.Failing.{HasFailedKeeping}
-use Rattle.tc_work.specs.Faults.{AreOfComponents, IfDamaged}
+use Rattle.tc_work.specs.Damage.{AreIndexed, IsPartDamage, WereListed}
+use Rattle.tc_work.specs.Faults.{IfDamaged}
 use Rattle.tc_work.specs.JobsOut.{FlushesFor, IsMergeOf, IsPickedFrom, IsPickedOut, MergesFor, OutAs, flusher_of, merger_of, watched_part}
 use Rattle.tc_work.specs.Moving.{Eyes, beside, told_by, works_by, FailsMoving, IsOutBy, IsPickedBy, KeepsJobs, ListsPicked, Moves, MovesWell}
 use Rattle.tc_work.specs.Settling.{waiting, HasOnlyMoved, MaySettle, MomentsLeavePairs, MomentsStay, TellsFiles}
@@ -43,6 +52,7 @@ use Rattle.tc_work.proofs.JobsGoOn.{device_tells, flush_goes_on, told_still}
 use Rattle.tc_work.proofs.KeptJobs.{flush_out_still}
 use Rattle.tc_work.proofs.MergeRuns.{RanMerge, ran_merge}
 use Rattle.tc_work.proofs.OnResults.{on_err_only}
+use Rattle.tc_work.proofs.PartDamage.{harm_of_run, indexed_swapped, unfit_of}
 use Rattle.tc_work.proofs.PickedMerges.{merge_listed}
 use Rattle.tc_work.proofs.RunMerges.{length_swapped, removed_untold, told_swapped}
 use Rattle.tc_work.proofs.Settled.{components_still, content_told, whole_keeps, GoesOnUntold}
@@ -133,6 +143,7 @@ module _ {S D F W : Type 0} (e : Eyes S D F W) (file_name : F → FileName) (siz
         merge = subst (λ (s : PartState S D F W). OutAs (is_some s.merging) None (IsMergeOf e.disks e.history e.content e.name_of s)) (sym i.same) tt;
       };
       moved = subst (λ (s : PartState S D F W). HasOnlyMoved old s) (sym i.same) refl;
+      indexed = λ all. subst (λ (xs : List (ComponentState F)). AreIndexed e.content xs) (sym list) (indexed_swapped e.content file_name _ (merged_name (run_out old) old) (e.history device) old.list i.listed.component i.listed.made all (run_out old));
       untold = untold;
       tells = λ told. record {
         active = told_still (e.disks old.store) (e.disks new.store) (IsTold u.log) untold (subst (λ (s : PartState S D F W). IfTold (e.disks old.store) (λ disk. IsTold (e.history s.log.device))) (sym i.same) told.active);
@@ -230,6 +241,10 @@ module _ {S D F W : Type 0} (e : Eyes S D F W) (file_name : F → FileName) (siz
         merge = subst (λ (s : PartState S D F W). OutAs (is_some s.merging) None (IsMergeOf e.disks e.history e.content e.name_of s)) (sym same) tt;
       };
       moved = subst (λ (s : PartState S D F W). HasOnlyMoved old s) (sym same) refl;
+      indexed = λ all. elim f.left [
+        | inl unlisted ↦ subst (λ (s : PartState S D F W). AreIndexed e.content s.list) (sym unlisted.same) all
+        | inr removing ↦ subst (λ (xs : List (ComponentState F)). AreIndexed e.content xs) (sym removing.listed.listed) (indexed_swapped e.content file_name _ (merged_name (run_out old) old) (e.history device) old.list removing.listed.component removing.listed.made all (run_out old))
+      ];
       untold = fallen_untold;
       tells = λ told. record {
         active = told_still (e.disks old.store) (e.disks new.store) (IsTold u.log) fallen_untold (subst (λ (s : PartState S D F W). IfTold (e.disks old.store) (λ disk. IsTold (e.history s.log.device))) (sym same) told.active);
@@ -260,8 +275,32 @@ module _ {S D F W : Type 0} (e : Eyes S D F W) (file_name : F → FileName) (siz
         (λ cause moments. store_moments t p p (e.disks new.store) refl refl (run_on t p (e.disks new.store) (moments p m.merging is m.is_out r.leaves)))
         (λ ended. store_moments t p (merged_part p) (e.disks new.store) refl (stored back p is told works) (f.moments p m.merging is m.is_out (r.made ended) told.components))
 
+    were_listed : WereListed old.list (in_place (run_out old) old.list) new.list
+    were_listed = elim f.left [
+      | inl unlisted ↦ inl (ap (λ (s : PartState S D F W). s.list) unlisted.same)
+      | inr removing ↦ inr (removing.listed.component, removing.listed.listed)
+    ]
+
+    -- what the merge wrote was read back
+    pub fallen_damage : IsOk outcome → (damage : Damage) → IsMergeDamage e.content file_name (size_of device) (e.history device) (run_out old) old damage → IsPartDamage e.content e.history new damage
+    fallen_damage ended damage is = subst (λ (s : PartState S D F W). IsPartDamage e.content e.history s damage) (sym same) (inr (inr (inr (record {
+      device = device;
+      made = job.head;
+      run = run_out old;
+      among = old.list;
+      written = subst (λ run. AreRunTold e.content run → IfTold (e.history device) (λ f. f ≡ settled_file (merge_bytes e.content job.head run))) back.of.run (back.ran.whole ended);
+      listed = were_listed;
+      unfit = unfit_of e.content file_name (FitsFor (run_out old) old.list) (merged_head old.number old.count (run_out old) old.list) (merged_name (run_out old) old) (size_of device) (e.history device) damage is;
+    }))))
+
+    -- or it found a record of its run damaged, and nothing was listed
+    pub harmed_damage : new.list ≡ old.list → (file : FileName) (place : ℕ) (bytes : List ℕ) → IsHarmIn e.content job.run file place bytes → IsPartDamage e.content e.history new (Bytes file place bytes)
+    harmed_damage listed file place bytes harm =
+        inl (subst (λ (xs : List (ComponentState F)). IsListedHarm e.content xs file place bytes) (sym listed) (harm_of_run e.content (run_out old) old.list file place bytes (subst (λ run. IsHarmIn e.content run file place bytes) back.of.run harm)))
+
     pub fallen : (r : Result (Unit {0}) EngineFault) (fault : EngineFault) → r ≡ Err fault → (Ended : Type 0) → IsWatched Ended (e.counts old.main) (e.counts new.main) → (IsErrOf r engine.Disk → Ended ⊎ IsErrOf outcome merge_fault.Disk)
-        → IfErr r (λ f. IfDamaged f AreOfComponents) → ((p : PartView) → IsPart t p → TellsFiles t → works_by e (beside old jobs) p → IfErr r (λ f. IfDamaged f (λ damage. ⊥))) → (IsErrOf r engine.Spent → ⊥) → Moves e r (beside old jobs) (beside new (record jobs { merge = None }))
+        → IfErr r (λ f. IfDamaged f (IsPartDamage e.content e.history new)) → ((p : PartView) → IsPart t p → TellsFiles t → works_by e (beside old jobs) p → IfErr r (λ f. IfDamaged f (λ damage. ⊥))) → (IsErrOf r engine.Spent → ⊥)
+        → Moves e r (beside old jobs) (beside new (record jobs { merge = None }))
     fallen r fault is Ended watched cause damaged undamaged unspent = record {
       keeps = fallen_keeps _ Ended watched cause;
       well = on_err_only r fault _ is;

@@ -23,6 +23,7 @@ mod MovedDocuments
 mod RunMerges
 mod MergeRuns
 mod MergeFaults
+mod PartDamage
 mod StayingStores
 mod PickedMerges
 mod FilesOut

@@ -18,7 +18,8 @@ use Rattle.tc_store.specs.Disk.{Disk}
 use Rattle.tc_store.specs.DiskFile.{DiskFile}
 use Rattle.tc_work.specs.declared.fault.EngineFault.{EngineFault}
 use Rattle.tc_work.specs.declared.fault.EngineFault.TheVariants as engine
-use Rattle.tc_work.specs.Faults.{of_part, AreOfComponents, IfDamaged}
+use Rattle.tc_work.specs.Damage.{IsPartDamage}
+use Rattle.tc_work.specs.Faults.{of_part, IfDamaged}
 use Rattle.tc_work.specs.Moving.{Eyes, Working, beside, told_by, works_by, IsOutBy, MayMove, Moves, MovesOver, MovesWell}
 use Rattle.tc_work.specs.Settling.{MomentsStay, MomentsStayOver, NextLogs, TellsFiles}
 use Rattle.tc_work.proofs.HandedFaults.{IsOf, disk_below, spent_below}
@@ -74,7 +75,7 @@ module _ {S D F W : Type 0} (e : Eyes S D F W) (w : Working S D F W) where
 module _ {S D F W X : Type 0} (e : Eyes S D F W) (old new : PartState S D F W) (jobs : JobsState F D W) (r : Result (Unit {0}) EngineFault) (below : Result X PartFault) (fault : PartFault) (is : IsOf r fault) (was : below ≡ Err fault) where
   pub moves_failed : IsOutBy e (beside old jobs) → new ≡ record old { store = new.store; main = new.main; failed = true } → (e.disks old.store ≡ [] → e.disks new.store ≡ []) → (OnlyDevicesOut (told_by e (beside old jobs)) → OnlyDevicesOut (told_by e (beside new jobs)))
       → IsCounted (IsErrOf below part.Disk) (e.counts old.main) (e.counts new.main) → ((p : PartView) → IsPart (told_by e (beside old jobs)) p → HasFailedAs (told_by e (beside new jobs)) p None) → MomentsStay (works_by e (beside old jobs)) (told_by e (beside old jobs)) (e.disks new.store)
-      → IfErr r (λ f. IfDamaged f AreOfComponents) → ((p : PartView) → IsPart (told_by e (beside old jobs)) p → TellsFiles (told_by e (beside old jobs)) → IfErr r (λ f. IfDamaged f (λ damage. ⊥))) → (IsErrOf below part.Spent → ⊥)
+      → IfErr r (λ f. IfDamaged f (IsPartDamage e.content e.history new)) → ((p : PartView) → IsPart (told_by e (beside old jobs)) p → TellsFiles (told_by e (beside old jobs)) → IfErr r (λ f. IfDamaged f (λ damage. ⊥))) → (IsErrOf below part.Spent → ⊥)
       → Moves e r (beside old jobs) (beside new jobs)
   moves_failed out left untold devices counted fails moments damaged undamaged unspent = record {
     keeps = keeps_unless_failed e old new jobs _ _ out (subst (λ (s : PartState S D F W). s ≡ record old { store = s.store; main = s.main; failed = s.failed }) (sym left) refl) untold devices counted (disk_below r below fault is was);

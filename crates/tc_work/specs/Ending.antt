@@ -18,8 +18,9 @@ use Rattle.tc_store.specs.Disk.{Disk, is_out, IsThere}
 use Rattle.tc_store.specs.Moments.{IfTold}
 use Rattle.tc_work.specs.declared.fault.EngineFault.{EngineFault}
 use Rattle.tc_work.specs.declared.fault.EngineFault.TheVariants as engine
+use Rattle.tc_work.specs.Damage.{HasMetDamage}
 use Rattle.tc_work.specs.Failing.{HasFailedKeeping}
-use Rattle.tc_work.specs.Faults.{AreOfComponents, IfDamaged}
+use Rattle.tc_work.specs.Faults.{IfDamaged}
 use Rattle.tc_work.specs.JobsOut.{watched_part}
 use Rattle.tc_work.specs.Moving.{Eyes, Working, told_by, works_by, TellsNoDamage}
 use Rattle.tc_work.specs.Settling.{IsWatchedIn, MomentsLeavePairs, PicksNone}
@@ -56,7 +57,7 @@ pub record Finishes {S D F W : Type 0} (e : Eyes S D F W) (size_of : D → ℕ) 
   pub moments : (p : PartView) → IsPart (told_by e old) p → works_by e old p → MomentsLeavePairs p.part (store_of p) (told_by e old) (e.disks store)
   pub failed_moments : (part : Partition) (pairs : Pairs) (frame : Option (List Write)) (has : HasFailedKeeping (works_by e old) (told_by e old) part pairs frame) → FailedMomentsLeaveStore has.view frame (told_by e old) (e.disks store)
   pub outcome : old.part.failed ≡ true → result ≡ Ok tt
-  pub damaged : IfErr result (λ fault. IfDamaged fault AreOfComponents)
+  pub damaged : IfErr result (λ fault. IfDamaged fault (HasMetDamage e.content e.history old.part))
   pub undamaged : TellsNoDamage e result old
   pub unspent : IsErrOf result engine.Spent → ⊥
   pub idle : HasNothingToDo policy old.part old.jobs → OnOk result ((main_watch ≡ old.part.main) × (Some flush_watch ≡ old.part.flusher) × (Some merge_watch ≡ old.part.merger))

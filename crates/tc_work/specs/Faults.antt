@@ -1,10 +1,8 @@
 -- Why a call of an engine failed, by what a call of its part answered.
-use Rattle.std.specs.Prelude.{◌≡◌, ◌⊎◌, ℕ, List, All}
+use Rattle.std.specs.Prelude.{◌≡◌, ◌⊎◌, ℕ, List}
 use Rattle.tc_jobs.specs.Faults.{AreBytes, AreFiles}
 use Rattle.tc_store.specs.declared.damage.Damage.{Damage}
-use Rattle.tc_store.specs.declared.damage.Damage.TheVariants.{Bytes, Files}
 use Rattle.tc_store.specs.declared.file_name.FileName.{FileName}
-use Rattle.tc_store.specs.declared.file_name.FileName.TheVariants.{Component, Log}
 use Rattle.tc_part.specs.declared.fault.PartFault.{PartFault}
 use Rattle.tc_part.specs.declared.fault.PartFault.TheVariants as part
 use Rattle.tc_part.specs.Harms.{IsBytesHarm}
@@ -30,15 +28,6 @@ IfDamaged engine.Disk P = Unit {0}
 IfDamaged (engine.Damaged damage) P = P damage
 IfDamaged engine.Spent P = Unit {0}
 IfDamaged engine.Memory P = Unit {0}
-
-abbrev pub IsComponentName : FileName → Type 0
-IsComponentName (Component from to) = Unit {0}
-IsComponentName (Log generation) = ⊥
-
--- a component is damaged, or components do not go together
-abbrev pub AreOfComponents : Damage → Type 0
-AreOfComponents (Bytes file place bytes) = IsComponentName file
-AreOfComponents (Files names) = All IsComponentName names
 
 -- these files do not go together, or this one is damaged
 abbrev pub AreOfFiles : List FileName → FileName → Damage → Type 0

@@ -7,6 +7,7 @@ pub mod Windowed
 pub mod Reads
 pub mod Replied
 pub mod Settling
+pub mod Damage
 pub mod JobsOut
 pub mod Moving
 pub mod Ending

@@ -12,8 +12,9 @@ use Rattle.tc_store.specs.Disk.{Disk}
 use Rattle.tc_store.specs.DiskFile.{DiskFile}
 use Rattle.tc_work.specs.declared.fault.EngineFault.{EngineFault}
 use Rattle.tc_work.specs.declared.fault.EngineFault.TheVariants as engine
+use Rattle.tc_work.specs.Damage.{AreIndexed, IsPartDamage}
 use Rattle.tc_work.specs.Failing.{FailsKeeping}
-use Rattle.tc_work.specs.Faults.{AreOfComponents, IfDamaged}
+use Rattle.tc_work.specs.Faults.{IfDamaged}
 use Rattle.tc_work.specs.JobsOut.{AreOut, IsPickedOut, WorkFor, watched_part}
 use Rattle.tc_work.specs.Settling.{HasOnlyMoved, IsListedBy, IsWatchedIn, MaySettle, MomentsStay, MomentsStayOver, NextLogs, StaysStored, TellsFiles}
 
@@ -56,12 +57,13 @@ IsPickedBy e policy w = IsPickedOut policy e.size w.part.list w.part.merging
 
 -- ---- what is kept
 
--- Whatever it answers, the jobs that are out are those of the part, and nothing changed but where documents are. A store that
--- tells nothing goes on so, no file is out but those of devices, and no watch counts fewer faults; a call that failed for one
--- counted one more.
+-- Whatever it answers, the jobs that are out are those of the part, and nothing changed but where documents are: what is listed is
+-- still what its files are judged to be. A store that tells nothing goes on so, no file is out but those of devices, and no watch
+-- counts fewer faults; a call that failed for one counted one more.
 pub record KeepsJobs {S D F W : Type 0} (e : Eyes S D F W) (Failed : Type 0) (old new : Working S D F W) : Type 0 where
   pub jobs : IsOutBy e new
   pub moved : HasOnlyMoved old.part new.part
+  pub indexed : AreIndexed e.content old.part.list → AreIndexed e.content new.part.list
   pub untold : e.disks old.part.store ≡ [] → e.disks new.part.store ≡ []
   pub tells : TellsLogs (told_by e old) → TellsLogs (told_by e new)
   pub devices : TellsLogs (told_by e old) → OnlyDevicesOut (told_by e old) → OnlyDevicesOut (told_by e new)
@@ -95,8 +97,8 @@ abbrev pub TellsNoDamage : {S D F W : Type 0} → Eyes S D F W → Result (Unit 
 TellsNoDamage e result w = (p : PartView) → IsPart (told_by e w) p → TellsFiles (told_by e w) → works_by e w p → IfErr result (λ fault. IfDamaged fault (λ damage. ⊥))
 
 -- A call that begins jobs, or lists what they make. At each moment of it a stop leaves what was stored. The active log stays, and
--- so does the sealed one, unless its table was flushed. Damage is of a component, or components do not go together; where the files
--- are told there is none.
+-- so does the sealed one, unless its table was flushed. Damage is that of the part as it is left; where the files are told there is
+-- none.
 pub record Moves {S D F W : Type 0} (e : Eyes S D F W) (result : Result (Unit {0}) EngineFault) (old new : Working S D F W) : Type 0 where
   pub keeps : KeepsJobs e (IsErrOf result engine.Disk) old new
   pub well : OnOk result (MovesWell e old new)
@@ -104,7 +106,7 @@ pub record Moves {S D F W : Type 0} (e : Eyes S D F W) (result : Result (Unit {0
   pub moments : MomentsStay (works_by e old) (told_by e old) (e.disks new.part.store)
   pub logs : (new.part.log ≡ old.part.log) × (new.part.generation ≡ old.part.generation)
   pub sealed_log : (new.part.sealed_log ≡ old.part.sealed_log) ⊎ (new.part.sealed_log ≡ None)
-  pub damaged : IfErr result (λ fault. IfDamaged fault AreOfComponents)
+  pub damaged : IfErr result (λ fault. IfDamaged fault (IsPartDamage e.content e.history new.part))
   pub undamaged : TellsNoDamage e result old
   pub unspent : IsErrOf result engine.Spent → ⊥
 
@@ -117,7 +119,7 @@ pub record MovesOver {S D F W : Type 0} (e : Eyes S D F W) (result : Result (Uni
   pub moments : MomentsStayOver (works_by e old) (told_by e old) (e.history new.part.log.device) (e.disks new.part.store)
   pub next_log : (p : PartView) → IsPart (told_by e old) p → works_by e old p → new.part.generation ≡ old.part.generation + 1 → NextLogs p.part new.part.generation (e.history new.part.log.device)
   pub untold_log : e.disks old.part.store ≡ [] → new.part.generation ≡ old.part.generation + 1 → e.history new.part.log.device ≡ []
-  pub damaged : IfErr result (λ fault. IfDamaged fault AreOfComponents)
+  pub damaged : IfErr result (λ fault. IfDamaged fault (IsPartDamage e.content e.history new.part))
   pub undamaged : TellsNoDamage e result old
   pub spent : IsErrOf result engine.Spent → old.part.generation + 1 ≡ 2 ^ 63
   pub unmoved : IsErrOf result engine.Spent → new.part.generation ≡ old.part.generation

@@ -12,10 +12,11 @@ ghost use Rattle.tc_part_model.specs.Meaning.{IsPart};
 ghost use Rattle.tc_part_model.specs.PartState.{told};
 ghost use Rattle.tc_part_model.specs.PartView.{PartView, store_of};
 ghost use Rattle.tc_store.specs.declared.file_name.FileName.TheVariants.{Component as component_name};
+ghost use Rattle.tc_work.specs.Damage.{AreIndexed, IsPartDamage};
 ghost use Rattle.tc_work.specs.Failing.{HasFailedKeeping};
-ghost use Rattle.tc_work.specs.Faults.{AreOfComponents, AreOfFiles, IfDamaged};
+ghost use Rattle.tc_work.specs.Faults.{AreOfFiles, IfDamaged};
 ghost use Rattle.tc_work.specs.JobsOut.{watched_part, AreOut, WorkFor};
-ghost use Rattle.tc_work.specs.Moving.{beside, eyes, IsPickedBy, ListsPicked, MayMove, Moves, MovesOver};
+ghost use Rattle.tc_work.specs.Moving.{beside, eyes, IsPickedBy, ListsPicked, MayMove, Moves, MovesOver, TellsNoDamage};
 ghost use Rattle.tc_work.specs.Settling.{HasOnlyMoved, IsListedBy, IsWatchedIn, MaySettle, MomentsLeavePairsOver, NextLogs, StoresStill, TellsFiles};
 
 use crate::engine::Engine;
@@ -74,6 +75,7 @@ impl<S: Store, P: Pace> Engine<S, P> {
         ensures flushed { OnOk result (empty_size < S.Device.size self.old.part.log.device → self.old.part.sealed ≡ None → length self.old.part.list < 8 → (c : ComponentState S.Frozen) × (self.new.part.list ≡ self.old.part.list ++ c ∷ [])) }
         ensures emptied { OnOk result ((p : PartView) → IsPart (told S.history S.Device.history S.Frozen.content self.old.part) p → TellsFiles (told S.history S.Device.history S.Frozen.content self.old.part) → WorkFor S.Frozen.content S.Device.history S.Device.name jobs.old p → self.new.part.active ≡ []) }
         ensures moved { HasOnlyMoved self.old.part self.new.part }
+        ensures indexed { AreIndexed S.Frozen.content self.old.part.list → AreIndexed S.Frozen.content self.new.part.list }
         ensures policy { self.new.policy ≡ self.old.policy }
         ensures untold { OnOk result (S.history self.old.part.store ≡ [] → S.history self.new.part.store ≡ []) }
 
@@ -90,11 +92,11 @@ impl<S: Store, P: Pace> Engine<S, P> {
         ensures failed { OnErr result ((p : PartView) → IsPart (told S.history S.Device.history S.Frozen.content self.old.part) p → TellsFiles (told S.history S.Device.history S.Frozen.content self.old.part) → WorkFor S.Frozen.content S.Device.history S.Device.name jobs.old p → HasFailedKeeping (WorkFor S.Frozen.content S.Device.history S.Device.name jobs.new) (told S.history S.Device.history S.Frozen.content self.new.part) p.part (store_of p) None) }
         ensures left { OnErr result (self.new.part.failed ≡ true) }
 
-        // Damage is of a component, or components do not go together: where nothing is merged, the listed ones with the table, or with
-        // the one that the flush made. Where the files are told there is none.
-        ensures damaged { IfErr result (λ fault. IfDamaged fault AreOfComponents) }
+        // Damage is that of the part as it is left. Where nothing is merged it is that the listed components do not go together with the
+        // table, or with the one that the flush made, or is in the file of that. Where the files are told there is none.
+        ensures damaged { IfErr result (λ fault. IfDamaged fault (IsPartDamage S.Frozen.content S.Device.history self.new.part)) }
         ensures damaged_alone { self.old.part.sealed ≡ None → length self.old.part.list < 8 → IfErr result (λ fault. IfDamaged fault (AreOfFiles (file_names self.old.part.list) (component_name self.old.part.generation self.old.part.generation))) }
-        ensures undamaged { (p : PartView) → IsPart (told S.history S.Device.history S.Frozen.content self.old.part) p → TellsFiles (told S.history S.Device.history S.Frozen.content self.old.part) → WorkFor S.Frozen.content S.Device.history S.Device.name jobs.old p → IfErr result (λ fault. IfDamaged fault (λ damage. ⊥)) }
+        ensures undamaged { TellsNoDamage (eyes S.history S.Device.history S.Frozen.content S.Device.name S.Frozen.size S.Watch.counts) result (beside self.old.part jobs.old) }
         ensures spent { IsErrOf result EngineFault.Spent → self.old.part.generation + 1 ≡ 2 ^ 63 }
         ensures unmoved { IsErrOf result EngineFault.Spent → self.new.part.generation ≡ self.old.part.generation }
         ensures watched { IsWatchedIn (λ w. S.Watch.counts w) (IsErrOf result EngineFault.Disk) (watched_part self.old.part jobs.old) (watched_part self.new.part jobs.new) }

@@ -16,10 +16,11 @@ ghost use Rattle.tc_store.specs.declared.file_name.FileName.TheVariants.{Log as 
 ghost use Rattle.tc_store.specs.Disk.{is_out, IsThere};
 ghost use Rattle.tc_store.specs.Moments.{IfTold};
 ghost use Rattle.tc_work.specs.Ending.{EndsSmall, Finishes, GivesBack, HasNothingToDo};
+ghost use Rattle.tc_work.specs.Damage.{HasMetDamage};
 ghost use Rattle.tc_work.specs.Failing.{HasFailedKeeping};
-ghost use Rattle.tc_work.specs.Faults.{AreOfComponents, IfDamaged};
+ghost use Rattle.tc_work.specs.Faults.{IfDamaged};
 ghost use Rattle.tc_work.specs.JobsOut.{watched_part, AreOut, WorkFor};
-ghost use Rattle.tc_work.specs.Moving.{beside, eyes, told_by, works_by, IsOutBy, IsPickedBy, KeepsJobs, MayMove, Moves};
+ghost use Rattle.tc_work.specs.Moving.{beside, eyes, told_by, works_by, IsOutBy, IsPickedBy, KeepsJobs, MayMove, Moves, TellsNoDamage};
 ghost use Rattle.tc_work.specs.Settling.{IsWatchedIn, MaySettle, MomentsLeavePairs, PicksNone, TellsFiles};
 
 use crate::engine::Engine;
@@ -76,11 +77,11 @@ impl<S: Store, P: Pace> Engine<S, P> {
         ensures moments { (p : PartView) → IsPart (told S.history S.Device.history S.Frozen.content self.part) p → WorkFor S.Frozen.content S.Device.history S.Device.name jobs p → MomentsLeavePairs p.part (store_of p) (told S.history S.Device.history S.Frozen.content self.part) (S.history result.kit.store) }
         ensures failed_moments { (part : Partition) (pairs : Pairs) (frame : Option (List PlainWrite)) (has : HasFailedKeeping (WorkFor S.Frozen.content S.Device.history S.Device.name jobs) (told S.history S.Device.history S.Frozen.content self.part) part pairs frame) → FailedMomentsLeaveStore has.view frame (told S.history S.Device.history S.Frozen.content self.part) (S.history result.kit.store) }
 
-        // Nothing that a job makes is listed of an engine that failed, and no fault of it is told. Damage is of a component. Where the
-        // files are told there is none.
+        // Nothing that a job makes is listed of an engine that failed, and no fault of it is told. Damage is that of the part as it stood
+        // then. Where the files are told there is none.
         ensures outcome { self.part.failed ≡ true → result.outcome ≡ Ok tt }
-        ensures damaged { IfErr result.outcome (λ fault. IfDamaged fault AreOfComponents) }
-        ensures undamaged { (p : PartView) → IsPart (told S.history S.Device.history S.Frozen.content self.part) p → TellsFiles (told S.history S.Device.history S.Frozen.content self.part) → WorkFor S.Frozen.content S.Device.history S.Device.name jobs p → IfErr result.outcome (λ fault. IfDamaged fault (λ damage. ⊥)) }
+        ensures damaged { IfErr result.outcome (λ fault. IfDamaged fault (HasMetDamage S.Frozen.content S.Device.history self.part)) }
+        ensures undamaged { TellsNoDamage (eyes S.history S.Device.history S.Frozen.content S.Device.name S.Frozen.size S.Watch.counts) result.outcome (beside self.part jobs) }
         ensures unspent { IsErrOf result.outcome EngineFault.Spent → ⊥ }
 
         // Where no job is out and the policy picks none, nothing is done but that the devices come home, and so it is of an engine

@@ -8,10 +8,11 @@ ghost use Rattle.tc_part.specs.FilesOut.{LogIsOut, OnlyDevicesOut, TellsLogs};
 ghost use Rattle.tc_part_model.specs.Meaning.{IsPart};
 ghost use Rattle.tc_part_model.specs.PartState.{told};
 ghost use Rattle.tc_part_model.specs.PartView.{PartView, store_of};
+ghost use Rattle.tc_work.specs.Damage.{AreIndexed, IsPartDamage};
 ghost use Rattle.tc_work.specs.Failing.{HasFailedKeeping};
-ghost use Rattle.tc_work.specs.Faults.{AreOfComponents, IfDamaged};
+ghost use Rattle.tc_work.specs.Faults.{IfDamaged};
 ghost use Rattle.tc_work.specs.JobsOut.{watched_part, AreOut, WorkFor};
-ghost use Rattle.tc_work.specs.Moving.{beside, eyes, IsPickedBy, ListsPicked, MayMove, MovesOver};
+ghost use Rattle.tc_work.specs.Moving.{beside, eyes, IsPickedBy, ListsPicked, MayMove, MovesOver, TellsNoDamage};
 ghost use Rattle.tc_work.specs.Settling.{HasOnlyMoved, IsDue, IsListedBy, IsWatchedIn, MaySettle, MomentsLeavePairsOver, NextLogs, PicksNone, StoresStill, TellsFiles};
 
 use crate::emptying::{EMPTY_LOG, end_flush, seal_and_start};
@@ -70,6 +71,7 @@ impl<S: Store, P: Pace> Engine<S, P> {
         ensures few { OnOk result (listed_least self.old.policy ≤ 9 → length self.new.part.list ≤ 8) }
         ensures flushing { OnOk result (self.new.part.flushing ≡ is_some self.new.part.sealed) }
         ensures moved { HasOnlyMoved self.old.part self.new.part }
+        ensures indexed { AreIndexed S.Frozen.content self.old.part.list → AreIndexed S.Frozen.content self.new.part.list }
         ensures policy { self.new.policy ≡ self.old.policy }
         ensures untold { OnOk result (S.history self.old.part.store ≡ [] → S.history self.new.part.store ≡ []) }
 
@@ -86,9 +88,9 @@ impl<S: Store, P: Pace> Engine<S, P> {
         ensures failed { OnErr result ((p : PartView) → IsPart (told S.history S.Device.history S.Frozen.content self.old.part) p → TellsFiles (told S.history S.Device.history S.Frozen.content self.old.part) → WorkFor S.Frozen.content S.Device.history S.Device.name jobs.old p → HasFailedKeeping (WorkFor S.Frozen.content S.Device.history S.Device.name jobs.new) (told S.history S.Device.history S.Frozen.content self.new.part) p.part (store_of p) None) }
         ensures left { OnErr result (self.new.part.failed ≡ true) }
 
-        // Damage is of a component, or components do not go together. Where the files are told there is none.
-        ensures damaged { IfErr result (λ fault. IfDamaged fault AreOfComponents) }
-        ensures undamaged { (p : PartView) → IsPart (told S.history S.Device.history S.Frozen.content self.old.part) p → TellsFiles (told S.history S.Device.history S.Frozen.content self.old.part) → WorkFor S.Frozen.content S.Device.history S.Device.name jobs.old p → IfErr result (λ fault. IfDamaged fault (λ damage. ⊥)) }
+        // Damage is that of the part as it is left. Where the files are told there is none.
+        ensures damaged { IfErr result (λ fault. IfDamaged fault (IsPartDamage S.Frozen.content S.Device.history self.new.part)) }
+        ensures undamaged { TellsNoDamage (eyes S.history S.Device.history S.Frozen.content S.Device.name S.Frozen.size S.Watch.counts) result (beside self.old.part jobs.old) }
         ensures spent { IsErrOf result EngineFault.Spent → self.old.part.generation + 1 ≡ 2 ^ 63 }
         ensures unmoved { IsErrOf result EngineFault.Spent → self.new.part.generation ≡ self.old.part.generation }
         ensures watched { IsWatchedIn (λ w. S.Watch.counts w) (IsErrOf result EngineFault.Disk) (watched_part self.old.part jobs.old) (watched_part self.new.part jobs.new) }

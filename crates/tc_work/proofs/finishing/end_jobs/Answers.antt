@@ -1,4 +1,4 @@
-use Rattle.std.proofs.Common.{◌∙◌, List, Option, refl, sym, ap, subst}
+use Rattle.std.proofs.Common.{◌≡◌, false, List, Option, None, refl, sym, subst}
 use Rattle.std.specs.Prelude.{Err}
 use Rattle.tc_plain_model.specs.Writes.{Write}
 use Rattle.tc_part_model.specs.PartState.{PartState}
@@ -25,8 +25,5 @@ returns-in-Err-clause-moves g c =
     let back = c.give_back.ensures in
     let up = c.fail.ensures in
     given_back e (beside c.args.part.now c.args.jobs.now) mid new (Err c.in-Err.fault) c.in-Err.fault refl c.in-Err.ensures.moves (subst (λ (s : PartState _ _ _ _). KeepsJobs e ⊥ (beside s mid.jobs) new) up back.keeps)
-    (subst (λ (s : PartState _ _ _ _). (p : PartView) (frame : Option (List Write)) → GivesBack (works_by e (beside s mid.jobs)) (works_by e new) p frame (told_by e (beside s mid.jobs)) (told_by e new)) up back.stays) (
-      ap (λ (s : PartState _ _ _ _). s.log) back.given ∙ ap (λ (s : PartState _ _ _ _). s.log) up,
-      ap (λ (s : PartState _ _ _ _). s.generation) back.given ∙ ap (λ (s : PartState _ _ _ _). s.generation) up,
-      ap (λ (s : PartState _ _ _ _). s.sealed_log) back.given ∙ ap (λ (s : PartState _ _ _ _). s.sealed_log) up,
-    )
+    (subst (λ (s : PartState _ _ _ _). (p : PartView) (frame : Option (List Write)) → GivesBack (works_by e (beside s mid.jobs)) (works_by e new) p frame (told_by e (beside s mid.jobs)) (told_by e new)) up back.stays)
+    (subst (λ (s : PartState _ _ _ _). new.part ≡ record s { store = new.part.store; flusher = new.part.flusher; merger = new.part.merger; flushing = false; merging = None }) up back.given)

@@ -6,13 +6,15 @@ use Rattle.tc_part.specs.Faults.{of_device, IfDamaged as part_damaged}
 use Rattle.tc_flush.proofs.Outcomes.{if_err}
 use Rattle.tc_running.specs.Jobs.{JobsState}
 use Rattle.tc_running.specs.Ran.{HasFlushed}
+use Rattle.tc_store.specs.declared.damage.Damage.{Damage}
+use Rattle.tc_work.specs.Damage.{IsPartDamage}
 use Rattle.tc_work.specs.JobsOut.{IsFlushOf}
 use Rattle.tc_work.specs.Moving.{beside, eyes, IsPickedBy, ListsPicked, Moves}
 use Rattle.tc_work.proofs.HandedFaults.{damaged_so, disk_below, spent_below}
 use Rattle.tc_work.proofs.HandedJobs.{job_back, job_of_part, job_ran, none_back}
-use Rattle.tc_work.proofs.InstalledFlushes.{HasFallen, IsBack, IsHandedBack, IsInstalled, fallen, fallen_ran, installed, installed_lists}
+use Rattle.tc_work.proofs.InstalledFlushes.{HasFallen, IsBack, IsHandedBack, IsInstalled, fallen, fallen_damage, fallen_ran, installed, installed_lists}
 use Rattle.tc_work.proofs.JobEnds.{by_outcome, device_undamaged, ended_well}
-use Rattle.tc_work.proofs.MergeFaults.{of_bytes}
+use Rattle.tc_work.proofs.MergeFaults.{damage_so}
 use Rattle.tc_work.proofs.MovingCalls.{err_of, moves_nothing}
 use Rattle.tc_work.proofs.StoredMoments.{where_told}
 use Rattle.tc_work.proofs.Watches.{flush_cause}
@@ -45,10 +47,15 @@ returns-in_err-finish_flush-in-Some-clause-moves g c =
       unmade_failed = c.finish_flush.ensures.unmade_failed;
       unmade_moments = c.finish_flush.ensures.unmade_moments;
     } in
+    let P : Damage → Type 0 = IsPartDamage e.content e.history c.finish_flush.new.self in
     subst (λ (j : JobsState _ _ _). Moves e r (beside c.args.part.now c.args.jobs.now) (beside c.finish_flush.new.self j)) (sym c.join_flush.ensures.taken)
     (fallen e g.S.Frozen.Frozen.name g.S.Device.Device.size c.args.part.now c.finish_flush.new.self c.args.jobs.now found.0 out.watch out.device out.outcome back handed f of.1.log of.0 c.requires.may.jobs documents.table documents.of r _ (err_of r fault is) _ c.finish_flush.ensures.watched
     (λ disk. flush_cause out.outcome c.finish_flush.result (if_err out.outcome _ _ (λ cause made. (made sound).0) c.finish_flush.ensures.unmade) (disk_below r c.finish_flush.result fault is was disk))
-    (damaged_so r c.finish_flush.result fault _ _ is was c.finish_flush.ensures.damaged (λ damage bytes. of_bytes damage _ _ _ bytes))
+    (damaged_so r c.finish_flush.result fault P P is was
+    (by_outcome out.outcome _ (part_damaged c.finish_flush.result P) c.finish_flush.ensures.unmade (λ cause made. device_undamaged c.finish_flush.result cause P (made sound).0)
+    (λ ended. damage_so c.finish_flush.result _ P (fallen_damage e g.S.Frozen.Frozen.name g.S.Device.Device.size c.args.part.now c.finish_flush.new.self
+    c.args.jobs.now found.0 out.watch out.device out.outcome back handed f of.1.log of.0 c.requires.may.jobs documents.table documents.of ended)
+    c.finish_flush.ensures.damaged)) (λ damage harm. harm))
     (λ p part told works.
     let ran_for = fallen_ran e g.S.Frozen.Frozen.name g.S.Device.Device.size c.args.part.now c.finish_flush.new.self c.args.jobs.now found.0 out.watch out.device out.outcome back handed f of.1.log of.0 c.requires.may.jobs documents.table documents.of p part told works in
     damaged_so r c.finish_flush.result fault (λ damage. ⊥) (λ damage. ⊥) is was

@@ -1,13 +1,14 @@
-use Rattle.std.proofs.Common.{true, refl, sym, subst, inl}
+use Rattle.std.proofs.Common.{true, refl, sym, subst}
 use Rattle.std.specs.Prelude.{Ok}
 use Rattle.tc_list.specs.declared.policy.Policy.{Policy}
 use Rattle.tc_part_model.specs.Changes.{flushing_part}
 use Rattle.tc_work.specs.declared.fault.EngineFault.TheVariants as engine
 use Rattle.tc_running.specs.Jobs.{JobsState}
+use Rattle.tc_work.specs.Damage.{IsPartDamage}
 use Rattle.tc_work.specs.Moving.{beside, eyes, told_by, IsPickedBy, ListsPicked, Moves}
 use Rattle.tc_work.proofs.HandedFaults.{damaged_so}
-use Rattle.tc_work.proofs.MergeFaults.{of_components}
 use Rattle.tc_work.proofs.MovingCalls.{err_is, moves_failed, moves_not}
+use Rattle.tc_work.proofs.PartDamage.{both_damaged, uncounted}
 use Rattle.tc_work.proofs.StartedFlushes.{HasBegun, started, started_lists}
 use Rattle.tc_work.proofs.StoredMoments.{store_moments}
 use Rattle.tc_work.proofs.flushing.start_flush.Goals as goal
@@ -37,7 +38,9 @@ returns-in_err-job-clause-moves g c =
     let is = c.from_residual-in_err-job.ensures.1 in
     moves_failed e c.args.part.now c.begin_flush.new.self c.args.jobs.now r c.begin_flush.result fault is c.in_err-job.was c.requires.may.jobs c.in_err-job.ensures.left c.begin_flush.ensures.untold c.begin_flush.ensures.devices c.begin_flush.ensures.counted
     c.in_err-job.ensures.failed (λ p of tells works. store_moments t p (flushing_part p) (g.S.Store.history c.begin_flush.new.self.store) refl refl (c.begin_flush.ensures.moments p of))
-    (damaged_so r c.begin_flush.result fault _ _ is c.in_err-job.was c.begin_flush.ensures.damaged (λ damage files. of_components c.args.part.now.list 0 0 damage (inl files)))
+    (damaged_so r c.begin_flush.result fault _ (IsPartDamage e.content e.history c.begin_flush.new.self) is c.in_err-job.was
+    (both_damaged c.begin_flush.result _ _ c.begin_flush.ensures.damaged c.begin_flush.ensures.uncounted)
+    (λ damage both. uncounted e.content e.history c.args.part.now c.begin_flush.new.self damage c.in_err-job.ensures.left both))
     (λ p of tells. damaged_so r c.begin_flush.result fault _ _ is c.in_err-job.was (c.begin_flush.ensures.undamaged p of tells.components) (λ damage never. never)) c.begin_flush.ensures.unspent
 
 pub returns-in_err-job-clause-damaged : goal.returns-in_err-job-clause-damaged

@@ -6,19 +6,19 @@ use Rattle.tc_lsm_model.specs.Merges.{in_run as contents_in_run}
 use Rattle.tc_merge.specs.Faults.{IsHarmIn}
 use Rattle.tc_merge.specs.Jobs as merge
 use Rattle.tc_part.specs.Faults.{of_job, IfDamaged as part_damaged}
-use Rattle.tc_part.specs.JobHeads.{merged_head}
-use Rattle.tc_part.specs.MergeEnds.{run_out}
+use Rattle.tc_part_model.specs.PartState.{PartState}
 use Rattle.tc_flush.proofs.Outcomes.{if_err}
 use Rattle.tc_running.specs.Jobs.{JobsState}
 use Rattle.tc_running.specs.Ran.{HasMerged}
-use Rattle.tc_work.specs.Faults.{AreOfComponents, IsComponentName}
+use Rattle.tc_store.specs.declared.damage.Damage.{Damage}
+use Rattle.tc_work.specs.Damage.{IsPartDamage}
 use Rattle.tc_work.specs.JobsOut.{IsMergeOf}
 use Rattle.tc_work.specs.Moving.{beside, eyes, IsPickedBy, ListsPicked, Moves}
 use Rattle.tc_work.proofs.HandedFaults.{damaged_so, disk_below, spent_below}
 use Rattle.tc_work.proofs.HandedJobs.{job_back, job_of_part, job_ran, none_back}
-use Rattle.tc_work.proofs.InstalledMerges.{HasFallen, IsBack, IsInstalled, fallen, installed, installed_lists, merges, ran as ran_for}
+use Rattle.tc_work.proofs.InstalledMerges.{HasFallen, IsBack, IsInstalled, fallen, fallen_damage, harmed_damage, installed, installed_lists, merges, ran as ran_for}
 use Rattle.tc_work.proofs.JobEnds.{by_outcome, ended_well}
-use Rattle.tc_work.proofs.MergeFaults.{damage_so, err_both, merge_cause, of_component, told_damage}
+use Rattle.tc_work.proofs.MergeFaults.{damage_so, err_both, merge_cause, told_damage}
 use Rattle.tc_work.proofs.MovingCalls.{err_of, moves_nothing}
 use Rattle.tc_work.proofs.StoredMoments.{where_told}
 use Rattle.tc_work.proofs.UnharmedRecords.{not_harmed_run}
@@ -50,13 +50,18 @@ returns-in_err-finish_merge-in-Some-clause-moves g c =
       unmade_failed = c.finish_merge.ensures.unmade_failed;
       unmade_moments = c.finish_merge.ensures.unmade_moments;
     } in
+    let P : Damage → Type 0 = IsPartDamage e.content e.history c.finish_merge.new.self in
     subst (λ (j : JobsState _ _ _). Moves e r (beside c.args.part.now c.args.jobs.now) (beside c.finish_merge.new.self j)) (sym c.join_merge.ensures.taken)
     (fallen e g.S.Frozen.Frozen.name g.S.Device.Device.size c.args.part.now c.finish_merge.new.self c.args.jobs.now found.0 out.watch out.device out.outcome back c.finish_merge.ensures.devices f c.requires.may.jobs r _ (err_of r fault is) _ c.finish_merge.ensures.watched
     (λ disk. merge_cause out.outcome result (if_err out.outcome _ _ (λ cause made. (made sound).0) c.finish_merge.ensures.unmade) (disk_below r result fault is was disk))
-    (damaged_so r result fault AreOfComponents AreOfComponents is was
-    (by_outcome out.outcome _ (part_damaged result AreOfComponents) (err_both out.outcome _ _ c.finish_merge.ensures.unmade ran.damaged)
-    (λ cause both. told_damage result cause (IsHarmIn e.content found.0.run) AreOfComponents (both.0 sound).0 both.1 (λ file place bytes harm. subst IsComponentName (sym harm.harm.file_is) tt))
-    (λ ended. damage_so result _ AreOfComponents (λ damage bytes. of_component damage (merged_head c.args.part.now.number c.args.part.now.count (run_out c.args.part.now) c.args.part.now.list) _ bytes) (c.finish_merge.ensures.damaged ended))) (λ damage names. names))
+    (damaged_so r result fault P P is was
+    (by_outcome out.outcome _ (part_damaged result P) (err_both out.outcome _ _ c.finish_merge.ensures.unmade ran.damaged)
+    (λ cause both. told_damage result cause (IsHarmIn e.content found.0.run) P (both.0 sound).0 both.1
+    (harmed_damage e g.S.Frozen.Frozen.name g.S.Device.Device.size c.args.part.now c.finish_merge.new.self c.args.jobs.now found.0 out.watch out.device out.outcome
+    back c.finish_merge.ensures.devices f c.requires.may.jobs (ap (λ (s : PartState _ _ _ _). s.list) (both.0 sound).1)))
+    (λ ended. damage_so result _ P (fallen_damage e g.S.Frozen.Frozen.name g.S.Device.Device.size c.args.part.now c.finish_merge.new.self c.args.jobs.now found.0
+    out.watch out.device out.outcome back c.finish_merge.ensures.devices f c.requires.may.jobs ended) (c.finish_merge.ensures.damaged ended)))
+    (λ damage harm. harm))
     (λ p part told works.
     let m = merges e g.S.Frozen.Frozen.name g.S.Device.Device.size c.args.part.now c.finish_merge.new.self c.args.jobs.now found.0 out.watch out.device out.outcome back p part told works in
     let contents = c.components_are_contents.ensures in

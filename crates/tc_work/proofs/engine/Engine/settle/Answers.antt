@@ -56,6 +56,9 @@ returns-clause-ready g c = (ended g c).well.stays.ready
 pub returns-clause-moved : goal.returns-clause-moved
 returns-clause-moved g c = (ended g c).keeps.moved
 
+pub returns-clause-indexed : goal.returns-clause-indexed
+returns-clause-indexed g c = (ended g c).keeps.indexed
+
 pub returns-clause-untold : goal.returns-clause-untold
 returns-clause-untold g c = (ended g c).keeps.untold
 
@@ -100,6 +103,9 @@ returns-in_err-settle_part-clause-jobs g c = (stopped g c).keeps.jobs
 
 pub returns-in_err-settle_part-clause-moved : goal.returns-in_err-settle_part-clause-moved
 returns-in_err-settle_part-clause-moved g c = (stopped g c).keeps.moved
+
+pub returns-in_err-settle_part-clause-indexed : goal.returns-in_err-settle_part-clause-indexed
+returns-in_err-settle_part-clause-indexed g c = (stopped g c).keeps.indexed
 
 pub returns-in_err-settle_part-clause-devices : goal.returns-in_err-settle_part-clause-devices
 returns-in_err-settle_part-clause-devices g c = (stopped g c).keeps.devices
