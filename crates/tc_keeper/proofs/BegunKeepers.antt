@@ -30,18 +30,19 @@ begun_counts {S} {P} {W} {D} {F} counts k p same none =
     ∙ ap (λ (es : List (WithJobs S D F W)). λ q. option_map (faults_at counts) (slice_get es q)) same
 
 pub begun_causes : {S P W D F : Type 0} (counts : W → Counts) (k : KeeperState S D F W) (p : Partitions S P W D F) (reads reads' before now : ℕ) (new : DiskFaults)
-    (fault : Option RunFault) → k.engines ≡ p.engines → k.scan ≡ None → HasRunCauses reads reads' before now (faults_kept counts k) new fault
-    → HasRunCauses reads reads' before now (faults_of counts p) new fault
-begun_causes counts k p reads reads' before now new fault same none causes = subst (λ old. HasRunCauses reads reads' before now old new fault) (begun_counts counts k p same none) causes
+    (why : RunFault → Type 0) (fault : Option RunFault) → k.engines ≡ p.engines → k.scan ≡ None
+    → HasRunCauses reads reads' before now (faults_kept counts k) new why fault
+    → HasRunCauses reads reads' before now (faults_of counts p) new why fault
+begun_causes counts k p reads reads' before now new why fault same none causes = subst (λ old. HasRunCauses reads reads' before now old new why fault) (begun_counts counts k p same none) causes
 
 -- memory was wanting, and nothing was asked
-pub unrun_causes : {S P W D F : Type 0} (counts : W → Counts) (p : Partitions S P W D F) (reads before : ℕ) → HasRunCauses reads reads before before (faults_of counts p) (faults_of counts p) (Some Memory)
-unrun_causes counts p reads before = record {
+pub unrun_causes : {S P W D F : Type 0} (counts : W → Counts) (p : Partitions S P W D F) (reads before : ℕ) (why : RunFault → Type 0) → HasRunCauses reads reads before before (faults_of counts p) (faults_of counts p) why (Some Memory)
+unrun_causes counts p reads before why = record {
   heard = omega arith;
   read = λ is. absurd (cc);
   kept = omega arith;
   failed = λ is. absurd is;
-  stayed = (nothing_counted (faults_of counts p) (Unit {0})).stayed;
+  stayed = (nothing_counted (faults_of counts p) why).stayed;
   disk = tt;
   damaged = tt;
   kind = tt;

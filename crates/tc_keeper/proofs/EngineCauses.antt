@@ -1,21 +1,27 @@
 -- What counts over a call of the engines, partition by partition.
 use Rattle.std.proofs.Common.{◌≡◌, ◌⊎◌, ◌≤◌, ◌<◌, ◌+◌, ℕ, zero, suc, List, [], ◌∷◌, All, length, arith, refl, ap, sym, subst, inl, inr}
-use Rattle.std.specs.Prelude.{Option, Some, None, IsSome, option_map, slice_get, unwrap_or, Result, Err}
+use Rattle.std.specs.Prelude.{Option, Some, None, option_map, slice_get, unwrap_or, Result, Err}
 use Rattle.std.proofs.lemmas.List.Elements.{All-head, All-tail}
 use Rattle.tc_bytes.specs.Counts.{Rose}
-use Rattle.tc_keeper.specs.EngineFaults.{IfOf, IsDiskOf}
+use Rattle.tc_component.specs.Loading.{ComponentState}
+use Rattle.tc_keeper.specs.EngineFaults.{IfOf, IsDiskOf, StopsFirst}
 use Rattle.tc_keeper.specs.Moving.{HasFailedMoving, HasMoved, StopsAt}
-use Rattle.tc_keeper.specs.Places.{AtEach, SomeFrom}
+use Rattle.tc_keeper.specs.Places.{AtEach, IsAt, SomeFrom}
 use Rattle.tc_keeper.specs.Running.{HasOnlyRun}
 use Rattle.tc_keeper.specs.declared.engines_fault.EnginesFault.{EnginesFault}
 use Rattle.tc_keeper.specs.declared.engines_fault.EnginesFault.TheVariants as engines
 use Rattle.tc_keeper.proofs.PlaceLaws.{at_each-length, at_each-so}
-use Rattle.tc_keeper.specs.WithJobs.{told_of, WithJobs}
+use Rattle.tc_keeper.specs.WithJobs.{told_of, told_part, WithJobs}
+use Rattle.tc_model.specs.Keyed.{Keyed}
+use Rattle.tc_part.specs.Harms.{IsBytesHarm, IsHarmIn}
 use Rattle.tc_part_model.specs.PartState.{PartState}
+use Rattle.tc_request_model.specs.Request.{Request}
 use Rattle.tc_running.specs.Jobs.{JobsState}
 use Rattle.tc_store.specs.Counted.{Counts}
 use Rattle.tc_store.specs.declared.damage.Damage.{Damage}
 use Rattle.tc_store.specs.KitFaults.{KitFaults}
+use Rattle.tc_work.specs.Damage.{IsPartDamage}
+use Rattle.tc_work.specs.Faults.{IfDamaged as IfEngineDamaged}
 use Rattle.tc_work.specs.JobsOut.{flusher_of, merger_of, watched_part}
 use Rattle.tc_work.specs.Moving.{Eyes}
 use Rattle.tc_work.specs.Reads.{IsCountedWithin}
@@ -23,10 +29,10 @@ use Rattle.tc_work.specs.Settling.{FaultsRose, FaultsStay, IsWatchedIn}
 use Rattle.tc_work.specs.declared.fault.EngineFault.{EngineFault}
 use Rattle.tc_work.specs.declared.fault.EngineFault.TheVariants as engine
 use Rattle.tc_keeper.specs.Calls.{faults_at, IsSpentAt, MayBeAsked}
-use Rattle.tc_keeper.specs.Faults.{faults_of_part, HasDiskCause, HaveRisen, HaveStayed, NoneFell, OneRose}
+use Rattle.tc_keeper.specs.Faults.{faults_of_part, HasDiskCause, HaveRisen, HaveStayed, IsSaid, NoneFell, OneRose}
 use Rattle.tc_keeper.specs.Partitions.{fault_of_engines, window_fault_of}
 use Rattle.tc_keeper.specs.declared.fault.RunFault.{RunFault}
-use Rattle.tc_keeper.specs.declared.fault.RunFault.TheVariants.{Disk, Damaged, Memory}
+use Rattle.tc_keeper.specs.declared.fault.RunFault.TheVariants.{Disk, Damaged, Memory, Spent}
 use Rattle.tc_keeper.proofs.EachLaws.{at_each-both}
 
 -- ---- one engine
@@ -90,28 +96,23 @@ module _ {E : Type 0} (faults : E → KitFaults) where
   have_risen_at n (suc p) (e ∷ es) (e' ∷ es') below rose = let same : n + suc p ≡ suc n + p = omega arith in
       have_risen_at (suc n) p es es' (omega (arith, below)) (subst (λ m. AtEach (λ i e e'. i ≡ m → OneRose (faults e) (faults e')) (suc n) es es') same rose.1)
 
-  is_there : (p : ℕ) (es : List E) → p < length es → IsSome (option_map faults (slice_get es p))
-  is_there p [] below = absurd (omega (arith, below))
-  is_there zero (e ∷ es) below = refl
-  is_there (suc p) (e ∷ es) below = is_there p es (omega (arith, below))
-
   abbrev Stayed : List E → List E → Type 0
   Stayed es es' = AtEach (λ p e e'. NoneFell (faults e) (faults e')) 0 es es'
 
   abbrev RoseAt : ℕ → List E → List E → Type 0
   RoseAt p es es' = AtEach (λ q e e'. q ≡ p → OneRose (faults e) (faults e')) 0 es es'
 
-  abbrev pub Caused : Type 0 → Option RunFault → List E → List E → Type 0
-  Caused last fault es es' = HasDiskCause (λ q. option_map faults (slice_get es q)) (λ q. option_map faults (slice_get es' q)) last fault
+  abbrev pub Caused : (RunFault → Type 0) → Option RunFault → List E → List E → Type 0
+  Caused said fault es es' = HasDiskCause (λ q. option_map faults (slice_get es q)) (λ q. option_map faults (slice_get es' q)) said fault
 
-  pub caused_none : (last : Type 0) (es es' : List E) → Stayed es es' → Caused last None es es'
-  caused_none last es es' stayed = record { stayed = have_stayed_at 0 es es' stayed; disk = tt; damaged = tt; spent = tt }
+  pub caused_none : (said : RunFault → Type 0) (es es' : List E) → Stayed es es' → Caused said None es es'
+  caused_none said es es' stayed = record { stayed = have_stayed_at 0 es es' stayed; disk = tt; damaged = tt; spent = tt }
 
-  caused_memory : (last : Type 0) (es es' : List E) → Stayed es es' → Caused last (Some Memory) es es'
-  caused_memory last es es' stayed = record { stayed = have_stayed_at 0 es es' stayed; disk = tt; damaged = tt; spent = λ never. absurd (cc) }
+  caused_memory : (said : RunFault → Type 0) (es es' : List E) → Stayed es es' → Caused said (Some Memory) es es'
+  caused_memory said es es' stayed = record { stayed = have_stayed_at 0 es es' stayed; disk = tt; damaged = tt; spent = λ never. absurd (cc) }
 
-  caused_disk : (last : Type 0) (p : ℕ) (es es' : List E) → Stayed es es' → p < length es → RoseAt p es es' → Caused last (Some (Disk p)) es es'
-  caused_disk last p es es' stayed below rose = record {
+  caused_disk : (said : RunFault → Type 0) (p : ℕ) (es es' : List E) → Stayed es es' → p < length es → RoseAt p es es' → Caused said (Some (Disk p)) es es'
+  caused_disk said p es es' stayed below rose = record {
     stayed = have_stayed_at 0 es es' stayed;
     disk = let same : 0 + p ≡ p = omega arith in have_risen_at 0 p es es' below
         (subst (λ m. AtEach (λ i e e'. i ≡ m → OneRose (faults e) (faults e')) 0 es es') (sym same) rose);
@@ -119,29 +120,35 @@ module _ {E : Type 0} (faults : E → KitFaults) where
     spent = λ never. absurd (cc);
   }
 
-  caused_damaged : (last : Type 0) (p : ℕ) (damage : Damage) (es es' : List E) → Stayed es es' → p < length es → Caused last (Some (Damaged p damage)) es es'
-  caused_damaged last p damage es es' stayed below = record {
-    stayed = have_stayed_at 0 es es' stayed;
-    disk = tt;
-    damaged = is_there p es' (omega (arith, below, at_each-length (λ p e e'. NoneFell (faults e) (faults e')) 0 es es' stayed));
-    spent = λ never. absurd (cc);
-  }
+  caused_damaged : (said : RunFault → Type 0) (p : ℕ) (damage : Damage) (es es' : List E) → Stayed es es' → said (Damaged p damage) → Caused said (Some (Damaged p damage)) es es'
+  caused_damaged said p damage es es' stayed is = record { stayed = have_stayed_at 0 es es' stayed; disk = tt; damaged = is; spent = λ never. absurd (cc) }
+
+  -- what is said where a call finds damage
+  abbrev pub Tells : (RunFault → Type 0) → EnginesFault → Type 0
+  Tells said fault = IfOf fault (λ p why. IfEngineDamaged why (λ damage. said (Damaged p damage)))
 
   -- a fault in a window
-  pub caused_window : (last : Type 0) (fault : EnginesFault) (es es' : List E) → Stayed es es' → IfOf fault (λ p why. (p < length es) × (why ≡ engine.Disk → RoseAt p es es')) → Caused last (Some (window_fault_of fault)) es es'
-  caused_window last (engines.Of p engine.Disk) es es' stayed is = caused_disk last p es es' stayed is.0 (is.1 refl)
-  caused_window last (engines.Of p (engine.Damaged damage)) es es' stayed is = caused_damaged last p damage es es' stayed is.0
-  caused_window last (engines.Of p engine.Spent) es es' stayed is = caused_memory last es es' stayed
-  caused_window last (engines.Of p engine.Memory) es es' stayed is = caused_memory last es es' stayed
-  caused_window last engines.Memory es es' stayed is = caused_memory last es es' stayed
+  pub caused_window : (said : RunFault → Type 0) (fault : EnginesFault) (es es' : List E) → Stayed es es' → IfOf fault (λ p why. (p < length es) × (why ≡ engine.Disk → RoseAt p es es')) → Tells said fault → Caused said (Some (window_fault_of fault)) es es'
+  caused_window said (engines.Of p engine.Disk) es es' stayed is tells = caused_disk said p es es' stayed is.0 (is.1 refl)
+  caused_window said (engines.Of p (engine.Damaged damage)) es es' stayed is tells = caused_damaged said p damage es es' stayed tells
+  caused_window said (engines.Of p engine.Spent) es es' stayed is tells = caused_memory said es es' stayed
+  caused_window said (engines.Of p engine.Memory) es es' stayed is tells = caused_memory said es es' stayed
+  caused_window said engines.Memory es es' stayed is tells = caused_memory said es es' stayed
 
   -- a fault of another call
-  pub caused_by : (last : Type 0) (fault : EnginesFault) (es es' : List E) → Stayed es es' → IfOf fault (λ p why. (p < length es) × (why ≡ engine.Disk → RoseAt p es es') × (why ≡ engine.Spent → last)) → Caused last (Some (fault_of_engines fault)) es es'
-  caused_by last (engines.Of p engine.Disk) es es' stayed is = caused_disk last p es es' stayed is.0 (is.1 refl)
-  caused_by last (engines.Of p (engine.Damaged damage)) es es' stayed is = caused_damaged last p damage es es' stayed is.0
-  caused_by last (engines.Of p engine.Spent) es es' stayed is = record { stayed = have_stayed_at 0 es es' stayed; disk = tt; damaged = tt; spent = λ same. is.2 refl }
-  caused_by last (engines.Of p engine.Memory) es es' stayed is = caused_memory last es es' stayed
-  caused_by last engines.Memory es es' stayed is = caused_memory last es es' stayed
+  pub caused_by : (said : RunFault → Type 0) (fault : EnginesFault) (es es' : List E) → Stayed es es' → IfOf fault (λ p why. (p < length es) × (why ≡ engine.Disk → RoseAt p es es') × (why ≡ engine.Spent → said Spent)) → Tells said fault → Caused said (Some (fault_of_engines fault)) es es'
+  caused_by said (engines.Of p engine.Disk) es es' stayed is tells = caused_disk said p es es' stayed is.0 (is.1 refl)
+  caused_by said (engines.Of p (engine.Damaged damage)) es es' stayed is tells = caused_damaged said p damage es es' stayed tells
+  caused_by said (engines.Of p engine.Spent) es es' stayed is tells = record { stayed = have_stayed_at 0 es es' stayed; disk = tt; damaged = tt; spent = λ same. is.2 refl }
+  caused_by said (engines.Of p engine.Memory) es es' stayed is tells = caused_memory said es es' stayed
+  caused_by said engines.Memory es es' stayed is tells = caused_memory said es es' stayed
+
+-- what holds of the engine at a place is told
+told_at : {E : Type 0} (P : E → Type 0) (n p : ℕ) (es es' : List E) → p < length es → AtEach (λ q old new. q ≡ n + p → P new) n es es' → IsAt p es' P
+told_at P n p [] es' below each = absurd (omega (arith, below))
+told_at P n p (e ∷ es) [] below each = absurd each
+told_at P n zero (e ∷ es) (e' ∷ es') below each = each.0 (omega arith)
+told_at P n (suc p) (e ∷ es) (e' ∷ es') below each = let same : n + suc p ≡ suc n + p = omega arith in told_at P (suc n) p es es' (omega (arith, below)) (subst (λ m. AtEach (λ q old new. q ≡ m → P new) (suc n) es es') same each.1)
 
 -- ---- a window
 
@@ -170,6 +177,21 @@ module _ {S D F W : Type 0} (counts : W → Counts) where
         at_each-so (λ q old new. IsCountedWithin (most q old) (IsDiskOf q result) (counts old.engine.part.main) (counts new.engine.part.main)) (λ q old new. q ≡ p → OneRose (faults_at counts old) (faults_at counts new)) 0 es es'
         (λ q old new c same. inl (c.cause (disk_counted p q why result is disk same))) counted,
   )
+
+-- what an engine met in a window is damage of its part, whose list stays
+pub window_met : {S D F W : Type 0} (eyes : Eyes S D F W) (share : ℕ → Keyed Request) (fault : EnginesFault) (es es' : List (WithJobs S D F W)) → AtEach (λ p old new. HasOnlyRun old.engine.part new.engine.part × (new.engine.policy ≡ old.engine.policy) × (new.jobs ≡ old.jobs)) 0 es es'
+    → IfOf fault (λ p why. (p < length es) × AtEach (λ q old new. StopsFirst (told_part eyes) eyes.content p why q (share q) old.engine new.engine) 0 es es')
+    → IfOf fault (λ p why. IfEngineDamaged why (λ damage. IsAt p es' (λ e. IsPartDamage eyes.content eyes.history e.engine.part damage)))
+window_met eyes share engines.Memory es es' same is = tt
+window_met eyes share (engines.Of p engine.Disk) es es' same is = tt
+window_met {S = S} {D = D} {F = F} {W = W} eyes share (engines.Of p (engine.Damaged damage)) es es' same is =
+    let Met : WithJobs S D F W → Type 0 = λ e. IsPartDamage eyes.content eyes.history e.engine.part damage in
+    told_at Met 0 p es es' is.0
+    (at_each-both (λ q old new. HasOnlyRun old.engine.part new.engine.part × (new.engine.policy ≡ old.engine.policy) × (new.jobs ≡ old.jobs))
+    (λ q old new. StopsFirst (told_part eyes) eyes.content p (engine.Damaged damage) q (share q) old.engine new.engine) (λ q old new. q ≡ 0 + p → Met new) 0 es es'
+    (λ q old new ran stops here. inl (subst (λ (xs : List (ComponentState F)). IsBytesHarm damage (IsHarmIn eyes.content xs)) (sym (ap (λ (s : PartState S D F W). s.list) ran.0)) (stops.1 (omega (arith, here))).harmed)) same is.1)
+window_met eyes share (engines.Of p engine.Spent) es es' same is = tt
+window_met eyes share (engines.Of p engine.Memory) es es' same is = tt
 
 -- ---- a call that moves documents
 
@@ -239,13 +261,24 @@ module _ {S D F W : Type 0} (eyes : Eyes S D F W) where
           let same : n + suc p ≡ suc n + p = omega arith in
           inr (at (suc n) p es es' (omega (arith, below)) (All-tail (λ e. MayBeAsked (told_of eyes e) e.engine.part) e es asked) (subst (λ m. AtEach (StopsAt m Done Stopped) (suc n) es es') same stops.1))
 
+  -- what one met is damage of its part, as it is left
+  stopped_met : (p : ℕ) (why : EngineFault) (Done Stopped : WithJobs S D F W → WithJobs S D F W → Type 0) (es es' : List (WithJobs S D F W)) → ((old new : WithJobs S D F W) → Stopped old new → HasFailedMoving eyes why old new)
+      → p < length es → AtEach (StopsAt p Done Stopped) 0 es es' → IfEngineDamaged why (λ damage. IsAt p es' (λ e. IsPartDamage eyes.content eyes.history e.engine.part damage))
+  stopped_met p engine.Disk Done Stopped es es' fails below stops = tt
+  stopped_met p (engine.Damaged damage) Done Stopped es es' fails below stops =
+      let Met : WithJobs S D F W → Type 0 = λ e. IsPartDamage eyes.content eyes.history e.engine.part damage in
+      told_at Met 0 p es es' below (at_each-so (StopsAt p Done Stopped) (λ q old new. q ≡ 0 + p → Met new) 0 es es' (λ q old new s here. (fails old new (s.1 (omega (arith, here)))).damaged) stops)
+  stopped_met p engine.Spent Done Stopped es es' fails below stops = tt
+  stopped_met p engine.Memory Done Stopped es es' fails below stops = tt
+
+  abbrev Said : List (WithJobs S D F W) → RunFault → Type 0
+  Said es' = IsSaid (SomeFrom (λ q e. IsSpentAt (told_of eyes e) e.engine.part) 0 es') (λ q damage. IsAt q es' (λ e. IsPartDamage eyes.content eyes.history e.engine.part damage))
+
   -- what counts over a call that failed
   pub call_caused : (Done : WithJobs S D F W → WithJobs S D F W → Type 0) (Stopped : EngineFault → WithJobs S D F W → WithJobs S D F W → Type 0) (fault : EnginesFault) (es es' : List (WithJobs S D F W))
       → ((old new : WithJobs S D F W) → Done old new → Moves ⊥ old new) → ((why : EngineFault) (old new : WithJobs S D F W) → Stopped why old new → Moves (why ≡ engine.Disk) old new) → ((why : EngineFault) (old new : WithJobs S D F W) → Stopped why old new → HasFailedMoving eyes why old new)
-      → All (λ e. MayBeAsked (told_of eyes e) e.engine.part) es → (fault ≡ engines.Memory → ⊥)
-      → IfOf fault (λ p why. (p < length es) × AtEach (StopsAt p Done (Stopped why)) 0 es es')
-      → Caused (faults_at eyes.counts) (SomeFrom (λ q e. IsSpentAt (told_of eyes e) e.engine.part) 0 es') (Some (fault_of_engines fault)) es es'
+      → All (λ e. MayBeAsked (told_of eyes e) e.engine.part) es → (fault ≡ engines.Memory → ⊥) → IfOf fault (λ p why. (p < length es) × AtEach (StopsAt p Done (Stopped why)) 0 es es') → Caused (faults_at eyes.counts) (Said es') (Some (fault_of_engines fault)) es es'
   call_caused Done Stopped engines.Memory es es' done stopped fails asked never stops = absurd (never refl)
   call_caused Done Stopped (engines.Of p why) es es' done stopped fails asked never stops =
-      caused_by (faults_at eyes.counts) (SomeFrom (λ q e. IsSpentAt (told_of eyes e) e.engine.part) 0 es') (engines.Of p why) es es' (stopped_stayed p (why ≡ engine.Disk) Done (Stopped why) es es' done (stopped why) stops.1)
-      (stops.0, (λ disk. stopped_rose p (why ≡ engine.Disk) Done (Stopped why) es es' (stopped why) disk stops.1), stopped_spent p why Done (Stopped why) es es' (fails why) stops.0 asked stops.1)
+      caused_by (faults_at eyes.counts) (Said es') (engines.Of p why) es es' (stopped_stayed p (why ≡ engine.Disk) Done (Stopped why) es es' done (stopped why) stops.1)
+      (stops.0, (λ disk. stopped_rose p (why ≡ engine.Disk) Done (Stopped why) es es' (stopped why) disk stops.1), stopped_spent p why Done (Stopped why) es es' (fails why) stops.0 asked stops.1) (stopped_met p why Done (Stopped why) es es' (fails why) stops.0 stops.1)

@@ -161,38 +161,38 @@ held_keeps {S = S} {D = D} {F = F} {W = W} eyes only es w h = beside 0 es w.part
 
 -- ---- no damage where it is known what is stored
 
-pub undamaged_at : (p : ℕ) (why : EngineFault) → IfDamaged why (λ damage. ⊥) → IsNoDamage (fault_of_engine p why)
-undamaged_at p engine.Disk none = tt
-undamaged_at p (engine.Damaged damage) none = absurd none
-undamaged_at p engine.Spent none = tt
-undamaged_at p engine.Memory none = tt
+pub undamaged_at : (only : Option ℕ) (p : ℕ) (why : EngineFault) → (IsSeen only p → IfDamaged why (λ damage. ⊥)) → IsNoDamage only (fault_of_engine p why)
+undamaged_at only p engine.Disk none = tt
+undamaged_at only p (engine.Damaged damage) none = none
+undamaged_at only p engine.Spent none = tt
+undamaged_at only p engine.Memory none = tt
 
-undamaged_in_window : (p : ℕ) (why : EngineFault) → IfDamaged why (λ damage. ⊥) → IsNoDamage (window_fault_at p why)
-undamaged_in_window p engine.Disk none = tt
-undamaged_in_window p (engine.Damaged damage) none = absurd none
-undamaged_in_window p engine.Spent none = tt
-undamaged_in_window p engine.Memory none = tt
+undamaged_in_window : (only : Option ℕ) (p : ℕ) (why : EngineFault) → (IsSeen only p → IfDamaged why (λ damage. ⊥)) → IsNoDamage only (window_fault_at p why)
+undamaged_in_window only p engine.Disk none = tt
+undamaged_in_window only p (engine.Damaged damage) none = none
+undamaged_in_window only p engine.Spent none = tt
+undamaged_in_window only p engine.Memory none = tt
 
-module _ {S D F W : Type 0} (eyes : Eyes S D F W) (es es' : List (WithJobs S D F W)) (w : World) (h : HoldWorld eyes None es w) where
-  -- of the engine at a place
-  held_at : (p : ℕ) (e : WithJobs S D F W) → slice_get es p ≡ Some e → (part : Part) × HoldsPart (works_of eyes e) (told_of eyes e) e.engine.part.limits (partition_at p (length w.parts)) w part
+module _ {S D F W : Type 0} (eyes : Eyes S D F W) (es es' : List (WithJobs S D F W)) (only : Option ℕ) (w : World) (h : HoldWorld eyes only es w) where
+  -- of the engine at a place, if it is looked at
+  held_at : (p : ℕ) (e : WithJobs S D F W) → slice_get es p ≡ Some e → (part : Part) × (IsSeen only p → HoldsPart (works_of eyes e) (told_of eyes e) e.engine.part.limits (partition_at p (length w.parts)) w part)
   held_at p e is =
-      let at = at_each-at (λ p e part. IsSeen None p → HoldsPart (works_of eyes e) (told_of eyes e) e.engine.part.limits (partition_at p (length w.parts)) w part) p es w.parts e h.each is in
-      (at.0, at.2 tt)
+      let at = at_each-at (λ p e part. IsSeen only p → HoldsPart (works_of eyes e) (told_of eyes e) e.engine.part.limits (partition_at p (length w.parts)) w part) p es w.parts e h.each is in
+      (at.0, at.2)
 
-  pub window_undamaged : (content : F → Option (List ℕ)) (share : ℕ → Keyed Request) (fault : EnginesFault) → IfOf fault (λ p why. (p < length es) × AtEach (λ q old new. StopsFirst (told_part eyes) content p why q (share q) old.engine new.engine) 0 es es') → IsNoDamage (window_fault_of fault)
+  pub window_undamaged : (content : F → Option (List ℕ)) (share : ℕ → Keyed Request) (fault : EnginesFault) → IfOf fault (λ p why. (p < length es) × AtEach (λ q old new. StopsFirst (told_part eyes) content p why q (share q) old.engine new.engine) 0 es es') → IsNoDamage only (window_fault_of fault)
   window_undamaged content share engines.Memory is = tt
   window_undamaged content share (engines.Of p why) is =
       let e = there es p is.0 in
       let part = held_at p e.0 e.1 in
       let stops = at_each-at (λ q old new. StopsFirst (told_part eyes) content p why q (share q) old.engine new.engine) p es es' e.0 is.1 e.1 in
-      undamaged_in_window p why ((stops.2.1 refl).undamaged part.1.view part.1.is part.1.tells.components)
+      undamaged_in_window only p why (λ seen. let held = part.1 seen in (stops.2.1 refl).undamaged held.view held.is held.tells.components)
 
   pub call_undamaged : (Done : WithJobs S D F W → WithJobs S D F W → Type 0) (Stopped : EngineFault → WithJobs S D F W → WithJobs S D F W → Type 0) (fault : EnginesFault)
-      → ((why : EngineFault) (old new : WithJobs S D F W) → Stopped why old new → HasFailedMoving eyes why old new) → IfOf fault (λ p why. (p < length es) × AtEach (StopsAt p Done (Stopped why)) 0 es es') → IsNoDamage (fault_of_engines fault)
+      → ((why : EngineFault) (old new : WithJobs S D F W) → Stopped why old new → HasFailedMoving eyes why old new) → IfOf fault (λ p why. (p < length es) × AtEach (StopsAt p Done (Stopped why)) 0 es es') → IsNoDamage only (fault_of_engines fault)
   call_undamaged Done Stopped engines.Memory fails is = tt
   call_undamaged Done Stopped (engines.Of p why) fails is =
       let e = there es p is.0 in
       let part = held_at p e.0 e.1 in
       let stops = at_each-at (StopsAt p Done (Stopped why)) p es es' e.0 is.1 e.1 in
-      undamaged_at p why ((fails why e.0 stops.0 (stops.2.1 refl)).undamaged part.1.view part.1.is part.1.tells part.1.jobs)
+      undamaged_at only p why (λ seen. let held = part.1 seen in (fails why e.0 stops.0 (stops.2.1 refl)).undamaged held.view held.is held.tells held.jobs)

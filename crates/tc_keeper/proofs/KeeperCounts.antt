@@ -1,22 +1,29 @@
 -- What counts over a call of what keeps the documents, with the readers' watches that are out.
-use Rattle.std.proofs.Common.{◌≡◌, ◌∙◌, ◌<◌, ℕ, zero, suc, List, [], ◌∷◌, All, length, arith, refl, ap, sym, subst, inl, inr}
-use Rattle.std.specs.Prelude.{HoldsAt, IfSome, IsSome, None, Option, option_map, slice_get, Some, unwrap_or, zip}
+use Rattle.std.proofs.Common.{◌≡◌, ◌∙◌, ◌<◌, ℕ, zero, suc, false, List, [], ◌∷◌, All, length, arith, refl, ap, sym, subst, inl, inr}
+use Rattle.std.specs.Prelude.{HoldsAt, IfSome, None, Option, option_map, slice_get, Some, unwrap_or, zip}
 use Rattle.std.specs.List.{AllZip}
+use mathlib.Core.List.{IsPrefix}
 use Rattle.std.proofs.lemmas.List.Elements.{All-head, All-tail}
 use Rattle.tc_bytes.specs.Counts.{Rose}
 use Rattle.tc_keeper.specs.Places.{AtEach, IsAt}
 use Rattle.tc_keeper.specs.WithJobs.{with_reader, WithJobs}
 use Rattle.tc_keeper.proofs.PlaceLaws.{at_each-length}
+use Rattle.tc_query.specs.Faults.{IsHarmIn}
 use Rattle.tc_shown.specs.Scans.{GoesOn, IfDamaged as IfScanDamaged, IfDisk as IfScanDisk, IsFaultOf}
 use Rattle.tc_shown.specs.declared.fault.ScanFault.{ScanFault}
 use Rattle.tc_shown.specs.declared.fault.ScanFault.TheVariants as scan
 use Rattle.tc_shown.specs.declared.scan.Pass.{Pass}
 use Rattle.tc_shown.specs.declared.scan.Scan.{Scan as Begun}
+use Rattle.tc_shown.specs.Shown.{ShownState}
 use Rattle.tc_store.specs.Counted.{Counts}
+use Rattle.tc_store.specs.declared.damage.Damage.{Damage}
+use Rattle.tc_store.specs.declared.damage.Damage.TheVariants.{Bytes}
+use Rattle.tc_store.specs.declared.file_name.FileName.{FileName}
 use Rattle.tc_store.specs.KitFaults.{KitFaults}
 use Rattle.tc_keeper.specs.Calls.{faults_at}
 use Rattle.tc_keeper.specs.Faults.{DiskFaults, HasDiskCause, HaveRisen, HaveStayed, IfDamaged, IfDisk, NoneFell, OneRose}
-use Rattle.tc_keeper.specs.Keeping.{counted_out, faults_kept, watch_out, AreReadersOut, KeeperState}
+use Rattle.tc_view.specs.Places.{kept_by}
+use Rattle.tc_keeper.specs.Keeping.{counted_out, faults_kept, watch_out, AreReadersOut, IsShownAt, KeeperState}
 use Rattle.tc_keeper.specs.Partitions.{fault_of_scan}
 use Rattle.tc_keeper.proofs.ShownWorlds.{zip_length}
 use Rattle.tc_keeper.proofs.Turns.{at_zip}
@@ -39,10 +46,20 @@ disk_of (scan.Disk p) P is = is
 disk_of (scan.Damaged p file place bytes) P is = tt
 disk_of scan.Memory P is = tt
 
-damaged_of : (fault : ScanFault) (P : ℕ → Type 0) → IfScanDamaged fault (λ p file place bytes. P p) → IfDamaged (fault_of_scan fault) P
+damaged_of : (fault : ScanFault) (P : ℕ → Damage → Type 0) → IfScanDamaged fault (λ p file place bytes. P p (Bytes file place bytes)) → IfDamaged (fault_of_scan fault) P
 damaged_of (scan.Disk p) P is = tt
 damaged_of (scan.Damaged p file place bytes) P is = is
 damaged_of scan.Memory P is = tt
+
+pub damaged_so : (f : RunFault) (P Q : ℕ → Damage → Type 0) → ((p : ℕ) (damage : Damage) → P p damage → Q p damage) → IfDamaged f P → IfDamaged f Q
+damaged_so Usage P Q so is = tt
+damaged_so Read P Q so is = tt
+damaged_so (Write n) P Q so is = tt
+damaged_so Spent P Q so is = tt
+damaged_so (Disk p) P Q so is = tt
+damaged_so (Damaged p damage) P Q so is = so p damage is
+damaged_so Memory P Q so is = tt
+damaged_so (Layout p found found_of asked_of) P Q so is = tt
 
 unspent : (fault : ScanFault) (P : Type 0) → fault_of_scan fault ≡ Spent → P
 unspent (scan.Disk p) P is = absurd (cc)
@@ -58,11 +75,6 @@ module _ {W : Type 0} (counts : W → Counts) where
   stayed_out (Some w) None (Some f') stayed = absurd stayed
   stayed_out (Some w) (Some f) None stayed = absurd stayed
   stayed_out (Some w) (Some f) (Some f') stayed = record { main = stayed.main; flusher = stayed.flusher; merger = stayed.merger; reader = omega arith }
-
-  some_out : (w : Option W) (o : Option KitFaults) → IsSome o → IsSome (counted_out counts w o)
-  some_out None o some = some
-  some_out (Some w) None some = absurd (cc)
-  some_out (Some w) (Some f) some = refl
 
   -- the engines raise no count of a reader
   rose_out : (w : W) (f f' : KitFaults) → f'.reader ≡ f.reader → f.reader ≡ 0 → OneRose f f' → OneRose (record f { reader = (counts w).faults }) (record f' { reader = (counts w).faults })
@@ -104,23 +116,14 @@ module _ {W : Type 0} (counts : W → Counts) where
     disk_beside out Memory es es' away same rose = tt
     disk_beside out (Layout p found found_of asked_of) es es' away same rose = tt
 
-    damaged_beside : (out : Option (Begun F W)) (f : RunFault) (es : List (WithJobs S D F W)) → IfDamaged f (λ p. IsSome (CountedAt es p)) → IfDamaged f (λ p. IsSome (counted_out counts (watch_out out p) (CountedAt es p)))
-    damaged_beside out Usage es there = tt
-    damaged_beside out Read es there = tt
-    damaged_beside out (Write n) es there = tt
-    damaged_beside out Spent es there = tt
-    damaged_beside out (Disk p) es there = tt
-    damaged_beside out (Damaged p damage) es there = some_out (watch_out out p) (CountedAt es p) there
-    damaged_beside out Memory es there = tt
-    damaged_beside out (Layout p found found_of asked_of) es there = tt
-
-    pub caused_beside : (k k' : KeeperState S D F W) (last last' : Type 0) (fault : Option RunFault) → k'.scan ≡ k.scan → AreReadersOut k.scan k.engines → SameReaders k.engines k'.engines → (last → last') → HasDiskCause (CountedAt k.engines) (CountedAt k'.engines) last fault
-        → HasDiskCause (faults_kept counts k) (faults_kept counts k') last' fault
+    pub caused_beside : (k k' : KeeperState S D F W) (why why' : RunFault → Type 0) (fault : Option RunFault) → k'.scan ≡ k.scan → AreReadersOut k.scan k.engines
+        → SameReaders k.engines k'.engines → (why Spent → why' Spent) → ((p : ℕ) (damage : Damage) → why (Damaged p damage) → why' (Damaged p damage))
+        → HasDiskCause (CountedAt k.engines) (CountedAt k'.engines) why fault → HasDiskCause (faults_kept counts k) (faults_kept counts k') why' fault
     unfolding faults_kept
-    caused_beside k k' last last' fault out away same spent cause = record {
+    caused_beside k k' why why' fault out away same spent met cause = record {
       stayed = λ p. subst (λ o. HaveStayed (counted_out counts (watch_out k.scan p) (CountedAt k.engines p)) (counted_out counts (watch_out o p) (CountedAt k'.engines p))) (sym out) (stayed_out (watch_out k.scan p) (CountedAt k.engines p) (CountedAt k'.engines p) (cause.stayed p));
       disk = if_so fault (λ f rose. subst (λ o. IfDisk f (λ p. HaveRisen (counted_out counts (watch_out k.scan p) (CountedAt k.engines p)) (counted_out counts (watch_out o p) (CountedAt k'.engines p)))) (sym out) (disk_beside k.scan f k.engines k'.engines away same rose)) cause.disk;
-      damaged = if_so fault (λ f there. damaged_beside k'.scan f k'.engines there) cause.damaged;
+      damaged = if_so fault (λ f told. damaged_so f (λ p damage. why (Damaged p damage)) (λ p damage. why' (Damaged p damage)) met told) cause.damaged;
       spent = if_so fault (λ f is of_spent. spent (is of_spent)) cause.spent;
     }
 
@@ -141,10 +144,10 @@ module _ {S D F W : Type 0} (counts : W → Counts) where
       (record { main = omega arith; flusher = omega arith; merger = omega arith; reader = omega (arith, reader) })
   lent_stays n (suc q) (e ∷ es) (e' ∷ es') (pass ∷ passes) lent out = lent_stays (suc n) q es es' passes lent.1 out.1
 
-  pub caused_lending : (k k' : KeeperState S D F W) (begun : Begun F W) (last : Type 0) → k.scan ≡ None → k'.scan ≡ Some begun → AtEach (λ p e pass. Some pass.watch ≡ e.engine.part.reader) 0 k.engines begun.passes.items
-      → AtEach (λ p old new. new ≡ with_reader None old) 0 k.engines k'.engines → HasDiskCause (faults_kept counts k) (faults_kept counts k') last None
+  pub caused_lending : (k k' : KeeperState S D F W) (begun : Begun F W) (why : RunFault → Type 0) → k.scan ≡ None → k'.scan ≡ Some begun → AtEach (λ p e pass. Some pass.watch ≡ e.engine.part.reader) 0 k.engines begun.passes.items
+      → AtEach (λ p old new. new ≡ with_reader None old) 0 k.engines k'.engines → HasDiskCause (faults_kept counts k) (faults_kept counts k') why None
   unfolding faults_kept
-  caused_lending k k' begun last none some lent out = record {
+  caused_lending k k' begun why none some lent out = record {
     stayed = λ q.
         subst (λ o. HaveStayed (counted_out counts (watch_out o q) (option_map (λ e. faults_at counts e) (slice_get k.engines q))) (counted_out counts (watch_out k'.scan q) (option_map (λ e. faults_at counts e) (slice_get k'.engines q)))) (sym none)
         (subst (λ o. HaveStayed (option_map (λ e. faults_at counts e) (slice_get k.engines q)) (counted_out counts (watch_out o q) (option_map (λ e. faults_at counts e) (slice_get k'.engines q)))) (sym some)
@@ -181,12 +184,7 @@ module _ {S D F W : Type 0} (counts : W → Counts) where
       subst (λ (x : WithJobs S D F W). OneRose (record (faults_at counts e) { reader = (counts pass.watch).faults }) (faults_at counts x)) (sym home.0) (inr (inr (inr (rose (pass, pass')))))
   back_rises n (suc q) (e ∷ es) (e' ∷ es') (pass ∷ old) (pass' ∷ new) went home many below rose = back_rises (suc n) q es es' old new went.1 home.1 (omega (arith, many)) (omega (arith, below)) rose
 
-  there_at : (q : ℕ) (es : List (WithJobs S D F W)) → q < length es → IsSome (option_map (λ e. faults_at counts e) (slice_get es q))
-  there_at q [] below = absurd (omega (arith, below))
-  there_at zero (e ∷ es) below = refl
-  there_at (suc q) (e ∷ es) below = there_at q es (omega (arith, below))
-
-  module _ (k : KeeperState S D F W) (es' : List (WithJobs S D F W)) (begun : Begun F W) (passes : List (Pass F W)) (last : Type 0) (some : k.scan ≡ Some begun) (went : AllZip (GoesOn counts) begun.passes.items passes)
+  module _ (k : KeeperState S D F W) (es' : List (WithJobs S D F W)) (begun : Begun F W) (passes : List (Pass F W)) (why : RunFault → Type 0) (some : k.scan ≡ Some begun) (went : AllZip (GoesOn counts) begun.passes.items passes)
       (came : AtEach (λ p old new. IsAt p passes (λ pass. new ≡ with_reader (Some pass.watch) old)) 0 k.engines es') (many : length passes ≡ length k.engines) where
     home : AtEach (λ p (both : WithJobs S D F W × Pass F W) e'. e' ≡ with_reader (Some both.1.watch) both.0) 0 (zip k.engines passes) es'
     home = at_zip (λ (old : WithJobs S D F W) (pass : Pass F W) new. new ≡ with_reader (Some pass.watch) old) k.engines passes es'
@@ -205,7 +203,7 @@ module _ {S D F W : Type 0} (counts : W → Counts) where
     one_risen q below rose = subst (λ o. HaveRisen (counted_out counts (watch_out o q) (option_map (λ e. faults_at counts e) (slice_get k.engines q))) (Now q)) (sym some) (back_rises 0 q k.engines es' begun.passes.items passes went home many below rose)
 
     -- a scan that was waited for, and found what was asked for
-    pub caused_back : HasDiskCause (faults_kept counts k) Now last None
+    pub caused_back : HasDiskCause (faults_kept counts k) Now why None
     caused_back = record { stayed = all_stayed; disk = tt; damaged = tt; spent = tt }
 
     risen_by : (content : F → Option (List ℕ)) (fault : ScanFault) → IsFaultOf content counts begun.passes.items passes fault → IfScanDisk fault (λ p. HaveRisen (faults_kept counts k p) (Now p))
@@ -213,19 +211,27 @@ module _ {S D F W : Type 0} (counts : W → Counts) where
     risen_by content (scan.Damaged p file place bytes) is = tt
     risen_by content scan.Memory is = tt
 
-    there_by : (content : F → Option (List ℕ)) (fault : ScanFault) → IsFaultOf content counts begun.passes.items passes fault → IfScanDamaged fault (λ p file place bytes. IsSome (Now p))
-    there_by content (scan.Disk p) is = tt
-    there_by content (scan.Damaged p file place bytes) is = there_at p es' (omega (arith, is.damaged_within, many, as_many))
-      where
-        as_many : length es' ≡ length k.engines
-        as_many = sym (at_each-length (λ p both e'. e' ≡ with_reader (Some both.1.watch) both.0) 0 (zip k.engines passes) es' home) ∙ zip_length k.engines passes (sym many)
-    there_by content scan.Memory is = tt
-
     -- or failed
-    pub caused_by_scan : (content : F → Option (List ℕ)) (fault : ScanFault) → IsFaultOf content counts begun.passes.items passes fault → HasDiskCause (faults_kept counts k) Now last (Some (fault_of_scan fault))
-    caused_by_scan content fault is = record {
+    pub caused_by_scan : (content : F → Option (List ℕ)) (fault : ScanFault) → IsFaultOf content counts begun.passes.items passes fault → IfScanDamaged fault (λ p file place bytes. why (Damaged p (Bytes file place bytes))) → HasDiskCause (faults_kept counts k) Now why (Some (fault_of_scan fault))
+    caused_by_scan content fault is met = record {
       stayed = all_stayed;
       disk = disk_of fault (λ p. HaveRisen (faults_kept counts k p) (Now p)) (risen_by content fault is);
-      damaged = damaged_of fault (λ p. IsSome (Now p)) (there_by content fault is);
-      spent = unspent fault last;
+      damaged = damaged_of fault (λ p damage. why (Damaged p damage)) met;
+      spent = unspent fault (why Spent);
     }
+
+-- ---- what a scan met
+
+-- what a lens keeps that is shown is damage of what is shown
+harm_at : {F W : Type 0} (content : F → Option (List ℕ)) (shown : List (ShownState F W)) (passes : List (Pass F W)) (n p : ℕ) (file : FileName) (place : ℕ) (bytes : List ℕ) → p < length passes → AtEach (λ q s pass. (s.failed ≡ false) × IsPrefix (kept_by pass.lens).history s.history) n shown passes
+    → HoldsAt (λ (pass : Pass F W). IsHarmIn content (kept_by pass.lens).list file place bytes) passes p → IsShownAt content shown p (Bytes file place bytes)
+harm_at content shown [] n p file place bytes below covers harm = absurd (omega (arith, below))
+harm_at content [] (pass ∷ passes) n p file place bytes below covers harm = absurd covers
+harm_at content (s ∷ shown) (pass ∷ passes) n zero file place bytes below covers harm = record { lens = pass.lens; sound = covers.0.0; kept = covers.0.1; harm = harm pass }
+harm_at content (s ∷ shown) (pass ∷ passes) n (suc p) file place bytes below covers harm = harm_at content shown passes (suc n) p file place bytes (omega (arith, below)) covers.1 harm
+
+pub scan_met : {F W : Type 0} (content : F → Option (List ℕ)) (counts : W → Counts) (shown : List (ShownState F W)) (old passes : List (Pass F W)) (fault : ScanFault) → AtEach (λ q s pass. (s.failed ≡ false) × IsPrefix (kept_by pass.lens).history s.history) 0 shown passes
+    → IsFaultOf content counts old passes fault → IfScanDamaged fault (λ p file place bytes. IsShownAt content shown p (Bytes file place bytes))
+scan_met content counts shown old passes (scan.Disk p) covers is = tt
+scan_met content counts shown old passes (scan.Damaged p file place bytes) covers is = harm_at content shown passes 0 p file place bytes is.damaged_within covers is.harmed
+scan_met content counts shown old passes scan.Memory covers is = tt

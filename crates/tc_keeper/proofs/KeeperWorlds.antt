@@ -257,7 +257,7 @@ module _ {S D F W : Type 0} (eyes : Eyes S D F W) where
 
   module _ (views : LawOfViews W eyes.content) (counted : LawOfCounts W eyes.content) (grows : LawOfGrowth F W) where
     -- the passes that came back, beside what is shown and what the world has
-    pub scanned : (k : KeeperState S D F W) (begun : Begun F W) (passes : List (Pass F W)) (w : World) (s : Scan) → IsOutFor None (Some begun) (Some s) → AtEach (λ p s pass. s.failed ≡ false → Reads s.book pass.lens) 0 k.shown begun.passes.items
+    scanned : (k : KeeperState S D F W) (begun : Begun F W) (passes : List (Pass F W)) (w : World) (s : Scan) → IsOutFor None (Some begun) (Some s) → AtEach (λ p s pass. s.failed ≡ false → Reads s.book pass.lens) 0 k.shown begun.passes.items
         → AllZip (GoesOn eyes.counts) begun.passes.items passes → AtEach (λ p s pass. (s.failed ≡ false) × IsPrefix (kept_by pass.lens).history s.history) 0 k.shown passes → ShowWorld eyes.content None k w
         → Collects eyes.content eyes.counts (length w.parts) 0 passes w.parts s.seen
     scanned k begun passes w s out reads went covered shows =

@@ -40,5 +40,6 @@ pub mod KeeperWorlds
 pub mod KeeperCounts
 pub mod KeeperCalls
 pub mod ReadersApart
+mod MetDamage
 pub mod BegunKeepers
 pub mod ScanEnds

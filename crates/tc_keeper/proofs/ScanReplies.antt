@@ -1,13 +1,15 @@
 -- A scan that is started is out for the world, and what it found is what a collect may be replied.
 use Rattle.std.proofs.Common.{◌≡◌, ◌∙◌, ◌≤◌, ◌<◌, ℕ, zero, suc, false, List, [], ◌∷◌, All, map, length, length-append, take, arith, refl, ap, sym, subst}
-use Rattle.std.specs.Prelude.{◌%◌, None, Option, Some, zip}
+use Rattle.std.specs.Prelude.{◌%◌, HoldsAt, None, Option, Some, zip}
 use Rattle.std.specs.List.{AllZip}
 use Rattle.std.proofs.lemmas.List.{length-map}
 use Rattle.std.proofs.lemmas.List.Elements.{All-head, All-tail, All-nil, All-cons}
 use mathlib.Core.List.{IsPrefix}
+use Rattle.tc_component.specs.Loaded.{IsLoadedOf}
 use Rattle.tc_keeper.specs.Places.{AtEach, EachFrom}
 use Rattle.tc_keeper.specs.Standing.{IsSeen}
 use Rattle.tc_keeper.proofs.PlaceLaws.{at_each-join, at_each-reads}
+use Rattle.tc_lsm_model.specs.Contents as documents
 use Rattle.tc_machine.specs.Logs.{kept_write}
 use Rattle.tc_model.specs.Keyed.{with_value, without_key}
 use Rattle.tc_model.proofs.KeyedOrder.{All-with_value, All-without_key}
@@ -127,3 +129,24 @@ module _ {F W : Type 0} (content : F → Option (List ℕ)) (counts : W → Coun
         own = (pairs_own count p (kept_by pass'.lens).upto part own.0, more.own);
         many = ap suc more.many;
       }
+
+  -- what a lens keeps of a partition that is looked at are files that tell what they hold
+  pub unharmed_at : LawOfViews W content → (only : Option ℕ) (n p : ℕ) (shown : List (ShownState F W)) (old new : List (Pass F W)) (parts : List Part) (seen : List ℕ)
+      → AtEach (λ q s pass. s.failed ≡ false → Reads s.book pass.lens) n shown old → AllZip (GoesOn counts) old new → AtEach (λ q s pass. (s.failed ≡ false) × IsPrefix (kept_by pass.lens).history s.history) n shown new
+      → AtEach (λ q s part. IsSeen only q → ShowsPart content s part) n shown parts → AtEach (λ q pass least. IsSeen only q → (0 < length (kept_by pass.lens).history) × (least ≤ (kept_by pass.lens).upto)) n old seen
+      → p < length new → IsSeen only (n + p) → HoldsAt (λ (pass : Pass F W). (cs : List documents.Content) → AllZip (IsLoadedOf content) (kept_by pass.lens).list cs → ⊥) new p → ⊥
+  unharmed_at views only n p shown old [] parts seen reads went covered shows begun below is harm = omega (arith, below)
+  unharmed_at views only n p shown [] (pass' ∷ new) parts seen reads went covered shows begun below is harm = went
+  unharmed_at views only n p [] (pass ∷ old) (pass' ∷ new) parts seen reads went covered shows begun below is harm = reads
+  unharmed_at views only n p (s ∷ shown) (pass ∷ old) (pass' ∷ new) [] seen reads went covered shows begun below is harm = shows
+  unharmed_at views only n p (s ∷ shown) (pass ∷ old) (pass' ∷ new) (part ∷ parts) [] reads went covered shows begun below is harm = begun
+  unharmed_at views only n zero (s ∷ shown) (pass ∷ old) (pass' ∷ new) (part ∷ parts) (least ∷ seen) reads went covered shows begun below is harm =
+      let same : n + zero ≡ n = omega arith in
+      let here = subst (λ m. IsSeen only m) same is in
+      let k = key_of s.book in
+      let now = went.0.lens k (reads.0 covered.0.0) in
+      let holds = views part.opened part.writes s.history k (kept_by pass'.lens) (shows.0 here).shows now.kept covered.0.1 (one_longer pass pass' went.0.seen (begun.0 here).0) in
+      harm pass' holds.list.contents holds.list.loaded
+  unharmed_at views only n (suc p) (s ∷ shown) (pass ∷ old) (pass' ∷ new) (part ∷ parts) (least ∷ seen) reads went covered shows begun below is harm =
+      let same : n + suc p ≡ suc n + p = omega arith in
+      unharmed_at views only (suc n) p shown old new parts seen reads.1 went.1 covered.1 shows.1 begun.1 (omega (arith, below)) (subst (λ m. IsSeen only m) same is) harm

@@ -6,18 +6,21 @@ use Rattle.tc_store.specs.Counted.{Counts}
 use Rattle.tc_store.specs.Disk.{Disk}
 use Rattle.tc_store.specs.DiskFile.{DiskFile}
 use Rattle.tc_store.specs.KitFaults.{KitFaults}
+use Rattle.tc_store.specs.declared.damage.Damage.{Damage}
 use Rattle.tc_list.specs.declared.policy.Policy.{Policy}
 use Rattle.tc_log.specs.Layout.{empty_size}
 use Rattle.tc_part.specs.FilesOut.{LogIsOut}
 use Rattle.tc_part_model.specs.PartState.{PartState, Told, told}
 use Rattle.tc_run_model.specs.World.{World}
+use Rattle.tc_work.specs.Damage.{IsPartDamage}
 use Rattle.tc_work.specs.JobsOut.{watched_part}
 use Rattle.tc_work.specs.Moving.{Eyes}
 use Rattle.tc_work.specs.Settling.{PicksNone}
-use Rattle.tc_keeper.specs.Faults.{DiskFaults, faults_of_part}
+use Rattle.tc_keeper.specs.Faults.{DiskFaults, faults_of_part, IsSaid}
 use Rattle.tc_keeper.specs.Partitions.{StandAt}
-use Rattle.tc_keeper.specs.Places.{SomeFrom}
+use Rattle.tc_keeper.specs.Places.{IsAt, SomeFrom}
 use Rattle.tc_keeper.specs.Sight.{Sight}
+use Rattle.tc_keeper.specs.declared.fault.RunFault.{RunFault}
 use Rattle.tc_keeper.specs.declared.partitions.Partitions.{Partitions}
 
 -- ---- one engine
@@ -73,6 +76,14 @@ settings_of p = map (λ e. (e.engine.part.memory, e.engine.policy)) p.engines
 unfoldable pub faults_of : {S W D F P : Type 0} → (W → Counts) → Partitions S P W D F → DiskFaults
 faults_of counts p = λ q. option_map (faults_at counts) (slice_get p.engines q)
 
+-- this is damage of the one of this number, as they are left
+unfoldable pub IsMet : {S W D F P : Type 0} → (D → List DiskFile) → (F → Option (List ℕ)) → Partitions S P W D F → ℕ → Damage → Type 0
+IsMet moments content p q damage = IsAt q p.engines (λ e. IsPartDamage content moments e.engine.part damage)
+
 -- one of them has no generation left
 unfoldable pub IsSpent : {S W D F P : Type 0} → (S → List Disk) → (D → List DiskFile) → (F → Option (List ℕ)) → Partitions S P W D F → Type 0
 IsSpent disks moments content p = SomeFrom (λ q e. IsSpentAt (told disks moments content e.engine.part) e.engine.part) 0 p.engines
+
+-- what a fault says of them
+abbrev pub IsTrueOf : {S W D F P : Type 0} → (S → List Disk) → (D → List DiskFile) → (F → Option (List ℕ)) → Partitions S P W D F → RunFault → Type 0
+IsTrueOf disks moments content p = IsSaid (IsSpent disks moments content p) (IsMet moments content p)

@@ -1,13 +1,15 @@
 -- Faults of a run: what kind each is, and what counts where it comes.
-use Rattle.std.specs.Prelude.{◌≡◌, ◌⊎◌, ◌≤◌, ℕ, Option, Some, None, Result, Ok, Err, option_map, unwrap_or, IfSome, IsSome}
+use Rattle.std.specs.Prelude.{◌≡◌, ◌⊎◌, ◌≤◌, ℕ, Option, Some, None, Result, Ok, Err, option_map, unwrap_or, IfSome}
 use Rattle.tc_bytes.specs.Counts.{Rose}
 use Rattle.tc_part_model.specs.PartState.{PartState}
 use Rattle.tc_store.specs.Counted.{Counts}
 use Rattle.tc_store.specs.KitFaults.{KitFaults}
+use Rattle.tc_store.specs.declared.damage.Damage.{Damage}
 use Rattle.tc_store.specs.declared.kit.Kit.{Kit}
 use Rattle.tc_work.specs.declared.fault.EngineFault.{EngineFault}
 use Rattle.tc_work.specs.declared.fault.EngineFault.TheVariants as engine
 use Rattle.tc_run_model.specs.Course.{Ending, finished, input_failed, input_spent, output_failed, stopped}
+use Rattle.tc_keeper.specs.Standing.{IsSeen}
 use Rattle.tc_keeper.specs.declared.fault.RunFault.{RunFault}
 use Rattle.tc_keeper.specs.declared.fault.RunFault.TheVariants.{Usage, Read, Write, Spent, Disk, Damaged, Memory, Layout}
 
@@ -96,27 +98,38 @@ IfDisk (Damaged p damage) P = Unit {0}
 IfDisk Memory P = Unit {0}
 IfDisk (Layout p found found_of asked_of) P = Unit {0}
 
--- if it is damage, this holds of its partition
-abbrev pub IfDamaged : RunFault → (ℕ → Type 0) → Type 0
+-- if it is damage, this holds of it by the partition
+abbrev pub IfDamaged : RunFault → (ℕ → Damage → Type 0) → Type 0
 IfDamaged Usage P = Unit {0}
 IfDamaged Read P = Unit {0}
 IfDamaged (Write n) P = Unit {0}
 IfDamaged Spent P = Unit {0}
 IfDamaged (Disk p) P = Unit {0}
-IfDamaged (Damaged p damage) P = P p
+IfDamaged (Damaged p damage) P = P p damage
 IfDamaged Memory P = Unit {0}
 IfDamaged (Layout p found found_of asked_of) P = Unit {0}
 
--- it is no damage
-abbrev pub IsNoDamage : RunFault → Type 0
-IsNoDamage Usage = Unit {0}
-IsNoDamage Read = Unit {0}
-IsNoDamage (Write n) = Unit {0}
-IsNoDamage Spent = Unit {0}
-IsNoDamage (Disk p) = Unit {0}
-IsNoDamage (Damaged p damage) = ⊥
-IsNoDamage Memory = Unit {0}
-IsNoDamage (Layout p found found_of asked_of) = Unit {0}
+-- it is no damage of a partition that is looked at
+abbrev pub IsNoDamage : Option ℕ → RunFault → Type 0
+IsNoDamage only Usage = Unit {0}
+IsNoDamage only Read = Unit {0}
+IsNoDamage only (Write n) = Unit {0}
+IsNoDamage only Spent = Unit {0}
+IsNoDamage only (Disk p) = Unit {0}
+IsNoDamage only (Damaged p damage) = IsSeen only p → ⊥
+IsNoDamage only Memory = Unit {0}
+IsNoDamage only (Layout p found found_of asked_of) = Unit {0}
+
+-- What it says of what keeps the documents: that a generation is spent, or what is damaged.
+abbrev pub IsSaid : Type 0 → (ℕ → Damage → Type 0) → RunFault → Type 0
+IsSaid spent met Usage = Unit {0}
+IsSaid spent met Read = Unit {0}
+IsSaid spent met (Write n) = Unit {0}
+IsSaid spent met Spent = spent
+IsSaid spent met (Disk p) = Unit {0}
+IsSaid spent met (Damaged p damage) = met p damage
+IsSaid spent met Memory = Unit {0}
+IsSaid spent met (Layout p found found_of asked_of) = Unit {0}
 
 -- it is one of a store that is open
 abbrev pub IsOfStore : RunFault → Type 0
@@ -204,28 +217,28 @@ abbrev pub HaveRisen : Option KitFaults → Option KitFaults → Type 0
 HaveRisen (Some before) (Some now) = OneRose before now
 HaveRisen _ _ = ⊥
 
--- What counts over a call of the store: no count falls, and one of the partition rose where the disk is at fault. What is damaged
--- is of a partition that there is.
-pub record HasDiskCause (old new : DiskFaults) (last : Type 0) (fault : Option RunFault) : Type 0 where
+-- What counts over a call of the store: no count falls, and one of the partition rose where the disk is at fault. That a generation is
+-- spent, and what is damaged, is told as it is.
+pub record HasDiskCause (old new : DiskFaults) (why : RunFault → Type 0) (fault : Option RunFault) : Type 0 where
   pub stayed : (p : ℕ) → HaveStayed (old p) (new p)
   pub disk : IfSome fault (λ f. IfDisk f (λ p. HaveRisen (old p) (new p)))
-  pub damaged : IfSome fault (λ f. IfDamaged f (λ p. IsSome (new p)))
-  pub spent : IfSome fault (λ f. f ≡ Spent → last)
+  pub damaged : IfSome fault (λ f. IfDamaged f (λ p damage. why (Damaged p damage)))
+  pub spent : IfSome fault (λ f. f ≡ Spent → why Spent)
 
 -- The same over a window: the count of the sink's faults does not fall, and rises where a write failed.
-pub record HasCauses (before now : ℕ) (old new : DiskFaults) (spent : Type 0) (fault : Option RunFault) : Type 0 where
+pub record HasCauses (before now : ℕ) (old new : DiskFaults) (why : RunFault → Type 0) (fault : Option RunFault) : Type 0 where
   pub kept : before ≤ now
   pub failed : IfSome fault (λ f. IsWrite f → Rose before now)
   pub kind : IfSome fault IsOfWindow
-  pub disks : HasDiskCause old new spent fault
+  pub disks : HasDiskCause old new why fault
 
--- The same over a run, whose fault may also be one of the source.
-pub record HasRunCauses (reads reads' before now : ℕ) (old new : DiskFaults) (fault : Option RunFault) : Type 0 where
+-- The same over a run, whose fault may also be one of the source, which may spend numbers too.
+pub record HasRunCauses (reads reads' before now : ℕ) (old new : DiskFaults) (why : RunFault → Type 0) (fault : Option RunFault) : Type 0 where
   pub heard : reads ≤ reads'
   pub read : IfSome fault (λ f. f ≡ Read → Rose reads reads')
   pub kept : before ≤ now
   pub failed : IfSome fault (λ f. IsWrite f → Rose before now)
   pub stayed : (p : ℕ) → HaveStayed (old p) (new p)
   pub disk : IfSome fault (λ f. IfDisk f (λ p. HaveRisen (old p) (new p)))
-  pub damaged : IfSome fault (λ f. IfDamaged f (λ p. IsSome (new p)))
+  pub damaged : IfSome fault (λ f. IfDamaged f (λ p damage. why (Damaged p damage)))
   pub kind : IfSome fault IsOfRun

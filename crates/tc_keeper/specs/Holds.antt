@@ -55,10 +55,10 @@ WritesPart (failed_writing n) known rs taken taken' =
     (replies : List Reply) × MayReply rs (whole_of known) replies × (n < length (each_line replies)) × Appends taken taken' (take n (each_line replies))
 WritesPart gave_up known rs taken taken' = Keeps taken taken'
 
--- Requests failed by this fault, which is no damage where it is known what all partitions store.
+-- Requests failed by this fault, which is no damage of a partition of which it is known what is stored.
 pub record HaveFailed {K : Type 0} (holds : K → Sight → Type 0) (keeps : K → Option ℕ → World → World → Type 0) (fault : RunFault) (known : Sight) (rs : List Request) (taken taken' : Option (List ℕ)) (k : K) : Type 0 where
   pub stop : Stop
   pub by : stop_of fault ≡ Some stop
-  pub sound : IfSome (whole_of known) (λ w. IsNoDamage fault)
+  pub sound : IfKnown known (λ only w. IsNoDamage only fault)
   pub wrote : WritesPart stop known rs taken taken'
   pub left : IsLeft holds keeps k known (worlds_at stop rs)

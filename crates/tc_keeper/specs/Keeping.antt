@@ -1,13 +1,16 @@
 -- What keeps the documents of a run: the engines, what is shown of each partition to scans beside them, and the scan that is out.
 -- What its calls ask for, and how they leave it.
-use Rattle.std.specs.Prelude.{◌≡◌, ◌<◌, ◌≤◌, ◌%◌, ℕ, true, false, List, [], All, length, map, None, Option, Some, is_some, option_map, slice_get}
+use Rattle.std.specs.Prelude.{◌≡◌, ◌⊎◌, ◌<◌, ◌≤◌, ◌%◌, ℕ, true, false, List, [], All, length, map, None, Option, Some, is_some, option_map, slice_get}
+use mathlib.Core.List.{IsPrefix}
 use Rattle.tc_command.specs.Commands.{ask_of}
-use Rattle.tc_keeper.specs.Places.{AtEach, EachFrom, SomeFrom}
+use Rattle.tc_keeper.specs.Places.{AtEach, EachFrom, IsAt, SomeFrom}
 use Rattle.tc_keeper.specs.Standing.{IsSeen, KeepWorlds}
 use Rattle.tc_keeper.specs.WithJobs.{WithJobs}
 use Rattle.tc_list.specs.declared.policy.Policy.{Policy}
+use Rattle.tc_part.specs.Harms.{IsBytesHarm}
 use Rattle.tc_part_model.specs.PartState.{told}
 use Rattle.tc_plain_model.specs.Writes.{after_writes}
+use Rattle.tc_query.specs.Faults.{IsHarmIn}
 use Rattle.tc_run_model.specs.World.{Part, Scan, World}
 use Rattle.tc_shown.specs.Shown.{Reads, ShownState}
 use Rattle.tc_shown.specs.declared.scan.Scan.{Scan as Begun}
@@ -15,14 +18,19 @@ use Rattle.tc_store.specs.Counted.{Counts}
 use Rattle.tc_store.specs.Disk.{Disk}
 use Rattle.tc_store.specs.DiskFile.{DiskFile}
 use Rattle.tc_store.specs.KitFaults.{KitFaults}
+use Rattle.tc_store.specs.declared.damage.Damage.{Damage}
 use Rattle.tc_view.specs.Holding.{HoldsWrites}
 use Rattle.tc_view.specs.Places.{kept_by}
+use Rattle.tc_view.specs.declared.lens.Lens.{Lens}
+use Rattle.tc_work.specs.Damage.{IsPartDamage}
 use Rattle.tc_work.specs.Moving.{Eyes}
-use Rattle.tc_keeper.specs.Calls.{faults_at, AllMayAnswer, IsSettled, IsSpentAt}
-use Rattle.tc_keeper.specs.Faults.{DiskFaults}
+use Rattle.tc_keeper.specs.Calls.{faults_at, AllMayAnswer, IsMet, IsSettled, IsSpent, IsSpentAt}
+use Rattle.tc_keeper.specs.Faults.{DiskFaults, IsSaid}
 use Rattle.tc_keeper.specs.Partitions.{StandAt}
 use Rattle.tc_keeper.specs.OwnKeys.{AreOwn}
 use Rattle.tc_keeper.specs.Sight.{IfKnown, Sight}
+use Rattle.tc_keeper.specs.declared.fault.RunFault.{RunFault}
+use Rattle.tc_keeper.specs.declared.partitions.Partitions.{Partitions}
 
 -- the engines in ascending number of the partition, what is shown of each, and the scan that is out, as it began
 pub record KeeperState (S D F W : Type 0) : Type 0 where
@@ -66,6 +74,34 @@ settings_kept k = map (λ e. (e.engine.part.memory, e.engine.policy)) k.engines
 -- one of the engines has no generation left
 unfoldable pub HasSpent : {S W D F : Type 0} → (S → List Disk) → (D → List DiskFile) → (F → Option (List ℕ)) → KeeperState S D F W → Type 0
 HasSpent disks moments content k = SomeFrom (λ q e. IsSpentAt (told disks moments content e.engine.part) e.engine.part) 0 k.engines
+
+-- ---- what is damaged
+
+-- A lens of what is shown of a partition keeps a component in whose place of a record something else stands.
+pub record IsShownDamage {F W : Type 0} (content : F → Option (List ℕ)) (s : ShownState F W) (damage : Damage) : Type 0 where
+  pub lens : Lens F W
+  pub sound : s.failed ≡ false
+  pub kept : IsPrefix (kept_by lens).history s.history
+  pub harm : IsBytesHarm damage (IsHarmIn content (kept_by lens).list)
+
+abbrev pub IsShownAt : {F W : Type 0} → (F → Option (List ℕ)) → List (ShownState F W) → ℕ → Damage → Type 0
+IsShownAt content shown q damage = IsAt q shown (λ s. IsShownDamage content s damage)
+
+-- this is damage of the engine of this number as it is left, or was met by a scan of what is shown of it
+unfoldable pub HasMet : {S W D F : Type 0} → (D → List DiskFile) → (F → Option (List ℕ)) → KeeperState S D F W → ℕ → Damage → Type 0
+HasMet moments content k q damage = IsAt q k.engines (λ e. IsPartDamage content moments e.engine.part damage) ⊎ IsShownAt content k.shown q damage
+
+-- what a fault says of it
+abbrev pub IsTrueHere : {S W D F : Type 0} → (S → List Disk) → (D → List DiskFile) → (F → Option (List ℕ)) → KeeperState S D F W → RunFault → Type 0
+IsTrueHere disks moments content k = IsSaid (HasSpent disks moments content k) (HasMet moments content k)
+
+-- once it has ended: this is damage of the one of this number, or was met by a scan of what was shown of it
+abbrev pub IsMetBehind : {S W D F P : Type 0} → (D → List DiskFile) → (F → Option (List ℕ)) → Partitions S P W D F → ℕ → Damage → Type 0
+IsMetBehind {W = W} {F = F} moments content p q damage = (q < length p.engines) × (IsMet moments content p q damage ⊎ ((s : ShownState F W) × IsShownDamage content s damage))
+
+-- and what a fault says of the partitions that are left
+abbrev pub IsTrueBehind : {S W D F P : Type 0} → (S → List Disk) → (D → List DiskFile) → (F → Option (List ℕ)) → Partitions S P W D F → RunFault → Type 0
+IsTrueBehind disks moments content p = IsSaid (IsSpent disks moments content p) (IsMetBehind moments content p)
 
 -- ---- what was counted
 

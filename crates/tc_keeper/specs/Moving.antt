@@ -9,8 +9,9 @@ use Rattle.tc_part.specs.FilesOut.{LogIsOut, OnlyDevicesOut, TellsLogs}
 use Rattle.tc_part_model.specs.Meaning.{IsPart}
 use Rattle.tc_part_model.specs.PartView.{PartView, store_of}
 use Rattle.tc_store.specs.declared.file_name.FileName.TheVariants.{Component as component_name}
+use Rattle.tc_work.specs.Damage.{AreIndexed, IsPartDamage}
 use Rattle.tc_work.specs.Failing.{HasFailedKeeping}
-use Rattle.tc_work.specs.Faults.{AreOfComponents, AreOfFiles, IfDamaged}
+use Rattle.tc_work.specs.Faults.{AreOfFiles, IfDamaged}
 use Rattle.tc_work.specs.JobsOut.{watched_part}
 use Rattle.tc_work.specs.Moving.{Eyes}
 use Rattle.tc_work.specs.Settling.{HasOnlyMoved, IsDue, IsListedBy, IsWatchedIn, MaySettle, MomentsStayOver, NextLogs, PicksNone, StoresStill, TellsFiles}
@@ -28,11 +29,12 @@ pub record HasStayed {S D F W : Type 0} (eyes : Eyes S D F W) (old new : WithJob
   pub log_out : LogIsOut (told_of eyes old) → LogIsOut (told_of eyes new)
   pub untold : eyes.disks old.engine.part.store ≡ [] → eyes.disks new.engine.part.store ≡ []
 
--- Whether it ended well or not, nothing changed but where the documents are, and which jobs are out. No file is out but those of
--- its devices, at each moment a stop leaves what was stored, and a watch counted a fault where the call failed for one. That of a
--- job that is out counts as it went out with it.
+-- Whether it ended well or not, nothing changed but where the documents are, and which jobs are out: what is listed is still what its
+-- files are judged to be. No file is out but those of its devices, at each moment a stop leaves what was stored, and a watch counted
+-- a fault where the call failed for one. That of a job that is out counts as it went out with it.
 pub record HasMoved {S D F W : Type 0} (eyes : Eyes S D F W) (Failed : Type 0) (old new : WithJobs S D F W) : Type 0 where
   pub moved : HasOnlyMoved old.engine.part new.engine.part
+  pub indexed : AreIndexed eyes.content old.engine.part.list → AreIndexed eyes.content new.engine.part.list
   pub policy : new.engine.policy ≡ old.engine.policy
   pub devices : TellsLogs (told_of eyes old) → OnlyDevicesOut (told_of eyes old) → OnlyDevicesOut (told_of eyes new)
   pub at_moments : MomentsStayOver (works_of eyes old) (told_of eyes old) (eyes.history new.engine.part.log.device) (eyes.disks new.engine.part.store)
@@ -64,12 +66,12 @@ pub record IsFlushed {S D F W : Type 0} (eyes : Eyes S D F W) (size : D → ℕ)
   -- where no table was sealed, and there was room for one more component, nothing is merged meanwhile
   pub flushed : empty_size < size old.engine.part.log.device → old.engine.part.sealed ≡ None → length old.engine.part.list < 8 → (c : ComponentState F) × (new.engine.part.list ≡ old.engine.part.list ++ c ∷ [])
 
--- It failed by this fault, and its files keep what was stored. Damage is of a component, or components do not go together, and
--- where the files are told there is none.
+-- It failed by this fault, and its files keep what was stored. Damage is that of its part as it is left, and where the files are told
+-- there is none.
 pub record HasFailedMoving {S D F W : Type 0} (eyes : Eyes S D F W) (why : EngineFault) (old new : WithJobs S D F W) : Type 0 where
   pub failed : new.engine.part.failed ≡ true
   pub kept : (p : PartView) → IsPart (told_of eyes old) p → TellsFiles (told_of eyes old) → works_of eyes old p → HasFailedKeeping (works_of eyes new) (told_of eyes new) p.part (store_of p) None
-  pub damaged : IfDamaged why AreOfComponents
+  pub damaged : IfDamaged why (IsPartDamage eyes.content eyes.history new.engine.part)
   pub undamaged : (p : PartView) → IsPart (told_of eyes old) p → TellsFiles (told_of eyes old) → works_of eyes old p → IfDamaged why (λ damage. ⊥)
   pub spent : why ≡ Spent → old.engine.part.generation + 1 ≡ 2 ^ 63
   pub unmoved : why ≡ Spent → new.engine.part.generation ≡ old.engine.part.generation

@@ -54,7 +54,7 @@ where
     ghost invariant = { λ k. IsManned (record { engines = k.partitions.engines; shown = k.shown.items; scan = k.scan }) };
 }
 
-#[tactic(auto, unfolding(crate::specs::Keeping::MayServe, crate::specs::Keeping::ServesAt, crate::specs::Keeping::FailsAt, crate::specs::Keeping::AllRest, crate::specs::Keeping::faults_kept, crate::specs::Keeping::HasSpent))]
+#[tactic(auto, unfolding(crate::specs::Keeping::MayServe, crate::specs::Keeping::ServesAt, crate::specs::Keeping::FailsAt, crate::specs::Keeping::AllRest, crate::specs::Keeping::faults_kept, crate::specs::Keeping::HasSpent, crate::specs::Keeping::HasMet))]
 impl<S: Store, P: Pace> Keeper<S, P> {
     ghost use Rattle.std.specs.Prelude.{◌≡◌, ◌∷◌, [], ℕ, true, length, map, All, None, Some, Ok, Option, IfErr, IfOk, IfSome, is_some, OnErr, OnOk};
     ghost use Rattle.serde_json.specs.View.{view};
@@ -66,10 +66,11 @@ impl<S: Store, P: Pace> Keeper<S, P> {
     ghost use Rattle.tc_route.specs.Meaning.{rendered_in};
     ghost use Rattle.tc_run_model.specs.Known.{MayRender, MayReply};
     ghost use Rattle.tc_run_model.specs.World.{World, after_all};
+    ghost use Rattle.tc_store.specs.declared.damage.Damage.{Damage};
     ghost use Rattle.tc_work.specs.Moving.{eyes};
     ghost use Rattle.tc_keeper.specs.Calls.{faults_of, settings_of, HoldsAt, IsSpent, KeepsAt, MayAsk, Rests};
     ghost use Rattle.tc_keeper.specs.Faults.{fault_in, HasDiskCause, IsNoDamage, IsOfJob, IsOfStore};
-    ghost use Rattle.tc_keeper.specs.Keeping.{faults_kept, settings_kept, AllRest, AreUnwritten, FailsAt, HasSpent, MayServe, ServesAt};
+    ghost use Rattle.tc_keeper.specs.Keeping.{faults_kept, settings_kept, AllRest, AreUnwritten, FailsAt, HasMet, HasSpent, IsMetBehind, IsTrueHere, MayServe, ServesAt};
     ghost use Rattle.tc_keeper.specs.Sight.{sees, sight_after, whole_of, IsFirst, Sight};
     ghost use Rattle.tc_keeper.specs.Together.{requests_routed, AreTogether};
 
@@ -119,10 +120,10 @@ impl<S: Store, P: Pace> Keeper<S, P> {
         ensures replies { (known : Sight) → ServesAt (eyes S.history S.Device.history S.Frozen.content S.Device.name S.Frozen.size S.Watch.counts) self.old known → IfOk result (λ replies. MayRender (requests_routed commands.items) (whole_of known) (values_in (rendered_in replies))) }
         ensures held { (known : Sight) → ServesAt (eyes S.history S.Device.history S.Frozen.content S.Device.name S.Frozen.size S.Watch.counts) self.old known → OnOk result (ServesAt (eyes S.history S.Device.history S.Frozen.content S.Device.name S.Frozen.size S.Watch.counts) self.new (sight_after (requests_routed commands.items) known)) }
         ensures failed { (only : Option ℕ) (w : World) → ServesAt (eyes S.history S.Device.history S.Frozen.content S.Device.name S.Frozen.size S.Watch.counts) self.old (sees only w) → OnErr result (FailsAt (eyes S.history S.Device.history S.Frozen.content S.Device.name S.Frozen.size S.Watch.counts) self.new only w (after_all (requests_routed commands.items) w)) }
-        ensures undamaged { (w : World) → ServesAt (eyes S.history S.Device.history S.Frozen.content S.Device.name S.Frozen.size S.Watch.counts) self.old (sees None w) → IfErr result IsNoDamage }
+        ensures undamaged { (only : Option ℕ) (w : World) → ServesAt (eyes S.history S.Device.history S.Frozen.content S.Device.name S.Frozen.size S.Watch.counts) self.old (sees only w) → IfErr result (IsNoDamage only) }
         ensures kinds { IfErr result IsOfStore }
         ensures settings { settings_kept self.new ≡ settings_kept self.old }
-        ensures cause { HasDiskCause (faults_kept (λ w. S.Watch.counts w) self.old) (faults_kept (λ w. S.Watch.counts w) self.new) (HasSpent S.history S.Device.history S.Frozen.content self.new) (fault_in result) }
+        ensures cause { HasDiskCause (faults_kept (λ w. S.Watch.counts w) self.old) (faults_kept (λ w. S.Watch.counts w) self.new) (IsTrueHere S.history S.Device.history S.Frozen.content self.new) (fault_in result) }
     {
         parts_are_shown::<S::Frozen>();
         let mut frames = Vec::new(alloc);
@@ -144,10 +145,10 @@ impl<S: Store, P: Pace> Keeper<S, P> {
         ensures rests { OnOk result (AllRest (λ d. S.Device.size d) self.new) }
         ensures held { (known : Sight) → ServesAt (eyes S.history S.Device.history S.Frozen.content S.Device.name S.Frozen.size S.Watch.counts) self.old known → OnOk result (ServesAt (eyes S.history S.Device.history S.Frozen.content S.Device.name S.Frozen.size S.Watch.counts) self.new known) }
         ensures failed { (only : Option ℕ) (w : World) → ServesAt (eyes S.history S.Device.history S.Frozen.content S.Device.name S.Frozen.size S.Watch.counts) self.old (sees only w) → OnErr result (FailsAt (eyes S.history S.Device.history S.Frozen.content S.Device.name S.Frozen.size S.Watch.counts) self.new only w (w)) }
-        ensures undamaged { (w : World) → ServesAt (eyes S.history S.Device.history S.Frozen.content S.Device.name S.Frozen.size S.Watch.counts) self.old (sees None w) → IfErr result IsNoDamage }
+        ensures undamaged { (only : Option ℕ) (w : World) → ServesAt (eyes S.history S.Device.history S.Frozen.content S.Device.name S.Frozen.size S.Watch.counts) self.old (sees only w) → IfErr result (IsNoDamage only) }
         ensures kinds { IfErr result IsOfStore }
         ensures settings { settings_kept self.new ≡ settings_kept self.old }
-        ensures cause { HasDiskCause (faults_kept (λ w. S.Watch.counts w) self.old) (faults_kept (λ w. S.Watch.counts w) self.new) (HasSpent S.history S.Device.history S.Frozen.content self.new) (fault_in result) }
+        ensures cause { HasDiskCause (faults_kept (λ w. S.Watch.counts w) self.old) (faults_kept (λ w. S.Watch.counts w) self.new) (IsTrueHere S.history S.Device.history S.Frozen.content self.new) (fault_in result) }
     {
         parts_are_shown::<S::Frozen>();
         self.partitions.settle(rt, alloc)?;
@@ -167,10 +168,10 @@ impl<S: Store, P: Pace> Keeper<S, P> {
         ensures works { OnOk result (MayServe S.history S.Device.history S.Frozen.content self.new) }
         ensures held { (known : Sight) → ServesAt (eyes S.history S.Device.history S.Frozen.content S.Device.name S.Frozen.size S.Watch.counts) self.old known → OnOk result (ServesAt (eyes S.history S.Device.history S.Frozen.content S.Device.name S.Frozen.size S.Watch.counts) self.new (sight_after (flush ∷ []) known)) }
         ensures failed { (only : Option ℕ) (w : World) → ServesAt (eyes S.history S.Device.history S.Frozen.content S.Device.name S.Frozen.size S.Watch.counts) self.old (sees only w) → OnErr result (FailsAt (eyes S.history S.Device.history S.Frozen.content S.Device.name S.Frozen.size S.Watch.counts) self.new only w (w)) }
-        ensures undamaged { (w : World) → ServesAt (eyes S.history S.Device.history S.Frozen.content S.Device.name S.Frozen.size S.Watch.counts) self.old (sees None w) → IfErr result IsNoDamage }
+        ensures undamaged { (only : Option ℕ) (w : World) → ServesAt (eyes S.history S.Device.history S.Frozen.content S.Device.name S.Frozen.size S.Watch.counts) self.old (sees only w) → IfErr result (IsNoDamage only) }
         ensures kinds { IfErr result IsOfStore }
         ensures settings { settings_kept self.new ≡ settings_kept self.old }
-        ensures cause { HasDiskCause (faults_kept (λ w. S.Watch.counts w) self.old) (faults_kept (λ w. S.Watch.counts w) self.new) (HasSpent S.history S.Device.history S.Frozen.content self.new) (fault_in result) }
+        ensures cause { HasDiskCause (faults_kept (λ w. S.Watch.counts w) self.old) (faults_kept (λ w. S.Watch.counts w) self.new) (IsTrueHere S.history S.Device.history S.Frozen.content self.new) (fault_in result) }
     {
         parts_are_shown::<S::Frozen>();
         self.partitions.flush(rt, alloc)?;
@@ -191,10 +192,10 @@ impl<S: Store, P: Pace> Keeper<S, P> {
         ensures shown { (known : Sight) → ServesAt (eyes S.history S.Device.history S.Frozen.content S.Device.name S.Frozen.size S.Watch.counts) self.old known → IfOk result (λ shown. MayReply (schema ∷ []) (whole_of known) (schemas (map view shown) ∷ [])) }
         ensures held { (known : Sight) → ServesAt (eyes S.history S.Device.history S.Frozen.content S.Device.name S.Frozen.size S.Watch.counts) self.old known → OnOk result (ServesAt (eyes S.history S.Device.history S.Frozen.content S.Device.name S.Frozen.size S.Watch.counts) self.new (sight_after (schema ∷ []) known)) }
         ensures failed { (only : Option ℕ) (w : World) → ServesAt (eyes S.history S.Device.history S.Frozen.content S.Device.name S.Frozen.size S.Watch.counts) self.old (sees only w) → OnErr result (FailsAt (eyes S.history S.Device.history S.Frozen.content S.Device.name S.Frozen.size S.Watch.counts) self.new only w (w)) }
-        ensures undamaged { (w : World) → ServesAt (eyes S.history S.Device.history S.Frozen.content S.Device.name S.Frozen.size S.Watch.counts) self.old (sees None w) → IfErr result IsNoDamage }
+        ensures undamaged { (only : Option ℕ) (w : World) → ServesAt (eyes S.history S.Device.history S.Frozen.content S.Device.name S.Frozen.size S.Watch.counts) self.old (sees only w) → IfErr result (IsNoDamage only) }
         ensures kinds { IfErr result IsOfStore }
         ensures settings { settings_kept self.new ≡ settings_kept self.old }
-        ensures cause { HasDiskCause (faults_kept (λ w. S.Watch.counts w) self.old) (faults_kept (λ w. S.Watch.counts w) self.new) (HasSpent S.history S.Device.history S.Frozen.content self.new) (fault_in result) }
+        ensures cause { HasDiskCause (faults_kept (λ w. S.Watch.counts w) self.old) (faults_kept (λ w. S.Watch.counts w) self.new) (IsTrueHere S.history S.Device.history S.Frozen.content self.new) (fault_in result) }
     {
         parts_are_shown::<S::Frozen>();
         let schemas = self.partitions.schemas(rt, alloc)?;
@@ -220,10 +221,10 @@ impl<S: Store, P: Pace> Keeper<S, P> {
         ensures reply { (known : Sight) → ServesAt (eyes S.history S.Device.history S.Frozen.content S.Device.name S.Frozen.size S.Watch.counts) self.old known → IfOk result (λ reply. MayRender (scan (ask_of ask) ∷ []) (whole_of known) (rendered_of reply ∷ [])) }
         ensures held { (known : Sight) → ServesAt (eyes S.history S.Device.history S.Frozen.content S.Device.name S.Frozen.size S.Watch.counts) self.old known → OnOk result (ServesAt (eyes S.history S.Device.history S.Frozen.content S.Device.name S.Frozen.size S.Watch.counts) self.new (sight_after (scan (ask_of ask) ∷ []) known)) }
         ensures failed { (only : Option ℕ) (w : World) → ServesAt (eyes S.history S.Device.history S.Frozen.content S.Device.name S.Frozen.size S.Watch.counts) self.old (sees only w) → OnErr result (FailsAt (eyes S.history S.Device.history S.Frozen.content S.Device.name S.Frozen.size S.Watch.counts) self.new only w (w)) }
-        ensures undamaged { (w : World) → ServesAt (eyes S.history S.Device.history S.Frozen.content S.Device.name S.Frozen.size S.Watch.counts) self.old (sees None w) → IfErr result IsNoDamage }
+        ensures undamaged { (only : Option ℕ) (w : World) → ServesAt (eyes S.history S.Device.history S.Frozen.content S.Device.name S.Frozen.size S.Watch.counts) self.old (sees only w) → IfErr result (IsNoDamage only) }
         ensures kinds { IfErr result IsOfStore }
         ensures settings { settings_kept self.new ≡ settings_kept self.old }
-        ensures cause { HasDiskCause (faults_kept (λ w. S.Watch.counts w) self.old) (faults_kept (λ w. S.Watch.counts w) self.new) (HasSpent S.history S.Device.history S.Frozen.content self.new) (fault_in result) }
+        ensures cause { HasDiskCause (faults_kept (λ w. S.Watch.counts w) self.old) (faults_kept (λ w. S.Watch.counts w) self.new) (IsTrueHere S.history S.Device.history S.Frozen.content self.new) (fault_in result) }
     {
         if self.scan.is_some() {
             return Ok(Reply::Refused(Refusal::Busy));
@@ -251,10 +252,10 @@ impl<S: Store, P: Pace> Keeper<S, P> {
         ensures reply { (known : Sight) → ServesAt (eyes S.history S.Device.history S.Frozen.content S.Device.name S.Frozen.size S.Watch.counts) self.old known → IfOk result (λ reply. MayRender (collect ∷ []) (whole_of known) (rendered_of reply ∷ [])) }
         ensures held { (known : Sight) → ServesAt (eyes S.history S.Device.history S.Frozen.content S.Device.name S.Frozen.size S.Watch.counts) self.old known → OnOk result (ServesAt (eyes S.history S.Device.history S.Frozen.content S.Device.name S.Frozen.size S.Watch.counts) self.new (sight_after (collect ∷ []) known)) }
         ensures failed { (only : Option ℕ) (w : World) → ServesAt (eyes S.history S.Device.history S.Frozen.content S.Device.name S.Frozen.size S.Watch.counts) self.old (sees only w) → OnErr result (FailsAt (eyes S.history S.Device.history S.Frozen.content S.Device.name S.Frozen.size S.Watch.counts) self.new only w (w)) }
-        ensures undamaged { (w : World) → ServesAt (eyes S.history S.Device.history S.Frozen.content S.Device.name S.Frozen.size S.Watch.counts) self.old (sees None w) → IfErr result IsNoDamage }
+        ensures undamaged { (only : Option ℕ) (w : World) → ServesAt (eyes S.history S.Device.history S.Frozen.content S.Device.name S.Frozen.size S.Watch.counts) self.old (sees only w) → IfErr result (IsNoDamage only) }
         ensures kinds { IfErr result IsOfStore }
         ensures settings { settings_kept self.new ≡ settings_kept self.old }
-        ensures cause { HasDiskCause (faults_kept (λ w. S.Watch.counts w) self.old) (faults_kept (λ w. S.Watch.counts w) self.new) (HasSpent S.history S.Device.history S.Frozen.content self.new) (fault_in result) }
+        ensures cause { HasDiskCause (faults_kept (λ w. S.Watch.counts w) self.old) (faults_kept (λ w. S.Watch.counts w) self.new) (IsTrueHere S.history S.Device.history S.Frozen.content self.new) (fault_in result) }
     {
         parts_are_shown::<S::Frozen>();
         histories_hold_writes::<S::Frozen>();
@@ -281,11 +282,12 @@ impl<S: Store, P: Pace> Keeper<S, P> {
         ensures failed { (only : Option ℕ) (w v : World) → FailsAt (eyes S.history S.Device.history S.Frozen.content S.Device.name S.Frozen.size S.Watch.counts) self only w v → KeepsAt (eyes S.history S.Device.history S.Frozen.content S.Device.name S.Frozen.size S.Watch.counts) result.0 only w v }
         ensures rests { AllRest (λ d. S.Device.size d) self → Rests (λ d. S.Device.size d) result.0 }
         ensures spent { HasSpent S.history S.Device.history S.Frozen.content self → IsSpent S.history S.Device.history S.Frozen.content result.0 }
+        ensures met { (q : ℕ) (damage : Damage) → HasMet S.Device.history S.Frozen.content self q damage → IsMetBehind S.Device.history S.Frozen.content result.0 q damage }
         ensures settings { settings_of result.0 ≡ settings_kept self }
         ensures readers { All (λ e. is_some e.engine.part.reader ≡ true) result.0.engines }
-        ensures undamaged { (w : World) → ServesAt (eyes S.history S.Device.history S.Frozen.content S.Device.name S.Frozen.size S.Watch.counts) self (sees None w) → IfSome result.1 IsNoDamage }
+        ensures undamaged { (only : Option ℕ) (w : World) → ServesAt (eyes S.history S.Device.history S.Frozen.content S.Device.name S.Frozen.size S.Watch.counts) self (sees only w) → IfSome result.1 (IsNoDamage only) }
         ensures kind { IfSome result.1 IsOfJob }
-        ensures cause { HasDiskCause (faults_kept (λ w. S.Watch.counts w) self) (faults_of (λ w. S.Watch.counts w) result.0) (IsSpent S.history S.Device.history S.Frozen.content result.0) result.1 }
+        ensures cause { HasDiskCause (faults_kept (λ w. S.Watch.counts w) self) (faults_of (λ w. S.Watch.counts w) result.0) (IsTrueHere S.history S.Device.history S.Frozen.content self) result.1 }
     {
         parts_are_shown::<S::Frozen>();
         histories_hold_writes::<S::Frozen>();

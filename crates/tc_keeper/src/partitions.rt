@@ -35,7 +35,7 @@ pub struct Partitions<S: Store, P: Pace> {
     pub(crate) engines: Engines<S, P>,
 }
 
-#[tactic(auto, unfolding(crate::specs::Calls::MayAsk, crate::specs::Calls::HoldsAt, crate::specs::Calls::KeepsAt, crate::specs::Calls::Rests, crate::specs::Calls::faults_of, crate::specs::Calls::IsSpent))]
+#[tactic(auto, unfolding(crate::specs::Calls::MayAsk, crate::specs::Calls::HoldsAt, crate::specs::Calls::KeepsAt, crate::specs::Calls::Rests, crate::specs::Calls::faults_of, crate::specs::Calls::IsSpent, crate::specs::Calls::IsMet))]
 impl<S: Store, P: Pace> Partitions<S, P> {
     ghost use Rattle.std.specs.Prelude.{ℕ, None, Ok, Option, OnErr, OnOk};
     ghost use Rattle.tc_request_model.specs.Reply.{schemas};
@@ -43,7 +43,7 @@ impl<S: Store, P: Pace> Partitions<S, P> {
     ghost use Rattle.tc_route.specs.Meaning.{rendered_in};
     ghost use Rattle.tc_run_model.specs.Known.{MayRender, MayReply};
     ghost use Rattle.tc_run_model.specs.World.{World, after_all};
-    ghost use Rattle.tc_keeper.specs.Calls.{faults_of, settings_of, HoldsAt, IsSpent, KeepsAt, MayAsk, Rests};
+    ghost use Rattle.tc_keeper.specs.Calls.{faults_of, settings_of, HoldsAt, IsTrueOf, KeepsAt, MayAsk, Rests};
     ghost use Rattle.tc_keeper.specs.Faults.{fault_in, HasDiskCause, IsNoDamage, IsOfStore};
     ghost use Rattle.tc_keeper.specs.Sight.{sees, sight_after, whole_of, Sight};
     ghost use Rattle.tc_keeper.specs.Together.{requests_routed, AreTogether};
@@ -77,12 +77,12 @@ impl<S: Store, P: Pace> Partitions<S, P> {
         ensures replies { (known : Sight) → HoldsAt (eyes S.history S.Device.history S.Frozen.content S.Device.name S.Frozen.size S.Watch.counts) self.old known → IfOk result (λ replies. MayRender (requests_routed commands.items) (whole_of known) (values_in (rendered_in replies))) }
         ensures held { (known : Sight) → HoldsAt (eyes S.history S.Device.history S.Frozen.content S.Device.name S.Frozen.size S.Watch.counts) self.old known → OnOk result (HoldsAt (eyes S.history S.Device.history S.Frozen.content S.Device.name S.Frozen.size S.Watch.counts) self.new (sight_after (requests_routed commands.items) known)) }
         ensures failed { (only : Option ℕ) (w : World) → HoldsAt (eyes S.history S.Device.history S.Frozen.content S.Device.name S.Frozen.size S.Watch.counts) self.old (sees only w) → OnErr result (KeepsAt (eyes S.history S.Device.history S.Frozen.content S.Device.name S.Frozen.size S.Watch.counts) self.new only w (after_all (requests_routed commands.items) w)) }
-        ensures undamaged { (w : World) → HoldsAt (eyes S.history S.Device.history S.Frozen.content S.Device.name S.Frozen.size S.Watch.counts) self.old (sees None w) → IfErr result IsNoDamage }
+        ensures undamaged { (only : Option ℕ) (w : World) → HoldsAt (eyes S.history S.Device.history S.Frozen.content S.Device.name S.Frozen.size S.Watch.counts) self.old (sees only w) → IfErr result (IsNoDamage only) }
         ensures kinds { IfErr result IsOfStore }
         ensures frames { OnOk result (AtEach (λ p run frame. HasFramed (eyes S.history S.Device.history S.Frozen.content S.Device.name S.Frozen.size S.Watch.counts) (share (length self.old.engines) p (map routed_of commands.items)) run.0.engine run.1.engine frame.items) 0 (zip self.old.engines self.new.engines) frames.new.items) }
         ensures readers { AtEach (λ p old new. new.engine.part.reader ≡ old.engine.part.reader) 0 self.old.engines self.new.engines }
         ensures settings { settings_of self.new ≡ settings_of self.old }
-        ensures cause { HasDiskCause (faults_of (λ w. S.Watch.counts w) self.old) (faults_of (λ w. S.Watch.counts w) self.new) (IsSpent S.history S.Device.history S.Frozen.content self.new) (fault_in result) }
+        ensures cause { HasDiskCause (faults_of (λ w. S.Watch.counts w) self.old) (faults_of (λ w. S.Watch.counts w) self.new) (IsTrueOf S.history S.Device.history S.Frozen.content self.new) (fault_in result) }
     {
         record_within_weight();
         parts_hold_devices();
@@ -105,11 +105,11 @@ impl<S: Store, P: Pace> Partitions<S, P> {
         ensures rests { OnOk result (Rests (λ d. S.Device.size d) self.new) }
         ensures held { (known : Sight) → HoldsAt (eyes S.history S.Device.history S.Frozen.content S.Device.name S.Frozen.size S.Watch.counts) self.old known → OnOk result (HoldsAt (eyes S.history S.Device.history S.Frozen.content S.Device.name S.Frozen.size S.Watch.counts) self.new known) }
         ensures failed { (only : Option ℕ) (w : World) → HoldsAt (eyes S.history S.Device.history S.Frozen.content S.Device.name S.Frozen.size S.Watch.counts) self.old (sees only w) → OnErr result (KeepsAt (eyes S.history S.Device.history S.Frozen.content S.Device.name S.Frozen.size S.Watch.counts) self.new only w w) }
-        ensures undamaged { (w : World) → HoldsAt (eyes S.history S.Device.history S.Frozen.content S.Device.name S.Frozen.size S.Watch.counts) self.old (sees None w) → IfErr result IsNoDamage }
+        ensures undamaged { (only : Option ℕ) (w : World) → HoldsAt (eyes S.history S.Device.history S.Frozen.content S.Device.name S.Frozen.size S.Watch.counts) self.old (sees only w) → IfErr result (IsNoDamage only) }
         ensures kinds { IfErr result IsOfStore }
         ensures readers { AtEach (λ p old new. new.engine.part.reader ≡ old.engine.part.reader) 0 self.old.engines self.new.engines }
         ensures settings { settings_of self.new ≡ settings_of self.old }
-        ensures cause { HasDiskCause (faults_of (λ w. S.Watch.counts w) self.old) (faults_of (λ w. S.Watch.counts w) self.new) (IsSpent S.history S.Device.history S.Frozen.content self.new) (fault_in result) }
+        ensures cause { HasDiskCause (faults_of (λ w. S.Watch.counts w) self.old) (faults_of (λ w. S.Watch.counts w) self.new) (IsTrueOf S.history S.Device.history S.Frozen.content self.new) (fault_in result) }
     {
         parts_hold_devices();
         match self.engines.settle(rt, alloc) {
@@ -132,11 +132,11 @@ impl<S: Store, P: Pace> Partitions<S, P> {
         ensures none_sealed { OnOk result (All (λ e. e.engine.part.sealed ≡ None) self.new.engines) }
         ensures held { (known : Sight) → HoldsAt (eyes S.history S.Device.history S.Frozen.content S.Device.name S.Frozen.size S.Watch.counts) self.old known → OnOk result (HoldsAt (eyes S.history S.Device.history S.Frozen.content S.Device.name S.Frozen.size S.Watch.counts) self.new (sight_after (flush ∷ []) known)) }
         ensures failed { (only : Option ℕ) (w : World) → HoldsAt (eyes S.history S.Device.history S.Frozen.content S.Device.name S.Frozen.size S.Watch.counts) self.old (sees only w) → OnErr result (KeepsAt (eyes S.history S.Device.history S.Frozen.content S.Device.name S.Frozen.size S.Watch.counts) self.new only w w) }
-        ensures undamaged { (w : World) → HoldsAt (eyes S.history S.Device.history S.Frozen.content S.Device.name S.Frozen.size S.Watch.counts) self.old (sees None w) → IfErr result IsNoDamage }
+        ensures undamaged { (only : Option ℕ) (w : World) → HoldsAt (eyes S.history S.Device.history S.Frozen.content S.Device.name S.Frozen.size S.Watch.counts) self.old (sees only w) → IfErr result (IsNoDamage only) }
         ensures kinds { IfErr result IsOfStore }
         ensures readers { AtEach (λ p old new. new.engine.part.reader ≡ old.engine.part.reader) 0 self.old.engines self.new.engines }
         ensures settings { settings_of self.new ≡ settings_of self.old }
-        ensures cause { HasDiskCause (faults_of (λ w. S.Watch.counts w) self.old) (faults_of (λ w. S.Watch.counts w) self.new) (IsSpent S.history S.Device.history S.Frozen.content self.new) (fault_in result) }
+        ensures cause { HasDiskCause (faults_of (λ w. S.Watch.counts w) self.old) (faults_of (λ w. S.Watch.counts w) self.new) (IsTrueOf S.history S.Device.history S.Frozen.content self.new) (fault_in result) }
     {
         parts_hold_devices();
         match self.engines.force_flush(rt, alloc) {
@@ -158,11 +158,11 @@ impl<S: Store, P: Pace> Partitions<S, P> {
         ensures shown { (known : Sight) → HoldsAt (eyes S.history S.Device.history S.Frozen.content S.Device.name S.Frozen.size S.Watch.counts) self.old known → IfOk result (λ shown. MayReply (schema ∷ []) (whole_of known) (schemas (map view shown) ∷ [])) }
         ensures held { (known : Sight) → HoldsAt (eyes S.history S.Device.history S.Frozen.content S.Device.name S.Frozen.size S.Watch.counts) self.old known → OnOk result (HoldsAt (eyes S.history S.Device.history S.Frozen.content S.Device.name S.Frozen.size S.Watch.counts) self.new (sight_after (schema ∷ []) known)) }
         ensures failed { (only : Option ℕ) (w : World) → HoldsAt (eyes S.history S.Device.history S.Frozen.content S.Device.name S.Frozen.size S.Watch.counts) self.old (sees only w) → OnErr result (KeepsAt (eyes S.history S.Device.history S.Frozen.content S.Device.name S.Frozen.size S.Watch.counts) self.new only w w) }
-        ensures undamaged { (w : World) → HoldsAt (eyes S.history S.Device.history S.Frozen.content S.Device.name S.Frozen.size S.Watch.counts) self.old (sees None w) → IfErr result IsNoDamage }
+        ensures undamaged { (only : Option ℕ) (w : World) → HoldsAt (eyes S.history S.Device.history S.Frozen.content S.Device.name S.Frozen.size S.Watch.counts) self.old (sees only w) → IfErr result (IsNoDamage only) }
         ensures kinds { IfErr result IsOfStore }
         ensures readers { AtEach (λ p old new. new.engine.part.reader ≡ old.engine.part.reader) 0 self.old.engines self.new.engines }
         ensures settings { settings_of self.new ≡ settings_of self.old }
-        ensures cause { HasDiskCause (faults_of (λ w. S.Watch.counts w) self.old) (faults_of (λ w. S.Watch.counts w) self.new) (IsSpent S.history S.Device.history S.Frozen.content self.new) (fault_in result) }
+        ensures cause { HasDiskCause (faults_of (λ w. S.Watch.counts w) self.old) (faults_of (λ w. S.Watch.counts w) self.new) (IsTrueOf S.history S.Device.history S.Frozen.content self.new) (fault_in result) }
     {
         match self.flush(rt, alloc) {
             Ok(()) => schemas_of(alloc, &self.engines),

@@ -23,6 +23,7 @@ returns-in-Ok-clause-flushed g c =
       };
       moved = record {
         moved = all.moved;
+        indexed = all.indexed;
         policy = all.policy;
         devices = all.devices;
         at_moments = all.moments;
@@ -50,6 +51,7 @@ returns-in-Err-clause-stopped g c =
       damaged_alone = left.damaged_alone;
       moved = record {
         moved = all.moved;
+        indexed = all.indexed;
         policy = all.policy;
         devices = all.devices;
         at_moments = all.moments;

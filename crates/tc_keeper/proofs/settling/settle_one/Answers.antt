@@ -13,6 +13,7 @@ returns-in-Ok-clause-settled g c =
       settled = record { emptied = done.emptied; stays = done.stays; short = done.short; none = done.none; outside = done.outside; listed = done.listed; few = done.few; flushing = done.flushing };
       moved = record {
         moved = all.moved;
+        indexed = all.indexed;
         policy = all.policy;
         devices = all.devices;
         at_moments = all.moments;
@@ -39,6 +40,7 @@ returns-in-Err-clause-stopped g c =
       };
       moved = record {
         moved = all.moved;
+        indexed = all.indexed;
         policy = all.policy;
         devices = all.devices;
         at_moments = all.moments;

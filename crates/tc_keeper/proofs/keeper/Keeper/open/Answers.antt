@@ -1,8 +1,8 @@
 use Rattle.std.proofs.Common.{refl}
 use Rattle.std.specs.Prelude.{None}
 use Rattle.tc_work.specs.Moving.{eyes}
-use Rattle.tc_keeper.specs.Calls.{faults_of, HoldsAt, IsSpent, KeepsAt, MayAsk, Rests}
-use Rattle.tc_keeper.specs.Keeping.{faults_kept, AllRest, FailsAt, HasSpent, MayServe, ServesAt}
+use Rattle.tc_keeper.specs.Calls.{faults_of, HoldsAt, IsMet, IsSpent, KeepsAt, MayAsk, Rests}
+use Rattle.tc_keeper.specs.Keeping.{faults_kept, AllRest, FailsAt, HasMet, HasSpent, MayServe, ServesAt}
 use Rattle.tc_keeper.proofs.BegunKeepers.{manned_first}
 use Rattle.tc_keeper.proofs.FirstShown.{serves_first}
 use Rattle.tc_keeper.proofs.keeper.Keeper.open.Goals as goal
@@ -12,7 +12,7 @@ invariant_of-result g c =
     manned_first (record { engines = c.args.partitions.engines; shown = c.show_all.new.shown.items; scan = None }) refl c.in-Ok-show_all.ensures.shown c.requires.begun
 
 pub returns-in-Ok-show_all-clause-held : goal.returns-in-Ok-show_all-clause-held
-unfolding MayServe ServesAt FailsAt AllRest faults_kept HasSpent MayAsk HoldsAt KeepsAt Rests faults_of IsSpent
+unfolding MayServe ServesAt FailsAt AllRest faults_kept HasSpent MayAsk HoldsAt KeepsAt Rests faults_of IsSpent HasMet IsMet
 returns-in-Ok-show_all-clause-held g c =
     λ known first stands. serves_first (eyes g.S.Store.history g.S.Device.Device.history g.S.Frozen.Frozen.content g.S.Device.Device.name g.S.Frozen.Frozen.size
     g.S.Watch.Watch.counts) (record { engines = c.args.partitions.engines; shown = c.show_all.new.shown.items; scan = None }) known

@@ -5,7 +5,7 @@ use Rattle.tc_request_model.specs.Request.{flush}
 use Rattle.tc_work.specs.declared.fault.EngineFault.TheVariants as engine
 use Rattle.std.specs.Prelude.{Err}
 use Rattle.tc_work.specs.Moving.{eyes}
-use Rattle.tc_keeper.specs.Calls.{faults_at, faults_of, HoldsAt, IsSpent, KeepsAt, MayAsk}
+use Rattle.tc_keeper.specs.Calls.{faults_at, faults_of, HoldsAt, IsMet, IsSpent, KeepsAt, MayAsk}
 use Rattle.tc_keeper.specs.Faults.{IsNoDamage}
 use Rattle.tc_keeper.proofs.EnginesAsked.{asked_behind, flushed_all, moved_readers, moved_settings, sound_all, stopped_readers, stopped_settings}
 use Rattle.tc_keeper.proofs.EngineCauses.{call_caused, caused_none, moved_stayed}
@@ -52,7 +52,7 @@ returns-in-Ok-clause-settings g c = moved_settings (eyes g.S.Store.history g.S.D
     g.S.Device.Device.size old new) c.args.self.now.engines c.force_flush.new.self (λ old new d. d.moved) c.in-Ok.ensures.flushed
 
 pub returns-in-Ok-clause-cause : goal.returns-in-Ok-clause-cause
-unfolding faults_of IsSpent
+unfolding faults_of IsSpent IsMet
 returns-in-Ok-clause-cause g c = caused_none (faults_at g.S.Watch.Watch.counts) _ c.args.self.now.engines c.force_flush.new.self
     (moved_stayed (eyes g.S.Store.history g.S.Device.Device.history g.S.Frozen.Frozen.content g.S.Device.Device.name g.S.Frozen.Frozen.size g.S.Watch.Watch.counts)
     (λ old new. Flushes (eyes g.S.Store.history g.S.Device.Device.history g.S.Frozen.Frozen.content g.S.Device.Device.name g.S.Frozen.Frozen.size
@@ -64,9 +64,9 @@ returns-in-Err-clause-failed g c = λ only w h. on_err c.force_flush.result c.in
 
 pub returns-in-Err-clause-undamaged : goal.returns-in-Err-clause-undamaged
 unfolding HoldsAt
-returns-in-Err-clause-undamaged g c = λ w h. subst IsNoDamage (sym c.of_engines.ensures)
+returns-in-Err-clause-undamaged g c = λ only w h. subst (IsNoDamage only) (sym c.of_engines.ensures)
     (call_undamaged (eyes g.S.Store.history g.S.Device.Device.history g.S.Frozen.Frozen.content g.S.Device.Device.name g.S.Frozen.Frozen.size g.S.Watch.Watch.counts)
-    c.args.self.now.engines c.force_flush.new.self w h (λ old new. Flushes
+    c.args.self.now.engines c.force_flush.new.self only w h (λ old new. Flushes
     (eyes g.S.Store.history g.S.Device.Device.history g.S.Frozen.Frozen.content g.S.Device.Device.name g.S.Frozen.Frozen.size g.S.Watch.Watch.counts)
     g.S.Device.Device.size old new) (λ why old new. FailsFlushing
     (eyes g.S.Store.history g.S.Device.Device.history g.S.Frozen.Frozen.content g.S.Device.Device.name g.S.Frozen.Frozen.size g.S.Watch.Watch.counts) why old new)
@@ -82,7 +82,7 @@ returns-in-Err-clause-settings g c =
     (λ same. c.force_flush.ensures.of_engine (c.in-Err.is ∙ ap Err same)) c.in-Err.ensures.stopped
 
 pub returns-in-Err-clause-cause : goal.returns-in-Err-clause-cause
-unfolding MayAsk faults_of IsSpent
+unfolding MayAsk faults_of IsSpent IsMet
 returns-in-Err-clause-cause g c =
     rw c.of_engines.ensures (call_caused (eyes g.S.Store.history g.S.Device.Device.history g.S.Frozen.Frozen.content g.S.Device.Device.name g.S.Frozen.Frozen.size
     g.S.Watch.Watch.counts) (λ old new. Flushes (eyes g.S.Store.history g.S.Device.Device.history g.S.Frozen.Frozen.content g.S.Device.Device.name

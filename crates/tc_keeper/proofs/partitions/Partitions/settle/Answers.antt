@@ -4,7 +4,7 @@ use Rattle.tc_keeper.specs.Moving.{Settles, FailsSettling}
 use Rattle.tc_work.specs.declared.fault.EngineFault.TheVariants as engine
 use Rattle.std.specs.Prelude.{Err}
 use Rattle.tc_work.specs.Moving.{eyes}
-use Rattle.tc_keeper.specs.Calls.{faults_at, faults_of, HoldsAt, IsSpent, KeepsAt, MayAsk, Rests}
+use Rattle.tc_keeper.specs.Calls.{faults_at, faults_of, HoldsAt, IsMet, IsSpent, KeepsAt, MayAsk, Rests}
 use Rattle.tc_keeper.specs.Faults.{IsNoDamage}
 use Rattle.tc_keeper.proofs.EnginesAsked.{asked_behind, moved_readers, moved_settings, settled_all, sound_all, stopped_readers, stopped_settings}
 use Rattle.tc_keeper.proofs.EngineCauses.{call_caused, caused_none, moved_stayed}
@@ -49,7 +49,7 @@ returns-in-Ok-clause-settings g c = moved_settings (eyes g.S.Store.history g.S.D
     g.S.Device.Device.size old new) c.args.self.now.engines c.settle.new.self (λ old new d. d.moved) c.in-Ok.ensures.settled
 
 pub returns-in-Ok-clause-cause : goal.returns-in-Ok-clause-cause
-unfolding faults_of IsSpent
+unfolding faults_of IsSpent IsMet
 returns-in-Ok-clause-cause g c = caused_none (faults_at g.S.Watch.Watch.counts) _ c.args.self.now.engines c.settle.new.self
     (moved_stayed (eyes g.S.Store.history g.S.Device.Device.history g.S.Frozen.Frozen.content g.S.Device.Device.name g.S.Frozen.Frozen.size g.S.Watch.Watch.counts)
     (λ old new. Settles (eyes g.S.Store.history g.S.Device.Device.history g.S.Frozen.Frozen.content g.S.Device.Device.name g.S.Frozen.Frozen.size
@@ -61,9 +61,9 @@ returns-in-Err-clause-failed g c = λ only w h. on_err c.settle.result c.in-Err.
 
 pub returns-in-Err-clause-undamaged : goal.returns-in-Err-clause-undamaged
 unfolding HoldsAt
-returns-in-Err-clause-undamaged g c = λ w h. subst IsNoDamage (sym c.of_engines.ensures)
+returns-in-Err-clause-undamaged g c = λ only w h. subst (IsNoDamage only) (sym c.of_engines.ensures)
     (call_undamaged (eyes g.S.Store.history g.S.Device.Device.history g.S.Frozen.Frozen.content g.S.Device.Device.name g.S.Frozen.Frozen.size g.S.Watch.Watch.counts)
-    c.args.self.now.engines c.settle.new.self w h (λ old new. Settles
+    c.args.self.now.engines c.settle.new.self only w h (λ old new. Settles
     (eyes g.S.Store.history g.S.Device.Device.history g.S.Frozen.Frozen.content g.S.Device.Device.name g.S.Frozen.Frozen.size g.S.Watch.Watch.counts)
     g.S.Device.Device.size old new) (λ why old new. FailsSettling
     (eyes g.S.Store.history g.S.Device.Device.history g.S.Frozen.Frozen.content g.S.Device.Device.name g.S.Frozen.Frozen.size g.S.Watch.Watch.counts) why old new)
@@ -79,7 +79,7 @@ returns-in-Err-clause-settings g c =
     (λ same. c.settle.ensures.of_engine (c.in-Err.is ∙ ap Err same)) c.in-Err.ensures.stopped
 
 pub returns-in-Err-clause-cause : goal.returns-in-Err-clause-cause
-unfolding MayAsk faults_of IsSpent
+unfolding MayAsk faults_of IsSpent IsMet
 returns-in-Err-clause-cause g c =
     rw c.of_engines.ensures (call_caused (eyes g.S.Store.history g.S.Device.Device.history g.S.Frozen.Frozen.content g.S.Device.Device.name g.S.Frozen.Frozen.size
     g.S.Watch.Watch.counts) (λ old new. Settles (eyes g.S.Store.history g.S.Device.Device.history g.S.Frozen.Frozen.content g.S.Device.Device.name

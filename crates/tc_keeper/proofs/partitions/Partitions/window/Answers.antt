@@ -13,9 +13,9 @@ use Rattle.tc_work.specs.Asked.{requests_in}
 use Rattle.tc_keeper.specs.Faults.{IsNoDamage}
 use Rattle.tc_keeper.specs.Partitions.{StandAt}
 use Rattle.tc_keeper.specs.Sight.{sight_after}
-use Rattle.tc_keeper.specs.Calls.{faults_at, faults_of, HoldsAt, IsSpent, KeepsAt, MayAsk}
+use Rattle.tc_keeper.specs.Calls.{faults_at, faults_of, HoldsAt, IsMet, IsSpent, KeepsAt, MayAsk}
 use Rattle.tc_keeper.proofs.EnginesAsked.{asked_after, ran_readers, ran_settings, sound_all}
-use Rattle.tc_keeper.proofs.EngineCauses.{caused_none, caused_window, ran_stayed, window_rose}
+use Rattle.tc_keeper.proofs.EngineCauses.{caused_none, caused_window, ran_stayed, window_met, window_rose}
 use Rattle.tc_keeper.proofs.EngineWorlds.{on_err, on_ok, stand_after, window_replied, window_undamaged}
 use Rattle.tc_keeper.proofs.WindowLengths.{all_for_part, is_window, requests_same}
 use Rattle.tc_keeper.proofs.partitions.Partitions.window.Goals as goal
@@ -70,7 +70,7 @@ pub returns-in-Ok-clause-settings : goal.returns-in-Ok-clause-settings
 returns-in-Ok-clause-settings g c = ran_settings c.args.self.now.engines c.window.new.self c.window.ensures.same
 
 pub returns-in-Ok-clause-cause : goal.returns-in-Ok-clause-cause
-unfolding faults_of IsSpent
+unfolding faults_of IsSpent IsMet
 returns-in-Ok-clause-cause g c = caused_none (faults_at g.S.Watch.Watch.counts) _ c.args.self.now.engines c.window.new.self (ran_stayed g.S.Watch.Watch.counts (λ p old. _) (λ p. _) c.args.self.now.engines c.window.new.self c.window.ensures.counted c.window.ensures.same)
 
 pub returns-in-Err-clause-failed : goal.returns-in-Err-clause-failed
@@ -82,20 +82,21 @@ returns-in-Err-clause-failed g c = λ only w h.
 
 pub returns-in-Err-clause-undamaged : goal.returns-in-Err-clause-undamaged
 unfolding HoldsAt
-returns-in-Err-clause-undamaged g c = λ w h.
-    subst IsNoDamage (sym c.of_window.ensures) (window_undamaged
+returns-in-Err-clause-undamaged g c = λ only w h.
+    subst (IsNoDamage only) (sym c.of_window.ensures) (window_undamaged
     (eyes g.S.Store.history g.S.Device.Device.history g.S.Frozen.Frozen.content g.S.Device.Device.name g.S.Frozen.Frozen.size g.S.Watch.Watch.counts)
-    c.args.self.now.engines c.window.new.self w h g.S.Frozen.Frozen.content (λ q. _) c.in-Err.fault c.in-Err.ensures.first)
+    c.args.self.now.engines c.window.new.self only w h g.S.Frozen.Frozen.content (λ q. _) c.in-Err.fault c.in-Err.ensures.first)
 
 pub returns-in-Err-clause-settings : goal.returns-in-Err-clause-settings
 returns-in-Err-clause-settings g c = ran_settings c.args.self.now.engines c.window.new.self c.window.ensures.same
 
 pub returns-in-Err-clause-cause : goal.returns-in-Err-clause-cause
-unfolding faults_of IsSpent
+unfolding faults_of IsSpent IsMet
 returns-in-Err-clause-cause g c =
     let stayed = ran_stayed g.S.Watch.Watch.counts (λ p old. _) (λ p. _) c.args.self.now.engines c.window.new.self c.window.ensures.counted c.window.ensures.same in
     rw c.of_window.ensures (caused_window (faults_at g.S.Watch.Watch.counts) _ c.in-Err.fault c.args.self.now.engines c.window.new.self stayed
-    (window_rose g.S.Watch.Watch.counts (λ p old. _) (λ p why. _) c.in-Err.fault c.window.result c.args.self.now.engines c.window.new.self c.in-Err.is c.in-Err.ensures.first c.window.ensures.counted))
+    (window_rose g.S.Watch.Watch.counts (λ p old. _) (λ p why. _) c.in-Err.fault c.window.result c.args.self.now.engines c.window.new.self c.in-Err.is c.in-Err.ensures.first c.window.ensures.counted)
+    (window_met (eyes g.S.Store.history g.S.Device.Device.history g.S.Frozen.Frozen.content g.S.Device.Device.name g.S.Frozen.Frozen.size g.S.Watch.Watch.counts) (λ q. _) c.in-Err.fault c.args.self.now.engines c.window.new.self c.window.ensures.same c.in-Err.ensures.first))
 
 pub returns-in-Ok-clause-readers : goal.returns-in-Ok-clause-readers
 returns-in-Ok-clause-readers g c = ran_readers c.args.self.now.engines c.window.new.self c.window.ensures.same
