@@ -9,7 +9,7 @@ use Rattle.tc_keeper.specs.Holds.{AreAnswered, AreWritten, IsLeft, worlds_at, Ha
 use Rattle.tc_keeper.specs.Sight.{nothing, sees, sight_after, Sight}
 use Rattle.tc_keeper.specs.declared.fault.RunFault.{RunFault}
 use Rattle.tc_keeper.specs.declared.fault.RunFault.TheVariants.{Usage, Read, Write, Spent, Disk, Damaged, Memory, Layout}
-use Rattle.tc_server.proofs.SightLaws.{if_whole}
+use Rattle.tc_server.proofs.SightLaws.{if_known}
 
 -- ---- what is left where a window failed
 
@@ -65,18 +65,18 @@ pub part_written : {K : Type 0} (holds : K → Sight → Type 0) (keeps : K → 
 part_written holds keeps n known rs bytes old new taken taken' answered stays within written = record {
   stop = failed_writing n;
   by = refl;
-  sound = if_whole known (IsNoDamage (Write n)) (λ w is. tt);
+  sound = if_known known (λ only. Unit {0}) (λ only w is. tt);
   wrote = (answered.replies, answered.given, subst (λ lines. n < length lines) answered.lines within, subst (λ lines. Appends taken taken' (take n lines)) answered.lines written);
   left = left_standing holds keeps new (failed_writing n) rs known (stays answered.held);
 }
 
 -- nothing is written where the store fails
-pub none_written : {K : Type 0} (holds : K → Sight → Type 0) (keeps : K → Option ℕ → World → World → Type 0) (f : RunFault) (known : Sight) (rs : List Request) (k : K) (taken taken' : Option (List ℕ)) → IsOfStore f → ((w : World) → known ≡ sees None w → IsNoDamage f)
+pub none_written : {K : Type 0} (holds : K → Sight → Type 0) (keeps : K → Option ℕ → World → World → Type 0) (f : RunFault) (known : Sight) (rs : List Request) (k : K) (taken taken' : Option (List ℕ)) → IsOfStore f → ((only : Option ℕ) (w : World) → known ≡ sees only w → IsNoDamage only f)
     → Keeps taken taken' → IsLeft holds keeps k known (worlds_at gave_up rs) → HaveFailed holds keeps f known rs taken taken' k
 none_written holds keeps f known rs k taken taken' kind sound kept left = record {
   stop = gave_up;
   by = store_stops f kind;
-  sound = if_whole known (IsNoDamage f) sound;
+  sound = if_known known (λ only. IsNoDamage only f) sound;
   wrote = kept;
   left = left;
 }

@@ -131,15 +131,14 @@ module _ {K : Type 0} (holds : K → Sight → Type 0) (keeps : K → Option ℕ
     left = left.left;
   }
 
-  sound_behind : (count : ℕ) (fault : RunFault) (first : Sight) (answered : List Window) (last : Window) → ((v : World) → length v.parts ≡ count → holds k (sees None v) ⊎ keeps k None v v → IsNoDamage fault) → IfKnown first (λ only w. length w.parts ≡ count)
-      → IsLeft holds keeps k first (λ w. worlds_left finished w answered last) → IfSome (whole_of first) (λ w. IfSome (Some fault) IsNoDamage)
+  sound_behind : (count : ℕ) (fault : RunFault) (first : Sight) (answered : List Window) (last : Window) → ((only : Option ℕ) (v : World) → length v.parts ≡ count → holds k (sees only v) ⊎ keeps k only v v → IsNoDamage only fault) → IfKnown first (λ only w. length w.parts ≡ count)
+      → IsLeft holds keeps k first (λ w. worlds_left finished w answered last) → IfKnown first (λ only w. IfSome (Some fault) (IsNoDamage only))
   sound_behind count fault nothing answered last sound many left = tt
-  sound_behind count fault (sees (Some p) w) answered last sound many left = tt
-  sound_behind count fault (sees None w) answered last sound many left = sound (behind w answered) (many_left count w finished answered last many (behind w answered) (inl refl)) (left_alone holds keeps k None (behind w answered) left)
+  sound_behind count fault (sees only w) answered last sound many left = sound only (behind w answered) (many_left count w finished answered last many (behind w answered) (inl refl)) (left_alone holds keeps k only (behind w answered) left)
 
   -- the same run, which a fault of what was waited for ended behind its windows
   pub ran_stopped : (shown : Shown) (fault : RunFault) (first : Sight) (most : ℕ) (unread unread' taken taken' : Option (List ℕ)) → IsOfJob fault → (r : RanLeaving shown holds keeps spent None first most unread unread' taken taken' k)
-      → IfSome (whole_of first) (λ w. IfSome (Some fault) IsNoDamage) → RanLeaving shown holds keeps spent (Some fault) first most unread unread' taken taken' k
+      → IfKnown first (λ only w. IfSome (Some fault) (IsNoDamage only)) → RanLeaving shown holds keeps spent (Some fault) first most unread unread' taken taken' k
   ran_stopped shown fault first most unread unread' taken taken' of r sound =
       let reached = subst (λ e. IsReached e most r.run.ran.input unread' r.run.ran.answered r.run.ran.last) r.run.by r.run.ran.reached in
       let left = subst (λ e. IsLeft holds keeps k first (λ w. worlds_left e w r.run.ran.answered r.run.ran.last)) r.run.by r.left in record {
@@ -163,7 +162,8 @@ module _ {K : Type 0} (holds : K → Sight → Type 0) (keeps : K → Option ℕ
       }
 
   ran_behind : (count : ℕ) (shown : Shown) (fault : RunFault) (first : Sight) (most : ℕ) (unread unread' taken taken' : Option (List ℕ)) → IsOfJob fault
-      → ((v : World) → length v.parts ≡ count → holds k (sees None v) ⊎ keeps k None v v → IsNoDamage fault) → IfKnown first (λ only w. length w.parts ≡ count)
+      → ((only : Option ℕ) (v : World) → length v.parts ≡ count → holds k (sees only v) ⊎ keeps k only v v → IsNoDamage only fault)
+      → IfKnown first (λ only w. length w.parts ≡ count)
       → RanLeaving shown holds keeps spent None first most unread unread' taken taken' k → RanLeaving shown holds keeps spent (Some fault) first most unread unread' taken taken' k
   ran_behind count shown fault first most unread unread' taken taken' of sound many r =
       ran_stopped shown fault first most unread unread' taken taken' of r
@@ -174,7 +174,7 @@ pub closed_over : {K : Type 0} (holds : K → Sight → Type 0) (keeps : K → O
     (answer : Result (Unit {0}) RunFault) (ended : Option RunFault) (first : Sight) (files : ℕ → List Disk) (most : ℕ) (left left' taken taken' : Option (List ℕ))
     (k : K) (kits : List (List Disk))
     → most ≡ (options_asked asked).window → LeavesKits holds keeps (rests × (ended ≡ None)) (options_asked asked) k kits → (fault_in answer ≡ None → rests) → IfKnown first (λ only w. length w.parts ≡ (options_asked asked).partitions) → IfSome (fault_in answer) IsOfRun → IfSome ended IsOfJob
-    → (rests → (v : World) → length v.parts ≡ (options_asked asked).partitions → holds k (sees None v) ⊎ keeps k None v v → IfSome ended IsNoDamage)
+    → (rests → (only : Option ℕ) (v : World) → length v.parts ≡ (options_asked asked).partitions → holds k (sees only v) ⊎ keeps k only v v → IfSome ended (IsNoDamage only))
     → RunsOver asked left left' (λ shown unread unread'. RanLeaving shown holds keeps spent (fault_in answer) first most unread unread' taken taken' k) → AskedOver asked (fault_behind answer ended) first files left left' taken taken' kits
 closed_over holds keeps rests spent asked (Err fault) ended first files most left left' taken taken' k kits same leaves rest many kind of sound ran =
     asked_over holds keeps (rests × (ended ≡ None)) spent asked (Some fault) first files most left left' taken taken' k kits same leaves (λ never. absurd (cc)) many kind ran

@@ -26,38 +26,39 @@ memory_kind (Damaged p damage) kind = tt
 memory_kind Memory kind = tt
 memory_kind (Layout p found found_of asked_of) kind = absurd kind
 
-pub memory_cause : (f : RunFault) (a b : DiskFaults) (spent : Type 0) → HasDiskCause a b spent (Some f) → HasDiskCause a b spent (Some (fault_in_memory f))
-memory_cause Usage a b spent cause = cause
-memory_cause Read a b spent cause = cause
-memory_cause (Write n) a b spent cause = record { stayed = cause.stayed; disk = tt; damaged = tt; spent = λ same. cc }
-memory_cause Spent a b spent cause = cause
-memory_cause (Disk p) a b spent cause = cause
-memory_cause (Damaged p damage) a b spent cause = cause
-memory_cause Memory a b spent cause = cause
-memory_cause (Layout p found found_of asked_of) a b spent cause = cause
+pub memory_cause : (f : RunFault) (a b : DiskFaults) (why : RunFault → Type 0) → HasDiskCause a b why (Some f) → HasDiskCause a b why (Some (fault_in_memory f))
+memory_cause Usage a b why cause = cause
+memory_cause Read a b why cause = cause
+memory_cause (Write n) a b why cause = record { stayed = cause.stayed; disk = tt; damaged = tt; spent = λ same. cc }
+memory_cause Spent a b why cause = cause
+memory_cause (Disk p) a b why cause = cause
+memory_cause (Damaged p damage) a b why cause = cause
+memory_cause Memory a b why cause = cause
+memory_cause (Layout p found found_of asked_of) a b why cause = cause
 
 -- replies that are heard behind a call fail for want of memory alone
-pub heard_cause : {T : Type 0} (r : Result T RunFault) (a b : DiskFaults) (first spent : Type 0) → HasDiskCause a b first None → IfErr r (λ f. f ≡ Memory) → HasDiskCause a b spent (fault_in r)
-heard_cause (Ok x) a b first spent one memory = record { stayed = one.stayed; disk = tt; damaged = tt; spent = tt }
-heard_cause (Err f) a b first spent one memory = subst (λ g. HasDiskCause a b spent (Some g)) (sym memory) (call_without_memory a b first spent one)
+pub heard_cause : {T : Type 0} (r : Result T RunFault) (a b : DiskFaults) (first why : RunFault → Type 0) → HasDiskCause a b first None → IfErr r (λ f. f ≡ Memory) → HasDiskCause a b why (fault_in r)
+heard_cause (Ok x) a b first why one memory = record { stayed = one.stayed; disk = tt; damaged = tt; spent = tt }
+heard_cause (Err f) a b first why one memory = subst (λ g. HasDiskCause a b why (Some g)) (sym memory) (call_without_memory a b first why one)
 
 -- ---- the two lines
 
-fault_cause : (f : RunFault) (lines : List ℕ) (taken taken' : Option (List ℕ)) (before now : ℕ) (a b : DiskFaults) (first spent : Type 0) → HasDiskCause a b first None → before ≤ now → (IsWrite f → Rose before now) → WroteSome f lines taken taken' → HasCauses before now a b spent (Some f)
-fault_cause Usage lines taken taken' before now a b first spent one up rose wrote = absurd wrote
-fault_cause Read lines taken taken' before now a b first spent one up rose wrote = absurd wrote
-fault_cause (Write n) lines taken taken' before now a b first spent one up rose wrote = write_failed n before now a b first spent one up (rose tt)
-fault_cause Spent lines taken taken' before now a b first spent one up rose wrote = absurd wrote
-fault_cause (Disk p) lines taken taken' before now a b first spent one up rose wrote = absurd wrote
-fault_cause (Damaged p damage) lines taken taken' before now a b first spent one up rose wrote = absurd wrote
-fault_cause Memory lines taken taken' before now a b first spent one up rose wrote = record { kept = up; failed = λ write. absurd write; kind = tt; disks = call_without_memory a b first spent one }
-fault_cause (Layout p found found_of asked_of) lines taken taken' before now a b first spent one up rose wrote = absurd wrote
+fault_cause : (f : RunFault) (lines : List ℕ) (taken taken' : Option (List ℕ)) (before now : ℕ) (a b : DiskFaults) (first why : RunFault → Type 0) → HasDiskCause a b first None → before ≤ now → (IsWrite f → Rose before now) → WroteSome f lines taken taken' → HasCauses before now a b why (Some f)
+fault_cause Usage lines taken taken' before now a b first why one up rose wrote = absurd wrote
+fault_cause Read lines taken taken' before now a b first why one up rose wrote = absurd wrote
+fault_cause (Write n) lines taken taken' before now a b first why one up rose wrote = write_failed n before now a b first why one up (rose tt)
+fault_cause Spent lines taken taken' before now a b first why one up rose wrote = absurd wrote
+fault_cause (Disk p) lines taken taken' before now a b first why one up rose wrote = absurd wrote
+fault_cause (Damaged p damage) lines taken taken' before now a b first why one up rose wrote = absurd wrote
+fault_cause Memory lines taken taken' before now a b first why one up rose wrote = record { kept = up; failed = λ write. absurd write; kind = tt; disks = call_without_memory a b first why one }
+fault_cause (Layout p found found_of asked_of) lines taken taken' before now a b first why one up rose wrote = absurd wrote
 
-pub lines_cause : {T : Type 0} (r : Result T RunFault) (lines : List ℕ) (taken taken' : Option (List ℕ)) (before now : ℕ) (a b : DiskFaults) (first spent : Type 0)
-    → HasDiskCause a b first None → before ≤ now → IfErr r (λ f. IsWrite f → Rose before now) → IfErr r (λ f. WroteSome f lines taken taken')
-    → HasCauses before now a b spent (fault_in r)
-lines_cause (Ok x) lines taken taken' before now a b first spent one up rose wrote = all_done before now a b first spent one up
-lines_cause (Err f) lines taken taken' before now a b first spent one up rose wrote = fault_cause f lines taken taken' before now a b first spent one up rose wrote
+pub lines_cause : {T : Type 0} (r : Result T RunFault) (lines : List ℕ) (taken taken' : Option (List ℕ)) (before now : ℕ) (a b : DiskFaults)
+    (first why : RunFault → Type 0) → HasDiskCause a b first None → before ≤ now → IfErr r (λ f. IsWrite f → Rose before now)
+    → IfErr r (λ f. WroteSome f lines taken taken')
+    → HasCauses before now a b why (fault_in r)
+lines_cause (Ok x) lines taken taken' before now a b first why one up rose wrote = all_done before now a b first why one up
+lines_cause (Err f) lines taken taken' before now a b first why one up rose wrote = fault_cause f lines taken taken' before now a b first why one up rose wrote
 
 module _ {K : Type 0} (holds : K → Sight → Type 0) (keeps : K → Option ℕ → World → World → Type 0) (spent : K → Type 0) where
   fault_leaves : (n : ℕ) (f : RunFault) (first : Sight) (most : ℕ) (taken taken' : Option (List ℕ)) (k : K) (heard : Heard) → HasHeardAll holds first (generated n) k heard → WroteSome f (lines_for n heard) taken taken' → DemoLeaving holds keeps spent n (Some f) first most taken taken' k

@@ -12,14 +12,14 @@ use Rattle.tc_run_model.proofs.ReplyLaws.{after_all-append, MayReply-none}
 use Rattle.tc_server.specs.Demo.{ended, fault_in_memory, AreFew, HasGivenUp, HasHeard, HasHeardAll, HearsReplies}
 use Rattle.tc_keeper.specs.Faults.{Stop, failed_writing, gave_up, ending_at, IsNoDamage}
 use Rattle.tc_keeper.specs.Holds.{worlds_at, AreWritten, HaveFailed, IsLeft, IsLeftAt, IsOneOf}
-use Rattle.tc_keeper.specs.Sight.{nothing, sees, sight_after, sight_behind, whole_of, Sight}
+use Rattle.tc_keeper.specs.Sight.{nothing, sees, sight_after, sight_behind, whole_of, Sight, IfKnown}
 use Rattle.tc_server.specs.Stage.{up_to, IsAt, StopsIn}
 use Rattle.tc_server.specs.Window.{requests_of}
 use Rattle.tc_keeper.specs.declared.fault.RunFault.{RunFault}
 use Rattle.tc_keeper.specs.declared.fault.RunFault.TheVariants.{Usage, Read, Write, Spent, Disk, Damaged, Memory, Layout}
 use Rattle.tc_server.specs.declared.session.Session.{Session}
 use Rattle.tc_server.proofs.SessionLemmas.{BeginsWith-refl}
-use Rattle.tc_server.proofs.SightLaws.{if_whole, replied_both, sight_append, sight_none}
+use Rattle.tc_server.proofs.SightLaws.{if_known, replied_both, sight_append, sight_none}
 use Rattle.tc_server.proofs.DemoWindows.{few_answered, fresh, lines_ended, next_windows, replies_to_lines, requests_for-append, requests_in-append, same_lines, sight_more, behind_more}
 
 -- ---- the session from the windows that it stands behind on
@@ -81,7 +81,7 @@ module _ {K : Type 0} (holds : K → Sight → Type 0) (keeps : K → Option ℕ
     replies = replies;
     given = given;
     among = record { more = []; goes_on = sym (append-nil (closed ++ []) ∙ append-nil closed) };
-    sound = if_whole first (IsNoDamage Memory) (λ w is. tt);
+    sound = if_known first (λ only. Unit {0}) (λ only w is. tt);
     left = stands_left first closed k held;
   }
 
@@ -99,14 +99,14 @@ module _ {K : Type 0} (holds : K → Sight → Type 0) (keeps : K → Option ℕ
       stops_behind first (ended (windows_of most lines)) replies k (subst (λ rs. MayReply rs (whole_of first) replies) (sym all) given) (subst (λ rs. holds k (sight_after rs first)) (sym all) held)
 
   -- nothing was answered
-  pub begins_not : (first : Sight) (fault : RunFault) (closed : List Window) (k : K) → ((w : World) → first ≡ sees None w → IsNoDamage fault) → ((only : Option ℕ) (w : World) → first ≡ sees only w → keeps k only w w) → HasGivenUp holds keeps first fault closed k
+  pub begins_not : (first : Sight) (fault : RunFault) (closed : List Window) (k : K) → ((only : Option ℕ) (w : World) → first ≡ sees only w → IsNoDamage only fault) → ((only : Option ℕ) (w : World) → first ≡ sees only w → keeps k only w w) → HasGivenUp holds keeps first fault closed k
   begins_not first fault closed k sound fails = record {
     answered = [];
     last = [];
     replies = [];
     given = MayReply-none (whole_of first);
     among = record { more = closed; goes_on = refl };
-    sound = if_whole first (IsNoDamage fault) sound;
+    sound = if_known first (λ only. IsNoDamage only fault) sound;
     left = kept_left first fails;
   }
     where
@@ -154,20 +154,19 @@ module _ {K : Type 0} (holds : K → Sight → Type 0) (keeps : K → Option ℕ
     goes_on = ap (λ ws. before ++ ws) begins.goes_on ∙ sym (append_assoc before (answered ++ unless_empty last) begins.more) ∙ ap (λ ws. ws ++ begins.more) (sym (append_assoc before answered (unless_empty last)));
   }
 
-  no_damage : (fault : RunFault) → IsNoDamage fault → IsNoDamage (fault_in_memory fault)
-  no_damage Usage is = tt
-  no_damage Read is = tt
-  no_damage (Write n) is = tt
-  no_damage Spent is = tt
-  no_damage (Disk p) is = tt
-  no_damage (Damaged p damage) is = is
-  no_damage Memory is = tt
-  no_damage (Layout p found found_of asked_of) is = tt
+  no_damage : (only : Option ℕ) (fault : RunFault) → IsNoDamage only fault → IsNoDamage only (fault_in_memory fault)
+  no_damage only Usage is = tt
+  no_damage only Read is = tt
+  no_damage only (Write n) is = tt
+  no_damage only Spent is = tt
+  no_damage only (Disk p) is = tt
+  no_damage only (Damaged p damage) is = is
+  no_damage only Memory is = tt
+  no_damage only (Layout p found found_of asked_of) is = tt
 
-  sound_behind : (first : Sight) (before : List Window) (fault : RunFault) → IfSome (whole_of (sight_behind first before)) (λ w. IsNoDamage fault) → IfSome (whole_of first) (λ w. IsNoDamage (fault_in_memory fault))
+  sound_behind : (first : Sight) (before : List Window) (fault : RunFault) → IfKnown (sight_behind first before) (λ only w. IsNoDamage only fault) → IfKnown first (λ only w. IsNoDamage only (fault_in_memory fault))
   sound_behind nothing before fault sound = tt
-  sound_behind (sees None w) before fault sound = no_damage fault sound
-  sound_behind (sees (Some p) w) before fault sound = tt
+  sound_behind (sees only w) before fault sound = no_damage only fault sound
 
   -- at a line
   pub fails_line : (first : Sight) (limit : ℕ) (seen : List (List ℕ)) (line : List ℕ) (old : Session K) (heard : Heard) (taken' : Option (List ℕ)) (fault : RunFault) (k : K) → HasHeard holds first (windows_of limit seen) old heard

@@ -22,7 +22,7 @@ use Rattle.tc_keeper.specs.declared.fault.RunFault.{RunFault}
 use Rattle.tc_keeper.specs.declared.fault.RunFault.TheVariants.{Usage, Read, Write, Spent, Disk, Damaged, Memory, Layout}
 use Rattle.tc_server.proofs.DemoLemmas.{all_unwritten}
 use Rattle.tc_server.proofs.SessionLemmas.{requests-unless_empty}
-use Rattle.tc_server.proofs.SightLaws.{if_whole}
+use Rattle.tc_server.proofs.SightLaws.{if_known}
 use Rattle.tc_server.proofs.DemoWindows.{cut, last_of, lines_ended, lines_with, no_more_lines, replies_to_lines, same_lines, AreCut, HasLast}
 
 -- ---- what is shown
@@ -59,7 +59,7 @@ module _ {K : Type 0} (holds : K → Sight → Type 0) (keeps : K → Option ℕ
   -- of fewer replies than all nothing is shown
   stops_at : (n : ℕ) (fault : RunFault) (first : Sight) (most : ℕ) (taken taken' : Option (List ℕ)) (k : K) (answered : List Window) (last : Window) (replies : List Reply)
       → IsOfStore fault → (fault ≡ Spent → spent k) → Keeps taken taken' → MayReply (requests_in answered) (whole_of first) replies → length (lines_in answered) ≢ suc n
-      → BeginsWith (ended (windows_of most (generated n))) (answered ++ unless_empty last) → IfSome (whole_of first) (λ w. IsNoDamage fault) → IsLeft holds keeps k first (λ w. worlds_left stopped w answered last)
+      → BeginsWith (ended (windows_of most (generated n))) (answered ++ unless_empty last) → IfKnown first (λ only w. IsNoDamage only fault) → IsLeft holds keeps k first (λ w. worlds_left stopped w answered last)
       → DemoLeaving holds keeps spent n (Some fault) first most taken taken' k
   stops_at n fault first most taken taken' k answered last replies kind cause kept given fewer among sound left =
       let other : length replies ≢ suc n = λ is. fewer (sym (replies_to_lines (lines_in answered) (whole_of first) replies given) ∙ is) in record {
@@ -134,11 +134,11 @@ module _ {K : Type 0} (holds : K → Sight → Type 0) (keeps : K → Option ℕ
 
   -- ---- the two lines were written, or the first bytes of them
 
-  sound_none : (first : Sight) → IfSome (whole_of first) (λ w. IfSome None IsNoDamage)
-  sound_none first = if_whole first (Unit {0}) (λ w is. tt)
+  sound_none : (first : Sight) → IfKnown first (λ only w. IfSome None (IsNoDamage only))
+  sound_none first = if_known first (λ only. Unit {0}) (λ only w is. tt)
 
-  sound_write : (m : ℕ) (first : Sight) → IfSome (whole_of first) (λ w. IfSome (Some (Write m)) IsNoDamage)
-  sound_write m first = if_whole first (Unit {0}) (λ w is. tt)
+  sound_write : (m : ℕ) (first : Sight) → IfKnown first (λ only w. IfSome (Some (Write m)) (IsNoDamage only))
+  sound_write m first = if_known first (λ only. Unit {0}) (λ only w is. tt)
 
   stands_at : (first : Sight) (us : List Window) (lines : List (List ℕ)) (k : K) → lines_in us ≡ lines → holds k (sight_after (requests_for lines) first) → IsLeft holds keeps k first (λ w. behind w us ∷ [])
   stands_at nothing us lines k same held = tt

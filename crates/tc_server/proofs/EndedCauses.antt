@@ -1,12 +1,14 @@
 -- What counts over a run whose scan at its end was waited for.
 use Rattle.std.proofs.Common.{◌≡◌, ◌⊎◌, ℕ, refl, inl, inr}
-use Rattle.std.specs.Prelude.{IfSome, IsSome, None, Option, Some, Result, Ok, Err}
+use Rattle.std.specs.Prelude.{IfSome, None, Option, Some, Result, Ok, Err}
 use Rattle.tc_store.specs.KitFaults.{KitFaults}
-use Rattle.tc_keeper.specs.Faults.{fault_in, DiskFaults, HasDiskCause, HasRunCauses, HaveRisen, HaveStayed, IfDamaged, IfDisk, IsOfJob}
+use Rattle.tc_store.specs.declared.damage.Damage.{Damage}
+use Rattle.tc_keeper.specs.Faults.{fault_in, DiskFaults, HasDiskCause, HasRunCauses, HaveRisen, HaveStayed, IfDisk, IsOfJob}
 use Rattle.tc_server.specs.Kits.{answer_behind}
 use Rattle.tc_keeper.specs.declared.fault.RunFault.{RunFault}
 use Rattle.tc_keeper.specs.declared.fault.RunFault.TheVariants.{Usage, Read, Write, Spent, Disk, Damaged, Memory, Layout}
 use Rattle.tc_keeper.proofs.Causes.{both_stayed, if_disk_rose}
+use Rattle.tc_keeper.proofs.KeeperCounts.{damaged_so}
 use Rattle.tc_server.proofs.ClosingFaults.{job_of_run, never_read, never_write}
 use Rattle.tc_server.proofs.OverEngines.{one_rose_then}
 
@@ -15,11 +17,6 @@ risen_then None b c rose stayed = absurd rose
 risen_then (Some a) None c rose stayed = absurd rose
 risen_then (Some a) (Some b) None rose stayed = absurd stayed
 risen_then (Some a) (Some b) (Some c) rose stayed = one_rose_then a b c rose stayed
-
-some_then : (b c : Option KitFaults) → IsSome b → HaveStayed b c → IsSome c
-some_then None c some stayed = absurd (cc)
-some_then (Some b) None some stayed = absurd stayed
-some_then (Some b) (Some c) some stayed = refl
 
 disk_then : (f : RunFault) (a b c : DiskFaults) → ((p : ℕ) → HaveStayed (b p) (c p)) → IfDisk f (λ p. HaveRisen (a p) (b p)) → IfDisk f (λ p. HaveRisen (a p) (c p))
 disk_then Usage a b c stayed rose = tt
@@ -31,29 +28,20 @@ disk_then (Damaged p damage) a b c stayed rose = tt
 disk_then Memory a b c stayed rose = tt
 disk_then (Layout p found found_of asked_of) a b c stayed rose = tt
 
-damaged_then : (f : RunFault) (b c : DiskFaults) → ((p : ℕ) → HaveStayed (b p) (c p)) → IfDamaged f (λ p. IsSome (b p)) → IfDamaged f (λ p. IsSome (c p))
-damaged_then Usage b c stayed there = tt
-damaged_then Read b c stayed there = tt
-damaged_then (Write n) b c stayed there = tt
-damaged_then Spent b c stayed there = tt
-damaged_then (Disk p) b c stayed there = tt
-damaged_then (Damaged p damage) b c stayed there = some_then (b p) (c p) there (stayed p)
-damaged_then Memory b c stayed there = tt
-damaged_then (Layout p found found_of asked_of) b c stayed there = tt
-
-pub run_ended : (answer : Result (Unit {0}) RunFault) (ended : Option RunFault) (reads reads' before now : ℕ) (old mid new : DiskFaults) (last : Type 0) → IfSome ended IsOfJob → HasRunCauses reads reads' before now old mid (fault_in answer) → HasDiskCause mid new last ended
-    → HasRunCauses reads reads' before now old new (fault_in (answer_behind answer ended))
-run_ended (Err fault) ended reads reads' before now old mid new last of one two = record {
+pub run_ended : (answer : Result (Unit {0}) RunFault) (ended : Option RunFault) (reads reads' before now : ℕ) (old mid new : DiskFaults) (first why : RunFault → Type 0)
+    → ((p : ℕ) (damage : Damage) → first (Damaged p damage) → why (Damaged p damage)) → IfSome ended IsOfJob → HasRunCauses reads reads' before now old mid first (fault_in answer) → HasDiskCause mid new first ended
+    → HasRunCauses reads reads' before now old new why (fault_in (answer_behind answer ended))
+run_ended (Err fault) ended reads reads' before now old mid new first why so of one two = record {
   heard = one.heard;
   read = one.read;
   kept = one.kept;
   failed = one.failed;
   stayed = λ p. both_stayed (old p) (mid p) (new p) (one.stayed p) (two.stayed p);
   disk = disk_then fault old mid new two.stayed one.disk;
-  damaged = damaged_then fault mid new two.stayed one.damaged;
+  damaged = damaged_so fault (λ p damage. first (Damaged p damage)) (λ p damage. why (Damaged p damage)) so one.damaged;
   kind = one.kind;
 }
-run_ended (Ok done) None reads reads' before now old mid new last of one two = record {
+run_ended (Ok done) None reads reads' before now old mid new first why so of one two = record {
   heard = one.heard;
   read = tt;
   kept = one.kept;
@@ -63,14 +51,14 @@ run_ended (Ok done) None reads reads' before now old mid new last of one two = r
   damaged = tt;
   kind = tt;
 }
-run_ended (Ok done) (Some fault) reads reads' before now old mid new last of one two = record {
+run_ended (Ok done) (Some fault) reads reads' before now old mid new first why so of one two = record {
   heard = one.heard;
   read = never_read fault of;
   kept = one.kept;
   failed = never_write fault of;
   stayed = λ p. both_stayed (old p) (mid p) (new p) (one.stayed p) (two.stayed p);
   disk = if_disk_rose (Some fault) old mid new one.stayed two.disk;
-  damaged = two.damaged;
+  damaged = damaged_so fault (λ p damage. first (Damaged p damage)) (λ p damage. why (Damaged p damage)) so two.damaged;
   kind = job_of_run fault of;
 }
 

@@ -12,6 +12,7 @@ use Rattle.tc_run_model.proofs.ReplyLaws.{MayReply-none}
 use Rattle.tc_words.specs.declared.asked.Invocation.{Invocation}
 use Rattle.tc_words.specs.declared.asked.Invocation.TheVariants.{Run, Demo}
 use Rattle.tc_server.specs.Ending.{AskedPromptly, RanLeaving, RunsOver}
+use Rattle.tc_server.proofs.SightLaws.{if_known}
 use Rattle.tc_keeper.specs.Faults.{fault_in, EndsAs, IsNoDamage, IsOfJob}
 use Rattle.tc_keeper.specs.Holds.{IsLeft}
 use Rattle.tc_server.specs.Kits.{answer_behind}
@@ -58,20 +59,19 @@ module _ {K L : Type 0} (holds : K → Sight → Type 0) (keeps : K → Option �
     stands = λ none. stands_so first (λ w. behind w r.run.ran.answered) (r.stands none);
   }
 
-  -- where it is known what all partitions store the scan found no damage
-  sound_so : (fault : RunFault) (first : Sight) (at : World → World) → ((w : World) → holds k (sees None w) → IsNoDamage fault) → IfKnown first (λ only w. holds k (sees only (at w))) → IfSome (whole_of first) (λ w. IfSome (Some fault) IsNoDamage)
+  -- the scan found no damage of a partition of which it is known what it stores
+  sound_so : (fault : RunFault) (first : Sight) (at : World → World) → ((only : Option ℕ) (w : World) → holds k (sees only w) → IsNoDamage only fault) → IfKnown first (λ only w. holds k (sees only (at w))) → IfKnown first (λ only w. IfSome (Some fault) (IsNoDamage only))
   sound_so fault nothing at sound stands = tt
-  sound_so fault (sees None w) at sound stands = sound (at w) stands
-  sound_so fault (sees (Some p) w) at sound stands = tt
+  sound_so fault (sees only w) at sound stands = sound only (at w) stands
 
-  ran_with : (answer : Result (Unit {0}) RunFault) (ended : Option RunFault) (shown : Shown) (first : Sight) (most : ℕ) (unread unread' taken taken' : Option (List ℕ)) → IfSome ended IsOfJob → ((w : World) → holds k (sees None w) → IfSome ended IsNoDamage)
+  ran_with : (answer : Result (Unit {0}) RunFault) (ended : Option RunFault) (shown : Shown) (first : Sight) (most : ℕ) (unread unread' taken taken' : Option (List ℕ)) → IfSome ended IsOfJob → ((only : Option ℕ) (w : World) → holds k (sees only w) → IfSome ended (IsNoDamage only))
       → RanLeaving shown holds keeps spent (fault_in answer) first most unread unread' taken taken' k → RanLeaving shown holds' keeps' spent' (fault_in (answer_behind answer ended)) first most unread unread' taken taken' l
   ran_with (Err fault) ended shown first most unread unread' taken taken' of sound r = ran_so shown (Some fault) first most unread unread' taken taken' r
   ran_with (Ok done) None shown first most unread unread' taken taken' of sound r = ran_so shown None first most unread unread' taken taken' r
   ran_with (Ok done) (Some fault) shown first most unread unread' taken taken' of sound r =
       ran_so shown (Some fault) first most unread unread' taken taken' (ran_stopped holds keeps spent k shown fault first most unread unread' taken taken' of r (sound_so fault first (λ w. behind w r.run.ran.answered) sound (r.stands refl)))
 
-  pub ended_run : (asked : Invocation) (answer : Result (Unit {0}) RunFault) (ended : Option RunFault) (first : Sight) (most : ℕ) (left left' taken taken' : Option (List ℕ)) → IfSome ended IsOfJob → ((w : World) → holds k (sees None w) → IfSome ended IsNoDamage)
+  pub ended_run : (asked : Invocation) (answer : Result (Unit {0}) RunFault) (ended : Option RunFault) (first : Sight) (most : ℕ) (left left' taken taken' : Option (List ℕ)) → IfSome ended IsOfJob → ((only : Option ℕ) (w : World) → holds k (sees only w) → IfSome ended (IsNoDamage only))
       → RunsOver asked left left' (λ shown unread unread'. RanLeaving shown holds keeps spent (fault_in answer) first most unread unread' taken taken' k)
       → RunsOver asked left left' (λ shown unread unread'. RanLeaving shown holds' keeps' spent' (fault_in (answer_behind answer ended)) first most unread unread' taken taken' l)
   ended_run asked answer ended first most left left' taken taken' of sound ran =
@@ -85,10 +85,6 @@ well_behind (Ok done) None so well = so well
 well_behind (Ok done) (Some fault) so well = tt
 
 -- ---- memory was wanting before a line was read
-
-always_sound : (first : Option World) → IfSome first (λ w. IfSome (Some Memory) IsNoDamage)
-always_sound None = tt
-always_sound (Some w) = tt
 
 module _ {K : Type 0} (holds : K → Sight → Type 0) (keeps : K → Option ℕ → World → World → Type 0) (spent : K → Type 0) (k : K) where
   left_there : (first : Sight) → holds k first → IsLeft holds keeps k first (λ w. worlds_left stopped w [] [])
@@ -111,7 +107,7 @@ module _ {K : Type 0} (holds : K → Sight → Type 0) (keeps : K → Option ℕ
         took = subst (Appends taken taken) (sym none) (Appends-nil taken);
       };
     };
-    sound = always_sound (whole_of first);
+    sound = if_known first (λ only. Unit {0}) (λ only w is. tt);
     left = left_there first stands;
     stands = λ well. absurd (cc);
   }

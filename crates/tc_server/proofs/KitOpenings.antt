@@ -2,7 +2,7 @@
 use Rattle.std.proofs.Common.{[], ◌∷◌, ◌≡◌, ◌≤◌, ap, arith, inl, inr, is_some, refl, subst, sym, List, ℕ}
 use Rattle.std.specs.Prelude.{Option, Some, None, IfSome, IsSome, IfErr, Result, Ok, Err, option_map, unwrap_or}
 use Rattle.tc_bytes.specs.Counts.{Rose}
-use Rattle.tc_keeper.specs.Standing.{partition_at}
+use Rattle.tc_keeper.specs.Standing.{partition_at, IsSeen}
 use Rattle.tc_keeper.specs.WithJobs.{engine_with, no_jobs, told_part, WithJobs}
 use Rattle.tc_list.specs.Policies.{listed_least}
 use Rattle.tc_list.specs.declared.policy.Policy.{Policy}
@@ -57,17 +57,16 @@ is_of_opening p count (opening.Layout found found_of) = (refl, refl)
 is_of_opening p count opening.Spent = tt
 is_of_opening p count opening.Memory = tt
 
-undamaged_here : (p count : ℕ) (cause : OpenCause) → causes.IfLayout cause ⊥ → causes.IfDamaged cause (λ damage. ⊥) → IsNoDamage (fault_of_opening p count cause) × IsHere (fault_of_opening p count cause)
+undamaged_here : (p count : ℕ) (cause : OpenCause) → causes.IfLayout cause ⊥ → causes.IfDamaged cause (λ damage. ⊥) → IsNoDamage None (fault_of_opening p count cause) × IsHere None (fault_of_opening p count cause)
 undamaged_here p count opening.Disk here sound = (tt, tt)
 undamaged_here p count (opening.Damaged damage) here sound = absurd sound
 undamaged_here p count (opening.Layout found found_of) here sound = absurd here
 undamaged_here p count opening.Spent here sound = (tt, tt)
 undamaged_here p count opening.Memory here sound = (tt, tt)
 
-refused_by : {F : Type 0} (content : F → Option (List ℕ)) (name : F → FileName) (p count : ℕ) (cause : OpenCause) (disk : Disk) → CauseJudged content name (partition_at p count) disk cause → IsJudged (partition_at p count) disk (Some (fault_of_opening p count cause))
+refused_by : {F : Type 0} (content : F → Option (List ℕ)) (name : F → FileName) (p count : ℕ) (cause : OpenCause) (disk : Disk) → CauseJudged content name (partition_at p count) disk cause → IsJudged content name (partition_at p count) disk (Some (fault_of_opening p count cause))
 refused_by content name p count opening.Disk disk judged = tt
-refused_by content name p count (opening.Damaged damage) disk (inl refused) = inl (refl, refused)
-refused_by content name p count (opening.Damaged damage) disk (inr found) = inr (found.0, found.1, tt)
+refused_by content name p count (opening.Damaged damage) disk judged = inl (refl, judged)
 refused_by content name p count (opening.Layout found found_of) disk judged = judged
 refused_by content name p count opening.Spent disk judged = (judged.0, judged.1, tt)
 refused_by content name p count opening.Memory disk judged = tt
@@ -116,14 +115,15 @@ pub given_back : {S W D F : Type 0} (disks : S → List Disk) (counts : W → Co
     → OfLawful (partition_at p count) (disks kit.store) (λ cs logs. step.Keeps (partition_at p count) (recovered cs logs).pairs (disks kit.store) (disks back.store))
     → IfTold (disks kit.store) (λ disk. CauseJudged content name (partition_at p count) disk cause) → IsUntouched (partition_at p count) (disks kit.store) (disks back.store)
     → back ≡ record kit { store = back.store; main = back.main } → IsWatched (cause ≡ opening.Disk) (counts kit.main) (counts back.main)
-    → IsGivenBack (partition_at p count) (disks kit.store) (faults_in counts kit) (fault_of_opening p count cause) (disks back.store) (faults_in counts back)
+    → IsGivenBack content name (partition_at p count) (disks kit.store) (faults_in counts kit) (fault_of_opening p count cause) (disks back.store) (faults_in counts back)
 given_back disks counts content name p count cause kit back here undamaged keeps judged untouched same watched = record {
   of = is_of_opening p count cause;
   keeps = told_map (λ disk. (cs : List Content) (logs : List (List PlainWrite)) → DiskOpens (partition_at p count) disk cs logs → step.Keeps (partition_at p count) (recovered cs logs).pairs (disks kit.store) (disks back.store)) _ (disks kit.store)
       (λ disk all cs logs opens. (all cs logs opens).kept) keeps;
   sound = lawful_both (partition_at p count) (disks kit.store) (λ cs logs. causes.IfLayout cause ⊥) (λ cs logs. causes.IfDamaged cause (λ damage. ⊥))
-      (λ cs logs. IsNoDamage (fault_of_opening p count cause) × IsHere (fault_of_opening p count cause)) (λ cs logs. undamaged_here p count cause) here undamaged;
-  judged = told_map (λ disk. CauseJudged content name (partition_at p count) disk cause) (λ disk. IsJudged (partition_at p count) disk (Some (fault_of_opening p count cause))) (disks kit.store) (refused_by content name p count cause) judged;
+      (λ cs logs. IsNoDamage None (fault_of_opening p count cause) × IsHere None (fault_of_opening p count cause))
+      (λ cs logs. undamaged_here p count cause) here undamaged;
+  judged = told_map (λ disk. CauseJudged content name (partition_at p count) disk cause) (λ disk. IsJudged content name (partition_at p count) disk (Some (fault_of_opening p count cause))) (disks kit.store) (refused_by content name p count cause) judged;
   untouched = untouched;
   spent = λ is. told_map (λ disk. CauseJudged content name (partition_at p count) disk cause) (λ disk. Passes (partition_at p count) disk AreSpent) (disks kit.store) (λ disk. spent_by content name p count cause disk is) judged;
   none_fell = watched_stay counts kit back (cause ≡ opening.Disk) same watched;
@@ -132,13 +132,13 @@ given_back disks counts content name p count cause kit back here undamaged keeps
 
 -- ---- there was no room for the engine of a partition that was opened, which is closed again
 
-pub pushed_back : {S D F W : Type 0} (eyes : Eyes S D F W) (size : D → ℕ) (options : Options) (here : Partition) (came : List Disk) (counted : KitFaults) (e : WithJobs S D F W) (outcome : Result (Unit {0}) EngineFault) (disks : List Disk) (left : KitFaults)
-    → IsOpened eyes options here came counted e → IsClosed eyes size e outcome disks left → IsGivenBack here came counted Memory disks left
-pushed_back eyes size options here came counted e outcome disks left i c = record {
+pub pushed_back : {S D F W : Type 0} (eyes : Eyes S D F W) (name : F → FileName) (size : D → ℕ) (options : Options) (here : Partition) (came : List Disk) (counted : KitFaults) (e : WithJobs S D F W) (outcome : Result (Unit {0}) EngineFault) (disks : List Disk) (left : KitFaults)
+    → IsOpened eyes options here came counted e → IsClosed eyes size e outcome disks left → IsGivenBack eyes.content name here came counted Memory disks left
+pushed_back eyes name size options here came counted e outcome disks left i c = record {
   of = tt;
   keeps = opened_keeps eyes size options here came counted e outcome disks left i c;
-  sound = told_always (λ disk. (cs : List Content) (logs : List (List PlainWrite)) → DiskOpens here disk cs logs → IsNoDamage Memory × IsHere Memory) came (λ disk cs logs opens. (tt, tt));
-  judged = told_always (λ disk. IsJudged here disk (Some Memory)) came (λ disk. tt);
+  sound = told_always (λ disk. (cs : List Content) (logs : List (List PlainWrite)) → DiskOpens here disk cs logs → IsNoDamage None Memory × IsHere None Memory) came (λ disk cs logs opens. (tt, tt));
+  judged = told_always (λ disk. IsJudged eyes.content name here disk (Some Memory)) came (λ disk. tt);
   untouched = inr i.passed;
   spent = λ never. absurd (cc);
   none_fell = none_fell_twice counted (faults_at eyes.counts e) left i.none_fell c.none_fell;
@@ -160,8 +160,19 @@ ends_of_opening here (Layout p found found_of asked_of) is = refl
 pub ends_not_given : (rose : Type 0) (p : ℕ) (fault : RunFault) → IsNotGiven rose p fault → EndsOver (Some fault) unopened
 ends_not_given rose p fault n = elim n.is [ inl disk ↦ subst (λ f. EndsOver (Some f) unopened) (sym disk) (inr refl) | inr memory ↦ subst (λ f. EndsOver (Some f) unopened) (sym memory) (inr refl) ]
 
-pub sound_not_given : (rose : Type 0) (p : ℕ) (fault : RunFault) → IsNotGiven rose p fault → IsNoDamage fault × IsHere fault
-sound_not_given rose p fault n = elim n.is [ inl disk ↦ subst (λ f. IsNoDamage f × IsHere f) (sym disk) (tt, tt) | inr memory ↦ subst (λ f. IsNoDamage f × IsHere f) (sym memory) (tt, tt) ]
+pub sound_not_given : (only : Option ℕ) (rose : Type 0) (p : ℕ) (fault : RunFault) → IsNotGiven rose p fault → IsNoDamage only fault × IsHere only fault
+sound_not_given only rose p fault n = elim n.is [ inl disk ↦ subst (λ f. IsNoDamage only f × IsHere only f) (sym disk) (tt, tt) | inr memory ↦ subst (λ f. IsNoDamage only f × IsHere only f) (sym memory) (tt, tt) ]
+
+-- where the files of the partition that was not opened are lawful, if it is looked at, it is neither
+pub sound_seen : (only : Option ℕ) (p count : ℕ) (fault : RunFault) → IsOfOpening (partition_at p count) fault → (IsSeen only p → IsNoDamage None fault × IsHere None fault) → IsNoDamage only fault × IsHere only fault
+sound_seen only p count Usage of sound = absurd of
+sound_seen only p count Read of sound = absurd of
+sound_seen only p count (Write n) of sound = absurd of
+sound_seen only p count Spent of sound = (tt, tt)
+sound_seen only p count (DiskFault q) of sound = (tt, tt)
+sound_seen only p count (Damaged q damage) of sound = (λ seen. (sound (subst (λ m. IsSeen only m) of seen)).0 tt, tt)
+sound_seen only p count Memory of sound = (tt, tt)
+sound_seen only p count (Layout q found found_of asked_of) of sound = (tt, λ seen. (sound (subst (λ m. IsSeen only m) of.0 seen)).1 tt)
 
 -- so it is no fault of the words, of the source, or of the sink
 pub ends_unopened : {K : Type 0} (rose : Type 0) (here : Partition) (p : ℕ) (fault : RunFault) (Back : K → Type 0) (kit : Option K) → ((k : K) → Back k → IsOfOpening here fault) → IfSome kit Back → (kit ≡ None → IsNotGiven rose p fault)

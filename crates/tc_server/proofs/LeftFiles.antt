@@ -92,20 +92,20 @@ opened_then spent (Some (Damaged p damage)) by = absurd (cc)
 opened_then spent (Some Memory) by = absurd (cc)
 opened_then spent (Some (Layout p found found_of asked_of)) by = by
 
-run_is_here : (f : RunFault) → IsOfRun f → IsHere f
-run_is_here Usage kind = absurd kind
-run_is_here Read kind = tt
-run_is_here (Write n) kind = tt
-run_is_here Spent kind = tt
-run_is_here (DiskFault p) kind = tt
-run_is_here (Damaged p damage) kind = tt
-run_is_here Memory kind = tt
-run_is_here (Layout p found found_of asked_of) kind = absurd kind
+run_is_here : (only : Option ℕ) (f : RunFault) → IsOfRun f → IsHere only f
+run_is_here only Usage kind = absurd kind
+run_is_here only Read kind = tt
+run_is_here only (Write n) kind = tt
+run_is_here only Spent kind = tt
+run_is_here only (DiskFault p) kind = tt
+run_is_here only (Damaged p damage) kind = tt
+run_is_here only Memory kind = tt
+run_is_here only (Layout p found found_of asked_of) kind = absurd kind
 
-sound_here : (first : Option World) (fault : Option RunFault) → IfSome fault IsOfRun → IfSome first (λ w. IfSome fault IsNoDamage) → IfSome first (λ w. IfSome fault IsNoDamage × IfSome fault IsHere)
-sound_here None fault kind sound = tt
-sound_here (Some w) None kind sound = (tt, tt)
-sound_here (Some w) (Some f) kind sound = (sound, run_is_here f kind)
+sound_here : (first : Sight) (fault : Option RunFault) → IfSome fault IsOfRun → IfKnown first (λ only w. IfSome fault (IsNoDamage only)) → IfKnown first (λ only w. IfSome fault (IsNoDamage only) × IfSome fault (IsHere only))
+sound_here nothing fault kind sound = tt
+sound_here (sees only w) None kind sound = (tt, tt)
+sound_here (sees only w) (Some f) kind sound = (sound, run_is_here only f kind)
 
 both_many : (count : ℕ) (first : Sight) (answered : List Window) → IfKnown first (λ only w. length w.parts ≡ count) → IfKnown first (λ only w. (length w.parts ≡ count) × (length (behind w answered).parts ≡ count))
 both_many count nothing answered many = tt
@@ -120,7 +120,7 @@ ran_over shown holds keeps rests spent fault first options files left left' take
   ending = r.run.ending;
   by = ends_over (spent k) fault r.run.ending r.run.by;
   ran = r.run.ran;
-  sound = sound_here (whole_of first) fault kind r.sound;
+  sound = sound_here first fault kind r.sound;
   needs = λ fewer. absurd (omega (arith, fewer, leaves.as_many));
   exits = exits_left holds keeps rests options k kits first r.run.ending r.run.ran.answered r.run.ran.last leaves many r.left;
   kept = λ never. absurd (opened_then (spent k) fault (subst (λ e. EndsAs (spent k) fault e) never r.run.by));

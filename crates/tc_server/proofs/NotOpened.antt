@@ -4,6 +4,7 @@ use Rattle.std.specs.Prelude.{Option, Some, None, IfSome, Result, slice_get, unw
 use Rattle.std.specs.Io.KnownBytes.{Appends}
 use Rattle.std.proofs.KnownBytes.{Consumes-nil, Appends-nil, Keeps-refl}
 use Rattle.std.proofs.lemmas.Option.{slice_get-map}
+use Rattle.tc_server.proofs.SightLaws.{if_known}
 use Rattle.tc_keeper.specs.Standing.{partition_at, IsSeen}
 use Rattle.tc_keeper.specs.WithJobs.{told_of, WithJobs}
 use Rattle.tc_lsm_model.specs.Contents.{Partition}
@@ -103,13 +104,12 @@ exits_first : (limits : Limits) (count : ℕ) (files : ℕ → List Disk) (first
 exits_first limits count files nothing kits begins few keeps = tt
 exits_first limits count files (sees only w) kits begins few keeps = exits_kept limits count files only w kits begins few keeps
 
--- where it is known what is stored, the files of a partition are lawful
-pub lawful_first : (limits : Limits) (count p : ℕ) (files : ℕ → List Disk) (first : Sight) (P : Type 0) → p < count → BeginsAs limits count files first → IfLawful (partition_at p count) (files p) P → IfSome (whole_of first) (λ w. P)
+-- where it is known what a partition stores, its files are lawful
+pub lawful_first : (limits : Limits) (count p : ℕ) (files : ℕ → List Disk) (first : Sight) (P : Type 0) → p < count → BeginsAs limits count files first → IfLawful (partition_at p count) (files p) P → IfKnown first (λ only w. IsSeen only p → P)
 lawful_first limits count p files nothing P below begins holds = tt
-lawful_first limits count p files (sees (Some q) w) P below begins holds = tt
-lawful_first limits count p files (sees None w) P below o holds =
+lawful_first limits count p files (sees only w) P below o holds = λ seen.
     let here = there o.stores p (omega (arith, below, o.counted)) in
-    at (files p) here.0 (each-at (λ p stored. Unit {0} → OpensAs (partition_at p count) (files p) stored × AreOwn count p stored.pairs) p o.stores here.0 o.each here.1 tt).0 holds
+    at (files p) here.0 (each-at (λ p stored. IsSeen only p → OpensAs (partition_at p count) (files p) stored × AreOwn count p stored.pairs) p o.stores here.0 o.each here.1 seen).0 holds
   where
     at : (came : List Disk) (stored : Store) → OpensAs (partition_at p count) came stored → IfLawful (partition_at p count) came P → P
     at [] stored opens holds = absurd opens
@@ -120,18 +120,14 @@ ended_by_fault : (X : Option ℕ → World → Type 0) (fault : RunFault) (first
 ended_by_fault X fault nothing = tt
 ended_by_fault X fault (sees only w) = λ none. absurd (cc)
 
-sound_first : (fault : RunFault) (first : Option World) → IfSome first (λ w. IsNoDamage fault × IsHere fault) → IfSome first (λ w. IfSome (Some fault) IsNoDamage × IfSome (Some fault) IsHere)
-sound_first fault None sound = tt
-sound_first fault (Some w) sound = sound
-
 pub ran_unopened : (shown : Shown) → shown [] ≡ [] → (fault : RunFault) (first : Sight) (options : Options) (files : ℕ → List Disk) (left taken : Option (List ℕ)) (kits : List (List Disk))
-    → EndsOver (Some fault) unopened → BeginsAs (limits_of options) options.partitions files first → IfSome (whole_of first) (λ w. IsNoDamage fault × IsHere fault) → length kits ≤ options.partitions
+    → EndsOver (Some fault) unopened → BeginsAs (limits_of options) options.partitions files first → IfKnown first (λ only w. IsNoDamage only fault × IsHere only fault) → length kits ≤ options.partitions
     → EachFrom (λ p. KeepsOpened (partition_at p options.partitions) (files p)) 0 kits → RanOver shown (Some fault) first options files left left taken taken kits
 ran_unopened shown none fault first options files left taken kits by begins sound few keeps = record {
   ending = unopened;
   by = by;
   ran = ran_unread shown none (whole_of first) options.window left taken;
-  sound = sound_first fault (whole_of first) sound;
+  sound = sound;
   needs = λ fewer. refl;
   exits = exits_first (limits_of options) options.partitions files first kits begins few keeps;
   kept = λ is. keeps;
@@ -139,19 +135,15 @@ ran_unopened shown none fault first options files left taken kits by begins soun
 }
 
 pub asked_unopened : (asked : Invocation) (fault : RunFault) (first : Sight) (files : ℕ → List Disk) (left taken : Option (List ℕ)) (kits : List (List Disk))
-    → EndsOver (Some fault) unopened → BeginsFor (Some asked) files first → IfSome (whole_of first) (λ w. IsNoDamage fault × IsHere fault) → length kits ≤ (options_asked asked).partitions
+    → EndsOver (Some fault) unopened → BeginsFor (Some asked) files first → IfKnown first (λ only w. IsNoDamage only fault × IsHere only fault) → length kits ≤ (options_asked asked).partitions
     → EachFrom (λ p. KeepsOpened (partition_at p (options_asked asked).partitions) (files p)) 0 kits → AskedOver asked (Some fault) first files left left taken taken kits
 asked_unopened asked fault first files left taken kits by begins sound few keeps =
     runs_unread asked left (OverOf asked (Some fault) first files taken taken kits)
     (λ shown none unread. ran_unopened shown none fault first (options_asked asked) files unread taken kits by begins sound few keeps)
 
-always : {P : Type 0} (first : Option World) → P → IfSome first (λ w. P)
-always None p = tt
-always (Some w) p = p
-
 -- memory was wanting before a kit was asked for
 pub asked_without_room : (asked : Invocation) (first : Sight) (files : ℕ → List Disk) (left taken : Option (List ℕ)) → BeginsFor (Some asked) files first → AskedOver asked (Some Memory) first files left left taken taken []
-asked_without_room asked first files left taken begins = asked_unopened asked Memory first files left taken [] (inr refl) begins (always (whole_of first) (tt, tt)) (omega arith) tt
+asked_without_room asked first files left taken begins = asked_unopened asked Memory first files left taken [] (inr refl) begins (if_known first (λ only. Unit {0} × Unit {0}) (λ only w is. (tt, tt))) (omega arith) tt
 
 -- ---- for words that are no command line
 

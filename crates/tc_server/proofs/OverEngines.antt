@@ -1,6 +1,6 @@
 -- A session over engines: where it begins, what counts over it, and what is left when the engines are closed.
 use Rattle.std.proofs.Common.{◌≡◌, ◌⊎◌, ◌∙◌, ◌≤◌, ◌<◌, ◌+◌, ℕ, zero, suc, true, List, [], ◌∷◌, All, map, is_some, length, arith, refl, ap, sym, subst, inl, inr}
-use Rattle.std.specs.Prelude.{Option, Some, None, IfErr, IfSome, IsErrOf, IsSome, option_map, slice_get, Result, Ok, Err, OnOk}
+use Rattle.std.specs.Prelude.{Option, Some, None, IfErr, IfSome, IsErrOf, option_map, slice_get, Result, Ok, Err, OnOk}
 use Rattle.std.proofs.lemmas.List.{length-map}
 use Rattle.std.proofs.lemmas.List.Elements.{All-cons, All-head, All-nil, All-tail, All-weaker}
 use Rattle.tc_keeper.specs.Places.{AtEach, SomeFrom}
@@ -13,6 +13,7 @@ use Rattle.tc_log.specs.Layout.{empty_size}
 use Rattle.tc_run_model.specs.World.{World}
 use Rattle.tc_store.specs.Counted.{Counts}
 use Rattle.tc_store.specs.Disk.{Disk}
+use Rattle.tc_store.specs.DiskFile.{DiskFile}
 use Rattle.tc_store.specs.KitFaults.{KitFaults}
 use Rattle.tc_store.specs.Moments.{IfTold}
 use Rattle.tc_words.specs.declared.run.Options.{Options}
@@ -22,7 +23,7 @@ use Rattle.tc_work.specs.declared.fault.EngineFault.{EngineFault}
 use Rattle.tc_work.specs.declared.fault.EngineFault.TheVariants as engine
 use Rattle.tc_keeper.specs.Calls.{faults_at, faults_of, settings_of, HoldsAt, IsSpent, IsSpentAt, KeepsAt, MayAsk, MayBeAsked, Rests}
 use Rattle.tc_keeper.specs.Faults.{fault_in, fault_of_engine, HaveRisen, HaveStayed, IfDamaged, IfDisk, IsNoDamage, IsOfJob, NoneFell, OneRose}
-use Rattle.tc_keeper.specs.Keeping.{AreUnwritten}
+use Rattle.tc_keeper.specs.Keeping.{AreUnwritten, IsMetBehind}
 use Rattle.tc_server.specs.KitCauses.{HasLastGeneration}
 use Rattle.tc_server.specs.Kits.{least_fault, IsBegun, IsClosed}
 use Rattle.tc_keeper.specs.Partitions.{StandAt}
@@ -145,25 +146,21 @@ module _ {S W D F P K : Type 0} (eyes : Eyes S D F W) (size : D → ℕ) (outcom
   pub ended_of : IfSome Ended IsOfJob
   ended_of = if_some Ended (λ fault is. is_job fault (ended_by outcome 0 ks fault is))
 
-  -- it is no damage where it is known what is stored
-  sound_at : (w : World) (fault : RunFault) → AtEach (λ p e part. IsSeen None p → HoldsPart (works_of eyes e) (told_of eyes e) e.engine.part.limits (partition_at p (length w.parts)) w part) 0 k'.engines w.parts → IsEndedBy outcome 0 ks fault → IsNoDamage fault
-  sound_at w fault held b =
+  -- it is no damage of a partition of which it is known what it stores
+  sound_at : (only : Option ℕ) (w : World) (fault : RunFault) → AtEach (λ p e part. IsSeen only p → HoldsPart (works_of eyes e) (told_of eyes e) e.engine.part.limits (partition_at p (length w.parts)) w part) 0 k'.engines w.parts → IsEndedBy outcome 0 ks fault → IsNoDamage only fault
+  sound_at only w fault held b =
       let at = ended_at b.place b.ended b.at in
-      let part = at_each-at (λ p e part. IsSeen None p → HoldsPart (works_of eyes e) (told_of eyes e) e.engine.part.limits (partition_at p (length w.parts)) w part) b.place k'.engines w.parts at.0 held at.1 in
-      let h = part.2 tt in
-      subst IsNoDamage b.is (undamaged_at (0 + b.place) b.why (subst (λ r. IfErr r (λ fault. IfEngineDamaged fault (λ damage. ⊥))) b.by (at.2.undamaged h.view h.is h.tells h.jobs)))
+      let part = at_each-at (λ p e part. IsSeen only p → HoldsPart (works_of eyes e) (told_of eyes e) e.engine.part.limits (partition_at p (length w.parts)) w part) b.place k'.engines w.parts at.0 held at.1 in
+      let same : 0 + b.place ≡ b.place = omega arith in
+      subst (IsNoDamage only) b.is (undamaged_at only (0 + b.place) b.why
+      (λ seen. let h = part.2 (subst (λ p. IsSeen only p) same seen) in subst (λ r. IfErr r (λ fault. IfEngineDamaged fault (λ damage. ⊥))) b.by (at.2.undamaged h.view h.is h.tells h.jobs)))
 
-  pub ended_sound : Rests size k' → (w : World) → HoldsAt eyes k' (sees None w) ⊎ KeepsAt eyes k' None w w → IfSome Ended IsNoDamage
+  pub ended_sound : Rests size k' → (only : Option ℕ) (w : World) → HoldsAt eyes k' (sees only w) ⊎ KeepsAt eyes k' only w w → IfSome Ended (IsNoDamage only)
   unfolding HoldsAt KeepsAt Rests
-  ended_sound rests w at =
-      if_some Ended (λ fault is. sound_at w fault (elim at [ inl held ↦ held.each | inr kept ↦ all_hold eyes size outcome left faults None w k'.engines rests kept ]) (ended_by outcome 0 ks fault is))
+  ended_sound rests only w at =
+      if_some Ended (λ fault is. sound_at only w fault (elim at [ inl held ↦ held.each | inr kept ↦ all_hold eyes size outcome left faults only w k'.engines rests kept ]) (ended_by outcome 0 ks fault is))
 
 -- ---- what counts
-
-some_there : {X : Type 0} (xs : List X) (p : ℕ) (f : X → KitFaults) → IsSome (option_map f (slice_get xs p)) → p < length xs
-some_there [] p f is = absurd (cc)
-some_there (x ∷ xs) zero f is = omega arith
-some_there (x ∷ xs) (suc p) f is = let more = some_there xs p f is in omega (arith, more)
 
 pub one_rose_then : (a b c : KitFaults) → OneRose a b → NoneFell b c → OneRose a c
 one_rose_then a b c (inl rose) fell = inl (omega (arith, fell.main, rose))
@@ -234,17 +231,19 @@ module _ {S W D F K : Type 0} (counts : W → Counts) (faults : K → KitFaults)
   disk_over k k' ks (Some Memory) settings rose closed = tt
   disk_over k k' ks (Some (Layout p found found_of asked_of)) settings rose closed = tt
 
-pub damaged_over : {S W D F P : Type 0} (counts : W → Counts) (k k' : Partitions S P W D F) (fault : Option RunFault) → settings_of k' ≡ settings_of k → IfSome fault (λ f. IfDamaged f (λ p. IsSome (faults_of counts k' p))) → IfSome fault (λ f. IfDamaged f (λ q. q < length k.engines))
-unfolding faults_of
-damaged_over counts k k' None settings there = tt
-damaged_over counts k k' (Some Usage) settings there = tt
-damaged_over counts k k' (Some Read) settings there = tt
-damaged_over counts k k' (Some (Write n)) settings there = tt
-damaged_over counts k k' (Some Spent) settings there = tt
-damaged_over counts k k' (Some (DiskFault p)) settings there = tt
-damaged_over counts k k' (Some (Damaged p damage)) settings there = let below = some_there k'.engines p (λ e. faults_at counts e) there in omega (arith, below, as_many_engines k k' settings)
-damaged_over counts k k' (Some Memory) settings there = tt
-damaged_over counts k k' (Some (Layout p found found_of asked_of)) settings there = tt
+-- what was met was met in one of them
+pub damaged_over : {S W D F P : Type 0} (moments : D → List DiskFile) (content : F → Option (List ℕ)) (k k' : Partitions S P W D F) (fault : Option RunFault)
+    → settings_of k' ≡ settings_of k → IfSome fault (λ f. IfDamaged f (IsMetBehind moments content k'))
+    → IfSome fault (λ f. IfDamaged f (λ q damage. q < length k.engines))
+damaged_over moments content k k' None settings met = tt
+damaged_over moments content k k' (Some Usage) settings met = tt
+damaged_over moments content k k' (Some Read) settings met = tt
+damaged_over moments content k k' (Some (Write n)) settings met = tt
+damaged_over moments content k k' (Some Spent) settings met = tt
+damaged_over moments content k k' (Some (DiskFault p)) settings met = tt
+damaged_over moments content k k' (Some (Damaged p damage)) settings met = omega (arith, met.0, as_many_engines k k' settings)
+damaged_over moments content k k' (Some Memory) settings met = tt
+damaged_over moments content k k' (Some (Layout p found found_of asked_of)) settings met = tt
 
 -- ---- what counts of a fault with which an engine ended
 
@@ -283,13 +282,13 @@ module _ {S W D F P K : Type 0} (eyes : Eyes S D F W) (size : D → ℕ) (outcom
       let same : 0 + b.place ≡ b.place = omega arith in
       subst (λ f. IfDisk f Rises) b.is (disk_by (0 + b.place) b.why (λ disk. rises_at stayed (0 + b.place) b.ended (subst (λ q. slice_get ks q ≡ Some b.ended) (sym same) b.at) (is_err_of (outcome b.ended) b.why engine.Disk b.by disk))))
 
-  damaged_by : (q : ℕ) (why : EngineFault) → q < length k.engines → IfDamaged (fault_of_engine q why) (λ q. q < length k.engines)
+  damaged_by : (q : ℕ) (why : EngineFault) → q < length k.engines → IfDamaged (fault_of_engine q why) (λ q damage. q < length k.engines)
   damaged_by q engine.Disk within = tt
   damaged_by q (engine.Damaged damage) within = within
   damaged_by q engine.Spent within = tt
   damaged_by q engine.Memory within = tt
 
-  pub damaged_ended : IfSome (least_fault 0 (map outcome ks)) (λ f. IfDamaged f (λ q. q < length k.engines))
+  pub damaged_ended : IfSome (least_fault 0 (map outcome ks)) (λ f. IfDamaged f (λ q damage. q < length k.engines))
   damaged_ended = if_some (least_fault 0 (map outcome ks)) (λ fault is.
       let b = ended_by outcome 0 ks fault is in
-      subst (λ f. IfDamaged f (λ q. q < length k.engines)) b.is (damaged_by (0 + b.place) b.why (omega (arith, as_many, below ks b.place b.ended b.at))))
+      subst (λ f. IfDamaged f (λ q damage. q < length k.engines)) b.is (damaged_by (0 + b.place) b.why (omega (arith, as_many, below ks b.place b.ended b.at))))

@@ -1,5 +1,5 @@
 -- A run over partitions that were all opened: what is said of its kits, by what is said of their engines.
-use Rattle.std.proofs.Common.{◌≡◌, ◌⊎◌, ◌∙◌, ◌<◌, ℕ, List, All, map, length, arith, refl, ap, sym, subst, inr}
+use Rattle.std.proofs.Common.{◌≡◌, ◌⊎◌, ◌∙◌, ◌<◌, ℕ, suc, List, All, map, length, arith, refl, ap, sym, subst, inr}
 use Rattle.std.specs.Prelude.{Option, Some, None, IfSome, IsSomeAnd, option_map, slice_get}
 use Rattle.std.proofs.lemmas.Option.{slice_get-map}
 use Rattle.std.proofs.lemmas.List.{length-map}
@@ -25,27 +25,27 @@ use Rattle.tc_keeper.specs.declared.fault.RunFault.TheVariants.{Usage, Read, Wri
 use Rattle.tc_keeper.proofs.Causes.{none_fell_twice, one_rose}
 use Rattle.tc_keeper.proofs.EachLaws.{at_each-at, each-all, each-at, each-beside, each-map, each-so, some-map, some-so, there}
 
-pub asked_all : (count : ℕ) (fault : Option RunFault) → 0 < count → IfSome fault IsOfRun → IfSome fault (λ f. IfDisk f (λ q. q < count)) → IfSome fault (λ f. IfDamaged f (λ q. q < count)) → AreAsked count fault count
+pub asked_all : (count : ℕ) (fault : Option RunFault) → 0 < count → IfSome fault IsOfRun → IfSome fault (λ f. IfDisk f (λ q. q < count)) → IfSome fault (λ f. IfDamaged f (λ q damage. q < count)) → AreAsked count fault count
 asked_all count None some kind disk damaged = refl
 asked_all count (Some Usage) some kind disk damaged = absurd kind
 asked_all count (Some Read) some kind disk damaged = refl
 asked_all count (Some (Write n)) some kind disk damaged = refl
 asked_all count (Some Spent) some kind disk damaged = some
 asked_all count (Some (DiskFault p)) some kind disk damaged = (omega (arith, disk), disk)
-asked_all count (Some (Damaged p damage)) some kind disk damaged = damaged
+asked_all count (Some (Damaged p damage)) some kind disk damaged = inr (damaged, refl)
 asked_all count (Some Memory) some kind disk damaged = tt
 asked_all count (Some (Layout p found found_of asked_of)) some kind disk damaged = absurd kind
 
-judged_run : (here : Partition) (disk : Disk) (fault : Option RunFault) → IfSome fault IsOfRun → ArePassed here disk → IsJudged here disk fault
-judged_run here disk None kind passed = passed
-judged_run here disk (Some Usage) kind passed = tt
-judged_run here disk (Some Read) kind passed = passed
-judged_run here disk (Some (Write n)) kind passed = passed
-judged_run here disk (Some Spent) kind passed = passed
-judged_run here disk (Some (DiskFault p)) kind passed = tt
-judged_run here disk (Some (Damaged p damage)) kind passed = inr passed
-judged_run here disk (Some Memory) kind passed = tt
-judged_run here disk (Some (Layout p found found_of asked_of)) kind passed = absurd kind
+judged_run : {F : Type 0} (content : F → Option (List ℕ)) (name : F → FileName) (here : Partition) (disk : Disk) (fault : Option RunFault) → suc here.number ≡ here.count → IfSome fault IsOfRun → ArePassed here disk → IsJudged content name here disk fault
+judged_run content name here disk None last kind passed = passed
+judged_run content name here disk (Some Usage) last kind passed = tt
+judged_run content name here disk (Some Read) last kind passed = passed
+judged_run content name here disk (Some (Write n)) last kind passed = passed
+judged_run content name here disk (Some Spent) last kind passed = passed
+judged_run content name here disk (Some (DiskFault p)) last kind passed = tt
+judged_run content name here disk (Some (Damaged p damage)) last kind passed = inr (last, passed)
+judged_run content name here disk (Some Memory) last kind passed = tt
+judged_run content name here disk (Some (Layout p found found_of asked_of)) last kind passed = absurd kind
 
 pub layout_run : {F : Type 0} (W : Type 0) (size : F → ℕ) (name : F → FileName) (fault : Option RunFault) → IfSome fault IsOfRun → IfSome fault (HasLayoutCause W size name)
 layout_run W size name None kind = tt
@@ -105,10 +105,12 @@ module _ {S D F W K : Type 0} (eyes : Eyes S D F W) (disks : K → List Disk) (f
   passed_at : (p : ℕ) → p < length es → IfTold (files p) (ArePassed (partition_at p options.partitions))
   passed_at p below = let e = there es p below in (each-at (λ p e. IsOpened eyes options (partition_at p options.partitions) (files p) (came p) e) p es e.0 opened e.1).passed
 
-  pub judged_all : (ks : List K) (fault : Option RunFault) → AtEach (λ p e k. NoneFell (faults_at eyes.counts e) (faults k)) 0 es ks → IfSome fault IsOfRun → AreJudged options.partitions files fault (map disks ks)
-  judged_all ks fault fell kind = record {
+  pub judged_all : (name : F → FileName) (ks : List K) (fault : Option RunFault) → length es ≡ options.partitions → AtEach (λ p e k. NoneFell (faults_at eyes.counts e) (faults k)) 0 es ks → IfSome fault IsOfRun
+      → AreJudged eyes.content name options.partitions files fault (map disks ks)
+  judged_all name ks fault all fell kind = record {
     opened = λ p lower. passed_at p (omega (arith, lower, many));
-    last = λ p is. told_map (ArePassed (partition_at p options.partitions)) (λ disk. IsJudged (partition_at p options.partitions) disk fault) (files p) (λ disk. judged_run (partition_at p options.partitions) disk fault kind) (passed_at p (omega (arith, is, many)));
+    last = λ p is. told_map (ArePassed (partition_at p options.partitions)) (λ disk. IsJudged eyes.content name (partition_at p options.partitions) disk fault) (files p)
+        (λ disk. judged_run eyes.content name (partition_at p options.partitions) disk fault (is ∙ many ∙ all) kind) (passed_at p (omega (arith, is, many)));
     untouched =
         each-map disks (λ p left. IsUntouched (partition_at p options.partitions) (files p) left) 0 ks
         (each-beside (λ p e. IsOpened eyes options (partition_at p options.partitions) (files p) (came p) e) (λ p e k. NoneFell (faults_at eyes.counts e) (faults k)) (λ p k. IsUntouched (partition_at p options.partitions) (files p) (disks k)) 0 es ks

@@ -29,7 +29,7 @@ use Rattle.tc_keeper.specs.declared.fault.RunFault.TheVariants.{Usage, Read, Wri
 use Rattle.tc_server.specs.declared.session.Session.{Session}
 use Rattle.tc_server.proofs.Answering.{store_stops}
 use Rattle.tc_server.proofs.SessionLemmas.{stops_between}
-use Rattle.tc_server.proofs.SightLaws.{if_whole, sight_none}
+use Rattle.tc_server.proofs.SightLaws.{if_known, sight_none}
 
 -- ---- one more line
 
@@ -274,7 +274,7 @@ ran_to_end holds keeps spent first limit seen session begun left base taken hear
       took = at.written;
     };
   };
-  sound = if_whole first (Unit {0}) (λ w is. tt);
+  sound = if_known first (λ only. Unit {0}) (λ only w is. tt);
   left = left_behind_all holds keeps first (with_end (windows_of limit seen)).closed session.keeper at.store;
   stands = λ none. stands_behind holds first (with_end (windows_of limit seen)).closed session.keeper at.store;
 }
@@ -307,7 +307,7 @@ read_failed holds keeps spent first old session begun left left' base taken goes
       took = come.at.written;
     };
   };
-  sound = if_whole first (Unit {0}) (λ w is. tt);
+  sound = if_known first (λ only. Unit {0}) (λ only w is. tt);
   left = left_behind_all holds keeps first (windows_of session.window.limit come.seen).closed session.keeper come.at.store;
   stands = λ never. absurd (cc);
 }
@@ -336,7 +336,7 @@ all_taken holds keeps spent first old new session begun left left' base taken go
       took = come.at.written;
     };
   };
-  sound = if_whole first (Unit {0}) (λ w is. tt);
+  sound = if_known first (λ only. Unit {0}) (λ only w is. tt);
   left = left_behind_all holds keeps first (windows_of session.window.limit come.seen).closed session.keeper come.at.store;
   stands = λ never. absurd (cc);
 }
@@ -430,14 +430,14 @@ settles_not holds keeps (sees only w) k fails = record { one = w; other = w; one
 settles_not holds keeps nothing k fails = tt
 
 pub begins_not : {K : Type 0} (holds : K → Sight → Type 0) (keeps : K → Option ℕ → World → World → Type 0) (spent : K → Type 0) (first : Sight) (most : ℕ)
-    (left taken : Option (List ℕ)) (fault : RunFault) (k : K) → IsOfStore fault → (fault ≡ Spent → spent k) → ((w : World) → first ≡ sees None w → IsNoDamage fault)
-    → ((only : Option ℕ) (w : World) → first ≡ sees only w → keeps k only w w)
+    (left taken : Option (List ℕ)) (fault : RunFault) (k : K) → IsOfStore fault → (fault ≡ Spent → spent k)
+    → ((only : Option ℕ) (w : World) → first ≡ sees only w → IsNoDamage only fault) → ((only : Option ℕ) (w : World) → first ≡ sees only w → keeps k only w w)
     → RanLeaving each_line holds keeps spent (Some fault) first most left left taken taken k
 begins_not holds keeps spent first most left taken fault k kind cause sound fails =
     ends_among holds keeps spent first most [] left left taken taken fault k (closed_windows most []) (Consumes-nil left) (inl refl) cause (record {
       stop = gave_up;
       by = store_stops fault kind;
-      sound = if_whole first (IsNoDamage fault) sound;
+      sound = if_known first (λ only. IsNoDamage only fault) sound;
       ends = record {
         answered = [];
         last = [];

@@ -24,7 +24,7 @@ use Rattle.tc_keeper.specs.Together.{requests_routed}
 use Rattle.tc_server.specs.Window.{request_refused, requests_of, IsSoundWindow}
 use Rattle.tc_server.specs.Stage.{AsksFor, IsAt, with_end, EndsAmong, StopsIn}
 use Rattle.tc_server.proofs.Mixing.{length-mixed}
-use Rattle.tc_server.proofs.SightLaws.{if_whole, replied_after, replied_both, whole_before}
+use Rattle.tc_server.proofs.SightLaws.{if_known, known_before, replied_after, replied_both}
 use Rattle.std.proofs.lemmas.Bool.Decides.{nat_tests}
 use Rattle.tc_command.specs.declared.refusals.Refusal.TheVariants.{Oversized}
 use Rattle.tc_server.specs.declared.answer.Action.{Action}
@@ -120,7 +120,7 @@ pub stops_before : {K : Type 0} (holds : K → Sight → Type 0) (keeps : K → 
 stops_before holds keeps first base taken ws session k whole at same among = record {
   stop = gave_up;
   by = refl;
-  sound = if_whole first (IsNoDamage Memory) (λ w is. tt);
+  sound = if_known first (λ only. Unit {0}) (λ only w is. tt);
   ends = record {
     answered = ws.closed;
     last = [];
@@ -205,7 +205,7 @@ fails_closing holds keeps first base taken taken' ws session fault k whole at fa
     let failed = subst (λ rs. HaveFailed holds keeps fault known rs taken taken' k) at.requests (fails known at.store) in record {
       stop = failed.stop;
       by = failed.by;
-      sound = whole_before (IsNoDamage fault) first ws.closed failed.sound;
+      sound = known_before (λ only. IsNoDamage only fault) first ws.closed failed.sound;
       ends = ends_closing holds keeps first base taken taken' ws.closed ws.open_lines at.replies failed.stop k whole at.given at.written failed.wrote failed.left among;
     }
 
@@ -266,7 +266,7 @@ fails_line holds keeps first base taken taken' ws line asked size session fault 
     let failed = subst (λ rs. HaveFailed holds keeps fault (sight_behind first closed) rs taken taken' k) (request_alone line asked size asks) (fails (sight_behind first closed) at.store) in record {
       stop = failed.stop;
       by = failed.by;
-      sound = whole_before (IsNoDamage fault) first closed failed.sound;
+      sound = known_before (λ only. IsNoDamage only fault) first closed failed.sound;
       ends = ends_closing holds keeps first base taken taken' closed (line ∷ []) at.replies failed.stop k (closed ++ (line ∷ []) ∷ []) at.given at.written failed.wrote failed.left (BeginsWith-refl _);
     }
 

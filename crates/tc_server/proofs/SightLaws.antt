@@ -1,13 +1,13 @@
 -- Laws of what is known: behind requests it is what they leave, and replies are told by it.
 use Rattle.std.proofs.Common.{◌≡◌, ℕ, List, [], ◌++◌, refl, ap, subst}
-use Rattle.std.specs.Prelude.{Option, Some, None, IfSome}
+use Rattle.std.specs.Prelude.{Option, Some, None}
 use Rattle.tc_request_model.specs.Reply.{Reply}
 use Rattle.tc_request_model.specs.Request.{Request}
 use Rattle.tc_run_model.specs.Known.{MayReply, known_after}
 use Rattle.tc_run_model.specs.Windows.{Window}
 use Rattle.tc_run_model.specs.World.{World}
 use Rattle.tc_run_model.proofs.ReplyLaws.{known_after-append, MayReply-append}
-use Rattle.tc_keeper.specs.Sight.{nothing, sees, sight_after, sight_behind, whole_of, Sight}
+use Rattle.tc_keeper.specs.Sight.{nothing, sees, sight_after, sight_behind, whole_of, IfKnown, Sight}
 
 pub whole_after : (rs : List Request) (known : Sight) → whole_of (sight_after rs known) ≡ known_after rs (whole_of known)
 whole_after rs nothing = refl
@@ -27,17 +27,15 @@ pub sight_append : (rs ss : List Request) (known : Sight) → sight_after (rs ++
 sight_append rs ss nothing = refl
 sight_append rs ss (sees only w) = ap (sight_of only) (known_after-append rs ss (Some w))
 
--- where it is known what all partitions store
-pub if_whole : (known : Sight) (P : Type 0) → ((w : World) → known ≡ sees None w → P) → IfSome (whole_of known) (λ w. P)
-if_whole nothing P holds = tt
-if_whole (sees None w) P holds = holds w refl
-if_whole (sees (Some p) w) P holds = tt
+-- where something is known
+pub if_known : (known : Sight) (P : Option ℕ → Type 0) → ((only : Option ℕ) (w : World) → known ≡ sees only w → P only) → IfKnown known (λ only w. P only)
+if_known nothing P holds = tt
+if_known (sees only w) P holds = holds only w refl
 
--- what all partitions store is known behind windows where it is before them
-pub whole_before : (P : Type 0) (first : Sight) (ws : List Window) → IfSome (whole_of (sight_behind first ws)) (λ w. P) → IfSome (whole_of first) (λ w. P)
-whole_before P nothing ws sound = sound
-whole_before P (sees None w) ws sound = sound
-whole_before P (sees (Some p) w) ws sound = sound
+-- of the same partitions it is known behind windows as before them
+pub known_before : (P : Option ℕ → Type 0) (first : Sight) (ws : List Window) → IfKnown (sight_behind first ws) (λ only w. P only) → IfKnown first (λ only w. P only)
+known_before P nothing ws is = is
+known_before P (sees only w) ws is = is
 
 -- replies to requests, and to those behind them
 pub replied_after : (rs ss : List Request) (first : Sight) (replies : List Reply) → MayReply ss (whole_of (sight_after rs first)) replies → MayReply ss (known_after rs (whole_of first)) replies

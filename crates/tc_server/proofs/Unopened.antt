@@ -5,7 +5,7 @@ use Rattle.std.proofs.lemmas.List.{length-map, map-append, nil_from_length}
 use Rattle.std.specs.Prelude.{Option, Some, None, IfSome, IsSomeAnd, Result, option_to_list, slice_get}
 use Rattle.tc_bytes.specs.Counts.{Rose}
 use Rattle.tc_keeper.specs.Places.{AtEach, EachFrom, SomeFrom}
-use Rattle.tc_keeper.specs.Standing.{partition_at}
+use Rattle.tc_keeper.specs.Standing.{partition_at, IsSeen}
 use Rattle.tc_keeper.specs.WithJobs.{WithJobs}
 use Rattle.tc_keeper.proofs.PlaceLaws.{at_each-length, at_each-reads, at_each-so}
 use Rattle.tc_open.specs.Judged.{ArePassed, AreSpent, IsUntouched, Passes}
@@ -13,6 +13,7 @@ use Rattle.tc_run_model.specs.Course.{unopened}
 use Rattle.tc_store.specs.Disk.{Disk}
 use Rattle.tc_store.specs.KitFaults.{KitFaults}
 use Rattle.tc_store.specs.Moments.{IfTold}
+use Rattle.tc_store.specs.declared.file_name.FileName.{FileName}
 use Rattle.tc_work.specs.Moving.{Eyes}
 use Rattle.tc_work.specs.declared.fault.EngineFault.{EngineFault}
 use Rattle.tc_words.specs.declared.run.Options.{Options}
@@ -22,14 +23,14 @@ use Rattle.tc_keeper.specs.Faults.{IfDisk, IsNoDamage, NoneFell, OneRose}
 use Rattle.tc_server.specs.KitCauses.{AreAsked, AreGenerationsSpent, AreJudged, HasDiskCauseOver, HasLastGeneration, IsJudged, NoneFellOf}
 use Rattle.tc_server.specs.Kits.{AreOpened, IsClosed, IsGivenBack, IsNotGiven, IsOfOpening, IsOpened}
 use Rattle.tc_server.specs.OverFiles.{BeginsAs, EndsOver, IsHere, KeepsOpened}
-use Rattle.tc_keeper.specs.Sight.{whole_of, Sight}
+use Rattle.tc_keeper.specs.Sight.{nothing, sees, IfKnown, Sight}
 use Rattle.tc_keeper.specs.declared.fault.RunFault.{RunFault}
 use Rattle.tc_keeper.specs.declared.fault.RunFault.TheVariants.{Usage, Read, Write, Spent, Disk as DiskFault, Damaged, Memory, Layout}
 use Rattle.tc_keeper.proofs.Causes.{none_fell_twice}
 use Rattle.tc_keeper.proofs.EachLaws.{behind_front, each-append, each-at, each-beside, each-map, some-append, there}
-use Rattle.tc_server.proofs.KitOpenings.{ends_not_given, ends_of_opening, sound_not_given}
+use Rattle.tc_server.proofs.KitOpenings.{ends_not_given, ends_of_opening, sound_not_given, sound_seen}
 use Rattle.tc_server.proofs.NotOpened.{lawful_first, opened_keeps}
-use Rattle.tc_server.proofs.SightLaws.{if_whole}
+use Rattle.tc_server.proofs.SightLaws.{if_known}
 
 -- what is asked for by the kit that came back, of the partition of this number
 asked_back : (count p : ℕ) (fault : RunFault) → p < count → IsOfOpening (partition_at p count) fault → AreAsked count (Some fault) (suc p)
@@ -38,7 +39,7 @@ asked_back count p Read below is = absurd is
 asked_back count p (Write n) below is = absurd is
 asked_back count p Spent below is = omega arith
 asked_back count p (DiskFault q) below is = (omega (arith, is), omega (arith, is, below))
-asked_back count p (Damaged q damage) below is = omega (arith, is)
+asked_back count p (Damaged q damage) below is = inl (ap suc is)
 asked_back count p Memory below is = tt
 asked_back count p (Layout q found found_of asked_of) below is = (ap suc is.0, is.1)
 
@@ -67,15 +68,15 @@ disk_not_given before now p came left fault many n = elim n.is [
 ]
 
 -- What is said of the kits that are given back where not all partitions were opened.
-pub record AreGivenBack (options : Options) (before now : ℕ) (files : ℕ → List Disk) (came : ℕ → KitFaults) (fault : RunFault) (kits : List (List Disk)) (counted : List KitFaults) : Type 0 where
+pub record AreGivenBack {F : Type 0} (content : F → Option (List ℕ)) (name : F → FileName) (options : Options) (before now : ℕ) (files : ℕ → List Disk) (came : ℕ → KitFaults) (fault : RunFault) (kits : List (List Disk)) (counted : List KitFaults) : Type 0 where
   pub few : length kits ≤ options.partitions
   pub asked : AreAsked options.partitions (Some fault) (length kits)
   pub by : EndsOver (Some fault) unopened
-  pub sound : (first : Sight) → BeginsAs (limits_of options) options.partitions files first → IfSome (whole_of first) (λ w. IsNoDamage fault × IsHere fault)
+  pub sound : (first : Sight) → BeginsAs (limits_of options) options.partitions files first → IfKnown first (λ only w. IsNoDamage only fault × IsHere only fault)
   pub keep : EachFrom (λ p. KeepsOpened (partition_at p options.partitions) (files p)) 0 kits
   pub none_fell : NoneFellOf came counted
   pub disk : IfDisk fault (HasDiskCauseOver before now came counted)
-  pub judged : AreJudged options.partitions files (Some fault) kits
+  pub judged : AreJudged content name options.partitions files (Some fault) kits
   pub spent : fault ≡ Spent → AreGenerationsSpent options.partitions files kits
 
 -- an engine was closed, however it ended
@@ -89,7 +90,7 @@ kits_ended eyes size kit outcome disks faults es cs closed =
     at_each-reads kit (λ p e k. IsEnded eyes size disks faults e k) 0 es cs
     (at_each-so (λ p e c. IsClosed eyes size e (outcome c) (disks (kit c)) (faults (kit c))) (λ p e c. IsEnded eyes size disks faults e (kit c)) 0 es cs (λ p e c is. (outcome c, is)) closed)
 
-module _ {S D F W K : Type 0} (eyes : Eyes S D F W) (size : D → ℕ) (disks : K → List Disk) (faults : K → KitFaults) (options : Options) (files : ℕ → List Disk) (came : ℕ → KitFaults) where
+module _ {S D F W K : Type 0} (eyes : Eyes S D F W) (name : F → FileName) (size : D → ℕ) (disks : K → List Disk) (faults : K → KitFaults) (options : Options) (files : ℕ → List Disk) (came : ℕ → KitFaults) where
   keep_closed : (es : List (WithJobs S D F W)) (ks : List K) → AreOpened eyes options files came es → AtEach (λ p e k. IsEnded eyes size disks faults e k) 0 es ks
       → EachFrom (λ p. KeepsOpened (partition_at p options.partitions) (files p)) 0 (map disks ks)
   keep_closed es ks opened closed =
@@ -118,7 +119,7 @@ module _ {S D F W K : Type 0} (eyes : Eyes S D F W) (size : D → ℕ) (disks : 
 
   -- the last kit was not given
   pub not_given_back : (before now : ℕ) (es : List (WithJobs S D F W)) (ks : List K) (fault : RunFault) → length es < options.partitions → AreOpened eyes options files came es → AtEach (λ p e k. IsEnded eyes size disks faults e k) 0 es ks
-      → IsNotGiven (Rose before now) (length es) fault → AreGivenBack options before now files came fault (map disks ks) (map faults ks)
+      → IsNotGiven (Rose before now) (length es) fault → AreGivenBack eyes.content name options before now files came fault (map disks ks) (map faults ks)
   not_given_back before now es ks fault below opened closed n = record {
     few = omega (arith, many, below);
     asked = subst (AreAsked options.partitions (Some fault)) (sym many) (asked_not_given (Rose before now) options.partitions (length es) fault below n);
@@ -141,32 +142,36 @@ module _ {S D F W K : Type 0} (eyes : Eyes S D F W) (size : D → ℕ) (disks : 
       many : length (map disks ks) ≡ length es
       many = length-map ks disks ∙ sym same
 
-      always : (first : Sight) → BeginsAs (limits_of options) options.partitions files first → IfSome (whole_of first) (λ w. IsNoDamage fault × IsHere fault)
-      always first begins = if_whole first (IsNoDamage fault × IsHere fault) (λ w is. sound_not_given (Rose before now) (length es) fault n)
+      always : (first : Sight) → BeginsAs (limits_of options) options.partitions files first → IfKnown first (λ only w. IsNoDamage only fault × IsHere only fault)
+      always first begins = if_known first (λ only. IsNoDamage only fault × IsHere only fault) (λ only w is. sound_not_given only (Rose before now) (length es) fault n)
 
-      judged_last : (given : List Disk) (here : _) → IfTold given (ArePassed here) → IfTold given (λ disk. IsJudged here disk (Some fault))
+      judged_last : (given : List Disk) (here : _) → IfTold given (ArePassed here) → IfTold given (λ disk. IsJudged eyes.content name here disk (Some fault))
       judged_last [] here passed = tt
-      judged_last (disk ∷ past) here passed = elim n.is [ inl is ↦ subst (λ f. IsJudged here disk (Some f)) (sym is) tt | inr is ↦ subst (λ f. IsJudged here disk (Some f)) (sym is) tt ]
+      judged_last (disk ∷ past) here passed = elim n.is [ inl is ↦ subst (λ f. IsJudged eyes.content name here disk (Some f)) (sym is) tt | inr is ↦ subst (λ f. IsJudged eyes.content name here disk (Some f)) (sym is) tt ]
 
   -- it came back
   pub kit_back : (before now : ℕ) (es : List (WithJobs S D F W)) (ks : List K) (k : K) (fault : RunFault) → length es < options.partitions → AreOpened eyes options files came es → AtEach (λ p e k. IsEnded eyes size disks faults e k) 0 es ks
-      → IsGivenBack (partition_at (length es) options.partitions) (files (length es)) (came (length es)) fault (disks k) (faults k) → AreGivenBack options before now files came fault (map disks (ks ++ k ∷ [])) (map faults (ks ++ k ∷ []))
+      → IsGivenBack eyes.content name (partition_at (length es) options.partitions) (files (length es)) (came (length es)) fault (disks k) (faults k) → AreGivenBack eyes.content name options before now files came fault (map disks (ks ++ k ∷ [])) (map faults (ks ++ k ∷ []))
   kit_back before now es ks k fault below opened closed b = record {
     few = omega (arith, many, below);
     asked = subst (AreAsked options.partitions (Some fault)) (sym many) (asked_back options.partitions (length es) fault below b.of);
     by = ends_of_opening (partition_at (length es) options.partitions) fault b.of;
-    sound = λ first begins. lawful_first (limits_of options) options.partitions (length es) files first (IsNoDamage fault × IsHere fault) below begins b.sound;
+    sound = λ first begins. sound_known first (lawful_first (limits_of options) options.partitions (length es) files first (IsNoDamage None fault × IsHere None fault) below begins b.sound);
     keep = subst (EachFrom Keeps 0) (sym (map-append disks ks (k ∷ []))) (each-append Keeps 0 (map disks ks) (disks k ∷ []) (keep_closed es ks opened closed) (subst (λ n. EachFrom Keeps n (disks k ∷ [])) at_disks (b.keeps, tt)));
     none_fell = subst (EachFrom Fell 0) (sym (map-append faults ks (k ∷ []))) (each-append Fell 0 (map faults ks) (faults k ∷ []) (none_closed es ks opened closed) (subst (λ n. EachFrom Fell n (faults k ∷ [])) at_faults (b.none_fell, tt)));
     disk = disk_back before now options.partitions (length es) came (map faults (ks ++ k ∷ [])) (faults k) fault last_counted b.of b.disk;
     judged = record {
       opened = λ p lower. passed_at es p opened (omega (arith, lower, many));
-      last = λ p is. let same_place : length es ≡ p = omega (arith, is, many) in subst (λ p. IfTold (files p) (λ disk. IsJudged (partition_at p options.partitions) disk (Some fault))) same_place b.judged;
+      last = λ p is. let same_place : length es ≡ p = omega (arith, is, many) in subst (λ p. IfTold (files p) (λ disk. IsJudged eyes.content name (partition_at p options.partitions) disk (Some fault))) same_place b.judged;
       untouched = subst (EachFrom Stays 0) (sym (map-append disks ks (k ∷ []))) (each-append Stays 0 (map disks ks) (disks k ∷ []) (passed_closed es ks opened closed) (subst (λ n. EachFrom Stays n (disks k ∷ [])) at_disks (b.untouched, tt)));
     };
     spent = λ is. subst (SomeFrom Spends 0) (sym (map-append disks ks (k ∷ []))) (some-append Spends 0 (map disks ks) (disks k ∷ []) (subst (λ n. SomeFrom Spends n (disks k ∷ [])) at_disks (inl (inl (b.spent is)))));
   }
     where
+      sound_known : (first : Sight) → IfKnown first (λ only w. IsSeen only (length es) → IsNoDamage None fault × IsHere None fault) → IfKnown first (λ only w. IsNoDamage only fault × IsHere only fault)
+      sound_known nothing is = tt
+      sound_known (sees only w) is = sound_seen only (length es) options.partitions fault b.of is
+
       Keeps : ℕ → List Disk → Type 0
       Keeps p = KeepsOpened (partition_at p options.partitions) (files p)
 
@@ -199,10 +204,10 @@ module _ {S D F W K : Type 0} (eyes : Eyes S D F W) (size : D → ℕ) (disks : 
 
   -- either of them
   pub given_back_all : (before now : ℕ) (es : List (WithJobs S D F W)) (ks : List K) (last : Option K) (fault : RunFault) → length es < options.partitions → AreOpened eyes options files came es → AtEach (λ p e k. IsEnded eyes size disks faults e k) 0 es ks
-      → IfSome last (λ k. IsGivenBack (partition_at (length es) options.partitions) (files (length es)) (came (length es)) fault (disks k) (faults k)) → (last ≡ None → IsNotGiven (Rose before now) (length es) fault)
-      → AreGivenBack options before now files came fault (map disks (ks ++ option_to_list last)) (map faults (ks ++ option_to_list last))
+      → IfSome last (λ k. IsGivenBack eyes.content name (partition_at (length es) options.partitions) (files (length es)) (came (length es)) fault (disks k) (faults k)) → (last ≡ None → IsNotGiven (Rose before now) (length es) fault)
+      → AreGivenBack eyes.content name options before now files came fault (map disks (ks ++ option_to_list last)) (map faults (ks ++ option_to_list last))
   given_back_all before now es ks None fault below opened closed back not_given =
-      subst (λ xs. AreGivenBack options before now files came fault (map disks xs) (map faults xs)) (sym (append-nil ks)) (not_given_back before now es ks fault below opened closed (not_given refl))
+      subst (λ xs. AreGivenBack eyes.content name options before now files came fault (map disks xs) (map faults xs)) (sym (append-nil ks)) (not_given_back before now es ks fault below opened closed (not_given refl))
   given_back_all before now es ks (Some k) fault below opened closed back not_given = kit_back before now es ks k fault below opened closed back
 
 -- ---- how many kits there are, and what became of the shelf
@@ -247,8 +252,8 @@ unasked_back same rose es kits p fault last place many not_given unasked none =
 
 -- ---- where no kit was asked for
 
-pub judged_nothing : (count : ℕ) (files : ℕ → List Disk) (fault : Option RunFault) → AreJudged count files fault []
-judged_nothing count files fault = record {
+pub judged_nothing : {F : Type 0} (content : F → Option (List ℕ)) (name : F → FileName) (count : ℕ) (files : ℕ → List Disk) (fault : Option RunFault) → AreJudged content name count files fault []
+judged_nothing content name count files fault = record {
   opened = λ p lower. absurd (omega (arith, lower));
   last = λ p is. absurd (cc);
   untouched = tt;

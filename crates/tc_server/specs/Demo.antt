@@ -11,7 +11,7 @@ use Rattle.tc_run_model.specs.Course.{each_line, requests_for, requests_in, stop
 use Rattle.tc_server.specs.Ending.{RanLeaving}
 use Rattle.tc_keeper.specs.Faults.{IsNoDamage}
 use Rattle.tc_keeper.specs.Holds.{IsLeft}
-use Rattle.tc_keeper.specs.Sight.{sight_after, whole_of, Sight}
+use Rattle.tc_keeper.specs.Sight.{sight_after, whole_of, Sight, IfKnown}
 use Rattle.tc_server.specs.Stage.{IsAt}
 use Rattle.tc_keeper.specs.declared.fault.RunFault.{RunFault}
 use Rattle.tc_keeper.specs.declared.fault.RunFault.TheVariants.{Usage, Read, Write, Spent, Disk, Damaged, Memory, Layout}
@@ -46,7 +46,7 @@ pub record HasGivenUp {K : Type 0} (holds : K → Sight → Type 0) (keeps : K �
   pub replies : List Reply
   pub given : MayReply (requests_in answered) (whole_of first) replies
   pub among : BeginsWith closed (answered ++ unless_empty last)
-  pub sound : IfSome (whole_of first) (λ w. IsNoDamage fault)
+  pub sound : IfKnown first (λ only w. IsNoDamage only fault)
   pub left : IsLeft holds keeps k first (λ w. worlds_left stopped w answered last)
 
 -- there are fewer lines than are counted

@@ -23,11 +23,11 @@ pub record RanTo (shown : Shown) (spent : Type 0) (fault : Option RunFault) (fir
   pub by : EndsAs spent fault ending
   pub ran : Ran shown (whole_of first) most ending left left' taken taken'
 
--- The same, and what it left: of one that ended by no fault, it stands at the world behind all windows. Where it was known what all
--- partitions store, it did not end by damage.
+-- The same, and what it left: of one that ended by no fault, it stands at the world behind all windows. It did not end by damage of a
+-- partition of which it was known what it stores.
 pub record RanLeaving {K : Type 0} (shown : Shown) (holds : K → Sight → Type 0) (keeps : K → Option ℕ → World → World → Type 0) (spent : K → Type 0) (fault : Option RunFault) (first : Sight) (most : ℕ) (unread unread' taken taken' : Option (List ℕ)) (k : K) : Type 0 where
   pub run : RanTo shown (spent k) fault first most unread unread' taken taken'
-  pub sound : IfSome (whole_of first) (λ w. IfSome fault IsNoDamage)
+  pub sound : IfKnown first (λ only w. IfSome fault (IsNoDamage only))
   pub left : IsLeft holds keeps k first (λ w. worlds_left run.ending w run.ran.answered run.ran.last)
   pub stands : fault ≡ None → IfKnown first (λ only w. holds k (sees only (behind w run.ran.answered)))
 

@@ -13,7 +13,8 @@ use Rattle.tc_lsm_model.specs.Contents.{Partition}
 use Rattle.tc_recover.specs.declared.cause.FilesCause.TheVariants as files
 use Rattle.tc_recover.specs.Opening.{DiskJudged}
 use Rattle.tc_recover.specs.Refusals.{strays}
-use Rattle.tc_open.specs.Judged.{refusal_of, ArePassed, AreSpent, IsOfFiles, IsUntouched, Passes}
+use Rattle.tc_open.specs.Judged.{ArePassed, AreSpent, CauseJudged, IsOfFiles, IsUntouched, Passes}
+use Rattle.tc_open.specs.declared.fault.OpenCause.TheVariants as opening
 use Rattle.tc_run_model.specs.Course.{max_input}
 use Rattle.tc_server.specs.Ending.{IsRun}
 use Rattle.tc_keeper.specs.Faults.{NoneFell, OneRose}
@@ -25,7 +26,8 @@ use Rattle.tc_words.specs.declared.asked.Invocation.{Invocation}
 -- ---- which kits were given
 
 -- So many of `count` kits were given in a run that ended so: all where a line may have been read, and none behind that of a
--- partition that was not opened. A fault of a partition is one of a kit that was given; that of a disk may be of the next one.
+-- partition that was not opened. What is damaged is of the last one, or of any where all were given; the disk may be that of the
+-- next one.
 abbrev pub AreAsked : ℕ → Option RunFault → ℕ → Type 0
 AreAsked count None kits = kits ≡ count
 AreAsked count (Some Usage) kits = kits ≡ 0
@@ -33,30 +35,31 @@ AreAsked count (Some Read) kits = kits ≡ count
 AreAsked count (Some (Write n)) kits = kits ≡ count
 AreAsked count (Some Spent) kits = 0 < kits
 AreAsked count (Some (DiskFault p)) kits = (p ≤ kits) × (p < count)
-AreAsked count (Some (Damaged p damage)) kits = p < kits
+AreAsked count (Some (Damaged p damage)) kits = (suc p ≡ kits) ⊎ ((p < kits) × (kits ≡ count))
 AreAsked count (Some Memory) kits = Unit {0}
 AreAsked count (Some (Layout p found found_of asked_of)) kits = (suc p ≡ kits) × (asked_of ≡ count)
 
 -- ---- files
 
 -- What is judged of the files of the last kit as they were given. A run comes to its lines only over files that are not refused,
--- and what is refused of them is what is judged. Of a fault of the disk and of want of memory nothing is said here.
-abbrev pub IsJudged : Partition → Disk → Option RunFault → Type 0
-IsJudged here disk None = ArePassed here disk
-IsJudged here disk (Some Usage) = Unit {0}
-IsJudged here disk (Some Read) = ArePassed here disk
-IsJudged here disk (Some (Write n)) = ArePassed here disk
-IsJudged here disk (Some Spent) = ArePassed here disk
-IsJudged here disk (Some (DiskFault p)) = Unit {0}
-IsJudged here disk (Some (Damaged p damage)) = ((p ≡ here.number) × DiskJudged here disk (Err (refusal_of damage))) ⊎ ArePassed here disk
-IsJudged here disk (Some Memory) = Unit {0}
-IsJudged here disk (Some (Layout p found found_of asked_of)) = DiskJudged here disk (Err (strays found found_of))
+-- and what is refused of them is what is judged, or what opening them found damaged. A run that met damage opened all partitions.
+-- Of a fault of the disk and of want of memory nothing is said here.
+abbrev pub IsJudged : {F : Type 0} → (F → Option (List ℕ)) → (F → FileName) → Partition → Disk → Option RunFault → Type 0
+IsJudged content name here disk None = ArePassed here disk
+IsJudged content name here disk (Some Usage) = Unit {0}
+IsJudged content name here disk (Some Read) = ArePassed here disk
+IsJudged content name here disk (Some (Write n)) = ArePassed here disk
+IsJudged content name here disk (Some Spent) = ArePassed here disk
+IsJudged content name here disk (Some (DiskFault p)) = Unit {0}
+IsJudged content name here disk (Some (Damaged p damage)) = ((p ≡ here.number) × CauseJudged content name here disk (opening.Damaged damage)) ⊎ ((suc here.number ≡ here.count) × ArePassed here disk)
+IsJudged content name here disk (Some Memory) = Unit {0}
+IsJudged content name here disk (Some (Layout p found found_of asked_of)) = DiskJudged here disk (Err (strays found found_of))
 
 -- Of the kits that are given back the last one is judged so; the others were opened, since a further one was asked for. Where the files of
 -- one are refused in reading, each keeps its bytes.
-pub record AreJudged (count : ℕ) (files : ℕ → List Disk) (fault : Option RunFault) (kits : List (List Disk)) : Type 0 where
+pub record AreJudged {F : Type 0} (content : F → Option (List ℕ)) (name : F → FileName) (count : ℕ) (files : ℕ → List Disk) (fault : Option RunFault) (kits : List (List Disk)) : Type 0 where
   pub opened : (p : ℕ) → suc p < length kits → IfTold (files p) (ArePassed (partition_at p count))
-  pub last : (p : ℕ) → suc p ≡ length kits → IfTold (files p) (λ disk. IsJudged (partition_at p count) disk fault)
+  pub last : (p : ℕ) → suc p ≡ length kits → IfTold (files p) (λ disk. IsJudged content name (partition_at p count) disk fault)
   pub untouched : EachFrom (λ p left. IsUntouched (partition_at p count) (files p) left) 0 kits
 
 -- other numbers of partitions are those that a file keeps, also over files that are not told

@@ -14,6 +14,7 @@ use Rattle.tc_part_model.specs.PartView.{PartView, store_of}
 use Rattle.tc_plain_model.specs.Writes.{Pairs, Write as PlainWrite}
 use Rattle.tc_recover.specs.Lawful.{DiskOpens}
 use Rattle.tc_replay.specs.Openings.{AreIn}
+use Rattle.tc_store.specs.declared.file_name.FileName.{FileName}
 use Rattle.tc_store.specs.Disk.{Disk}
 use Rattle.tc_store.specs.KitFaults.{KitFaults}
 use Rattle.tc_store.specs.Moments.{IfTold}
@@ -78,11 +79,11 @@ abbrev pub IfLawful : Partition → List Disk → Type 0 → Type 0
 IfLawful here came P = IfTold came (λ disk. (cs : List Content) (logs : List (List PlainWrite)) → DiskOpens here disk cs logs → P)
 
 -- A kit that came with these files and counts is given back with those, since its partition was not opened, by this fault.
-pub record IsGivenBack (here : Partition) (came : List Disk) (counted : KitFaults) (fault : RunFault) (disks : List Disk) (counts : KitFaults) : Type 0 where
+pub record IsGivenBack {F : Type 0} (content : F → Option (List ℕ)) (name : F → FileName) (here : Partition) (came : List Disk) (counted : KitFaults) (fault : RunFault) (disks : List Disk) (counts : KitFaults) : Type 0 where
   pub of : IsOfOpening here fault
   pub keeps : KeepsOpened here came disks
-  pub sound : IfLawful here came (IsNoDamage fault × IsHere fault)
-  pub judged : IfTold came (λ disk. IsJudged here disk (Some fault))
+  pub sound : IfLawful here came (IsNoDamage None fault × IsHere None fault)
+  pub judged : IfTold came (λ disk. IsJudged content name here disk (Some fault))
   pub untouched : IsUntouched here came disks
   pub spent : fault ≡ Spent → IfTold came (λ disk. Passes here disk AreSpent)
   pub none_fell : NoneFell counted counts

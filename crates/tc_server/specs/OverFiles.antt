@@ -79,16 +79,16 @@ EndsOver (Some (Damaged p damage)) ending = (ending ≡ stopped) ⊎ (ending ≡
 EndsOver (Some Memory) ending = (ending ≡ stopped) ⊎ (ending ≡ unopened)
 EndsOver (Some (Layout p found found_of asked_of)) ending = ending ≡ unopened
 
--- it is not the fault of a file of another partition
-abbrev pub IsHere : RunFault → Type 0
-IsHere Usage = Unit {0}
-IsHere Read = Unit {0}
-IsHere (Write n) = Unit {0}
-IsHere Spent = Unit {0}
-IsHere (DiskFault p) = Unit {0}
-IsHere (Damaged p damage) = Unit {0}
-IsHere Memory = Unit {0}
-IsHere (Layout p found found_of asked_of) = ⊥
+-- it is not that of a file of another partition, in one that is looked at
+abbrev pub IsHere : Option ℕ → RunFault → Type 0
+IsHere only Usage = Unit {0}
+IsHere only Read = Unit {0}
+IsHere only (Write n) = Unit {0}
+IsHere only Spent = Unit {0}
+IsHere only (DiskFault p) = Unit {0}
+IsHere only (Damaged p damage) = Unit {0}
+IsHere only Memory = Unit {0}
+IsHere only (Layout p found found_of asked_of) = IsSeen only p → ⊥
 
 -- ---- what is left of the files
 
@@ -134,7 +134,7 @@ abbrev pub LeaveSmall : Option ℕ → Options → Bool → List (List Disk) →
 LeaveSmall only options flushed kits = EachFrom (λ p left. IsSeen only p → LeavesSmall options flushed p left) 0 kits
 
 -- A run for these options over files, from what is known of them, of whose replies so much is shown, that ended by this fault or by
--- none, and gave these files back, in ascending number of the partition. Where the world of all is known nothing is damaged, of
+-- none, and gave these files back, in ascending number of the partition. Of a partition that is known nothing is damaged, of
 -- another partition, or of another number of partitions. No line is read before all kits have come. A partition that is known is left
 -- as the replies say, also where it alone is. Where no line was read each partition keeps what it held. Where the run ended by none
 -- the files are left small: no log has a frame where a flush or the schema was asked for, and nothing was written since.
@@ -142,7 +142,7 @@ pub record RanOver (shown : Shown) (fault : Option RunFault) (first : Sight) (op
   pub ending : Ending
   pub by : EndsOver fault ending
   pub ran : Ran shown (whole_of first) options.window ending left left' taken taken'
-  pub sound : IfSome (whole_of first) (λ w. IfSome fault IsNoDamage × IfSome fault IsHere)
+  pub sound : IfKnown first (λ only w. IfSome fault (IsNoDamage only) × IfSome fault (IsHere only))
   pub needs : length kits < options.partitions → ending ≡ unopened
   pub exits : IfKnown first (λ only w. LeaveOneOf only options.partitions (worlds_left ending w ran.answered ran.last) kits)
   pub kept : ending ≡ unopened → EachFrom (λ p. KeepsOpened (partition_at p options.partitions) (files p)) 0 kits

@@ -10,7 +10,7 @@ use Rattle.tc_run_model.specs.Course.{requests_for, requests_in, each_line, Took
 use Rattle.tc_server.specs.Asked.{request_asked, is_whole}
 use Rattle.tc_keeper.specs.Faults.{Stop, failed_writing, gave_up, stop_of, ending_at, IsNoDamage}
 use Rattle.tc_keeper.specs.Holds.{IsLeft}
-use Rattle.tc_keeper.specs.Sight.{sight_behind, whole_of, Sight}
+use Rattle.tc_keeper.specs.Sight.{sight_behind, whole_of, Sight, IfKnown}
 use Rattle.tc_server.specs.Window.{requests_of, IsSoundWindow}
 use Rattle.tc_server.specs.declared.answer.Action.{Action}
 use Rattle.tc_keeper.specs.declared.fault.RunFault.{RunFault}
@@ -63,7 +63,7 @@ pub record EndsAmong {K : Type 0} (holds : K → Sight → Type 0) (keeps : K �
 pub record StopsIn {K : Type 0} (holds : K → Sight → Type 0) (keeps : K → Option ℕ → World → World → Type 0) (first : Sight) (fault : RunFault) (base : Option (List ℕ)) (closed : List Window) (taken : Option (List ℕ)) (k : K) : Type 0 where
   pub stop : Stop
   pub by : stop_of fault ≡ Some stop
-  pub sound : IfSome (whole_of first) (λ w. IsNoDamage fault)
+  pub sound : IfKnown first (λ only w. IsNoDamage only fault)
   pub ends : EndsAmong holds keeps first stop base closed taken k
 
 -- from behind any windows the session goes to behind these windows with the line

@@ -7,7 +7,7 @@ ghost use Rattle.tc_gen.specs.Generated.{generated};
 ghost use Rattle.tc_gen.specs.TwoLines.{lines_for};
 ghost use Rattle.tc_model.specs.Limits.{max_line};
 ghost use Rattle.tc_run_model.specs.Windows.{windows_of};
-ghost use Rattle.tc_keeper.specs.Keeping.{faults_kept, settings_kept, HasSpent, FailsAt, MayServe, AllRest, ServesAt};
+ghost use Rattle.tc_keeper.specs.Keeping.{faults_kept, settings_kept, HasSpent, FailsAt, MayServe, AllRest, ServesAt, IsTrueHere};
 ghost use Rattle.tc_server.specs.Demo.{ended, fault_in_memory, DemoLeaving, GivesUpAtEnd, GivesUpAtLine, HasGivenUp, HasHeardAll, HearsEnd, HearsLine, HearsReplies, WroteSome};
 ghost use Rattle.tc_keeper.specs.Faults.{fault_in, HasCauses, HasDiskCause, IsOfStore, IsWrite};
 ghost use Rattle.tc_keeper.specs.Sight.{Sight};
@@ -49,7 +49,7 @@ where
         (O.taken sink.old) (O.taken sink.new) session.new.keeper }
     ensures rests { OnOk result (AllRest (λ d. S.Device.size d) session.new.keeper) }
     ensures settings { settings_kept session.new.keeper ≡ settings_kept session.old.keeper }
-    ensures cause { HasCauses (O.faults sink.old) (O.faults sink.new) (faults_kept (λ w. S.Watch.counts w) session.old.keeper) (faults_kept (λ w. S.Watch.counts w) session.new.keeper) (HasSpent S.history S.Device.history S.Frozen.content session.new.keeper) (fault_in result) }
+    ensures cause { HasCauses (O.faults sink.old) (O.faults sink.new) (faults_kept (λ w. S.Watch.counts w) session.old.keeper) (faults_kept (λ w. S.Watch.counts w) session.new.keeper) (IsTrueHere S.history S.Device.history S.Frozen.content session.new.keeper) (fault_in result) }
 {
     session.begin(rt, alloc)?;
     let tally = hear_all(rt, alloc, commands, session)?;
@@ -95,7 +95,7 @@ where
     ensures rests { OnOk result (AllRest (λ d. S.Device.size d) session.new.keeper) }
     ensures kinds { IfErr result IsOfStore }
     ensures settings { settings_kept session.new.keeper ≡ settings_kept session.old.keeper }
-    ensures cause { HasDiskCause (faults_kept (λ w. S.Watch.counts w) session.old.keeper) (faults_kept (λ w. S.Watch.counts w) session.new.keeper) (HasSpent S.history S.Device.history S.Frozen.content session.new.keeper) (fault_in result) }
+    ensures cause { HasDiskCause (faults_kept (λ w. S.Watch.counts w) session.old.keeper) (faults_kept (λ w. S.Watch.counts w) session.new.keeper) (IsTrueHere S.history S.Device.history S.Frozen.content session.new.keeper) (fault_in result) }
 {
     let mut feed = Feed::new(commands);
     let mut tally = Tally::new(alloc);
@@ -132,7 +132,7 @@ where
     ensures fault { IfErr result (λ fault. GivesUpAtLine (ServesAt (eyes S.history S.Device.history S.Frozen.content S.Device.name S.Frozen.size S.Watch.counts)) (FailsAt (eyes S.history S.Device.history S.Frozen.content S.Device.name S.Frozen.size S.Watch.counts)) fault line session.old tally.old session.new) }
     ensures kinds { IfErr result IsOfStore }
     ensures settings { settings_kept session.new.keeper ≡ settings_kept session.old.keeper }
-    ensures cause { HasDiskCause (faults_kept (λ w. S.Watch.counts w) session.old.keeper) (faults_kept (λ w. S.Watch.counts w) session.new.keeper) (HasSpent S.history S.Device.history S.Frozen.content session.new.keeper) (fault_in result) }
+    ensures cause { HasDiskCause (faults_kept (λ w. S.Watch.counts w) session.old.keeper) (faults_kept (λ w. S.Watch.counts w) session.new.keeper) (IsTrueHere S.history S.Device.history S.Frozen.content session.new.keeper) (fault_in result) }
 {
     let mut replies = MemSink::new(alloc, usize::MAX, Vec::new(alloc));
     match session.take_whole(rt, alloc, line, &mut replies) {
@@ -158,7 +158,7 @@ where
     ensures fault { IfErr result (λ fault. GivesUpAtEnd (ServesAt (eyes S.history S.Device.history S.Frozen.content S.Device.name S.Frozen.size S.Watch.counts)) (FailsAt (eyes S.history S.Device.history S.Frozen.content S.Device.name S.Frozen.size S.Watch.counts)) fault session.old tally.old session.new) }
     ensures kinds { IfErr result IsOfStore }
     ensures settings { settings_kept session.new.keeper ≡ settings_kept session.old.keeper }
-    ensures cause { HasDiskCause (faults_kept (λ w. S.Watch.counts w) session.old.keeper) (faults_kept (λ w. S.Watch.counts w) session.new.keeper) (HasSpent S.history S.Device.history S.Frozen.content session.new.keeper) (fault_in result) }
+    ensures cause { HasDiskCause (faults_kept (λ w. S.Watch.counts w) session.old.keeper) (faults_kept (λ w. S.Watch.counts w) session.new.keeper) (IsTrueHere S.history S.Device.history S.Frozen.content session.new.keeper) (fault_in result) }
 {
     let mut replies = MemSink::new(alloc, usize::MAX, Vec::new(alloc));
     match session.close(rt, alloc, &mut replies) {

@@ -54,7 +54,7 @@ where
     ensures some { OnErr result (length engines.new < options.now.partitions) }
 
     // The kit behind those of the engines came back, or was not given.
-    ensures back { IfErr result (λ refused. IfSome refused.kit (λ kit. IsGivenBack (partition_at (length engines.new) options.now.partitions) (H.files shelf.old (length engines.new)) (H.kit_faults shelf.old (length engines.new)) refused.fault (H.Store.history kit.store) (faults_in (λ w. H.Store.Watch.counts w) kit))) }
+    ensures back { IfErr result (λ refused. IfSome refused.kit (λ kit. IsGivenBack H.Store.Frozen.content H.Store.Frozen.name (partition_at (length engines.new) options.now.partitions) (H.files shelf.old (length engines.new)) (H.kit_faults shelf.old (length engines.new)) refused.fault (H.Store.history kit.store) (faults_in (λ w. H.Store.Watch.counts w) kit))) }
     ensures not_given { IfErr result (λ refused. refused.kit ≡ None → IsNotGiven (Rose (H.faults shelf.old) (H.faults shelf.new)) (length engines.new) refused.fault) }
     ensures layout { IfErr result (λ refused. HasLayoutCause H.Store.Watch (λ file. H.Store.Frozen.size file) (λ file. H.Store.Frozen.name file) refused.fault) }
 
@@ -88,7 +88,7 @@ where
     <H::Store as Store>::Watch: 'static,
     ensures opened { OnOk result ((e : WithJobs H.Store H.Store.Device H.Store.Frozen H.Store.Watch) × (engines.new ≡ engines.old ++ e ∷ []) × IsOpened (eyes H.Store.history H.Store.Device.history H.Store.Frozen.content H.Store.Device.name H.Store.Frozen.size H.Store.Watch.counts) options.now (partition_at number options.now.partitions) (H.files shelf.old number) (H.kit_faults shelf.old number) e) }
     ensures stays { OnErr result (engines.new ≡ engines.old) }
-    ensures back { IfErr result (λ refused. IfSome refused.kit (λ kit. IsGivenBack (partition_at number options.now.partitions) (H.files shelf.old number) (H.kit_faults shelf.old number) refused.fault (H.Store.history kit.store) (faults_in (λ w. H.Store.Watch.counts w) kit))) }
+    ensures back { IfErr result (λ refused. IfSome refused.kit (λ kit. IsGivenBack H.Store.Frozen.content H.Store.Frozen.name (partition_at number options.now.partitions) (H.files shelf.old number) (H.kit_faults shelf.old number) refused.fault (H.Store.history kit.store) (faults_in (λ w. H.Store.Watch.counts w) kit))) }
     ensures not_given { IfErr result (λ refused. refused.kit ≡ None → IsNotGiven (Rose (H.faults shelf.old) (H.faults shelf.new)) number refused.fault) }
     ensures layout { IfErr result (λ refused. HasLayoutCause H.Store.Watch (λ file. H.Store.Frozen.size file) (λ file. H.Store.Frozen.name file) refused.fault) }
     ensures others { (other : ℕ) → other ≢ number → (H.files shelf.new other ≡ H.files shelf.old other) × (H.kit_faults shelf.new other ≡ H.kit_faults shelf.old other) }
@@ -131,7 +131,7 @@ where
     ensures opened { OnOk result ((e : WithJobs S S.Device S.Frozen S.Watch) × (engines.new ≡ engines.old ++ e ∷ []) × IsOpened (eyes S.history S.Device.history S.Frozen.content S.Device.name S.Frozen.size S.Watch.counts) options.now (partition_at number options.now.partitions) (S.history kit.store) (faults_in (λ w. S.Watch.counts w) kit) e) }
     ensures stays { OnErr result (engines.new ≡ engines.old) }
     ensures some { IfErr result (λ refused. IsSome refused.kit) }
-    ensures back { IfErr result (λ refused. IfSome refused.kit (λ back. IsGivenBack (partition_at number options.now.partitions) (S.history kit.store) (faults_in (λ w. S.Watch.counts w) kit) refused.fault (S.history back.store) (faults_in (λ w. S.Watch.counts w) back))) }
+    ensures back { IfErr result (λ refused. IfSome refused.kit (λ back. IsGivenBack S.Frozen.content S.Frozen.name (partition_at number options.now.partitions) (S.history kit.store) (faults_in (λ w. S.Watch.counts w) kit) refused.fault (S.history back.store) (faults_in (λ w. S.Watch.counts w) back))) }
     ensures layout { IfErr result (λ refused. HasLayoutCause S.Watch (λ file. S.Frozen.size file) (λ file. S.Frozen.name file) refused.fault) }
 {
     let limits = Limits {

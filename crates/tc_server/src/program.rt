@@ -97,7 +97,7 @@ where
     ensures read { result.fault ≡ Some RunFault.Read → Rose (I.faults source.old) (I.faults source.new) }
     ensures write { IfSome result.fault (λ fault. IsWrite fault → Rose (O.faults sink.old) (O.faults sink.new)) }
     ensures disk { IfSome result.fault (λ fault. IfDisk fault (HasDiskCauseOver (H.faults shelf.old) (H.faults shelf.new) (H.kit_faults shelf.old) (map (faults_in (λ w. H.Store.Watch.counts w)) result.kits.items))) }
-    ensures judged { AreJudged (partitions_asked (invocation_given (option_map (λ words. words.items) (result_ok words)))) (H.files shelf.old) result.fault (map (λ kit. H.Store.history kit.store) result.kits.items) }
+    ensures judged { AreJudged H.Store.Frozen.content H.Store.Frozen.name (partitions_asked (invocation_given (option_map (λ words. words.items) (result_ok words)))) (H.files shelf.old) result.fault (map (λ kit. H.Store.history kit.store) result.kits.items) }
     ensures layout { IfSome result.fault (HasLayoutCause H.Store.Watch (λ file. H.Store.Frozen.size file) (λ file. H.Store.Frozen.name file)) }
     ensures spent { result.fault ≡ Some RunFault.Spent
         → IsInputSpent (invocation_given (option_map (λ words. words.items) (result_ok words))) (I.left source.old) (I.left source.new) ⊎ AreGenerationsSpent (partitions_asked (invocation_given (option_map (λ words. words.items) (result_ok words)))) (H.files shelf.old) (map (λ kit. H.Store.history kit.store) result.kits.items) }
@@ -139,7 +139,7 @@ where
     ensures read { result.fault ≡ Some RunFault.Read → Rose (I.faults source.old) (I.faults source.new) }
     ensures write { IfSome result.fault (λ fault. IsWrite fault → Rose (O.faults sink.old) (O.faults sink.new)) }
     ensures disk { IfSome result.fault (λ fault. IfDisk fault (HasDiskCauseOver (H.faults shelf.old) (H.faults shelf.new) (H.kit_faults shelf.old) (map (faults_in (λ w. H.Store.Watch.counts w)) result.kits.items))) }
-    ensures judged { AreJudged (partitions_asked (invocation_given (option_map (λ words. words.items) (result_ok words)))) (H.files shelf.old) result.fault (map (λ kit. H.Store.history kit.store) result.kits.items) }
+    ensures judged { AreJudged H.Store.Frozen.content H.Store.Frozen.name (partitions_asked (invocation_given (option_map (λ words. words.items) (result_ok words)))) (H.files shelf.old) result.fault (map (λ kit. H.Store.history kit.store) result.kits.items) }
     ensures layout { IfSome result.fault (HasLayoutCause H.Store.Watch (λ file. H.Store.Frozen.size file) (λ file. H.Store.Frozen.name file)) }
     ensures spent { result.fault ≡ Some RunFault.Spent
         → IsInputSpent (invocation_given (option_map (λ words. words.items) (result_ok words))) (I.left source.old) (I.left source.new) ⊎ AreGenerationsSpent (partitions_asked (invocation_given (option_map (λ words. words.items) (result_ok words)))) (H.files shelf.old) (map (λ kit. H.Store.history kit.store) result.kits.items) }

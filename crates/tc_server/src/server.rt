@@ -10,7 +10,7 @@ ghost use Rattle.tc_store.specs.Moments.{IfTold};
 ghost use Rattle.tc_server.specs.Ending.{AreFewCommands, AskedPromptly, IsRun, RanLeaving, ReadsPromptly, RunsOver, ServedPromptly};
 ghost use Rattle.tc_keeper.specs.Faults.{fault_in, faults_in, status_of, HasRunCauses, IfDamaged, IfDisk, IsOfRun, IsWrite, NoneFell, OneRose};
 ghost use Rattle.tc_server.specs.KitCauses.{AreAsked, AreGenerationsSpent, AreJudged, HasDiskCauseOver, HasLastGeneration, HasLayoutCause, IsInputSpent, NoneFellOf};
-ghost use Rattle.tc_keeper.specs.Keeping.{faults_kept, settings_kept, AllRest, AreUnwritten, FailsAt, HasSpent, MayServe, ServesAt};
+ghost use Rattle.tc_keeper.specs.Keeping.{faults_kept, settings_kept, AllRest, AreUnwritten, FailsAt, HasSpent, IsTrueBehind, IsTrueHere, MayServe, ServesAt};
 ghost use Rattle.tc_server.specs.Kits.{answer_behind, fault_behind, IsBegun};
 ghost use Rattle.tc_server.specs.OverFiles.{partitions_asked, AskedOver, BeginsFor, ServedOver};
 ghost use Rattle.tc_keeper.specs.Partitions.{StandAt};
@@ -85,7 +85,7 @@ where
     ensures read { result.fault ≡ Some RunFault.Read → Rose (I.faults source.old) (I.faults source.new) }
     ensures write { IfSome result.fault (λ fault. IsWrite fault → Rose (O.faults sink.old) (O.faults sink.new)) }
     ensures disk { IfSome result.fault (λ fault. IfDisk fault (HasDiskCauseOver (H.faults shelf.old) (H.faults shelf.new) (H.kit_faults shelf.old) (map (faults_in (λ w. H.Store.Watch.counts w)) result.kits.items))) }
-    ensures judged { AreJudged (partitions_asked (invocation_of words.now)) (H.files shelf.old) result.fault (map (λ kit. H.Store.history kit.store) result.kits.items) }
+    ensures judged { AreJudged H.Store.Frozen.content H.Store.Frozen.name (partitions_asked (invocation_of words.now)) (H.files shelf.old) result.fault (map (λ kit. H.Store.history kit.store) result.kits.items) }
     ensures layout { IfSome result.fault (HasLayoutCause H.Store.Watch (λ file. H.Store.Frozen.size file) (λ file. H.Store.Frozen.name file)) }
     ensures spent { result.fault ≡ Some RunFault.Spent
         → IsInputSpent (invocation_of words.now) (I.left source.old) (I.left source.new) ⊎ AreGenerationsSpent (partitions_asked (invocation_of words.now)) (H.files shelf.old) (map (λ kit. H.Store.history kit.store) result.kits.items) }
@@ -137,7 +137,7 @@ where
     ensures read { result.fault ≡ Some RunFault.Read → Rose (I.faults source.old) (I.faults source.new) }
     ensures write { IfSome result.fault (λ fault. IsWrite fault → Rose (O.faults sink.old) (O.faults sink.new)) }
     ensures disk { IfSome result.fault (λ fault. IfDisk fault (HasDiskCauseOver (H.faults shelf.old) (H.faults shelf.new) (H.kit_faults shelf.old) (map (faults_in (λ w. H.Store.Watch.counts w)) result.kits.items))) }
-    ensures judged { AreJudged (options_asked asked.now).partitions (H.files shelf.old) result.fault (map (λ kit. H.Store.history kit.store) result.kits.items) }
+    ensures judged { AreJudged H.Store.Frozen.content H.Store.Frozen.name (options_asked asked.now).partitions (H.files shelf.old) result.fault (map (λ kit. H.Store.history kit.store) result.kits.items) }
     ensures layout { IfSome result.fault (HasLayoutCause H.Store.Watch (λ file. H.Store.Frozen.size file) (λ file. H.Store.Frozen.name file)) }
     ensures spent { result.fault ≡ Some RunFault.Spent
         → IsInputSpent (Some asked.now) (I.left source.old) (I.left source.new) ⊎ AreGenerationsSpent (options_asked asked.now).partitions (H.files shelf.old) (map (λ kit. H.Store.history kit.store) result.kits.items) }
@@ -227,7 +227,7 @@ where
     ensures write { IfSome result.1 (λ fault. IsWrite fault → Rose (O.faults sink.old) (O.faults sink.new)) }
     ensures counts { AtEach (λ p e kit. NoneFell (faults_at (λ w. S.Watch.counts w) e) (faults_in (λ w. S.Watch.counts w) kit)) 0 engines result.0.items }
     ensures disk { IfSome result.1 (λ fault. IfDisk fault (λ q. (q < (options_asked asked.now).partitions) × AtEach (λ p e kit. p ≡ q → OneRose (faults_at (λ w. S.Watch.counts w) e) (faults_in (λ w. S.Watch.counts w) kit)) 0 engines result.0.items)) }
-    ensures damaged { IfSome result.1 (λ fault. IfDamaged fault (λ q. q < (options_asked asked.now).partitions)) }
+    ensures damaged { IfSome result.1 (λ fault. IfDamaged fault (λ q damage. q < (options_asked asked.now).partitions)) }
     ensures spent { result.1 ≡ Some RunFault.Spent → IsInputSpent (Some asked.now) (I.left source.old) (I.left source.new) ⊎ SomeFrom (λ p kit. IfTold (S.history kit.store) HasLastGeneration) 0 result.0.items }
 {
     let partitions = Partitions::of(engines);
@@ -270,7 +270,7 @@ where
     ensures rests { OnOk result.1 (Rests (λ d. S.Device.size d) result.0) }
     ensures readers { All (λ e. is_some e.engine.part.reader ≡ true) result.0.engines }
     ensures settings { settings_of result.0 ≡ settings_of partitions }
-    ensures cause { HasRunCauses (I.faults source.old) (I.faults source.new) (O.faults sink.old) (O.faults sink.new) (faults_of (λ w. S.Watch.counts w) partitions) (faults_of (λ w. S.Watch.counts w) result.0) (fault_in result.1) }
+    ensures cause { HasRunCauses (I.faults source.old) (I.faults source.new) (O.faults sink.old) (O.faults sink.new) (faults_of (λ w. S.Watch.counts w) partitions) (faults_of (λ w. S.Watch.counts w) result.0) (IsTrueBehind S.history S.Device.history S.Frozen.content result.0) (fault_in result.1) }
     ensures spent { fault_in result.1 ≡ Some RunFault.Spent → IsInputSpent (Some asked.now) (I.left source.old) (I.left source.new) ⊎ IsSpent S.history S.Device.history S.Frozen.content result.0 }
 {
     match Keeper::open(rt, alloc, partitions, pace) {
@@ -310,7 +310,7 @@ where
     ensures rests { OnOk result.1 (Rests (λ d. S.Device.size d) result.0) }
     ensures readers { All (λ e. is_some e.engine.part.reader ≡ true) result.0.engines }
     ensures settings { settings_of result.0 ≡ settings_kept keeper }
-    ensures cause { HasRunCauses (I.faults source.old) (I.faults source.new) (O.faults sink.old) (O.faults sink.new) (faults_kept (λ w. S.Watch.counts w) keeper) (faults_of (λ w. S.Watch.counts w) result.0) (fault_in result.1) }
+    ensures cause { HasRunCauses (I.faults source.old) (I.faults source.new) (O.faults sink.old) (O.faults sink.new) (faults_kept (λ w. S.Watch.counts w) keeper) (faults_of (λ w. S.Watch.counts w) result.0) (IsTrueBehind S.history S.Device.history S.Frozen.content result.0) (fault_in result.1) }
     ensures spent { fault_in result.1 ≡ Some RunFault.Spent → IsInputSpent (Some asked.now) (I.left source.old) (I.left source.new) ⊎ IsSpent S.history S.Device.history S.Frozen.content result.0 }
 {
     let options = options_asked(asked);
@@ -396,7 +396,7 @@ where
         (I.moments source.old) (I.moments source.new) }
     ensures rests { OnOk result (AllRest (λ d. S.Device.size d) session.new.keeper) }
     ensures settings { settings_kept session.new.keeper ≡ settings_kept session.old.keeper }
-    ensures cause { HasRunCauses (I.faults source.old) (I.faults source.new) (O.faults sink.old) (O.faults sink.new) (faults_kept (λ w. S.Watch.counts w) session.old.keeper) (faults_kept (λ w. S.Watch.counts w) session.new.keeper) (fault_in result) }
+    ensures cause { HasRunCauses (I.faults source.old) (I.faults source.new) (O.faults sink.old) (O.faults sink.new) (faults_kept (λ w. S.Watch.counts w) session.old.keeper) (faults_kept (λ w. S.Watch.counts w) session.new.keeper) (IsTrueHere S.history S.Device.history S.Frozen.content session.new.keeper) (fault_in result) }
     ensures spent { fault_in result ≡ Some RunFault.Spent → IsInputSpent (Some asked.now) (I.left source.old) (I.left source.new) ⊎ HasSpent S.history S.Device.history S.Frozen.content session.new.keeper }
 {
     match asked {
@@ -434,7 +434,7 @@ where
         (I.moments source.old) (I.moments source.new) }
     ensures rests { OnOk result (AllRest (λ d. S.Device.size d) session.new.keeper) }
     ensures settings { settings_kept session.new.keeper ≡ settings_kept session.old.keeper }
-    ensures cause { HasRunCauses (I.faults source.old) (I.faults source.new) (O.faults sink.old) (O.faults sink.new) (faults_kept (λ w. S.Watch.counts w) session.old.keeper) (faults_kept (λ w. S.Watch.counts w) session.new.keeper) (fault_in result) }
+    ensures cause { HasRunCauses (I.faults source.old) (I.faults source.new) (O.faults sink.old) (O.faults sink.new) (faults_kept (λ w. S.Watch.counts w) session.old.keeper) (faults_kept (λ w. S.Watch.counts w) session.new.keeper) (IsTrueHere S.history S.Device.history S.Frozen.content session.new.keeper) (fault_in result) }
 {
     let mut lines = Lines::new(alloc, MAX_LINE);
     session.begin(rt, alloc)?;
@@ -488,7 +488,7 @@ where
         (I.moments source.old) (I.moments source.new) }
 
     ensures settings { settings_kept session.new.keeper ≡ settings_kept session.old.keeper }
-    ensures cause { HasRunCauses (I.faults source.old) (I.faults source.new) (O.faults sink.old) (O.faults sink.new) (faults_kept (λ w. S.Watch.counts w) session.old.keeper) (faults_kept (λ w. S.Watch.counts w) session.new.keeper) (fault_in result) }
+    ensures cause { HasRunCauses (I.faults source.old) (I.faults source.new) (O.faults sink.old) (O.faults sink.new) (faults_kept (λ w. S.Watch.counts w) session.old.keeper) (faults_kept (λ w. S.Watch.counts w) session.new.keeper) (IsTrueHere S.history S.Device.history S.Frozen.content session.new.keeper) (fault_in result) }
 {
     match lines.next(source, sink) {
         Line::Whole(line) => {

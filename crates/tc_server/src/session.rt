@@ -11,7 +11,7 @@ ghost use Rattle.tc_run_model.specs.World.{World};
 ghost use Rattle.tc_server.specs.Asked.{is_whole, request_asked, request_whole, IsRunForPart};
 ghost use Rattle.tc_keeper.specs.Faults.{fault_in, gave_up, HasCauses, HasDiskCause, IsNoDamage, IsOfStore};
 ghost use Rattle.tc_keeper.specs.Holds.{worlds_at, AreAnswered, AreWritten, HaveFailed, IsLeft};
-ghost use Rattle.tc_keeper.specs.Keeping.{faults_kept, settings_kept, HasSpent, FailsAt, MayServe, AllRest, ServesAt};
+ghost use Rattle.tc_keeper.specs.Keeping.{faults_kept, settings_kept, FailsAt, MayServe, AllRest, ServesAt, IsTrueHere};
 ghost use Rattle.tc_keeper.specs.Sight.{sees, sight_after, whole_of, Sight};
 ghost use Rattle.tc_server.specs.Stage.{AsksFor, FailsAtLine, IsReady, TakesLine};
 ghost use Rattle.tc_server.specs.Window.{requests_of, IsSoundWindow};
@@ -85,10 +85,10 @@ where
         ensures window { self.new.window ≡ self.old.window }
         ensures held { (known : Sight) → ServesAt (eyes S.history S.Device.history S.Frozen.content S.Device.name S.Frozen.size S.Watch.counts) self.old.keeper known → OnOk result (ServesAt (eyes S.history S.Device.history S.Frozen.content S.Device.name S.Frozen.size S.Watch.counts) self.new.keeper known) }
         ensures failed { (only : Option ℕ) (w : World) → ServesAt (eyes S.history S.Device.history S.Frozen.content S.Device.name S.Frozen.size S.Watch.counts) self.old.keeper (sees only w) → OnErr result (FailsAt (eyes S.history S.Device.history S.Frozen.content S.Device.name S.Frozen.size S.Watch.counts) self.new.keeper only w w) }
-        ensures undamaged { (w : World) → ServesAt (eyes S.history S.Device.history S.Frozen.content S.Device.name S.Frozen.size S.Watch.counts) self.old.keeper (sees None w) → IfErr result IsNoDamage }
+        ensures undamaged { (only : Option ℕ) (w : World) → ServesAt (eyes S.history S.Device.history S.Frozen.content S.Device.name S.Frozen.size S.Watch.counts) self.old.keeper (sees only w) → IfErr result (IsNoDamage only) }
         ensures kinds { IfErr result IsOfStore }
         ensures settings { settings_kept self.new.keeper ≡ settings_kept self.old.keeper }
-        ensures cause { HasDiskCause (faults_kept (λ w. S.Watch.counts w) self.old.keeper) (faults_kept (λ w. S.Watch.counts w) self.new.keeper) (HasSpent S.history S.Device.history S.Frozen.content self.new.keeper) (fault_in result) }
+        ensures cause { HasDiskCause (faults_kept (λ w. S.Watch.counts w) self.old.keeper) (faults_kept (λ w. S.Watch.counts w) self.new.keeper) (IsTrueHere S.history S.Device.history S.Frozen.content self.new.keeper) (fault_in result) }
     {
         self.keeper.settle(rt, alloc)
     }
@@ -116,7 +116,7 @@ where
         ensures fault { IfErr result (λ fault. (known : Sight) → ServesAt (eyes S.history S.Device.history S.Frozen.content S.Device.name S.Frozen.size S.Watch.counts) self.old.keeper known
             → HaveFailed (ServesAt (eyes S.history S.Device.history S.Frozen.content S.Device.name S.Frozen.size S.Watch.counts)) (FailsAt (eyes S.history S.Device.history S.Frozen.content S.Device.name S.Frozen.size S.Watch.counts)) fault known (requests_of self.old.window) (O.taken sink.old) (O.taken sink.new) self.new.keeper) }
         ensures settings { settings_kept self.new.keeper ≡ settings_kept self.old.keeper }
-        ensures cause { HasCauses (O.faults sink.old) (O.faults sink.new) (faults_kept (λ w. S.Watch.counts w) self.old.keeper) (faults_kept (λ w. S.Watch.counts w) self.new.keeper) (HasSpent S.history S.Device.history S.Frozen.content self.new.keeper) (fault_in result) }
+        ensures cause { HasCauses (O.faults sink.old) (O.faults sink.new) (faults_kept (λ w. S.Watch.counts w) self.old.keeper) (faults_kept (λ w. S.Watch.counts w) self.new.keeper) (IsTrueHere S.history S.Device.history S.Frozen.content self.new.keeper) (fault_in result) }
     {
         self.window
             .answer(rt, alloc, &mut self.keeper, &mut self.replies)?;
@@ -139,7 +139,7 @@ where
         ensures fault { IfErr result (λ fault. (known : Sight) (rs : List Request) → AreAnswered (ServesAt (eyes S.history S.Device.history S.Frozen.content S.Device.name S.Frozen.size S.Watch.counts)) known rs self.old.replies.items self.old.keeper
             → HaveFailed (ServesAt (eyes S.history S.Device.history S.Frozen.content S.Device.name S.Frozen.size S.Watch.counts)) (FailsAt (eyes S.history S.Device.history S.Frozen.content S.Device.name S.Frozen.size S.Watch.counts)) fault known rs (O.taken sink.old) (O.taken sink.new) self.new.keeper) }
         ensures settings { settings_kept self.new.keeper ≡ settings_kept self.old.keeper }
-        ensures cause { HasCauses (O.faults sink.old) (O.faults sink.new) (faults_kept (λ w. S.Watch.counts w) self.old.keeper) (faults_kept (λ w. S.Watch.counts w) self.new.keeper) (HasSpent S.history S.Device.history S.Frozen.content self.new.keeper) (fault_in result) }
+        ensures cause { HasCauses (O.faults sink.old) (O.faults sink.new) (faults_kept (λ w. S.Watch.counts w) self.old.keeper) (faults_kept (λ w. S.Watch.counts w) self.new.keeper) (IsTrueHere S.history S.Device.history S.Frozen.content self.new.keeper) (fault_in result) }
     {
         self.keeper.settle(rt, alloc)?;
         write_all(sink, self.replies.as_slice())?;
@@ -168,7 +168,7 @@ where
         ensures fault { IfErr result (λ fault. (line : List ℕ) → AsksFor line action size
             → FailsAtLine (ServesAt (eyes S.history S.Device.history S.Frozen.content S.Device.name S.Frozen.size S.Watch.counts)) (FailsAt (eyes S.history S.Device.history S.Frozen.content S.Device.name S.Frozen.size S.Watch.counts)) fault line self.old (O.taken sink.old) self.new (O.taken sink.new)) }
         ensures settings { settings_kept self.new.keeper ≡ settings_kept self.old.keeper }
-        ensures cause { HasCauses (O.faults sink.old) (O.faults sink.new) (faults_kept (λ w. S.Watch.counts w) self.old.keeper) (faults_kept (λ w. S.Watch.counts w) self.new.keeper) (HasSpent S.history S.Device.history S.Frozen.content self.new.keeper) (fault_in result) }
+        ensures cause { HasCauses (O.faults sink.old) (O.faults sink.new) (faults_kept (λ w. S.Watch.counts w) self.old.keeper) (faults_kept (λ w. S.Watch.counts w) self.new.keeper) (IsTrueHere S.history S.Device.history S.Frozen.content self.new.keeper) (fault_in result) }
     {
         self.window.push(action, size)?;
         if !self.window.is_full() {
@@ -195,7 +195,7 @@ where
         ensures fault { IfErr result (λ fault. (line : List ℕ) → AsksFor line (whole control) size
             → FailsAtLine (ServesAt (eyes S.history S.Device.history S.Frozen.content S.Device.name S.Frozen.size S.Watch.counts)) (FailsAt (eyes S.history S.Device.history S.Frozen.content S.Device.name S.Frozen.size S.Watch.counts)) fault line self.old (O.taken sink.old) self.new (O.taken sink.new)) }
         ensures settings { settings_kept self.new.keeper ≡ settings_kept self.old.keeper }
-        ensures cause { HasCauses (O.faults sink.old) (O.faults sink.new) (faults_kept (λ w. S.Watch.counts w) self.old.keeper) (faults_kept (λ w. S.Watch.counts w) self.new.keeper) (HasSpent S.history S.Device.history S.Frozen.content self.new.keeper) (fault_in result) }
+        ensures cause { HasCauses (O.faults sink.old) (O.faults sink.new) (faults_kept (λ w. S.Watch.counts w) self.old.keeper) (faults_kept (λ w. S.Watch.counts w) self.new.keeper) (IsTrueHere S.history S.Device.history S.Frozen.content self.new.keeper) (fault_in result) }
     {
         self.close(rt, alloc, sink)?;
         self.close_control(rt, alloc, control, sink)
@@ -218,7 +218,7 @@ where
         ensures fault { IfErr result (λ fault. (known : Sight) → ServesAt (eyes S.history S.Device.history S.Frozen.content S.Device.name S.Frozen.size S.Watch.counts) self.old.keeper known
             → HaveFailed (ServesAt (eyes S.history S.Device.history S.Frozen.content S.Device.name S.Frozen.size S.Watch.counts)) (FailsAt (eyes S.history S.Device.history S.Frozen.content S.Device.name S.Frozen.size S.Watch.counts)) fault known (request_whole control ∷ []) (O.taken sink.old) (O.taken sink.new) self.new.keeper) }
         ensures settings { settings_kept self.new.keeper ≡ settings_kept self.old.keeper }
-        ensures cause { HasCauses (O.faults sink.old) (O.faults sink.new) (faults_kept (λ w. S.Watch.counts w) self.old.keeper) (faults_kept (λ w. S.Watch.counts w) self.new.keeper) (HasSpent S.history S.Device.history S.Frozen.content self.new.keeper) (fault_in result) }
+        ensures cause { HasCauses (O.faults sink.old) (O.faults sink.new) (faults_kept (λ w. S.Watch.counts w) self.old.keeper) (faults_kept (λ w. S.Watch.counts w) self.new.keeper) (IsTrueHere S.history S.Device.history S.Frozen.content self.new.keeper) (fault_in result) }
     {
         answer_whole(rt, alloc, &mut self.keeper, control, &mut self.replies)?;
         self.settle_and_write(rt, alloc, sink)
@@ -243,7 +243,7 @@ where
         ensures fault { IfErr result (λ fault. (line : List ℕ) → AsksFor line asked size
             → FailsAtLine (ServesAt (eyes S.history S.Device.history S.Frozen.content S.Device.name S.Frozen.size S.Watch.counts)) (FailsAt (eyes S.history S.Device.history S.Frozen.content S.Device.name S.Frozen.size S.Watch.counts)) fault line self.old (O.taken sink.old) self.new (O.taken sink.new)) }
         ensures settings { settings_kept self.new.keeper ≡ settings_kept self.old.keeper }
-        ensures cause { HasCauses (O.faults sink.old) (O.faults sink.new) (faults_kept (λ w. S.Watch.counts w) self.old.keeper) (faults_kept (λ w. S.Watch.counts w) self.new.keeper) (HasSpent S.history S.Device.history S.Frozen.content self.new.keeper) (fault_in result) }
+        ensures cause { HasCauses (O.faults sink.old) (O.faults sink.new) (faults_kept (λ w. S.Watch.counts w) self.old.keeper) (faults_kept (λ w. S.Watch.counts w) self.new.keeper) (IsTrueHere S.history S.Device.history S.Frozen.content self.new.keeper) (fault_in result) }
     {
         match asked.into_action() {
             Action::Whole(control) => self.take_control(rt, alloc, control, size, sink),
@@ -266,7 +266,7 @@ where
         ensures limit { OnOk result (self.new.window.limit ≡ self.old.window.limit) }
         ensures fault { IfErr result (λ fault. FailsAtLine (ServesAt (eyes S.history S.Device.history S.Frozen.content S.Device.name S.Frozen.size S.Watch.counts)) (FailsAt (eyes S.history S.Device.history S.Frozen.content S.Device.name S.Frozen.size S.Watch.counts)) fault line self.old (O.taken sink.old) self.new (O.taken sink.new)) }
         ensures settings { settings_kept self.new.keeper ≡ settings_kept self.old.keeper }
-        ensures cause { HasCauses (O.faults sink.old) (O.faults sink.new) (faults_kept (λ w. S.Watch.counts w) self.old.keeper) (faults_kept (λ w. S.Watch.counts w) self.new.keeper) (HasSpent S.history S.Device.history S.Frozen.content self.new.keeper) (fault_in result) }
+        ensures cause { HasCauses (O.faults sink.old) (O.faults sink.new) (faults_kept (λ w. S.Watch.counts w) self.old.keeper) (faults_kept (λ w. S.Watch.counts w) self.new.keeper) (IsTrueHere S.history S.Device.history S.Frozen.content self.new.keeper) (fault_in result) }
     {
         self.take_slice(rt, alloc, line.as_slice(), sink)
     }
@@ -286,7 +286,7 @@ where
         ensures limit { OnOk result (self.new.window.limit ≡ self.old.window.limit) }
         ensures fault { IfErr result (λ fault. FailsAtLine (ServesAt (eyes S.history S.Device.history S.Frozen.content S.Device.name S.Frozen.size S.Watch.counts)) (FailsAt (eyes S.history S.Device.history S.Frozen.content S.Device.name S.Frozen.size S.Watch.counts)) fault line.now self.old (O.taken sink.old) self.new (O.taken sink.new)) }
         ensures settings { settings_kept self.new.keeper ≡ settings_kept self.old.keeper }
-        ensures cause { HasCauses (O.faults sink.old) (O.faults sink.new) (faults_kept (λ w. S.Watch.counts w) self.old.keeper) (faults_kept (λ w. S.Watch.counts w) self.new.keeper) (HasSpent S.history S.Device.history S.Frozen.content self.new.keeper) (fault_in result) }
+        ensures cause { HasCauses (O.faults sink.old) (O.faults sink.new) (faults_kept (λ w. S.Watch.counts w) self.old.keeper) (faults_kept (λ w. S.Watch.counts w) self.new.keeper) (IsTrueHere S.history S.Device.history S.Frozen.content self.new.keeper) (fault_in result) }
     {
         let asked = Asked::of(alloc, line)?;
         self.take(rt, alloc, asked, line.len(), sink)
@@ -307,7 +307,7 @@ where
         ensures fault { IfErr result (λ fault. (line : List ℕ) → max_line < length line
             → FailsAtLine (ServesAt (eyes S.history S.Device.history S.Frozen.content S.Device.name S.Frozen.size S.Watch.counts)) (FailsAt (eyes S.history S.Device.history S.Frozen.content S.Device.name S.Frozen.size S.Watch.counts)) fault line self.old (O.taken sink.old) self.new (O.taken sink.new)) }
         ensures settings { settings_kept self.new.keeper ≡ settings_kept self.old.keeper }
-        ensures cause { HasCauses (O.faults sink.old) (O.faults sink.new) (faults_kept (λ w. S.Watch.counts w) self.old.keeper) (faults_kept (λ w. S.Watch.counts w) self.new.keeper) (HasSpent S.history S.Device.history S.Frozen.content self.new.keeper) (fault_in result) }
+        ensures cause { HasCauses (O.faults sink.old) (O.faults sink.new) (faults_kept (λ w. S.Watch.counts w) self.old.keeper) (faults_kept (λ w. S.Watch.counts w) self.new.keeper) (IsTrueHere S.history S.Device.history S.Frozen.content self.new.keeper) (fault_in result) }
     {
         self.take(rt, alloc, Asked::refused(Refusal::Oversized), 0, sink)
     }
@@ -329,10 +329,10 @@ where
     ensures works { OnOk result (MayServe S.history S.Device.history S.Frozen.content keeper.new) }
     ensures answered { (known : Sight) → ServesAt (eyes S.history S.Device.history S.Frozen.content S.Device.name S.Frozen.size S.Watch.counts) keeper.old known → OnOk result (AreAnswered (ServesAt (eyes S.history S.Device.history S.Frozen.content S.Device.name S.Frozen.size S.Watch.counts)) known (request_whole control ∷ []) replies.new.items keeper.new) }
     ensures left { (known : Sight) → ServesAt (eyes S.history S.Device.history S.Frozen.content S.Device.name S.Frozen.size S.Watch.counts) keeper.old known → OnErr result (IsLeft (ServesAt (eyes S.history S.Device.history S.Frozen.content S.Device.name S.Frozen.size S.Watch.counts)) (FailsAt (eyes S.history S.Device.history S.Frozen.content S.Device.name S.Frozen.size S.Watch.counts)) keeper.new known (worlds_at gave_up (request_whole control ∷ []))) }
-    ensures undamaged { (w : World) → ServesAt (eyes S.history S.Device.history S.Frozen.content S.Device.name S.Frozen.size S.Watch.counts) keeper.old (sees None w) → IfErr result IsNoDamage }
+    ensures undamaged { (only : Option ℕ) (w : World) → ServesAt (eyes S.history S.Device.history S.Frozen.content S.Device.name S.Frozen.size S.Watch.counts) keeper.old (sees only w) → IfErr result (IsNoDamage only) }
     ensures kinds { IfErr result IsOfStore }
     ensures settings { settings_kept keeper.new ≡ settings_kept keeper.old }
-    ensures cause { HasDiskCause (faults_kept (λ w. S.Watch.counts w) keeper.old) (faults_kept (λ w. S.Watch.counts w) keeper.new) (HasSpent S.history S.Device.history S.Frozen.content keeper.new) (fault_in result) }
+    ensures cause { HasDiskCause (faults_kept (λ w. S.Watch.counts w) keeper.old) (faults_kept (λ w. S.Watch.counts w) keeper.new) (IsTrueHere S.history S.Device.history S.Frozen.content keeper.new) (fault_in result) }
 {
     replies.clear();
     let reply = reply_whole(rt, alloc, keeper, control)?;
@@ -356,10 +356,10 @@ where
     ensures reply { (known : Sight) → ServesAt (eyes S.history S.Device.history S.Frozen.content S.Device.name S.Frozen.size S.Watch.counts) keeper.old known → IfOk result (λ reply. MayRender (request_whole control ∷ []) (whole_of known) (rendered_of reply ∷ [])) }
     ensures held { (known : Sight) → ServesAt (eyes S.history S.Device.history S.Frozen.content S.Device.name S.Frozen.size S.Watch.counts) keeper.old known → OnOk result (ServesAt (eyes S.history S.Device.history S.Frozen.content S.Device.name S.Frozen.size S.Watch.counts) keeper.new (sight_after (request_whole control ∷ []) known)) }
     ensures failed { (only : Option ℕ) (w : World) → ServesAt (eyes S.history S.Device.history S.Frozen.content S.Device.name S.Frozen.size S.Watch.counts) keeper.old (sees only w) → OnErr result (FailsAt (eyes S.history S.Device.history S.Frozen.content S.Device.name S.Frozen.size S.Watch.counts) keeper.new only w w) }
-    ensures undamaged { (w : World) → ServesAt (eyes S.history S.Device.history S.Frozen.content S.Device.name S.Frozen.size S.Watch.counts) keeper.old (sees None w) → IfErr result IsNoDamage }
+    ensures undamaged { (only : Option ℕ) (w : World) → ServesAt (eyes S.history S.Device.history S.Frozen.content S.Device.name S.Frozen.size S.Watch.counts) keeper.old (sees only w) → IfErr result (IsNoDamage only) }
     ensures kinds { IfErr result IsOfStore }
     ensures settings { settings_kept keeper.new ≡ settings_kept keeper.old }
-    ensures cause { HasDiskCause (faults_kept (λ w. S.Watch.counts w) keeper.old) (faults_kept (λ w. S.Watch.counts w) keeper.new) (HasSpent S.history S.Device.history S.Frozen.content keeper.new) (fault_in result) }
+    ensures cause { HasDiskCause (faults_kept (λ w. S.Watch.counts w) keeper.old) (faults_kept (λ w. S.Watch.counts w) keeper.new) (IsTrueHere S.history S.Device.history S.Frozen.content keeper.new) (fault_in result) }
 {
     match control {
         Control::Flush => {

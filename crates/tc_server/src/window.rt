@@ -1,6 +1,6 @@
 //! A window: lines that are answered together.
 
-ghost use Rattle.std.specs.Prelude.{◌≡◌, false, ◌+◌, ◌≤◌, ◌<◌, ◌^◌, ◌||◌, ◌++◌, [], ◌∷◌, length, map, nat_le, Option, Some, IfErr, OnErr, OnOk};
+ghost use Rattle.std.specs.Prelude.{◌≡◌, false, ◌+◌, ◌≤◌, ◌<◌, ◌^◌, ◌||◌, ◌++◌, [], ◌∷◌, ℕ, length, map, nat_le, Option, Some, IfErr, OnErr, OnOk};
 ghost use Rattle.tc_command.specs.Commands.{request_of_command};
 ghost use Rattle.tc_command.specs.Replies.{rendered_of};
 ghost use Rattle.tc_model.specs.Limits.{max_line};
@@ -11,7 +11,7 @@ ghost use Rattle.tc_keeper.specs.Together.{IsForPart};
 ghost use Rattle.tc_server.specs.Asked.{is_whole, request_asked, IsRunForPart};
 ghost use Rattle.tc_keeper.specs.Faults.{fault_in, gave_up, HasDiskCause, IsNoDamage, IsOfStore};
 ghost use Rattle.tc_keeper.specs.Holds.{worlds_at, AreAnswered, IsLeft};
-ghost use Rattle.tc_keeper.specs.Keeping.{faults_kept, settings_kept, HasSpent, FailsAt, MayServe, ServesAt};
+ghost use Rattle.tc_keeper.specs.Keeping.{faults_kept, settings_kept, FailsAt, MayServe, ServesAt, IsTrueHere};
 ghost use Rattle.tc_work.specs.Moving.{eyes};
 ghost use Rattle.tc_keeper.specs.Sight.{sees, Sight};
 ghost use Rattle.tc_server.specs.Window.{each_rendered, mixed, rendered_refused, request_refused, requests_of, IsSoundWindow};
@@ -145,10 +145,10 @@ impl Window {
         ensures bytes { OnOk result (self.new.bytes ≡ 0) }
         ensures limit { OnOk result (self.new.limit ≡ self.old.limit) }
         ensures left { (known : Sight) → ServesAt (eyes S.history S.Device.history S.Frozen.content S.Device.name S.Frozen.size S.Watch.counts) keeper.old known → OnErr result (IsLeft (ServesAt (eyes S.history S.Device.history S.Frozen.content S.Device.name S.Frozen.size S.Watch.counts)) (FailsAt (eyes S.history S.Device.history S.Frozen.content S.Device.name S.Frozen.size S.Watch.counts)) keeper.new known (worlds_at gave_up (requests_of self.old))) }
-        ensures undamaged { (w : World) → ServesAt (eyes S.history S.Device.history S.Frozen.content S.Device.name S.Frozen.size S.Watch.counts) keeper.old (sees None w) → IfErr result IsNoDamage }
+        ensures undamaged { (only : Option ℕ) (w : World) → ServesAt (eyes S.history S.Device.history S.Frozen.content S.Device.name S.Frozen.size S.Watch.counts) keeper.old (sees only w) → IfErr result (IsNoDamage only) }
         ensures kinds { IfErr result IsOfStore }
         ensures settings { settings_kept keeper.new ≡ settings_kept keeper.old }
-        ensures cause { HasDiskCause (faults_kept (λ w. S.Watch.counts w) keeper.old) (faults_kept (λ w. S.Watch.counts w) keeper.new) (HasSpent S.history S.Device.history S.Frozen.content keeper.new) (fault_in result) }
+        ensures cause { HasDiskCause (faults_kept (λ w. S.Watch.counts w) keeper.old) (faults_kept (λ w. S.Watch.counts w) keeper.new) (IsTrueHere S.history S.Device.history S.Frozen.content keeper.new) (fault_in result) }
     {
         let commands = mem::replace(&mut self.commands, Vec::new(alloc));
         let answers = keeper.window(rt, alloc, commands)?;

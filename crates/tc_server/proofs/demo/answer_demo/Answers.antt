@@ -28,7 +28,7 @@ returns-in_err-begin-clause-ran g c =
     rw (p.1, p.2) (λ first held.
     gives_up holds keeps spent c.args.commands c.in_err-begin.field-0.0 first most (g.O.Sink.taken c.args.sink.now) (g.O.Sink.taken c.args.sink.now) c.begin.new.self.keeper c.in_err-begin.ensures.kinds c.in_err-begin.ensures.cause.spent (Keeps-refl (g.O.Sink.taken c.args.sink.now))
     (begins_not holds keeps first c.in_err-begin.field-0.0 (ended (windows_of most (generated c.args.commands))) c.begin.new.self.keeper
-    (λ w is. c.in_err-begin.ensures.undamaged w (subst (holds c.args.session.now.keeper) is held)) (λ only w is. c.in_err-begin.ensures.failed only w (subst (holds c.args.session.now.keeper) is held))))
+    (λ only w is. c.in_err-begin.ensures.undamaged only w (subst (holds c.args.session.now.keeper) is held)) (λ only w is. c.in_err-begin.ensures.failed only w (subst (holds c.args.session.now.keeper) is held))))
 
 pub returns-in_err-begin-clause-cause : goal.returns-in_err-begin-clause-cause
 returns-in_err-begin-clause-cause g c =

@@ -5,7 +5,7 @@ use Rattle.tc_gen.specs.Generated.{generated}
 use Rattle.tc_gen.proofs.LineLengths.{generated_count, generated_short}
 use Rattle.tc_model.specs.Limits.{max_line}
 use Rattle.tc_work.specs.Moving.{eyes}
-use Rattle.tc_keeper.specs.Keeping.{faults_kept, HasSpent, FailsAt, ServesAt}
+use Rattle.tc_keeper.specs.Keeping.{faults_kept, FailsAt, ServesAt, IsTrueHere}
 use Rattle.tc_keeper.proofs.Causes.{call_without_memory, calls_follow, nothing_counted}
 use Rattle.tc_server.proofs.DemoLoops.{comes_first, comes_next, ends_at_end, ends_at_line, ends_between, ends_well, line_is}
 use Rattle.tc_server.proofs.demo.hear_all.Goals as goal
@@ -21,7 +21,7 @@ loop-init g c =
       limit = refl;
       settings = refl;
       comes = rw (c.new-feed.ensures, c.new-tally.ensures) (comes_first holds keeps (holds c.args.session.now.keeper) (generated c.args.commands) c.args.session.now.window.limit c.args.session.now (λ first held. held) c.requires.requests c.requires.bytes);
-      cause = nothing_counted (faults_kept g.S.Watch.Watch.counts c.args.session.now.keeper) (HasSpent g.S.Store.history g.S.Device.Device.history g.S.Frozen.Frozen.content c.args.session.now.keeper);
+      cause = nothing_counted (faults_kept g.S.Watch.Watch.counts c.args.session.now.keeper) (IsTrueHere g.S.Store.history g.S.Device.Device.history g.S.Frozen.Frozen.content c.args.session.now.keeper);
     }
 
 -- ---- a line

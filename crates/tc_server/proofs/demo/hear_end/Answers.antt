@@ -4,7 +4,7 @@ use Rattle.std.proofs.lemmas.Result.{IfErr-weaker, on_ok_weaker}
 use Rattle.tc_edge.specs.Memory.{MemoryOutput}
 use Rattle.tc_run_model.specs.Windows.{windows_of}
 use Rattle.tc_work.specs.Moving.{eyes}
-use Rattle.tc_keeper.specs.Keeping.{faults_kept, HasSpent, FailsAt, ServesAt}
+use Rattle.tc_keeper.specs.Keeping.{faults_kept, FailsAt, ServesAt, IsTrueHere}
 use Rattle.tc_keeper.specs.Holds.{AreWritten, HaveFailed}
 use Rattle.tc_keeper.specs.Sight.{sight_behind}
 use Rattle.tc_server.specs.Window.{requests_of}
@@ -50,7 +50,7 @@ returns-in-Ok-clause-kinds g c = IfErr-weaker c.heard.result _ _ (λ f memory. r
 pub returns-in-Ok-clause-cause : goal.returns-in-Ok-clause-cause
 returns-in-Ok-clause-cause g c =
     heard_cause c.heard.result (faults_kept g.S.Watch.Watch.counts c.args.session.now.keeper) (faults_kept g.S.Watch.Watch.counts c.close.new.self.keeper) _
-    (HasSpent g.S.Store.history g.S.Device.Device.history g.S.Frozen.Frozen.content c.close.new.self.keeper) c.in-Ok.ensures.cause.disks c.heard.ensures.memory
+    (IsTrueHere g.S.Store.history g.S.Device.Device.history g.S.Frozen.Frozen.content c.close.new.self.keeper) c.in-Ok.ensures.cause.disks c.heard.ensures.memory
 
 pub returns-clause-fault : goal.returns-clause-fault
 returns-clause-fault g c =

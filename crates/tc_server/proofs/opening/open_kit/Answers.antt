@@ -36,7 +36,7 @@ returns-in-Ok-push-clause-opened g c = (
 pub returns-in-Err-push-clause-back : goal.returns-in-Err-push-clause-back
 returns-in-Err-push-clause-back g c =
     pushed_back (eyes g.S.Store.history g.S.Device.Device.history g.S.Frozen.Frozen.content g.S.Device.Device.name g.S.Frozen.Frozen.size g.S.Watch.Watch.counts)
-    g.S.Device.Device.size c.args.options.now (partition_at c.args.number c.args.options.now.partitions) (g.S.Store.history c.args.kit.store)
+    g.S.Frozen.Frozen.name g.S.Device.Device.size c.args.options.now (partition_at c.args.number c.args.options.now.partitions) (g.S.Store.history c.args.kit.store)
     (faults_in g.S.Watch.Watch.counts c.args.kit) (engine_with c.in-Err-push.engine c.new-in-Err-push.result) c.close.result.outcome
     (g.S.Store.history c.close.result.kit.store) (faults_in g.S.Watch.Watch.counts c.close.result.kit)
     (subst (λ jobs. IsOpened (eyes g.S.Store.history g.S.Device.Device.history g.S.Frozen.Frozen.content g.S.Device.Device.name g.S.Frozen.Frozen.size

@@ -202,10 +202,10 @@ pub returns-in_ok-close-in-End-clause-cause : goal.returns-in_ok-close-in-End-cl
 returns-in_ok-close-in-End-clause-cause g c = run_by_window None _ _ _ _ _ _ _ c.next.ensures.kept c.in_ok-close-in-End.ensures.cause
 
 pub returns-in-ReadFault-clause-cause : goal.returns-in-ReadFault-clause-cause
-returns-in-ReadFault-clause-cause g c = run_by_reads _ _ _ _ _ c.next.ensures.kept (λ same. c.in-ReadFault.ensures.fault refl) tt (λ write. absurd write) tt tt
+returns-in-ReadFault-clause-cause g c = run_by_reads _ _ _ _ _ _ c.next.ensures.kept (λ same. c.in-ReadFault.ensures.fault refl) tt (λ write. absurd write) tt tt
 
 pub returns-in-Spent-clause-cause : goal.returns-in-Spent-clause-cause
-returns-in-Spent-clause-cause g c = run_by_reads _ _ _ _ _ c.next.ensures.kept (λ same. absurd (cc)) tt (λ write. absurd write) tt tt
+returns-in-Spent-clause-cause g c = run_by_reads _ _ _ _ _ _ c.next.ensures.kept (λ same. absurd (cc)) tt (λ write. absurd write) tt tt
 
 pub returns-in-Memory-clause-cause : goal.returns-in-Memory-clause-cause
-returns-in-Memory-clause-cause g c = run_by_reads _ _ _ _ _ c.next.ensures.kept (λ same. absurd (cc)) tt (λ write. absurd write) tt tt
+returns-in-Memory-clause-cause g c = run_by_reads _ _ _ _ _ _ c.next.ensures.kept (λ same. absurd (cc)) tt (λ write. absurd write) tt tt

@@ -17,7 +17,7 @@ returns-in_err-begin-clause-ran g c =
     g.S.Frozen.Frozen.size g.S.Watch.Watch.counts)) (HasSpent g.S.Store.history g.S.Device.Device.history g.S.Frozen.Frozen.content) first
     c.args.session.now.window.limit (g.I.Source.left c.args.source.now) (g.O.Sink.taken c.args.sink.now) c.in_err-begin.field-0.0 c.begin.new.self.keeper
     c.in_err-begin.ensures.kinds c.in_err-begin.ensures.cause.spent
-    (λ w is. c.in_err-begin.ensures.undamaged w (subst ((ServesAt (eyes g.S.Store.history g.S.Device.Device.history g.S.Frozen.Frozen.content g.S.Device.Device.name g.S.Frozen.Frozen.size g.S.Watch.Watch.counts)) c.args.session.now.keeper) is holds))
+    (λ only w is. c.in_err-begin.ensures.undamaged only w (subst ((ServesAt (eyes g.S.Store.history g.S.Device.Device.history g.S.Frozen.Frozen.content g.S.Device.Device.name g.S.Frozen.Frozen.size g.S.Watch.Watch.counts)) c.args.session.now.keeper) is holds))
     (λ only w is. c.in_err-begin.ensures.failed only w (subst ((ServesAt (eyes g.S.Store.history g.S.Device.Device.history g.S.Frozen.Frozen.content g.S.Device.Device.name g.S.Frozen.Frozen.size g.S.Watch.Watch.counts)) c.args.session.now.keeper) is holds)))
 
 pub returns-in_err-begin-clause-prompt : goal.returns-in_err-begin-clause-prompt
@@ -54,7 +54,7 @@ loop-preserved g c =
       come = λ first holds.
           let goes = rw c.if-not-branch.false at c.in_ok-answer_line.ensures.more in
           goes first (g.I.Source.left c.args.source.now) (g.O.Sink.taken c.args.sink.now) (g.I.Source.moments c.args.source.now) (l.invariant.come first holds);
-      cause = runs_follow None _ _ _ _ _ _ _ _ _ l.invariant.cause c.in_ok-answer_line.ensures.cause;
+      cause = runs_follow None _ _ _ _ _ _ _ _ _ _ _ l.invariant.cause c.in_ok-answer_line.ensures.cause;
     }
 
 pub returns-in_err-answer_line-clause-ran : goal.returns-in_err-answer_line-clause-ran
@@ -69,7 +69,7 @@ returns-in_err-answer_line-clause-prompt g c = λ first holds.
 pub returns-in_err-answer_line-clause-cause : goal.returns-in_err-answer_line-clause-cause
 returns-in_err-answer_line-clause-cause g c =
     let p = err_from_is_err_and c.from_residual-in_err-answer_line.result c.from_residual-in_err-answer_line.ensures.1 in
-    rw (p.1, p.2) (runs_follow (Some c.in_err-answer_line.field-0.0) _ _ _ _ _ _ _ _ _ c.loop.invariant.cause c.in_err-answer_line.ensures.cause)
+    rw (p.1, p.2) (runs_follow (Some c.in_err-answer_line.field-0.0) _ _ _ _ _ _ _ _ _ _ _ c.loop.invariant.cause c.in_err-answer_line.ensures.cause)
 
 pub returns-in_err-answer_line-clause-settings : goal.returns-in_err-answer_line-clause-settings
 returns-in_err-answer_line-clause-settings g c = c.answer_line.ensures.settings ∙ c.loop.invariant.settings
@@ -84,7 +84,7 @@ returns-then-not-branch-clause-prompt g c = λ first holds.
     rw (← c.loop.invariant.limit) (c.answer_line.ensures.prompt first (g.I.Source.left c.args.source.now) (g.O.Sink.taken c.args.sink.now) (g.I.Source.moments c.args.source.now) (c.loop.invariant.come first holds))
 
 pub returns-then-not-branch-clause-cause : goal.returns-then-not-branch-clause-cause
-returns-then-not-branch-clause-cause g c = runs_follow None _ _ _ _ _ _ _ _ _ c.loop.invariant.cause c.in_ok-answer_line.ensures.cause
+returns-then-not-branch-clause-cause g c = runs_follow None _ _ _ _ _ _ _ _ _ _ _ c.loop.invariant.cause c.in_ok-answer_line.ensures.cause
 
 pub returns-then-not-branch-clause-settings : goal.returns-then-not-branch-clause-settings
 returns-then-not-branch-clause-settings g c = c.answer_line.ensures.settings ∙ c.loop.invariant.settings
@@ -101,7 +101,7 @@ pub returns-clause-prompt : goal.returns-clause-prompt
 returns-clause-prompt g c = λ first holds. rw (← c.loop.invariant.limit) (let come = c.loop.invariant.come first holds in (come.heard.input, come.prompt))
 
 pub returns-clause-cause : goal.returns-clause-cause
-returns-clause-cause g c = run_without_memory _ _ _ _ _ _ c.loop.invariant.cause
+returns-clause-cause g c = run_without_memory _ _ _ _ _ _ _ _ c.loop.invariant.cause
 
 pub returns-clause-settings : goal.returns-clause-settings
 returns-clause-settings g c = c.loop.invariant.settings

@@ -20,7 +20,7 @@ pub returns-in-Ok-clause-settings : goal.returns-in-Ok-clause-settings
 returns-in-Ok-clause-settings g c = c.answer_with.ensures.settings ∙ ap (λ (es : List (WithJobs _ _ _ _)). map (λ e. (e.engine.part.memory, e.engine.policy)) es) c.in-Ok.ensures.opened.0
 
 pub returns-in-Ok-clause-cause : goal.returns-in-Ok-clause-cause
-returns-in-Ok-clause-cause g c = begun_causes g.S.Watch.Watch.counts c.in-Ok.keeper c.args.partitions _ _ _ _ _ _ c.in-Ok.ensures.opened.0 c.in-Ok.ensures.opened.1 c.answer_with.ensures.cause
+returns-in-Ok-clause-cause g c = begun_causes g.S.Watch.Watch.counts c.in-Ok.keeper c.args.partitions _ _ _ _ _ _ _ c.in-Ok.ensures.opened.0 c.in-Ok.ensures.opened.1 c.answer_with.ensures.cause
 
 pub returns-in-Err-clause-ran : goal.returns-in-Err-clause-ran
 returns-in-Err-clause-ran g c = rw c.in-Err.ensures.back (λ first begins stands. without_room
@@ -42,7 +42,7 @@ pub returns-in-Err-clause-settings : goal.returns-in-Err-clause-settings
 returns-in-Err-clause-settings g c = rw c.in-Err.ensures.back refl
 
 pub returns-in-Err-clause-cause : goal.returns-in-Err-clause-cause
-returns-in-Err-clause-cause g c = rw c.in-Err.ensures.back (unrun_causes g.S.Watch.Watch.counts c.args.partitions _ _)
+returns-in-Err-clause-cause g c = rw c.in-Err.ensures.back (unrun_causes g.S.Watch.Watch.counts c.args.partitions _ _ _)
 
 pub returns-in-Err-clause-spent : goal.returns-in-Err-clause-spent
 returns-in-Err-clause-spent g c = λ is. absurd (cc)

@@ -4,7 +4,7 @@ use Rattle.tc_words.specs.declared.run.Options.{Options}
 use Rattle.tc_keeper.specs.Calls.{HoldsAt, IsSpent, KeepsAt}
 use Rattle.tc_server.specs.Ending.{AskedPromptly, RanLeaving, RunsOver}
 use Rattle.tc_keeper.specs.Faults.{fault_in, HasRunCauses}
-use Rattle.tc_keeper.specs.Keeping.{faults_kept, settings_kept, FailsAt, HasSpent, KeeperState, ServesAt}
+use Rattle.tc_keeper.specs.Keeping.{faults_kept, settings_kept, FailsAt, HasSpent, KeeperState, ServesAt, IsTrueHere}
 use Rattle.tc_server.specs.Kits.{answer_behind}
 use Rattle.tc_server.proofs.EndedCauses.{run_ended, spent_with}
 use Rattle.tc_server.proofs.EndedRuns.{ended_run, well_behind}
@@ -59,16 +59,18 @@ returns-clause-settings g c = c.end-partitions.ensures.settings
 pub returns-clause-cause : goal.returns-clause-cause
 returns-clause-cause g c =
     rw c.with_fault.ensures (run_ended c.answer_asked-answer.result c.end-partitions.result.1 (g.I.Source.faults c.args.source.now)
-    (g.I.Source.faults c.answer_asked-answer.new.source) (g.O.Sink.faults c.args.sink.now) (g.O.Sink.faults c.answer_asked-answer.new.sink) _ _ _ _
-    c.end-partitions.ensures.kind
+    (g.I.Source.faults c.answer_asked-answer.new.source) (g.O.Sink.faults c.args.sink.now) (g.O.Sink.faults c.answer_asked-answer.new.sink) _ _ _ _ _
+    c.end-partitions.ensures.met c.end-partitions.ensures.kind
     (subst (λ (k : KeeperState g.row.S.Denot g.row.S-Device.Denot g.row.S-Frozen.Denot g.row.S-Watch.Denot). HasRunCauses (g.I.Source.faults c.args.source.now)
     (g.I.Source.faults c.answer_asked-answer.new.source) (g.O.Sink.faults c.args.sink.now) (g.O.Sink.faults c.answer_asked-answer.new.sink)
-    (faults_kept g.S.Watch.Watch.counts k) (faults_kept g.S.Watch.Watch.counts c.into_keeper.result) (fault_in c.answer_asked-answer.result))
+    (faults_kept g.S.Watch.Watch.counts k) (faults_kept g.S.Watch.Watch.counts c.into_keeper.result)
+    (IsTrueHere g.S.Store.history g.S.Device.Device.history g.S.Frozen.Frozen.content c.into_keeper.result) (fault_in c.answer_asked-answer.result))
     c.new-session.ensures.keeper
     (subst (λ (k : KeeperState g.row.S.Denot g.row.S-Device.Denot g.row.S-Frozen.Denot g.row.S-Watch.Denot). HasRunCauses (g.I.Source.faults c.args.source.now)
     (g.I.Source.faults c.answer_asked-answer.new.source) (g.O.Sink.faults c.args.sink.now) (g.O.Sink.faults c.answer_asked-answer.new.sink)
-    (faults_kept g.S.Watch.Watch.counts c.new-session.result.keeper) (faults_kept g.S.Watch.Watch.counts k) (fault_in c.answer_asked-answer.result))
-    (sym c.into_keeper.ensures) c.answer_asked-answer.ensures.cause))
+    (faults_kept g.S.Watch.Watch.counts c.new-session.result.keeper) (faults_kept g.S.Watch.Watch.counts k)
+    (IsTrueHere g.S.Store.history g.S.Device.Device.history g.S.Frozen.Frozen.content k) (fault_in c.answer_asked-answer.result)) (sym c.into_keeper.ensures)
+    c.answer_asked-answer.ensures.cause))
     c.end-partitions.ensures.cause)
 
 pub returns-clause-spent : goal.returns-clause-spent

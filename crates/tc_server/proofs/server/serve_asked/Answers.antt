@@ -33,7 +33,7 @@ returns-in-Err-clause-ran g c =
 pub returns-in-Err-clause-judged : goal.returns-in-Err-clause-judged
 returns-in-Err-clause-judged g c =
     let none = ap (λ kits. kits.items) c.of.ensures.kits ∙ c.new.ensures.items in
-    rw (c.of.ensures.fault, none) (judged_nothing (options_asked c.args.asked.now).partitions (g.H.Shelf.files c.args.shelf.now) (Some Memory))
+    rw (c.of.ensures.fault, none) (judged_nothing g.H.Store.Frozen.Frozen.content g.H.Store.Frozen.Frozen.name (options_asked c.args.asked.now).partitions (g.H.Shelf.files c.args.shelf.now) (Some Memory))
 
 pub returns-in-Err-with_capacity-clause-ran : goal.returns-in-Err-with_capacity-clause-ran
 returns-in-Err-with_capacity-clause-ran g c =
@@ -43,7 +43,7 @@ returns-in-Err-with_capacity-clause-ran g c =
 pub returns-in-Err-with_capacity-clause-judged : goal.returns-in-Err-with_capacity-clause-judged
 returns-in-Err-with_capacity-clause-judged g c =
     let none = ap (λ kits. kits.items) c.of-in-Err-with_capacity.ensures.kits ∙ c.in-Ok.ensures.items in
-    rw (c.of-in-Err-with_capacity.ensures.fault, none) (judged_nothing (options_asked c.args.asked.now).partitions (g.H.Shelf.files c.args.shelf.now) (Some Memory))
+    rw (c.of-in-Err-with_capacity.ensures.fault, none) (judged_nothing g.H.Store.Frozen.Frozen.content g.H.Store.Frozen.Frozen.name (options_asked c.args.asked.now).partitions (g.H.Shelf.files c.args.shelf.now) (Some Memory))
 
 pub serve_over-kits-requires-clause-all : goal.serve_over-kits-requires-clause-all
 serve_over-kits-requires-clause-all g c κs within = c.in-Ok-open_all.ensures.all ∙ ap (λ (o : Options). o.partitions) c.options_asked-options.ensures
@@ -153,11 +153,13 @@ returns-in-Ok-open_all-clause-judged g c =
     let opened = subst (λ o. AreOpened (eyes g.H.Store.Store.history g.H.Store.Device.Device.history g.H.Store.Frozen.Frozen.content g.H.Store.Device.Device.name
     g.H.Store.Frozen.Frozen.size g.H.Store.Watch.Watch.counts) o (g.H.Shelf.files c.args.shelf.now) (g.H.Shelf.kit_faults c.args.shelf.now) c.open_all.new.engines)
     c.options_asked-options.ensures c.open_all.ensures.opened in
+    let all : length c.open_all.new.engines ≡ (options_asked c.args.asked.now).partitions = c.in-Ok-open_all.ensures.all ∙ ap (λ (o : Options). o.partitions) c.options_asked-options.ensures in
     rw (c.of-in-Ok-open_all.ensures.fault, kits) (judged_all (eyes g.H.Store.Store.history g.H.Store.Device.Device.history g.H.Store.Frozen.Frozen.content
     g.H.Store.Device.Device.name g.H.Store.Frozen.Frozen.size g.H.Store.Watch.Watch.counts)
     (λ (kit : Kit g.row.H-Store.Denot g.row.H-Store-Watch.Denot g.row.H-Store-Device.Denot g.row.H-Store-Frozen.Denot). g.H.Store.Store.history kit.store)
     (faults_in g.H.Store.Watch.Watch.counts) (options_asked c.args.asked.now) (g.H.Shelf.files c.args.shelf.now) (g.H.Shelf.kit_faults c.args.shelf.now)
-    c.open_all.new.engines opened c.serve_over-kits.result.0.items c.serve_over-kits.result.1 c.serve_over-kits.ensures.counts c.serve_over-kits.ensures.kind)
+    c.open_all.new.engines opened g.H.Store.Frozen.Frozen.name c.serve_over-kits.result.0.items c.serve_over-kits.result.1 all
+    c.serve_over-kits.ensures.counts c.serve_over-kits.ensures.kind)
 
 pub returns-in-Ok-open_all-clause-layout : goal.returns-in-Ok-open_all-clause-layout
 returns-in-Ok-open_all-clause-layout g c =
@@ -185,12 +187,12 @@ returns-in-Err-open_all-clause-ran g c =
     g.H.Store.Frozen.Frozen.size g.H.Store.Watch.Watch.counts) o (g.H.Shelf.files c.args.shelf.now) (g.H.Shelf.kit_faults c.args.shelf.now) c.open_all.new.engines)
     c.options_asked-options.ensures c.open_all.ensures.opened in
     let some : length c.open_all.new.engines < (options_asked c.args.asked.now).partitions = subst (λ (o : Options). length c.open_all.new.engines < o.partitions) c.options_asked-options.ensures c.in-Err-open_all.ensures.some in
-    let back = subst (λ (o : Options). IfSome last (λ kit. IsGivenBack (partition_at (length c.open_all.new.engines) o.partitions)
+    let back = subst (λ (o : Options). IfSome last (λ kit. IsGivenBack g.H.Store.Frozen.Frozen.content g.H.Store.Frozen.Frozen.name (partition_at (length c.open_all.new.engines) o.partitions)
     (g.H.Shelf.files c.args.shelf.now (length c.open_all.new.engines)) (g.H.Shelf.kit_faults c.args.shelf.now (length c.open_all.new.engines))
     c.in-Err-open_all.field-0.fault (g.H.Store.Store.history kit.store) (faults_in g.H.Store.Watch.Watch.counts kit))) c.options_asked-options.ensures
     c.in-Err-open_all.ensures.back in
     let b = given_back_all (eyes g.H.Store.Store.history g.H.Store.Device.Device.history g.H.Store.Frozen.Frozen.content g.H.Store.Device.Device.name
-    g.H.Store.Frozen.Frozen.size g.H.Store.Watch.Watch.counts) g.H.Store.Device.Device.size (λ (kit : Kit _ _ _ _). g.H.Store.Store.history kit.store)
+    g.H.Store.Frozen.Frozen.size g.H.Store.Watch.Watch.counts) g.H.Store.Frozen.Frozen.name g.H.Store.Device.Device.size (λ (kit : Kit _ _ _ _). g.H.Store.Store.history kit.store)
     (faults_in g.H.Store.Watch.Watch.counts) (options_asked c.args.asked.now) (g.H.Shelf.files c.args.shelf.now) (g.H.Shelf.kit_faults c.args.shelf.now)
     (g.H.Shelf.faults c.args.shelf.now) (g.H.Shelf.faults c.open_all.new.shelf) c.open_all.new.engines ks last c.in-Err-open_all.field-0.fault some opened
     (kits_ended (eyes g.H.Store.Store.history g.H.Store.Device.Device.history g.H.Store.Frozen.Frozen.content g.H.Store.Device.Device.name
@@ -209,12 +211,12 @@ returns-in-Err-open_all-clause-kits g c =
     g.H.Store.Frozen.Frozen.size g.H.Store.Watch.Watch.counts) o (g.H.Shelf.files c.args.shelf.now) (g.H.Shelf.kit_faults c.args.shelf.now) c.open_all.new.engines)
     c.options_asked-options.ensures c.open_all.ensures.opened in
     let some : length c.open_all.new.engines < (options_asked c.args.asked.now).partitions = subst (λ (o : Options). length c.open_all.new.engines < o.partitions) c.options_asked-options.ensures c.in-Err-open_all.ensures.some in
-    let back = subst (λ (o : Options). IfSome last (λ kit. IsGivenBack (partition_at (length c.open_all.new.engines) o.partitions)
+    let back = subst (λ (o : Options). IfSome last (λ kit. IsGivenBack g.H.Store.Frozen.Frozen.content g.H.Store.Frozen.Frozen.name (partition_at (length c.open_all.new.engines) o.partitions)
     (g.H.Shelf.files c.args.shelf.now (length c.open_all.new.engines)) (g.H.Shelf.kit_faults c.args.shelf.now (length c.open_all.new.engines))
     c.in-Err-open_all.field-0.fault (g.H.Store.Store.history kit.store) (faults_in g.H.Store.Watch.Watch.counts kit))) c.options_asked-options.ensures
     c.in-Err-open_all.ensures.back in
     let b = given_back_all (eyes g.H.Store.Store.history g.H.Store.Device.Device.history g.H.Store.Frozen.Frozen.content g.H.Store.Device.Device.name
-    g.H.Store.Frozen.Frozen.size g.H.Store.Watch.Watch.counts) g.H.Store.Device.Device.size (λ (kit : Kit _ _ _ _). g.H.Store.Store.history kit.store)
+    g.H.Store.Frozen.Frozen.size g.H.Store.Watch.Watch.counts) g.H.Store.Frozen.Frozen.name g.H.Store.Device.Device.size (λ (kit : Kit _ _ _ _). g.H.Store.Store.history kit.store)
     (faults_in g.H.Store.Watch.Watch.counts) (options_asked c.args.asked.now) (g.H.Shelf.files c.args.shelf.now) (g.H.Shelf.kit_faults c.args.shelf.now)
     (g.H.Shelf.faults c.args.shelf.now) (g.H.Shelf.faults c.open_all.new.shelf) c.open_all.new.engines ks last c.in-Err-open_all.field-0.fault some opened
     (kits_ended (eyes g.H.Store.Store.history g.H.Store.Device.Device.history g.H.Store.Frozen.Frozen.content g.H.Store.Device.Device.name
@@ -234,12 +236,12 @@ returns-in-Err-open_all-clause-asked g c =
     g.H.Store.Frozen.Frozen.size g.H.Store.Watch.Watch.counts) o (g.H.Shelf.files c.args.shelf.now) (g.H.Shelf.kit_faults c.args.shelf.now) c.open_all.new.engines)
     c.options_asked-options.ensures c.open_all.ensures.opened in
     let some : length c.open_all.new.engines < (options_asked c.args.asked.now).partitions = subst (λ (o : Options). length c.open_all.new.engines < o.partitions) c.options_asked-options.ensures c.in-Err-open_all.ensures.some in
-    let back = subst (λ (o : Options). IfSome last (λ kit. IsGivenBack (partition_at (length c.open_all.new.engines) o.partitions)
+    let back = subst (λ (o : Options). IfSome last (λ kit. IsGivenBack g.H.Store.Frozen.Frozen.content g.H.Store.Frozen.Frozen.name (partition_at (length c.open_all.new.engines) o.partitions)
     (g.H.Shelf.files c.args.shelf.now (length c.open_all.new.engines)) (g.H.Shelf.kit_faults c.args.shelf.now (length c.open_all.new.engines))
     c.in-Err-open_all.field-0.fault (g.H.Store.Store.history kit.store) (faults_in g.H.Store.Watch.Watch.counts kit))) c.options_asked-options.ensures
     c.in-Err-open_all.ensures.back in
     let b = given_back_all (eyes g.H.Store.Store.history g.H.Store.Device.Device.history g.H.Store.Frozen.Frozen.content g.H.Store.Device.Device.name
-    g.H.Store.Frozen.Frozen.size g.H.Store.Watch.Watch.counts) g.H.Store.Device.Device.size (λ (kit : Kit _ _ _ _). g.H.Store.Store.history kit.store)
+    g.H.Store.Frozen.Frozen.size g.H.Store.Watch.Watch.counts) g.H.Store.Frozen.Frozen.name g.H.Store.Device.Device.size (λ (kit : Kit _ _ _ _). g.H.Store.Store.history kit.store)
     (faults_in g.H.Store.Watch.Watch.counts) (options_asked c.args.asked.now) (g.H.Shelf.files c.args.shelf.now) (g.H.Shelf.kit_faults c.args.shelf.now)
     (g.H.Shelf.faults c.args.shelf.now) (g.H.Shelf.faults c.open_all.new.shelf) c.open_all.new.engines ks last c.in-Err-open_all.field-0.fault some opened
     (kits_ended (eyes g.H.Store.Store.history g.H.Store.Device.Device.history g.H.Store.Frozen.Frozen.content g.H.Store.Device.Device.name
@@ -259,12 +261,12 @@ returns-in-Err-open_all-clause-counts g c =
     g.H.Store.Frozen.Frozen.size g.H.Store.Watch.Watch.counts) o (g.H.Shelf.files c.args.shelf.now) (g.H.Shelf.kit_faults c.args.shelf.now) c.open_all.new.engines)
     c.options_asked-options.ensures c.open_all.ensures.opened in
     let some : length c.open_all.new.engines < (options_asked c.args.asked.now).partitions = subst (λ (o : Options). length c.open_all.new.engines < o.partitions) c.options_asked-options.ensures c.in-Err-open_all.ensures.some in
-    let back = subst (λ (o : Options). IfSome last (λ kit. IsGivenBack (partition_at (length c.open_all.new.engines) o.partitions)
+    let back = subst (λ (o : Options). IfSome last (λ kit. IsGivenBack g.H.Store.Frozen.Frozen.content g.H.Store.Frozen.Frozen.name (partition_at (length c.open_all.new.engines) o.partitions)
     (g.H.Shelf.files c.args.shelf.now (length c.open_all.new.engines)) (g.H.Shelf.kit_faults c.args.shelf.now (length c.open_all.new.engines))
     c.in-Err-open_all.field-0.fault (g.H.Store.Store.history kit.store) (faults_in g.H.Store.Watch.Watch.counts kit))) c.options_asked-options.ensures
     c.in-Err-open_all.ensures.back in
     let b = given_back_all (eyes g.H.Store.Store.history g.H.Store.Device.Device.history g.H.Store.Frozen.Frozen.content g.H.Store.Device.Device.name
-    g.H.Store.Frozen.Frozen.size g.H.Store.Watch.Watch.counts) g.H.Store.Device.Device.size (λ (kit : Kit _ _ _ _). g.H.Store.Store.history kit.store)
+    g.H.Store.Frozen.Frozen.size g.H.Store.Watch.Watch.counts) g.H.Store.Frozen.Frozen.name g.H.Store.Device.Device.size (λ (kit : Kit _ _ _ _). g.H.Store.Store.history kit.store)
     (faults_in g.H.Store.Watch.Watch.counts) (options_asked c.args.asked.now) (g.H.Shelf.files c.args.shelf.now) (g.H.Shelf.kit_faults c.args.shelf.now)
     (g.H.Shelf.faults c.args.shelf.now) (g.H.Shelf.faults c.open_all.new.shelf) c.open_all.new.engines ks last c.in-Err-open_all.field-0.fault some opened
     (kits_ended (eyes g.H.Store.Store.history g.H.Store.Device.Device.history g.H.Store.Frozen.Frozen.content g.H.Store.Device.Device.name
@@ -339,12 +341,12 @@ returns-in-Err-open_all-clause-disk g c =
     g.H.Store.Frozen.Frozen.size g.H.Store.Watch.Watch.counts) o (g.H.Shelf.files c.args.shelf.now) (g.H.Shelf.kit_faults c.args.shelf.now) c.open_all.new.engines)
     c.options_asked-options.ensures c.open_all.ensures.opened in
     let some : length c.open_all.new.engines < (options_asked c.args.asked.now).partitions = subst (λ (o : Options). length c.open_all.new.engines < o.partitions) c.options_asked-options.ensures c.in-Err-open_all.ensures.some in
-    let back = subst (λ (o : Options). IfSome last (λ kit. IsGivenBack (partition_at (length c.open_all.new.engines) o.partitions)
+    let back = subst (λ (o : Options). IfSome last (λ kit. IsGivenBack g.H.Store.Frozen.Frozen.content g.H.Store.Frozen.Frozen.name (partition_at (length c.open_all.new.engines) o.partitions)
     (g.H.Shelf.files c.args.shelf.now (length c.open_all.new.engines)) (g.H.Shelf.kit_faults c.args.shelf.now (length c.open_all.new.engines))
     c.in-Err-open_all.field-0.fault (g.H.Store.Store.history kit.store) (faults_in g.H.Store.Watch.Watch.counts kit))) c.options_asked-options.ensures
     c.in-Err-open_all.ensures.back in
     let b = given_back_all (eyes g.H.Store.Store.history g.H.Store.Device.Device.history g.H.Store.Frozen.Frozen.content g.H.Store.Device.Device.name
-    g.H.Store.Frozen.Frozen.size g.H.Store.Watch.Watch.counts) g.H.Store.Device.Device.size (λ (kit : Kit _ _ _ _). g.H.Store.Store.history kit.store)
+    g.H.Store.Frozen.Frozen.size g.H.Store.Watch.Watch.counts) g.H.Store.Frozen.Frozen.name g.H.Store.Device.Device.size (λ (kit : Kit _ _ _ _). g.H.Store.Store.history kit.store)
     (faults_in g.H.Store.Watch.Watch.counts) (options_asked c.args.asked.now) (g.H.Shelf.files c.args.shelf.now) (g.H.Shelf.kit_faults c.args.shelf.now)
     (g.H.Shelf.faults c.args.shelf.now) (g.H.Shelf.faults c.open_all.new.shelf) c.open_all.new.engines ks last c.in-Err-open_all.field-0.fault some opened
     (kits_ended (eyes g.H.Store.Store.history g.H.Store.Device.Device.history g.H.Store.Frozen.Frozen.content g.H.Store.Device.Device.name
@@ -363,12 +365,12 @@ returns-in-Err-open_all-clause-judged g c =
     g.H.Store.Frozen.Frozen.size g.H.Store.Watch.Watch.counts) o (g.H.Shelf.files c.args.shelf.now) (g.H.Shelf.kit_faults c.args.shelf.now) c.open_all.new.engines)
     c.options_asked-options.ensures c.open_all.ensures.opened in
     let some : length c.open_all.new.engines < (options_asked c.args.asked.now).partitions = subst (λ (o : Options). length c.open_all.new.engines < o.partitions) c.options_asked-options.ensures c.in-Err-open_all.ensures.some in
-    let back = subst (λ (o : Options). IfSome last (λ kit. IsGivenBack (partition_at (length c.open_all.new.engines) o.partitions)
+    let back = subst (λ (o : Options). IfSome last (λ kit. IsGivenBack g.H.Store.Frozen.Frozen.content g.H.Store.Frozen.Frozen.name (partition_at (length c.open_all.new.engines) o.partitions)
     (g.H.Shelf.files c.args.shelf.now (length c.open_all.new.engines)) (g.H.Shelf.kit_faults c.args.shelf.now (length c.open_all.new.engines))
     c.in-Err-open_all.field-0.fault (g.H.Store.Store.history kit.store) (faults_in g.H.Store.Watch.Watch.counts kit))) c.options_asked-options.ensures
     c.in-Err-open_all.ensures.back in
     let b = given_back_all (eyes g.H.Store.Store.history g.H.Store.Device.Device.history g.H.Store.Frozen.Frozen.content g.H.Store.Device.Device.name
-    g.H.Store.Frozen.Frozen.size g.H.Store.Watch.Watch.counts) g.H.Store.Device.Device.size (λ (kit : Kit _ _ _ _). g.H.Store.Store.history kit.store)
+    g.H.Store.Frozen.Frozen.size g.H.Store.Watch.Watch.counts) g.H.Store.Frozen.Frozen.name g.H.Store.Device.Device.size (λ (kit : Kit _ _ _ _). g.H.Store.Store.history kit.store)
     (faults_in g.H.Store.Watch.Watch.counts) (options_asked c.args.asked.now) (g.H.Shelf.files c.args.shelf.now) (g.H.Shelf.kit_faults c.args.shelf.now)
     (g.H.Shelf.faults c.args.shelf.now) (g.H.Shelf.faults c.open_all.new.shelf) c.open_all.new.engines ks last c.in-Err-open_all.field-0.fault some opened
     (kits_ended (eyes g.H.Store.Store.history g.H.Store.Device.Device.history g.H.Store.Frozen.Frozen.content g.H.Store.Device.Device.name
@@ -381,7 +383,7 @@ pub returns-in-Err-open_all-clause-usage : goal.returns-in-Err-open_all-clause-u
 returns-in-Err-open_all-clause-usage g c =
     let ends = ends_unopened (Rose (g.H.Shelf.faults c.args.shelf.now) (g.H.Shelf.faults c.open_all.new.shelf))
     (partition_at (length c.open_all.new.engines) c.options_asked-options.result.partitions) (length c.open_all.new.engines) c.in-Err-open_all.field-0.fault
-    (λ (kit : Kit g.row.H-Store.Denot g.row.H-Store-Watch.Denot g.row.H-Store-Device.Denot g.row.H-Store-Frozen.Denot). IsGivenBack
+    (λ (kit : Kit g.row.H-Store.Denot g.row.H-Store-Watch.Denot g.row.H-Store-Device.Denot g.row.H-Store-Frozen.Denot). IsGivenBack g.H.Store.Frozen.Frozen.content g.H.Store.Frozen.Frozen.name
     (partition_at (length c.open_all.new.engines) c.options_asked-options.result.partitions) (g.H.Shelf.files c.args.shelf.now (length c.open_all.new.engines))
     (g.H.Shelf.kit_faults c.args.shelf.now (length c.open_all.new.engines)) c.in-Err-open_all.field-0.fault (g.H.Store.Store.history kit.store)
     (faults_in g.H.Store.Watch.Watch.counts kit)) c.in-Err-open_all.field-0.kit (λ kit b. b.of) c.in-Err-open_all.ensures.back
@@ -392,7 +394,7 @@ pub returns-in-Err-open_all-clause-read : goal.returns-in-Err-open_all-clause-re
 returns-in-Err-open_all-clause-read g c =
     let ends = ends_unopened (Rose (g.H.Shelf.faults c.args.shelf.now) (g.H.Shelf.faults c.open_all.new.shelf))
     (partition_at (length c.open_all.new.engines) c.options_asked-options.result.partitions) (length c.open_all.new.engines) c.in-Err-open_all.field-0.fault
-    (λ (kit : Kit g.row.H-Store.Denot g.row.H-Store-Watch.Denot g.row.H-Store-Device.Denot g.row.H-Store-Frozen.Denot). IsGivenBack
+    (λ (kit : Kit g.row.H-Store.Denot g.row.H-Store-Watch.Denot g.row.H-Store-Device.Denot g.row.H-Store-Frozen.Denot). IsGivenBack g.H.Store.Frozen.Frozen.content g.H.Store.Frozen.Frozen.name
     (partition_at (length c.open_all.new.engines) c.options_asked-options.result.partitions) (g.H.Shelf.files c.args.shelf.now (length c.open_all.new.engines))
     (g.H.Shelf.kit_faults c.args.shelf.now (length c.open_all.new.engines)) c.in-Err-open_all.field-0.fault (g.H.Store.Store.history kit.store)
     (faults_in g.H.Store.Watch.Watch.counts kit)) c.in-Err-open_all.field-0.kit (λ kit b. b.of) c.in-Err-open_all.ensures.back
@@ -403,7 +405,7 @@ pub returns-in-Err-open_all-clause-write : goal.returns-in-Err-open_all-clause-w
 returns-in-Err-open_all-clause-write g c =
     let ends = ends_unopened (Rose (g.H.Shelf.faults c.args.shelf.now) (g.H.Shelf.faults c.open_all.new.shelf))
     (partition_at (length c.open_all.new.engines) c.options_asked-options.result.partitions) (length c.open_all.new.engines) c.in-Err-open_all.field-0.fault
-    (λ (kit : Kit g.row.H-Store.Denot g.row.H-Store-Watch.Denot g.row.H-Store-Device.Denot g.row.H-Store-Frozen.Denot). IsGivenBack
+    (λ (kit : Kit g.row.H-Store.Denot g.row.H-Store-Watch.Denot g.row.H-Store-Device.Denot g.row.H-Store-Frozen.Denot). IsGivenBack g.H.Store.Frozen.Frozen.content g.H.Store.Frozen.Frozen.name
     (partition_at (length c.open_all.new.engines) c.options_asked-options.result.partitions) (g.H.Shelf.files c.args.shelf.now (length c.open_all.new.engines))
     (g.H.Shelf.kit_faults c.args.shelf.now (length c.open_all.new.engines)) c.in-Err-open_all.field-0.fault (g.H.Store.Store.history kit.store)
     (faults_in g.H.Store.Watch.Watch.counts kit)) c.in-Err-open_all.field-0.kit (λ kit b. b.of) c.in-Err-open_all.ensures.back
@@ -424,12 +426,12 @@ returns-in-Err-open_all-clause-spent g c =
     g.H.Store.Frozen.Frozen.size g.H.Store.Watch.Watch.counts) o (g.H.Shelf.files c.args.shelf.now) (g.H.Shelf.kit_faults c.args.shelf.now) c.open_all.new.engines)
     c.options_asked-options.ensures c.open_all.ensures.opened in
     let some : length c.open_all.new.engines < (options_asked c.args.asked.now).partitions = subst (λ (o : Options). length c.open_all.new.engines < o.partitions) c.options_asked-options.ensures c.in-Err-open_all.ensures.some in
-    let back = subst (λ (o : Options). IfSome last (λ kit. IsGivenBack (partition_at (length c.open_all.new.engines) o.partitions)
+    let back = subst (λ (o : Options). IfSome last (λ kit. IsGivenBack g.H.Store.Frozen.Frozen.content g.H.Store.Frozen.Frozen.name (partition_at (length c.open_all.new.engines) o.partitions)
     (g.H.Shelf.files c.args.shelf.now (length c.open_all.new.engines)) (g.H.Shelf.kit_faults c.args.shelf.now (length c.open_all.new.engines))
     c.in-Err-open_all.field-0.fault (g.H.Store.Store.history kit.store) (faults_in g.H.Store.Watch.Watch.counts kit))) c.options_asked-options.ensures
     c.in-Err-open_all.ensures.back in
     let b = given_back_all (eyes g.H.Store.Store.history g.H.Store.Device.Device.history g.H.Store.Frozen.Frozen.content g.H.Store.Device.Device.name
-    g.H.Store.Frozen.Frozen.size g.H.Store.Watch.Watch.counts) g.H.Store.Device.Device.size (λ (kit : Kit _ _ _ _). g.H.Store.Store.history kit.store)
+    g.H.Store.Frozen.Frozen.size g.H.Store.Watch.Watch.counts) g.H.Store.Frozen.Frozen.name g.H.Store.Device.Device.size (λ (kit : Kit _ _ _ _). g.H.Store.Store.history kit.store)
     (faults_in g.H.Store.Watch.Watch.counts) (options_asked c.args.asked.now) (g.H.Shelf.files c.args.shelf.now) (g.H.Shelf.kit_faults c.args.shelf.now)
     (g.H.Shelf.faults c.args.shelf.now) (g.H.Shelf.faults c.open_all.new.shelf) c.open_all.new.engines ks last c.in-Err-open_all.field-0.fault some opened
     (kits_ended (eyes g.H.Store.Store.history g.H.Store.Device.Device.history g.H.Store.Frozen.Frozen.content g.H.Store.Device.Device.name
@@ -446,7 +448,7 @@ returns-in-Err-new-clause-ran g c =
 pub returns-in-Err-new-clause-judged : goal.returns-in-Err-new-clause-judged
 returns-in-Err-new-clause-judged g c =
     let none = ap (λ kits. kits.items) c.of-in-Err-new.ensures.kits ∙ c.in-Ok.ensures.items in
-    rw (c.of-in-Err-new.ensures.fault, none) (judged_nothing (options_asked c.args.asked.now).partitions (g.H.Shelf.files c.args.shelf.now) (Some Memory))
+    rw (c.of-in-Err-new.ensures.fault, none) (judged_nothing g.H.Store.Frozen.Frozen.content g.H.Store.Frozen.Frozen.name (options_asked c.args.asked.now).partitions (g.H.Shelf.files c.args.shelf.now) (Some Memory))
 
 pub serve_over-kits-requires-clause-room : goal.serve_over-kits-requires-clause-room
 serve_over-kits-requires-clause-room g c κs within = omega (arith, c.in-Ok.ensures.capacity, ap (λ (o : Options). o.partitions) c.options_asked-options.ensures)

@@ -92,9 +92,9 @@ returns-clause-ran g c =
     (ended_of (eyes g.S.Store.history g.S.Device.Device.history g.S.Frozen.Frozen.content g.S.Device.Device.name g.S.Frozen.Frozen.size g.S.Watch.Watch.counts)
     g.S.Device.Device.size (λ (f : finished _ _ _ _). f.outcome) (λ (f : finished _ _ _ _). g.S.Store.history f.kit.store)
     (λ (f : finished _ _ _ _). faults_in g.S.Watch.Watch.counts f.kit) k' ended closed)
-    (λ rests v many at. ended_sound (eyes g.S.Store.history g.S.Device.Device.history g.S.Frozen.Frozen.content g.S.Device.Device.name g.S.Frozen.Frozen.size
+    (λ rests only v many at. ended_sound (eyes g.S.Store.history g.S.Device.Device.history g.S.Frozen.Frozen.content g.S.Device.Device.name g.S.Frozen.Frozen.size
     g.S.Watch.Watch.counts) g.S.Device.Device.size (λ (f : finished _ _ _ _). f.outcome) (λ (f : finished _ _ _ _). g.S.Store.history f.kit.store)
-    (λ (f : finished _ _ _ _). faults_in g.S.Watch.Watch.counts f.kit) k' ended closed rests v at)
+    (λ (f : finished _ _ _ _). faults_in g.S.Watch.Watch.counts f.kit) k' ended closed rests only v at)
     (c.answer_over-partitions.ensures.ran first begins (begins_held (eyes g.S.Store.history g.S.Device.Device.history g.S.Frozen.Frozen.content g.S.Device.Device.name g.S.Frozen.Frozen.size g.S.Watch.Watch.counts) c.args.engines k first begun stands))))
 
 pub returns-clause-prompt : goal.returns-clause-prompt
@@ -220,9 +220,9 @@ returns-clause-damaged g c =
     let closed = subst (λ es. AreClosed (eyes g.S.Store.history g.S.Device.Device.history g.S.Frozen.Frozen.content g.S.Device.Device.name g.S.Frozen.Frozen.size
     g.S.Watch.Watch.counts) g.S.Device.Device.size (λ (f : finished _ _ _ _). f.outcome) (λ (f : finished _ _ _ _). g.S.Store.history f.kit.store)
     (λ (f : finished _ _ _ _). faults_in g.S.Watch.Watch.counts f.kit) es ended) same c.close_all-closed.ensures.3 in
-    rw (c.fault_of.ensures, c.close_all-closed.ensures.2, ← c.requires.all) (subst (λ (p : Partitions _ _ _ _ _). IfSome (fault_behind c.answer_over-partitions.result.1 (least_fault 0 (map (λ (f : finished _ _ _ _). f.outcome) ended))) (λ f. IfDamaged f (λ q. q < length p.engines))) begun
-    (behind_so (λ f. IfDamaged f (λ q. q < length k.engines)) c.answer_over-partitions.result.1 _
-    (damaged_over g.S.Watch.Watch.counts k k' (fault_in c.answer_over-partitions.result.1) c.answer_over-partitions.ensures.settings c.answer_over-partitions.ensures.cause.damaged)
+    rw (c.fault_of.ensures, c.close_all-closed.ensures.2, ← c.requires.all) (subst (λ (p : Partitions _ _ _ _ _). IfSome (fault_behind c.answer_over-partitions.result.1 (least_fault 0 (map (λ (f : finished _ _ _ _). f.outcome) ended))) (λ f. IfDamaged f (λ q damage. q < length p.engines))) begun
+    (behind_so (λ f. IfDamaged f (λ q damage. q < length k.engines)) c.answer_over-partitions.result.1 _
+    (damaged_over g.S.Device.Device.history g.S.Frozen.Frozen.content k k' (fault_in c.answer_over-partitions.result.1) c.answer_over-partitions.ensures.settings c.answer_over-partitions.ensures.cause.damaged)
     (λ none. damaged_ended (eyes g.S.Store.history g.S.Device.Device.history g.S.Frozen.Frozen.content g.S.Device.Device.name g.S.Frozen.Frozen.size
     g.S.Watch.Watch.counts) g.S.Device.Device.size (λ (f : finished _ _ _ _). f.outcome) (λ (f : finished _ _ _ _). g.S.Store.history f.kit.store)
     (λ (f : finished _ _ _ _). faults_in g.S.Watch.Watch.counts f.kit) k k' ended closed c.answer_over-partitions.ensures.settings)))

@@ -6,7 +6,7 @@ use Rattle.tc_work.specs.Moving.{eyes}
 use Rattle.tc_server.specs.Asked.{request_whole}
 use Rattle.tc_server.specs.Window.{each_rendered}
 use Rattle.tc_keeper.specs.Faults.{gave_up}
-use Rattle.tc_keeper.specs.Keeping.{faults_kept, HasSpent, FailsAt, ServesAt}
+use Rattle.tc_keeper.specs.Keeping.{faults_kept, FailsAt, ServesAt, IsTrueHere}
 use Rattle.tc_server.proofs.Mixing.{lines_rendered}
 use Rattle.tc_server.proofs.Answering.{left_before, left_standing}
 use Rattle.tc_keeper.proofs.Causes.{call_without_memory}
@@ -31,7 +31,7 @@ returns-in_err-put_line-clause-left g c =
 pub returns-in_err-put_line-clause-cause : goal.returns-in_err-put_line-clause-cause
 returns-in_err-put_line-clause-cause g c =
     let p = err_from_is_err_and c.from_residual-in_err-put_line.result c.from_residual-in_err-put_line.ensures.1 in
-    rw (p.1, p.2) (call_without_memory ((faults_kept g.S.Watch.Watch.counts) c.args.keeper.now) ((faults_kept g.S.Watch.Watch.counts) c.reply_whole.new.keeper) _ (HasSpent g.S.Store.history g.S.Device.Device.history g.S.Frozen.Frozen.content c.reply_whole.new.keeper) c.in_ok-reply.ensures.cause)
+    rw (p.1, p.2) (call_without_memory ((faults_kept g.S.Watch.Watch.counts) c.args.keeper.now) ((faults_kept g.S.Watch.Watch.counts) c.reply_whole.new.keeper) _ (IsTrueHere g.S.Store.history g.S.Device.Device.history g.S.Frozen.Frozen.content c.reply_whole.new.keeper) c.in_ok-reply.ensures.cause)
 
 pub returns-clause-answered : goal.returns-clause-answered
 returns-clause-answered g c = λ known holds.

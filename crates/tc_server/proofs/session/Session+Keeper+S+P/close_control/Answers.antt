@@ -4,7 +4,7 @@ use Rattle.std.proofs.lemmas.Result.{err_from_is_err_and, IfErr-weaker, on_ok_we
 use Rattle.tc_work.specs.Moving.{eyes}
 use Rattle.tc_server.specs.Asked.{request_whole}
 use Rattle.tc_keeper.specs.Faults.{fault_in}
-use Rattle.tc_keeper.specs.Keeping.{faults_kept, HasSpent, FailsAt, ServesAt}
+use Rattle.tc_keeper.specs.Keeping.{faults_kept, FailsAt, ServesAt, IsTrueHere}
 use Rattle.tc_server.proofs.Answering.{none_written}
 use Rattle.tc_keeper.proofs.Causes.{store_failed, window_behind_call}
 use Rattle.tc_server.proofs.session.Session+Keeper+S+P.close_control.Goals as goal
@@ -17,7 +17,7 @@ returns-in_err-answer_whole-clause-fault g c =
     g.S.Watch.Watch.counts)) (FailsAt (eyes g.S.Store.history g.S.Device.Device.history g.S.Frozen.Frozen.content g.S.Device.Device.name g.S.Frozen.Frozen.size
     g.S.Watch.Watch.counts)) c.in_err-answer_whole.field-0.0 known (request_whole c.args.control ∷ []) c.answer_whole.new.keeper (g.O.Sink.taken c.args.sink.now)
     (g.O.Sink.taken c.args.sink.now)
-    c.in_err-answer_whole.ensures.kinds (λ w is. c.in_err-answer_whole.ensures.undamaged w
+    c.in_err-answer_whole.ensures.kinds (λ only w is. c.in_err-answer_whole.ensures.undamaged only w
     (subst ((ServesAt (eyes g.S.Store.history g.S.Device.Device.history g.S.Frozen.Frozen.content g.S.Device.Device.name g.S.Frozen.Frozen.size
     g.S.Watch.Watch.counts)) c.args.self.now.keeper) is holds)) (Keeps-refl (g.O.Sink.taken c.args.sink.now)) (c.in_err-answer_whole.ensures.left known holds))
 
@@ -26,7 +26,7 @@ returns-in_err-answer_whole-clause-cause g c =
     let p = err_from_is_err_and c.from_residual.result c.from_residual.ensures.1 in
     rw (p.1, p.2) (store_failed c.in_err-answer_whole.field-0.0 (g.O.Sink.faults c.args.sink.now) ((faults_kept g.S.Watch.Watch.counts) c.args.self.now.keeper)
     ((faults_kept g.S.Watch.Watch.counts) c.answer_whole.new.keeper)
-    (HasSpent g.S.Store.history g.S.Device.Device.history g.S.Frozen.Frozen.content c.answer_whole.new.keeper) c.in_err-answer_whole.ensures.kinds
+    (IsTrueHere g.S.Store.history g.S.Device.Device.history g.S.Frozen.Frozen.content c.answer_whole.new.keeper) c.in_err-answer_whole.ensures.kinds
     c.in_err-answer_whole.ensures.cause)
 
 pub returns-clause-written : goal.returns-clause-written

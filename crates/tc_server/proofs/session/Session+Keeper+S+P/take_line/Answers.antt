@@ -4,7 +4,7 @@ use Rattle.tc_run_model.specs.Windows.{is_full}
 use Rattle.tc_work.specs.Moving.{eyes}
 use Rattle.tc_server.specs.Stage.{IsAt, with_end}
 use Rattle.tc_server.specs.declared.session.Session.{Session}
-use Rattle.tc_keeper.specs.Keeping.{faults_kept, HasSpent, FailsAt, ServesAt}
+use Rattle.tc_keeper.specs.Keeping.{faults_kept, FailsAt, ServesAt, IsTrueHere}
 use Rattle.tc_keeper.proofs.Causes.{memory_wanting, nothing_failed}
 use Rattle.tc_server.proofs.SessionLemmas.{holds_line, is_full-found, closes, fails_closing, has_room, with_line-full, with_line-open, with_pushed, fails_before, BeginsWith-refl}
 use Rattle.tc_server.proofs.session.Session+Keeper+S+P.take_line.Goals as goal
@@ -32,7 +32,7 @@ returns-in_err-push-clause-fault g c =
 pub returns-in_err-push-clause-cause : goal.returns-in_err-push-clause-cause
 returns-in_err-push-clause-cause g c =
     let p = err_from_is_err_and c.from_residual.result c.from_residual.ensures.1 in
-    rw (p.1, p.2) (memory_wanting (g.O.Sink.faults c.args.sink.now) ((faults_kept g.S.Watch.Watch.counts) c.args.self.now.keeper) (HasSpent g.S.Store.history g.S.Device.Device.history g.S.Frozen.Frozen.content c.args.self.now.keeper))
+    rw (p.1, p.2) (memory_wanting (g.O.Sink.faults c.args.sink.now) ((faults_kept g.S.Watch.Watch.counts) c.args.self.now.keeper) (IsTrueHere g.S.Store.history g.S.Device.Device.history g.S.Frozen.Frozen.content c.args.self.now.keeper))
 
 pub returns-in_err-close-clause-fault : goal.returns-in_err-close-clause-fault
 returns-in_err-close-clause-fault g c =
@@ -107,4 +107,4 @@ returns-then-not-is_full-clause-ready g c =
     }
 
 pub returns-then-not-is_full-clause-cause : goal.returns-then-not-is_full-clause-cause
-returns-then-not-is_full-clause-cause g c = nothing_failed (g.O.Sink.faults c.args.sink.now) ((faults_kept g.S.Watch.Watch.counts) c.args.self.now.keeper) (HasSpent g.S.Store.history g.S.Device.Device.history g.S.Frozen.Frozen.content c.args.self.now.keeper)
+returns-then-not-is_full-clause-cause g c = nothing_failed (g.O.Sink.faults c.args.sink.now) ((faults_kept g.S.Watch.Watch.counts) c.args.self.now.keeper) (IsTrueHere g.S.Store.history g.S.Device.Device.history g.S.Frozen.Frozen.content c.args.self.now.keeper)

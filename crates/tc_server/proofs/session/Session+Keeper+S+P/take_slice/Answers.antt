@@ -3,7 +3,7 @@ use Rattle.std.proofs.lemmas.Result.{err_from_is_err_and, IfErr-weaker, on_ok_we
 use Rattle.tc_work.specs.Moving.{eyes}
 use Rattle.tc_keeper.proofs.Causes.{memory_wanting}
 use Rattle.tc_server.proofs.SessionLemmas.{asks_whole, fails_before}
-use Rattle.tc_keeper.specs.Keeping.{faults_kept, HasSpent, FailsAt, ServesAt}
+use Rattle.tc_keeper.specs.Keeping.{faults_kept, FailsAt, ServesAt, IsTrueHere}
 use Rattle.tc_server.proofs.session.Session+Keeper+S+P.take_slice.Goals as goal
 
 pub returns-in_err-asked-clause-fault : goal.returns-in_err-asked-clause-fault
@@ -17,7 +17,7 @@ returns-in_err-asked-clause-fault g c =
 pub returns-in_err-asked-clause-cause : goal.returns-in_err-asked-clause-cause
 returns-in_err-asked-clause-cause g c =
     let p = err_from_is_err_and c.from_residual.result c.from_residual.ensures.1 in
-    rw (p.1, p.2) (memory_wanting (g.O.Sink.faults c.args.sink.now) ((faults_kept g.S.Watch.Watch.counts) c.args.self.now.keeper) (HasSpent g.S.Store.history g.S.Device.Device.history g.S.Frozen.Frozen.content c.args.self.now.keeper))
+    rw (p.1, p.2) (memory_wanting (g.O.Sink.faults c.args.sink.now) ((faults_kept g.S.Watch.Watch.counts) c.args.self.now.keeper) (IsTrueHere g.S.Store.history g.S.Device.Device.history g.S.Frozen.Frozen.content c.args.self.now.keeper))
 
 pub returns-clause-ok : goal.returns-clause-ok
 returns-clause-ok g c =

@@ -12,7 +12,7 @@ use Rattle.tc_keeper.specs.Faults.{gave_up}
 use Rattle.tc_keeper.specs.Sight.{sight_after, whole_of}
 use Rattle.tc_keeper.specs.Together.{requests_routed, AreTogether}
 use Rattle.tc_server.specs.Window.{each_rendered, mixed, rendered_refused, reply_refused, requests_of}
-use Rattle.tc_keeper.specs.Keeping.{faults_kept, HasSpent, FailsAt, ServesAt}
+use Rattle.tc_keeper.specs.Keeping.{faults_kept, FailsAt, ServesAt, IsTrueHere}
 use Rattle.tc_server.proofs.Answering.{left_failed, left_standing}
 use Rattle.tc_keeper.proofs.Causes.{call_without_memory}
 use Rattle.tc_server.proofs.CommandPlaces.{sound_empty}
@@ -54,7 +54,7 @@ returns-in_err-push_all-clause-left g c =
 pub returns-in_err-push_all-clause-cause : goal.returns-in_err-push_all-clause-cause
 returns-in_err-push_all-clause-cause g c =
     let p = err_from_is_err_and c.from_residual-in_err-push_all.result c.from_residual-in_err-push_all.ensures.1 in
-    rw (p.1, p.2) (call_without_memory ((faults_kept g.S.Watch.Watch.counts) c.args.keeper.now) ((faults_kept g.S.Watch.Watch.counts) c.window.new.self) _ (HasSpent g.S.Store.history g.S.Device.Device.history g.S.Frozen.Frozen.content c.window.new.self) c.in_ok-answers.ensures.cause)
+    rw (p.1, p.2) (call_without_memory ((faults_kept g.S.Watch.Watch.counts) c.args.keeper.now) ((faults_kept g.S.Watch.Watch.counts) c.window.new.self) _ (IsTrueHere g.S.Store.history g.S.Device.Device.history g.S.Frozen.Frozen.content c.window.new.self) c.in_ok-answers.ensures.cause)
 
 pub returns-clause-answered : goal.returns-clause-answered
 returns-clause-answered g c = λ known holds.
