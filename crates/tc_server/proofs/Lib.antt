@@ -28,3 +28,4 @@ pub mod DemoLemmas
 pub mod DemoLoops
 pub mod DemoRuns
 pub mod DemoCauses
+pub mod GoodRuns

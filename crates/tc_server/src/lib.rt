@@ -13,7 +13,7 @@ mod session;
 mod texts;
 mod window;
 
-pub use laws::{own_keys_stay, runs_may_follow};
+pub use laws::{good_runs_end_well, own_keys_stay, runs_may_follow};
 pub use outcome::Served;
 pub use program::{run_program, words};
 pub use server::serve;
