@@ -497,15 +497,32 @@ class DamageMessages(Messages):
         self.check_refused(6, ["damaged file c-1-1 in partition 0 at byte 65",
             "data/p0/c-1-1 is not as it was written: restore data from a copy that is whole"], *self.ONE)
 
-    def test_damage_that_a_query_finds(self):
-        self.make_three()
-        path = self.folder / "data/p0/c-2-2"
+    def break_record(self, partition):
+        path = self.folder / f"data/p{partition}/c-2-2"
         content = bytearray(path.read_bytes())
         content[84] = 99  # the first tag of its record, which begins at byte 61
         path.write_bytes(content)
-        self.check(6, ["damaged file c-2-2 in partition 0 at byte 61",
-            "data/p0/c-2-2 is not as it was written: restore data from a copy that is whole"],
-            "data", *self.ONE, lines=b'{"op":"query","path":[]}\n')
+        return [f"damaged file c-2-2 in partition {partition} at byte 61",
+            f"data/p{partition}/c-2-2 is not as it was written: restore data from a copy that is whole"]
+
+    def test_damage_that_a_query_finds(self):
+        self.make_three()
+        said = self.break_record(0)
+        self.check(6, said, "data", *self.ONE, lines=b'{"op":"query","path":[]}\n')
+
+    def test_damage_that_a_merge_finds(self):
+        self.make_three()
+        said = self.break_record(0)
+        self.check(6, said, "data", "run", "--partitions", "1", "--merge", "2")
+
+    def test_damage_in_one_partition_of_two(self):
+        # Odd ids are in partition 1, so its two components have one document each, and partition 0 has one component.
+        two = ("--partitions", "2", "--merge", "8")
+        lines = b"".join(b'{"op":"upsert","doc":{"id":%d,"a":1}}\n{"op":"flush"}\n' % it for it in (1, 2, 3))
+        self.make(*two, lines=lines)
+        said = self.break_record(1)
+        self.check(0, [], "data", "run", *two, lines=b'{"op":"get","id":2}\n')
+        self.check(6, said, "data", "run", *two, lines=b'{"op":"get","id":2}\n{"op":"get","id":3}\n')
 
 
 class MemoryMessages(Messages):
