@@ -3,7 +3,7 @@ use Rattle.std.proofs.Common.{◌≡◌, ◌∙◌, ℕ, List, [], ◌∷◌, �
 use Rattle.std.proofs.lemmas.List.{map-append}
 use Rattle.tc_model.specs.Document.{Document}
 use Rattle.tc_model.specs.Keyed.{values_in}
-use Rattle.tc_request_model.specs.Rendered.{Rendered, RowText, row_text, rendered}
+use Rattle.tc_request_model.specs.Rendered.{Rendered, RowText, row_text}
 use Rattle.tc_request_model.specs.Rendered as renders
 use Rattle.tc_request_model.specs.Reply.{Row, got, rows}
 use Rattle.tc_request_model.specs.Request.{Ask, delete, upsert, get, query}

@@ -69,7 +69,7 @@ returns-clause-reply g c = λ p is are_told.
     let storable = storable_upsert key d c.requires.asked c.depth-depth.ensures.lawful in
     let kept = ap (Upsert key) c.in_ok-bytes.ensures.spelled in
     c.upserted.ensures ∙ ap (λ staged. rendered (reply_to_upsert key staged)) (c.in_ok-staged.ensures.answered p (key, Some d) is storable kept)
-    ∙ upsert_replied limits key d (plain_of old p) (is_some (value_of key (stored_with p)))
+    ∙ ap rendered (upsert_replied limits key d (plain_of old p) (is_some (value_of key (stored_with p))))
 
 pub returns-clause-grown : goal.returns-clause-grown
 returns-clause-grown g c =
