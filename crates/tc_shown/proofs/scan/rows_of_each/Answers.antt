@@ -100,11 +100,11 @@ loop-at-preserved g c =
       turned_more R l.at olds l.passes s c.rows_of.new.pass l.invariant.0 below is done,
       λ parts shows. c.in_ok-push-in-Ok.ensures.items
           ∙ take_next (λ (p : Pass _ _) (ps : Pairs). Holds g.F.Frozen.content (showing_in (kept_by p.lens)) ps) (λ ps. map row_text (rows_over (ask_of c.args.ask.now) ps)) olds parts l.at s l.found.items _ shows (omega (arith, below, many))
-          (turned_next R l.at olds l.passes s l.invariant.0 below is) (l.invariant.1.0 parts shows)
+          (turned_next R l.at olds l.passes s l.invariant.0 below is) (l.invariant.1 parts shows)
           (λ ps holds. c.in-Ok.ensures.rows ps (subst (λ (p : Pass _ _). Holds g.F.Frozen.content (showing_in (kept_by p.lens)) ps) is holds)),
-      let before = l.invariant.1.1 in
+      let before = l.invariant.2 in
           let one = c.in-Ok.ensures.texts in
-          (before.0 ++ one.0 ∷ [], c.in_ok-push-in-Ok.ensures.items ∙ ap (λ found. found ++ _ ∷ []) before.1 ∙ ap (λ rows. map (map row_text) before.0 ++ rows ∷ []) one.1 ∙ sym (map-append (map row_text) before.0 (one.0 ∷ []))),
+          (before.0 ++ one.0 ∷ [], c.in_ok-push-in-Ok.ensures.items ∙ ap (λ found. found ++ c.in-Ok.rows ∷ []) before.1 ∙ ap (λ rows. map (map row_text) before.0 ++ rows ∷ []) one.1 ∙ sym (map-append (map row_text) before.0 (one.0 ∷ []))),
     )
 
 pub returns-in_err-joined_rows-clause-read : goal.returns-in_err-joined_rows-clause-read
@@ -119,10 +119,10 @@ returns-clause-rows g c = λ parts shows own.
     let olds = c.args.passes.now in
     let many : length parts ≡ length olds = zip_length (λ (p : Pass _ _) (ps : Pairs). Holds g.F.Frozen.content (showing_in (kept_by p.lens)) ps) olds parts shows in
     c.in_ok-joined_rows.ensures
-    ∙ ap joined (l.invariant.1.0 parts shows ∙ ap (map (λ ps. map row_text (rows_over (ask_of c.args.ask.now) ps))) (take_all l.at parts (omega (arith, c.loop-at-test.false, many))))
+    ∙ ap joined (l.invariant.1 parts shows ∙ ap (map (λ ps. map row_text (rows_over (ask_of c.args.ask.now) ps))) (take_all l.at parts (omega (arith, c.loop-at-test.false, many))))
     ∙ joined_united c.replies_are_gathered.ensures c.rendered_are_gathered.ensures (ask_of c.args.ask.now) parts (all_ascend g.F.Frozen.content olds parts shows) own
 
 pub returns-clause-texts : goal.returns-clause-texts
 returns-clause-texts g c =
-    let found = c.loop-at.invariant.1.1 in
+    let found = c.loop-at.invariant.2 in
     (rows_joined found.0, c.in_ok-joined_rows.ensures ∙ ap joined found.1 ∙ texts_joined c.rendered_are_gathered.ensures found.0)

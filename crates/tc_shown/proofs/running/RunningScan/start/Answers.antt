@@ -7,6 +7,7 @@ use Rattle.std.proofs.Crossing.{crosses}
 use Rattle.std.proofs.MapsCrossing.{crosses as maps_cross}
 use Rattle.left_right.proofs.reader.Reader.TheSendSync.{the_send as reader_send}
 use Rattle.logbook.proofs.tokens.Seen.TheSendSync.{the_send as seen_send, the_sync as seen_sync}
+use Rattle.tc_bytes.proofs.byte_string.Bytes.TheSendSync.{the_send as bytes_send}
 use Rattle.tc_command.proofs.asks.PathExpr.TheSendSync.{the_send as path_send}
 use Rattle.tc_command.proofs.replies.Counts.TheSendSync.{the_send as upto_send}
 use Rattle.tc_command.specs.contracts.asks.Ask as Ask
@@ -30,7 +31,6 @@ use Rattle.tc_value.proofs.document.Items.TheLaws.TheKnot.{both_send-Doc, both_s
 use Rattle.tc_value.proofs.names.Text.TheSendSync.{the_send as text_send, the_sync as text_sync}
 use Rattle.tc_value.proofs.shape_tree.ShapeItems.TheLaws.TheKnot.{both_send-Shape, both_sync-Shape, both_send-ShapeItems, both_sync-ShapeItems, both_send-ShapeMembers, both_sync-ShapeMembers}
 use Rattle.tc_value.specs.contracts.document.Doc as Doc
-use Rattle.tc_value.specs.contracts.document.Items as Items
 use Rattle.tc_value.specs.contracts.shape_tree.Shape as Shape
 use Rattle.tc_view.proofs.chunk.Chunk.TheSendSync.{the_send as chunk_send, the_sync as chunk_sync}
 use Rattle.tc_view.specs.contracts.lens.Lens as Lens
@@ -134,8 +134,7 @@ spawn_with-begun-requires-send-F g c κs within =
 pub spawn_with-begun-requires-send-T : goal.spawn_with-begun-requires-send-T
 spawn_with-begun-requires-send-T g c κs within =
     let pass = pass_send g c.type_bounds.send-F c.type_bounds.send-F-Watch c.type_bounds.sync-F in
-    let items : IsSend (Items.the_field).row = search (sendable, crosses, text_send, text_sync, both_send-Items) depth 20 in
-    let row : IsSend (Row.the_field).row = search sendable depth 20 in
+    let row : IsSend (Row.the_field).row = search (sendable, bytes_send) depth 20 in
     let rows : IsSend (Rows.the_field).row = search (sendable, crosses) depth 20 in
     let scanned : IsSend (Scanned.the_field).row = search (sendable, upto_send) depth 20 in
     search (sendable, crosses, fault_send) depth 20
