@@ -3,7 +3,7 @@
 
     bench/run.py [--program FILE] [--before FILE] [--documents N] [--large N] [--rounds N] [PART ..]
 
-Parts: loads, gets, queries, opening, calls, growth, others, partitions, pauses, scans, and lines, all but the last five by default. The program is
+Parts: loads, gets, queries, opening, calls, growth, others, partitions, pauses, scans, audits, and lines, all but the last six by default. The program is
 crates/tuple_store/out/tuple_store, which `rt run` in crates/tuple_store builds, or FILE. N documents are 40,000, and a
 tenth of that of readings; the large store has 1,000,000. Runs take turns, so that other load meets all of them; a time is
 the least of the rounds, 3 by default, and a ratio the median of those of the rounds, each of two runs one after the other.
@@ -30,6 +30,9 @@ parses the JSON that it stores, as the store does. Both keep a log that is synce
     scans    loads in windows of 1 and of 64 lines, and their memory, beside the program of --before, if one is told; a load over a
              store of as many documents, which it replaces, alone and beside scans of them, one a tenth of its lines, by the clock
              and by the processor time of its thread, and a scan alone; over files in memory; wants a machine that does nothing else
+    audits   `check` beside a query with a value over the same store, and beside SQLite's integrity_check over the same documents as text,
+             by the processor and, where valgrind is there, by instructions; checks of the large store, with a part in its log and
+             without, and their memory beside that of a store of few messages
     lines    documents in memory, and nothing else: orders of keys, gets of absent keys, windows, schemas
 """
 
@@ -211,6 +214,109 @@ def queries(bench):
         least = [micros(min(it), times * count) for it in (table, component)]
         shown = "-" if equal_to is None else f"`{json.dumps(equal_to)}`"
         print(f"| {name} | `{json.dumps(path)}` | {shown} | {count:,} | {least[0]:.2f} | {least[1]:.2f} | {beside(component, text, times * count)} |", flush=True)
+
+
+# The kinds of documents whose audits are measured.
+AUDITED = ("messages", "readings", "profiles", "changing")
+CHECK = ("check", "--partitions", "1")
+# Queries of a run that is counted, one whose cost is left out and one more, and queries and checks of a run that is timed.
+ONCE, TWICE, TIMES = 1, 2, 10
+
+
+def audits(bench):
+    print("| check of | documents | µs | × a query | SQLite, µs | times | with an index, µs | times | instructions | of a query | × a query |")
+    print("|---|--:|--:|--:|--:|--:|--:|--:|--:|--:|--:|")
+    for name, made, part, path, equal_to in ASKED:
+        if name in AUDITED and equal_to is not None and None not in path:
+            count = bench.words.documents // part
+            ask = [bench.write(f"ask{it}", feeds.queries(it, path, equal_to))[0] for it in (0, ONCE, TWICE, TIMES)]
+            timed = audit_seconds(bench, list(made(count)), path, ask)
+            counted = audit_instructions(bench, made, count // 10, ask) if shutil.which("valgrind") else ["-"] * 3
+            print(f"| {name} | {count:,} | " + " | ".join([*timed, *counted]) + " |", flush=True)
+    print()
+    large_audits(bench)
+
+
+def audit_seconds(bench, upserts, path, ask):
+    """Cells of the processor time of a check of these documents: in microseconds a document, and times a query and SQLite's checks."""
+    load, _ = bench.write("load", upserts, ['{"op":"flush"}\n'])
+    bench.run(load, bench.empty(), LOADED)
+    store, nothing = bench.path("store"), bench.empty("nothing")
+    here = [bench.path("plain"), bench.path("indexed")] if shutil.which("sqlite3") else []
+    for database in here:
+        sqlite.write_script(upserts, bench.path("script"), 64)
+        sqlite.told(database, bench.path("script"), bench.path("replies"))
+    if here:
+        sqlite.write_index(bench.path("script"), path)
+        sqlite.asked(here[1], bench.path("script"), bench.path("replies"))
+        sqlite.write_checks(bench.path("script"), TIMES)
+    checks, queried, theirs = [], [], [[] for _ in here]
+    for _ in range(bench.words.rounds):
+        checks.append(checked(bench, store) - checked(bench, nothing))
+        queried.append((bench.run(ask[-1], store, LOADED) - bench.run(ask[0], store, LOADED)) / TIMES)
+        for database, told in zip(here, theirs):
+            used, none = (sqlite.asked(database, it, bench.path("replies")) for it in (bench.path("script"), ask[0]))
+            told.append((used - none) / TIMES)
+    count = len(upserts)
+    times = statistics.median(one / other for one, other in zip(checks, queried))
+    return [f"{micros(min(checks), count):.2f}", f"{times:.2f}", *(beside(checks, it, count) for it in theirs or [[], []])]
+
+
+def checked(bench, store):
+    """The processor seconds of a check, which has to find nothing wrong."""
+    before = processor()
+    verdict = subprocess.run([bench.words.program, store, *CHECK], stdout=subprocess.PIPE, check=True).stdout
+    assert b'"right"' in verdict, verdict
+    return processor() - before
+
+
+def audit_instructions(bench, made, count, ask):
+    """Cells of the instructions of a check and of a query, a document, by the difference of so many and twice as many."""
+    told = []
+    for many in (count, 2 * count):
+        load, _ = bench.write("load", made(many), ['{"op":"flush"}\n'])
+        bench.run(load, bench.empty(), LOADED)
+        store = bench.path("store")
+        asked = [instructions(bench.command(store, LOADED), it) for it in ask[1:3]]
+        told.append((instructions([bench.words.program, store, *CHECK], ask[0]), asked[1] - asked[0]))
+    check, query = ((after - before) / count for before, after in zip(*told))
+    return [f"{check:,.0f}", f"{query:,.0f}", f"{check / query:.2f}"]
+
+
+def instructions(words, source):
+    """The instructions of a run over the lines of a file, as callgrind counts them."""
+    tool = ["valgrind", "--tool=callgrind", "--callgrind-out-file=/dev/null"]
+    with open(source, "rb") as lines:
+        ran = subprocess.run([*tool, *words], stdin=lines, stdout=subprocess.DEVNULL, stderr=subprocess.PIPE, check=True)
+    return int(re.search(rb"Collected : (\d+)", ran.stderr)[1])
+
+
+def large_audits(bench):
+    """Checks of many messages, each after one of few, whose dictionary and schema are the same."""
+    if not shutil.which("time"):
+        print("audits: GNU time, which tells how much memory a check has at most, is not there")
+        return
+    print("| check of messages | components | bytes of logs | verdict | processor seconds | memory, MB | bytes a document beyond few |")
+    print("|---|--:|--:|---|--:|--:|--:|")
+    for name, end in (("in components", ['{"op":"flush"}\n']), ("a part in the log", [])):
+        base = 0
+        for count in (30, bench.sizes[-1]):
+            load, _ = bench.write("load", feeds.upserts(count, "ascending", feeds.message), end)
+            bench.run(load, bench.empty(), GROWN)
+            seconds, memory, verdict = timed_check(bench, bench.path("store"))
+            files = {it.name: it.stat().st_size for it in os.scandir(os.path.join(bench.path("store"), "p0"))}
+            components, logs = sum(it.startswith("c-") for it in files), sum(files[it] for it in files if it.startswith("l-"))
+            base = base or memory
+            print(f"| {name} | {components} | {logs:,} | `{verdict}` | {seconds:.2f} | {memory / 2**20:.1f} | {(memory - base) / count:.1f} |", flush=True)
+
+
+def timed_check(bench, store):
+    """The processor seconds of a check, how many bytes it had in memory at most, and its verdict."""
+    told = bench.path("told")
+    before = processor()
+    verdict = subprocess.run(["time", "-o", told, "-f", "%M", bench.words.program, store, *CHECK], stdout=subprocess.PIPE, check=True).stdout
+    with open(told, encoding="utf-8") as kilobytes:
+        return processor() - before, int(kilobytes.read()) * 1024, verdict.decode().strip()
 
 
 def growth(bench):
@@ -531,7 +637,7 @@ def main():
     parser.add_argument("--rounds", type=int, default=3)
     parser.add_argument("parts", nargs="*", metavar="PART")
     words = parser.parse_args()
-    known = {"loads": loads, "gets": gets, "queries": queries, "growth": growth, "opening": opening, "calls": calls, "others": others, "partitions": partitions, "pauses": pauses, "scans": scans, "lines": lines}
+    known = {"loads": loads, "gets": gets, "queries": queries, "growth": growth, "opening": opening, "calls": calls, "others": others, "partitions": partitions, "pauses": pauses, "scans": scans, "audits": audits, "lines": lines}
     for part in words.parts:
         if part not in known:
             parser.error(f"there is no part {part}")

@@ -62,6 +62,18 @@ def write_queries(path, count, hops, equal_to=None):
         script.write(f"{asked} order by docs.id;\n" * count)
 
 
+def write_index(path, hops):
+    """A script that makes an index of what a path without wildcards reaches."""
+    with open(path, "w", encoding="utf-8") as script:
+        script.write(f"create index reached on docs (json_extract(doc, '{extraction(hops)}'));\n")
+
+
+def write_checks(path, count):
+    """A script that has the whole database judged so many times."""
+    with open(path, "w", encoding="utf-8") as script:
+        script.write("pragma integrity_check;\n" * count)
+
+
 def asked(database, script, replies):
     """The processor seconds of the command line over a database that is there."""
     before = resource.getrusage(resource.RUSAGE_CHILDREN)
