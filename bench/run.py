@@ -216,31 +216,39 @@ def queries(bench):
         print(f"| {name} | `{json.dumps(path)}` | {shown} | {count:,} | {least[0]:.2f} | {least[1]:.2f} | {beside(component, text, times * count)} |", flush=True)
 
 
-# The kinds of documents whose audits are measured.
-AUDITED = ("messages", "readings", "profiles", "changing")
+# The kinds of documents whose audits are measured, and how often each document is written, into a component each time.
+AUDITED = (("messages", 1), ("readings", 1), ("profiles", 1), ("changing", 1), ("messages", 2), ("changing", 2))
+APART = (*LOADED, "--merge", "8")
 CHECK = ("check", "--partitions", "1")
 # Queries of a run that is counted, one whose cost is left out and one more, and queries and checks of a run that is timed.
 ONCE, TWICE, TIMES = 1, 2, 10
 
 
 def audits(bench):
-    print("| check of | documents | µs | × a query | SQLite, µs | times | with an index, µs | times | instructions | of a query | × a query |")
-    print("|---|--:|--:|--:|--:|--:|--:|--:|--:|--:|--:|")
-    for name, made, part, path, equal_to in ASKED:
-        if name in AUDITED and equal_to is not None and None not in path:
-            count = bench.words.documents // part
-            ask = [bench.write(f"ask{it}", feeds.queries(it, path, equal_to))[0] for it in (0, ONCE, TWICE, TIMES)]
-            timed = audit_seconds(bench, list(made(count)), path, ask)
-            counted = audit_instructions(bench, made, count // 10, ask) if shutil.which("valgrind") else ["-"] * 3
-            print(f"| {name} | {count:,} | " + " | ".join([*timed, *counted]) + " |", flush=True)
+    print("| check of | written | documents | µs | × a query | SQLite, µs | times | with an index, µs | times | instructions | of a query | × a query |")
+    print("|---|--:|--:|--:|--:|--:|--:|--:|--:|--:|--:|--:|")
+    asked = {name: it for name, *it in reversed(ASKED) if it[-1] is not None and None not in it[-2]}
+    for name, written in AUDITED:
+        made, part, path, equal_to = asked[name]
+        count = bench.words.documents // part
+        ask = [bench.write(f"ask{it}", feeds.queries(it, path, equal_to))[0] for it in (0, ONCE, TWICE, TIMES)]
+        timed = audit_seconds(bench, list(made(count)), written, path, ask)
+        counted = audit_instructions(bench, made, written, count // 10, ask) if shutil.which("valgrind") else ["-"] * 3
+        print(f"| {name} | {written} | {count:,} | " + " | ".join([*timed, *counted]) + " |", flush=True)
     print()
     large_audits(bench)
 
 
-def audit_seconds(bench, upserts, path, ask):
+def make_apart(bench, upserts, written):
+    """A store whose components, so many, have all of these documents each."""
+    lines = [*upserts, '{"op":"flush"}\n']
+    load, _ = bench.write("load", *[lines] * written)
+    bench.run(load, bench.empty(), APART)
+
+
+def audit_seconds(bench, upserts, written, path, ask):
     """Cells of the processor time of a check of these documents: in microseconds a document, and times a query and SQLite's checks."""
-    load, _ = bench.write("load", upserts, ['{"op":"flush"}\n'])
-    bench.run(load, bench.empty(), LOADED)
+    make_apart(bench, upserts, written)
     store, nothing = bench.path("store"), bench.empty("nothing")
     here = [bench.path("plain"), bench.path("indexed")] if shutil.which("sqlite3") else []
     for database in here:
@@ -253,7 +261,7 @@ def audit_seconds(bench, upserts, path, ask):
     checks, queried, theirs = [], [], [[] for _ in here]
     for _ in range(bench.words.rounds):
         checks.append(checked(bench, store) - checked(bench, nothing))
-        queried.append((bench.run(ask[-1], store, LOADED) - bench.run(ask[0], store, LOADED)) / TIMES)
+        queried.append((bench.run(ask[-1], store, APART) - bench.run(ask[0], store, APART)) / TIMES)
         for database, told in zip(here, theirs):
             used, none = (sqlite.asked(database, it, bench.path("replies")) for it in (bench.path("script"), ask[0]))
             told.append((used - none) / TIMES)
@@ -270,14 +278,13 @@ def checked(bench, store):
     return processor() - before
 
 
-def audit_instructions(bench, made, count, ask):
+def audit_instructions(bench, made, written, count, ask):
     """Cells of the instructions of a check and of a query, a document, by the difference of so many and twice as many."""
     told = []
     for many in (count, 2 * count):
-        load, _ = bench.write("load", made(many), ['{"op":"flush"}\n'])
-        bench.run(load, bench.empty(), LOADED)
+        make_apart(bench, made(many), written)
         store = bench.path("store")
-        asked = [instructions(bench.command(store, LOADED), it) for it in ask[1:3]]
+        asked = [instructions(bench.command(store, APART), it) for it in ask[1:3]]
         told.append((instructions([bench.words.program, store, *CHECK], ask[0]), asked[1] - asked[0]))
     check, query = ((after - before) / count for before, after in zip(*told))
     return [f"{check:,.0f}", f"{query:,.0f}", f"{check / query:.2f}"]
