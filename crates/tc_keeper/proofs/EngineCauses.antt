@@ -10,7 +10,7 @@ use Rattle.tc_keeper.specs.Places.{AtEach, IsAt, SomeFrom}
 use Rattle.tc_keeper.specs.Running.{HasOnlyRun}
 use Rattle.tc_keeper.specs.declared.engines_fault.EnginesFault.{EnginesFault}
 use Rattle.tc_keeper.specs.declared.engines_fault.EnginesFault.TheVariants as engines
-use Rattle.tc_keeper.proofs.PlaceLaws.{at_each-length, at_each-so}
+use Rattle.tc_keeper.proofs.PlaceLaws.{at_each-so}
 use Rattle.tc_keeper.specs.WithJobs.{told_of, told_part, WithJobs}
 use Rattle.tc_model.specs.Keyed.{Keyed}
 use Rattle.tc_part.specs.Harms.{IsBytesHarm, IsHarmIn}

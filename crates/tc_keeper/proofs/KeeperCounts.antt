@@ -1,5 +1,5 @@
 -- What counts over a call of what keeps the documents, with the readers' watches that are out.
-use Rattle.std.proofs.Common.{◌≡◌, ◌∙◌, ◌<◌, ℕ, zero, suc, false, List, [], ◌∷◌, All, length, arith, refl, ap, sym, subst, inl, inr}
+use Rattle.std.proofs.Common.{◌≡◌, ◌∙◌, ◌<◌, ℕ, zero, suc, false, List, [], ◌∷◌, All, length, arith, ap, sym, subst, inl, inr}
 use Rattle.std.specs.Prelude.{HoldsAt, IfSome, None, Option, option_map, slice_get, Some, unwrap_or, zip}
 use Rattle.std.specs.List.{AllZip}
 use mathlib.Core.List.{IsPrefix}

@@ -1,6 +1,6 @@
 -- A scan that was waited for: what a collect is replied, what the run ends by where it failed, and what counts then.
-use Rattle.std.proofs.Common.{◌≡◌, ◌<◌, ℕ, zero, suc, true, false, List, [], ◌∷◌, map, length, arith, refl, subst}
-use Rattle.std.specs.Prelude.{Bool, HoldsAt, IfErr, IfOk, IfSome, IsTrue, None, Option, Some, option_map, slice_get, zip, Result, Ok, Err}
+use Rattle.std.proofs.Common.{◌≡◌, ◌+◌, ℕ, true, false, List, [], ◌∷◌, length, arith, refl, subst}
+use Rattle.std.specs.Prelude.{Bool, IfErr, IfOk, IfSome, IsTrue, Option, Some, option_map, slice_get, Result, Ok, Err}
 use Rattle.std.specs.List.{AllZip}
 use mathlib.Core.List.{IsPrefix}
 use Rattle.tc_command.specs.Commands.{ask_of}

@@ -1,6 +1,6 @@
 -- A scan that is started is out for the world, and what it found is what a collect may be replied.
 use Rattle.std.proofs.Common.{◌≡◌, ◌∙◌, ◌≤◌, ◌<◌, ℕ, zero, suc, false, List, [], ◌∷◌, All, map, length, length-append, take, arith, refl, ap, sym, subst}
-use Rattle.std.specs.Prelude.{◌%◌, HoldsAt, None, Option, Some, zip}
+use Rattle.std.specs.Prelude.{◌+◌, ◌%◌, HoldsAt, None, Option, Some, zip}
 use Rattle.std.specs.List.{AllZip}
 use Rattle.std.proofs.lemmas.List.{length-map}
 use Rattle.std.proofs.lemmas.List.Elements.{All-head, All-tail, All-nil, All-cons}

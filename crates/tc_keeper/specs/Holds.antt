@@ -1,6 +1,6 @@
 -- What was done when requests were answered, by what keeps the documents: `holds` says at which world it stands, and `keeps`
 -- at which of two it was left where it has failed, with each partition, or with one alone.
-use Rattle.std.specs.Prelude.{◌≡◌, ◌⊎◌, ℕ, ◌<◌, List, [], ◌∷◌, length, take, Option, Some, IfSome}
+use Rattle.std.specs.Prelude.{◌≡◌, ◌⊎◌, ℕ, ◌<◌, List, [], ◌∷◌, length, take, Option, Some}
 use Rattle.std.specs.Io.KnownBytes.{Appends, Keeps}
 use Rattle.tc_request_model.specs.Request.{Request}
 use Rattle.tc_request_model.specs.Reply.{Reply}

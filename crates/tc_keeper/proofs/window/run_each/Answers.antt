@@ -7,6 +7,7 @@ use denote.Param.Send.{IsSend, IsSync, sendable}
 use denote.Param.SendFields.{declared_send}
 use Rattle.serde_json.proofs.value.Value.TheLaws.TheKnot.{both_send-Value}
 use Rattle.serde_json.specs.contracts.value.Value as Value
+use Rattle.tc_bytes.proofs.byte_string.Bytes.TheSendSync.{the_send as bytes_send}
 use Rattle.tc_command.proofs.asks.PathExpr.TheSendSync.{the_sync as path_sync}
 use Rattle.tc_command.proofs.replies.Counts.TheSendSync.{the_send as upto_send}
 use Rattle.tc_command.specs.contracts.asks.Ask as Ask
@@ -38,7 +39,7 @@ use Rattle.tc_route.specs.contracts.placed.Routed as Routed
 use Rattle.tc_schema.proofs.counters.Counts.TheSendSync.{the_send as counts_send, the_sync as counts_sync}
 use Rattle.tc_schema.proofs.place.Field.TheLaws.TheKnot.{both_send-Node, both_sync-Node}
 use Rattle.tc_schema.specs.contracts.whole.Schema as Schema
-use Rattle.tc_value.proofs.document.Items.TheLaws.TheKnot.{both_send-Doc, both_sync-Doc, both_send-Items, both_sync-Items, both_send-Members, both_sync-Members}
+use Rattle.tc_value.proofs.document.Items.TheLaws.TheKnot.{both_sync-Doc, both_sync-Items, both_sync-Members}
 use Rattle.tc_value.proofs.names.Text.TheSendSync.{the_send as text_send, the_sync as text_sync}
 use Rattle.tc_value.proofs.shape_tree.ShapeItems.TheLaws.TheKnot.{both_send-Shape, both_sync-Shape, both_send-ShapeItems, both_sync-ShapeItems, both_send-ShapeMembers, both_sync-ShapeMembers}
 use Rattle.tc_value.specs.contracts.document.Doc as Doc
@@ -145,13 +146,11 @@ for_each_mut-requires-send-T g c κs within =
     (InsideEngine.the_type (param 0 g.row.S) (param 1 g.row.P) (param 3 g.row.S-Watch) (param 4 g.row.S-Device) (param 5 g.row.S-Frozen) g.S.Store g.S.Watch.Watch
     g.S.Device.Device g.S.Frozen.Frozen) (search sendable depth 20, (search sendable depth 20, (search sendable depth 20, (search sendable depth 20, tt)))) in
     let engine : IsSend (Engine.the_field (param 0 g.row.S) (param 1 g.row.P) (param 3 g.row.S-Watch) (param 4 g.row.S-Device) (param 5 g.row.S-Frozen) g.S.Store g.S.Watch.Watch g.S.Device.Device g.S.Frozen.Frozen).row = search sendable depth 20 in
-    let doc_send : IsSend (Doc.the_field).row = search (sendable, crosses, text_send, text_sync, both_send-Doc, both_send-Items, both_send-Members) depth 20 in
-    let items_send : IsSend (Items.the_field).row = search (sendable, crosses, text_send, text_sync, both_send-Items) depth 20 in
     let value : IsSend (Value.the_field).row = search (sendable, crosses, maps_cross, both_send-Value) depth 20 in
-    let row : IsSend (Row.the_field).row = search sendable depth 20 in
+    let row : IsSend (Row.the_field).row = search (sendable, bytes_send) depth 20 in
     let rows : IsSend (Rows.the_field).row = search (sendable, crosses) depth 20 in
     let schemas : IsSend (Schemas.the_field).row = search (sendable, crosses) depth 20 in
-    let reply : IsSend (Reply.the_field).row = search (sendable, upto_send) depth 60 in
+    let reply : IsSend (Reply.the_field).row = search (sendable, upto_send, bytes_send) depth 60 in
     let placed : IsSend (Placed.the_field).row = search sendable depth 20 in
     let replies : IsSend (Replies.the_field).row = search (sendable, crosses) depth 20 in
     let seat : IsSend (SeatRow.the_row (param 0 g.row.S) (param 1 g.row.P) (param 3 g.row.S-Watch) (param 4 g.row.S-Device) (param 5 g.row.S-Frozen) g.S.Store
