@@ -1,6 +1,6 @@
 -- What answering requests leaves, and what is written of it.
 use Rattle.std.proofs.Common.{◌≡◌, ℕ, ◌<◌, length, take, List, inl, inr, refl, subst}
-use Rattle.std.specs.Prelude.{Option, Some, None}
+use Rattle.std.specs.Prelude.{Option, Some}
 use Rattle.std.specs.Io.KnownBytes.{Appends, Keeps}
 use Rattle.tc_request_model.specs.Request.{Request}
 use Rattle.tc_run_model.specs.World.{World, after_all}

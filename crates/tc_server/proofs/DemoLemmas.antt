@@ -1,6 +1,6 @@
 -- What a demonstration does with a line, and at the end of its lines, said of the windows of the lines that came.
 use Rattle.std.proofs.Common.{◌≡◌, ℕ, List, [], ◌∷◌, ◌++◌, length-append, refl, ap, ap₂, sym, ◌∙◌, subst, append_assoc, append-nil, inl, inr, arith}
-use Rattle.std.specs.Prelude.{Option, Some, None, sum_by, IfSome}
+use Rattle.std.specs.Prelude.{Option, Some, sum_by}
 use Rattle.tc_gen.specs.TwoLines.{Heard}
 use Rattle.tc_request_model.specs.Reply.{Reply}
 use Rattle.tc_run_model.specs.World.{World, after_all}

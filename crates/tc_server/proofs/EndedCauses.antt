@@ -1,5 +1,5 @@
 -- What counts over a run whose scan at its end was waited for.
-use Rattle.std.proofs.Common.{◌≡◌, ◌⊎◌, ℕ, refl, inl, inr}
+use Rattle.std.proofs.Common.{◌≡◌, ◌⊎◌, ℕ, inl, inr}
 use Rattle.std.specs.Prelude.{IfSome, None, Option, Some, Result, Ok, Err}
 use Rattle.tc_store.specs.KitFaults.{KitFaults}
 use Rattle.tc_store.specs.declared.damage.Damage.{Damage}

@@ -10,7 +10,7 @@ use Rattle.tc_keeper.specs.Faults.{EndsAs, IsNoDamage, IsOfRun}
 use Rattle.tc_keeper.specs.Holds.{IsOneOf, IsLeftAt, IsLeft}
 use Rattle.tc_server.specs.KitCauses.{HasSpentInput}
 use Rattle.tc_server.specs.OverFiles.{EndsOver, IsHere, LeaveOneOf, LeaveSmall, RanOver}
-use Rattle.tc_keeper.specs.Sight.{nothing, sees, whole_of, IfKnown, Sight}
+use Rattle.tc_keeper.specs.Sight.{nothing, sees, IfKnown, Sight}
 use Rattle.tc_keeper.specs.declared.fault.RunFault.{RunFault}
 use Rattle.tc_keeper.specs.declared.fault.RunFault.TheVariants.{Usage, Read, Write, Spent, Disk as DiskFault, Damaged, Memory, Layout}
 use Rattle.tc_words.specs.declared.run.Options.{Options}

@@ -4,7 +4,7 @@ use Rattle.std.specs.Prelude.{Option, Some, None}
 use Rattle.std.proofs.lemmas.List.{map-append}
 use Rattle.tc_request_model.specs.Request.{Request, upsert, delete, get, query, flush, schema, scan, collect, refused}
 use Rattle.tc_request_model.specs.Rendered.{Rendered, rendered}
-use Rattle.tc_request_model.specs.Reply.{Reply, reply_line}
+use Rattle.tc_request_model.specs.Reply.{flushed, reply_line, Reply}
 use Rattle.tc_request_model.proofs.RenderedLines.{rendered_is_line}
 use Rattle.tc_model.specs.Limits.{max_line}
 use Rattle.tc_request_model.specs.Light.{IsLight}
@@ -19,7 +19,7 @@ use Rattle.tc_run_model.specs.World.{World, after, after_all}
 use Rattle.tc_run_model.specs.Replies.{AreReplies}
 use Rattle.tc_run_model.specs.Course.{each_line}
 use Rattle.tc_run_model.specs.Kinds.{AreOfKinds}
-use Rattle.tc_run_model.specs.Known.{MayReply}
+use Rattle.tc_run_model.specs.Known.{MayRender, MayReply}
 use Rattle.tc_run_model.specs.Windows.{max_window}
 use Rattle.tc_keeper.specs.Sight.{nothing, sees, sight_after, Sight}
 use Rattle.tc_keeper.specs.Together.{requests_routed, weight_of, weight_in, AreTogether}
@@ -114,6 +114,15 @@ mixed_rendered (None ∷ lines) (a ∷ replies) = ap (λ texts. rendered a ∷ t
 pub mixed_lines : (lines : List (Option Refusal)) (texts : List Rendered) (replies : List Reply) → texts ≡ map rendered replies → each_rendered (mixed rendered_refused lines texts) ≡ each_line (mixed reply_refused lines replies)
 mixed_lines lines texts replies same =
     ap (λ ts. each_rendered (mixed rendered_refused lines ts)) same ∙ ap each_rendered (mixed_rendered lines replies) ∙ lines_rendered (mixed reply_refused lines replies)
+
+-- ---- one reply
+
+pub flush_replied : (known : Option World) → MayReply (flush ∷ []) known (flushed ∷ [])
+flush_replied (Some w) = (refl, tt)
+flush_replied None = (refl, tt)
+
+pub rendered_one : (r : Request) (known : Option World) (a : Reply) → MayReply (r ∷ []) known (a ∷ []) → MayRender (r ∷ []) known (rendered a ∷ [])
+rendered_one r known a given = (a ∷ [], given, refl)
 
 -- ---- weights
 

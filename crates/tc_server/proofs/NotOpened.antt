@@ -1,6 +1,6 @@
 -- A run that comes to no line: a kit was not given, or its partition was not opened.
 use Rattle.std.proofs.Common.{◌≡◌, ◌⊎◌, ◌∙◌, ◌≤◌, ◌<◌, ◌+◌, ℕ, List, [], ◌∷◌, map, length, arith, refl, ap, sym, subst, inl, inr}
-use Rattle.std.specs.Prelude.{Option, Some, None, IfSome, Result, slice_get, unwrap_or}
+use Rattle.std.specs.Prelude.{Option, Some, None, Result, slice_get, unwrap_or}
 use Rattle.std.specs.Io.KnownBytes.{Appends}
 use Rattle.std.proofs.KnownBytes.{Consumes-nil, Appends-nil, Keeps-refl}
 use Rattle.std.proofs.lemmas.Option.{slice_get-map}

@@ -1,5 +1,5 @@
 -- A demonstration: a run over the generated input, of whose replies two lines are written.
-use Rattle.std.specs.Prelude.{◌≡◌, ◌+◌, ◌^◌, ◌<◌, ℕ, List, [], ◌∷◌, ◌++◌, length, take, Option, Some, None, IfSome}
+use Rattle.std.specs.Prelude.{◌≡◌, ◌+◌, ◌^◌, ◌<◌, ℕ, List, [], ◌∷◌, ◌++◌, length, take, Option, Some, None}
 use Rattle.std.specs.Io.KnownBytes.{Appends, Keeps}
 use Rattle.tc_gen.specs.Generated.{input_of}
 use Rattle.tc_gen.specs.TwoLines.{Heard, heard_of, two_lines}

@@ -1,5 +1,5 @@
 -- What a session holds and what the sink accepted of it, by the windows of the lines that came.
-use Rattle.std.specs.Prelude.{◌≡◌, ◌<◌, ◌≤◌, ℕ, length, IfSome, List, [], ◌∷◌, ◌++◌, sum_by, Option, Some}
+use Rattle.std.specs.Prelude.{◌≡◌, ◌<◌, ◌≤◌, ℕ, length, List, [], ◌∷◌, ◌++◌, sum_by, Option, Some}
 use Rattle.std.specs.Io.KnownBytes.{Appends}
 use Rattle.tc_request_model.specs.Request.{request_of}
 use Rattle.tc_request_model.specs.Reply.{Reply}

@@ -4,7 +4,7 @@ use Rattle.tc_words.specs.declared.run.Options.{Options}
 use Rattle.tc_keeper.specs.Calls.{HoldsAt, IsSpent, KeepsAt}
 use Rattle.tc_server.specs.Ending.{AskedPromptly, RanLeaving, RunsOver}
 use Rattle.tc_keeper.specs.Faults.{fault_in, HasRunCauses}
-use Rattle.tc_keeper.specs.Keeping.{faults_kept, settings_kept, FailsAt, HasSpent, KeeperState, ServesAt, IsTrueHere}
+use Rattle.tc_keeper.specs.Keeping.{faults_kept, settings_kept, FailsAt, HasSpent, IsTrueBehind, IsTrueHere, KeeperState, ServesAt}
 use Rattle.tc_server.specs.Kits.{answer_behind}
 use Rattle.tc_server.proofs.EndedCauses.{run_ended, spent_with}
 use Rattle.tc_server.proofs.EndedRuns.{ended_run, well_behind}
@@ -59,7 +59,9 @@ returns-clause-settings g c = c.end-partitions.ensures.settings
 pub returns-clause-cause : goal.returns-clause-cause
 returns-clause-cause g c =
     rw c.with_fault.ensures (run_ended c.answer_asked-answer.result c.end-partitions.result.1 (g.I.Source.faults c.args.source.now)
-    (g.I.Source.faults c.answer_asked-answer.new.source) (g.O.Sink.faults c.args.sink.now) (g.O.Sink.faults c.answer_asked-answer.new.sink) _ _ _ _ _
+    (g.I.Source.faults c.answer_asked-answer.new.source) (g.O.Sink.faults c.args.sink.now) (g.O.Sink.faults c.answer_asked-answer.new.sink) _ _ _
+    (IsTrueHere g.S.Store.history g.S.Device.Device.history g.S.Frozen.Frozen.content c.into_keeper.result)
+    (IsTrueBehind g.S.Store.history g.S.Device.Device.history g.S.Frozen.Frozen.content c.end-partitions.result.0)
     c.end-partitions.ensures.met c.end-partitions.ensures.kind
     (subst (λ (k : KeeperState g.row.S.Denot g.row.S-Device.Denot g.row.S-Frozen.Denot g.row.S-Watch.Denot). HasRunCauses (g.I.Source.faults c.args.source.now)
     (g.I.Source.faults c.answer_asked-answer.new.source) (g.O.Sink.faults c.args.sink.now) (g.O.Sink.faults c.answer_asked-answer.new.sink)
