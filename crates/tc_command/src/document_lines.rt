@@ -72,7 +72,7 @@ fn put_rows(rows: &Rows, out: &mut Vec<u8>) -> Result<(), AllocError>
 {
     let mut later = false;
     let rows = rows.as_slice();
-    out.reserve_exact(rows_room(rows))?;
+    out.reserve(rows_room(rows))?;
     put_mark(b'[', out)?;
     for row in rows {
         put_comma(later, out)?;
