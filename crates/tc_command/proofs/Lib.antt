@@ -3,3 +3,4 @@ pub mod KeyLemmas
 pub mod Utf8Lemmas
 pub mod ReplyLemmas
 pub mod ReplyFloats
+pub mod KeyedLineLemmas

@@ -6,6 +6,7 @@ mod commands;
 mod conversions;
 mod document_lines;
 mod forms;
+mod keyed_lines;
 mod line;
 mod refusals;
 mod replies;

@@ -3,12 +3,13 @@
 ghost use Rattle.std.specs.Prelude.{◌≡◌, IfOk, IfErr, IfSome, option_map};
 ghost use Rattle.serde_json.specs.View.{view};
 ghost use Rattle.tc_model.specs.Json.{json_of};
-ghost use Rattle.tc_request_model.specs.Request.{request_of, request_if_known, form_of};
+ghost use Rattle.tc_request_model.specs.Request.{request_of, request_if_json, request_if_known, form_of};
 ghost use Rattle.tc_command.specs.Commands.{request_by, IsLawful, IsOfLine};
 
 use crate::commands::Command;
 use crate::conversions::command_of;
 use crate::forms::form_of;
+use crate::keyed_lines::keyed_in;
 use crate::refusals::{ParseFault, Refusal};
 use serde_json::Value;
 use std::alloc::{AllocError, Global};
@@ -28,6 +29,18 @@ pub fn parse(alloc: Global, line: &[u8]) -> Result<Command, ParseFault>
     if line.len() > MAX_LINE {
         return Err(ParseFault::Refused(Refusal::Oversized));
     }
+    match keyed_in(line) {
+        Some(command) => Ok(command),
+        None => command_read(alloc, line),
+    }
+}
+
+// The command that a line asks for, by its JSON value.
+fn command_read(alloc: Global, line: &[u8]) -> Result<Command, ParseFault>
+    ensures asked { IfSome (request_by result) (λ r. request_if_json (json_of line.now) ≡ r) }
+    ensures lawful { IfOk result IsLawful }
+    ensures of_line { IfErr result IsOfLine }
+{
     match value_of(alloc, line)? {
         Some(value) => command_in(alloc, &value),
         None => Err(ParseFault::Refused(Refusal::Malformed)),

@@ -1,0 +1,7 @@
+use Rattle.std.proofs.lemmas.Bool.Decides.{Decides-eqb}
+use Rattle.std.proofs.lemmas.Slice.Eq.{strip_prefix_is}
+use Rattle.tc_command.proofs.KeyedLineLemmas.{some_stripped}
+use Rattle.tc_command.proofs.keyed_lines.behind.Goals as goal
+
+pub returns : goal.returns
+returns c = some_stripped _ _ c.strip_prefix.result (strip_prefix_is Decides-eqb c.args.line.now c.args.front.now c.strip_prefix.result c.strip_prefix.ensures.cases)

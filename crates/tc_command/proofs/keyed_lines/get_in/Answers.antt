@@ -1,0 +1,8 @@
+use Rattle.tc_command.proofs.KeyedLineLemmas.{get_line, spaced_get_line}
+use Rattle.tc_command.proofs.keyed_lines.get_in.Goals as goal
+
+pub returns-in-Some-clause-asked : goal.returns-in-Some-clause-asked
+returns-in-Some-clause-asked c = get_line c.args.line.now c.in-Some.key c.in-Some.ensures.spelled c.in-Some.ensures.bound
+
+pub returns-clause-asked : goal.returns-clause-asked
+returns-clause-asked c = spaced_get_line c.args.line.now c.in_ok-key.key c.in_ok-key.ensures.spelled c.in_ok-key.ensures.bound
