@@ -24,3 +24,5 @@ pub mod BoundLaws
 pub mod FitTests
 pub mod Readable
 pub mod DocumentsTogether
+pub mod LevelLaws
+pub mod ShallowSchemas

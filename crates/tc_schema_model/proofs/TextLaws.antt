@@ -5,8 +5,8 @@ use Rattle.std.proofs.lemmas.Bool.Decides.{Decides-eqb, nat_tests}
 use Rattle.std.proofs.lemmas.Slice.Eq.{bytes_eq-Decides}
 use Rattle.std.specs.List.{IsDistinct}
 use Rattle.serde_json.specs.Data as json
-use Rattle.tc_model.specs.Tree.{leaf, array, object, Items, no_items, item, Members, no_members, member, depth, items_depth, members_depth, items_relabel, members_relabel, listed_members, listed_items}
-use Rattle.tc_model.specs.Document.{Name, Document, Scalar, ShapeTree, ScalarKind, null_kind, boolean_kind, integer_kind, text_kind, scalar_kind, document_shape}
+use Rattle.tc_model.specs.Tree.{leaf, array, object, Items, no_items, item, Members, no_members, member, depth, items_depth, members_depth, listed_members, listed_items}
+use Rattle.tc_model.specs.Document.{Name, Document, ShapeTree, ScalarKind, null_kind, boolean_kind, integer_kind, text_kind, document_shape}
 use Rattle.tc_model.specs.Dictionary.{number_of}
 use Rattle.tc_schema_model.specs.Occurrences.{field, each_item, Path, occurrences, items_occurrences, members_occurrences, count}
 use Rattle.tc_model.specs.Kinds.{Kind, scalar, arrays, objects, kind_of, is_kind}
@@ -18,6 +18,7 @@ use Rattle.tc_schema_model.proofs.NumberLaws.{name_stands, number_of_name_at}
 use Rattle.tc_schema_model.proofs.CountingLaws.{at_first, after_first}
 use Rattle.tc_schema_model.proofs.KindLaws.{total-kind_nodes}
 use Rattle.tc_schema_model.proofs.PutLaws.{by_names, IsAmong, same_names}
+use Rattle.tc_schema_model.proofs.ShallowSchemas.{depth-document_shape}
 
 -- ---- occurrences in a list of values
 
@@ -166,23 +167,9 @@ shallow_values level name (m ∷ ms) here = by_test (bytes_eq m.0 name) (shallow
     by_test true later = (here.0, later)
     by_test false later = later
 
-mutual
-  depth-shape : (d : Document) → depth (document_shape d) ≡ depth d
-  depth-shape (leaf s) = refl
-  depth-shape (array xs) = ap (λ n. 1 + n) (depth-items xs)
-  depth-shape (object ms) = ap (λ n. 1 + n) (depth-members ms)
-
-  depth-items : (xs : Items Name Scalar) → items_depth (items_relabel (λ name. name) scalar_kind xs) ≡ items_depth xs
-  depth-items no_items = refl
-  depth-items (item d xs) = rw (depth-shape d, depth-items xs) refl
-
-  depth-members : (ms : Members Name Scalar) → members_depth (members_relabel (λ name. name) scalar_kind ms) ≡ members_depth ms
-  depth-members no_members = refl
-  depth-members (member label d ms) = rw (depth-shape d, depth-members ms) refl
-
 shallow_documents : (level : ℕ) (docs : List Document) → deepest docs < level → AreShallow level (map document_shape docs)
 shallow_documents level [] less = tt
-shallow_documents level (d ∷ docs) less = (omega (arith, depth-shape d), shallow_documents level docs (omega arith))
+shallow_documents level (d ∷ docs) less = (omega (arith, depth-document_shape d), shallow_documents level docs (omega arith))
 
 -- ---- the kinds of a place
 

@@ -11,3 +11,4 @@ pub mod Values
 pub mod Room
 pub mod HasCounters
 pub mod Bounds
+pub mod Levels

@@ -3,6 +3,7 @@ use Rattle.std.specs.Prelude.{ℕ, ◌+◌, List, [], ◌∷◌, ◌++◌, Some,
 use Rattle.std.specs.Int.{w32, w64, to_be_bytes}
 use Rattle.tc_model.specs.Kinds.{arrays, objects, scalar_tag, tag}
 use Rattle.tc_schema_model.specs.Counted.{Counted, IsCanonical, CountsObjects, HasSmallCounters}
+use Rattle.tc_schema_model.specs.Levels.{IsShallow}
 use Rattle.tc_schema_model.specs.SchemaTree.{SchemaNode, scalar_node, array_node, object_node, union_node, ItemNode, no_item_node, an_item_node, FieldNodes, no_field_nodes, a_field_node, KindNodes, no_kind_nodes, a_kind_node, SchemaTree, union_tag, kinds_count}
 
 abbrev pub fields_count : FieldNodes → ℕ
@@ -35,9 +36,10 @@ abbrev pub schema_bytes : SchemaTree → List ℕ
 schema_bytes None = 0 ∷ []
 schema_bytes (Some t) = node_bytes t
 
--- the schemas that have bytes: in the one form with numbers below the limit, of documents, which are objects, and with
--- counters of 64 bits
+-- the schemas that have bytes: in the one form with numbers below the limit, of documents, which are objects, with
+-- counters of 64 bits, and no deeper than documents make them
 pub record IsSchema (limit : ℕ) (d : Counted) : Type 0 where
   pub canonical : IsCanonical limit d
   pub of_objects : CountsObjects d
   pub small : HasSmallCounters d
+  pub shallow : IsShallow d
