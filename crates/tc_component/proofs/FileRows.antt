@@ -4,6 +4,7 @@ use Rattle.std.specs.Str.{is_utf8, chars}
 use lib.Utf8.{encode}
 use Rattle.tc_model.specs.Document.{Name}
 use Rattle.tc_schema_model.specs.Counted.{Counters, Counted, counted, nothing, no_counters, no_item, no_fields, a_field}
+use Rattle.tc_schema.specs.Reading.{read_schema}
 use Rattle.tc_store.specs.declared.file_name.FileName.TheVariants.{Component}
 use Rattle.tc_record.specs.Rows.{numbered_flag_record}
 use Rattle.tc_component.specs.declared.head.Head.{Head}
@@ -55,9 +56,9 @@ empty_spelled = refl
 -- ---- what is read
 
 flag_read : file_judged (Component 1 1) flag_bytes ≡ Ok (index_of first_head flag_rows flag_names flag_schema)
-unfolding first_head flag_rows flag_names one_object flag_schema flag_bytes is_utf8 chars encode
+unfolding first_head flag_rows flag_names one_object flag_schema flag_bytes is_utf8 chars encode read_schema
 flag_read = refl
 
 empty_read : file_judged (Component 1 1) empty_bytes ≡ Ok (index_of first_head [] [] nothing)
-unfolding first_head empty_bytes
+unfolding first_head empty_bytes read_schema
 empty_read = refl

@@ -1,6 +1,5 @@
 -- A schema is read from its bytes alone.
-use Rattle.std.proofs.Common.{◌≡◌, ◌≢◌, ◌⊎◌, inl, inr, ℕ, zero, suc, ◌+◌, ◌<◌, ◌≤◌, ◌^◌, ◌==◌, max, Bool, true, false, List, [], ◌∷◌, ◌++◌, drop, length, Some, None, if◌then◌else◌, refl, sym, ap, ◌∙◌, subst, arith, length-append}
-use Rattle.std.specs.Int.{w32, to_be_bytes}
+use Rattle.std.proofs.Common.{◌≡◌, ◌≢◌, ◌⊎◌, inl, inr, ℕ, zero, suc, ◌+◌, ◌<◌, ◌≤◌, ◌^◌, ◌==◌, Bool, true, false, List, ◌∷◌, ◌++◌, drop, Some, None, if◌then◌else◌, refl, sym, ap, ◌∙◌, subst, arith}
 use Rattle.std.proofs.lemmas.Bool.{false≢true}
 use Rattle.std.proofs.lemmas.Bool.Decides.{Decides-eqb}
 use Rattle.std.proofs.lemmas.Option.{same_Some}
@@ -9,33 +8,18 @@ use Rattle.tc_bytes.specs.Codec.{IsBytes, IsCodec}
 use Rattle.tc_bytes.proofs.Codecs.{then_parts}
 use Rattle.tc_bytes.proofs.Whole.{whole_found, whole_again, whole_refused}
 use Rattle.tc_schema_model.specs.Counted.{Counted, counted, Below, no_item, an_item, Fields, no_fields, a_field, nothing, documents_of, counters_of, IsCanonical, IsBelowCanonical, AreFieldsCanonical, HasSmallCounters, BelowHasSmallCounters, FieldsHaveSmallCounters, CountsObjects}
-use Rattle.tc_schema_model.specs.SchemaTree.{SchemaNode, scalar_node, array_node, object_node, union_node, node_of, item_node_of, field_nodes_of, schema_tree}
-use Rattle.tc_schema_model.specs.SchemaBytes.{node_bytes, item_bytes, fields_bytes, fields_count, schema_bytes, IsSchema}
+use Rattle.tc_schema_model.specs.Levels.{levels_of, levels_of_item, levels_of_fields, max_levels}
+use Rattle.tc_schema_model.specs.SchemaTree.{node_of, schema_tree}
+use Rattle.tc_schema_model.specs.SchemaBytes.{node_bytes, schema_bytes, IsSchema}
 use Rattle.tc_schema_model.proofs.RemovedLaws.{nothing_counted}
-use Rattle.tc_schema.specs.Writing.{union_part, scalar_parts, array_part, object_part, tagged}
 use Rattle.tc_schema.specs.Reading.{starts, place_at, root_at, read_schema, BelowFits, FieldsFit, PlaceFits}
-use Rattle.tc_schema.proofs.WritingLaws.{place_bytes}
 use Rattle.tc_schema.proofs.ReadingLaws.{started}
 use Rattle.tc_schema.proofs.PlaceCodec.{place_codec, no_place_is_empty}
-
--- ---- how deep places nest
-
-abbrev mutual
-  nests : Counted → ℕ
-  nests (counted c b fs) = 1 + max (below_nests b) (fields_nest fs)
-
-  below_nests : Below → ℕ
-  below_nests no_item = 0
-  below_nests (an_item d) = nests d
-
-  fields_nest : Fields → ℕ
-  fields_nest no_fields = 0
-  fields_nest (a_field n d fs) = max (nests d) (fields_nest fs)
 
 -- ---- a place of the one form is one that is read
 
 mutual
-  fits_within : (limit levels : ℕ) (d : Counted) → IsCanonical limit d → 0 < documents_of d → HasSmallCounters d → nests d ≤ levels → PlaceFits limit levels d
+  fits_within : (limit levels : ℕ) (d : Counted) → IsCanonical limit d → 0 < documents_of d → HasSmallCounters d → levels_of d ≤ levels → PlaceFits limit levels d
   fits_within limit zero (counted c b fs) canonical some small enough = absurd (omega arith)
   fits_within limit (suc levels) (counted c b fs) canonical some small enough =
       record {
@@ -47,86 +31,37 @@ mutual
         fields = fields_within limit levels 0 fs canonical.3 small.2 (omega arith);
       }
 
-  below_within : (limit levels : ℕ) (b : Below) → IsBelowCanonical limit b → BelowHasSmallCounters b → below_nests b ≤ levels → BelowFits (PlaceFits limit levels) b
+  below_within : (limit levels : ℕ) (b : Below) → IsBelowCanonical limit b → BelowHasSmallCounters b → levels_of_item b ≤ levels → BelowFits (PlaceFits limit levels) b
   below_within limit levels no_item canonical small enough = tt
   below_within limit levels (an_item d) canonical small enough = fits_within limit levels d canonical.1 canonical.0 small enough
 
-  fields_within : (limit levels low : ℕ) (fs : Fields) → AreFieldsCanonical limit low fs → FieldsHaveSmallCounters fs → fields_nest fs ≤ levels → FieldsFit (PlaceFits limit levels) limit low fs
+  fields_within : (limit levels low : ℕ) (fs : Fields) → AreFieldsCanonical limit low fs → FieldsHaveSmallCounters fs → levels_of_fields fs ≤ levels → FieldsFit (PlaceFits limit levels) limit low fs
   fields_within limit levels low no_fields canonical small enough = tt
   fields_within limit levels low (a_field n d fs) canonical small enough =
       (canonical.0, canonical.1, fits_within limit levels d canonical.3 canonical.2 small.0 (omega arith), fields_within limit levels (n + 1) fs canonical.4 small.1 (omega arith))
 
-abbrev IsRead : ℕ → Counted → Type 0
-IsRead limit d = (0 < documents_of d) × IsCanonical limit d × HasSmallCounters d
+abbrev IsRead : ℕ → ℕ → Counted → Type 0
+IsRead limit levels d = (0 < documents_of d) × IsCanonical limit d × HasSmallCounters d × (levels_of d ≤ levels)
 
-below_read : (limit levels : ℕ) (b : Below) → ((d : Counted) → PlaceFits limit levels d → IsRead limit d) → BelowFits (PlaceFits limit levels) b → IsBelowCanonical limit b × BelowHasSmallCounters b
-below_read limit levels no_item each fits = (tt, tt)
-below_read limit levels (an_item d) each fits = let here = each d fits in ((here.0, here.1), here.2)
+below_read : (limit levels : ℕ) (b : Below) → ((d : Counted) → PlaceFits limit levels d → IsRead limit levels d) → BelowFits (PlaceFits limit levels) b
+    → IsBelowCanonical limit b × BelowHasSmallCounters b × (levels_of_item b ≤ levels)
+below_read limit levels no_item each fits = (tt, tt, omega arith)
+below_read limit levels (an_item d) each fits = let here = each d fits in ((here.0, here.1), here.2, here.3)
 
-fields_read : (limit levels low : ℕ) (fs : Fields) → ((d : Counted) → PlaceFits limit levels d → IsRead limit d) → FieldsFit (PlaceFits limit levels) limit low fs → AreFieldsCanonical limit low fs × FieldsHaveSmallCounters fs
-fields_read limit levels low no_fields each fits = (tt, tt)
+fields_read : (limit levels low : ℕ) (fs : Fields) → ((d : Counted) → PlaceFits limit levels d → IsRead limit levels d) → FieldsFit (PlaceFits limit levels) limit low fs
+    → AreFieldsCanonical limit low fs × FieldsHaveSmallCounters fs × (levels_of_fields fs ≤ levels)
+fields_read limit levels low no_fields each fits = (tt, tt, omega arith)
 fields_read limit levels low (a_field n d fs) each fits =
     let here = each d fits.2 in
     let later = fields_read limit levels (n + 1) fs each fits.3 in
-    ((fits.0, fits.1, here.0, here.1, later.0), (here.2, later.1))
+    ((fits.0, fits.1, here.0, here.1, later.0), (here.2, later.1), omega (arith, here.3, later.2))
 
-read_from : (limit levels : ℕ) (d : Counted) → PlaceFits limit levels d → IsRead limit d
+read_from : (limit levels : ℕ) (d : Counted) → PlaceFits limit levels d → IsRead limit levels d
 read_from limit zero d fits = absurd fits
 read_from limit (suc levels) (counted c b fs) fits =
     let below = below_read limit levels b (read_from limit levels) fits.below in
     let fields = fields_read limit levels 0 fs (read_from limit levels) fits.fields in
-    (fits.some, (fits.no_items, fits.no_members, below.0, fields.0), (fits.small, below.1, fields.1))
-
--- ---- each level takes a byte
-
-no_node_is_empty : (t : SchemaNode) → 1 ≤ length (node_bytes t)
-no_node_is_empty (scalar_node k n) = omega arith
-no_node_is_empty (array_node n i) = omega arith
-no_node_is_empty (object_node n fs) = omega arith
-no_node_is_empty (union_node n ks) = omega arith
-
--- what is held is in the part of its kind
-array_long : (n : ℕ) (b : Below) → (n ≡ 0 → b ≡ no_item) → 1 + below_nests b ≤ length (item_bytes (item_node_of b)) → (below_nests b ≡ 0) ⊎ (1 + below_nests b ≤ length (array_part n b))
-array_long n b empty long = by_test (n == 0) (Decides-eqb n 0).0
-  where
-    by_test : (none : Bool) → (none ≡ true → n ≡ 0) → (below_nests b ≡ 0) ⊎ (1 + below_nests b ≤ length (if none then [] else tagged 5 n ++ item_bytes (item_node_of b)))
-    by_test true is = inl (ap below_nests (empty (is refl)))
-    by_test false is = inr (omega (arith, long, length-append (tagged 5 n) (item_bytes (item_node_of b))))
-
-object_long : (n : ℕ) (fs : Fields) → (n ≡ 0 → fs ≡ no_fields) → fields_nest fs ≤ length (fields_bytes (field_nodes_of fs)) → (fields_nest fs ≡ 0) ⊎ (1 + fields_nest fs ≤ length (object_part n fs))
-object_long n fs empty long = by_test (n == 0) (Decides-eqb n 0).0
-  where
-    by_test : (none : Bool) → (none ≡ true → n ≡ 0) → (fields_nest fs ≡ 0) ⊎ (1 + fields_nest fs ≤ length (if none then [] else tagged 6 n ++ (to_be_bytes w32 (fields_count (field_nodes_of fs)) ++ fields_bytes (field_nodes_of fs))))
-    by_test true is = inl (ap fields_nest (empty (is refl)))
-    by_test false is = inr (omega (arith, long))
-
-mutual
-  levels_fit : (limit : ℕ) (d : Counted) → IsCanonical limit d → nests d ≤ length (node_bytes (node_of d))
-  levels_fit limit (counted c b fs) canonical =
-      let inside = array_part c.arrays b ++ object_part c.objects fs in
-      let whole = ap length (place_bytes c b fs) in
-      let one = length-append (union_part c) (scalar_parts c ++ inside) in
-      let two = length-append (scalar_parts c) inside in
-      let three = length-append (array_part c.arrays b) (object_part c.objects fs) in
-      deep (array_long c.arrays b canonical.0 (below_levels limit b canonical.2)) (object_long c.objects fs canonical.1 (fields_levels limit 0 fs canonical.3)) (no_node_is_empty (node_of (counted c b fs)))
-      (omega (arith, whole, one, two, three)) (omega (arith, whole, one, two, three))
-    where
-      deep : {m n l a o : ℕ} → (m ≡ 0) ⊎ (1 + m ≤ a) → (n ≡ 0) ⊎ (1 + n ≤ o) → 1 ≤ l → a ≤ l → o ≤ l → 1 + max m n ≤ l
-      deep (inl x) (inl y) some arrays objects = omega (arith, x, y)
-      deep (inl x) (inr y) some arrays objects = omega (arith, x, y)
-      deep (inr x) (inl y) some arrays objects = omega (arith, x, y)
-      deep (inr x) (inr y) some arrays objects = omega (arith, x, y)
-
-  below_levels : (limit : ℕ) (b : Below) → IsBelowCanonical limit b → 1 + below_nests b ≤ length (item_bytes (item_node_of b))
-  below_levels limit no_item canonical = omega arith
-  below_levels limit (an_item d) canonical = let here = levels_fit limit d canonical.1 in omega arith
-
-  fields_levels : (limit low : ℕ) (fs : Fields) → AreFieldsCanonical limit low fs → fields_nest fs ≤ length (fields_bytes (field_nodes_of fs))
-  fields_levels limit low no_fields canonical = omega arith
-  fields_levels limit low (a_field n d fs) canonical =
-      let here = levels_fit limit d canonical.3 in
-      let later = fields_levels limit (n + 1) fs canonical.4 in
-      omega (arith, here, later, length-append (node_bytes (node_of d)) (fields_bytes (field_nodes_of fs)))
+    (fits.some, (fits.no_items, fits.no_members, below.0, fields.0), (fits.small, below.1, fields.1), omega (arith, below.2, fields.2))
 
 -- ---- the whole schema
 
@@ -176,27 +111,29 @@ root_codec limit levels few = record { found = λ bytes d rest each gives. root_
 
 -- what all of the bytes spell is a schema, and every schema is spelled so
 pub schema_found : (limit : ℕ) (bytes : List ℕ) (d : Counted) → limit < 2 ^ 32 → IsBytes bytes → read_schema limit bytes ≡ Some d → (bytes ≡ schema_bytes (schema_tree d)) × IsSchema limit d
-schema_found limit bytes d few each gives = let here = whole_found (root_codec limit (length bytes) few) bytes d each gives in (here.0, schema_from here.1)
+unfolding read_schema
+schema_found limit bytes d few each gives = let here = whole_found (root_codec limit max_levels few) bytes d each gives in (here.0, schema_from here.1)
   where
-    schema_from : RootFits limit (length bytes) d → IsSchema limit d
-    schema_from (inl same) = subst (IsSchema limit) (sym same) record { canonical = (λ _. refl, λ _. refl, tt, tt); of_objects = refl; small = (omega arith, tt, tt) }
-    schema_from (inr fits) = let here = read_from limit (length bytes) d fits.0 in record { canonical = here.1; of_objects = fits.1; small = here.2 }
+    schema_from : RootFits limit max_levels d → IsSchema limit d
+    schema_from (inl same) = subst (IsSchema limit) (sym same) record { canonical = (λ _. refl, λ _. refl, tt, tt); of_objects = refl; small = (omega arith, tt, tt); shallow = omega arith }
+    schema_from (inr fits) = let here = read_from limit max_levels d fits.0 in record { canonical = here.1; of_objects = fits.1; small = here.2; shallow = here.3 }
 
--- a schema that bytes spell is read within as many levels as there are bytes
-root_fits : (limit : ℕ) (bytes : List ℕ) (d : Counted) → IsSchema limit d → bytes ≡ schema_bytes (schema_tree d) → RootFits limit (length bytes) d
-root_fits limit bytes d schema same = by_test (documents_of d == 0) (Decides-eqb (documents_of d) 0)
+-- a schema is read within the levels that it may have
+root_fits : (limit : ℕ) (d : Counted) → IsSchema limit d → RootFits limit max_levels d
+root_fits limit d schema = by_test (documents_of d == 0) (Decides-eqb (documents_of d) 0)
   where
-    by_test : (empty : Bool) → (empty ≡ true → documents_of d ≡ 0) × (documents_of d ≡ 0 → empty ≡ true) → RootFits limit (length bytes) d
+    by_test : (empty : Bool) → (empty ≡ true → documents_of d ≡ 0) × (documents_of d ≡ 0 → empty ≡ true) → RootFits limit max_levels d
     by_test true is = inl (nothing_counted limit d schema.canonical (is.0 refl))
     by_test false is =
         let some : documents_of d ≢ 0 = λ zero. false≢true (is.1 zero) in
-        let long : length bytes ≡ length (node_bytes (node_of d)) = ap length (same ∙ spells_place d (omega arith)) in
-        inr (fits_within limit (length bytes) d schema.canonical (omega arith) schema.small (omega (arith, long, levels_fit limit d schema.canonical)), schema.of_objects)
+        inr (fits_within limit max_levels d schema.canonical (omega arith) schema.small schema.shallow, schema.of_objects)
 
 -- no other schema is spelled so
 pub schema_only : (limit : ℕ) (bytes : List ℕ) (d : Counted) → limit < 2 ^ 32 → read_schema limit bytes ≡ Some d → (other : Counted) → IsSchema limit other → bytes ≡ schema_bytes (schema_tree other) → d ≡ other
+unfolding read_schema
 schema_only limit bytes d few gives other schema same =
-    same_Some d other (sym gives ∙ ap (whole (root_at limit (length bytes))) same ∙ whole_again (root_codec limit (length bytes) few) other (root_fits limit bytes other schema same))
+    same_Some d other (sym gives ∙ ap (whole (root_at limit max_levels)) same ∙ whole_again (root_codec limit max_levels few) other (root_fits limit other schema))
 
 pub schema_refused : (limit : ℕ) (bytes : List ℕ) → limit < 2 ^ 32 → read_schema limit bytes ≡ None → (d : Counted) → IsSchema limit d → bytes ≢ schema_bytes (schema_tree d)
-schema_refused limit bytes few none d schema same = whole_refused (root_codec limit (length bytes) few) bytes none d (root_fits limit bytes d schema same) same
+unfolding read_schema
+schema_refused limit bytes few none d schema same = whole_refused (root_codec limit max_levels few) bytes none d (root_fits limit d schema) same

@@ -1,10 +1,11 @@
 -- Reading a place from the front of bytes, part by part, where no more than so many levels nest.
-use Rattle.std.specs.Prelude.{◌≡◌, ◌<◌, ◌≤◌, ℕ, zero, suc, ◌+◌, ◌-◌, ◌^◌, ◌==◌, ◌&&◌, nat_lt, Bool, false, List, [], ◌∷◌, drop, length, Option, Some, None, if◌then◌else◌}
+use Rattle.std.specs.Prelude.{◌≡◌, ◌<◌, ◌≤◌, ℕ, zero, suc, ◌+◌, ◌-◌, ◌^◌, ◌==◌, ◌&&◌, nat_lt, Bool, false, List, [], ◌∷◌, drop, Option, Some, None, if◌then◌else◌}
 use Rattle.std.specs.Int.{w32, w64}
 use Rattle.tc_bytes.specs.Reading.{Reader, ◌>>=◌, byte_at, number_at, whole}
 use Rattle.tc_model.specs.Document.{null_kind, boolean_kind, integer_kind, text_kind}
 use Rattle.tc_model.specs.Kinds.{arrays, objects, scalar_tag, tag}
 use Rattle.tc_schema_model.specs.Counted.{Counters, no_counters, total, Counted, counted, Below, no_item, an_item, Fields, no_fields, a_field, nothing, documents_of, counters_of}
+use Rattle.tc_schema_model.specs.Levels.{max_levels}
 use Rattle.tc_schema_model.specs.SchemaTree.{union_tag}
 use Rattle.tc_schema.specs.Writing.{one_if_some}
 
@@ -80,9 +81,9 @@ abbrev pub root_at : ℕ → ℕ → Reader Counted
 root_at limit levels bytes =
     if starts 0 1 bytes then Some (nothing, drop 1 bytes) else (place_at limit levels bytes >>= λ d. if documents_of d.0 == (counters_of d.0).objects then Some d else None)
 
--- the schema that all of the bytes spell; each level takes at least a byte
-abbrev pub read_schema : ℕ → List ℕ → Option Counted
-read_schema limit bytes = whole (root_at limit (length bytes)) bytes
+-- the schema that all of the bytes spell; no proof unfolds it unasked, since it would go through every level
+unfoldable pub read_schema : ℕ → List ℕ → Option Counted
+read_schema limit bytes = whole (root_at limit max_levels) bytes
 
 -- ---- the places that are spelled so
 

@@ -15,7 +15,7 @@ mod writing;
 
 pub use counters::Counts;
 pub use fault::SchemaFault;
-pub use laws::{counters_are_small, counters_fit, trees_have_one_form};
+pub use laws::{counters_are_small, counters_fit, schemas_are_shallow, trees_have_one_form};
 pub use paths::field_named;
 pub use place::{Field, Node};
 pub use search::search_fields;

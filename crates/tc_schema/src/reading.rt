@@ -1,12 +1,12 @@
 //! Places read from bytes, where no more than so many levels nest.
 
-ghost use Rattle.std.specs.Prelude.{◌≡◌, ◌≤◌, ℕ, option_map, option_and_then, length, IfOk, IfSome};
+ghost use Rattle.std.specs.Prelude.{◌≡◌, ◌≤◌, ℕ, option_map, option_and_then, IfOk, IfSome};
 ghost use Rattle.tc_bytes.specs.Codec.{Gives};
-ghost use Rattle.tc_bytes.specs.Reading.{Reader};
+ghost use Rattle.tc_bytes.specs.Reading.{Reader, whole};
 ghost use Rattle.tc_schema_model.specs.Counted.{Counted};
 ghost use Rattle.tc_schema.specs.Places.{place_counted, below_counted, fields_counted};
 ghost use Rattle.tc_schema.specs.Writing.{one_if_some};
-ghost use Rattle.tc_schema.specs.Reading.{starts, counter_at, scalar_at, item_at, array_at, fields_at, object_at, place_ended, arrays_at, kinds_at, union_at, place_at, root_at, read_schema};
+ghost use Rattle.tc_schema.specs.Reading.{starts, counter_at, scalar_at, item_at, array_at, fields_at, object_at, place_ended, arrays_at, kinds_at, union_at, place_at, root_at};
 
 use crate::counters::{Counts, one_if_some};
 use crate::fault::SchemaFault;
@@ -15,27 +15,41 @@ use crate::place::{
 };
 use std::alloc::Global;
 use tc_bytes::{u8_at, u32_at, u64_at};
-use tc_value::Kind;
+use tc_value::{Kind, MAX_DEPTH};
 
-/// The root of the schema that all of the bytes spell.
-pub fn read_root(bytes: &[u8], names: u32, alloc: Global) -> Result<Node, SchemaFault>
-    ensures { Gives place_counted SchemaFault.NotASchema result (read_schema names bytes.now) }
+/// How many places of a schema stand one within another, at most. Reading recurses no deeper, whatever the bytes, and so
+/// does the drop of what was read.
+pub const MAX_LEVELS: usize = MAX_DEPTH as usize + 1;
+
+/// The root of the schema that all of the bytes spell, where no more than so many levels nest.
+pub fn read_root(
+    bytes: &[u8],
+    levels: usize,
+    names: u32,
+    alloc: Global,
+) -> Result<Node, SchemaFault>
+    ensures { Gives place_counted SchemaFault.NotASchema result (whole (root_at names levels) bytes.now) }
 {
-    let (root, rest) = read_any_root(bytes, names, alloc)?;
+    let (root, rest) = read_any_root(bytes, levels, names, alloc)?;
     if !rest.is_empty() {
         return Err(SchemaFault::NotASchema);
     }
     Ok(root)
 }
 
-/// A root from the front of the bytes, where each level takes at least a byte of them.
-fn read_any_root(bytes: &[u8], names: u32, alloc: Global) -> Result<(Node, &[u8]), SchemaFault>
-    ensures { Gives (λ x. (place_counted x.0, x.1.now)) SchemaFault.NotASchema result (root_at names (length bytes.now) bytes.now) }
+/// A root from the front of the bytes.
+fn read_any_root(
+    bytes: &[u8],
+    levels: usize,
+    names: u32,
+    alloc: Global,
+) -> Result<(Node, &[u8]), SchemaFault>
+    ensures { Gives (λ x. (place_counted x.0, x.1.now)) SchemaFault.NotASchema result (root_at names levels bytes.now) }
 {
     if starts(0, 1, bytes) {
         return Ok((Node::new(alloc), &bytes[1..]));
     }
-    let (root, rest) = read_place(bytes, bytes.len(), names, alloc)?;
+    let (root, rest) = read_place(bytes, levels, names, alloc)?;
     if root.counts.total() != root.counts.of_kind(Kind::Object) {
         return Err(SchemaFault::NotASchema);
     }

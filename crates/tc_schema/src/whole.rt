@@ -18,7 +18,7 @@ use crate::bounds::{greatest_count, is_below};
 use crate::fault::SchemaFault;
 use crate::paths::count_from;
 use crate::place::Node;
-use crate::reading::read_root;
+use crate::reading::{MAX_LEVELS, read_root};
 use crate::values::value_of_place;
 use crate::writing::put_place;
 use serde_json::Value;
@@ -142,7 +142,7 @@ impl Schema {
         ensures only { IfOk result (λ schema. (other : Counted) → IsSchema names other → bytes.now ≡ schema_bytes (schema_tree other) → schema ≡ other) }
         ensures refused { IsErrOf result SchemaFault.NotASchema → (schema : Counted) → IsSchema names schema → bytes.now ≢ schema_bytes (schema_tree schema) }
     {
-        let root = read_root(bytes, names, alloc)?;
+        let root = read_root(bytes, MAX_LEVELS, names, alloc)?;
         Ok(Schema { root })
     }
 
