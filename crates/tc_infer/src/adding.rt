@@ -1,10 +1,12 @@
 //! One document more.
 
-ghost use Rattle.std.specs.Prelude.{◌≡◌, ◌+◌, ◌<◌, ◌^◌, ◌∷◌, All, List, OnOk, OnErr, length};
+ghost use Rattle.std.specs.Prelude.{◌≡◌, ◌+◌, ◌<◌, ◌≤◌, ◌^◌, ◌∷◌, All, List, OnOk, OnErr, length};
 ghost use Rattle.tc_model.specs.Document.{Document, document_shape};
 ghost use Rattle.tc_schema_model.specs.Occurrences.{Path, occurrences};
+ghost use Rattle.tc_model.specs.Limits.{max_depth};
+ghost use Rattle.tc_model.specs.Tree.{depth};
 ghost use Rattle.tc_model.specs.Kinds.{Kind, kind_of, objects};
-ghost use Rattle.tc_schema_model.specs.Counted.{nothing, shows, total_at, IsCanonical, CountsObjects};
+ghost use Rattle.tc_schema_model.specs.Counted.{nothing, shows, total_at, IsCanonical};
 ghost use Rattle.tc_schema_model.specs.Added.{added};
 ghost use Rattle.tc_schema_model.specs.SchemaBytes.{IsSchema};
 ghost use Rattle.tc_schema_model.specs.Stands.{StandsFor};
@@ -31,7 +33,7 @@ pub fn add(schema: &mut Schema, names: &mut Names, shape: &Shape) -> Result<(), 
     ensures added { OnOk result (schema.new ≡ added names.new (shape_tree shape.now) schema.old) }
     ensures counted { OnOk result ((path : Path) (t : Kind) → shows names.new schema.new path t ≡ shows names.old schema.old path t + occurrences (shape_tree shape.now) path t) }
     ensures canonical { OnOk result (IsCanonical (length names.new) schema.new) }
-    ensures readable { OnOk result (kind_of (shape_tree shape.now) ≡ objects → CountsObjects schema.old → IsSchema (length names.new) schema.new) }
+    ensures readable { OnOk result (kind_of (shape_tree shape.now) ≡ objects → depth (shape_tree shape.now) ≤ max_depth → IsSchema (length names.old) schema.old → IsSchema (length names.new) schema.new) }
     ensures stands { OnOk result ((docs : List Document) (doc : Document) → document_shape doc ≡ shape_tree shape.now → StandsFor names.old schema.old docs → StandsFor names.new schema.new (doc ∷ docs)) }
     ensures names { OnOk result (names.new ≡ all_learned names.old (names_within (shape_tree shape.now))) }
     ensures extends { Extends names.new names.old }

@@ -9,7 +9,7 @@ ghost use Rattle.tc_model.specs.ShapeNames.{names_within};
 ghost use Rattle.tc_record.specs.Record.{IsRecordOf};
 ghost use Rattle.tc_compact.specs.Meant.{tokens_meant};
 ghost use Rattle.tc_schema_model.specs.Added.{added};
-ghost use Rattle.tc_schema_model.specs.Counted.{nothing, shows, total_at, IsCanonical, CountsObjects};
+ghost use Rattle.tc_schema_model.specs.Counted.{nothing, shows, total_at, IsCanonical};
 ghost use Rattle.tc_schema_model.specs.Occurrences.{Path, occurrences};
 ghost use Rattle.tc_schema_model.specs.SchemaBytes.{IsSchema};
 ghost use Rattle.tc_schema_model.specs.Stands.{StandsFor};
@@ -37,7 +37,7 @@ pub fn add_record(schema: &mut Schema, names: &mut Names, of: RecordRef<'_>) -> 
     ensures added { OnOk result ((doc : Document) → IsRecordOf doc of.entry.bytes → schema.new ≡ added names.new (document_shape doc) schema.old) }
     ensures counted { OnOk result ((doc : Document) → IsRecordOf doc of.entry.bytes → (path : Path) (t : kinds.Kind) → shows names.new schema.new path t ≡ shows names.old schema.old path t + occurrences (document_shape doc) path t) }
     ensures canonical { OnOk result (IsCanonical (length names.new) schema.new) }
-    ensures readable { OnOk result (CountsObjects schema.old → IsSchema (length names.new) schema.new) }
+    ensures readable { OnOk result (IsSchema (length names.old) schema.old → IsSchema (length names.new) schema.new) }
     ensures stands { OnOk result ((docs : List Document) (doc : Document) → IsRecordOf doc of.entry.bytes → StandsFor names.old schema.old docs → StandsFor names.new schema.new (doc ∷ docs)) }
     ensures names { OnOk result ((doc : Document) → IsRecordOf doc of.entry.bytes → names.new ≡ all_learned names.old (names_within (document_shape doc))) }
     ensures extends { Extends names.new names.old }

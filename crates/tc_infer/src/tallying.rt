@@ -7,7 +7,7 @@ ghost use Rattle.tc_model.specs.Kinds as kinds;
 ghost use Rattle.tc_record.specs.Record.{IsRecordOf};
 ghost use Rattle.tc_compact.specs.Meant.{tokens_meant};
 ghost use Rattle.tc_schema_model.specs.Added.{added};
-ghost use Rattle.tc_schema_model.specs.Counted.{shows, total_at, IsCanonical, CountsObjects};
+ghost use Rattle.tc_schema_model.specs.Counted.{shows, total_at, IsCanonical};
 ghost use Rattle.tc_schema_model.specs.HasCounters.{HasCounters, has_counters};
 ghost use Rattle.tc_schema_model.specs.Occurrences.{Path, occurrences};
 ghost use Rattle.tc_schema_model.specs.SchemaBytes.{IsSchema};
@@ -32,7 +32,7 @@ pub fn tally(schema: &mut Schema, names: &Names, of: RecordRef<'_>) -> bool
     ensures added { OnTrue result ((doc : Document) → IsRecordOf doc of.entry.bytes → schema.new ≡ added names.now (document_shape doc) schema.old) }
     ensures counted { OnTrue result ((doc : Document) → IsRecordOf doc of.entry.bytes → (path : Path) (t : kinds.Kind) → shows names.now schema.new path t ≡ shows names.now schema.old path t + occurrences (document_shape doc) path t) }
     ensures canonical { OnTrue result (IsCanonical (length names.now) schema.new) }
-    ensures readable { OnTrue result (CountsObjects schema.old → IsSchema (length names.now) schema.new) }
+    ensures readable { OnTrue result (IsSchema (length names.now) schema.old → IsSchema (length names.now) schema.new) }
     ensures stands { OnTrue result ((docs : List Document) (doc : Document) → IsRecordOf doc of.entry.bytes → StandsFor names.now schema.old docs → StandsFor names.now schema.new (doc ∷ docs)) }
     ensures unchanged { OnFalse result (schema.new ≡ schema.old) }
 {

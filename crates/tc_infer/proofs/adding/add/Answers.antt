@@ -72,4 +72,5 @@ returns-clause-readable c =
     let d = c.args.schema.now in
     let grown = all_learned known (names_within s) in
     let distinct : IsDistinct bytes_eq grown = subst (IsDistinct bytes_eq) c.in_ok-learn_names.ensures.ok c.len-known.ensures.dictionary.distinct in
-    rw (counted c, c.in_ok-learn_names.ensures.ok) (λ is each. schema-added grown distinct s d is (added_canonical known s d c.requires.canonical) (grown_fits known s d c.requires.canonical c.requires.counters) each)
+    rw (counted c, c.in_ok-learn_names.ensures.ok)
+    (λ is deep schema. schema-added grown distinct s d is (added_canonical known s d c.requires.canonical) (grown_fits known s d c.requires.canonical c.requires.counters) deep schema.of_objects schema.shallow)

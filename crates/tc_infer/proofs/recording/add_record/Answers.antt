@@ -1,21 +1,24 @@
-use Rattle.std.proofs.Common.{◌≡◌, ◌+◌, ◌<◌, ◌^◌, ◌∷◌, All, List, bytes_eq, length, sym, ap, ◌∙◌}
+use Rattle.std.proofs.Common.{◌≡◌, ◌+◌, ◌<◌, ◌≤◌, ◌^◌, ◌∷◌, All, List, bytes_eq, length, sym, ap, ◌∙◌, arith}
 use Rattle.std.specs.List.{IsDistinct}
 use Rattle.std.proofs.lemmas.List.Elements.{recursion_from_All}
 use Rattle.std.proofs.lemmas.Result.{on_ok_weaker}
 use Rattle.tc_model.specs.Dictionary.{all_learned}
 use Rattle.tc_model.specs.Document.{Name, Document, document_shape}
 use Rattle.tc_model.specs.Kinds.{Kind}
+use Rattle.tc_model.specs.Limits.{max_depth}
+use Rattle.tc_model.specs.Tree.{depth}
 use Rattle.tc_model.specs.ShapeNames.{names_within}
 use Rattle.tc_model.proofs.LearnedNames.{distinct-all_learned}
 use Rattle.tc_record.specs.Record.{IsRecordOf}
 use Rattle.tc_schema_model.specs.Occurrences.{Path, occurrences}
-use Rattle.tc_schema_model.specs.Counted.{shows, total_at, IsCanonical, CountsObjects}
+use Rattle.tc_schema_model.specs.Counted.{shows, total_at, IsCanonical}
 use Rattle.tc_schema_model.specs.Added.{added}
 use Rattle.tc_schema_model.specs.SchemaBytes.{IsSchema}
 use Rattle.tc_schema_model.specs.Stands.{StandsFor}
 use Rattle.tc_schema_model.specs.Values.{values_at}
 use Rattle.tc_schema_model.proofs.Grown.{grown_fits, added_canonical, added_shows, added_stands}
 use Rattle.tc_schema_model.proofs.Readable.{schema-added}
+use Rattle.tc_schema_model.proofs.ShallowSchemas.{depth-document_shape}
 use Rattle.tc_infer.specs.Levels.{shape_told}
 use Rattle.tc_infer.proofs.LevelLaws.{object_told}
 use Rattle.tc_infer.proofs.RecordShape.{told_shape, of_told, plain, names_agree}
@@ -72,15 +75,18 @@ module _ (c : goal.After-add_told) (done : Done c) where
   canonical : IsCanonical (length c.add_told.new.names) c.add_told.new.schema
   canonical = rw (new_is, done.0) (added_canonical c.args.names.now (shape_told c.args.of.tokens) c.args.schema.now c.requires.canonical)
 
-  readable : CountsObjects c.args.schema.now → IsSchema (length c.add_told.new.names) c.add_told.new.schema
-  readable each =
+  readable : IsSchema (length c.args.names.now) c.args.schema.now → IsSchema (length c.add_told.new.names) c.add_told.new.schema
+  readable schema =
       let known = c.args.names.now in
       let s = shape_told c.args.of.tokens in
       let d = c.args.schema.now in
       let grown = all_learned known (names_within s) in
       let distinct : IsDistinct bytes_eq grown = distinct-all_learned known (names_within s) c.len-known.ensures.dictionary.distinct in
+      let deep : depth s ≤ max_depth = of_told c.args.of c.bytes-bytes.ensures.spells c.requires.named (λ t. depth t ≤ max_depth) (λ doc is. omega (arith, depth-document_shape doc, is.shallow)) in
       let room = of_told c.args.of c.bytes-bytes.ensures.spells c.requires.named (λ s. (path : Path) → total_at known d path + values_at s path < 2 ^ 64) c.requires.counters in
-      rw (new_is, done.0) (schema-added grown distinct s d (object_told c.args.of.tokens) (added_canonical known s d c.requires.canonical) (grown_fits known s d c.requires.canonical room) each)
+      rw (new_is, done.0)
+      (schema-added grown distinct s d (object_told c.args.of.tokens) (added_canonical known s d c.requires.canonical) (grown_fits known s d c.requires.canonical room)
+      deep schema.of_objects schema.shallow)
 
   stands : (docs : List Document) (doc : Document) → IsRecordOf doc c.args.of.bytes → StandsFor c.args.names.now c.args.schema.now docs → StandsFor c.add_told.new.names c.add_told.new.schema (doc ∷ docs)
   stands docs doc is before =

@@ -1,11 +1,13 @@
-use Rattle.std.proofs.Common.{◌≡◌, ◌+◌, ◌<◌, ◌^◌, ◌∷◌, true, List, length, sym, ap, ◌∙◌, subst}
+use Rattle.std.proofs.Common.{◌≡◌, ◌+◌, ◌<◌, ◌≤◌, ◌^◌, ◌∷◌, true, List, length, sym, ap, ◌∙◌, subst, arith}
 use Rattle.std.proofs.lemmas.Bool.{OnTrue_from, OnTrue_at}
 use Rattle.tc_model.specs.Document.{Document, document_shape}
 use Rattle.tc_model.specs.Kinds.{Kind}
+use Rattle.tc_model.specs.Limits.{max_depth}
+use Rattle.tc_model.specs.Tree.{depth}
 use Rattle.tc_model.proofs.DictionaryGrowth.{Extends-same}
 use Rattle.tc_record.specs.Record.{IsRecordOf}
 use Rattle.tc_schema_model.specs.Occurrences.{Path, occurrences}
-use Rattle.tc_schema_model.specs.Counted.{shows, total_at, IsCanonical, CountsObjects}
+use Rattle.tc_schema_model.specs.Counted.{shows, total_at, IsCanonical}
 use Rattle.tc_schema_model.specs.Added.{added, IsNamed}
 use Rattle.tc_schema_model.specs.HasCounters.{HasCounters}
 use Rattle.tc_schema_model.specs.SchemaBytes.{IsSchema}
@@ -16,6 +18,7 @@ use Rattle.tc_schema_model.proofs.CountersThere.{by_path, by_place, named_there}
 use Rattle.tc_schema_model.proofs.Grown.{stands-added}
 use Rattle.tc_schema_model.proofs.MoreNames.{added_fits}
 use Rattle.tc_schema_model.proofs.Readable.{schema-added}
+use Rattle.tc_schema_model.proofs.ShallowSchemas.{depth-document_shape}
 use Rattle.tc_infer.specs.Levels.{shape_told}
 use Rattle.tc_infer.proofs.LevelLaws.{object_told}
 use Rattle.tc_infer.proofs.RecordShape.{told_shape, of_told, plain}
@@ -64,14 +67,16 @@ module _ (c : goal.After-tally_told) (counted : c.tally_told.result ≡ true) wh
   canonical : IsCanonical (length c.args.names.now) c.tally_told.new.schema
   canonical = subst (IsCanonical (length c.args.names.now)) (sym new_is) is_canonical
 
-  readable : CountsObjects c.args.schema.now → IsSchema (length c.args.names.now) c.tally_told.new.schema
-  readable each =
+  readable : IsSchema (length c.args.names.now) c.args.schema.now → IsSchema (length c.args.names.now) c.tally_told.new.schema
+  readable schema =
       let names = c.args.names.now in
       let s = shape_told c.args.of.tokens in
       let d = c.args.schema.now in
+      let deep : depth s ≤ max_depth = of_told c.args.of c.bytes-bytes.ensures.spells c.requires.named (λ t. depth t ≤ max_depth) (λ doc is. omega (arith, depth-document_shape doc, is.shallow)) in
       let room = of_told c.args.of c.bytes-bytes.ensures.spells c.requires.named (λ s. (path : Path) → total_at names d path + values_at s path < 2 ^ 64) c.requires.counters in
       subst (IsSchema (length names)) (sym new_is)
-      (schema-added names c.len-known.ensures.dictionary.distinct s d (object_told c.args.of.tokens) is_canonical (added_fits names names s d (Extends-same names) c.requires.canonical named room) each)
+      (schema-added names c.len-known.ensures.dictionary.distinct s d (object_told c.args.of.tokens) is_canonical (added_fits names names s d (Extends-same names) c.requires.canonical named room)
+      deep schema.of_objects schema.shallow)
 
   stands : (docs : List Document) (doc : Document) → IsRecordOf doc c.args.of.bytes → StandsFor c.args.names.now c.args.schema.now docs → StandsFor c.args.names.now c.tally_told.new.schema (doc ∷ docs)
   stands docs doc is before =
