@@ -40,7 +40,7 @@ first_flush = record {
       ascends = (tt, tt);
       entries = All-cons (IsEntry names_of_flag) (set 1 flag) [] (record { key = omega arith; document = ((tt, tt), (a_is_text, tt, tt)); storable = (omega arith, refl); named = (refl, tt) }) (All-nil (IsEntry names_of_flag));
       dictionary = IsDictionary-push [] (codes "a") IsDictionary-nil (record { text = a_is_text; short = omega arith }) refl (omega arith);
-      schema = record { canonical = (λ _. refl, λ one. absurd (omega (arith, one)), tt, (omega arith, omega arith, omega arith, (λ _. refl, λ _. refl, tt, tt), tt)); of_objects = refl; small = (omega arith, tt, ((omega arith, tt, tt), tt)) };
+      schema = record { canonical = (λ _. refl, λ one. absurd (omega (arith, one)), tt, (omega arith, omega arith, omega arith, (λ _. refl, λ _. refl, tt, tt), tt)); of_objects = refl; small = (omega arith, tt, ((omega arith, tt, tt), tt)); shallow = omega arith };
     };
     here = refl;
     next = refl;
@@ -65,7 +65,7 @@ empty_flush = record {
       ascends = sorted_nil;
       entries = All-nil (IsEntry []);
       dictionary = IsDictionary-nil;
-      schema = record { canonical = (λ _. refl, λ _. refl, tt, tt); of_objects = refl; small = (omega arith, tt, tt) };
+      schema = record { canonical = (λ _. refl, λ _. refl, tt, tt); of_objects = refl; small = (omega arith, tt, tt); shallow = omega arith };
     };
     here = refl;
     next = refl;

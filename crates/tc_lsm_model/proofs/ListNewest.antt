@@ -22,7 +22,7 @@ pub record IsNewest (ns : List Name) (d : Counted) (g : ℕ) (p : Pairs) : Type 
 none_is : IsNewest [] nothing 0 []
 none_is = record {
   dictionary = IsDictionary-nil;
-  schema = record { canonical = nothing_stands.canonical; of_objects = refl; small = (omega arith, tt, tt) };
+  schema = record { canonical = nothing_stands.canonical; of_objects = refl; small = (omega arith, tt, tt); shallow = omega arith };
   stands = nothing_stands;
   room = omega arith;
   last = omega arith;
