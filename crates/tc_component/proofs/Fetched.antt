@@ -1,6 +1,7 @@
--- How a record that was read is counted.
-use Rattle.std.proofs.Common.{◌≡◌, ℕ, List, Result, Ok, Err, subst, sym}
+-- How the reads of a record, and those of a file that is loaded, are counted.
+use Rattle.std.proofs.Common.{◌≡◌, ◌⊎◌, ◌≤◌, ◌+◌, ℕ, List, Result, Ok, Err, subst, sym, inl, inr, arith}
 use Rattle.std.specs.Prelude.{IsErrOf, OnOk}
+use Rattle.tc_bytes.specs.Counts.{next_count}
 use Rattle.tc_store.specs.Counted.{Counts, IsCountedOnce}
 use Rattle.tc_store.specs.Judging.{IsNoDisk, IfDamaged}
 use Rattle.tc_store.specs.declared.damage.ReadFault.{ReadFault}
@@ -30,3 +31,16 @@ damage_told (Ok x) P Q bytes same q is = tt
 damage_told (Err Disk) P Q bytes same q is = tt
 damage_told (Err (Damaged place kept)) P Q bytes same q is = subst Q (sym (same place kept is)) q
 damage_told (Err Memory) P Q bytes same q is = tt
+
+-- ---- a file that is loaded
+
+-- one part was read, or was to be
+pub one_part : (old new : ℕ) → (new ≡ old) ⊎ (new ≡ next_count old) → new ≤ old + 2
+one_part old new (inl same) = omega (arith, same)
+one_part old new (inr next) = omega (arith, next)
+
+-- both parts were
+pub two_parts : (old middle new : ℕ) → (middle ≡ old) ⊎ (middle ≡ next_count old) → (new ≡ middle) ⊎ (new ≡ next_count middle) → new ≤ old + 2
+two_parts old middle new (inl x) second = omega (arith, x, one_part middle new second)
+two_parts old middle new (inr x) (inl y) = omega (arith, x, y)
+two_parts old middle new (inr x) (inr y) = omega (arith, x, y)

@@ -18,7 +18,7 @@ parts_of head parts = record { head = head; slots = parts.directory; names = par
 abbrev pub loaded_index : Loaded → Index
 loaded_index loaded = parts_of loaded.head loaded.parts
 
--- A call of two reads where it is done, and of no more where it is not.
+-- A call of two reads where it is done.
 pub record IsCountedTwice (Failed Done : Type 0) (old new : Counts) : Type 0 where
   pub faults : old.faults ≤ new.faults
   pub cause : Failed → Rose old.faults new.faults

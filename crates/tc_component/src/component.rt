@@ -68,7 +68,9 @@ impl<F: Frozen> Component<F> {
         ensures lawful { IfOk result (λ c. IsIndex c.index × (name ≡ name_of c.index.head)) }
         ensures damaged { IfDamaged result (λ place bytes. (whole : List ℕ) × (length whole ≡ F.size file) × (file_judged name whole ≡ Err (a_damage place bytes))) }
 
+        // Behind a fault there are no more reads than that.
         ensures counted { IsCountedTwice (IsErrOf result ReadFault.Disk) (IsOk result) (F.Watch.counts watch.old) (F.Watch.counts watch.new) }
+        ensures reads { (F.Watch.counts watch.new).reads ≤ (F.Watch.counts watch.old).reads + 2 }
     {
         let loaded = loaded_of(alloc, &file, name, watch)?;
         Ok(Component { file, loaded })

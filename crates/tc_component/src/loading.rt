@@ -1,6 +1,6 @@
 //! What is read of a component when it is loaded.
 
-ghost use Rattle.std.specs.Prelude.{◌≡◌, ◌<◌, ◌-◌, ℕ, List, Err, length, take, drop, IfOk, IfSome, IsErrOf};
+ghost use Rattle.std.specs.Prelude.{◌≡◌, ◌<◌, ◌≤◌, ◌+◌, ◌-◌, ℕ, List, Err, length, take, drop, IfOk, IfSome, IsErrOf};
 ghost use Rattle.std.specs.Result.{IsOk};
 ghost use Rattle.tc_store.specs.Counted.{IsCountedOnce};
 ghost use Rattle.tc_store.specs.Judging.{Judges, IfDamaged, IsNoDamage, damage as a_damage};
@@ -37,6 +37,7 @@ pub(crate) fn loaded_of<F: Frozen>(
     ensures short { IfOk result (λ l. file_size l.sizes < number_end) }
     ensures damaged { IfDamaged result (λ place bytes. (whole : List ℕ) × (length whole ≡ F.size file.now) × (file_judged name whole ≡ Err (a_damage place bytes))) }
     ensures counted { IsCountedTwice (IsErrOf result ReadFault.Disk) (IsOk result) (F.Watch.counts watch.old) (F.Watch.counts watch.new) }
+    ensures reads { (F.Watch.counts watch.new).reads ≤ (F.Watch.counts watch.old).reads + 2 }
 {
     let size = file.len();
     let front = front_in(alloc, file, watch)?;

@@ -10,6 +10,7 @@ use Rattle.tc_component.specs.Layout.{directory_place}
 use Rattle.tc_component.specs.Loading.{same_pair, parts_of, loaded_index}
 use Rattle.tc_component.specs.Reading.{front_judged, rest_judged, file_judged}
 use Rattle.tc_component.proofs.Loaded.{head_answers, rest_answers, all_answers, head_damaged, rest_damaged, damaged_out, loaded_sizes, loaded_lawful}
+use Rattle.tc_component.proofs.Fetched.{one_part, two_parts}
 use Rattle.tc_component.proofs.loading.loaded_of.Goals as goal
 
 pub returns-in_err-head-clause-judged : goal.returns-in_err-head-clause-judged
@@ -111,3 +112,20 @@ returns-clause-sizes g c =
     let rest_is = subst (λ bytes. RestFound h bytes (parts_of c.in_ok-head.head c.in_ok-parts.parts)) c.deref-2.ensures.value c.in_ok-parts.ensures.found in
     let long : length rest ≡ h.1.entries * 12 + h.1.names + h.1.schema = omega (arith, front_is.sized, c.in_ok-rest.ensures.length) in
     loaded_sizes h rest (parts_of c.in_ok-head.head c.in_ok-parts.parts) rest_is long
+
+-- ---- how many reads
+
+pub returns-in_err-front-clause-reads : goal.returns-in_err-front-clause-reads
+returns-in_err-front-clause-reads g c = one_part _ _ c.front_in.ensures.counted.reads
+
+pub returns-in_err-head-clause-reads : goal.returns-in_err-head-clause-reads
+returns-in_err-head-clause-reads g c = one_part _ _ c.front_in.ensures.counted.reads
+
+pub returns-in_err-rest-clause-reads : goal.returns-in_err-rest-clause-reads
+returns-in_err-rest-clause-reads g c = two_parts _ _ _ c.front_in.ensures.counted.reads c.rest_in.ensures.counted.reads
+
+pub returns-in_err-parts-clause-reads : goal.returns-in_err-parts-clause-reads
+returns-in_err-parts-clause-reads g c = two_parts _ _ _ c.front_in.ensures.counted.reads c.rest_in.ensures.counted.reads
+
+pub returns-clause-reads : goal.returns-clause-reads
+returns-clause-reads g c = two_parts _ _ _ c.front_in.ensures.counted.reads c.rest_in.ensures.counted.reads
