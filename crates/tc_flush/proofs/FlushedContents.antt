@@ -7,15 +7,17 @@ use Rattle.std.specs.List.{IsDistinct}
 use Rattle.std.proofs.lemmas.List.{length-map}
 use Rattle.std.proofs.lemmas.List.Elements.{All-nil, All-cons, All-head, All-tail}
 use Rattle.tc_model.specs.Dictionary.{Extends, IsDictionary}
-use Rattle.tc_model.specs.Document.{Name, Document, IsDocument, null_kind, boolean_kind, integer_kind, text_kind, document_shape}
+use Rattle.tc_model.specs.Document.{Name, Document, ShapeTree, IsDocument, null_kind, boolean_kind, integer_kind, text_kind, document_shape}
 use Rattle.tc_model.specs.Keyed.{Ascends, values_in}
 use Rattle.tc_model.specs.Kinds.{Kind, scalar, arrays, objects}
 use Rattle.tc_model.specs.Stored.{IsStorable}
 use Rattle.tc_model.specs.Tree.{leaf, array, object}
 use Rattle.tc_schema_model.specs.Counted.{Counted, shows, total_at, IsCanonical, CountsObjects}
+use Rattle.tc_schema_model.specs.Levels.{IsShallow}
 use Rattle.tc_schema_model.specs.Occurrences.{Path, count}
 use Rattle.tc_schema_model.specs.SchemaBytes.{IsSchema}
 use Rattle.tc_schema_model.specs.Stands.{StandsFor}
+use Rattle.tc_schema_model.proofs.ShallowSchemas.{depth-document_shape}
 use Rattle.tc_schema_model.proofs.SmallCounters.{small_from_paths}
 use Rattle.tc_schema_model.proofs.ValueBounds.{total-stands}
 use Rattle.tc_plain_model.specs.Store.{names_after}
@@ -30,24 +32,27 @@ use Rattle.tc_flush.specs.Flushable.{CanFlush, values_of}
 use Rattle.tc_flush.specs.Flushing.{flush_of, recounted}
 use Rattle.tc_component.specs.Rows.{part_of}
 use Rattle.tc_flush.specs.Recounting.{all_removed, names_with}
-use Rattle.tc_flush.proofs.RecountedLaws.{canonical-all_removed, shows-all_removed, canonical-all_added, shows-all_added}
+use Rattle.tc_flush.proofs.RecountedLaws.{canonical-all_removed, shows-all_removed, shallow-all_removed, canonical-all_added, shows-all_added, IsShallowShape, shallow-all_added}
 use Rattle.tc_flush.proofs.TableDocuments.{keys_of-writes_of}
 use Rattle.tc_flush.proofs.ValuesAtRoot.{IsObjectShape, values_of-root, values_in-root, objects-root}
 
--- ---- the table's documents are objects
+-- ---- the table's documents are objects, which nest no deeper than they may
 
 object_shape : (d : Document) → IsStorable d → IsObjectShape (document_shape d)
 object_shape (leaf s) is = absurd (is.1)
 object_shape (array xs) is = absurd (is.1)
 object_shape (object ms) is = refl
 
-pub objects-held : (t : Table) → All IsStoredAt t → All IsObjectShape (shapes_held t)
-objects-held [] all = All-nil IsObjectShape
-objects-held (e ∷ t) all = step e.1.held (All-head IsStoredAt e t all) (objects-held t (All-tail IsStoredAt e t all))
+shallow_shape : (d : Document) → IsStorable d → IsShallowShape (document_shape d)
+shallow_shape d is = omega (arith, depth-document_shape d, is.0)
+
+each_held : (P : ShapeTree → Type 0) → ((d : Document) → IsStorable d → P (document_shape d)) → (t : Table) → All IsStoredAt t → All P (shapes_held t)
+each_held P each [] all = All-nil P
+each_held P each (e ∷ t) all = step e.1.held (All-head IsStoredAt e t all) (each_held P each t (All-tail IsStoredAt e t all))
   where
-    step : (o : Option Document) → IfSome o (λ d. IsDocument d × IsStorable d) → All IsObjectShape (shapes_held t) → All IsObjectShape (shapes_held ((e.0, record { held = o; below = e.1.below }) ∷ t))
+    step : (o : Option Document) → IfSome o (λ d. IsDocument d × IsStorable d) → All P (shapes_held t) → All P (shapes_held ((e.0, record { held = o; below = e.1.below }) ∷ t))
     step None is rest = rest
-    step (Some d) is rest = All-cons IsObjectShape (document_shape d) (shapes_held t) (object_shape d is.1) rest
+    step (Some d) is rest = All-cons P (document_shape d) (shapes_held t) (each d is.1) rest
 
 -- ---- the schema
 
@@ -76,6 +81,9 @@ module _ (names : List Name) (distinct : IsDistinct bytes_eq names) (schema : Co
       let one : (kind : Kind) → _ = λ kind. shows-recounted [] kind in
       omega (arith, one (scalar null_kind), one (scalar boolean_kind), one (scalar integer_kind), one (scalar text_kind), one arrays, one objects, values_of-root (shapes_held t), objects-root (shapes_held t) all, objects_before)
 
+  pub shallow-recounted : All IsShallowShape (shapes_held t) → IsShallow schema → IsShallow (recounted names schema t)
+  shallow-recounted all shallow = shallow-all_added names (shapes_held t) (all_removed names (shapes_below t) schema) all (shallow-all_removed names distinct (shapes_below t) schema can.fits shallow)
+
 -- ---- the entries
 
 abbrev InRange : ℕ × Slot → Type 0
@@ -102,7 +110,7 @@ entries_of names (e ∷ t) range stored known =
 -- what is known of a table over a list that can be flushed
 pub record IsFlushable (cs : List Content) (t : Table) : Type 0 where
   pub stands : StandsFor (names_of cs) (schema_of cs) (values_in (live cs))
-  pub objects : CountsObjects (schema_of cs)
+  pub schema : IsSchema (length (names_of cs)) (schema_of cs)
   pub up : Ascends t
   pub range : All InRange t
   pub stored : All IsStoredAt t
@@ -132,8 +140,9 @@ module _ (part : Partition) (cs : List Content) (t : Table) (is : IsFlushable cs
   flushed_schema : IsSchema (length (names_after (names_of cs) (writes_of t))) (recounted (names_of cs) (schema_of cs) t)
   flushed_schema = record {
     canonical = flushed_stands.canonical;
-    of_objects = objects-recounted (names_of cs) is.distinct (schema_of cs) t is.can (objects-held t is.stored) is.objects;
+    of_objects = objects-recounted (names_of cs) is.distinct (schema_of cs) t is.can (each_held IsObjectShape object_shape t is.stored) is.schema.of_objects;
     small = small_from_paths (names_after (names_of cs) (writes_of t)) is.dictionary.distinct (recounted (names_of cs) (schema_of cs) t) flushed_stands.canonical (λ path. omega (arith, flushed_total path, is.can.counters path));
+    shallow = shallow-recounted (names_of cs) is.distinct (schema_of cs) t is.can (each_held IsShallowShape shallow_shape t is.stored) is.schema.shallow;
   }
 
   flushed_room : length (over (live cs) t) < 2 ^ 32

@@ -24,7 +24,7 @@ returns c = λ head cs t generations names schema kept behind table can number c
     subst IsDictionary same (dictionary_held c.names_agree.ensures.short (names_of cs) t kept table behind.of dictionary can_cs.known) in
     let is : IsFlushable cs t = record {
       stands = c.lists_have_schemas.ensures.stands (part_of head) cs behind.list;
-      objects = (c.lists_have_schemas.ensures.lawful (part_of head) cs behind.list).of_objects;
+      schema = c.lists_have_schemas.ensures.lawful (part_of head) cs behind.list;
       up = up;
       range = range_of t (subst (All IsLawfulEntry) behind.of.is table.entries);
       stored = behind.of.stored;
