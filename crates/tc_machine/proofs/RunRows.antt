@@ -76,7 +76,7 @@ flag_goes_on = record {
     ascends = (tt, tt);
     entries = All-cons (IsEntry names_of_flag) (set 1 flag) [] (record { key = omega arith; document = ((tt, tt), (a_is_text, tt, tt)); storable = (omega arith, refl); named = (refl, tt) }) (All-nil (IsEntry names_of_flag));
     dictionary = IsDictionary-push [] (codes "a") IsDictionary-nil (record { text = a_is_text; short = omega arith }) refl (omega arith);
-    schema = record { canonical = (λ _. refl, λ one. absurd (omega (arith, one)), tt, (omega arith, omega arith, omega arith, (λ _. refl, λ _. refl, tt, tt), tt)); of_objects = refl; small = (omega arith, tt, ((omega arith, tt, tt), tt)) };
+    schema = record { canonical = (λ _. refl, λ one. absurd (omega (arith, one)), tt, (omega arith, omega arith, omega arith, (λ _. refl, λ _. refl, tt, tt), tt)); of_objects = refl; small = (omega arith, tt, ((omega arith, tt, tt), tt)); shallow = omega arith };
   };
   here = refl;
   next = refl;

@@ -169,7 +169,7 @@ none_is_content from to first order last = record {
   ascends = sorted_nil;
   entries = All-nil (IsEntry []);
   dictionary = IsDictionary-nil;
-  schema = record { canonical = (λ _. refl, λ _. refl, tt, tt); of_objects = refl; small = (omega arith, tt, tt) };
+  schema = record { canonical = (λ _. refl, λ _. refl, tt, tt); of_objects = refl; small = (omega arith, tt, tt); shallow = omega arith };
 }
 
 none_is_component : (from to : ℕ) → 0 < from → from ≤ to → to < 2 ^ 63 → IsComponent (none_in from to) (component_bytes (none_in from to))
