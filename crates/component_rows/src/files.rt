@@ -5,7 +5,7 @@ use crate::components::shown;
 use crate::desk::{Desk, Hand};
 use std::alloc::Global;
 use tc_component::{Component, read_head};
-use tc_store::{FileName, Frozen, MemFrozen, MemWatch, bytes_of, is_open, whole_of};
+use tc_store::{FileName, Frozen, MemFrozen, MemWatch, ReadFault, bytes_of, is_open, whole_of};
 
 /// What a call answers.
 pub(crate) fn answer_of(
@@ -17,6 +17,9 @@ pub(crate) fn answer_of(
 ) -> Option<String> {
     if name == "load" {
         return load(alloc, desk, file, file_name(argument));
+    }
+    if name == "judge" {
+        return judge(alloc, desk, file, file_name(argument));
     }
     let answer = asked(alloc, &mut desk.reader, &file, name, argument);
     desk.hold(Hand::Still(file));
@@ -58,6 +61,25 @@ fn load(alloc: Global, desk: &mut Desk, file: MemFrozen, name: Option<FileName>)
             let answer = shown(alloc, &component);
             desk.hold(Hand::Loaded(component));
             answer
+        }
+        Err(fault) => read_fault(alloc, fault),
+    }
+}
+
+// The same, where a damaged section is too long to be shown: its place, and how many bytes it has.
+fn judge(
+    alloc: Global,
+    desk: &mut Desk,
+    file: MemFrozen,
+    name: Option<FileName>,
+) -> Option<String> {
+    match Component::load(alloc, file, name?, &mut desk.reader) {
+        Ok(component) => {
+            desk.hold(Hand::Loaded(component));
+            word(alloc, "ok")
+        }
+        Err(ReadFault::Damaged { place, bytes }) => {
+            format!(in alloc; "damaged {place}, {} bytes", bytes.as_slice().len()).ok()
         }
         Err(fault) => read_fault(alloc, fault),
     }

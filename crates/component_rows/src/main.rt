@@ -10,6 +10,7 @@ mod builders;
 mod components;
 mod desk;
 mod files;
+mod nesting;
 mod samples;
 mod stores;
 

@@ -7,6 +7,7 @@ ghost use Rattle.tc_store.specs.Moments.{IfTold};
 use crate::arguments::{bytes, numbers, word};
 use crate::builders::begin;
 use crate::desk::{Desk, Hand, NAME};
+use crate::nesting::nested;
 use crate::samples::{EMPTY, WORKED};
 use std::alloc::Global;
 use std::mem;
@@ -32,6 +33,7 @@ pub(crate) fn answer_of(
         "home" => home(alloc, desk, sample(alloc, argument)?),
         "cut" => home(alloc, desk, cut(alloc, argument)?),
         "turn" => home(alloc, desk, turned(alloc, argument)?),
+        "nest" => home(alloc, desk, nested(alloc, argument)?),
         "begin" => begin(alloc, desk, argument),
         "stop" => stop(alloc, desk, argument),
         _ => None,
