@@ -159,6 +159,17 @@ class WrongFiles(Check):
                 self.write("c-1-1", old)
         self.is_one(right(2))
 
+    def test_a_schema_that_nests_too_deep(self):
+        # The deepest document has 32 levels, and its schema a place more for what the innermost array holds.
+        self.make(*self.ONE, lines=upsert(id=1, a=json.loads("[" * 31 + "1" + "]" * 31)) + FLUSH)
+        self.is_one(right(1))
+        restore = "data/p0/c-1-1 is not as it was written: restore data from a copy that is whole"
+        for places in (34, 12_000, 400_000):
+            with self.subTest(places=places):
+                self.write("c-1-1", nested(places))
+                self.is_one(wrong(place("c-1-1", 70)))
+                self.check_refused(6, ["damaged file c-1-1 in partition 0 at byte 70", restore], "run", *self.ONE)
+
     def test_the_bytes_of_a_log(self):
         self.make(*self.ONE, lines=upsert(id=1, a=1))
         for at, found in [(1, 1), (9, None), (20, 1), (25, 30), (28, 21), (29, 30)]:
@@ -243,6 +254,14 @@ class WrongFiles(Check):
         self.make("--partitions", "2", "--merge", "8", lines=upsert(id=0) + upsert(id=1) + FLUSH)
         self.change("c-1-1", 1, b"X")
         self.assertEqual(self.said_of(), [wrong(place("c-1-1", 1)), right(1, 1)])
+
+
+def nested(places):
+    """A component without an entry in whose schema so many places stand one within another: an object, arrays, an integer."""
+    schema = bytes.fromhex("06 0000000000000001 00000001 00000000")
+    schema += bytes.fromhex("05 0000000000000001 01") * (places - 2) + bytes.fromhex("03 0000000000000001")
+    header = b"\1TCC1" + struct.pack(">IIQQQQQQ", 0, 1, 1, 1, 0, 0, 9, len(schema))
+    return header + bytes.fromhex("00000001 00000001 61") + schema
 
 
 def names_of(content):
