@@ -6,6 +6,7 @@ ghost use Rattle.tc_store.specs.Disk.{home as at_home};
 ghost use Rattle.tc_store.specs.DiskFile.{IsSettled};
 ghost use Rattle.tc_store.specs.Moments.{IfTold, LeavesAt};
 ghost use Rattle.tc_store.specs.StoreCalls.{comes_home, content_now, frozen_entry};
+ghost use Rattle.tc_bytes.specs.Counts.{next_count};
 ghost use Rattle.tc_model.specs.Dictionary.{Extends};
 ghost use Rattle.tc_component.specs.Rows.{IsComponent, head_of};
 ghost use Rattle.tc_merge.specs.Merging.{newest_names};
@@ -96,6 +97,7 @@ impl<S: Store> Part<S> {
             → IfTold (S.history self.old.store) (λ disk. IfDamaged result (λ damage. ⊥)) }
         ensures damaged { IfDamaged result (IsFlushDamage S.Frozen.content S.Frozen.name (S.Device.size out.device) (S.Device.history out.device) self.old) }
         ensures unspent { IsErrOf result PartFault.Spent → ⊥ }
+        ensures reads { OnOk result (self.old.failed ≡ false → (S.Watch.counts self.new.main).reads ≡ next_count (next_count (S.Watch.counts self.old.main).reads)) }
         ensures watched { IsWatched (IsOk out.outcome × IsErrOf result PartFault.Disk) (S.Watch.counts self.old.main) (S.Watch.counts self.new.main) }
     {
         flushes_are_listed();
@@ -142,6 +144,7 @@ impl<S: Store> Part<S> {
         ensures sound { IfSome (content_now (S.Device.history device)) (λ bytes. (c : Content) → IsComponent c bytes → head_of c ≡ flushed_head self.old.number self.old.count self.old.generation → Extends c.names (newest_names [] self.old.list) → IfDamaged result (λ damage. ⊥)) }
         ensures damaged { IfDamaged result (IsFlushDamage S.Frozen.content S.Frozen.name (S.Device.size device) (S.Device.history device) self.old) }
         ensures unspent { IsErrOf result PartFault.Spent → ⊥ }
+        ensures reads { OnOk result ((S.Watch.counts self.new.main).reads ≡ next_count (next_count (S.Watch.counts self.old.main).reads)) }
         ensures watched { IsWatched (IsOk outcome × IsErrOf result PartFault.Disk) (S.Watch.counts self.old.main) (S.Watch.counts self.new.main) }
     {
         if let Err(cause) = outcome {
@@ -168,6 +171,7 @@ impl<S: Store> Part<S> {
         ensures home { OnErr result (ComesHome (flushed_name self.old) (S.Device.history device) (S.history self.old.store) (S.history self.new.store)) }
         ensures sound { IfSome (content_now (S.Device.history device)) (λ bytes. (c : Content) → IsComponent c bytes → head_of c ≡ flushed_head self.old.number self.old.count self.old.generation → Extends c.names (newest_names [] self.old.list) → IfJobDamaged result (λ damage. ⊥)) }
         ensures damaged { IfJobDamaged result (IsFlushDamage S.Frozen.content S.Frozen.name (S.Device.size device) (S.Device.history device) self.old) }
+        ensures reads { IfOk result (λ log. (S.Watch.counts self.new.main).reads ≡ next_count (next_count (S.Watch.counts self.old.main).reads)) }
         ensures watched { IsWatched (IsErrOf result JobFault.Disk) (S.Watch.counts self.old.main) (S.Watch.counts self.new.main) }
     {
         let head = self.flush_head();
