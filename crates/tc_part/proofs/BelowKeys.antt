@@ -227,3 +227,11 @@ newest_active key active sealed held there newest = at (value_of key active) the
     at : (o : Option memory.Kept) → is_some o ≡ true → newer_held (option_map (λ k. k.held) o) (sealed_held key sealed) ≡ Some held → option_map (λ k. k.held) o ≡ Some held
     at None there newest = absurd (cc)
     at (Some k) there newest = newest
+
+-- a key that the active table has is held
+pub active_newest : (key : ℕ) (active : memory.Table) (sealed : Option memory.Table) → is_some (value_of key active) ≡ true → newest_held active sealed key ≡ None → ⊥
+active_newest key active sealed there none = at (value_of key active) there none
+  where
+    at : (o : Option memory.Kept) → is_some o ≡ true → newer_held (option_map (λ k. k.held) o) (sealed_held key sealed) ≡ None → ⊥
+    at None there none = cc
+    at (Some k) there none = cc

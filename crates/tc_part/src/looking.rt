@@ -12,7 +12,7 @@ ghost use Rattle.tc_part_model.specs.PartState.{told, AreTold};
 ghost use Rattle.tc_part_model.specs.PartView.{PartView, below_of, stored_with};
 ghost use Rattle.tc_part_model.specs.Meaning.{IsPart, HasFailedAs};
 ghost use Rattle.tc_part.specs.Below.{IsBelow, ShowsLive, is_there as there, held_at, newest_held, sealed_held, is_document};
-ghost use Rattle.tc_part.specs.Texts.{IsDocumentText};
+ghost use Rattle.tc_part.specs.Texts.{IsDocumentText, IsListedText};
 ghost use Rattle.tc_part.specs.Harms.{IsHarmIn, IsOfRead};
 ghost use Rattle.tc_part.specs.Reads.{IsCountedLookup};
 
@@ -45,6 +45,8 @@ impl<S: Store> Part<S> {
         ensures shown { IfOk result (λ text. ShowsLive self.old.sealed self.old.list self.old.active key (is_some text)) }
         ensures held { (d : Document) (bytes : List ℕ) → newest_held self.old.active self.old.sealed key ≡ Some (live_record bytes) → IsRecordOf d bytes → IfOk result (λ text. text ≡ Some (document_text key d)) }
         ensures document { IfOk result (IsDocumentText key) }
+        // A text that no table has is that of a record which was read, at the newest entry of the key.
+        ensures read { IfOk result (λ text. newest_held self.old.active self.old.sealed key ≡ None → IsListedText (λ file. S.Frozen.content file) self.old.list key text) }
         ensures same { OnOk result (self.new ≡ record self.old { main = self.new.main }) }
 
         // A part that fails keeps what it stored.
@@ -73,6 +75,7 @@ impl<S: Store> Part<S> {
         ensures shown { IfOk result (λ text. ShowsLive self.old.sealed self.old.list self.old.active key (is_some text)) }
         ensures held { (d : Document) (bytes : List ℕ) → newest_held self.old.active self.old.sealed key ≡ Some (live_record bytes) → IsRecordOf d bytes → IfOk result (λ text. text ≡ Some (document_text key d)) }
         ensures document { IfOk result (IsDocumentText key) }
+        ensures read { IfOk result (λ text. newest_held self.old.active self.old.sealed key ≡ None → IsListedText (λ file. S.Frozen.content file) self.old.list key text) }
         ensures same { self.new ≡ record self.old { main = self.new.main } }
         ensures harmed { IfErr result (λ fault. IsOfRead fault (λ file at bytes. IsHarmIn (λ file. S.Frozen.content file) self.old.list file at bytes)) }
         ensures counted { IsCountedLookup (IsErrOf result PartFault.Disk) (HaveNone self.old.list key) (S.Watch.counts self.old.main) (S.Watch.counts self.new.main) }
@@ -121,6 +124,7 @@ impl<S: Store> Part<S> {
             → IfOk result (λ text. text ≡ option_map (document_text key) (value_of key (below_of p))) }
         ensures held { (d : Document) (bytes : List ℕ) → sealed_held key self.old.sealed ≡ Some (live_record bytes) → IsRecordOf d bytes → IfOk result (λ text. text ≡ Some (document_text key d)) }
         ensures document { IfOk result (IsDocumentText key) }
+        ensures read { IfOk result (λ text. sealed_held key self.old.sealed ≡ None → IsListedText (λ file. S.Frozen.content file) self.old.list key text) }
         ensures same { self.new ≡ record self.old { main = self.new.main } }
         ensures harmed { IfErr result (λ fault. IsOfRead fault (λ file at bytes. IsHarmIn (λ file. S.Frozen.content file) self.old.list file at bytes)) }
         ensures counted { IsCountedLookup (IsErrOf result PartFault.Disk) (HaveNone self.old.list key) (S.Watch.counts self.old.main) (S.Watch.counts self.new.main) }

@@ -10,6 +10,7 @@ ghost use Rattle.tc_store.specs.Counted.{IsCountedOnce};
 ghost use Rattle.tc_component.specs.Fetching.{IsPlace, record_at as bytes_of_record, length_at, IsRecordWithin};
 ghost use Rattle.tc_component.specs.Meaning.{IsRecordOfOne};
 ghost use Rattle.tc_component.specs.Spelling.{name_of as name_meant};
+ghost use Rattle.tc_query.specs.Shown.{IsReadOf};
 ghost use Rattle.tc_part.specs.Harms.{IsHarmOf, IsOfRead};
 
 use crate::fault::{PartFault, of_read, of_record};
@@ -62,6 +63,7 @@ pub(crate) fn text_at<F: Frozen>(
     requires { IsPlace component.now.index.slots place }
     ensures text { IfOk result (λ text. (d : Document) → IfSome (F.content component.now.file) (λ whole. IsRecordOfOne component.now.index.names d (bytes_of_record component.now.index.slots place.at whole) → text ≡ document_text key d)) }
     ensures document { IfOk result (λ text. (d : Document) × (text ≡ document_text key d)) }
+    ensures read { IfOk result (λ text. (d : Document) × (text ≡ document_text key d) × IsReadOf (λ file. F.content file) component.now place d) }
     ensures harmed { IfErr result (λ fault. IsOfRead fault (λ file at bytes. IsHarmOf (λ file. F.content file) component.now file at bytes)) }
     ensures counted { IsCountedOnce (IsErrOf result PartFault.Disk) (IsOk result) (F.Watch.counts watch.old) (F.Watch.counts watch.new) }
 {

@@ -1,7 +1,10 @@
-use Rattle.std.proofs.Common.{◌∙◌, sym, ap, subst}
+use Rattle.std.proofs.Common.{◌≡◌, ◌∙◌, length, sym, ap, subst}
+use Rattle.std.specs.Prelude.{IfSome}
 use Rattle.tc_request_model.specs.Rendered.{document_text}
+use Rattle.tc_component.specs.Fetching.{length_at, record_at}
 use Rattle.tc_component.specs.Meaning.{IsRecordOfOne}
 use Rattle.tc_compact.specs.Meant.{IsRecordUnder}
+use Rattle.tc_query.specs.Shown.{IsReadOf}
 use Rattle.tc_part.proofs.Spelled.{one_under, if_some_then}
 use Rattle.tc_part.proofs.records.text_at.Goals as goal
 
@@ -21,3 +24,18 @@ returns-in-Ok-clause-text g c = λ d.
 
 pub returns-in-Ok-clause-document : goal.returns-in-Ok-clause-document
 returns-in-Ok-clause-document g c = let found = c.in-Ok.ensures.document in (found.0, c.in-Ok.ensures.text found.0 found.1)
+
+pub returns-in-Ok-clause-read : goal.returns-in-Ok-clause-read
+returns-in-Ok-clause-read g c =
+    let component = c.args.component.now in
+    let slots = component.index.slots in
+    let found = c.in-Ok.ensures.document in
+    let e = found.0 in
+    let same = sym c.as_slice.ensures.same in
+    let is : IsReadOf (λ file. g.F.Frozen.content file) component c.args.place e = record {
+      bytes = c.as_slice.result.now;
+      long = subst (λ bytes. length bytes ≡ length_at slots c.args.place.at) same c.in_ok-bytes.ensures.found.0;
+      spells = subst (IsRecordUnder component.index.names e) c.known.ensures.bytes (subst (λ names. IsRecordUnder names e c.known.result.bytes) c.names.ensures found.1);
+      stands = subst (λ bytes. IfSome (g.F.Frozen.content component.file) (λ whole. bytes ≡ record_at slots c.args.place.at whole)) same c.in_ok-bytes.ensures.read;
+    } in
+    (e, (c.in-Ok.ensures.text e found.1, is))

@@ -1,10 +1,10 @@
-use Rattle.std.proofs.Common.{◌≡◌, ◌∙◌, Some, is_some, option_map, sym, ap, subst}
+use Rattle.std.proofs.Common.{◌≡◌, ◌∙◌, Some, None, is_some, option_map, sym, ap, subst}
 use Rattle.tc_model.specs.Keyed.{value_of}
 use Rattle.tc_request_model.specs.Rendered.{document_text}
 use Rattle.tc_memory.specs.Table.{live}
 use Rattle.tc_part_model.specs.PartState.{told}
 use Rattle.tc_part.specs.Below.{held_at, sealed_held, newer_held, ShowsLiveBy}
-use Rattle.tc_part.proofs.BelowKeys.{below_there, none_held, active_live, active_read, stored_below, active_shows, newest_active}
+use Rattle.tc_part.proofs.BelowKeys.{below_there, none_held, active_live, active_read, stored_below, active_shows, newest_active, active_newest}
 use Rattle.tc_part.proofs.ListedContents.{all_show}
 use Rattle.tc_part.proofs.Outcomes.{memory_harms, memory_counts}
 use Rattle.tc_part.proofs.Spelled.{if_ok_then, if_ok_both}
@@ -77,3 +77,21 @@ returns-clause-held g c =
     let key = c.args.key in
     let none = sym (ap (λ s. is_some (value_of key s.active)) c.self.view_is) ∙ sym c.has.ensures.found ∙ c.if-has.false in
     λ d bytes held of. c.text_below.ensures.held d bytes (subst (λ o. newer_held o (sealed_held key state.sealed) ≡ Some (live bytes)) (none_held key state.active none) held) of
+
+-- ---- what was read
+
+pub returns-then-has-clause-read : goal.returns-then-has-clause-read
+returns-then-has-clause-read g c =
+    let state = c.args.self.now in
+    let key = c.args.key in
+    let has = sym (ap (λ s. is_some (value_of key s.active)) c.self.view_is) ∙ sym c.has.ensures.found ∙ c.if-has.true in
+    if_ok_then c.text_active.result _ _ (λ text _ there none. absurd (active_newest key state.active state.sealed has none)) c.text_active.ensures.there
+
+pub returns-clause-read : goal.returns-clause-read
+returns-clause-read g c =
+    let state = c.args.self.now in
+    let key = c.args.key in
+    let none = sym (ap (λ s. is_some (value_of key s.active)) c.self.view_is) ∙ sym c.has.ensures.found ∙ c.if-has.false in
+    if_ok_then c.text_below.result _ _
+    (λ text _ read untabled. read (subst (λ o. newer_held o (sealed_held key state.sealed) ≡ None) (none_held key state.active none) untabled))
+    c.text_below.ensures.read

@@ -93,3 +93,30 @@ pub returns-after-text_at-clause-held : goal.returns-after-text_at-clause-held
 returns-after-text_at-clause-held g c = λ d bytes some of.
     let found = listed c.args.self.now.sealed c.args.self.now.list c.args.key c.in-Listed.component c.in-Listed.place (subst (IsBelow _ c.args.self.now.list c.args.key) c.in-Listed.is c.requires) in
     absurd (held_once c.args.self.now.sealed c.args.key bytes found.0 some)
+
+-- ---- what was read
+
+pub returns-in-Absent-clause-read : goal.returns-in-Absent-clause-read
+returns-in-Absent-clause-read g c = λ none. tt
+
+pub returns-in-Ok-clause-read : goal.returns-in-Ok-clause-read
+returns-in-Ok-clause-read g c = λ none.
+    let held = in_sealed c.args.self.now.sealed c.args.self.now.list c.args.key (subst (IsBelow _ c.args.self.now.list c.args.key) c.in-Sealed.is c.requires) in
+    absurd (held_once c.args.self.now.sealed c.args.key held.0 none held.1)
+
+pub returns-after-text_at-clause-read : goal.returns-after-text_at-clause-read
+returns-after-text_at-clause-read g c =
+    let list = c.self.inside.list in
+    let key = c.args.key in
+    let n = c.in-Listed.component in
+    let place = c.in-Listed.place in
+    let below = subst (λ s. IsBelow s.sealed s.list key c.args.below) (sym c.self.view_is) c.requires in
+    let found = listed _ list key n place (subst (IsBelow _ list key) c.in-Listed.is below) in
+    rw (← c.self.view_is)
+    (elim c.match-text_at.branch [
+      | in-Ok-text_at w ↦
+          let read = w.in-Ok-text_at.ensures.read in
+          rw w.result-is
+          (λ none. (read.0, (read.1, record { at = n; place = place; newest = found.1.newest; component = c.component_at-component.result.now; here = c.component_at-component.ensures; read = read.2 })))
+      | in-Err-text_at w ↦ rw w.result-is tt
+    ])
