@@ -1,7 +1,7 @@
 pub mod PlaceRoom
 mod LevelLaws
-mod LevelSteps
+pub mod LevelSteps
 mod GuessedFields
 mod LearnedSteps
-mod RecordShape
+pub mod RecordShape
 mod TogetherLaws

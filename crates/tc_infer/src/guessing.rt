@@ -17,7 +17,7 @@ use std::alloc::{AllocError, Global};
 use tc_bytes::Memory;
 use tc_names::Names;
 use tc_record::Label;
-use tc_schema::Field;
+use tc_schema::{Field, search_fields};
 
 /// Where the field of a label stands, whatever the guess: that of the name that it carries, or whose number it carries. One
 /// where nothing is counted is made where there is none.
@@ -38,6 +38,16 @@ pub fn place_of_label(
     match known_number(label, names) {
         Some(number) => place_of_number(number, guess, fields, alloc),
         None => place_by_guess(name_in(label), guess, names, fields, alloc),
+    }
+}
+
+/// The number of the name that a label carries, or whose number it carries, if the dictionary has that name.
+pub fn number_of_label(label: Label<'_>, names: &Names) -> Option<u32>
+    ensures { result ≡ number_of names.now (name_under names.now (key_of label.entry)) }
+{
+    match known_number(label, names) {
+        Some(number) => Some(number),
+        None => names.id_of(name_in(label)),
     }
 }
 
@@ -72,6 +82,21 @@ fn place_of_number(
         return Ok(guess);
     }
     place_of(number, fields, alloc)
+}
+
+/// Where the field of a number stands, whatever the guess, if there is one.
+pub fn field_by_guess(fields: &[Field], guess: usize, number: u32) -> Option<usize>
+    requires ordered { AreFieldsOrdered 0 (fields_counted fields.now) }
+    ensures found { IfSome result (IsPlaceOf number (map field_counted fields.now)) }
+    ensures missing { IfNone result (field_at number (fields_counted fields.now) ≡ nothing) }
+{
+    if has_number_at(fields, guess, number) {
+        return Some(guess);
+    }
+    match search_fields(fields, number) {
+        Ok(place) => Some(place),
+        Err(_gap) => None,
+    }
 }
 
 /// Whether the field of a number stands just there.

@@ -19,9 +19,11 @@ mod walking;
 
 pub use adding::add;
 pub use fresh::count_fresh;
-pub use known::add_known;
+pub use guessing::{field_by_guess, number_of_label};
+pub use known::{add_known, in_document};
 pub use learned::add_learning;
 pub use met::Met;
 pub use recording::add_record;
 pub use tallying::tally;
 pub use together::fit_together;
+pub use tokens::kind_begun;
