@@ -50,7 +50,7 @@ pub fn take_shape(shape: &Shape, names: &Names, place: &mut Node) -> bool
 }
 
 /// One value of a kind less, where there is one.
-fn take_one(counts: &mut Counts, kind: Kind) -> bool
+pub fn take_one(counts: &mut Counts, kind: Kind) -> bool
     ensures fits { result ≡ nat_lt 0 (counter counts.old (kind_meant kind)) }
     ensures taken { OnTrue result (counts.new ≡ lowered (kind_meant kind) 1 counts.old) }
 {
