@@ -5,6 +5,7 @@ use Rattle.std.proofs.lemmas.List.Elements.{All-get_or}
 use Rattle.std.proofs.lemmas.Option.{get_or_from_slice_get, same_Some, slice_get_within}
 use Rattle.tc_model.specs.Dictionary.{Extends}
 use Rattle.tc_model.specs.Document.{Name}
+use Rattle.tc_model.proofs.DictionaryGrowth.{Extends-trans}
 use Rattle.tc_lsm_model.specs.Contents.{Partition, Content}
 use Rattle.tc_lsm_model.specs.Lists.{live, names_of, schema_of}
 use Rattle.tc_lsm_model.proofs.ListNewest.{newest_of_list}
@@ -15,6 +16,7 @@ use Rattle.tc_list.specs.Intervals.{last_after, Follow}
 use Rattle.tc_merge.specs.Merging.{GrowNames, newest_names, newest_schema}
 use Rattle.tc_audit.specs.Reasons.{AreRight, IsReason, IsWrongBehind}
 use Rattle.tc_audit.specs.Told.{IsHeld, IsOf}
+use Rattle.tc_audit.specs.Walking.{AreInFront}
 use Rattle.tc_audit.specs.declared.verdict.Wrong.{Wrong}
 use Rattle.tc_audit.proofs.RightLists.{schema_loaded}
 use Rattle.tc_audit.proofs.Rooms.{pairs_counted}
@@ -31,6 +33,15 @@ module _ {F : Type 0} where
   names_at ns [] i m grow here = absurd (cc)
   names_at ns (x ∷ ms) zero m grow here = subst (λ (y : ComponentState F). Extends y.index.names ns) (same_Some x m here) grow.0
   names_at ns (x ∷ ms) (suc i) m grow here = names_at x.index.names ms i m grow.1 here
+
+  -- the names of a component go on those of each that is older
+  grown : (ns : List Name) (ms : List (ComponentState F)) (i : ℕ) (m : ComponentState F) → GrowNames ns ms → slice_get ms i ≡ Some m → Extends m.index.names ns × AreInFront (take i ms) m.index.names
+  grown ns [] i m grow here = absurd (cc)
+  grown ns (x ∷ ms) zero m grow here = (subst (λ (y : ComponentState F). Extends y.index.names ns) (same_Some x m here) grow.0, tt)
+  grown ns (x ∷ ms) (suc i) m grow here = let rest = grown x.index.names ms i m grow.1 here in (Extends-trans m.index.names x.index.names ns rest.0 grow.0, (rest.0, rest.1))
+
+  pub in_front : (ns : List Name) (ms : List (ComponentState F)) (i : ℕ) (m : ComponentState F) → GrowNames ns ms → slice_get ms i ≡ Some m → AreInFront (take i ms) m.index.names
+  in_front ns ms i m grow here = (grown ns ms i m grow here).1
 
   pub follows_at : (g : ℕ) (ms : List (ComponentState F)) (i : ℕ) (m : ComponentState F) → Follow g ms → slice_get ms i ≡ Some m → m.index.head.from ≡ last_after g (take i ms) + 1
   follows_at g [] i m follow here = absurd (cc)

@@ -2,7 +2,7 @@
 use Rattle.std.proofs.Common.{◌≡◌, ◌∙◌, ◌+◌, ◌==◌, ℕ, zero, suc, Bool, true, false, if◌then◌else◌, List, [], ◌∷◌, ◌++◌, Option, Some, slice_get, sym, ap, subst, arith}
 use Rattle.std.specs.List.{AllZip}
 use Rattle.std.proofs.lemmas.Option.{same_Some}
-use Rattle.tc_model.specs.Dictionary.{IsDictionary}
+use Rattle.tc_model.specs.Dictionary.{Extends, IsDictionary}
 use Rattle.tc_model.specs.Document.{Name, Document, document_shape}
 use Rattle.tc_model.specs.Keyed.{value_of, values_in}
 use Rattle.tc_plain_model.specs.Writes.{Pairs}
@@ -23,9 +23,15 @@ use Rattle.tc_list.specs.Loaded.{HoldsLive}
 use Rattle.tc_audit.specs.Reasons.{AreRight}
 use Rattle.tc_audit.specs.Stored.{IsStoredIn}
 use Rattle.tc_audit.specs.Told.{AreStoredUpTo}
-use Rattle.tc_audit.specs.Walking.{IsStoredAt}
+use Rattle.tc_audit.specs.Walking.{AreInFront, IsStoredAt}
 use Rattle.tc_audit.proofs.RightLists.{IsStoredThroughout}
 use Rattle.tc_audit.proofs.StoredLaws.{kept_in}
+
+-- the names of each component stand in front
+pub front_at : {F : Type 0} (names : List Name) (ms : List (ComponentState F)) (at : ℕ) (m : ComponentState F) → AreInFront ms names → slice_get ms at ≡ Some m → Extends names m.index.names
+front_at names [] at m all here = absurd (cc)
+front_at names (x ∷ ms) zero m all here = subst (λ (y : ComponentState _). Extends names y.index.names) (same_Some x m here) all.0
+front_at names (x ∷ ms) (suc at) m all here = front_at names ms at m all.1 here
 
 module _ {F : Type 0} (told : F → Option (List ℕ)) where
   loaded_here : (ms : List (ComponentState F)) (cs : List Content) (at : ℕ) (m : ComponentState F) → AllZip (IsLoadedOf told) ms cs → slice_get ms at ≡ Some m → (c : Content) × IsLoadedOf told m c

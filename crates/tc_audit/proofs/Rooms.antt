@@ -1,6 +1,5 @@
 -- What is counted with one document more, or less, leaves room.
-use Rattle.std.proofs.Common.{◌≡◌, ◌∙◌, ◌<◌, ◌≤◌, ◌+◌, ◌^◌, ◌⊎◌, ℕ, Bool, true, false, List, [], ◌∷◌, Some, length, refl, sym, ap, subst, arith, bytes_eq, inl, inr}
-use Rattle.std.specs.List.{IsDistinct}
+use Rattle.std.proofs.Common.{◌≡◌, ◌∙◌, ◌<◌, ◌≤◌, ◌+◌, ◌^◌, ◌⊎◌, ℕ, Bool, true, false, List, [], ◌∷◌, Some, length, refl, arith, inl, inr}
 use Rattle.std.proofs.lemmas.Bool.{both_ways, cases_lt}
 use Rattle.tc_model.specs.Document.{Name, Document, ShapeTree, document_shape, null_kind, boolean_kind, integer_kind, text_kind}
 use Rattle.tc_model.specs.Dictionary.{Extends, IsDictionary}
@@ -9,15 +8,11 @@ use Rattle.tc_model.specs.Kinds.{Kind, scalar, arrays, objects}
 use Rattle.tc_model.specs.Tree.{leaf, array, object}
 use Rattle.tc_model.specs.TreeSize.{tree_size}
 use Rattle.tc_plain_model.specs.Writes.{Pairs}
-use Rattle.tc_schema_model.specs.Added.{removed}
 use Rattle.tc_schema_model.specs.Counted.{Counted, documents_of, shows, total_at, IsCanonical}
-use Rattle.tc_schema_model.specs.Fits.{FitsByPath}
 use Rattle.tc_schema_model.specs.Occurrences.{Path, occurrences}
 use Rattle.tc_schema_model.specs.Stands.{StandsFor}
 use Rattle.tc_schema_model.specs.Values.{values_at, values_in}
-use Rattle.tc_schema_model.proofs.FitLaws.{fits_by_place}
 use Rattle.tc_schema_model.proofs.MoreNames.{same_shown, canonical_newer}
-use Rattle.tc_schema_model.proofs.RemovedLaws.{shows-removed, canonical-removed}
 use Rattle.tc_schema_model.proofs.ValueBounds.{document_values_at-size, total-stands}
 use Rattle.tc_record.specs.Record.{record_of, IsRecordOf}
 use Rattle.tc_audit.specs.Walking.{IsCounting, IsLessBy, IsMoreBy}
@@ -41,21 +36,8 @@ more_by names before after d shown path t = omega (arith, shown path t)
 
 -- ---- one less
 
-pub less_by : (names : List Name) (d : Document) (s : ShapeTree) (before after : Counted) → IsDistinct bytes_eq names → document_shape d ≡ s → FitsByPath names before s → after ≡ removed names s before → IsLessBy (Some d) names before after
-less_by names d s before after distinct shape fits is path t =
-    let shown = shows-removed names s before (fits_by_place names distinct before s fits) fits.canonical path t in
-    let after_is : shows names after path t ≡ shows names (removed names s before) path t = ap (λ e. shows names e path t) is in
-    let own : occurrences (document_shape d) path t ≡ occurrences s path t = ap (λ u. occurrences u path t) shape in
-    omega (arith, shown, after_is, own)
-
-pub canonical_less : (names : List Name) (s : ShapeTree) (before after : Counted) → IsDistinct bytes_eq names → FitsByPath names before s → after ≡ removed names s before → IsCanonical (length names) after
-canonical_less names s before after distinct fits is = subst (IsCanonical (length names)) (sym is) (canonical-removed names s before (fits_by_place names distinct before s fits) fits.canonical)
-
-pub total_less : (names : List Name) (s : ShapeTree) (before after : Counted) → IsDistinct bytes_eq names → FitsByPath names before s → after ≡ removed names s before → (path : Path) → total_at names after path ≤ total_at names before path
-total_less names s before after distinct fits is path =
-    let k : (t : Kind) → shows names after path t + occurrences s path t ≡ shows names before path t =
-    λ t. ap (λ e. shows names e path t + occurrences s path t) is ∙ shows-removed names s before (fits_by_place names distinct before s fits) fits.canonical path t in
-    omega (arith, k (scalar null_kind), k (scalar boolean_kind), k (scalar integer_kind), k (scalar text_kind), k arrays, k objects)
+pub less_by : (names : List Name) (before after : Counted) (d : Document) → ((path : Path) (t : Kind) → shows names after path t + occurrences (document_shape d) path t ≡ shows names before path t) → IsLessBy (Some d) names before after
+less_by names before after d shown path t = omega (arith, shown path t)
 
 -- ---- names that go on, and how many documents there are
 

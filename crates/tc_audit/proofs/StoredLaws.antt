@@ -4,11 +4,11 @@ use Rattle.std.specs.List.{AllByRecursion}
 use Rattle.std.proofs.lemmas.Bool.{both_ways}
 use Rattle.std.proofs.lemmas.Bool.Decides.{nat_tests}
 use Rattle.tc_model.specs.Document.{Name, Document, document_shape}
-use Rattle.tc_model.specs.Dictionary.{IsDictionary}
+use Rattle.tc_model.specs.Dictionary.{Extends, IsDictionary}
 use Rattle.tc_model.specs.KnownNames.{HasEach}
 use Rattle.tc_model.specs.ShapeNames.{names_within}
 use Rattle.tc_names.specs.Longest.{longest_of}
-use Rattle.tc_record.specs.Record.{labels, record_of, NumberedTree, IsNumberedRecordOf}
+use Rattle.tc_record.specs.Record.{labels, record_of, NumberedTree, IsNumberedRecordOf, IsRecordOf}
 use Rattle.tc_record.specs.Preorder.{tokens_of}
 use Rattle.tc_record.specs.Borrowed.{Record, Spells, IsBelow, numbered_tokens}
 use Rattle.tc_compact.specs.Compacted.{compacted, IsCompactedRecordOf}
@@ -117,6 +117,12 @@ test_of_held names own r again held spelled names_are same bytes_are told =
 
 pub stored_within : (names : List Name) (bytes : List ℕ) → IsDictionary names → IsStoredIn names bytes → IsRecordWithin (length names) bytes
 stored_within names bytes dictionary s = subst (IsRecordWithin (length names)) (sym s.spelled) (within_names names s.document (kept_in names bytes dictionary s))
+
+-- under more names it is a record of the same document, since numbers keep their names
+module _ (stays : (d : Document) (whole bytes : List ℕ) (names newer : List Name) → IsRecordOf d whole → IsCompactedRecordOf names d bytes → IsDictionary newer → Extends newer names → IsCompactedRecordOf newer d bytes) where
+  pub under_newer : (names newer : List Name) (d : Document) (bytes : List ℕ) → IsDictionary newer → Extends newer names → IsRecordUnder names d bytes → IsRecordUnder newer d bytes
+  under_newer names newer d bytes dictionary extends (inl is) = inl is
+  under_newer names newer d bytes dictionary extends (inr (whole, is, form1)) = inr (whole, is, stays d whole bytes names newer is form1 dictionary extends)
 
 pub stored_at_under : (names : List Name) (bytes same : List ℕ) (d : Document) → IsDictionary names → bytes ≡ same → (s : IsStoredIn names bytes) → s.document ≡ d → IsRecordUnder names d same
 stored_at_under names bytes same d dictionary are s is = subst (IsRecordUnder names d) are (subst (λ e. IsRecordUnder names e bytes) is (stored_under names bytes dictionary s))

@@ -1,5 +1,7 @@
 -- How far the entries of a component are counted.
 use Rattle.std.specs.Prelude.{◌≡◌, ◌<◌, ◌≤◌, ◌+◌, ◌*◌, ◌^◌, ◌⊎◌, ℕ, List, length, take, flat_map, option_to_list, Option, Some}
+use Rattle.std.specs.List.{AllByRecursion}
+use Rattle.tc_model.specs.Dictionary.{Extends}
 use Rattle.tc_model.specs.Document.{Name, Document}
 use Rattle.tc_model.specs.Keyed.{values_in}
 use Rattle.tc_plain_model.specs.Writes.{Pairs, Write, after_writes}
@@ -20,6 +22,10 @@ use Rattle.tc_audit.specs.Told.{content_in, AreStoredUpTo}
 -- what a component's file tells
 abbrev pub Tells : {F : Type 0} → (F → Option (List ℕ)) → ComponentState F → List ℕ → Type 0
 Tells told c whole = (told c.file ≡ Some whole) × Holds whole c.index
+
+-- the names of each component stand in front of these
+abbrev pub AreInFront : {F : Type 0} → List (ComponentState F) → List Name → Type 0
+AreInFront components names = AllByRecursion (λ c. Extends names c.index.names) components
 
 -- how many writes set a document
 abbrev pub documents_among : List Write → ℕ

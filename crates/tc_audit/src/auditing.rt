@@ -13,7 +13,7 @@ ghost use Rattle.tc_audit.specs.declared.verdict.Verdict.TheVariants.{Right as a
 ghost use Rattle.tc_audit.specs.Reasons.{AreRight, IsReason, IsWatched, IsWrongBehind};
 ghost use Rattle.tc_audit.specs.Stops.{IfRight, IfTold, IfWrong, position_of};
 ghost use Rattle.tc_audit.specs.Told.{content_in, IsHeld, IsOf};
-ghost use Rattle.tc_audit.specs.Walking.{IsMiscount, Tells};
+ghost use Rattle.tc_audit.specs.Walking.{AreInFront, IsMiscount, Tells};
 
 use crate::counting::Recount;
 use crate::fault::AuditFault;
@@ -103,6 +103,7 @@ fn count_component<F: Frozen>(
     watch: &mut F::Watch,
 ) -> Result<Schema, Stop>
     requires names { Extends component.now.index.names (newest_names [] older.now) }
+    requires newer { AreInFront older.now component.now.index.names }
     requires canonical { IsCanonical (length (newest_names [] older.now)) schema }
     ensures lawful { IsIndex component.now.index }
     ensures schema { IfOk result (λ counted. counted ≡ component.now.index.schema) }

@@ -1,6 +1,7 @@
 //! What was live of a key is taken off.
 
 ghost use Rattle.std.specs.Prelude.{◌≡◌, ◌≤◌, ◌<◌, ℕ, List, IfOk, OnOk, IsErrOf, IsTrue, false, length, slice_get, Some};
+ghost use Rattle.tc_model.specs.Dictionary.{Extends};
 ghost use Rattle.tc_model.specs.Document.{Document, document_shape};
 ghost use Rattle.tc_model.specs.Keyed.{value_of, values_in};
 ghost use Rattle.tc_lsm_model.specs.Contents.{Partition, Content};
@@ -15,20 +16,19 @@ ghost use Rattle.tc_compact.specs.Meant.{IsRecordUnder};
 ghost use Rattle.tc_component.specs.Fetching.{IsPlace, IsRecordWithin, record_at};
 ghost use Rattle.tc_audit.specs.Reasons.{AreRight, IsWatched};
 ghost use Rattle.tc_audit.specs.Stops.{IfWrong, position_of};
-ghost use Rattle.tc_audit.specs.Walking.{IsLessBy, IsStoredAt};
+ghost use Rattle.tc_audit.specs.Walking.{AreInFront, IsLessBy, IsStoredAt};
 
 use crate::counting::Recount;
 use crate::law::stored_records_make_contents;
 use crate::stop::{Stop, of_read};
 use crate::verdict::Wrong;
-use std::alloc::{AllocError, Global};
-use tc_anti::subtract_if_fits;
-use tc_bytes::{Bytes, Memory};
-use tc_compact::shape_of;
+use std::alloc::Global;
+use tc_anti::take_known;
+use tc_bytes::Bytes;
+use tc_compact::round_trip;
 use tc_component::{Component, Place};
 use tc_list::{ComponentList, Whereabouts, loaded_components_show_contents};
-use tc_names::Names;
-use tc_record::{RecordFault, RecordRef};
+use tc_record::RecordRef;
 use tc_store::Frozen;
 
 /// Takes off what was live of a key in the components that are older, by at most one read. Where the record that is read now
@@ -41,6 +41,7 @@ pub(crate) fn take_off<F: Frozen>(
     watch: &mut F::Watch,
 ) -> Result<(), Stop>
     requires canonical { IsCanonical (length recount.old.names) recount.old.schema }
+    requires newer { AreInFront older.now recount.old.names }
     ensures names { recount.new.names ≡ recount.old.names }
     ensures gained { recount.new.gained ≡ recount.old.gained }
     ensures canonical { OnOk result (IsCanonical (length recount.old.names) recount.new.schema) }
@@ -83,6 +84,7 @@ fn take_off_from<F: Frozen>(
 ) -> Result<(), Stop>
     requires place { IsPlace component.now.index.slots place }
     requires canonical { IsCanonical (length recount.old.names) recount.old.schema }
+    requires newer { Extends recount.old.names component.now.index.names }
     ensures names { recount.new.names ≡ recount.old.names }
     ensures gained { recount.new.gained ≡ recount.old.gained }
     ensures canonical { OnOk result (IsCanonical (length recount.old.names) recount.new.schema) }
@@ -92,11 +94,12 @@ fn take_off_from<F: Frozen>(
     ensures harmless { IfWrong result (λ w. (d : Document) (whole : List ℕ) → IsStoredAt F.content component.now place.at d whole → FitsByPath recount.old.names recount.old.schema (document_shape d) → ⊥) }
     ensures watched { IsWatched (IsErrOf result Stop.Disk) (F.Watch.counts watch.old) (F.Watch.counts watch.new) }
 {
-    // that the names are a dictionary
+    round_trip();
+    // that the names are dictionaries
     let _lawful = component.file_len();
+    let _known = recount.names.len();
     let bytes = read_again(alloc, component, number, place, watch)?;
-    let taken = take_record(alloc, bytes.as_slice(), component.names(), recount)?;
-    if taken {
+    if take_record(bytes.as_slice(), recount) {
         return Ok(());
     }
     let (place, _len) = component.record_range(place);
@@ -128,37 +131,17 @@ fn read_again<F: Frozen>(
     }
 }
 
-/// Takes off the document of a record, under names that are those of its component, where it spells one and that was
-/// counted, and answers whether that is so. Errs only for want of memory.
-fn take_record(
-    alloc: Global,
-    bytes: &[u8],
-    own: &Names,
-    recount: &mut Recount,
-) -> Result<bool, Memory>
+/// Takes off the document of a record, under the names of what is counted, where it was counted, and answers whether that
+/// is so. Takes no memory.
+fn take_record(bytes: &[u8], recount: &mut Recount) -> bool
     requires record { IsRecord bytes.now }
     requires canonical { IsCanonical (length recount.old.names) recount.old.schema }
     ensures names { recount.new.names ≡ recount.old.names }
     ensures gained { recount.new.gained ≡ recount.old.gained }
-    ensures canonical { IfOk result (λ yes. IsTrue yes → IsCanonical (length recount.old.names) recount.new.schema) }
-    ensures room { IfOk result (λ yes. IsTrue yes → (path : Path) → total_at recount.old.names recount.new.schema path ≤ total_at recount.old.names recount.old.schema path) }
-    ensures taken { IfOk result (λ yes. IsTrue yes → (d : Document) → IsRecordUnder own.now d bytes.now → IsLessBy (Some d) recount.old.names recount.old.schema recount.new.schema) }
-    ensures other { IfOk result (λ yes. yes ≡ false → (d : Document) → IsRecordUnder own.now d bytes.now → FitsByPath recount.old.names recount.old.schema (document_shape d) → ⊥) }
+    ensures canonical { IsTrue result → IsCanonical (length recount.old.names) recount.new.schema }
+    ensures room { IsTrue result → (path : Path) → total_at recount.old.names recount.new.schema path ≤ total_at recount.old.names recount.old.schema path }
+    ensures taken { IsTrue result → (d : Document) → IsRecordUnder recount.old.names d bytes.now → IsLessBy (Some d) recount.old.names recount.old.schema recount.new.schema }
+    ensures other { result ≡ false → (d : Document) → IsRecordUnder recount.old.names d bytes.now → FitsByPath recount.old.names recount.old.schema (document_shape d) → ⊥ }
 {
-    // that the names are distinct
-    let _known = recount.names.len();
-    match shape_of(alloc, RecordRef::known(bytes), own) {
-        Ok(shape) => Ok(subtract_if_fits(&mut recount.schema, &recount.names, &shape)),
-        Err(fault) => no_document(fault),
-    }
-}
-
-/// That nothing was taken off, unless memory is wanting.
-fn no_document(fault: RecordFault) -> Result<bool, Memory>
-    ensures { IfOk result (λ yes. (yes ≡ false) × (fault ≡ RecordFault.NotARecord)) }
-{
-    match fault {
-        RecordFault::Memory => Err(AllocError),
-        RecordFault::NotARecord => Ok(false),
-    }
+    take_known(&mut recount.schema, &recount.names, RecordRef::known(bytes))
 }

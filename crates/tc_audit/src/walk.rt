@@ -13,7 +13,7 @@ ghost use Rattle.tc_audit.specs.Reasons.{AreRight, IsWrongBehind, IsWatched};
 ghost use Rattle.tc_audit.specs.Stops.{IfWrong, position_of};
 ghost use Rattle.tc_audit.specs.Stored.{IsStoredIn};
 ghost use Rattle.tc_audit.specs.Told.{document_in};
-ghost use Rattle.tc_audit.specs.Walking.{IsCounting, IsHarmAt, IsLessBy, IsMoreBy, IsUpTo, Tells};
+ghost use Rattle.tc_audit.specs.Walking.{AreInFront, IsCounting, IsHarmAt, IsLessBy, IsMoreBy, IsUpTo, Tells};
 
 use crate::counting::{Recount, count_record};
 use crate::older::take_off;
@@ -40,6 +40,7 @@ pub(crate) fn count_entries<F: Frozen>(
     watch: &mut F::Watch,
 ) -> Result<(), Stop>
     requires names { recount.old.names ≡ component.now.index.names }
+    requires newer { AreInFront older.now component.now.index.names }
     requires none { recount.old.gained ≡ 0 }
     requires counting { IsCounting component.now.index.names recount.old.schema 0 }
     ensures counting { OnOk result (IsCounting component.now.index.names recount.new.schema recount.new.gained) }
@@ -69,6 +70,7 @@ fn count_entry<F: Frozen>(
 ) -> Result<(), Stop>
     requires at { at < length component.now.index.slots }
     requires names { recount.old.names ≡ component.now.index.names }
+    requires newer { AreInFront older.now component.now.index.names }
     requires few { recount.old.gained ≤ at }
     requires counting { IsCounting component.now.index.names recount.old.schema recount.old.gained }
     requires of { HoldsPart (F.content component.now.file) cursor.old }
@@ -103,6 +105,7 @@ fn take_few<F: Frozen>(
     watch: &mut F::Watch,
 ) -> Result<(), Stop>
     requires counting { IsCounting recount.old.names recount.old.schema recount.old.gained }
+    requires newer { AreInFront older.now recount.old.names }
     ensures names { recount.new.names ≡ recount.old.names }
     ensures gained { recount.new.gained ≡ recount.old.gained }
     ensures counting { OnOk result (IsCounting recount.old.names recount.new.schema recount.old.gained) }

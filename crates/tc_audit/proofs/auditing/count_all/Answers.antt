@@ -10,7 +10,8 @@ use Rattle.tc_list.specs.Intervals.{last_of}
 use Rattle.tc_merge.specs.Merging.{newest_names, newest_schema}
 use Rattle.tc_audit.specs.Reasons.{AreRight}
 use Rattle.tc_audit.specs.Told.{content_in}
-use Rattle.tc_audit.proofs.AuditSteps.{canonical_pushed, documents_live, follows_at, held_at, names_at, newest_schema_pushed, of_at, reason_at}
+use Rattle.tc_audit.specs.Walking.{AreInFront}
+use Rattle.tc_audit.proofs.AuditSteps.{canonical_pushed, documents_live, follows_at, held_at, in_front, names_at, newest_schema_pushed, of_at, reason_at}
 use Rattle.tc_audit.proofs.CountedSteps.{taken}
 use Rattle.tc_audit.proofs.Outcomes.{watched_behind, watched_out, wrong_out, wrong_then}
 use Rattle.tc_audit.proofs.RightLists.{schema_loaded}
@@ -30,6 +31,12 @@ count_component-requires-clause-names g c κs within =
     let l = c.loop-at in
     let m = c.deref.result.now in
     subst (λ ms. Extends m.index.names (newest_names [] ms)) (sym l.invariant.older_is) (names_at [] c.args.list.now l.at m c.requires.names (c.in_ok-component.ensures ∙ ap Some (sym c.deref.ensures)))
+
+pub count_component-requires-clause-newer : goal.count_component-requires-clause-newer
+count_component-requires-clause-newer g c κs within =
+    let l = c.loop-at in
+    let m = c.deref.result.now in
+    subst (λ ms. AreInFront ms m.index.names) (sym l.invariant.older_is) (in_front [] c.args.list.now l.at m c.requires.names (c.in_ok-component.ensures ∙ ap Some (sym c.deref.ensures)))
 
 pub count_component-requires-clause-canonical : goal.count_component-requires-clause-canonical
 count_component-requires-clause-canonical g c κs within = c.loop-at.invariant.canonical

@@ -6,7 +6,7 @@ use Rattle.tc_lsm_model.specs.Lists.{live}
 use Rattle.tc_component.specs.Fetching.{IsPlace}
 use Rattle.tc_component.specs.Loading.{ComponentState}
 use Rattle.tc_audit.specs.Walking.{IsLessBy}
-use Rattle.tc_audit.proofs.OlderRecords.{fits_live, stored_live}
+use Rattle.tc_audit.proofs.OlderRecords.{fits_live, front_at, stored_live}
 use Rattle.tc_audit.proofs.Outcomes.{wrong_then}
 use Rattle.tc_audit.proofs.older.take_off.Goals as goal
 
@@ -17,6 +17,9 @@ pub take_off_from-requires-clause-place : goal.take_off_from-requires-clause-pla
 take_off_from-requires-clause-place g c κs within =
     let newest = c.in-At.ensures.newest in
     subst (λ (m : ComponentState _). IsPlace m.index.slots c.in-At.place) (same_Some newest.component c.component_at-component.result.now (sym newest.here ∙ c.component_at-component.ensures)) (c.args.key, newest.has)
+
+pub take_off_from-requires-clause-newer : goal.take_off_from-requires-clause-newer
+take_off_from-requires-clause-newer g c κs within = front_at c.args.recount.now.names c.args.older.now c.in-At.at c.component_at-component.result.now c.requires.newer c.component_at-component.ensures
 
 pub returns-in-Absent-clause-taken : goal.returns-in-Absent-clause-taken
 returns-in-Absent-clause-taken g c = λ part cs right.

@@ -3,7 +3,7 @@ use Rattle.std.proofs.lemmas.Result.{err_from_is_err_and}
 use Rattle.tc_record.specs.Record.{IsNumberedRecordOf}
 use Rattle.tc_compact.specs.Meant.{IsRecordUnder}
 use Rattle.tc_audit.proofs.Outcomes.{wrong_out, wrong_then}
-use Rattle.tc_audit.proofs.StoredLaws.{stored_at_under, stored_within}
+use Rattle.tc_audit.proofs.StoredLaws.{stored_at_under, stored_within, under_newer}
 use Rattle.tc_audit.proofs.older.take_off_from.Goals as goal
 
 pub take_record-requires-clause-record : goal.take_record-requires-clause-record
@@ -16,17 +16,21 @@ returns-in_err-bytes-clause-harmless g c =
     (λ w harmed d whole at fits. harmed whole at.tells (stored_within c.args.component.now.index.names _ c.file_len-lawful.ensures.lawful.names at.stored))
     c.in_err-bytes.ensures.harmed)
 
-pub returns-then-taken-clause-taken : goal.returns-then-taken-clause-taken
-returns-then-taken-clause-taken g c = λ d whole at.
+pub returns-then-take_record-clause-taken : goal.returns-then-take_record-clause-taken
+returns-then-take_record-clause-taken g c = λ d whole at.
     let names = c.args.component.now.index.names in
+    let newer = c.args.recount.now.names in
     let under : IsRecordUnder names d c.in_ok-bytes.bytes = stored_at_under names _ c.in_ok-bytes.bytes d c.file_len-lawful.ensures.lawful.names (sym (c.in_ok-bytes.ensures.read whole at.tells)) at.stored at.is in
-    c.in_ok-taken.ensures.taken c.if-taken.true d (subst (λ ns. IsRecordUnder ns d c.as_slice.result.now) (sym c.names.ensures) (subst (IsRecordUnder names d) (sym c.as_slice.ensures.same) under))
+    let again : IsRecordUnder newer d c.in_ok-bytes.bytes = under_newer c.round_trip.ensures.stays names newer d c.in_ok-bytes.bytes c.len-known.ensures.dictionary c.requires.newer under in
+    c.take_record.ensures.taken c.if-take_record.true d (subst (IsRecordUnder newer d) (sym c.as_slice.ensures.same) again)
 
 pub returns-clause-harmless : goal.returns-clause-harmless
 returns-clause-harmless g c = λ d whole at fits.
     let names = c.args.component.now.index.names in
+    let newer = c.args.recount.now.names in
     let under : IsRecordUnder names d c.in_ok-bytes.bytes = stored_at_under names _ c.in_ok-bytes.bytes d c.file_len-lawful.ensures.lawful.names (sym (c.in_ok-bytes.ensures.read whole at.tells)) at.stored at.is in
-    c.in_ok-taken.ensures.other c.if-taken.false d (subst (λ ns. IsRecordUnder ns d c.as_slice.result.now) (sym c.names.ensures) (subst (IsRecordUnder names d) (sym c.as_slice.ensures.same) under)) fits
+    let again : IsRecordUnder newer d c.in_ok-bytes.bytes = under_newer c.round_trip.ensures.stays names newer d c.in_ok-bytes.bytes c.len-known.ensures.dictionary c.requires.newer under in
+    c.take_record.ensures.other c.if-take_record.false d (subst (IsRecordUnder newer d) (sym c.as_slice.ensures.same) again) fits
 
 pub returns-in_err-bytes-clause-place : goal.returns-in_err-bytes-clause-place
 returns-in_err-bytes-clause-place g c =

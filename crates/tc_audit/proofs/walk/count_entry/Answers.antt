@@ -9,7 +9,7 @@ use Rattle.tc_plain_model.specs.Writes.{after_writes}
 use Rattle.tc_audit.specs.Told.{content_in, document_in}
 use Rattle.tc_component.specs.Spelling.{slot}
 use Rattle.tc_audit.specs.Stored.{IsStoredIn}
-use Rattle.tc_audit.specs.Walking.{IsCounting, IsHarmAt, IsLessBy, IsMoreBy, IsUpTo}
+use Rattle.tc_audit.specs.Walking.{AreInFront, IsCounting, IsHarmAt, IsLessBy, IsMoreBy, IsUpTo}
 use Rattle.tc_audit.proofs.CountedComponents.{as_many}
 use Rattle.tc_audit.proofs.Outcomes.{both_wrong, ok_and, ok_both, wrong_out, wrong_then}
 use Rattle.tc_audit.proofs.WalkSteps.{harm_behind, live_before, placed, unplaced, up_to_gone, up_to_live}
@@ -17,6 +17,9 @@ use Rattle.tc_audit.proofs.walk.count_entry.Goals as goal
 
 pub take_few-requires-clause-counting : goal.take_few-requires-clause-counting
 take_few-requires-clause-counting g c κs within = subst (λ names. IsCounting names c.args.recount.now.schema c.args.recount.now.gained) (sym c.requires.names) c.requires.counting
+
+pub take_few-requires-clause-newer : goal.take_few-requires-clause-newer
+take_few-requires-clause-newer g c κs within = subst (AreInFront c.args.older.now) (sym c.requires.names) c.requires.newer
 
 pub count_place-requires-clause-place : goal.count_place-requires-clause-place
 count_place-requires-clause-place g c κs within = (placed c.args.component.now.index.slots c.args.at c.entry-entry.result c.in-Some.place c.entry-entry.ensures c.in-Some.is).place_is
