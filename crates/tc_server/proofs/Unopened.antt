@@ -16,13 +16,14 @@ use Rattle.tc_store.specs.Moments.{IfTold}
 use Rattle.tc_store.specs.declared.file_name.FileName.{FileName}
 use Rattle.tc_work.specs.Moving.{Eyes}
 use Rattle.tc_work.specs.declared.fault.EngineFault.{EngineFault}
+use Rattle.tc_words.specs.declared.asked.Invocation.{Invocation}
 use Rattle.tc_words.specs.declared.run.Options.{Options}
 use Rattle.tc_keeper.specs.Calls.{faults_at}
 use Rattle.tc_server.specs.Ending.{limits_of}
-use Rattle.tc_keeper.specs.Faults.{IfDisk, IsNoDamage, NoneFell, OneRose}
-use Rattle.tc_server.specs.KitCauses.{AreAsked, AreGenerationsSpent, AreJudged, HasDiskCauseOver, HasLastGeneration, IsJudged, NoneFellOf}
+use Rattle.tc_keeper.specs.Faults.{IfDisk, IsNoDamage, IsWrite, NoneFell, OneRose}
+use Rattle.tc_server.specs.KitCauses.{AreAsked, AreGenerationsSpent, AreJudged, GivesKitsBack, HasCauseOver, HasDiskCauseOver, HasLastGeneration, HasLayoutCause, IsInputSpent, IsJudged, NoneFellOf}
 use Rattle.tc_server.specs.Kits.{AreOpened, IsClosed, IsGivenBack, IsNotGiven, IsOfOpening, IsOpened}
-use Rattle.tc_server.specs.OverFiles.{BeginsAs, EndsOver, IsHere, KeepsOpened}
+use Rattle.tc_server.specs.OverFiles.{partitions_asked, BeginsAs, EndsOver, IsHere, KeepsOpened}
 use Rattle.tc_keeper.specs.Sight.{nothing, sees, IfKnown, Sight}
 use Rattle.tc_keeper.specs.declared.fault.RunFault.{RunFault}
 use Rattle.tc_keeper.specs.declared.fault.RunFault.TheVariants.{Usage, Read, Write, Spent, Disk as DiskFault, Damaged, Memory, Layout}
@@ -252,9 +253,43 @@ unasked_back same rose es kits p fault last place many not_given unasked none =
 
 -- ---- where no kit was asked for
 
-pub judged_nothing : {F : Type 0} (content : F → Option (List ℕ)) (name : F → FileName) (count : ℕ) (files : ℕ → List Disk) (fault : Option RunFault) → AreJudged content name count files fault []
+judged_nothing : {F : Type 0} (content : F → Option (List ℕ)) (name : F → FileName) (count : ℕ) (files : ℕ → List Disk) (fault : Option RunFault) → AreJudged content name count files fault []
 judged_nothing content name count files fault = record {
   opened = λ p lower. absurd (omega (arith, lower));
   last = λ p is. absurd (cc);
   untouched = tt;
 }
+
+-- what holds of words that are no command line and of want of memory holds of a fault that is one of these
+of_words : (P : RunFault → Type 0) (fault : RunFault) → (fault ≡ Usage) ⊎ (fault ≡ Memory) → P Usage → P Memory → P fault
+of_words P fault (inl is) usage memory = subst P (sym is) usage
+of_words P fault (inr is) usage memory = subst P (sym is) memory
+
+pub nothing_back : {K P : Type 0} → P → (count before : ℕ) (files : ℕ → List Disk) (came : ℕ → KitFaults) (fault : RunFault) (counts : K → KitFaults) → (fault ≡ Usage) ⊎ (fault ≡ Memory)
+    → GivesKitsBack P count before before files files came came (Some fault) [] counts
+nothing_back same count before files came fault counts kind = record {
+  few = omega arith;
+  asked = of_words (λ f. AreAsked count (Some f) 0) fault kind refl tt;
+  none_fell = (omega arith, tt);
+  others = λ other above. (refl, refl);
+  next = inl (refl, refl);
+  unasked = λ none. inl same;
+}
+
+pub no_cause : {K F : Type 0} (W : Type 0) (content : F → Option (List ℕ)) (name : F → FileName) (size : F → ℕ) (asked : Option Invocation) (left : Option (List ℕ)) (reads writes before : ℕ) (files : ℕ → List Disk) (came : ℕ → KitFaults) (fault : RunFault) (history : K → List Disk) (counts : K → KitFaults)
+    → (fault ≡ Usage) ⊎ (fault ≡ Memory) → (fault ≡ Usage → asked ≡ None) → HasCauseOver W content name size asked left left reads reads writes writes before before files came (Some fault) [] history counts
+no_cause W content name size asked left reads writes before files came fault history counts kind none = record {
+  usage = λ same. none (cc);
+  read = of_words (λ f. Some f ≡ Some Read → Rose reads reads) fault kind (λ same. absurd (cc)) (λ same. absurd (cc));
+  write = of_words (λ f. IsWrite f → Rose writes writes) fault kind (λ is. absurd is) (λ is. absurd is);
+  disk = of_words (λ f. IfDisk f (HasDiskCauseOver before before came [])) fault kind tt tt;
+  judged = judged_nothing content name (partitions_asked asked) files (Some fault);
+  layout = of_words (HasLayoutCause W size name) fault kind tt tt;
+  spent = of_words (λ f. Some f ≡ Some Spent → IsInputSpent asked left left ⊎ AreGenerationsSpent (partitions_asked asked) files []) fault kind (λ same. absurd (cc)) (λ same. absurd (cc));
+}
+
+-- ---- what a run over the lines ended by
+
+pub if_read : (R : Type 0) (fault : Option RunFault) → IfSome fault (λ f. f ≡ Read → R) → fault ≡ Some Read → R
+if_read R None rose is = absurd (cc)
+if_read R (Some fault) rose is = rose (cc)

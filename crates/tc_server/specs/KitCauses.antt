@@ -1,6 +1,6 @@
--- When a fault of a run over a shelf may be answered, by the kits that it gave: how many there are, how their files were judged,
--- and what their watches counted.
-use Rattle.std.specs.Prelude.{◌≡◌, ◌≤◌, ◌<◌, ◌⊎◌, ◌-◌, ◌^◌, ℕ, suc, List, length, Option, Some, None, Err, slice_get, IsSomeAnd}
+-- What a run over a shelf gives back of its kits, and when a fault of it may be answered: how many kits there are, how their files
+-- were judged, and what their watches counted.
+use Rattle.std.specs.Prelude.{◌≡◌, ◌≤◌, ◌<◌, ◌⊎◌, ◌-◌, ◌^◌, ℕ, suc, List, [], length, map, Option, Some, None, Err, slice_get, IfSome, IsSomeAnd}
 use Rattle.std.specs.Io.KnownBytes.{Consumes}
 use Rattle.tc_bytes.specs.Counts.{Rose}
 use Rattle.tc_keeper.specs.Standing.{partition_at}
@@ -17,7 +17,8 @@ use Rattle.tc_open.specs.Judged.{ArePassed, AreSpent, CauseJudged, IsOfFiles, Is
 use Rattle.tc_open.specs.declared.fault.OpenCause.TheVariants as opening
 use Rattle.tc_run_model.specs.Course.{max_input}
 use Rattle.tc_server.specs.Ending.{IsRun}
-use Rattle.tc_keeper.specs.Faults.{NoneFell, OneRose}
+use Rattle.tc_server.specs.OverFiles.{partitions_asked}
+use Rattle.tc_keeper.specs.Faults.{IfDisk, IsWrite, NoneFell, OneRose}
 use Rattle.tc_keeper.specs.Places.{EachFrom, SomeFrom}
 use Rattle.tc_keeper.specs.declared.fault.RunFault.{RunFault}
 use Rattle.tc_keeper.specs.declared.fault.RunFault.TheVariants.{Usage, Read, Write, Spent, Disk as DiskFault, Damaged, Memory, Layout}
@@ -97,3 +98,31 @@ NoneFellOf came kits = EachFrom (λ p left. NoneFell (came p) left) 0 kits
 -- where its kit was not given and the faults of the shelf rose.
 abbrev pub HasDiskCauseOver : ℕ → ℕ → (ℕ → KitFaults) → List KitFaults → ℕ → Type 0
 HasDiskCauseOver before now came kits p = ((p ≡ length kits) × Rose before now) ⊎ IsSomeAnd (slice_get kits p) (OneRose (came p))
+
+-- ---- together
+
+-- Neither the files nor the counts of the kit of a number were changed.
+abbrev pub IsUntaken : (ℕ → List Disk) → (ℕ → List Disk) → (ℕ → KitFaults) → (ℕ → KitFaults) → ℕ → Type 0
+IsUntaken files files' came came' p = (files' p ≡ files p) × (came' p ≡ came p)
+
+-- What a run gives back of the kits of a shelf, in ascending number: all of so many where a line may have been read. No count falls.
+-- Of those behind them none was asked for but the next one, where the shelf failed. Where none is given back, the shelf is the same,
+-- or has failed.
+pub record GivesKitsBack {K : Type 0} (is_same : Type 0) (count before now : ℕ) (files files' : ℕ → List Disk) (came came' : ℕ → KitFaults) (fault : Option RunFault) (kits : List K) (counts : K → KitFaults) : Type 0 where
+  pub few : length kits ≤ count
+  pub asked : AreAsked count fault (length kits)
+  pub none_fell : (before ≤ now) × NoneFellOf came (map counts kits)
+  pub others : (other : ℕ) → length kits < other → IsUntaken files files' came came' other
+  pub next : IsUntaken files files' came came' (length kits) ⊎ ((length kits < count) × Rose before now)
+  pub unasked : kits ≡ [] → is_same ⊎ Rose before now
+
+-- When a run for these words may end by a fault. What a source, a sink, a shelf or a disk is blamed for, it counted. What is refused
+-- of files is what is judged of them as they came. Numbers are spent by the input, or by a file.
+pub record HasCauseOver {K F : Type 0} (W : Type 0) (content : F → Option (List ℕ)) (name : F → FileName) (size : F → ℕ) (asked : Option Invocation) (left left' : Option (List ℕ)) (reads reads' writes writes' before now : ℕ) (files : ℕ → List Disk) (came : ℕ → KitFaults) (fault : Option RunFault) (kits : List K) (history : K → List Disk) (counts : K → KitFaults) : Type 0 where
+  pub usage : fault ≡ Some Usage → asked ≡ None
+  pub read : fault ≡ Some Read → Rose reads reads'
+  pub write : IfSome fault (λ f. IsWrite f → Rose writes writes')
+  pub disk : IfSome fault (λ f. IfDisk f (HasDiskCauseOver before now came (map counts kits)))
+  pub judged : AreJudged content name (partitions_asked asked) files fault (map history kits)
+  pub layout : IfSome fault (HasLayoutCause W size name)
+  pub spent : fault ≡ Some Spent → IsInputSpent asked left left' ⊎ AreGenerationsSpent (partitions_asked asked) files (map history kits)

@@ -1,11 +1,10 @@
 //! All that a program does between its words and its exit.
 
-ghost use Rattle.std.specs.Prelude.{◌≡◌, ℕ, ◌<◌, ◌≤◌, ◌⊎◌, [], length, map, Option, Some, None, option_map, IfErr, IfSome};
+ghost use Rattle.std.specs.Prelude.{◌≡◌, ◌<◌, ◌⊎◌, map, Option, Some, option_map, IfErr};
 ghost use Rattle.std.specs.Result.{result_ok};
-ghost use Rattle.tc_bytes.specs.Counts.{Rose};
 ghost use Rattle.tc_server.specs.Ending.{IsRun, ServedPromptly};
-ghost use Rattle.tc_keeper.specs.Faults.{faults_in, status_of, IfDisk, IsWrite};
-ghost use Rattle.tc_server.specs.KitCauses.{AreAsked, AreGenerationsSpent, AreJudged, HasDiskCauseOver, HasLayoutCause, IsInputSpent, NoneFellOf};
+ghost use Rattle.tc_keeper.specs.Faults.{faults_in, status_of};
+ghost use Rattle.tc_server.specs.KitCauses.{GivesKitsBack, HasCauseOver};
 ghost use Rattle.tc_server.specs.OverFiles.{partitions_asked, BeginsFor, ServedOver};
 ghost use Rattle.tc_keeper.specs.Sight.{Sight};
 ghost use Rattle.tc_server.specs.Program.{fault_of_words, invocation_given};
@@ -80,27 +79,13 @@ where
     ensures prompt { (first : Sight) → BeginsFor (invocation_given (option_map (λ words. words.items) (result_ok words))) (H.files shelf.old) first
         → ServedPromptly first (invocation_given (option_map (λ words. words.items) (result_ok words))) (O.taken sink.old) (I.moments source.old) (I.moments source.new) }
 
-    // The kits that were asked for are given back, in ascending number: all where a line may have been read. No count falls.
-    ensures kits { length result.kits.items ≤ (partitions_asked (invocation_given (option_map (λ words. words.items) (result_ok words)))) }
-    ensures asked { AreAsked (partitions_asked (invocation_given (option_map (λ words. words.items) (result_ok words)))) result.fault (length result.kits.items) }
-    ensures counts { (H.faults shelf.old ≤ H.faults shelf.new) × NoneFellOf (H.kit_faults shelf.old) (map (faults_in (λ w. H.Store.Watch.counts w)) result.kits.items) }
-
-    // Behind them none was asked for but the next one, where the shelf failed. Where there is none, the shelf is as it was, or has
-    // failed.
-    ensures other_kits { (other : ℕ) → length result.kits.items < other → (H.files shelf.new other ≡ H.files shelf.old other) × (H.kit_faults shelf.new other ≡ H.kit_faults shelf.old other) }
-    ensures next_kit { ((H.files shelf.new (length result.kits.items) ≡ H.files shelf.old (length result.kits.items)) × (H.kit_faults shelf.new (length result.kits.items) ≡ H.kit_faults shelf.old (length result.kits.items))) ⊎ ((length result.kits.items < (partitions_asked (invocation_given (option_map (λ words. words.items) (result_ok words))))) × Rose (H.faults shelf.old) (H.faults shelf.new)) }
-    ensures unasked { result.kits.items ≡ [] → (shelf.new ≡ shelf.old) ⊎ Rose (H.faults shelf.old) (H.faults shelf.new) }
+    // The kits that were asked for are given back, in ascending number: all where a line may have been read. Behind them none was
+    // asked for but the next one, where the shelf failed.
+    ensures back { GivesKitsBack (shelf.new ≡ shelf.old) (partitions_asked (invocation_given (option_map (λ words. words.items) (result_ok words)))) (H.faults shelf.old) (H.faults shelf.new) (H.files shelf.old) (H.files shelf.new) (H.kit_faults shelf.old) (H.kit_faults shelf.new) result.fault result.kits.items (faults_in (λ w. H.Store.Watch.counts w)) }
 
     // When a fault may be answered.
+    ensures cause { HasCauseOver H.Store.Watch H.Store.Frozen.content H.Store.Frozen.name (λ file. H.Store.Frozen.size file) (invocation_given (option_map (λ words. words.items) (result_ok words))) (I.left source.old) (I.left source.new) (I.faults source.old) (I.faults source.new) (O.faults sink.old) (O.faults sink.new) (H.faults shelf.old) (H.faults shelf.new) (H.files shelf.old) (H.kit_faults shelf.old) result.fault result.kits.items (λ kit. H.Store.history kit.store) (faults_in (λ w. H.Store.Watch.counts w)) }
     ensures words { IfErr words (λ fault. result.fault ≡ Some (fault_of_words fault)) }
-    ensures usage { result.fault ≡ Some RunFault.Usage → invocation_given (option_map (λ words. words.items) (result_ok words)) ≡ None }
-    ensures read { result.fault ≡ Some RunFault.Read → Rose (I.faults source.old) (I.faults source.new) }
-    ensures write { IfSome result.fault (λ fault. IsWrite fault → Rose (O.faults sink.old) (O.faults sink.new)) }
-    ensures disk { IfSome result.fault (λ fault. IfDisk fault (HasDiskCauseOver (H.faults shelf.old) (H.faults shelf.new) (H.kit_faults shelf.old) (map (faults_in (λ w. H.Store.Watch.counts w)) result.kits.items))) }
-    ensures judged { AreJudged H.Store.Frozen.content H.Store.Frozen.name (partitions_asked (invocation_given (option_map (λ words. words.items) (result_ok words)))) (H.files shelf.old) result.fault (map (λ kit. H.Store.history kit.store) result.kits.items) }
-    ensures layout { IfSome result.fault (HasLayoutCause H.Store.Watch (λ file. H.Store.Frozen.size file) (λ file. H.Store.Frozen.name file)) }
-    ensures spent { result.fault ≡ Some RunFault.Spent
-        → IsInputSpent (invocation_given (option_map (λ words. words.items) (result_ok words))) (I.left source.old) (I.left source.new) ⊎ AreGenerationsSpent (partitions_asked (invocation_given (option_map (λ words. words.items) (result_ok words)))) (H.files shelf.old) (map (λ kit. H.Store.history kit.store) result.kits.items) }
 {
     let served = served_for(rt, rt.alloc(), words, source, sink, shelf, pace);
     report(rt, &served.fault);
@@ -128,21 +113,9 @@ where
     ensures unread { IsRun (invocation_given (option_map (λ words. words.items) (result_ok words))) ⊎ (source.new ≡ source.old) }
     ensures prompt { (first : Sight) → BeginsFor (invocation_given (option_map (λ words. words.items) (result_ok words))) (H.files shelf.old) first
         → ServedPromptly first (invocation_given (option_map (λ words. words.items) (result_ok words))) (O.taken sink.old) (I.moments source.old) (I.moments source.new) }
-    ensures kits { length result.kits.items ≤ (partitions_asked (invocation_given (option_map (λ words. words.items) (result_ok words)))) }
-    ensures asked { AreAsked (partitions_asked (invocation_given (option_map (λ words. words.items) (result_ok words)))) result.fault (length result.kits.items) }
-    ensures counts { (H.faults shelf.old ≤ H.faults shelf.new) × NoneFellOf (H.kit_faults shelf.old) (map (faults_in (λ w. H.Store.Watch.counts w)) result.kits.items) }
-    ensures other_kits { (other : ℕ) → length result.kits.items < other → (H.files shelf.new other ≡ H.files shelf.old other) × (H.kit_faults shelf.new other ≡ H.kit_faults shelf.old other) }
-    ensures next_kit { ((H.files shelf.new (length result.kits.items) ≡ H.files shelf.old (length result.kits.items)) × (H.kit_faults shelf.new (length result.kits.items) ≡ H.kit_faults shelf.old (length result.kits.items))) ⊎ ((length result.kits.items < (partitions_asked (invocation_given (option_map (λ words. words.items) (result_ok words))))) × Rose (H.faults shelf.old) (H.faults shelf.new)) }
-    ensures unasked { result.kits.items ≡ [] → (shelf.new ≡ shelf.old) ⊎ Rose (H.faults shelf.old) (H.faults shelf.new) }
+    ensures back { GivesKitsBack (shelf.new ≡ shelf.old) (partitions_asked (invocation_given (option_map (λ words. words.items) (result_ok words)))) (H.faults shelf.old) (H.faults shelf.new) (H.files shelf.old) (H.files shelf.new) (H.kit_faults shelf.old) (H.kit_faults shelf.new) result.fault result.kits.items (faults_in (λ w. H.Store.Watch.counts w)) }
+    ensures cause { HasCauseOver H.Store.Watch H.Store.Frozen.content H.Store.Frozen.name (λ file. H.Store.Frozen.size file) (invocation_given (option_map (λ words. words.items) (result_ok words))) (I.left source.old) (I.left source.new) (I.faults source.old) (I.faults source.new) (O.faults sink.old) (O.faults sink.new) (H.faults shelf.old) (H.faults shelf.new) (H.files shelf.old) (H.kit_faults shelf.old) result.fault result.kits.items (λ kit. H.Store.history kit.store) (faults_in (λ w. H.Store.Watch.counts w)) }
     ensures words { IfErr words (λ fault. result.fault ≡ Some (fault_of_words fault)) }
-    ensures usage { result.fault ≡ Some RunFault.Usage → invocation_given (option_map (λ words. words.items) (result_ok words)) ≡ None }
-    ensures read { result.fault ≡ Some RunFault.Read → Rose (I.faults source.old) (I.faults source.new) }
-    ensures write { IfSome result.fault (λ fault. IsWrite fault → Rose (O.faults sink.old) (O.faults sink.new)) }
-    ensures disk { IfSome result.fault (λ fault. IfDisk fault (HasDiskCauseOver (H.faults shelf.old) (H.faults shelf.new) (H.kit_faults shelf.old) (map (faults_in (λ w. H.Store.Watch.counts w)) result.kits.items))) }
-    ensures judged { AreJudged H.Store.Frozen.content H.Store.Frozen.name (partitions_asked (invocation_given (option_map (λ words. words.items) (result_ok words)))) (H.files shelf.old) result.fault (map (λ kit. H.Store.history kit.store) result.kits.items) }
-    ensures layout { IfSome result.fault (HasLayoutCause H.Store.Watch (λ file. H.Store.Frozen.size file) (λ file. H.Store.Frozen.name file)) }
-    ensures spent { result.fault ≡ Some RunFault.Spent
-        → IsInputSpent (invocation_given (option_map (λ words. words.items) (result_ok words))) (I.left source.old) (I.left source.new) ⊎ AreGenerationsSpent (partitions_asked (invocation_given (option_map (λ words. words.items) (result_ok words)))) (H.files shelf.old) (map (λ kit. H.Store.history kit.store) result.kits.items) }
 {
     match words {
         Ok(words) => serve(rt, alloc, words.as_slice(), source, sink, shelf, pace),

@@ -1,6 +1,6 @@
 //! A run, or a demonstration: the words, the partitions, the lines, and how it ends.
 
-ghost use Rattle.std.specs.Prelude.{◌≡◌, ◌≢◌, ℕ, ◌<◌, ◌≤◌, ◌⊎◌, List, [], true, false, length, map, All, Ok, Option, Some, None, option_to_list, vec_capacity, vec_len, is_some, IfOk, IfErr, IfSome, IsErrOf, OnOk};
+ghost use Rattle.std.specs.Prelude.{◌≡◌, ℕ, ◌<◌, ◌≤◌, ◌⊎◌, List, [], true, false, length, map, All, Ok, Option, Some, None, option_to_list, vec_capacity, vec_len, is_some, IfOk, IfErr, IfSome, IsErrOf, OnOk};
 ghost use Rattle.tc_bytes.specs.Counts.{Rose};
 ghost use Rattle.tc_keeper.specs.Places.{AtEach, SomeFrom};
 ghost use Rattle.tc_log.specs.Layout.{empty_size};
@@ -9,7 +9,7 @@ ghost use Rattle.tc_store.specs.Disk.{Disk};
 ghost use Rattle.tc_store.specs.Moments.{IfTold};
 ghost use Rattle.tc_server.specs.Ending.{AreFewCommands, AskedPromptly, IsRun, RanLeaving, ReadsPromptly, RunsOver, ServedPromptly};
 ghost use Rattle.tc_keeper.specs.Faults.{fault_in, faults_in, status_of, HasRunCauses, IfDamaged, IfDisk, IsOfRun, IsWrite, NoneFell, OneRose};
-ghost use Rattle.tc_server.specs.KitCauses.{AreAsked, AreGenerationsSpent, AreJudged, HasDiskCauseOver, HasLastGeneration, HasLayoutCause, IsInputSpent, NoneFellOf};
+ghost use Rattle.tc_server.specs.KitCauses.{GivesKitsBack, HasCauseOver, HasLastGeneration, IsInputSpent};
 ghost use Rattle.tc_keeper.specs.Keeping.{faults_kept, settings_kept, AllRest, AreUnwritten, FailsAt, HasSpent, IsTrueBehind, IsTrueHere, MayServe, ServesAt};
 ghost use Rattle.tc_server.specs.Kits.{answer_behind, fault_behind, IsBegun};
 ghost use Rattle.tc_server.specs.OverFiles.{partitions_asked, AskedOver, BeginsFor, ServedOver};
@@ -69,26 +69,12 @@ where
     ensures prompt { (first : Sight) → BeginsFor (invocation_of words.now) (H.files shelf.old) first
         → ServedPromptly first (invocation_of words.now) (O.taken sink.old) (I.moments source.old) (I.moments source.new) }
 
-    // The kits that were asked for are given back, in ascending number: all where a line may have been read. No count falls.
-    ensures kits { length result.kits.items ≤ (partitions_asked (invocation_of words.now)) }
-    ensures asked { AreAsked (partitions_asked (invocation_of words.now)) result.fault (length result.kits.items) }
-    ensures counts { (H.faults shelf.old ≤ H.faults shelf.new) × NoneFellOf (H.kit_faults shelf.old) (map (faults_in (λ w. H.Store.Watch.counts w)) result.kits.items) }
-
-    // Behind them none was asked for but the next one, where the shelf failed. Where there is none, the shelf is as it was, or has
-    // failed.
-    ensures other_kits { (other : ℕ) → length result.kits.items < other → (H.files shelf.new other ≡ H.files shelf.old other) × (H.kit_faults shelf.new other ≡ H.kit_faults shelf.old other) }
-    ensures next_kit { ((H.files shelf.new (length result.kits.items) ≡ H.files shelf.old (length result.kits.items)) × (H.kit_faults shelf.new (length result.kits.items) ≡ H.kit_faults shelf.old (length result.kits.items))) ⊎ ((length result.kits.items < (partitions_asked (invocation_of words.now))) × Rose (H.faults shelf.old) (H.faults shelf.new)) }
-    ensures unasked { result.kits.items ≡ [] → (shelf.new ≡ shelf.old) ⊎ Rose (H.faults shelf.old) (H.faults shelf.new) }
+    // The kits that were asked for are given back, in ascending number: all where a line may have been read. Behind them none was
+    // asked for but the next one, where the shelf failed.
+    ensures back { GivesKitsBack (shelf.new ≡ shelf.old) (partitions_asked (invocation_of words.now)) (H.faults shelf.old) (H.faults shelf.new) (H.files shelf.old) (H.files shelf.new) (H.kit_faults shelf.old) (H.kit_faults shelf.new) result.fault result.kits.items (faults_in (λ w. H.Store.Watch.counts w)) }
 
     // When a fault may be answered.
-    ensures usage { result.fault ≡ Some RunFault.Usage → invocation_of words.now ≡ None }
-    ensures read { result.fault ≡ Some RunFault.Read → Rose (I.faults source.old) (I.faults source.new) }
-    ensures write { IfSome result.fault (λ fault. IsWrite fault → Rose (O.faults sink.old) (O.faults sink.new)) }
-    ensures disk { IfSome result.fault (λ fault. IfDisk fault (HasDiskCauseOver (H.faults shelf.old) (H.faults shelf.new) (H.kit_faults shelf.old) (map (faults_in (λ w. H.Store.Watch.counts w)) result.kits.items))) }
-    ensures judged { AreJudged H.Store.Frozen.content H.Store.Frozen.name (partitions_asked (invocation_of words.now)) (H.files shelf.old) result.fault (map (λ kit. H.Store.history kit.store) result.kits.items) }
-    ensures layout { IfSome result.fault (HasLayoutCause H.Store.Watch (λ file. H.Store.Frozen.size file) (λ file. H.Store.Frozen.name file)) }
-    ensures spent { result.fault ≡ Some RunFault.Spent
-        → IsInputSpent (invocation_of words.now) (I.left source.old) (I.left source.new) ⊎ AreGenerationsSpent (partitions_asked (invocation_of words.now)) (H.files shelf.old) (map (λ kit. H.Store.history kit.store) result.kits.items) }
+    ensures cause { HasCauseOver H.Store.Watch H.Store.Frozen.content H.Store.Frozen.name (λ file. H.Store.Frozen.size file) (invocation_of words.now) (I.left source.old) (I.left source.new) (I.faults source.old) (I.faults source.new) (O.faults sink.old) (O.faults sink.new) (H.faults shelf.old) (H.faults shelf.new) (H.files shelf.old) (H.kit_faults shelf.old) result.fault result.kits.items (λ kit. H.Store.history kit.store) (faults_in (λ w. H.Store.Watch.counts w)) }
 {
     match asked_by(alloc, words) {
         Ok(asked) => serve_asked(rt, alloc, &asked, source, sink, shelf, pace),
@@ -123,24 +109,8 @@ where
     ensures unread { IsRun (Some asked.now) ⊎ (source.new ≡ source.old) }
     ensures prompt { (first : Sight) → BeginsFor (Some asked.now) (H.files shelf.old) first
         → AskedPromptly asked.now first (options_asked asked.now).window (O.taken sink.old) (I.moments source.old) (I.moments source.new) }
-    // The kits that were asked for are given back, in ascending number: all where a line may have been read. No count falls.
-    ensures kits { length result.kits.items ≤ (options_asked asked.now).partitions }
-    ensures asked { AreAsked (options_asked asked.now).partitions result.fault (length result.kits.items) }
-    ensures counts { (H.faults shelf.old ≤ H.faults shelf.new) × NoneFellOf (H.kit_faults shelf.old) (map (faults_in (λ w. H.Store.Watch.counts w)) result.kits.items) }
-    // Behind them none was asked for but the next one, where the shelf failed. Where there is none, the shelf is as it was, or has
-    // failed.
-    ensures other_kits { (other : ℕ) → length result.kits.items < other → (H.files shelf.new other ≡ H.files shelf.old other) × (H.kit_faults shelf.new other ≡ H.kit_faults shelf.old other) }
-    ensures next_kit { ((H.files shelf.new (length result.kits.items) ≡ H.files shelf.old (length result.kits.items)) × (H.kit_faults shelf.new (length result.kits.items) ≡ H.kit_faults shelf.old (length result.kits.items))) ⊎ ((length result.kits.items < (options_asked asked.now).partitions) × Rose (H.faults shelf.old) (H.faults shelf.new)) }
-    ensures unasked { result.kits.items ≡ [] → (shelf.new ≡ shelf.old) ⊎ Rose (H.faults shelf.old) (H.faults shelf.new) }
-    // When a fault may be answered.
-    ensures usage { result.fault ≢ Some RunFault.Usage }
-    ensures read { result.fault ≡ Some RunFault.Read → Rose (I.faults source.old) (I.faults source.new) }
-    ensures write { IfSome result.fault (λ fault. IsWrite fault → Rose (O.faults sink.old) (O.faults sink.new)) }
-    ensures disk { IfSome result.fault (λ fault. IfDisk fault (HasDiskCauseOver (H.faults shelf.old) (H.faults shelf.new) (H.kit_faults shelf.old) (map (faults_in (λ w. H.Store.Watch.counts w)) result.kits.items))) }
-    ensures judged { AreJudged H.Store.Frozen.content H.Store.Frozen.name (options_asked asked.now).partitions (H.files shelf.old) result.fault (map (λ kit. H.Store.history kit.store) result.kits.items) }
-    ensures layout { IfSome result.fault (HasLayoutCause H.Store.Watch (λ file. H.Store.Frozen.size file) (λ file. H.Store.Frozen.name file)) }
-    ensures spent { result.fault ≡ Some RunFault.Spent
-        → IsInputSpent (Some asked.now) (I.left source.old) (I.left source.new) ⊎ AreGenerationsSpent (options_asked asked.now).partitions (H.files shelf.old) (map (λ kit. H.Store.history kit.store) result.kits.items) }
+    ensures back { GivesKitsBack (shelf.new ≡ shelf.old) (options_asked asked.now).partitions (H.faults shelf.old) (H.faults shelf.new) (H.files shelf.old) (H.files shelf.new) (H.kit_faults shelf.old) (H.kit_faults shelf.new) result.fault result.kits.items (faults_in (λ w. H.Store.Watch.counts w)) }
+    ensures cause { HasCauseOver H.Store.Watch H.Store.Frozen.content H.Store.Frozen.name (λ file. H.Store.Frozen.size file) (Some asked.now) (I.left source.old) (I.left source.new) (I.faults source.old) (I.faults source.new) (O.faults sink.old) (O.faults sink.new) (H.faults shelf.old) (H.faults shelf.new) (H.files shelf.old) (H.kit_faults shelf.old) result.fault result.kits.items (λ kit. H.Store.history kit.store) (faults_in (λ w. H.Store.Watch.counts w)) }
 {
     let options = options_asked(asked);
     // The room for the kits and the engines, and the share of the pace, are taken before the first kit is.

@@ -22,7 +22,7 @@ use Rattle.tc_server.proofs.NotOpened.{asked_unopened, asked_without_room}
 use Rattle.tc_server.proofs.OpenedWorlds.{begins_first, stand_opened}
 use Rattle.tc_server.proofs.OverEngines.{unwritten_all}
 use Rattle.tc_server.proofs.RunKits.{all_begun, asked_all, disk_all, disk_within, judged_all, layout_run, none_fell_all, spent_all, usage_run}
-use Rattle.tc_server.proofs.Unopened.{given_back_all, judged_nothing, kits_ended, last_many, next_back, one_at_most, others_back, unasked_back, IsEnded}
+use Rattle.tc_server.proofs.Unopened.{given_back_all, if_read, kits_ended, last_many, next_back, no_cause, nothing_back, one_at_most, others_back, unasked_back, IsEnded}
 use Rattle.tc_server.proofs.server.serve_asked.Goals as goal
 
 pub returns-in-Err-clause-ran : goal.returns-in-Err-clause-ran
@@ -30,20 +30,34 @@ returns-in-Err-clause-ran g c =
     let none = ap (λ kits. kits.items) c.of.ensures.kits ∙ c.new.ensures.items in
     rw (c.of.ensures.fault, none) (λ first begins. asked_without_room c.args.asked.now first (g.H.Shelf.files c.args.shelf.now) (g.I.Source.left c.args.source.now) (g.O.Sink.taken c.args.sink.now) begins)
 
-pub returns-in-Err-clause-judged : goal.returns-in-Err-clause-judged
-returns-in-Err-clause-judged g c =
+pub returns-in-Err-clause-back : goal.returns-in-Err-clause-back
+returns-in-Err-clause-back g c =
     let none = ap (λ kits. kits.items) c.of.ensures.kits ∙ c.new.ensures.items in
-    rw (c.of.ensures.fault, none) (judged_nothing g.H.Store.Frozen.Frozen.content g.H.Store.Frozen.Frozen.name (options_asked c.args.asked.now).partitions (g.H.Shelf.files c.args.shelf.now) (Some Memory))
+    rw (c.of.ensures.fault, none) (nothing_back refl (options_asked c.args.asked.now).partitions (g.H.Shelf.faults c.args.shelf.now) (g.H.Shelf.files c.args.shelf.now) (g.H.Shelf.kit_faults c.args.shelf.now) Memory _ (inr refl))
+
+pub returns-in-Err-clause-cause : goal.returns-in-Err-clause-cause
+returns-in-Err-clause-cause g c =
+    let none = ap (λ kits. kits.items) c.of.ensures.kits ∙ c.new.ensures.items in
+    rw (c.of.ensures.fault, none) (no_cause g.row.H-Store-Watch.Denot g.H.Store.Frozen.Frozen.content g.H.Store.Frozen.Frozen.name g.H.Store.Frozen.Frozen.size (Some c.args.asked.now) (g.I.Source.left c.args.source.now)
+    (g.I.Source.faults c.args.source.now) (g.O.Sink.faults c.args.sink.now) (g.H.Shelf.faults c.args.shelf.now) (g.H.Shelf.files c.args.shelf.now) (g.H.Shelf.kit_faults c.args.shelf.now) Memory _ _
+    (inr refl) (λ same. absurd (cc)))
 
 pub returns-in-Err-with_capacity-clause-ran : goal.returns-in-Err-with_capacity-clause-ran
 returns-in-Err-with_capacity-clause-ran g c =
     let none = ap (λ kits. kits.items) c.of-in-Err-with_capacity.ensures.kits ∙ c.in-Ok.ensures.items in
     rw (c.of-in-Err-with_capacity.ensures.fault, none) (λ first begins. asked_without_room c.args.asked.now first (g.H.Shelf.files c.args.shelf.now) (g.I.Source.left c.args.source.now) (g.O.Sink.taken c.args.sink.now) begins)
 
-pub returns-in-Err-with_capacity-clause-judged : goal.returns-in-Err-with_capacity-clause-judged
-returns-in-Err-with_capacity-clause-judged g c =
+pub returns-in-Err-with_capacity-clause-back : goal.returns-in-Err-with_capacity-clause-back
+returns-in-Err-with_capacity-clause-back g c =
     let none = ap (λ kits. kits.items) c.of-in-Err-with_capacity.ensures.kits ∙ c.in-Ok.ensures.items in
-    rw (c.of-in-Err-with_capacity.ensures.fault, none) (judged_nothing g.H.Store.Frozen.Frozen.content g.H.Store.Frozen.Frozen.name (options_asked c.args.asked.now).partitions (g.H.Shelf.files c.args.shelf.now) (Some Memory))
+    rw (c.of-in-Err-with_capacity.ensures.fault, none) (nothing_back refl (options_asked c.args.asked.now).partitions (g.H.Shelf.faults c.args.shelf.now) (g.H.Shelf.files c.args.shelf.now) (g.H.Shelf.kit_faults c.args.shelf.now) Memory _ (inr refl))
+
+pub returns-in-Err-with_capacity-clause-cause : goal.returns-in-Err-with_capacity-clause-cause
+returns-in-Err-with_capacity-clause-cause g c =
+    let none = ap (λ kits. kits.items) c.of-in-Err-with_capacity.ensures.kits ∙ c.in-Ok.ensures.items in
+    rw (c.of-in-Err-with_capacity.ensures.fault, none) (no_cause g.row.H-Store-Watch.Denot g.H.Store.Frozen.Frozen.content g.H.Store.Frozen.Frozen.name g.H.Store.Frozen.Frozen.size (Some c.args.asked.now) (g.I.Source.left c.args.source.now)
+    (g.I.Source.faults c.args.source.now) (g.O.Sink.faults c.args.sink.now) (g.H.Shelf.faults c.args.shelf.now) (g.H.Shelf.files c.args.shelf.now) (g.H.Shelf.kit_faults c.args.shelf.now) Memory _ _
+    (inr refl) (λ same. absurd (cc)))
 
 pub serve_over-kits-requires-clause-all : goal.serve_over-kits-requires-clause-all
 serve_over-kits-requires-clause-all g c κs within = c.in-Ok-open_all.ensures.all ∙ ap (λ (o : Options). o.partitions) c.options_asked-options.ensures
@@ -83,99 +97,63 @@ returns-in-Ok-open_all-clause-prompt g c =
     g.H.Store.Watch.Watch.counts) (options_asked c.args.asked.now) Ascends-stored (g.H.Shelf.files c.args.shelf.now) (g.H.Shelf.kit_faults c.args.shelf.now)
     c.open_all.new.engines first all opened begins)
 
-pub returns-in-Ok-open_all-clause-kits : goal.returns-in-Ok-open_all-clause-kits
-returns-in-Ok-open_all-clause-kits g c =
-    let kits = ap (λ kits. kits.items) c.of-in-Ok-open_all.ensures.kits in
-    rw kits (omega (arith, c.serve_over-kits.ensures.kits))
-
-pub returns-in-Ok-open_all-clause-asked : goal.returns-in-Ok-open_all-clause-asked
-returns-in-Ok-open_all-clause-asked g c =
-    let kits = ap (λ kits. kits.items) c.of-in-Ok-open_all.ensures.kits in
-    rw (c.of-in-Ok-open_all.ensures.fault, kits, c.serve_over-kits.ensures.kits)
-    (asked_all (options_asked c.args.asked.now).partitions c.serve_over-kits.result.1 c.requires.partitions.0 c.serve_over-kits.ensures.kind
-    (disk_within _ (λ q. q < (options_asked c.args.asked.now).partitions) c.serve_over-kits.result.1 (λ q d. d.0) c.serve_over-kits.ensures.disk)
-    c.serve_over-kits.ensures.damaged)
-
-pub returns-in-Ok-open_all-clause-counts : goal.returns-in-Ok-open_all-clause-counts
-returns-in-Ok-open_all-clause-counts g c =
+pub returns-in-Ok-open_all-clause-back : goal.returns-in-Ok-open_all-clause-back
+returns-in-Ok-open_all-clause-back g c =
     let kits = ap (λ kits. kits.items) c.of-in-Ok-open_all.ensures.kits in
     let opened = subst (λ o. AreOpened (eyes g.H.Store.Store.history g.H.Store.Device.Device.history g.H.Store.Frozen.Frozen.content g.H.Store.Device.Device.name
     g.H.Store.Frozen.Frozen.size g.H.Store.Watch.Watch.counts) o (g.H.Shelf.files c.args.shelf.now) (g.H.Shelf.kit_faults c.args.shelf.now) c.open_all.new.engines)
     c.options_asked-options.ensures c.open_all.ensures.opened in
-    rw kits (
-      c.open_all.ensures.faults,
-      none_fell_all (eyes g.H.Store.Store.history g.H.Store.Device.Device.history g.H.Store.Frozen.Frozen.content
+    let all : length c.open_all.new.engines ≡ (options_asked c.args.asked.now).partitions = c.in-Ok-open_all.ensures.all ∙ ap (λ (o : Options). o.partitions) c.options_asked-options.ensures in
+    record {
+      few = rw kits (omega (arith, c.serve_over-kits.ensures.kits));
+      asked = rw (c.of-in-Ok-open_all.ensures.fault, kits, c.serve_over-kits.ensures.kits)
+          (asked_all (options_asked c.args.asked.now).partitions c.serve_over-kits.result.1 c.requires.partitions.0 c.serve_over-kits.ensures.kind
+          (disk_within _ (λ q. q < (options_asked c.args.asked.now).partitions) c.serve_over-kits.result.1 (λ q d. d.0) c.serve_over-kits.ensures.disk)
+          c.serve_over-kits.ensures.damaged);
+      none_fell = rw kits (
+        c.open_all.ensures.faults,
+        none_fell_all (eyes g.H.Store.Store.history g.H.Store.Device.Device.history g.H.Store.Frozen.Frozen.content
+            g.H.Store.Device.Device.name g.H.Store.Frozen.Frozen.size g.H.Store.Watch.Watch.counts) (λ (kit : Kit _ _ _ _). g.H.Store.Store.history kit.store)
+            (faults_in g.H.Store.Watch.Watch.counts) (options_asked c.args.asked.now) (g.H.Shelf.files c.args.shelf.now) (g.H.Shelf.kit_faults c.args.shelf.now)
+            c.open_all.new.engines opened c.serve_over-kits.result.0.items c.serve_over-kits.ensures.counts,
+      );
+      others = rw (kits, c.serve_over-kits.ensures.kits, ← all) (λ other behind. c.open_all.ensures.others other behind);
+      next = rw (kits, c.serve_over-kits.ensures.kits, ← all) (inl c.in-Ok-open_all.ensures.next);
+      unasked = rw kits (λ none. absurd (omega (arith, ap length none, c.serve_over-kits.ensures.kits, c.requires.partitions.0)));
+    }
+
+pub returns-in-Ok-open_all-clause-cause : goal.returns-in-Ok-open_all-clause-cause
+returns-in-Ok-open_all-clause-cause g c =
+    let kits = ap (λ kits. kits.items) c.of-in-Ok-open_all.ensures.kits in
+    let opened = subst (λ o. AreOpened (eyes g.H.Store.Store.history g.H.Store.Device.Device.history g.H.Store.Frozen.Frozen.content g.H.Store.Device.Device.name
+    g.H.Store.Frozen.Frozen.size g.H.Store.Watch.Watch.counts) o (g.H.Shelf.files c.args.shelf.now) (g.H.Shelf.kit_faults c.args.shelf.now) c.open_all.new.engines)
+    c.options_asked-options.ensures c.open_all.ensures.opened in
+    let all : length c.open_all.new.engines ≡ (options_asked c.args.asked.now).partitions = c.in-Ok-open_all.ensures.all ∙ ap (λ (o : Options). o.partitions) c.options_asked-options.ensures in
+    record {
+      usage = rw c.of-in-Ok-open_all.ensures.fault (λ same. absurd (usage_run c.serve_over-kits.result.1 c.serve_over-kits.ensures.kind same));
+      read = rw c.of-in-Ok-open_all.ensures.fault (if_read (Rose (g.I.Source.faults c.args.source.now) (g.I.Source.faults c.serve_over-kits.new.source)) c.serve_over-kits.result.1 c.serve_over-kits.ensures.read);
+      write = rw c.of-in-Ok-open_all.ensures.fault c.serve_over-kits.ensures.write;
+      disk = rw (c.of-in-Ok-open_all.ensures.fault, kits) (disk_all (eyes g.H.Store.Store.history g.H.Store.Device.Device.history g.H.Store.Frozen.Frozen.content
           g.H.Store.Device.Device.name g.H.Store.Frozen.Frozen.size g.H.Store.Watch.Watch.counts) (λ (kit : Kit _ _ _ _). g.H.Store.Store.history kit.store)
           (faults_in g.H.Store.Watch.Watch.counts) (options_asked c.args.asked.now) (g.H.Shelf.files c.args.shelf.now) (g.H.Shelf.kit_faults c.args.shelf.now)
-          c.open_all.new.engines opened c.serve_over-kits.result.0.items c.serve_over-kits.ensures.counts,
-    )
-
-pub returns-in-Ok-open_all-clause-other_kits : goal.returns-in-Ok-open_all-clause-other_kits
-returns-in-Ok-open_all-clause-other_kits g c =
-    let kits = ap (λ kits. kits.items) c.of-in-Ok-open_all.ensures.kits in
-    let all : length c.open_all.new.engines ≡ (options_asked c.args.asked.now).partitions = c.in-Ok-open_all.ensures.all ∙ ap (λ (o : Options). o.partitions) c.options_asked-options.ensures in
-    rw (kits, c.serve_over-kits.ensures.kits, ← all) (λ other behind. c.open_all.ensures.others other behind)
-
-pub returns-in-Ok-open_all-clause-next_kit : goal.returns-in-Ok-open_all-clause-next_kit
-returns-in-Ok-open_all-clause-next_kit g c =
-    let kits = ap (λ kits. kits.items) c.of-in-Ok-open_all.ensures.kits in
-    let all : length c.open_all.new.engines ≡ (options_asked c.args.asked.now).partitions = c.in-Ok-open_all.ensures.all ∙ ap (λ (o : Options). o.partitions) c.options_asked-options.ensures in
-    rw (kits, c.serve_over-kits.ensures.kits, ← all) (inl c.in-Ok-open_all.ensures.next)
-
-pub returns-in-Ok-open_all-clause-unasked : goal.returns-in-Ok-open_all-clause-unasked
-returns-in-Ok-open_all-clause-unasked g c =
-    let kits = ap (λ kits. kits.items) c.of-in-Ok-open_all.ensures.kits in
-    rw kits (λ none. absurd (omega (arith, ap length none, c.serve_over-kits.ensures.kits, c.requires.partitions.0)))
-
-pub returns-in-Ok-open_all-clause-usage : goal.returns-in-Ok-open_all-clause-usage
-returns-in-Ok-open_all-clause-usage g c =
-    rw c.of-in-Ok-open_all.ensures.fault (usage_run c.serve_over-kits.result.1 c.serve_over-kits.ensures.kind)
-
-pub returns-in-Ok-open_all-clause-disk : goal.returns-in-Ok-open_all-clause-disk
-returns-in-Ok-open_all-clause-disk g c =
-    let kits = ap (λ kits. kits.items) c.of-in-Ok-open_all.ensures.kits in
-    let opened = subst (λ o. AreOpened (eyes g.H.Store.Store.history g.H.Store.Device.Device.history g.H.Store.Frozen.Frozen.content g.H.Store.Device.Device.name
-    g.H.Store.Frozen.Frozen.size g.H.Store.Watch.Watch.counts) o (g.H.Shelf.files c.args.shelf.now) (g.H.Shelf.kit_faults c.args.shelf.now) c.open_all.new.engines)
-    c.options_asked-options.ensures c.open_all.ensures.opened in
-    let all : length c.open_all.new.engines ≡ (options_asked c.args.asked.now).partitions = c.in-Ok-open_all.ensures.all ∙ ap (λ (o : Options). o.partitions) c.options_asked-options.ensures in
-    rw (c.of-in-Ok-open_all.ensures.fault, kits) (disk_all (eyes g.H.Store.Store.history g.H.Store.Device.Device.history g.H.Store.Frozen.Frozen.content
-    g.H.Store.Device.Device.name g.H.Store.Frozen.Frozen.size g.H.Store.Watch.Watch.counts) (λ (kit : Kit _ _ _ _). g.H.Store.Store.history kit.store)
-    (faults_in g.H.Store.Watch.Watch.counts) (options_asked c.args.asked.now) (g.H.Shelf.files c.args.shelf.now) (g.H.Shelf.kit_faults c.args.shelf.now)
-    c.open_all.new.engines opened (g.H.Shelf.faults c.args.shelf.now) (g.H.Shelf.faults c.open_all.new.shelf) c.serve_over-kits.result.0.items
-    c.serve_over-kits.result.1
-    (disk_within _ (λ q. (q < length c.open_all.new.engines) × AtEach
-    (λ p e k. p ≡ q → OneRose (faults_at g.H.Store.Watch.Watch.counts e) (faults_in g.H.Store.Watch.Watch.counts k)) 0 c.open_all.new.engines
-    c.serve_over-kits.result.0.items) c.serve_over-kits.result.1 (λ q d. (subst (λ n. q < n) (sym all) d.0, d.1)) c.serve_over-kits.ensures.disk))
-
-pub returns-in-Ok-open_all-clause-judged : goal.returns-in-Ok-open_all-clause-judged
-returns-in-Ok-open_all-clause-judged g c =
-    let kits = ap (λ kits. kits.items) c.of-in-Ok-open_all.ensures.kits in
-    let opened = subst (λ o. AreOpened (eyes g.H.Store.Store.history g.H.Store.Device.Device.history g.H.Store.Frozen.Frozen.content g.H.Store.Device.Device.name
-    g.H.Store.Frozen.Frozen.size g.H.Store.Watch.Watch.counts) o (g.H.Shelf.files c.args.shelf.now) (g.H.Shelf.kit_faults c.args.shelf.now) c.open_all.new.engines)
-    c.options_asked-options.ensures c.open_all.ensures.opened in
-    let all : length c.open_all.new.engines ≡ (options_asked c.args.asked.now).partitions = c.in-Ok-open_all.ensures.all ∙ ap (λ (o : Options). o.partitions) c.options_asked-options.ensures in
-    rw (c.of-in-Ok-open_all.ensures.fault, kits) (judged_all (eyes g.H.Store.Store.history g.H.Store.Device.Device.history g.H.Store.Frozen.Frozen.content
-    g.H.Store.Device.Device.name g.H.Store.Frozen.Frozen.size g.H.Store.Watch.Watch.counts)
-    (λ (kit : Kit g.row.H-Store.Denot g.row.H-Store-Watch.Denot g.row.H-Store-Device.Denot g.row.H-Store-Frozen.Denot). g.H.Store.Store.history kit.store)
-    (faults_in g.H.Store.Watch.Watch.counts) (options_asked c.args.asked.now) (g.H.Shelf.files c.args.shelf.now) (g.H.Shelf.kit_faults c.args.shelf.now)
-    c.open_all.new.engines opened g.H.Store.Frozen.Frozen.name c.serve_over-kits.result.0.items c.serve_over-kits.result.1 all
-    c.serve_over-kits.ensures.counts c.serve_over-kits.ensures.kind)
-
-pub returns-in-Ok-open_all-clause-layout : goal.returns-in-Ok-open_all-clause-layout
-returns-in-Ok-open_all-clause-layout g c =
-    rw c.of-in-Ok-open_all.ensures.fault (layout_run g.row.H-Store-Watch.Denot g.H.Store.Frozen.Frozen.size g.H.Store.Frozen.Frozen.name c.serve_over-kits.result.1 c.serve_over-kits.ensures.kind)
-
-pub returns-in-Ok-open_all-clause-spent : goal.returns-in-Ok-open_all-clause-spent
-returns-in-Ok-open_all-clause-spent g c =
-    let kits = ap (λ kits. kits.items) c.of-in-Ok-open_all.ensures.kits in
-    let opened = subst (λ o. AreOpened (eyes g.H.Store.Store.history g.H.Store.Device.Device.history g.H.Store.Frozen.Frozen.content g.H.Store.Device.Device.name
-    g.H.Store.Frozen.Frozen.size g.H.Store.Watch.Watch.counts) o (g.H.Shelf.files c.args.shelf.now) (g.H.Shelf.kit_faults c.args.shelf.now) c.open_all.new.engines)
-    c.options_asked-options.ensures c.open_all.ensures.opened in
-    rw (c.of-in-Ok-open_all.ensures.fault, kits) (λ is. ⊎_elim (λ input. inl input)
-    (λ last. inr (spent_all (eyes g.H.Store.Store.history g.H.Store.Device.Device.history g.H.Store.Frozen.Frozen.content g.H.Store.Device.Device.name
-    g.H.Store.Frozen.Frozen.size g.H.Store.Watch.Watch.counts) (λ (kit : Kit _ _ _ _). g.H.Store.Store.history kit.store) (faults_in g.H.Store.Watch.Watch.counts)
-    (options_asked c.args.asked.now) (g.H.Shelf.files c.args.shelf.now) (g.H.Shelf.kit_faults c.args.shelf.now) c.open_all.new.engines opened
-    c.serve_over-kits.result.0.items last)) (c.serve_over-kits.ensures.spent is))
+          c.open_all.new.engines opened (g.H.Shelf.faults c.args.shelf.now) (g.H.Shelf.faults c.open_all.new.shelf) c.serve_over-kits.result.0.items
+          c.serve_over-kits.result.1
+          (disk_within _ (λ q. (q < length c.open_all.new.engines) × AtEach
+          (λ p e k. p ≡ q → OneRose (faults_at g.H.Store.Watch.Watch.counts e) (faults_in g.H.Store.Watch.Watch.counts k)) 0 c.open_all.new.engines
+          c.serve_over-kits.result.0.items) c.serve_over-kits.result.1 (λ q d. (subst (λ n. q < n) (sym all) d.0, d.1)) c.serve_over-kits.ensures.disk));
+      judged = rw (c.of-in-Ok-open_all.ensures.fault, kits) (judged_all (eyes g.H.Store.Store.history g.H.Store.Device.Device.history g.H.Store.Frozen.Frozen.content
+          g.H.Store.Device.Device.name g.H.Store.Frozen.Frozen.size g.H.Store.Watch.Watch.counts)
+          (λ (kit : Kit g.row.H-Store.Denot g.row.H-Store-Watch.Denot g.row.H-Store-Device.Denot g.row.H-Store-Frozen.Denot). g.H.Store.Store.history kit.store)
+          (faults_in g.H.Store.Watch.Watch.counts) (options_asked c.args.asked.now) (g.H.Shelf.files c.args.shelf.now) (g.H.Shelf.kit_faults c.args.shelf.now)
+          c.open_all.new.engines opened g.H.Store.Frozen.Frozen.name c.serve_over-kits.result.0.items c.serve_over-kits.result.1 all
+          c.serve_over-kits.ensures.counts c.serve_over-kits.ensures.kind);
+      layout = rw c.of-in-Ok-open_all.ensures.fault (layout_run g.row.H-Store-Watch.Denot g.H.Store.Frozen.Frozen.size g.H.Store.Frozen.Frozen.name c.serve_over-kits.result.1 c.serve_over-kits.ensures.kind);
+      spent = rw (c.of-in-Ok-open_all.ensures.fault, kits) (λ is. ⊎_elim (λ input. inl input)
+          (λ last. inr (spent_all (eyes g.H.Store.Store.history g.H.Store.Device.Device.history g.H.Store.Frozen.Frozen.content g.H.Store.Device.Device.name
+          g.H.Store.Frozen.Frozen.size g.H.Store.Watch.Watch.counts) (λ (kit : Kit _ _ _ _). g.H.Store.Store.history kit.store) (faults_in g.H.Store.Watch.Watch.counts)
+          (options_asked c.args.asked.now) (g.H.Shelf.files c.args.shelf.now) (g.H.Shelf.kit_faults c.args.shelf.now) c.open_all.new.engines opened
+          c.serve_over-kits.result.0.items last)) (c.serve_over-kits.ensures.spent is));
+    }
 
 pub returns-in-Err-open_all-clause-ran : goal.returns-in-Err-open_all-clause-ran
 returns-in-Err-open_all-clause-ran g c =
@@ -201,8 +179,8 @@ returns-in-Err-open_all-clause-ran g c =
     c.close_all-closed.ensures.3) back c.in-Err-open_all.ensures.not_given in
     rw (c.of-in-Err-open_all.ensures.fault, kits) (λ first begins. asked_unopened c.args.asked.now c.in-Err-open_all.field-0.fault first (g.H.Shelf.files c.args.shelf.now) (g.I.Source.left c.args.source.now) (g.O.Sink.taken c.args.sink.now) _ b.by begins (b.sound first begins) b.few b.keep)
 
-pub returns-in-Err-open_all-clause-kits : goal.returns-in-Err-open_all-clause-kits
-returns-in-Err-open_all-clause-kits g c =
+pub returns-in-Err-open_all-clause-back : goal.returns-in-Err-open_all-clause-back
+returns-in-Err-open_all-clause-back g c =
     let ks = map (λ (f : finished _ _ _ _). f.kit) c.close_all-closed.ensures.0 in
     let last = c.in-Err-open_all.field-0.kit in
     let same = c.close_all-closed.ensures.1 ∙ ap (λ more. ks ++ more) c.with_kit.ensures.items in
@@ -224,63 +202,6 @@ returns-in-Err-open_all-clause-kits g c =
     (λ (kit : Kit _ _ _ _). g.H.Store.Store.history kit.store) (faults_in g.H.Store.Watch.Watch.counts) c.open_all.new.engines c.close_all-closed.ensures.0
     c.close_all-closed.ensures.3) back c.in-Err-open_all.ensures.not_given in
     let many = length-map (ks ++ option_to_list last) (λ (kit : Kit _ _ _ _). g.H.Store.Store.history kit.store) in
-    rw kits (omega (arith, many, b.few))
-
-pub returns-in-Err-open_all-clause-asked : goal.returns-in-Err-open_all-clause-asked
-returns-in-Err-open_all-clause-asked g c =
-    let ks = map (λ (f : finished _ _ _ _). f.kit) c.close_all-closed.ensures.0 in
-    let last = c.in-Err-open_all.field-0.kit in
-    let same = c.close_all-closed.ensures.1 ∙ ap (λ more. ks ++ more) c.with_kit.ensures.items in
-    let kits = ap (λ kits. kits.items) c.of-in-Err-open_all.ensures.kits ∙ same in
-    let opened = subst (λ o. AreOpened (eyes g.H.Store.Store.history g.H.Store.Device.Device.history g.H.Store.Frozen.Frozen.content g.H.Store.Device.Device.name
-    g.H.Store.Frozen.Frozen.size g.H.Store.Watch.Watch.counts) o (g.H.Shelf.files c.args.shelf.now) (g.H.Shelf.kit_faults c.args.shelf.now) c.open_all.new.engines)
-    c.options_asked-options.ensures c.open_all.ensures.opened in
-    let some : length c.open_all.new.engines < (options_asked c.args.asked.now).partitions = subst (λ (o : Options). length c.open_all.new.engines < o.partitions) c.options_asked-options.ensures c.in-Err-open_all.ensures.some in
-    let back = subst (λ (o : Options). IfSome last (λ kit. IsGivenBack g.H.Store.Frozen.Frozen.content g.H.Store.Frozen.Frozen.name (partition_at (length c.open_all.new.engines) o.partitions)
-    (g.H.Shelf.files c.args.shelf.now (length c.open_all.new.engines)) (g.H.Shelf.kit_faults c.args.shelf.now (length c.open_all.new.engines))
-    c.in-Err-open_all.field-0.fault (g.H.Store.Store.history kit.store) (faults_in g.H.Store.Watch.Watch.counts kit))) c.options_asked-options.ensures
-    c.in-Err-open_all.ensures.back in
-    let b = given_back_all (eyes g.H.Store.Store.history g.H.Store.Device.Device.history g.H.Store.Frozen.Frozen.content g.H.Store.Device.Device.name
-    g.H.Store.Frozen.Frozen.size g.H.Store.Watch.Watch.counts) g.H.Store.Frozen.Frozen.name g.H.Store.Device.Device.size (λ (kit : Kit _ _ _ _). g.H.Store.Store.history kit.store)
-    (faults_in g.H.Store.Watch.Watch.counts) (options_asked c.args.asked.now) (g.H.Shelf.files c.args.shelf.now) (g.H.Shelf.kit_faults c.args.shelf.now)
-    (g.H.Shelf.faults c.args.shelf.now) (g.H.Shelf.faults c.open_all.new.shelf) c.open_all.new.engines ks last c.in-Err-open_all.field-0.fault some opened
-    (kits_ended (eyes g.H.Store.Store.history g.H.Store.Device.Device.history g.H.Store.Frozen.Frozen.content g.H.Store.Device.Device.name
-    g.H.Store.Frozen.Frozen.size g.H.Store.Watch.Watch.counts) g.H.Store.Device.Device.size (λ (f : finished _ _ _ _). f.kit) (λ (f : finished _ _ _ _). f.outcome)
-    (λ (kit : Kit _ _ _ _). g.H.Store.Store.history kit.store) (faults_in g.H.Store.Watch.Watch.counts) c.open_all.new.engines c.close_all-closed.ensures.0
-    c.close_all-closed.ensures.3) back c.in-Err-open_all.ensures.not_given in
-    let many = length-map (ks ++ option_to_list last) (λ (kit : Kit _ _ _ _). g.H.Store.Store.history kit.store) in
-    rw (c.of-in-Err-open_all.ensures.fault, kits) (subst (AreAsked (options_asked c.args.asked.now).partitions (Some c.in-Err-open_all.field-0.fault)) many b.asked)
-
-pub returns-in-Err-open_all-clause-counts : goal.returns-in-Err-open_all-clause-counts
-returns-in-Err-open_all-clause-counts g c =
-    let ks = map (λ (f : finished _ _ _ _). f.kit) c.close_all-closed.ensures.0 in
-    let last = c.in-Err-open_all.field-0.kit in
-    let same = c.close_all-closed.ensures.1 ∙ ap (λ more. ks ++ more) c.with_kit.ensures.items in
-    let kits = ap (λ kits. kits.items) c.of-in-Err-open_all.ensures.kits ∙ same in
-    let opened = subst (λ o. AreOpened (eyes g.H.Store.Store.history g.H.Store.Device.Device.history g.H.Store.Frozen.Frozen.content g.H.Store.Device.Device.name
-    g.H.Store.Frozen.Frozen.size g.H.Store.Watch.Watch.counts) o (g.H.Shelf.files c.args.shelf.now) (g.H.Shelf.kit_faults c.args.shelf.now) c.open_all.new.engines)
-    c.options_asked-options.ensures c.open_all.ensures.opened in
-    let some : length c.open_all.new.engines < (options_asked c.args.asked.now).partitions = subst (λ (o : Options). length c.open_all.new.engines < o.partitions) c.options_asked-options.ensures c.in-Err-open_all.ensures.some in
-    let back = subst (λ (o : Options). IfSome last (λ kit. IsGivenBack g.H.Store.Frozen.Frozen.content g.H.Store.Frozen.Frozen.name (partition_at (length c.open_all.new.engines) o.partitions)
-    (g.H.Shelf.files c.args.shelf.now (length c.open_all.new.engines)) (g.H.Shelf.kit_faults c.args.shelf.now (length c.open_all.new.engines))
-    c.in-Err-open_all.field-0.fault (g.H.Store.Store.history kit.store) (faults_in g.H.Store.Watch.Watch.counts kit))) c.options_asked-options.ensures
-    c.in-Err-open_all.ensures.back in
-    let b = given_back_all (eyes g.H.Store.Store.history g.H.Store.Device.Device.history g.H.Store.Frozen.Frozen.content g.H.Store.Device.Device.name
-    g.H.Store.Frozen.Frozen.size g.H.Store.Watch.Watch.counts) g.H.Store.Frozen.Frozen.name g.H.Store.Device.Device.size (λ (kit : Kit _ _ _ _). g.H.Store.Store.history kit.store)
-    (faults_in g.H.Store.Watch.Watch.counts) (options_asked c.args.asked.now) (g.H.Shelf.files c.args.shelf.now) (g.H.Shelf.kit_faults c.args.shelf.now)
-    (g.H.Shelf.faults c.args.shelf.now) (g.H.Shelf.faults c.open_all.new.shelf) c.open_all.new.engines ks last c.in-Err-open_all.field-0.fault some opened
-    (kits_ended (eyes g.H.Store.Store.history g.H.Store.Device.Device.history g.H.Store.Frozen.Frozen.content g.H.Store.Device.Device.name
-    g.H.Store.Frozen.Frozen.size g.H.Store.Watch.Watch.counts) g.H.Store.Device.Device.size (λ (f : finished _ _ _ _). f.kit) (λ (f : finished _ _ _ _). f.outcome)
-    (λ (kit : Kit _ _ _ _). g.H.Store.Store.history kit.store) (faults_in g.H.Store.Watch.Watch.counts) c.open_all.new.engines c.close_all-closed.ensures.0
-    c.close_all-closed.ensures.3) back c.in-Err-open_all.ensures.not_given in
-    rw kits (c.open_all.ensures.faults, b.none_fell)
-
-pub returns-in-Err-open_all-clause-other_kits : goal.returns-in-Err-open_all-clause-other_kits
-returns-in-Err-open_all-clause-other_kits g c =
-    let ks = map (λ (f : finished _ _ _ _). f.kit) c.close_all-closed.ensures.0 in
-    let last = c.in-Err-open_all.field-0.kit in
-    let same = c.close_all-closed.ensures.1 ∙ ap (λ more. ks ++ more) c.with_kit.ensures.items in
-    let kits = ap (λ kits. kits.items) c.of-in-Err-open_all.ensures.kits ∙ same in
     let placed = last_many (λ (p : ℕ) e (kit : Kit _ _ _ _). IsEnded
     (eyes g.H.Store.Store.history g.H.Store.Device.Device.history g.H.Store.Frozen.Frozen.content g.H.Store.Device.Device.name g.H.Store.Frozen.Frozen.size
     g.H.Store.Watch.Watch.counts) g.H.Store.Device.Device.size (λ (kit : Kit _ _ _ _). g.H.Store.Store.history kit.store) (faults_in g.H.Store.Watch.Watch.counts)
@@ -289,50 +210,31 @@ returns-in-Err-open_all-clause-other_kits g c =
     g.H.Store.Frozen.Frozen.size g.H.Store.Watch.Watch.counts) g.H.Store.Device.Device.size (λ (f : finished _ _ _ _). f.kit) (λ (f : finished _ _ _ _). f.outcome)
     (λ (kit : Kit _ _ _ _). g.H.Store.Store.history kit.store) (faults_in g.H.Store.Watch.Watch.counts) c.open_all.new.engines c.close_all-closed.ensures.0
     c.close_all-closed.ensures.3) in
-    rw kits (others_back (λ other. (g.H.Shelf.files c.open_all.new.shelf other ≡ g.H.Shelf.files c.args.shelf.now other)
-    × (g.H.Shelf.kit_faults c.open_all.new.shelf other ≡ g.H.Shelf.kit_faults c.args.shelf.now other)) (length c.open_all.new.engines)
-    (length (ks ++ option_to_list last)) last placed c.open_all.ensures.others)
+    record {
+      few = rw kits (omega (arith, many, b.few));
+      asked = rw (c.of-in-Err-open_all.ensures.fault, kits) (subst (AreAsked (options_asked c.args.asked.now).partitions (Some c.in-Err-open_all.field-0.fault)) many b.asked);
+      none_fell = rw kits (c.open_all.ensures.faults, b.none_fell);
+      others = rw kits (others_back (λ other. (g.H.Shelf.files c.open_all.new.shelf other ≡ g.H.Shelf.files c.args.shelf.now other)
+          × (g.H.Shelf.kit_faults c.open_all.new.shelf other ≡ g.H.Shelf.kit_faults c.args.shelf.now other)) (length c.open_all.new.engines)
+          (length (ks ++ option_to_list last)) last placed c.open_all.ensures.others);
+      next = rw kits (next_back (λ other. (g.H.Shelf.files c.open_all.new.shelf other ≡ g.H.Shelf.files c.args.shelf.now other)
+          × (g.H.Shelf.kit_faults c.open_all.new.shelf other ≡ g.H.Shelf.kit_faults c.args.shelf.now other))
+          (Rose (g.H.Shelf.faults c.args.shelf.now) (g.H.Shelf.faults c.open_all.new.shelf)) (options_asked c.args.asked.now).partitions (length c.open_all.new.engines)
+          (length (ks ++ option_to_list last)) c.in-Err-open_all.field-0.fault last placed some c.open_all.ensures.others c.in-Err-open_all.ensures.unasked
+          c.in-Err-open_all.ensures.not_given);
+      unasked = rw kits (unasked_back _ (Rose (g.H.Shelf.faults c.args.shelf.now) (g.H.Shelf.faults c.open_all.new.shelf)) c.open_all.new.engines (ks ++ option_to_list last)
+          (length c.open_all.new.engines) c.in-Err-open_all.field-0.fault last refl placed c.in-Err-open_all.ensures.not_given c.in-Err-open_all.ensures.same);
+    }
 
-pub returns-in-Err-open_all-clause-next_kit : goal.returns-in-Err-open_all-clause-next_kit
-returns-in-Err-open_all-clause-next_kit g c =
-    let ks = map (λ (f : finished _ _ _ _). f.kit) c.close_all-closed.ensures.0 in
-    let last = c.in-Err-open_all.field-0.kit in
-    let same = c.close_all-closed.ensures.1 ∙ ap (λ more. ks ++ more) c.with_kit.ensures.items in
-    let kits = ap (λ kits. kits.items) c.of-in-Err-open_all.ensures.kits ∙ same in
-    let some : length c.open_all.new.engines < (options_asked c.args.asked.now).partitions = subst (λ (o : Options). length c.open_all.new.engines < o.partitions) c.options_asked-options.ensures c.in-Err-open_all.ensures.some in
-    let placed = last_many (λ (p : ℕ) e (kit : Kit _ _ _ _). IsEnded
-    (eyes g.H.Store.Store.history g.H.Store.Device.Device.history g.H.Store.Frozen.Frozen.content g.H.Store.Device.Device.name g.H.Store.Frozen.Frozen.size
-    g.H.Store.Watch.Watch.counts) g.H.Store.Device.Device.size (λ (kit : Kit _ _ _ _). g.H.Store.Store.history kit.store) (faults_in g.H.Store.Watch.Watch.counts)
-    e kit) c.open_all.new.engines ks last (ks ++ option_to_list last) refl
-    (kits_ended (eyes g.H.Store.Store.history g.H.Store.Device.Device.history g.H.Store.Frozen.Frozen.content g.H.Store.Device.Device.name
-    g.H.Store.Frozen.Frozen.size g.H.Store.Watch.Watch.counts) g.H.Store.Device.Device.size (λ (f : finished _ _ _ _). f.kit) (λ (f : finished _ _ _ _). f.outcome)
-    (λ (kit : Kit _ _ _ _). g.H.Store.Store.history kit.store) (faults_in g.H.Store.Watch.Watch.counts) c.open_all.new.engines c.close_all-closed.ensures.0
-    c.close_all-closed.ensures.3) in
-    rw kits (next_back (λ other. (g.H.Shelf.files c.open_all.new.shelf other ≡ g.H.Shelf.files c.args.shelf.now other)
-    × (g.H.Shelf.kit_faults c.open_all.new.shelf other ≡ g.H.Shelf.kit_faults c.args.shelf.now other))
-    (Rose (g.H.Shelf.faults c.args.shelf.now) (g.H.Shelf.faults c.open_all.new.shelf)) (options_asked c.args.asked.now).partitions (length c.open_all.new.engines)
-    (length (ks ++ option_to_list last)) c.in-Err-open_all.field-0.fault last placed some c.open_all.ensures.others c.in-Err-open_all.ensures.unasked
-    c.in-Err-open_all.ensures.not_given)
-
-pub returns-in-Err-open_all-clause-unasked : goal.returns-in-Err-open_all-clause-unasked
-returns-in-Err-open_all-clause-unasked g c =
-    let ks = map (λ (f : finished _ _ _ _). f.kit) c.close_all-closed.ensures.0 in
-    let last = c.in-Err-open_all.field-0.kit in
-    let same = c.close_all-closed.ensures.1 ∙ ap (λ more. ks ++ more) c.with_kit.ensures.items in
-    let kits = ap (λ kits. kits.items) c.of-in-Err-open_all.ensures.kits ∙ same in
-    let placed = last_many (λ (p : ℕ) e (kit : Kit _ _ _ _). IsEnded
-    (eyes g.H.Store.Store.history g.H.Store.Device.Device.history g.H.Store.Frozen.Frozen.content g.H.Store.Device.Device.name g.H.Store.Frozen.Frozen.size
-    g.H.Store.Watch.Watch.counts) g.H.Store.Device.Device.size (λ (kit : Kit _ _ _ _). g.H.Store.Store.history kit.store) (faults_in g.H.Store.Watch.Watch.counts)
-    e kit) c.open_all.new.engines ks last (ks ++ option_to_list last) refl
-    (kits_ended (eyes g.H.Store.Store.history g.H.Store.Device.Device.history g.H.Store.Frozen.Frozen.content g.H.Store.Device.Device.name
-    g.H.Store.Frozen.Frozen.size g.H.Store.Watch.Watch.counts) g.H.Store.Device.Device.size (λ (f : finished _ _ _ _). f.kit) (λ (f : finished _ _ _ _). f.outcome)
-    (λ (kit : Kit _ _ _ _). g.H.Store.Store.history kit.store) (faults_in g.H.Store.Watch.Watch.counts) c.open_all.new.engines c.close_all-closed.ensures.0
-    c.close_all-closed.ensures.3) in
-    rw kits (unasked_back _ (Rose (g.H.Shelf.faults c.args.shelf.now) (g.H.Shelf.faults c.open_all.new.shelf)) c.open_all.new.engines (ks ++ option_to_list last)
-    (length c.open_all.new.engines) c.in-Err-open_all.field-0.fault last refl placed c.in-Err-open_all.ensures.not_given c.in-Err-open_all.ensures.same)
-
-pub returns-in-Err-open_all-clause-disk : goal.returns-in-Err-open_all-clause-disk
-returns-in-Err-open_all-clause-disk g c =
+pub returns-in-Err-open_all-clause-cause : goal.returns-in-Err-open_all-clause-cause
+returns-in-Err-open_all-clause-cause g c =
+    let ends = ends_unopened (Rose (g.H.Shelf.faults c.args.shelf.now) (g.H.Shelf.faults c.open_all.new.shelf))
+    (partition_at (length c.open_all.new.engines) c.options_asked-options.result.partitions) (length c.open_all.new.engines) c.in-Err-open_all.field-0.fault
+    (λ (kit : Kit g.row.H-Store.Denot g.row.H-Store-Watch.Denot g.row.H-Store-Device.Denot g.row.H-Store-Frozen.Denot). IsGivenBack g.H.Store.Frozen.Frozen.content g.H.Store.Frozen.Frozen.name
+    (partition_at (length c.open_all.new.engines) c.options_asked-options.result.partitions) (g.H.Shelf.files c.args.shelf.now (length c.open_all.new.engines))
+    (g.H.Shelf.kit_faults c.args.shelf.now (length c.open_all.new.engines)) c.in-Err-open_all.field-0.fault (g.H.Store.Store.history kit.store)
+    (faults_in g.H.Store.Watch.Watch.counts kit)) c.in-Err-open_all.field-0.kit (λ kit b. b.of) c.in-Err-open_all.ensures.back
+    c.in-Err-open_all.ensures.not_given in
     let ks = map (λ (f : finished _ _ _ _). f.kit) c.close_all-closed.ensures.0 in
     let last = c.in-Err-open_all.field-0.kit in
     let same = c.close_all-closed.ensures.1 ∙ ap (λ more. ks ++ more) c.with_kit.ensures.items in
@@ -353,102 +255,32 @@ returns-in-Err-open_all-clause-disk g c =
     g.H.Store.Frozen.Frozen.size g.H.Store.Watch.Watch.counts) g.H.Store.Device.Device.size (λ (f : finished _ _ _ _). f.kit) (λ (f : finished _ _ _ _). f.outcome)
     (λ (kit : Kit _ _ _ _). g.H.Store.Store.history kit.store) (faults_in g.H.Store.Watch.Watch.counts) c.open_all.new.engines c.close_all-closed.ensures.0
     c.close_all-closed.ensures.3) back c.in-Err-open_all.ensures.not_given in
-    rw (c.of-in-Err-open_all.ensures.fault, kits) b.disk
-
-pub returns-in-Err-open_all-clause-judged : goal.returns-in-Err-open_all-clause-judged
-returns-in-Err-open_all-clause-judged g c =
-    let ks = map (λ (f : finished _ _ _ _). f.kit) c.close_all-closed.ensures.0 in
-    let last = c.in-Err-open_all.field-0.kit in
-    let same = c.close_all-closed.ensures.1 ∙ ap (λ more. ks ++ more) c.with_kit.ensures.items in
-    let kits = ap (λ kits. kits.items) c.of-in-Err-open_all.ensures.kits ∙ same in
-    let opened = subst (λ o. AreOpened (eyes g.H.Store.Store.history g.H.Store.Device.Device.history g.H.Store.Frozen.Frozen.content g.H.Store.Device.Device.name
-    g.H.Store.Frozen.Frozen.size g.H.Store.Watch.Watch.counts) o (g.H.Shelf.files c.args.shelf.now) (g.H.Shelf.kit_faults c.args.shelf.now) c.open_all.new.engines)
-    c.options_asked-options.ensures c.open_all.ensures.opened in
-    let some : length c.open_all.new.engines < (options_asked c.args.asked.now).partitions = subst (λ (o : Options). length c.open_all.new.engines < o.partitions) c.options_asked-options.ensures c.in-Err-open_all.ensures.some in
-    let back = subst (λ (o : Options). IfSome last (λ kit. IsGivenBack g.H.Store.Frozen.Frozen.content g.H.Store.Frozen.Frozen.name (partition_at (length c.open_all.new.engines) o.partitions)
-    (g.H.Shelf.files c.args.shelf.now (length c.open_all.new.engines)) (g.H.Shelf.kit_faults c.args.shelf.now (length c.open_all.new.engines))
-    c.in-Err-open_all.field-0.fault (g.H.Store.Store.history kit.store) (faults_in g.H.Store.Watch.Watch.counts kit))) c.options_asked-options.ensures
-    c.in-Err-open_all.ensures.back in
-    let b = given_back_all (eyes g.H.Store.Store.history g.H.Store.Device.Device.history g.H.Store.Frozen.Frozen.content g.H.Store.Device.Device.name
-    g.H.Store.Frozen.Frozen.size g.H.Store.Watch.Watch.counts) g.H.Store.Frozen.Frozen.name g.H.Store.Device.Device.size (λ (kit : Kit _ _ _ _). g.H.Store.Store.history kit.store)
-    (faults_in g.H.Store.Watch.Watch.counts) (options_asked c.args.asked.now) (g.H.Shelf.files c.args.shelf.now) (g.H.Shelf.kit_faults c.args.shelf.now)
-    (g.H.Shelf.faults c.args.shelf.now) (g.H.Shelf.faults c.open_all.new.shelf) c.open_all.new.engines ks last c.in-Err-open_all.field-0.fault some opened
-    (kits_ended (eyes g.H.Store.Store.history g.H.Store.Device.Device.history g.H.Store.Frozen.Frozen.content g.H.Store.Device.Device.name
-    g.H.Store.Frozen.Frozen.size g.H.Store.Watch.Watch.counts) g.H.Store.Device.Device.size (λ (f : finished _ _ _ _). f.kit) (λ (f : finished _ _ _ _). f.outcome)
-    (λ (kit : Kit _ _ _ _). g.H.Store.Store.history kit.store) (faults_in g.H.Store.Watch.Watch.counts) c.open_all.new.engines c.close_all-closed.ensures.0
-    c.close_all-closed.ensures.3) back c.in-Err-open_all.ensures.not_given in
-    rw (c.of-in-Err-open_all.ensures.fault, kits) b.judged
-
-pub returns-in-Err-open_all-clause-usage : goal.returns-in-Err-open_all-clause-usage
-returns-in-Err-open_all-clause-usage g c =
-    let ends = ends_unopened (Rose (g.H.Shelf.faults c.args.shelf.now) (g.H.Shelf.faults c.open_all.new.shelf))
-    (partition_at (length c.open_all.new.engines) c.options_asked-options.result.partitions) (length c.open_all.new.engines) c.in-Err-open_all.field-0.fault
-    (λ (kit : Kit g.row.H-Store.Denot g.row.H-Store-Watch.Denot g.row.H-Store-Device.Denot g.row.H-Store-Frozen.Denot). IsGivenBack g.H.Store.Frozen.Frozen.content g.H.Store.Frozen.Frozen.name
-    (partition_at (length c.open_all.new.engines) c.options_asked-options.result.partitions) (g.H.Shelf.files c.args.shelf.now (length c.open_all.new.engines))
-    (g.H.Shelf.kit_faults c.args.shelf.now (length c.open_all.new.engines)) c.in-Err-open_all.field-0.fault (g.H.Store.Store.history kit.store)
-    (faults_in g.H.Store.Watch.Watch.counts kit)) c.in-Err-open_all.field-0.kit (λ kit b. b.of) c.in-Err-open_all.ensures.back
-    c.in-Err-open_all.ensures.not_given in
-    rw c.of-in-Err-open_all.ensures.fault (no_usage c.in-Err-open_all.field-0.fault ends)
-
-pub returns-in-Err-open_all-clause-read : goal.returns-in-Err-open_all-clause-read
-returns-in-Err-open_all-clause-read g c =
-    let ends = ends_unopened (Rose (g.H.Shelf.faults c.args.shelf.now) (g.H.Shelf.faults c.open_all.new.shelf))
-    (partition_at (length c.open_all.new.engines) c.options_asked-options.result.partitions) (length c.open_all.new.engines) c.in-Err-open_all.field-0.fault
-    (λ (kit : Kit g.row.H-Store.Denot g.row.H-Store-Watch.Denot g.row.H-Store-Device.Denot g.row.H-Store-Frozen.Denot). IsGivenBack g.H.Store.Frozen.Frozen.content g.H.Store.Frozen.Frozen.name
-    (partition_at (length c.open_all.new.engines) c.options_asked-options.result.partitions) (g.H.Shelf.files c.args.shelf.now (length c.open_all.new.engines))
-    (g.H.Shelf.kit_faults c.args.shelf.now (length c.open_all.new.engines)) c.in-Err-open_all.field-0.fault (g.H.Store.Store.history kit.store)
-    (faults_in g.H.Store.Watch.Watch.counts kit)) c.in-Err-open_all.field-0.kit (λ kit b. b.of) c.in-Err-open_all.ensures.back
-    c.in-Err-open_all.ensures.not_given in
-    rw c.of-in-Err-open_all.ensures.fault (no_read c.in-Err-open_all.field-0.fault ends)
-
-pub returns-in-Err-open_all-clause-write : goal.returns-in-Err-open_all-clause-write
-returns-in-Err-open_all-clause-write g c =
-    let ends = ends_unopened (Rose (g.H.Shelf.faults c.args.shelf.now) (g.H.Shelf.faults c.open_all.new.shelf))
-    (partition_at (length c.open_all.new.engines) c.options_asked-options.result.partitions) (length c.open_all.new.engines) c.in-Err-open_all.field-0.fault
-    (λ (kit : Kit g.row.H-Store.Denot g.row.H-Store-Watch.Denot g.row.H-Store-Device.Denot g.row.H-Store-Frozen.Denot). IsGivenBack g.H.Store.Frozen.Frozen.content g.H.Store.Frozen.Frozen.name
-    (partition_at (length c.open_all.new.engines) c.options_asked-options.result.partitions) (g.H.Shelf.files c.args.shelf.now (length c.open_all.new.engines))
-    (g.H.Shelf.kit_faults c.args.shelf.now (length c.open_all.new.engines)) c.in-Err-open_all.field-0.fault (g.H.Store.Store.history kit.store)
-    (faults_in g.H.Store.Watch.Watch.counts kit)) c.in-Err-open_all.field-0.kit (λ kit b. b.of) c.in-Err-open_all.ensures.back
-    c.in-Err-open_all.ensures.not_given in
-    rw c.of-in-Err-open_all.ensures.fault (no_write c.in-Err-open_all.field-0.fault ends)
-
-pub returns-in-Err-open_all-clause-layout : goal.returns-in-Err-open_all-clause-layout
-returns-in-Err-open_all-clause-layout g c =
-    rw c.of-in-Err-open_all.ensures.fault c.in-Err-open_all.ensures.layout
-
-pub returns-in-Err-open_all-clause-spent : goal.returns-in-Err-open_all-clause-spent
-returns-in-Err-open_all-clause-spent g c =
-    let ks = map (λ (f : finished _ _ _ _). f.kit) c.close_all-closed.ensures.0 in
-    let last = c.in-Err-open_all.field-0.kit in
-    let same = c.close_all-closed.ensures.1 ∙ ap (λ more. ks ++ more) c.with_kit.ensures.items in
-    let kits = ap (λ kits. kits.items) c.of-in-Err-open_all.ensures.kits ∙ same in
-    let opened = subst (λ o. AreOpened (eyes g.H.Store.Store.history g.H.Store.Device.Device.history g.H.Store.Frozen.Frozen.content g.H.Store.Device.Device.name
-    g.H.Store.Frozen.Frozen.size g.H.Store.Watch.Watch.counts) o (g.H.Shelf.files c.args.shelf.now) (g.H.Shelf.kit_faults c.args.shelf.now) c.open_all.new.engines)
-    c.options_asked-options.ensures c.open_all.ensures.opened in
-    let some : length c.open_all.new.engines < (options_asked c.args.asked.now).partitions = subst (λ (o : Options). length c.open_all.new.engines < o.partitions) c.options_asked-options.ensures c.in-Err-open_all.ensures.some in
-    let back = subst (λ (o : Options). IfSome last (λ kit. IsGivenBack g.H.Store.Frozen.Frozen.content g.H.Store.Frozen.Frozen.name (partition_at (length c.open_all.new.engines) o.partitions)
-    (g.H.Shelf.files c.args.shelf.now (length c.open_all.new.engines)) (g.H.Shelf.kit_faults c.args.shelf.now (length c.open_all.new.engines))
-    c.in-Err-open_all.field-0.fault (g.H.Store.Store.history kit.store) (faults_in g.H.Store.Watch.Watch.counts kit))) c.options_asked-options.ensures
-    c.in-Err-open_all.ensures.back in
-    let b = given_back_all (eyes g.H.Store.Store.history g.H.Store.Device.Device.history g.H.Store.Frozen.Frozen.content g.H.Store.Device.Device.name
-    g.H.Store.Frozen.Frozen.size g.H.Store.Watch.Watch.counts) g.H.Store.Frozen.Frozen.name g.H.Store.Device.Device.size (λ (kit : Kit _ _ _ _). g.H.Store.Store.history kit.store)
-    (faults_in g.H.Store.Watch.Watch.counts) (options_asked c.args.asked.now) (g.H.Shelf.files c.args.shelf.now) (g.H.Shelf.kit_faults c.args.shelf.now)
-    (g.H.Shelf.faults c.args.shelf.now) (g.H.Shelf.faults c.open_all.new.shelf) c.open_all.new.engines ks last c.in-Err-open_all.field-0.fault some opened
-    (kits_ended (eyes g.H.Store.Store.history g.H.Store.Device.Device.history g.H.Store.Frozen.Frozen.content g.H.Store.Device.Device.name
-    g.H.Store.Frozen.Frozen.size g.H.Store.Watch.Watch.counts) g.H.Store.Device.Device.size (λ (f : finished _ _ _ _). f.kit) (λ (f : finished _ _ _ _). f.outcome)
-    (λ (kit : Kit _ _ _ _). g.H.Store.Store.history kit.store) (faults_in g.H.Store.Watch.Watch.counts) c.open_all.new.engines c.close_all-closed.ensures.0
-    c.close_all-closed.ensures.3) back c.in-Err-open_all.ensures.not_given in
-    rw (c.of-in-Err-open_all.ensures.fault, kits) (λ is. inr (b.spent (cc)))
+    record {
+      usage = rw c.of-in-Err-open_all.ensures.fault (λ same. absurd (no_usage c.in-Err-open_all.field-0.fault ends same));
+      read = rw c.of-in-Err-open_all.ensures.fault (no_read c.in-Err-open_all.field-0.fault ends);
+      write = rw c.of-in-Err-open_all.ensures.fault (no_write c.in-Err-open_all.field-0.fault ends);
+      disk = rw (c.of-in-Err-open_all.ensures.fault, kits) b.disk;
+      judged = rw (c.of-in-Err-open_all.ensures.fault, kits) b.judged;
+      layout = rw c.of-in-Err-open_all.ensures.fault c.in-Err-open_all.ensures.layout;
+      spent = rw (c.of-in-Err-open_all.ensures.fault, kits) (λ is. inr (b.spent (cc)));
+    }
 
 pub returns-in-Err-new-clause-ran : goal.returns-in-Err-new-clause-ran
 returns-in-Err-new-clause-ran g c =
     let none = ap (λ kits. kits.items) c.of-in-Err-new.ensures.kits ∙ c.in-Ok.ensures.items in
     rw (c.of-in-Err-new.ensures.fault, none) (λ first begins. asked_without_room c.args.asked.now first (g.H.Shelf.files c.args.shelf.now) (g.I.Source.left c.args.source.now) (g.O.Sink.taken c.args.sink.now) begins)
 
-pub returns-in-Err-new-clause-judged : goal.returns-in-Err-new-clause-judged
-returns-in-Err-new-clause-judged g c =
+pub returns-in-Err-new-clause-back : goal.returns-in-Err-new-clause-back
+returns-in-Err-new-clause-back g c =
     let none = ap (λ kits. kits.items) c.of-in-Err-new.ensures.kits ∙ c.in-Ok.ensures.items in
-    rw (c.of-in-Err-new.ensures.fault, none) (judged_nothing g.H.Store.Frozen.Frozen.content g.H.Store.Frozen.Frozen.name (options_asked c.args.asked.now).partitions (g.H.Shelf.files c.args.shelf.now) (Some Memory))
+    rw (c.of-in-Err-new.ensures.fault, none) (nothing_back refl (options_asked c.args.asked.now).partitions (g.H.Shelf.faults c.args.shelf.now) (g.H.Shelf.files c.args.shelf.now) (g.H.Shelf.kit_faults c.args.shelf.now) Memory _ (inr refl))
+
+pub returns-in-Err-new-clause-cause : goal.returns-in-Err-new-clause-cause
+returns-in-Err-new-clause-cause g c =
+    let none = ap (λ kits. kits.items) c.of-in-Err-new.ensures.kits ∙ c.in-Ok.ensures.items in
+    rw (c.of-in-Err-new.ensures.fault, none) (no_cause g.row.H-Store-Watch.Denot g.H.Store.Frozen.Frozen.content g.H.Store.Frozen.Frozen.name g.H.Store.Frozen.Frozen.size (Some c.args.asked.now) (g.I.Source.left c.args.source.now)
+    (g.I.Source.faults c.args.source.now) (g.O.Sink.faults c.args.sink.now) (g.H.Shelf.faults c.args.shelf.now) (g.H.Shelf.files c.args.shelf.now) (g.H.Shelf.kit_faults c.args.shelf.now) Memory _ _
+    (inr refl) (λ same. absurd (cc)))
 
 pub serve_over-kits-requires-clause-room : goal.serve_over-kits-requires-clause-room
 serve_over-kits-requires-clause-room g c κs within = omega (arith, c.in-Ok.ensures.capacity, ap (λ (o : Options). o.partitions) c.options_asked-options.ensures)
