@@ -21,7 +21,6 @@ MOST_EDITS, MOST_EDITS_OF_ALL = 3, 60
 MOST_CLAUSES, MOST_CHARACTERS = 16, 2_500
 # The public functions whose contracts are longer today. None is added, and a name leaves once its contract is short.
 LONG_CONTRACTS = {
-    "tc_keeper": ("window",),
     "tc_open": ("open_part",),
     "tc_part": ("begin_flush", "begin_merge", "finish_flush", "finish_merge", "seal", "start"),
     "tc_replay": ("logs_are_flushed",),

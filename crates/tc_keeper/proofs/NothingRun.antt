@@ -20,6 +20,7 @@ use Rattle.tc_work.specs.Reads.{live_in, most_reads, IsCountedWithin}
 use Rattle.tc_work.specs.Windowed.{staged_as}
 use Rattle.tc_keeper.specs.Places.{AtEach}
 use Rattle.tc_keeper.specs.Running.{HasOnlyRun, RanMoments}
+use Rattle.tc_keeper.specs.Windows.{HaveRun}
 use Rattle.tc_keeper.specs.WithJobs.{told_of, told_part, WithJobs}
 use Rattle.tc_keeper.proofs.PlaceLaws.{at_each-same}
 
@@ -33,15 +34,18 @@ moments_same p t = at t.disks t.log
     at (disk ∷ past) (f ∷ fs) = λ g sealed. record { added = []; goes_on = refl; each = All-nil (LeavesStore p (Some p.staged) no_job disk g); untold = λ none. none }
 
 module _ {S D F W : Type 0} (eyes : Eyes S D F W) (window : Keyed Request) (es : List (WithJobs S D F W)) where
-  pub nothing_same : AtEach (λ p old new. HasOnlyRun old.engine.part new.engine.part × (new.engine.policy ≡ old.engine.policy) × (new.jobs ≡ old.jobs)) 0 es es
+  nothing_same : AtEach (λ p old new. HasOnlyRun old.engine.part new.engine.part × (new.engine.policy ≡ old.engine.policy) × (new.jobs ≡ old.jobs)) 0 es es
   nothing_same = at_each-same (λ p old new. HasOnlyRun old.engine.part new.engine.part × (new.engine.policy ≡ old.engine.policy) × (new.jobs ≡ old.jobs)) 0 es (λ p e. (refl, refl, refl))
 
-  pub nothing_out : AtEach (λ p old new. OnlyDevicesOut (told_of eyes old) → OnlyDevicesOut (told_of eyes new)) 0 es es
+  nothing_out : AtEach (λ p old new. OnlyDevicesOut (told_of eyes old) → OnlyDevicesOut (told_of eyes new)) 0 es es
   nothing_out = at_each-same (λ p old new. OnlyDevicesOut (told_of eyes old) → OnlyDevicesOut (told_of eyes new)) 0 es (λ p e is. is)
 
-  pub nothing_written : AtEach (λ p old new. RanMoments (told_part eyes) eyes.history (share (length es) p window) old.engine new.engine) 0 es es
+  nothing_written : AtEach (λ p old new. RanMoments (told_part eyes) eyes.history (share (length es) p window) old.engine new.engine) 0 es es
   nothing_written = at_each-same (λ p old new. RanMoments (told_part eyes) eyes.history (share (length es) p window) old.engine new.engine) 0 es
       (λ p e q is. moments_same (staged_as (part_writes_all e.engine.part.limits (values_in (share (length es) p window)) (plain_of (told_of eyes e) q)) q) (told_of eyes e))
+
+  pub nothing_ran : HaveRun eyes window es es
+  nothing_ran = record { same = nothing_same; devices = nothing_out; moments = nothing_written }
 
   pub nothing_counted : (Q : ℕ → Type 0) → ((p : ℕ) → Q p → ⊥) → AtEach (λ p old new. IsCountedWithin (most_reads (live_in old.engine.part) (values_in (share (length es) p window))) (Q p) (eyes.counts old.engine.part.main) (eyes.counts new.engine.part.main)) 0 es es
   nothing_counted Q never = at_each-same (λ p old new. IsCountedWithin (most_reads (live_in old.engine.part) (values_in (share (length es) p window))) (Q p) (eyes.counts old.engine.part.main) (eyes.counts new.engine.part.main)) 0 es

@@ -30,6 +30,7 @@ use Rattle.tc_keeper.specs.EngineFaults.{IfOf, IsDiskOf, IsFirstFault, StopsFirs
 use Rattle.tc_keeper.specs.Places.{AtEach}
 use Rattle.tc_keeper.specs.Running.{HasFramed, HasOnlyRun, HasRun, RanMoments}
 use Rattle.tc_keeper.specs.Standing.{HoldWorld, KeepWorlds}
+use Rattle.tc_keeper.specs.Windows.{HaveRun, MayRunOn}
 use Rattle.tc_keeper.specs.WithJobs.{engine_with, told_of, told_part, with_jobs, AreStaffed, IsStaffed, WithJobs}
 use Rattle.tc_keeper.specs.declared.engines_fault.EnginesFault.{EnginesFault}
 use Rattle.tc_keeper.specs.declared.engines_fault.EnginesFault.TheVariants.{Of, Memory}
@@ -203,23 +204,29 @@ module _ {S D F W : Type 0} (eyes : Eyes S D F W) (window : Keyed Request) (es f
   pub ended_sound : (xs : List (List Placed)) → answers ≡ map Ok xs → All (λ e. e.engine.part.failed ≡ false) fs
   ended_sound xs given = subst (All (λ e. e.engine.part.failed ≡ false)) (sym end.engines) (all_sound eyes window es end.runs xs (end.said ∙ given) end.ran)
 
-  pub ended_same : AtEach (λ p old new. HasOnlyRun old.engine.part new.engine.part × (new.engine.policy ≡ old.engine.policy) × (new.jobs ≡ old.jobs)) 0 es fs
+  ended_same : AtEach (λ p old new. HasOnlyRun old.engine.part new.engine.part × (new.engine.policy ≡ old.engine.policy) × (new.jobs ≡ old.jobs)) 0 es fs
   ended_same = ended_run (λ p old new. HasOnlyRun old.engine.part new.engine.part × (new.engine.policy ≡ old.engine.policy) × (new.jobs ≡ old.jobs)) (λ p e f answer ran. (ran.0.same, ran.0.policy, ran.1))
 
-  pub ended_devices : AtEach (λ p old new. OnlyDevicesOut (told_of eyes old) → OnlyDevicesOut (told_of eyes new)) 0 es fs
+  ended_devices : AtEach (λ p old new. OnlyDevicesOut (told_of eyes old) → OnlyDevicesOut (told_of eyes new)) 0 es fs
   ended_devices = ended_run (λ p old new. OnlyDevicesOut (told_of eyes old) → OnlyDevicesOut (told_of eyes new)) (λ p e f answer ran. ran.0.devices)
 
-  pub ended_moments : AtEach (λ p old new. RanMoments (told_part eyes) eyes.history (share (length es) p window) old.engine new.engine) 0 es fs
+  ended_moments : AtEach (λ p old new. RanMoments (told_part eyes) eyes.history (share (length es) p window) old.engine new.engine) 0 es fs
   ended_moments = ended_run (λ p old new. RanMoments (told_part eyes) eyes.history (share (length es) p window) old.engine new.engine) (λ p e f answer ran. ran.0.at_moments)
 
-  pub ended_ready : (xs : List (List Placed)) → answers ≡ map Ok xs → AtEach (λ p old new. MaySettle (told_of eyes old) → MaySettle (told_of eyes new)) 0 es fs
+  ended_ready : (xs : List (List Placed)) → answers ≡ map Ok xs → AtEach (λ p old new. MaySettle (told_of eyes old) → MaySettle (told_of eyes new)) 0 es fs
   ended_ready xs given = ended_given xs given (λ p old new. MaySettle (told_of eyes old) → MaySettle (told_of eyes new)) (λ p e f x ran. ran.0.ready)
 
-  pub ended_looked_up : (xs : List (List Placed)) → answers ≡ map Ok xs → AtEach (λ p old new. most_writes (values_in (share (length es) p window)) ≡ 0 → new.engine.part.log ≡ old.engine.part.log) 0 es fs
+  ended_looked_up : (xs : List (List Placed)) → answers ≡ map Ok xs → AtEach (λ p old new. most_writes (values_in (share (length es) p window)) ≡ 0 → new.engine.part.log ≡ old.engine.part.log) 0 es fs
   ended_looked_up xs given = ended_given xs given (λ p old new. most_writes (values_in (share (length es) p window)) ≡ 0 → new.engine.part.log ≡ old.engine.part.log) (λ p e f x ran. ran.0.looked_up)
 
-  pub ended_log_out : (xs : List (List Placed)) → answers ≡ map Ok xs → AtEach (λ p old new. LogIsOut (told_of eyes old) → LogIsOut (told_of eyes new)) 0 es fs
+  ended_log_out : (xs : List (List Placed)) → answers ≡ map Ok xs → AtEach (λ p old new. LogIsOut (told_of eyes old) → LogIsOut (told_of eyes new)) 0 es fs
   ended_log_out xs given = ended_given xs given (λ p old new. LogIsOut (told_of eyes old) → LogIsOut (told_of eyes new)) (λ p e f x ran. ran.0.log_out)
+
+  pub ended_ran : HaveRun eyes window es fs
+  ended_ran = record { same = ended_same; devices = ended_devices; moments = ended_moments }
+
+  pub ended_well : (xs : List (List Placed)) → answers ≡ map Ok xs → MayRunOn eyes window es fs
+  ended_well xs given = record { sound = ended_sound xs given; ready = ended_ready xs given; looked_up = ended_looked_up xs given; log_out = ended_log_out xs given }
 
   -- ---- worlds
 

@@ -14,3 +14,4 @@ pub mod Partitions
 pub mod Calls
 pub mod Keeping
 pub mod Showing
+pub mod Windows

@@ -2,23 +2,19 @@
 
 ghost use Rattle.std.specs.Prelude.{◌≡◌, ◌<◌, ◌≤◌, ℕ, [], false, None, Ok, Option, length, map, All, IfErr, IfOk, IsErrOf, OnErr, OnOk, vec_capacity, vec_len, zip};
 ghost use Rattle.std.specs.Map.{keys_of};
-ghost use Rattle.tc_model.specs.Keyed.{values_in, Ascends, on_value};
+ghost use Rattle.tc_model.specs.Keyed.{values_in, Ascends};
 ghost use Rattle.tc_run_model.specs.Kinds.{AreRenderedOfKinds};
 ghost use Rattle.tc_run_model.specs.World.{World, after_all};
-ghost use Rattle.tc_part.specs.FilesOut.{LogIsOut, OnlyDevicesOut};
 ghost use Rattle.tc_part_model.specs.PartState.{told};
-ghost use Rattle.tc_route.specs.Answers.{window_answered};
-ghost use Rattle.tc_request_model.specs.Rendered.{rendered};
 ghost use Rattle.tc_route.specs.Meaning.{rendered_in, requests_at, routed_of};
 ghost use Rattle.tc_route.specs.Shares.{share};
-ghost use Rattle.tc_work.specs.Asked.{most_writes, requests_in, IsWindow};
+ghost use Rattle.tc_work.specs.Asked.{requests_in, IsWindow};
 ghost use Rattle.tc_work.specs.Moving.{eyes};
-ghost use Rattle.tc_work.specs.Reads.{live_in, most_reads, IsCountedWithin};
-ghost use Rattle.tc_work.specs.Settling.{MaySettle};
-ghost use Rattle.tc_keeper.specs.EngineFaults.{IfOf, IsDiskOf, IsFirstFault, StopsFirst};
+ghost use Rattle.tc_keeper.specs.EngineFaults.{IfOf, IsFirstFault};
 ghost use Rattle.tc_keeper.specs.Places.{AtEach};
-ghost use Rattle.tc_keeper.specs.Running.{HasFramed, HasOnlyRun, HasRun, RanMoments};
+ghost use Rattle.tc_keeper.specs.Running.{HasFramed, HasRun};
 ghost use Rattle.tc_keeper.specs.Standing.{HoldWorld, KeepWorlds};
+ghost use Rattle.tc_keeper.specs.Windows.{window_rendered, AreCountedWithin, AreFramed, FailsFirst, HaveRun, MayRunOn};
 
 use crate::engines::Engines;
 use crate::engines_fault::EnginesFault;
@@ -55,37 +51,28 @@ impl<S: Store, P: Pace> Engines<S, P> {
 
         // From a world at which the engines stand, the replies are the world's, and the engines stand at what it leaves. So does one
         // engine by itself.
-        ensures replies { (w : World) → HoldWorld (eyes S.history S.Device.history S.Frozen.content S.Device.name S.Frozen.size S.Watch.counts) None self.old w → IfOk result (λ replies. rendered_in replies ≡ map (on_value rendered) (window_answered (map routed_of commands.items) w)) }
+        ensures replies { (w : World) → HoldWorld (eyes S.history S.Device.history S.Frozen.content S.Device.name S.Frozen.size S.Watch.counts) None self.old w → IfOk result (λ replies. rendered_in replies ≡ window_rendered (map routed_of commands.items) w) }
         ensures held { (only : Option ℕ) (w : World) → HoldWorld (eyes S.history S.Device.history S.Frozen.content S.Device.name S.Frozen.size S.Watch.counts) only self.old w → OnOk result (HoldWorld (eyes S.history S.Device.history S.Frozen.content S.Device.name S.Frozen.size S.Watch.counts) only self.new (after_all (requests_in commands.items) w)) }
 
         // Behind a fault each engine by itself is as before its share or behind it, or has failed and its files keep one of these.
         ensures kept { (only : Option ℕ) (w : World) → HoldWorld (eyes S.history S.Device.history S.Frozen.content S.Device.name S.Frozen.size S.Watch.counts) only self.old w → OnErr result (KeepWorlds (eyes S.history S.Device.history S.Frozen.content S.Device.name S.Frozen.size S.Watch.counts) only self.new w (after_all (requests_in commands.items) w)) }
 
         // Over every store there is a frame of each partition, with the writes of its share.
-        ensures frames { OnOk result (AtEach (λ p run frame. HasFramed (eyes S.history S.Device.history S.Frozen.content S.Device.name S.Frozen.size S.Watch.counts) (share (length self.old) p (map routed_of commands.items)) run.0.engine run.1.engine frame.items) 0 (zip self.old self.new) frames.new.items) }
+        ensures frames { OnOk result (AreFramed (eyes S.history S.Device.history S.Frozen.content S.Device.name S.Frozen.size S.Watch.counts) (map routed_of commands.items) self.old self.new (λ frame. frame.items) frames.new.items) }
 
         // Over every store each reply is at the place of its command, and of its kind.
         ensures places { IfOk result (λ replies. keys_of (rendered_in replies) ≡ keys_of (map routed_of commands.items)) }
         ensures kinds { IfOk result (λ replies. AreRenderedOfKinds (requests_in commands.items) (values_in (rendered_in replies))) }
 
-        // Over every store each engine may run on, and only what a window writes has changed. The jobs that are out stay.
-        ensures sound { OnOk result (All (λ e. e.engine.part.failed ≡ false) self.new) }
-        ensures ready { OnOk result (AtEach (λ p old new. MaySettle (told S.history S.Device.history S.Frozen.content old.engine.part) → MaySettle (told S.history S.Device.history S.Frozen.content new.engine.part)) 0 self.old self.new) }
-        ensures same { AtEach (λ p old new. HasOnlyRun old.engine.part new.engine.part × (new.engine.policy ≡ old.engine.policy) × (new.jobs ≡ old.jobs)) 0 self.old self.new }
-        ensures looked_up { OnOk result (AtEach (λ p old new. most_writes (values_in (share (length self.old) p (map routed_of commands.items))) ≡ 0 → new.engine.part.log ≡ old.engine.part.log) 0 self.old self.new) }
-
-        // No file is out but those of each part's devices, behind a fault too, and that of its active log is out after Ok.
-        ensures devices { AtEach (λ p old new. OnlyDevicesOut (told S.history S.Device.history S.Frozen.content old.engine.part) → OnlyDevicesOut (told S.history S.Device.history S.Frozen.content new.engine.part)) 0 self.old self.new }
-        ensures log_out { OnOk result (AtEach (λ p old new. LogIsOut (told S.history S.Device.history S.Frozen.content old.engine.part) → LogIsOut (told S.history S.Device.history S.Frozen.content new.engine.part)) 0 self.old self.new) }
-
-        // At each moment of the call a stop leaves of each partition what is stored, without the writes of its share or with them.
-        ensures moments { AtEach (λ p old new. RanMoments (λ part. told S.history S.Device.history S.Frozen.content part) (λ d. S.Device.history d) (share (length self.old) p (map routed_of commands.items)) old.engine new.engine) 0 self.old self.new }
+        // Over every store only what a window writes has changed, behind a fault too, and after Ok each engine may run on.
+        ensures ran { HaveRun (eyes S.history S.Device.history S.Frozen.content S.Device.name S.Frozen.size S.Watch.counts) (map routed_of commands.items) self.old self.new }
+        ensures well { OnOk result (MayRunOn (eyes S.history S.Device.history S.Frozen.content S.Device.name S.Frozen.size S.Watch.counts) (map routed_of commands.items) self.old self.new) }
 
         // The fault is that of an engine which failed, and no engine of a lower partition did. Want of memory is told only where none
         // failed.
-        ensures first { IfErr result (λ fault. IfOf fault (λ p why. (p < length self.old) × AtEach (λ q old new. StopsFirst (λ part. told S.history S.Device.history S.Frozen.content part) (λ f. S.Frozen.content f) p why q (share (length self.old) q (map routed_of commands.items)) old.engine new.engine) 0 self.old self.new)) }
+        ensures first { IfErr result (FailsFirst (eyes S.history S.Device.history S.Frozen.content S.Device.name S.Frozen.size S.Watch.counts) (map routed_of commands.items) self.old self.new) }
         ensures memory { IsErrOf result EnginesFault.Memory → All (λ e. e.engine.part.failed ≡ false) self.new }
-        ensures counted { AtEach (λ p old new. IsCountedWithin (most_reads (live_in old.engine.part) (values_in (share (length self.old) p (map routed_of commands.items)))) (IsDiskOf p result) (S.Watch.counts old.engine.part.main) (S.Watch.counts new.engine.part.main)) 0 self.old self.new }
+        ensures counted { AreCountedWithin (eyes S.history S.Device.history S.Frozen.content S.Device.name S.Frozen.size S.Watch.counts) (map routed_of commands.items) self.old self.new result }
     {
         replies_are_gathered();
         kinds_are_gathered();

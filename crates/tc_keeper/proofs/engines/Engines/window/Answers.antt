@@ -15,11 +15,11 @@ use Rattle.tc_keeper.specs.WithJobs.{with_jobs}
 use Rattle.tc_keeper.specs.declared.seat.Seat.{Seat}
 use Rattle.tc_keeper.proofs.JobsBeside.{seats_many, staffed-many, with_jobs-all}
 use Rattle.tc_keeper.proofs.KindsGiven.{kinds_of, places_of}
-use Rattle.tc_keeper.proofs.NothingRun.{nothing_counted, nothing_out, nothing_same, nothing_written}
+use Rattle.tc_keeper.proofs.NothingRun.{nothing_counted, nothing_ran}
 use Rattle.tc_keeper.proofs.PlaceLaws.{all_read, at_each-length, refilled}
 use Rattle.tc_keeper.proofs.ShareWindows.{window_for_parts}
 use Rattle.tc_keeper.proofs.SharesRun.{are_windows}
-use Rattle.tc_keeper.proofs.WindowEnds.{ended_answers, ended_counted, ended_devices, ended_first, ended_held, ended_kept, ended_log_out, ended_looked_up, ended_moments, ended_ready, ended_replied, ended_same, ended_sound, ended_uncounted, if_err, no_disk, on_err, seats_ended, seats_framed, seats_staffed, Ended, SeatsRan}
+use Rattle.tc_keeper.proofs.WindowEnds.{ended_answers, ended_counted, ended_first, ended_held, ended_kept, ended_ran, ended_replied, ended_sound, ended_uncounted, ended_well, if_err, no_disk, on_err, seats_ended, seats_framed, seats_staffed, Ended, SeatsRan}
 use Rattle.tc_keeper.proofs.WindowsHeld.{nothing_run}
 use Rattle.tc_keeper.proofs.engines.Engines.window.Given.{Over}
 use Rattle.tc_keeper.proofs.engines.Engines.window.Goals as goal
@@ -31,14 +31,8 @@ returns-in_err-lists-clause-kept g c = λ only w h. on_err c.from_residual.resul
     (nothing_run (eyes g.S.Store.history g.S.Device.Device.history g.S.Frozen.Frozen.content g.S.Device.Device.name g.S.Frozen.Frozen.size g.S.Watch.Watch.counts) only
     (map routed_of c.args.commands.items) w c.args.self.now h (window_for_parts c.args.commands.items c.requires.window))
 
-pub returns-in_err-lists-clause-same : goal.returns-in_err-lists-clause-same
-returns-in_err-lists-clause-same g c = nothing_same (eyes g.S.Store.history g.S.Device.Device.history g.S.Frozen.Frozen.content g.S.Device.Device.name g.S.Frozen.Frozen.size g.S.Watch.Watch.counts) (map routed_of c.args.commands.items) c.args.self.now
-
-pub returns-in_err-lists-clause-devices : goal.returns-in_err-lists-clause-devices
-returns-in_err-lists-clause-devices g c = nothing_out (eyes g.S.Store.history g.S.Device.Device.history g.S.Frozen.Frozen.content g.S.Device.Device.name g.S.Frozen.Frozen.size g.S.Watch.Watch.counts) (map routed_of c.args.commands.items) c.args.self.now
-
-pub returns-in_err-lists-clause-moments : goal.returns-in_err-lists-clause-moments
-returns-in_err-lists-clause-moments g c = nothing_written (eyes g.S.Store.history g.S.Device.Device.history g.S.Frozen.Frozen.content g.S.Device.Device.name g.S.Frozen.Frozen.size g.S.Watch.Watch.counts) (map routed_of c.args.commands.items) c.args.self.now
+pub returns-in_err-lists-clause-ran : goal.returns-in_err-lists-clause-ran
+returns-in_err-lists-clause-ran g c = nothing_ran (eyes g.S.Store.history g.S.Device.Device.history g.S.Frozen.Frozen.content g.S.Device.Device.name g.S.Frozen.Frozen.size g.S.Watch.Watch.counts) (map routed_of c.args.commands.items) c.args.self.now
 
 pub returns-in_err-lists-clause-counted : goal.returns-in_err-lists-clause-counted
 returns-in_err-lists-clause-counted g c = nothing_counted (eyes g.S.Store.history g.S.Device.Device.history g.S.Frozen.Frozen.content g.S.Device.Device.name
@@ -50,14 +44,8 @@ returns-in_err-room-clause-kept g c = λ only w h. on_err c.from_residual-in_err
     (nothing_run (eyes g.S.Store.history g.S.Device.Device.history g.S.Frozen.Frozen.content g.S.Device.Device.name g.S.Frozen.Frozen.size g.S.Watch.Watch.counts) only
     (map routed_of c.args.commands.items) w c.args.self.now h (window_for_parts c.args.commands.items c.requires.window))
 
-pub returns-in_err-room-clause-same : goal.returns-in_err-room-clause-same
-returns-in_err-room-clause-same g c = nothing_same (eyes g.S.Store.history g.S.Device.Device.history g.S.Frozen.Frozen.content g.S.Device.Device.name g.S.Frozen.Frozen.size g.S.Watch.Watch.counts) (map routed_of c.args.commands.items) c.args.self.now
-
-pub returns-in_err-room-clause-devices : goal.returns-in_err-room-clause-devices
-returns-in_err-room-clause-devices g c = nothing_out (eyes g.S.Store.history g.S.Device.Device.history g.S.Frozen.Frozen.content g.S.Device.Device.name g.S.Frozen.Frozen.size g.S.Watch.Watch.counts) (map routed_of c.args.commands.items) c.args.self.now
-
-pub returns-in_err-room-clause-moments : goal.returns-in_err-room-clause-moments
-returns-in_err-room-clause-moments g c = nothing_written (eyes g.S.Store.history g.S.Device.Device.history g.S.Frozen.Frozen.content g.S.Device.Device.name g.S.Frozen.Frozen.size g.S.Watch.Watch.counts) (map routed_of c.args.commands.items) c.args.self.now
+pub returns-in_err-room-clause-ran : goal.returns-in_err-room-clause-ran
+returns-in_err-room-clause-ran g c = nothing_ran (eyes g.S.Store.history g.S.Device.Device.history g.S.Frozen.Frozen.content g.S.Device.Device.name g.S.Frozen.Frozen.size g.S.Watch.Watch.counts) (map routed_of c.args.commands.items) c.args.self.now
 
 pub returns-in_err-room-clause-counted : goal.returns-in_err-room-clause-counted
 returns-in_err-room-clause-counted g c = nothing_counted (eyes g.S.Store.history g.S.Device.Device.history g.S.Frozen.Frozen.content g.S.Device.Device.name
@@ -164,22 +152,8 @@ returns-in_err-parts-clause-kept g c = λ only w h. on_err c.from_residual-in_er
     (map (λ (s : Seat g.row.S.Denot g.row.P.Denot g.row.S-Watch.Denot g.row.S-Device.Denot g.row.S-Frozen.Denot). s.answer) c.deref_mut-2.result.now)
     (failed_ended g c) c.parts_hold_devices.ensures.devices (window_for_parts c.args.commands.items c.requires.window) only w h)
 
-pub returns-in_err-parts-clause-same : goal.returns-in_err-parts-clause-same
-returns-in_err-parts-clause-same g c = ended_same (eyes g.S.Store.history g.S.Device.Device.history g.S.Frozen.Frozen.content g.S.Device.Device.name
-    g.S.Frozen.Frozen.size g.S.Watch.Watch.counts) (map routed_of c.args.commands.items) c.args.self.now
-    (with_jobs (map (λ (s : Seat g.row.S.Denot g.row.P.Denot g.row.S-Watch.Denot g.row.S-Device.Denot g.row.S-Frozen.Denot). s.engine)
-    (with_items (with_items c.self.inside.seats c.run_lists.new.seats) c.take_answers.new.seats).items) c.self.inside.running.items)
-    (map (λ (s : Seat g.row.S.Denot g.row.P.Denot g.row.S-Watch.Denot g.row.S-Device.Denot g.row.S-Frozen.Denot). s.answer) c.deref_mut-2.result.now) (failed_ended g c)
-
-pub returns-in_err-parts-clause-devices : goal.returns-in_err-parts-clause-devices
-returns-in_err-parts-clause-devices g c = ended_devices (eyes g.S.Store.history g.S.Device.Device.history g.S.Frozen.Frozen.content g.S.Device.Device.name
-    g.S.Frozen.Frozen.size g.S.Watch.Watch.counts) (map routed_of c.args.commands.items) c.args.self.now
-    (with_jobs (map (λ (s : Seat g.row.S.Denot g.row.P.Denot g.row.S-Watch.Denot g.row.S-Device.Denot g.row.S-Frozen.Denot). s.engine)
-    (with_items (with_items c.self.inside.seats c.run_lists.new.seats) c.take_answers.new.seats).items) c.self.inside.running.items)
-    (map (λ (s : Seat g.row.S.Denot g.row.P.Denot g.row.S-Watch.Denot g.row.S-Device.Denot g.row.S-Frozen.Denot). s.answer) c.deref_mut-2.result.now) (failed_ended g c)
-
-pub returns-in_err-parts-clause-moments : goal.returns-in_err-parts-clause-moments
-returns-in_err-parts-clause-moments g c = ended_moments (eyes g.S.Store.history g.S.Device.Device.history g.S.Frozen.Frozen.content g.S.Device.Device.name
+pub returns-in_err-parts-clause-ran : goal.returns-in_err-parts-clause-ran
+returns-in_err-parts-clause-ran g c = ended_ran (eyes g.S.Store.history g.S.Device.Device.history g.S.Frozen.Frozen.content g.S.Device.Device.name
     g.S.Frozen.Frozen.size g.S.Watch.Watch.counts) (map routed_of c.args.commands.items) c.args.self.now
     (with_jobs (map (λ (s : Seat g.row.S.Denot g.row.P.Denot g.row.S-Watch.Denot g.row.S-Device.Denot g.row.S-Frozen.Denot). s.engine)
     (with_items (with_items c.self.inside.seats c.run_lists.new.seats) c.take_answers.new.seats).items) c.self.inside.running.items)
@@ -255,22 +229,8 @@ returns-in_err-replies-clause-kept g c = λ only w h. on_err c.from_residual-in_
     (map (λ (s : Seat g.row.S.Denot g.row.P.Denot g.row.S-Watch.Denot g.row.S-Device.Denot g.row.S-Frozen.Denot). s.answer) c.deref_mut-2.result.now) (lost_ended g c)
     c.parts_hold_devices.ensures.devices (window_for_parts c.args.commands.items c.requires.window) only w h)
 
-pub returns-in_err-replies-clause-same : goal.returns-in_err-replies-clause-same
-returns-in_err-replies-clause-same g c = ended_same (eyes g.S.Store.history g.S.Device.Device.history g.S.Frozen.Frozen.content g.S.Device.Device.name
-    g.S.Frozen.Frozen.size g.S.Watch.Watch.counts) (map routed_of c.args.commands.items) c.args.self.now
-    (with_jobs (map (λ (s : Seat g.row.S.Denot g.row.P.Denot g.row.S-Watch.Denot g.row.S-Device.Denot g.row.S-Frozen.Denot). s.engine)
-    (with_items (with_items c.self.inside.seats c.run_lists.new.seats) c.take_answers.new.seats).items) c.self.inside.running.items)
-    (map (λ (s : Seat g.row.S.Denot g.row.P.Denot g.row.S-Watch.Denot g.row.S-Device.Denot g.row.S-Frozen.Denot). s.answer) c.deref_mut-2.result.now) (lost_ended g c)
-
-pub returns-in_err-replies-clause-devices : goal.returns-in_err-replies-clause-devices
-returns-in_err-replies-clause-devices g c = ended_devices (eyes g.S.Store.history g.S.Device.Device.history g.S.Frozen.Frozen.content g.S.Device.Device.name
-    g.S.Frozen.Frozen.size g.S.Watch.Watch.counts) (map routed_of c.args.commands.items) c.args.self.now
-    (with_jobs (map (λ (s : Seat g.row.S.Denot g.row.P.Denot g.row.S-Watch.Denot g.row.S-Device.Denot g.row.S-Frozen.Denot). s.engine)
-    (with_items (with_items c.self.inside.seats c.run_lists.new.seats) c.take_answers.new.seats).items) c.self.inside.running.items)
-    (map (λ (s : Seat g.row.S.Denot g.row.P.Denot g.row.S-Watch.Denot g.row.S-Device.Denot g.row.S-Frozen.Denot). s.answer) c.deref_mut-2.result.now) (lost_ended g c)
-
-pub returns-in_err-replies-clause-moments : goal.returns-in_err-replies-clause-moments
-returns-in_err-replies-clause-moments g c = ended_moments (eyes g.S.Store.history g.S.Device.Device.history g.S.Frozen.Frozen.content g.S.Device.Device.name
+pub returns-in_err-replies-clause-ran : goal.returns-in_err-replies-clause-ran
+returns-in_err-replies-clause-ran g c = ended_ran (eyes g.S.Store.history g.S.Device.Device.history g.S.Frozen.Frozen.content g.S.Device.Device.name
     g.S.Frozen.Frozen.size g.S.Watch.Watch.counts) (map routed_of c.args.commands.items) c.args.self.now
     (with_jobs (map (λ (s : Seat g.row.S.Denot g.row.P.Denot g.row.S-Watch.Denot g.row.S-Device.Denot g.row.S-Frozen.Denot). s.engine)
     (with_items (with_items c.self.inside.seats c.run_lists.new.seats) c.take_answers.new.seats).items) c.self.inside.running.items)
@@ -386,54 +346,16 @@ returns-clause-kinds g c =
     (all_ended g c) c.in_ok-parts.parts.items c.in_ok-parts.ensures.all c.kinds_are_gathered.ensures c.rendered_are_gathered.ensures c.requires.some c.requires.ascending
     (window_for_parts c.args.commands.items c.requires.window)))
 
-pub returns-clause-sound : goal.returns-clause-sound
-returns-clause-sound g c = ended_sound (eyes g.S.Store.history g.S.Device.Device.history g.S.Frozen.Frozen.content g.S.Device.Device.name g.S.Frozen.Frozen.size
+pub returns-clause-well : goal.returns-clause-well
+returns-clause-well g c = ended_well (eyes g.S.Store.history g.S.Device.Device.history g.S.Frozen.Frozen.content g.S.Device.Device.name g.S.Frozen.Frozen.size
     g.S.Watch.Watch.counts) (map routed_of c.args.commands.items) c.args.self.now
     (with_jobs (map (λ (s : Seat g.row.S.Denot g.row.P.Denot g.row.S-Watch.Denot g.row.S-Device.Denot g.row.S-Frozen.Denot). s.engine)
     (with_items (with_items c.self.inside.seats c.run_lists.new.seats) c.take_answers.new.seats).items) c.self.inside.running.items)
     (map (λ (s : Seat g.row.S.Denot g.row.P.Denot g.row.S-Watch.Denot g.row.S-Device.Denot g.row.S-Frozen.Denot). s.answer) c.deref_mut-2.result.now) (all_ended g c)
     c.in_ok-parts.parts.items c.in_ok-parts.ensures.all
 
-pub returns-clause-ready : goal.returns-clause-ready
-returns-clause-ready g c = ended_ready (eyes g.S.Store.history g.S.Device.Device.history g.S.Frozen.Frozen.content g.S.Device.Device.name g.S.Frozen.Frozen.size
-    g.S.Watch.Watch.counts) (map routed_of c.args.commands.items) c.args.self.now
-    (with_jobs (map (λ (s : Seat g.row.S.Denot g.row.P.Denot g.row.S-Watch.Denot g.row.S-Device.Denot g.row.S-Frozen.Denot). s.engine)
-    (with_items (with_items c.self.inside.seats c.run_lists.new.seats) c.take_answers.new.seats).items) c.self.inside.running.items)
-    (map (λ (s : Seat g.row.S.Denot g.row.P.Denot g.row.S-Watch.Denot g.row.S-Device.Denot g.row.S-Frozen.Denot). s.answer) c.deref_mut-2.result.now) (all_ended g c)
-    c.in_ok-parts.parts.items c.in_ok-parts.ensures.all
-
-pub returns-clause-same : goal.returns-clause-same
-returns-clause-same g c = ended_same (eyes g.S.Store.history g.S.Device.Device.history g.S.Frozen.Frozen.content g.S.Device.Device.name g.S.Frozen.Frozen.size
-    g.S.Watch.Watch.counts) (map routed_of c.args.commands.items) c.args.self.now
-    (with_jobs (map (λ (s : Seat g.row.S.Denot g.row.P.Denot g.row.S-Watch.Denot g.row.S-Device.Denot g.row.S-Frozen.Denot). s.engine)
-    (with_items (with_items c.self.inside.seats c.run_lists.new.seats) c.take_answers.new.seats).items) c.self.inside.running.items)
-    (map (λ (s : Seat g.row.S.Denot g.row.P.Denot g.row.S-Watch.Denot g.row.S-Device.Denot g.row.S-Frozen.Denot). s.answer) c.deref_mut-2.result.now) (all_ended g c)
-
-pub returns-clause-looked_up : goal.returns-clause-looked_up
-returns-clause-looked_up g c = ended_looked_up (eyes g.S.Store.history g.S.Device.Device.history g.S.Frozen.Frozen.content g.S.Device.Device.name
-    g.S.Frozen.Frozen.size g.S.Watch.Watch.counts) (map routed_of c.args.commands.items) c.args.self.now
-    (with_jobs (map (λ (s : Seat g.row.S.Denot g.row.P.Denot g.row.S-Watch.Denot g.row.S-Device.Denot g.row.S-Frozen.Denot). s.engine)
-    (with_items (with_items c.self.inside.seats c.run_lists.new.seats) c.take_answers.new.seats).items) c.self.inside.running.items)
-    (map (λ (s : Seat g.row.S.Denot g.row.P.Denot g.row.S-Watch.Denot g.row.S-Device.Denot g.row.S-Frozen.Denot). s.answer) c.deref_mut-2.result.now) (all_ended g c)
-    c.in_ok-parts.parts.items c.in_ok-parts.ensures.all
-
-pub returns-clause-devices : goal.returns-clause-devices
-returns-clause-devices g c = ended_devices (eyes g.S.Store.history g.S.Device.Device.history g.S.Frozen.Frozen.content g.S.Device.Device.name g.S.Frozen.Frozen.size
-    g.S.Watch.Watch.counts) (map routed_of c.args.commands.items) c.args.self.now
-    (with_jobs (map (λ (s : Seat g.row.S.Denot g.row.P.Denot g.row.S-Watch.Denot g.row.S-Device.Denot g.row.S-Frozen.Denot). s.engine)
-    (with_items (with_items c.self.inside.seats c.run_lists.new.seats) c.take_answers.new.seats).items) c.self.inside.running.items)
-    (map (λ (s : Seat g.row.S.Denot g.row.P.Denot g.row.S-Watch.Denot g.row.S-Device.Denot g.row.S-Frozen.Denot). s.answer) c.deref_mut-2.result.now) (all_ended g c)
-
-pub returns-clause-log_out : goal.returns-clause-log_out
-returns-clause-log_out g c = ended_log_out (eyes g.S.Store.history g.S.Device.Device.history g.S.Frozen.Frozen.content g.S.Device.Device.name g.S.Frozen.Frozen.size
-    g.S.Watch.Watch.counts) (map routed_of c.args.commands.items) c.args.self.now
-    (with_jobs (map (λ (s : Seat g.row.S.Denot g.row.P.Denot g.row.S-Watch.Denot g.row.S-Device.Denot g.row.S-Frozen.Denot). s.engine)
-    (with_items (with_items c.self.inside.seats c.run_lists.new.seats) c.take_answers.new.seats).items) c.self.inside.running.items)
-    (map (λ (s : Seat g.row.S.Denot g.row.P.Denot g.row.S-Watch.Denot g.row.S-Device.Denot g.row.S-Frozen.Denot). s.answer) c.deref_mut-2.result.now) (all_ended g c)
-    c.in_ok-parts.parts.items c.in_ok-parts.ensures.all
-
-pub returns-clause-moments : goal.returns-clause-moments
-returns-clause-moments g c = ended_moments (eyes g.S.Store.history g.S.Device.Device.history g.S.Frozen.Frozen.content g.S.Device.Device.name g.S.Frozen.Frozen.size
+pub returns-clause-ran : goal.returns-clause-ran
+returns-clause-ran g c = ended_ran (eyes g.S.Store.history g.S.Device.Device.history g.S.Frozen.Frozen.content g.S.Device.Device.name g.S.Frozen.Frozen.size
     g.S.Watch.Watch.counts) (map routed_of c.args.commands.items) c.args.self.now
     (with_jobs (map (λ (s : Seat g.row.S.Denot g.row.P.Denot g.row.S-Watch.Denot g.row.S-Device.Denot g.row.S-Frozen.Denot). s.engine)
     (with_items (with_items c.self.inside.seats c.run_lists.new.seats) c.take_answers.new.seats).items) c.self.inside.running.items)

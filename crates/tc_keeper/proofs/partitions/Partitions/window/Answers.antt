@@ -42,12 +42,12 @@ pub returns-in-Ok-clause-works : goal.returns-in-Ok-clause-works
 unfolding MayAsk
 returns-in-Ok-clause-works g c =
     let es = c.args.self.now.engines in
-    let same = at_each-length (λ p old new. HasOnlyRun old.engine.part new.engine.part × (new.engine.policy ≡ old.engine.policy) × (new.jobs ≡ old.jobs)) 0 es c.window.new.self c.window.ensures.same in (
+    let same = at_each-length (λ p old new. HasOnlyRun old.engine.part new.engine.part × (new.engine.policy ≡ old.engine.policy) × (new.jobs ≡ old.jobs)) 0 es c.window.new.self c.window.ensures.ran.same in (
       subst (λ n. 0 < n) same c.requires.works.0,
       subst (λ n. n ≤ 16) same c.requires.works.1,
       asked_after
           (eyes g.S.Store.history g.S.Device.Device.history g.S.Frozen.Frozen.content g.S.Device.Device.name g.S.Frozen.Frozen.size g.S.Watch.Watch.counts) 0 es
-          c.window.new.self c.requires.works.2 c.in-Ok.ensures.sound c.in-Ok.ensures.log_out,
+          c.window.new.self c.requires.works.2 c.in-Ok.ensures.well.sound c.in-Ok.ensures.well.log_out,
     )
 
 pub returns-in-Ok-clause-replies : goal.returns-in-Ok-clause-replies
@@ -67,11 +67,11 @@ returns-in-Ok-clause-held g c = λ known stands.
     (λ only w h. on_ok c.window.result c.in-Ok.replies c.in-Ok.is (c.window.ensures.held only w h)))
 
 pub returns-in-Ok-clause-settings : goal.returns-in-Ok-clause-settings
-returns-in-Ok-clause-settings g c = ran_settings c.args.self.now.engines c.window.new.self c.window.ensures.same
+returns-in-Ok-clause-settings g c = ran_settings c.args.self.now.engines c.window.new.self c.window.ensures.ran.same
 
 pub returns-in-Ok-clause-cause : goal.returns-in-Ok-clause-cause
 unfolding faults_of IsSpent IsMet
-returns-in-Ok-clause-cause g c = caused_none (faults_at g.S.Watch.Watch.counts) _ c.args.self.now.engines c.window.new.self (ran_stayed g.S.Watch.Watch.counts (λ p old. _) (λ p. _) c.args.self.now.engines c.window.new.self c.window.ensures.counted c.window.ensures.same)
+returns-in-Ok-clause-cause g c = caused_none (faults_at g.S.Watch.Watch.counts) _ c.args.self.now.engines c.window.new.self (ran_stayed g.S.Watch.Watch.counts (λ p old. _) (λ p. _) c.args.self.now.engines c.window.new.self c.window.ensures.counted c.window.ensures.ran.same)
 
 pub returns-in-Err-clause-failed : goal.returns-in-Err-clause-failed
 unfolding HoldsAt KeepsAt
@@ -88,18 +88,18 @@ returns-in-Err-clause-undamaged g c = λ only w h.
     c.args.self.now.engines c.window.new.self only w h g.S.Frozen.Frozen.content (λ q. _) c.in-Err.fault c.in-Err.ensures.first)
 
 pub returns-in-Err-clause-settings : goal.returns-in-Err-clause-settings
-returns-in-Err-clause-settings g c = ran_settings c.args.self.now.engines c.window.new.self c.window.ensures.same
+returns-in-Err-clause-settings g c = ran_settings c.args.self.now.engines c.window.new.self c.window.ensures.ran.same
 
 pub returns-in-Err-clause-cause : goal.returns-in-Err-clause-cause
 unfolding faults_of IsSpent IsMet
 returns-in-Err-clause-cause g c =
-    let stayed = ran_stayed g.S.Watch.Watch.counts (λ p old. _) (λ p. _) c.args.self.now.engines c.window.new.self c.window.ensures.counted c.window.ensures.same in
+    let stayed = ran_stayed g.S.Watch.Watch.counts (λ p old. _) (λ p. _) c.args.self.now.engines c.window.new.self c.window.ensures.counted c.window.ensures.ran.same in
     rw c.of_window.ensures (caused_window (faults_at g.S.Watch.Watch.counts) _ c.in-Err.fault c.args.self.now.engines c.window.new.self stayed
     (window_rose g.S.Watch.Watch.counts (λ p old. _) (λ p why. _) c.in-Err.fault c.window.result c.args.self.now.engines c.window.new.self c.in-Err.is c.in-Err.ensures.first c.window.ensures.counted)
-    (window_met (eyes g.S.Store.history g.S.Device.Device.history g.S.Frozen.Frozen.content g.S.Device.Device.name g.S.Frozen.Frozen.size g.S.Watch.Watch.counts) (λ q. _) c.in-Err.fault c.args.self.now.engines c.window.new.self c.window.ensures.same c.in-Err.ensures.first))
+    (window_met (eyes g.S.Store.history g.S.Device.Device.history g.S.Frozen.Frozen.content g.S.Device.Device.name g.S.Frozen.Frozen.size g.S.Watch.Watch.counts) (λ q. _) c.in-Err.fault c.args.self.now.engines c.window.new.self c.window.ensures.ran.same c.in-Err.ensures.first))
 
 pub returns-in-Ok-clause-readers : goal.returns-in-Ok-clause-readers
-returns-in-Ok-clause-readers g c = ran_readers c.args.self.now.engines c.window.new.self c.window.ensures.same
+returns-in-Ok-clause-readers g c = ran_readers c.args.self.now.engines c.window.new.self c.window.ensures.ran.same
 
 pub returns-in-Err-clause-readers : goal.returns-in-Err-clause-readers
-returns-in-Err-clause-readers g c = ran_readers c.args.self.now.engines c.window.new.self c.window.ensures.same
+returns-in-Err-clause-readers g c = ran_readers c.args.self.now.engines c.window.new.self c.window.ensures.ran.same
