@@ -14,7 +14,7 @@ use Rattle.tc_part_model.specs.PartState.{IsTold, Told}
 use Rattle.tc_part_model.specs.PartView.{PartView, store_of}
 use Rattle.tc_run_model.specs.World.{Part, World}
 use Rattle.tc_work.specs.Failing.{HasFailedKeeping}
-use Rattle.tc_work.specs.Moving.{Eyes}
+use Rattle.tc_work.specs.Moving.{told_by, works_by, Eyes, FailsMoving, Working}
 use Rattle.tc_work.specs.Settling.{StoresStill, TellsFiles}
 use Rattle.tc_keeper.specs.Moving.{StopsAt}
 use Rattle.tc_keeper.specs.Places.{AtEach}
@@ -22,6 +22,13 @@ use Rattle.tc_keeper.specs.Standing.{partition_at, FailsPart, HoldsOwn, HoldsPar
 use Rattle.tc_keeper.specs.WithJobs.{told_of, works_of, WithJobs}
 use Rattle.tc_keeper.proofs.EnginesHeld.{keeping}
 use Rattle.tc_keeper.proofs.PlaceLaws.{at_each-join, at_each-same, at_each-turned, at_each-zip}
+
+-- ---- an engine that failed
+
+-- a call that left an engine failed keeps what was stored in it
+pub failed_kept : {S D F W : Type 0} (eyes : Eyes S D F W) (old new : Working S D F W) → new.part.failed ≡ true → FailsMoving eyes old new
+    → (p : PartView) → IsPart (told_by eyes old) p → TellsFiles (told_by eyes old) → works_by eyes old p → HasFailedKeeping (works_by eyes new) (told_by eyes new) p.part (store_of p) None
+failed_kept eyes old new left fails p is tells works = subst (λ b. HasFailedKeeping (works_by eyes new) (record (told_by eyes new) { failed = b }) p.part (store_of p) None) (sym left) (fails p is tells works)
 
 -- ---- a log without a frame
 

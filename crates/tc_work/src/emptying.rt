@@ -1,23 +1,20 @@
 //! The log of the active table is emptied: the table is sealed, and its flush begins.
 
-ghost use Rattle.std.specs.Prelude.{◌≡◌, ◌≤◌, ◌<◌, ◌+◌, ◌^◌, ◌++◌, ◌∷◌, [], None, Ok, true, false, is_some, length, IfErr, IsErrOf, OnErr, OnOk};
+ghost use Rattle.std.specs.Prelude.{◌≡◌, ◌≤◌, ◌<◌, ◌+◌, ◌^◌, ◌++◌, ◌∷◌, [], None, Ok, true, false, is_some, length, IfErr, OnErr, OnOk};
 ghost use Rattle.tc_component.specs.Loading.{ComponentState};
 ghost use Rattle.tc_jobs.specs.Faults.{AreFiles};
 ghost use Rattle.tc_jobs.specs.Lists.{file_names};
 ghost use Rattle.tc_list.specs.declared.policy.Policy.{Policy};
 ghost use Rattle.tc_log.specs.Layout.{empty_size};
-ghost use Rattle.tc_part.specs.FilesOut.{LogIsOut, OnlyDevicesOut, TellsLogs};
 ghost use Rattle.tc_part.specs.FlushEnds.{flushed_name};
 ghost use Rattle.tc_part_model.specs.Meaning.{IsPart};
 ghost use Rattle.tc_part_model.specs.PartState.{told};
-ghost use Rattle.tc_part_model.specs.PartView.{PartView, store_of};
+ghost use Rattle.tc_part_model.specs.PartView.{PartView};
 ghost use Rattle.tc_store.specs.declared.file_name.FileName.TheVariants.{Component as component_name};
-ghost use Rattle.tc_work.specs.Damage.{AreIndexed, IsPartDamage};
-ghost use Rattle.tc_work.specs.Failing.{HasFailedKeeping};
 ghost use Rattle.tc_work.specs.Faults.{AreOfFiles, IfDamaged};
-ghost use Rattle.tc_work.specs.JobsOut.{watched_part, AreOut, WorkFor};
-ghost use Rattle.tc_work.specs.Moving.{beside, eyes, IsPickedBy, ListsPicked, MayMove, Moves, MovesOver, TellsNoDamage};
-ghost use Rattle.tc_work.specs.Settling.{HasOnlyMoved, IsListedBy, IsWatchedIn, MaySettle, MomentsLeavePairsOver, NextLogs, StoresStill, TellsFiles};
+ghost use Rattle.tc_work.specs.JobsOut.{AreOut, WorkFor};
+ghost use Rattle.tc_work.specs.Moving.{beside, eyes, IsPickedBy, ListsPicked, MayMove, Moves, MovesOver};
+ghost use Rattle.tc_work.specs.Settling.{IsListedBy, MaySettle, TellsFiles};
 
 use crate::engine::Engine;
 use crate::fault::EngineFault;
@@ -54,16 +51,13 @@ impl<S: Store, P: Pace> Engine<S, P> {
         requires ready { MaySettle (told S.history S.Device.history S.Frozen.content self.old.part) }
         requires jobs { AreOut S.history S.Device.history S.Frozen.content S.Device.name self.old.part jobs.old }
 
-        // Whatever it answers, the jobs are those of the engine that are out.
-        ensures jobs { AreOut S.history S.Device.history S.Frozen.content S.Device.name self.new.part jobs.new }
+        // Whatever it answers, at each moment a stop leaves what was stored, the jobs are those of the engine that are out, and nothing
+        // changed but where documents are. After Ok the engine stores what it stored. Damage is that of the part as it is left.
+        ensures moves { MovesOver (eyes S.history S.Device.history S.Frozen.content S.Device.name S.Frozen.size S.Watch.counts) result (beside self.old.part jobs.old) (beside self.new.part jobs.new) }
+        ensures left { OnErr result (self.new.part.failed ≡ true) }
 
-        // Where the files are told the engine stores what it stored.
-        ensures stores { OnOk result ((p : PartView) → IsPart (told S.history S.Device.history S.Frozen.content self.old.part) p → TellsFiles (told S.history S.Device.history S.Frozen.content self.old.part) → WorkFor S.Frozen.content S.Device.history S.Device.name jobs.old p → StoresStill (WorkFor S.Frozen.content S.Device.history S.Device.name jobs.new) (told S.history S.Device.history S.Frozen.content self.old.part) p (told S.history S.Device.history S.Frozen.content self.new.part)) }
-        ensures sound { OnOk result (self.new.part.failed ≡ false) }
-        ensures ready { OnOk result (MaySettle (told S.history S.Device.history S.Frozen.content self.new.part)) }
-
-        // So it is over every store: where the log has no frame and no table is sealed, all stays. Else what both tables hold is in
-        // components, no table is left, and the log has no frame.
+        // Where the log has no frame and no table is sealed, all stays. Else what both tables hold is in components, no table is left,
+        // and the log has no frame.
         ensures nothing { S.Device.size self.old.part.log.device ≤ empty_size → self.old.part.sealed ≡ None → (self.new ≡ self.old) × (jobs.new ≡ jobs.old) }
         ensures written { OnOk result (empty_size < S.Device.size self.old.part.log.device → (self.new.part.active ≡ []) × (self.new.part.sealed_log ≡ None) × (self.new.part.generation ≡ self.old.part.generation + 1)) }
         ensures unwritten { OnOk result (S.Device.size self.old.part.log.device ≤ empty_size → (self.new.part.active ≡ self.old.part.active) × (self.new.part.log ≡ self.old.part.log) × (self.new.part.generation ≡ self.old.part.generation)) }
@@ -74,32 +68,11 @@ impl<S: Store, P: Pace> Engine<S, P> {
         // Where no table was sealed, and there was room for one more component, nothing is merged meanwhile.
         ensures flushed { OnOk result (empty_size < S.Device.size self.old.part.log.device → self.old.part.sealed ≡ None → length self.old.part.list < 8 → (c : ComponentState S.Frozen) × (self.new.part.list ≡ self.old.part.list ++ c ∷ [])) }
         ensures emptied { OnOk result ((p : PartView) → IsPart (told S.history S.Device.history S.Frozen.content self.old.part) p → TellsFiles (told S.history S.Device.history S.Frozen.content self.old.part) → WorkFor S.Frozen.content S.Device.history S.Device.name jobs.old p → self.new.part.active ≡ []) }
-        ensures moved { HasOnlyMoved self.old.part self.new.part }
-        ensures indexed { AreIndexed S.Frozen.content self.old.part.list → AreIndexed S.Frozen.content self.new.part.list }
         ensures policy { self.new.policy ≡ self.old.policy }
-        ensures untold { OnOk result (S.history self.old.part.store ≡ [] → S.history self.new.part.store ≡ []) }
 
-        // No file is out but those of the part's devices, behind a fault too.
-        ensures devices { TellsLogs (told S.history S.Device.history S.Frozen.content self.old.part) → OnlyDevicesOut (told S.history S.Device.history S.Frozen.content self.old.part) → OnlyDevicesOut (told S.history S.Device.history S.Frozen.content self.new.part) }
-
-        // That of the active log is out after Ok, where it was before, and so it is where nothing was done.
-        ensures log_out { OnOk result (LogIsOut (told S.history S.Device.history S.Frozen.content self.old.part) → LogIsOut (told S.history S.Device.history S.Frozen.content self.new.part)) }
-        ensures log_out_spent { IsErrOf result EngineFault.Spent → LogIsOut (told S.history S.Device.history S.Frozen.content self.old.part) → LogIsOut (told S.history S.Device.history S.Frozen.content self.new.part) }
-
-        // At each moment of the call a stop leaves what was stored, and so it does behind a fault.
-        ensures moments { (p : PartView) → IsPart (told S.history S.Device.history S.Frozen.content self.old.part) p → TellsFiles (told S.history S.Device.history S.Frozen.content self.old.part) → WorkFor S.Frozen.content S.Device.history S.Device.name jobs.old p → MomentsLeavePairsOver p.part (store_of p) (told S.history S.Device.history S.Frozen.content self.old.part) (S.Device.history self.new.part.log.device) (S.history self.new.part.store) }
-        ensures next_log { (p : PartView) → IsPart (told S.history S.Device.history S.Frozen.content self.old.part) p → WorkFor S.Frozen.content S.Device.history S.Device.name jobs.old p → self.new.part.generation ≡ self.old.part.generation + 1 → NextLogs p.part self.new.part.generation (S.Device.history self.new.part.log.device) }
-        ensures failed { OnErr result ((p : PartView) → IsPart (told S.history S.Device.history S.Frozen.content self.old.part) p → TellsFiles (told S.history S.Device.history S.Frozen.content self.old.part) → WorkFor S.Frozen.content S.Device.history S.Device.name jobs.old p → HasFailedKeeping (WorkFor S.Frozen.content S.Device.history S.Device.name jobs.new) (told S.history S.Device.history S.Frozen.content self.new.part) p.part (store_of p) None) }
-        ensures left { OnErr result (self.new.part.failed ≡ true) }
-
-        // Damage is that of the part as it is left. Where nothing is merged it is that the listed components do not go together with the
-        // table, or with the one that the flush made, or is in the file of that. Where the files are told there is none.
-        ensures damaged { IfErr result (λ fault. IfDamaged fault (IsPartDamage S.Frozen.content S.Device.history self.new.part)) }
+        // Where nothing is merged damage is that the listed components do not go together with the table, or with the one that the flush
+        // made, or is in the file of that.
         ensures damaged_alone { self.old.part.sealed ≡ None → length self.old.part.list < 8 → IfErr result (λ fault. IfDamaged fault (AreOfFiles (file_names self.old.part.list) (component_name self.old.part.generation self.old.part.generation))) }
-        ensures undamaged { TellsNoDamage (eyes S.history S.Device.history S.Frozen.content S.Device.name S.Frozen.size S.Watch.counts) result (beside self.old.part jobs.old) }
-        ensures spent { IsErrOf result EngineFault.Spent → self.old.part.generation + 1 ≡ 2 ^ 63 }
-        ensures unmoved { IsErrOf result EngineFault.Spent → self.new.part.generation ≡ self.old.part.generation }
-        ensures watched { IsWatchedIn (λ w. S.Watch.counts w) (IsErrOf result EngineFault.Disk) (watched_part self.old.part jobs.old) (watched_part self.new.part jobs.new) }
     {
         self.failed = true;
         flush_both(

@@ -1,27 +1,17 @@
 //! An engine ends.
 
-ghost use Rattle.std.specs.Prelude.{◌≡◌, ◌≤◌, ◌-◌, false, true, List, [], ◌∷◌, Ok, Option, Some, None, is_some, option_map, IfErr, IsErrOf, OnErr, OnOk};
+ghost use Rattle.std.specs.Prelude.{◌≡◌, ◌≤◌, ◌-◌, false, true, List, [], Ok, Option, Some, None, is_some, OnErr, OnOk};
 ghost use Rattle.tc_list.specs.declared.policy.Policy.{Policy};
 ghost use Rattle.tc_log.specs.Layout.{empty_size};
-ghost use Rattle.tc_lsm_model.specs.Contents.{Partition};
-ghost use Rattle.tc_part.specs.Closing.{brought_home};
-ghost use Rattle.tc_part.specs.FilesOut.{LogIsOut, OnlyDevicesOut, TellsLogs};
-ghost use Rattle.tc_part_model.specs.Leaving.{FailedMomentsLeaveStore, KeepsStore, OpensAs};
+ghost use Rattle.tc_part.specs.FilesOut.{LogIsOut};
 ghost use Rattle.tc_part_model.specs.Meaning.{IsPart};
 ghost use Rattle.tc_part_model.specs.PartState.{told};
-ghost use Rattle.tc_part_model.specs.PartView.{PartView, store_of};
-ghost use Rattle.tc_plain_model.specs.Writes.{Pairs, Write as PlainWrite};
-ghost use Rattle.tc_store.specs.declared.file_name.FileName.{FileName};
-ghost use Rattle.tc_store.specs.declared.file_name.FileName.TheVariants.{Log as log_name};
-ghost use Rattle.tc_store.specs.Disk.{is_out, IsThere};
-ghost use Rattle.tc_store.specs.Moments.{IfTold};
-ghost use Rattle.tc_work.specs.Ending.{EndsSmall, Finishes, GivesBack, HasNothingToDo};
-ghost use Rattle.tc_work.specs.Damage.{HasMetDamage};
-ghost use Rattle.tc_work.specs.Failing.{HasFailedKeeping};
-ghost use Rattle.tc_work.specs.Faults.{IfDamaged};
-ghost use Rattle.tc_work.specs.JobsOut.{watched_part, AreOut, WorkFor};
-ghost use Rattle.tc_work.specs.Moving.{beside, eyes, told_by, works_by, IsOutBy, IsPickedBy, KeepsJobs, MayMove, Moves, TellsNoDamage};
-ghost use Rattle.tc_work.specs.Settling.{IsWatchedIn, MaySettle, MomentsLeavePairs, PicksNone, TellsFiles};
+ghost use Rattle.tc_part_model.specs.PartView.{PartView};
+ghost use Rattle.tc_plain_model.specs.Writes.{Write as PlainWrite};
+ghost use Rattle.tc_work.specs.Ending.{Finishes, GivesBack};
+ghost use Rattle.tc_work.specs.JobsOut.{AreOut, WorkFor};
+ghost use Rattle.tc_work.specs.Moving.{beside, eyes, told_by, works_by, IsOutBy, IsPickedBy, KeepsJobs, MayMove, Moves};
+ghost use Rattle.tc_work.specs.Settling.{MaySettle, PicksNone, TellsFiles};
 
 use crate::engine::Engine;
 use crate::fault::EngineFault;
@@ -58,39 +48,13 @@ impl<S: Store, P: Pace> Engine<S, P> {
         requires jobs { AreOut S.history S.Device.history S.Frozen.content S.Device.name self.part jobs }
         requires reader { is_some self.part.reader ≡ true }
 
-        // Where no file is out but those of the part's devices, none is out any more.
-        ensures brought_in { TellsLogs (told S.history S.Device.history S.Frozen.content self.part) → OnlyDevicesOut (told S.history S.Device.history S.Frozen.content self.part) → IfTold (S.history result.kit.store) (λ disk. (name : FileName) → is_out (disk name) ≡ false) }
+        // Where no file is out but those of the part's devices, none is out any more. Whatever a stop leaves from then on, and at each
+        // moment of the call, is what was stored, of an engine that failed what it kept. One that has not failed opens as so few
+        // components that the policy picks none, and as one log.
+        ensures ends { Finishes (eyes S.history S.Device.history S.Frozen.content S.Device.name S.Frozen.size S.Watch.counts) (λ d. S.Device.size d) self.policy (beside self.part jobs) result.outcome result.kit.store result.kit.main result.kit.flusher result.kit.merger result.kit.reader }
 
-        // The log is among the files, where it was out.
-        ensures log { OnOk result.outcome (LogIsOut (told S.history S.Device.history S.Frozen.content self.part) → IfTold (S.history result.kit.store) (λ disk. IsThere (disk (log_name self.part.generation)))) }
-
-        // Whatever a stop leaves from then on is what was stored, of an engine that failed what it kept.
-        ensures kept { (p : PartView) → IsPart (told S.history S.Device.history S.Frozen.content self.part) p → WorkFor S.Frozen.content S.Device.history S.Device.name jobs p → IfTold (S.history result.kit.store) (KeepsStore p.part (store_of p) None) }
-        ensures failed { (part : Partition) (pairs : Pairs) (frame : Option (List PlainWrite)) → HasFailedKeeping (WorkFor S.Frozen.content S.Device.history S.Device.name jobs) (told S.history S.Device.history S.Frozen.content self.part) part pairs frame → IfTold (S.history result.kit.store) (KeepsStore part pairs frame) }
-
-        // Of an engine that has not failed it opens as so few components that the policy picks none, and as one log, which is as long
-        // as its device is. Where it has no frame it has no write.
-        ensures opens { (p : PartView) → IsPart (told S.history S.Device.history S.Frozen.content self.part) p → WorkFor S.Frozen.content S.Device.history S.Device.name jobs p → OnOk result.outcome (EndsSmall p.part self.policy (S.Device.size self.part.log.device) (S.history result.kit.store)) }
+        // Where the log has no frame it has no write.
         ensures unwritten { (p : PartView) → IsPart (told S.history S.Device.history S.Frozen.content self.part) p → TellsFiles (told S.history S.Device.history S.Frozen.content self.part) → WorkFor S.Frozen.content S.Device.history S.Device.name jobs p → S.Device.size self.part.log.device ≤ empty_size → p.active.writes ≡ [] }
-
-        // At each moment of the call a stop leaves the same.
-        ensures moments { (p : PartView) → IsPart (told S.history S.Device.history S.Frozen.content self.part) p → WorkFor S.Frozen.content S.Device.history S.Device.name jobs p → MomentsLeavePairs p.part (store_of p) (told S.history S.Device.history S.Frozen.content self.part) (S.history result.kit.store) }
-        ensures failed_moments { (part : Partition) (pairs : Pairs) (frame : Option (List PlainWrite)) (has : HasFailedKeeping (WorkFor S.Frozen.content S.Device.history S.Device.name jobs) (told S.history S.Device.history S.Frozen.content self.part) part pairs frame) → FailedMomentsLeaveStore has.view frame (told S.history S.Device.history S.Frozen.content self.part) (S.history result.kit.store) }
-
-        // Nothing that a job makes is listed of an engine that failed, and no fault of it is told. Damage is that of the part as it stood
-        // then. Where the files are told there is none.
-        ensures outcome { self.part.failed ≡ true → result.outcome ≡ Ok tt }
-        ensures damaged { IfErr result.outcome (λ fault. IfDamaged fault (HasMetDamage S.Frozen.content S.Device.history self.part)) }
-        ensures undamaged { TellsNoDamage (eyes S.history S.Device.history S.Frozen.content S.Device.name S.Frozen.size S.Watch.counts) result.outcome (beside self.part jobs) }
-        ensures unspent { IsErrOf result.outcome EngineFault.Spent → ⊥ }
-
-        // Where no job is out and the policy picks none, nothing is done but that the devices come home, and so it is of an engine
-        // that failed: what is listed is what it opens as, over every store.
-        ensures idle { HasNothingToDo self.policy self.part jobs → OnOk result.outcome ((result.kit.main ≡ self.part.main) × (Some result.kit.flusher ≡ self.part.flusher) × (Some result.kit.merger ≡ self.part.merger)) }
-        ensures home { HasNothingToDo self.policy self.part jobs → OnOk result.outcome (S.history result.kit.store ≡ brought_home (log_name self.part.generation) (S.Device.history self.part.log.device) (option_map (λ moments. (log_name (self.part.generation - 1), moments)) (option_map (λ l. S.Device.history l.device) self.part.sealed_log)) (S.history self.part.store)) }
-        ensures listed { HasNothingToDo self.policy self.part jobs → (p : PartView) → IsPart (told S.history S.Device.history S.Frozen.content self.part) p → OnOk result.outcome (IfTold (S.history result.kit.store) (OpensAs p.part p.list (p.active.writes ∷ []) (S.Device.size self.part.log.device))) }
-        ensures watched { IsWatchedIn (λ w. S.Watch.counts w) (IsErrOf result.outcome EngineFault.Disk) (watched_part self.part jobs) (record self.part { main = result.kit.main; flusher = Some result.kit.flusher; merger = Some result.kit.merger }) }
-        ensures reader { Some result.kit.reader ≡ self.part.reader }
     {
         let Engine {
             part,

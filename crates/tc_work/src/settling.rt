@@ -1,19 +1,13 @@
 //! What an engine does between two windows: a long log is emptied, and components are merged, each by a job beside the windows.
 
-ghost use Rattle.std.specs.Prelude.{◌≡◌, ◌≤◌, ◌<◌, ◌+◌, ◌^◌, ◌⊎◌, [], None, true, false, is_some, length, IfErr, IsErrOf, OnErr, OnOk};
+ghost use Rattle.std.specs.Prelude.{◌≡◌, ◌≤◌, ◌<◌, ◌+◌, ◌^◌, ◌⊎◌, [], None, true, false, is_some, length, OnErr, OnOk};
 ghost use Rattle.tc_log.specs.Layout.{empty_size};
 ghost use Rattle.tc_list.specs.Intervals.{last_of};
 ghost use Rattle.tc_list.specs.Policies.{listed_least};
-ghost use Rattle.tc_part.specs.FilesOut.{LogIsOut, OnlyDevicesOut, TellsLogs};
-ghost use Rattle.tc_part_model.specs.Meaning.{IsPart};
 ghost use Rattle.tc_part_model.specs.PartState.{told};
-ghost use Rattle.tc_part_model.specs.PartView.{PartView, store_of};
-ghost use Rattle.tc_work.specs.Damage.{AreIndexed, IsPartDamage};
-ghost use Rattle.tc_work.specs.Failing.{HasFailedKeeping};
-ghost use Rattle.tc_work.specs.Faults.{IfDamaged};
-ghost use Rattle.tc_work.specs.JobsOut.{watched_part, AreOut, WorkFor};
-ghost use Rattle.tc_work.specs.Moving.{beside, eyes, IsPickedBy, ListsPicked, MayMove, MovesOver, TellsNoDamage};
-ghost use Rattle.tc_work.specs.Settling.{HasOnlyMoved, IsDue, IsListedBy, IsWatchedIn, MaySettle, MomentsLeavePairsOver, NextLogs, PicksNone, StoresStill, TellsFiles};
+ghost use Rattle.tc_work.specs.JobsOut.{AreOut};
+ghost use Rattle.tc_work.specs.Moving.{beside, eyes, IsPickedBy, ListsPicked, MayMove, MovesOver};
+ghost use Rattle.tc_work.specs.Settling.{IsDue, IsListedBy, MaySettle, PicksNone};
 
 use crate::emptying::{EMPTY_LOG, end_flush, seal_and_start};
 use crate::engine::Engine;
@@ -49,17 +43,14 @@ impl<S: Store, P: Pace> Engine<S, P> {
         requires ready { MaySettle (told S.history S.Device.history S.Frozen.content self.old.part) }
         requires jobs { AreOut S.history S.Device.history S.Frozen.content S.Device.name self.old.part jobs.old }
 
-        // Whatever it answers, the jobs are those of the engine that are out.
-        ensures jobs { AreOut S.history S.Device.history S.Frozen.content S.Device.name self.new.part jobs.new }
+        // Whatever it answers, at each moment a stop leaves what was stored, the jobs are those of the engine that are out, and nothing
+        // changed but where documents are. After Ok the engine stores what it stored. Damage is that of the part as it is left.
+        ensures moves { MovesOver (eyes S.history S.Device.history S.Frozen.content S.Device.name S.Frozen.size S.Watch.counts) result (beside self.old.part jobs.old) (beside self.new.part jobs.new) }
+        ensures left { OnErr result (self.new.part.failed ≡ true) }
 
-        // Where the files are told the engine stores what it stored.
-        ensures stores { OnOk result ((p : PartView) → IsPart (told S.history S.Device.history S.Frozen.content self.old.part) p → TellsFiles (told S.history S.Device.history S.Frozen.content self.old.part) → WorkFor S.Frozen.content S.Device.history S.Device.name jobs.old p → StoresStill (WorkFor S.Frozen.content S.Device.history S.Device.name jobs.new) (told S.history S.Device.history S.Frozen.content self.old.part) p (told S.history S.Device.history S.Frozen.content self.new.part)) }
-        ensures sound { OnOk result (self.new.part.failed ≡ false) }
-        ensures ready { OnOk result (MaySettle (told S.history S.Device.history S.Frozen.content self.new.part)) }
-
-        // So it is over every store. Where that was due, the table is sealed, and the next log has no frame; else tables and log are as
-        // they were. The log is short then, two generations at most are behind the components, a table that is sealed has its flush
-        // out, and where no merge is out so few components are listed that the policy picks none.
+        // Where that was due, the table is sealed, and the next log has no frame; else tables and log are as they were. The log is short
+        // then, two generations at most are behind the components, a table that is sealed has its flush out, and where no merge is out
+        // so few components are listed that the policy picks none.
         ensures emptied { OnOk result (IsDue (λ d. S.Device.size d) self.old.part → (self.new.part.active ≡ []) × (S.Device.size self.new.part.log.device ≡ empty_size) × (self.new.part.generation ≡ self.old.part.generation + 1)) }
         ensures stays { OnOk result ((IsDue (λ d. S.Device.size d) self.old.part → ⊥) → (self.new.part.active ≡ self.old.part.active) × (self.new.part.log ≡ self.old.part.log) × (self.new.part.generation ≡ self.old.part.generation) × (self.new.part.sealed ≡ self.old.part.sealed) × (jobs.new.flush ≡ jobs.old.flush)) }
         ensures short { OnOk result (empty_size < self.old.part.memory → S.Device.size self.new.part.log.device < self.old.part.memory) }
@@ -70,30 +61,7 @@ impl<S: Store, P: Pace> Engine<S, P> {
         ensures listed { OnOk result (IsListedBy self.old.policy (λ f. S.Frozen.size f) self.old.part self.new.part) }
         ensures few { OnOk result (listed_least self.old.policy ≤ 9 → length self.new.part.list ≤ 8) }
         ensures flushing { OnOk result (self.new.part.flushing ≡ is_some self.new.part.sealed) }
-        ensures moved { HasOnlyMoved self.old.part self.new.part }
-        ensures indexed { AreIndexed S.Frozen.content self.old.part.list → AreIndexed S.Frozen.content self.new.part.list }
         ensures policy { self.new.policy ≡ self.old.policy }
-        ensures untold { OnOk result (S.history self.old.part.store ≡ [] → S.history self.new.part.store ≡ []) }
-
-        // No file is out but those of the part's devices, behind a fault too.
-        ensures devices { TellsLogs (told S.history S.Device.history S.Frozen.content self.old.part) → OnlyDevicesOut (told S.history S.Device.history S.Frozen.content self.old.part) → OnlyDevicesOut (told S.history S.Device.history S.Frozen.content self.new.part) }
-
-        // That of the active log is out after Ok, where it was before, and so it is where nothing was done.
-        ensures log_out { OnOk result (LogIsOut (told S.history S.Device.history S.Frozen.content self.old.part) → LogIsOut (told S.history S.Device.history S.Frozen.content self.new.part)) }
-        ensures log_out_spent { IsErrOf result EngineFault.Spent → LogIsOut (told S.history S.Device.history S.Frozen.content self.old.part) → LogIsOut (told S.history S.Device.history S.Frozen.content self.new.part) }
-
-        // At each moment of the call a stop leaves what was stored, and so it does behind a fault.
-        ensures moments { (p : PartView) → IsPart (told S.history S.Device.history S.Frozen.content self.old.part) p → TellsFiles (told S.history S.Device.history S.Frozen.content self.old.part) → WorkFor S.Frozen.content S.Device.history S.Device.name jobs.old p → MomentsLeavePairsOver p.part (store_of p) (told S.history S.Device.history S.Frozen.content self.old.part) (S.Device.history self.new.part.log.device) (S.history self.new.part.store) }
-        ensures next_log { (p : PartView) → IsPart (told S.history S.Device.history S.Frozen.content self.old.part) p → WorkFor S.Frozen.content S.Device.history S.Device.name jobs.old p → self.new.part.generation ≡ self.old.part.generation + 1 → NextLogs p.part self.new.part.generation (S.Device.history self.new.part.log.device) }
-        ensures failed { OnErr result ((p : PartView) → IsPart (told S.history S.Device.history S.Frozen.content self.old.part) p → TellsFiles (told S.history S.Device.history S.Frozen.content self.old.part) → WorkFor S.Frozen.content S.Device.history S.Device.name jobs.old p → HasFailedKeeping (WorkFor S.Frozen.content S.Device.history S.Device.name jobs.new) (told S.history S.Device.history S.Frozen.content self.new.part) p.part (store_of p) None) }
-        ensures left { OnErr result (self.new.part.failed ≡ true) }
-
-        // Damage is that of the part as it is left. Where the files are told there is none.
-        ensures damaged { IfErr result (λ fault. IfDamaged fault (IsPartDamage S.Frozen.content S.Device.history self.new.part)) }
-        ensures undamaged { TellsNoDamage (eyes S.history S.Device.history S.Frozen.content S.Device.name S.Frozen.size S.Watch.counts) result (beside self.old.part jobs.old) }
-        ensures spent { IsErrOf result EngineFault.Spent → self.old.part.generation + 1 ≡ 2 ^ 63 }
-        ensures unmoved { IsErrOf result EngineFault.Spent → self.new.part.generation ≡ self.old.part.generation }
-        ensures watched { IsWatchedIn (λ w. S.Watch.counts w) (IsErrOf result EngineFault.Disk) (watched_part self.old.part jobs.old) (watched_part self.new.part jobs.new) }
     {
         self.failed = true;
         settle_part(

@@ -1,29 +1,31 @@
 use Rattle.std.proofs.Common.{◌∙◌, Err, ap, sym}
 use Rattle.std.proofs.lemmas.Bool.{true≢false}
+use Rattle.tc_work.specs.Moving.{beside, eyes}
+use Rattle.tc_keeper.proofs.EnginesMoved.{failed_kept}
 use Rattle.tc_keeper.proofs.settling.settle_one.Goals as goal
 
 pub returns-in-Ok-clause-staffed : goal.returns-in-Ok-clause-staffed
-returns-in-Ok-clause-staffed g c = record { out = c.settle.ensures.jobs; ready = λ is. c.in-Ok.ensures.ready }
+returns-in-Ok-clause-staffed g c = record { out = c.settle.ensures.moves.keeps.jobs; ready = λ is. c.in-Ok.ensures.moves.well.stays.ready }
 
 pub returns-in-Ok-clause-settled : goal.returns-in-Ok-clause-settled
 returns-in-Ok-clause-settled g c =
     let done = c.in-Ok.ensures in
     let all = c.settle.ensures in record {
-      stays = record { stores = done.stores; sound = done.sound; ready = done.ready; log_out = done.log_out; untold = done.untold };
+      stays = record { stores = done.moves.well.stays.stores; sound = done.moves.well.sound; ready = done.moves.well.stays.ready; log_out = done.moves.well.log_out; untold = done.moves.keeps.untold };
       settled = record { emptied = done.emptied; stays = done.stays; short = done.short; none = done.none; outside = done.outside; listed = done.listed; few = done.few; flushing = done.flushing };
       moved = record {
-        moved = all.moved;
-        indexed = all.indexed;
+        moved = all.moves.keeps.moved;
+        indexed = all.moves.keeps.indexed;
         policy = all.policy;
-        devices = all.devices;
-        at_moments = all.moments;
-        next_log = all.next_log;
-        watched = record { main = all.watched.main; flusher = all.watched.flusher; merger = all.watched.merger; cause = λ never. absurd never };
+        devices = all.moves.keeps.devices;
+        at_moments = all.moves.moments;
+        next_log = all.moves.next_log;
+        watched = record { main = all.moves.keeps.watched.main; flusher = all.moves.keeps.watched.flusher; merger = all.moves.keeps.watched.merger; cause = λ never. absurd never };
       };
     }
 
 pub returns-in-Err-clause-staffed : goal.returns-in-Err-clause-staffed
-returns-in-Err-clause-staffed g c = record { out = c.settle.ensures.jobs; ready = λ is. absurd (true≢false (sym c.in-Err.ensures.left ∙ is)) }
+returns-in-Err-clause-staffed g c = record { out = c.settle.ensures.moves.keeps.jobs; ready = λ is. absurd (true≢false (sym c.in-Err.ensures.left ∙ is)) }
 
 pub returns-in-Err-clause-stopped : goal.returns-in-Err-clause-stopped
 returns-in-Err-clause-stopped g c =
@@ -31,20 +33,22 @@ returns-in-Err-clause-stopped g c =
     let all = c.settle.ensures in record {
       fails = record {
         failed = left.left;
-        kept = left.failed;
-        damaged = left.damaged;
-        undamaged = left.undamaged;
-        spent = λ is. all.spent (c.in-Err.is ∙ ap Err is);
-        unmoved = λ is. all.unmoved (c.in-Err.is ∙ ap Err is);
-        log_out_spent = λ is. all.log_out_spent (c.in-Err.is ∙ ap Err is);
+        kept = failed_kept
+            (eyes g.S.Store.history g.S.Device.Device.history g.S.Frozen.Frozen.content g.S.Device.Device.name g.S.Frozen.Frozen.size g.S.Watch.Watch.counts)
+            (beside c.args.seat.now.engine.part c.args.running.now) (beside c.settle.new.self.part c.settle.new.jobs) left.left left.moves.failed;
+        damaged = left.moves.damaged;
+        undamaged = left.moves.undamaged;
+        spent = λ is. all.moves.spent (c.in-Err.is ∙ ap Err is);
+        unmoved = λ is. all.moves.unmoved (c.in-Err.is ∙ ap Err is);
+        log_out_spent = λ is. all.moves.log_out_spent (c.in-Err.is ∙ ap Err is);
       };
       moved = record {
-        moved = all.moved;
-        indexed = all.indexed;
+        moved = all.moves.keeps.moved;
+        indexed = all.moves.keeps.indexed;
         policy = all.policy;
-        devices = all.devices;
-        at_moments = all.moments;
-        next_log = all.next_log;
-        watched = record { main = all.watched.main; flusher = all.watched.flusher; merger = all.watched.merger; cause = λ is. all.watched.cause (c.in-Err.is ∙ ap Err is) };
+        devices = all.moves.keeps.devices;
+        at_moments = all.moves.moments;
+        next_log = all.moves.next_log;
+        watched = record { main = all.moves.keeps.watched.main; flusher = all.moves.keeps.watched.flusher; merger = all.moves.keeps.watched.merger; cause = λ is. all.moves.keeps.watched.cause (c.in-Err.is ∙ ap Err is) };
       };
     }

@@ -17,12 +17,12 @@ returns g c =
     let end = c.finish.result in
     let disks = g.S.Store.history end.kit.store in
     record {
-      keeps = λ p is works. told_both AreIn (KeepsStore p.part (store_of p) None) disks (c.finish.ensures.brought_in is.tells (c.parts_hold_devices.ensures.devices t p is)) (c.finish.ensures.kept p is works);
-      failed = λ devices here pairs frame k. told_both AreIn (KeepsStore here pairs frame) disks (c.finish.ensures.brought_in k.files.tells devices) (c.finish.ensures.failed here pairs frame k);
-      opens = c.finish.ensures.opens;
-      last = λ spent. last_left disks part.generation spent.last (on_ok end.outcome tt (c.finish.ensures.outcome spent.failed) c.finish.ensures.log spent.log);
-      none_fell = closed_stays g.S.Watch.Watch.counts end.kit (watched_part part c.args.jobs) _ c.finish.ensures.watched c.finish.ensures.reader;
-      disk = closed_rose g.S.Watch.Watch.counts end.kit (watched_part part c.args.jobs) _ c.finish.ensures.watched;
-      undamaged = c.finish.ensures.undamaged;
-      unspent = c.finish.ensures.unspent;
+      keeps = λ p is works. told_both AreIn (KeepsStore p.part (store_of p) None) disks (c.finish.ensures.ends.brought_in is.tells (c.parts_hold_devices.ensures.devices t p is)) (c.finish.ensures.ends.kept p is works);
+      failed = λ devices here pairs frame k. told_both AreIn (KeepsStore here pairs frame) disks (c.finish.ensures.ends.brought_in k.files.tells devices) (c.finish.ensures.ends.failed here pairs frame k);
+      opens = c.finish.ensures.ends.opens;
+      last = λ spent. last_left disks part.generation spent.last (on_ok end.outcome tt (c.finish.ensures.ends.outcome spent.failed) c.finish.ensures.ends.log spent.log);
+      none_fell = closed_stays g.S.Watch.Watch.counts end.kit (watched_part part c.args.jobs) _ c.finish.ensures.ends.watched c.finish.ensures.ends.reader;
+      disk = closed_rose g.S.Watch.Watch.counts end.kit (watched_part part c.args.jobs) _ c.finish.ensures.ends.watched;
+      undamaged = c.finish.ensures.ends.undamaged;
+      unspent = c.finish.ensures.ends.unspent;
     }

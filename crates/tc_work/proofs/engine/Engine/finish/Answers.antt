@@ -34,41 +34,8 @@ failed_ended g c =
     c.close_failed.result.main c.close_failed.result.flusher c.close_failed.result.merger c.close_failed.result.reader) same
     (c.close_failed.ensures.ends c.args.self.policy)
 
-pub returns-then-failed-clause-brought_in : goal.returns-then-failed-clause-brought_in
-returns-then-failed-clause-brought_in g c = (failed_ended g c).brought_in
-
-pub returns-then-failed-clause-log : goal.returns-then-failed-clause-log
-returns-then-failed-clause-log g c = (failed_ended g c).log
-
-pub returns-then-failed-clause-kept : goal.returns-then-failed-clause-kept
-returns-then-failed-clause-kept g c = (failed_ended g c).kept
-
-pub returns-then-failed-clause-failed : goal.returns-then-failed-clause-failed
-returns-then-failed-clause-failed g c = (failed_ended g c).failed
-
-pub returns-then-failed-clause-opens : goal.returns-then-failed-clause-opens
-returns-then-failed-clause-opens g c = (failed_ended g c).opens
-
-pub returns-then-failed-clause-moments : goal.returns-then-failed-clause-moments
-returns-then-failed-clause-moments g c = (failed_ended g c).moments
-
-pub returns-then-failed-clause-failed_moments : goal.returns-then-failed-clause-failed_moments
-returns-then-failed-clause-failed_moments g c = (failed_ended g c).failed_moments
-
-pub returns-then-failed-clause-idle : goal.returns-then-failed-clause-idle
-returns-then-failed-clause-idle g c = (failed_ended g c).idle
-
-pub returns-then-failed-clause-home : goal.returns-then-failed-clause-home
-returns-then-failed-clause-home g c = (failed_ended g c).home
-
-pub returns-then-failed-clause-listed : goal.returns-then-failed-clause-listed
-returns-then-failed-clause-listed g c = (failed_ended g c).listed
-
-pub returns-then-failed-clause-watched : goal.returns-then-failed-clause-watched
-returns-then-failed-clause-watched g c = (failed_ended g c).watched
-
-pub returns-then-failed-clause-reader : goal.returns-then-failed-clause-reader
-returns-then-failed-clause-reader g c = (failed_ended g c).reader
+pub returns-then-failed-clause-ends : goal.returns-then-failed-clause-ends
+returns-then-failed-clause-ends g c = failed_ended g c
 
 pub returns-then-failed-clause-unwritten : goal.returns-then-failed-clause-unwritten
 returns-then-failed-clause-unwritten g c = λ p is tells works short.
@@ -114,53 +81,8 @@ sound_ended g c =
     (inside_is c.self.inside.part c.self.inside.failed c.args.self.part (ap (λ (x : EngineState _ _ _ _). x.part) c.self.view_is)
     (sym (ap (λ (x : EngineState _ _ _ _). x.part.failed) c.self.view_is) ∙ c.if-failed.false) c.self.invariant) c.finish_part.ensures.ends)
 
-pub returns-clause-brought_in : goal.returns-clause-brought_in
-returns-clause-brought_in g c = (sound_ended g c).brought_in
-
-pub returns-clause-log : goal.returns-clause-log
-returns-clause-log g c = (sound_ended g c).log
-
-pub returns-clause-kept : goal.returns-clause-kept
-returns-clause-kept g c = (sound_ended g c).kept
-
-pub returns-clause-failed : goal.returns-clause-failed
-returns-clause-failed g c = (sound_ended g c).failed
-
-pub returns-clause-opens : goal.returns-clause-opens
-returns-clause-opens g c = (sound_ended g c).opens
-
-pub returns-clause-moments : goal.returns-clause-moments
-returns-clause-moments g c = (sound_ended g c).moments
-
-pub returns-clause-failed_moments : goal.returns-clause-failed_moments
-returns-clause-failed_moments g c = (sound_ended g c).failed_moments
-
-pub returns-clause-outcome : goal.returns-clause-outcome
-returns-clause-outcome g c = (sound_ended g c).outcome
-
-pub returns-clause-damaged : goal.returns-clause-damaged
-returns-clause-damaged g c = (sound_ended g c).damaged
-
-pub returns-clause-undamaged : goal.returns-clause-undamaged
-returns-clause-undamaged g c = (sound_ended g c).undamaged
-
-pub returns-clause-unspent : goal.returns-clause-unspent
-returns-clause-unspent g c = (sound_ended g c).unspent
-
-pub returns-clause-idle : goal.returns-clause-idle
-returns-clause-idle g c = (sound_ended g c).idle
-
-pub returns-clause-home : goal.returns-clause-home
-returns-clause-home g c = (sound_ended g c).home
-
-pub returns-clause-listed : goal.returns-clause-listed
-returns-clause-listed g c = (sound_ended g c).listed
-
-pub returns-clause-watched : goal.returns-clause-watched
-returns-clause-watched g c = (sound_ended g c).watched
-
-pub returns-clause-reader : goal.returns-clause-reader
-returns-clause-reader g c = (sound_ended g c).reader
+pub returns-clause-ends : goal.returns-clause-ends
+returns-clause-ends g c = sound_ended g c
 
 pub returns-clause-unwritten : goal.returns-clause-unwritten
 returns-clause-unwritten g c = λ p is tells works short.

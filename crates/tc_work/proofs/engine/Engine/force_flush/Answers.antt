@@ -49,38 +49,8 @@ ended g c = closed_well (eyes g.S.Store.history g.S.Device.Device.history g.S.Fr
     g.S.Watch.Watch.counts) c.self.inside.part c.args.self.now.part c.flush_both.new.part c.args.jobs.now c.flush_both.new.jobs (same g c)
     c.in_ok-flush_both.ensures.moves
 
-pub returns-clause-jobs : goal.returns-clause-jobs
-returns-clause-jobs g c = (ended g c).keeps.jobs
-
-pub returns-clause-stores : goal.returns-clause-stores
-returns-clause-stores g c = (ended g c).well.stays.stores
-
-pub returns-clause-ready : goal.returns-clause-ready
-returns-clause-ready g c = (ended g c).well.stays.ready
-
-pub returns-clause-moved : goal.returns-clause-moved
-returns-clause-moved g c = (ended g c).keeps.moved
-
-pub returns-clause-indexed : goal.returns-clause-indexed
-returns-clause-indexed g c = (ended g c).keeps.indexed
-
-pub returns-clause-untold : goal.returns-clause-untold
-returns-clause-untold g c = (ended g c).keeps.untold
-
-pub returns-clause-devices : goal.returns-clause-devices
-returns-clause-devices g c = (ended g c).keeps.devices
-
-pub returns-clause-log_out : goal.returns-clause-log_out
-returns-clause-log_out g c = (ended g c).well.log_out
-
-pub returns-clause-moments : goal.returns-clause-moments
-returns-clause-moments g c = (ended g c).moments
-
-pub returns-clause-next_log : goal.returns-clause-next_log
-returns-clause-next_log g c = (ended g c).next_log
-
-pub returns-clause-watched : goal.returns-clause-watched
-returns-clause-watched g c = (ended g c).keeps.watched
+pub returns-clause-moves : goal.returns-clause-moves
+returns-clause-moves g c = ended g c
 
 pub returns-clause-listed : goal.returns-clause-listed
 returns-clause-listed g c =
@@ -103,44 +73,8 @@ stopped g c = closed_failed (eyes g.S.Store.history g.S.Device.Device.history g.
     (beside c.self.inside.part c.args.jobs.now) (beside c.flush_both.new.part c.flush_both.new.jobs) (beside c.flush_both.new.part c.flush_both.new.jobs)
     c.from_residual.result c.flush_both.result c.in_err-flush_both.field-0.0 c.from_residual.ensures.1 c.in_err-flush_both.was c.flush_both.ensures.moves)
 
-pub returns-in_err-flush_both-clause-jobs : goal.returns-in_err-flush_both-clause-jobs
-returns-in_err-flush_both-clause-jobs g c = (stopped g c).keeps.jobs
-
-pub returns-in_err-flush_both-clause-moved : goal.returns-in_err-flush_both-clause-moved
-returns-in_err-flush_both-clause-moved g c = (stopped g c).keeps.moved
-
-pub returns-in_err-flush_both-clause-indexed : goal.returns-in_err-flush_both-clause-indexed
-returns-in_err-flush_both-clause-indexed g c = (stopped g c).keeps.indexed
-
-pub returns-in_err-flush_both-clause-devices : goal.returns-in_err-flush_both-clause-devices
-returns-in_err-flush_both-clause-devices g c = (stopped g c).keeps.devices
-
-pub returns-in_err-flush_both-clause-moments : goal.returns-in_err-flush_both-clause-moments
-returns-in_err-flush_both-clause-moments g c = (stopped g c).moments
-
-pub returns-in_err-flush_both-clause-next_log : goal.returns-in_err-flush_both-clause-next_log
-returns-in_err-flush_both-clause-next_log g c = (stopped g c).next_log
-
-pub returns-in_err-flush_both-clause-failed : goal.returns-in_err-flush_both-clause-failed
-returns-in_err-flush_both-clause-failed g c = (stopped g c).failed
-
-pub returns-in_err-flush_both-clause-damaged : goal.returns-in_err-flush_both-clause-damaged
-returns-in_err-flush_both-clause-damaged g c = (stopped g c).damaged
-
-pub returns-in_err-flush_both-clause-undamaged : goal.returns-in_err-flush_both-clause-undamaged
-returns-in_err-flush_both-clause-undamaged g c = (stopped g c).undamaged
-
-pub returns-in_err-flush_both-clause-spent : goal.returns-in_err-flush_both-clause-spent
-returns-in_err-flush_both-clause-spent g c = (stopped g c).spent
-
-pub returns-in_err-flush_both-clause-unmoved : goal.returns-in_err-flush_both-clause-unmoved
-returns-in_err-flush_both-clause-unmoved g c = (stopped g c).unmoved
-
-pub returns-in_err-flush_both-clause-log_out_spent : goal.returns-in_err-flush_both-clause-log_out_spent
-returns-in_err-flush_both-clause-log_out_spent g c = (stopped g c).log_out_spent
-
-pub returns-in_err-flush_both-clause-watched : goal.returns-in_err-flush_both-clause-watched
-returns-in_err-flush_both-clause-watched g c = (stopped g c).keeps.watched
+pub returns-in_err-flush_both-clause-moves : goal.returns-in_err-flush_both-clause-moves
+returns-in_err-flush_both-clause-moves g c = stopped g c
 
 -- ---- the active table
 

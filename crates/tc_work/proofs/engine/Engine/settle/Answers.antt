@@ -44,38 +44,8 @@ ended g c = closed_well (eyes g.S.Store.history g.S.Device.Device.history g.S.Fr
     g.S.Watch.Watch.counts) c.self.inside.part c.args.self.now.part c.settle_part.new.part c.args.jobs.now c.settle_part.new.jobs (same g c)
     c.in_ok-settle_part.ensures.moves
 
-pub returns-clause-jobs : goal.returns-clause-jobs
-returns-clause-jobs g c = (ended g c).keeps.jobs
-
-pub returns-clause-stores : goal.returns-clause-stores
-returns-clause-stores g c = (ended g c).well.stays.stores
-
-pub returns-clause-ready : goal.returns-clause-ready
-returns-clause-ready g c = (ended g c).well.stays.ready
-
-pub returns-clause-moved : goal.returns-clause-moved
-returns-clause-moved g c = (ended g c).keeps.moved
-
-pub returns-clause-indexed : goal.returns-clause-indexed
-returns-clause-indexed g c = (ended g c).keeps.indexed
-
-pub returns-clause-untold : goal.returns-clause-untold
-returns-clause-untold g c = (ended g c).keeps.untold
-
-pub returns-clause-devices : goal.returns-clause-devices
-returns-clause-devices g c = (ended g c).keeps.devices
-
-pub returns-clause-log_out : goal.returns-clause-log_out
-returns-clause-log_out g c = (ended g c).well.log_out
-
-pub returns-clause-moments : goal.returns-clause-moments
-returns-clause-moments g c = (ended g c).moments
-
-pub returns-clause-next_log : goal.returns-clause-next_log
-returns-clause-next_log g c = (ended g c).next_log
-
-pub returns-clause-watched : goal.returns-clause-watched
-returns-clause-watched g c = (ended g c).keeps.watched
+pub returns-clause-moves : goal.returns-clause-moves
+returns-clause-moves g c = ended g c
 
 pub returns-clause-listed : goal.returns-clause-listed
 returns-clause-listed g c =
@@ -98,44 +68,8 @@ stopped g c = closed_failed (eyes g.S.Store.history g.S.Device.Device.history g.
     (beside c.self.inside.part c.args.jobs.now) (beside c.settle_part.new.part c.settle_part.new.jobs) (beside c.settle_part.new.part c.settle_part.new.jobs)
     c.from_residual.result c.settle_part.result c.in_err-settle_part.field-0.0 c.from_residual.ensures.1 c.in_err-settle_part.was c.settle_part.ensures.moves)
 
-pub returns-in_err-settle_part-clause-jobs : goal.returns-in_err-settle_part-clause-jobs
-returns-in_err-settle_part-clause-jobs g c = (stopped g c).keeps.jobs
-
-pub returns-in_err-settle_part-clause-moved : goal.returns-in_err-settle_part-clause-moved
-returns-in_err-settle_part-clause-moved g c = (stopped g c).keeps.moved
-
-pub returns-in_err-settle_part-clause-indexed : goal.returns-in_err-settle_part-clause-indexed
-returns-in_err-settle_part-clause-indexed g c = (stopped g c).keeps.indexed
-
-pub returns-in_err-settle_part-clause-devices : goal.returns-in_err-settle_part-clause-devices
-returns-in_err-settle_part-clause-devices g c = (stopped g c).keeps.devices
-
-pub returns-in_err-settle_part-clause-moments : goal.returns-in_err-settle_part-clause-moments
-returns-in_err-settle_part-clause-moments g c = (stopped g c).moments
-
-pub returns-in_err-settle_part-clause-next_log : goal.returns-in_err-settle_part-clause-next_log
-returns-in_err-settle_part-clause-next_log g c = (stopped g c).next_log
-
-pub returns-in_err-settle_part-clause-failed : goal.returns-in_err-settle_part-clause-failed
-returns-in_err-settle_part-clause-failed g c = (stopped g c).failed
-
-pub returns-in_err-settle_part-clause-damaged : goal.returns-in_err-settle_part-clause-damaged
-returns-in_err-settle_part-clause-damaged g c = (stopped g c).damaged
-
-pub returns-in_err-settle_part-clause-undamaged : goal.returns-in_err-settle_part-clause-undamaged
-returns-in_err-settle_part-clause-undamaged g c = (stopped g c).undamaged
-
-pub returns-in_err-settle_part-clause-spent : goal.returns-in_err-settle_part-clause-spent
-returns-in_err-settle_part-clause-spent g c = (stopped g c).spent
-
-pub returns-in_err-settle_part-clause-unmoved : goal.returns-in_err-settle_part-clause-unmoved
-returns-in_err-settle_part-clause-unmoved g c = (stopped g c).unmoved
-
-pub returns-in_err-settle_part-clause-log_out_spent : goal.returns-in_err-settle_part-clause-log_out_spent
-returns-in_err-settle_part-clause-log_out_spent g c = (stopped g c).log_out_spent
-
-pub returns-in_err-settle_part-clause-watched : goal.returns-in_err-settle_part-clause-watched
-returns-in_err-settle_part-clause-watched g c = (stopped g c).keeps.watched
+pub returns-in_err-settle_part-clause-moves : goal.returns-in_err-settle_part-clause-moves
+returns-in_err-settle_part-clause-moves g c = stopped g c
 
 -- ---- the generations
 
