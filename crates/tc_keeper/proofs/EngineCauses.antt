@@ -11,7 +11,7 @@ use Rattle.tc_keeper.specs.Running.{HasOnlyRun}
 use Rattle.tc_keeper.specs.declared.engines_fault.EnginesFault.{EnginesFault}
 use Rattle.tc_keeper.specs.declared.engines_fault.EnginesFault.TheVariants as engines
 use Rattle.tc_keeper.proofs.PlaceLaws.{at_each-so}
-use Rattle.tc_keeper.specs.WithJobs.{told_of, told_part, WithJobs}
+use Rattle.tc_keeper.specs.WithJobs.{told_of, WithJobs}
 use Rattle.tc_model.specs.Keyed.{Keyed}
 use Rattle.tc_part.specs.Harms.{IsBytesHarm, IsHarmIn}
 use Rattle.tc_part_model.specs.PartState.{PartState}
@@ -23,7 +23,7 @@ use Rattle.tc_store.specs.KitFaults.{KitFaults}
 use Rattle.tc_work.specs.Damage.{IsPartDamage}
 use Rattle.tc_work.specs.Faults.{IfDamaged as IfEngineDamaged}
 use Rattle.tc_work.specs.JobsOut.{flusher_of, merger_of, watched_part}
-use Rattle.tc_work.specs.Moving.{Eyes}
+use Rattle.tc_work.specs.Moving.{told_part, Eyes}
 use Rattle.tc_work.specs.Reads.{IsCountedWithin}
 use Rattle.tc_work.specs.Settling.{FaultsRose, FaultsStay, IsWatchedIn}
 use Rattle.tc_work.specs.declared.fault.EngineFault.{EngineFault}

@@ -1,28 +1,20 @@
 -- What a window of an engine promises is what is said of its share.
-use Rattle.std.proofs.Common.{false, ◌≡◌, ◌∙◌, ◌+◌, ℕ, Bool, true, List, length, map, ap, sym}
+use Rattle.std.proofs.Common.{false, ◌≡◌, ◌∙◌, ℕ, Bool, true, List, map, ap, sym}
 use Rattle.std.specs.Map.{keys_of}
-use Rattle.std.specs.Prelude.{All, Result, Ok, Err, IfOk, OnErr, OnOk}
+use Rattle.std.specs.Prelude.{Result, Ok, Err, IfOk, OnErr, OnOk}
 use Rattle.std.proofs.lemmas.Bool.{true≢false}
 use Rattle.tc_log.specs.declared.write.Write.{Write}
-use Rattle.tc_log.specs.Writes.{IsWrite}
-use Rattle.tc_machine.specs.Logs.{kept_write}
-use Rattle.tc_machine.specs.Writes.{IsStorableWrite}
-use Rattle.tc_model.specs.Keyed.{Keyed, values_in}
-use Rattle.tc_request_model.specs.Request.{Request}
-use Rattle.tc_request_model.specs.Part.{part_writes_all}
-use Rattle.tc_part_model.specs.Meaning.{IsPart, plain_of}
-use Rattle.tc_part_model.specs.PartView.{PartView}
 use Rattle.tc_part_model.specs.PartState.{PartState}
 use Rattle.tc_route.specs.Meaning.{placed_of, rendered_in, routed_of}
 use Rattle.tc_route.specs.declared.placed.Placed.{Placed}
 use Rattle.tc_route.specs.declared.placed.Routed.{Routed}
 use Rattle.tc_running.specs.Jobs.{JobsState}
 use Rattle.tc_work.specs.EngineState.{EngineState}
-use Rattle.tc_work.specs.Moving.{beside, Eyes, IsOutBy}
+use Rattle.tc_work.specs.Moving.{beside, told_part, Eyes, IsOutBy}
 use Rattle.tc_work.specs.Settling.{MaySettle}
 use Rattle.tc_work.specs.declared.fault.EngineFault.{EngineFault}
-use Rattle.tc_keeper.specs.Running.{HasFramed, HasOnlyRun}
-use Rattle.tc_keeper.specs.WithJobs.{told_part, IsStaffed}
+use Rattle.tc_keeper.specs.Running.{HasOnlyRun}
+use Rattle.tc_keeper.specs.WithJobs.{IsStaffed}
 use Rattle.tc_keeper.proofs.SharesRun.{read_again}
 
 -- an engine that had not failed has not where nothing else changed
@@ -63,11 +55,3 @@ pub run_staffed : {S D F W T E : Type 0} (answer : Result T E) (eyes : Eyes S D 
     → OnOk answer (MaySettle (told_part eyes old.part) → MaySettle (told_part eyes new.part)) → OnErr answer (new.part.failed ≡ true) → IsStaffed eyes old jobs → IsStaffed eyes new jobs
 run_staffed (Ok x) eyes old new jobs sound out ready failed staffed = record { out = out staffed.out; ready = λ is. ready (staffed.ready sound) }
 run_staffed (Err e) eyes old new jobs sound out ready failed staffed = record { out = out staffed.out; ready = λ is. absurd (true≢false (sym failed ∙ is)) }
-
--- what is handed out is the frame of the share
-pub framed_of : {S D F W T E : Type 0} (eyes : Eyes S D F W) (rs : Keyed Request) (old new : EngineState S D F W) (frame : List Write) (answer : Result T E)
-    → OnOk answer ((p : PartView) → IsPart (told_part eyes old.part) p → frame ≡ map kept_write (part_writes_all old.part.limits (values_in rs) (plain_of (told_part eyes old.part) p)))
-    → OnOk answer ((p : PartView) → IsPart (told_part eyes old.part) p → All IsStorableWrite (part_writes_all old.part.limits (values_in rs) (plain_of (told_part eyes old.part) p)))
-    → OnOk answer (All IsWrite frame) → OnOk answer (new.part.writes ≡ old.part.writes + length frame) → OnOk answer (HasFramed eyes rs old new frame)
-framed_of eyes rs old new frame (Ok x) writes storable stored count = record { writes = writes; storable = storable; stored = stored; count = count }
-framed_of eyes rs old new frame (Err e) writes storable stored count = tt

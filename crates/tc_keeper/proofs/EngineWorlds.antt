@@ -8,7 +8,7 @@ use Rattle.tc_keeper.specs.EngineFaults.{IfOf, StopsFirst}
 use Rattle.tc_keeper.specs.Moving.{HasFailedMoving, StopsAt}
 use Rattle.tc_keeper.specs.Places.{AtEach}
 use Rattle.tc_keeper.specs.Standing.{partition_at, HoldsPart, HoldWorld, IsSeen, KeepsPart, KeepWorlds}
-use Rattle.tc_keeper.specs.WithJobs.{told_of, told_part, works_of, WithJobs}
+use Rattle.tc_keeper.specs.WithJobs.{told_of, works_of, WithJobs}
 use Rattle.tc_keeper.specs.declared.engines_fault.EnginesFault.{EnginesFault}
 use Rattle.tc_keeper.specs.declared.engines_fault.EnginesFault.TheVariants as engines
 use Rattle.tc_keeper.proofs.PlaceLaws.{at_each-so}
@@ -34,7 +34,7 @@ use Rattle.tc_route.specs.Meaning.{routed_of}
 use Rattle.tc_route.specs.declared.placed.Routed.{Routed}
 use Rattle.tc_work.specs.Asked.{requests_in}
 use Rattle.tc_work.specs.Faults.{IfDamaged}
-use Rattle.tc_work.specs.Moving.{Eyes}
+use Rattle.tc_work.specs.Moving.{told_part, Eyes}
 use Rattle.tc_work.specs.declared.fault.EngineFault.{EngineFault}
 use Rattle.tc_work.specs.declared.fault.EngineFault.TheVariants as engine
 use Rattle.tc_keeper.specs.Together.{IsForPart, requests_routed}

@@ -6,13 +6,13 @@ use Rattle.tc_request_model.specs.Request.{Request}
 use Rattle.tc_store.specs.Counted.{Counts}
 use Rattle.tc_route.specs.Shares.{share}
 use Rattle.tc_route.specs.declared.placed.Placed.{Placed}
-use Rattle.tc_work.specs.Moving.{Eyes}
+use Rattle.tc_work.specs.Moving.{told_part, Eyes}
 use Rattle.tc_work.specs.Reads.{live_in, most_reads, IsCountedWithin}
 use Rattle.tc_work.specs.declared.fault.EngineFault.{EngineFault}
 use Rattle.tc_work.specs.declared.fault.EngineFault.TheVariants.{Disk as disk_fault}
 use Rattle.tc_keeper.specs.EngineFaults.{IsFirstFault, HasStopped, StopsFirst}
 use Rattle.tc_keeper.specs.Places.{AtEach}
-use Rattle.tc_keeper.specs.WithJobs.{told_part, WithJobs}
+use Rattle.tc_keeper.specs.WithJobs.{WithJobs}
 use Rattle.tc_keeper.proofs.PlaceLaws.{all_second, at_each-reads, at_each-so, at_each-with}
 use Rattle.tc_keeper.proofs.WindowsHeld.{EachRan, HasRunBeside, IsGiven, Ran, given_all}
 

@@ -15,7 +15,7 @@ use Rattle.tc_work.specs.EngineState.{EngineState}
 use Rattle.tc_work.specs.Moving.{Eyes}
 use Rattle.tc_work.specs.declared.fault.EngineFault.{EngineFault}
 use Rattle.tc_keeper.specs.Places.{AtEach}
-use Rattle.tc_keeper.specs.Running.{HasFramed}
+use Rattle.tc_work.specs.Committed.{HasFramed}
 use Rattle.tc_keeper.specs.WithJobs.{with_jobs, WithJobs}
 use Rattle.tc_keeper.proofs.PlaceLaws.{head_same, tail_same}
 

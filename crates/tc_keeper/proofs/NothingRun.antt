@@ -15,13 +15,13 @@ use Rattle.tc_part_model.specs.PartFiles.{no_job, IsSealedFile}
 use Rattle.tc_part_model.specs.PartState.{Told}
 use Rattle.tc_part_model.specs.PartView.{PartView}
 use Rattle.tc_route.specs.Shares.{share}
-use Rattle.tc_work.specs.Moving.{Eyes}
+use Rattle.tc_work.specs.Moving.{told_part, Eyes}
 use Rattle.tc_work.specs.Reads.{live_in, most_reads, IsCountedWithin}
 use Rattle.tc_work.specs.Windowed.{staged_as}
 use Rattle.tc_keeper.specs.Places.{AtEach}
 use Rattle.tc_keeper.specs.Running.{HasOnlyRun, RanMoments}
 use Rattle.tc_keeper.specs.Windows.{HaveRun}
-use Rattle.tc_keeper.specs.WithJobs.{told_of, told_part, WithJobs}
+use Rattle.tc_keeper.specs.WithJobs.{told_of, WithJobs}
 use Rattle.tc_keeper.proofs.PlaceLaws.{at_each-same}
 
 -- a log that stays has no moments more

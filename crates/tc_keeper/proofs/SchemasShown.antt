@@ -16,11 +16,11 @@ use Rattle.tc_run_model.specs.World.{Part, World}
 use Rattle.tc_running.specs.Jobs.{JobsState}
 use Rattle.tc_schema_model.specs.SchemaText.{schema_text}
 use Rattle.tc_work.specs.EngineState.{EngineState}
-use Rattle.tc_work.specs.Moving.{Eyes}
+use Rattle.tc_work.specs.Moving.{told_part, Eyes}
 use Rattle.tc_keeper.specs.Places.{AtEach}
 use Rattle.tc_keeper.specs.SchemaTexts.{IsSchemaText}
 use Rattle.tc_keeper.specs.Standing.{partition_at, HoldsOwn, HoldWorld}
-use Rattle.tc_keeper.specs.WithJobs.{told_of, told_part, with_jobs, WithJobs}
+use Rattle.tc_keeper.specs.WithJobs.{told_of, with_jobs, WithJobs}
 use Rattle.tc_keeper.proofs.EnginesHeld.{committed}
 use Rattle.tc_keeper.proofs.JobsBeside.{at_each-with_jobs}
 use Rattle.tc_keeper.proofs.PlaceLaws.{at_each-read}

@@ -4,7 +4,7 @@ use Rattle.std.specs.Prelude.{Option, Some, slice_get, zip}
 use Rattle.std.specs.declared.alloc.Global.{Global}
 use Rattle.std.specs.declared.vec.Vec.{Vec}
 use Rattle.tc_keeper.specs.Places.{AtEach, IsAt}
-use Rattle.tc_keeper.specs.Running.{HasFramed}
+use Rattle.tc_work.specs.Committed.{HasFramed}
 use Rattle.tc_keeper.specs.Standing.{HoldsOwn, HoldWorld, IsSeen}
 use Rattle.tc_keeper.specs.WithJobs.{told_of, WithJobs}
 use Rattle.tc_keeper.proofs.PlaceLaws.{at_each-turned}

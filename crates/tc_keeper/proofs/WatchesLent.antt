@@ -4,11 +4,11 @@ use Rattle.std.specs.Prelude.{slice_index_or, zip}
 use Rattle.tc_run_model.specs.World.{Part, World}
 use Rattle.tc_running.specs.Jobs.{JobsState}
 use Rattle.tc_work.specs.EngineState.{EngineState}
-use Rattle.tc_work.specs.Moving.{Eyes, beside, IsOutBy}
+use Rattle.tc_work.specs.Moving.{beside, told_part, Eyes, IsOutBy}
 use Rattle.tc_work.specs.Settling.{MaySettle}
 use Rattle.tc_keeper.specs.Places.{AtEach, IsAt}
 use Rattle.tc_keeper.specs.Standing.{HoldsOwn, HoldWorld, KeepsOwn, KeepWorlds}
-use Rattle.tc_keeper.specs.WithJobs.{engine_with, told_part, with_jobs, with_reader, AreStaffed, IsStaffed, ReadsBy, WithJobs}
+use Rattle.tc_keeper.specs.WithJobs.{engine_with, with_jobs, with_reader, AreStaffed, IsStaffed, ReadsBy, WithJobs}
 use Rattle.tc_keeper.proofs.PlaceLaws.{at_each-join}
 
 -- ---- what stands at a place

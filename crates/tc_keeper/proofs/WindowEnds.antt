@@ -22,16 +22,17 @@ use Rattle.tc_run_model.specs.World.{World, after_all}
 use Rattle.tc_running.specs.Jobs.{JobsState}
 use Rattle.tc_work.specs.Asked.{most_writes}
 use Rattle.tc_work.specs.EngineState.{EngineState}
-use Rattle.tc_work.specs.Moving.{Eyes}
+use Rattle.tc_work.specs.Moving.{told_part, Eyes}
 use Rattle.tc_work.specs.Reads.{live_in, most_reads, IsCountedWithin}
 use Rattle.tc_work.specs.Settling.{MaySettle}
 use Rattle.tc_work.specs.declared.fault.EngineFault.{EngineFault}
 use Rattle.tc_keeper.specs.EngineFaults.{IfOf, IsDiskOf, IsFirstFault, StopsFirst}
 use Rattle.tc_keeper.specs.Places.{AtEach}
-use Rattle.tc_keeper.specs.Running.{HasFramed, HasOnlyRun, HasRun, RanMoments}
+use Rattle.tc_work.specs.Committed.{HasFramed}
+use Rattle.tc_keeper.specs.Running.{HasOnlyRun, HasRun, RanMoments}
 use Rattle.tc_keeper.specs.Standing.{HoldWorld, KeepWorlds}
 use Rattle.tc_keeper.specs.Windows.{HaveRun, MayRunOn}
-use Rattle.tc_keeper.specs.WithJobs.{engine_with, told_of, told_part, with_jobs, AreStaffed, IsStaffed, WithJobs}
+use Rattle.tc_keeper.specs.WithJobs.{engine_with, told_of, with_jobs, AreStaffed, IsStaffed, WithJobs}
 use Rattle.tc_keeper.specs.declared.engines_fault.EnginesFault.{EnginesFault}
 use Rattle.tc_keeper.specs.declared.engines_fault.EnginesFault.TheVariants.{Of, Memory}
 use Rattle.tc_keeper.specs.declared.seat.Seat.{Seat}

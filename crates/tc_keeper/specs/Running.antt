@@ -1,14 +1,10 @@
 -- What comes of the share of a window that an engine gets: what a call of its window promises.
-use Rattle.std.specs.Prelude.{◌≡◌, ◌≤◌, ◌+◌, ◌^◌, false, true, List, [], All, length, map, Result, IfErr, IfOk, IsErrOf, OnErr, OnOk}
+use Rattle.std.specs.Prelude.{◌≡◌, ◌≤◌, ◌+◌, ◌^◌, false, true, List, [], map, Result, IfErr, IfOk, IsErrOf, OnErr, OnOk}
 use Rattle.std.specs.Map.{keys_of}
 use Rattle.tc_model.specs.Keyed.{Keyed, values_in, on_value}
 use Rattle.tc_request_model.specs.Rendered.{rendered}
 use Rattle.tc_request_model.specs.Request.{Request}
 use Rattle.tc_store.specs.DiskFile.{DiskFile}
-use Rattle.tc_log.specs.declared.write.Write.{Write}
-use Rattle.tc_log.specs.Writes.{IsWrite}
-use Rattle.tc_machine.specs.Logs.{kept_write}
-use Rattle.tc_machine.specs.Writes.{IsStorableWrite}
 use Rattle.tc_request_model.specs.Part.{part_writes_all}
 use Rattle.tc_part.specs.FilesOut.{LogIsOut, OnlyDevicesOut}
 use Rattle.tc_part.specs.Harms.{IsHarmIn}
@@ -26,13 +22,13 @@ use Rattle.tc_work.specs.EngineState.{EngineState}
 use Rattle.tc_work.specs.Failing.{HasFailedWith}
 use Rattle.tc_work.specs.Faults.{IfDamage, IfDamaged}
 use Rattle.tc_work.specs.JobsOut.{WorkFor}
-use Rattle.tc_work.specs.Moving.{Eyes}
+use Rattle.tc_work.specs.Moving.{told_part, Eyes}
 use Rattle.tc_work.specs.Reads.{live_in, most_reads, IsCountedWithin}
 use Rattle.tc_work.specs.Settling.{MaySettle, TellsFiles}
 use Rattle.tc_work.specs.Windowed.{staged_as, IsWindowed}
 use Rattle.tc_work.specs.declared.fault.EngineFault.{EngineFault}
 use Rattle.tc_work.specs.declared.fault.EngineFault.TheVariants.{Disk, Spent}
-use Rattle.tc_keeper.specs.WithJobs.{told_part, IsStaffed}
+use Rattle.tc_keeper.specs.WithJobs.{IsStaffed}
 
 -- nothing of a part changed but the tables and logs that a window writes, and what it counts
 abbrev pub HasOnlyRun : {S D F W : Type 0} → PartState S D F W → PartState S D F W → Type 0
@@ -72,11 +68,3 @@ pub record HasRun {S D F W : Type 0} (eyes : Eyes S D F W) (rs : Keyed Request) 
   pub spent : IsErrOf answer Spent → 2 ^ 63 ≤ old.part.writes + most_writes (values_in rs)
   pub unspent : IsErrOf answer Spent → new.part.log ≡ old.part.log
   pub counted : IsCountedWithin (most_reads (live_in old.part) (values_in rs)) (IsErrOf answer Disk) (eyes.counts old.part.main) (eyes.counts new.part.main)
-
--- The frame that a window committed of an engine: the writes of its share, which may be stored, each as a log holds it. So many
--- writes more were made.
-pub record HasFramed {S D F W : Type 0} (eyes : Eyes S D F W) (rs : Keyed Request) (old new : EngineState S D F W) (frame : List Write) : Type 0 where
-  pub writes : (p : PartView) → IsPart (told_part eyes old.part) p → frame ≡ map kept_write (part_writes_all old.part.limits (values_in rs) (plain_of (told_part eyes old.part) p))
-  pub storable : (p : PartView) → IsPart (told_part eyes old.part) p → All IsStorableWrite (part_writes_all old.part.limits (values_in rs) (plain_of (told_part eyes old.part) p))
-  pub stored : All IsWrite frame
-  pub count : new.part.writes ≡ old.part.writes + length frame

@@ -9,13 +9,14 @@ use Rattle.tc_part.specs.FilesOut.{LogIsOut, OnlyDevicesOut}
 use Rattle.tc_route.specs.Answers.{window_answered}
 use Rattle.tc_route.specs.Shares.{share}
 use Rattle.tc_work.specs.Asked.{most_writes}
-use Rattle.tc_work.specs.Moving.{Eyes}
+use Rattle.tc_work.specs.Moving.{told_part, Eyes}
 use Rattle.tc_work.specs.Reads.{live_in, most_reads, IsCountedWithin}
 use Rattle.tc_work.specs.Settling.{MaySettle}
 use Rattle.tc_keeper.specs.EngineFaults.{IfOf, IsDiskOf, StopsFirst}
 use Rattle.tc_keeper.specs.Places.{AtEach}
-use Rattle.tc_keeper.specs.Running.{HasFramed, HasOnlyRun, RanMoments}
-use Rattle.tc_keeper.specs.WithJobs.{told_of, told_part, WithJobs}
+use Rattle.tc_work.specs.Committed.{HasFramed}
+use Rattle.tc_keeper.specs.Running.{HasOnlyRun, RanMoments}
+use Rattle.tc_keeper.specs.WithJobs.{told_of, WithJobs}
 use Rattle.tc_keeper.specs.declared.engines_fault.EnginesFault.{EnginesFault}
 
 -- what the world answers to a window, each reply at the place of its command and as the text that shows it

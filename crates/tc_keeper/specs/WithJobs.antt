@@ -1,10 +1,10 @@
 -- An engine with the jobs of it that are out, as contracts see the two beside each other.
 use Rattle.std.specs.Prelude.{◌≡◌, ℕ, false, List, [], ◌∷◌, Option, None}
-use Rattle.tc_part_model.specs.PartState.{PartState, Told, told}
+use Rattle.tc_part_model.specs.PartState.{Told}
 use Rattle.tc_part_model.specs.PartView.{PartView}
 use Rattle.tc_running.specs.Jobs.{JobsState}
 use Rattle.tc_work.specs.EngineState.{EngineState}
-use Rattle.tc_work.specs.Moving.{Eyes, beside, works_by, IsOutBy}
+use Rattle.tc_work.specs.Moving.{Eyes, beside, told_part, works_by, IsOutBy}
 use Rattle.tc_work.specs.Settling.{MaySettle}
 use Rattle.tc_keeper.specs.Places.{AtEach}
 
@@ -24,10 +24,7 @@ with_jobs [] jobs = []
 with_jobs (e ∷ engines) [] = []
 with_jobs (e ∷ engines) (js ∷ jobs) = engine_with e js ∷ with_jobs engines jobs
 
--- what a part tells, and for what the jobs work, by the traits of its store
-abbrev pub told_part : {S D F W : Type 0} → Eyes S D F W → PartState S D F W → Told
-told_part eyes part = told eyes.disks eyes.history eyes.content part
-
+-- what the part of an engine tells, and for what its jobs work, by the traits of its store
 abbrev pub told_of : {S D F W : Type 0} → Eyes S D F W → WithJobs S D F W → Told
 told_of eyes e = told_part eyes e.engine.part
 

@@ -5,7 +5,7 @@ ghost use Rattle.serde_json.specs.View.{view};
 ghost use Rattle.tc_log.specs.Layout.{empty_size};
 ghost use Rattle.tc_model.specs.Keyed.{values_in};
 ghost use Rattle.tc_keeper.specs.Places.{AtEach};
-ghost use Rattle.tc_keeper.specs.Running.{HasFramed};
+ghost use Rattle.tc_work.specs.Committed.{HasFramed};
 ghost use Rattle.tc_keeper.specs.Standing.{HoldWorld};
 ghost use Rattle.tc_route.specs.Meaning.{routed_of};
 ghost use Rattle.tc_route.specs.Shares.{share};

@@ -4,7 +4,8 @@ ghost use Rattle.std.specs.Prelude.{◌≡◌, false, map, OnOk};
 ghost use Rattle.tc_route.specs.Meaning.{routed_of};
 ghost use Rattle.tc_work.specs.Asked.{IsWindow};
 ghost use Rattle.tc_work.specs.Moving.{eyes};
-ghost use Rattle.tc_keeper.specs.Running.{HasFramed, HasRun};
+ghost use Rattle.tc_work.specs.Committed.{HasFramed};
+ghost use Rattle.tc_keeper.specs.Running.{HasRun};
 
 use std::alloc::Global;
 use std::mem;

@@ -12,7 +12,8 @@ ghost use Rattle.tc_work.specs.Asked.{requests_in, IsWindow};
 ghost use Rattle.tc_work.specs.Moving.{eyes};
 ghost use Rattle.tc_keeper.specs.EngineFaults.{IfOf, IsFirstFault};
 ghost use Rattle.tc_keeper.specs.Places.{AtEach};
-ghost use Rattle.tc_keeper.specs.Running.{HasFramed, HasRun};
+ghost use Rattle.tc_work.specs.Committed.{HasFramed};
+ghost use Rattle.tc_keeper.specs.Running.{HasRun};
 ghost use Rattle.tc_keeper.specs.Standing.{HoldWorld, KeepWorlds};
 ghost use Rattle.tc_keeper.specs.Windows.{window_rendered, AreCountedWithin, AreFramed, FailsFirst, HaveRun, MayRunOn};
 

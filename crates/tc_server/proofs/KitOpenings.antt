@@ -3,7 +3,7 @@ use Rattle.std.proofs.Common.{[], ◌∷◌, ◌≡◌, ◌≤◌, ap, arith, in
 use Rattle.std.specs.Prelude.{Option, Some, None, IfSome, IsSome, IfErr, Result, Ok, Err, option_map, unwrap_or}
 use Rattle.tc_bytes.specs.Counts.{Rose}
 use Rattle.tc_keeper.specs.Standing.{partition_at, IsSeen}
-use Rattle.tc_keeper.specs.WithJobs.{engine_with, no_jobs, told_part, WithJobs}
+use Rattle.tc_keeper.specs.WithJobs.{engine_with, no_jobs, WithJobs}
 use Rattle.tc_list.specs.Policies.{listed_least}
 use Rattle.tc_list.specs.declared.policy.Policy.{Policy}
 use Rattle.tc_lsm_model.specs.Contents.{Content, Partition}
@@ -28,7 +28,7 @@ use Rattle.tc_store.specs.declared.kit.Kit.{Kit}
 use Rattle.tc_store.specs.declared.fault.ShelfFault.{ShelfFault}
 use Rattle.tc_store.specs.declared.fault.ShelfFault.TheVariants as shelf
 use Rattle.tc_store.proofs.MomentLemmas.{told_map}
-use Rattle.tc_work.specs.Moving.{Eyes}
+use Rattle.tc_work.specs.Moving.{told_part, Eyes}
 use Rattle.tc_work.specs.declared.fault.EngineFault.{EngineFault}
 use Rattle.tc_words.specs.declared.run.Options.{Options}
 use Rattle.tc_keeper.specs.Calls.{faults_at, MayBeAsked}

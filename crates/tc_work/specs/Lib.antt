@@ -11,3 +11,4 @@ pub mod Damage
 pub mod JobsOut
 pub mod Moving
 pub mod Ending
+pub mod Committed

@@ -37,6 +37,10 @@ pub record Eyes (S D F W : Type 0) : Type 0 where
 abbrev pub eyes : {S D F W : Type 0} → (S → List Disk) → (D → List DiskFile) → (F → Option (List ℕ)) → (D → FileName) → (F → ℕ) → (W → Counts) → Eyes S D F W
 eyes disks history content name_of size counts = record { disks = disks; history = history; content = content; name_of = name_of; size = size; counts = counts }
 
+-- what a part tells, by the traits of its store
+abbrev pub told_part : {S D F W : Type 0} → Eyes S D F W → PartState S D F W → Told
+told_part eyes part = told eyes.disks eyes.history eyes.content part
+
 abbrev pub beside : {S D F W : Type 0} → PartState S D F W → JobsState F D W → Working S D F W
 beside part jobs = record { part = part; jobs = jobs }
 

@@ -8,7 +8,7 @@ ghost use Rattle.tc_log.specs.Writes.{IsWrite};
 ghost use Rattle.tc_machine.specs.Logs.{kept_write};
 ghost use Rattle.tc_machine.specs.Writes.{IsStorableWrite};
 ghost use Rattle.tc_request_model.specs.Part.{part_writes_all};
-ghost use Rattle.tc_part.specs.FilesOut.{LogIsOut, OnlyDevicesOut};
+ghost use Rattle.tc_part.specs.FilesOut.{LogIsOut};
 ghost use Rattle.tc_part_model.specs.Leaving.{LogMomentsLeaveStore};
 ghost use Rattle.tc_part_model.specs.Meaning.{IsPart, plain_of};
 ghost use Rattle.tc_part_model.specs.PartState.{told, AreTold};
@@ -16,13 +16,14 @@ ghost use Rattle.tc_part_model.specs.PartView.{PartView};
 ghost use Rattle.tc_part.specs.Harms.{IsHarmIn};
 ghost use Rattle.tc_route.specs.Answers.{answered};
 ghost use Rattle.tc_route.specs.Meaning.{rendered_in, routed_of};
+ghost use Rattle.tc_work.specs.Committed.{AnswersPlainly, Commits, FailsWindow, HasFramed, HasOnlyCommitted, HasSpentWrites, KeepsOut, LeavesAtMoments, MeetsNoDamage};
+ghost use Rattle.tc_work.specs.Moving.{eyes};
 ghost use Rattle.tc_work.specs.Asked.{most_writes, requests_in, IsWindow};
 ghost use Rattle.tc_running.specs.Jobs.{JobsState};
 ghost use Rattle.tc_work.specs.Failing.{HasFailedWith};
-ghost use Rattle.tc_work.specs.Faults.{IfDamage, IfDamaged};
-ghost use Rattle.tc_work.specs.JobsOut.{AreOut, WorkFor};
+ghost use Rattle.tc_work.specs.Faults.{IfDamage};
+ghost use Rattle.tc_work.specs.JobsOut.{WorkFor};
 ghost use Rattle.tc_work.specs.Reads.{live_in, most_reads, IsCountedWithin};
-ghost use Rattle.tc_work.specs.Settling.{MaySettle, TellsFiles};
 ghost use Rattle.tc_work.specs.Windowed.{staged_as, IsWindowed};
 
 use crate::engine::Engine;
@@ -52,55 +53,30 @@ impl<S: Store, P: Pace> Engine<S, P> {
         requires sound { self.old.part.failed ≡ false }
         requires window { IsWindow list.now }
 
-        // Where the files are told, the replies are those of the plain store, and over every store each is at the place of its command.
-        ensures replies { (p : PartView) → IsPart (told S.history S.Device.history S.Frozen.content self.old.part) p → AreTold (told S.history S.Device.history S.Frozen.content self.old.part).components
-            → IfOk result (λ replies. rendered_in replies ≡ map (on_value rendered) (answered self.old.part.limits (map routed_of list.now) (plain_of (told S.history S.Device.history S.Frozen.content self.old.part) p))) }
+        // Where the files are told, the replies are those of the plain store, and over every store each is at the place of its command,
+        // and of its kind.
+        ensures replies { AnswersPlainly (eyes S.history S.Device.history S.Frozen.content S.Device.name S.Frozen.size S.Watch.counts) (map routed_of list.now) self.old.part result }
         ensures places { IfOk result (λ replies. map (λ a. a.at) replies ≡ map (λ r. r.at) list.now) }
-
-        // Over every store a reply is of the kind of its command.
         ensures kinds { IfOk result (λ replies. AreRenderedOfKinds (requests_in list.now) (values_in (rendered_in replies))) }
 
-        // On Ok the part is the one in which the writes of the window are committed.
-        ensures windowed { OnOk result ((p : PartView) → IsPart (told S.history S.Device.history S.Frozen.content self.old.part) p → IsWindowed self.old.part.limits (requests_in list.now) (told S.history S.Device.history S.Frozen.content self.old.part) p (told S.history S.Device.history S.Frozen.content self.new.part)) }
-        ensures same { OnOk result (self.new.part ≡ record self.old.part { main = self.new.part.main; active = self.new.part.active; log = self.new.part.log; taken = self.new.part.taken; live = self.new.part.live; writes = self.new.part.writes }) }
-        ensures writes { OnOk result ((p : PartView) → IsPart (told S.history S.Device.history S.Frozen.content self.old.part) p → self.new.part.writes ≡ self.old.part.writes + length (part_writes_all self.old.part.limits (requests_in list.now) (plain_of (told S.history S.Device.history S.Frozen.content self.old.part) p))) }
-        ensures few_writes { OnOk result (self.new.part.writes ≤ self.old.part.writes + most_writes (requests_in list.now)) }
-        ensures ready { OnOk result (MaySettle (told S.history S.Device.history S.Frozen.content self.old.part) → MaySettle (told S.history S.Device.history S.Frozen.content self.new.part)) }
-        ensures tells { OnOk result (TellsFiles (told S.history S.Device.history S.Frozen.content self.old.part) → TellsFiles (told S.history S.Device.history S.Frozen.content self.new.part)) }
-        ensures policy { self.new.policy ≡ self.old.policy }
-
-        // The frame has the writes of the window, each as a log holds it. It is empty where none was made. Each may be stored.
-        ensures frame { OnOk result ((p : PartView) → IsPart (told S.history S.Device.history S.Frozen.content self.old.part) p → frame.new.items ≡ map kept_write (part_writes_all self.old.part.limits (requests_in list.now) (plain_of (told S.history S.Device.history S.Frozen.content self.old.part) p))) }
-        ensures storable { OnOk result ((p : PartView) → IsPart (told S.history S.Device.history S.Frozen.content self.old.part) p → All IsStorableWrite (part_writes_all self.old.part.limits (requests_in list.now) (plain_of (told S.history S.Device.history S.Frozen.content self.old.part) p))) }
-        ensures frame_stored { OnOk result (All IsWrite frame.new.items) }
-        ensures frame_counted { OnOk result (self.new.part.writes ≡ self.old.part.writes + length frame.new.items) }
+        // On Ok the writes of the window are committed, and the frame has them, each as a log holds it. It is empty where none was made.
+        ensures same { OnOk result (HasOnlyCommitted self.old.part self.new.part) }
+        ensures commits { OnOk result (Commits (eyes S.history S.Device.history S.Frozen.content S.Device.name S.Frozen.size S.Watch.counts) (requests_in list.now) self.old.part self.new.part) }
+        ensures framed { OnOk result (HasFramed (eyes S.history S.Device.history S.Frozen.content S.Device.name S.Frozen.size S.Watch.counts) (map routed_of list.now) self.old self.new frame.new.items) }
         ensures no_frame { OnErr result (frame.new ≡ frame.old) }
 
-        // The jobs that are out stay those of the engine, behind a fault too.
-        ensures jobs { (jobs : JobsState S.Frozen S.Device S.Watch) → AreOut S.history S.Device.history S.Frozen.content S.Device.name self.old.part jobs → AreOut S.history S.Device.history S.Frozen.content S.Device.name self.new.part jobs }
-
-        // No file is out but those of the part's devices, behind a fault too.
-        ensures devices { OnlyDevicesOut (told S.history S.Device.history S.Frozen.content self.old.part) → OnlyDevicesOut (told S.history S.Device.history S.Frozen.content self.new.part) }
-
-        // That of the active log stays out after Ok, and where nothing was written.
-        ensures log_out { OnOk result (LogIsOut (told S.history S.Device.history S.Frozen.content self.old.part) → LogIsOut (told S.history S.Device.history S.Frozen.content self.new.part)) }
-        ensures log_out_spent { IsErrOf result EngineFault.Spent → LogIsOut (told S.history S.Device.history S.Frozen.content self.old.part) → LogIsOut (told S.history S.Device.history S.Frozen.content self.new.part) }
-
-        // The log stays as it is where no write is made, as one of lookups alone makes none.
-        ensures unwritten { OnOk result ((p : PartView) → IsPart (told S.history S.Device.history S.Frozen.content self.old.part) p → part_writes_all self.old.part.limits (requests_in list.now) (plain_of (told S.history S.Device.history S.Frozen.content self.old.part) p) ≡ [] → self.new.part.log ≡ self.old.part.log) }
-        ensures looked_up { OnOk result (most_writes (requests_in list.now) ≡ 0 → self.new.part.log ≡ self.old.part.log) }
+        // The jobs and the files that are out stay, behind a fault too.
+        ensures kept { KeepsOut (eyes S.history S.Device.history S.Frozen.content S.Device.name S.Frozen.size S.Watch.counts) self.old self.new }
 
         // At each moment of the call a stop leaves what is stored, without the writes of the window or with all of them, and so it
         // does behind a fault.
-        ensures moments { (p : PartView) → IsPart (told S.history S.Device.history S.Frozen.content self.old.part) p → LogMomentsLeaveStore (staged_as (part_writes_all self.old.part.limits (requests_in list.now) (plain_of (told S.history S.Device.history S.Frozen.content self.old.part) p)) p) (told S.history S.Device.history S.Frozen.content self.old.part) (S.Device.history self.new.part.log.device) }
-        ensures failed { OnErr result ((p : PartView) (jobs : JobsState S.Frozen S.Device S.Watch) → IsPart (told S.history S.Device.history S.Frozen.content self.old.part) p → WorkFor S.Frozen.content S.Device.history S.Device.name jobs p → HasFailedWith (WorkFor S.Frozen.content S.Device.history S.Device.name jobs) (part_writes_all self.old.part.limits (requests_in list.now) (plain_of (told S.history S.Device.history S.Frozen.content self.old.part) p)) (told S.history S.Device.history S.Frozen.content self.new.part) p) }
-        ensures left { OnErr result (self.new.part ≡ record self.old.part { main = self.new.part.main; active = self.new.part.active; staged = self.new.part.staged; taken = self.new.part.taken; live = self.new.part.live; log = self.new.part.log; failed = true }) }
+        ensures moments { LeavesAtMoments (eyes S.history S.Device.history S.Frozen.content S.Device.name S.Frozen.size S.Watch.counts) (requests_in list.now) self.old.part self.new.part }
+        ensures fails { OnErr result (FailsWindow (eyes S.history S.Device.history S.Frozen.content S.Device.name S.Frozen.size S.Watch.counts) (requests_in list.now) self.old.part self.new.part) }
 
         // Damage is that of a record of a listed component. Where the files of these are told there is none.
         ensures harmed { IfErr result (λ fault. IfDamage fault (λ file at bytes. IsHarmIn (λ file. S.Frozen.content file) self.old.part.list file at bytes)) }
-        ensures undamaged { (p : PartView) → IsPart (told S.history S.Device.history S.Frozen.content self.old.part) p → AreTold (told S.history S.Device.history S.Frozen.content self.old.part).components → IfErr result (λ fault. IfDamaged fault (λ damage. ⊥)) }
-        ensures spent { IsErrOf result EngineFault.Spent → 2 ^ 63 ≤ self.old.part.writes + most_writes (requests_in list.now) }
-        ensures unspent { IsErrOf result EngineFault.Spent → self.new.part.log ≡ self.old.part.log }
+        ensures undamaged { MeetsNoDamage (eyes S.history S.Device.history S.Frozen.content S.Device.name S.Frozen.size S.Watch.counts) self.old.part result }
+        ensures spent { IsErrOf result EngineFault.Spent → HasSpentWrites (eyes S.history S.Device.history S.Frozen.content S.Device.name S.Frozen.size S.Watch.counts) (requests_in list.now) self.old.part self.new.part }
         ensures counted { IsCountedWithin (most_reads (live_in self.old.part) (requests_in list.now)) (IsErrOf result EngineFault.Disk) (S.Watch.counts self.old.part.main) (S.Watch.counts self.new.part.main) }
     {
         components_are_contents();

@@ -51,7 +51,8 @@ use Rattle.tc_work.specs.contracts.engine.Engine.TheInside as InsideEngine
 use Rattle.tc_work.specs.Moving.{eyes}
 use Rattle.tc_work.specs.contracts.progress.Progress as Progress
 use Rattle.tc_keeper.specs.Places.{AtEach}
-use Rattle.tc_keeper.specs.Running.{HasFramed, HasRun}
+use Rattle.tc_work.specs.Committed.{HasFramed}
+use Rattle.tc_keeper.specs.Running.{HasRun}
 use Rattle.tc_keeper.specs.contracts.seat.Seat as SeatRow
 use Rattle.tc_keeper.specs.declared.seat.Seat.{Seat}
 use Rattle.tc_keeper.proofs.PlaceLaws.{at_each-by, at_each-so}

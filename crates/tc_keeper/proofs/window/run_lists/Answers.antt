@@ -9,7 +9,8 @@ use Rattle.tc_work.specs.EngineState.{EngineState}
 use Rattle.tc_work.specs.Moving.{eyes}
 use Rattle.tc_work.specs.declared.fault.EngineFault.{EngineFault}
 use Rattle.tc_keeper.specs.Places.{AtEach}
-use Rattle.tc_keeper.specs.Running.{HasFramed, HasRun}
+use Rattle.tc_work.specs.Committed.{HasFramed}
+use Rattle.tc_keeper.specs.Running.{HasRun}
 use Rattle.tc_keeper.specs.declared.seat.Seat.{Seat}
 use Rattle.tc_keeper.proofs.FramesTaken.{reads_stay, reads_taken}
 use Rattle.tc_keeper.proofs.window.run_lists.Goals as goal

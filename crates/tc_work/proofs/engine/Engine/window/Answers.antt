@@ -18,6 +18,8 @@ use Rattle.tc_work.specs.EngineState.{EngineState}
 use Rattle.tc_running.specs.Jobs.{JobsState}
 use Rattle.tc_work.specs.Failing.{HasFailedWith}
 use Rattle.tc_work.specs.JobsOut.{WorkFor}
+use Rattle.tc_work.specs.Committed.{FailsWindow}
+use Rattle.tc_work.specs.Moving.{eyes}
 use Rattle.tc_work.specs.Windowed.{staged_as, IsWindowed}
 use Rattle.tc_work.proofs.HandedFaults.{same_fault, same_harm}
 use Rattle.tc_work.proofs.ReadCounts.{counted_inside}
@@ -45,28 +47,6 @@ returns-clause-replies g c =
     (inside_is c.self.inside.part c.self.inside.failed c.args.self.now.part (ap (λ (e : EngineState _ _ _ _). e.part) c.self.view_is)
     c.requires.sound c.self.invariant)
     (c.in_ok-replies.ensures.replies)
-
-pub returns-clause-windowed : goal.returns-clause-windowed
-returns-clause-windowed g c =
-    subst (λ (u : PartState _ _ _ _). (p : PartView) → IsPart (told g.S.Store.history g.S.Device.Device.history g.S.Frozen.Frozen.content c.args.self.now.part) p
-    → IsWindowed c.args.self.now.part.limits (requests_in c.args.list.now)
-    (told g.S.Store.history g.S.Device.Device.history g.S.Frozen.Frozen.content c.args.self.now.part) p
-    (told g.S.Store.history g.S.Device.Device.history g.S.Frozen.Frozen.content u)) (closed_sound c.run.new.part c.in_ok-replies.ensures.sound)
-    (subst (λ (s : PartState _ _ _ _). (p : PartView) → IsPart (told g.S.Store.history g.S.Device.Device.history g.S.Frozen.Frozen.content s) p
-    → IsWindowed s.limits (requests_in c.args.list.now) (told g.S.Store.history g.S.Device.Device.history g.S.Frozen.Frozen.content s) p
-    (told g.S.Store.history g.S.Device.Device.history g.S.Frozen.Frozen.content c.run.new.part))
-    (inside_is c.self.inside.part c.self.inside.failed c.args.self.now.part (ap (λ (e : EngineState _ _ _ _). e.part) c.self.view_is)
-    c.requires.sound c.self.invariant)
-    (c.in_ok-replies.ensures.windowed))
-
-pub returns-clause-writes : goal.returns-clause-writes
-returns-clause-writes g c =
-    subst (λ (s : PartState _ _ _ _). (p : PartView) → IsPart (told g.S.Store.history g.S.Device.Device.history g.S.Frozen.Frozen.content s) p
-    → c.run.new.part.writes ≡ s.writes + length (part_writes_all s.limits (requests_in c.args.list.now)
-    (plain_of (told g.S.Store.history g.S.Device.Device.history g.S.Frozen.Frozen.content s) p)))
-    (inside_is c.self.inside.part c.self.inside.failed c.args.self.now.part (ap (λ (e : EngineState _ _ _ _). e.part) c.self.view_is)
-    c.requires.sound c.self.invariant)
-    (c.in_ok-replies.ensures.writes)
 
 pub returns-clause-moments : goal.returns-clause-moments
 returns-clause-moments g c =
@@ -99,28 +79,25 @@ returns-clause-counted g c = counted_inside g.S.Watch.Watch.counts (requests_in 
 
 -- ---- the frame
 
-pub returns-clause-frame : goal.returns-clause-frame
-returns-clause-frame g c =
-    subst (λ (s : PartState _ _ _ _). (p : PartView) → IsPart (told g.S.Store.history g.S.Device.Device.history g.S.Frozen.Frozen.content s) p
-    → c.run.new.frame.items ≡ map kept_write (part_writes_all s.limits (requests_in c.args.list.now)
-    (plain_of (told g.S.Store.history g.S.Device.Device.history g.S.Frozen.Frozen.content s) p)))
-    (inside_is c.self.inside.part c.self.inside.failed c.args.self.now.part (ap (λ (e : EngineState _ _ _ _). e.part) c.self.view_is)
-    c.requires.sound c.self.invariant)
-    (c.in_ok-replies.ensures.frame)
-
-pub returns-clause-storable : goal.returns-clause-storable
-returns-clause-storable g c =
-    subst (λ (s : PartState _ _ _ _). (p : PartView) → IsPart (told g.S.Store.history g.S.Device.Device.history g.S.Frozen.Frozen.content s) p
-    → All IsStorableWrite (part_writes_all s.limits (requests_in c.args.list.now)
-    (plain_of (told g.S.Store.history g.S.Device.Device.history g.S.Frozen.Frozen.content s) p)))
-    (inside_is c.self.inside.part c.self.inside.failed c.args.self.now.part (ap (λ (e : EngineState _ _ _ _). e.part) c.self.view_is)
-    c.requires.sound c.self.invariant)
-    (c.in_ok-replies.ensures.storable)
-
-pub returns-clause-frame_counted : goal.returns-clause-frame_counted
-returns-clause-frame_counted g c =
-    subst (λ (s : PartState _ _ _ _). c.run.new.part.writes ≡ s.writes + length c.run.new.frame.items) (inside_is c.self.inside.part c.self.inside.failed c.args.self.now.part (ap (λ (e : EngineState _ _ _ _). e.part) c.self.view_is) c.requires.sound c.self.invariant)
-    (c.in_ok-replies.ensures.frame_counted)
+pub returns-clause-framed : goal.returns-clause-framed
+returns-clause-framed g c =
+    record {
+      writes = subst (λ (s : PartState _ _ _ _). (p : PartView) → IsPart (told g.S.Store.history g.S.Device.Device.history g.S.Frozen.Frozen.content s) p
+          → c.run.new.frame.items ≡ map kept_write (part_writes_all s.limits (requests_in c.args.list.now)
+          (plain_of (told g.S.Store.history g.S.Device.Device.history g.S.Frozen.Frozen.content s) p)))
+          (inside_is c.self.inside.part c.self.inside.failed c.args.self.now.part (ap (λ (e : EngineState _ _ _ _). e.part) c.self.view_is)
+          c.requires.sound c.self.invariant)
+          (c.in_ok-replies.ensures.frame);
+      storable = subst (λ (s : PartState _ _ _ _). (p : PartView) → IsPart (told g.S.Store.history g.S.Device.Device.history g.S.Frozen.Frozen.content s) p
+          → All IsStorableWrite (part_writes_all s.limits (requests_in c.args.list.now)
+          (plain_of (told g.S.Store.history g.S.Device.Device.history g.S.Frozen.Frozen.content s) p)))
+          (inside_is c.self.inside.part c.self.inside.failed c.args.self.now.part (ap (λ (e : EngineState _ _ _ _). e.part) c.self.view_is)
+          c.requires.sound c.self.invariant)
+          (c.in_ok-replies.ensures.storable);
+      stored = c.in_ok-replies.ensures.frame_stored;
+      count = subst (λ (s : PartState _ _ _ _). c.run.new.part.writes ≡ s.writes + length c.run.new.frame.items) (inside_is c.self.inside.part c.self.inside.failed c.args.self.now.part (ap (λ (e : EngineState _ _ _ _). e.part) c.self.view_is) c.requires.sound c.self.invariant)
+          (c.in_ok-replies.ensures.frame_counted);
+    }
 
 -- ---- it fails
 
@@ -134,33 +111,34 @@ returns-in_err-replies-clause-moments g c =
     c.requires.sound c.self.invariant)
     (c.run.ensures.moments)
 
-pub returns-in_err-replies-clause-failed : goal.returns-in_err-replies-clause-failed
-returns-in_err-replies-clause-failed g c = err_always c.from_residual.result _
-    (subst (λ (s : PartState _ _ _ _). (p : PartView) (jobs : JobsState _ _ _)
-    → IsPart (told g.S.Store.history g.S.Device.Device.history g.S.Frozen.Frozen.content s) p
-    → WorkFor g.S.Frozen.Frozen.content g.S.Device.Device.history g.S.Device.Device.name jobs p
-    → HasFailedWith (WorkFor g.S.Frozen.Frozen.content g.S.Device.Device.history g.S.Device.Device.name jobs)
-    (part_writes_all s.limits (requests_in c.args.list.now) (plain_of (told g.S.Store.history g.S.Device.Device.history g.S.Frozen.Frozen.content s) p))
-    (record (told g.S.Store.history g.S.Device.Device.history g.S.Frozen.Frozen.content c.run.new.part) { failed = true }) p)
-    (inside_is c.self.inside.part c.self.inside.failed c.args.self.now.part (ap (λ (e : EngineState _ _ _ _). e.part) c.self.view_is)
-    c.requires.sound c.self.invariant)
-    (c.in_err-replies.ensures.failed))
-
-pub returns-in_err-replies-clause-left : goal.returns-in_err-replies-clause-left
-returns-in_err-replies-clause-left g c = err_always c.from_residual.result _
-    (subst (λ (s : PartState _ _ _ _). record c.run.new.part { failed = true }
-    ≡ record s {
-      main = c.run.new.part.main;
-      active = c.run.new.part.active;
-      staged = c.run.new.part.staged;
-      taken = c.run.new.part.taken;
-      live = c.run.new.part.live;
-      log = c.run.new.part.log;
-      failed = true;
-    })
-    (inside_is c.self.inside.part c.self.inside.failed c.args.self.now.part (ap (λ (e : EngineState _ _ _ _). e.part) c.self.view_is)
-    c.requires.sound c.self.invariant)
-    (ap (λ (x : PartState _ _ _ _). record x { failed = true }) c.in_err-replies.ensures.left))
+pub returns-in_err-replies-clause-fails : goal.returns-in_err-replies-clause-fails
+returns-in_err-replies-clause-fails g c =
+    let fails : FailsWindow (eyes g.S.Store.history g.S.Device.Device.history g.S.Frozen.Frozen.content g.S.Device.Device.name g.S.Frozen.Frozen.size g.S.Watch.Watch.counts)
+    (requests_in c.args.list.now) c.args.self.now.part (record c.run.new.part { failed = true }) = record {
+      failed = (subst (λ (s : PartState _ _ _ _). (p : PartView) (jobs : JobsState _ _ _)
+          → IsPart (told g.S.Store.history g.S.Device.Device.history g.S.Frozen.Frozen.content s) p
+          → WorkFor g.S.Frozen.Frozen.content g.S.Device.Device.history g.S.Device.Device.name jobs p
+          → HasFailedWith (WorkFor g.S.Frozen.Frozen.content g.S.Device.Device.history g.S.Device.Device.name jobs)
+          (part_writes_all s.limits (requests_in c.args.list.now) (plain_of (told g.S.Store.history g.S.Device.Device.history g.S.Frozen.Frozen.content s) p))
+          (record (told g.S.Store.history g.S.Device.Device.history g.S.Frozen.Frozen.content c.run.new.part) { failed = true }) p)
+          (inside_is c.self.inside.part c.self.inside.failed c.args.self.now.part (ap (λ (e : EngineState _ _ _ _). e.part) c.self.view_is)
+          c.requires.sound c.self.invariant)
+          (c.in_err-replies.ensures.failed));
+      left = (subst (λ (s : PartState _ _ _ _). record c.run.new.part { failed = true }
+          ≡ record s {
+            main = c.run.new.part.main;
+            active = c.run.new.part.active;
+            staged = c.run.new.part.staged;
+            taken = c.run.new.part.taken;
+            live = c.run.new.part.live;
+            log = c.run.new.part.log;
+            failed = true;
+          })
+          (inside_is c.self.inside.part c.self.inside.failed c.args.self.now.part (ap (λ (e : EngineState _ _ _ _). e.part) c.self.view_is)
+          c.requires.sound c.self.invariant)
+          (ap (λ (x : PartState _ _ _ _). record x { failed = true }) c.in_err-replies.ensures.left));
+    } in
+    err_always c.from_residual.result _ fails
 
 pub returns-in_err-replies-clause-harmed : goal.returns-in_err-replies-clause-harmed
 returns-in_err-replies-clause-harmed g c = same_harm c.from_residual.result c.in_err-replies.field-0.0 _ c.from_residual.ensures.1
@@ -169,16 +147,6 @@ returns-in_err-replies-clause-harmed g c = same_harm c.from_residual.result c.in
     c.requires.sound c.self.invariant)
     (c.in_err-replies.ensures.harmed))
 
-pub returns-in_err-replies-clause-spent : goal.returns-in_err-replies-clause-spent
-returns-in_err-replies-clause-spent g c = λ spent.
-    subst (λ (s : PartState _ _ _ _). 2 ^ 63 ≤ s.writes + most_writes (requests_in c.args.list.now)) (inside_is c.self.inside.part c.self.inside.failed c.args.self.now.part (ap (λ (e : EngineState _ _ _ _). e.part) c.self.view_is) c.requires.sound c.self.invariant)
-    (c.run.ensures.spent (same_fault c.from_residual.result c.run.result c.in_err-replies.field-0.0 _ c.from_residual.ensures.1 c.in_err-replies.was spent))
-
-pub returns-in_err-replies-clause-unspent : goal.returns-in_err-replies-clause-unspent
-returns-in_err-replies-clause-unspent g c = λ spent.
-    subst (λ (s : PartState _ _ _ _). c.run.new.part.log ≡ s.log) (inside_is c.self.inside.part c.self.inside.failed c.args.self.now.part (ap (λ (e : EngineState _ _ _ _). e.part) c.self.view_is) c.requires.sound c.self.invariant)
-    (c.run.ensures.unspent (same_fault c.from_residual.result c.run.result c.in_err-replies.field-0.0 _ c.from_residual.ensures.1 c.in_err-replies.was spent))
-
 pub returns-in_err-replies-clause-counted : goal.returns-in_err-replies-clause-counted
 returns-in_err-replies-clause-counted g c =
     counted_inside g.S.Watch.Watch.counts (requests_in c.args.list.now) _ _ c.self.inside.part c.args.self.now.part c.run.new.part
@@ -186,31 +154,43 @@ returns-in_err-replies-clause-counted g c =
     c.self.invariant) c.run.ensures.counted
     (same_fault c.from_residual.result c.run.result c.in_err-replies.field-0.0 _ c.from_residual.ensures.1 c.in_err-replies.was)
 
-pub returns-clause-unwritten : goal.returns-clause-unwritten
-returns-clause-unwritten g c =
-    subst (λ (s : PartState _ _ _ _). (p : PartView) → IsPart (told g.S.Store.history g.S.Device.Device.history g.S.Frozen.Frozen.content s) p
-    → part_writes_all s.limits (requests_in c.args.list.now) (plain_of (told g.S.Store.history g.S.Device.Device.history g.S.Frozen.Frozen.content s) p) ≡ []
-    → c.run.new.part.log ≡ s.log) (inside_is c.self.inside.part c.self.inside.failed c.args.self.now.part (ap (λ (e : EngineState _ _ _ _). e.part) c.self.view_is)
-    c.requires.sound c.self.invariant)
-    (c.in_ok-replies.ensures.unwritten)
-
-pub returns-clause-looked_up : goal.returns-clause-looked_up
-returns-clause-looked_up g c =
-    subst (λ (s : PartState _ _ _ _). most_writes (requests_in c.args.list.now) ≡ 0 → c.run.new.part.log ≡ s.log) (inside_is c.self.inside.part c.self.inside.failed c.args.self.now.part (ap (λ (e : EngineState _ _ _ _). e.part) c.self.view_is) c.requires.sound c.self.invariant)
-    (c.in_ok-replies.ensures.looked_up)
-
-pub returns-clause-few_writes : goal.returns-clause-few_writes
-returns-clause-few_writes g c =
-    subst (λ (s : PartState _ _ _ _). c.run.new.part.writes ≤ s.writes + most_writes (requests_in c.args.list.now)) (inside_is c.self.inside.part c.self.inside.failed c.args.self.now.part (ap (λ (e : EngineState _ _ _ _). e.part) c.self.view_is) c.requires.sound c.self.invariant)
-    (c.in_ok-replies.ensures.few_writes)
-
-pub returns-clause-ready : goal.returns-clause-ready
-returns-clause-ready g c = λ ready.
-    subst (λ (s : PartState _ _ _ _). MaySettle (told g.S.Store.history g.S.Device.Device.history g.S.Frozen.Frozen.content s)) (sym (returns-clause-same g c)) (record { own = ready.own; components = ready.components })
-
-pub returns-clause-tells : goal.returns-clause-tells
-returns-clause-tells g c = λ tells.
-    subst (λ (s : PartState _ _ _ _). TellsFiles (told g.S.Store.history g.S.Device.Device.history g.S.Frozen.Frozen.content s)) (sym (returns-clause-same g c)) (record { store = tells.store; components = tells.components })
+pub returns-clause-commits : goal.returns-clause-commits
+returns-clause-commits g c =
+    record {
+      windowed = subst (λ (u : PartState _ _ _ _). (p : PartView) → IsPart (told g.S.Store.history g.S.Device.Device.history g.S.Frozen.Frozen.content c.args.self.now.part) p
+          → IsWindowed c.args.self.now.part.limits (requests_in c.args.list.now)
+          (told g.S.Store.history g.S.Device.Device.history g.S.Frozen.Frozen.content c.args.self.now.part) p
+          (told g.S.Store.history g.S.Device.Device.history g.S.Frozen.Frozen.content u)) (closed_sound c.run.new.part c.in_ok-replies.ensures.sound)
+          (subst (λ (s : PartState _ _ _ _). (p : PartView) → IsPart (told g.S.Store.history g.S.Device.Device.history g.S.Frozen.Frozen.content s) p
+          → IsWindowed s.limits (requests_in c.args.list.now) (told g.S.Store.history g.S.Device.Device.history g.S.Frozen.Frozen.content s) p
+          (told g.S.Store.history g.S.Device.Device.history g.S.Frozen.Frozen.content c.run.new.part))
+          (inside_is c.self.inside.part c.self.inside.failed c.args.self.now.part (ap (λ (e : EngineState _ _ _ _). e.part) c.self.view_is)
+          c.requires.sound c.self.invariant)
+          (c.in_ok-replies.ensures.windowed));
+      writes = subst (λ (s : PartState _ _ _ _). (p : PartView) → IsPart (told g.S.Store.history g.S.Device.Device.history g.S.Frozen.Frozen.content s) p
+          → c.run.new.part.writes ≡ s.writes + length (part_writes_all s.limits (requests_in c.args.list.now)
+          (plain_of (told g.S.Store.history g.S.Device.Device.history g.S.Frozen.Frozen.content s) p)))
+          (inside_is c.self.inside.part c.self.inside.failed c.args.self.now.part (ap (λ (e : EngineState _ _ _ _). e.part) c.self.view_is)
+          c.requires.sound c.self.invariant)
+          (c.in_ok-replies.ensures.writes);
+      few_writes = subst (λ (s : PartState _ _ _ _). c.run.new.part.writes ≤ s.writes + most_writes (requests_in c.args.list.now)) (inside_is c.self.inside.part c.self.inside.failed c.args.self.now.part (ap (λ (e : EngineState _ _ _ _). e.part) c.self.view_is) c.requires.sound c.self.invariant)
+          (c.in_ok-replies.ensures.few_writes);
+      ready = λ ready.
+          subst (λ (s : PartState _ _ _ _). MaySettle (told g.S.Store.history g.S.Device.Device.history g.S.Frozen.Frozen.content s)) (sym (returns-clause-same g c)) (record { own = ready.own; components = ready.components });
+      tells = λ tells.
+          subst (λ (s : PartState _ _ _ _). TellsFiles (told g.S.Store.history g.S.Device.Device.history g.S.Frozen.Frozen.content s)) (sym (returns-clause-same g c)) (record { store = tells.store; components = tells.components });
+      log_out = subst (λ (s : PartState _ _ _ _). LogIsOut (told g.S.Store.history g.S.Device.Device.history g.S.Frozen.Frozen.content s)
+          → LogIsOut (told g.S.Store.history g.S.Device.Device.history g.S.Frozen.Frozen.content c.run.new.part))
+          (inside_is c.self.inside.part c.self.inside.failed c.args.self.now.part (ap (λ (e : EngineState _ _ _ _). e.part) c.self.view_is) c.requires.sound
+          c.self.invariant) c.in_ok-replies.ensures.log_out;
+      unwritten = subst (λ (s : PartState _ _ _ _). (p : PartView) → IsPart (told g.S.Store.history g.S.Device.Device.history g.S.Frozen.Frozen.content s) p
+          → part_writes_all s.limits (requests_in c.args.list.now) (plain_of (told g.S.Store.history g.S.Device.Device.history g.S.Frozen.Frozen.content s) p) ≡ []
+          → c.run.new.part.log ≡ s.log) (inside_is c.self.inside.part c.self.inside.failed c.args.self.now.part (ap (λ (e : EngineState _ _ _ _). e.part) c.self.view_is)
+          c.requires.sound c.self.invariant)
+          (c.in_ok-replies.ensures.unwritten);
+      looked_up = subst (λ (s : PartState _ _ _ _). most_writes (requests_in c.args.list.now) ≡ 0 → c.run.new.part.log ≡ s.log) (inside_is c.self.inside.part c.self.inside.failed c.args.self.now.part (ap (λ (e : EngineState _ _ _ _). e.part) c.self.view_is) c.requires.sound c.self.invariant)
+          (c.in_ok-replies.ensures.looked_up);
+    }
 
 pub returns-in_err-replies-clause-undamaged : goal.returns-in_err-replies-clause-undamaged
 returns-in_err-replies-clause-undamaged g c = λ p is are_told.
@@ -221,125 +201,129 @@ returns-in_err-replies-clause-undamaged g c = λ p is are_told.
 
 -- ---- what is out
 
-pub returns-clause-devices : goal.returns-clause-devices
-returns-clause-devices g c = λ only. subst (λ (s : PartState _ _ _ _). OnlyDevicesOut (told g.S.Store.history g.S.Device.Device.history g.S.Frozen.Frozen.content s)) (sym (returns-clause-same g c)) only
-
-pub returns-in_err-replies-clause-devices : goal.returns-in_err-replies-clause-devices
-returns-in_err-replies-clause-devices g c = λ only.
-    subst (λ (s : PartState _ _ _ _). OnlyDevicesOut (told g.S.Store.history g.S.Device.Device.history g.S.Frozen.Frozen.content s)) (sym c.in_err-replies.ensures.left)
-    (subst (λ (s : PartState _ _ _ _). OnlyDevicesOut (told g.S.Store.history g.S.Device.Device.history g.S.Frozen.Frozen.content s))
-    (sym (inside_is c.self.inside.part c.self.inside.failed c.args.self.now.part (ap (λ (e : EngineState _ _ _ _). e.part) c.self.view_is) c.requires.sound
-    c.self.invariant)) only)
-
-pub returns-clause-log_out : goal.returns-clause-log_out
-returns-clause-log_out g c = subst (λ (s : PartState _ _ _ _). LogIsOut (told g.S.Store.history g.S.Device.Device.history g.S.Frozen.Frozen.content s)
-    → LogIsOut (told g.S.Store.history g.S.Device.Device.history g.S.Frozen.Frozen.content c.run.new.part))
-    (inside_is c.self.inside.part c.self.inside.failed c.args.self.now.part (ap (λ (e : EngineState _ _ _ _). e.part) c.self.view_is) c.requires.sound
-    c.self.invariant) c.in_ok-replies.ensures.log_out
-
-pub returns-in_err-replies-clause-log_out_spent : goal.returns-in_err-replies-clause-log_out_spent
-returns-in_err-replies-clause-log_out_spent g c = λ spent is.
-    let log = c.run.ensures.unspent (same_fault c.from_residual.result c.run.result c.in_err-replies.field-0.0 _ c.from_residual.ensures.1 c.in_err-replies.was spent) in
-    subst (λ (s : PartState _ _ _ _). LogIsOut (told g.S.Store.history g.S.Device.Device.history g.S.Frozen.Frozen.content s)) (sym c.in_err-replies.ensures.left)
-    (subst (λ (l : LogState _). LogIsOut (record (told g.S.Store.history g.S.Device.Device.history g.S.Frozen.Frozen.content c.self.inside.part) { log = g.S.Device.Device.history l.device })) (sym log)
-    (subst (λ (s : PartState _ _ _ _). LogIsOut (told g.S.Store.history g.S.Device.Device.history g.S.Frozen.Frozen.content s))
-    (sym (inside_is c.self.inside.part c.self.inside.failed c.args.self.now.part (ap (λ (e : EngineState _ _ _ _). e.part) c.self.view_is) c.requires.sound
-    c.self.invariant)) is))
+pub returns-in_err-replies-clause-spent : goal.returns-in_err-replies-clause-spent
+returns-in_err-replies-clause-spent g c =
+    λ spent. record {
+      most = subst (λ (s : PartState _ _ _ _). 2 ^ 63 ≤ s.writes + most_writes (requests_in c.args.list.now)) (inside_is c.self.inside.part c.self.inside.failed c.args.self.now.part (ap (λ (e : EngineState _ _ _ _). e.part) c.self.view_is) c.requires.sound c.self.invariant)
+          (c.run.ensures.spent (same_fault c.from_residual.result c.run.result c.in_err-replies.field-0.0 _ c.from_residual.ensures.1 c.in_err-replies.was spent));
+      unspent = subst (λ (s : PartState _ _ _ _). c.run.new.part.log ≡ s.log) (inside_is c.self.inside.part c.self.inside.failed c.args.self.now.part (ap (λ (e : EngineState _ _ _ _). e.part) c.self.view_is) c.requires.sound c.self.invariant)
+          (c.run.ensures.unspent (same_fault c.from_residual.result c.run.result c.in_err-replies.field-0.0 _ c.from_residual.ensures.1 c.in_err-replies.was spent));
+      log_out = λ is. let log = c.run.ensures.unspent (same_fault c.from_residual.result c.run.result c.in_err-replies.field-0.0 _ c.from_residual.ensures.1 c.in_err-replies.was spent) in
+          subst (λ (s : PartState _ _ _ _). LogIsOut (told g.S.Store.history g.S.Device.Device.history g.S.Frozen.Frozen.content s)) (sym c.in_err-replies.ensures.left)
+          (subst (λ (l : LogState _). LogIsOut (record (told g.S.Store.history g.S.Device.Device.history g.S.Frozen.Frozen.content c.self.inside.part) { log = g.S.Device.Device.history l.device })) (sym log)
+          (subst (λ (s : PartState _ _ _ _). LogIsOut (told g.S.Store.history g.S.Device.Device.history g.S.Frozen.Frozen.content s))
+          (sym (inside_is c.self.inside.part c.self.inside.failed c.args.self.now.part (ap (λ (e : EngineState _ _ _ _). e.part) c.self.view_is) c.requires.sound
+          c.self.invariant)) is));
+    }
 
 -- ---- the jobs
 
-pub returns-clause-jobs : goal.returns-clause-jobs
-returns-clause-jobs g c = λ jobs out.
-    let old = c.args.self.now.part in
-    let same = returns-clause-same g c in
-    let untold : g.S.Store.history old.store ≡ [] → g.S.Store.history c.run.new.part.store ≡ [] = λ none. ap (λ (s : PartState _ _ _ _). g.S.Store.history s.store) same ∙ none in
+pub returns-clause-kept : goal.returns-clause-kept
+returns-clause-kept g c =
     record {
-      flush = flush_out_still g.S.Store.history g.S.Device.Device.history g.S.Frozen.Frozen.content g.S.Device.Device.name old
-          (record c.run.new.part { failed = false }) untold jobs.flush
-          (subst (λ (s : PartState _ _ _ _). s ≡ record old {
-            store = s.store;
-            main = s.main;
-            merger = s.merger;
-            list = s.list;
-            active = s.active;
-            log = s.log;
-            taken = s.taken;
-            live = s.live;
-            writes = s.writes;
-            staged = s.staged;
-            merging = s.merging;
-            failed = s.failed;
-          }) (sym same) refl) out.flush;
-      merge = merge_out_still g.S.Store.history g.S.Device.Device.history g.S.Frozen.Frozen.content g.S.Device.Device.name old
-          (record c.run.new.part { failed = false }) untold jobs.merge
-          (subst (λ (s : PartState _ _ _ _). s ≡ record old {
-            store = s.store;
-            main = s.main;
-            flusher = s.flusher;
-            sealed = s.sealed;
-            sealed_log = s.sealed_log;
-            active = s.active;
-            log = s.log;
-            generation = s.generation;
-            taken = s.taken;
-            live = s.live;
-            writes = s.writes;
-            staged = s.staged;
-            flushing = s.flushing;
-            failed = s.failed;
-          }) (sym same) refl) out.merge;
+      policy = ap (λ (e : EngineState _ _ _ _). e.policy) c.self.view_is;
+      jobs = λ jobs out.
+          let old = c.args.self.now.part in
+          let same = returns-clause-same g c in
+          let untold : g.S.Store.history old.store ≡ [] → g.S.Store.history c.run.new.part.store ≡ [] = λ none. ap (λ (s : PartState _ _ _ _). g.S.Store.history s.store) same ∙ none in
+          record {
+            flush = flush_out_still g.S.Store.history g.S.Device.Device.history g.S.Frozen.Frozen.content g.S.Device.Device.name old
+                (record c.run.new.part { failed = false }) untold jobs.flush
+                (subst (λ (s : PartState _ _ _ _). s ≡ record old {
+                  store = s.store;
+                  main = s.main;
+                  merger = s.merger;
+                  list = s.list;
+                  active = s.active;
+                  log = s.log;
+                  taken = s.taken;
+                  live = s.live;
+                  writes = s.writes;
+                  staged = s.staged;
+                  merging = s.merging;
+                  failed = s.failed;
+                }) (sym same) refl) out.flush;
+            merge = merge_out_still g.S.Store.history g.S.Device.Device.history g.S.Frozen.Frozen.content g.S.Device.Device.name old
+                (record c.run.new.part { failed = false }) untold jobs.merge
+                (subst (λ (s : PartState _ _ _ _). s ≡ record old {
+                  store = s.store;
+                  main = s.main;
+                  flusher = s.flusher;
+                  sealed = s.sealed;
+                  sealed_log = s.sealed_log;
+                  active = s.active;
+                  log = s.log;
+                  generation = s.generation;
+                  taken = s.taken;
+                  live = s.live;
+                  writes = s.writes;
+                  staged = s.staged;
+                  flushing = s.flushing;
+                  failed = s.failed;
+                }) (sym same) refl) out.merge;
+          };
+      devices = λ only. subst (λ (s : PartState _ _ _ _). OnlyDevicesOut (told g.S.Store.history g.S.Device.Device.history g.S.Frozen.Frozen.content s)) (sym (returns-clause-same g c)) only;
     }
 
-pub returns-in_err-replies-clause-jobs : goal.returns-in_err-replies-clause-jobs
-returns-in_err-replies-clause-jobs g c = λ jobs out.
-    let old = c.args.self.now.part in
-    let same = subst (λ (s : PartState _ _ _ _). record c.run.new.part { failed = true }
-    ≡ record s {
-      main = c.run.new.part.main;
-      active = c.run.new.part.active;
-      staged = c.run.new.part.staged;
-      taken = c.run.new.part.taken;
-      live = c.run.new.part.live;
-      log = c.run.new.part.log;
-      failed = true;
-    })
-    (inside_is c.self.inside.part c.self.inside.failed c.args.self.now.part (ap (λ (e : EngineState _ _ _ _). e.part) c.self.view_is)
-    c.requires.sound c.self.invariant)
-    (ap (λ (x : PartState _ _ _ _). record x { failed = true }) c.in_err-replies.ensures.left) in
-    let untold : g.S.Store.history old.store ≡ [] → g.S.Store.history c.run.new.part.store ≡ [] = λ none. ap (λ (s : PartState _ _ _ _). g.S.Store.history s.store) same ∙ none in
+pub returns-in_err-replies-clause-kept : goal.returns-in_err-replies-clause-kept
+returns-in_err-replies-clause-kept g c =
     record {
-      flush = flush_out_still g.S.Store.history g.S.Device.Device.history g.S.Frozen.Frozen.content g.S.Device.Device.name old
-          (record c.run.new.part { failed = true }) untold jobs.flush (subst
-          (λ (s : PartState _ _ _ _). s ≡ record old {
-            store = s.store;
-            main = s.main;
-            merger = s.merger;
-            list = s.list;
-            active = s.active;
-            log = s.log;
-            taken = s.taken;
-            live = s.live;
-            writes = s.writes;
-            staged = s.staged;
-            merging = s.merging;
-            failed = s.failed;
-          }) (sym same) refl) out.flush;
-      merge = merge_out_still g.S.Store.history g.S.Device.Device.history g.S.Frozen.Frozen.content g.S.Device.Device.name old
-          (record c.run.new.part { failed = true }) untold jobs.merge (subst
-          (λ (s : PartState _ _ _ _). s ≡ record old {
-            store = s.store;
-            main = s.main;
-            flusher = s.flusher;
-            sealed = s.sealed;
-            sealed_log = s.sealed_log;
-            active = s.active;
-            log = s.log;
-            generation = s.generation;
-            taken = s.taken;
-            live = s.live;
-            writes = s.writes;
-            staged = s.staged;
-            flushing = s.flushing;
-            failed = s.failed;
-          }) (sym same) refl) out.merge;
+      policy = ap (λ (e : EngineState _ _ _ _). e.policy) c.self.view_is;
+      jobs = λ jobs out.
+          let old = c.args.self.now.part in
+          let same = subst (λ (s : PartState _ _ _ _). record c.run.new.part { failed = true }
+          ≡ record s {
+            main = c.run.new.part.main;
+            active = c.run.new.part.active;
+            staged = c.run.new.part.staged;
+            taken = c.run.new.part.taken;
+            live = c.run.new.part.live;
+            log = c.run.new.part.log;
+            failed = true;
+          })
+          (inside_is c.self.inside.part c.self.inside.failed c.args.self.now.part (ap (λ (e : EngineState _ _ _ _). e.part) c.self.view_is)
+          c.requires.sound c.self.invariant)
+          (ap (λ (x : PartState _ _ _ _). record x { failed = true }) c.in_err-replies.ensures.left) in
+          let untold : g.S.Store.history old.store ≡ [] → g.S.Store.history c.run.new.part.store ≡ [] = λ none. ap (λ (s : PartState _ _ _ _). g.S.Store.history s.store) same ∙ none in
+          record {
+            flush = flush_out_still g.S.Store.history g.S.Device.Device.history g.S.Frozen.Frozen.content g.S.Device.Device.name old
+                (record c.run.new.part { failed = true }) untold jobs.flush (subst
+                (λ (s : PartState _ _ _ _). s ≡ record old {
+                  store = s.store;
+                  main = s.main;
+                  merger = s.merger;
+                  list = s.list;
+                  active = s.active;
+                  log = s.log;
+                  taken = s.taken;
+                  live = s.live;
+                  writes = s.writes;
+                  staged = s.staged;
+                  merging = s.merging;
+                  failed = s.failed;
+                }) (sym same) refl) out.flush;
+            merge = merge_out_still g.S.Store.history g.S.Device.Device.history g.S.Frozen.Frozen.content g.S.Device.Device.name old
+                (record c.run.new.part { failed = true }) untold jobs.merge (subst
+                (λ (s : PartState _ _ _ _). s ≡ record old {
+                  store = s.store;
+                  main = s.main;
+                  flusher = s.flusher;
+                  sealed = s.sealed;
+                  sealed_log = s.sealed_log;
+                  active = s.active;
+                  log = s.log;
+                  generation = s.generation;
+                  taken = s.taken;
+                  live = s.live;
+                  writes = s.writes;
+                  staged = s.staged;
+                  flushing = s.flushing;
+                  failed = s.failed;
+                }) (sym same) refl) out.merge;
+          };
+      devices = λ only.
+          subst (λ (s : PartState _ _ _ _). OnlyDevicesOut (told g.S.Store.history g.S.Device.Device.history g.S.Frozen.Frozen.content s)) (sym c.in_err-replies.ensures.left)
+          (subst (λ (s : PartState _ _ _ _). OnlyDevicesOut (told g.S.Store.history g.S.Device.Device.history g.S.Frozen.Frozen.content s))
+          (sym (inside_is c.self.inside.part c.self.inside.failed c.args.self.now.part (ap (λ (e : EngineState _ _ _ _). e.part) c.self.view_is) c.requires.sound
+          c.self.invariant)) only);
     }

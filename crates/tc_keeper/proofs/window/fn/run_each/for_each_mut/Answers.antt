@@ -7,7 +7,8 @@ use Rattle.tc_request_model.specs.Request.{Request}
 use Rattle.tc_route.specs.Meaning.{routed_of}
 use Rattle.tc_route.specs.declared.placed.Routed.{Routed}
 use Rattle.tc_work.specs.Moving.{eyes}
-use Rattle.tc_keeper.specs.Running.{HasFramed, HasRun}
+use Rattle.tc_work.specs.Committed.{HasFramed}
+use Rattle.tc_keeper.specs.Running.{HasRun}
 use Rattle.tc_keeper.proofs.SharesRun.{requests_there}
 use Rattle.tc_keeper.proofs.window.fn.run_each.for_each_mut.Goals as goal
 
