@@ -23,7 +23,6 @@ MOST_CLAUSES, MOST_CHARACTERS = 16, 2_500
 LONG_CONTRACTS = {
     "tc_open": ("open_part",),
     "tc_part": ("begin_flush", "begin_merge", "finish_flush", "finish_merge", "seal", "start"),
-    "tc_replay": ("logs_are_flushed",),
 }
 # A line of proofs/ is no longer than this. So many are longer today, and the number may only shrink.
 LONGEST_LINE, LONG_LINES = 300, 40
