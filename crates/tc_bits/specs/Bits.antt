@@ -76,3 +76,18 @@ pub record IsColumn (w : ℕ) (ns : List ℕ) (bytes : List ℕ) : Type 0 where
   pub fits : IsTrue (is_width_for w (length ns))
   pub each : AllByRecursion (λ n. n < 2 ^ w) ns
   pub spelled : bytes ≡ column w ns
+
+-- ---- writing
+
+-- the bits that were written and do not fill a byte yet, as a number, and how many bits each number to come has
+pub record Waiting : Type 0 where
+  pub width : ℕ
+  pub number : ℕ
+  pub bits : ℕ
+
+-- the bytes of the bits that wait and of numbers behind them, and zeros after the last one
+abbrev pub written : Waiting → List ℕ → List ℕ
+written w ns =
+    let bits = w.bits + w.width * length ns in
+    let size = (bits + 7) / 8 in
+    bytes_high_first size ((w.number * 2 ^ (w.width * length ns) + joined w.width ns) * 2 ^ (8 * size - bits))
