@@ -11,14 +11,14 @@ use Rattle.tc_bytes.proofs.Fields.{number_codec_32, byte_codec, bytes_codec, IsB
 use Rattle.tc_bytes.proofs.Codecs.{then_parts}
 use Rattle.tc_model.specs.Document.{Scalar, null, boolean, integer, text}
 use Rattle.tc_record.specs.Preorder.{Piece, scalar, array_opened, object_opened, closed, Token}
-use Rattle.tc_record.specs.Record.{piece_tag, piece_text, tags, fixed, texts, labels, width, numbers, joined, in_bytes, header_size, body, record_bytes}
+use Rattle.tc_record.specs.Record.{piece_tag, piece_text, tags, fixed, texts, labels, width, numbers, joined, Spelling, width_in, column_in, in_bytes, spelling_of, header_size, body_in, record_in, body}
 use Rattle.tc_record.specs.Walk.{Key}
 use Rattle.tc_record.specs.Sections.{Header, header_at, form_from, capped_sum, numbers_at, Sections, columns_behind, sections_in}
 use Rattle.tc_record.proofs.ColumnLaws.{columns_by, no_columns, same_columns}
 use Rattle.tc_record.proofs.Texts.{AreColumns}
 use Rattle.tc_record.proofs.Walks.{with_tokens}
 use Rattle.tc_record.proofs.Spelled.{slot_of, slots, names, spelled_fixed, spelled_lengths, spelled_texts, spelled_slots, spelled_names}
-use Rattle.tc_record.proofs.Spellings.{bytes_spell}
+use Rattle.tc_record.proofs.Spellings.{form_spells}
 use Rattle.tc_record.proofs.NumberColumns.{numbers_again, numbers_found, sum_of_lengths, same_test}
 
 -- ---- the header
@@ -79,32 +79,34 @@ header_found bytes q each gives =
 -- ---- the columns
 
 pub record ColumnsFound (h : Header) (named : Bool) (bytes : List ℕ) (s : Sections) : Type 0 where
+  pub form_is : s.format.form ≡ h.form
   pub named_is : s.format.named ≡ named
   pub tag_count : h.tags ≡ length s.tags
   pub fixed_count : h.fixed ≡ length s.columns.fixed
   pub text_count : h.texts ≡ length s.columns.lengths
   pub slot_count : h.names ≡ length s.columns.slots
-  pub text_width : h.text_width ≡ width s.columns.lengths
-  pub slot_width : h.slot_width ≡ width s.columns.slots
-  pub spelled : bytes ≡ s.tags ++ (s.columns.fixed ++ (numbers (width s.columns.lengths) s.columns.lengths ++ (s.columns.texts ++ (numbers (width s.columns.slots) s.columns.slots ++ s.columns.names))))
+  pub text_width : h.text_width ≡ width_in (spelling_of h.form) s.columns.lengths
+  pub slot_width : h.slot_width ≡ width_in (spelling_of h.form) s.columns.slots
+  pub spelled : bytes ≡ s.tags ++ (s.columns.fixed ++ (column_in (spelling_of h.form) s.columns.lengths ++ (s.columns.texts ++ (column_in (spelling_of h.form) s.columns.slots ++ s.columns.names))))
   pub each : AreColumns s.columns
 
 columns_found : (h : Header) (named : Bool) (bytes : List ℕ) (s : Sections) → IsBytes bytes → columns_behind h named bytes ≡ Some s → ColumnsFound h named bytes s
 columns_found h named bytes s each gives =
     let tag = then_parts (bytes_at h.tags bytes) _ s gives in
     let fix = then_parts (bytes_at h.fixed tag.0.1) _ s tag.2 in
-    let len = then_parts (numbers_at in_bytes h.text_width h.texts fix.0.1) _ s fix.2 in
+    let len = then_parts (numbers_at (spelling_of h.form) h.text_width h.texts fix.0.1) _ s fix.2 in
     let txt = then_parts (bytes_at (capped_sum len.0.0) len.0.1) _ s len.2 in
-    let slot = then_parts (numbers_at in_bytes h.slot_width h.names txt.0.1) _ s txt.2 in
+    let slot = then_parts (numbers_at (spelling_of h.form) h.slot_width h.names txt.0.1) _ s txt.2 in
     let a = (bytes_codec h.tags).found bytes tag.0.0 tag.0.1 each tag.1 in
     let b = (bytes_codec h.fixed).found tag.0.1 fix.0.0 fix.0.1 a.1 fix.1 in
-    let c = numbers_found in_bytes bytes_spell h.text_width h.texts fix.0.1 len.0 b.1 len.1 in
+    let c = numbers_found (spelling_of h.form) (form_spells h.form) h.text_width h.texts fix.0.1 len.0 b.1 len.1 in
     let d = (bytes_codec (capped_sum len.0.0)).found len.0.1 txt.0.0 txt.0.1 c.rest txt.1 in
-    let e = numbers_found in_bytes bytes_spell h.slot_width h.names txt.0.1 slot.0 d.1 slot.1 in
-    let lengths_spelled : fix.0.1 ≡ numbers (width len.0.0) len.0.0 ++ len.0.1 = c.spelled ∙ ap (λ w. numbers w len.0.0 ++ len.0.1) c.least in
-    let slots_spelled : txt.0.1 ≡ numbers (width slot.0.0) slot.0.0 ++ slot.0.1 = e.spelled ∙ ap (λ w. numbers w slot.0.0 ++ slot.0.1) e.least in
+    let e = numbers_found (spelling_of h.form) (form_spells h.form) h.slot_width h.names txt.0.1 slot.0 d.1 slot.1 in
+    let lengths_spelled : fix.0.1 ≡ column_in (spelling_of h.form) len.0.0 ++ len.0.1 = c.spelled ∙ ap (λ w. (spelling_of h.form).column w len.0.0 ++ len.0.1) c.least in
+    let slots_spelled : txt.0.1 ≡ column_in (spelling_of h.form) slot.0.0 ++ slot.0.1 = e.spelled ∙ ap (λ w. (spelling_of h.form).column w slot.0.0 ++ slot.0.1) e.least in
     subst (ColumnsFound h named bytes) (same_Some _ s slot.2)
     (record {
+      form_is = refl;
       named_is = refl;
       tag_count = sym a.2;
       fixed_count = sym b.2;
@@ -112,7 +114,7 @@ columns_found h named bytes s each gives =
       slot_count = e.many;
       text_width = c.least;
       slot_width = e.least;
-      spelled = a.0 ∙ ap (λ r. tag.0.0 ++ r) (b.0 ∙ ap (λ r. fix.0.0 ++ r) (lengths_spelled ∙ ap (λ r. numbers (width len.0.0) len.0.0 ++ r) (d.0 ∙ ap (λ r. txt.0.0 ++ r) slots_spelled)));
+      spelled = a.0 ∙ ap (λ r. tag.0.0 ++ r) (b.0 ∙ ap (λ r. fix.0.0 ++ r) (lengths_spelled ∙ ap (λ r. column_in (spelling_of h.form) len.0.0 ++ r) (d.0 ∙ ap (λ r. txt.0.0 ++ r) slots_spelled)));
       each = record { fixed = IsBytes-front fix.0.0 fix.0.1 (subst IsBytes b.0 a.1); texts = IsBytes-front txt.0.0 txt.0.1 (subst IsBytes d.0 c.rest); slots = e.each; names = e.rest };
     })
 
@@ -154,25 +156,29 @@ sections_found bytes s each gives =
 -- the header of tokens
 abbrev pub header_of_tokens : ℕ → List (Token Key Scalar) → Header
 header_of_tokens form ts = record {
-  total = header_size + length (body ts (slots ts) (names ts));
+  total = header_size + length (body_in (spelling_of form) ts (slots ts) (names ts));
   form = form;
   tags = length (tags ts);
   fixed = length (fixed ts);
   texts = length (map length (texts ts));
-  text_width = width (map length (texts ts));
+  text_width = width_in (spelling_of form) (map length (texts ts));
   names = length (slots ts);
-  slot_width = width (slots ts);
+  slot_width = width_in (spelling_of form) (slots ts);
 }
 
 -- the lengths of the columns, added up
+pub body_in-length : (sp : Spelling) (ts : List (Token Key Scalar)) → length (body_in sp ts (slots ts) (names ts))
+    ≡ length (tags ts) + (length (fixed ts) + (length (column_in sp (map length (texts ts))) + (length (joined (texts ts)) + (length (column_in sp (slots ts)) + length (names ts)))))
+body_in-length sp ts =
+    let lengths = map length (texts ts) in
+    let last = column_in sp (slots ts) ++ names ts in
+    let text_part = joined (texts ts) ++ last in
+    let text_columns = column_in sp lengths ++ text_part in
+    omega (arith, length-append (tags ts) (fixed ts ++ text_columns), length-append (fixed ts) text_columns, length-append (column_in sp lengths) text_part, length-append (joined (texts ts)) last, length-append (column_in sp (slots ts)) (names ts))
+
 pub body_length : (ts : List (Token Key Scalar)) → length (body ts (slots ts) (names ts))
     ≡ length (tags ts) + (length (fixed ts) + (length (numbers (width (map length (texts ts))) (map length (texts ts))) + (length (joined (texts ts)) + (length (numbers (width (slots ts)) (slots ts)) + length (names ts)))))
-body_length ts =
-    let lengths = map length (texts ts) in
-    let last = numbers (width (slots ts)) (slots ts) ++ names ts in
-    let text_part = joined (texts ts) ++ last in
-    let text_columns = numbers (width lengths) lengths ++ text_part in
-    omega (arith, length-append (tags ts) (fixed ts ++ text_columns), length-append (fixed ts) text_columns, length-append (numbers (width lengths) lengths) text_part, length-append (joined (texts ts)) last, length-append (numbers (width (slots ts)) (slots ts)) (names ts))
+body_length ts = body_in-length in_bytes ts
 
 -- no more texts and labels than tokens
 texts_within : (ts : List (Token Key Scalar)) → length (texts ts) ≤ length ts
@@ -188,7 +194,7 @@ texts_within (t ∷ ts) = let one = one_text t.piece in omega (arith, one, lengt
     one_text object_opened = omega arith
     one_text closed = omega arith
 
-labels_within : (ts : List (Token Key Scalar)) → length (labels ts) ≤ length ts
+pub labels_within : (ts : List (Token Key Scalar)) → length (labels ts) ≤ length ts
 labels_within [] = omega arith
 labels_within (t ∷ ts) = let one = one_label t.label in omega (arith, one, length-append (option_to_list t.label) (labels ts), labels_within ts)
   where
@@ -196,9 +202,9 @@ labels_within (t ∷ ts) = let one = one_label t.label in omega (arith, one, len
     one_label None = omega arith
     one_label (Some k) = omega arith
 
-pub header_fits : (form : ℕ) (ts : List (Token Key Scalar)) → header_size + length (body ts (slots ts) (names ts)) < 2 ^ 32 → HeaderFits (header_of_tokens form ts)
+pub header_fits : (form : ℕ) (ts : List (Token Key Scalar)) → header_size + length (body_in (spelling_of form) ts (slots ts) (names ts)) < 2 ^ 32 → HeaderFits (header_of_tokens form ts)
 header_fits form ts short =
-    let sum = body_length ts in
+    let sum = body_in-length (spelling_of form) ts in
     let many = length-map ts (λ (t : Token Key Scalar). piece_tag t.piece) in
     record {
       total = short;
@@ -213,28 +219,31 @@ pub record TokensFit (ts : List (Token Key Scalar)) : Type 0 where
   pub lengths : AreBelow 32 (map length (texts ts))
   pub slots : AreBelow 32 (slots ts)
 
-columns_again : (named : Bool) (form : ℕ) (ts : List (Token Key Scalar)) → TokensFit ts → header_size + length (body ts (slots ts) (names ts)) < 2 ^ 32
-    → columns_behind (header_of_tokens form ts) named (body ts (slots ts) (names ts)) ≡ Some (record { format = record { named = named }; tags = tags ts; columns = with_tokens ts no_columns })
+columns_again : (named : Bool) (form : ℕ) (ts : List (Token Key Scalar)) → TokensFit ts → header_size + length (body_in (spelling_of form) ts (slots ts) (names ts)) < 2 ^ 32
+    → columns_behind (header_of_tokens form ts) named (body_in (spelling_of form) ts (slots ts) (names ts)) ≡ Some (record { format = record { form = form; named = named }; tags = tags ts; columns = with_tokens ts no_columns })
 columns_again named form ts fits short =
+    let sp = spelling_of form in
     let lengths = map length (texts ts) in
-    let r4 = numbers (width (slots ts)) (slots ts) ++ names ts in
+    let r4 = column_in sp (slots ts) ++ names ts in
     let r3 = joined (texts ts) ++ r4 in
-    let r2 = numbers (width lengths) lengths ++ r3 in
+    let r2 = column_in sp lengths ++ r3 in
     let r1 = fixed ts ++ r2 in
-    let sum = body_length ts in
+    let sum = body_in-length sp ts in
     let total : length (joined (texts ts)) ≡ capped_sum lengths = sym (sum_of_lengths (texts ts) (omega arith)) in
-    let read_lengths : numbers_at in_bytes (width lengths) (length lengths) r2 ≡ Some (lengths, r3) = numbers_again in_bytes bytes_spell lengths r3 fits.lengths in
-    let read_slots : numbers_at in_bytes (width (slots ts)) (length (slots ts)) r4 ≡ Some (slots ts, names ts) = numbers_again in_bytes bytes_spell (slots ts) (names ts) fits.slots in
+    let read_lengths : numbers_at sp (width_in sp lengths) (length lengths) r2 ≡ Some (lengths, r3) = numbers_again sp (form_spells form) lengths r3 fits.lengths in
+    let read_slots : numbers_at sp (width_in sp (slots ts)) (length (slots ts)) r4 ≡ Some (slots ts, names ts) = numbers_again sp (form_spells form) (slots ts) (names ts) fits.slots in
     let columns : with_tokens ts no_columns ≡ columns_by (fixed ts) lengths (joined (texts ts)) (slots ts) (names ts) =
     same_columns (with_tokens ts no_columns) _ _ _ _ _ (spelled_fixed ts) (spelled_lengths ts) (spelled_texts ts) (spelled_slots ts) (spelled_names ts) in
     rw (columns, bytes_again (length (tags ts)) (tags ts) r1 refl, bytes_again (length (fixed ts)) (fixed ts) r2 refl, read_lengths, bytes_again (capped_sum lengths) (joined (texts ts)) r4 total, read_slots) refl
 
 -- the columns that tokens have are cut out of their record
 pub sections_again : (named : Bool) (form : ℕ) (ts : List (Token Key Scalar)) → form_from form ≡ Some named → TokensFit ts
-    → length (record_bytes form ts (slots ts) (names ts)) < 2 ^ 32 → sections_in (record_bytes form ts (slots ts) (names ts)) ≡ Some (record { format = record { named = named }; tags = tags ts; columns = with_tokens ts no_columns })
+    → length (record_in (spelling_of form) form ts (slots ts) (names ts)) < 2 ^ 32
+    → sections_in (record_in (spelling_of form) form ts (slots ts) (names ts)) ≡ Some (record { format = record { form = form; named = named }; tags = tags ts; columns = with_tokens ts no_columns })
 sections_again named form ts is fits short =
-    let content = body ts (slots ts) (names ts) in
+    let content = body_in (spelling_of form) ts (slots ts) (names ts) in
+    let whole_record = record_in (spelling_of form) form ts (slots ts) (names ts) in
     let small : header_size + length content < 2 ^ 32 = omega arith in
-    let whole : header_size + length content ≡ length (record_bytes form ts (slots ts) (names ts)) = omega arith in
+    let whole : header_size + length content ≡ length whole_record = omega arith in
     rw (header_again (header_of_tokens form ts) content (header_fits form ts small), is, columns_again named form ts fits small)
-    (same_test (header_size + length content) (length (record_bytes form ts (slots ts) (names ts))) _ None whole)
+    (same_test (header_size + length content) (length whole_record) _ None whole)

@@ -4,7 +4,7 @@ use Rattle.std.proofs.lemmas.List.{map-append}
 use Rattle.tc_model.specs.Tree.{Tree, leaf, array, object, Items, no_items, item, Members, no_members, member, depth, items_depth, members_depth, relabel, items_relabel, members_relabel}
 use Rattle.tc_model.specs.Document.{Name, Document, Scalar}
 use Rattle.tc_record.specs.Preorder.{Token, token, array_opened, object_opened, closed, preorder, items_preorder, members_preorder, tokens_of}
-use Rattle.tc_record.specs.Record.{NumberedTree, piece_tag, piece_fixed, piece_text, tags, fixed, texts, labels, record_bytes, record_of, numbered_record_of}
+use Rattle.tc_record.specs.Record.{NumberedTree, piece_tag, piece_fixed, piece_text, tags, fixed, texts, labels, Spelling, in_bytes, spelling_of, record_in, record_bytes, record_of, numbered_record_in}
 use Rattle.tc_record.specs.Walk.{Key, name, number}
 use Rattle.tc_record.proofs.Spelled.{slot_of, name_of, slots, names}
 
@@ -52,11 +52,11 @@ module _ {L : Type 0} (g : L → Key) where
   tags-retoken [] = refl
   tags-retoken (t ∷ ts) = ap (λ ns. piece_tag t.piece ∷ ns) (tags-retoken ts)
 
-  fixed-retoken : (ts : List (Token L Scalar)) → fixed (map (retoken g) ts) ≡ fixed ts
+  pub fixed-retoken : (ts : List (Token L Scalar)) → fixed (map (retoken g) ts) ≡ fixed ts
   fixed-retoken [] = refl
   fixed-retoken (t ∷ ts) = ap (λ ns. piece_fixed t.piece ++ ns) (fixed-retoken ts)
 
-  texts-retoken : (ts : List (Token L Scalar)) → texts (map (retoken g) ts) ≡ texts ts
+  pub texts-retoken : (ts : List (Token L Scalar)) → texts (map (retoken g) ts) ≡ texts ts
   texts-retoken [] = refl
   texts-retoken (t ∷ ts) = ap (λ ns. piece_text t.piece ++ ns) (texts-retoken ts)
 
@@ -69,8 +69,11 @@ module _ {L : Type 0} (g : L → Key) where
   labels-retoken (t ∷ ts) = ap (λ ls. ls ++ labels (map (retoken g) ts)) (option_list t.label) ∙ ap (λ ls. map g (option_to_list t.label) ++ ls) (labels-retoken ts) ∙ sym (map-append g (option_to_list t.label) (labels ts))
 
   -- the same columns, whatever labels the tokens have
+  pub record_in-retoken : (s : Spelling) (form : ℕ) (ts : List (Token L Scalar)) (slot_list name_list : List ℕ) → record_in s form (map (retoken g) ts) slot_list name_list ≡ record_in s form ts slot_list name_list
+  record_in-retoken s form ts slot_list name_list = rw (tags-retoken ts, fixed-retoken ts, texts-retoken ts) refl
+
   pub record-retoken : (form : ℕ) (ts : List (Token L Scalar)) (slot_list name_list : List ℕ) → record_bytes form (map (retoken g) ts) slot_list name_list ≡ record_bytes form ts slot_list name_list
-  record-retoken form ts slot_list name_list = rw (tags-retoken ts, fixed-retoken ts, texts-retoken ts) refl
+  record-retoken form ts slot_list name_list = record_in-retoken in_bytes form ts slot_list name_list
 
 -- the record of a document, by the tokens that the reader shows
 slots-named : (ls : List Name) → map slot_of (map name ls) ≡ map length ls
@@ -94,10 +97,10 @@ record_of-keyed d =
     let ts = tokens_of d in
     rw (preorder-relabel name d None, labels-retoken name ts, slots-named (labels ts), names-named (labels ts)) (sym (record-retoken name 0 ts (map length (labels ts)) (flat_map (λ l. l) (labels ts))))
 
-pub record_of-numbered : (n : NumberedTree) → numbered_record_of n ≡ record_bytes 1 (tokens_of (numbered n)) (slots (tokens_of (numbered n))) (names (tokens_of (numbered n)))
-record_of-numbered n =
+pub record_in-numbered : (form : ℕ) (n : NumberedTree) → numbered_record_in form n ≡ record_in (spelling_of form) form (tokens_of (numbered n)) (slots (tokens_of (numbered n))) (names (tokens_of (numbered n)))
+record_in-numbered form n =
     let ts = tokens_of n in
-    rw (preorder-relabel number n None, labels-retoken number ts, slots-numbered (labels ts), names-numbered (labels ts)) (sym (record-retoken number 1 ts (labels ts) []))
+    rw (preorder-relabel number n None, labels-retoken number ts, slots-numbered (labels ts), names-numbered (labels ts)) (sym (record_in-retoken number (spelling_of form) form ts (labels ts) []))
 
 pub slots_of-keyed : (d : Document) → slots (tokens_of (keyed d)) ≡ map length (labels (tokens_of d))
 slots_of-keyed d = rw (preorder-relabel name d None, labels-retoken name (tokens_of d)) (slots-named (labels (tokens_of d)))

@@ -4,7 +4,7 @@ use Rattle.std.proofs.lemmas.Bool.Decides.{nat_tests}
 use Rattle.std.proofs.lemmas.List.{map-append}
 use Rattle.tc_model.specs.Document.{Name, Document, Scalar}
 use Rattle.tc_record.specs.Preorder.{Token, tokens_of}
-use Rattle.tc_record.proofs.NumberLengths.{length-numbers}
+use Rattle.tc_record.proofs.NumberLengths.{length-numbers, width_of-le, width_of-some, covered, bytes_each}
 use Rattle.tc_record.specs.declared.measure.ColumnSum.{ColumnSum}
 use Rattle.tc_record.specs.declared.measure.Measure.{Measure}
 use Rattle.tc_record.specs.Record.{piece_text, piece_fixed, tags, fixed, texts, labels, greatest, width, width_of, numbers, joined, record_bytes, record_of}
@@ -47,9 +47,6 @@ measured_names (t ∷ ts) m =
     measured_names ts (with_piece (with_label m t.label) t.piece) ∙ sym (ap (with_elements m.names) (map-append length (option_to_list t.label) (labels ts)) ∙ with_elements-append (map length (option_to_list t.label)) (map length (labels ts)) m.names)
 
 -- ---- the whole
-
-pub width_of-le : (n : ℕ) → width_of n ≤ 4
-width_of-le n = grind (arith, nat_tests)
 
 -- a product stands still at the end where one of its factors does
 product_within : (k w : ℕ) → w ≤ 4 → min (min k (2 ^ 64 - 1) * w) (2 ^ 64 - 1) ≡ min (k * w) (2 ^ 64 - 1)
@@ -128,17 +125,6 @@ pub record IsExact (xs : List (List ℕ)) (c : ColumnSum) : Type 0 where
   pub count : c.count ≡ length (map length xs)
   pub width : column_width c ≡ width (map length xs)
 
-covered : (v w : ℕ) → 1 ≤ w → w ≤ 4 → v ≤ v * w
-covered v zero some small = absurd (omega arith)
-covered v (suc zero) some small = omega arith
-covered v (suc (suc zero)) some small = omega arith
-covered v (suc (suc (suc zero))) some small = omega arith
-covered v (suc (suc (suc (suc zero)))) some small = omega arith
-covered v (suc (suc (suc (suc (suc w))))) some small = absurd (omega arith)
-
-pub width_of-some : (n : ℕ) → 1 ≤ width_of n
-width_of-some n = grind (arith, nat_tests)
-
 exact_column : (xs : List (List ℕ)) → length (numbers (width (map length xs)) (map length xs)) < 2 ^ 32 → IsExact xs (with_elements no_elements (map length xs))
 exact_column [] short = record { count = refl; width = refl }
 exact_column (x ∷ xs) short =
@@ -179,8 +165,7 @@ pub few_fixed : (d : Document) → length (record_of d) < 2 ^ 32 → (measured n
 few_fixed d short = omega (arith, (exact_measure d short).fixed, length-record_of (tokens_of d))
 
 pub few_numbers : (ns : List ℕ) → length (numbers (width ns) ns) < 2 ^ 32 → length ns < 2 ^ 32
-few_numbers [] short = omega arith
-few_numbers (n ∷ ns) short = omega (arith, length-numbers (width (n ∷ ns)) (n ∷ ns), covered (length (n ∷ ns)) (width (n ∷ ns)) (width_of-some (greatest (n ∷ ns))) (width_of-le (greatest (n ∷ ns))))
+few_numbers ns short = omega (arith, bytes_each ns, short)
 
 pub few_texts : (d : Document) → length (record_of d) < 2 ^ 32 → (measured nothing_measured (tokens_of d)).texts.count < 2 ^ 32
 few_texts d short = omega (arith, (exact_measure d short).texts.count, few_numbers (map length (texts (tokens_of d))) (omega (arith, length-record_of (tokens_of d))))

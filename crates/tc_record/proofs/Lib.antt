@@ -19,6 +19,7 @@ pub mod Keyed
 pub mod Fitting
 pub mod Documents
 pub mod Spellings
+pub mod ColumnSizes
 pub mod NumberColumns
 pub mod Placed
 pub mod Tails

@@ -10,9 +10,9 @@ use Rattle.tc_bytes.specs.Codec.{IsBytes}
 use Rattle.tc_bytes.specs.Reading.{bytes_at}
 use Rattle.tc_bytes.proofs.Fields.{bytes_codec}
 use Rattle.tc_record.specs.NumbersLeft.{elements_from}
-use Rattle.tc_record.specs.Record.{Spelling}
-use Rattle.tc_record.specs.Sections.{IsTail, numbers_at}
-use Rattle.tc_record.proofs.NumberColumns.{as_bytes, numbers_there, numbers_wide}
+use Rattle.tc_record.specs.Record.{greatest, Spelling, width_in}
+use Rattle.tc_record.specs.Sections.{IsTail, least_width, numbers_at}
+use Rattle.tc_record.proofs.NumberColumns.{as_bytes, numbers_there, numbers_wide, width_told}
 
 -- so many are left
 pub length-elements_from : (w place left : ℕ) (bytes : List ℕ) → length (elements_from w place left bytes) ≡ left
@@ -53,6 +53,10 @@ elements_placed w n place whole front column rest each room is at =
     ∙ ap (λ p. elements_from w p n column) nothing
     ∙ counted_from w 0 n column
 
+-- the least width for so many numbers is that of a column of them
+pub least_is : (s : Spelling) (w place count : ℕ) (whole : List ℕ) (g least : ℕ) → g ≡ greatest (elements_from w place count whole) → least ≡ least_width s count g → least ≡ width_in s (elements_from w place count whole)
+least_is s w place count whole g least most told = width_told s (elements_from w place count whole) count g least (length-elements_from w place count whole) (sym most) told
+
 -- ---- a column that was cut from what ends a record: its numbers are read where it stands, if the width that is told is the least
 
 elements_there : (s : Spelling) (whole bytes column rest : List ℕ) (told count w : ℕ) → IsBytes bytes → IsTail whole bytes → w ≡ s.bits told → bytes_at (column_size count w) bytes ≡ Some (column, rest) → is_column w count column ≡ true
@@ -67,14 +71,14 @@ elements_there s whole bytes column rest told count w each tail same read is =
     ∙ ap (λ k. elements k count column) same
 
 pub column_read : (s : Spelling) (whole bytes column rest : List ℕ) (told count w : ℕ) → IsBytes bytes → IsTail whole bytes → w ≡ s.bits told → bytes_at (column_size count w) bytes ≡ Some (column, rest) → is_column w count column ≡ true
-    → told ≡ s.width (elements_from w (8 * (length whole - length bytes)) count whole) → numbers_at s told count bytes ≡ Some (elements_from w (8 * (length whole - length bytes)) count whole, rest)
+    → told ≡ width_in s (elements_from w (8 * (length whole - length bytes)) count whole) → numbers_at s told count bytes ≡ Some (elements_from w (8 * (length whole - length bytes)) count whole, rest)
 column_read s whole bytes column rest told count w each tail same cut is least =
     let there = elements_there s whole bytes column rest told count w each tail same cut is in
-    numbers_there s told count bytes column rest (ap (λ k. bytes_at (column_size count k) bytes) (sym same) ∙ cut) (ap (λ k. is_column k count column) (sym same) ∙ is) (least ∙ ap s.width there)
+    numbers_there s told count bytes column rest (ap (λ k. bytes_at (column_size count k) bytes) (sym same) ∙ cut) (ap (λ k. is_column k count column) (sym same) ∙ is) (least ∙ ap (width_in s) there)
     ∙ ap (λ ns. Some (ns, rest)) (sym there)
 
 pub column_wide : (s : Spelling) (whole bytes column rest : List ℕ) (told count w : ℕ) → IsBytes bytes → IsTail whole bytes → w ≡ s.bits told → bytes_at (column_size count w) bytes ≡ Some (column, rest) → is_column w count column ≡ true
-    → (told ≡ s.width (elements_from w (8 * (length whole - length bytes)) count whole) → ⊥) → numbers_at s told count bytes ≡ None
+    → (told ≡ width_in s (elements_from w (8 * (length whole - length bytes)) count whole) → ⊥) → numbers_at s told count bytes ≡ None
 column_wide s whole bytes column rest told count w each tail same cut is other =
     let there = elements_there s whole bytes column rest told count w each tail same cut is in
-    numbers_wide s told count bytes column rest (ap (λ k. bytes_at (column_size count k) bytes) (sym same) ∙ cut) (ap (λ k. is_column k count column) (sym same) ∙ is) (λ e. other (e ∙ ap s.width (sym there)))
+    numbers_wide s told count bytes column rest (ap (λ k. bytes_at (column_size count k) bytes) (sym same) ∙ cut) (ap (λ k. is_column k count column) (sym same) ∙ is) (λ e. other (e ∙ ap (width_in s) (sym there)))

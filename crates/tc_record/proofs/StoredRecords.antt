@@ -8,7 +8,7 @@ use Rattle.tc_model.specs.Tree.{Tree, leaf, array, object, Items, no_items, item
 use Rattle.tc_model.specs.Document.{Name, Document, Scalar, member_at}
 use Rattle.tc_record.specs.Preorder.{scalar, array_opened, object_opened, Token, token, preorder, items_preorder, members_preorder}
 use Rattle.tc_record.specs.Record.{piece_tag, IsRecordOf}
-use Rattle.tc_record.specs.Walk.{Key, name}
+use Rattle.tc_record.specs.Walk.{Key, name, Format}
 use Rattle.tc_record.specs.Sections.{record_read}
 use Rattle.tc_record.specs.Borrowed.{Record, IsRecord, Spells, named_tokens}
 use Rattle.tc_record.proofs.Cutting.{body_length}
@@ -90,11 +90,11 @@ lacks_from (array xs) keyless = absurd keyless
 lacks_from (object ms) keyless = top_members ms ∙ ap (λ (o : Option Document). not (is_some o)) keyless
 
 -- the tokens of what spells a record are what is read of it
-pub read_is : (r : Record) → Spells r → record_read r.bytes ≡ Some (r.named, r.tokens)
-read_is r (inl (d, (named, is, tokens))) = document_again d r.bytes is ∙ rw (named, tokens) refl
-read_is r (inr (n, (named, is, tokens))) = numbered_again n r.bytes is ∙ rw (named, tokens) refl
+pub read_is : (r : Record) → Spells r → record_read r.bytes ≡ Some (record { form = r.form; named = r.named }, r.tokens)
+read_is r (inl (d, (named, is, tokens, form))) = document_again d r.bytes is ∙ rw (named, tokens, form) refl
+read_is r (inr (n, (named, is, tokens, told))) = numbered_again r.form told n r.bytes is ∙ rw (named, tokens) refl
 
-read_none : (bytes : List ℕ) (o : Option (Bool × List (Token Key Scalar))) → IsBytes bytes → (IsRecord bytes → ⊥) → record_read bytes ≡ o → o ≡ None
+read_none : (bytes : List ℕ) (o : Option (Format × List (Token Key Scalar))) → IsBytes bytes → (IsRecord bytes → ⊥) → record_read bytes ≡ o → o ≡ None
 read_none bytes None each no_record reads = refl
 read_none bytes (Some q) each no_record reads = absurd (no_record (spelled_record _ (read_found bytes q each reads)))
 
@@ -103,7 +103,7 @@ not_stored bytes each no_record = ap is_stored_read (read_none bytes (record_rea
 
 -- a record has fewer tokens than bytes
 pub few_tokens : (r : Record) → Spells r → r.named ≡ true → length r.tokens < 2 ^ 32
-few_tokens r (inl (d, (named, is, tokens))) is_named =
+few_tokens r (inl (d, (named, is, tokens, form))) is_named =
     let ts = named_tokens d in
     let spelled = ap length (is.spelled ∙ record_of-keyed d) in
     let short = is.short in
@@ -111,19 +111,19 @@ few_tokens r (inl (d, (named, is, tokens))) is_named =
     let tags = length-map ts (λ (t : Token Key Scalar). piece_tag t.piece) in
     let same = ap length tokens in
     omega arith
-few_tokens r (inr (n, (named, is, tokens))) is_named = cc
+few_tokens r (inr (n, (named, is, tokens, told))) is_named = cc
 
 -- what is tested is what is defined
-keyless_spelled : (bytes : List ℕ) (named : Bool) (tokens : List (Token Key Scalar)) → named ≡ true → lacks_id 0 tokens ≡ true → Spells (record { bytes = bytes; named = named; tokens = tokens }) → IsStoredRecord bytes
-keyless_spelled bytes named tokens is_named lacks (inl (d, (told, is, same))) =
+keyless_spelled : (bytes : List ℕ) (form : ℕ) (named : Bool) (tokens : List (Token Key Scalar)) → named ≡ true → lacks_id 0 tokens ≡ true → Spells (record { bytes = bytes; form = form; named = named; tokens = tokens }) → IsStoredRecord bytes
+keyless_spelled bytes form named tokens is_named lacks (inl (d, (told, is, same, form_is))) =
     record { document = d; is_record = is; keyless = keyless_from d bytes is (ap (lacks_id 0) (sym same) ∙ lacks) }
-keyless_spelled bytes named tokens is_named lacks (inr (n, (told, is, same))) = cc
+keyless_spelled bytes form named tokens is_named lacks (inr (n, (told, is, same, form_is))) = cc
 
-keyless_read : (bytes : List ℕ) (o : Option (Bool × List (Token Key Scalar))) → IsBytes bytes → record_read bytes ≡ o → is_stored_read o ≡ true → IsStoredRecord bytes
+keyless_read : (bytes : List ℕ) (o : Option (Format × List (Token Key Scalar))) → IsBytes bytes → record_read bytes ≡ o → is_stored_read o ≡ true → IsStoredRecord bytes
 keyless_read bytes None each reads passes = cc
 keyless_read bytes (Some q) each reads passes =
-    let parts = and_parts q.0 (lacks_id 0 q.1) passes in
-    keyless_spelled bytes q.0 q.1 parts.0 parts.1 (read_found bytes q each reads)
+    let parts = and_parts q.0.named (lacks_id 0 q.1) passes in
+    keyless_spelled bytes q.0.form q.0.named q.1 parts.0 parts.1 (read_found bytes q each reads)
 
 pub IsStoredRecord-from_test : (bytes : List ℕ) → IsBytes bytes → is_stored bytes ≡ true → IsStoredRecord bytes
 IsStoredRecord-from_test bytes each passes = keyless_read bytes (record_read bytes) each refl passes

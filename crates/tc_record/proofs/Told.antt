@@ -1,14 +1,13 @@
--- What the header and the slots of a record tell of its tokens.
-use Rattle.std.proofs.Common.{◌≡◌, ◌∙◌, ◌<◌, ◌≤◌, ◌+◌, ◌↔◌, suc, ◌^◌, ◌==◌, ◌||◌, nat_lt, ℕ, Bool, true, false, List, [], ◌∷◌, Option, None, Some, IsTrue, unwrap_or, is_some, length, map, inl, inr, refl, sym, ap, subst, arith}
+-- What the columns of a record tell of its tokens.
+use Rattle.std.proofs.Common.{◌≡◌, ◌∙◌, ◌<◌, ◌≤◌, ◌↔◌, suc, ◌^◌, ◌==◌, ◌||◌, nat_lt, ℕ, Bool, true, false, List, [], ◌∷◌, Option, None, Some, IsTrue, unwrap_or, is_some, length, map, inl, inr, refl, sym, ap, subst, arith}
 use Rattle.std.specs.List.{AllByRecursion}
 use Rattle.std.proofs.lemmas.Bool.{both_ways}
 use Rattle.std.proofs.lemmas.Bool.Decides.{nat_tests}
 use Rattle.std.proofs.lemmas.List.{length-map}
-use Rattle.std.proofs.lemmas.Option.{same_Some}
 use Rattle.tc_bytes.specs.Codec.{IsBytes}
 use Rattle.tc_model.specs.Document.{Name, Document, Scalar}
 use Rattle.tc_record.specs.Preorder.{Token, tokens_of}
-use Rattle.tc_record.specs.Record.{NumberedTree, piece_tag, tags, labels, greatest, header_size, body, record_bytes}
+use Rattle.tc_record.specs.Record.{NumberedTree, piece_tag, tags, fixed, texts, labels, greatest, joined}
 use Rattle.tc_record.specs.Walk.{Key, name, number}
 use Rattle.tc_record.specs.Walk as walk
 use Rattle.tc_record.specs.Held.{tokens_held, TellsGreatest}
@@ -18,62 +17,36 @@ use Rattle.tc_record.specs.WalkView.{numbers_of, format_of}
 use Rattle.tc_record.specs.Borrowed.{Record, Spells, IsBelow, named_tokens, numbered_tokens}
 use Rattle.tc_record.specs.declared.sections.Sections.{Sections}
 use Rattle.tc_record.proofs.Found.{tokens_found}
-use Rattle.tc_record.proofs.Spelled.{slot_of, slots, names, spelled_slots}
-use Rattle.tc_record.proofs.Keyed.{keyed, numbered, preorder-relabel, labels-retoken, record_of-keyed, record_of-numbered, slots-numbered, slots_of-numbered}
-use Rattle.tc_record.proofs.Cutting.{header_of_tokens, header_again, header_fits, sections_found}
+use Rattle.tc_record.proofs.ColumnLaws.{no_columns}
+use Rattle.tc_record.proofs.Walks.{with_tokens}
+use Rattle.tc_record.proofs.Spelled.{slot_of, slots, spelled_fixed, spelled_lengths, spelled_texts, spelled_slots}
+use Rattle.tc_record.proofs.Keyed.{preorder-relabel, labels-retoken, slots-numbered, slots_of-numbered}
+use Rattle.tc_record.proofs.Cutting.{sections_found}
+use Rattle.tc_record.proofs.Placed.{length-elements_from}
 
 abbrev Tokens : Type 0
 Tokens = List (Token Key Scalar)
 
--- ---- the header
+-- ---- the columns
 
--- a header that is read of a record has the counts of its tokens
-pub record HeaderTells (ts : Tokens) (h : cut.Header) : Type 0 where
-  pub tags : h.tags ≡ length ts
-  pub members : h.names ≡ length (labels ts)
-
-header_read : (form : ℕ) (ts us : Tokens) (bytes : List ℕ) → bytes ≡ record_bytes form us (slots us) (names us) → length bytes < 2 ^ 32 → ts ≡ us
-    → (q : cut.Header × List ℕ) × (cut.header_at bytes ≡ Some q) × HeaderTells ts q.0
-header_read form ts us bytes spelled short same =
-    let content = body us (slots us) (names us) in
-    let small : header_size + length content < 2 ^ 32 = omega (arith, ap length spelled, short) in
-    let h = header_of_tokens form us in (
-      (h, content),
-      ap cut.header_at spelled ∙ header_again h content (header_fits form us small),
-      record {
-        tags = length-map us (λ t. piece_tag t.piece) ∙ ap length (sym same);
-        members = length-map (labels us) _ ∙ ap (λ vs. length (labels vs)) (sym same);
-      },
-    )
-
-header_told : (r : Record) → Spells r → (q : cut.Header × List ℕ) × (cut.header_at r.bytes ≡ Some q) × HeaderTells r.tokens q.0
-header_told r (inl (d, (named, is, tokens))) = header_read 0 r.tokens (tokens_of (keyed d)) r.bytes (is.spelled ∙ record_of-keyed d) is.short tokens
-header_told r (inr (n, (named, is, tokens))) = header_read 1 r.tokens (tokens_of (numbered n)) r.bytes (is.spelled ∙ record_of-numbered n) is.short tokens
-
--- a header is read of each record
-pub header_there : (r : Record) → Spells r → cut.header_at r.bytes ≡ None → ⊥
-header_there r spells none = none_some (header_told r spells).0 (sym none ∙ (header_told r spells).1)
-  where
-    none_some : (q : cut.Header × List ℕ) → None ≡ Some q → ⊥
-    none_some q e = cc
-
-pub header_tells : (r : Record) (h : cut.Header) (rest : List ℕ) → Spells r → cut.header_at r.bytes ≡ Some (h, rest) → HeaderTells r.tokens h
-header_tells r h rest spells read =
-    let told = header_told r spells in
-    subst (λ (q : cut.Header × List ℕ). HeaderTells r.tokens q.0) (same_Some told.0 (h, rest) (sym told.1 ∙ read)) told.2
-
--- ---- the slots
-
--- the slots that were cut are those of the tokens that were read
-slots_read : (bytes : List ℕ) (s : cut.Sections) (ts : Tokens) → IsBytes bytes → cut.sections_in bytes ≡ Some s → walk.tokens_read s.format s.tags s.columns ≡ Some ts → s.columns.slots ≡ slots ts
-slots_read bytes s ts each cut_is read =
-    let found = sections_found bytes s each cut_is in
-    let held = tokens_found s.tags s.format s.columns ts found.columns.each read in
-    ap (λ (c : walk.Columns). c.slots) held.spelled ∙ spelled_slots ts
+-- the columns that were cut are those of the tokens that were read
+columns_held : (bytes : List ℕ) (s : Sections) (held : Option Tokens) → IsBytes bytes → cut.sections_in bytes ≡ Some (sections_of s) → tokens_held s ≡ held → true ≡ is_some held → cut_columns_of s.columns ≡ with_tokens (unwrap_or held []) no_columns
+columns_held bytes s None each cut_is is some = cc
+columns_held bytes s (Some ts) each cut_is is some =
+    let found = sections_found bytes (sections_of s) each cut_is in
+    (tokens_found s.tags.now (format_of s.format) (cut_columns_of s.columns) ts found.columns.each is).spelled
 
 pub slots_held : (bytes : List ℕ) (s : Sections) (held : Option Tokens) → IsBytes bytes → cut.sections_in bytes ≡ Some (sections_of s) → tokens_held s ≡ held → true ≡ is_some held → numbers_of s.columns.slots ≡ slots (unwrap_or held [])
-slots_held bytes s None each cut_is is some = cc
-slots_held bytes s (Some ts) each cut_is is some = slots_read bytes (sections_of s) ts each cut_is is
+slots_held bytes s held each cut_is is some = ap (λ (c : walk.Columns). c.slots) (columns_held bytes s held each cut_is is some) ∙ spelled_slots (unwrap_or held [])
+
+pub fixed_held : (bytes : List ℕ) (s : Sections) (held : Option Tokens) → IsBytes bytes → cut.sections_in bytes ≡ Some (sections_of s) → tokens_held s ≡ held → true ≡ is_some held → s.columns.fixed.now ≡ fixed (unwrap_or held [])
+fixed_held bytes s held each cut_is is some = ap (λ (c : walk.Columns). c.fixed) (columns_held bytes s held each cut_is is some) ∙ spelled_fixed (unwrap_or held [])
+
+pub texts_held : (bytes : List ℕ) (s : Sections) (held : Option Tokens) → IsBytes bytes → cut.sections_in bytes ≡ Some (sections_of s) → tokens_held s ≡ held → true ≡ is_some held → s.columns.texts.now ≡ joined (texts (unwrap_or held []))
+texts_held bytes s held each cut_is is some = ap (λ (c : walk.Columns). c.texts) (columns_held bytes s held each cut_is is some) ∙ spelled_texts (unwrap_or held [])
+
+pub lengths_held : (bytes : List ℕ) (s : Sections) (held : Option Tokens) → IsBytes bytes → cut.sections_in bytes ≡ Some (sections_of s) → tokens_held s ≡ held → true ≡ is_some held → numbers_of s.columns.lengths ≡ map length (texts (unwrap_or held []))
+lengths_held bytes s held each cut_is is some = ap (λ (c : walk.Columns). c.lengths) (columns_held bytes s held each cut_is is some) ∙ spelled_lengths (unwrap_or held [])
 
 -- the slots of a record without names are its numbers
 pub numbers_held : (tokens : Tokens) (n : NumberedTree) (ks : List ℕ) → ks ≡ slots tokens → tokens ≡ numbered_tokens n → ks ≡ labels (tokens_of n)
@@ -86,9 +59,37 @@ tags_held bytes s (Some ts) each cut_is is some =
     let found = sections_found bytes (sections_of s) each cut_is in
     (tokens_found s.tags.now (format_of s.format) (cut_columns_of s.columns) ts found.columns.each is).tagged
 
+-- so many tokens and members there are
+pub tags_many : (bytes : List ℕ) (s : Sections) (held : Option Tokens) → IsBytes bytes → cut.sections_in bytes ≡ Some (sections_of s) → tokens_held s ≡ held → true ≡ is_some held → length s.tags.now ≡ length (unwrap_or held [])
+tags_many bytes s held each cut_is is some = ap length (tags_held bytes s held each cut_is is some) ∙ length-map (unwrap_or held []) (λ (t : Token Key Scalar). piece_tag t.piece)
+
+pub tags_few : (bytes : List ℕ) (s : Sections) → IsBytes bytes → cut.sections_in bytes ≡ Some (sections_of s) → length s.tags.now < 2 ^ 32
+tags_few bytes s each cut_is =
+    let found = sections_found bytes (sections_of s) each cut_is in
+    let few = found.fits.tags in
+    let many = found.columns.tag_count in
+    omega (arith, few, many)
+
+pub fixed_few : (bytes : List ℕ) (s : Sections) → IsBytes bytes → cut.sections_in bytes ≡ Some (sections_of s) → length s.columns.fixed.now < 2 ^ 32
+fixed_few bytes s each cut_is =
+    let found = sections_found bytes (sections_of s) each cut_is in
+    let few = found.fits.fixed in
+    let many = found.columns.fixed_count in
+    omega (arith, few, many)
+
+pub texts_many : (bytes : List ℕ) (s : Sections) (held : Option Tokens) → IsBytes bytes → cut.sections_in bytes ≡ Some (sections_of s) → tokens_held s ≡ held → true ≡ is_some held → s.columns.lengths.left ≡ length (texts (unwrap_or held []))
+texts_many bytes s held each cut_is is some =
+    let n = s.columns.lengths in
+    sym (length-elements_from n.width n.place n.left n.bytes.now) ∙ ap length (lengths_held bytes s held each cut_is is some) ∙ length-map (texts (unwrap_or held [])) length
+
+pub slots_many : (bytes : List ℕ) (s : Sections) (held : Option Tokens) → IsBytes bytes → cut.sections_in bytes ≡ Some (sections_of s) → tokens_held s ≡ held → true ≡ is_some held → s.columns.slots.left ≡ length (labels (unwrap_or held []))
+slots_many bytes s held each cut_is is some =
+    let n = s.columns.slots in
+    sym (length-elements_from n.width n.place n.left n.bytes.now) ∙ ap length (slots_held bytes s held each cut_is is some) ∙ length-map (labels (unwrap_or held [])) slot_of
+
 -- the greatest of the slots
 pub greatest_held : (bytes : List ℕ) (s : Sections) → IsBytes bytes → cut.sections_in bytes ≡ Some (sections_of s) → true ≡ is_some (tokens_held s) → TellsGreatest s → s.greatest_slot ≡ greatest (slots (unwrap_or (tokens_held s) []))
-greatest_held bytes s each cut_is some told = told ∙ ap greatest (slots_held bytes s (tokens_held s) each cut_is refl some)
+greatest_held bytes s each cut_is some told = told.0 ∙ ap greatest (slots_held bytes s (tokens_held s) each cut_is refl some)
 
 -- numbers below a limit have their greatest there
 all_below : (limit : ℕ) (ks : List ℕ) → IsTrue ((length ks == 0) || nat_lt (greatest ks) limit) → AllByRecursion (IsBelow limit) (map number ks)
@@ -122,18 +123,18 @@ labels_numbered n = ap labels (preorder-relabel number n None) ∙ labels-retoke
 
 -- names are below each limit
 pub names_below : (limit : ℕ) (r : Record) → Spells r → r.named ≡ true → AllByRecursion (IsBelow limit) (labels r.tokens)
-names_below limit r (inl (d, (named, is, tokens))) told = subst (AllByRecursion (IsBelow limit)) (sym (ap labels tokens ∙ labels_named d)) (each (labels (tokens_of d)))
+names_below limit r (inl (d, (named, is, tokens, form))) told = subst (AllByRecursion (IsBelow limit)) (sym (ap labels tokens ∙ labels_named d)) (each (labels (tokens_of d)))
   where
     each : (ns : List Name) → AllByRecursion (IsBelow limit) (map name ns)
     each [] = tt
     each (n ∷ ns) = (tt, each ns)
-names_below limit r (inr (n, (named, is, tokens))) told = absurd (both_ways r.named named told)
+names_below limit r (inr (n, (named, is, tokens, form))) told = absurd (both_ways r.named named told)
 
 -- what was scanned of the slots of a record of form 1 tells whether its numbers are below a limit
 pub numbers_told : (limit count : ℕ) (r : Record) (b : Bool) → Spells r → r.named ≡ false → count ≡ length (labels r.tokens) → b ≡ cut.are_below limit count (greatest (slots r.tokens))
     → IsTrue b ↔ AllByRecursion (IsBelow limit) (labels r.tokens)
-numbers_told limit count r b (inl (d, (named, is, tokens))) told many scan = absurd (both_ways r.named told named)
-numbers_told limit count r b (inr (n, (named, is, tokens))) told many scan =
+numbers_told limit count r b (inl (d, (named, is, tokens, form))) told many scan = absurd (both_ways r.named told named)
+numbers_told limit count r b (inr (n, (named, is, tokens, form))) told many scan =
     let ks = labels (tokens_of n) in
     let ls : labels r.tokens ≡ map number ks = ap labels tokens ∙ labels_numbered n in
     let few : count ≡ length ks = many ∙ ap length ls ∙ length-map ks number in

@@ -1,12 +1,12 @@
 -- A record has no more bytes than a header and what its document weighs allow.
-use Rattle.std.proofs.Common.{◌≡◌, ◌≤◌, ◌+◌, ◌*◌, ℕ, zero, suc, List, [], ◌∷◌, ◌++◌, length, map, Option, Some, None, option_to_list, arith, length-append}
+use Rattle.std.proofs.Common.{◌≡◌, ◌≤◌, ◌+◌, ◌*◌, ℕ, List, [], ◌∷◌, ◌++◌, length, map, Option, Some, None, option_to_list, arith, length-append}
 use Rattle.tc_model.specs.Tree.{leaf, array, object, Items, no_items, item, Members, no_members, member}
 use Rattle.tc_model.specs.Document.{Name, Document, Scalar, null, boolean, integer, text}
 use Rattle.tc_model.specs.Weight.{weight, items_weight, members_weight}
 use Rattle.tc_record.specs.Preorder.{closed, Token, token, tokens_of, preorder, items_preorder, members_preorder}
-use Rattle.tc_record.specs.Record.{piece_fixed, piece_text, tags, fixed, texts, labels, greatest, width, numbers, joined, header_size, record_of}
-use Rattle.tc_record.proofs.NumberLengths.{length-numbers}
-use Rattle.tc_record.proofs.Lengths.{width_of-le, length-record_of}
+use Rattle.tc_record.specs.Record.{piece_fixed, piece_text, tags, fixed, texts, labels, joined, header_size, record_of}
+use Rattle.tc_record.proofs.NumberLengths.{bytes_most}
+use Rattle.tc_record.proofs.Lengths.{length-record_of}
 
 -- ---- what the tokens of a document take in the columns, where each number of a column has its greatest width
 
@@ -33,21 +33,6 @@ texts_cost-append (x ∷ xs) ys = omega (arith, texts_cost-append xs ys)
 texts_within : (xs : List (List ℕ)) → length (map length xs) * 4 + length (joined xs) ≡ texts_cost xs
 texts_within [] = omega arith
 texts_within (x ∷ xs) = omega (arith, length-append x (joined xs), texts_within xs)
-
-width-le : (ns : List ℕ) → width ns ≤ 4
-width-le [] = omega arith
-width-le (n ∷ ns) = width_of-le (greatest (n ∷ ns))
-
-numbers_within : (ns : List ℕ) → length (numbers (width ns) ns) ≤ length ns * 4
-numbers_within ns = rw (length-numbers (width ns) ns) (monotone (length ns) (width ns) (width-le ns))
-  where
-    monotone : (k w : ℕ) → w ≤ 4 → k * w ≤ k * 4
-    monotone k zero small = omega arith
-    monotone k (suc zero) small = omega arith
-    monotone k (suc (suc zero)) small = omega arith
-    monotone k (suc (suc (suc zero))) small = omega arith
-    monotone k (suc (suc (suc (suc zero)))) small = omega arith
-    monotone k (suc (suc (suc (suc (suc w))))) small = absurd (omega arith)
 
 columns_cost : (ts : List (Token Name Scalar)) → length (tags ts) + length (fixed ts) + texts_cost (texts ts) + texts_cost (labels ts) ≡ cost ts
 columns_cost [] = omega arith
@@ -76,4 +61,4 @@ mutual
 pub record_within : (d : Document) → length (record_of d) ≤ header_size + 14 * weight d
 record_within d =
     let ts = tokens_of d in
-    omega (arith, length-record_of ts, numbers_within (map length (texts ts)), numbers_within (map length (labels ts)), texts_within (texts ts), texts_within (labels ts), columns_cost ts, tree_cost None d)
+    omega (arith, length-record_of ts, bytes_most (map length (texts ts)), bytes_most (map length (labels ts)), texts_within (texts ts), texts_within (labels ts), columns_cost ts, tree_cost None d)

@@ -16,9 +16,9 @@ use Rattle.tc_record.specs.declared.walking.Walk.{Walk}
 abbrev pub tokens_held : Sections → Option (List (Token walk.Key Scalar))
 tokens_held s = walk.tokens_read (format_of s.format) s.tags.now (cut_columns_of s.columns)
 
--- the greatest slot is told
+-- the greatest of the slots is told, and the greatest of the lengths of texts
 abbrev pub TellsGreatest : Sections → Type 0
-TellsGreatest s = s.greatest_slot ≡ greatest (numbers_of s.columns.slots)
+TellsGreatest s = (s.greatest_slot ≡ greatest (numbers_of s.columns.slots)) × (s.greatest_length ≡ greatest (numbers_of s.columns.lengths))
 
 -- the tokens that are left, where the first one was taken, and where it was not
 abbrev pub tokens_left : Bool → List ℕ → Walk → Option (List (Token walk.Key Scalar))

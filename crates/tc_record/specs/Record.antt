@@ -1,7 +1,8 @@
 -- The bytes of a record: the columns of a document's tokens, one behind the other. In form 0 a member is labelled by
--- its name, in form 1 by the number of its name.
-use Rattle.std.specs.Prelude.{◌≡◌, ℕ, ◌+◌, ◌*◌, ◌<◌, ◌≤◌, ◌^◌, max, nat_lt, if◌then◌else◌, List, [], ◌∷◌, ◌++◌, length, map, flat_map, option_to_list}
+-- its name, in forms 1 and 2 by the number of its name. Form 2 spells the numbers of its columns in bits.
+use Rattle.std.specs.Prelude.{◌≡◌, ◌⊎◌, ℕ, ◌+◌, ◌*◌, ◌<◌, ◌≤◌, ◌^◌, ◌==◌, max, nat_lt, if◌then◌else◌, List, [], ◌∷◌, ◌++◌, length, map, flat_map, option_to_list}
 use Rattle.std.specs.Int.{w32, w64, to_be_bytes, bytes_high_first, cast_unsigned}
+use Rattle.tc_bits.specs.Bits.{digits, column}
 use Rattle.tc_model.specs.Tree.{Tree, leaf, array, object, Items, no_items, item, Members, no_members, member, depth}
 use Rattle.tc_model.specs.Document.{Document, Scalar, null, boolean, integer, text, IsScalar, IsDocument, scalar_kind}
 use Rattle.tc_model.specs.Kinds.{scalar_tag, tag as kind_tag, arrays, objects}
@@ -67,23 +68,34 @@ greatest (n ∷ ns) = max n (greatest ns)
 abbrev pub width_of : ℕ → ℕ
 width_of n = if nat_lt n 256 then 1 else (if nat_lt n 65536 then 2 else 4)
 
--- the least width that holds each element of a column, and 0 where there is none
-abbrev pub width : List ℕ → ℕ
-width [] = 0
-width (n ∷ ns) = width_of (greatest (n ∷ ns))
-
 abbrev pub numbers : ℕ → List ℕ → List ℕ
 numbers w ns = flat_map (bytes_high_first w) ns
 
--- how the numbers of a column are spelled: the least width for them, how many bits that width is of each, and the bytes
+-- how numbers are spelled: the least width that holds one, how many bits a width is, and a column of numbers of one width
 pub record Spelling : Type 0 where
-  pub width : List ℕ → ℕ
+  pub least : ℕ → ℕ
   pub bits : ℕ → ℕ
   pub column : ℕ → List ℕ → List ℕ
 
 -- each number in whole bytes
 abbrev pub in_bytes : Spelling
-in_bytes = record { width = width; bits = λ w. 8 * w; column = numbers }
+in_bytes = record { least = width_of; bits = λ w. 8 * w; column = numbers }
+
+-- each number in as many bits as its width says
+abbrev pub in_bits : Spelling
+in_bits = record { least = digits; bits = λ w. w; column = column }
+
+-- the least width that holds each element of a column, and 0 where there is none
+abbrev pub width_in : Spelling → List ℕ → ℕ
+width_in s [] = 0
+width_in s (n ∷ ns) = s.least (greatest (n ∷ ns))
+
+abbrev pub width : List ℕ → ℕ
+width ns = width_in in_bytes ns
+
+-- numbers in the least width for them
+abbrev pub column_in : Spelling → List ℕ → List ℕ
+column_in s ns = s.column (width_in s ns) ns
 
 abbrev pub joined : List (List ℕ) → List ℕ
 joined ts = flat_map (λ t. t) ts
@@ -95,6 +107,17 @@ named_form = 0
 abbrev pub numbered_form : ℕ
 numbered_form = 1
 
+abbrev pub packed_form : ℕ
+packed_form = 2
+
+-- a form whose members carry the numbers of names
+abbrev pub IsNumberedForm : ℕ → Type 0
+IsNumberedForm form = (form ≡ numbered_form) ⊎ (form ≡ packed_form)
+
+-- how a form spells the numbers of its columns
+abbrev pub spelling_of : ℕ → Spelling
+spelling_of form = if form == packed_form then in_bits else in_bytes
+
 -- how many bytes the header has
 abbrev pub header_size : ℕ
 header_size = 23
@@ -103,14 +126,14 @@ header_size = 23
 abbrev pub body_in : {L : Type 0} → Spelling → List (Token L Scalar) → List ℕ → List ℕ → List ℕ
 body_in s ts slots names =
     let lengths = map length (texts ts) in
-    tags ts ++ (fixed ts ++ (s.column (s.width lengths) lengths ++ (joined (texts ts) ++ (s.column (s.width slots) slots ++ names))))
+    tags ts ++ (fixed ts ++ (column_in s lengths ++ (joined (texts ts) ++ (column_in s slots ++ names))))
 
 -- header and columns
 abbrev pub record_in : {L : Type 0} → Spelling → ℕ → List (Token L Scalar) → List ℕ → List ℕ → List ℕ
 record_in s form ts slots names =
     let lengths = map length (texts ts) in
     let content = body_in s ts slots names in
-    to_be_bytes w32 (header_size + length content) ++ (form ∷ (to_be_bytes w32 (length (tags ts)) ++ (to_be_bytes w32 (length (fixed ts)) ++ (to_be_bytes w32 (length lengths) ++ (s.width lengths ∷ (to_be_bytes w32 (length slots) ++ (s.width slots ∷ content)))))))
+    to_be_bytes w32 (header_size + length content) ++ (form ∷ (to_be_bytes w32 (length (tags ts)) ++ (to_be_bytes w32 (length (fixed ts)) ++ (to_be_bytes w32 (length lengths) ++ (width_in s lengths ∷ (to_be_bytes w32 (length slots) ++ (width_in s slots ∷ content)))))))
 
 -- the same in whole bytes
 abbrev pub body : {L : Type 0} → List (Token L Scalar) → List ℕ → List ℕ → List ℕ
@@ -127,9 +150,15 @@ record_of d = let ts = tokens_of d in record_bytes named_form ts (map length (la
 abbrev pub NumberedTree : Type 0
 NumberedTree = Tree ℕ Scalar
 
--- form 1: a slot is the number of a name
+-- forms 1 and 2: a slot is the number of a name
+abbrev pub numbered_record_in : ℕ → NumberedTree → List ℕ
+numbered_record_in form n = let ts = tokens_of n in record_in (spelling_of form) form ts (labels ts) []
+
 abbrev pub numbered_record_of : NumberedTree → List ℕ
-numbered_record_of n = let ts = tokens_of n in record_bytes numbered_form ts (labels ts) []
+numbered_record_of n = numbered_record_in numbered_form n
+
+abbrev pub packed_record_of : NumberedTree → List ℕ
+packed_record_of n = numbered_record_in packed_form n
 
 -- ---- which bytes are a record
 
@@ -156,9 +185,15 @@ pub record IsRecordOf (d : Document) (bytes : List ℕ) : Type 0 where
   pub spelled : bytes ≡ record_of d
   pub short : length bytes < 2 ^ 32
 
-pub record IsNumberedRecordOf (n : NumberedTree) (bytes : List ℕ) : Type 0 where
+pub record IsNumberedRecordIn (form : ℕ) (n : NumberedTree) (bytes : List ℕ) : Type 0 where
   pub tree : IsNumberedTree n
   pub is_object : IsObject n
   pub shallow : depth n ≤ max_depth
-  pub spelled : bytes ≡ numbered_record_of n
+  pub spelled : bytes ≡ numbered_record_in form n
   pub short : length bytes < 2 ^ 32
+
+abbrev pub IsNumberedRecordOf : NumberedTree → List ℕ → Type 0
+IsNumberedRecordOf n bytes = IsNumberedRecordIn numbered_form n bytes
+
+abbrev pub IsPackedRecordOf : NumberedTree → List ℕ → Type 0
+IsPackedRecordOf n bytes = IsNumberedRecordIn packed_form n bytes

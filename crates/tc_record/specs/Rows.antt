@@ -1,4 +1,4 @@
--- Three documents and their records in both forms.
+-- Three documents and their records in each form.
 use Rattle.std.specs.Prelude.{ℕ, pos, codes, true, List, [], ◌∷◌}
 use Rattle.tc_model.specs.Tree.{leaf, array, object, no_items, item, no_members, member}
 use Rattle.tc_model.specs.Document.{Document, null, boolean, integer, text}
@@ -16,6 +16,9 @@ flag_record = 0 ∷ 0 ∷ 0 ∷ 0x1d ∷ 0 ∷ 0 ∷ 0 ∷ 0 ∷ 3 ∷ 0 ∷ 0 �
 
 abbrev pub numbered_flag_record : List ℕ
 numbered_flag_record = 0 ∷ 0 ∷ 0 ∷ 0x1c ∷ 1 ∷ 0 ∷ 0 ∷ 0 ∷ 3 ∷ 0 ∷ 0 ∷ 0 ∷ 1 ∷ 0 ∷ 0 ∷ 0 ∷ 0 ∷ 0 ∷ 0 ∷ 0 ∷ 0 ∷ 1 ∷ 1 ∷ 6 ∷ 2 ∷ 7 ∷ 1 ∷ 0 ∷ []
+
+abbrev pub packed_flag_record : List ℕ
+packed_flag_record = 0 ∷ 0 ∷ 0 ∷ 0x1c ∷ 2 ∷ 0 ∷ 0 ∷ 0 ∷ 3 ∷ 0 ∷ 0 ∷ 0 ∷ 1 ∷ 0 ∷ 0 ∷ 0 ∷ 0 ∷ 0 ∷ 0 ∷ 0 ∷ 0 ∷ 1 ∷ 1 ∷ 6 ∷ 2 ∷ 7 ∷ 1 ∷ 0 ∷ []
 
 -- `{}`
 abbrev pub nothing : Document
@@ -43,3 +46,8 @@ mixed_record = 0 ∷ 0 ∷ 0 ∷ 0x30 ∷ 0 ∷ 0 ∷ 0 ∷ 0 ∷ 0x0b ∷ 0 ∷
 
 abbrev pub numbered_mixed_record : List ℕ
 numbered_mixed_record = 0 ∷ 0 ∷ 0 ∷ 0x2e ∷ 1 ∷ 0 ∷ 0 ∷ 0 ∷ 0x0b ∷ 0 ∷ 0 ∷ 0 ∷ 8 ∷ 0 ∷ 0 ∷ 0 ∷ 1 ∷ 1 ∷ 0 ∷ 0 ∷ 0 ∷ 2 ∷ 1 ∷ mixed_columns (0 ∷ 1 ∷ [])
+
+-- a length of 1 is the bit 1, and the numbers 0 and 1 are the bits 01
+abbrev pub packed_mixed_record : List ℕ
+packed_mixed_record =
+    0 ∷ 0 ∷ 0 ∷ 0x2d ∷ 2 ∷ 0 ∷ 0 ∷ 0 ∷ 0x0b ∷ 0 ∷ 0 ∷ 0 ∷ 8 ∷ 0 ∷ 0 ∷ 0 ∷ 1 ∷ 1 ∷ 0 ∷ 0 ∷ 0 ∷ 2 ∷ 1 ∷ 6 ∷ 5 ∷ 3 ∷ 4 ∷ 5 ∷ 7 ∷ 6 ∷ 1 ∷ 7 ∷ 7 ∷ 7 ∷ 0 ∷ 0 ∷ 0 ∷ 0 ∷ 0 ∷ 0 ∷ 0 ∷ 1 ∷ 0x80 ∷ 0x78 ∷ 0x40 ∷ []

@@ -3,7 +3,7 @@ use Rattle.std.specs.Prelude.{ℕ, ◌+◌, ◌-◌, ◌==◌, ◌&&◌, Bool, t
 use Rattle.tc_model.specs.Document.{Scalar}
 use Rattle.tc_record.specs.Preorder.{Piece, scalar, array_opened, object_opened, closed, Token}
 use Rattle.tc_record.specs.Sections.{record_read}
-use Rattle.tc_record.specs.Walk.{Key, name, number}
+use Rattle.tc_record.specs.Walk.{Key, name, number, Format}
 
 abbrev pub is_id : Option Key → Bool
 is_id None = false
@@ -22,9 +22,9 @@ abbrev pub lacks_id : ℕ → List (Token Key Scalar) → Bool
 lacks_id depth [] = true
 lacks_id depth (t ∷ ts) = if (depth == 1) && is_id t.label then false else lacks_id (depth_behind t.piece depth) ts
 
-abbrev pub is_stored_read : Option (Bool × List (Token Key Scalar)) → Bool
+abbrev pub is_stored_read : Option (Format × List (Token Key Scalar)) → Bool
 is_stored_read None = false
-is_stored_read (Some r) = r.0 && lacks_id 0 r.1
+is_stored_read (Some r) = r.0.named && lacks_id 0 r.1
 
 -- a record with names, whose object has no member `id`
 abbrev pub is_stored : List ℕ → Bool

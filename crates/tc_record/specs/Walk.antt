@@ -20,8 +20,9 @@ pub data Level : Type 0 where
   in_array : Level
   in_object : Option Name → Level
 
--- whether members carry names
+-- the form, and whether members carry names
 pub record Format : Type 0 where
+  pub form : ℕ
   pub named : Bool
 
 -- what is left of the columns beside the tags: bytes, and the numbers of the columns of text lengths and of slots

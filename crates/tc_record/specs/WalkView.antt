@@ -45,4 +45,4 @@ level_of level.Object = walk.in_object None
 level_of (level.Behind n) = walk.in_object (Some n.now)
 
 abbrev pub format_of : Format → walk.Format
-format_of f = record { named = f.named }
+format_of f = record { form = f.form; named = f.named }

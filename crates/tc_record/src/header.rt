@@ -12,6 +12,9 @@ pub const NAMED_FORM: u8 = 0;
 /// The form of a record whose members carry the numbers of names.
 pub const NUMBERED_FORM: u8 = 1;
 
+/// The same with the numbers of its columns in bits.
+pub const PACKED_FORM: u8 = 2;
+
 /// The fields of a header, in their order.
 #[derive(Clone, Copy)]
 pub(crate) struct Header {
@@ -56,6 +59,8 @@ pub(crate) fn form_told(byte: u8) -> Option<bool>
     if byte == NAMED_FORM {
         Some(true)
     } else if byte == NUMBERED_FORM {
+        Some(false)
+    } else if byte == PACKED_FORM {
         Some(false)
     } else {
         None

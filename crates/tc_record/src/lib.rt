@@ -2,6 +2,8 @@
 #![tactic(auto)]
 
 mod building;
+mod column;
+mod column_sizes;
 mod columns;
 mod cursor;
 mod decoding;
@@ -19,22 +21,22 @@ mod reader;
 mod record_ref;
 mod sections;
 mod sizing;
-mod slots;
 mod stored;
 mod tags;
 mod token;
 mod walking;
 mod widths;
 
+pub use column::Column;
+pub use column_sizes::{column_bits, column_bytes, least_width};
 pub use cursor::Cursor;
 pub use decoding::decode;
 pub use encoding::encode;
 pub use fault::RecordFault;
-pub use header::{NAMED_FORM, NUMBERED_FORM};
+pub use header::{NAMED_FORM, NUMBERED_FORM, PACKED_FORM};
 pub use law::{one_document, record_within_weight};
 pub use record_ref::RecordRef;
 pub use sizing::{HEADER_SIZE, size};
-pub use slots::Slots;
 pub use stored::is_stored_record;
 pub use token::{Label, Piece, Token};
 pub use widths::{Width, put_number};

@@ -22,9 +22,10 @@ pub(crate) struct Columns<'a> {
     pub(crate) names: &'a str,
 }
 
-/// Whether members carry names.
+/// The form, and whether members carry names.
 #[derive(Clone, Copy)]
 pub(crate) struct Format {
+    pub(crate) form: u8,
     pub(crate) named: bool,
 }
 

@@ -1,23 +1,23 @@
-//! A record of either form, borrowed.
+//! A record of any form, borrowed.
 
-ghost use Rattle.std.specs.Prelude.{◌≡◌, ◌↔◌, ◌∷◌, [], None, IfSome, IfNone, IsTrue, is_some, true, false, length};
+ghost use Rattle.std.specs.Prelude.{◌≡◌, ◌↔◌, ◌∷◌, [], None, IfSome, IfNone, IsTrue, is_some, true, false, ℕ, length, map};
 ghost use Rattle.std.specs.List.{AllByRecursion};
 ghost use Rattle.tc_model.specs.Document.{Document};
 ghost use Rattle.tc_record.specs.Preorder.{tokens_of};
-ghost use Rattle.tc_record.specs.Record.{tags, labels, NumberedTree, IsRecordOf, IsNumberedRecordOf};
+ghost use Rattle.tc_record.specs.Record.{tags, fixed, texts, labels, greatest, joined, NumberedTree, IsNumberedForm, IsRecordOf, IsNumberedRecordIn};
 ghost use Rattle.tc_record.specs.Sections.{are_below};
-ghost use Rattle.tc_record.specs.Borrowed.{Spells, IsRecord, IsBelow, named_tokens, numbered_tokens};
+ghost use Rattle.tc_record.specs.Borrowed.{SpellsNumbers, Spells, IsRecord, IsBelow, named_tokens, numbered_tokens};
 
+use crate::column::Column;
 use crate::cursor::Cursor;
-use crate::header::header_in;
 use crate::judging::has_tokens;
 use crate::judging_numbers::has_numbered_tokens;
+use crate::reader::Format;
 use crate::sections::{Sections, sections_of_record};
-use crate::slots::Slots;
 use crate::walking::Walk;
 use std::marker::Model;
 
-/// A record that is borrowed. Contracts see its bytes, whether members carry names, and its tokens.
+/// A record that is borrowed. Contracts see its bytes, its form, whether members carry names, and its tokens.
 #[derive(Drop)]
 pub struct RecordRef<'a> {
     bytes: &'a [u8],
@@ -33,7 +33,7 @@ impl<'a> Model for RecordRef<'a> {
 
     ghost use Rattle.tc_record.specs.Held.{tokens_held};
 
-    ghost view = { λ r. record { bytes = r.bytes.now; named = r.sections.format.named; tokens = unwrap_or (tokens_held r.sections) [] } };
+    ghost view = { λ r. record { bytes = r.bytes.now; form = r.sections.format.form; named = r.sections.format.named; tokens = unwrap_or (tokens_held r.sections) [] } };
 
     ghost use Rattle.tc_record.specs.Held.{TellsGreatest};
     ghost use Rattle.tc_record.specs.Sections.{sections_in};
@@ -43,12 +43,12 @@ impl<'a> Model for RecordRef<'a> {
 }
 
 impl<'a> RecordRef<'a> {
-    /// The record that the bytes are, or `None` where they are a record of neither form. Takes no memory.
+    /// The record that the bytes are, or `None` where they are a record of none of the forms. Takes no memory.
     pub fn of(bytes: &'a [u8]) -> Option<RecordRef<'a>>
         ensures bytes { IfSome result (λ r. r.bytes ≡ bytes.now) }
         ensures spells { IfSome result Spells }
         ensures document { IfSome result (λ r. (d : Document) → IsRecordOf d bytes.now → (r.named ≡ true) × (r.tokens ≡ named_tokens d)) }
-        ensures numbered { IfSome result (λ r. (n : NumberedTree) → IsNumberedRecordOf n bytes.now → (r.named ≡ false) × (r.tokens ≡ numbered_tokens n)) }
+        ensures numbered { IfSome result (λ r. (form : ℕ) (n : NumberedTree) → IsNumberedForm form → IsNumberedRecordIn form n bytes.now → (r.form ≡ form) × (r.named ≡ false) × (r.tokens ≡ numbered_tokens n)) }
         ensures none { IfNone result (IsRecord bytes.now → ⊥) }
     {
         let sections = sections_of_record(bytes)?;
@@ -60,17 +60,18 @@ impl<'a> RecordRef<'a> {
         }
     }
 
-    /// The record of form 1 that the bytes are, or `None` where they are none. Takes no memory, and less time than `of`, which
-    /// keeps room for names that are to ascend.
+    /// The record of this form that the bytes are, or `None` where they are none, or the form is none whose members carry numbers.
+    /// Takes no memory, and less time than `of`, which keeps room for names that are to ascend.
     #[inline(always)]
-    pub fn numbered(bytes: &'a [u8]) -> Option<RecordRef<'a>>
+    pub fn numbered(bytes: &'a [u8], form: u8) -> Option<RecordRef<'a>>
         ensures bytes { IfSome result (λ r. r.bytes ≡ bytes.now) }
-        ensures spells { IfSome result (λ r. (n : NumberedTree) × ((r.named ≡ false) × IsNumberedRecordOf n bytes.now × (r.tokens ≡ numbered_tokens n))) }
-        ensures numbered { IfSome result (λ r. (n : NumberedTree) → IsNumberedRecordOf n bytes.now → r.tokens ≡ numbered_tokens n) }
-        ensures none { IfNone result ((n : NumberedTree) → IsNumberedRecordOf n bytes.now → ⊥) }
+        ensures form { IfSome result (λ r. r.form ≡ form) }
+        ensures spells { IfSome result (λ r. (n : NumberedTree) × SpellsNumbers r n) }
+        ensures numbered { IfSome result (λ r. (n : NumberedTree) → IsNumberedRecordIn form n bytes.now → r.tokens ≡ numbered_tokens n) }
+        ensures none { IfNone result ((n : NumberedTree) → IsNumberedForm form → IsNumberedRecordIn form n bytes.now → ⊥) }
     {
         let sections = sections_of_record(bytes)?;
-        if sections.format.named {
+        if !is_numbered(sections.format, form) {
             return None;
         }
         let columns = sections.columns.checked()?;
@@ -87,12 +88,19 @@ impl<'a> RecordRef<'a> {
         ensures bytes { result.bytes ≡ bytes.now }
         ensures spells { Spells result }
         ensures document { (d : Document) → IsRecordOf d bytes.now → (result.named ≡ true) × (result.tokens ≡ named_tokens d) }
-        ensures numbered { (n : NumberedTree) → IsNumberedRecordOf n bytes.now → (result.named ≡ false) × (result.tokens ≡ numbered_tokens n) }
+        ensures numbered { (form : ℕ) (n : NumberedTree) → IsNumberedForm form → IsNumberedRecordIn form n bytes.now → (result.form ≡ form) × (result.named ≡ false) × (result.tokens ≡ numbered_tokens n) }
     {
         match sections_of_record(bytes) {
             Some(sections) => RecordRef { bytes, sections },
             None => unreachable!(),
         }
+    }
+
+    /// The form of the record: 0, 1 or 2. Takes no memory.
+    pub fn form(&self) -> u8
+        ensures { result ≡ self.now.form }
+    {
+        self.sections.format.form
     }
 
     /// Whether members carry names, as in form 0.
@@ -111,24 +119,18 @@ impl<'a> RecordRef<'a> {
         self.bytes
     }
 
-    /// How many tokens there are, as the header says. Takes no memory.
+    /// How many tokens there are. Takes no memory.
     pub fn token_count(&self) -> u32
         ensures { result ≡ length self.now.tokens }
     {
-        match header_in(self.bytes) {
-            Some((header, _)) => header.tags,
-            None => unreachable!(),
-        }
+        self.sections.tags.len() as u32
     }
 
-    /// How many members the objects have together, as the header says. Takes no memory.
+    /// How many members the objects have together. Takes no memory.
     pub fn member_count(&self) -> u32
         ensures { result ≡ length (labels self.now.tokens) }
     {
-        match header_in(self.bytes) {
-            Some((header, _)) => header.names,
-            None => unreachable!(),
-        }
+        self.sections.columns.slots.left
     }
 
     /// Whether each number that a member carries in place of its name is below a limit. Takes no memory, and looks at
@@ -148,10 +150,59 @@ impl<'a> RecordRef<'a> {
     }
 
     /// The slots of the members: of a record without names their numbers. Takes no memory.
-    pub fn slots(&self) -> Slots<'a>
+    pub fn slots(&self) -> Column<'a>
         ensures { (n : NumberedTree) → self.now.tokens ≡ numbered_tokens n → result ≡ labels (tokens_of n) }
     {
-        Slots::of(self.sections.columns.slots)
+        Column::of(self.sections.columns.slots)
+    }
+
+    /// The greatest slot, or 0 where there is none. Takes no memory.
+    pub fn greatest_slot(&self) -> u32
+        ensures { (n : NumberedTree) → self.now.tokens ≡ numbered_tokens n → result ≡ greatest (labels (tokens_of n)) }
+    {
+        self.sections.greatest_slot
+    }
+
+    /// The bytes of all values that have as many as their tags tell. Takes no memory.
+    pub fn fixed(&self) -> &'a [u8]
+        ensures { result.now ≡ fixed self.now.tokens }
+    {
+        self.sections.columns.fixed
+    }
+
+    /// How many bytes these are. Takes no memory.
+    pub fn fixed_size(&self) -> u32
+        ensures { result ≡ length (fixed self.now.tokens) }
+    {
+        self.sections.columns.fixed.len() as u32
+    }
+
+    /// How many texts there are. Takes no memory.
+    pub fn text_count(&self) -> u32
+        ensures { result ≡ length (texts self.now.tokens) }
+    {
+        self.sections.columns.lengths.left
+    }
+
+    /// The bytes of all texts. Takes no memory.
+    pub fn texts(&self) -> &'a [u8]
+        ensures { result.now ≡ joined (texts self.now.tokens) }
+    {
+        self.sections.columns.texts
+    }
+
+    /// How many bytes each text has. Takes no memory.
+    pub fn text_lengths(&self) -> Column<'a>
+        ensures { result ≡ map length (texts self.now.tokens) }
+    {
+        Column::of(self.sections.columns.lengths)
+    }
+
+    /// How many bytes the longest text has, or 0 where there is none. Takes no memory.
+    pub fn longest_text(&self) -> u32
+        ensures { result ≡ greatest (map length (texts self.now.tokens)) }
+    {
+        self.sections.greatest_length
     }
 
     /// The same record, borrowed once more. Takes no memory.
@@ -174,6 +225,14 @@ impl<'a> RecordRef<'a> {
             Walk::in_object(sections.format, sections.columns.known()),
         )
     }
+}
+
+/// Whether a record of this format has this form, and its members carry numbers.
+fn is_numbered(format: Format, form: u8) -> bool
+    ensures told { IsTrue result → (format.named ≡ false) × (format.form ≡ form) }
+    ensures other { result ≡ false → format.named ≡ false → format.form ≡ form → ⊥ }
+{
+    !format.named && format.form == form
 }
 
 /// Whether so many slots are below a limit, as their greatest tells.

@@ -3,15 +3,15 @@
 ghost use Rattle.std.specs.Prelude.{◌≡◌, ◌≤◌, ◌<◌, ◌*◌, ◌^◌, max, option_map, length, IfSome, IfNone};
 ghost use Rattle.std.specs.Str.{IsUtf8};
 ghost use Rattle.tc_record.specs.Held.{TellsGreatest};
-ghost use Rattle.tc_record.specs.Record.{in_bytes, greatest};
-ghost use Rattle.tc_record.specs.Sections.{IsTail, capped_sum, least_width, numbers_at, columns_behind, sections_in};
+ghost use Rattle.tc_record.specs.Record.{spelling_of, greatest};
+ghost use Rattle.tc_record.specs.Sections.{IsTail, capped_sum, numbers_at, columns_behind, sections_in};
 ghost use Rattle.tc_record.specs.SectionsView.{header_of, cut_columns_of, sections_of};
 ghost use Rattle.tc_record.specs.WalkView.{numbers_of, columns_of};
 
-use crate::header::{Header, form_told, header_in};
+use crate::column_sizes::least_width;
+use crate::header::{Header, PACKED_FORM, form_told, header_in};
 use crate::numbers::Numbers;
 use crate::reader::{Columns, Format};
-use crate::widths::Width;
 use std::str;
 use tc_bits::{Columns as BitColumns, size_of_column};
 use tc_bytes::slice_at;
@@ -41,6 +41,7 @@ pub(crate) struct Sections<'a> {
     pub(crate) tags: &'a [u8],
     pub(crate) columns: ColumnBytes<'a>,
     pub(crate) greatest_slot: u32,
+    pub(crate) greatest_length: u32,
 }
 
 /// The parts of a record, or `None` where the header and the bytes do not fit together.
@@ -70,9 +71,10 @@ fn columns_in<'a>(
 {
     let (tags, bytes) = slice_at(bytes, header.tags as usize)?;
     let (fixed, bytes) = slice_at(bytes, header.fixed as usize)?;
-    let lengths = numbers_in(whole, bytes, header.text_width, header.texts)?;
+    let form = header.form;
+    let lengths = numbers_in(form, whole, bytes, header.text_width, header.texts)?;
     let (texts, bytes) = slice_at(lengths.rest, lengths.total as usize)?;
-    let slots = numbers_in(whole, bytes, header.slot_width, header.names)?;
+    let slots = numbers_in(form, whole, bytes, header.slot_width, header.names)?;
     let columns = ColumnBytes {
         fixed,
         lengths: lengths.numbers,
@@ -81,10 +83,11 @@ fn columns_in<'a>(
         names: slots.rest,
     };
     Some(Sections {
-        format: Format { named },
+        format: Format { form, named },
         tags,
         columns,
         greatest_slot: slots.greatest,
+        greatest_length: lengths.greatest,
     })
 }
 
@@ -130,6 +133,7 @@ impl<'a> ColumnBytes<'a> {
 
 /// So many numbers from the front of the bytes that end a record, if the width that is told is the least for them.
 fn numbers_in<'a>(
+    form: u8,
     whole: &'a [u8],
     bytes: &'a [u8],
     told: u8,
@@ -137,11 +141,11 @@ fn numbers_in<'a>(
 ) -> Option<NumberColumn<'a>>
     requires few { length whole.now < 2 ^ 32 }
     requires tail { IsTail whole.now bytes.now }
-    ensures read { option_map (λ c. (numbers_of c.numbers, c.rest.now)) result ≡ numbers_at in_bytes told count bytes.now }
+    ensures read { option_map (λ c. (numbers_of c.numbers, c.rest.now)) result ≡ numbers_at (spelling_of form) told count bytes.now }
     ensures most { IfSome result (λ c. c.greatest ≡ greatest (numbers_of c.numbers)) }
     ensures all { IfSome result (λ c. c.total ≡ capped_sum (numbers_of c.numbers)) }
 {
-    let width = bits_told(told)?;
+    let width = bits_told(form, told)?;
     let (column, rest) = slice_at(bytes, size_of_column(count, width) as usize)?;
     let _judged = BitColumns::of(column, width, count)?;
     let numbers = Numbers {
@@ -151,7 +155,7 @@ fn numbers_in<'a>(
         left: count,
     };
     let (greatest, total) = scanned(numbers);
-    if told != least(count, greatest) {
+    if told != least_width(form, count, greatest) {
         return None;
     }
     Some(NumberColumn {
@@ -162,23 +166,33 @@ fn numbers_in<'a>(
     })
 }
 
-/// How many bits a number of so many bytes has, of which there are no more than four.
-fn bits_told(bytes: u8) -> Option<u8>
-    ensures same { IfSome result (λ bits. bits ≡ 8 * bytes) }
+/// How many bits a number has by the width that is told, of which there are no more than 32.
+fn bits_told(form: u8, told: u8) -> Option<u8>
+    ensures same { IfSome result (λ bits. bits ≡ (spelling_of form).bits told) }
     ensures most { IfSome result (λ bits. bits ≤ 32) }
-    ensures beyond { IfNone result (4 < bytes) }
+    ensures beyond { IfNone result (32 < (spelling_of form).bits told) }
 {
-    if bytes <= 4 { Some(8 * bytes) } else { None }
+    if form == PACKED_FORM {
+        bits_of_width(told)
+    } else {
+        bits_of_bytes(told)
+    }
 }
 
-fn least(count: u32, greatest: u32) -> u8
-    ensures { result ≡ least_width count greatest }
+fn bits_of_width(told: u8) -> Option<u8>
+    ensures same { IfSome result (λ bits. bits ≡ told) }
+    ensures most { IfSome result (λ bits. bits ≤ 32) }
+    ensures beyond { IfNone result (32 < told) }
 {
-    if count == 0 {
-        0
-    } else {
-        Width::holding(u64::from(greatest)).bytes()
-    }
+    if told <= 32 { Some(told) } else { None }
+}
+
+fn bits_of_bytes(told: u8) -> Option<u8>
+    ensures same { IfSome result (λ bits. bits ≡ 8 * told) }
+    ensures most { IfSome result (λ bits. bits ≤ 32) }
+    ensures beyond { IfNone result (32 < 8 * told) }
+{
+    if told <= 4 { Some(8 * told) } else { None }
 }
 
 /// The greatest of numbers, and their sum, which stands still at the end of its type.

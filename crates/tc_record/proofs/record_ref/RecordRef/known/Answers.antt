@@ -30,4 +30,4 @@ returns-clause-document c =
 pub returns-clause-numbered : goal.returns-clause-numbered
 returns-clause-numbered c =
     let cut : sections_in c.args.bytes.now ≡ Some (sections_of c.in-Some.sections) = sym c.sections_of_record.ensures.cut ∙ ap (option_map sections_of) c.in-Some.is in
-    λ n is. held_numbered c.args.bytes.now c.in-Some.sections n cut is
+    λ form n told is. held_numbered c.args.bytes.now c.in-Some.sections form n cut told is

@@ -1,20 +1,11 @@
-use Rattle.std.proofs.Common.{◌≡◌, ◌∙◌, sym, ap, length, Some, None, option_map}
-use Rattle.tc_record.specs.Record.{labels}
-use Rattle.tc_record.specs.Sections.{header_at}
-use Rattle.tc_record.specs.SectionsView.{header_of}
+use Rattle.std.proofs.Common.{◌∙◌, refl, sym, ap, length}
 use Rattle.tc_record.specs.Borrowed.{Record}
-use Rattle.tc_record.proofs.Holding.{held_spells}
-use Rattle.tc_record.proofs.Told.{header_there, header_tells}
+use Rattle.tc_record.specs.Held.{tokens_held}
+use Rattle.tc_record.specs.Record.{labels}
+use Rattle.tc_record.proofs.Told.{slots_many}
 use Rattle.tc_record.proofs.record_ref.RecordRef.member_count.Goals as goal
-
-pub unreachable-requires : goal.unreachable-requires
-unreachable-requires c =
-    let r = c.self.inside in
-    let none : header_at r.bytes.now ≡ None = sym c.header_in.ensures ∙ ap (option_map (λ x. (header_of x.0, x.1.now))) c.in-None.is in
-    header_there _ (held_spells r.bytes.now r.sections c.self.invariant.0 c.self.invariant.1 (sym c.self.invariant.2)) none
 
 pub returns : goal.returns
 returns c =
     let r = c.self.inside in
-    let read : header_at r.bytes.now ≡ Some (header_of c.in-Some.header, c.in-Some.field-0-1.now) = sym c.header_in.ensures ∙ ap (option_map (λ x. (header_of x.0, x.1.now))) c.in-Some.is in
-    (header_tells _ _ _ (held_spells r.bytes.now r.sections c.self.invariant.0 c.self.invariant.1 (sym c.self.invariant.2)) read).members ∙ ap (λ (v : Record). length (labels v.tokens)) c.self.view_is
+    slots_many r.bytes.now r.sections (tokens_held r.sections) c.self.invariant.0 c.self.invariant.1 refl (sym c.self.invariant.2) ∙ ap (λ (v : Record). length (labels v.tokens)) c.self.view_is

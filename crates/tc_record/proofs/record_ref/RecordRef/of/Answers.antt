@@ -31,7 +31,7 @@ returns-then-has_tokens-clause-document c =
 pub returns-then-has_tokens-clause-numbered : goal.returns-then-has_tokens-clause-numbered
 returns-then-has_tokens-clause-numbered c =
     let cut : sections_in c.args.bytes.now ≡ Some (sections_of c.in_ok-sections.sections) = sym c.sections_of_record.ensures.cut ∙ rw c.in_ok-sections.was refl in
-    λ n is. held_numbered c.args.bytes.now c.in_ok-sections.sections n cut is
+    λ form n told is. held_numbered c.args.bytes.now c.in_ok-sections.sections form n cut told is
 
 pub returns-else-has_tokens-clause-none : goal.returns-else-has_tokens-clause-none
 returns-else-has_tokens-clause-none c =

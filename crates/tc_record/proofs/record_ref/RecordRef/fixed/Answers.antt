@@ -1,0 +1,11 @@
+use Rattle.std.proofs.Common.{◌∙◌, refl, sym, ap}
+use Rattle.tc_record.specs.Borrowed.{Record}
+use Rattle.tc_record.specs.Held.{tokens_held}
+use Rattle.tc_record.specs.Record.{fixed}
+use Rattle.tc_record.proofs.Told.{fixed_held}
+use Rattle.tc_record.proofs.record_ref.RecordRef.fixed.Goals as goal
+
+pub returns : goal.returns
+returns c =
+    let r = c.self.inside in
+    fixed_held r.bytes.now r.sections (tokens_held r.sections) c.self.invariant.0 c.self.invariant.1 refl (sym c.self.invariant.2) ∙ ap (λ (v : Record). fixed v.tokens) c.self.view_is

@@ -1,0 +1,16 @@
+use Rattle.std.proofs.Common.{◌∙◌, refl, sym, ap, length, arith}
+use Rattle.tc_record.specs.Borrowed.{Record}
+use Rattle.tc_record.specs.Held.{tokens_held}
+use Rattle.tc_record.specs.Record.{fixed}
+use Rattle.tc_record.proofs.Told.{fixed_held, fixed_few}
+use Rattle.tc_record.proofs.record_ref.RecordRef.fixed_size.Goals as goal
+
+pub overflow_cast-result : goal.overflow_cast-result
+overflow_cast-result c =
+    let r = c.self.inside in
+    let few = fixed_few r.bytes.now r.sections c.self.invariant.0 c.self.invariant.1 in omega (arith, few)
+
+pub returns : goal.returns
+returns c =
+    let r = c.self.inside in
+    ap length (fixed_held r.bytes.now r.sections (tokens_held r.sections) c.self.invariant.0 c.self.invariant.1 refl (sym c.self.invariant.2)) ∙ ap (λ (v : Record). length (fixed v.tokens)) c.self.view_is
