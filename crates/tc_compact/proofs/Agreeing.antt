@@ -1,6 +1,6 @@
 -- A record and the shape of its document have the same names in the same order, each of them short, and the record has
 -- a byte for each value.
-use Rattle.std.proofs.Common.{◌≡◌, ◌∙◌, ℕ, ◌<◌, ◌≤◌, ◌^◌, All, List, [], ◌∷◌, ◌++◌, Option, None, Some, length, map, option_to_list, refl, ap, arith, length-append, append-nil}
+use Rattle.std.proofs.Common.{◌≡◌, ◌∙◌, ℕ, ◌<◌, ◌≤◌, ◌^◌, All, List, [], ◌∷◌, ◌++◌, Option, None, Some, length, option_to_list, refl, ap, arith, length-append, append-nil}
 use Rattle.std.specs.List.{AllByRecursion}
 use Rattle.std.proofs.lemmas.List.{length-map}
 use Rattle.std.proofs.lemmas.List.Concat.{flat_map-append}
@@ -10,10 +10,10 @@ use Rattle.tc_model.specs.Document.{Name, Document, Scalar, scalar_kind, documen
 use Rattle.tc_model.specs.ShapeNames.{names_within, names_of_items, names_of_members}
 use Rattle.tc_model.specs.TreeSize.{tree_size, items_size, members_size}
 use Rattle.tc_record.specs.Preorder.{Token, token, closed, preorder, items_preorder, members_preorder, tokens_of}
-use Rattle.tc_record.specs.Record.{labels, tags, fixed, texts, width, numbers, joined, piece_tag, IsRecordOf}
+use Rattle.tc_record.specs.Record.{labels, joined, piece_tag, IsRecordOf}
 use Rattle.tc_record.specs.Borrowed.{named_tokens}
 use Rattle.tc_compact.specs.Slots.{names_in}
-use Rattle.tc_compact.proofs.Compacts.{document_names, document_cut, few_members}
+use Rattle.tc_compact.proofs.Compacts.{document_names, document_length}
 
 -- ---- the names of a record
 
@@ -48,8 +48,8 @@ each_short (n ∷ ns) short = let sum = length-append n (joined ns) in (omega (a
 pub short_names : (d : Document) (whole : List ℕ) → IsRecordOf d whole → All (λ name. length name < 2 ^ 32) (names_within (document_shape d))
 short_names d whole is =
     let ls = labels (tokens_of d) in
-    let few = few_members ls whole _ _ (document_cut d whole is.spelled) in
-    rw (← names-preorder None d) (All-from_recursion _ ls (each_short ls (omega (arith, few, is.short))))
+    let len = document_length d whole is.spelled in
+    rw (← names-preorder None d) (All-from_recursion _ ls (each_short ls (omega (arith, len, is.short))))
 
 -- ---- how many values there are
 
@@ -70,6 +70,4 @@ mutual
 pub fewer_values : (d : Document) (whole : List ℕ) → IsRecordOf d whole → tree_size d ≤ length whole
 fewer_values d whole is =
     let ts = tokens_of d in
-    let lengths = map length (texts ts) in
-    let cut = document_cut d whole is.spelled in
-    omega (arith, size-preorder None d, length-map ts (λ t. piece_tag t.piece), length-append (tags ts) (fixed ts ++ (numbers (width lengths) lengths ++ joined (texts ts))), cut.len)
+    omega (arith, size-preorder None d, length-map ts (λ t. piece_tag t.piece), document_length d whole is.spelled)

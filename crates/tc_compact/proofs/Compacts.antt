@@ -1,38 +1,41 @@
--- The record of form 1 of a record of form 0, part by part.
-use Rattle.std.proofs.Common.{◌≡◌, ◌∙◌, ℕ, ◌+◌, ◌*◌, ◌<◌, ◌≤◌, ◌^◌, Bool, true, false, List, [], ◌∷◌, ◌++◌, Option, None, Some, unwrap_or, length, map, inl, inr, refl, sym, ap, subst, arith, length-append, append-nil, slice_index}
+-- What the bytes of a record tell of its columns, and the record with numbers of one with names, part by part.
+use Rattle.std.proofs.Common.{◌≡◌, ◌∙◌, ℕ, ◌+◌, ◌<◌, ◌≤◌, ◌^◌, true, false, List, [], ◌∷◌, Option, None, Some, unwrap_or, length, map, inl, inr, refl, sym, ap, subst, arith}
 use Rattle.std.proofs.lemmas.Bool.{true≢false, both_ways}
 use Rattle.std.proofs.lemmas.List.{length-map}
 use Rattle.std.proofs.lemmas.Option.{same_Some}
+use Rattle.tc_bits.proofs.Joined.{AreBelow}
 use Rattle.tc_model.specs.Document.{Name, Document, Scalar}
-use Rattle.tc_model.specs.Dictionary.{number_of, Extends, IsDictionary, number as name_number}
+use Rattle.tc_model.specs.Dictionary.{number_of, IsDictionary, number as name_number}
+use Rattle.tc_model.specs.KnownNames.{HasEach}
 use Rattle.tc_model.proofs.NameNumbers.{number_of-below}
 use Rattle.tc_record.specs.Preorder.{Token, tokens_of}
-use Rattle.tc_record.specs.Record.{labels, width, numbers, joined, record_bytes, record_of, IsRecordOf}
-use Rattle.tc_record.specs.Walk.{Key, name}
+use Rattle.tc_record.specs.Record.{tags, fixed, texts, labels, joined, header_size, in_bytes, spelling_of, column_in, record_in, record_of, IsRecordOf}
+use Rattle.tc_record.specs.Walk.{Key, Format, name}
 use Rattle.tc_record.specs.Borrowed.{Record, Spells, named_tokens, numbered_tokens}
-use Rattle.tc_record.proofs.Reading.{document_again, numbered_again}
-use Rattle.tc_record.proofs.NumberLengths.{length-numbers}
-use Rattle.tc_record.proofs.Keyed.{preorder-relabel}
-use Rattle.tc_compact.specs.Compacted.{IsCompactedRecordOf}
-use Rattle.tc_model.specs.KnownNames.{HasEach}
+use Rattle.tc_record.proofs.ColumnSizes.{column_in-most}
+use Rattle.tc_record.proofs.NumberLengths.{bytes_each}
+use Rattle.tc_record.proofs.Reading.{document_again, numbered_again, small_texts}
+use Rattle.tc_record.proofs.Spelled.{slots, names as name_bytes}
+use Rattle.tc_record.proofs.Spellings.{form_spells}
+use Rattle.tc_record.proofs.Keyed.{preorder-relabel, labels-retoken, record_of-keyed, record_in-numbered}
+use Rattle.tc_compact.specs.Compacted.{IsCompactedIn}
 use Rattle.tc_compact.specs.Slots.{names_in}
-use Rattle.tc_compact.specs.Layout.{slot_bytes, counts_in, values_in, whole, named_slots, numbered_record}
-use Rattle.tc_model.proofs.LastingNumbers.{numbers-Extends}
+use Rattle.tc_compact.specs.Layout.{Parts, parts_of, values, whole}
 use Rattle.tc_compact.proofs.Relabelled.{depth-numbered, object-numbered, lawful-numbered, names_in-to_names, record-numbered}
-use Rattle.tc_compact.proofs.Laid.{counts, values, record_laid, Cut, whole_cut, slots_between}
+use Rattle.tc_compact.proofs.Laid.{record_laid, values_length, whole_length, parts-retoken}
 
--- ---- the document of a record of form 0
+-- ---- the document of a record with names
 
-abbrev Tokens : Type 0
+abbrev pub Tokens : Type 0
 Tokens = List (Token Key Scalar)
 
-pub two_forms : (ts us : Tokens) → ◌≡◌ {A = Option (Bool × Tokens)} (Some (true, ts)) (Some (false, us)) → ⊥
-two_forms ts us e = true≢false (ap (λ (p : Bool × Tokens). p.0) (same_Some (true, ts) (false, us) e))
+pub two_forms : (form : ℕ) (ts us : Tokens) → ◌≡◌ {A = Option (Format × Tokens)} (Some (record { form = 0; named = true }, ts)) (Some (record { form = form; named = false }, us)) → ⊥
+two_forms form ts us e = true≢false (ap (λ (p : Format × Tokens). p.0.named) (same_Some _ _ e))
 
 -- a record that spells something has the tokens of its document
 pub document_tokens : (r : Record) (d : Document) → Spells r → IsRecordOf d r.bytes → (r.named ≡ true) × (r.tokens ≡ named_tokens d)
-document_tokens r d (inl one) is = (one.1.0, one.1.2 ∙ ap (λ (p : Bool × Tokens). p.1) (same_Some _ _ (sym (document_again one.0 r.bytes one.1.1) ∙ document_again d r.bytes is)))
-document_tokens r d (inr one) is = absurd (two_forms (named_tokens d) (numbered_tokens one.0) (sym (document_again d r.bytes is) ∙ numbered_again one.0 r.bytes one.1.1))
+document_tokens r d (inl one) is = (one.1.0, one.1.2 ∙ ap (λ (p : Format × Tokens). p.1) (same_Some _ _ (sym (document_again one.0 r.bytes one.1.1) ∙ document_again d r.bytes is)))
+document_tokens r d (inr one) is = absurd (two_forms r.form (named_tokens d) (numbered_tokens one.0) (sym (document_again d r.bytes is) ∙ numbered_again r.form one.1.3 one.0 r.bytes one.1.1))
 
 pub document_names : (d : Document) → names_in (named_tokens d) ≡ labels (tokens_of d)
 document_names d = ap names_in (preorder-relabel name d None) ∙ names_in-to_names (λ n. n) (tokens_of d) ∙ same (labels (tokens_of d))
@@ -41,63 +44,84 @@ document_names d = ap names_in (preorder-relabel name d None) ∙ names_in-to_na
     same [] = refl
     same (l ∷ ls) = ap (λ ns. l ∷ ns) (same ls)
 
--- a record of form 0 has a document
+-- a record with names has a document
 pub named_document : (r : Record) → Spells r → r.named ≡ true → (d : Document) × IsRecordOf d r.bytes
 named_document r (inl one) named = (one.0, one.1.1)
 named_document r (inr one) named = absurd (both_ways r.named one.1.0 named)
 
--- ---- the parts of its record
+-- ---- the columns of a record
 
-pub document_cut : (d : Document) (bytes : List ℕ) → bytes ≡ record_of d
-    → Cut bytes (counts (tokens_of d) (length (labels (tokens_of d)))) (values (tokens_of d)) (width (map length (labels (tokens_of d)))) (length (named_slots (labels (tokens_of d))))
-document_cut d bytes spelled =
+-- the bytes of a record are those of its tokens
+record_spelled : (r : Record) → Spells r → r.bytes ≡ record_in (spelling_of r.form) r.form r.tokens (slots r.tokens) (name_bytes r.tokens)
+record_spelled r (inl (d, (named, is, tokens, form))) =
+    is.spelled ∙ record_of-keyed d ∙ ap (λ us. record_in in_bytes 0 us (slots us) (name_bytes us)) (sym tokens) ∙ ap (λ f. record_in (spelling_of f) f r.tokens (slots r.tokens) (name_bytes r.tokens)) (sym form)
+record_spelled r (inr (n, (unnamed, is, tokens, told))) =
+    is.spelled ∙ record_in-numbered r.form n ∙ ap (λ us. record_in (spelling_of r.form) r.form us (slots us) (name_bytes us)) (sym tokens)
+
+record_short : (r : Record) → Spells r → length r.bytes < 2 ^ 32
+record_short r (inl one) = one.1.1.short
+record_short r (inr one) = one.1.1.short
+
+-- how its columns lie in its bytes
+pub record RecordHolds (r : Record) : Type 0 where
+  pub short : length r.bytes < 2 ^ 32
+  pub len : length r.bytes ≡ header_size + (length (tags r.tokens) + (length (fixed r.tokens) + (length (column_in (spelling_of r.form) (map length (texts r.tokens))) + (length (joined (texts r.tokens)) + (length (column_in (spelling_of r.form) (slots r.tokens)) + length (name_bytes r.tokens))))))
+  pub lengths : AreBelow 32 (map length (texts r.tokens))
+
+pub record_holds : (r : Record) → Spells r → RecordHolds r
+record_holds r spells =
+    let s = spelling_of r.form in
+    let ts = r.tokens in
+    let spelled = record_spelled r spells in
+    let short = record_short r spells in
+    record {
+      short = short;
+      len = ap length (spelled ∙ record_laid s ts (slots ts) (name_bytes ts) r.form) ∙ whole_length s r.form (parts_of ts) (slots ts) (name_bytes ts);
+      lengths = small_texts r.form ts (subst (λ bs. length bs < 2 ^ 32) spelled short);
+    }
+
+-- and how long those before the slots are in any form
+pub record ValuesLie (form : ℕ) (r : Record) : Type 0 where
+  pub parts : length (tags r.tokens) + (length (fixed r.tokens) + length (joined (texts r.tokens))) < 2 ^ 32
+  pub len : length (values (spelling_of form) (parts_of r.tokens)) ≡ length (tags r.tokens) + (length (fixed r.tokens) + (length (column_in (spelling_of form) (map length (texts r.tokens))) + length (joined (texts r.tokens))))
+
+pub values_lie : (form : ℕ) (r : Record) → Spells r → ValuesLie form r
+values_lie form r spells =
+    let holds = record_holds r spells in
+    record {
+      parts = omega (arith, holds.len, holds.short);
+      len = values_length (spelling_of form) (parts_of r.tokens);
+    }
+
+-- and those of a document in the bytes of its record
+pub document_length : (d : Document) (bytes : List ℕ) → bytes ≡ record_of d
+    → length bytes ≡ header_size + (length (tags (tokens_of d)) + (length (fixed (tokens_of d)) + (length (column_in in_bytes (map length (texts (tokens_of d)))) + (length (joined (texts (tokens_of d))) + (length (column_in in_bytes (map length (labels (tokens_of d)))) + length (joined (labels (tokens_of d))))))))
+document_length d bytes spelled =
     let ts = tokens_of d in
     let ls = labels ts in
-    let laid = spelled ∙ record_laid 0 ts (map length ls) (joined ls) in
-    let members : length (map length ls) ≡ length ls = length-map ls length in
-    subst (λ bs. Cut bs (counts ts (length ls)) (values ts) (width (map length ls)) (length (named_slots ls))) (sym laid)
-    (subst (λ n. Cut (whole 0 (counts ts (length (map length ls))) (width (map length ls)) (values ts) (named_slots ls)) (counts ts n) (values ts) (width (map length ls)) (length (named_slots ls))) members
-    (whole_cut 0 ts (length (map length ls)) (width (map length ls)) (values ts) (named_slots ls)))
+    ap length (spelled ∙ record_laid in_bytes ts (map length ls) (joined ls) 0) ∙ whole_length in_bytes 0 (parts_of ts) (map length ls) (joined ls)
 
--- the bytes of the slots and of the names
-pub behind_values : (ls : List Name) (bytes counts values : List ℕ) → Cut bytes counts values (width (map length ls)) (length (named_slots ls)) → slot_bytes bytes (length ls) + length (joined ls) ≡ length (named_slots ls)
-behind_values ls bytes counts values cut =
-    let w = width (map length ls) in
-    let lens = map length ls in
-    let slots : length (numbers w lens) ≡ length ls * slice_index bytes 22 = length-numbers w lens ∙ ap (λ k. k * w) (length-map ls length) ∙ ap (λ k. length ls * k) (sym cut.slot_width_is) in
-    omega (arith, slots, length-append (numbers w lens) (joined ls))
+-- how its names do
+pub record NamesLie (r : Record) : Type 0 where
+  pub few : length (names_in r.tokens) ≤ length r.bytes
+  pub held : length (joined (names_in r.tokens)) ≤ length r.bytes
+  pub members : length (names_in r.tokens) ≡ length (labels r.tokens)
 
--- there are fewer members than bytes
-pub few_members : (ls : List Name) (bytes counts values : List ℕ) → Cut bytes counts values (width (map length ls)) (length (named_slots ls)) → 23 + (length values + (length ls + length (joined ls))) ≤ length bytes
-few_members ls bytes counts values cut =
-    let lens = map length ls in
-    omega (arith, cut.len, (slots_between lens).0, length-map ls length, length-append (numbers (width lens) lens) (joined ls))
-
--- how the names of a record of form 0 lie in its bytes
-pub record NamesLie (bytes : List ℕ) (ls : List Name) : Type 0 where
-  pub few : length ls ≤ length bytes
-  pub held : length (joined ls) ≤ length bytes
-  pub behind : 23 + (slot_bytes bytes (length ls) + length (joined ls)) ≤ length bytes
-  pub small : 23 + length (values_in bytes (slot_bytes bytes (length ls) + length (joined ls))) + length ls * 4 ≤ length bytes * 4
-
-pub names_lie : (r : Record) → Spells r → r.named ≡ true → NamesLie r.bytes (names_in r.tokens)
+pub names_lie : (r : Record) → Spells r → r.named ≡ true → NamesLie r
 names_lie r spells named =
     let d = named_document r spells named in
     let ls = labels (tokens_of d.0) in
-    let names_are : names_in r.tokens ≡ ls = ap names_in (document_tokens r d.0 spells d.1).1 ∙ document_names d.0 in
-    let cut = document_cut d.0 r.bytes d.1.spelled in
-    let behind = behind_values ls r.bytes _ _ cut in
-    let few = few_members ls r.bytes _ _ cut in
-    let values_len = ap length (ap (values_in r.bytes) behind ∙ cut.values_are) in
-    subst (NamesLie r.bytes) (sym names_are)
-    (record {
-      few = omega (arith, few);
-      held = omega (arith, few);
-      behind = omega (arith, behind, cut.len);
-      small = omega (arith, few, values_len);
-    })
+    let tokens = (document_tokens r d.0 spells d.1).1 in
+    let names_are : names_in r.tokens ≡ ls = ap names_in tokens ∙ document_names d.0 in
+    let labels_are : labels r.tokens ≡ map name ls = ap labels (tokens ∙ preorder-relabel name d.0 None) ∙ labels-retoken name (tokens_of d.0) in
+    let len = document_length d.0 r.bytes d.1.spelled in
+    record {
+      few = omega (arith, ap length names_are, len, bytes_each (map length ls), length-map ls length);
+      held = omega (arith, ap (λ ns. length (joined ns)) names_are, len);
+      members = ap length names_are ∙ sym (ap length labels_are ∙ length-map ls name);
+    }
 
--- ---- form 1
+-- ---- numbers in place of names
 
 small_numbers : (names : List Name) → IsDictionary names → (n : Name) → name_number names n < 2 ^ 32
 small_numbers names dictionary n = cases (number_of names n) refl
@@ -106,41 +130,54 @@ small_numbers names dictionary n = cases (number_of names n) refl
     cases None none = omega arith
     cases (Some k) some = omega (arith, number_of-below names n k some, dictionary.few)
 
--- a document's record of form 1, where it is short enough
-pub compacted_record : (names : List Name) (d : Document) (named_bytes bytes : List ℕ) → IsDictionary names → IsRecordOf d named_bytes → HasEach names (labels (tokens_of d))
-    → bytes ≡ record_bytes 1 (tokens_of d) (map (name_number names) (labels (tokens_of d))) [] → length bytes < 2 ^ 32 → IsCompactedRecordOf names d bytes
-compacted_record names d named_bytes bytes dictionary is known spelled short = record {
+pub numbers_below : (names : List Name) → IsDictionary names → (ls : List Name) → AreBelow 32 (map (name_number names) ls)
+numbers_below names dictionary [] = tt
+numbers_below names dictionary (l ∷ ls) = (small_numbers names dictionary l, numbers_below names dictionary ls)
+
+-- a document's record with numbers, where it is short enough
+pub compacted_record : (form : ℕ) (names : List Name) (d : Document) (named_bytes bytes : List ℕ) → IsDictionary names → IsRecordOf d named_bytes → HasEach names (labels (tokens_of d))
+    → bytes ≡ record_in (spelling_of form) form (tokens_of d) (map (name_number names) (labels (tokens_of d))) [] → length bytes < 2 ^ 32 → IsCompactedIn form names d bytes
+compacted_record form names d named_bytes bytes dictionary is known spelled short = record {
   known = known;
   numbered = record {
     tree = lawful-numbered (name_number names) (small_numbers names dictionary) d is.document;
     is_object = object-numbered (name_number names) d is.is_object;
     shallow = subst (λ n. n ≤ 32) (sym (depth-numbered (name_number names) d)) is.shallow;
-    spelled = spelled ∙ sym (record-numbered (name_number names) d);
+    spelled = spelled ∙ sym (record-numbered form (name_number names) d);
     short = short;
   };
 }
 
--- a record of form 1 is laid so
-pub numbered_laid : (ts : List (Token Name Scalar)) (ns : List ℕ) → length ns ≡ length (labels ts) → numbered_record (counts ts (length (labels ts))) (values ts) ns ≡ record_bytes 1 ts ns []
-numbered_laid ts ns members =
-    ap (whole 1 (counts ts (length (labels ts))) (width ns) (values ts)) (sym (append-nil (numbers (width ns) ns)))
-    ∙ ap (λ k. whole 1 (counts ts k) (width ns) (values ts) (numbers (width ns) ns ++ [])) (sym members)
-    ∙ sym (record_laid 1 ts ns [])
-
--- what was built is the record of form 1, under the dictionary and under each that goes on
-pub compacts : (names newer : List Name) (d : Document) (named_bytes numbers_there bytes : List ℕ) (behind : ℕ) → IsDictionary newer → Extends newer names → IsRecordOf d named_bytes → length named_bytes < 2 ^ 30
-    → HasEach names (labels (tokens_of d)) → numbers_there ≡ map (name_number names) (labels (tokens_of d)) → behind ≡ slot_bytes named_bytes (length (labels (tokens_of d))) + length (joined (labels (tokens_of d)))
-    → bytes ≡ numbered_record (counts_in named_bytes) (values_in named_bytes behind) numbers_there → IsCompactedRecordOf newer d bytes
-compacts names newer d named_bytes numbers_there bytes behind dictionary extends is short known are behind_is built =
+-- what was written of the parts of a record and of the numbers of its names
+pub compacts : (form : ℕ) (names : List Name) (d : Document) (r : Record) (ns bytes : List ℕ) → IsDictionary names → Spells r → IsRecordOf d r.bytes → HasEach names (names_in r.tokens) → ns ≡ map (name_number names) (names_in r.tokens)
+    → bytes ≡ whole (spelling_of form) form (parts_of r.tokens) ns [] → length bytes < 2 ^ 32 → IsCompactedIn form names d bytes
+compacts form names d r ns bytes dictionary spells is known are written short =
+    let s = spelling_of form in
     let ts = tokens_of d in
+    let ks = map (name_number names) (labels ts) in
+    let tokens : r.tokens ≡ named_tokens d = (document_tokens r d spells is).1 in
+    let names_are : names_in r.tokens ≡ labels ts = ap names_in tokens ∙ document_names d in
+    let parts : parts_of r.tokens ≡ parts_of ts = ap parts_of (tokens ∙ preorder-relabel name d None) ∙ parts-retoken name ts in
+    let numbers_are : ns ≡ ks = are ∙ ap (map (name_number names)) names_are in
+    compacted_record form names d r.bytes bytes dictionary is (subst (HasEach names) names_are known)
+    (written ∙ ap (λ p. whole s form p ns []) parts ∙ ap (λ k. whole s form (parts_of ts) k []) numbers_are ∙ sym (record_laid s ts ks [] form)) short
+
+-- it is short enough, whatever the form
+pub compacted_short : (form : ℕ) (r : Record) (ns : List ℕ) → Spells r → r.named ≡ true → length r.bytes < 2 ^ 30 → length ns ≡ length (names_in r.tokens) → AreBelow 32 ns → length (whole (spelling_of form) form (parts_of r.tokens) ns []) < 2 ^ 32
+compacted_short form r ns spells named short many each =
+    let s = spelling_of form in
+    let d = named_document r spells named in
+    let ts = tokens_of d.0 in
     let ls = labels ts in
-    let stay = numbers-Extends newer names ls extends known in
-    let ns = map (name_number newer) ls in
-    let cut = document_cut d named_bytes is.spelled in
-    let there : numbers_there ≡ ns = are ∙ sym stay.1 in
-    let members : length ns ≡ length ls = length-map ls (name_number newer) in
-    let values_are : values_in named_bytes behind ≡ values ts = ap (values_in named_bytes) (behind_is ∙ behind_values ls named_bytes _ _ cut) ∙ cut.values_are in
-    let laid : bytes ≡ numbered_record (counts ts (length ls)) (values ts) ns =
-    built ∙ ap (λ (k : List ℕ). numbered_record k (values_in named_bytes behind) numbers_there) cut.counts_are ∙ ap (λ v. numbered_record (counts ts (length ls)) v numbers_there) values_are ∙ ap (numbered_record (counts ts (length ls)) (values ts)) there in
-    let len : length bytes ≡ 23 + (length (values ts) + length (numbers (width ns) ns)) = ap length laid ∙ (whole_cut 1 ts (length ls) (width ns) (values ts) (numbers (width ns) ns)).len in
-    compacted_record newer d named_bytes bytes dictionary is stay.0 (laid ∙ numbered_laid ts ns members) (omega (arith, short, len, members, (slots_between ns).1, few_members ls named_bytes _ _ cut))
+    let tokens : r.tokens ≡ named_tokens d.0 = (document_tokens r d.0 spells d.1).1 in
+    let names_are : length (names_in r.tokens) ≡ length ls = ap length (ap names_in tokens ∙ document_names d.0) in
+    let lengths = map length (texts r.tokens) in
+    let parts : parts_of r.tokens ≡ parts_of ts = ap parts_of (tokens ∙ preorder-relabel name d.0 None) ∙ parts-retoken name ts in
+    let texts_most = column_in-most s (form_spells form) lengths (record_holds r spells).lengths in
+    let slots_most = column_in-most s (form_spells form) ns each in
+    let p = parts_of r.tokens in
+    omega (
+      arith, short, many, names_are, texts_most, slots_most, whole_length s form p ns [],
+      document_length d.0 r.bytes d.1.spelled, bytes_each (map length (texts ts)), bytes_each (map length ls), length-map ls length,
+      ap (λ (q : Parts). length q.tags) parts, ap (λ (q : Parts). length q.fixed) parts, ap (λ (q : Parts). length q.lengths) parts, ap (λ (q : Parts). length q.texts) parts,
+    )

@@ -1,70 +1,65 @@
--- How a record lies in bytes.
-use Rattle.std.proofs.Common.{◌≡◌, ◌∙◌, ℕ, ◌+◌, ◌*◌, ◌≤◌, nat_lt, Bool, true, false, if◌then◌else◌, List, [], ◌∷◌, ◌++◌, length, map, take, slice_index, refl, sym, ap, arith, append_assoc, length-append}
+-- How a record lies in bytes, and how long it is.
+use Rattle.std.proofs.Common.{◌≡◌, ◌∙◌, ◌+◌, ℕ, List, ◌∷◌, ◌++◌, length, map, refl, sym, ap, arith, append_assoc, length-append}
 use Rattle.std.specs.Int.{w32, to_be_bytes}
-use Rattle.std.proofs.Math.Seq.{take-append_seam}
+use Rattle.std.proofs.lemmas.List.{length-map}
 use Rattle.tc_model.specs.Document.{Scalar}
 use Rattle.tc_record.specs.Preorder.{Token}
-use Rattle.tc_record.specs.Record.{tags, fixed, texts, greatest, width, numbers, joined, body, record_bytes}
-use Rattle.tc_record.proofs.NumberLengths.{length-numbers}
-use Rattle.tc_compact.specs.Layout.{counts_in, values_in, whole}
+use Rattle.tc_record.specs.Record.{piece_tag, tags, fixed, texts, labels, joined, greatest, header_size, Spelling, width_in, column_in, body_in, record_in}
+use Rattle.tc_record.specs.Sections.{least_width}
+use Rattle.tc_record.specs.Walk.{Key}
+use Rattle.tc_record.proofs.NumberColumns.{width_told}
+use Rattle.tc_record.proofs.Keyed.{retoken, tags-retoken, fixed-retoken, texts-retoken}
+use Rattle.tc_compact.specs.Layout.{Parts, parts_of, values, counts, front, whole}
 
-module _ {L : Type 0} where
-  -- the counts of a header
-  abbrev pub counts : List (Token L Scalar) → ℕ → List ℕ
-  counts ts members =
-      let lengths = map length (texts ts) in
-      to_be_bytes w32 (length (tags ts)) ++ (to_be_bytes w32 (length (fixed ts)) ++ (to_be_bytes w32 (length lengths) ++ (width lengths ∷ to_be_bytes w32 members)))
-
-  -- the columns before the slots
-  abbrev pub values : List (Token L Scalar) → List ℕ
-  values ts = let lengths = map length (texts ts) in tags ts ++ (fixed ts ++ (numbers (width lengths) lengths ++ joined (texts ts)))
-
-  body_laid : (ts : List (Token L Scalar)) (slots names : List ℕ) → body ts slots names ≡ values ts ++ (numbers (width slots) slots ++ names)
-  body_laid ts slots names =
-      let lengths = map length (texts ts) in
-      let a = tags ts in
+module _ {L : Type 0} (s : Spelling) (ts : List (Token L Scalar)) (slots names : List ℕ) where
+  body_laid : body_in s ts slots names ≡ values s (parts_of ts) ++ (column_in s slots ++ names)
+  body_laid =
       let b = fixed ts in
-      let c = numbers (width lengths) lengths in
+      let c = column_in s (map length (texts ts)) in
       let d = joined (texts ts) in
-      let rest = numbers (width slots) slots ++ names in
-      sym (append_assoc a (b ++ (c ++ d)) rest ∙ ap (λ xs. a ++ xs) (append_assoc b (c ++ d) rest ∙ ap (λ xs. b ++ xs) (append_assoc c d rest)))
+      let rest = column_in s slots ++ names in
+      sym (append_assoc (tags ts) (b ++ (c ++ d)) rest ∙ ap (λ xs. tags ts ++ xs) (append_assoc b (c ++ d) rest ∙ ap (λ xs. b ++ xs) (append_assoc c d rest)))
 
-  pub record_laid : (form : ℕ) (ts : List (Token L Scalar)) (slots names : List ℕ) → record_bytes form ts slots names ≡ whole form (counts ts (length slots)) (width slots) (values ts) (numbers (width slots) slots ++ names)
-  record_laid form ts slots names =
-      let behind = numbers (width slots) slots ++ names in
-      let content = body_laid ts slots names in
-      let len : length (body ts slots names) ≡ length (values ts) + length behind = ap length content ∙ length-append (values ts) behind in
-      rw (len, content) refl
+  pub record_laid : (form : ℕ) → record_in s form ts slots names ≡ whole s form (parts_of ts) slots names
+  record_laid form =
+      let behind = column_in s slots ++ names in
+      let len : length (body_in s ts slots names) ≡ length (values s (parts_of ts)) + length behind = ap length body_laid ∙ length-append (values s (parts_of ts)) behind in
+      rw (len, body_laid) refl
 
--- what is cut out of a record
-pub record Cut (bytes counts values : List ℕ) (slot_width behind : ℕ) : Type 0 where
-  pub len : length bytes ≡ 23 + (length values + behind)
-  pub counts_are : counts_in bytes ≡ counts
-  pub slot_width_is : slice_index bytes 22 ≡ slot_width
-  pub values_are : values_in bytes behind ≡ values
+-- tokens have the same parts with other labels
+pub parts-retoken : {L : Type 0} (g : L → Key) (ts : List (Token L Scalar)) → parts_of (map (retoken g) ts) ≡ parts_of ts
+parts-retoken g ts = rw (tags-retoken g ts, fixed-retoken g ts, texts-retoken g ts) refl
 
-pub whole_cut : {L : Type 0} (form : ℕ) (ts : List (Token L Scalar)) (members slot_width : ℕ) (columns behind : List ℕ) → Cut (whole form (counts ts members) slot_width columns behind) (counts ts members) columns slot_width (length behind)
-whole_cut form ts members slot_width columns behind =
-    let sum = length-append columns behind in
-    record {
-      len = omega arith;
-      counts_are = refl;
-      slot_width_is = refl;
-      values_are = ap (λ n. take n (columns ++ behind)) (omega arith) ∙ take-append_seam columns behind;
-    }
+-- ---- how long it is
 
--- ---- how many bytes the slots have
+pub values_length : (s : Spelling) (p : Parts) → length (values s p) ≡ length p.tags + (length p.fixed + (length (column_in s p.lengths) + length p.texts))
+values_length s p =
+    let c = column_in s p.lengths in omega (arith, length-append p.tags (p.fixed ++ (c ++ p.texts)), length-append p.fixed (c ++ p.texts), length-append c p.texts)
 
-covered : (k : ℕ) (a b : Bool) → (k ≤ k * (if a then 1 else (if b then 2 else 4))) × (k * (if a then 1 else (if b then 2 else 4)) ≤ k * 4)
-covered k true b = (omega arith, omega arith)
-covered k false true = (omega arith, omega arith)
-covered k false false = (omega arith, omega arith)
+module _ (s : Spelling) (form : ℕ) (p : Parts) (slots names : List ℕ) where
+  whole_total : length (whole s form p slots names) ≡ header_size + (length (values s p) + length (column_in s slots ++ names))
+  whole_total = let sum = length-append (values s p) (column_in s slots ++ names) in omega arith
 
--- at least one each, and at most four
-pub slots_between : (ns : List ℕ) → (length ns ≤ length (numbers (width ns) ns)) × (length (numbers (width ns) ns) ≤ length ns * 4)
-slots_between [] = (omega arith, omega arith)
-slots_between (n ∷ ns) =
-    let g = greatest (n ∷ ns) in
-    let between = covered (length (n ∷ ns)) (nat_lt g 256) (nat_lt g 65536) in
-    let len = length-numbers (width (n ∷ ns)) (n ∷ ns) in
-    (omega (arith, between.0, len), omega (arith, between.1, len))
+  pub whole_sum : length (whole s form p slots names) ≡ header_size + (length (values s p) + (length (column_in s slots) + length names))
+  whole_sum = omega (arith, whole_total, length-append (column_in s slots) names)
+
+  -- by its columns
+  pub whole_length : length (whole s form p slots names) ≡ header_size + (length p.tags + (length p.fixed + (length (column_in s p.lengths) + (length p.texts + (length (column_in s slots) + length names)))))
+  whole_length = omega (arith, whole_sum, values_length s p)
+
+  -- what was written part by part
+  pub written_whole : (begun out : List ℕ) (len members w : ℕ) → len ≡ length (whole s form p slots names) → members ≡ length slots → w ≡ width_in s slots
+      → begun ≡ front s form len p members w → out ≡ begun ++ (column_in s slots ++ names) → out ≡ whole s form p slots names
+  written_whole begun out len members w total many least first all =
+      let t = header_size + (length (values s p) + length (column_in s slots ++ names)) in
+      all
+      ∙ ap (λ bs. bs ++ (column_in s slots ++ names))
+      (first ∙ ap (λ n. front s form n p members w) (total ∙ whole_total) ∙ ap (λ k. front s form t p k w) many ∙ ap (λ k. front s form t p (length slots) k) least)
+
+-- the counts of tokens, by what is told of them
+pub counts_told : (s : Spelling) (ts : List (Token Key Scalar)) (a b c g w m : ℕ) → a ≡ length ts → b ≡ length (fixed ts) → c ≡ length (texts ts) → g ≡ greatest (map length (texts ts)) → w ≡ least_width s c g → m ≡ length (labels ts)
+    → to_be_bytes w32 a ++ (to_be_bytes w32 b ++ (to_be_bytes w32 c ++ (w ∷ to_be_bytes w32 m))) ≡ counts s (parts_of ts) (length (labels ts))
+counts_told s ts a b c g w m tags_are fixed_are texts_are most told members =
+    let lengths = map length (texts ts) in
+    let many : length lengths ≡ c = length-map (texts ts) length ∙ sym texts_are in
+    rw (tags_are ∙ sym (length-map ts (λ (t : Token Key Scalar). piece_tag t.piece)), fixed_are, width_told s lengths c g w many (sym most) told, sym many, members) refl

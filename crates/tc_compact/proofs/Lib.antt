@@ -1,15 +1,15 @@
 pub mod Relabelled
 pub mod Laid
-pub mod Built
+mod ColumnSteps
 pub mod Compacts
 pub mod Named
-pub mod Expands
+pub mod NumberedTrees
 pub mod Room
-pub mod RoundTrip
 pub mod Agreeing
-mod Sizes
 pub mod NamedSizes
+mod Repacks
 mod Orders
 mod OutlineSteps
 mod Outlines
 pub mod Meanings
+pub mod RoundTrip

@@ -1,8 +1,7 @@
--- What a record of either form means under a dictionary: the tokens and the document.
+-- What a record of any form means under a dictionary: the tokens and the document.
 use Rattle.std.proofs.Common.{◌≡◌, ◌∙◌, ℕ, zero, suc, ◌<◌, ◌≤◌, ◌^◌, true, false, List, [], ◌∷◌, ◌++◌, Option, None, Some, option_map, option_to_list, unwrap_or, IsUtf8, length, map, slice_get, inl, inr, refl, sym, ap, subst, arith}
 use Rattle.std.specs.List.{AllByRecursion}
 use Rattle.std.proofs.lemmas.Bool.{both_ways}
-use Rattle.std.proofs.lemmas.List.{length-map}
 use Rattle.std.proofs.lemmas.Option.{same_Some}
 use Rattle.tc_model.specs.Tree.{leaf, array, object, Items, no_items, item, Members, no_members, member, depth, items_relabel, members_relabel}
 use Rattle.tc_model.specs.Document.{Name, Document, Scalar, ShapeTree, document_shape, IsScalar, IsTreeOf, AreItemsOf, AreMembersOf}
@@ -11,20 +10,20 @@ use Rattle.tc_model.specs.KnownNames.{HasEach}
 use Rattle.tc_model.specs.Stored.{IsObject}
 use Rattle.tc_model.proofs.NameNumbers.{slice_get-number_of, number_of-below, numbered}
 use Rattle.tc_record.specs.Preorder.{Token, token, tokens_of}
-use Rattle.tc_record.specs.Record.{labels, record_bytes, record_of, NumberedTree, IsRecordOf, IsNumberedRecordOf, IsNumberedTree, AreNumberedItems, AreNumberedMembers}
+use Rattle.tc_record.specs.Record.{labels, spelling_of, record_in, record_of, NumberedTree, IsNumberedForm, IsRecordOf, IsNumberedRecordIn, IsNumberedTree, AreNumberedItems, AreNumberedMembers}
 use Rattle.tc_record.specs.Walk.{Key, name, number}
 use Rattle.tc_record.specs.Borrowed.{Record, Spells, IsBelow, named_tokens, numbered_tokens}
 use Rattle.tc_record.specs.Building.{document_read, HoldDocuments}
-use Rattle.tc_record.proofs.Keyed.{retoken, preorder-relabel, depth-relabel, labels-retoken, record-retoken}
+use Rattle.tc_record.proofs.Keyed.{retoken, preorder-relabel, depth-relabel, labels-retoken, record_in-retoken}
 use Rattle.tc_record.proofs.Built.{document_again, document_holds}
-use Rattle.tc_compact.specs.Compacted.{compacted}
-use Rattle.tc_compact.specs.Slots.{names_in, numbers_in, names_of}
+use Rattle.tc_compact.specs.Compacted.{compacted, IsNumberedUnder}
+use Rattle.tc_compact.specs.Slots.{names_in, names_of}
 use Rattle.tc_compact.specs.Meant.{name_at, expanded, key_meant, tokens_meant, levels_meant, shape_meant, IsOrdered, AreItemsOrdered, AreMembersOrdered, IsRecordUnder, HasRoom}
-use Rattle.tc_compact.proofs.Relabelled.{relabel-relabel, tokens-numbered, names_in-to_names, numbers_in-to_numbers, record-named}
+use Rattle.tc_compact.proofs.Relabelled.{relabel-relabel, tokens-numbered, names_in-to_names}
 use Rattle.tc_compact.proofs.Orders.{ordered_by_shape, document_ordered}
 use Rattle.tc_compact.proofs.Named.{names_found}
 use Rattle.tc_compact.proofs.Compacts.{document_tokens, document_names, compacted_record}
-use Rattle.tc_compact.proofs.Expands.{numbered_tree, built_record, named_laid, tree_tokens, numbers_are, expands}
+use Rattle.tc_compact.proofs.NumberedTrees.{tree_tokens, numbered_tree}
 
 -- ---- the tokens that are meant
 
@@ -66,14 +65,17 @@ meant_known names (t ∷ ts) known =
     same None known = refl
     same (Some n) known = ap (λ m. Some (name m)) (name_again names n known)
 
+-- the numbers of a document's names mean its tokens
+pub compacted_meant : (names : List Name) (d : Document) → HasEach names (labels (tokens_of d)) → tokens_meant names (numbered_tokens (compacted names d)) ≡ named_tokens d
+compacted_meant names d known =
+    ap (tokens_meant names) (tokens-numbered (name_number names) d) ∙ meant_known names (tokens_of d) known ∙ sym (preorder-relabel name d None)
+
 -- a record means the tokens of its document
 pub tokens_are : (names : List Name) (r : Record) (d : Document) → Spells r → IsRecordUnder names d r.bytes → tokens_meant names r.tokens ≡ named_tokens d
 tokens_are names r d spells (inl is) =
     let ts = tokens_of d in
     ap (tokens_meant names) ((document_tokens r d spells is).1 ∙ preorder-relabel name d None) ∙ meant_named names ts ∙ sym (preorder-relabel name d None)
-tokens_are names r d spells (inr (whole, is, form1)) =
-    let ts = tokens_of d in
-    ap (tokens_meant names) (tree_tokens r (compacted names d) spells form1.numbered ∙ tokens-numbered (name_number names) d) ∙ meant_known names ts form1.known ∙ sym (preorder-relabel name d None)
+tokens_are names r d spells (inr (whole, is, (form, (told, compact)))) = ap (tokens_meant names) (tree_tokens r form (compacted names d) spells told compact.numbered) ∙ compacted_meant names d compact.known
 
 pub shape_is : (names : List Name) (r : Record) (d : Document) → Spells r → IsRecordUnder names d r.bytes → shape_meant names r.tokens ≡ Some (document_shape d)
 shape_is names r d spells is = ap (λ ts. option_map document_shape (document_read ts)) (tokens_are names r d spells is) ∙ ap (option_map document_shape) (document_again d)
@@ -84,43 +86,41 @@ document_is names r d e spells is meant = same_Some d e (sym (document_again d) 
 
 lawful_under : (names : List Name) (d : Document) (bytes : List ℕ) → IsRecordUnder names d bytes → (whole : List ℕ) × IsRecordOf d whole
 lawful_under names d bytes (inl is) = (bytes, is)
-lawful_under names d bytes (inr (whole, is, form1)) = (whole, is)
+lawful_under names d bytes (inr (whole, is, compact)) = (whole, is)
 
 pub meant_holds : (names : List Name) (r : Record) (d : Document) → Spells r → IsRecordUnder names d r.bytes → HoldDocuments (levels_meant names r.tokens)
 meant_holds names r d spells is = rw (tokens_are names r d spells is) (document_holds d (lawful_under names d r.bytes is).1.document)
 
--- ---- a record of form 1 that means a document has room
-
-known_again : (names ls : List Name) → HasEach names ls → map (name_at names) (map (name_number names) ls) ≡ ls
-known_again names [] known = refl
-known_again names (l ∷ ls) known = ap (λ n. n ∷ map (name_at names) (map (name_number names) ls)) (name_again names l (known.0, tt)) ∙ ap (λ ns. l ∷ ns) (known_again names ls known.1)
+-- ---- a record with numbers that means a document has room
 
 each_below : (names ls : List Name) → HasEach names ls → AllByRecursion (IsBelow (length names)) (map (λ n. number (name_number names n)) ls)
 each_below names [] known = tt
 each_below names (l ∷ ls) known = (number_of-below names l (name_number names l) (numbered names l known.0), each_below names ls known.1)
 
+-- the tokens of the tree with names
+expanded_tokens : (names : List Name) (n : NumberedTree) → named_tokens (expanded names n) ≡ map (retoken (λ k. name (name_at names k))) (tokens_of n)
+expanded_tokens names n = ap tokens_of (relabel-relabel name (name_at names) n) ∙ preorder-relabel (λ k. name (name_at names k)) n None
+
+pub numbered_meant : (names : List Name) (n : NumberedTree) → tokens_meant names (numbered_tokens n) ≡ named_tokens (expanded names n)
+numbered_meant names n = ap (tokens_meant names) (preorder-relabel number n None) ∙ meant_numbers names (tokens_of n) ∙ sym (expanded_tokens names n)
+
+-- the document is the tree with names
+pub under_expanded : (names : List Name) (r : Record) (n : NumberedTree) (d : Document) → Spells r → r.tokens ≡ numbered_tokens n → IsRecordUnder names d r.bytes → d ≡ expanded names n
+under_expanded names r n d spells tokens is =
+    document_is names r d (expanded names n) spells is (ap (λ ts. document_read (tokens_meant names ts)) tokens ∙ ap document_read (numbered_meant names n) ∙ document_again (expanded names n))
+
 pub has_room : (names : List Name) (r : Record) (d : Document) → Spells r → r.named ≡ false → IsRecordUnder names d r.bytes → HasRoom names r
 has_room names r d spells unnamed (inl is) = absurd (both_ways r.named unnamed (document_tokens r d spells is).0)
-has_room names r d spells unnamed (inr (whole, is, form1)) =
+has_room names r d spells unnamed (inr (whole, is, (form, (told, compact)))) =
     let ts = tokens_of d in
-    let ls = labels ts in
     let g : Name → Key = λ n. number (name_number names n) in
-    let tokens : r.tokens ≡ map (retoken g) ts = tree_tokens r (compacted names d) spells form1.numbered ∙ tokens-numbered (name_number names) d in
-    let ks_are : numbers_in r.tokens ≡ map (name_number names) ls = ap numbers_in tokens ∙ numbers_in-to_numbers (name_number names) ts in
-    let same_names : map (name_at names) (numbers_in r.tokens) ≡ ls = ap (map (name_at names)) ks_are ∙ known_again names ls form1.known in
+    let tokens : r.tokens ≡ map (retoken g) ts = tree_tokens r form (compacted names d) spells told compact.numbered ∙ tokens-numbered (name_number names) d in
     record {
-      known = subst (AllByRecursion (IsBelow (length names))) (sym (ap labels tokens ∙ labels-retoken g ts)) (each_below names ls form1.known);
-      short = λ n numbered_is.
-          let tn = tokens_of n in
-          let ns = map (name_at names) (labels tn) in
-          let are : ns ≡ ls = ap (map (name_at names)) (sym (numbers_are r n spells numbered_is)) ∙ same_names in
-          let built = built_record r.bytes ns in
-          let laid = named_laid tn (labels tn) r.bytes ns built numbered_is.spelled (length-map (labels tn) (name_at names)) refl in
-          let all = expands names d r.bytes whole built ns is form1 are refl in
-          subst (λ bs. length bs < 2 ^ 32) (sym all ∙ laid ∙ sym (record-named (name_at names) n)) is.short;
+      known = subst (AllByRecursion (IsBelow (length names))) (sym (ap labels tokens ∙ labels-retoken g ts)) (each_below names (labels ts) compact.known);
+      short = λ n same. subst (λ bs. length bs < 2 ^ 32) (is.spelled ∙ ap record_of (under_expanded names r n d spells same (inr (whole, is, (form, (told, compact)))))) is.short;
     }
 
--- ---- a record of form 1 that has room, and whose names ascend, means a document
+-- ---- a record with numbers that has room, and whose names ascend, means a document
 
 module _ (names : List Name) where
   get_at : (ns : List Name) (k : ℕ) → k < length ns → slice_get ns k ≡ Some (name_at ns k)
@@ -152,29 +152,16 @@ module _ (names : List Name) where
       members-expanded no_members is ordered = tt
       members-expanded (member k t ms) is ordered = (utf8_at names k each, lawful-expanded t is.1 ordered.0, members-expanded ms is.2 ordered.1)
 
--- the names of a record that has room
-pub room_gives : (names : List Name) (r : Record) → Spells r → r.named ≡ false → HasRoom names r → names_of names (numbers_in r.tokens) ≡ Some (map (name_at names) (numbers_in r.tokens))
-room_gives names r spells unnamed room =
-    let tree = numbered_tree r spells unnamed in
-    let ks = labels (tokens_of tree.0) in
-    let labels_are : labels r.tokens ≡ map number ks = ap labels (tree_tokens r tree.0 spells tree.1 ∙ preorder-relabel number tree.0 None) ∙ labels-retoken number (tokens_of tree.0) in
-    subst (λ ns. names_of names ns ≡ Some (map (name_at names) ns)) (sym tree.2) (all_named names ks (subst (AllByRecursion (IsBelow (length names))) labels_are room.known))
-
 object-expanded : (names : List Name) (n : NumberedTree) → IsObject n → IsObject (expanded names n)
 object-expanded names (leaf s) is = absurd is
 object-expanded names (array xs) is = absurd is
 object-expanded names (object ms) is = tt
 
--- the tokens of the tree with names
-expanded_tokens : (names : List Name) (n : NumberedTree) → named_tokens (expanded names n) ≡ map (retoken (λ k. name (name_at names k))) (tokens_of n)
-expanded_tokens names n = ap tokens_of (relabel-relabel name (name_at names) n) ∙ preorder-relabel (λ k. name (name_at names k)) n None
-
-pub numbered_meant : (names : List Name) (n : NumberedTree) → tokens_meant names (numbered_tokens n) ≡ named_tokens (expanded names n)
-numbered_meant names n = ap (tokens_meant names) (preorder-relabel number n None) ∙ meant_numbers names (tokens_of n) ∙ sym (expanded_tokens names n)
-
-numbered_under : (names : List Name) (r : Record) (n : NumberedTree) → IsDictionary names → IsNumberedRecordOf n r.bytes → r.tokens ≡ numbered_tokens n → HasRoom names r → IsOrdered (expanded names n) → IsRecordUnder names (expanded names n) r.bytes
-numbered_under names r n dictionary is tokens room ordered =
+pub numbered_under : (names : List Name) (r : Record) (n : NumberedTree) → IsDictionary names → IsNumberedForm r.form → IsNumberedRecordIn r.form n r.bytes → r.tokens ≡ numbered_tokens n → HasRoom names r → IsOrdered (expanded names n)
+    → IsRecordUnder names (expanded names n) r.bytes
+numbered_under names r n dictionary told is tokens room ordered =
     let d = expanded names n in
+    let s = spelling_of r.form in
     let tn = tokens_of n in
     let ks = labels tn in
     let g : ℕ → Key = λ k. name (name_at names k) in
@@ -184,24 +171,25 @@ numbered_under names r n dictionary is tokens room ordered =
       is_object = object-expanded names n is.is_object;
       shallow = subst (λ k. k ≤ 32) (sym (depth-relabel g n) ∙ ap depth (sym (relabel-relabel name (name_at names) n)) ∙ depth-relabel name d) is.shallow;
       spelled = refl;
-      short = room.short n is;
+      short = room.short n tokens;
     } in
     let below : AllByRecursion (IsBelow (length names)) (map number ks) = subst (AllByRecursion (IsBelow (length names))) (ap labels (tokens ∙ preorder-relabel number n None) ∙ labels-retoken number tn) room.known in
     let found = names_found names ks (map (name_at names) ks) dictionary.distinct (all_named names ks below) in
     let ls_are : labels (tokens_of d) ≡ map (name_at names) ks = sym (document_names d) ∙ ap names_in (expanded_tokens names n) ∙ names_in-to_names (name_at names) tn in
     let numbers : map (name_number names) (labels (tokens_of d)) ≡ ks = ap (map (name_number names)) ls_are ∙ found.numbers in
-    let form1 : r.bytes ≡ record_bytes 1 (tokens_of d) (map (name_number names) (labels (tokens_of d))) [] =
-    is.spelled ∙ sym (record-retoken g 1 tn ks []) ∙ ap (λ us. record_bytes 1 us ks []) (sym (expanded_tokens names n) ∙ preorder-relabel name d None) ∙ record-retoken name 1 (tokens_of d) ks [] ∙ ap (λ ms. record_bytes 1 (tokens_of d) ms []) (sym numbers) in
-    inr (record_of d, whole, compacted_record names d (record_of d) r.bytes dictionary whole (subst (HasEach names) (sym ls_are) found.known) form1 is.short)
+    let spelled : r.bytes ≡ record_in s r.form (tokens_of d) (map (name_number names) (labels (tokens_of d))) [] =
+    is.spelled ∙ sym (record_in-retoken g s r.form tn ks []) ∙ ap (λ us. record_in s r.form us ks []) (sym (expanded_tokens names n) ∙ preorder-relabel name d None)
+    ∙ record_in-retoken name s r.form (tokens_of d) ks [] ∙ ap (λ ms. record_in s r.form (tokens_of d) ms []) (sym numbers) in
+    inr (record_of d, whole, (r.form, (told, compacted_record r.form names d (record_of d) r.bytes dictionary whole (subst (HasEach names) (sym ls_are) found.known) spelled is.short)))
 
 -- what a record with room means, whose tokens give an ordered document
 pub means : (names : List Name) (r : Record) (e : Document) → IsDictionary names → Spells r → (r.named ≡ false → HasRoom names r) → IsOrdered e → document_read (tokens_meant names r.tokens) ≡ Some e → IsRecordUnder names e r.bytes
-means names r e dictionary (inl (d, (named, is, tokens))) room ordered meant =
-    subst (λ f. IsRecordUnder names f r.bytes) (document_is names r d e (inl (d, (named, is, tokens))) (inl is) meant) (inl is)
-means names r e dictionary (inr (n, (unnamed, is, tokens))) room ordered meant =
+means names r e dictionary (inl (d, (named, is, tokens, form))) room ordered meant =
+    subst (λ f. IsRecordUnder names f r.bytes) (document_is names r d e (inl (d, (named, is, tokens, form))) (inl is) meant) (inl is)
+means names r e dictionary (inr (n, (unnamed, is, tokens, told))) room ordered meant =
     let d = expanded names n in
     let same : d ≡ e = same_Some d e (sym (document_again d) ∙ ap document_read (sym (numbered_meant names n) ∙ ap (tokens_meant names) (sym tokens)) ∙ meant) in
-    subst (λ f. IsRecordUnder names f r.bytes) same (numbered_under names r n dictionary is tokens (room unnamed) (subst IsOrdered (sym same) ordered))
+    subst (λ f. IsRecordUnder names f r.bytes) same (numbered_under names r n dictionary told is tokens (room unnamed) (subst IsOrdered (sym same) ordered))
 
 -- and an ordered shape
 pub means_shape : (names : List Name) (r : Record) (shape : ShapeTree) → IsDictionary names → Spells r → (r.named ≡ false → HasRoom names r) → IsOrdered shape → shape_meant names r.tokens ≡ Some shape
@@ -217,13 +205,22 @@ means_shape names r shape dictionary spells room ordered meant = at (document_re
 -- ---- whether there is a document
 
 pub named_under : (names : List Name) (r : Record) → Spells r → r.named ≡ true → (d : Document) × IsRecordUnder names d r.bytes
-named_under names r (inl (d, (named, is, tokens))) holds = (d, inl is)
-named_under names r (inr (n, (unnamed, is, tokens))) holds = absurd (both_ways r.named unnamed holds)
+named_under names r (inl one) holds = (one.0, inl one.1.1)
+named_under names r (inr one) holds = absurd (both_ways r.named one.1.0 holds)
 
-pub ordered_under : (names : List Name) (r : Record) (n : NumberedTree) → IsDictionary names → Spells r → IsNumberedRecordOf n r.bytes → HasRoom names r → IsOrdered (expanded names n) → (d : Document) × IsRecordUnder names d r.bytes
-ordered_under names r n dictionary spells is room ordered = (expanded names n, numbered_under names r n dictionary is (tree_tokens r n spells is) room ordered)
+pub under_ordered : (names : List Name) (r : Record) (n : NumberedTree) (d : Document) → Spells r → r.tokens ≡ numbered_tokens n → IsRecordUnder names d r.bytes → IsOrdered (expanded names n)
+under_ordered names r n d spells tokens is = subst IsOrdered (under_expanded names r n d spells tokens is) (document_ordered d (lawful_under names d r.bytes is).1.document)
 
-pub under_ordered : (names : List Name) (r : Record) (n : NumberedTree) (d : Document) → Spells r → IsNumberedRecordOf n r.bytes → IsRecordUnder names d r.bytes → IsOrdered (expanded names n)
-under_ordered names r n d spells numbered_is is =
-    let read : document_read (tokens_meant names r.tokens) ≡ Some (expanded names n) = ap (λ ts. document_read (tokens_meant names ts)) (tree_tokens r n spells numbered_is) ∙ ap document_read (numbered_meant names n) ∙ document_again (expanded names n) in
-    subst IsOrdered (document_is names r d (expanded names n) spells is read) (document_ordered d (lawful_under names d r.bytes is).1.document)
+-- ---- the record with names
+
+-- what was made of a record with numbers is the record of what it means
+pub expanded_is : (names : List Name) (r : Record) (d : Document) (whole out : List ℕ) → Spells r → r.named ≡ false → IsRecordOf d whole → IsNumberedUnder names d r.bytes
+    → ((n : NumberedTree) → r.tokens ≡ numbered_tokens n → out ≡ record_of (expanded names n)) → out ≡ whole
+expanded_is names r d whole out spells unnamed is under made =
+    let tree = numbered_tree r spells unnamed in
+    made tree.tree tree.tokens ∙ ap record_of (sym (under_expanded names r tree.tree d spells tree.tokens (inr (whole, is, under)))) ∙ sym is.spelled
+
+pub expanded_found : (names : List Name) (r : Record) (d : Document) (out : List ℕ) → Spells r → r.named ≡ false → IsRecordUnder names d r.bytes
+    → ((n : NumberedTree) → r.tokens ≡ numbered_tokens n → out ≡ record_of (expanded names n)) → (e : Document) × IsRecordOf e out × IsNumberedUnder names e r.bytes
+expanded_found names r d out spells unnamed (inl is) made = absurd (both_ways r.named unnamed (document_tokens r d spells is).0)
+expanded_found names r d out spells unnamed (inr (whole, is, under)) made = (d, subst (IsRecordOf d) (sym (expanded_is names r d whole out spells unnamed is under made)) is, under)

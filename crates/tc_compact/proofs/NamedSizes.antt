@@ -1,24 +1,25 @@
--- How long the record of form 0 of a record of form 1 is.
-use Rattle.std.proofs.Common.{◌≡◌, ◌∙◌, ℕ, zero, suc, ◌+◌, ◌*◌, ◌-◌, ◌<◌, ◌≤◌, ◌^◌, nat_lt, if◌then◌else◌, Bool, true, false, List, [], ◌∷◌, ◌++◌, Option, None, Some, IfSome, IfNone, length, map, flat_map, refl, sym, ap, subst, arith, length-append}
+-- How long the record with names of a record with numbers is.
+use Rattle.std.proofs.Common.{◌≡◌, ◌∙◌, ℕ, zero, suc, ◌+◌, ◌*◌, ◌-◌, ◌<◌, ◌≤◌, ◌^◌, nat_lt, if◌then◌else◌, Bool, true, false, List, [], ◌∷◌, Option, None, Some, IfSome, IfNone, length, map, flat_map, refl, sym, ap, subst, arith, length-append}
 use Rattle.std.proofs.lemmas.Bool.Decides.{nat_tests}
 use Rattle.std.proofs.lemmas.List.{length-map}
 use Rattle.std.specs.List.{AllByRecursion}
-use Rattle.tc_model.specs.Document.{Name}
+use Rattle.tc_model.specs.Document.{Name, Scalar}
 use Rattle.tc_model.specs.Dictionary.{IsName, IsDictionary}
 use Rattle.tc_names.specs.Longest.{longest_of}
-use Rattle.tc_record.specs.Preorder.{tokens_of}
-use Rattle.tc_record.specs.Record.{labels, greatest, width, numbers, joined, record_of, NumberedTree, IsNumberedRecordOf}
+use Rattle.tc_record.specs.Preorder.{Token}
+use Rattle.tc_record.specs.Record.{labels, texts, piece_tag, greatest, width, joined, in_bytes, record_of, NumberedTree}
 use Rattle.tc_record.specs.Sections.{least_width}
 use Rattle.tc_record.specs.Walk.{Key, name, number}
-use Rattle.tc_record.specs.Borrowed.{Record, Spells, IsBelow}
-use Rattle.tc_record.proofs.NumberLengths.{length-numbers}
+use Rattle.tc_record.specs.Borrowed.{Record, Spells, IsBelow, numbered_tokens}
+use Rattle.tc_record.proofs.Cutting.{labels_within}
+use Rattle.tc_record.proofs.NumberLengths.{length-numbers, bytes_most}
+use Rattle.tc_record.proofs.NumberColumns.{least_width-is}
 use Rattle.tc_compact.specs.Slots.{key_numbers, numbers_in}
 use Rattle.tc_compact.specs.Meant.{name_at, expanded, HasRoom}
-use Rattle.tc_compact.specs.Layout.{slot_bytes, values_in}
-use Rattle.tc_compact.proofs.Relabelled.{record-named}
-use Rattle.tc_compact.proofs.Laid.{values, record_laid, whole_cut, slots_between}
-use Rattle.tc_record.proofs.NumberColumns.{least_width-is}
-use Rattle.tc_compact.proofs.Expands.{numbered_cut, numbered_tree, numbers_are}
+use Rattle.tc_compact.specs.Layout.{parts_of, values}
+use Rattle.tc_compact.proofs.Laid.{whole_sum, whole_length}
+use Rattle.tc_compact.proofs.Compacts.{record_holds}
+use Rattle.tc_compact.proofs.NumberedTrees.{numbered_tree, expanded_laid}
 
 -- ---- how long names are
 
@@ -35,66 +36,44 @@ joined_few names (k ∷ ks) each = omega (arith, length-append (name_at names k)
 pub joined_short : (names : List Name) (ks : List ℕ) → IsDictionary names → length ks < 2 ^ 32 → length (joined (map (name_at names) ks)) < 2 ^ 64
 joined_short names ks dictionary few = omega (arith, joined_few names ks dictionary.each, few)
 
--- ---- how the numbers of a record lie in its bytes
-
-pub record NumbersLie (bytes : List ℕ) (ks : List ℕ) : Type 0 where
-  pub few : length ks < 2 ^ 32
-  pub behind : 23 + (slot_bytes bytes (length ks) + 0) ≤ length bytes
-  pub small : 23 + length (values_in bytes (slot_bytes bytes (length ks) + 0)) + length ks * 4 < 2 ^ 63
-
-pub numbers_lie : (r : Record) → Spells r → r.named ≡ false → NumbersLie r.bytes (numbers_in r.tokens)
-numbers_lie r spells unnamed =
-    let tree = numbered_tree r spells unnamed in
-    let tn = tokens_of tree.0 in
-    let ks = labels tn in
-    let cut = numbered_cut tn ks r.bytes tree.1.spelled in
-    let slots : slot_bytes r.bytes (length ks) ≡ length (numbers (width ks) ks) = ap (λ k. length ks * k) cut.slot_width_is ∙ sym (length-numbers (width ks) ks) in
-    subst (NumbersLie r.bytes) (sym tree.2)
-    (record {
-      few = omega (arith, cut.len, slots, (slots_between ks).0, tree.1.short);
-      behind = omega (arith, cut.len);
-      small = omega (arith, cut.len, slots, (slots_between ks).0, tree.1.short, ap length cut.values_are);
-    })
-
--- ---- the length
-
-pub named_length : (names : List Name) (r : Record) (n : NumberedTree) (count longest name_bytes len : ℕ) → Spells r → r.named ≡ false → IsNumberedRecordOf n r.bytes
-    → count ≡ length (numbers_in r.tokens) → longest ≡ greatest (map length (map (name_at names) (numbers_in r.tokens))) → name_bytes ≡ length (joined (map (name_at names) (numbers_in r.tokens)))
-    → len ≡ length (values_in r.bytes (slot_bytes r.bytes (length (numbers_in r.tokens)) + 0))
-    → 23 + len + count * least_width count longest + name_bytes ≡ length (record_of (expanded names n))
-named_length names r n count longest name_bytes len spells unnamed is many most bytes values_len =
-    let tn = tokens_of n in
-    let ks = labels tn in
-    let ns = map (name_at names) ks in
-    let ls = map length ns in
-    let same = numbers_are r n spells is in
-    let cut = numbered_cut tn ks r.bytes is.spelled in
-    let behind = numbers (width ls) ls ++ joined ns in
-    let len_is : len ≡ length (values tn) = values_len ∙ ap length (ap (λ k. values_in r.bytes (slot_bytes r.bytes (length k) + 0)) same ∙ cut.values_are) in
-    let all : count ≡ length ls = many ∙ ap length same ∙ sym (length-map ks (name_at names)) ∙ sym (length-map ns length) in
-    let most_is : longest ≡ greatest ls = most ∙ ap (λ k. greatest (map length (map (name_at names) k))) same in
-    let slots : count * least_width count longest ≡ length (numbers (width ls) ls) =
-    ap (λ k. count * least_width k longest) all ∙ ap (λ g. count * least_width (length ls) g) most_is ∙ ap (λ k. count * k) (least_width-is ls) ∙ ap (λ k. k * width ls) all ∙ sym (length-numbers (width ls) ls) in
-    let bytes_is : name_bytes ≡ length (joined ns) = bytes ∙ ap (λ k. length (joined (map (name_at names) k))) same in
-    let whole_len = ap length (record-named (name_at names) n ∙ record_laid 0 tn ls (joined ns)) in
-    omega (arith, len_is, slots, bytes_is, whole_len, (whole_cut 0 tn (length ls) (width ls) (values tn) behind).len, length-append (numbers (width ls) ls) (joined ns))
+-- there are fewer than 2^32 numbers, since each is that of a token
+pub numbers_few : (r : Record) → Spells r → length (numbers_in r.tokens) < 2 ^ 32
+numbers_few r spells =
+    let holds = record_holds r spells in
+    omega (arith, fewer (labels r.tokens), labels_within r.tokens, length-map r.tokens (λ (t : Token Key Scalar). piece_tag t.piece), holds.len, holds.short)
+  where
+    fewer : (ls : List Key) → length (flat_map key_numbers ls) ≤ length ls
+    fewer [] = omega arith
+    fewer (name n ∷ ls) = omega (arith, fewer ls)
+    fewer (number k ∷ ls) = omega (arith, fewer ls)
 
 -- what slots tell of the names that they measure
-pub slots_told : (ns : List Name) (count longest : ℕ) → count ≡ length ns → longest ≡ greatest (map length ns) → (least_width count longest ≡ width (map length ns)) × (count * least_width count longest ≡ length (map length ns) * width (map length ns))
+pub slots_told : (ns : List Name) (count longest : ℕ) → count ≡ length ns → longest ≡ greatest (map length ns) → (least_width in_bytes count longest ≡ width (map length ns)) × (count * least_width in_bytes count longest ≡ length (map length ns) * width (map length ns))
 slots_told ns count longest many most =
     let ls = map length ns in
     let all : count ≡ length ls = many ∙ sym (length-map ns length) in
-    let told : least_width count longest ≡ width ls = ap (λ k. least_width k longest) all ∙ ap (least_width (length ls)) most ∙ least_width-is ls in
+    let told : least_width in_bytes count longest ≡ width ls = ap (λ k. least_width in_bytes k longest) all ∙ ap (least_width in_bytes (length ls)) most ∙ least_width-is in_bytes ls in
     (told, ap (λ k. count * k) told ∙ ap (λ k. k * width ls) all)
+
+-- ---- the length
+
+-- by what is known of the names
+pub named_length : (names : List Name) (r : Record) (n : NumberedTree) (count longest name_bytes len : ℕ) → r.tokens ≡ numbered_tokens n
+    → count ≡ length (numbers_in r.tokens) → longest ≡ greatest (map length (map (name_at names) (numbers_in r.tokens))) → name_bytes ≡ length (joined (map (name_at names) (numbers_in r.tokens)))
+    → len ≡ length (values in_bytes (parts_of r.tokens)) → 23 + len + count * least_width in_bytes count longest + name_bytes ≡ length (record_of (expanded names n))
+named_length names r n count longest name_bytes len tokens many most bytes values_len =
+    let ns = map (name_at names) (numbers_in r.tokens) in
+    let ls = map length ns in
+    let told = slots_told ns count longest (many ∙ sym (length-map (numbers_in r.tokens) (name_at names))) most in
+    omega (arith, values_len, told.1, bytes, ap length (expanded_laid names n r.tokens tokens), whole_sum in_bytes 0 (parts_of r.tokens) ls (joined ns), length-numbers (width ls) ls)
 
 -- a record that has room is short enough
 pub short_with_names : (names : List Name) (r : Record) (count longest name_bytes len : ℕ) → Spells r → r.named ≡ false → HasRoom names r
     → count ≡ length (numbers_in r.tokens) → longest ≡ greatest (map length (map (name_at names) (numbers_in r.tokens))) → name_bytes ≡ length (joined (map (name_at names) (numbers_in r.tokens)))
-    → len ≡ length (values_in r.bytes (slot_bytes r.bytes (length (numbers_in r.tokens)) + 0))
-    → 23 + len + count * least_width count longest + name_bytes < 2 ^ 32
+    → len ≡ length (values in_bytes (parts_of r.tokens)) → 23 + len + count * least_width in_bytes count longest + name_bytes < 2 ^ 32
 short_with_names names r count longest name_bytes len spells unnamed room many most bytes values_len =
     let tree = numbered_tree r spells unnamed in
-    subst (λ k. k < 2 ^ 32) (sym (named_length names r tree.0 count longest name_bytes len spells unnamed tree.1 many most bytes values_len)) (room.short tree.0 tree.1)
+    subst (λ k. k < 2 ^ 32) (sym (named_length names r tree.tree count longest name_bytes len tree.tokens many most bytes values_len)) (room.short tree.tree tree.tokens)
 
 -- what has 32 bits
 pub within : (total : ℕ) (o : Option ℕ) → o ≡ (if nat_lt total (2 ^ 32) then Some total else None) → IfSome o (λ len. len ≡ total) × IfNone o (2 ^ 32 ≤ total)
@@ -118,27 +97,28 @@ slots_most names [] = omega arith
 slots_most names (name n ∷ ls) = omega (arith, slots_most names ls)
 slots_most names (number k ∷ ls) = omega (arith, length-append (name_at names k) (joined (map (name_at names) (flat_map key_numbers ls))), most_at names k, slots_most names ls)
 
--- so the record with names is at most so long
-pub named_most : (names : List Name) (r : Record) (n : NumberedTree) → Spells r → r.named ≡ false → IsNumberedRecordOf n r.bytes
-    → length (record_of (expanded names n)) ≤ length r.bytes + length (labels r.tokens) * (longest_of names + 4)
-named_most names r n spells unnamed is =
-    let tn = tokens_of n in
-    let ks = labels tn in
+-- so the record with names is at most so long, whose lengths of texts take four bytes each at most
+pub named_most : (names : List Name) (r : Record) (n : NumberedTree) → Spells r → r.tokens ≡ numbered_tokens n
+    → length (record_of (expanded names n)) ≤ length r.bytes + length (labels r.tokens) * (longest_of names + 4) + length (texts r.tokens) * 4
+named_most names r n spells tokens =
+    let ks = numbers_in r.tokens in
     let ns = map (name_at names) ks in
     let ls = map length ns in
-    let behind = numbers (width ls) ls ++ joined ns in
-    let most = slots_most names (labels r.tokens) in
-    let most_is : length (joined ns) + length ks * 4 ≤ length (labels r.tokens) * (longest_of names + 4) = subst (λ k. length (joined (map (name_at names) k)) + length k * 4 ≤ length (labels r.tokens) * (longest_of names + 4)) (numbers_are r n spells is) most in
+    let lengths = map length (texts r.tokens) in
     let members : length ls ≡ length ks = length-map ns length ∙ length-map ks (name_at names) in
-    let whole_len = ap length (record-named (name_at names) n ∙ record_laid 0 tn ls (joined ns)) in
-    omega (arith, most_is, members, whole_len, (numbered_cut tn ks r.bytes is.spelled).len, (slots_between ls).1, (whole_cut 0 tn (length ls) (width ls) (values tn) behind).len, length-append (numbers (width ls) ls) (joined ns))
+    let holds = record_holds r spells in
+    omega (
+      arith, slots_most names (labels r.tokens), members, bytes_most ls, bytes_most lengths, length-map (texts r.tokens) length, holds.len,
+      ap length (expanded_laid names n r.tokens tokens), whole_length in_bytes 0 (parts_of r.tokens) ls (joined ns),
+    )
 
 under : (len most : ℕ) → len ≤ most → nat_lt most (2 ^ 32) ≡ true → len < 2 ^ 32
 under len most less test = grind (arith, nat_tests)
 
 -- a record has room that is short enough with the longest name in place of each number
-pub room_by_bound : (names : List Name) (r : Record) → Spells r → r.named ≡ false → AllByRecursion (IsBelow (length names)) (labels r.tokens) → nat_lt (length r.bytes + length (labels r.tokens) * (longest_of names + 4)) (2 ^ 32) ≡ true → HasRoom names r
-room_by_bound names r spells unnamed known test = record {
+pub room_by_bound : (names : List Name) (r : Record) → Spells r → AllByRecursion (IsBelow (length names)) (labels r.tokens)
+    → nat_lt (length r.bytes + (length (labels r.tokens) * (longest_of names + 4) + length (texts r.tokens) * 4)) (2 ^ 32) ≡ true → HasRoom names r
+room_by_bound names r spells known test = record {
   known = known;
-  short = λ n is. under (length (record_of (expanded names n))) _ (named_most names r n spells unnamed is) test;
+  short = λ n tokens. under (length (record_of (expanded names n))) _ (let most = named_most names r n spells tokens in omega (arith, most)) test;
 }

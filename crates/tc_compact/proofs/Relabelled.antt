@@ -3,12 +3,12 @@ use Rattle.std.proofs.Common.{◌≡◌, ◌∙◌, ℕ, ◌<◌, ◌^◌, List,
 use Rattle.tc_model.specs.Tree.{Tree, leaf, array, object, Items, no_items, item, Members, no_members, member, depth, relabel, items_relabel, members_relabel}
 use Rattle.tc_model.specs.Document.{Name, Document, Scalar, IsScalar, IsTreeOf, AreItemsOf, AreMembersOf}
 use Rattle.tc_record.specs.Preorder.{Token, tokens_of}
-use Rattle.tc_record.specs.Record.{NumberedTree, labels, joined, record_bytes, record_of, numbered_record_of, IsNumberedTree, AreNumberedItems, AreNumberedMembers}
+use Rattle.tc_record.specs.Record.{NumberedTree, labels, joined, spelling_of, record_in, record_bytes, record_of, numbered_record_in, IsNumberedTree, AreNumberedItems, AreNumberedMembers}
 use Rattle.tc_model.specs.Stored.{IsObject}
 use Rattle.tc_record.specs.Walk.{name, number}
 use Rattle.tc_record.specs.Borrowed.{numbered_tokens}
 use Rattle.tc_record.proofs.Spelled.{slot_of, name_of, slots, names}
-use Rattle.tc_record.proofs.Keyed.{retoken, preorder-relabel, depth-relabel, labels-retoken, record-retoken, record_of-keyed, record_of-numbered}
+use Rattle.tc_record.proofs.Keyed.{retoken, preorder-relabel, depth-relabel, labels-retoken, record_in-retoken, record-retoken, record_of-keyed, record_in-numbered}
 use Rattle.tc_compact.specs.Slots.{key_names, names_in, key_numbers, numbers_in}
 
 module _ {L M N : Type 0} (g : M → N) (f : L → M) where
@@ -106,16 +106,17 @@ module _ {L : Type 0} (g : L → Name) (ts : List (Token L Scalar)) where
 pub tokens-numbered : (f : Name → ℕ) (d : Document) → numbered_tokens (relabel f (λ s. s) d) ≡ map (retoken (λ n. number (f n))) (tokens_of d)
 tokens-numbered f d = ap tokens_of (relabel-relabel number f d) ∙ preorder-relabel (λ n. number (f n)) d None
 
--- the record of form 1 of a document has the columns of its tokens
-pub record-numbered : (f : Name → ℕ) (d : Document) → numbered_record_of (relabel f (λ s. s) d) ≡ record_bytes 1 (tokens_of d) (map f (labels (tokens_of d))) []
-record-numbered f d =
+-- a record of a document with numbers has the columns of its tokens
+pub record-numbered : (form : ℕ) (f : Name → ℕ) (d : Document) → numbered_record_in form (relabel f (λ s. s) d) ≡ record_in (spelling_of form) form (tokens_of d) (map f (labels (tokens_of d))) []
+record-numbered form f d =
+    let s = spelling_of form in
     let ts = tokens_of d in
     let us = map (retoken (λ n. number (f n))) ts in
-    record_of-numbered (relabel f (λ s. s) d)
-    ∙ ap (λ vs. record_bytes 1 vs (slots vs) (names vs)) (tokens-numbered f d)
-    ∙ ap (λ ns. record_bytes 1 us ns (names us)) (slots-to_numbers f ts)
-    ∙ ap (record_bytes 1 us (map f (labels ts))) (names-to_numbers f ts)
-    ∙ record-retoken (λ n. number (f n)) 1 ts (map f (labels ts)) []
+    record_in-numbered form (relabel f (λ s. s) d)
+    ∙ ap (λ vs. record_in s form vs (slots vs) (names vs)) (tokens-numbered f d)
+    ∙ ap (λ ns. record_in s form us ns (names us)) (slots-to_numbers f ts)
+    ∙ ap (record_in s form us (map f (labels ts))) (names-to_numbers f ts)
+    ∙ record_in-retoken (λ n. number (f n)) s form ts (map f (labels ts)) []
 
 -- the record of form 0 of a numbered tree with names in it has the columns of its tokens too
 pub record-named : (g : ℕ → Name) (n : NumberedTree) → record_of (relabel g (λ s. s) n) ≡ record_bytes 0 (tokens_of n) (map length (map g (labels (tokens_of n)))) (joined (map g (labels (tokens_of n))))

@@ -1,31 +1,33 @@
--- A record of form 1 has one record of form 0, whatever names are learned later.
-use Rattle.std.proofs.Common.{◌≡◌, ◌∙◌, ℕ, Bool, false, List, [], refl, sym, ap}
+-- A record with numbers has one record with names, whatever names are learned later.
+use Rattle.std.proofs.Common.{◌≡◌, ◌∙◌, ℕ, List, [], sym, ap}
 use Rattle.std.proofs.lemmas.Option.{same_Some}
-use Rattle.tc_model.specs.Document.{Name, Document, Scalar}
+use Rattle.tc_model.specs.Document.{Name, Document}
 use Rattle.tc_model.specs.Dictionary.{Extends, IsDictionary, number as name_number}
-use Rattle.tc_record.specs.Preorder.{Token, tokens_of}
-use Rattle.tc_record.specs.Record.{labels, record_bytes, IsRecordOf}
-use Rattle.tc_record.specs.Walk.{Key}
-use Rattle.tc_record.specs.Borrowed.{Record, numbered_tokens}
-use Rattle.tc_record.proofs.Reading.{numbered_again}
-use Rattle.tc_compact.specs.Compacted.{compacted, IsCompactedRecordOf}
 use Rattle.tc_model.proofs.LastingNumbers.{numbers-Extends}
+use Rattle.tc_record.specs.Preorder.{tokens_of}
+use Rattle.tc_record.specs.Record.{labels, spelling_of, record_in, record_of, IsRecordOf}
+use Rattle.tc_record.specs.Walk.{Format}
+use Rattle.tc_record.specs.Borrowed.{numbered_tokens}
+use Rattle.tc_record.proofs.Built.{document_again}
+use Rattle.tc_record.specs.Building.{document_read}
+use Rattle.tc_record.proofs.Reading.{numbered_again}
+use Rattle.tc_compact.specs.Compacted.{compacted, IsCompactedIn, IsNumberedUnder}
+use Rattle.tc_compact.specs.Meant.{tokens_meant}
 use Rattle.tc_compact.proofs.Relabelled.{record-numbered}
-use Rattle.tc_compact.proofs.Compacts.{compacted_record}
-use Rattle.tc_compact.proofs.Expands.{built_record, compacted_names, names_are, expands}
+use Rattle.tc_compact.proofs.Compacts.{Tokens, compacted_record}
+use Rattle.tc_compact.proofs.Meanings.{compacted_meant}
 
-pub compacted_stays : (d : Document) (whole bytes : List ℕ) (names newer : List Name) → IsRecordOf d whole → IsCompactedRecordOf names d bytes → IsDictionary newer → Extends newer names → IsCompactedRecordOf newer d bytes
-compacted_stays d whole bytes names newer is form1 dictionary extends =
+pub compacted_stays : (form : ℕ) (d : Document) (whole bytes : List ℕ) (names newer : List Name) → IsRecordOf d whole → IsCompactedIn form names d bytes → IsDictionary newer → Extends newer names → IsCompactedIn form newer d bytes
+compacted_stays form d whole bytes names newer is compact dictionary extends =
     let ts = tokens_of d in
-    let stay = numbers-Extends newer names (labels ts) extends form1.known in
-    compacted_record newer d whole bytes dictionary is stay.0 (form1.numbered.spelled ∙ record-numbered (name_number names) d ∙ ap (λ ks. record_bytes 1 ts ks []) (sym stay.1)) form1.numbered.short
+    let stay = numbers-Extends newer names (labels ts) extends compact.known in
+    compacted_record form newer d whole bytes dictionary is stay.0
+    (compact.numbered.spelled ∙ record-numbered form (name_number names) d ∙ ap (λ ks. record_in (spelling_of form) form ts ks []) (sym stay.1)) compact.numbered.short
 
-pub one_record : (d e : Document) (whole other bytes : List ℕ) (names : List Name) → IsRecordOf d whole → IsCompactedRecordOf names d bytes → IsRecordOf e other → IsCompactedRecordOf names e bytes → whole ≡ other
-one_record d e whole other bytes names is form1 is_e form1_e =
-    let ls = labels (tokens_of d) in
-    let ts = numbered_tokens (compacted names d) in
-    let r : Record = record { bytes = bytes; named = false; tokens = ts } in
-    let both = same_Some (false, ts) (false, numbered_tokens (compacted names e)) (sym (numbered_again (compacted names d) bytes form1.numbered) ∙ numbered_again (compacted names e) bytes form1_e.numbered) in
-    let tokens : ts ≡ numbered_tokens (compacted names e) = ap (λ (p : Bool × List (Token Key Scalar)). p.1) both in
-    let same : ls ≡ labels (tokens_of e) = names_are names e r ls form1_e.known tokens (compacted_names names d r form1.known refl) in
-    sym (expands names d bytes whole (built_record bytes ls) ls is form1 refl refl) ∙ expands names e bytes other (built_record bytes ls) ls is_e form1_e same refl
+pub one_record : (d e : Document) (whole other bytes : List ℕ) (names : List Name) → IsRecordOf d whole → IsNumberedUnder names d bytes → IsRecordOf e other → IsNumberedUnder names e bytes → whole ≡ other
+one_record d e whole other bytes names is (form, (told, compact)) is_e (form_e, (told_e, compact_e)) =
+    let both = same_Some _ _ (sym (numbered_again form told (compacted names d) bytes compact.numbered) ∙ numbered_again form_e told_e (compacted names e) bytes compact_e.numbered) in
+    let tokens : numbered_tokens (compacted names d) ≡ numbered_tokens (compacted names e) = ap (λ (p : Format × Tokens). p.1) both in
+    let meant = sym (compacted_meant names d compact.known) ∙ ap (tokens_meant names) tokens ∙ compacted_meant names e compact_e.known in
+    let same : d ≡ e = same_Some d e (sym (document_again d) ∙ ap document_read meant ∙ document_again e) in
+    is.spelled ∙ ap record_of same ∙ sym is_e.spelled

@@ -5,13 +5,21 @@ use Rattle.tc_model.specs.Document.{Name, Document}
 use Rattle.tc_model.specs.KnownNames.{HasEach}
 use Rattle.tc_model.specs.Dictionary.{number as name_number}
 use Rattle.tc_record.specs.Preorder.{tokens_of}
-use Rattle.tc_record.specs.Record.{labels, NumberedTree, IsNumberedRecordOf}
+use Rattle.tc_record.specs.Record.{labels, NumberedTree, numbered_form, IsNumberedForm, IsNumberedRecordIn}
 
 -- the document with each name replaced by its number
 abbrev pub compacted : List Name → Document → NumberedTree
 compacted names d = relabel (name_number names) (λ s. s) d
 
--- the bytes are the record of form 1 of a document whose names the dictionary has
-pub record IsCompactedRecordOf (names : List Name) (d : Document) (bytes : List ℕ) : Type 0 where
+-- the bytes are the record of a form of a document whose names the dictionary has
+pub record IsCompactedIn (form : ℕ) (names : List Name) (d : Document) (bytes : List ℕ) : Type 0 where
   pub known : HasEach names (labels (tokens_of d))
-  pub numbered : IsNumberedRecordOf (compacted names d) bytes
+  pub numbered : IsNumberedRecordIn form (compacted names d) bytes
+
+-- of form 1
+abbrev pub IsCompactedRecordOf : List Name → Document → List ℕ → Type 0
+IsCompactedRecordOf names d bytes = IsCompactedIn numbered_form names d bytes
+
+-- of one of the forms whose members carry numbers
+abbrev pub IsNumberedUnder : List Name → Document → List ℕ → Type 0
+IsNumberedUnder names d bytes = (form : ℕ) × (IsNumberedForm form × IsCompactedIn form names d bytes)

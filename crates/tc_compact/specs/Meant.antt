@@ -1,14 +1,14 @@
--- What a record of form 1 means under a dictionary: each number stands for a name.
-use Rattle.std.specs.Prelude.{◌<◌, ◌^◌, ◌⊎◌, ◌&&◌, ℕ, Bool, true, List, [], ◌∷◌, map, Option, Some, option_map, slice_get, unwrap_or, length}
+-- What a record whose members carry numbers means under a dictionary: each number stands for a name.
+use Rattle.std.specs.Prelude.{◌≡◌, ◌<◌, ◌^◌, ◌⊎◌, ◌&&◌, ℕ, Bool, true, List, [], ◌∷◌, map, Option, Some, option_map, slice_get, unwrap_or, length}
 use Rattle.std.specs.List.{AllByRecursion}
 use Rattle.tc_model.specs.Tree.{Tree, leaf, array, object, Items, no_items, item, Members, no_members, member, relabel, listed_members}
 use Rattle.tc_model.specs.Document.{Name, Document, Scalar, ShapeTree, IsAscending, document_shape}
 use Rattle.tc_record.specs.Preorder.{Piece, Token, token}
-use Rattle.tc_record.specs.Record.{labels, NumberedTree, record_of, IsRecordOf, IsNumberedRecordOf}
-use Rattle.tc_record.specs.Borrowed.{Record, IsBelow}
+use Rattle.tc_record.specs.Record.{labels, NumberedTree, record_of, IsRecordOf}
+use Rattle.tc_record.specs.Borrowed.{Record, IsBelow, numbered_tokens}
 use Rattle.tc_record.specs.Walk.{Key, name, number, is_above}
 use Rattle.tc_record.specs.Building.{Levels, value_read, levels_of, document_read}
-use Rattle.tc_compact.specs.Compacted.{IsCompactedRecordOf}
+use Rattle.tc_compact.specs.Compacted.{IsNumberedUnder}
 
 -- the name of a number, or none of its bytes
 abbrev pub name_at : List Name → ℕ → Name
@@ -58,11 +58,11 @@ abbrev mutual
   AreMembersOrdered no_members = Unit {0}
   AreMembersOrdered (member n t ms) = IsOrdered t × AreMembersOrdered ms
 
--- the bytes are a record of the document, in form 0, or in form 1 under the dictionary
+-- the bytes are a record of the document, with its names, or with numbers under the dictionary
 abbrev pub IsRecordUnder : List Name → Document → List ℕ → Type 0
-IsRecordUnder names d bytes = IsRecordOf d bytes ⊎ ((whole : List ℕ) × IsRecordOf d whole × IsCompactedRecordOf names d bytes)
+IsRecordUnder names d bytes = IsRecordOf d bytes ⊎ ((whole : List ℕ) × IsRecordOf d whole × IsNumberedUnder names d bytes)
 
 -- each number of a record has a name, and with these names it is shorter than 2^32 bytes
 pub record HasRoom (names : List Name) (r : Record) : Type 0 where
   pub known : AllByRecursion (IsBelow (length names)) (labels r.tokens)
-  pub short : (n : NumberedTree) → IsNumberedRecordOf n r.bytes → length (record_of (expanded names n)) < 2 ^ 32
+  pub short : (n : NumberedTree) → r.tokens ≡ numbered_tokens n → length (record_of (expanded names n)) < 2 ^ 32

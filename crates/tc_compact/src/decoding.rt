@@ -1,4 +1,4 @@
-//! The document of a record of either form, built of its tokens.
+//! The document of a record of any form, built of its tokens.
 
 ghost use Rattle.std.specs.Prelude.{◌≡◌, ◌≤◌, ◌∷◌, IfOk, IfSome, IsErrOf, option_map, length, map};
 ghost use Rattle.std.specs.List.{AllByRecursion};
@@ -17,9 +17,9 @@ use tc_names::Names;
 use tc_record::{Cursor, Piece, RecordFault, RecordRef, Token};
 use tc_value::{Doc, Items, Member, Text};
 
-/// The document that a record of either form spells under a dictionary. `NotARecord` comes exactly where there is none:
-/// the record is of form 1, and a number has no name, the names of an object do not ascend, or the record of form 0 would
-/// have 4,294,967,296 bytes or more.
+/// The document that a record of any form spells under a dictionary. `NotARecord` comes exactly where there is none:
+/// the members carry numbers, and one has no name, the names of an object do not ascend, or the record of form 0 would have
+/// 4,294,967,296 bytes or more.
 pub fn document_of(alloc: Global, of: RecordRef<'_>, names: &Names) -> Result<Doc, RecordFault>
     ensures found { IfOk result (λ doc. IsRecordUnder names.now (tree_of doc) of.entry.bytes) }
     ensures only { IfOk result (λ doc. (d : Document) → IsRecordUnder names.now d of.entry.bytes → tree_of doc ≡ d) }

@@ -10,16 +10,16 @@ ghost use Rattle.tc_model.specs.TreeSize.{tree_size};
 ghost use Rattle.tc_record.specs.Borrowed.{Record, Spells, named_tokens};
 ghost use Rattle.tc_record.specs.Building.{document_read, HoldDocuments};
 ghost use Rattle.tc_record.specs.Record.{IsRecordOf};
-ghost use Rattle.tc_compact.specs.Compacted.{IsCompactedRecordOf};
+ghost use Rattle.tc_compact.specs.Compacted.{IsCompactedIn, IsNumberedUnder};
 ghost use Rattle.tc_compact.specs.Meant.{tokens_meant, levels_meant, IsRecordUnder};
 ghost use Rattle.tc_compact.specs.Slots.{names_in};
 
 /// A law, and no work. The form 1 of a record under a dictionary is its form 1 under each dictionary that extends that
-/// one, and of no other record there. So `expand` answers the record that was handed to `compact`, unless memory is
-/// wanting.
+/// one, and so it is with form 2. Bytes are those of one record under a dictionary alone, whichever their form. So `expand`
+/// answers the record that was handed to `compact`, unless memory is wanting.
 pub fn round_trip()
-    ensures stays { (d : Document) (whole bytes : List ℕ) (names newer : List Name) → IsRecordOf d whole → IsCompactedRecordOf names d bytes → IsDictionary newer → Extends newer names → IsCompactedRecordOf newer d bytes }
-    ensures one { (d e : Document) (whole other bytes : List ℕ) (names : List Name) → IsRecordOf d whole → IsCompactedRecordOf names d bytes → IsRecordOf e other → IsCompactedRecordOf names e bytes → whole ≡ other }
+    ensures stays { (form : ℕ) (d : Document) (whole bytes : List ℕ) (names newer : List Name) → IsRecordOf d whole → IsCompactedIn form names d bytes → IsDictionary newer → Extends newer names → IsCompactedIn form newer d bytes }
+    ensures one { (d e : Document) (whole other bytes : List ℕ) (names : List Name) → IsRecordOf d whole → IsNumberedUnder names d bytes → IsRecordOf e other → IsNumberedUnder names e bytes → whole ≡ other }
 {}
 
 /// A law, and no work. A record and the shape of its document have the same names in the same order, so what `compact`
@@ -33,7 +33,7 @@ pub fn names_agree()
     ensures values { (d : Document) (whole : List ℕ) → IsRecordOf d whole → tree_size d ≤ length whole }
 {}
 
-/// A law, and no work. The tokens of a record of either form, with the names that numbers mean, are read as the document
+/// A law, and no work. The tokens of a record of any form, with the names that numbers mean, are read as the document
 /// that the record spells, and what they hold is lawful.
 pub fn document_meant()
     ensures read { (r : Record) (names : List Name) (d : Document) → Spells r → IsRecordUnder names d r.bytes → document_read (tokens_meant names r.tokens) ≡ Some d }

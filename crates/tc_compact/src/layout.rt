@@ -1,39 +1,22 @@
-//! The parts of a record that both of its forms share, and the parts that differ.
+//! A record that is written by the parts of another one, as a form spells them.
 
-ghost use Rattle.std.specs.Prelude.{◌≡◌, ◌≤◌, ◌+◌, ◌++◌, IfOk, OnOk, length};
-ghost use Rattle.std.specs.Int.{bytes_high_first};
-ghost use Rattle.tc_record.specs.Record.{header_size, greatest as greatest_of, width as least_width, numbers};
-ghost use Rattle.tc_record.specs.Widths.{width_bytes};
-ghost use Rattle.tc_compact.specs.Layout.{front, slot_bytes, counts_in, values_in};
+ghost use Rattle.std.specs.Prelude.{◌≡◌, ◌<◌, ◌^◌, ◌++◌, IfOk, OnOk, length};
+ghost use Rattle.tc_record.specs.Record.{labels, greatest as greatest_of, spelling_of, column_in};
+ghost use Rattle.tc_compact.specs.Layout.{parts_of, values, counts, front};
 
 use std::alloc::Global;
+use tc_bits::ColumnWriter;
 use tc_bytes::{Memory, put_u32};
-use tc_record::{HEADER_SIZE, Width, put_number};
+use tc_record::{Column, RecordRef, column_bits, column_bytes, least_width};
 
-/// Where the counts of a header begin.
-const COUNTS_PLACE: usize = 5;
-
-/// Where the width of a slot stands, which is the last byte of a header.
-pub(crate) const SLOT_WIDTH_PLACE: usize = 22;
-
-/// The counts of a header, and the columns before the slots.
-#[derive(Clone, Copy)]
-pub(crate) struct Shared<'a> {
-    pub(crate) counts: &'a [u8],
-    pub(crate) values: &'a [u8],
-}
-
-/// The shared parts of a record that has so many members and so many bytes of names.
-pub(crate) fn shared_in(bytes: &[u8], members: usize, name_bytes: usize) -> Shared<'_>
-    requires { header_size + (slot_bytes bytes.now members + name_bytes) ≤ length bytes.now }
-    ensures counts { result.counts.now ≡ counts_in bytes.now }
-    ensures values { result.values.now ≡ values_in bytes.now (slot_bytes bytes.now members + name_bytes) }
+/// How many bytes the columns before the slots take in a form.
+pub(crate) fn values_len(form: u8, from: &RecordRef<'_>) -> usize
+    ensures len { result ≡ length (values (spelling_of form) (parts_of from.now.tokens)) }
+    ensures most { result < 2 ^ 36 }
 {
-    let behind = members * usize::from(bytes[SLOT_WIDTH_PLACE]) + name_bytes;
-    Shared {
-        counts: &bytes[COUNTS_PLACE..SLOT_WIDTH_PLACE],
-        values: &bytes[HEADER_SIZE..bytes.len() - behind],
-    }
+    let _bytes = from.bytes();
+    let lengths = column_bytes(form, from.text_count(), from.longest_text()) as usize;
+    from.tags().len() + from.fixed().len() + from.texts().len() + lengths
 }
 
 /// All of a record that stands before its slots. Errs only for want of memory.
@@ -41,32 +24,84 @@ pub(crate) fn begin(
     alloc: Global,
     len: u32,
     form: u8,
-    shared: Shared<'_>,
-    width: Width,
+    from: &RecordRef<'_>,
+    slot_width: u8,
 ) -> Result<Vec<u8>, Memory>
-    ensures { IfOk result (λ out. out.items ≡ front len form shared.entry.counts.now (width_bytes width) shared.entry.values.now) }
+    ensures { IfOk result (λ out. out.items ≡ front (spelling_of form) form len (parts_of from.now.tokens) (length (labels from.now.tokens)) slot_width) }
 {
     let mut out = Vec::with_capacity(alloc, len as usize)?;
     put_u32(&mut out, len)?;
     out.push(form)?;
-    out.extend_from_slice(shared.counts)?;
-    out.push(width.bytes())?;
-    out.extend_from_slice(shared.values)?;
+    put_counts(form, from, &mut out)?;
+    out.push(slot_width)?;
+    put_values(form, from, &mut out)?;
     Ok(out)
 }
 
-/// The least width that holds each slot.
-pub(crate) fn width_of_slots(slots: &[usize]) -> Width
-    ensures { width_bytes result ≡ least_width slots.now }
+/// Appends the counts of a header. Errs only for want of memory.
+fn put_counts(form: u8, from: &RecordRef<'_>, out: &mut Vec<u8>) -> Result<(), Memory>
+    ensures { OnOk result (out.new.items ≡ out.old.items ++ counts (spelling_of form) (parts_of from.now.tokens) (length (labels from.now.tokens))) }
 {
-    if slots.is_empty() {
-        Width::Zero
-    } else {
-        Width::holding(greatest(slots) as u64)
-    }
+    let texts = from.text_count();
+    let width = least_width(form, texts, from.longest_text());
+    put_u32(out, from.token_count())?;
+    put_u32(out, from.fixed_size())?;
+    put_u32(out, texts)?;
+    out.push(width)?;
+    put_u32(out, from.member_count())?;
+    Ok(())
 }
 
-fn greatest(slots: &[usize]) -> usize
+/// Appends the columns before the slots. Errs only for want of memory.
+fn put_values(form: u8, from: &RecordRef<'_>, out: &mut Vec<u8>) -> Result<(), Memory>
+    ensures { OnOk result (out.new.items ≡ out.old.items ++ values (spelling_of form) (parts_of from.now.tokens)) }
+{
+    out.extend_from_slice(from.tags())?;
+    out.extend_from_slice(from.fixed())?;
+    put_column(form, from.text_lengths(), from.longest_text(), out)?;
+    out.extend_from_slice(from.texts())?;
+    Ok(())
+}
+
+/// Appends a column of numbers, of which this is the greatest. Errs only for want of memory.
+pub(crate) fn put_column(
+    form: u8,
+    numbers: Column<'_>,
+    greatest: u32,
+    out: &mut Vec<u8>,
+) -> Result<(), Memory>
+    requires { greatest_of numbers ≡ greatest }
+    ensures { OnOk result (out.new.items ≡ out.old.items ++ column_in (spelling_of form) numbers.entry) }
+{
+    let mut left = numbers;
+    let mut writer = ColumnWriter::of(column_bits(form, greatest));
+    while let Some(number) = left.next() {
+        writer.push(number, out)?;
+    }
+    writer.end(out)?;
+    Ok(())
+}
+
+/// Appends slots, of which this is the greatest. Errs only for want of memory.
+pub(crate) fn put_slots(
+    form: u8,
+    slots: &[u32],
+    greatest: u32,
+    out: &mut Vec<u8>,
+) -> Result<(), Memory>
+    requires { greatest_of slots.now ≡ greatest }
+    ensures { OnOk result (out.new.items ≡ out.old.items ++ column_in (spelling_of form) slots.now) }
+{
+    let mut writer = ColumnWriter::of(column_bits(form, greatest));
+    for slot in slots {
+        writer.push(*slot, out)?;
+    }
+    writer.end(out)?;
+    Ok(())
+}
+
+/// The greatest slot, or 0 where there is none.
+pub(crate) fn greatest(slots: &[u32]) -> u32
     ensures { result ≡ greatest_of slots.now }
 {
     let mut greatest = 0;
@@ -74,26 +109,4 @@ fn greatest(slots: &[usize]) -> usize
         greatest = (*slot).max(greatest);
     }
     greatest
-}
-
-/// Appends slots. Errs only for want of memory.
-pub(crate) fn put_slots(width: Width, slots: &[usize], out: &mut Vec<u8>) -> Result<(), Memory>
-    ensures { OnOk result (out.new.items ≡ out.old.items ++ numbers (width_bytes width) slots.now) }
-{
-    for slot in slots {
-        put_slot(width, *slot, out)?;
-    }
-    Ok(())
-}
-
-/// Appends a slot. Most have one byte, and one that is pushed costs less than a slice of one.
-#[inline(always)]
-fn put_slot(width: Width, slot: usize, out: &mut Vec<u8>) -> Result<(), Memory>
-    ensures { OnOk result (out.new.items ≡ out.old.items ++ bytes_high_first (width_bytes width) slot) }
-{
-    match width {
-        Width::One => out.push(slot.to_be_bytes()[7])?,
-        other => put_number(other, slot, out)?,
-    }
-    Ok(())
 }

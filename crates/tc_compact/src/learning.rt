@@ -12,23 +12,16 @@ use tc_bytes::Memory;
 use tc_names::Names;
 use tc_record::{Label, RecordRef};
 
-/// The numbers of a record's names, one for each member, and how many bytes the names have together.
-#[derive(Drop)]
-pub(crate) struct Learned {
-    pub(crate) numbers: Vec<usize>,
-    pub(crate) name_bytes: usize,
-}
-
-/// Learns the names of a record from its front. Errs only for want of memory, with some of the names learned.
+/// Learns the names of a record from its front, and answers their numbers, one for each member. Errs only for want of memory, with
+/// some of the names learned.
 pub(crate) fn learn_names(
     alloc: Global,
     from: &RecordRef<'_>,
     names: &mut Names,
-) -> Result<Learned, Memory>
+) -> Result<Vec<u32>, Memory>
     requires room { length (all_learned names.old (names_in from.now.tokens)) < 2 ^ 32 }
     requires short { length (joined (names_in from.now.tokens)) < 2 ^ 32 }
-    ensures numbers { IfOk result (λ l. l.numbers.items ≡ map (name_number names.new) (names_in from.now.tokens)) }
-    ensures bytes { IfOk result (λ l. l.name_bytes ≡ length (joined (names_in from.now.tokens))) }
+    ensures numbers { IfOk result (λ numbers. numbers.items ≡ map (name_number names.new) (names_in from.now.tokens)) }
     ensures learned { OnOk result (names.new ≡ all_learned names.old (names_in from.now.tokens)) }
     ensures extends { Extends names.new names.old }
     ensures dictionary { IsDictionary names.new }
@@ -36,19 +29,14 @@ pub(crate) fn learn_names(
     is_dictionary(names);
     let mut cursor = from.cursor();
     let mut numbers = Vec::with_capacity(alloc, from.member_count() as usize)?;
-    let mut name_bytes = 0;
     let mut guess = 0;
     while let Some(token) = cursor.next() {
         if let Label::Name(name) = token.label {
             let number = learn_by_guess(names, name, guess)?;
-            numbers.push(number as usize)?;
-            name_bytes += name.len();
+            numbers.push(number)?;
             // names that were learned one after the other mostly stand so again
             guess = number.wrapping_add(1);
         }
     }
-    Ok(Learned {
-        numbers,
-        name_bytes,
-    })
+    Ok(numbers)
 }

@@ -7,13 +7,13 @@ ghost use Rattle.tc_record.specs.Record.{NumberedTree};
 
 use std::marker::Model;
 use tc_bytes::u8_at;
-use tc_record::{RecordRef, Slots};
+use tc_record::{Column, RecordRef};
 
 /// What is left of the tags and the slots of a record with numbers. Contracts see the tags as bytes, and the numbers.
 #[derive(Drop)]
 pub(crate) struct Outline<'a> {
     tags: &'a [u8],
-    slots: Slots<'a>,
+    slots: Column<'a>,
 }
 
 impl<'a> Model for Outline<'a> {

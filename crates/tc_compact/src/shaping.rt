@@ -17,9 +17,9 @@ use tc_names::Names;
 use tc_record::{Cursor, Piece, RecordFault, RecordRef, Token};
 use tc_value::{Shape, ShapeItems, ShapeMember, Text};
 
-/// The shape of the document that a record of either form spells under a dictionary. `NotARecord` comes exactly where
-/// there is none: the record is of form 1, and a number has no name, the names of an object do not ascend, or the record
-/// of form 0 would have 4,294,967,296 bytes or more.
+/// The shape of the document that a record of any form spells under a dictionary. `NotARecord` comes exactly where
+/// there is none: the members carry numbers, and one has no name, the names of an object do not ascend, or the record of
+/// form 0 would have 4,294,967,296 bytes or more.
 pub fn shape_of(alloc: Global, of: RecordRef<'_>, names: &Names) -> Result<Shape, RecordFault>
     ensures found { IfOk result (λ shape. (d : Document) × IsRecordUnder names.now d of.entry.bytes × (shape_tree shape ≡ document_shape d)) }
     ensures only { IfOk result (λ shape. (d : Document) → IsRecordUnder names.now d of.entry.bytes → shape_tree shape ≡ document_shape d) }

@@ -1,12 +1,10 @@
 //! What the slots of a record under a dictionary add up to.
 
-ghost use Rattle.std.specs.Prelude.{◌≡◌, ◌+◌, ◌<◌, ◌^◌, IfSome, IfNone, length, map, max};
-ghost use Rattle.tc_model.specs.Dictionary.{number as name_number};
-ghost use Rattle.tc_model.specs.KnownNames.{HasEach};
-ghost use Rattle.tc_record.specs.Record.{greatest as greatest_of, joined};
+ghost use Rattle.std.specs.Prelude.{◌≡◌, ◌+◌, ◌<◌, ◌^◌, length, map, max};
+ghost use Rattle.tc_record.specs.Record.{greatest as greatest_of, joined, in_bytes};
 ghost use Rattle.tc_record.specs.Sections.{least_width};
 ghost use Rattle.tc_record.specs.Widths.{width_bytes};
-ghost use Rattle.tc_compact.specs.Slots.{names_in, numbers_in};
+ghost use Rattle.tc_compact.specs.Slots.{numbers_in};
 ghost use Rattle.tc_compact.specs.Meant.{name_at};
 
 use crate::meaning::name_meant;
@@ -24,7 +22,7 @@ pub(crate) struct SlotSum {
 impl SlotSum {
     /// The least width that holds each slot.
     pub(crate) fn width(self) -> Width
-        ensures { width_bytes result ≡ least_width self.count self.greatest }
+        ensures { width_bytes result ≡ least_width in_bytes self.count self.greatest }
     {
         if self.count == 0 {
             Width::Zero
@@ -47,31 +45,6 @@ impl SlotSum {
             name_bytes: self.name_bytes + name_len,
         }
     }
-}
-
-/// The numbers of a record's names, added up, or `None` where a name has none. Takes no memory.
-pub(crate) fn sum_of_numbers(from: &RecordRef<'_>, names: &Names) -> Option<SlotSum>
-    requires few { length (names_in from.now.tokens) < 2 ^ 32 }
-    requires short { length (joined (names_in from.now.tokens)) < 2 ^ 32 }
-    ensures count { IfSome result (λ s. s.count ≡ length (names_in from.now.tokens)) }
-    ensures greatest { IfSome result (λ s. s.greatest ≡ greatest_of (map (name_number names.now) (names_in from.now.tokens))) }
-    ensures bytes { IfSome result (λ s. s.name_bytes ≡ length (joined (names_in from.now.tokens))) }
-    ensures known { IfSome result (λ s. HasEach names.now (names_in from.now.tokens)) }
-    ensures unknown { IfNone result (HasEach names.now (names_in from.now.tokens) → ⊥) }
-{
-    let mut cursor = from.cursor();
-    let mut sum = SlotSum {
-        count: 0,
-        greatest: 0,
-        name_bytes: 0,
-    };
-    while let Some(token) = cursor.next() {
-        if let Label::Name(name) = token.label {
-            let number = names.id_of(name)?;
-            sum = sum.with(number as usize, name.len());
-        }
-    }
-    Some(sum)
 }
 
 /// The lengths of the names of a record's numbers, added up. Takes no memory.

@@ -23,7 +23,7 @@ const OBJECT_TAG: u8 = 6;
 
 const CLOSE_TAG: u8 = 7;
 
-/// Whether a record of either form spells a document under a dictionary. One of form 0 does. One of form 1 does not exactly
+/// Whether a record of any form spells a document under a dictionary. One of form 0 does. Another does not exactly
 /// where a number has no name, the names of an object do not ascend, or the record of form 0 would have 4,294,967,296 bytes
 /// or more. Takes no memory.
 pub fn spells_document(of: RecordRef<'_>, names: &Names) -> bool

@@ -15,7 +15,7 @@ learn_names-requires-clause-short c =
     omega (arith, lie.held, c.requires.short)
 
 pub compact_numbered-requires-clause-members : goal.compact_numbered-requires-clause-members
-compact_numbered-requires-clause-members c = ap length (c.as_slice-numbers.ensures.value ∙ c.in_ok-learned.ensures.numbers) ∙ length-map (names_in c.args.from.tokens) (name_number c.learn_names.new.names)
+compact_numbered-requires-clause-members c = ap length (c.as_slice.ensures.value ∙ c.in_ok-numbers.ensures.numbers) ∙ length-map (names_in c.args.from.tokens) (name_number c.learn_names.new.names)
 
 pub returns-clause-compacted : goal.returns-clause-compacted
 returns-clause-compacted c =
@@ -23,7 +23,7 @@ returns-clause-compacted c =
     let names = c.learn_names.new.names in
     IfOk-weaker c.compact_numbered.result _ _
     (λ bytes made d is newer dictionary extends.
-    let has = subst (λ known. HasEach known ns) (sym c.in_ok-learned.ensures.learned) (all_numbered c.args.names.now ns) in
+    let has = subst (λ known. HasEach known ns) (sym c.in_ok-numbers.ensures.learned) (all_numbered c.args.names.now ns) in
     let later = numbers-Extends newer names ns extends has in
-    made d is newer dictionary later.0 (c.as_slice-numbers.ensures.value ∙ c.in_ok-learned.ensures.numbers ∙ sym later.1))
+    made d is newer dictionary later.0 (c.as_slice.ensures.value ∙ c.in_ok-numbers.ensures.numbers ∙ sym later.1))
     c.compact_numbered.ensures.compacted

@@ -1,44 +1,32 @@
-use Rattle.std.proofs.Common.{◌≡◌, ◌∙◌, ◌+◌, length, map, ap, subst, arith, refl}
+use Rattle.std.proofs.Common.{◌∙◌, ◌<◌, ◌^◌, [], length, sym, subst, arith}
 use Rattle.std.proofs.lemmas.Result.{IfOk-weaker}
-use Rattle.tc_record.specs.Preorder.{tokens_of}
-use Rattle.tc_record.specs.Record.{labels, joined}
-use Rattle.tc_model.specs.KnownNames.{HasEach}
-use Rattle.tc_model.specs.Dictionary.{number as name_number}
-use Rattle.tc_model.proofs.DictionaryGrowth.{Extends-same}
-use Rattle.tc_compact.specs.Layout.{slot_bytes, counts_in, values_in, numbered_record}
-use Rattle.tc_compact.specs.Slots.{names_in}
-use Rattle.tc_compact.proofs.Compacts.{document_tokens, document_names, names_lie, compacts}
+use Rattle.tc_bits.proofs.Joined.{AreBelow}
+use Rattle.tc_record.specs.Record.{spelling_of}
+use Rattle.tc_record.proofs.Spellings.{each_below}
+use Rattle.tc_compact.specs.Layout.{parts_of, whole}
+use Rattle.tc_compact.proofs.Compacts.{names_lie, compacts, compacted_short}
 use Rattle.tc_compact.proofs.compacting.compact_numbered.Goals as goal
 
-pub shared_in-shared-requires : goal.shared_in-shared-requires
-shared_in-shared-requires c =
-    let lie = names_lie c.args.from c.bytes-bytes.ensures.spells c.requires.named in
-    rw (c.bytes-bytes.ensures.same, c.requires.members, c.requires.bytes) lie.behind
+pub with_numbers-requires-clause-members : goal.with_numbers-requires-clause-members
+with_numbers-requires-clause-members c =
+    c.requires.members ∙ (names_lie c.args.from c.bytes-bytes.ensures.spells c.requires.named).members
 
-pub with_numbers-requires : goal.with_numbers-requires
-with_numbers-requires c =
-    let r = c.args.from in
-    let ls = names_in r.tokens in
-    let lie = names_lie r c.bytes-bytes.ensures.spells c.requires.named in
-    let values_are : c.shared_in-shared.result.values.now ≡ values_in r.bytes (slot_bytes r.bytes (length ls) + length (joined ls)) = c.shared_in-shared.ensures.values ∙ rw (c.bytes-bytes.ensures.same, c.requires.members, c.requires.bytes) refl in
-    record { short = omega (arith, lie.small, c.requires.short, c.requires.members, ap length values_are) }
+pub with_numbers-requires-clause-short : goal.with_numbers-requires-clause-short
+with_numbers-requires-clause-short c =
+    let ns = c.args.numbers.now in
+    let each : AreBelow 32 ns = each_below (2 ^ 32) ns (omega (arith, c.greatest-greatest.ensures)) in
+    compacted_short 1 c.args.from ns c.bytes-bytes.ensures.spells c.requires.named c.requires.short c.requires.members each
 
 pub returns : goal.returns
 returns c =
     let r = c.args.from in
     let ns = c.args.numbers.now in
+    let spells = c.bytes-bytes.ensures.spells in
+    let each : AreBelow 32 ns = each_below (2 ^ 32) ns (omega (arith, c.greatest-greatest.ensures)) in
+    let short : length (whole (spelling_of 1) 1 (parts_of r.tokens) ns []) < 2 ^ 32 = compacted_short 1 r ns spells c.requires.named c.requires.short c.requires.members each in
     record {
       compacted =
           IfOk-weaker c.with_numbers.result _ _
-          (λ bytes built d is names dictionary has are.
-          let ls = labels (tokens_of d) in
-          let names_are : names_in r.tokens ≡ ls = ap names_in (document_tokens r d c.bytes-bytes.ensures.spells is).1 ∙ document_names d in
-          let record_is = c.bytes-bytes.ensures.same in
-          let members : length ns ≡ length ls = c.requires.members ∙ ap length names_are in
-          let name_bytes : c.args.name_bytes ≡ length (joined ls) = c.requires.bytes ∙ ap (λ ns. length (joined ns)) names_are in
-          let behind = slot_bytes c.bytes-bytes.result.now (length ns) + c.args.name_bytes in
-          let behind_is : behind ≡ slot_bytes r.bytes (length ls) + length (joined ls) = rw (record_is, members, name_bytes) refl in
-          compacts names names d r.bytes ns bytes behind dictionary (Extends-same names) is c.requires.short (subst (HasEach names) names_are has) (are ∙ ap (map (name_number names)) names_are) behind_is
-          (built ∙ ap (λ k. numbered_record k c.shared_in-shared.result.values.now ns) (c.shared_in-shared.ensures.counts ∙ ap counts_in record_is) ∙ ap (λ v. numbered_record (counts_in r.bytes) v ns) (c.shared_in-shared.ensures.values ∙ ap (λ bs. values_in bs behind) record_is)))
+          (λ bytes written d is names dictionary has are. compacts 1 names d r ns bytes dictionary spells is has are written (subst (λ bs. length bs < 2 ^ 32) (sym written) short))
           c.with_numbers.ensures;
     }

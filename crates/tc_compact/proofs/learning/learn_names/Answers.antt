@@ -15,6 +15,13 @@ learn_by_guess-requires-clause-room c =
     let left : all_learned (learned l.names n) (names_in c.next.new.self) ≡ all_learned c.args.names.now (names_in c.args.from.now.tokens) = ap (all_learned l.names) (sym here) ∙ l.invariant.left in
     omega (arith, length-all_learned (learned l.names n) (names_in c.next.new.self), ap length left, c.requires.room)
 
+pub learn_by_guess-requires-clause-short : goal.learn_by_guess-requires-clause-short
+learn_by_guess-requires-clause-short c =
+    let l = c.loop-token in
+    let n = c.in-Name.name.now in
+    let here : names_in l.cursor ≡ n ∷ names_in c.next.new.self = search rules in
+    omega (arith, l.invariant.short, ap (λ ns. length (joined ns)) here, length-append n (joined (names_in c.next.new.self)))
+
 pub loop-token-preserved-in-Name : goal.loop-token-preserved-in-Name
 loop-token-preserved-in-Name c =
     let l = c.loop-token in
@@ -33,7 +40,7 @@ loop-token-preserved-in-Name c =
           ∙ ap (λ k. l.numbers.items ++ k ∷ map (name_number after) rest) (sym number)
           ∙ ap (λ ns. l.numbers.items ++ map (name_number after) ns) (sym here)
           ∙ l.invariant.numbers;
-      bytes = omega (arith, l.invariant.bytes, ap (λ ns. length (joined ns)) here, length-append n (joined rest));
+      short = omega (arith, l.invariant.short, ap (λ ns. length (joined ns)) here, length-append n (joined rest));
       extends = Extends-trans c.learn_by_guess.new.names l.names c.args.names.now (subst (λ names. Extends names l.names) (sym known) (Extends-learned l.names n)) l.invariant.extends;
       dictionary = c.in_ok-number.ensures.dictionary;
     }

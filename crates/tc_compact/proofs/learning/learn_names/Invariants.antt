@@ -1,4 +1,4 @@
-use Rattle.std.proofs.Common.{◌≡◌, ◌+◌, ◌++◌, length, map}
+use Rattle.std.proofs.Common.{◌≡◌, ◌<◌, ◌^◌, ◌++◌, length, map}
 use Rattle.tc_model.specs.Dictionary.{Extends, IsDictionary, all_learned, number as name_number}
 use Rattle.tc_record.specs.Record.{joined}
 use Rattle.tc_compact.specs.Slots.{names_in}
@@ -11,7 +11,7 @@ invariant-loop-token l =
     record {
       left : all_learned l.names (names_in l.cursor) ≡ after;
       numbers : l.numbers.items ++ map (name_number after) (names_in l.cursor) ≡ map (name_number after) all;
-      bytes : l.name_bytes + length (joined (names_in l.cursor)) ≡ length (joined all);
+      short : length (joined (names_in l.cursor)) < 2 ^ 32;
       extends : Extends l.names l.fn.names;
       dictionary : IsDictionary l.names;
     }

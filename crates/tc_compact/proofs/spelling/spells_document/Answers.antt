@@ -1,8 +1,9 @@
 use Rattle.std.proofs.Common.{◌≡◌, ◌∙◌, true, false, sym}
 use Rattle.std.proofs.lemmas.Bool.{both_ways}
-use Rattle.tc_compact.proofs.Meanings.{has_room, named_under, ordered_under, under_ordered}
+use Rattle.tc_compact.proofs.Meanings.{has_room, named_under, numbered_under, under_ordered}
+use Rattle.tc_compact.specs.Meant.{expanded}
 use Rattle.tc_compact.specs.Outline.{is_ordered}
-use Rattle.tc_compact.proofs.Expands.{numbered_tree, tree_tokens}
+use Rattle.tc_compact.proofs.NumberedTrees.{numbered_tree}
 use Rattle.tc_compact.proofs.Outlines.{ordered-from_test, test-from_ordered}
 use Rattle.tc_compact.proofs.spelling.spells_document.Goals as goal
 
@@ -20,13 +21,16 @@ returns-clause-found c = λ passes.
     let r = c.args.of in
     let unnamed : r.named ≡ false = sym c.named.ensures ∙ c.if-named.false in
     let tree = numbered_tree r c.bytes-bytes.ensures.spells unnamed in
-    let test : is_ordered names tree.0 ≡ true = sym (c.passes_all.ensures tree.0 (c.of.ensures tree.0 (tree_tokens r tree.0 c.bytes-bytes.ensures.spells tree.1))) ∙ passes in
-    ordered_under names r tree.0 c.is_dictionary.ensures c.bytes-bytes.ensures.spells tree.1 (c.has_room.ensures.room c.if-not-has_room.false unnamed) (ordered-from_test names tree.0 test)
+    let test : is_ordered names tree.tree ≡ true = sym (c.passes_all.ensures tree.tree (c.of.ensures tree.tree tree.tokens)) ∙ passes in
+    (
+      expanded names tree.tree,
+      numbered_under names r tree.tree c.is_dictionary.ensures tree.form tree.is tree.tokens (c.has_room.ensures.room c.if-not-has_room.false unnamed) (ordered-from_test names tree.tree test),
+    )
 
 pub returns-clause-none : goal.returns-clause-none
 returns-clause-none c = λ refused d is.
     let names = c.args.names.now in
     let r = c.args.of in
     let tree = numbered_tree r c.bytes-bytes.ensures.spells (sym c.named.ensures ∙ c.if-named.false) in
-    let test : is_ordered names tree.0 ≡ false = sym (c.passes_all.ensures tree.0 (c.of.ensures tree.0 (tree_tokens r tree.0 c.bytes-bytes.ensures.spells tree.1))) ∙ refused in
-    both_ways (is_ordered names tree.0) test (test-from_ordered names tree.0 (under_ordered names r tree.0 d c.bytes-bytes.ensures.spells tree.1 is))
+    let test : is_ordered names tree.tree ≡ false = sym (c.passes_all.ensures tree.tree (c.of.ensures tree.tree tree.tokens)) ∙ refused in
+    both_ways (is_ordered names tree.tree) test (test-from_ordered names tree.tree (under_ordered names r tree.tree d c.bytes-bytes.ensures.spells tree.tokens is))

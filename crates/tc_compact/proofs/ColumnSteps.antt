@@ -1,0 +1,29 @@
+-- What is written part by part, and a column number by number.
+use Rattle.std.proofs.Common.{◌≡◌, ◌∙◌, ℕ, List, ◌∷◌, ◌++◌, refl, sym, ap, subst, append_assoc}
+use Rattle.tc_bits.specs.Bits.{Waiting, column, written}
+use Rattle.tc_bits.proofs.Joined.{AreBelow}
+
+-- four parts, one behind the other
+pub four_put : (o o1 o2 o3 o4 a b c d : List ℕ) → o1 ≡ o ++ a → o2 ≡ o1 ++ b → o3 ≡ o2 ++ c → o4 ≡ o3 ++ d → o4 ≡ o ++ (a ++ (b ++ (c ++ d)))
+four_put o o1 o2 o3 o4 a b c d p1 p2 p3 p4 =
+    p4 ∙ ap (λ x. x ++ d) (p3 ∙ ap (λ x. x ++ c) (p2 ∙ ap (λ x. x ++ b) p1)) ∙ append_assoc ((o ++ a) ++ b) c d ∙ append_assoc (o ++ a) b (c ++ d) ∙ append_assoc o a (b ++ (c ++ d))
+
+-- and one more
+pub fifth_put : (o o4 o5 a b c d e : List ℕ) → o4 ≡ o ++ (a ++ (b ++ (c ++ d))) → o5 ≡ o4 ++ e → o5 ≡ o ++ (a ++ (b ++ (c ++ (d ++ e))))
+fifth_put o o4 o5 a b c d e four last =
+    last ∙ ap (λ x. x ++ e) four ∙ append_assoc o (a ++ (b ++ (c ++ d))) e
+    ∙ ap (λ x. o ++ x) (append_assoc a (b ++ (c ++ d)) e ∙ ap (λ x. a ++ x) (append_assoc b (c ++ d) e ∙ ap (λ x. b ++ x) (append_assoc c d e)))
+
+pub same_four : {a b c d e f g h : List ℕ} → a ≡ e → b ≡ f → c ≡ g → d ≡ h → a ++ (b ++ (c ++ d)) ≡ e ++ (f ++ (g ++ h))
+same_four p q r s = rw (p, q, r, s) refl
+
+-- before the first number
+pub column_begun : (w : Waiting) (bits : ℕ) (out ns all : List ℕ) → w.width ≡ bits → AreBelow bits ns → ((ks : List ℕ) → written w ks ≡ column bits ks) → column bits ns ≡ all → AreBelow w.width ns × (out ++ written w ns ≡ out ++ all)
+column_begun w bits out ns all width below nothing spells = (subst (λ b. AreBelow b ns) (sym width) below, ap (λ bs. out ++ bs) (nothing ns ∙ spells))
+
+-- one number more
+pub column_pushed : (w v : Waiting) (out after all left rest : List ℕ) (n : ℕ) → left ≡ n ∷ rest → AreBelow w.width left → out ++ written w left ≡ all → v.width ≡ w.width
+    → ((ks : List ℕ) → AreBelow w.width ks → after ++ written v ks ≡ out ++ written w (n ∷ ks)) → AreBelow v.width rest × (after ++ written v rest ≡ all)
+column_pushed w v out after all left rest n next below so_far width pushed =
+    let both : AreBelow w.width (n ∷ rest) = subst (AreBelow w.width) next below in
+    (subst (λ b. AreBelow b rest) (sym width) both.1, pushed rest both.1 ∙ ap (λ ks. out ++ written w ks) (sym next) ∙ so_far)
