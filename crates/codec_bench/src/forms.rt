@@ -3,11 +3,10 @@
 use std::alloc::Global;
 use tc_bytes::{Bytes, Memory};
 use tc_compact::{
-    compact, compact_into, compacted_size, document_of, expand, expanded_size, names_agree,
-    shape_of,
+    compact, document_of, expand, expanded_size, names_agree, repack, shape_of,
 };
 use tc_names::Names;
-use tc_record::{RecordFault, RecordRef, decode};
+use tc_record::{NUMBERED_FORM, PACKED_FORM, RecordFault, RecordRef, decode};
 
 /// The record of form 1, or nothing where the bytes are no short record of form 0.
 fn form_of_numbers(
@@ -54,46 +53,32 @@ pub(crate) fn expanded(alloc: Global, bytes: &[u8]) -> Result<u64, RecordFault> 
     }
 }
 
-/// Whether `compact_into` and both sizes agree with `compact`.
-pub(crate) fn fills_the_same(alloc: Global, bytes: &[u8]) -> Result<bool, Memory> {
+/// Whether the record of form 2 of a record of form 1 is no longer, and expands to the record of form 0, as long as was told before.
+pub(crate) fn repacks_the_same(alloc: Global, bytes: &[u8]) -> Result<bool, RecordFault> {
     let mut names = Names::new(alloc);
     let Some(numbered) = form_of_numbers(alloc, bytes, &mut names)? else {
         return Ok(false);
     };
-    let Some(filled) = filled(alloc, bytes, &names)? else {
+    let Some(record) = RecordRef::of(numbered.as_slice()) else {
         return Ok(false);
     };
-    let Some(record) = RecordRef::of(filled.as_slice()) else {
-        return Ok(false);
-    };
-    if record.named() {
+    if record.form() != NUMBERED_FORM {
         return Ok(false);
     }
-    let expands = match expanded_size(record.again(), &names) {
+    let packed = repack(alloc, record)?;
+    let Some(again) = RecordRef::of(packed.as_slice()) else {
+        return Ok(false);
+    };
+    if again.form() != PACKED_FORM || again.named() {
+        return Ok(false);
+    }
+    let expands = match expanded_size(again, &names) {
         Some(len) => len as usize == bytes.len(),
         None => false,
     };
-    Ok(expands && record.numbers_below(names.len()) && filled.as_slice() == numbered.as_slice())
-}
-
-/// The record of form 1 in bytes that were there before, or nothing where the bytes are no short record of form 0 or a
-/// name has no number.
-fn filled(alloc: Global, bytes: &[u8], names: &Names) -> Result<Option<Vec<u8>>, Memory> {
-    if bytes.len() >= 1_000_000 {
-        return Ok(None);
-    }
-    let Some(record) = RecordRef::of(bytes) else {
-        return Ok(None);
-    };
-    if !record.named() {
-        return Ok(None);
-    }
-    let Some(len) = compacted_size(record.again(), names) else {
-        return Ok(None);
-    };
-    let mut into = vec![in alloc; 0u8; len as usize]?;
-    compact_into(record, names, into.as_mut_slice());
-    Ok(Some(into))
+    let named = expand(alloc, packed.as_slice(), &names)?;
+    let shorter = packed.as_slice().len() <= numbered.as_slice().len();
+    Ok(expands && shorter && named.as_slice() == bytes)
 }
 
 /// Whether a record of form 1 has the document that it has when it is expanded, and the counts of the record of form 0.

@@ -1,5 +1,5 @@
 -- The records of the entries of a content.
-use Rattle.std.proofs.Common.{◌≡◌, ◌∙◌, ◌<◌, ◌≤◌, ◌+◌, ◌^◌, ℕ, List, [], ◌∷◌, ◌++◌, None, Some, length, map, refl, sym, subst, arith, inl, inr, length-append, append-nil, Option}
+use Rattle.std.proofs.Common.{◌≡◌, ◌<◌, ◌≤◌, ◌+◌, ◌^◌, ℕ, true, List, [], ◌∷◌, ◌++◌, None, Some, length, map, refl, sym, subst, arith, inl, inr, length-append, Option}
 use Rattle.std.specs.Prelude.{All, option_map, option_to_list}
 use Rattle.std.specs.Int.{w32, to_be_bytes}
 use Rattle.std.specs.List.{AllByRecursion}
@@ -13,13 +13,13 @@ use Rattle.tc_model.specs.Stored.{IsObject}
 use Rattle.tc_record.specs.Preorder.{closed, Token, token, tokens_of, members_preorder}
 use Rattle.tc_record.specs.Record.{labels, piece_tag, tags, fixed, texts, numbers, width, joined, body, record_bytes, record_of, NumberedTree, IsRecordOf}
 use Rattle.tc_compact.specs.Compacted.{compacted, IsCompactedRecordOf}
-use Rattle.tc_compact.specs.Layout.{slot_bytes, counts_in, values_in, numbered_record}
+use Rattle.tc_compact.specs.Slots.{names_in}
 use Rattle.tc_compact.proofs.Agreeing.{same_order}
-use Rattle.tc_compact.proofs.Compacts.{compacts, document_names}
+use Rattle.tc_compact.proofs.Compacts.{compacts, compacted_short, numbers_below}
 use Rattle.tc_compact.proofs.Relabelled.{tokens-numbered}
 use Rattle.tc_compact.proofs.RoundTrip.{one_record}
 use Rattle.tc_record.specs.Walk.{Key, number}
-use Rattle.tc_record.specs.Borrowed.{IsBelow}
+use Rattle.tc_record.specs.Borrowed.{Record, Spells, IsBelow, named_tokens}
 use Rattle.tc_record.proofs.Keyed.{retoken}
 use Rattle.tc_model.proofs.NameNumbers.{number_of-below, numbered}
 use Rattle.tc_model.proofs.StoredDocuments.{keyless_object}
@@ -39,18 +39,20 @@ pub record IsKept (names : List Name) (d : Document) : Type 0 where
 pub kept : (names : List Name) (key : ℕ) (d : Document) → IsDictionary names → contents.IsEntry names (key, Some d) → length (record_of d) < 2 ^ 30 → IsKept names d
 kept names key d dictionary is short =
     let whole : IsRecordOf d (record_of d) = record { document = is.document; is_object = keyless_object d is.storable.1; shallow = is.storable.0; spelled = refl; short = omega (arith, short) } in
-    let ls = labels (tokens_of d) in
-    let known : HasEach names ls = subst (HasEach names) (sym (same_order d) ∙ document_names d) is.named in
-    let behind = slot_bytes (record_of d) (length ls) + length (joined ls) in
-    let made : IsCompactedRecordOf names d (numbered_record (counts_in (record_of d)) (values_in (record_of d) behind) (map (name_number names) ls)) =
-    compacts names names d (record_of d) (map (name_number names) ls) _ behind dictionary ([], sym (append-nil names)) whole short known refl refl refl in
+    let r : Record = record { bytes = record_of d; form = 0; named = true; tokens = named_tokens d } in
+    let spells : Spells r = inl (d, (refl, whole, refl, refl)) in
+    let ls = names_in r.tokens in
+    let ns = map (name_number names) ls in
+    let known : HasEach names ls = subst (HasEach names) (sym (same_order d)) is.named in
+    let few = compacted_short 1 r ns spells refl short (length-map ls (name_number names)) (numbers_below names dictionary ls) in
+    let made = compacts 1 names d r ns _ dictionary spells whole known refl refl few in
     record { whole = whole; compact = subst (IsCompactedRecordOf names d) made.numbered.spelled made }
 
 pub only : (names : List Name) (d : Document) → IsKept names d → IsRecordOfOne names d (record_in names d)
 only names d is = record {
   record_is = is.compact;
-  one = λ e whole other form1.
-      let same : whole ≡ record_of d = one_record e d whole (record_of d) (record_in names d) names other form1 is.whole is.compact in
+  one = λ e whole other under.
+      let same : whole ≡ record_of d = one_record e d whole (record_of d) (record_in names d) names other under is.whole (1, (inl refl, is.compact)) in
       documents_are_one e d (record_of d) (subst (IsRecordOf e) same other) is.whole;
 }
 

@@ -1,5 +1,5 @@
 -- The component of a content is loaded again, and is that of no other content.
-use Rattle.std.proofs.Common.{◌≡◌, ◌∙◌, ◌+◌, ℕ, List, [], ◌∷◌, Option, None, Some, length, take, drop, slice_get, refl, sym, ap, subst, arith}
+use Rattle.std.proofs.Common.{◌≡◌, ◌∙◌, ◌+◌, ℕ, List, [], ◌∷◌, Option, None, Some, inl, length, take, drop, slice_get, refl, sym, ap, subst, arith}
 use Rattle.std.specs.Prelude.{All}
 use Rattle.std.proofs.lemmas.List.{take_at, drop_at, drop-drop}
 use Rattle.std.proofs.lemmas.List.Elements.{All-head, All-tail}
@@ -7,7 +7,7 @@ use Rattle.tc_model.specs.Dictionary.{IsDictionary}
 use Rattle.tc_model.specs.Document.{Name, Document}
 use Rattle.tc_schema_model.specs.Counted.{Counted}
 use Rattle.tc_plain_model.specs.Writes.{Write, set}
-use Rattle.tc_lsm_model.specs.Contents.{Content, Partition}
+use Rattle.tc_lsm_model.specs.Contents.{Content}
 use Rattle.tc_lsm_model.specs.Contents as contents
 use Rattle.tc_compact.specs.Compacted.{IsCompactedRecordOf}
 use Rattle.tc_store.proofs.Judged.{same_Ok}
@@ -45,7 +45,7 @@ one_value names key (Some d) None dictionary is short is_w short_w same = absurd
 one_value names key (Some d) (Some e) dictionary is short is_w short_w same =
     let k = kept names key e dictionary is_w short_w in
     let all = only names d (kept names key d dictionary is short) in
-    ap Some (sym (all.one e _ k.whole (subst (IsCompactedRecordOf names e) (sym same) k.compact)))
+    ap Some (sym (all.one e _ k.whole (1, (inl refl, subst (IsCompactedRecordOf names e) (sym same) k.compact))))
 
 pub one_entries : (names : List Name) (ws vs : List Write) → IsDictionary names → All (contents.IsEntry names) ws → All IsShortWrite ws → All (contents.IsEntry names) vs → All IsShortWrite vs
     → slots_of (rows_of names ws) ≡ slots_of (rows_of names vs) → records (rows_of names ws) ≡ records (rows_of names vs) → ws ≡ vs

@@ -6,7 +6,7 @@ ghost use Rattle.tc_component.specs.Fetching.{IsRecordWithin};
 
 use std::alloc::Global;
 use tc_bytes::Bytes;
-use tc_record::RecordRef;
+use tc_record::{NUMBERED_FORM, RecordRef};
 use tc_store::{ReadFault, damaged};
 
 /// These bytes as a record of form 1 whose numbers are below a limit, or as the damage at the place that they stand at.
@@ -43,7 +43,7 @@ pub(crate) fn judge(alloc: Global, limit: u32, place: u64, bytes: &[u8]) -> Resu
 fn is_record_within(limit: u32, bytes: &[u8]) -> bool
     ensures { IsTrue result ↔ IsRecordWithin limit bytes.now }
 {
-    match RecordRef::numbered(bytes) {
+    match RecordRef::numbered(bytes, NUMBERED_FORM) {
         Some(record) => record.numbers_below(limit),
         None => false,
     }

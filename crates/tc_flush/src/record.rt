@@ -45,5 +45,5 @@ pub(crate) fn compact_counted(
     add_learning(schema, names, met, of)?;
     // that the names are a dictionary
     let _known = names.len();
-    compact_numbered(alloc, again, met.numbers.as_slice(), met.name_bytes)
+    compact_numbered(alloc, again, met.numbers.as_slice())
 }

@@ -20,7 +20,7 @@ use tc_record::{Cursor, RecordRef};
 use tc_schema::Schema;
 use tc_value::Kind;
 
-/// Counts the document of a record of either form once more, under a dictionary that has all of its names. A number is
+/// Counts the document of a record of any form once more, under a dictionary that has all of its names. A number is
 /// counted as it stands, and its name is not looked at. Errs only for want of memory: the schema is then that of no document.
 pub fn add_known(schema: &mut Schema, names: &Names, of: RecordRef<'_>) -> Result<(), Memory>
     requires countable { IsCountable names.now schema.old of.bytes }

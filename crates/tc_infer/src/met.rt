@@ -7,7 +7,7 @@ use std::alloc::{AllocError, Global};
 /// The number of each name, from the front, and how many bytes the names have together.
 #[derive(Drop)]
 pub struct Met {
-    pub numbers: Vec<usize>,
+    pub numbers: Vec<u32>,
     pub name_bytes: usize,
 }
 
@@ -38,7 +38,7 @@ impl Met {
         ensures numbers { OnOk result (self.new.numbers.items ≡ self.old.numbers.items ++ number ∷ []) }
         ensures bytes { OnOk result (self.new.name_bytes ≡ self.old.name_bytes + length name.now) }
     {
-        self.numbers.push(number as usize)?;
+        self.numbers.push(number)?;
         self.name_bytes += name.len();
         Ok(())
     }

@@ -18,8 +18,8 @@ use tc_names::Names;
 use tc_record::{Cursor, Piece, RecordRef, Token};
 use tc_record_text::{closes, has_name, skip, skip_to_close};
 
-/// The first value, in preorder, that a path reaches in the document that a record of either form spells under a
-/// dictionary; `None` where it reaches none. The dictionary is read for records of form 1 alone. Takes no memory.
+/// The first value, in preorder, that a path reaches in the document that a record of any form spells under a
+/// dictionary; `None` where it reaches none. The dictionary is read only where members carry numbers. Takes no memory.
 pub fn first<'a>(of: RecordRef<'a>, names: &Names, path: &PathExpr) -> Option<ValueRef<'a>>
     ensures first { (d : Document) → IsRecordUnder names.now d of.entry.bytes → option_map (value_at names.now) result ≡ option_map Some (first_in (reached path.now d)) }
     ensures lawful { (d : Document) → IsRecordUnder names.now d of.entry.bytes → IfSome result (IsLawful names.now) }

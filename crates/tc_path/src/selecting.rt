@@ -20,8 +20,8 @@ use tc_names::Names;
 use tc_record::{Cursor, Piece, RecordRef, Token};
 use tc_record_text::{closes, has_name, skip, skip_to_close};
 
-/// All values, in preorder, that a path reaches in the document that a record of either form spells under a dictionary.
-/// The dictionary is read for records of form 1 alone. Errs only for want of memory.
+/// All values, in preorder, that a path reaches in the document that a record of any form spells under a dictionary.
+/// The dictionary is read only where members carry numbers. Errs only for want of memory.
 pub fn select<'a>(
     alloc: Global,
     of: RecordRef<'a>,

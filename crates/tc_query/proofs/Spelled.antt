@@ -80,7 +80,7 @@ module _ {F : Type 0} (told : F → Option (List ℕ)) (laws : AreContents) wher
       ∙ ap (λ (i : Index). record_at i.slots at l.bytes) l.index ∙ read.0 in
       broken (subst (λ names. AreNoRecord names bytes) (ap (λ (i : Index). i.names) l.index) h.broken)
       (subst (IsRecordWithin (length c.names)) (sym same) read.2)
-      (inr (record_of d, has_record c l.bytes at key d l.is here, subst (IsCompactedRecordOf c.names d) (sym same) read.1.record_is))
+      (inr (record_of d, has_record c l.bytes at key d l.is here, (1, (inl refl, subst (IsCompactedRecordOf c.names d) (sym same) read.1.record_is))))
     where
       broken : {names : List Name} {d : Document} → AreNoRecord names bytes → IsRecordWithin (length names) bytes → IsRecordUnder names d bytes → ⊥
       broken (inl never) within under = never within

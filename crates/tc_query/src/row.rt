@@ -21,7 +21,7 @@ use tc_record::{RecordFault, RecordRef};
 use tc_record_text::put_row;
 use tc_value::Doc;
 
-/// The row that an ask gets of a key's document, by a record of either form whose numbers mean names of the dictionary;
+/// The row that an ask gets of a key's document, by a record of any form whose numbers mean names of the dictionary;
 /// `None` where the document gives none. `NotARecord` comes exactly where the record spells no document under the
 /// dictionary.
 pub fn row_of_record(

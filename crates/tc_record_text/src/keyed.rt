@@ -21,7 +21,7 @@ use tc_names::Names;
 use tc_record::{Cursor, Piece, RecordFault, RecordRef};
 use tc_text::{put_key, put_mark, put_name};
 
-/// The text of the document that a record of either form spells under a dictionary, with the member `id` at its place.
+/// The text of the document that a record of any form spells under a dictionary, with the member `id` at its place.
 /// `NotARecord` comes exactly where the record spells no document under the dictionary.
 pub fn text_of_document(
     alloc: Global,
@@ -56,7 +56,7 @@ fn text_of_known(
     Ok(Bytes::of(text))
 }
 
-/// Puts the text of the document that a record of either form spells under a dictionary, with the member `id` at its place in
+/// Puts the text of the document that a record of any form spells under a dictionary, with the member `id` at its place in
 /// the byte order of names. A member of that name gives way to it. Errs only for want of memory, and then leaves some first
 /// part of the text.
 pub fn put_document(

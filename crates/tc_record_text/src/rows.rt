@@ -17,7 +17,7 @@ use tc_names::Names;
 use tc_record::{Cursor, RecordRef};
 use tc_text::{put_mark, put_unsigned};
 
-/// Puts the text of the row of a key, with all values that a path reaches in the document that a record of either form spells
+/// Puts the text of the row of a key, with all values that a path reaches in the document that a record of any form spells
 /// under a dictionary; nothing where it reaches none. Errs only for want of memory, and then leaves some first part of the text.
 pub fn put_row(
     of: RecordRef<'_>,

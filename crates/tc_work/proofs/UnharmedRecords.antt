@@ -76,7 +76,7 @@ module _ {F : Type 0} (content : F → Option (List ℕ)) (finds : FindsContent)
       let r = told_record h.component l.0 h.harm.entry bytes l.1 h.harm.there h.harm.told in
       elim h.harm.broken [
         | inl unjudged ↦ unjudged (subst (IsRecordWithin (length names)) (sym r.2) (within_names names r.0 r.1))
-        | inr no_document ↦ no_document r.0 (inr (record_of r.0, r.1.whole, subst (IsCompactedRecordOf names r.0) (sym r.2) r.1.compact))
+        | inr no_document ↦ no_document r.0 (inr (record_of r.0, r.1.whole, (1, (inl refl, subst (IsCompactedRecordOf names r.0) (sym r.2) r.1.compact))))
       ]
 
   -- nor is one that a merge reads

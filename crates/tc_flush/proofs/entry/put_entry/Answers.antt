@@ -90,7 +90,7 @@ returns-in_ok-record-in-Live-clause-pushed g c =
     ok_then c.push-in-Live.result _ _
     (λ pushed t newer rows of dictionary extends has.
     subst (λ rs. HasRows (g.D.Device.history c.push-in-Live.new.self.device) c.push-in-Live.new.self (rows ++ rs))
-    (sym (row_is c.one_document.ensures e bytes held stored c.compact_counted.new.names newer c.as_slice-in-Live.result.now c.round_trip.ensures.stays compacts dictionary extends t of)) (pushed rows has))
+    (sym (row_is c.one_document.ensures e bytes held stored c.compact_counted.new.names newer c.as_slice-in-Live.result.now (c.round_trip.ensures.stays 1) compacts dictionary extends t of)) (pushed rows has))
     c.push-in-Live.ensures.pushed
 
 -- ---- an entry whose document is gone

@@ -29,14 +29,6 @@ compact_numbered-requires-clause-members c =
     ∙ ap length (sym (names_are c.names_agree.ensures.order r c.bytes-bytes.ensures.spells found.0 found.1))
     ∙ ap (λ r. length (names_in r.tokens)) (sym c.again-again.ensures)
 
-pub compact_numbered-requires-clause-bytes : goal.compact_numbered-requires-clause-bytes
-compact_numbered-requires-clause-bytes c =
-    let r = c.args.of in
-    let found = named_document r c.bytes-bytes.ensures.spells c.requires.named in
-    c.in_ok-add_learning.ensures.bytes found.0 found.1
-    ∙ ap (λ ns. length (joined ns)) (sym (names_are c.names_agree.ensures.order r c.bytes-bytes.ensures.spells found.0 found.1))
-    ∙ ap (λ r. length (joined (names_in r.tokens))) (sym c.again-again.ensures)
-
 pub returns-clause-learned : goal.returns-clause-learned
 returns-clause-learned c = ok_always c.compact_numbered.result _ c.in_ok-add_learning.ensures.names
 

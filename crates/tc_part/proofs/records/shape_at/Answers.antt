@@ -1,9 +1,15 @@
-use Rattle.std.proofs.Common.{◌∙◌, sym, ap, subst}
+use Rattle.std.proofs.Common.{◌∙◌, inl, inr, refl, sym, ap, subst}
 use Rattle.tc_model.specs.Document.{document_shape}
+use Rattle.tc_record.specs.Record.{IsNumberedRecordOf}
 use Rattle.tc_component.specs.Meaning.{IsRecordOfOne}
 use Rattle.tc_compact.specs.Meant.{IsRecordUnder}
 use Rattle.tc_part.proofs.Spelled.{one_under, if_some_then}
 use Rattle.tc_part.proofs.records.shape_at.Goals as goal
+
+pub known-requires : goal.known-requires
+known-requires g c =
+    let found = c.in_ok-bytes.ensures.found.1 in
+    inr (found.tree, (1, (inl refl, subst (IsNumberedRecordOf found.tree) (sym c.as_slice.ensures.same) found.is_record)))
 
 pub returns-in-Ok-clause-shape : goal.returns-in-Ok-clause-shape
 returns-in-Ok-clause-shape g c = λ d.
@@ -13,6 +19,6 @@ returns-in-Ok-clause-shape g c = λ d.
     let under = subst (IsRecordUnder component.index.names found.0) c.known.ensures.bytes (subst (λ names. IsRecordUnder names found.0 c.known.result.bytes) c.names.ensures found.1) in
     if_some_then (g.F.Frozen.content component.file) _ _
     (λ whole read one.
-    found.2 ∙ ap document_shape (one_under component.index.names d found.0 bytes c.known.result.named (λ x is. (c.known.ensures.document x is).0) (λ n is. (c.known.ensures.numbered n is).0)
+    found.2 ∙ ap document_shape (one_under component.index.names d found.0 bytes c.known.result.named (λ x is. (c.known.ensures.document x is).0) (λ n is. (c.known.ensures.numbered 1 n (inl refl) is).1)
     (subst (IsRecordOfOne component.index.names d) (sym (c.as_slice.ensures.same ∙ read)) one) under))
     c.in_ok-bytes.ensures.read

@@ -1,12 +1,18 @@
-use Rattle.std.proofs.Common.{◌≡◌, ◌∙◌, length, sym, ap, subst}
+use Rattle.std.proofs.Common.{◌≡◌, ◌∙◌, length, inl, inr, refl, sym, ap, subst}
 use Rattle.std.specs.Prelude.{IfSome}
 use Rattle.tc_request_model.specs.Rendered.{document_text}
+use Rattle.tc_record.specs.Record.{IsNumberedRecordOf}
 use Rattle.tc_component.specs.Fetching.{length_at, record_at}
 use Rattle.tc_component.specs.Meaning.{IsRecordOfOne}
 use Rattle.tc_compact.specs.Meant.{IsRecordUnder}
 use Rattle.tc_query.specs.Shown.{IsReadOf}
 use Rattle.tc_part.proofs.Spelled.{one_under, if_some_then}
 use Rattle.tc_part.proofs.records.text_at.Goals as goal
+
+pub known-requires : goal.known-requires
+known-requires g c =
+    let found = c.in_ok-bytes.ensures.found.1 in
+    inr (found.tree, (1, (inl refl, subst (IsNumberedRecordOf found.tree) (sym c.as_slice.ensures.same) found.is_record)))
 
 pub returns-in-Ok-clause-text : goal.returns-in-Ok-clause-text
 returns-in-Ok-clause-text g c = λ d.
@@ -18,7 +24,7 @@ returns-in-Ok-clause-text g c = λ d.
     if_some_then (g.F.Frozen.content component.file) _ _
     (λ whole read one.
     c.in-Ok.ensures.text e found.1
-    ∙ ap (document_text c.args.key) (one_under component.index.names d e bytes c.known.result.named (λ x is. (c.known.ensures.document x is).0) (λ n is. (c.known.ensures.numbered n is).0)
+    ∙ ap (document_text c.args.key) (one_under component.index.names d e bytes c.known.result.named (λ x is. (c.known.ensures.document x is).0) (λ n is. (c.known.ensures.numbered 1 n (inl refl) is).1)
     (subst (IsRecordOfOne component.index.names d) (sym (c.as_slice.ensures.same ∙ read)) one) under))
     c.in_ok-bytes.ensures.read
 
