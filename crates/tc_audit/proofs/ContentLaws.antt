@@ -1,5 +1,5 @@
 -- A component whose records are stored ones is that of one content.
-use Rattle.std.proofs.Common.{◌≡◌, ◌∙◌, ◌<◌, ◌≤◌, ◌+◌, ◌==◌, ℕ, zero, suc, Bool, true, false, if◌then◌else◌, List, [], ◌∷◌, ◌++◌, Option, None, Some, length, map, take, drop, slice_get, refl, sym, ap, subst, arith, inr, option_map, unwrap_or, length-append}
+use Rattle.std.proofs.Common.{◌≡◌, ◌∙◌, ◌<◌, ◌≤◌, ◌+◌, ◌==◌, ℕ, zero, suc, Bool, true, false, if◌then◌else◌, List, [], ◌∷◌, ◌++◌, Option, None, Some, length, map, take, drop, slice_get, refl, sym, ap, subst, arith, inl, inr, option_map, unwrap_or, length-append}
 use Rattle.std.specs.Prelude.{All}
 use Rattle.std.specs.List.{AllByRecursion}
 use Rattle.std.specs.List.Sorted.{IsStrictlySortedBy}
@@ -22,7 +22,7 @@ use Rattle.tc_names.specs.Section.{section}
 use Rattle.tc_schema_model.specs.SchemaBytes.{schema_bytes}
 use Rattle.tc_schema_model.specs.SchemaTree.{schema_tree}
 use Rattle.tc_record.specs.Preorder.{Token}
-use Rattle.tc_record.specs.Walk.{Key}
+use Rattle.tc_record.specs.Walk.{Key, Format}
 use Rattle.tc_record.specs.Borrowed.{Record, Spells, numbered_tokens}
 use Rattle.tc_record.specs.Building.{document_read}
 use Rattle.tc_record.proofs.Reading.{numbered_again}
@@ -45,9 +45,10 @@ unfolding document_in
 stored_document reads names bytes dictionary s =
     let n = compacted names s.document in
     let is = stored_numbered names bytes dictionary s in
-    let spells : Spells (record { bytes = bytes; named = false; tokens = numbered_tokens n }) = inr (n, (refl, is, refl)) in
-    ap (λ (o : Option (Bool × List (Token Key Scalar))). o >>= λ r. document_read (tokens_meant names r.1)) (numbered_again n bytes is)
-    ∙ reads (record { bytes = bytes; named = false; tokens = numbered_tokens n }) names s.document spells (stored_under names bytes dictionary s)
+    let r : Record = record { bytes = bytes; form = 1; named = false; tokens = numbered_tokens n } in
+    let spells : Spells r = inr (n, (refl, is, refl, inl refl)) in
+    ap (λ (o : Option (Format × List (Token Key Scalar))). o >>= λ r. document_read (tokens_meant names r.1)) (numbered_again 1 (inl refl) n bytes is)
+    ∙ reads r names s.document spells (stored_under names bytes dictionary s)
 
 -- ---- the entries of stored records
 

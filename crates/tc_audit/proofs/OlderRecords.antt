@@ -1,5 +1,5 @@
 -- The record of what was live of a key in components that are right.
-use Rattle.std.proofs.Common.{◌≡◌, ◌∙◌, ◌+◌, ◌==◌, ℕ, zero, suc, Bool, true, false, if◌then◌else◌, List, [], ◌∷◌, ◌++◌, Option, Some, slice_get, sym, ap, subst, arith}
+use Rattle.std.proofs.Common.{◌≡◌, ◌∙◌, ◌+◌, ◌==◌, ℕ, zero, suc, Bool, true, false, if◌then◌else◌, List, [], ◌∷◌, ◌++◌, Option, Some, slice_get, inl, refl, sym, ap, subst, arith}
 use Rattle.std.specs.List.{AllZip}
 use Rattle.std.proofs.lemmas.Option.{same_Some}
 use Rattle.tc_model.specs.Dictionary.{Extends, IsDictionary}
@@ -66,7 +66,7 @@ module _ {F : Type 0} (told : F → Option (List ℕ)) where
             document = h.document;
             whole = h.bytes;
             live_is = h.live_is;
-            there = record { tells = h.tells; stored = its; is = h.record_is.one its.document (record_of its.document) k.whole compact };
+            there = record { tells = h.tells; stored = its; is = h.record_is.one its.document (record_of its.document) k.whole (1, (inl refl, compact)) };
           }
 
 -- what is counted fits the document of a key

@@ -3,19 +3,22 @@ use Rattle.std.proofs.Common.{◌≡◌, ◌∙◌, ◌↔◌, ◌<◌, ◌≤�
 use Rattle.std.specs.List.{AllByRecursion}
 use Rattle.std.proofs.lemmas.Bool.{both_ways}
 use Rattle.std.proofs.lemmas.Bool.Decides.{nat_tests}
+use Rattle.std.proofs.lemmas.Option.{same_Some}
 use Rattle.tc_model.specs.Document.{Name, Document, document_shape}
 use Rattle.tc_model.specs.Dictionary.{Extends, IsDictionary}
 use Rattle.tc_model.specs.KnownNames.{HasEach}
 use Rattle.tc_model.specs.ShapeNames.{names_within}
 use Rattle.tc_names.specs.Longest.{longest_of}
-use Rattle.tc_record.specs.Record.{labels, record_of, NumberedTree, IsNumberedRecordOf, IsRecordOf}
+use Rattle.tc_record.specs.Record.{labels, texts, record_of, NumberedTree, IsNumberedForm, IsNumberedRecordIn, IsNumberedRecordOf, IsRecordOf}
 use Rattle.tc_record.specs.Preorder.{tokens_of}
-use Rattle.tc_record.specs.Borrowed.{Record, Spells, IsBelow, numbered_tokens}
-use Rattle.tc_compact.specs.Compacted.{compacted, IsCompactedRecordOf}
+use Rattle.tc_record.specs.Borrowed.{Record, Spells, IsBelow, named_tokens, numbered_tokens}
+use Rattle.tc_record.specs.Walk.{Format}
+use Rattle.tc_record.proofs.Reading.{document_again, numbered_again}
+use Rattle.tc_compact.specs.Compacted.{compacted, IsCompactedIn, IsCompactedRecordOf}
 use Rattle.tc_compact.specs.Meant.{expanded, IsRecordUnder}
 use Rattle.tc_compact.proofs.Agreeing.{same_order}
-use Rattle.tc_compact.proofs.Compacts.{document_names, document_tokens}
-use Rattle.tc_compact.proofs.Expands.{tree_tokens}
+use Rattle.tc_compact.proofs.Compacts.{Tokens, two_forms, document_names, document_tokens}
+use Rattle.tc_compact.proofs.NumberedTrees.{tree_tokens}
 use Rattle.tc_compact.proofs.NamedSizes.{named_most}
 use Rattle.tc_component.specs.Fetching.{IsRecordWithin}
 use Rattle.tc_component.proofs.EntryRecords.{kept, within_names, IsKept}
@@ -34,10 +37,22 @@ kept_in names bytes dictionary s = kept names 0 s.document dictionary (record { 
 pub stored_under : (names : List Name) (bytes : List ℕ) → IsDictionary names → (s : IsStoredIn names bytes) → IsRecordUnder names s.document bytes
 stored_under names bytes dictionary s =
     let k = kept_in names bytes dictionary s in
-    inr (record_of s.document, k.whole, subst (IsCompactedRecordOf names s.document) (sym s.spelled) k.compact)
+    inr (record_of s.document, k.whole, (1, (inl refl, subst (IsCompactedRecordOf names s.document) (sym s.spelled) k.compact)))
 
 pub stored_numbered : (names : List Name) (bytes : List ℕ) → IsDictionary names → (s : IsStoredIn names bytes) → IsNumberedRecordOf (compacted names s.document) bytes
 stored_numbered names bytes dictionary s = subst (IsNumberedRecordOf (compacted names s.document)) (sym s.spelled) (kept_in names bytes dictionary s).compact.numbered
+
+-- the form of a record is that of each tree that its bytes spell
+tree_form : (r : Record) (form : ℕ) (n : NumberedTree) → Spells r → IsNumberedForm form → IsNumberedRecordIn form n r.bytes → r.form ≡ form
+tree_form r form n (inl one) told is = absurd (two_forms form (named_tokens one.0) (numbered_tokens n) (sym (document_again one.0 r.bytes one.1.1) ∙ numbered_again form told n r.bytes is))
+tree_form r form n (inr one) told is =
+    ap (λ (p : Format × Tokens). p.0.form) (same_Some _ _ (sym (numbered_again r.form one.1.3 one.0 r.bytes one.1.1) ∙ numbered_again form told n r.bytes is))
+
+pub stored_form : (names : List Name) (r : Record) → IsDictionary names → Spells r → IsStoredIn names r.bytes → r.form ≡ 1
+stored_form names r dictionary spells s = tree_form r 1 (compacted names s.document) spells (inl refl) (stored_numbered names r.bytes dictionary s)
+
+stored_tokens : (names : List Name) (r : Record) → IsDictionary names → Spells r → (s : IsStoredIn names r.bytes) → r.tokens ≡ numbered_tokens (compacted names s.document)
+stored_tokens names r dictionary spells s = tree_tokens r 1 (compacted names s.document) spells (inl refl) (stored_numbered names r.bytes dictionary s)
 
 -- ---- the tests
 
@@ -45,60 +60,63 @@ stored_numbered names bytes dictionary s = subst (IsNumberedRecordOf (compacted 
 pub stored_short : (names : List Name) (r : Record) → IsDictionary names → Spells r → (s : IsStoredIn names r.bytes) → AllByRecursion (IsBelow (length names)) (labels r.tokens) × (length (record_of (expanded names (compacted names s.document))) < 2 ^ 30)
 stored_short names r dictionary spells s =
     let w : IsRecordWithin (length names) r.bytes = subst (IsRecordWithin (length names)) (sym s.spelled) (within_names names s.document (kept_in names r.bytes dictionary s)) in (
-      subst (λ ts. AllByRecursion (IsBelow (length names)) (labels ts)) (sym (tree_tokens r w.tree spells w.is_record)) w.below,
+      subst (λ ts. AllByRecursion (IsBelow (length names)) (labels ts)) (sym (tree_tokens r 1 w.tree spells (inl refl) w.is_record)) w.below,
       subst (λ d. length (record_of d) < 2 ^ 30) (sym (tree_again names s.document s.named)) s.short,
     )
 
 pub stored_lacks : (names : List Name) (r : Record) → IsDictionary names → Spells r → IsStoredIn names r.bytes → lacks_id names r.tokens ≡ true
 stored_lacks names r dictionary spells s =
-    ap (lacks_id names) (tree_tokens r (compacted names s.document) spells (stored_numbered names r.bytes dictionary s)) ∙ test_of_keyless names s.document s.storable.1 s.named
+    ap (lacks_id names) (stored_tokens names r dictionary spells s) ∙ test_of_keyless names s.document s.storable.1 s.named
 
 -- the dictionary has the names of a document whose numbers a record carries
-known_under : (names : List Name) (d : Document) (bytes : List ℕ) → IsCompactedRecordOf names d bytes → HasEach names (names_within (document_shape d))
-known_under names d bytes form1 = subst (HasEach names) (sym (document_names d) ∙ same_order d) form1.known
+known_under : (names : List Name) (form : ℕ) (d : Document) (bytes : List ℕ) → IsCompactedIn form names d bytes → HasEach names (names_within (document_shape d))
+known_under names form d bytes compact = subst (HasEach names) (sym (document_names d) ∙ same_order d) compact.known
 
 -- an object whose first member is called by a name behind `id` has no member `id`
 pub lacks_by_first : (names : List Name) (r : Record) (d : Document) → r.named ≡ false → Spells r → IsRecordUnder names d r.bytes → ((n : NumberedTree) → r.tokens ≡ numbered_tokens n → IsTrue (begins_behind names (labels (tokens_of n)))) → lacks_id names r.tokens ≡ true
 lacks_by_first names r d unnamed spells (inl is) begins = absurd (both_ways r.named unnamed (document_tokens r d spells is).0)
-lacks_by_first names r d unnamed spells (inr (whole, is, form1)) begins =
-    let known = known_under names d r.bytes form1 in
-    let tokens_are : r.tokens ≡ numbered_tokens (compacted names d) = tree_tokens r (compacted names d) spells form1.numbered in
+lacks_by_first names r d unnamed spells (inr (whole, is, under)) begins =
+    let known = known_under names under.0 d r.bytes under.1.1 in
+    let tokens_are : r.tokens ≡ numbered_tokens (compacted names d) = tree_tokens r under.0 (compacted names d) spells under.1.0 under.1.1.numbered in
     ap (lacks_id names) tokens_are ∙ test_of_keyless names d (keyless_behind names d is.is_object is.document known (begins (compacted names d) tokens_are)) known
 
-pub stored_by_tests : (names : List Name) (r : Record) (d : Document) → r.named ≡ false → Spells r → IsRecordUnder names d r.bytes
-    → ((n : NumberedTree) → IsNumberedRecordOf n r.bytes → length (record_of (expanded names n)) < 2 ^ 30) → lacks_id names r.tokens ≡ true → IsStoredIn names r.bytes
-stored_by_tests names r d unnamed spells (inl is) short lacks = absurd (both_ways r.named unnamed (document_tokens r d spells is).0)
-stored_by_tests names r d unnamed spells (inr (whole, is, form1)) short lacks =
-    let known = known_under names d r.bytes form1 in
-    let test : lacks_id names (numbered_tokens (compacted names d)) ≡ true = ap (lacks_id names) (sym (tree_tokens r (compacted names d) spells form1.numbered)) ∙ lacks in
+pub stored_by_tests : (names : List Name) (r : Record) (d : Document) → r.form ≡ 1 → r.named ≡ false → Spells r → IsRecordUnder names d r.bytes
+    → ((n : NumberedTree) → r.tokens ≡ numbered_tokens n → length (record_of (expanded names n)) < 2 ^ 30) → lacks_id names r.tokens ≡ true → IsStoredIn names r.bytes
+stored_by_tests names r d form unnamed spells (inl is) short lacks = absurd (both_ways r.named unnamed (document_tokens r d spells is).0)
+stored_by_tests names r d form unnamed spells (inr (whole, is, under)) short lacks =
+    let n = compacted names d in
+    let tokens = tree_tokens r under.0 n spells under.1.0 under.1.1.numbered in
+    let form1 : IsCompactedRecordOf names d r.bytes = subst (λ f. IsCompactedIn f names d r.bytes) (sym (tree_form r under.0 n spells under.1.0 under.1.1.numbered) ∙ form) under.1.1 in
+    let known = known_under names 1 d r.bytes form1 in
+    let test : lacks_id names (numbered_tokens n) ≡ true = ap (lacks_id names) (sym tokens) ∙ lacks in
     record {
       document = d;
       is_document = is.document;
       storable = (is.shallow, keyless_by_test names d is.is_object known test);
       named = known;
-      short = subst (λ e. length (record_of e) < 2 ^ 30) (tree_again names d known) (short (compacted names d) form1.numbered);
+      short = subst (λ e. length (record_of e) < 2 ^ 30) (tree_again names d known) (short n tokens);
       spelled = form1.numbered.spelled;
     }
 
 -- ---- what is tested
 
--- a record with names is short where it is with the longest name in place of each number
-pub short_by_bound : (names : List Name) (r : Record) (n : NumberedTree) → Spells r → r.named ≡ false → IsNumberedRecordOf n r.bytes → nat_lt (length r.bytes + length (labels r.tokens) * (longest_of names + 4)) (2 ^ 30) ≡ true
+-- a record with names is short where it is with the longest name in place of each number, and four bytes for each length
+pub short_by_bound : (names : List Name) (r : Record) (n : NumberedTree) → Spells r → r.tokens ≡ numbered_tokens n → nat_lt (length r.bytes + (length (labels r.tokens) * (longest_of names + 4) + length (texts r.tokens) * 4)) (2 ^ 30) ≡ true
     → length (record_of (expanded names n)) < 2 ^ 30
-short_by_bound names r n spells unnamed is test = under (length (record_of (expanded names n))) _ (named_most names r n spells unnamed is) test
+short_by_bound names r n spells tokens test = under (length (record_of (expanded names n))) _ (let most = named_most names r n spells tokens in omega (arith, most)) test
   where
     under : (len most : ℕ) → len ≤ most → nat_lt most (2 ^ 30) ≡ true → len < 2 ^ 30
     under len most less test = grind (arith, nat_tests)
 
 -- that a record is short, by the same record once more
 abbrev pub TellsShort : List Name → Record → Bool → Type 0
-TellsShort names r short = (n : NumberedTree) → IsNumberedRecordOf n r.bytes → IsTrue short ↔ AllByRecursion (IsBelow (length names)) (labels r.tokens) × (length (record_of (expanded names n)) < 2 ^ 30)
+TellsShort names r short = (n : NumberedTree) → r.tokens ≡ numbered_tokens n → IsTrue short ↔ AllByRecursion (IsBelow (length names)) (labels r.tokens) × (length (record_of (expanded names n)) < 2 ^ 30)
 
 pub passes_short : (names : List Name) (r again : Record) (short : Bool) → IsDictionary names → Spells r → again ≡ r → TellsShort names again short → IsStoredIn names r.bytes → IsTrue short
 passes_short names r again short dictionary spells same told s =
-    (subst (λ t. TellsShort names t short) same told (compacted names s.document) (stored_numbered names r.bytes dictionary s)).1 (stored_short names r dictionary spells s)
+    (subst (λ t. TellsShort names t short) same told (compacted names s.document) (stored_tokens names r dictionary spells s)).1 (stored_short names r dictionary spells s)
 
-pub short_tested : (names : List Name) (r again : Record) (short : Bool) → again ≡ r → TellsShort names again short → IsTrue short → (n : NumberedTree) → IsNumberedRecordOf n r.bytes → length (record_of (expanded names n)) < 2 ^ 30
+pub short_tested : (names : List Name) (r again : Record) (short : Bool) → again ≡ r → TellsShort names again short → IsTrue short → (n : NumberedTree) → r.tokens ≡ numbered_tokens n → length (record_of (expanded names n)) < 2 ^ 30
 short_tested names r again short same told test n is = ((subst (λ t. TellsShort names t short) same told n is).0 test).1
 
 pub passes_spelling : (names : List Name) (r again : Record) (spelled : Bool) → IsDictionary names → again ≡ r → (spelled ≡ false → (d : Document) → IsRecordUnder names d again.bytes → ⊥) → IsStoredIn names r.bytes → IsTrue spelled

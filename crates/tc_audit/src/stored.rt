@@ -4,7 +4,7 @@ ghost use Rattle.std.specs.Prelude.{◌≡◌, ◌↔◌, ◌<◌, ◌+◌, ◌*
 ghost use Rattle.std.specs.List.{AllByRecursion};
 ghost use Rattle.tc_record.specs.Borrowed.{IsBelow, numbered_tokens};
 ghost use Rattle.tc_record.specs.Preorder.{tokens_of};
-ghost use Rattle.tc_record.specs.Record.{labels, NumberedTree, record_of, IsNumberedRecordOf};
+ghost use Rattle.tc_record.specs.Record.{labels, NumberedTree, record_of};
 ghost use Rattle.tc_record.specs.StoredTest.{depth_behind};
 ghost use Rattle.tc_record.specs.Walk.{is_above};
 ghost use Rattle.tc_record.specs.WalkView.{key_of, piece_of};
@@ -14,12 +14,12 @@ ghost use Rattle.tc_audit.specs.Stored.{IsStoredIn};
 
 use tc_compact::{expanded_size, spells_document};
 use tc_names::Names;
-use tc_record::{Label, Piece, RecordRef};
+use tc_record::{Label, NUMBERED_FORM, Piece, RecordRef};
 
 /// A record that can be compacted has fewer bytes with names.
 const LONG: u32 = 0x4000_0000;
 
-/// Whether a record of form 1 spells a document under a dictionary as components keep it: an object without a member `id`,
+/// Whether a record is of form 1 and spells a document under a dictionary as components keep it: an object without a member `id`,
 /// whose record of form 0 has fewer than 1,073,741,824 bytes. Takes no memory.
 pub fn spells_stored(of: RecordRef<'_>, names: &Names) -> bool
     requires numbered { of.named ≡ false }
@@ -30,6 +30,9 @@ pub fn spells_stored(of: RecordRef<'_>, names: &Names) -> bool
     let _bytes = of.bytes();
     // that there are fewer than 2^32 tokens
     let _count = of.token_count();
+    if of.form() != NUMBERED_FORM {
+        return false;
+    }
     if !is_short(of.again(), names) {
         return false;
     }
@@ -46,11 +49,16 @@ pub fn spells_stored(of: RecordRef<'_>, names: &Names) -> bool
 /// where it could grow too long with the longest name in place of each number.
 fn is_short(of: RecordRef<'_>, names: &Names) -> bool
     requires numbered { of.named ≡ false }
-    ensures { (n : NumberedTree) → IsNumberedRecordOf n of.entry.bytes → IsTrue result ↔ AllByRecursion (IsBelow (length names.now)) (labels of.entry.tokens) × (length (record_of (expanded names.now n)) < 2 ^ 30) }
+    ensures { (n : NumberedTree) → of.entry.tokens ≡ numbered_tokens n → IsTrue result ↔ AllByRecursion (IsBelow (length names.now)) (labels of.entry.tokens) × (length (record_of (expanded names.now n)) < 2 ^ 30) }
 {
     let bytes = of.bytes();
     if of.numbers_below(names.len())
-        && is_short_with_names(bytes.len(), of.member_count(), names.longest_name())
+        && is_short_with_names(
+            bytes.len(),
+            of.member_count(),
+            of.text_count(),
+            names.longest_name(),
+        )
     {
         return true;
     }
@@ -60,12 +68,13 @@ fn is_short(of: RecordRef<'_>, names: &Names) -> bool
     }
 }
 
-/// Whether a record of so many bytes and members is short with a name in place of each number, and names of at most so many
-/// bytes. The slot of a name has at most four bytes.
-fn is_short_with_names(len: usize, members: u32, longest: u32) -> bool
-    ensures { result ≡ nat_lt (len + members * (longest + 4)) (2 ^ 30) }
+/// Whether a record of so many bytes, members and texts is short with a name in place of each number, and names of at most so
+/// many bytes. The slot of a name has at most four bytes, and so has the length of a text.
+fn is_short_with_names(len: usize, members: u32, texts: u32, longest: u32) -> bool
+    ensures { result ≡ nat_lt (len + (members * (longest + 4) + texts * 4)) (2 ^ 30) }
 {
-    let most = u64::from(members).saturating_mul(u64::from(longest) + 4);
+    let slots = u64::from(members).saturating_mul(u64::from(longest) + 4);
+    let most = slots.saturating_add(u64::from(texts) * 4);
     most.saturating_add(len as u64) < u64::from(LONG)
 }
 

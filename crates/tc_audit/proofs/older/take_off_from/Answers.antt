@@ -1,4 +1,4 @@
-use Rattle.std.proofs.Common.{Err, inr, sym, subst}
+use Rattle.std.proofs.Common.{Err, inl, inr, refl, sym, subst}
 use Rattle.std.proofs.lemmas.Result.{err_from_is_err_and}
 use Rattle.tc_record.specs.Record.{IsNumberedRecordOf}
 use Rattle.tc_compact.specs.Meant.{IsRecordUnder}
@@ -7,7 +7,7 @@ use Rattle.tc_audit.proofs.StoredLaws.{stored_at_under, stored_within, under_new
 use Rattle.tc_audit.proofs.older.take_off_from.Goals as goal
 
 pub take_record-requires-clause-record : goal.take_record-requires-clause-record
-take_record-requires-clause-record g c = let found = c.in_ok-bytes.ensures.found in inr (found.tree, subst (IsNumberedRecordOf found.tree) (sym c.as_slice.ensures.same) found.is_record)
+take_record-requires-clause-record g c = let found = c.in_ok-bytes.ensures.found in inr (found.tree, (1, (inl refl, subst (IsNumberedRecordOf found.tree) (sym c.as_slice.ensures.same) found.is_record)))
 
 pub returns-in_err-bytes-clause-harmless : goal.returns-in_err-bytes-clause-harmless
 returns-in_err-bytes-clause-harmless g c =

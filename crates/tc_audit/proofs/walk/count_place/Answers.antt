@@ -1,4 +1,4 @@
-use Rattle.std.proofs.Common.{◌≡◌, ◌∙◌, ◌+◌, false, length, inr, refl, sym, ap, subst}
+use Rattle.std.proofs.Common.{◌≡◌, ◌∙◌, ◌+◌, false, length, inl, inr, refl, sym, ap, subst}
 use Rattle.std.proofs.lemmas.Bool.{both_ways}
 use Rattle.tc_record.specs.Borrowed.{Record}
 use Rattle.tc_component.specs.Fetching.{IsRecordWithin}
@@ -14,12 +14,12 @@ use Rattle.tc_audit.proofs.walk.count_place.Goals as goal
 pub known-of-requires : goal.known-of-requires
 known-of-requires g c =
     let found : IsRecordWithin (length c.args.component.now.index.names) c.record-bytes.result.now = subst (IsRecordWithin (length c.args.component.now.index.names)) (sym c.record-bytes.ensures.same) c.in_ok-hold.ensures.found in
-    inr (found.tree, found.is_record)
+    inr (found.tree, (1, (inl refl, found.is_record)))
 
 pub spells_stored-requires : goal.spells_stored-requires
 spells_stored-requires g c =
     let found : IsRecordWithin (length c.args.component.now.index.names) c.record-bytes.result.now = subst (IsRecordWithin (length c.args.component.now.index.names)) (sym c.record-bytes.ensures.same) c.in_ok-hold.ensures.found in
-    let unnamed : c.again.result.named ≡ false = ap (λ (r : Record). r.named) c.again.ensures ∙ (c.known-of.ensures.numbered found.tree found.is_record).0 in
+    let unnamed : c.again.result.named ≡ false = ap (λ (r : Record). r.named) c.again.ensures ∙ (c.known-of.ensures.numbered 1 found.tree (inl refl) found.is_record).1 in
     record { numbered = unnamed }
 
 -- ---- where it is no stored one
