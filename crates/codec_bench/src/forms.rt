@@ -2,9 +2,7 @@
 
 use std::alloc::Global;
 use tc_bytes::{Bytes, Memory};
-use tc_compact::{
-    compact, document_of, expand, expanded_size, names_agree, repack, shape_of,
-};
+use tc_compact::{compact, document_of, expand, expanded_size, names_agree, repack, shape_of};
 use tc_names::Names;
 use tc_record::{NUMBERED_FORM, PACKED_FORM, RecordFault, RecordRef, decode};
 

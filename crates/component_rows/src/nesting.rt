@@ -11,10 +11,12 @@ const FRONT: &str = "\
 
 // The name `a`, and an object with one field of this name.
 const NAMES: &str = "000000010000000161";
+
 const ROOT: &str = "0600000000000000010000000100000000";
 
 // An array with items, and an integer.
 const ARRAY: &str = "05000000000000000101";
+
 const INTEGER: &str = "030000000000000001";
 
 /// One in whose schema so many places stand one within another: the object, the arrays in it, and an integer.

@@ -19,7 +19,7 @@ use tc_record::RecordRef;
 use tc_schema::Schema;
 use tc_value::Kind;
 
-/// Takes the document of a record of either form off where the schema fits it, under a dictionary, and answers whether it
+/// Takes the document of a record of any form off where the schema fits it, under a dictionary, and answers whether it
 /// does. Where it does not, the schema is then that of no document. A number is looked for as it stands. Takes no memory.
 pub fn take_known(schema: &mut Schema, names: &Names, of: RecordRef<'_>) -> bool
     requires canonical { IsCanonical (length names.now) schema.old }

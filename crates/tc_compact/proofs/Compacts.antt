@@ -177,7 +177,19 @@ compacted_short form r ns spells named short many each =
     let slots_most = column_in-most s (form_spells form) ns each in
     let p = parts_of r.tokens in
     omega (
-      arith, short, many, names_are, texts_most, slots_most, whole_length s form p ns [],
-      document_length d.0 r.bytes d.1.spelled, bytes_each (map length (texts ts)), bytes_each (map length ls), length-map ls length,
-      ap (λ (q : Parts). length q.tags) parts, ap (λ (q : Parts). length q.fixed) parts, ap (λ (q : Parts). length q.lengths) parts, ap (λ (q : Parts). length q.texts) parts,
+      arith,
+      short,
+      many,
+      names_are,
+      texts_most,
+      slots_most,
+      whole_length s form p ns [],
+      document_length d.0 r.bytes d.1.spelled,
+      bytes_each (map length (texts ts)),
+      bytes_each (map length ls),
+      length-map ls length,
+      ap (λ (q : Parts). length q.tags) parts,
+      ap (λ (q : Parts). length q.fixed) parts,
+      ap (λ (q : Parts). length q.lengths) parts,
+      ap (λ (q : Parts). length q.texts) parts,
     )

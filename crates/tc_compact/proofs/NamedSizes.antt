@@ -108,8 +108,15 @@ named_most names r n spells tokens =
     let members : length ls ≡ length ks = length-map ns length ∙ length-map ks (name_at names) in
     let holds = record_holds r spells in
     omega (
-      arith, slots_most names (labels r.tokens), members, bytes_most ls, bytes_most lengths, length-map (texts r.tokens) length, holds.len,
-      ap length (expanded_laid names n r.tokens tokens), whole_length in_bytes 0 (parts_of r.tokens) ls (joined ns),
+      arith,
+      slots_most names (labels r.tokens),
+      members,
+      bytes_most ls,
+      bytes_most lengths,
+      length-map (texts r.tokens) length,
+      holds.len,
+      ap length (expanded_laid names n r.tokens tokens),
+      whole_length in_bytes 0 (parts_of r.tokens) ls (joined ns),
     )
 
 under : (len most : ℕ) → len ≤ most → nat_lt most (2 ^ 32) ≡ true → len < 2 ^ 32

@@ -21,8 +21,7 @@ returns-clause-found c = λ passes.
     let r = c.args.of in
     let unnamed : r.named ≡ false = sym c.named.ensures ∙ c.if-named.false in
     let tree = numbered_tree r c.bytes-bytes.ensures.spells unnamed in
-    let test : is_ordered names tree.tree ≡ true = sym (c.passes_all.ensures tree.tree (c.of.ensures tree.tree tree.tokens)) ∙ passes in
-    (
+    let test : is_ordered names tree.tree ≡ true = sym (c.passes_all.ensures tree.tree (c.of.ensures tree.tree tree.tokens)) ∙ passes in (
       expanded names tree.tree,
       numbered_under names r tree.tree c.is_dictionary.ensures tree.form tree.is tree.tokens (c.has_room.ensures.room c.if-not-has_room.false unnamed) (ordered-from_test names tree.tree test),
     )
