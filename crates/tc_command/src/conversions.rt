@@ -69,7 +69,9 @@ fn upsert_in(alloc: Global, value: &Value) -> Result<Command, ParseFault>
     upsert_of(doc_of(alloc, value)?)
 }
 
-fn upsert_of(doc: Doc) -> Result<Command, ParseFault>
+/// The upsert of a document of a line. Its member `id` is the key, and stands no longer in the document. What is no object is
+/// refused as unknown, and an object without a key of its own for its key.
+pub fn upsert_of(doc: Doc) -> Result<Command, ParseFault>
     requires { depth (tree_of doc) ≤ max_depth }
     ensures asked { IfSome (request_by result) (λ r. upsert_meant (tree_of doc) ≡ r) }
     ensures lawful { IfOk result IsLawful }

@@ -14,6 +14,7 @@ mod texts;
 
 pub use asks::{Ask, Hop, PathExpr};
 pub use commands::Command;
+pub use conversions::upsert_of;
 pub use line::{MAX_LINE, parse};
 pub use refusals::{ParseFault, Refusal};
 pub use replies::{Counts, Reply, Row, Rows, Schemas};
