@@ -225,8 +225,8 @@ ONCE, TWICE, TIMES = 1, 2, 10
 
 
 def audits(bench):
-    print("| check of | written | documents | µs | × a query | SQLite, µs | times | with an index, µs | times | instructions | of a query | × a query |")
-    print("|---|--:|--:|--:|--:|--:|--:|--:|--:|--:|--:|--:|")
+    print("| check of | written | documents | µs | × a query | SQLite, µs | times | texts parsed, µs | times | with an index, µs | times | instructions | of a query | × a query |")
+    print("|---|--:|--:|--:|--:|--:|--:|--:|--:|--:|--:|--:|--:|--:|")
     asked = {name: it for name, *it in reversed(ASKED) if it[-1] is not None and None not in it[-2]}
     for name, written in AUDITED:
         made, part, path, equal_to = asked[name]
@@ -250,13 +250,13 @@ def audit_seconds(bench, upserts, written, path, ask):
     """Cells of the processor time of a check of these documents: in microseconds a document, and times a query and SQLite's checks."""
     make_apart(bench, upserts, written)
     store, nothing = bench.path("store"), bench.empty("nothing")
-    here = [bench.path("plain"), bench.path("indexed")] if shutil.which("sqlite3") else []
-    for database in here:
-        sqlite.write_script(upserts, bench.path("script"), 64)
+    here = [bench.path(it) for it in ("plain", "parsed", "indexed")] if shutil.which("sqlite3") else []
+    for database, constraint in zip(here, ("", sqlite.PARSED, "")):
+        sqlite.write_script(upserts, bench.path("script"), 64, constraint)
         sqlite.told(database, bench.path("script"), bench.path("replies"))
     if here:
         sqlite.write_index(bench.path("script"), path)
-        sqlite.asked(here[1], bench.path("script"), bench.path("replies"))
+        sqlite.asked(here[2], bench.path("script"), bench.path("replies"))
         sqlite.write_checks(bench.path("script"), TIMES)
     checks, queried, theirs = [], [], [[] for _ in here]
     for _ in range(bench.words.rounds):
@@ -267,7 +267,7 @@ def audit_seconds(bench, upserts, written, path, ask):
             told.append((used - none) / TIMES)
     count = len(upserts)
     times = statistics.median(one / other for one, other in zip(checks, queried))
-    return [f"{micros(min(checks), count):.2f}", f"{times:.2f}", *(beside(checks, it, count) for it in theirs or [[], []])]
+    return [f"{micros(min(checks), count):.2f}", f"{times:.2f}", *(beside(checks, it, count) for it in theirs or [[], [], []])]
 
 
 def checked(bench, store):

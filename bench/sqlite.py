@@ -7,7 +7,10 @@ from stores import removed
 
 FRONT = '{"op":"upsert","doc":'
 
-PRAGMAS = "pragma journal_mode = wal; pragma synchronous = full; create table docs (id integer primary key, doc text);\n"
+PRAGMAS = "pragma journal_mode = wal; pragma synchronous = full; create table docs (id integer primary key, doc text{});\n"
+
+# Without it a check of the database looks at no document.
+PARSED = " check (json_valid(doc))"
 
 
 def statement(line):
@@ -19,9 +22,10 @@ def statement(line):
     return f"delete from docs where id = {key};\n" if '"op":"delete"' in line else f"select doc from docs where id = {key};\n"
 
 
-def write_script(lines, path, window):
+def write_script(lines, path, window, constraint=""):
+    """A script that writes the lines, so many a transaction, into a table of texts that meet a constraint."""
     with open(path, "w", encoding="utf-8") as script:
-        script.write(PRAGMAS)
+        script.write(PRAGMAS.format(constraint))
         for at, line in enumerate(lines):
             if at % window == 0:
                 script.write("commit; begin;\n" if at else "begin;\n")
