@@ -11,6 +11,12 @@ known-requires g c =
     let found = c.in_ok-bytes.ensures.found.1 in
     inr (found.tree, (1, (inl refl, subst (IsNumberedRecordOf found.tree) (sym c.as_slice.ensures.same) found.is_record)))
 
+pub no_document-requires-clause-cause : goal.no_document-requires-clause-cause
+no_document-requires-clause-cause g c = λ κs within refused d under.
+    let names = c.args.component.now.index.names in
+    let here = subst (IsRecordUnder names d) (sym (c.known.ensures.bytes ∙ c.as_slice.ensures.same)) under in
+    c.in-Err.ensures.refused refused d (subst (λ names. IsRecordUnder names d c.known.result.bytes) (sym c.names.ensures) here)
+
 pub returns-in-Ok-clause-shape : goal.returns-in-Ok-clause-shape
 returns-in-Ok-clause-shape g c = λ d.
     let component = c.args.component.now in

@@ -14,6 +14,12 @@ known-requires g c =
     let found = c.in_ok-bytes.ensures.found.1 in
     inr (found.tree, (1, (inl refl, subst (IsNumberedRecordOf found.tree) (sym c.as_slice.ensures.same) found.is_record)))
 
+pub no_document-requires-clause-cause : goal.no_document-requires-clause-cause
+no_document-requires-clause-cause g c = λ κs within refused d under.
+    let names = c.args.component.now.index.names in
+    let here = subst (IsRecordUnder names d) (sym (c.known.ensures.bytes ∙ c.as_slice.ensures.same)) under in
+    c.in-Err.ensures.refused refused d (subst (λ names. IsRecordUnder names d c.known.result.bytes) (sym c.names.ensures) here)
+
 pub returns-in-Ok-clause-text : goal.returns-in-Ok-clause-text
 returns-in-Ok-clause-text g c = λ d.
     let component = c.args.component.now in
@@ -44,4 +50,4 @@ returns-in-Ok-clause-read g c =
       spells = subst (IsRecordUnder component.index.names e) c.known.ensures.bytes (subst (λ names. IsRecordUnder names e c.known.result.bytes) c.names.ensures found.1);
       stands = subst (λ bytes. IfSome (g.F.Frozen.content component.file) (λ whole. bytes ≡ record_at slots c.args.place.at whole)) same c.in_ok-bytes.ensures.read;
     } in
-    (e, (c.in-Ok.ensures.text e found.1, is))
+    (e, c.in-Ok.ensures.text e found.1, is)

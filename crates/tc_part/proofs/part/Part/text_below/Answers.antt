@@ -117,6 +117,6 @@ returns-after-text_at-clause-read g c =
       | in-Ok-text_at w ↦
           let read = w.in-Ok-text_at.ensures.read in
           rw w.result-is
-          (λ none. (read.0, (read.1, record { at = n; place = place; newest = found.1.newest; component = c.component_at-component.result.now; here = c.component_at-component.ensures; read = read.2 })))
+          (λ none. (read.0, read.1, record { at = n; place = place; newest = found.1.newest; component = c.component_at-component.result.now; here = c.component_at-component.ensures; read = read.2 }))
       | in-Err-text_at w ↦ rw w.result-is tt
     ])
