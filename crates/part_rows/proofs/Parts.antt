@@ -105,8 +105,8 @@ pub none_is : {T : Type 0} (sealed : Option T) (has : Bool) → has ≡ is_some 
 none_is None has answer is = refl
 none_is (Some table) has answer is = absurd (false≢true (sym is ∙ answer))
 
--- Where a job has failed the call does not end well. Otherwise two clauses that stand where it was sound say together what comes.
-pub ends_well : {X Y E F : Type 0} (r : Result X E) (o : Result Y F) (S A B G : Type 0) (Q : F → Type 0) → S → IfErr o Q → ((f : F) → Q f → OnOk r ⊥) → OnOk r (S → A) → OnOk r (S → B) → (IsOk o → A → B → G) → OnOk r G
-ends_well (Ok x) (Ok y) S A B G Q s unmade never a b go = go refl (a s) (b s)
-ends_well (Ok x) (Err f) S A B G Q s unmade never a b go = absurd (never f unmade)
-ends_well (Err e) o S A B G Q s unmade never a b go = tt
+-- Where a job has failed the call does not end well. Otherwise a clause that stands where it was sound says what comes.
+pub ends_well : {X Y E F : Type 0} (r : Result X E) (o : Result Y F) (S A G : Type 0) (Q : F → Type 0) → S → IfErr o Q → ((f : F) → Q f → OnOk r ⊥) → OnOk r (S → A) → (IsOk o → A → G) → OnOk r G
+ends_well (Ok x) (Ok y) S A G Q s unmade never a go = go refl (a s)
+ends_well (Ok x) (Err f) S A G Q s unmade never a go = absurd (never f unmade)
+ends_well (Err e) o S A G Q s unmade never a go = tt

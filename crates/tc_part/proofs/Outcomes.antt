@@ -12,6 +12,10 @@ pub err_always : {X E : Type 0} (r : Result X E) (Q : Type 0) → Q → OnErr r 
 err_always (Ok x) Q q = tt
 err_always (Err e) Q q = q
 
+pub err_each : {X E : Type 0} (r : Result X E) (Q : E → Type 0) → ((e : E) → Q e) → IfErr r Q
+err_each (Ok x) Q q = tt
+err_each (Err e) Q q = q e
+
 -- where two results fail alike, a cause of the one is one of the other
 pub fails_alike : {X Y E : Type 0} (a : Result X E) (b : Result Y E) (x e : E) → a ≡ Err x → b ≡ Err x → IsErrOf a e → IsErrOf b e
 fails_alike a b x e is same fails = let cause : x ≡ e = cc in same ∙ ap Err cause

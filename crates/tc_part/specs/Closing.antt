@@ -1,5 +1,5 @@
 -- What is left in the store of a part that is closed.
-use Rattle.std.specs.Prelude.{◌≡◌, ◌+◌, ℕ, List, Option, Some, None, length, is_some, IfSome}
+use Rattle.std.specs.Prelude.{◌≡◌, ◌+◌, ◌⊎◌, ℕ, List, Option, Some, None, length, is_some, IfSome}
 use Rattle.tc_store.specs.declared.file_name.FileName.{FileName}
 use Rattle.tc_store.specs.Disk.{Disk, home}
 use Rattle.tc_store.specs.DiskFile.{DiskFile}
@@ -28,3 +28,7 @@ pub record HasLogsOf (t : Told) (p : PartView) : Type 0 where
 -- It has failed as this, without a frame, and has the logs of this: what is asked of a part that is closed.
 abbrev pub HasFailedWhole : Told → PartView → Type 0
 HasFailedWhole t p = HasFailedAs t p None × HasLogsOf t p
+
+-- so it has as one of the two
+abbrev pub HasFailedEither : Told → PartView → PartView → Type 0
+HasFailedEither t p q = HasFailedWhole t p ⊎ HasFailedWhole t q

@@ -53,3 +53,7 @@ HasOnlyOwn t disk = (name : FileName) → IsThere (disk name) → IsOwn t name
 -- Where the store tells its files, each has a name of the part's own, and the listed intervals follow each other.
 abbrev pub HasOwnFiles : Told → Type 0
 HasOwnFiles t = IfTold t.disks (λ disk. FollowInOrder 0 t.components × HasOnlyOwn t disk)
+
+-- so it goes on
+abbrev pub KeepsOwnFiles : Told → Told → Type 0
+KeepsOwnFiles t u = HasOwnFiles t → HasOwnFiles u

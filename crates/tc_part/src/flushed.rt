@@ -1,35 +1,27 @@
 //! What a flush made is listed.
 
-ghost use Rattle.std.specs.Prelude.{◌≡◌, ◌⊎◌, [], List, Option, Some, Ok, Err, None, false, true, is_some, IfErr, IfOk, IfSome, IsErrOf, OnOk, OnErr};
+ghost use Rattle.std.specs.Prelude.{◌≡◌, ◌⊎◌, [], Some, Ok, Err, None, false, true, is_some, IfErr, IfOk, IfSome, IsErrOf, OnOk, OnErr};
 ghost use Rattle.std.specs.Result.{IsOk};
 ghost use Rattle.tc_store.specs.Disk.{home as at_home};
 ghost use Rattle.tc_store.specs.DiskFile.{IsSettled};
-ghost use Rattle.tc_store.specs.Moments.{IfTold, LeavesAt};
+ghost use Rattle.tc_store.specs.Moments.{IfTold};
 ghost use Rattle.tc_store.specs.StoreCalls.{comes_home, content_now, frozen_entry};
-ghost use Rattle.tc_bytes.specs.Counts.{next_count};
 ghost use Rattle.tc_model.specs.Dictionary.{Extends};
 ghost use Rattle.tc_component.specs.Rows.{IsComponent, head_of};
 ghost use Rattle.tc_merge.specs.Merging.{newest_names};
 ghost use Rattle.tc_part.specs.JobHeads.{flushed_head};
-ghost use Rattle.tc_plain_model.specs.Writes.{Write as PlainWrite};
 ghost use Rattle.tc_lsm_model.specs.Contents.{Content};
-ghost use Rattle.tc_machine.specs.State.{Flushing, flush_name};
-ghost use Rattle.tc_machine.specs.Steps.{IsFlushed, IsShutOrHas};
 ghost use Rattle.tc_merge.specs.Faults.{IsWatched};
 ghost use Rattle.tc_jobs.specs.Faults.{IfDamaged as IfJobDamaged};
 ghost use Rattle.tc_jobs.specs.ReadBack.{ComesHome};
-ghost use Rattle.tc_part_model.specs.Calls.{HasMade, MakesFlush};
 ghost use Rattle.tc_part_model.specs.Changes.{flushed_part};
-ghost use Rattle.tc_part_model.specs.Leaving.{FailedMomentsLeaveStore, StoreMomentsLeaveStore};
-ghost use Rattle.tc_part_model.specs.Meaning.{IsPart, HasFailedAs};
-ghost use Rattle.tc_part.specs.OwnFiles.{HasOwnFiles};
+ghost use Rattle.tc_part_model.specs.Leaving.{StoreMomentsLeaveStore};
 ghost use Rattle.tc_part.specs.FilesOut.{LogIsOut, OnlyDevicesOut, TellsLogs};
 ghost use Rattle.tc_part_model.specs.PartState.{told, IsTold};
-ghost use Rattle.tc_part_model.specs.PartView.{PartView, store_of};
-ghost use Rattle.tc_part.specs.Closing.{HasFailedWhole};
 ghost use Rattle.tc_part.specs.Faults.{of_device, IfDamaged};
+ghost use Rattle.tc_part.specs.Reads.{ReadsTwice};
 ghost use Rattle.tc_part.specs.MergeEnds.{merged_name, run_out};
-ghost use Rattle.tc_part.specs.FlushEnds.{flushed_name, HasListed, HasUncovered, IsFlushDamage, IsFlushUnlisted, IsFlushCovering};
+ghost use Rattle.tc_part.specs.FlushEnds.{flushed_name, EndsFlush, FailsFlush, FailsUnmade, GivesFlushBack, HasListed, HasUncovered, IsFlushCovering, IsFlushDamage, IsFlushUndamaged, IsFlushUnlisted, ListsFlush, OfFlushMade};
 
 use crate::fault::PartFault;
 use crate::part::Part;
@@ -51,19 +43,12 @@ impl<S: Store> Part<S> {
         requires name { S.Device.name out.device ≡ flushed_name self.old }
         requires settled { IsOk out.outcome → IfTold (S.Device.history out.device) IsSettled }
 
-        // On Ok of a part that had not failed it is the part whose flush is listed, which stores what it stored.
-        ensures flushed { OnOk result (self.old.failed ≡ false → (p : PartView) (c : Content) → IsPart (told S.history S.Device.history S.Frozen.content self.old) p → MakesFlush p c → HasMade c (S.history self.old.store) (S.Device.history out.device)
-            → IfTold (S.history self.old.store) (λ disk. IsPart (told S.history S.Device.history S.Frozen.content self.new) (flushed_part c p)) × (store_of (flushed_part c p) ≡ store_of p)) }
+        // On Ok of a part that had not failed its flush is listed, whatever its files are, and the log that it covers is gone. The
+        // part stores what it stored.
+        ensures listed { OnOk result (self.old.failed ≡ false → ListsFlush S.history S.Device.history S.Frozen.content S.Frozen.name S.Watch.counts out.watch (S.Device.history out.device) self.old self.new) }
 
         // At each moment of the call a stop leaves what was stored.
-        ensures moments { (p : PartView) (c : Content) → IsPart (told S.history S.Device.history S.Frozen.content self.old) p → MakesFlush p c → HasMade c (S.history self.old.store) (S.Device.history out.device)
-            → StoreMomentsLeaveStore p (flushed_part c p) (told S.history S.Device.history S.Frozen.content self.old) (S.history self.new.store) }
-
-        // So it is over every store: the component of the device is listed behind the others, and no table is sealed.
-        ensures listed { OnOk result (self.old.failed ≡ false → HasListed S.Frozen.content S.Frozen.name (S.Device.history out.device) self.old self.new.list) }
-        ensures same { OnOk result (self.old.failed ≡ false → self.new ≡ record self.old { store = self.new.store; main = self.new.main; flusher = Some out.watch; flushing = false; list = self.new.list; sealed = None; sealed_log = None }) }
-        ensures uncovered { OnOk result (self.old.failed ≡ false → HasUncovered S.history S.Device.history (S.Device.history out.device) self.old (S.history self.new.store)) }
-        ensures own { OnOk result (self.old.failed ≡ false → HasOwnFiles (told S.history S.Device.history S.Frozen.content self.old) → HasOwnFiles (told S.history S.Device.history S.Frozen.content self.new)) }
+        ensures moments { OfFlushMade (told S.history S.Device.history S.Frozen.content self.old) (S.Device.history out.device) (λ p c. StoreMomentsLeaveStore p (flushed_part c p) (told S.history S.Device.history S.Frozen.content self.old) (S.history self.new.store)) }
 
         // The device comes home, and that of the log whose table is listed, behind a fault too: no file is out but those of the
         // devices that are left. That of the active log stays out.
@@ -73,31 +58,16 @@ impl<S: Store> Part<S> {
         // What a merge that is out makes has the name that it had.
         ensures merge_named { is_some self.old.merging ≡ true → merged_name (run_out self.new) self.new ≡ merged_name (run_out self.old) self.old }
 
-        // A part that had failed gets its device home and its watch back, and keeps what it stored, at each moment too.
-        ensures home { self.old.failed ≡ true → (result ≡ Ok tt) × (self.new ≡ record self.old { store = self.new.store; flusher = Some out.watch; flushing = false }) × (S.history self.new.store ≡ comes_home (flushed_name self.old) (λ f. at_home f) (S.Device.history out.device) (S.history self.old.store)) }
-        ensures stays { self.old.failed ≡ true → (p : PartView) (frame : Option (List PlainWrite)) (j : Flushing) → HasFailedAs (told S.history S.Device.history S.Frozen.content self.old) p frame → p.flush ≡ Some j → flush_name j ≡ flushed_name self.old
-            → IfTold (S.Device.history out.device) (LeavesAt (IsShutOrHas (IsFlushed p.part p.list p.sealed))) → HasFailedAs (told S.history S.Device.history S.Frozen.content self.new) p frame }
-
-        ensures stays_moments { self.old.failed ≡ true → (p : PartView) (frame : Option (List PlainWrite)) (j : Flushing) → HasFailedAs (told S.history S.Device.history S.Frozen.content self.old) p frame → p.flush ≡ Some j → flush_name j ≡ flushed_name self.old
-            → IfTold (S.Device.history out.device) (LeavesAt (IsShutOrHas (IsFlushed p.part p.list p.sealed))) → FailedMomentsLeaveStore p frame (told S.history S.Device.history S.Frozen.content self.old) (S.history self.new.store) }
-
-        // Where the flush failed its fault is the answer, its device comes home, and the part keeps what it stored, at each
-        // moment too.
-        ensures unmade { IfErr out.outcome (λ cause. self.old.failed ≡ false → (result ≡ Err (of_device cause)) × (self.new ≡ record self.old { store = self.new.store; flusher = Some out.watch; flushing = false; failed = true }) × (S.history self.new.store ≡ comes_home (flushed_name self.old) (λ f. at_home f) (S.Device.history out.device) (S.history self.old.store))) }
-        ensures unmade_failed { IfErr out.outcome (λ cause. (p : PartView) → IsPart (told S.history S.Device.history S.Frozen.content self.old) p
-            → IfTold (S.Device.history out.device) (LeavesAt (IsShutOrHas (IsFlushed p.part p.list p.sealed))) → HasFailedWhole (told S.history S.Device.history S.Frozen.content self.new) p) }
-        ensures unmade_moments { IfErr out.outcome (λ cause. (p : PartView) → IsPart (told S.history S.Device.history S.Frozen.content self.old) p
-            → IfTold (S.Device.history out.device) (LeavesAt (IsShutOrHas (IsFlushed p.part p.list p.sealed))) → FailedMomentsLeaveStore p None (told S.history S.Device.history S.Frozen.content self.old) (S.history self.new.store)) }
+        // Nothing is listed of a part that had failed, or where the flush failed.
+        ensures given_back { self.old.failed ≡ true → GivesFlushBack S.history S.Device.history S.Frozen.content out.watch (S.Device.history out.device) result self.old self.new }
+        ensures unmade { IfErr out.outcome (λ cause. FailsUnmade S.history S.Device.history S.Frozen.content out.watch (S.Device.history out.device) cause result self.old self.new) }
 
         // Behind a fault the watch is back, and the part failed: before the component was listed, or behind that.
-        ensures left { OnErr result ((self.new.failed ≡ true) × (IsFlushUnlisted S.history (S.Device.history out.device) (record self.old { flusher = Some out.watch; flushing = false }) self.new ⊎ IsFlushCovering S.Frozen.content S.Frozen.name S.history S.Device.history (S.Device.history out.device) (record self.old { flusher = Some out.watch; flushing = false }) self.new)) }
-        ensures failed { OnErr result ((p : PartView) (c : Content) → IsPart (told S.history S.Device.history S.Frozen.content self.old) p → MakesFlush p c → HasMade c (S.history self.old.store) (S.Device.history out.device)
-            → HasFailedWhole (told S.history S.Device.history S.Frozen.content self.new) p ⊎ HasFailedWhole (told S.history S.Device.history S.Frozen.content self.new) (flushed_part c p)) }
-        ensures undamaged { (p : PartView) (c : Content) → IsPart (told S.history S.Device.history S.Frozen.content self.old) p → MakesFlush p c → HasMade c (S.history self.old.store) (S.Device.history out.device)
-            → IfTold (S.history self.old.store) (λ disk. IfDamaged result (λ damage. ⊥)) }
+        ensures left { OnErr result (EndsFlush S.history S.Device.history S.Frozen.content S.Frozen.name out.watch (S.Device.history out.device) self.old self.new) }
+        ensures failed { OnErr result (FailsFlush S.history S.Device.history S.Frozen.content (S.Device.history out.device) self.old self.new) }
+        ensures undamaged { IsFlushUndamaged (told S.history S.Device.history S.Frozen.content self.old) (S.Device.history out.device) result }
         ensures damaged { IfDamaged result (IsFlushDamage S.Frozen.content S.Frozen.name (S.Device.size out.device) (S.Device.history out.device) self.old) }
         ensures unspent { IsErrOf result PartFault.Spent → ⊥ }
-        ensures reads { OnOk result (self.old.failed ≡ false → (S.Watch.counts self.new.main).reads ≡ next_count (next_count (S.Watch.counts self.old.main).reads)) }
         ensures watched { IsWatched (IsOk out.outcome × IsErrOf result PartFault.Disk) (S.Watch.counts self.old.main) (S.Watch.counts self.new.main) }
     {
         flushes_are_listed();
@@ -144,7 +114,7 @@ impl<S: Store> Part<S> {
         ensures sound { IfSome (content_now (S.Device.history device)) (λ bytes. (c : Content) → IsComponent c bytes → head_of c ≡ flushed_head self.old.number self.old.count self.old.generation → Extends c.names (newest_names [] self.old.list) → IfDamaged result (λ damage. ⊥)) }
         ensures damaged { IfDamaged result (IsFlushDamage S.Frozen.content S.Frozen.name (S.Device.size device) (S.Device.history device) self.old) }
         ensures unspent { IsErrOf result PartFault.Spent → ⊥ }
-        ensures reads { OnOk result ((S.Watch.counts self.new.main).reads ≡ next_count (next_count (S.Watch.counts self.old.main).reads)) }
+        ensures reads { OnOk result (ReadsTwice (S.Watch.counts self.old.main) (S.Watch.counts self.new.main)) }
         ensures watched { IsWatched (IsOk outcome × IsErrOf result PartFault.Disk) (S.Watch.counts self.old.main) (S.Watch.counts self.new.main) }
     {
         if let Err(cause) = outcome {
@@ -171,7 +141,7 @@ impl<S: Store> Part<S> {
         ensures home { OnErr result (ComesHome (flushed_name self.old) (S.Device.history device) (S.history self.old.store) (S.history self.new.store)) }
         ensures sound { IfSome (content_now (S.Device.history device)) (λ bytes. (c : Content) → IsComponent c bytes → head_of c ≡ flushed_head self.old.number self.old.count self.old.generation → Extends c.names (newest_names [] self.old.list) → IfJobDamaged result (λ damage. ⊥)) }
         ensures damaged { IfJobDamaged result (IsFlushDamage S.Frozen.content S.Frozen.name (S.Device.size device) (S.Device.history device) self.old) }
-        ensures reads { IfOk result (λ log. (S.Watch.counts self.new.main).reads ≡ next_count (next_count (S.Watch.counts self.old.main).reads)) }
+        ensures reads { IfOk result (λ log. ReadsTwice (S.Watch.counts self.old.main) (S.Watch.counts self.new.main)) }
         ensures watched { IsWatched (IsErrOf result JobFault.Disk) (S.Watch.counts self.old.main) (S.Watch.counts self.new.main) }
     {
         let head = self.flush_head();

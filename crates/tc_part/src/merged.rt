@@ -1,35 +1,26 @@
 //! What a merge made is listed.
 
 ghost use Rattle.std.specs.Arc.{arc_value};
-ghost use Rattle.std.specs.Prelude.{◌≡◌, ◌⊎◌, List, Option, Some, Ok, Err, None, false, true, is_some, map, IfErr, IfOk, IfSome, IsErrOf, OnOk, OnErr};
+ghost use Rattle.std.specs.Prelude.{◌≡◌, ◌⊎◌, Some, Ok, Err, None, false, true, is_some, map, IfErr, IfOk, IfSome, IsErrOf, OnOk, OnErr};
 ghost use Rattle.std.specs.Result.{IsOk};
-ghost use Rattle.tc_bytes.specs.Counts.{next_count};
 ghost use Rattle.tc_store.specs.Disk.{home as at_home};
 ghost use Rattle.tc_store.specs.DiskFile.{IsSettled};
-ghost use Rattle.tc_store.specs.Moments.{IfTold, LeavesAt};
+ghost use Rattle.tc_store.specs.Moments.{IfTold};
 ghost use Rattle.tc_store.specs.StoreCalls.{comes_home, content_now, frozen_entry};
 ghost use Rattle.tc_component.specs.Rows.{IsComponent, head_of};
 ghost use Rattle.tc_merge.specs.Faults.{IsWatched};
 ghost use Rattle.tc_lsm_model.specs.Contents.{Content};
-ghost use Rattle.tc_plain_model.specs.Writes.{Write as PlainWrite};
-ghost use Rattle.tc_machine.specs.Components.{file_of};
-ghost use Rattle.tc_machine.specs.State.{Merging};
-ghost use Rattle.tc_machine.specs.Steps.{IsShutOrHas};
 ghost use Rattle.tc_list.specs.Runs.{in_run};
 ghost use Rattle.tc_jobs.specs.Faults.{of_merge, IfDamaged as IfJobDamaged};
 ghost use Rattle.tc_jobs.specs.ReadBack.{ComesHome};
-ghost use Rattle.tc_part_model.specs.Calls.{HasMade};
 ghost use Rattle.tc_part_model.specs.Changes.{merged_part};
-ghost use Rattle.tc_part_model.specs.Leaving.{FailedMomentsLeaveStore, StoreMomentsLeaveStore};
-ghost use Rattle.tc_part_model.specs.Meaning.{IsPart, HasFailedAs};
-ghost use Rattle.tc_part.specs.OwnFiles.{HasOwnFiles};
+ghost use Rattle.tc_part_model.specs.Leaving.{StoreMomentsLeaveStore};
 ghost use Rattle.tc_part.specs.FilesOut.{LogIsOut, OnlyDevicesOut};
 ghost use Rattle.tc_part_model.specs.PartState.{AreTold, told, IsTold};
-ghost use Rattle.tc_part_model.specs.PartView.{PartView, store_of};
-ghost use Rattle.tc_part.specs.Closing.{HasFailedWhole};
 ghost use Rattle.tc_part.specs.Faults.{of_job, IfDamaged};
 ghost use Rattle.tc_part.specs.JobHeads.{merged_head as head_over};
-ghost use Rattle.tc_part.specs.MergeEnds.{run_out, merged_name, AreBetween, HasReplaced, HasRemovedRun, IsMergeDamage, IsMergeUnlisted, IsMergeRemoving};
+ghost use Rattle.tc_part.specs.Reads.{ReadsTwice};
+ghost use Rattle.tc_part.specs.MergeEnds.{run_out, merged_name, AreBetween, EndsMerge, FailsMerge, FailsUnmerged, GivesMergeBack, HasRemovedRun, HasReplaced, IsMergeDamage, IsMergeRemoving, IsMergeUndamaged, IsMergeUnlisted, ListsMerge, OfMergeMade};
 ghost use Rattle.tc_part.specs.Ready.{AreNamed, LiesIn};
 
 use crate::fault::PartFault;
@@ -51,53 +42,32 @@ impl<S: Store> Part<S> {
         requires name { S.Device.name out.device ≡ merged_name (run_out self.old) self.old }
         requires settled { IsOk out.outcome → IfTold (S.Device.history out.device) IsSettled }
 
-        // On Ok of a part that had not failed it is the part whose merge is listed, which stores what it stored.
-        ensures merged { OnOk result ((p : PartView) (m : Merging) → IsPart (told S.history S.Device.history S.Frozen.content self.old) p → p.merge ≡ Some m → HasMade m.target (S.history self.old.store) (S.Device.history out.device)
-            → AreTold (told S.history S.Device.history S.Frozen.content self.old).components → IfTold (S.history self.old.store) (λ disk. IsPart (told S.history S.Device.history S.Frozen.content self.new) (merged_part p)) × (store_of (merged_part p) ≡ store_of p)) }
+        // On Ok of a part that had not failed its merge is listed, whatever its files are, and files of its run are removed, and no
+        // other. The part stores what it stored.
+        ensures listed { OnOk result (self.old.failed ≡ false → ListsMerge S.history S.Device.history S.Frozen.content S.Frozen.name S.Watch.counts out.watch (S.Device.history out.device) self.old self.new) }
 
         // At each moment of the call a stop leaves what was stored.
-        ensures moments { (p : PartView) (m : Merging) → IsPart (told S.history S.Device.history S.Frozen.content self.old) p → p.merge ≡ Some m → HasMade m.target (S.history self.old.store) (S.Device.history out.device)
-            → AreTold (told S.history S.Device.history S.Frozen.content self.old).components → StoreMomentsLeaveStore p (merged_part p) (told S.history S.Device.history S.Frozen.content self.old) (S.history self.new.store) }
-
-        // So it is over every store: the component of the device is listed in place of the run, and no merge is out. Files of
-        // the run are removed, and no other.
-        ensures listed { OnOk result (self.old.failed ≡ false → HasReplaced S.Frozen.content S.Frozen.name (S.Device.history out.device) (run_out self.old) self.old self.new.list) }
-        ensures same { OnOk result (self.old.failed ≡ false → self.new ≡ record self.old { store = self.new.store; main = self.new.main; merger = Some out.watch; merging = None; list = self.new.list }) }
-        ensures removed { OnOk result (self.old.failed ≡ false → HasRemovedRun S.history S.Frozen.name (S.Device.history out.device) (run_out self.old) self.old (S.history self.new.store)) }
-        ensures own { OnOk result (self.old.failed ≡ false → HasOwnFiles (told S.history S.Device.history S.Frozen.content self.old) → HasOwnFiles (told S.history S.Device.history S.Frozen.content self.new)) }
+        ensures moments { OfMergeMade (told S.history S.Device.history S.Frozen.content self.old) (S.Device.history out.device)
+            (λ p. AreTold (told S.history S.Device.history S.Frozen.content self.old).components → StoreMomentsLeaveStore p (merged_part p) (told S.history S.Device.history S.Frozen.content self.old) (S.history self.new.store)) }
 
         // The device comes home, behind a fault too: no file is out but those of the devices that are left. That of the active log
         // stays out.
         ensures devices { IfTold (S.history self.old.store) (λ disk. IsTold (S.Device.history out.device)) → OnlyDevicesOut (told S.history S.Device.history S.Frozen.content self.old) → OnlyDevicesOut (told S.history S.Device.history S.Frozen.content self.new) }
         ensures log_out { OnOk result (LogIsOut (told S.history S.Device.history S.Frozen.content self.old) → LogIsOut (told S.history S.Device.history S.Frozen.content self.new)) }
 
-        // A part that had failed gets its device home and its watch back, and keeps what it stored, at each moment too.
-        ensures home { self.old.failed ≡ true → (result ≡ Ok tt) × (self.new ≡ record self.old { store = self.new.store; merger = Some out.watch; merging = None }) × (S.history self.new.store ≡ comes_home (merged_name (run_out self.old) self.old) (λ f. at_home f) (S.Device.history out.device) (S.history self.old.store)) }
-        ensures stays { self.old.failed ≡ true → (p : PartView) (frame : Option (List PlainWrite)) (m : Merging) → HasFailedAs (told S.history S.Device.history S.Frozen.content self.old) p frame → p.merge ≡ Some m → file_of m.target ≡ merged_name (run_out self.old) self.old
-            → IfTold (S.Device.history out.device) (LeavesAt (IsShutOrHas (IsComponent m.target))) → HasFailedAs (told S.history S.Device.history S.Frozen.content self.new) p frame }
-        ensures stays_moments { self.old.failed ≡ true → (p : PartView) (frame : Option (List PlainWrite)) (m : Merging) → HasFailedAs (told S.history S.Device.history S.Frozen.content self.old) p frame → p.merge ≡ Some m → file_of m.target ≡ merged_name (run_out self.old) self.old
-            → IfTold (S.Device.history out.device) (LeavesAt (IsShutOrHas (IsComponent m.target))) → FailedMomentsLeaveStore p frame (told S.history S.Device.history S.Frozen.content self.old) (S.history self.new.store) }
-
-        // Where the merge failed its fault is the answer, its device comes home, and the part keeps what it stored, at each
-        // moment too.
-        ensures unmade { IfErr out.outcome (λ cause. self.old.failed ≡ false → (result ≡ Err (of_job (of_merge cause))) × (self.new ≡ record self.old { store = self.new.store; merger = Some out.watch; merging = None; failed = true }) × (S.history self.new.store ≡ comes_home (merged_name (run_out self.old) self.old) (λ f. at_home f) (S.Device.history out.device) (S.history self.old.store))) }
-        ensures unmade_failed { IfErr out.outcome (λ cause. (p : PartView) (m : Merging) → IsPart (told S.history S.Device.history S.Frozen.content self.old) p → p.merge ≡ Some m
-            → IfTold (S.Device.history out.device) (LeavesAt (IsShutOrHas (IsComponent m.target))) → HasFailedWhole (told S.history S.Device.history S.Frozen.content self.new) p) }
-        ensures unmade_moments { IfErr out.outcome (λ cause. (p : PartView) (m : Merging) → IsPart (told S.history S.Device.history S.Frozen.content self.old) p → p.merge ≡ Some m
-            → IfTold (S.Device.history out.device) (LeavesAt (IsShutOrHas (IsComponent m.target))) → FailedMomentsLeaveStore p None (told S.history S.Device.history S.Frozen.content self.old) (S.history self.new.store)) }
+        // Nothing is listed of a part that had failed, or where the merge failed.
+        ensures given_back { self.old.failed ≡ true → GivesMergeBack S.history S.Device.history S.Frozen.content out.watch (S.Device.history out.device) result self.old self.new }
+        ensures unmade { IfErr out.outcome (λ cause. FailsUnmerged S.history S.Device.history S.Frozen.content out.watch (S.Device.history out.device) cause result self.old self.new) }
 
         // Behind a fault the watch is back, and the part failed: before the component was listed, or behind that.
-        ensures left { OnErr result ((self.new.failed ≡ true) × (IsMergeUnlisted S.history (S.Device.history out.device) (run_out self.old) (record self.old { merger = Some out.watch; merging = None }) self.new ⊎ IsMergeRemoving S.Frozen.content S.Frozen.name S.history (S.Device.history out.device) (run_out self.old) (record self.old { merger = Some out.watch; merging = None }) self.new)) }
-        ensures failed { OnErr result ((p : PartView) (m : Merging) → IsPart (told S.history S.Device.history S.Frozen.content self.old) p → p.merge ≡ Some m → HasMade m.target (S.history self.old.store) (S.Device.history out.device)
-            → AreTold (told S.history S.Device.history S.Frozen.content self.old).components → HasFailedWhole (told S.history S.Device.history S.Frozen.content self.new) p ⊎ HasFailedWhole (told S.history S.Device.history S.Frozen.content self.new) (merged_part p)) }
+        ensures left { OnErr result (EndsMerge S.history S.Frozen.content S.Frozen.name out.watch (S.Device.history out.device) self.old self.new) }
+        ensures failed { OnErr result (FailsMerge S.history S.Device.history S.Frozen.content (S.Device.history out.device) self.old self.new) }
 
         // Damage is told of the file of a merge that did not fail, or of the names that it has, and there is none where it is
         // what the merge makes.
         ensures damaged { IsOk out.outcome → IfDamaged result (IsMergeDamage S.Frozen.content S.Frozen.name (S.Device.size out.device) (S.Device.history out.device) (run_out self.old) self.old) }
-        ensures undamaged { IsOk out.outcome → (p : PartView) (m : Merging) → IsPart (told S.history S.Device.history S.Frozen.content self.old) p → p.merge ≡ Some m → HasMade m.target (S.history self.old.store) (S.Device.history out.device)
-            → IfTold (S.history self.old.store) (λ disk. IfDamaged result (λ damage. ⊥)) }
+        ensures undamaged { IsOk out.outcome → IsMergeUndamaged (told S.history S.Device.history S.Frozen.content self.old) (S.Device.history out.device) result }
         ensures unspent { IsErrOf result PartFault.Spent → ⊥ }
-        ensures reads { OnOk result (self.old.failed ≡ false → (S.Watch.counts self.new.main).reads ≡ next_count (next_count (S.Watch.counts self.old.main).reads)) }
         ensures watched { IsWatched (IsOk out.outcome × IsErrOf result PartFault.Disk) (S.Watch.counts self.old.main) (S.Watch.counts self.new.main) }
     {
         let MergeOut {
@@ -143,7 +113,7 @@ impl<S: Store> Part<S> {
         ensures sound { IsOk outcome → IfSome (content_now (S.Device.history device)) (λ bytes. (c : Content) → IsComponent c bytes → head_of c ≡ head_over self.old.number self.old.count run self.old.list → AreBetween c.names run self.old.list → IfDamaged result (λ damage. ⊥)) }
         ensures damaged { IsOk outcome → IfDamaged result (IsMergeDamage S.Frozen.content S.Frozen.name (S.Device.size device) (S.Device.history device) run self.old) }
         ensures unspent { IsErrOf result PartFault.Spent → ⊥ }
-        ensures reads { OnOk result ((S.Watch.counts self.new.main).reads ≡ next_count (next_count (S.Watch.counts self.old.main).reads)) }
+        ensures reads { OnOk result (ReadsTwice (S.Watch.counts self.old.main) (S.Watch.counts self.new.main)) }
         ensures watched { IsWatched (IsOk outcome × IsErrOf result PartFault.Disk) (S.Watch.counts self.old.main) (S.Watch.counts self.new.main) }
     {
         if let Err(cause) = outcome {
@@ -175,7 +145,7 @@ impl<S: Store> Part<S> {
         ensures home { OnErr result (ComesHome (merged_name run self.old) (S.Device.history device) (S.history self.old.store) (S.history self.new.store)) }
         ensures sound { IfSome (content_now (S.Device.history device)) (λ bytes. (c : Content) → IsComponent c bytes → head_of c ≡ head_over self.old.number self.old.count run self.old.list → AreBetween c.names run self.old.list → IfJobDamaged result (λ damage. ⊥)) }
         ensures damaged { IfJobDamaged result (IsMergeDamage S.Frozen.content S.Frozen.name (S.Device.size device) (S.Device.history device) run self.old) }
-        ensures reads { OnOk result ((S.Watch.counts self.new.main).reads ≡ next_count (next_count (S.Watch.counts self.old.main).reads)) }
+        ensures reads { OnOk result (ReadsTwice (S.Watch.counts self.old.main) (S.Watch.counts self.new.main)) }
         ensures watched { IsWatched (IsErrOf result JobFault.Disk) (S.Watch.counts self.old.main) (S.Watch.counts self.new.main) }
     {
         let head = merged_head(&self.list, run, self.number, self.count);

@@ -10,17 +10,14 @@ use Rattle.tc_log.specs.Appending.{LogState}
 use Rattle.tc_lsm_model.specs.Contents.{Content}
 use Rattle.tc_lsm_model.specs.Tables.{Table}
 use Rattle.tc_machine.specs.Kept.{MergeFits}
-use Rattle.tc_machine.specs.Steps.{IsFlushed, IsShutOrHas}
 use Rattle.tc_memory.specs.DocumentTables.{IsTableOf}
 use Rattle.tc_merge.specs.Faults.{IsWatched}
 use Rattle.tc_merge.specs.Jobs as merge
-use Rattle.tc_part.specs.Closing.{HasFailedWhole}
+use Rattle.tc_part.specs.Closing.{HasFailedEither, HasFailedWhole}
 use Rattle.tc_part.specs.FilesOut.{LogIsOut, OnlyDevicesOut, TellsLogs}
-use Rattle.tc_part.specs.FlushEnds.{HasListed, HasUncovered, IsFlushCovering, IsFlushDamage, IsFlushUnlisted, covered_name, flushed_name}
+use Rattle.tc_part.specs.FlushEnds.{IsFlushCovering, IsFlushDamage, IsFlushUnlisted, LeavesFlush, ListsFlush, OfFlushMade, covered_name, flushed_name}
 use Rattle.tc_part.specs.JobHeads.{flushed_head}
 use Rattle.tc_part.specs.MergeEnds.{merged_name, run_out}
-use Rattle.tc_part.specs.OwnFiles.{HasOwnFiles}
-use Rattle.tc_part_model.specs.Calls.{HasMade, MakesFlush}
 use Rattle.tc_part_model.specs.Changes.{flushed_part}
 use Rattle.tc_part_model.specs.Leaving.{FailedMomentsLeaveStore, StoreMomentsLeaveStore}
 use Rattle.tc_part_model.specs.Meaning.{IsPart}
@@ -36,7 +33,7 @@ use Rattle.tc_store.specs.declared.fault.DeviceFault.TheVariants as device_fault
 use Rattle.tc_store.specs.declared.file_name.FileName.{FileName}
 use Rattle.tc_store.specs.Disk.{Disk, home}
 use Rattle.tc_store.specs.DiskFile.{DiskFile}
-use Rattle.tc_store.specs.Moments.{IfTold, LeavesAt}
+use Rattle.tc_store.specs.Moments.{IfTold}
 use Rattle.tc_store.specs.StoreCalls.{comes_home, frozen_entry, removes}
 use Rattle.tc_work.specs.declared.fault.EngineFault.{EngineFault}
 use Rattle.tc_work.specs.declared.fault.EngineFault.TheVariants as engine
@@ -102,12 +99,8 @@ module _ {S D F W : Type 0} (e : Eyes S D F W) (file_name : F → FileName) (siz
 
   -- and where it succeeds
   pub record IsInstalled : Type 0 where
-    pub same : new ≡ record old { store = new.store; main = new.main; flusher = Some watch; flushing = false; list = new.list; sealed = None; sealed_log = None }
-    pub listed : HasListed e.content file_name (e.history device) old new.list
-    pub flushed : (p : PartView) (c : Content) → IsPart t p → MakesFlush p c → HasMade c (e.disks old.store) (e.history device) → IfTold (e.disks old.store) (λ disk. IsPart u (flushed_part c p)) × (store_of (flushed_part c p) ≡ store_of p)
-    pub moments : (p : PartView) (c : Content) → IsPart t p → MakesFlush p c → HasMade c (e.disks old.store) (e.history device) → StoreMomentsLeaveStore p (flushed_part c p) t (e.disks new.store)
-    pub uncovered : HasUncovered e.disks e.history (e.history device) old (e.disks new.store)
-    pub own : HasOwnFiles u
+    pub lists : ListsFlush e.disks e.history e.content file_name e.counts watch (e.history device) old new
+    pub moments : OfFlushMade t (e.history device) (λ p c. StoreMomentsLeaveStore p (flushed_part c p) t (e.disks new.store))
     pub log_out : LogIsOut t → LogIsOut u
 
   -- the device goes on to tell
@@ -119,11 +112,11 @@ module _ {S D F W : Type 0} (e : Eyes S D F W) (file_name : F → FileName) (siz
   module _ (back : IsBack) (handed : IsHandedBack) (i : IsInstalled) (both : is_some old.sealed_log ≡ true) (flushing : old.flushing ≡ true)
       (sound : old.failed ≡ false) (ready : MaySettle t) (out : IsOutBy e (beside old jobs)) (table : Table) (of : IsTableOf table job.kept)
       (ended : IsOk outcome) where
-    list : new.list ≡ old.list ++ i.listed.component ∷ []
-    list = i.listed.listed
+    list : new.list ≡ old.list ++ i.lists.listed.component ∷ []
+    list = i.lists.listed.listed
 
     untold : GoesOnUntold (e.disks old.store) (e.disks new.store)
-    untold none = uncovered_untold old e.disks e.history (e.history device) (e.disks new.store) both i.uncovered none
+    untold none = uncovered_untold old e.disks e.history (e.history device) (e.disks new.store) both i.lists.uncovered none
 
     tells : IfTold (e.disks old.store) (λ disk. IsTold (e.history device))
     tells = tells_still back table of
@@ -131,24 +124,24 @@ module _ {S D F W : Type 0} (e : Eyes S D F W) (file_name : F → FileName) (siz
     components : AreTold t.components → IsTold (e.disks old.store) → AreTold u.components
     components are_told told =
         subst (λ cs. AreTold (map (told_component e.content) cs)) (sym list)
-        (told_behind e.content old.list i.listed.component are_told (subst (λ o. IsSome o) (sym i.listed.made.has_content) (content_told (e.history device) (where_told (e.disks old.store) (IsTold (e.history device)) told tells))))
+        (told_behind e.content old.list i.lists.listed.component are_told (subst (λ o. IsSome o) (sym i.lists.listed.made.has_content) (content_told (e.history device) (where_told (e.disks old.store) (IsTold (e.history device)) told tells))))
 
     pub installed_keeps : (Failed Ended : Type 0) → IsWatched Ended (e.counts old.main) (e.counts new.main) → (Failed → ⊥) → KeepsJobs e Failed (beside old jobs) (beside new (record jobs { flush = None }))
     installed_keeps Failed Ended watched never = record {
       jobs = record {
-        flush = subst (λ (s : PartState S D F W). OutAs s.flushing None (IsFlushOf e.disks e.history e.name_of s)) (sym i.same) tt;
-        merge = merge_out_behind e.disks e.history e.content e.name_of old new untold jobs.merge i.listed.component (ap (λ (s : PartState S D F W). s.merging) i.same) list handed.merge_named out.merge;
+        flush = subst (λ (s : PartState S D F W). OutAs s.flushing None (IsFlushOf e.disks e.history e.name_of s)) (sym i.lists.same) tt;
+        merge = merge_out_behind e.disks e.history e.content e.name_of old new untold jobs.merge i.lists.listed.component (ap (λ (s : PartState S D F W). s.merging) i.lists.same) list handed.merge_named out.merge;
       };
-      moved = subst (λ (s : PartState S D F W). HasOnlyMoved old s) (sym i.same) refl;
-      indexed = λ all. subst (λ (xs : List (ComponentState F)). AreIndexed e.content xs) (sym list) (indexed_behind e.content file_name _ (flushed_name old) (e.history device) old.list i.listed.component i.listed.made all);
+      moved = subst (λ (s : PartState S D F W). HasOnlyMoved old s) (sym i.lists.same) refl;
+      indexed = λ all. subst (λ (xs : List (ComponentState F)). AreIndexed e.content xs) (sym list) (indexed_behind e.content file_name _ (flushed_name old) (e.history device) old.list i.lists.listed.component i.lists.listed.made all);
       untold = untold;
       tells = λ told. record {
-        active = told_still (e.disks old.store) (e.disks new.store) (IsTold u.log) untold (subst (λ (s : PartState S D F W). IfTold (e.disks old.store) (λ disk. IsTold (e.history s.log.device))) (sym i.same) told.active);
-        sealed = subst (λ (s : PartState S D F W). IfTold (e.disks new.store) (λ disk. IfSome (told_by e (beside s jobs)).sealed_log (λ moments. IsTold moments))) (sym i.same) (told_now (e.disks new.store) (λ d. Unit {0}) (λ told d. tt));
+        active = told_still (e.disks old.store) (e.disks new.store) (IsTold u.log) untold (subst (λ (s : PartState S D F W). IfTold (e.disks old.store) (λ disk. IsTold (e.history s.log.device))) (sym i.lists.same) told.active);
+        sealed = subst (λ (s : PartState S D F W). IfTold (e.disks new.store) (λ disk. IfSome (told_by e (beside s jobs)).sealed_log (λ moments. IsTold moments))) (sym i.lists.same) (told_now (e.disks new.store) (λ d. Unit {0}) (λ told d. tt));
       };
       devices = handed.devices tells;
       watched = flush_handed e.counts Failed Ended _ (watched_part old jobs) (watched_part new now) job.watch watch watched (as_watched _ _ _ back.ran.watched) (λ failed. absurd (never failed))
-          (ap (λ o. flusher_of old.flusher o) back.is_job) (ap (λ (s : PartState S D F W). s.flusher) i.same) (ap (λ (s : PartState S D F W). merger_of s.merger jobs.merge) i.same);
+          (ap (λ o. flusher_of old.flusher o) back.is_job) (ap (λ (s : PartState S D F W). s.flusher) i.lists.same) (ap (λ (s : PartState S D F W). merger_of s.merger jobs.merge) i.lists.same);
     }
 
     -- of a part whose files are told
@@ -164,15 +157,15 @@ module _ {S D F W : Type 0} (e : Eyes S D F W) (file_name : F → FileName) (siz
 
     pub installed_well : MovesWell e (beside old jobs) (beside new now)
     installed_well = record {
-      sound = ap (λ (s : PartState S D F W). s.failed) i.same ∙ sound;
+      sound = ap (λ (s : PartState S D F W). s.failed) i.lists.same ∙ sound;
       stays = record {
         stores = λ p is told works.
             let r = ran p is told works in
             let made = r.made ended in
-            let flushed = i.flushed p r.content is r.makes made in
+            let flushed = i.lists.flushed p r.content is r.makes made in
             job_stores (works_by e (beside new now)) t u p (flushed_part r.content p) is told.store flushed.0 refl flushed.1 refl (i.moments p r.content is r.makes made)
-            (ap (λ (s : PartState S D F W). s.taken) i.same) (components told.components told.store) (still_works p is told works);
-        ready = record { own = i.own; components = components_still t u untold ready.components (λ told are_told. components are_told told) };
+            (ap (λ (s : PartState S D F W). s.taken) i.lists.same) (components told.components told.store) (still_works p is told works);
+        ready = record { own = i.lists.own ready.own; components = components_still t u untold ready.components (λ told are_told. components are_told told) };
         untold = untold;
       };
       log_out = i.log_out;
@@ -181,24 +174,24 @@ module _ {S D F W : Type 0} (e : Eyes S D F W) (file_name : F → FileName) (siz
     pub installed_moments : MomentsStay (works_by e (beside old jobs)) t (e.disks new.store)
     installed_moments = λ p is told works.
         let r = ran p is told works in
-        store_moments t p (flushed_part r.content p) (e.disks new.store) refl (i.flushed p r.content is r.makes (r.made ended)).1 (i.moments p r.content is r.makes (r.made ended))
+        store_moments t p (flushed_part r.content p) (e.disks new.store) refl (i.lists.flushed p r.content is r.makes (r.made ended)).1 (i.moments p r.content is r.makes (r.made ended))
 
     pub installed_lists : (policy : Policy) → IsPickedBy e policy (beside old jobs) → ListsPicked e policy (beside old jobs) (beside new (record jobs { flush = None }))
     installed_lists policy picked = record {
-      listed = flush_listed policy e.size old new i.listed.component list tables;
-      picked = subst (λ (s : PartState S D F W). IsPickedOut policy e.size s.list s.merging) (sym i.same) (subst (λ xs. IsPickedOut policy e.size xs old.merging) (sym list) (at old.merging picked));
+      listed = flush_listed policy e.size old new i.lists.listed.component list tables;
+      picked = subst (λ (s : PartState S D F W). IsPickedOut policy e.size s.list s.merging) (sym i.lists.same) (subst (λ xs. IsPickedOut policy e.size xs old.merging) (sym list) (at old.merging picked));
     }
       where
         tables : waiting new.sealed + old.generation + 1 ≡ waiting old.sealed + new.generation
         tables =
             let sealed : waiting old.sealed ≡ 1 = ap (λ o. waiting o) (sym back.of.table) in
-            let none : waiting new.sealed ≡ 0 = ap (λ (s : PartState S D F W). waiting s.sealed) i.same in
-            let same : new.generation ≡ old.generation = ap (λ (s : PartState S D F W). s.generation) i.same in
+            let none : waiting new.sealed ≡ 0 = ap (λ (s : PartState S D F W). waiting s.sealed) i.lists.same in
+            let same : new.generation ≡ old.generation = ap (λ (s : PartState S D F W). s.generation) i.lists.same in
             omega (arith, sealed, none, same)
 
-        at : (o : Option _) → IsPickedOut policy e.size old.list o → IsPickedOut policy e.size (old.list ++ i.listed.component ∷ []) o
+        at : (o : Option _) → IsPickedOut policy e.size old.list o → IsPickedOut policy e.size (old.list ++ i.lists.listed.component ∷ []) o
         at None is = tt
-        at (Some run) is = picked_behind policy e.size old.list i.listed.component _ is
+        at (Some run) is = picked_behind policy e.size old.list i.lists.listed.component _ is
 
     pub installed : (Ended : Type 0) → IsWatched Ended (e.counts old.main) (e.counts new.main) → Moves e (Ok tt) (beside old jobs) (beside new (record jobs { flush = None }))
     installed Ended watched = record {
@@ -206,8 +199,8 @@ module _ {S D F W : Type 0} (e : Eyes S D F W) (file_name : F → FileName) (siz
       well = installed_well;
       failed = tt;
       moments = installed_moments;
-      logs = (ap (λ (s : PartState S D F W). s.log) i.same, ap (λ (s : PartState S D F W). s.generation) i.same);
-      sealed_log = inr (ap (λ (s : PartState S D F W). s.sealed_log) i.same);
+      logs = (ap (λ (s : PartState S D F W). s.log) i.lists.same, ap (λ (s : PartState S D F W). s.generation) i.lists.same);
+      sealed_log = inr (ap (λ (s : PartState S D F W). s.sealed_log) i.lists.same);
       damaged = tt;
       undamaged = λ p is told works. tt;
       unspent = λ spent. absurd (cc);
@@ -218,10 +211,10 @@ module _ {S D F W : Type 0} (e : Eyes S D F W) (file_name : F → FileName) (siz
   -- what the call promises then
   pub record HasFallen : Type 0 where
     pub left : IsFlushUnlisted e.disks (e.history device) (record old { flusher = Some watch; flushing = false }) new ⊎ IsFlushCovering e.content file_name e.disks e.history (e.history device) (record old { flusher = Some watch; flushing = false }) new
-    pub failed : (p : PartView) (c : Content) → IsPart t p → MakesFlush p c → HasMade c (e.disks old.store) (e.history device) → HasFailedWhole u p ⊎ HasFailedWhole u (flushed_part c p)
-    pub moments : (p : PartView) (c : Content) → IsPart t p → MakesFlush p c → HasMade c (e.disks old.store) (e.history device) → StoreMomentsLeaveStore p (flushed_part c p) t (e.disks new.store)
-    pub unmade_failed : IfErr outcome (λ cause. (p : PartView) → IsPart t p → IfTold (e.history device) (LeavesAt (IsShutOrHas (IsFlushed p.part p.list p.sealed))) → HasFailedWhole u p)
-    pub unmade_moments : IfErr outcome (λ cause. (p : PartView) → IsPart t p → IfTold (e.history device) (LeavesAt (IsShutOrHas (IsFlushed p.part p.list p.sealed))) → FailedMomentsLeaveStore p None t (e.disks new.store))
+    pub failed : OfFlushMade t (e.history device) (λ p c. HasFailedEither u p (flushed_part c p))
+    pub moments : OfFlushMade t (e.history device) (λ p c. StoreMomentsLeaveStore p (flushed_part c p) t (e.disks new.store))
+    pub unmade_failed : IfErr outcome (λ cause. (p : PartView) → IsPart t p → LeavesFlush p (e.history device) → HasFailedWhole u p)
+    pub unmade_moments : IfErr outcome (λ cause. (p : PartView) → IsPart t p → LeavesFlush p (e.history device) → FailedMomentsLeaveStore p None t (e.disks new.store))
 
   module _ (back : IsBack) (handed : IsHandedBack) (f : HasFallen) (both : is_some old.sealed_log ≡ true) (flushing : old.flushing ≡ true) (out : IsOutBy e (beside old jobs)) (table : Table) (of : IsTableOf table job.kept) where
     fallen_untold : GoesOnUntold (e.disks old.store) (e.disks new.store)

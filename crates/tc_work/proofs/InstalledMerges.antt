@@ -2,7 +2,6 @@
 use Rattle.std.proofs.Common.{◌≡◌, ◌∙◌, ◌<◌, ◌+◌, ℕ, true, false, List, Option, Some, None, length, map, is_some, refl, sym, ap, subst, arith, inl, inr}
 use Rattle.std.specs.Prelude.{◌⊎◌, IfErr, IfSome, IsErrOf, IsOk, IsSome, Result, Ok, Err}
 use Rattle.tc_component.specs.Loading.{ComponentState}
-use Rattle.tc_component.specs.Rows.{IsComponent}
 use Rattle.tc_flush.specs.Jobs as flush
 use Rattle.tc_jobs.specs.Listing.{in_place, FitsFor}
 use Rattle.tc_list.specs.Runs.{swapped}
@@ -11,19 +10,16 @@ use Rattle.tc_lsm_model.specs.Lists.{IsList}
 use Rattle.tc_lsm_model.specs.Merges.{IsMerge, in_run as contents_in_run}
 use Rattle.tc_machine.specs.Events.{with_merge}
 use Rattle.tc_machine.specs.State.{Merging}
-use Rattle.tc_machine.specs.Steps.{IsShutOrHas}
 use Rattle.tc_merge.specs.declared.fault.MergeFault.{MergeFault}
 use Rattle.tc_merge.specs.declared.fault.MergeFault.TheVariants as merge_fault
 use Rattle.tc_merge.specs.Faults.{IsHarmIn, IsWatched}
 use Rattle.tc_merge.specs.Jobs as merge
 use Rattle.tc_merge.specs.Merging.{merge_bytes, AreTold as AreRunTold}
-use Rattle.tc_part.specs.Closing.{HasFailedWhole}
+use Rattle.tc_part.specs.Closing.{HasFailedEither, HasFailedWhole}
 use Rattle.tc_part.specs.FilesOut.{LogIsOut, OnlyDevicesOut}
 use Rattle.tc_part.specs.Harms.{IsHarmIn as IsListedHarm}
 use Rattle.tc_part.specs.JobHeads.{merged_head}
-use Rattle.tc_part.specs.MergeEnds.{HasRemovedRun, HasReplaced, IsMergeDamage, IsMergeRemoving, IsMergeUnlisted, merged_name, positions, run_out}
-use Rattle.tc_part.specs.OwnFiles.{HasOwnFiles}
-use Rattle.tc_part_model.specs.Calls.{HasMade}
+use Rattle.tc_part.specs.MergeEnds.{IsMergeDamage, IsMergeRemoving, IsMergeUnlisted, LeavesMerge, ListsMerge, OfMergeMade, merged_name, positions, run_out}
 use Rattle.tc_part_model.specs.Changes.{merged_part}
 use Rattle.tc_part_model.specs.Leaving.{FailedMomentsLeaveStore, StoreMomentsLeaveStore}
 use Rattle.tc_part_model.specs.Meaning.{IsPart}
@@ -37,7 +33,7 @@ use Rattle.tc_store.specs.declared.damage.Damage.{Damage}
 use Rattle.tc_store.specs.declared.damage.Damage.TheVariants.{Bytes}
 use Rattle.tc_store.specs.declared.file_name.FileName.{FileName}
 use Rattle.tc_store.specs.DiskFile.{settled_file}
-use Rattle.tc_store.specs.Moments.{IfTold, LeavesAt}
+use Rattle.tc_store.specs.Moments.{IfTold}
 use Rattle.tc_work.specs.declared.fault.EngineFault.{EngineFault}
 use Rattle.tc_work.specs.declared.fault.EngineFault.TheVariants as engine
 use Rattle.tc_work.specs.Failing.{HasFailedKeeping}
@@ -92,12 +88,8 @@ module _ {S D F W : Type 0} (e : Eyes S D F W) (file_name : F → FileName) (siz
 
   -- what the call of the part promises where it succeeds
   pub record IsInstalled : Type 0 where
-    pub same : new ≡ record old { store = new.store; main = new.main; merger = Some watch; merging = None; list = new.list }
-    pub listed : HasReplaced e.content file_name (e.history device) (run_out old) old new.list
-    pub merged : (p : PartView) (m : Merging) → IsPart t p → p.merge ≡ Some m → HasMade m.target (e.disks old.store) (e.history device) → AreTold t.components → IfTold (e.disks old.store) (λ disk. IsPart u (merged_part p)) × (store_of (merged_part p) ≡ store_of p)
-    pub moments : (p : PartView) (m : Merging) → IsPart t p → p.merge ≡ Some m → HasMade m.target (e.disks old.store) (e.history device) → AreTold t.components → StoreMomentsLeaveStore p (merged_part p) t (e.disks new.store)
-    pub removed : HasRemovedRun e.disks file_name (e.history device) (run_out old) old (e.disks new.store)
-    pub own : HasOwnFiles u
+    pub lists : ListsMerge e.disks e.history e.content file_name e.counts watch (e.history device) old new
+    pub moments : OfMergeMade t (e.history device) (λ p. AreTold t.components → StoreMomentsLeaveStore p (merged_part p) t (e.disks new.store))
     pub log_out : LogIsOut t → LogIsOut u
 
   module _ (back : IsBack) where
@@ -120,52 +112,52 @@ module _ {S D F W : Type 0} (e : Eyes S D F W) (file_name : F → FileName) (siz
       still_works = (works_merged e p merges.merging jobs.flush merges.is_out is.memory.list merges.is_merge works.0, tt)
 
   module _ (back : IsBack) (devices : IfTold (e.disks old.store) (λ disk. IsTold (e.history device)) → OnlyDevicesOut t → OnlyDevicesOut u) (i : IsInstalled) (sound : old.failed ≡ false) (ready : MaySettle t) (out : IsOutBy e (beside old jobs)) (ended : IsOk outcome) where
-    list : new.list ≡ swapped (run_out old) i.listed.component old.list
-    list = i.listed.listed
+    list : new.list ≡ swapped (run_out old) i.lists.listed.component old.list
+    list = i.lists.listed.listed
 
     untold : GoesOnUntold (e.disks old.store) (e.disks new.store)
-    untold none = removed_untold old e.disks file_name (merged_name (run_out old) old) (e.history device) (run_out old) none i.removed
+    untold none = removed_untold old e.disks file_name (merged_name (run_out old) old) (e.history device) (run_out old) none i.lists.removed
 
     components : AreTold t.components → IsTold (e.disks old.store) → AreTold u.components
     components are_told told =
         subst (λ cs. AreTold (map (told_component e.content) cs)) (sym list)
-        (told_swapped e.content (run_out old) old.list i.listed.component are_told (subst (λ o. IsSome o) (sym i.listed.made.has_content) (content_told (e.history device) (where_told (e.disks old.store) (IsTold (e.history device)) told (tells_still back)))))
+        (told_swapped e.content (run_out old) old.list i.lists.listed.component are_told (subst (λ o. IsSome o) (sym i.lists.listed.made.has_content) (content_told (e.history device) (where_told (e.disks old.store) (IsTold (e.history device)) told (tells_still back)))))
 
     pub fewer : length new.list < length old.list
-    fewer = omega (arith, ap length list, length_swapped (run_out old) i.listed.component old.list back.of.within.0 back.of.within.1, back.of.within.0)
+    fewer = omega (arith, ap length list, length_swapped (run_out old) i.lists.listed.component old.list back.of.within.0 back.of.within.1, back.of.within.0)
 
     pub installed_keeps : (Failed Ended : Type 0) → IsWatched Ended (e.counts old.main) (e.counts new.main) → (Failed → ⊥) → KeepsJobs e Failed (beside old jobs) (beside new (record jobs { merge = None }))
     installed_keeps Failed Ended watched never = record {
       jobs = record {
         flush = flush_out_still e.disks e.history e.content e.name_of old new untold jobs.flush
-            (subst (λ (s : PartState S D F W). s ≡ record old { store = s.store; main = s.main; merger = s.merger; list = s.list; active = s.active; log = s.log; taken = s.taken; live = s.live; writes = s.writes; staged = s.staged; merging = s.merging; failed = s.failed }) (sym i.same) refl)
+            (subst (λ (s : PartState S D F W). s ≡ record old { store = s.store; main = s.main; merger = s.merger; list = s.list; active = s.active; log = s.log; taken = s.taken; live = s.live; writes = s.writes; staged = s.staged; merging = s.merging; failed = s.failed }) (sym i.lists.same) refl)
             out.flush;
-        merge = subst (λ (s : PartState S D F W). OutAs (is_some s.merging) None (IsMergeOf e.disks e.history e.content e.name_of s)) (sym i.same) tt;
+        merge = subst (λ (s : PartState S D F W). OutAs (is_some s.merging) None (IsMergeOf e.disks e.history e.content e.name_of s)) (sym i.lists.same) tt;
       };
-      moved = subst (λ (s : PartState S D F W). HasOnlyMoved old s) (sym i.same) refl;
-      indexed = λ all. subst (λ (xs : List (ComponentState F)). AreIndexed e.content xs) (sym list) (indexed_swapped e.content file_name _ (merged_name (run_out old) old) (e.history device) old.list i.listed.component i.listed.made all (run_out old));
+      moved = subst (λ (s : PartState S D F W). HasOnlyMoved old s) (sym i.lists.same) refl;
+      indexed = λ all. subst (λ (xs : List (ComponentState F)). AreIndexed e.content xs) (sym list) (indexed_swapped e.content file_name _ (merged_name (run_out old) old) (e.history device) old.list i.lists.listed.component i.lists.listed.made all (run_out old));
       untold = untold;
       tells = λ told. record {
-        active = told_still (e.disks old.store) (e.disks new.store) (IsTold u.log) untold (subst (λ (s : PartState S D F W). IfTold (e.disks old.store) (λ disk. IsTold (e.history s.log.device))) (sym i.same) told.active);
+        active = told_still (e.disks old.store) (e.disks new.store) (IsTold u.log) untold (subst (λ (s : PartState S D F W). IfTold (e.disks old.store) (λ disk. IsTold (e.history s.log.device))) (sym i.lists.same) told.active);
         sealed = told_still (e.disks old.store) (e.disks new.store) (IfSome u.sealed_log (λ moments. IsTold moments)) untold
-            (subst (λ (s : PartState S D F W). IfTold (e.disks old.store) (λ disk. IfSome (told_by e (beside s jobs)).sealed_log (λ moments. IsTold moments))) (sym i.same) told.sealed);
+            (subst (λ (s : PartState S D F W). IfTold (e.disks old.store) (λ disk. IfSome (told_by e (beside s jobs)).sealed_log (λ moments. IsTold moments))) (sym i.lists.same) told.sealed);
       };
       devices = λ told. devices (tells_still back);
       watched = merge_handed e.counts Failed Ended _ (watched_part old jobs) (watched_part new now) job.watch watch watched back.ran.watched (λ failed. absurd (never failed))
-          (ap (λ o. merger_of old.merger o) back.is_job) (ap (λ (s : PartState S D F W). s.merger) i.same) (ap (λ (s : PartState S D F W). flusher_of s.flusher jobs.flush) i.same);
+          (ap (λ o. merger_of old.merger o) back.is_job) (ap (λ (s : PartState S D F W). s.merger) i.lists.same) (ap (λ (s : PartState S D F W). flusher_of s.flusher jobs.flush) i.lists.same);
     }
 
     pub installed_well : MovesWell e (beside old jobs) (beside new now)
     installed_well = record {
-      sound = ap (λ (s : PartState S D F W). s.failed) i.same ∙ sound;
+      sound = ap (λ (s : PartState S D F W). s.failed) i.lists.same ∙ sound;
       stays = record {
         stores = λ p is told works.
             let m = merges back p is told works in
             let made = (ran back p is told works).made ended in
-            let merged = i.merged p m.merging is m.is_out made told.components in
+            let merged = i.lists.merged p m.merging is m.is_out made told.components in
             job_stores (works_by e (beside new now)) t u p (merged_part p) is told.store merged.0 refl merged.1 refl (i.moments p m.merging is m.is_out made told.components)
-            (ap (λ (s : PartState S D F W). s.taken) i.same) (components told.components told.store) (still_works back p is told works);
-        ready = record { own = i.own; components = components_still t u untold ready.components (λ told are_told. components are_told told) };
+            (ap (λ (s : PartState S D F W). s.taken) i.lists.same) (components told.components told.store) (still_works back p is told works);
+        ready = record { own = i.lists.own ready.own; components = components_still t u untold ready.components (λ told are_told. components are_told told) };
         untold = untold;
       };
       log_out = i.log_out;
@@ -178,12 +170,12 @@ module _ {S D F W : Type 0} (e : Eyes S D F W) (file_name : F → FileName) (siz
 
     pub installed_lists : (policy : Policy) → IsPickedBy e policy (beside old jobs) → ListsPicked e policy (beside old jobs) (beside new (record jobs { merge = None }))
     installed_lists policy picked = record {
-      listed = merge_listed policy e.size old new (run_out old) i.listed.component (from_out old.merging out_there picked) list tables;
-      picked = subst (λ (s : PartState S D F W). IsPickedOut policy e.size s.list s.merging) (sym i.same) tt;
+      listed = merge_listed policy e.size old new (run_out old) i.lists.listed.component (from_out old.merging out_there picked) list tables;
+      picked = subst (λ (s : PartState S D F W). IsPickedOut policy e.size s.list s.merging) (sym i.lists.same) tt;
     }
       where
         tables : waiting new.sealed + old.generation ≡ waiting old.sealed + new.generation
-        tables = ap (λ (s : PartState S D F W). waiting s.sealed + old.generation) i.same ∙ ap (λ (s : PartState S D F W). waiting old.sealed + s.generation) (sym i.same)
+        tables = ap (λ (s : PartState S D F W). waiting s.sealed + old.generation) i.lists.same ∙ ap (λ (s : PartState S D F W). waiting old.sealed + s.generation) (sym i.lists.same)
 
         out_there : is_some old.merging ≡ true
         out_there = merge_there old.merging jobs.merge (IsMergeOf e.disks e.history e.content e.name_of old) job back.is_job out.merge
@@ -198,8 +190,8 @@ module _ {S D F W : Type 0} (e : Eyes S D F W) (file_name : F → FileName) (siz
       well = installed_well;
       failed = tt;
       moments = installed_moments;
-      logs = (ap (λ (s : PartState S D F W). s.log) i.same, ap (λ (s : PartState S D F W). s.generation) i.same);
-      sealed_log = inl (ap (λ (s : PartState S D F W). s.sealed_log) i.same);
+      logs = (ap (λ (s : PartState S D F W). s.log) i.lists.same, ap (λ (s : PartState S D F W). s.generation) i.lists.same);
+      sealed_log = inl (ap (λ (s : PartState S D F W). s.sealed_log) i.lists.same);
       damaged = tt;
       undamaged = λ p is told works. tt;
       unspent = λ spent. absurd (cc);
@@ -210,10 +202,10 @@ module _ {S D F W : Type 0} (e : Eyes S D F W) (file_name : F → FileName) (siz
   -- what the call promises then
   pub record HasFallen : Type 0 where
     pub left : IsMergeUnlisted e.disks (e.history device) (run_out old) (record old { merger = Some watch; merging = None }) new ⊎ IsMergeRemoving e.content file_name e.disks (e.history device) (run_out old) (record old { merger = Some watch; merging = None }) new
-    pub failed : (p : PartView) (m : Merging) → IsPart t p → p.merge ≡ Some m → HasMade m.target (e.disks old.store) (e.history device) → AreTold t.components → HasFailedWhole u p ⊎ HasFailedWhole u (merged_part p)
-    pub moments : (p : PartView) (m : Merging) → IsPart t p → p.merge ≡ Some m → HasMade m.target (e.disks old.store) (e.history device) → AreTold t.components → StoreMomentsLeaveStore p (merged_part p) t (e.disks new.store)
-    pub unmade_failed : IfErr outcome (λ cause. (p : PartView) (m : Merging) → IsPart t p → p.merge ≡ Some m → IfTold (e.history device) (LeavesAt (IsShutOrHas (IsComponent m.target))) → HasFailedWhole u p)
-    pub unmade_moments : IfErr outcome (λ cause. (p : PartView) (m : Merging) → IsPart t p → p.merge ≡ Some m → IfTold (e.history device) (LeavesAt (IsShutOrHas (IsComponent m.target))) → FailedMomentsLeaveStore p None t (e.disks new.store))
+    pub failed : OfMergeMade t (e.history device) (λ p. AreTold t.components → HasFailedEither u p (merged_part p))
+    pub moments : OfMergeMade t (e.history device) (λ p. AreTold t.components → StoreMomentsLeaveStore p (merged_part p) t (e.disks new.store))
+    pub unmade_failed : IfErr outcome (λ cause. (p : PartView) (m : Merging) → IsPart t p → p.merge ≡ Some m → LeavesMerge m (e.history device) → HasFailedWhole u p)
+    pub unmade_moments : IfErr outcome (λ cause. (p : PartView) (m : Merging) → IsPart t p → p.merge ≡ Some m → LeavesMerge m (e.history device) → FailedMomentsLeaveStore p None t (e.disks new.store))
 
   module _ (back : IsBack) (devices : IfTold (e.disks old.store) (λ disk. IsTold (e.history device)) → OnlyDevicesOut t → OnlyDevicesOut u) (f : HasFallen) (out : IsOutBy e (beside old jobs)) where
     fallen_untold : GoesOnUntold (e.disks old.store) (e.disks new.store)

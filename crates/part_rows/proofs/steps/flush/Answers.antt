@@ -39,18 +39,18 @@ returns c =
     let makes = c.sealed_tables_can_flush.ensures.makes m.0 job.head job.names job.schema job.kept flushed.0 behind flushed.1 in
     let content = c.jobs_have_made.ensures.flush _ m.0 job.kept flushed.0 m.1 (sym c.in_ok-job.ensures.table) makes in
     at_desk c.finish_flush.result old new c.args.waiting c.args.waiting c.args.stands c.requires.desk
-    (ends_well c.finish_flush.result c.run-out.result.outcome _ _ _ _ _ sound c.finish_flush.ensures.unmade (λ cause unmade. ends_in_err _ _ (unmade sound).0) c.finish_flush.ensures.same c.finish_flush.ensures.flushed (λ well ended listed.
+    (ends_well c.finish_flush.result c.run-out.result.outcome _ _ _ _ sound c.finish_flush.ensures.unmade (λ cause failed. ends_in_err _ _ (failed.unmade sound).0) c.finish_flush.ensures.listed (λ well lists.
     let settled = c.run-out.ensures.whole well behind.sealed.table behind.behind.of ∙ ap settled_file (sym flushed.3) in
     let short = subst (λ (n : ℕ). n < 2 ^ 63) (ap length device.replayed ∙ ap (λ (f : DiskFile). length f.content) settled) (c.run-out.ensures.size well) in
     let made = c.jobs_have_made.ensures.made flushed.0 (store_disks begun.store) (device_files device) content flushed.2 short tt settled in
     record {
       jobs = record {
-        flushing = ap (λ (s : MemPart). s.flushing) ended ∙ sym c.requires.desk.no_flush;
-        merging = ap (λ (s : MemPart). s.merging) ended ∙ ap (λ (s : MemPart). s.merging) same;
-        reader = ap (λ (s : MemPart). s.reader) ended ∙ ap (λ (s : MemPart). s.reader) same;
+        flushing = ap (λ (s : MemPart). s.flushing) lists.same ∙ sym c.requires.desk.no_flush;
+        merging = ap (λ (s : MemPart). s.merging) lists.same ∙ ap (λ (s : MemPart). s.merging) same;
+        reader = ap (λ (s : MemPart). s.reader) lists.same ∙ ap (λ (s : MemPart). s.reader) same;
       };
-      means = λ standing. (_, (listed _ flushed.0 (c.in_ok-job.ensures.begun m.0 m.1).0 makes made).0);
-      waits = same_wait old new _ c.args.waiting ended (ap (λ (s : MemPart). s.staged) same) (c.requires.desk.staged c.requires.sound);
+      means = λ standing. (_, (lists.flushed _ flushed.0 (c.in_ok-job.ensures.begun m.0 m.1).0 makes made).0);
+      waits = same_wait old new _ c.args.waiting lists.same (ap (λ (s : MemPart). s.staged) same) (c.requires.desk.staged c.requires.sound);
     }))
     (on_err c.finish_flush.result _ _ c.finish_flush.ensures.left (λ left. record {
       jobs =

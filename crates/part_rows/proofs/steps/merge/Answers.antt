@@ -8,7 +8,7 @@ use Rattle.tc_list.specs.Runs.{neighbours}
 use Rattle.tc_part.specs.MergeEnds.{merged_name, run_out}
 use Rattle.part_rows.specs.Standing.{MemPart}
 use Rattle.part_rows.proofs.JobEnds.{ends_in_err, merge_ended}
-use Rattle.part_rows.proofs.Parts.{at_desk, ends_well, fails, fails_by, on_err, on_ok, same_wait}
+use Rattle.part_rows.proofs.Parts.{at_desk, ends_well, fails, fails_by, on_err, same_wait}
 use Rattle.part_rows.proofs.ToldFiles.{all_told, files_told, settled_told}
 use Rattle.part_rows.proofs.steps.merge.Goals as goal
 
@@ -40,19 +40,18 @@ returns c =
     let merged = c.run-out.ensures.merged _ (c.in_ok-job.ensures.loaded m.0 m.1 (all_told old.list)) in
     let content = c.jobs_have_made.ensures.merge _ m.0 (neighbours c.args.run) merged.0 m.1 merged.1 in
     at_desk c.finish_merge.result old new c.args.waiting c.args.waiting c.args.stands c.requires.desk
-    (ends_well c.finish_merge.result c.run-out.result.outcome _ _ _ _ _ sound c.finish_merge.ensures.unmade (λ cause unmade. ends_in_err _ _ (unmade sound).0) c.finish_merge.ensures.same
-    (on_ok c.finish_merge.result _ _ c.finish_merge.ensures.merged (λ listed (still : begun.failed ≡ false). listed)) (λ well ended listed.
+    (ends_well c.finish_merge.result c.run-out.result.outcome _ _ _ _ sound c.finish_merge.ensures.unmade (λ cause failed. ends_in_err _ _ (failed.unmade sound).0) c.finish_merge.ensures.listed (λ well lists.
     let settled = c.run-out.ensures.whole well (files_told c.in_ok-job.job.run) ∙ ap settled_file (sym merged.3) in
     let short = subst (λ (n : ℕ). n < 2 ^ 63) (ap length device.replayed ∙ ap (λ (f : DiskFile). length f.content) settled) (c.run-out.ensures.size well) in
     let made = c.jobs_have_made.ensures.made merged.0 (store_disks begun.store) (device_files device) content merged.2 short tt settled in
     record {
       jobs = record {
-        flushing = ap (λ (s : MemPart). s.flushing) ended ∙ ap (λ (s : MemPart). s.flushing) same;
-        merging = ap (λ (s : MemPart). s.merging) ended ∙ sym c.requires.desk.no_merge;
-        reader = ap (λ (s : MemPart). s.reader) ended ∙ ap (λ (s : MemPart). s.reader) same;
+        flushing = ap (λ (s : MemPart). s.flushing) lists.same ∙ ap (λ (s : MemPart). s.flushing) same;
+        merging = ap (λ (s : MemPart). s.merging) lists.same ∙ sym c.requires.desk.no_merge;
+        reader = ap (λ (s : MemPart). s.reader) lists.same ∙ ap (λ (s : MemPart). s.reader) same;
       };
-      means = λ standing. (_, (listed _ _ (c.in_ok-job.ensures.begun m.0 merged.0 m.1 merged.1).0 refl made (all_told begun.list)).0);
-      waits = same_wait old new _ c.args.waiting ended (ap (λ (s : MemPart). s.staged) same) (c.requires.desk.staged c.requires.sound);
+      means = λ standing. (_, (lists.merged _ _ (c.in_ok-job.ensures.begun m.0 merged.0 m.1 merged.1).0 refl made (all_told begun.list)).0);
+      waits = same_wait old new _ c.args.waiting lists.same (ap (λ (s : MemPart). s.staged) same) (c.requires.desk.staged c.requires.sound);
     }))
     (on_err c.finish_merge.result _ _ c.finish_merge.ensures.left (λ left. record {
       jobs =

@@ -1,6 +1,7 @@
 use Rattle.std.proofs.Common.{◌≡◌, ◌∙◌, false, Some, refl, sym, ap, subst, inl, inr}
 use Rattle.std.specs.Prelude.{IfSome}
 use Rattle.std.proofs.lemmas.Bool.{true≢false}
+use Rattle.tc_flush.proofs.Outcomes.{if_err}
 use Rattle.tc_flush.specs.Jobs as flush
 use Rattle.tc_part.specs.FlushEnds.{flushed_name}
 use Rattle.tc_running.specs.Ran.{HasFlushed}
@@ -28,7 +29,7 @@ returns-in-Some-clause-keeps g c =
     let documents = c.tables_keep_documents.ensures.some found.0.kept of.1.lawful in
     let back : IsBack e g.S.Frozen.Frozen.name g.S.Device.Device.size c.args.part.now c.finish_flush-given.new.self c.args.jobs.now found.0 out.watch out.device out.outcome = record { is_job = found.1; of = of.1; ran = ran; sized = laws.told_size out.device } in
     let handed : IsHandedBack e g.S.Frozen.Frozen.name g.S.Device.Device.size c.args.part.now c.finish_flush-given.new.self c.args.jobs.now found.0 out.watch out.device out.outcome = record { devices = c.finish_flush-given.ensures.devices; merge_named = c.finish_flush-given.ensures.merge_named } in
-    let home = c.finish_flush-given.ensures.home c.requires.failed in
+    let home = (c.finish_flush-given.ensures.given_back c.requires.failed).home in
     let f : HasFallen e g.S.Frozen.Frozen.name g.S.Device.Device.size c.args.part.now c.finish_flush-given.new.self c.args.jobs.now found.0 out.watch out.device
     out.outcome = record {
       left = inl (record {
@@ -38,8 +39,8 @@ returns-in-Some-clause-keeps g c =
       });
       failed = λ p content part makes made. absurd (true≢false (sym c.requires.failed ∙ part.sound));
       moments = c.finish_flush-given.ensures.moments;
-      unmade_failed = c.finish_flush-given.ensures.unmade_failed;
-      unmade_moments = c.finish_flush-given.ensures.unmade_moments;
+      unmade_failed = if_err out.outcome _ _ (λ cause made. made.unmade_failed) c.finish_flush-given.ensures.unmade;
+      unmade_moments = if_err out.outcome _ _ (λ cause made. made.unmade_moments) c.finish_flush-given.ensures.unmade;
     } in
     subst (λ (j : JobsState _ _ _). KeepsJobs e ⊥ (beside c.args.part.now c.args.jobs.now) (beside c.finish_flush-given.new.self j)) (sym c.join_flush.ensures.taken)
     (fallen_keeps e g.S.Frozen.Frozen.name g.S.Device.Device.size c.args.part.now c.finish_flush-given.new.self c.args.jobs.now found.0 out.watch out.device
@@ -54,10 +55,11 @@ returns-in-Some-clause-stays g c = λ p frame has works.
     let ran = job_ran c.args.jobs.now.flush found.0 (λ (job : flush.JobState _ _). HasFlushed e.history g.S.Device.Device.size e.name_of e.counts job out.watch out.device out.outcome) found.1 c.in-Some.ensures.ran in
     let m = subst (λ o. IfSome o (FlushesFor e.history e.name_of p.part p.list p.sealed p.flush)) found.1 works.0 in
     let named = m.name ∙ of.1.name in
+    let back = c.finish_flush-given.ensures.given_back c.requires.failed in
     let leaves = flush_leaves e.history g.S.Device.Device.size e.name_of e.counts p (flushed_name c.args.part.now) (e.disks c.args.part.now.store) found.0 m of.1.device out.watch out.device out.outcome ran in (
-      c.finish_flush-given.ensures.stays c.requires.failed p frame m.flushing has m.is_out named leaves,
+      back.stays p frame m.flushing has m.is_out named leaves,
       subst (λ (j : JobsState _ _ _). works_by e (beside c.finish_flush-given.new.self j) p) (sym c.join_flush.ensures.taken) (tt, works.1),
-      c.finish_flush-given.ensures.stays_moments c.requires.failed p frame m.flushing has m.is_out named leaves,
+      back.stays_moments p frame m.flushing has m.is_out named leaves,
     )
 
 -- ---- none was out

@@ -1,6 +1,7 @@
 use Rattle.std.proofs.Common.{◌≡◌, ◌∙◌, Some, None, is_some, refl, sym, ap, subst, inl, inr}
 use Rattle.std.specs.Prelude.{IfSome}
 use Rattle.std.proofs.lemmas.Bool.{true≢false}
+use Rattle.tc_flush.proofs.Outcomes.{if_err}
 use Rattle.tc_merge.specs.Jobs as merge
 use Rattle.tc_part.specs.MergeEnds.{merged_name, run_out}
 use Rattle.tc_running.specs.Ran.{HasMerged}
@@ -26,7 +27,7 @@ returns-in-Some-clause-keeps g c =
     let of = job_of_part (is_some c.args.part.now.merging) c.args.jobs.now.merge found.0 (IsMergeOf e.disks e.history e.content e.name_of c.args.part.now) found.1 c.requires.jobs.merge in
     let ran = job_ran c.args.jobs.now.merge found.0 (λ (job : merge.JobState _ _ _). HasMerged e.content e.history g.S.Device.Device.size e.name_of e.counts job out.watch out.device out.outcome) found.1 c.in-Some.ensures.ran in
     let back : IsBack e g.S.Frozen.Frozen.name g.S.Device.Device.size c.args.part.now c.finish_merge-given.new.self c.args.jobs.now found.0 out.watch out.device out.outcome = record { is_job = found.1; of = of.1; ran = ran; sized = laws.told_size out.device } in
-    let home = c.finish_merge-given.ensures.home c.requires.failed in
+    let home = (c.finish_merge-given.ensures.given_back c.requires.failed).home in
     let f : HasFallen e g.S.Frozen.Frozen.name g.S.Device.Device.size c.args.part.now c.finish_merge-given.new.self c.args.jobs.now found.0 out.watch out.device
     out.outcome = record {
       left = inl (record {
@@ -36,8 +37,8 @@ returns-in-Some-clause-keeps g c =
       });
       failed = λ p m part is made told. absurd (true≢false (sym c.requires.failed ∙ part.sound));
       moments = c.finish_merge-given.ensures.moments;
-      unmade_failed = c.finish_merge-given.ensures.unmade_failed;
-      unmade_moments = c.finish_merge-given.ensures.unmade_moments;
+      unmade_failed = if_err out.outcome _ _ (λ cause made. made.unmade_failed) c.finish_merge-given.ensures.unmade;
+      unmade_moments = if_err out.outcome _ _ (λ cause made. made.unmade_moments) c.finish_merge-given.ensures.unmade;
     } in
     subst (λ (j : JobsState _ _ _). KeepsJobs e ⊥ (beside c.args.part.now c.args.jobs.now) (beside c.finish_merge-given.new.self j)) (sym c.join_merge.ensures.taken)
     (fallen_keeps e g.S.Frozen.Frozen.name g.S.Device.Device.size c.args.part.now c.finish_merge-given.new.self c.args.jobs.now found.0 out.watch out.device
@@ -52,10 +53,11 @@ returns-in-Some-clause-stays g c = λ p frame has works.
     let ran = job_ran c.args.jobs.now.merge found.0 (λ (job : merge.JobState _ _ _). HasMerged e.content e.history g.S.Device.Device.size e.name_of e.counts job out.watch out.device out.outcome) found.1 c.in-Some.ensures.ran in
     let m = subst (λ o. IfSome o (MergesFor e.content e.history e.name_of p.list p.merge)) found.1 works.1 in
     let named = m.name ∙ of.1.name in
+    let back = c.finish_merge-given.ensures.given_back c.requires.failed in
     let leaves = merge_leaves e.content e.history g.S.Device.Device.size e.name_of e.counts p.list p.merge (merged_name (run_out c.args.part.now) c.args.part.now) (e.disks c.args.part.now.store) found.0 m of.1.device out.watch out.device out.outcome ran in (
-      c.finish_merge-given.ensures.stays c.requires.failed p frame m.merging has m.is_out named leaves,
+      back.stays p frame m.merging has m.is_out named leaves,
       subst (λ (j : JobsState _ _ _). works_by e (beside c.finish_merge-given.new.self j) p) (sym c.join_merge.ensures.taken) (works.0, tt),
-      c.finish_merge-given.ensures.stays_moments c.requires.failed p frame m.merging has m.is_out named leaves,
+      back.stays_moments p frame m.merging has m.is_out named leaves,
     )
 
 -- ---- none was out

@@ -44,22 +44,22 @@ returns-in_err-finish_flush-in-Some-clause-moves g c =
       left = failed.left.1;
       failed = failed.failed;
       moments = c.finish_flush.ensures.moments;
-      unmade_failed = c.finish_flush.ensures.unmade_failed;
-      unmade_moments = c.finish_flush.ensures.unmade_moments;
+      unmade_failed = if_err out.outcome _ _ (λ cause made. made.unmade_failed) c.finish_flush.ensures.unmade;
+      unmade_moments = if_err out.outcome _ _ (λ cause made. made.unmade_moments) c.finish_flush.ensures.unmade;
     } in
     let P : Damage → Type 0 = IsPartDamage e.content e.history c.finish_flush.new.self in
     subst (λ (j : JobsState _ _ _). Moves e r (beside c.args.part.now c.args.jobs.now) (beside c.finish_flush.new.self j)) (sym c.join_flush.ensures.taken)
     (fallen e g.S.Frozen.Frozen.name g.S.Device.Device.size c.args.part.now c.finish_flush.new.self c.args.jobs.now found.0 out.watch out.device out.outcome back handed f of.1.log of.0 c.requires.may.jobs documents.table documents.of r _ (err_of r fault is) _ c.finish_flush.ensures.watched
-    (λ disk. flush_cause out.outcome c.finish_flush.result (if_err out.outcome _ _ (λ cause made. (made sound).0) c.finish_flush.ensures.unmade) (disk_below r c.finish_flush.result fault is was disk))
+    (λ disk. flush_cause out.outcome c.finish_flush.result (if_err out.outcome _ _ (λ cause made. (made.unmade sound).0) c.finish_flush.ensures.unmade) (disk_below r c.finish_flush.result fault is was disk))
     (damaged_so r c.finish_flush.result fault P P is was
-    (by_outcome out.outcome _ (part_damaged c.finish_flush.result P) c.finish_flush.ensures.unmade (λ cause made. device_undamaged c.finish_flush.result cause P (made sound).0)
+    (by_outcome out.outcome _ (part_damaged c.finish_flush.result P) c.finish_flush.ensures.unmade (λ cause made. device_undamaged c.finish_flush.result cause P (made.unmade sound).0)
     (λ ended. damage_so c.finish_flush.result _ P (fallen_damage e g.S.Frozen.Frozen.name g.S.Device.Device.size c.args.part.now c.finish_flush.new.self
     c.args.jobs.now found.0 out.watch out.device out.outcome back handed f of.1.log of.0 c.requires.may.jobs documents.table documents.of ended)
     c.finish_flush.ensures.damaged)) (λ damage harm. harm))
     (λ p part told works.
     let ran_for = fallen_ran e g.S.Frozen.Frozen.name g.S.Device.Device.size c.args.part.now c.finish_flush.new.self c.args.jobs.now found.0 out.watch out.device out.outcome back handed f of.1.log of.0 c.requires.may.jobs documents.table documents.of p part told works in
     damaged_so r c.finish_flush.result fault (λ damage. ⊥) (λ damage. ⊥) is was
-    (by_outcome out.outcome _ (part_damaged c.finish_flush.result (λ damage. ⊥)) c.finish_flush.ensures.unmade (λ cause made. device_undamaged c.finish_flush.result cause (λ damage. ⊥) (made sound).0)
+    (by_outcome out.outcome _ (part_damaged c.finish_flush.result (λ damage. ⊥)) c.finish_flush.ensures.unmade (λ cause made. device_undamaged c.finish_flush.result cause (λ damage. ⊥) (made.unmade sound).0)
     (λ ended. where_told (e.disks c.args.part.now.store) (part_damaged c.finish_flush.result (λ damage. ⊥)) told.store (c.finish_flush.ensures.undamaged p ran_for.content part ran_for.makes (ran_for.made ended)))) (λ damage never. never))
     (λ spent. c.finish_flush.ensures.unspent (spent_below r c.finish_flush.result fault is was spent)))
 
@@ -80,15 +80,11 @@ returns-in_ok-finish_flush-in-Some-clause-moves g c =
     let sound = c.requires.may.sound in
     let i : IsInstalled e g.S.Frozen.Frozen.name g.S.Device.Device.size c.args.part.now c.finish_flush.new.self c.args.jobs.now found.0 out.watch out.device
     out.outcome = record {
-      same = ok.same sound;
-      listed = ok.listed sound;
-      flushed = ok.flushed sound;
+      lists = ok.listed sound;
       moments = c.finish_flush.ensures.moments;
-      uncovered = ok.uncovered sound;
-      own = ok.own sound c.requires.may.ready.own;
       log_out = ok.log_out;
     } in
-    let ended = ended_well out.outcome c.finish_flush.result _ _ of_device c.finish_flush.ensures.unmade (λ cause made. (made sound).0) c.in_ok-finish_flush-in-Some.was in
+    let ended = ended_well out.outcome c.finish_flush.result _ _ of_device c.finish_flush.ensures.unmade (λ cause made. (made.unmade sound).0) c.in_ok-finish_flush-in-Some.was in
     subst (λ (j : JobsState _ _ _). Moves e (Ok tt) (beside c.args.part.now c.args.jobs.now) (beside c.finish_flush.new.self j)) (sym c.join_flush.ensures.taken)
     (installed e g.S.Frozen.Frozen.name g.S.Device.Device.size c.args.part.now c.finish_flush.new.self c.args.jobs.now found.0 out.watch out.device out.outcome back
     handed i of.1.log of.0 sound c.requires.may.ready c.requires.may.jobs documents.table documents.of ended _ c.finish_flush.ensures.watched)
@@ -108,20 +104,16 @@ returns-in_ok-finish_flush-in-Some-clause-listed g c =
     let sound = c.requires.may.sound in
     let i : IsInstalled e g.S.Frozen.Frozen.name g.S.Device.Device.size c.args.part.now c.finish_flush.new.self c.args.jobs.now found.0 out.watch out.device
     out.outcome = record {
-      same = ok.same sound;
-      listed = ok.listed sound;
-      flushed = ok.flushed sound;
+      lists = ok.listed sound;
       moments = c.finish_flush.ensures.moments;
-      uncovered = ok.uncovered sound;
-      own = ok.own sound c.requires.may.ready.own;
       log_out = ok.log_out;
     } in
-    let ended = ended_well out.outcome c.finish_flush.result _ _ of_device c.finish_flush.ensures.unmade (λ cause made. (made sound).0) c.in_ok-finish_flush-in-Some.was in
+    let ended = ended_well out.outcome c.finish_flush.result _ _ of_device c.finish_flush.ensures.unmade (λ cause made. (made.unmade sound).0) c.in_ok-finish_flush-in-Some.was in
     subst (λ (j : JobsState _ _ _). (policy : Policy) → IsPickedBy e policy (beside c.args.part.now c.args.jobs.now) → ListsPicked e policy (beside c.args.part.now c.args.jobs.now) (beside c.finish_flush.new.self j)) (sym c.join_flush.ensures.taken)
     (installed_lists e g.S.Frozen.Frozen.name g.S.Device.Device.size c.args.part.now c.finish_flush.new.self c.args.jobs.now found.0 out.watch out.device out.outcome back handed i of.1.log of.0 sound c.requires.may.ready c.requires.may.jobs documents.table documents.of ended)
 
 pub returns-in_ok-finish_flush-in-Some-clause-behind : goal.returns-in_ok-finish_flush-in-Some-clause-behind
-returns-in_ok-finish_flush-in-Some-clause-behind g c = λ out. let listed = c.in_ok-finish_flush-in-Some.ensures.listed c.requires.may.sound in (listed.component, listed.listed)
+returns-in_ok-finish_flush-in-Some-clause-behind g c = λ out. let lists = c.in_ok-finish_flush-in-Some.ensures.listed c.requires.may.sound in (lists.listed.component, lists.listed.listed)
 
 -- ---- none was out
 

@@ -47,18 +47,18 @@ returns-in_err-finish_merge-in-Some-clause-moves g c =
       left = failed.left.1;
       failed = failed.failed;
       moments = c.finish_merge.ensures.moments;
-      unmade_failed = c.finish_merge.ensures.unmade_failed;
-      unmade_moments = c.finish_merge.ensures.unmade_moments;
+      unmade_failed = if_err out.outcome _ _ (λ cause made. made.unmade_failed) c.finish_merge.ensures.unmade;
+      unmade_moments = if_err out.outcome _ _ (λ cause made. made.unmade_moments) c.finish_merge.ensures.unmade;
     } in
     let P : Damage → Type 0 = IsPartDamage e.content e.history c.finish_merge.new.self in
     subst (λ (j : JobsState _ _ _). Moves e r (beside c.args.part.now c.args.jobs.now) (beside c.finish_merge.new.self j)) (sym c.join_merge.ensures.taken)
     (fallen e g.S.Frozen.Frozen.name g.S.Device.Device.size c.args.part.now c.finish_merge.new.self c.args.jobs.now found.0 out.watch out.device out.outcome back c.finish_merge.ensures.devices f c.requires.may.jobs r _ (err_of r fault is) _ c.finish_merge.ensures.watched
-    (λ disk. merge_cause out.outcome result (if_err out.outcome _ _ (λ cause made. (made sound).0) c.finish_merge.ensures.unmade) (disk_below r result fault is was disk))
+    (λ disk. merge_cause out.outcome result (if_err out.outcome _ _ (λ cause made. (made.unmade sound).0) c.finish_merge.ensures.unmade) (disk_below r result fault is was disk))
     (damaged_so r result fault P P is was
     (by_outcome out.outcome _ (part_damaged result P) (err_both out.outcome _ _ c.finish_merge.ensures.unmade ran.damaged)
-    (λ cause both. told_damage result cause (IsHarmIn e.content found.0.run) P (both.0 sound).0 both.1
+    (λ cause both. told_damage result cause (IsHarmIn e.content found.0.run) P (both.0.unmade sound).0 both.1
     (harmed_damage e g.S.Frozen.Frozen.name g.S.Device.Device.size c.args.part.now c.finish_merge.new.self c.args.jobs.now found.0 out.watch out.device out.outcome
-    back c.finish_merge.ensures.devices f c.requires.may.jobs (ap (λ (s : PartState _ _ _ _). s.list) (both.0 sound).1)))
+    back c.finish_merge.ensures.devices f c.requires.may.jobs (ap (λ (s : PartState _ _ _ _). s.list) (both.0.unmade sound).1)))
     (λ ended. damage_so result _ P (fallen_damage e g.S.Frozen.Frozen.name g.S.Device.Device.size c.args.part.now c.finish_merge.new.self c.args.jobs.now found.0
     out.watch out.device out.outcome back c.finish_merge.ensures.devices f c.requires.may.jobs ended) (c.finish_merge.ensures.damaged ended)))
     (λ damage harm. harm))
@@ -67,7 +67,7 @@ returns-in_err-finish_merge-in-Some-clause-moves g c =
     let contents = c.components_are_contents.ensures in
     damaged_so r result fault (λ damage. ⊥) (λ damage. ⊥) is was
     (by_outcome out.outcome _ (part_damaged result (λ damage. ⊥)) (err_both out.outcome _ _ c.finish_merge.ensures.unmade ran.damaged)
-    (λ cause both. told_damage result cause (IsHarmIn e.content found.0.run) (λ damage. ⊥) (both.0 sound).0 both.1 (λ file place bytes. not_harmed_run e.content contents.found contents.fetched found.0.run (contents_in_run m.merging.run p.list) file place bytes m.loaded))
+    (λ cause both. told_damage result cause (IsHarmIn e.content found.0.run) (λ damage. ⊥) (both.0.unmade sound).0 both.1 (λ file place bytes. not_harmed_run e.content contents.found contents.fetched found.0.run (contents_in_run m.merging.run p.list) file place bytes m.loaded))
     (λ ended. where_told (e.disks c.args.part.now.store) (part_damaged result (λ damage. ⊥)) told.store
     (c.finish_merge.ensures.undamaged ended p m.merging part m.is_out
     ((ran_for e g.S.Frozen.Frozen.name g.S.Device.Device.size c.args.part.now c.finish_merge.new.self c.args.jobs.now found.0 out.watch out.device out.outcome back
@@ -89,15 +89,11 @@ returns-in_ok-finish_merge-in-Some-clause-moves g c =
     let sound = c.requires.may.sound in
     let i : IsInstalled e g.S.Frozen.Frozen.name g.S.Device.Device.size c.args.part.now c.finish_merge.new.self c.args.jobs.now found.0 out.watch out.device
     out.outcome = record {
-      same = ok.same sound;
-      listed = ok.listed sound;
-      merged = ok.merged;
+      lists = ok.listed sound;
       moments = c.finish_merge.ensures.moments;
-      removed = ok.removed sound;
-      own = ok.own sound c.requires.may.ready.own;
       log_out = ok.log_out;
     } in
-    let ended = ended_well out.outcome c.finish_merge.result _ _ (λ cause. of_job (of_merge cause)) c.finish_merge.ensures.unmade (λ cause made. (made sound).0) c.in_ok-finish_merge-in-Some.was in
+    let ended = ended_well out.outcome c.finish_merge.result _ _ (λ cause. of_job (of_merge cause)) c.finish_merge.ensures.unmade (λ cause made. (made.unmade sound).0) c.in_ok-finish_merge-in-Some.was in
     subst (λ (j : JobsState _ _ _). Moves e (Ok tt) (beside c.args.part.now c.args.jobs.now) (beside c.finish_merge.new.self j)) (sym c.join_merge.ensures.taken)
     (installed e g.S.Frozen.Frozen.name g.S.Device.Device.size c.args.part.now c.finish_merge.new.self c.args.jobs.now found.0 out.watch out.device out.outcome back c.finish_merge.ensures.devices i sound c.requires.may.ready c.requires.may.jobs ended _ c.finish_merge.ensures.watched)
 
@@ -114,15 +110,11 @@ returns-in_ok-finish_merge-in-Some-clause-listed g c =
     let sound = c.requires.may.sound in
     let i : IsInstalled e g.S.Frozen.Frozen.name g.S.Device.Device.size c.args.part.now c.finish_merge.new.self c.args.jobs.now found.0 out.watch out.device
     out.outcome = record {
-      same = ok.same sound;
-      listed = ok.listed sound;
-      merged = ok.merged;
+      lists = ok.listed sound;
       moments = c.finish_merge.ensures.moments;
-      removed = ok.removed sound;
-      own = ok.own sound c.requires.may.ready.own;
       log_out = ok.log_out;
     } in
-    let ended = ended_well out.outcome c.finish_merge.result _ _ (λ cause. of_job (of_merge cause)) c.finish_merge.ensures.unmade (λ cause made. (made sound).0) c.in_ok-finish_merge-in-Some.was in
+    let ended = ended_well out.outcome c.finish_merge.result _ _ (λ cause. of_job (of_merge cause)) c.finish_merge.ensures.unmade (λ cause made. (made.unmade sound).0) c.in_ok-finish_merge-in-Some.was in
     subst (λ (j : JobsState _ _ _). (policy : Policy) → IsPickedBy e policy (beside c.args.part.now c.args.jobs.now) → ListsPicked e policy (beside c.args.part.now c.args.jobs.now) (beside c.finish_merge.new.self j)) (sym c.join_merge.ensures.taken)
     (installed_lists e g.S.Frozen.Frozen.name g.S.Device.Device.size c.args.part.now c.finish_merge.new.self c.args.jobs.now found.0 out.watch out.device out.outcome back c.finish_merge.ensures.devices i sound c.requires.may.ready c.requires.may.jobs ended)
 
