@@ -1,5 +1,5 @@
 -- What is read of components that were loaded of contents is not damaged.
-use Rattle.std.proofs.Common.{◌≡◌, ◌∙◌, ℕ, List, Option, Some, None, length, slice_get, sym, ap, subst, inl, inr}
+use Rattle.std.proofs.Common.{◌≡◌, ◌∙◌, ℕ, List, Option, Some, None, length, slice_get, refl, sym, ap, subst, inl, inr}
 use Rattle.std.specs.Prelude.{◌⊎◌, IfSome, Result, Err}
 use Rattle.std.specs.List.{AllZip}
 use Rattle.std.specs.Option.{IsSomeAnd, MatchOption}
@@ -8,7 +8,7 @@ use Rattle.std.proofs.lemmas.Option.{get_or_from_slice_get, slice_get_within}
 use Rattle.std.proofs.lemmas.Slice.Zip.{AllZip-left}
 use Rattle.tc_model.specs.Document.{Document}
 use Rattle.tc_plain_model.specs.Writes.{Write, set}
-use Rattle.tc_record.specs.Record.{record_of}
+use Rattle.tc_record.specs.Record.{numbered_form, record_of}
 use Rattle.tc_compact.specs.Compacted.{IsCompactedRecordOf}
 use Rattle.tc_compact.specs.Meant.{IsRecordUnder}
 use Rattle.tc_store.specs.declared.damage.Damage.TheVariants.{Bytes, Files}
@@ -49,7 +49,7 @@ module _ {F : Type 0} (content : F → Option (List ℕ)) (finds : FindsContent)
       subst (λ (o : Option (List ℕ)). IfSome o (λ whole. bytes ≡ record_at m.index.slots h.entry.at whole)) l.tells h.told ∙ ap (λ (i : Index). record_at i.slots h.entry.at l.bytes) l.index ∙ fetches k l.bytes h.entry.at h.there.0 d l.is means.2 in
       elim (subst (λ (i : Index). (IsRecordWithin (length i.names) bytes → ⊥) ⊎ ((e : Document) → IsRecordUnder i.names e bytes → ⊥)) l.index h.broken) [
         | inl unread ↦ unread (subst (IsRecordWithin (length k.names)) (sym same) (within_names k.names d is_kept))
-        | inr no_document ↦ no_document d (inr (record_of d, is_kept.whole, (1, (inl refl, subst (IsCompactedRecordOf k.names d) (sym same) is_kept.compact))))
+        | inr no_document ↦ no_document d (inr (record_of d, is_kept.whole, (numbered_form, (inl refl, subst (IsCompactedRecordOf k.names d) (sym same) is_kept.compact))))
       ]
 
   sound_fault : (X : Type 0) (list : List (ComponentState F)) (cs : List Content) (fault : JobFault) → AllZip (IsLoadedOf content) list cs → IfHarmed fault (IsHarmIn content list) → IfDamaged {X = X} (Err fault) (λ damage. ⊥)
