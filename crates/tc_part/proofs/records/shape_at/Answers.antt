@@ -1,4 +1,4 @@
-use Rattle.std.proofs.Common.{◌∙◌, inl, inr, refl, sym, ap, subst}
+use Rattle.std.proofs.Common.{◌∙◌, Err, inl, inr, refl, sym, ap, subst}
 use Rattle.tc_model.specs.Document.{document_shape}
 use Rattle.tc_record.specs.Record.{IsNumberedRecordOf}
 use Rattle.tc_component.specs.Meaning.{IsRecordOfOne}
@@ -15,7 +15,7 @@ pub no_document-requires-clause-cause : goal.no_document-requires-clause-cause
 no_document-requires-clause-cause g c = λ κs within refused d under.
     let names = c.args.component.now.index.names in
     let here = subst (IsRecordUnder names d) (sym (c.known.ensures.bytes ∙ c.as_slice.ensures.same)) under in
-    c.in-Err.ensures.refused refused d (subst (λ names. IsRecordUnder names d c.known.result.bytes) (sym c.names.ensures) here)
+    c.in-Err.ensures.refused (ap Err refused) d (subst (λ names. IsRecordUnder names d c.known.result.bytes) (sym c.names.ensures) here)
 
 pub returns-in-Ok-clause-shape : goal.returns-in-Ok-clause-shape
 returns-in-Ok-clause-shape g c = λ d.

@@ -1,4 +1,4 @@
-use Rattle.std.proofs.Common.{◌≡◌, ◌∙◌, length, inl, inr, refl, sym, ap, subst}
+use Rattle.std.proofs.Common.{◌≡◌, ◌∙◌, Err, length, inl, inr, refl, sym, ap, subst}
 use Rattle.std.specs.Prelude.{IfSome}
 use Rattle.tc_request_model.specs.Rendered.{document_text}
 use Rattle.tc_record.specs.Record.{IsNumberedRecordOf}
@@ -18,7 +18,7 @@ pub no_document-requires-clause-cause : goal.no_document-requires-clause-cause
 no_document-requires-clause-cause g c = λ κs within refused d under.
     let names = c.args.component.now.index.names in
     let here = subst (IsRecordUnder names d) (sym (c.known.ensures.bytes ∙ c.as_slice.ensures.same)) under in
-    c.in-Err.ensures.refused refused d (subst (λ names. IsRecordUnder names d c.known.result.bytes) (sym c.names.ensures) here)
+    c.in-Err.ensures.refused (ap Err refused) d (subst (λ names. IsRecordUnder names d c.known.result.bytes) (sym c.names.ensures) here)
 
 pub returns-in-Ok-clause-text : goal.returns-in-Ok-clause-text
 returns-in-Ok-clause-text g c = λ d.
