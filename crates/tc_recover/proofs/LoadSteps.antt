@@ -107,6 +107,12 @@ stops_judged {F = F} (Some bytes) part older name c goes fault cause own exact i
         subst (λ x. Answers {X = ComponentState F} index_in (Err (Damaged x)) (component_judged part older name bytes)) (sym a) (rw (own, no) (rw named refl))
     answered job.Memory a = tt
 
+-- names that do not go on are no fault of a read
+pub never_disk : (name : FileName) (place : ℕ) (bytes : List ℕ) (fault : JobFault) (cause : FilesCause) → AreBytesOr name place bytes fault → cause ≡ of_job fault → cause ≡ Disk → ⊥
+never_disk name place bytes job.Disk cause are of_it is = are
+never_disk name place bytes (job.Damaged d) cause are of_it is = let clash : Damaged d ≡ Disk = sym of_it ∙ is in cc
+never_disk name place bytes job.Memory cause are of_it is = let clash : Memory ≡ Disk = sym of_it ∙ is in cc
+
 pub stops_cause : {F W : Type 0} (size : F → ℕ) (part : Partition) (t : Taken F W) (older : List Name) (c : ComponentState F) (goes : Bool) (fault : JobFault) (cause : FilesCause) (whole : ℕ) → (IsTrue goes ↔ Extends c.index.names older) → goes ≡ false
     → c.file ≡ t.file → t.name ≡ name_of c.index.head → IsIndex c.index → whole ≡ size c.file → whole ≡ file_size (sizes_in c.index)
     → AreBytesOr (name_of c.index.head) (names_place (sizes_in c.index)) (section c.index.names) fault → cause ≡ of_job fault → IsLoadDamage size part t cause
