@@ -137,10 +137,10 @@ pub stored_within : (names : List Name) (bytes : List ℕ) → IsDictionary name
 stored_within names bytes dictionary s = subst (IsRecordWithin (length names)) (sym s.spelled) (within_names names s.document (kept_in names bytes dictionary s))
 
 -- under more names it is a record of the same document, since numbers keep their names
-module _ (stays : (d : Document) (whole bytes : List ℕ) (names newer : List Name) → IsRecordOf d whole → IsCompactedRecordOf names d bytes → IsDictionary newer → Extends newer names → IsCompactedRecordOf newer d bytes) where
+module _ (stays : (form : ℕ) (d : Document) (whole bytes : List ℕ) (names newer : List Name) → IsRecordOf d whole → IsCompactedIn form names d bytes → IsDictionary newer → Extends newer names → IsCompactedIn form newer d bytes) where
   pub under_newer : (names newer : List Name) (d : Document) (bytes : List ℕ) → IsDictionary newer → Extends newer names → IsRecordUnder names d bytes → IsRecordUnder newer d bytes
   under_newer names newer d bytes dictionary extends (inl is) = inl is
-  under_newer names newer d bytes dictionary extends (inr (whole, is, form1)) = inr (whole, is, stays d whole bytes names newer is form1 dictionary extends)
+  under_newer names newer d bytes dictionary extends (inr (whole, is, under)) = inr (whole, is, (under.0, (under.1.0, stays under.0 d whole bytes names newer is under.1.1 dictionary extends)))
 
 pub stored_at_under : (names : List Name) (bytes same : List ℕ) (d : Document) → IsDictionary names → bytes ≡ same → (s : IsStoredIn names bytes) → s.document ≡ d → IsRecordUnder names d same
 stored_at_under names bytes same d dictionary are s is = subst (IsRecordUnder names d) are (subst (λ e. IsRecordUnder names e bytes) is (stored_under names bytes dictionary s))
