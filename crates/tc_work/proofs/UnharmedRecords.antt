@@ -1,12 +1,12 @@
 -- The records of components whose files are told are not damaged.
-use Rattle.std.proofs.Common.{◌≡◌, ◌∙◌, ℕ, zero, suc, List, [], ◌∷◌, Option, Some, length, slice_get, sym, ap, subst, inl, inr}
+use Rattle.std.proofs.Common.{◌≡◌, ◌∙◌, ℕ, zero, suc, List, [], ◌∷◌, Option, Some, length, slice_get, refl, sym, ap, subst, inl, inr}
 use Rattle.std.specs.Prelude.{All, IfErr, IfSome, Result, Ok, Err}
 use Rattle.std.specs.List.{AllZip}
 use Rattle.std.proofs.lemmas.List.Elements.{All-get_or}
 use Rattle.std.proofs.lemmas.Option.{get_or_from_slice_get, same_Some, slice_get_within}
 use Rattle.tc_model.specs.Document.{Document}
 use Rattle.tc_plain_model.specs.Writes.{set}
-use Rattle.tc_record.specs.Record.{record_of}
+use Rattle.tc_record.specs.Record.{numbered_form, record_of}
 use Rattle.tc_compact.specs.Compacted.{IsCompactedRecordOf}
 use Rattle.tc_store.specs.declared.damage.Damage.TheVariants.{Bytes, Files}
 use Rattle.tc_store.specs.declared.file_name.FileName.{FileName}
@@ -76,7 +76,7 @@ module _ {F : Type 0} (content : F → Option (List ℕ)) (finds : FindsContent)
       let r = told_record h.component l.0 h.harm.entry bytes l.1 h.harm.there h.harm.told in
       elim h.harm.broken [
         | inl unjudged ↦ unjudged (subst (IsRecordWithin (length names)) (sym r.2) (within_names names r.0 r.1))
-        | inr no_document ↦ no_document r.0 (inr (record_of r.0, r.1.whole, (1, (inl refl, subst (IsCompactedRecordOf names r.0) (sym r.2) r.1.compact))))
+        | inr no_document ↦ no_document r.0 (inr (record_of r.0, r.1.whole, (numbered_form, (inl refl, subst (IsCompactedRecordOf names r.0) (sym r.2) r.1.compact))))
       ]
 
   -- nor is one that a merge reads
