@@ -5,7 +5,7 @@ use Rattle.tc_model.specs.Document.{Name, Document}
 use Rattle.tc_model.specs.KnownNames.{HasEach}
 use Rattle.tc_model.specs.Dictionary.{number as name_number}
 use Rattle.tc_record.specs.Preorder.{tokens_of}
-use Rattle.tc_record.specs.Record.{labels, NumberedTree, numbered_form, IsNumberedForm, IsNumberedRecordIn}
+use Rattle.tc_record.specs.Record.{labels, NumberedTree, packed_form, IsNumberedForm, IsNumberedRecordIn}
 
 -- the document with each name replaced by its number
 abbrev pub compacted : List Name → Document → NumberedTree
@@ -16,9 +16,9 @@ pub record IsCompactedIn (form : ℕ) (names : List Name) (d : Document) (bytes 
   pub known : HasEach names (labels (tokens_of d))
   pub numbered : IsNumberedRecordIn form (compacted names d) bytes
 
--- of form 1
+-- of the form that is written
 abbrev pub IsCompactedRecordOf : List Name → Document → List ℕ → Type 0
-IsCompactedRecordOf names d bytes = IsCompactedIn numbered_form names d bytes
+IsCompactedRecordOf names d bytes = IsCompactedIn packed_form names d bytes
 
 -- of one of the forms whose members carry numbers
 abbrev pub IsNumberedUnder : List Name → Document → List ℕ → Type 0

@@ -14,9 +14,9 @@ use crate::learning::learn_names;
 use std::alloc::Global;
 use tc_bytes::{Bytes, Memory};
 use tc_names::Names;
-use tc_record::{HEADER_SIZE, NUMBERED_FORM, RecordRef, column_bytes, least_width};
+use tc_record::{HEADER_SIZE, PACKED_FORM, RecordRef, column_bytes, least_width};
 
-/// The record of form 1 of a record of form 0 that has fewer than 1,073,741,824 bytes. New names are learned from the
+/// The record of form 2 of a record of form 0 that has fewer than 1,073,741,824 bytes. New names are learned from the
 /// front of the record: the name of a member, and then those within its value. Errs only for want of memory, with some
 /// of the new names learned.
 pub fn compact(alloc: Global, from: RecordRef<'_>, names: &mut Names) -> Result<Bytes, Memory>
@@ -47,7 +47,7 @@ pub fn compact_numbered(
 {
     let _bytes = from.bytes();
     let greatest = greatest(numbers);
-    with_numbers(alloc, NUMBERED_FORM, &from, numbers, greatest)
+    with_numbers(alloc, PACKED_FORM, &from, numbers, greatest)
 }
 
 /// A record of a form with these slots, of which this is the greatest. Errs only for want of memory.

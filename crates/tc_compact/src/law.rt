@@ -9,17 +9,19 @@ ghost use Rattle.tc_model.specs.ShapeNames.{names_within};
 ghost use Rattle.tc_model.specs.TreeSize.{tree_size};
 ghost use Rattle.tc_record.specs.Borrowed.{Record, Spells, named_tokens};
 ghost use Rattle.tc_record.specs.Building.{document_read, HoldDocuments};
-ghost use Rattle.tc_record.specs.Record.{IsRecordOf};
+ghost use Rattle.tc_record.specs.Record.{NumberedTree, IsNumberedRecordOf, IsRecordOf, packed_record_of};
 ghost use Rattle.tc_compact.specs.Compacted.{IsCompactedIn, IsNumberedUnder};
 ghost use Rattle.tc_compact.specs.Meant.{tokens_meant, levels_meant, IsRecordUnder};
+ghost use Rattle.tc_compact.specs.Repacked.{repacked};
 ghost use Rattle.tc_compact.specs.Slots.{names_in};
 
 /// A law, and no work. The form 1 of a record under a dictionary is its form 1 under each dictionary that extends that
 /// one, and so it is with form 2. Bytes are those of one record under a dictionary alone, whichever their form. So `expand`
-/// answers the record that was handed to `compact`, unless memory is wanting.
+/// answers the record that was handed to `compact`, unless memory is wanting. And the form 1 of a tree becomes its form 2.
 pub fn round_trip()
     ensures stays { (form : ℕ) (d : Document) (whole bytes : List ℕ) (names newer : List Name) → IsRecordOf d whole → IsCompactedIn form names d bytes → IsDictionary newer → Extends newer names → IsCompactedIn form newer d bytes }
     ensures one { (d e : Document) (whole other bytes : List ℕ) (names : List Name) → IsRecordOf d whole → IsNumberedUnder names d bytes → IsRecordOf e other → IsNumberedUnder names e bytes → whole ≡ other }
+    ensures repacks { (n : NumberedTree) (bytes : List ℕ) → IsNumberedRecordOf n bytes → repacked bytes ≡ packed_record_of n }
 {}
 
 /// A law, and no work. A record and the shape of its document have the same names in the same order, so what `compact`

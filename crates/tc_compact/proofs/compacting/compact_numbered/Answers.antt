@@ -15,7 +15,7 @@ pub with_numbers-requires-clause-short : goal.with_numbers-requires-clause-short
 with_numbers-requires-clause-short c =
     let ns = c.args.numbers.now in
     let each : AreBelow 32 ns = each_below (2 ^ 32) ns (omega (arith, c.greatest-greatest.ensures)) in
-    compacted_short 1 c.args.from ns c.bytes-bytes.ensures.spells c.requires.named c.requires.short c.requires.members each
+    compacted_short 2 c.args.from ns c.bytes-bytes.ensures.spells c.requires.named c.requires.short c.requires.members each
 
 pub returns : goal.returns
 returns c =
@@ -23,10 +23,10 @@ returns c =
     let ns = c.args.numbers.now in
     let spells = c.bytes-bytes.ensures.spells in
     let each : AreBelow 32 ns = each_below (2 ^ 32) ns (omega (arith, c.greatest-greatest.ensures)) in
-    let short : length (whole (spelling_of 1) 1 (parts_of r.tokens) ns []) < 2 ^ 32 = compacted_short 1 r ns spells c.requires.named c.requires.short c.requires.members each in
+    let short : length (whole (spelling_of 2) 2 (parts_of r.tokens) ns []) < 2 ^ 32 = compacted_short 2 r ns spells c.requires.named c.requires.short c.requires.members each in
     record {
       compacted =
           IfOk-weaker c.with_numbers.result _ _
-          (λ bytes written d is names dictionary has are. compacts 1 names d r ns bytes dictionary spells is has are written (subst (λ bs. length bs < 2 ^ 32) (sym written) short))
+          (λ bytes written d is names dictionary has are. compacts 2 names d r ns bytes dictionary spells is has are written (subst (λ bs. length bs < 2 ^ 32) (sym written) short))
           c.with_numbers.ensures;
     }

@@ -1,3 +1,4 @@
+use Rattle.tc_compact.proofs.Repacks.{repacked_of}
 use Rattle.tc_compact.proofs.RoundTrip.{compacted_stays, one_record}
 use Rattle.tc_compact.proofs.law.round_trip.Goals as goal
 
@@ -6,3 +7,6 @@ returns-clause-stays c = compacted_stays
 
 pub returns-clause-one : goal.returns-clause-one
 returns-clause-one c = one_record
+
+pub returns-clause-repacks : goal.returns-clause-repacks
+returns-clause-repacks c = repacked_of
