@@ -12,8 +12,9 @@ use Rattle.tc_component.specs.Found.{AreSizes}
 use Rattle.tc_component.specs.declared.head.Head.{Head}
 use Rattle.tc_component.specs.declared.head.Sizes.{Sizes}
 use Rattle.tc_component.specs.Layout.{number_end}
-use Rattle.tc_component.specs.Spelling.{magic, sizes_bytes, head_bytes, IsHead}
+use Rattle.tc_component.specs.Spelling.{IsVersion, magic_of, sizes_bytes, head_bytes, IsHead}
 use Rattle.tc_component.specs.Reading.{is_magic, is_interval, interval_at, sizes_at, head_at}
+use Rattle.tc_component.proofs.Versions.{magic_small, magic_again}
 
 -- ---- sizes
 
@@ -23,10 +24,10 @@ sizes_parts sizes rest =
     let r = to_be_bytes w64 sizes.records in let e = to_be_bytes w64 sizes.entries in let n = to_be_bytes w64 sizes.names in let s = to_be_bytes w64 sizes.schema in
     append_assoc r (e ++ (n ++ s)) rest ∙ ap (λ (bytes : List ℕ). r ++ bytes) (append_assoc e (n ++ s) rest ∙ ap (λ (bytes : List ℕ). e ++ bytes) (append_assoc n s rest))
 
-head_parts : (head : Head) (sizes : Sizes) (rest : List ℕ)
-    → head_bytes head sizes ++ rest ≡ to_be_bytes w32 magic ++ (to_be_bytes w32 head.number ++ (to_be_bytes w32 head.count ++ (to_be_bytes w64 head.from ++ (to_be_bytes w64 head.to ++ (sizes_bytes sizes ++ rest)))))
-head_parts head sizes rest =
-    let m = to_be_bytes w32 magic in let n = to_be_bytes w32 head.number in let c = to_be_bytes w32 head.count in let f = to_be_bytes w64 head.from in let t = to_be_bytes w64 head.to in let s = sizes_bytes sizes in
+head_parts : (version : ℕ) (head : Head) (sizes : Sizes) (rest : List ℕ)
+    → head_bytes version head sizes ++ rest ≡ to_be_bytes w32 (magic_of version) ++ (to_be_bytes w32 head.number ++ (to_be_bytes w32 head.count ++ (to_be_bytes w64 head.from ++ (to_be_bytes w64 head.to ++ (sizes_bytes sizes ++ rest)))))
+head_parts version head sizes rest =
+    let m = to_be_bytes w32 (magic_of version) in let n = to_be_bytes w32 head.number in let c = to_be_bytes w32 head.count in let f = to_be_bytes w64 head.from in let t = to_be_bytes w64 head.to in let s = sizes_bytes sizes in
     append_assoc m (n ++ (c ++ (f ++ (t ++ s)))) rest ∙ ap (λ (bytes : List ℕ). m ++ bytes) (append_assoc n (c ++ (f ++ (t ++ s))) rest ∙ ap (λ (bytes : List ℕ). n ++ bytes) (append_assoc c (f ++ (t ++ s)) rest
     ∙ ap (λ (bytes : List ℕ). c ++ bytes) (append_assoc f (t ++ s) rest ∙ ap (λ (bytes : List ℕ). f ++ bytes) (append_assoc t s rest))))
 
@@ -76,14 +77,14 @@ interval_is from to is = grind (arith, nat_tests)
 interval_test : (from to : ℕ) → 0 < from → from ≤ to → to < number_end → is_interval (from, to) ≡ true
 interval_test from to first order last = grind (arith, nat_tests)
 
-HeadFound : List ℕ → (Head × Sizes) × List ℕ → Type 0
-HeadFound bytes q = (bytes ≡ head_bytes q.0.0 q.0.1 ++ q.1) × IsBytes q.1 × (IsHead q.0.0 × AreSizes q.0.1)
+HeadFound : ℕ → List ℕ → (Head × Sizes) × List ℕ → Type 0
+HeadFound version bytes q = (bytes ≡ head_bytes version q.0.0 q.0.1 ++ q.1) × IsBytes q.1 × (IsHead q.0.0 × AreSizes q.0.1)
 
-head_found : (bytes : List ℕ) (q : (Head × Sizes) × List ℕ) → IsBytes bytes → head_at bytes ≡ Some q → HeadFound bytes q
+head_found : (version : ℕ) (bytes : List ℕ) (q : (Head × Sizes) × List ℕ) → IsBytes bytes → head_at version bytes ≡ Some q → HeadFound version bytes q
 unfolding HeadFound SizesFound
-head_found bytes q each gives =
-    let m = then_parts (passing_at is_magic (number_at w32) bytes) _ q gives in
-    let m_is = (passing_codec is_magic number_codec_32).found bytes m.0.0 m.0.1 each m.1 in
+head_found version bytes q each gives =
+    let m = then_parts (passing_at (is_magic version) (number_at w32) bytes) _ q gives in
+    let m_is = (passing_codec (is_magic version) number_codec_32).found bytes m.0.0 m.0.1 each m.1 in
     let n = then_parts (number_at w32 m.0.1) _ q m.2 in
     let n_is = number_codec_32.found m.0.1 n.0.0 n.0.1 m_is.1 n.1 in
     let c = then_parts (number_at w32 n.0.1) _ q n.2 in
@@ -95,33 +96,35 @@ head_found bytes q each gives =
     let within = interval_is i.0.0.0 i.0.0.1 i_is.2.1 in
     let behind : c.0.1 ≡ to_be_bytes w64 i.0.0.0 ++ (to_be_bytes w64 i.0.0.1 ++ (sizes_bytes s.0.0 ++ s.0.1)) =
     i_is.0 ∙ ap (λ (more : List ℕ). (to_be_bytes w64 i.0.0.0 ++ to_be_bytes w64 i.0.0.1) ++ more) s_is.0 ∙ append_assoc (to_be_bytes w64 i.0.0.0) (to_be_bytes w64 i.0.0.1) (sizes_bytes s.0.0 ++ s.0.1) in
-    let all : bytes ≡ to_be_bytes w32 magic ++ (to_be_bytes w32 n.0.0 ++ (to_be_bytes w32 c.0.0 ++ (to_be_bytes w64 i.0.0.0 ++ (to_be_bytes w64 i.0.0.1 ++ (sizes_bytes s.0.0 ++ s.0.1))))) =
-    m_is.0 ∙ ap (λ (k : ℕ). to_be_bytes w32 k ++ m.0.1) (eqb-true m.0.0 magic m_is.2.1) ∙ ap (λ (more : List ℕ). to_be_bytes w32 magic ++ more) (n_is.0 ∙ ap (λ (more : List ℕ). to_be_bytes w32 n.0.0 ++ more) (c_is.0 ∙ ap (λ (more : List ℕ). to_be_bytes w32 c.0.0 ++ more) behind)) in
+    let all : bytes ≡ to_be_bytes w32 (magic_of version) ++ (to_be_bytes w32 n.0.0 ++ (to_be_bytes w32 c.0.0 ++ (to_be_bytes w64 i.0.0.0 ++ (to_be_bytes w64 i.0.0.1 ++ (sizes_bytes s.0.0 ++ s.0.1))))) =
+    m_is.0 ∙ ap (λ (k : ℕ). to_be_bytes w32 k ++ m.0.1) (eqb-true m.0.0 (magic_of version) m_is.2.1)
+    ∙ ap (λ (more : List ℕ). to_be_bytes w32 (magic_of version) ++ more) (n_is.0 ∙ ap (λ (more : List ℕ). to_be_bytes w32 n.0.0 ++ more) (c_is.0 ∙ ap (λ (more : List ℕ). to_be_bytes w32 c.0.0 ++ more) behind)) in
     let head : Head = record { number = n.0.0; count = c.0.0; from = i.0.0.0; to = i.0.0.1 } in
-    subst (HeadFound bytes) (same_Some _ q s.2) (
-      all ∙ sym (head_parts head s.0.0 s.0.1),
+    subst (HeadFound version bytes) (same_Some _ q s.2) (
+      all ∙ sym (head_parts version head s.0.0 s.0.1),
       s_is.1,
       (record { number = n_is.2; count = c_is.2; first = within.0; order = within.1; last = within.2 }, s_is.2),
     )
 
-head_read : (bytes r s t u rest : List ℕ) (head : Head) (sizes : Sizes) → passing_at is_magic (number_at w32) bytes ≡ Some (magic, r) → number_at w32 r ≡ Some (head.number, s)
-    → number_at w32 s ≡ Some (head.count, t) → interval_at t ≡ Some ((head.from, head.to), u) → sizes_at u ≡ Some (sizes, rest) → head_at bytes ≡ Some ((head, sizes), rest)
-head_read bytes r s t u rest head sizes one two three four five = rw (one, two, three, four, five) refl
+head_read : (version : ℕ) (bytes r s t u rest : List ℕ) (head : Head) (sizes : Sizes) → passing_at (is_magic version) (number_at w32) bytes ≡ Some (magic_of version, r) → number_at w32 r ≡ Some (head.number, s)
+    → number_at w32 s ≡ Some (head.count, t) → interval_at t ≡ Some ((head.from, head.to), u) → sizes_at u ≡ Some (sizes, rest) → head_at version bytes ≡ Some ((head, sizes), rest)
+head_read version bytes r s t u rest head sizes one two three four five = rw (one, two, three, four, five) refl
 
-head_again : (h : Head × Sizes) (rest : List ℕ) → IsHead h.0 × AreSizes h.1 → head_at (head_bytes h.0 h.1 ++ rest) ≡ Some (h, rest)
-head_again (head, sizes) rest is =
+head_again : (version : ℕ) → IsVersion version → (h : Head × Sizes) (rest : List ℕ) → IsHead h.0 × AreSizes h.1 → head_at version (head_bytes version h.0 h.1 ++ rest) ≡ Some (h, rest)
+head_again version told (head, sizes) rest is =
     let last = is.0.last in
     let order = is.0.order in
+    let m = magic_of version in
     let u = sizes_bytes sizes ++ rest in
     let t = (to_be_bytes w64 head.from ++ to_be_bytes w64 head.to) ++ u in
     let s = to_be_bytes w32 head.count ++ t in
     let r = to_be_bytes w32 head.number ++ s in
-    let joined : head_bytes head sizes ++ rest ≡ to_be_bytes w32 magic ++ r =
-    head_parts head sizes rest ∙ ap (λ (bytes : List ℕ). to_be_bytes w32 magic ++ (to_be_bytes w32 head.number ++ (to_be_bytes w32 head.count ++ bytes))) (sym (append_assoc (to_be_bytes w64 head.from) (to_be_bytes w64 head.to) u)) in
-    ap head_at joined
-    ∙ head_read (to_be_bytes w32 magic ++ r) r s t u rest head sizes ((passing_codec is_magic number_codec_32).again magic r (omega arith, refl)) (number_codec_32.again head.number s is.0.number) (number_codec_32.again head.count t is.0.count)
+    let joined : head_bytes version head sizes ++ rest ≡ to_be_bytes w32 m ++ r =
+    head_parts version head sizes rest ∙ ap (λ (bytes : List ℕ). to_be_bytes w32 m ++ (to_be_bytes w32 head.number ++ (to_be_bytes w32 head.count ++ bytes))) (sym (append_assoc (to_be_bytes w64 head.from) (to_be_bytes w64 head.to) u)) in
+    ap (head_at version) joined
+    ∙ head_read version (to_be_bytes w32 m ++ r) r s t u rest head sizes ((passing_codec (is_magic version) number_codec_32).again m r (magic_small version told, magic_again version)) (number_codec_32.again head.number s is.0.number) (number_codec_32.again head.count t is.0.count)
     (interval_codec.again (head.from, head.to) u ((omega arith, omega arith), interval_test head.from head.to is.0.first order last)) (sizes_again sizes rest is.1)
 
-pub head_codec : IsCodec head_at (λ h. head_bytes h.0 h.1) (λ h. IsHead h.0 × AreSizes h.1)
+pub head_codec : (version : ℕ) → IsVersion version → IsCodec (head_at version) (λ h. head_bytes version h.0 h.1) (λ h. IsHead h.0 × AreSizes h.1)
 unfolding HeadFound
-head_codec = record { found = λ bytes h rest each gives. head_found bytes (h, rest) each gives; again = head_again }
+head_codec version told = record { found = λ bytes h rest each gives. head_found version bytes (h, rest) each gives; again = head_again version told }

@@ -14,4 +14,5 @@ mod Fetched
 pub mod EntryRecords
 pub mod EntryPlaces
 mod SpelledContents
+pub mod Versions
 pub mod Windows

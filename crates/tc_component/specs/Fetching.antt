@@ -1,7 +1,7 @@
 -- What is read at the place of an entry.
 use Rattle.std.specs.Prelude.{◌+◌, ℕ, List, take, drop, slice_get, option_map, unwrap_or}
 use Rattle.std.specs.List.{AllByRecursion}
-use Rattle.tc_record.specs.Record.{labels, NumberedTree, IsNumberedRecordOf}
+use Rattle.tc_record.specs.Record.{labels, NumberedTree, IsNumberedForm, IsNumberedRecordIn}
 use Rattle.tc_record.specs.Borrowed.{IsBelow, numbered_tokens}
 use Rattle.tc_component.specs.declared.found.Place.{Place}
 use Rattle.tc_component.specs.declared.found.Found.TheVariants.{At}
@@ -24,8 +24,9 @@ length_at slots at = unwrap_or (option_map (λ s. s.length) (slice_get slots at)
 abbrev pub record_at : List Slot → ℕ → List ℕ → List ℕ
 record_at slots at bytes = take (length_at slots at) (drop (record_place slots at) bytes)
 
--- bytes that are a record of form 1, of which each number is below a limit
-pub record IsRecordWithin (limit : ℕ) (bytes : List ℕ) : Type 0 where
+-- bytes that are a record of the form of a version, of which each number is below a limit
+pub record IsRecordWithin (version limit : ℕ) (bytes : List ℕ) : Type 0 where
+  pub told : IsNumberedForm version
   pub tree : NumberedTree
-  pub is_record : IsNumberedRecordOf tree bytes
+  pub is_record : IsNumberedRecordIn version tree bytes
   pub below : AllByRecursion (IsBelow limit) (labels (numbered_tokens tree))

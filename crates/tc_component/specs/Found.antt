@@ -10,7 +10,7 @@ use Rattle.tc_component.specs.declared.head.Head.{Head}
 use Rattle.tc_component.specs.declared.head.Sizes.{Sizes}
 use Rattle.tc_component.specs.declared.slot.Slot.{Slot}
 use Rattle.tc_component.specs.Layout.{file_size, slot_size}
-use Rattle.tc_component.specs.Spelling.{head_bytes, IsHead, directory, lengths_of, IsSlot, Ascend, Index, name_of}
+use Rattle.tc_component.specs.Spelling.{IsVersion, head_bytes, IsHead, directory, lengths_of, IsSlot, Ascend, Index, name_of}
 
 -- each has 64 bits
 pub record AreSizes (sizes : Sizes) : Type 0 where
@@ -20,12 +20,13 @@ pub record AreSizes (sizes : Sizes) : Type 0 where
   pub schema : sizes.schema < 2 ^ 64
 
 -- a header that is one of a file of this name and this length
-pub record FrontFound (name : FileName) (size : ℕ) (front : List ℕ) (h : Head × Sizes) : Type 0 where
+pub record FrontFound (version : ℕ) (name : FileName) (size : ℕ) (front : List ℕ) (h : Head × Sizes) : Type 0 where
+  pub is_version : IsVersion version
   pub head : IsHead h.0
   pub sizes : AreSizes h.1
   pub named : name ≡ name_of h.0
   pub sized : file_size h.1 ≡ size
-  pub spelled : front ≡ head_bytes h.0 h.1
+  pub spelled : front ≡ head_bytes version h.0 h.1
 
 -- so many slots, whose records have so many bytes together
 pub record DirectoryFound (count records : ℕ) (bytes : List ℕ) (slots : List Slot) : Type 0 where
@@ -36,7 +37,8 @@ pub record DirectoryFound (count records : ℕ) (bytes : List ℕ) (slots : List
   pub sum : lengths_of slots ≡ records
 
 -- what stands behind the records is the directory, the names and the schema
-pub record RestFound (h : Head × Sizes) (rest : List ℕ) (c : Index) : Type 0 where
+pub record RestFound (version : ℕ) (h : Head × Sizes) (rest : List ℕ) (c : Index) : Type 0 where
+  pub version_is : c.version ≡ version
   pub head : c.head ≡ h.0
   pub slots : DirectoryFound h.1.entries h.1.records (take (h.1.entries * slot_size) rest) c.slots
   pub names_are : IsDictionary c.names

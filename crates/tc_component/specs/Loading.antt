@@ -1,5 +1,5 @@
 -- What is loaded of a component.
-use Rattle.std.specs.Prelude.{◌≡◌, ◌≤◌}
+use Rattle.std.specs.Prelude.{◌≡◌, ◌≤◌, ℕ}
 use Rattle.tc_bytes.specs.Counts.{Rose, next_count}
 use Rattle.tc_store.specs.Counted.{Counts}
 use Rattle.tc_component.specs.declared.head.Head.{Head}
@@ -11,12 +11,12 @@ use Rattle.tc_component.specs.Spelling.{Index}
 abbrev pub same_pair : Head × Sizes → Head × Sizes
 same_pair h = h
 
--- a header, and what stands behind the records
-abbrev pub parts_of : Head → Parts → Index
-parts_of head parts = record { head = head; slots = parts.directory; names = parts.names; schema = parts.schema }
+-- a version, a header, and what stands behind the records
+abbrev pub parts_of : ℕ → Head → Parts → Index
+parts_of version head parts = record { version = version; head = head; slots = parts.directory; names = parts.names; schema = parts.schema }
 
 abbrev pub loaded_index : Loaded → Index
-loaded_index loaded = parts_of loaded.head loaded.parts
+loaded_index loaded = parts_of loaded.version loaded.head loaded.parts
 
 -- A call of two reads where it is done.
 pub record IsCountedTwice (Failed Done : Type 0) (old new : Counts) : Type 0 where

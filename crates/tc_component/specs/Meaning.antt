@@ -4,7 +4,7 @@ use Rattle.tc_model.specs.Document.{Name, Document}
 use Rattle.tc_model.specs.Keyed.{value_of}
 use Rattle.tc_plain_model.specs.Writes.{Write, set}
 use Rattle.tc_record.specs.Record.{IsRecordOf}
-use Rattle.tc_compact.specs.Compacted.{IsCompactedRecordOf, IsNumberedUnder}
+use Rattle.tc_compact.specs.Compacted.{IsCompactedIn, IsNumberedUnder}
 use Rattle.tc_component.specs.declared.found.Found.{Found}
 use Rattle.tc_component.specs.declared.found.Found.TheVariants.{Absent, Gone, At}
 
@@ -14,7 +14,7 @@ MeansOf entries key Absent = value_of key entries ≡ None
 MeansOf entries key Gone = value_of key entries ≡ Some None
 MeansOf entries key (At place) = (d : Document) × (value_of key entries ≡ Some (Some d)) × (slice_get entries place.at ≡ Some (set key d))
 
--- the record of this document under the names, and of no other one
-pub record IsRecordOfOne (names : List Name) (d : Document) (bytes : List ℕ) : Type 0 where
-  pub record_is : IsCompactedRecordOf names d bytes
+-- the record of this document under the names, in the form of a version, and of no other one
+pub record IsRecordOfOne (version : ℕ) (names : List Name) (d : Document) (bytes : List ℕ) : Type 0 where
+  pub record_is : IsCompactedIn version names d bytes
   pub one : (e : Document) (whole : List ℕ) → IsRecordOf e whole → IsNumberedUnder names e bytes → e ≡ d

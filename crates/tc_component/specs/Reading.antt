@@ -1,9 +1,10 @@
 -- How the bytes of a component are judged: what it has beside its records, or a place and the bytes there that break the
 -- rules.
-use Rattle.std.specs.Prelude.{ℕ, ◌+◌, ◌-◌, ◌*◌, ◌==◌, ◌&&◌, ◌||◌, nat_lt, nat_le, Bool, false, if◌then◌else◌, List, [], ◌∷◌, length, take, drop, Option, None, Some, Result, Ok}
+use Rattle.std.specs.Prelude.{ℕ, ◌+◌, ◌-◌, ◌*◌, ◌==◌, ◌&&◌, ◌||◌, nat_lt, nat_le, Bool, false, if◌then◌else◌, List, [], ◌∷◌, length, take, drop, get_or, Option, None, Some, Result, Ok}
 use Rattle.std.specs.Int.{w32, w64}
 use Rattle.tc_bytes.specs.Reading.{Reader, ◌>>=◌, number_at, mapped_at, passing_at, pair_at, elements_at, ended}
 use Rattle.tc_names.specs.Section.{read_section}
+use Rattle.tc_record.specs.Record.{numbered_form, packed_form}
 use Rattle.tc_schema.specs.Reading.{read_schema}
 use Rattle.tc_store.specs.Judging.{Damage, damage, or_damage, judged_then}
 use Rattle.tc_store.specs.declared.file_name.FileName.{FileName}
@@ -12,12 +13,16 @@ use Rattle.tc_component.specs.declared.head.Head.{Head}
 use Rattle.tc_component.specs.declared.head.Sizes.{Sizes}
 use Rattle.tc_component.specs.declared.slot.Slot.{Slot}
 use Rattle.tc_component.specs.Layout.{number_end, head_place, records_place, slot_size, least_record, directory_place, names_place, schema_place, file_size}
-use Rattle.tc_component.specs.Spelling.{magic, slot, lengths_of, Index}
+use Rattle.tc_component.specs.Spelling.{magic_of, slot, lengths_of, Index}
 
 -- ---- the header
 
-abbrev pub is_magic : ℕ → Bool
-is_magic n = n == magic
+-- the version that the fourth byte tells, whatever stands before it
+abbrev pub version_told : List ℕ → ℕ
+version_told front = if nat_lt 3 (length front) && get_or front 3 0 == 0x32 then packed_form else numbered_form
+
+abbrev pub is_magic : ℕ → ℕ → Bool
+is_magic version n = n == magic_of version
 
 abbrev pub is_interval : ℕ × ℕ → Bool
 is_interval i = nat_lt 0 i.0 && (nat_le i.0 i.1 && nat_lt i.1 number_end)
@@ -30,9 +35,9 @@ sizes_at bytes =
     number_at w64 bytes >>= λ r. number_at w64 r.1 >>= λ e. number_at w64 e.1 >>= λ n. number_at w64 n.1 >>= λ s.
     Some (record { records = r.0; entries = e.0; names = n.0; schema = s.0 }, s.1)
 
-abbrev pub head_at : Reader (Head × Sizes)
-head_at bytes =
-    passing_at is_magic (number_at w32) bytes >>= λ m. number_at w32 m.1 >>= λ n. number_at w32 n.1 >>= λ c. interval_at c.1 >>= λ i. sizes_at i.1 >>= λ s.
+abbrev pub head_at : ℕ → Reader (Head × Sizes)
+head_at version bytes =
+    passing_at (is_magic version) (number_at w32) bytes >>= λ m. number_at w32 m.1 >>= λ n. number_at w32 n.1 >>= λ c. interval_at c.1 >>= λ i. sizes_at i.1 >>= λ s.
     Some ((record { number = n.0; count = c.0; from = i.0.0; to = i.0.1 }, s.0), s.1)
 
 abbrev pub is_named : FileName → Head → Bool
@@ -47,9 +52,13 @@ is_header_of name size h = is_named name h.0 && file_size h.1 == size
 abbrev pub front_of : List ℕ → List ℕ
 front_of bytes = take (records_place - head_place) (drop head_place bytes)
 
+-- the version that a file tells, which is the form of its records
+abbrev pub version_of : List ℕ → ℕ
+version_of bytes = version_told (front_of bytes)
+
 -- these bytes as the header of a component of this name, in a file of this length
 abbrev pub front_judged : FileName → ℕ → List ℕ → Result (Head × Sizes) Damage
-front_judged name size front = judged_then (or_damage (passing_at (is_header_of name size) head_at front) (damage head_place front)) λ h. Ok h.0
+front_judged name size front = judged_then (or_damage (passing_at (is_header_of name size) (head_at (version_told front)) front) (damage head_place front)) λ h. Ok h.0
 
 -- ---- the directory
 
@@ -83,8 +92,8 @@ directory_read count records before bytes =
 -- ---- judging
 
 -- what stands behind the records
-abbrev pub rest_judged : Head × Sizes → List ℕ → Result Index Damage
-rest_judged h rest =
+abbrev pub rest_judged : ℕ → Head × Sizes → List ℕ → Result Index Damage
+rest_judged version h rest =
     let slots_end = h.1.entries * slot_size in
     let own = take slots_end rest in
     let named = take h.1.names (drop slots_end rest) in
@@ -92,11 +101,11 @@ rest_judged h rest =
     judged_then (or_damage (directory_read h.1.entries h.1.records [] own) (damage (directory_place h.1) own)) λ slots.
     judged_then (or_damage (read_section named) (damage (names_place h.1) named)) λ names.
     judged_then (or_damage (read_schema (length names) counted) (damage (schema_place h.1) counted)) λ schema.
-    Ok (record { head = h.0; slots = slots; names = names; schema = schema })
+    Ok (record { version = version; head = h.0; slots = slots; names = names; schema = schema })
 
 -- a whole file of this name, of which the gate is open
 abbrev pub file_judged : FileName → List ℕ → Result Index Damage
-file_judged name bytes = judged_then (front_judged name (length bytes) (front_of bytes)) λ h. rest_judged h (drop (directory_place h.1) bytes)
+file_judged name bytes = judged_then (front_judged name (length bytes) (front_of bytes)) λ h. rest_judged (version_of bytes) h (drop (directory_place h.1) bytes)
 
 -- the header alone
 abbrev pub head_judged : FileName → List ℕ → Result Head Damage

@@ -1,5 +1,5 @@
 -- The bytes of a component: its open gate, its header, the records, the directory, the names and the schema.
-use Rattle.std.specs.Prelude.{◌≡◌, ◌<◌, ◌≤◌, ◌^◌, ◌⊎◌, ℕ, List, [], ◌∷◌, ◌++◌, length, map, flat_map, sum_by, Option, None, Some}
+use Rattle.std.specs.Prelude.{◌≡◌, ◌<◌, ◌≤◌, ◌+◌, ◌^◌, ◌⊎◌, ℕ, List, [], ◌∷◌, ◌++◌, length, map, flat_map, sum_by, Option, None, Some}
 use Rattle.std.specs.Int.{w32, w64, to_be_bytes}
 use Rattle.std.specs.List.{AllByRecursion}
 use Rattle.std.specs.List.Sorted.{IsStrictlySortedBy}
@@ -10,6 +10,7 @@ use Rattle.tc_names.specs.Section.{section}
 use Rattle.tc_schema_model.specs.Counted.{Counted}
 use Rattle.tc_schema_model.specs.SchemaTree.{schema_tree}
 use Rattle.tc_schema_model.specs.SchemaBytes.{schema_bytes, IsSchema}
+use Rattle.tc_record.specs.Record.{packed_form, IsNumberedForm}
 use Rattle.tc_store.specs.declared.file_name.FileName.{FileName}
 use Rattle.tc_store.specs.declared.file_name.FileName.TheVariants.{Component}
 use Rattle.tc_component.specs.declared.head.Head.{Head}
@@ -17,16 +18,23 @@ use Rattle.tc_component.specs.declared.head.Sizes.{Sizes}
 use Rattle.tc_component.specs.declared.slot.Slot.{Slot}
 use Rattle.tc_component.specs.Layout.{number_end, least_record}
 
--- "TCC1"
-abbrev pub magic : ℕ
-magic = 0x54434331
+-- The version of a file is the form of its records: "TCC1" has records of form 1, and "TCC2", which is what is written now, of
+-- form 2.
+abbrev pub IsVersion : ℕ → Type 0
+IsVersion version = IsNumberedForm version
+
+abbrev pub written_version : ℕ
+written_version = packed_form
+
+abbrev pub magic_of : ℕ → ℕ
+magic_of version = 0x54434330 + version
 
 abbrev pub sizes_bytes : Sizes → List ℕ
 sizes_bytes sizes = to_be_bytes w64 sizes.records ++ (to_be_bytes w64 sizes.entries ++ (to_be_bytes w64 sizes.names ++ to_be_bytes w64 sizes.schema))
 
-abbrev pub head_bytes : Head → Sizes → List ℕ
-head_bytes head sizes =
-    to_be_bytes w32 magic ++ (to_be_bytes w32 head.number ++ (to_be_bytes w32 head.count ++ (to_be_bytes w64 head.from ++ (to_be_bytes w64 head.to ++ sizes_bytes sizes))))
+abbrev pub head_bytes : ℕ → Head → Sizes → List ℕ
+head_bytes version head sizes =
+    to_be_bytes w32 (magic_of version) ++ (to_be_bytes w32 head.number ++ (to_be_bytes w32 head.count ++ (to_be_bytes w64 head.from ++ (to_be_bytes w64 head.to ++ sizes_bytes sizes))))
 
 -- a header that a component may have
 pub record IsHead (head : Head) : Type 0 where
@@ -83,6 +91,7 @@ Ascend slots = IsStrictlySortedBy nat_cmp (map (λ s. s.key) slots)
 
 -- what a component has beside its records: how they are found, and what they are read by
 pub record Index : Type 0 where
+  pub version : ℕ
   pub head : Head
   pub slots : List Slot
   pub names : List Name
@@ -102,17 +111,22 @@ sizes_in c = sizes_of c.slots c.names c.schema
 -- the file of these records
 abbrev pub file_with : Index → List ℕ → List ℕ
 file_with c records =
-    1 ∷ (head_bytes c.head (sizes_in c) ++ (records ++ (directory c.slots ++ (section c.names ++ schema_bytes (schema_tree c.schema)))))
+    1 ∷ (head_bytes c.version c.head (sizes_in c) ++ (records ++ (directory c.slots ++ (section c.names ++ schema_bytes (schema_tree c.schema)))))
 
 -- what the file of these rows has beside its records
-abbrev pub index_of : Head → List Row → List Name → Counted → Index
-index_of head rows names schema = record { head = head; slots = slots_of rows; names = names; schema = schema }
+abbrev pub index_of : ℕ → Head → List Row → List Name → Counted → Index
+index_of version head rows names schema = record { version = version; head = head; slots = slots_of rows; names = names; schema = schema }
 
+abbrev pub file_bytes_as : ℕ → Head → List Row → List Name → Counted → List ℕ
+file_bytes_as version head rows names schema = file_with (index_of version head rows names schema) (records rows)
+
+-- as it is written
 abbrev pub file_bytes : Head → List Row → List Name → Counted → List ℕ
-file_bytes head rows names schema = file_with (index_of head rows names schema) (records rows)
+file_bytes head rows names schema = file_bytes_as written_version head rows names schema
 
 -- what a component may have
 pub record IsIndex (c : Index) : Type 0 where
+  pub version : IsVersion c.version
   pub head : IsHead c.head
   pub each : AllByRecursion IsSlot c.slots
   pub ascend : Ascend c.slots

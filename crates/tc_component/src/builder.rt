@@ -7,7 +7,7 @@ ghost use Rattle.tc_store.specs.DiskFile.{settled_file};
 ghost use Rattle.tc_store.specs.Gate.{opened, IsShutOr, IsClosed, IsClosedOrWhole};
 ghost use Rattle.tc_store.specs.Images.{Image};
 ghost use Rattle.tc_store.specs.Moments.{IfTold, LeavesAt, LeavesOnly};
-ghost use Rattle.tc_component.specs.Building.{HasRows, Spools, unheaded, sizes_written as written_sizes};
+ghost use Rattle.tc_component.specs.Building.{HasRows, Spools, IsWrittenRecord, unheaded, sizes_written as written_sizes};
 ghost use Rattle.tc_component.specs.Layout.{records_place};
 ghost use Rattle.tc_component.specs.Spelling.{Row, held_bytes, records, slots_of, directory as directory_of, file_bytes};
 
@@ -91,8 +91,8 @@ impl<D: Device> Builder<D> {
         }
     }
 
-    /// Takes an entry behind those before it: a key with its compacted record, or one that is gone. After an `Err` the
-    /// builder has failed, and only its device may be taken back.
+    /// Takes an entry behind those before it: a key with its record of form 2, or one that is gone. After an `Err` the builder has
+    /// failed, and only its device may be taken back.
     pub fn push(
         &mut self,
         key: u64,
@@ -100,7 +100,7 @@ impl<D: Device> Builder<D> {
         watch: &mut D::Watch,
     ) -> Result<(), DeviceFault>
         requires going_on { self.old.failed ≡ false }
-        requires short { IfSome record_bytes (λ bytes. length bytes.now < 2 ^ 32) }
+        requires written { IfSome record_bytes (λ bytes. IsWrittenRecord bytes.now) }
 
         ensures pushed { OnOk result ((rows : List Row) → HasRows (D.history self.old.device) self.old rows
             → HasRows (D.history self.new.device) self.new (rows ++ (key, option_map (λ bytes. bytes.now) record_bytes.entry) ∷ [])) }

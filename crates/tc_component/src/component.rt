@@ -83,6 +83,13 @@ impl<F: Frozen> Component<F> {
         self.loaded.head
     }
 
+    /// The version of its file, which is the form of its records: 1 or 2.
+    pub fn version(&self) -> u8
+        ensures { result ≡ self.now.index.version }
+    {
+        self.loaded.version
+    }
+
     /// How many entries it has.
     pub fn len(&self) -> usize
         ensures { result ≡ length self.now.index.slots }
@@ -115,9 +122,9 @@ impl<F: Frozen> Component<F> {
         self.loaded.parts.directory.spans(at, room)
     }
 
-    /// Fetches the record of the entry at a place, by one read, which is left out where memory is wanting. It is of form
-    /// 1, and each of its numbers is one of a name of the component; else it is `Damaged`, with its place and its bytes.
-    /// `Disk` comes only where the read failed. What the record says is not looked at further.
+    /// Fetches the record of the entry at a place, by one read, which is left out where memory is wanting. It is of the form
+    /// that the version says, and each of its numbers is one of a name of the component; else it is `Damaged`, with its place
+    /// and its bytes. `Disk` comes only where the read failed. What the record says is not looked at further.
     pub fn fetch(
         &self,
         alloc: Global,
@@ -129,8 +136,8 @@ impl<F: Frozen> Component<F> {
         ensures told { IfDamaged result (λ at kept. IfSome (F.content self.now.file) (λ bytes. kept ≡ record_at self.now.index.slots place.at bytes)) }
 
         // Also of a file that does not tell its content.
-        ensures found { IfOk result (λ read. (length read ≡ length_at self.now.index.slots place.at) × IsRecordWithin (length self.now.index.names) read) }
-        ensures damaged { IfDamaged result (λ at kept. (at ≡ record_place self.now.index.slots place.at) × (length kept ≡ length_at self.now.index.slots place.at) × (IsRecordWithin (length self.now.index.names) kept → ⊥)) }
+        ensures found { IfOk result (λ read. (length read ≡ length_at self.now.index.slots place.at) × IsRecordWithin self.now.index.version (length self.now.index.names) read) }
+        ensures damaged { IfDamaged result (λ at kept. (at ≡ record_place self.now.index.slots place.at) × (length kept ≡ length_at self.now.index.slots place.at) × (IsRecordWithin self.now.index.version (length self.now.index.names) kept → ⊥)) }
 
         ensures counted { IsCountedOnce (IsErrOf result ReadFault.Disk) (IsErrOf result ReadFault.Memory → ⊥) (F.Watch.counts watch.old) (F.Watch.counts watch.new) }
     {
@@ -138,7 +145,12 @@ impl<F: Frozen> Component<F> {
         let at = RECORDS_PLACE + directory.start(place.at);
         let count = directory.slot(place.at).length as usize;
         let bytes = bytes_of(alloc, &self.file, at, count, watch)?;
-        record_of(self.loaded.parts.names.len(), at, bytes)
+        record_of(
+            self.loaded.version,
+            self.loaded.parts.names.len(),
+            at,
+            bytes,
+        )
     }
 
     /// Where the record of an entry begins in the file, and how many bytes it has.

@@ -63,8 +63,8 @@ impl RecordCursor {
         ensures told { IfDamaged result (λ at kept. IfSome (F.content component.now.file) (λ bytes. kept ≡ record_at component.now.index.slots place.at bytes)) }
 
         // Also of a file that does not tell its content.
-        ensures found { OnOk result (IsRecordWithin (length component.now.index.names) (record_held component.now.index place.at self.new)) }
-        ensures damaged { IfDamaged result (λ at kept. (at ≡ record_place component.now.index.slots place.at) × (length kept ≡ length_at component.now.index.slots place.at) × (IsRecordWithin (length component.now.index.names) kept → ⊥)) }
+        ensures found { OnOk result (IsRecordWithin component.now.index.version (length component.now.index.names) (record_held component.now.index place.at self.new)) }
+        ensures damaged { IfDamaged result (λ at kept. (at ≡ record_place component.now.index.slots place.at) × (length kept ≡ length_at component.now.index.slots place.at) × (IsRecordWithin component.now.index.version (length component.now.index.names) kept → ⊥)) }
 
         // Where the record is held the cursor stays, and makes no read.
         ensures held { HasRecord component.now.index place.at self.old → (self.new ≡ self.old) × (F.Watch.counts watch.new ≡ F.Watch.counts watch.old) }
@@ -93,8 +93,8 @@ impl RecordCursor {
         ensures told { IfDamaged result (λ at kept. IfSome (F.content component.now.file) (λ bytes. kept ≡ take count (drop begin bytes))) }
 
         // Also of a file that does not tell its content.
-        ensures found { OnOk result (IsRecordWithin (length component.now.index.names) (part_held begin count self.new)) }
-        ensures damaged { IfDamaged result (λ at kept. (at ≡ begin) × (length kept ≡ count) × (IsRecordWithin (length component.now.index.names) kept → ⊥)) }
+        ensures found { OnOk result (IsRecordWithin component.now.index.version (length component.now.index.names) (part_held begin count self.new)) }
+        ensures damaged { IfDamaged result (λ at kept. (at ≡ begin) × (length kept ≡ count) × (IsRecordWithin component.now.index.version (length component.now.index.names) kept → ⊥)) }
 
         // Where the bytes are held the cursor stays, and makes no read.
         ensures held { HasBytes begin count self.old → (self.new ≡ self.old) × (F.Watch.counts watch.new ≡ F.Watch.counts watch.old) }
@@ -103,7 +103,13 @@ impl RecordCursor {
     {
         self.hold(component, begin, count, watch)?;
         let bytes = self.part(begin, count);
-        judge(self.alloc, component.names().len(), begin, bytes)
+        judge(
+            self.alloc,
+            component.version(),
+            component.names().len(),
+            begin,
+            bytes,
+        )
     }
 
     /// The record of the entry at a place, which is held. Takes no memory.

@@ -4,15 +4,25 @@ ghost use Rattle.std.specs.Prelude.{◌≡◌, ◌+◌, ◌<◌, ◌^◌, option
 ghost use Rattle.std.specs.Int.{w32};
 ghost use Rattle.tc_bytes.specs.Reading.{number_at, passing_at};
 ghost use Rattle.tc_component.specs.Layout.{file_size};
-ghost use Rattle.tc_component.specs.Reading.{head_at, is_magic, interval_at, sizes_at, is_named};
-ghost use Rattle.tc_component.specs.Spelling.{head_bytes};
+ghost use Rattle.tc_component.specs.Reading.{version_told, head_at, is_magic, interval_at, sizes_at, is_named};
+ghost use Rattle.tc_component.specs.Spelling.{written_version, head_bytes};
 
 use crate::layout::{MAX_NUMBER, RECORDS_PLACE, SLOT_LEN};
 use std::alloc::Global;
 use tc_bytes::{Memory, put_u32, put_u64, u32_at, u64_at};
+use tc_record::{NUMBERED_FORM, PACKED_FORM};
 use tc_store::FileName;
 
-const MAGIC: u32 = 0x5443_4331;
+/// The mark of a file begins with these letters and ends with its version.
+const MARK: u32 = 0x5443_4330;
+
+/// Where the version stands in a header, and how it is written.
+const VERSION_PLACE: usize = 3;
+
+const PACKED_DIGIT: u8 = 0x32;
+
+/// The version of what is written.
+const WRITTEN_VERSION: u8 = PACKED_FORM;
 
 /// Which component a file is: the number of its partition, how many partitions there are, and its first and last
 /// generation, of which the first is at least 1, and the last at least the first and at most 2^63 - 1.
@@ -33,11 +43,29 @@ pub(crate) struct Sizes {
     pub schema: u64,
 }
 
-/// A header from the front of the bytes.
-pub(crate) fn head_in(bytes: &[u8]) -> Option<(Head, Sizes, &[u8])>
-    ensures { option_map (λ x. ((x.0, x.1), x.2.now)) result ≡ head_at bytes.now }
+/// The version that a header tells, which is the form of the file's records.
+pub(crate) fn version_in(front: &[u8]) -> u8
+    ensures { result ≡ version_told front.now }
 {
-    let (_, rest) = magic_in(bytes)?;
+    if front.len() > VERSION_PLACE && front[VERSION_PLACE] == PACKED_DIGIT {
+        PACKED_FORM
+    } else {
+        NUMBERED_FORM
+    }
+}
+
+/// A header of the version that it tells from the front of the bytes.
+pub(crate) fn head_in(bytes: &[u8]) -> Option<(Head, Sizes, &[u8])>
+    ensures { option_map (λ x. ((x.0, x.1), x.2.now)) result ≡ head_at (version_told bytes.now) bytes.now }
+{
+    head_of_version(version_in(bytes), bytes)
+}
+
+/// A header of a version.
+fn head_of_version(version: u8, bytes: &[u8]) -> Option<(Head, Sizes, &[u8])>
+    ensures { option_map (λ x. ((x.0, x.1), x.2.now)) result ≡ head_at version bytes.now }
+{
+    let (_, rest) = magic_in(version, bytes)?;
     let (number, rest) = u32_at(rest)?;
     let (count, rest) = u32_at(rest)?;
     let (from, to, rest) = interval_in(rest)?;
@@ -51,11 +79,11 @@ pub(crate) fn head_in(bytes: &[u8]) -> Option<(Head, Sizes, &[u8])>
     Some((head, sizes, rest))
 }
 
-fn magic_in(bytes: &[u8]) -> Option<(u32, &[u8])>
-    ensures { option_map (λ x. (x.0, x.1.now)) result ≡ passing_at is_magic (number_at w32) bytes.now }
+fn magic_in(version: u8, bytes: &[u8]) -> Option<(u32, &[u8])>
+    ensures { option_map (λ x. (x.0, x.1.now)) result ≡ passing_at (is_magic version) (number_at w32) bytes.now }
 {
     let (magic, rest) = u32_at(bytes)?;
-    if magic == MAGIC {
+    if magic == MARK + version as u32 {
         Some((magic, rest))
     } else {
         None
@@ -112,10 +140,10 @@ pub(crate) fn is_named_by(name: FileName, head: Head) -> bool
 
 /// The bytes of a header. Errs only for want of memory.
 pub(crate) fn bytes_of_head(alloc: Global, head: Head, sizes: Sizes) -> Result<Vec<u8>, Memory>
-    ensures { IfOk result (λ bytes. bytes.items ≡ head_bytes head sizes) }
+    ensures { IfOk result (λ bytes. bytes.items ≡ head_bytes written_version head sizes) }
 {
     let mut out = Vec::new(alloc);
-    put_u32(&mut out, MAGIC)?;
+    put_u32(&mut out, MARK + WRITTEN_VERSION as u32)?;
     put_u32(&mut out, head.number)?;
     put_u32(&mut out, head.count)?;
     put_u64(&mut out, head.from)?;

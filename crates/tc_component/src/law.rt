@@ -14,14 +14,14 @@ ghost use Rattle.tc_component.specs.Columns.{IsFound};
 ghost use Rattle.tc_component.specs.Fetching.{record_at, IsRecordWithin};
 ghost use Rattle.tc_component.specs.Layout.{number_end};
 ghost use Rattle.tc_component.specs.Meaning.{MeansOf, IsRecordOfOne};
-ghost use Rattle.tc_component.specs.Reading.{file_judged};
+ghost use Rattle.tc_component.specs.Reading.{file_judged, version_of};
 ghost use Rattle.tc_component.specs.Rows.{record_in, head_of, component_index, IsComponent};
-ghost use Rattle.tc_component.specs.Spelling.{Row, Index, IsIndex, Holds, name_of, index_of, file_bytes};
+ghost use Rattle.tc_component.specs.Spelling.{Row, Index, IsIndex, Holds, name_of, index_of, file_bytes_as};
 
 /// A law, and no work. The file of rows holds them, what an open file holds is what it is judged to be under its name,
 /// and it is judged to be nothing else; so a file holds one index, and what is written is loaded again.
 pub fn written_is_read()
-    ensures written { (head : OneHead) (rows : List Row) (names : List Name) (schema : Counted) → IsIndex (index_of head rows names schema) → length (file_bytes head rows names schema) < number_end → Holds (file_bytes head rows names schema) (index_of head rows names schema) }
+    ensures written { (version : ℕ) (head : OneHead) (rows : List Row) (names : List Name) (schema : Counted) → IsIndex (index_of version head rows names schema) → length (file_bytes_as version head rows names schema) < number_end → Holds (file_bytes_as version head rows names schema) (index_of version head rows names schema) }
     ensures open { (bytes : List ℕ) (c : Index) → Holds bytes c → is_open_file bytes ≡ true }
     ensures judged { (bytes : List ℕ) (c : Index) → Holds bytes c → file_judged (name_of c.head) bytes ≡ Ok c }
     ensures found { (name : FileName) (bytes : List ℕ) (c : Index) → IsBytes bytes → is_open_file bytes ≡ true → length bytes < number_end → file_judged name bytes ≡ Ok c → Holds bytes c }
@@ -33,12 +33,12 @@ pub fn written_is_read()
 /// content has of it. At the place of a document stands its record under the names, which is no damage to `fetch`, and
 /// under these names the record of no other document.
 pub fn components_are_contents()
-    ensures holds { (c : Content) (bytes : List ℕ) → IsComponent c bytes → Holds bytes (component_index c) }
+    ensures holds { (c : Content) (bytes : List ℕ) → IsComponent c bytes → Holds bytes (component_index (version_of bytes) c) }
     ensures open { (c : Content) (bytes : List ℕ) → IsComponent c bytes → is_open_file bytes ≡ true }
-    ensures judged { (c : Content) (bytes : List ℕ) → IsComponent c bytes → file_judged (name_of (head_of c)) bytes ≡ Ok (component_index c) }
+    ensures judged { (c : Content) (bytes : List ℕ) → IsComponent c bytes → file_judged (name_of (head_of c)) bytes ≡ Ok (component_index (version_of bytes) c) }
     ensures apart { (c d : Content) (bytes : List ℕ) → IsComponent c bytes → IsComponent d bytes → c ≡ d }
-    ensures found { (c : Content) (bytes : List ℕ) (key : ℕ) (found : OneFound) → IsComponent c bytes → IsFound (component_index c).slots key found → MeansOf c.entries key found }
-    ensures fetched { (c : Content) (bytes : List ℕ) (at key : ℕ) (d : Document) → IsComponent c bytes → slice_get c.entries at ≡ Some (set key d) → record_at (component_index c).slots at bytes ≡ record_in c.names d }
-    ensures spelled { (c : Content) (bytes : List ℕ) (at key : ℕ) (d : Document) → IsComponent c bytes → slice_get c.entries at ≡ Some (set key d) → IsRecordOfOne c.names d (record_in c.names d) }
-    ensures within { (c : Content) (bytes : List ℕ) (at key : ℕ) (d : Document) → IsComponent c bytes → slice_get c.entries at ≡ Some (set key d) → IsRecordWithin (length c.names) (record_in c.names d) }
+    ensures found { (c : Content) (bytes : List ℕ) (key : ℕ) (found : OneFound) → IsComponent c bytes → IsFound (component_index (version_of bytes) c).slots key found → MeansOf c.entries key found }
+    ensures fetched { (c : Content) (bytes : List ℕ) (at key : ℕ) (d : Document) → IsComponent c bytes → slice_get c.entries at ≡ Some (set key d) → record_at (component_index (version_of bytes) c).slots at bytes ≡ record_in (version_of bytes) c.names d }
+    ensures spelled { (c : Content) (bytes : List ℕ) (at key : ℕ) (d : Document) → IsComponent c bytes → slice_get c.entries at ≡ Some (set key d) → IsRecordOfOne (version_of bytes) c.names d (record_in (version_of bytes) c.names d) }
+    ensures within { (c : Content) (bytes : List ℕ) (at key : ℕ) (d : Document) → IsComponent c bytes → slice_get c.entries at ≡ Some (set key d) → IsRecordWithin (version_of bytes) (length c.names) (record_in (version_of bytes) c.names d) }
 {}

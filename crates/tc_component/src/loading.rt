@@ -9,7 +9,7 @@ ghost use Rattle.tc_component.specs.Loading.{loaded_index, IsCountedTwice};
 ghost use Rattle.tc_component.specs.Reading.{file_judged};
 ghost use Rattle.tc_component.specs.Spelling.{sizes_of, name_of, IsIndex};
 
-use crate::head::{Head, Sizes};
+use crate::head::{Head, Sizes, version_in};
 use crate::layout::RECORDS_PLACE;
 use crate::reading::{Parts, front_in, named_head_in, parts_in};
 use std::alloc::Global;
@@ -18,6 +18,7 @@ use tc_store::{FileName, Frozen, ReadFault, bytes_of};
 /// What a component has beside its records.
 #[derive(Drop)]
 pub(crate) struct Loaded {
+    pub version: u8,
     pub head: Head,
     pub sizes: Sizes,
     pub parts: Parts,
@@ -42,9 +43,15 @@ pub(crate) fn loaded_of<F: Frozen>(
     let size = file.len();
     let front = front_in(alloc, file, watch)?;
     let (head, sizes) = named_head_in(alloc, name, size, &front)?;
+    let version = version_in(&front);
     let rest = rest_in(alloc, file, sizes, watch)?;
-    let parts = parts_in(alloc, head, sizes, &rest)?;
-    Ok(Loaded { head, sizes, parts })
+    let parts = parts_in(alloc, version, head, sizes, &rest)?;
+    Ok(Loaded {
+        version,
+        head,
+        sizes,
+        parts,
+    })
 }
 
 /// The bytes that stand behind the records.

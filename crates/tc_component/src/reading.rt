@@ -9,7 +9,7 @@ ghost use Rattle.tc_schema.specs.Reading.{read_schema};
 ghost use Rattle.tc_component.specs.Found.{FrontFound, RestFound};
 ghost use Rattle.tc_component.specs.Layout.{head_place, head_size, slot_size, number_end, file_size, directory_place};
 ghost use Rattle.tc_component.specs.Loading.{parts_of, same_pair};
-ghost use Rattle.tc_component.specs.Reading.{is_named, directory_read, front_of, front_judged, rest_judged};
+ghost use Rattle.tc_component.specs.Reading.{version_told, is_named, directory_read, front_of, front_judged, rest_judged};
 
 use crate::directory::{Directory, directory_in};
 use crate::head::{Head, Sizes, head_in, is_named_by, len_of_file};
@@ -51,7 +51,7 @@ pub(crate) fn named_head_in(
     front: &[u8],
 ) -> Result<(Head, Sizes), ReadFault>
     ensures judged { Judges same_pair result (front_judged name size front.now) }
-    ensures found { length front.now ≤ head_size → IfOk result (λ h. FrontFound name size front.now (h.0, h.1)) }
+    ensures found { length front.now ≤ head_size → IfOk result (λ h. FrontFound (version_told front.now) name size front.now (h.0, h.1)) }
     ensures sized { IfOk result (λ h. file_size h.1 ≡ size) }
     ensures no_disk { IsNoDisk result }
 {
@@ -70,26 +70,33 @@ fn is_header_of(name: FileName, size: u64, head: Head, sizes: Sizes) -> bool
 /// The directory, the names and the schema, which stand behind the records.
 pub(crate) fn parts_in(
     alloc: Global,
+    version: u8,
     head: Head,
     sizes: Sizes,
     rest: &[u8],
 ) -> Result<Parts, ReadFault>
     requires short { file_size sizes < number_end }
     requires sized { length rest.now ≡ sizes.entries * slot_size + sizes.names + sizes.schema }
-    ensures judged { Judges (parts_of head) result (rest_judged (head, sizes) rest.now) }
-    ensures found { IfOk result (λ parts. RestFound (head, sizes) rest.now (parts_of head parts)) }
+    ensures judged { Judges (parts_of version head) result (rest_judged version (head, sizes) rest.now) }
+    ensures found { IfOk result (λ parts. RestFound version (head, sizes) rest.now (parts_of version head parts)) }
     ensures no_disk { IsNoDisk result }
 {
-    match judged_parts_in(alloc, head, sizes, rest) {
+    match judged_parts_in(alloc, version, head, sizes, rest) {
         Ok(parts) => Ok(parts),
         Err(fault) => Err(fault),
     }
 }
 
-fn judged_parts_in(alloc: Global, head: Head, sizes: Sizes, rest: &[u8]) -> Result<Parts, ReadFault>
+fn judged_parts_in(
+    alloc: Global,
+    version: u8,
+    head: Head,
+    sizes: Sizes,
+    rest: &[u8],
+) -> Result<Parts, ReadFault>
     requires short { file_size sizes < number_end }
     requires sized { length rest.now ≡ sizes.entries * slot_size + sizes.names + sizes.schema }
-    ensures judged { Judges (parts_of head) result (rest_judged (head, sizes) rest.now) }
+    ensures judged { Judges (parts_of version head) result (rest_judged version (head, sizes) rest.now) }
     ensures no_disk { IsNoDisk result }
 {
     let (own, behind) = rest.split_at(sizes.entries as usize * SLOT_LEN);

@@ -1,8 +1,11 @@
-use Rattle.std.proofs.Common.{◌∙◌, ◌++◌, length, option_map, ap, subst}
+use Rattle.std.proofs.Common.{◌∙◌, ◌++◌, length, option_map, ap, subst, arith}
 use Rattle.tc_component.specs.Building.{Spools, unheaded}
 use Rattle.tc_component.specs.Spelling.{records, slot_bytes}
-use Rattle.tc_component.proofs.Written.{pushed_slots, pushed_records}
+use Rattle.tc_component.proofs.Written.{pushed_slots, pushed_records, written_short}
 use Rattle.tc_component.proofs.builder.Builder.push.Goals as goal
+
+pub overflow_cast-length : goal.overflow_cast-length
+overflow_cast-length g c = omega (arith, ap length c.bytes_held-bytes.ensures, written_short (λ bytes. bytes.now) c.args.record_bytes c.requires.written)
 
 pub returns-clause-pushed : goal.returns-clause-pushed
 returns-clause-pushed g c =
