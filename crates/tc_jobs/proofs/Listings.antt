@@ -1,6 +1,7 @@
 -- A component that was read back is listed where its names fit, and else its names are damaged.
-use Rattle.std.proofs.Common.{◌≡◌, ◌∙◌, ℕ, Bool, true, false, List, Option, None, Some, Result, Ok, Err, sym, ap, subst, inr}
+use Rattle.std.proofs.Common.{◌≡◌, ◌∙◌, ℕ, Bool, true, false, List, Option, None, Some, Result, Ok, Err, sym, ap, subst, inl, inr}
 use Rattle.std.specs.Prelude.{◌↔◌, IfSome, IsTrue}
+use Rattle.std.proofs.lemmas.Option.{IfSome_then}
 use Rattle.tc_lsm_model.specs.Contents.{Content}
 use Rattle.tc_model.specs.Document.{Name}
 use Rattle.tc_names.specs.Section.{section}
@@ -11,15 +12,15 @@ use Rattle.tc_store.specs.declared.file_name.FileName.{FileName}
 use Rattle.tc_component.specs.declared.head.Head.{Head}
 use Rattle.tc_component.specs.Layout.{names_place}
 use Rattle.tc_component.specs.Loaded.{IsLoadedOf}
-use Rattle.tc_component.specs.Loading.{ComponentState}
+use Rattle.tc_component.specs.Loading.{ComponentState, index_in}
 use Rattle.tc_component.specs.Rows.{head_of, IsComponent}
 use Rattle.tc_component.specs.Spelling.{Index, IsIndex, name_of, sizes_in}
 use Rattle.tc_jobs.specs.declared.fault.JobFault.{JobFault}
 use Rattle.tc_jobs.specs.declared.fault.JobFault.TheVariants.{Disk, Damaged, Memory}
-use Rattle.tc_jobs.specs.Faults.{IfDamaged, IfHarmed}
+use Rattle.tc_jobs.specs.Faults.{AreBytes, IfDamaged, IfHarmed}
 use Rattle.tc_jobs.specs.Listing.{IsListed, IsReadBack, IsUnlisted}
 use Rattle.tc_jobs.specs.Lists.{IsListOf, IsOf}
-use Rattle.tc_jobs.specs.ReadBack.{own_judged}
+use Rattle.tc_jobs.specs.ReadBack.{IsDamageIn, JudgesFile, own_judged}
 
 pub is_read_back : {F : Type 0} (content : F → Option (List ℕ)) (name : F → FileName) (head : Head) (device_name : FileName) (device : List DiskFile) (c : ComponentState F)
     → c.index.head ≡ head → IsIndex c.index → content c.file ≡ content_now device → name c.file ≡ device_name → IfSome (content_now device) (λ bytes. own_judged head bytes ≡ Ok c.index)
@@ -32,6 +33,19 @@ is_read_back content name head device_name device c has_head lawful has_content 
   judged = judged;
   loaded = loaded;
 }
+
+-- what cannot be read back is damaged, and its names are not asked for
+module _ {F : Type 0} (Made Fits : ComponentState F → Type 0) (head : Head) (size : ℕ) (device : List DiskFile) where
+  unread_at : (Y : Type 0) (fault : JobFault) → IfSome (content_now device) (λ bytes. JudgesFile {X = ComponentState F} (name_of head) index_in (Err fault) (own_judged head bytes))
+      → IfDamaged {X = ComponentState F} (Err fault) (AreBytes (λ file place bytes. (file ≡ name_of head) × IsDamageIn head size place bytes)) → IfDamaged {X = Y} (Err fault) (IsUnlisted Made Fits head size device)
+  unread_at Y Disk judged damaged = tt
+  unread_at Y (Damaged (Bytes file place bytes)) judged damaged = (damaged.0, inl (record { some = damaged.1; told = IfSome_then (content_now device) judged (λ whole is. is.1) }))
+  unread_at Y (Damaged (Files names)) judged damaged = absurd damaged
+  unread_at Y Memory judged damaged = tt
+
+  pub unread : {Y : Type 0} (result : Result Y JobFault) (fault : JobFault) → result ≡ Err fault → IfSome (content_now device) (λ bytes. JudgesFile {X = ComponentState F} (name_of head) index_in (Err fault) (own_judged head bytes))
+      → IfDamaged {X = ComponentState F} (Err fault) (AreBytes (λ file place bytes. (file ≡ name_of head) × IsDamageIn head size place bytes)) → IfDamaged result (IsUnlisted Made Fits head size device)
+  unread {Y = Y} result fault is judged damaged = subst (λ r. IfDamaged r (IsUnlisted Made Fits head size device)) (sym is) (unread_at Y fault judged damaged)
 
 -- harmed are its names, at their place, since it does not fit
 abbrev pub HarmsNames : {F : Type 0} → ComponentState F → Bool → JobFault → Type 0

@@ -29,7 +29,7 @@ harm_in content run at c fault here is = harmed_then fault (λ file place bytes.
 -- what a read found damaged at an entry with a record is damage of the component
 pub read_harm : {F : Type 0} (content : F → Option (List ℕ)) (c : ComponentState F) (place : ℕ) (e : Span) (fault : ReadFault) (made : MergeFault) (name : FileName) → IsSpan c.index.slots place e → 0 < e.count → name ≡ name_of c.index.head
     → IfDamaged {X = Unit {0}} (Err fault) (λ at kept. IfSome (content c.file) (λ bytes. kept ≡ take e.count (drop e.begin bytes)))
-    → IfDamaged {X = Unit {0}} (Err fault) (λ at kept. (at ≡ e.begin) × (length kept ≡ e.count) × (IsRecordWithin (length c.index.names) kept → ⊥))
+    → IfDamaged {X = Unit {0}} (Err fault) (λ at kept. (at ≡ e.begin) × (length kept ≡ e.count) × (IsRecordWithin c.index.version (length c.index.names) kept → ⊥))
     → IfHarmed made (λ of at bytes. (of ≡ name) × (fault ≡ damage_read at bytes)) → IfHarmed made (λ file at bytes. IsHarmOf content c file at bytes)
 read_harm {F} content c place e fault made name is live named told damaged harmed = harmed_then made (λ of at bytes. (of ≡ name) × (fault ≡ damage_read at bytes)) (λ file at bytes. IsHarmOf content c file at bytes) harm harmed
   where
@@ -38,7 +38,7 @@ read_harm {F} content c place e fault made name is live named told damaged harme
 
     harm : (of : FileName) (at : ℕ) (bytes : List ℕ) → (of ≡ name) × (fault ≡ damage_read at bytes) → IsHarmOf content c of at bytes
     harm of at bytes found =
-        let broken = subst (λ f. IfDamaged {X = Unit {0}} (Err f) (λ at kept. (at ≡ e.begin) × (length kept ≡ e.count) × (IsRecordWithin (length c.index.names) kept → ⊥))) found.1 damaged in
+        let broken = subst (λ f. IfDamaged {X = Unit {0}} (Err f) (λ at kept. (at ≡ e.begin) × (length kept ≡ e.count) × (IsRecordWithin c.index.version (length c.index.names) kept → ⊥))) found.1 damaged in
         record {
           entry = record { at = place };
           there = (e.key, (e.count, is.here, live));

@@ -36,10 +36,10 @@ ahead {F} content i key is = step (slice_get i.component.index.slots i.at) refl 
     step : (o : Option Slot) → slice_get i.component.index.slots i.at ≡ o → option_map (λ s. s.key) o ≡ Some key → Ahead content i key
     step None here same = absurd (cc)
     step (Some s) here same = record {
-      held = held_in s.length (drop (lengths_of (take i.at i.component.index.slots)) (drop records_place (unwrap_or (content i.component.file) [])));
+      held = held_in i.component.index.version s.length (drop (lengths_of (take i.at i.component.index.slots)) (drop records_place (unwrap_or (content i.component.file) [])));
       rest = drop (i.at + 1) (rows_told content i.component);
-      rows = subst (λ k. rows_left content i ≡ (k, held_in s.length (drop (lengths_of (take i.at i.component.index.slots)) (drop records_place (unwrap_or (content i.component.file) [])))) ∷ drop (i.at + 1) (rows_told content i.component)) (same_Some s.key key same)
-          (rows_there i.component.index.slots (drop records_place (unwrap_or (content i.component.file) [])) i.at s here);
+      rows = subst (λ k. rows_left content i ≡ (k, held_in i.component.index.version s.length (drop (lengths_of (take i.at i.component.index.slots)) (drop records_place (unwrap_or (content i.component.file) [])))) ∷ drop (i.at + 1) (rows_told content i.component)) (same_Some s.key key same)
+          (rows_there i.component.index.version i.component.index.slots (drop records_place (unwrap_or (content i.component.file) [])) i.at s here);
       further = refl;
     }
 
@@ -48,7 +48,7 @@ no_slot None is = refl
 no_slot (Some s) is = cc
 
 pub none_ahead : {F : Type 0} (content : F → Option (List ℕ)) (i : InputState F) → key_ahead i ≡ None → rows_left content i ≡ []
-none_ahead content i is = no_rows i.component.index.slots (drop records_place (unwrap_or (content i.component.file) [])) i.at (no_slot (slice_get i.component.index.slots i.at) is)
+none_ahead content i is = no_rows i.component.index.version i.component.index.slots (drop records_place (unwrap_or (content i.component.file) [])) i.at (no_slot (slice_get i.component.index.slots i.at) is)
 
 rows_passed : {F : Type 0} (content : F → Option (List ℕ)) (key : ℕ) (i : InputState F) → rows_left content (passed key i) ≡ behind key (rows_left content i)
 rows_passed {F} content key i = step (key_ahead i) refl
@@ -100,7 +100,7 @@ abbrev IsLawful : {F : Type 0} → ComponentState F → Type 0
 IsLawful c = IsIndex c.index
 
 ascends_left : {F : Type 0} (content : F → Option (List ℕ)) (i : InputState F) → IsIndex i.component.index → Ascends (rows_left content i)
-ascends_left content i is = Ascends-drop i.at (rows_told content i.component) (Ascends-rows_in i.component.index.slots (drop records_place (unwrap_or (content i.component.file) [])) is.ascend)
+ascends_left content i is = Ascends-drop i.at (rows_told content i.component) (Ascends-rows_in i.component.index.version i.component.index.slots (drop records_place (unwrap_or (content i.component.file) [])) is.ascend)
 
 starts_one : {F : Type 0} (content : F → Option (List ℕ)) (key : ℕ) (i : InputState F) → IsIndex i.component.index → ((k : ℕ) → key_ahead i ≡ Some k → key ≤ k) → Starts key (rows_left content i)
 starts_one content key i is least = step (key_ahead i) refl

@@ -6,6 +6,7 @@ mod UpTo
 mod SetBack
 mod Harms
 mod EntryRows
+mod Rewritten
 mod NextInputs
 mod ToldRows
 mod MergedContents

@@ -17,19 +17,19 @@ use Rattle.tc_lsm_model.specs.Merges.{entries_of, last_entries, merged_entries, 
 use Rattle.tc_component.specs.declared.head.Head.{Head}
 use Rattle.tc_component.specs.Loading.{ComponentState}
 use Rattle.tc_component.specs.Rows.{record_in, row_of, rows_of, part_of, component_bytes, IsShortWrite}
-use Rattle.tc_component.specs.Spelling.{Index, file_bytes}
+use Rattle.tc_component.specs.Spelling.{written_version, Index, file_bytes}
 use Rattle.tc_component.specs.Loaded.{IsLoadedOf}
 use Rattle.tc_merge.specs.Merging.{rows_told, kept, newest_names, newest_schema, merge_bytes, Tile, GrowNames, IsRun}
 use Rattle.tc_merge.specs.Newest.{newest}
 use Rattle.tc_merge.proofs.NewestValues.{put_all, All-put_all}
-use Rattle.tc_merge.proofs.ToldRows.{RecordsStay, told_rows, same_rows}
+use Rattle.tc_merge.proofs.ToldRows.{RecordsRepack, RecordsStay, told_rows, same_rows}
 
 -- ---- rows that stand for writes
 
 put_all-read : (names : List Name) (es ws : Keyed (Option Document)) → put_all (rows_of names es) (rows_of names ws) ≡ rows_of names (put_all es ws)
 put_all-read names es [] = refl
 put_all-read names es (w ∷ ws) =
-    ap (λ rows. put_all rows (rows_of names ws)) (sym (map-with_value (option_map (record_in names)) w.0 w.1 es)) ∙ put_all-read names (with_value w.0 w.1 es) ws
+    ap (λ rows. put_all rows (rows_of names ws)) (sym (map-with_value (option_map (record_in written_version names)) w.0 w.1 es)) ∙ put_all-read names (with_value w.0 w.1 es) ws
 
 flat_rows : (names : List Name) (cs : List Content) → flat_map (λ l. l) (map (λ c. rows_of names c.entries) cs) ≡ rows_of names (entries_of cs)
 flat_rows names [] = refl
@@ -91,17 +91,17 @@ module _ {F : Type 0} (content : F → Option (List ℕ)) where
   known names (m ∷ run) [] all is = absurd all
   known names (m ∷ run) (c ∷ cs) all is = known m.index.names run cs all.1 (subst (λ (i : Index). IsDictionary i.names) (sym all.0.index) all.0.is.content.dictionary)
 
-  rows_are : RecordsStay → (names final : List Name) (run : List (ComponentState F)) (cs : List Content) → AllZip (IsLoadedOf content) run cs → GrowNames names run → newest_names names run ≡ final → IsDictionary final
+  rows_are : RecordsRepack → RecordsStay → (names final : List Name) (run : List (ComponentState F)) (cs : List Content) → AllZip (IsLoadedOf content) run cs → GrowNames names run → newest_names names run ≡ final → IsDictionary final
       → map (rows_told content) run ≡ map (λ c. rows_of final c.entries) cs
-  rows_are stay names final [] [] all grow is dictionary = refl
-  rows_are stay names final [] (c ∷ cs) all grow is dictionary = absurd all
-  rows_are stay names final (m ∷ run) [] all grow is dictionary = absurd all
-  rows_are stay names final (m ∷ run) (c ∷ cs) all grow is dictionary =
+  rows_are repack stay names final [] [] all grow is dictionary = refl
+  rows_are repack stay names final [] (c ∷ cs) all grow is dictionary = absurd all
+  rows_are repack stay names final (m ∷ run) [] all grow is dictionary = absurd all
+  rows_are repack stay names final (m ∷ run) (c ∷ cs) all grow is dictionary =
       let component = all.0.is in
       let own : m.index.names ≡ c.names = ap (λ (i : Index). i.names) all.0.index in
       let extends : Extends final c.names = subst (λ ns. Extends final ns) own (subst (λ ns. Extends ns m.index.names) is (grown m.index.names run grow.1)) in
-      ap (λ rows. rows ∷ map (rows_told content) run) (told_rows content m c all.0 ∙ same_rows stay c.names final c.entries component.content.dictionary component.content.entries component.records dictionary extends)
-      ∙ ap (λ rest. rows_of final c.entries ∷ rest) (rows_are stay m.index.names final run cs all.1 grow.1 is dictionary)
+      ap (λ rows. rows ∷ map (rows_told content) run) (told_rows content repack m c all.0 ∙ same_rows stay c.names final c.entries component.content.dictionary component.content.entries component.records dictionary extends)
+      ∙ ap (λ rest. rows_of final c.entries ∷ rest) (rows_are repack stay m.index.names final run cs all.1 grow.1 is dictionary)
 
   all_short : (run : List (ComponentState F)) (cs : List Content) → AllZip (IsLoadedOf content) run cs → All (λ c. All IsShortWrite c.entries) cs
   all_short [] [] all = All-nil (λ (c : Content). All IsShortWrite c.entries)
@@ -128,10 +128,10 @@ merge_of head cs = record { part = part_of head; from = head.from; to = head.to;
 same_part : (number count : ℕ) (p : Partition) → p.number ≡ number → p.count ≡ count → (record { number = number; count = count }) ≡ p
 same_part number count p one two = ap (λ n. record { number = n; count = count }) (sym one) ∙ ap (λ n. record { number = p.number; count = n }) (sym two)
 
-pub made : {F : Type 0} (content : F → Option (List ℕ)) → RecordsStay → (head : Head) (run : List (ComponentState F)) (cs : List Content) → IsRun head run → AllZip (IsLoadedOf content) run cs → IsMade content head run cs (merge_of head cs)
-made content stay head [] cs is all = absurd (omega (arith, is.several))
-made content stay head (m ∷ run) [] is all = absurd all
-made {F} content stay head (m ∷ run) (c ∷ cs) is all =
+pub made : {F : Type 0} (content : F → Option (List ℕ)) → RecordsRepack → RecordsStay → (head : Head) (run : List (ComponentState F)) (cs : List Content) → IsRun head run → AllZip (IsLoadedOf content) run cs → IsMade content head run cs (merge_of head cs)
+made content repack stay head [] cs is all = absurd (omega (arith, is.several))
+made content repack stay head (m ∷ run) [] is all = absurd all
+made {F} content repack stay head (m ∷ run) (c ∷ cs) is all =
     let first : m.index.head.from ≡ c.from = ap (λ (i : Index). i.head.from) all.0.index in
     let from : head.from ≡ c.from = sym is.tile.0 ∙ first in
     let number : c.part.number ≡ head.number = sym (ap (λ (i : Index). i.head.number) all.0.index) ∙ All-head (λ (n : ComponentState F). n.index.head.number ≡ head.number) m run is.number in
@@ -140,7 +140,7 @@ made {F} content stay head (m ∷ run) (c ∷ cs) is all =
     let schema = schema_is content nothing (m ∷ run) (c ∷ cs) all in
     let final = lists.names_of (c ∷ cs) in
     let dictionary : IsDictionary final = subst IsDictionary names (known content m.index.names run cs all.1 (subst (λ (i : Index). IsDictionary i.names) (sym all.0.index) all.0.is.content.dictionary)) in
-    let rows : map (rows_told content) (m ∷ run) ≡ map (λ d. rows_of final d.entries) (c ∷ cs) = rows_are content stay [] final (m ∷ run) (c ∷ cs) all is.names names dictionary in
+    let rows : map (rows_told content) (m ∷ run) ≡ map (λ d. rows_of final d.entries) (c ∷ cs) = rows_are content repack stay [] final (m ∷ run) (c ∷ cs) all is.names names dictionary in
     record {
       merge = record {
         first = c;

@@ -13,12 +13,12 @@ use Rattle.tc_component.specs.declared.slot.Slot.{Slot}
 use Rattle.tc_component.specs.Spelling.{Row, Ascend, lengths_of}
 use Rattle.tc_merge.specs.Merging.{held_in, rows_in, kept}
 
-keys_of-rows_in : (slots : List Slot) (bytes : List ℕ) → keys_of (rows_in slots bytes) ≡ map (λ s. s.key) slots
-keys_of-rows_in [] bytes = refl
-keys_of-rows_in (s ∷ slots) bytes = ap (λ keys. s.key ∷ keys) (keys_of-rows_in slots (drop s.length bytes))
+keys_of-rows_in : (version : ℕ) (slots : List Slot) (bytes : List ℕ) → keys_of (rows_in version slots bytes) ≡ map (λ s. s.key) slots
+keys_of-rows_in version [] bytes = refl
+keys_of-rows_in version (s ∷ slots) bytes = ap (λ keys. s.key ∷ keys) (keys_of-rows_in version slots (drop s.length bytes))
 
-pub Ascends-rows_in : (slots : List Slot) (bytes : List ℕ) → Ascend slots → Ascends (rows_in slots bytes)
-Ascends-rows_in slots bytes up = subst (IsStrictlySortedBy nat_cmp) (sym (keys_of-rows_in slots bytes)) up
+pub Ascends-rows_in : (version : ℕ) (slots : List Slot) (bytes : List ℕ) → Ascend slots → Ascends (rows_in version slots bytes)
+Ascends-rows_in version slots bytes up = subst (IsStrictlySortedBy nat_cmp) (sym (keys_of-rows_in version slots bytes)) up
 
 pub Ascends-drop : {V : Type 0} (n : ℕ) (es : Keyed V) → Ascends es → Ascends (drop n es)
 Ascends-drop zero es up = up
@@ -26,22 +26,22 @@ Ascends-drop (suc n) [] up = up
 Ascends-drop (suc n) (e ∷ es) up = Ascends-drop n es (sorted_tail nat_cmp e.0 (keys_of es) up)
 
 -- the row at a place, and those behind it
-pub rows_there : (slots : List Slot) (bytes : List ℕ) (at : ℕ) (s : Slot) → slice_get slots at ≡ Some s
-    → drop at (rows_in slots bytes) ≡ (s.key, held_in s.length (drop (lengths_of (take at slots)) bytes)) ∷ drop (at + 1) (rows_in slots bytes)
-rows_there [] bytes at s here = absurd (cc)
-rows_there (t ∷ slots) bytes zero s here = ap (λ (u : Slot). (u.key, held_in u.length bytes) ∷ rows_in slots (drop t.length bytes)) (same_Some t s here)
-rows_there (t ∷ slots) bytes (suc at) s here =
+pub rows_there : (version : ℕ) (slots : List Slot) (bytes : List ℕ) (at : ℕ) (s : Slot) → slice_get slots at ≡ Some s
+    → drop at (rows_in version slots bytes) ≡ (s.key, held_in version s.length (drop (lengths_of (take at slots)) bytes)) ∷ drop (at + 1) (rows_in version slots bytes)
+rows_there version [] bytes at s here = absurd (cc)
+rows_there version (t ∷ slots) bytes zero s here = ap (λ (u : Slot). (u.key, held_in version u.length bytes) ∷ rows_in version slots (drop t.length bytes)) (same_Some t s here)
+rows_there version (t ∷ slots) bytes (suc at) s here =
     let further : suc (at + 1) ≡ suc at + 1 = omega arith in
-    rows_there slots (drop t.length bytes) at s here
-    ∙ ap (λ rest. (s.key, held_in s.length rest) ∷ drop (at + 1) (rows_in slots (drop t.length bytes))) (drop-drop (lengths_of (take at slots)) t.length bytes)
-    ∙ ap (λ n. (s.key, held_in s.length (drop n bytes)) ∷ drop (at + 1) (rows_in slots (drop t.length bytes))) (sym (sum_by-cons (λ (u : Slot). u.length) t (take at slots)))
-    ∙ ap (λ n. (s.key, held_in s.length (drop (lengths_of (t ∷ take at slots)) bytes)) ∷ drop n (rows_in (t ∷ slots) bytes)) further
+    rows_there version slots (drop t.length bytes) at s here
+    ∙ ap (λ rest. (s.key, held_in version s.length rest) ∷ drop (at + 1) (rows_in version slots (drop t.length bytes))) (drop-drop (lengths_of (take at slots)) t.length bytes)
+    ∙ ap (λ n. (s.key, held_in version s.length (drop n bytes)) ∷ drop (at + 1) (rows_in version slots (drop t.length bytes))) (sym (sum_by-cons (λ (u : Slot). u.length) t (take at slots)))
+    ∙ ap (λ n. (s.key, held_in version s.length (drop (lengths_of (t ∷ take at slots)) bytes)) ∷ drop n (rows_in version (t ∷ slots) bytes)) further
 
-pub no_rows : (slots : List Slot) (bytes : List ℕ) (at : ℕ) → slice_get slots at ≡ None → drop at (rows_in slots bytes) ≡ []
-no_rows [] bytes zero none = refl
-no_rows [] bytes (suc at) none = refl
-no_rows (s ∷ slots) bytes zero none = absurd (cc)
-no_rows (s ∷ slots) bytes (suc at) none = no_rows slots (drop s.length bytes) at none
+pub no_rows : (version : ℕ) (slots : List Slot) (bytes : List ℕ) (at : ℕ) → slice_get slots at ≡ None → drop at (rows_in version slots bytes) ≡ []
+no_rows version [] bytes zero none = refl
+no_rows version [] bytes (suc at) none = refl
+no_rows version (s ∷ slots) bytes zero none = absurd (cc)
+no_rows version (s ∷ slots) bytes (suc at) none = no_rows version slots (drop s.length bytes) at none
 
 -- what is kept of a row, and of those behind it
 pub kept-first : (from : ℕ) (row : Row) (rows : List Row) → kept from (row ∷ rows) ≡ kept from (row ∷ []) ++ kept from rows

@@ -8,22 +8,28 @@ use Rattle.tc_component.specs.declared.slot.Slot.{Slot}
 use Rattle.tc_component.specs.Layout.{records_place}
 use Rattle.tc_component.specs.Loading.{ComponentState}
 use Rattle.tc_component.specs.Spelling.{Row, file_bytes}
+use Rattle.tc_compact.specs.Repacked.{repacked}
+use Rattle.tc_record.specs.Record.{numbered_form}
 use Rattle.tc_merge.specs.Newest.{newest}
 
 -- ---- the rows of a component
 
--- so many bytes, or that the entry is gone where they are none
-abbrev pub held_in : ℕ → List ℕ → Option (List ℕ)
-held_in count bytes = if count == 0 then None else Some (take count bytes)
+-- a record of a file of a version, as it is written now
+abbrev pub rewritten : ℕ → List ℕ → List ℕ
+rewritten version bytes = if version == numbered_form then repacked bytes else bytes
+
+-- so many bytes as they are written now, or that the entry is gone where they are none
+abbrev pub held_in : ℕ → ℕ → List ℕ → Option (List ℕ)
+held_in version count bytes = if count == 0 then None else Some (rewritten version (take count bytes))
 
 -- the rows of a directory, whose records stand one behind the other in these bytes
-abbrev pub rows_in : List Slot → List ℕ → List Row
-rows_in [] bytes = []
-rows_in (s ∷ slots) bytes = (s.key, held_in s.length bytes) ∷ rows_in slots (drop s.length bytes)
+abbrev pub rows_in : ℕ → List Slot → List ℕ → List Row
+rows_in version [] bytes = []
+rows_in version (s ∷ slots) bytes = (s.key, held_in version s.length bytes) ∷ rows_in version slots (drop s.length bytes)
 
--- the rows of a component whose file tells its content
+-- the rows of a component whose file tells its content, as they are written now
 abbrev pub rows_told : {F : Type 0} → (F → Option (List ℕ)) → ComponentState F → List Row
-rows_told content c = rows_in c.index.slots (drop records_place (unwrap_or (content c.file) []))
+rows_told content c = rows_in c.index.version c.index.slots (drop records_place (unwrap_or (content c.file) []))
 
 abbrev pub AreTold : {F : Type 0} → (F → Option (List ℕ)) → List (ComponentState F) → Type 0
 AreTold content run = All (λ c. IsSome (content c.file)) run

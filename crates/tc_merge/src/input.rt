@@ -1,23 +1,25 @@
 //! The components that are merged, each with the place of its next entry.
 
 ghost use Rattle.std.specs.Arc.{arc_value};
-ghost use Rattle.std.specs.Prelude.{◌≡◌, ◌<◌, ◌≤◌, ◌+◌, ◌^◌, ℕ, ◌∷◌, [], ◌++◌, List, length, option_map, take, drop, Some, None, false, IfSome, IfErr, IsErrOf, OnOk, IsSome};
+ghost use Rattle.std.specs.Prelude.{◌≡◌, ◌<◌, ◌≤◌, ◌+◌, ℕ, ◌∷◌, [], ◌++◌, List, length, option_map, take, drop, Some, None, false, IfSome, IfErr, IsErrOf, OnOk, IsSome};
 ghost use Rattle.tc_store.specs.Gate.{IsClosed};
 ghost use Rattle.tc_store.specs.Moments.{LeavesOnly};
-ghost use Rattle.tc_component.specs.Building.{HasRows};
+ghost use Rattle.tc_component.specs.Building.{HasRows, IsWrittenRecord};
 ghost use Rattle.tc_component.specs.Fetching.{IsRecordWithin};
 ghost use Rattle.tc_component.specs.Spans.{IsSpan};
-ghost use Rattle.tc_component.specs.Spelling.{Row, name_of as name_of_head};
+ghost use Rattle.tc_component.specs.Spelling.{Row, written_version, name_of as name_of_head};
 ghost use Rattle.tc_merge.specs.Faults.{IfHarmed, IsHarmless, IsHarmOf, IsWatched};
 ghost use Rattle.tc_merge.specs.Inputs.{key_ahead, key_in, rows_from, passed, IsNear};
-ghost use Rattle.tc_merge.specs.Merging.{kept, live_rows};
+ghost use Rattle.tc_merge.specs.Merging.{kept, live_rows, rewritten};
 ghost use Rattle.tc_store.specs.Counted.{IsCounted};
 
 use crate::fault::{MergeFault, of_device, of_read};
 use std::alloc::Global;
 use std::marker::Model;
 use std::sync::Arc;
+use tc_compact::repack;
 use tc_component::{Builder, Component, Head, RecordCursor, Span};
+use tc_record::{NUMBERED_FORM, RecordRef};
 use tc_store::{Device, FileName, Frozen, Store};
 
 /// How many entries are looked up at once: directories are larger than a processor's near caches, and of each only a few
@@ -47,6 +49,7 @@ pub(crate) struct Input<F: Frozen> {
     held: usize,
     step: usize,
     cursor: RecordCursor,
+    alloc: Global,
 }
 
 impl<F: Frozen> Model for Input<F> {
@@ -88,6 +91,7 @@ impl<F: Frozen> Input<F> {
             held,
             step: 0,
             cursor: RecordCursor::new(alloc),
+            alloc,
         }
     }
 
@@ -140,8 +144,8 @@ fn look_up<F: Frozen>(component: &Component<F>, at: usize, near: &mut [Span; NEA
     (held, key)
 }
 
-/// Pushes an entry of an input: its record as it is, or that it is gone, which from generation 1 on is left out. The record is
-/// read, and judged, and nothing else is.
+/// Pushes an entry of an input: its record as it is written now, or that it is gone, which from generation 1 on is left out.
+/// The record is read, and judged, and nothing else is.
 pub(crate) fn put<S: Store>(
     input: &mut Input<S::Frozen>,
     entry: Span,
@@ -156,7 +160,7 @@ pub(crate) fn put<S: Store>(
     ensures pushed { OnOk result ((at : ℕ) (row : Row) (left rows : List Row) → IsSpan input.old.component.index.slots at entry → IsSome (S.Frozen.content input.old.component.file) → rows_from (λ file. S.Frozen.content file) input.old.component at ≡ row ∷ left
         → HasRows (S.Device.history builder.old.device) builder.old rows → HasRows (S.Device.history builder.new.device) builder.new (rows ++ kept from (row ∷ []))) }
     ensures judged { OnOk result ((at : ℕ) (row : Row) (left : List Row) → IsSpan input.old.component.index.slots at entry → IsSome (S.Frozen.content input.old.component.file) → rows_from (λ file. S.Frozen.content file) input.old.component at ≡ row ∷ left
-        → IfSome row.1 (λ bytes. IsRecordWithin (length input.old.component.index.names) bytes)) }
+        → IfSome row.1 (λ bytes. IsRecordWithin written_version (length input.old.component.index.names) bytes)) }
 
     // Also where no file tells.
     ensures more { OnOk result ((rows : List Row) → HasRows (S.Device.history builder.old.device) builder.old rows → (all : List Row) × HasRows (S.Device.history builder.new.device) builder.new all) }
@@ -175,7 +179,7 @@ pub(crate) fn put<S: Store>(
     }
 }
 
-/// Pushes the record of an entry as it is, once it is read and judged.
+/// Pushes the record of an entry as it is written now, once it is read and judged.
 fn put_live<S: Store>(
     input: &mut Input<S::Frozen>,
     entry: Span,
@@ -188,8 +192,8 @@ fn put_live<S: Store>(
 
     ensures same { input.new ≡ input.old }
     ensures pushed { OnOk result ((rows : List Row) → HasRows (S.Device.history builder.old.device) builder.old rows
-        → IfSome (S.Frozen.content input.old.component.file) (λ whole. HasRows (S.Device.history builder.new.device) builder.new (rows ++ (entry.key, Some (take entry.count (drop entry.begin whole))) ∷ []))) }
-    ensures judged { OnOk result (IfSome (S.Frozen.content input.old.component.file) (λ whole. IsRecordWithin (length input.old.component.index.names) (take entry.count (drop entry.begin whole)))) }
+        → IfSome (S.Frozen.content input.old.component.file) (λ whole. HasRows (S.Device.history builder.new.device) builder.new (rows ++ (entry.key, Some (rewritten input.old.component.index.version (take entry.count (drop entry.begin whole)))) ∷ []))) }
+    ensures judged { OnOk result (IfSome (S.Frozen.content input.old.component.file) (λ whole. IsRecordWithin written_version (length input.old.component.index.names) (rewritten input.old.component.index.version (take entry.count (drop entry.begin whole))))) }
 
     // Also where no file tells.
     ensures more { OnOk result ((rows : List Row) → HasRows (S.Device.history builder.old.device) builder.old rows → (all : List Row) × HasRows (S.Device.history builder.new.device) builder.new all) }
@@ -209,8 +213,40 @@ fn put_live<S: Store>(
         let file = name_of(input.component.head());
         return Err(of_read(file, fault));
     }
+    let version = input.component.version();
     let bytes = input.cursor.part(begin, count);
-    push(key, Some(bytes), builder, watch)
+    put_record(input.alloc, version, key, bytes, builder, watch)
+}
+
+/// Pushes a record of a file of a version: one of version 1 with the numbers of its columns in bits, and another as it is.
+fn put_record<D: Device>(
+    alloc: Global,
+    version: u8,
+    key: u64,
+    bytes: &[u8],
+    builder: &mut Builder<D>,
+    watch: &mut D::Watch,
+) -> Result<(), MergeFault>
+    requires record { (limit : ℕ) × IsRecordWithin version limit bytes.now }
+    requires going_on { builder.old.failed ≡ false }
+
+    ensures pushed { OnOk result ((rows : List Row) → HasRows (D.history builder.old.device) builder.old rows
+        → HasRows (D.history builder.new.device) builder.new (rows ++ (key, Some (rewritten version bytes.now)) ∷ [])) }
+    ensures judged { OnOk result ((limit : ℕ) → IsRecordWithin version limit bytes.now → IsRecordWithin written_version limit (rewritten version bytes.now)) }
+    ensures harmed { IfErr result IsHarmless }
+    ensures head { builder.new.head ≡ builder.old.head }
+    ensures not_failed { OnOk result (builder.new.failed ≡ false) }
+    ensures name { D.name builder.new.device ≡ D.name builder.old.device }
+    ensures moments { LeavesOnly IsClosed (D.history builder.old.device) (D.history builder.new.device) }
+    ensures watched { IsCounted (IsErrOf result MergeFault.Disk) (D.Watch.counts watch.old) (D.Watch.counts watch.new) }
+{
+    if version != NUMBERED_FORM {
+        return push(key, Some(bytes), builder, watch);
+    }
+    match repack(alloc, RecordRef::known(bytes)) {
+        Ok(packed) => push(key, Some(packed.as_slice()), builder, watch),
+        Err(_) => Err(MergeFault::Memory),
+    }
 }
 
 /// Pushes that a key is gone, where that has to be told.
@@ -244,7 +280,7 @@ fn push<D: Device>(
     watch: &mut D::Watch,
 ) -> Result<(), MergeFault>
     requires going_on { builder.old.failed ≡ false }
-    requires short { IfSome held (λ bytes. length bytes.now < 2 ^ 32) }
+    requires written { IfSome held (λ bytes. IsWrittenRecord bytes.now) }
 
     ensures pushed { OnOk result ((rows : List Row) → HasRows (D.history builder.old.device) builder.old rows
         → HasRows (D.history builder.new.device) builder.new (rows ++ (key, option_map (λ bytes. bytes.now) held.entry) ∷ [])) }

@@ -1,8 +1,8 @@
 use Rattle.std.proofs.Common.{◌≡◌, ◌<◌, ◌^◌, ◌++◌, length, sym, ap, ◌∙◌, subst}
 use Rattle.tc_model.specs.Document.{Document}
 use Rattle.tc_record.specs.Record.{IsRecordOf}
-use Rattle.tc_compact.specs.Compacted.{IsCompactedRecordOf}
-use Rattle.tc_component.specs.Building.{HasRows}
+use Rattle.tc_compact.specs.Compacted.{compacted, IsCompactedRecordOf}
+use Rattle.tc_component.specs.Building.{HasRows, IsWrittenRecord}
 use Rattle.tc_memory.specs.Meaning.{IsLawfulHeld, entry_of, held_of}
 use Rattle.tc_flush.specs.Recounting.{names_with, all_added}
 use Rattle.tc_flush.proofs.EntrySteps.{no_shapes, gone_row, canonical_of, short_of, counters_of, room_of, names_are, schema_is, row_is}
@@ -47,15 +47,15 @@ compact_counted-requires-clause-room g c =
     let same : c.known-of.result.bytes ≡ bytes = c.known-of.ensures.bytes ∙ c.as_slice.ensures.same in
     λ d is. room_of c.one_document.ensures e bytes held stored c.args.names.now c.args.schema.now c.requires.can d (subst (IsRecordOf d) same is)
 
-pub push-requires-in-Live-clause-short : goal.push-requires-in-Live-clause-short
-push-requires-in-Live-clause-short g c κs within =
+pub push-requires-in-Live-clause-written : goal.push-requires-in-Live-clause-written
+push-requires-in-Live-clause-written g c κs within =
     let held = ap held_of c.in-Live.is in
     let stored = subst IsLawfulHeld c.in-Live.is c.requires.lawful in
     let e = entry_of c.args.entry in
     let bytes = c.in-Live.bytes.now in
     let same : c.known-of.result.bytes ≡ bytes = c.known-of.ensures.bytes ∙ c.as_slice.ensures.same in
     let made = c.in_ok-record-in-Live.ensures.compacted stored.document (subst (IsRecordOf stored.document) (sym same) stored.is_record) in
-    subst (λ b. length b < 2 ^ 32) (sym c.as_slice-in-Live.ensures.same) made.numbered.short
+    subst IsWrittenRecord (sym c.as_slice-in-Live.ensures.same) (compacted c.compact_counted.new.names stored.document, made.numbered)
 
 pub returns-in_ok-record-in-Live-clause-learned : goal.returns-in_ok-record-in-Live-clause-learned
 returns-in_ok-record-in-Live-clause-learned g c =
@@ -90,7 +90,7 @@ returns-in_ok-record-in-Live-clause-pushed g c =
     ok_then c.push-in-Live.result _ _
     (λ pushed t newer rows of dictionary extends has.
     subst (λ rs. HasRows (g.D.Device.history c.push-in-Live.new.self.device) c.push-in-Live.new.self (rows ++ rs))
-    (sym (row_is c.one_document.ensures e bytes held stored c.compact_counted.new.names newer c.as_slice-in-Live.result.now (c.round_trip.ensures.stays 1) compacts dictionary extends t of)) (pushed rows has))
+    (sym (row_is c.one_document.ensures e bytes held stored c.compact_counted.new.names newer c.as_slice-in-Live.result.now (c.round_trip.ensures.stays 2) compacts dictionary extends t of)) (pushed rows has))
     c.push-in-Live.ensures.pushed
 
 -- ---- an entry whose document is gone

@@ -3,10 +3,17 @@ use Rattle.std.proofs.lemmas.Result.{err_from_is_err_and}
 use Rattle.std.specs.Arc.{arc_value}
 use Rattle.tc_model.specs.Dictionary.{Extends}
 use Rattle.tc_merge.specs.Merging.{newest_names}
-use Rattle.tc_jobs.specs.Listing.{in_place}
+use Rattle.tc_jobs.specs.Listing.{FitsFor, IsReadBack, in_place}
 use Rattle.tc_jobs.specs.Lists.{FirstExtends}
-use Rattle.tc_jobs.proofs.Listings.{fit, is_list, is_listed, is_read_back, unfit}
+use Rattle.tc_jobs.proofs.Listings.{fit, is_list, is_listed, is_read_back, unfit, unread}
 use Rattle.tc_jobs.proofs.listing.list_merge.Goals as goal
+
+pub returns-in_err-component-clause-damaged : goal.returns-in_err-component-clause-damaged
+returns-in_err-component-clause-damaged g c =
+    let device = g.S.Device.Device.history c.args.device in
+    let p = err_from_is_err_and c.from_residual.result c.from_residual.ensures.1 in
+    unread (IsReadBack g.S.Frozen.Frozen.content g.S.Frozen.Frozen.name c.args.head (g.S.Device.Device.name c.args.device) device) (FitsFor c.args.run c.args.list.now) c.args.head (g.S.Device.Device.size c.args.device) device
+    c.from_residual.result c.in_err-component.field-0.0 (p.1 ∙ ap Err p.2) c.in_err-component.ensures.judged c.in_err-component.ensures.damaged
 
 pub returns-in_err-shared-clause-damaged : goal.returns-in_err-shared-clause-damaged
 returns-in_err-shared-clause-damaged g c =

@@ -3,7 +3,7 @@ use Rattle.std.specs.Prelude.{IfSome}
 use Rattle.std.proofs.lemmas.Result.{on_ok_weaker}
 use Rattle.tc_component.specs.Building.{HasRows}
 use Rattle.tc_component.specs.Fetching.{IsRecordWithin}
-use Rattle.tc_component.specs.Spelling.{Row}
+use Rattle.tc_component.specs.Spelling.{Row, written_version}
 use Rattle.tc_merge.specs.Merging.{kept}
 use Rattle.tc_merge.proofs.EntryRows.{gone_row, live_judged, live_one, live_put}
 use Rattle.tc_merge.proofs.input.put.Goals as goal
@@ -23,7 +23,7 @@ returns-then-entry-eq0-clause-judged g c =
     let m = c.args.input.now.component in
     on_ok_weaker c.put_gone.result
     (λ pushed at row left is told ahead.
-    subst (λ (r : Row). IfSome r.1 (λ bytes. IsRecordWithin (length m.index.names) bytes)) (gone_row (λ file. g.S.Frozen.Frozen.content file) m at c.args.entry row left is c.if-entry-eq0.true ahead) tt)
+    subst (λ (r : Row). IfSome r.1 (λ bytes. IsRecordWithin written_version (length m.index.names) bytes)) (gone_row (λ file. g.S.Frozen.Frozen.content file) m at c.args.entry row left is c.if-entry-eq0.true ahead) tt)
     c.put_gone.ensures.pushed
 
 pub returns-else-entry-eq0-clause-pushed : goal.returns-else-entry-eq0-clause-pushed
@@ -42,7 +42,7 @@ returns-else-entry-eq0-clause-judged g c =
     let m = c.args.input.now.component in
     let live : 0 < c.args.entry.count = let other = c.if-entry-eq0.false in omega (arith, other) in
     on_ok_weaker c.put_live.result
-    (λ judged at row left is told ahead. live_judged (λ file. g.S.Frozen.Frozen.content file) m at c.args.entry row left (λ bytes. IsRecordWithin (length m.index.names) bytes) is live told ahead judged)
+    (λ judged at row left is told ahead. live_judged (λ file. g.S.Frozen.Frozen.content file) m at c.args.entry row left (λ bytes. IsRecordWithin written_version (length m.index.names) bytes) is live told ahead judged)
     c.put_live.ensures.judged
 
 pub returns-else-entry-eq0-clause-reads : goal.returns-else-entry-eq0-clause-reads

@@ -3,6 +3,7 @@ use Rattle.std.specs.Prelude.{All, IfSome, IsSome, length}
 use Rattle.tc_component.specs.Building.{HasRows}
 use Rattle.tc_component.specs.Fetching.{IsRecordWithin}
 use Rattle.tc_component.specs.Spans.{IsSpan}
+use Rattle.tc_component.specs.Spelling.{written_version}
 use Rattle.tc_merge.specs.Faults.{IfHarmed, IsHarmOf, IsJudged}
 use Rattle.tc_merge.specs.Inputs.{rows_from, passed, left_of, IsUpTo}
 use Rattle.tc_merge.specs.Merging.{live_rows, rows_told}
@@ -87,7 +88,7 @@ returns-in-Ok-clause-judged g c = λ told.
       here = slice_get-map (λ i. i.component) inputs c.args.next.input is.input is.here;
       entry = is.input.at;
       own = first_there (rows_told content is.input.component) is.input.at row rest (next_row content inputs c.args.next is c.requires.lawful);
-      form = subst (λ m. IfSome row.1 (λ bytes. IsRecordWithin (length m.index.names) bytes)) same (c.in-Ok.ensures.judged is.input.at row rest entry held rows_are);
+      form = subst (λ m. IfSome row.1 (λ bytes. IsRecordWithin written_version (length m.index.names) bytes)) same (c.in-Ok.ensures.judged is.input.at row rest entry held rows_are);
     })))
 
 pub returns-in-Ok-clause-reads : goal.returns-in-Ok-clause-reads
