@@ -14,7 +14,6 @@ use Rattle.tc_store.specs.DiskFile.{DiskFile}
 use Rattle.tc_store.specs.Images.{MayLeave}
 use Rattle.tc_store.specs.NameOrder.{name_cmp}
 use Rattle.tc_component.specs.Loading.{ComponentState}
-use Rattle.tc_component.specs.Rows.{component_index}
 use Rattle.tc_component.specs.Spelling.{Index}
 use Rattle.tc_log.specs.declared.write.Write.{Write as LogWrite}
 use Rattle.tc_plain_model.specs.Writes.{Write}
@@ -26,13 +25,13 @@ use Rattle.tc_machine.specs.Steps.{nothing_held}
 use Rattle.tc_machine.proofs.DeviceSteps.{settled_image}
 use Rattle.tc_recover.specs.declared.taken.Taken.{Taken}
 use Rattle.tc_recover.specs.Files.{picture_at, picture_in}
-use Rattle.tc_recover.specs.Lawful.{DiskOpens, found_of}
+use Rattle.tc_recover.specs.Lawful.{DiskOpens, found_of, index_of_file}
 use Rattle.tc_recover.specs.Loading.{interval_of, tile_name}
 use Rattle.tc_recover.specs.Opening.{AreAllTaken, Found, IsReadOf, found_in}
-use Rattle.tc_recover.proofs.LawfulDisks.{all_bytes, left_bytes, opens_same}
+use Rattle.tc_recover.proofs.LawfulDisks.{all_bytes, left_bytes, opens_same, same_indexes}
 use Rattle.tc_lawful.specs.Audited.{IsAudited}
 use Rattle.tc_lawful.specs.Files.{IsReadable, IsWhole}
-use Rattle.tc_lawful.proofs.LoadedFiles.{IsOwn, ends_as, indexes_are, loaded_there, there_loaded}
+use Rattle.tc_lawful.proofs.LoadedFiles.{IsOwn, ends_as, indexes_are, loaded_there, own, there_loaded}
 use Rattle.tc_lawful.proofs.OpenFiles.{not_before_itself}
 
 -- ---- the picture of a disk at rest
@@ -111,8 +110,9 @@ module _ {F W : Type 0} (content : F → Option (List ℕ)) (name : F → FileNa
   -- what was audited is whole
   pub audited_whole : IsAudited content part list writes cs logs → IsWhole part q (found_in list writes) cs logs
   audited_whole audited = record {
-    found_is = ap (λ (is : List Index). let f : Found = record { components = is; logs = writes } in f) (indexes_are content list cs audited.loaded)
-        ∙ ap (λ (ls : List (List LogWrite)). let f : Found = record { components = map component_index cs; logs = ls } in f) audited.kept;
+    found_is = ap (λ (is : List Index). let f : Found = record { components = is; logs = writes } in f)
+        (indexes_are content p list cs (own content files list taken.ascend taken.told read.files_are) audited.loaded ∙ same_indexes (bytes_at p) (bytes_at q) cs same)
+        ∙ ap (λ (ls : List (List LogWrite)). let f : Found = record { components = map (index_of_file (bytes_at q)) cs; logs = ls } in f) audited.kept;
     list = audited.listed;
     there = there_same p q same cs (loaded_there content files list taken.ascend taken.told read.files_are cs audited.loaded);
     writes = audited.storable;
@@ -130,9 +130,9 @@ module _ {F W : Type 0} (content : F → Option (List ℕ)) (name : F → FileNa
   opens_at opens = opens_same part opens.picture q cs logs (λ n. left_bytes disk rests opens.picture opens.left n ∙ sym (all_bytes disk rests names exact n)) opens.opens
 
   -- what opens and was read is right
-  pub opened_audited : Opens part q cs logs → found_in list writes ≡ found_of cs logs → IsAudited content part list writes cs logs
+  pub opened_audited : Opens part q cs logs → found_in list writes ≡ found_of (bytes_at q) cs logs → IsAudited content part list writes cs logs
   opened_audited opens found = record {
-    loaded = there_loaded content files list taken.ascend taken.told read.files_are cs (ap (λ (f : Found). f.components) found) (there_same q p (λ n. sym (same n)) cs opens.there);
+    loaded = there_loaded content files list taken.ascend taken.told read.files_are cs (ap (λ (f : Found). f.components) found ∙ sym (same_indexes (bytes_at p) (bytes_at q) cs same)) (there_same q p (λ n. sym (same n)) cs opens.there);
     listed = opens.list;
     kept = ap (λ (f : Found). f.logs) found;
     storable = opens.writes;

@@ -14,10 +14,11 @@ use Rattle.tc_store.proofs.Judged.{judged_parts, same_Ok}
 use Rattle.tc_component.specs.declared.head.Head.{Head}
 use Rattle.tc_component.specs.declared.head.Sizes.{Sizes}
 use Rattle.tc_component.specs.Layout.{directory_place, names_place, slot_size}
-use Rattle.tc_component.specs.Reading.{directory_read, file_judged, front_judged, front_of, rest_judged}
+use Rattle.tc_component.specs.Reading.{directory_read, file_judged, front_judged, front_of, rest_judged, version_of}
 use Rattle.tc_component.specs.Rows.{component_index}
-use Rattle.tc_component.specs.Spelling.{Index, name_of, sizes_in}
+use Rattle.tc_component.specs.Spelling.{Index, name_of, sizes_in, written_version}
 use Rattle.tc_recover.specs.declared.interval.Interval.{Interval}
+use Rattle.tc_recover.specs.Lawful.{index_of_file}
 use Rattle.tc_recover.specs.Loading.{begins_with, component_judged, components_judged, names_judged, own_judged, then_judged, tile_name, unless}
 use Rattle.tc_recover.specs.Loads.{file_then}
 use Rattle.tc_recover.specs.Refusals.{Refusal, breaks, stray}
@@ -49,8 +50,8 @@ same_choice false refusal c d is = absurd (cc)
 -- ---- one component
 
 -- what is judged of a whole file has the header that stands in front of it
-head_of_rest : (h : Head × Sizes) (rest : List ℕ) (c : Index) → rest_judged h rest ≡ Ok c → c.head ≡ h.0
-head_of_rest h rest c judged =
+head_of_rest : (version : ℕ) (h : Head × Sizes) (rest : List ℕ) (c : Index) → rest_judged version h rest ≡ Ok c → c.head ≡ h.0
+head_of_rest version h rest c judged =
     let named = h.1.entries * slot_size in
     let one = judged_parts (or_damage (directory_read h.1.entries h.1.records [] (take named rest)) _) _ c judged in
     let two = judged_parts (or_damage (read_section (take h.1.names (drop named rest))) _) _ c one.2 in
@@ -69,7 +70,7 @@ tile_is : (part : Partition) (older : List Name) (tile : Interval) (bytes : List
 tile_is part older tile bytes c judged =
     let name = tile_name tile in
     let front = judged_parts (front_judged name (length bytes) (front_of bytes)) _ c (tile_judged part older name bytes c judged) in
-    let head = head_of_rest front.0 (drop (directory_place front.0.1) bytes) c front.2 in
+    let head = head_of_rest (version_of bytes) front.0 (drop (directory_place front.0.1) bytes) c front.2 in
     let named = named_so tile.from tile.to front.0.0 (front_parts name (length bytes) (front_of bytes) front.0 front.1).named in
     (ap (λ (h : Head). h.from) head ∙ named.0, ap (λ (h : Head). h.to) head ∙ named.1)
 
@@ -110,15 +111,19 @@ components_of part picture (tile ∷ tiles) names before all judged =
           (subst (λ (t : Interval). file_judged (tile_name t) (unwrap_or (bytes_at picture (tile_name t)) []) ≡ Ok c) same (tile_judged part names (tile_name tile) (unwrap_or (bytes_at picture (tile_name tile)) []) c one.1)) rest.each;
     }
 
--- the intervals of contents, as their components have them
+-- the intervals of contents, as their components have them in each version
 abbrev pub tiles_of : List Content → List Interval
-tiles_of cs = map interval_in (map component_index cs)
+tiles_of cs = map interval_in (map (component_index written_version) cs)
 
 -- where the components of contents were read, the tiles are theirs
-pub tiles_are : (part : Partition) (picture : Picture) (tiles : List Interval) (cs : List Content) → components_judged part picture tiles [] [] ≡ Ok (map component_index cs) → tiles ≡ tiles_of cs
+pub tiles_are : (part : Partition) (picture : Picture) (tiles : List Interval) (cs : List Content) → components_judged part picture tiles [] [] ≡ Ok (map (index_of_file (bytes_at picture)) cs) → tiles ≡ tiles_of cs
 tiles_are part picture tiles cs judged =
-    let read = components_of part picture tiles [] [] (map component_index cs) judged in
-    read.intervals ∙ ap (λ all. map interval_in all) (sym read.behind)
+    let read = components_of part picture tiles [] [] (map (index_of_file (bytes_at picture)) cs) judged in
+    read.intervals ∙ ap (λ all. map interval_in all) (sym read.behind) ∙ of_files cs
+  where
+    of_files : (cs : List Content) → map interval_in (map (index_of_file (bytes_at picture)) cs) ≡ tiles_of cs
+    of_files [] = refl
+    of_files (c ∷ cs) = ap (λ ts. interval_in (component_index written_version c) ∷ ts) (of_files cs)
 
 pub ends_with : (generation : ℕ) (cs : List Content) → end_of generation (tiles_of cs) ≡ last_after generation cs
 ends_with generation [] = refl
@@ -127,7 +132,7 @@ ends_with generation (c ∷ cs) = ends_with c.to cs
 -- what lies within one of the tiles is covered by its content
 pub covers_from : (cs : List Content) (i : Interval) → AreAround (tiles_of cs) i → Covers cs i.from i.to
 covers_from [] i around = absurd (no_member around.0 around.1)
-covers_from (c ∷ cs) i around = elim (member_cases (interval_in (component_index c)) (tiles_of cs) around.0 around.1) [
+covers_from (c ∷ cs) i around = elim (member_cases (interval_in (component_index written_version c)) (tiles_of cs) around.0 around.1) [
   | inl same ↦ inl (subst (λ (t : Interval). t.from ≤ i.from) (sym same) around.2.begins, subst (λ (t : Interval). i.to ≤ t.to) (sym same) around.2.ends)
   | inr further ↦ inr (covers_from cs i (around.0, further, around.2))
 ]

@@ -10,10 +10,12 @@ use Rattle.std.proofs.lemmas.Map.Keys.{sorted_head, sorted_tail}
 use Rattle.tc_store.specs.declared.file_name.FileName.{FileName}
 use Rattle.tc_store.specs.declared.file_name.FileName.TheVariants.{Component}
 use Rattle.tc_store.specs.Disk.{Picture, bytes_at, same_name}
+use Rattle.tc_store.specs.Images.{Image}
 use Rattle.tc_store.specs.NameOrder.{name_cmp}
 use Rattle.tc_store.proofs.NameLemmas.{same_name-is}
 use Rattle.tc_component.specs.Loaded.{IsLoadedOf}
 use Rattle.tc_component.specs.Loading.{ComponentState, index_in}
+use Rattle.tc_component.specs.Reading.{version_of}
 use Rattle.tc_component.specs.Rows.{component_index}
 use Rattle.tc_component.specs.Spelling.{Index}
 use Rattle.tc_list.specs.Intervals as listed
@@ -23,6 +25,7 @@ use Rattle.tc_machine.specs.Components.{LeavesComponent, file_of}
 use Rattle.tc_machine.proofs.OneWay.{component_at}
 use Rattle.tc_recover.specs.declared.taken.Taken.{Taken}
 use Rattle.tc_recover.specs.Files.{AreTold, entry_in, names_in, picture_in}
+use Rattle.tc_recover.specs.Lawful.{index_of_file}
 use Rattle.tc_recover.specs.Loading.{files_of, interval_of, is_file_of, tile_name}
 use Rattle.tc_lawful.proofs.OpenFiles.{at_first}
 use Rattle.tc_lawful.proofs.ReadLogs.{first_found, found_with}
@@ -96,35 +99,42 @@ told_own content picture t tells x file is =
 
 -- ---- components and contents
 
+-- the file of a component is that of the content that it is loaded of
+own_bytes : {F : Type 0} (content : F → Option (List ℕ)) (picture : Picture) (x : ComponentState F) (c : Content) → IsOwn content picture x → (l : IsLoadedOf content x c) → bytes_at picture (file_of c) ≡ Some l.bytes
+own_bytes content picture x c own l = ap (λ (i : Index). bytes_at picture (Component i.head.from i.head.to)) (sym l.index) ∙ (sym own ∙ l.tells)
+
 -- the contents that components are loaded of are there
 contents_there : {F : Type 0} (content : F → Option (List ℕ)) (picture : Picture) (list : List (ComponentState F)) (cs : List Content) → All (IsOwn content picture) list → AllZip (IsLoadedOf content) list cs → All (λ c. LeavesComponent c (bytes_at picture (file_of c))) cs
 contents_there {F = F} content picture [] [] own loaded = All-nil (λ c. LeavesComponent c (bytes_at picture (file_of c)))
 contents_there {F = F} content picture [] (c ∷ cs) own loaded = absurd loaded
 contents_there {F = F} content picture (x ∷ list) [] own loaded = absurd loaded
 contents_there {F = F} content picture (x ∷ list) (c ∷ cs) own loaded =
-    let here : bytes_at picture (file_of c) ≡ Some loaded.0.bytes = ap (λ (i : Index). bytes_at picture (Component i.head.from i.head.to)) (sym loaded.0.index) ∙ (sym (All-head (IsOwn {F = F} content picture) x list own) ∙ loaded.0.tells) in
+    let here = own_bytes content picture x c (All-head (IsOwn {F = F} content picture) x list own) loaded.0 in
     All-cons (λ d. LeavesComponent d (bytes_at picture (file_of d))) c cs (subst (LeavesComponent c) (sym here) loaded.0.is) (contents_there content picture list cs (All-tail (IsOwn {F = F} content picture) x list own) loaded.1)
 
 -- and of contents that are there the components are loaded
-contents_loaded : {F : Type 0} (content : F → Option (List ℕ)) (picture : Picture) (list : List (ComponentState F)) (cs : List Content) → All (IsOwn content picture) list → map index_in list ≡ map component_index cs → All (λ c. LeavesComponent c (bytes_at picture (file_of c))) cs
+contents_loaded : {F : Type 0} (content : F → Option (List ℕ)) (picture : Picture) (list : List (ComponentState F)) (cs : List Content) → All (IsOwn content picture) list → map index_in list ≡ map (index_of_file (bytes_at picture)) cs → All (λ c. LeavesComponent c (bytes_at picture (file_of c))) cs
     → AllZip (IsLoadedOf content) list cs
 contents_loaded {F = F} content picture [] [] own same there = tt
 contents_loaded {F = F} content picture [] (c ∷ cs) own same there = absurd (cc)
 contents_loaded {F = F} content picture (x ∷ list) [] own same there = absurd (cc)
 contents_loaded {F = F} content picture (x ∷ list) (c ∷ cs) own same there =
-    let index : x.index ≡ component_index c = cc in
-    let others : map index_in list ≡ map component_index cs = cc in
+    let index : x.index ≡ index_of_file (bytes_at picture) c = cc in
+    let others : map index_in list ≡ map (index_of_file (bytes_at picture)) cs = cc in
     let told : content x.file ≡ bytes_at picture (file_of c) = All-head (IsOwn {F = F} content picture) x list own ∙ ap (λ (i : Index). bytes_at picture (Component i.head.from i.head.to)) index in
     let is = component_at c (bytes_at picture (file_of c)) (All-head (λ d. LeavesComponent d (bytes_at picture (file_of d))) c cs there) in (
-      record { bytes = is.0; tells = told ∙ is.1; is = is.2; index = index },
+      record { bytes = is.0; tells = told ∙ is.1; is = is.2; index = index ∙ ap (λ (image : Image). component_index (version_of (unwrap_or image [])) c) is.1 },
       contents_loaded content picture list cs (All-tail (IsOwn {F = F} content picture) x list own) others (All-tail (λ d. LeavesComponent d (bytes_at picture (file_of d))) c cs there),
     )
 
-pub indexes_are : {F : Type 0} (content : F → Option (List ℕ)) (list : List (ComponentState F)) (cs : List Content) → AllZip (IsLoadedOf content) list cs → map index_in list ≡ map component_index cs
-indexes_are content [] [] loaded = refl
-indexes_are content [] (c ∷ cs) loaded = absurd loaded
-indexes_are content (x ∷ list) [] loaded = absurd loaded
-indexes_are content (x ∷ list) (c ∷ cs) loaded = ap (λ i. i ∷ map index_in list) loaded.0.index ∙ ap (λ is. component_index c ∷ is) (indexes_are content list cs loaded.1)
+pub indexes_are : {F : Type 0} (content : F → Option (List ℕ)) (picture : Picture) (list : List (ComponentState F)) (cs : List Content) → All (IsOwn content picture) list → AllZip (IsLoadedOf content) list cs → map index_in list ≡ map (index_of_file (bytes_at picture)) cs
+indexes_are content picture [] [] own loaded = refl
+indexes_are content picture [] (c ∷ cs) own loaded = absurd loaded
+indexes_are content picture (x ∷ list) [] own loaded = absurd loaded
+indexes_are {F = F} content picture (x ∷ list) (c ∷ cs) own loaded =
+    let here = own_bytes content picture x c (All-head (IsOwn {F = F} content picture) x list own) loaded.0 in
+    ap (λ i. i ∷ map index_in list) (loaded.0.index ∙ ap (λ (image : Image). component_index (version_of (unwrap_or image [])) c) (sym here))
+    ∙ ap (λ is. index_of_file (bytes_at picture) c ∷ is) (indexes_are content picture list cs (All-tail (IsOwn {F = F} content picture) x list own) loaded.1)
 
 -- they end with the generation of these
 pub ends_as : {F : Type 0} (content : F → Option (List ℕ)) (generation : ℕ) (list : List (ComponentState F)) (cs : List Content) → AllZip (IsLoadedOf content) list cs → listed.last_after generation list ≡ contents.last_after generation cs
@@ -143,7 +153,7 @@ module _ {F W : Type 0} (content : F → Option (List ℕ)) (files : List (Taken
   pub loaded_there : (cs : List Content) → AllZip (IsLoadedOf content) list cs → All (λ c. LeavesComponent c (bytes_at (picture_in content files) (file_of c))) cs
   loaded_there cs = contents_there content (picture_in content files) list cs own
 
-  pub there_loaded : (cs : List Content) → map index_in list ≡ map component_index cs → All (λ c. LeavesComponent c (bytes_at (picture_in content files) (file_of c))) cs → AllZip (IsLoadedOf content) list cs
+  pub there_loaded : (cs : List Content) → map index_in list ≡ map (index_of_file (bytes_at (picture_in content files))) cs → All (λ c. LeavesComponent c (bytes_at (picture_in content files) (file_of c))) cs → AllZip (IsLoadedOf content) list cs
   there_loaded cs = contents_loaded content (picture_in content files) list cs own
 
 -- ---- bytes

@@ -18,8 +18,8 @@ use Rattle.tc_store.proofs.Judged.{judged_parts, or_damage_parts, same_Ok}
 use Rattle.tc_component.specs.declared.head.Head.{Head}
 use Rattle.tc_component.specs.declared.head.Sizes.{Sizes}
 use Rattle.tc_component.specs.Layout.{file_size, number_end}
-use Rattle.tc_component.specs.Reading.{front_of, front_judged, head_at, head_judged, interval_at, is_header_of, is_interval, is_magic, is_named, sizes_at}
-use Rattle.tc_component.specs.Spelling.{IsHead, head_bytes, magic, sizes_bytes}
+use Rattle.tc_component.specs.Reading.{version_told, version_of, front_of, front_judged, head_at, head_judged, interval_at, is_header_of, is_interval, is_magic, is_named, sizes_at}
+use Rattle.tc_component.specs.Spelling.{IsHead, head_bytes, magic_of, sizes_bytes}
 use Rattle.tc_log.specs.declared.head.LogHead.{LogHead}
 use Rattle.tc_log.specs.Reading as log
 use Rattle.tc_lsm_model.specs.Contents.{Partition}
@@ -53,14 +53,15 @@ own_numbers part number count none = cases ((number == part.number) && (count ==
 -- the header of a file of this name and length
 pub record IsFront (name : FileName) (size : ℕ) (front : List ℕ) (head : Head) (sizes : Sizes) : Type 0 where
   pub rest : List ℕ
-  pub read : head_at front ≡ Some ((head, sizes), rest)
+  pub read : head_at (version_told front) front ≡ Some ((head, sizes), rest)
   pub named : is_named name head ≡ true
   pub sized : file_size sizes ≡ size
 
 pub front_parts : (name : FileName) (size : ℕ) (front : List ℕ) (h : Head × Sizes) → front_judged name size front ≡ Ok h → IsFront name size front h.0 h.1
 front_parts name size front h judged =
-    let parts = judged_parts (or_damage (passing_at (is_header_of name size) head_at front) (damage 1 front)) _ h judged in
-    let read = then_parts (head_at front) _ parts.0 (or_damage_parts (passing_at (is_header_of name size) head_at front) (damage 1 front) parts.0 parts.1) in
+    let version = version_told front in
+    let parts = judged_parts (or_damage (passing_at (is_header_of name size) (head_at version) front) (damage 1 front)) _ h judged in
+    let read = then_parts (head_at version front) _ parts.0 (or_damage_parts (passing_at (is_header_of name size) (head_at version) front) (damage 1 front) parts.0 parts.1) in
     let fits = passed (is_header_of name size read.0.0) read.0 parts.0 read.2 in
     let both = and_parts (is_named name read.0.0.0) (file_size read.0.0.1 == size) fits.0 in
     let same : read.0.0 ≡ h = ap (λ (q : (Head × Sizes) × List ℕ). q.0) fits.1 ∙ same_Ok parts.0.0 h parts.2 in
@@ -81,18 +82,18 @@ sizes_spelled bytes q each read =
     (one.0 ∙ ap (λ (more : List ℕ). to_be_bytes w64 r.0.0 ++ more) (two.0 ∙ ap (λ (more : List ℕ). to_be_bytes w64 e.0.0 ++ more) (three.0 ∙ ap (λ (more : List ℕ). to_be_bytes w64 n.0.0 ++ more) four.0)))
 
 -- what is read as a header is spelled so, and may be one
-record IsSpelled (bytes : List ℕ) (q : (Head × Sizes) × List ℕ) : Type 0 where
+record IsSpelled (version : ℕ) (bytes : List ℕ) (q : (Head × Sizes) × List ℕ) : Type 0 where
   head : IsHead q.0.0
-  spelled : bytes ≡ head_bytes q.0.0 q.0.1 ++ q.1
+  spelled : bytes ≡ head_bytes version q.0.0 q.0.1 ++ q.1
 
-head_spelled : (bytes : List ℕ) (q : (Head × Sizes) × List ℕ) → IsBytes bytes → head_at bytes ≡ Some q → IsSpelled bytes q
-head_spelled bytes q each read =
-    let m = then_parts (passing_at is_magic (number_at w32) bytes) _ q read in
+head_spelled : (version : ℕ) (bytes : List ℕ) (q : (Head × Sizes) × List ℕ) → IsBytes bytes → head_at version bytes ≡ Some q → IsSpelled version bytes q
+head_spelled version bytes q each read =
+    let m = then_parts (passing_at (is_magic version) (number_at w32) bytes) _ q read in
     let n = then_parts (number_at w32 m.0.1) _ q m.2 in
     let c = then_parts (number_at w32 n.0.1) _ q n.2 in
     let i = then_parts (interval_at c.0.1) _ q c.2 in
     let s = then_parts (sizes_at i.0.1) _ q i.2 in
-    let one = (passing_codec is_magic number_codec_32).found bytes m.0.0 m.0.1 each m.1 in
+    let one = (passing_codec (is_magic version) number_codec_32).found bytes m.0.0 m.0.1 each m.1 in
     let two = number_codec_32.found m.0.1 n.0.0 n.0.1 one.1 n.1 in
     let three = number_codec_32.found n.0.1 c.0.0 c.0.1 two.1 c.1 in
     let four = (passing_codec is_interval (pair_codec number_codec_64 (λ from fits. number_codec_64))).found c.0.1 i.0.0 i.0.1 three.1 i.1 in
@@ -101,11 +102,12 @@ head_spelled bytes q each read =
     let first : 0 < i.0.0.0 = grind (arith, nat_tests) in
     let order : i.0.0.0 ≤ i.0.0.1 = grind (arith, nat_tests) in
     let last : i.0.0.1 < number_end = grind (arith, nat_tests) in
-    let magic_is : m.0.0 ≡ magic = eqb-true m.0.0 magic one.2.1 in
-    subst (IsSpelled bytes) (same_Some _ q s.2) (record {
+    let magic_is : m.0.0 ≡ magic_of version = eqb-true m.0.0 (magic_of version) one.2.1 in
+    subst (IsSpelled version bytes) (same_Some _ q s.2) (record {
       head = record { number = two.2; count = three.2; first = first; order = order; last = last };
       spelled = one.0 ∙ ap (λ (k : ℕ). to_be_bytes w32 k ++ m.0.1) magic_is
-          ∙ ap (λ (more : List ℕ). to_be_bytes w32 magic ++ more) (two.0 ∙ ap (λ (more : List ℕ). to_be_bytes w32 n.0.0 ++ more) (three.0 ∙ ap (λ (more : List ℕ). to_be_bytes w32 c.0.0 ++ more) (four.0 ∙ ap (λ (more : List ℕ). (to_be_bytes w64 i.0.0.0 ++ to_be_bytes w64 i.0.0.1) ++ more) five)));
+          ∙ ap (λ (more : List ℕ). to_be_bytes w32 (magic_of version) ++ more) (two.0
+          ∙ ap (λ (more : List ℕ). to_be_bytes w32 n.0.0 ++ more) (three.0 ∙ ap (λ (more : List ℕ). to_be_bytes w32 c.0.0 ++ more) (four.0 ∙ ap (λ (more : List ℕ). (to_be_bytes w64 i.0.0.0 ++ to_be_bytes w64 i.0.0.1) ++ more) five)));
     })
 
 begins_open : (bytes : List ℕ) → is_open_file bytes ≡ true → bytes ≡ 1 ∷ drop 1 bytes
@@ -131,7 +133,8 @@ component_heads part from to bytes opened each short none =
     let own = own_numbers part parts.0.number parts.0.count parts.2 in
     let front = front_parts name (length bytes) (front_of bytes) judged.0 judged.1 in
     let named = named_so from to judged.0.0 front.named in
-    let spelled = head_spelled (front_of bytes) (judged.0, front.rest) each front.read in
+    let version = version_of bytes in
+    let spelled = head_spelled version (front_of bytes) (judged.0, front.rest) each front.read in
     let is : judged.0.0 ≡ component_head part from to =
     same_head judged.0.0 part from to (ap (λ (h : Head). h.number) head ∙ own.0) (ap (λ (h : Head). h.count) head ∙ own.1) named.0 named.1 in
     record {
@@ -139,8 +142,8 @@ component_heads part from to bytes opened each short none =
       sizes = judged.0.1;
       rest = front.rest ++ drop 60 (drop 1 bytes);
       spelled = begins_open bytes opened
-          ∙ ap (λ (behind : List ℕ). 1 ∷ behind) (sym (take-append-drop 60 (drop 1 bytes)) ∙ ap (λ (f : List ℕ). f ++ drop 60 (drop 1 bytes)) (spelled.spelled ∙ ap (λ (h : Head). head_bytes h judged.0.1 ++ front.rest) is)
-          ∙ append_assoc (head_bytes (component_head part from to) judged.0.1) front.rest (drop 60 (drop 1 bytes)));
+          ∙ ap (λ (behind : List ℕ). 1 ∷ behind) (sym (take-append-drop 60 (drop 1 bytes)) ∙ ap (λ (f : List ℕ). f ++ drop 60 (drop 1 bytes)) (spelled.spelled ∙ ap (λ (h : Head). head_bytes version h judged.0.1 ++ front.rest) is)
+          ∙ append_assoc (head_bytes version (component_head part from to) judged.0.1) front.rest (drop 60 (drop 1 bytes)));
       adds_up = sym front.sized;
       short = short;
     }

@@ -35,7 +35,7 @@ pub record IsReadable (picture : Picture) (last : ℕ) : Type 0 where
 
 -- What was read is what these contents and logs have, all of it is lawful, and there is room for what is stored in them.
 pub record IsWhole (part : Partition) (picture : Picture) (found : Found) (cs : List Content) (logs : List (List Write)) : Type 0 where
-  pub found_is : found ≡ found_of cs logs
+  pub found_is : found ≡ found_of (bytes_at picture) cs logs
   pub list : IsList part cs
   pub there : All (λ c. LeavesComponent c (bytes_at picture (file_of c))) cs
   pub writes : All IsStorableWrite (all_writes logs)

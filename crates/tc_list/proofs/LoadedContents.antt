@@ -16,7 +16,8 @@ use Rattle.tc_component.specs.Columns.{IsFound}
 use Rattle.tc_component.specs.Fetching.{record_at, IsRecordWithin}
 use Rattle.tc_component.specs.Loading.{ComponentState}
 use Rattle.tc_component.specs.Meaning.{MeansOf, IsRecordOfOne}
-use Rattle.tc_component.specs.Rows.{record_in, row_of, rows_of, component_index, IsComponent}
+use Rattle.tc_component.specs.Reading.{version_of}
+use Rattle.tc_component.specs.Rows.{record_in, row_as, rows_as, component_index, IsComponent}
 use Rattle.tc_component.specs.Spelling.{Index, slot, slots_of, held_bytes}
 use Rattle.tc_list.specs.declared.whereabouts.Whereabouts.TheVariants.{At}
 use Rattle.tc_list.specs.Contents.{marks, Shows}
@@ -28,35 +29,35 @@ use Rattle.tc_list.proofs.Shown.{where_live}
 
 -- what a component has of a key is what its content has of it
 abbrev pub FindsContent : Type 0
-FindsContent = (c : Content) (bytes : List ℕ) (key : ℕ) (found : Found) → IsComponent c bytes → IsFound (component_index c).slots key found → MeansOf c.entries key found
+FindsContent = (c : Content) (bytes : List ℕ) (key : ℕ) (found : Found) → IsComponent c bytes → IsFound (component_index (version_of bytes) c).slots key found → MeansOf c.entries key found
 
 -- ---- one component
 
-slot_there : (names : List Name) (ws : List Write) (at : ℕ) (w : Write) → slice_get ws at ≡ Some w → slice_get (slots_of (rows_of names ws)) at ≡ Some (slot w.0 (length (held_bytes (row_of names w).1)))
-slot_there names [] at w here = absurd (cc)
-slot_there names (v ∷ ws) zero w here = ap (λ (o : Write). Some (slot o.0 (length (held_bytes (row_of names o).1)))) (same_Some v w here)
-slot_there names (v ∷ ws) (suc at) w here = slot_there names ws at w here
+slot_there : (version : ℕ) (names : List Name) (ws : List Write) (at : ℕ) (w : Write) → slice_get ws at ≡ Some w → slice_get (slots_of (rows_as version names ws)) at ≡ Some (slot w.0 (length (held_bytes (row_as version names w).1)))
+slot_there version names [] at w here = absurd (cc)
+slot_there version names (v ∷ ws) zero w here = ap (λ (o : Write). Some (slot o.0 (length (held_bytes (row_as version names o).1)))) (same_Some v w here)
+slot_there version names (v ∷ ws) (suc at) w here = slot_there version names ws at w here
 
 -- what has a slot without bytes is gone
-some_bytes : FindsContent → (c : Content) (bytes : List ℕ) (at key : ℕ) (d : Document) → IsComponent c bytes → slice_get c.entries at ≡ Some (key, Some d) → 0 < length (record_in c.names d)
-some_bytes finds c bytes at key d is here = cases (length (record_in c.names d)) refl
+some_bytes : FindsContent → (c : Content) (bytes : List ℕ) (at key : ℕ) (d : Document) → IsComponent c bytes → slice_get c.entries at ≡ Some (key, Some d) → 0 < length (record_in (version_of bytes) c.names d)
+some_bytes finds c bytes at key d is here = cases (length (record_in (version_of bytes) c.names d)) refl
   where
-    cases : (n : ℕ) → length (record_in c.names d) ≡ n → 0 < length (record_in c.names d)
+    cases : (n : ℕ) → length (record_in (version_of bytes) c.names d) ≡ n → 0 < length (record_in (version_of bytes) c.names d)
     cases zero none =
-        let gone : slice_get (component_index c).slots at ≡ Some (slot key 0) = slot_there c.names c.entries at (key, Some d) here ∙ ap (λ n. Some (slot key n)) none in
+        let gone : slice_get (component_index (version_of bytes) c).slots at ≡ Some (slot key 0) = slot_there (version_of bytes) c.names c.entries at (key, Some d) here ∙ ap (λ n. Some (slot key n)) none in
         let two : Some None ≡ Some (Some d) = sym (finds c bytes key Gone is (at, gone)) ∙ value_of-at c.entries at (key, Some d) is.content.ascends here in
         absurd (cc)
     cases (suc n) some = omega (arith, some)
 
-pub marks_are : (names : List Name) (ws : List Write) → ((at key : ℕ) (d : Document) → slice_get ws at ≡ Some (key, Some d) → 0 < length (record_in names d)) → marks (slots_of (rows_of names ws)) ≡ map (on_value is_some) ws
-marks_are names [] some = refl
-marks_are names ((key, None) ∷ ws) some = ap (λ rest. (key, false) ∷ rest) (marks_are names ws (λ at. some (suc at)))
-marks_are names ((key, Some d) ∷ ws) some =
-    ap (λ mark. (key, mark) ∷ marks (slots_of (rows_of names ws))) (lt-ltb 0 (length (record_in names d)) (some 0 key d refl)) ∙ ap (λ rest. (key, true) ∷ rest) (marks_are names ws (λ at. some (suc at)))
+pub marks_are : (version : ℕ) (names : List Name) (ws : List Write) → ((at key : ℕ) (d : Document) → slice_get ws at ≡ Some (key, Some d) → 0 < length (record_in version names d)) → marks (slots_of (rows_as version names ws)) ≡ map (on_value is_some) ws
+marks_are version names [] some = refl
+marks_are version names ((key, None) ∷ ws) some = ap (λ rest. (key, false) ∷ rest) (marks_are version names ws (λ at. some (suc at)))
+marks_are version names ((key, Some d) ∷ ws) some =
+    ap (λ mark. (key, mark) ∷ marks (slots_of (rows_as version names ws))) (lt-ltb 0 (length (record_in version names d)) (some 0 key d refl)) ∙ ap (λ rest. (key, true) ∷ rest) (marks_are version names ws (λ at. some (suc at)))
 
 shows : {F : Type 0} (told : F → Option (List ℕ)) → FindsContent → (m : ComponentState F) (c : Content) → IsLoadedOf told m c → Shows m c
 shows told finds m c l =
-    subst (λ (i : Index). marks i.slots ≡ map (on_value is_some) c.entries) (sym l.index) (marks_are c.names c.entries (λ at key d here. some_bytes finds c l.bytes at key d l.is here))
+    subst (λ (i : Index). marks i.slots ≡ map (on_value is_some) c.entries) (sym l.index) (marks_are (version_of l.bytes) c.names c.entries (λ at key d here. some_bytes finds c l.bytes at key d l.is here))
 
 -- ---- a list
 
@@ -77,9 +78,9 @@ loaded_at told (x ∷ ms) (y ∷ cs) (suc at) m c all here there = loaded_at tol
 
 -- the record of an entry, as a component has it
 pub record Records (c : Content) (bytes : List ℕ) (at : ℕ) (d : Document) : Type 0 where
-  pub there : record_at (component_index c).slots at bytes ≡ record_in c.names d
-  pub one : IsRecordOfOne c.names d (record_in c.names d)
-  pub within : IsRecordWithin (length c.names) (record_in c.names d)
+  pub there : record_at (component_index (version_of bytes) c).slots at bytes ≡ record_in (version_of bytes) c.names d
+  pub one : IsRecordOfOne (version_of bytes) c.names d (record_in (version_of bytes) c.names d)
+  pub within : IsRecordWithin (version_of bytes) (length c.names) (record_in (version_of bytes) c.names d)
 
 abbrev pub HasRecords : Type 0
 HasRecords = (c : Content) (bytes : List ℕ) (at key : ℕ) (d : Document) → IsComponent c bytes → slice_get c.entries at ≡ Some (key, Some d) → Records c bytes at d
@@ -100,6 +101,6 @@ holds_live told finds has part ms cs key at place is all n =
       live_is = w.4;
       bytes = l.bytes;
       tells = l.tells;
-      record_is = subst (λ (i : Index). IsRecordOfOne i.names d (record_at i.slots place.at l.bytes)) (sym l.index) (subst (IsRecordOfOne c.names d) (sym r.there) r.one);
-      within = subst (λ (i : Index). IsRecordWithin (length i.names) (record_at i.slots place.at l.bytes)) (sym l.index) (subst (IsRecordWithin (length c.names)) (sym r.there) r.within);
+      record_is = subst (λ (i : Index). IsRecordOfOne i.version i.names d (record_at i.slots place.at l.bytes)) (sym l.index) (subst (IsRecordOfOne (version_of l.bytes) c.names d) (sym r.there) r.one);
+      within = subst (λ (i : Index). IsRecordWithin i.version (length i.names) (record_at i.slots place.at l.bytes)) (sym l.index) (subst (IsRecordWithin (version_of l.bytes) (length c.names)) (sym r.there) r.within);
     }

@@ -18,6 +18,6 @@ pub record HoldsLive {F : Type 0} (told : F → Option (List ℕ)) (components :
   pub live_is : value_of key (live cs) ≡ Some document
   pub bytes : List ℕ
   pub tells : told component.file ≡ Some bytes
-  pub record_is : IsRecordOfOne component.index.names document (record_at component.index.slots place.at bytes)
+  pub record_is : IsRecordOfOne component.index.version component.index.names document (record_at component.index.slots place.at bytes)
   -- so that it is no damage
-  pub within : IsRecordWithin (length component.index.names) (record_at component.index.slots place.at bytes)
+  pub within : IsRecordWithin component.index.version (length component.index.names) (record_at component.index.slots place.at bytes)

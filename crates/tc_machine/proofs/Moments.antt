@@ -17,6 +17,7 @@ use Rattle.tc_store.proofs.NameLemmas.{put_there}
 use Rattle.tc_log.specs.Appending.{MeansWithOrWithout}
 use Rattle.tc_log.specs.Spelling.{IsHead, Means, log_at_rest}
 use Rattle.tc_component.specs.Rows.{IsComponent, IsShortWrite, component_bytes}
+use Rattle.tc_component.proofs.Versions.{written_component}
 use Rattle.tc_machine.specs.Events.{Event, device_called, step, with_entry}
 use Rattle.tc_machine.specs.Logs.{IsLog, kept_write, log_head}
 use Rattle.tc_machine.specs.Runs.{Runs, after_moments, calls}
@@ -87,7 +88,7 @@ making c f content records leaves image left = at image (leaves image left)
     at None h = tt
     at (Some b) (inl closed) = inl closed
     at (Some b) (inr (inl before)) = absurd (cc)
-    at (Some b) (inr (inr whole)) = inr (record { content = content; records = records; spelled = whole.same; short = whole.short })
+    at (Some b) (inr (inr whole)) = inr (written_component c b content records whole.same whole.short)
 
 -- where it is the component of a flush
 pub making_flush : (part : Partition) (cs : List Content) (d : Sealed) (c : Content) (f : DiskFile) → IsFlush part cs d.table (length d.logs) c → IsContent c → All IsShortWrite c.entries → LeavesAt (IsShutOrWhole None (component_bytes c)) f

@@ -1,5 +1,6 @@
 -- Small runs of the machine, computed, and one from nothing of which each event may come.
 use Rattle.std.specs.Prelude.{◌≡◌, ◌<◌, ◌^◌, ℕ, List, [], ◌∷◌, ◌++◌, Some, None, fold, codes, if◌then◌else◌, refl, IsUtf8}
+use Rattle.std.specs.Int.Count.{count_leading_zeros}
 use Rattle.std.specs.Str.{chars}
 use Rattle.std.specs.List.Sorted.{IsStrictlySortedBy}
 use Rattle.std.proofs.Common.{sym, subst, arith, inl, inr}
@@ -25,6 +26,7 @@ use Rattle.tc_log.specs.declared.write.Write as log
 use Rattle.tc_log.specs.declared.write.Write.TheVariants.{Upsert}
 use Rattle.tc_log.specs.Spelling.{IsHead, IsFrame, log_at_rest}
 use Rattle.tc_component.specs.Rows.{component_bytes, IsShortWrite, IsComponent}
+use Rattle.tc_component.proofs.Versions.{written_component}
 use Rattle.tc_machine.specs.Writes.{IsStorableWrite}
 use Rattle.tc_machine.specs.Logs.{log_head, IsLog, LeavesLog}
 use Rattle.tc_machine.specs.Pictures.{IfOpen, Opens}
@@ -91,12 +93,8 @@ flag_is_write =
     record { key = entry.key; document = entry.document; storable = entry.storable; short = omega arith }
 
 pub flag_is_component : IsComponent flag_content (component_bytes flag_content)
-flag_is_component = record {
-  content = flag_goes_on.content;
-  records = All-cons IsShortWrite (set 1 flag) [] flag_is_write.short (All-nil IsShortWrite);
-  spelled = refl;
-  short = omega arith;
-}
+unfolding count_leading_zeros
+flag_is_component = written_component flag_content (component_bytes flag_content) flag_goes_on.content (All-cons IsShortWrite (set 1 flag) [] flag_is_write.short (All-nil IsShortWrite)) refl (omega arith)
 
 pub one_head : (g : ℕ) → 0 < g → g < 2 ^ 63 → IsHead (log_head one_of_one g)
 one_head g first last = record { number = omega arith; count = omega arith; first = first; last = omega (arith, last) }

@@ -21,6 +21,7 @@ use Rattle.tc_store.specs.Images.{IsWithin, MayLeave}
 use Rattle.tc_store.proofs.NameLemmas.{same_name-is}
 use Rattle.tc_log.specs.Spelling.{frame_fields, log_bytes}
 use Rattle.tc_component.specs.Rows.{component_bytes, IsShortWrite, IsComponent}
+use Rattle.tc_component.proofs.Versions.{written_component}
 use Rattle.tc_machine.specs.Writes.{IsStorableWrite}
 use Rattle.tc_machine.specs.Logs.{log_head, IsLog, HasLogHead}
 use Rattle.tc_machine.specs.Components.{file_of, LeavesComponent, HasComponentHead}
@@ -173,7 +174,7 @@ none_is_content from to first order last = record {
 }
 
 none_is_component : (from to : ℕ) → 0 < from → from ≤ to → to < 2 ^ 63 → IsComponent (none_in from to) (component_bytes (none_in from to))
-none_is_component from to first order last = record { content = none_is_content from to first order last; records = All-nil IsShortWrite; spelled = refl; short = omega arith }
+none_is_component from to first order last = written_component (none_in from to) (component_bytes (none_in from to)) (none_is_content from to first order last) (All-nil IsShortWrite) refl (omega arith)
 
 abbrev two : List Content
 two = none_in 1 1 ∷ none_in 2 2 ∷ []

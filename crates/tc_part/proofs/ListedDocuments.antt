@@ -32,13 +32,13 @@ if_told (Some x) bytes P is p = subst P (same_Some x bytes is) p
 
 -- what is so of each document that the record at the place is the only one of, is so of the live one
 pub live_document : {F : Type 0} (told : F → Option (List ℕ)) (cs : List (ComponentState F)) (contents : List Content) (key n : ℕ) (place : Place) (m : ComponentState F) (Q : Document → Type 0) → HoldsLive told cs contents key n place
-    → slice_get cs n ≡ Some m → ((d : Document) → IfSome (told m.file) (λ whole. IsRecordOfOne m.index.names d (record_at m.index.slots place.at whole) → Q d)) → (d : Document) × (value_of key (live contents) ≡ Some d) × Q d
+    → slice_get cs n ≡ Some m → ((d : Document) → IfSome (told m.file) (λ whole. IsRecordOfOne m.index.version m.index.names d (record_at m.index.slots place.at whole) → Q d)) → (d : Document) × (value_of key (live contents) ≡ Some d) × Q d
 live_document told cs contents key n place m Q h here each =
     let same : h.component ≡ m = same_Some h.component m (sym h.here ∙ here) in
     let d = h.document in
-    let one = subst (λ (c : ComponentState _). IsRecordOfOne c.index.names d (record_at c.index.slots place.at h.bytes)) same h.record_is in
+    let one = subst (λ (c : ComponentState _). IsRecordOfOne c.index.version c.index.names d (record_at c.index.slots place.at h.bytes)) same h.record_is in
     let tells = subst (λ (c : ComponentState _). told c.file ≡ Some h.bytes) same h.tells in
-    (d, h.live_is, if_told (told m.file) h.bytes (λ whole. IsRecordOfOne m.index.names d (record_at m.index.slots place.at whole) → Q d) tells (each d) one)
+    (d, h.live_is, if_told (told m.file) h.bytes (λ whole. IsRecordOfOne m.index.version m.index.names d (record_at m.index.slots place.at whole) → Q d) tells (each d) one)
 
 -- ---- how the read is counted
 

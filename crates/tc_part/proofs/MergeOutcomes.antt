@@ -11,7 +11,8 @@ use Rattle.tc_store.specs.StoreCalls.{comes_home, content_now, frozen_entry}
 use Rattle.tc_store.proofs.MomentLemmas.{told_map}
 use Rattle.tc_component.specs.Loading.{ComponentState}
 use Rattle.tc_component.specs.Rows.{IsComponent, component_bytes, component_index, head_of}
-use Rattle.tc_component.specs.Spelling.{name_of}
+use Rattle.tc_component.specs.Spelling.{name_of, written_version}
+use Rattle.tc_component.proofs.Versions.{written_tells}
 use Rattle.tc_list.specs.declared.run.Run.{Run}
 use Rattle.tc_list.specs.Runs.{in_run, neighbours, swapped}
 use Rattle.tc_list.proofs.RunPairs.{AllZip-swapped}
@@ -92,7 +93,7 @@ module _ (t : Told) (p : PartView) (m : Merging) (device : List DiskFile) (is : 
       frozen = comes_home (file_of m.target) frozen_entry device t.disks
 
       abbrev target : ToldComponent
-      target = record { content = Some (component_bytes m.target); index = component_index m.target }
+      target = record { content = Some (component_bytes m.target); index = component_index written_version m.target }
 
       -- what the part tells once the component is listed
       abbrev listed : Told
@@ -105,7 +106,7 @@ module _ (t : Told) (p : PartView) (m : Merging) (device : List DiskFile) (is : 
       is_listed =
           merge_listed t listed p m device is some made are_told
           (subst (λ cs. AllZip IsOfContent (swapped run target t.components) cs) (sym list_is)
-          (AllZip-swapped IsOfContent run t.components p.list target m.target (omega (arith, lies)) is.view.components (record { index = refl; file = made.whole }))) refl
+          (AllZip-swapped IsOfContent run t.components p.list target m.target (omega (arith, lies)) is.view.components (record { index = refl; file = made.whole; version = sym (written_tells m.target) }))) refl
 
       generation_stays : generation_of (merged_part p) ≡ generation_of p
       generation_stays = subst (λ q. IsPart t q → generation_of (merged_part q) ≡ generation_of q) (ap (λ o. record p { merge = o }) (sym some)) (λ soon. merged_active p m soon.memory) is

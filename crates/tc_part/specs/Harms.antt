@@ -36,7 +36,7 @@ pub record IsHarmOf {F : Type 0} (content : F → Option (List ℕ)) (c : Compon
   pub file_is : file ≡ name_of c.index.head
   pub place_is : place ≡ record_place c.index.slots entry.at
   pub long : length bytes ≡ length_at c.index.slots entry.at
-  pub broken : (IsRecordWithin (length c.index.names) bytes → ⊥) ⊎ ((d : Document) → IsRecordUnder c.index.names d bytes → ⊥)
+  pub broken : (IsRecordWithin c.index.version (length c.index.names) bytes → ⊥) ⊎ ((d : Document) → IsRecordUnder c.index.names d bytes → ⊥)
   pub told : AreOfFile content c entry.at bytes
 
 -- so of one in a list

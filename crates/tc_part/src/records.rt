@@ -41,7 +41,7 @@ pub fn shape_at<F: Frozen>(
     watch: &mut F::Watch,
 ) -> Result<Shape, PartFault>
     requires { IsPlace component.now.index.slots place }
-    ensures shape { IfOk result (λ shape. (d : Document) → IfSome (F.content component.now.file) (λ whole. IsRecordOfOne component.now.index.names d (bytes_of_record component.now.index.slots place.at whole) → shape_tree shape ≡ document_shape d)) }
+    ensures shape { IfOk result (λ shape. (d : Document) → IfSome (F.content component.now.file) (λ whole. IsRecordOfOne component.now.index.version component.now.index.names d (bytes_of_record component.now.index.slots place.at whole) → shape_tree shape ≡ document_shape d)) }
     ensures harmed { IfErr result (λ fault. IsOfRead fault (λ file at bytes. IsHarmOf (λ file. F.content file) component.now file at bytes)) }
     ensures counted { IsCountedOnce (IsErrOf result PartFault.Disk) (IsOk result) (F.Watch.counts watch.old) (F.Watch.counts watch.new) }
 {
@@ -61,7 +61,7 @@ pub(crate) fn text_at<F: Frozen>(
     watch: &mut F::Watch,
 ) -> Result<Bytes, PartFault>
     requires { IsPlace component.now.index.slots place }
-    ensures text { IfOk result (λ text. (d : Document) → IfSome (F.content component.now.file) (λ whole. IsRecordOfOne component.now.index.names d (bytes_of_record component.now.index.slots place.at whole) → text ≡ document_text key d)) }
+    ensures text { IfOk result (λ text. (d : Document) → IfSome (F.content component.now.file) (λ whole. IsRecordOfOne component.now.index.version component.now.index.names d (bytes_of_record component.now.index.slots place.at whole) → text ≡ document_text key d)) }
     ensures document { IfOk result (λ text. (d : Document) × (text ≡ document_text key d)) }
     ensures read { IfOk result (λ text. (d : Document) × (text ≡ document_text key d) × IsReadOf (λ file. F.content file) component.now place d) }
     ensures harmed { IfErr result (λ fault. IsOfRead fault (λ file at bytes. IsHarmOf (λ file. F.content file) component.now file at bytes)) }
@@ -88,7 +88,7 @@ fn record_at<F: Frozen>(
 ) -> Result<Bytes, PartFault>
     requires { IsPlace component.now.index.slots place }
     ensures read { IfOk result (λ read. IfSome (F.content component.now.file) (λ whole. read ≡ bytes_of_record component.now.index.slots place.at whole)) }
-    ensures found { IfOk result (λ read. (length read ≡ length_at component.now.index.slots place.at) × IsRecordWithin (length component.now.index.names) read) }
+    ensures found { IfOk result (λ read. (length read ≡ length_at component.now.index.slots place.at) × IsRecordWithin component.now.index.version (length component.now.index.names) read) }
     ensures harmed { IfErr result (λ fault. IsOfRead fault (λ file at bytes. IsHarmOf (λ file. F.content file) component.now file at bytes)) }
     ensures counted { IsCountedOnce (IsErrOf result PartFault.Disk) (IsOk result) (F.Watch.counts watch.old) (F.Watch.counts watch.new) }
 {

@@ -6,8 +6,10 @@ use Rattle.std.proofs.lemmas.Bool.{false≢true}
 use Rattle.std.proofs.lemmas.List.Elements.{All-head, All-tail}
 use Rattle.tc_component.specs.Loaded.{IsLoadedOf}
 use Rattle.tc_component.specs.Loading.{ComponentState}
-use Rattle.tc_component.specs.Rows.{IsComponent}
+use Rattle.tc_component.specs.Reading.{version_of}
+use Rattle.tc_component.specs.Rows.{component_index, IsComponent}
 use Rattle.tc_component.specs.Spelling.{Index, name_of}
+use Rattle.tc_component.proofs.Versions.{of_version}
 use Rattle.tc_lsm_model.specs.Contents.{Content}
 use Rattle.tc_lsm_model.specs.Merges.{in_run as contents_in_run, swapped as contents_swapped}
 use Rattle.tc_list.specs.declared.run.Run.{Run}
@@ -19,11 +21,11 @@ use Rattle.tc_part_model.specs.PartState.{AreTold, ToldComponent, told_component
 
 module _ {F : Type 0} (content : F → Option (List ℕ)) where
   pub loaded_of : (component : ComponentState F) (c : Content) → IsOfContent (told_component content component) c → IsSome (content component.file) → IsLoadedOf content component c
-  loaded_of component c of told = at (content component.file) refl of.file told
+  loaded_of component c of told = at (content component.file) refl of.file of.version told
     where
-      at : (o : Option (List ℕ)) → content component.file ≡ o → IfSome o (λ bytes. IsComponent c bytes) → IsSome o → IsLoadedOf content component c
-      at None same is some = absurd (false≢true some)
-      at (Some bytes) same is some = record { bytes = bytes; tells = same; is = is; index = of.index }
+      at : (o : Option (List ℕ)) → content component.file ≡ o → IfSome o (λ bytes. IsComponent c bytes) → IfSome o (λ bytes. component.index.version ≡ version_of bytes) → IsSome o → IsLoadedOf content component c
+      at None same is version some = absurd (false≢true some)
+      at (Some bytes) same is version some = record { bytes = bytes; tells = same; is = is; index = of.index ∙ ap (λ (v : ℕ). component_index v c) version }
 
   pub all_loaded : (components : List (ComponentState F)) (cs : List Content) → AllZip IsOfContent (map (told_component content) components) cs → AreTold (map (told_component content) components) → AllZip (IsLoadedOf content) components cs
   all_loaded [] [] all told = tt
@@ -34,7 +36,11 @@ module _ {F : Type 0} (content : F → Option (List ℕ)) where
       (loaded_of m c all.0 (All-head (λ (x : ToldComponent). IsSome x.content) (told_component content m) rest told), all_loaded components cs all.1 (All-tail (λ (x : ToldComponent). IsSome x.content) (told_component content m) rest told))
 
   pub is_of : (component : ComponentState F) (c : Content) → IsLoadedOf content component c → IsOfContent (told_component content component) c
-  is_of component c l = record { index = l.index; file = subst (λ o. IfSome o (λ bytes. IsComponent c bytes)) (sym l.tells) l.is }
+  is_of component c l = record {
+    index = of_version component.index (version_of l.bytes) c l.index;
+    file = subst (λ o. IfSome o (λ bytes. IsComponent c bytes)) (sym l.tells) l.is;
+    version = subst (λ o. IfSome o (λ bytes. component.index.version ≡ version_of bytes)) (sym l.tells) (ap (λ (i : Index). i.version) l.index);
+  }
 
   -- ---- lists of what is told
 

@@ -6,7 +6,8 @@ use Rattle.tc_model.specs.KnownNames.{HasEach}
 use Rattle.tc_store.specs.Moments.{IfTold}
 use Rattle.tc_memory.specs.Table as memory
 use Rattle.tc_memory.specs.DocumentTables.{kept_table, IsStoredAt}
-use Rattle.tc_component.specs.Rows.{component_index, IsComponent}
+use Rattle.tc_component.specs.Reading.{version_of}
+use Rattle.tc_component.specs.Rows.{IsIndexOf, IsComponent}
 use Rattle.tc_plain_model.specs.Store.{Store}
 use Rattle.tc_plain_model.specs.Writes.{Pairs, Write}
 use Rattle.tc_lsm_model.specs.Contents.{Partition, Content}
@@ -23,8 +24,9 @@ use Rattle.tc_part_model.specs.PartFiles.{AreKeptAt, AreJobsOut, IfFilesTold, Lo
 
 -- a component was loaded of the file of a content
 pub record IsOfContent (component : ToldComponent) (c : Content) : Type 0 where
-  pub index : component.index ≡ component_index c
+  pub index : IsIndexOf component.index c
   pub file : IfSome component.content (λ bytes. IsComponent c bytes)
+  pub version : IfSome component.content (λ bytes. component.index.version ≡ version_of bytes)
 
 -- what a table holds of a key, and whether the key has something below
 abbrev pub shown : memory.Kept → memory.Held × Bool

@@ -31,11 +31,11 @@ found_there cs key n m place here newest = subst (λ (c : ComponentState _). IsF
 -- the row of the record there is that of the live document
 pub listed_row : {F : Type 0} (told : F → Option (List ℕ)) (cs : List (ComponentState F)) (contents : List Content) (key n : ℕ) (place : Place) (m : ComponentState F) (ask : Ask) (rows : List RowText)
     → HoldsLive told cs contents key n place → slice_get cs n ≡ Some m
-    → ((d : Document) → IfSome (told m.file) (λ whole. IsRecordOfOne m.index.names d (record_at m.index.slots place.at whole) → rows ≡ map row_text (row_of ask.equal_to key (reached ask.path d)))) → rows ≡ texts_at ask key (live contents)
+    → ((d : Document) → IfSome (told m.file) (λ whole. IsRecordOfOne m.index.version m.index.names d (record_at m.index.slots place.at whole) → rows ≡ map row_text (row_of ask.equal_to key (reached ask.path d)))) → rows ≡ texts_at ask key (live contents)
 listed_row told cs contents key n place m ask rows h here each =
     let same : h.component ≡ m = same_Some h.component m (sym h.here ∙ here) in
     let d = h.document in
-    let one = subst (λ (c : ComponentState _). IsRecordOfOne c.index.names d (record_at c.index.slots place.at h.bytes)) same h.record_is in
+    let one = subst (λ (c : ComponentState _). IsRecordOfOne c.index.version c.index.names d (record_at c.index.slots place.at h.bytes)) same h.record_is in
     let tells = subst (λ (c : ComponentState _). told c.file ≡ Some h.bytes) same h.tells in
-    subst (λ o. IfSome o (λ whole. IsRecordOfOne m.index.names d (record_at m.index.slots place.at whole) → rows ≡ map row_text (row_of ask.equal_to key (reached ask.path d)))) tells (each d) one
+    subst (λ o. IfSome o (λ whole. IsRecordOfOne m.index.version m.index.names d (record_at m.index.slots place.at whole) → rows ≡ map row_text (row_of ask.equal_to key (reached ask.path d)))) tells (each d) one
     ∙ ap (map row_text) (rows_of_one ask key (live contents) d h.live_is)

@@ -3,17 +3,19 @@ use Rattle.std.proofs.Common.{◌≡◌, ◌∙◌, ◌<◌, ◌^◌, ℕ, Bool,
 use Rattle.std.specs.Prelude.{IfSome}
 use Rattle.std.specs.List.{AllZip}
 use Rattle.std.proofs.lemmas.Option.{same_Some, slice_get_within, get_or_from_slice_get}
-use Rattle.tc_compact.specs.Compacted.{IsCompactedRecordOf}
+use Rattle.tc_compact.specs.Compacted.{IsCompactedIn}
 use Rattle.tc_compact.specs.Meant.{IsRecordUnder}
 use Rattle.tc_component.specs.Columns.{IsFound}
 use Rattle.tc_component.specs.Fetching.{record_at, IsRecordWithin}
 use Rattle.tc_component.specs.Loaded.{IsLoadedOf}
 use Rattle.tc_component.specs.Loading.{ComponentState}
 use Rattle.tc_component.specs.Meaning.{MeansOf, IsRecordOfOne}
+use Rattle.tc_component.specs.Reading.{version_of}
 use Rattle.tc_component.specs.Rows.{component_index, record_in, IsShortWrite, IsComponent}
 use Rattle.tc_component.specs.Spelling.{Index}
 use Rattle.tc_component.specs.declared.found.Found.{Found}
 use Rattle.tc_component.specs.declared.found.Found.TheVariants.{At}
+use Rattle.tc_list.proofs.LoadedContents.{Records}
 use Rattle.tc_lsm_model.specs.Contents.{Content, IsEntry}
 use Rattle.tc_model.proofs.StoredDocuments.{keyless_object}
 use Rattle.tc_model.specs.Document.{Name, Document}
@@ -21,7 +23,7 @@ use Rattle.tc_plain_model.specs.Writes.{set}
 use Rattle.tc_query.specs.Faults.{OfDamage, IsUnharmed, AreNoRecord, IsHarmOf, IsHarmIn}
 use Rattle.tc_query.specs.declared.fault.QueryFault.{QueryFault}
 use Rattle.tc_query.specs.declared.fault.QueryFault.TheVariants.{Disk, Damaged, Memory}
-use Rattle.tc_record.specs.Record.{NumberedTree, record_of, IsRecordOf, IsNumberedRecordOf}
+use Rattle.tc_record.specs.Record.{NumberedTree, record_of, IsRecordOf, IsNumberedRecordIn}
 use Rattle.tc_store.specs.Judging.{IsDamageOr}
 use Rattle.tc_store.specs.declared.damage.ReadFault.{ReadFault}
 use Rattle.tc_store.specs.declared.damage.ReadFault.TheVariants.{Damaged as ReadDamage}
@@ -37,21 +39,21 @@ pub damage_given : (at : ℕ) (bytes : List ℕ) (fault : ReadFault) (place : �
 damage_given at bytes fault place kept is same = subst (IsDamageOr at bytes) same is
 
 -- a record whose numbers mean one document means no other
-pub means_one : (names : List Name) (bytes : List ℕ) (named : Bool) (d e : Document) → ((x : Document) → IsRecordOf x bytes → named ≡ true) → ((n : NumberedTree) → IsNumberedRecordOf n bytes → named ≡ false)
-    → IsRecordUnder names e bytes → IsRecordOfOne names d bytes → e ≡ d
-means_one names bytes named d e with_names with_numbers (inl is) one =
+pub means_one : (version : ℕ) (names : List Name) (bytes : List ℕ) (named : Bool) (d e : Document) → ((x : Document) → IsRecordOf x bytes → named ≡ true) → ((n : NumberedTree) → IsNumberedRecordIn version n bytes → named ≡ false)
+    → IsRecordUnder names e bytes → IsRecordOfOne version names d bytes → e ≡ d
+means_one version names bytes named d e with_names with_numbers (inl is) one =
     let yes = with_names e is in
     let no = with_numbers _ one.record_is.numbered in
     absurd (cc)
-means_one names bytes named d e with_names with_numbers (inr is) one = one.one e is.0 is.1 is.2
+means_one version names bytes named d e with_names with_numbers (inr is) one = one.one e is.0 is.1 is.2
 
 -- ---- no damage
 
 -- what a component's index and its file have of its content
 pub record AreContents : Type 0 where
-  pub found : (c : Content) (bytes : List ℕ) (key : ℕ) (found : Found) → IsComponent c bytes → IsFound (component_index c).slots key found → MeansOf c.entries key found
+  pub found : (c : Content) (bytes : List ℕ) (key : ℕ) (found : Found) → IsComponent c bytes → IsFound (component_index (version_of bytes) c).slots key found → MeansOf c.entries key found
   pub read : (c : Content) (bytes : List ℕ) (at key : ℕ) (d : Document) → IsComponent c bytes → slice_get c.entries at ≡ Some (set key d)
-      → (record_at (component_index c).slots at bytes ≡ record_in c.names d) × IsRecordOfOne c.names d (record_in c.names d) × IsRecordWithin (length c.names) (record_in c.names d)
+      → Records c bytes at d
 
 -- the document of an entry has a record
 has_record : (c : Content) (bytes : List ℕ) (at key : ℕ) (d : Document) → IsComponent c bytes → slice_get c.entries at ≡ Some (set key d) → IsRecordOf d (record_of d)
@@ -74,17 +76,18 @@ module _ {F : Type 0} (told : F → Option (List ℕ)) (laws : AreContents) wher
       let means = laws.found c l.bytes key (At h.entry) l.is (subst (λ (i : Index). IsFound i.slots key (At h.entry)) l.index h.there.1) in
       let d = means.0 in
       let here = means.2 in
+      let version = version_of l.bytes in
       let read = laws.read c l.bytes at key d l.is here in
-      let same : bytes ≡ record_in c.names d =
+      let same : bytes ≡ record_in version c.names d =
       subst (λ o. IfSome o (λ whole. bytes ≡ record_at component.index.slots at whole)) l.tells h.stands
-      ∙ ap (λ (i : Index). record_at i.slots at l.bytes) l.index ∙ read.0 in
-      broken (subst (λ names. AreNoRecord names bytes) (ap (λ (i : Index). i.names) l.index) h.broken)
-      (subst (IsRecordWithin (length c.names)) (sym same) read.2)
-      (inr (record_of d, has_record c l.bytes at key d l.is here, (1, (inl refl, subst (IsCompactedRecordOf c.names d) (sym same) read.1.record_is))))
+      ∙ ap (λ (i : Index). record_at i.slots at l.bytes) l.index ∙ read.there in
+      broken (subst (λ (i : Index). AreNoRecord i.version i.names bytes) l.index h.broken)
+      (subst (IsRecordWithin version (length c.names)) (sym same) read.within)
+      (inr (record_of d, has_record c l.bytes at key d l.is here, (version, (read.within.told, subst (IsCompactedIn version c.names d) (sym same) read.one.record_is))))
     where
-      broken : {names : List Name} {d : Document} → AreNoRecord names bytes → IsRecordWithin (length names) bytes → IsRecordUnder names d bytes → ⊥
+      broken : {version : ℕ} {names : List Name} {d : Document} → AreNoRecord version names bytes → IsRecordWithin version (length names) bytes → IsRecordUnder names d bytes → ⊥
       broken (inl never) within under = never within
-      broken {names} {d} (inr never) within under = never d under
+      broken {version} {names} {d} (inr never) within under = never d under
 
   harm_at : (cs : List (ComponentState F)) (contents : List Content) (at : ℕ) (component : ComponentState F) (file : FileName) (place : ℕ) (bytes : List ℕ) → AllZip (IsLoadedOf told) cs contents
       → slice_get cs at ≡ Some component → IsHarmOf told component file place bytes → ⊥

@@ -22,9 +22,9 @@ OfDamage Memory P = Unit {0}
 abbrev pub IsUnharmed : QueryFault → Type 0
 IsUnharmed fault = OfDamage fault (λ file place bytes. ⊥)
 
--- bytes are the record of no document under a dictionary
-abbrev pub AreNoRecord : List Name → List ℕ → Type 0
-AreNoRecord names bytes = (IsRecordWithin (length names) bytes → ⊥) ⊎ ((document : Document) → IsRecordUnder names document bytes → ⊥)
+-- bytes are no record of the form of a version, or that of no document under a dictionary
+abbrev pub AreNoRecord : ℕ → List Name → List ℕ → Type 0
+AreNoRecord version names bytes = (IsRecordWithin version (length names) bytes → ⊥) ⊎ ((document : Document) → IsRecordUnder names document bytes → ⊥)
 
 -- The bytes stand at the place of an entry of a component, and are the record of no document under its names; and they are
 -- those of the file, if that tells.
@@ -34,7 +34,7 @@ pub record IsHarmOf {F : Type 0} (told : F → Option (List ℕ)) (component : C
   pub file_is : file ≡ name_of component.index.head
   pub place_is : place ≡ record_place component.index.slots entry.at
   pub long : length bytes ≡ length_at component.index.slots entry.at
-  pub broken : AreNoRecord component.index.names bytes
+  pub broken : AreNoRecord component.index.version component.index.names bytes
   pub stands : IfSome (told component.file) (λ whole. bytes ≡ record_at component.index.slots entry.at whole)
 
 -- so of one of these components

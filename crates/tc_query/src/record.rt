@@ -39,7 +39,7 @@ pub(crate) fn row_stored<F: Frozen>(
     requires of { HoldsPart (F.content component.now.file) cursor.old }
 
     ensures of { HoldsPart (F.content component.now.file) cursor.new }
-    ensures row { IfOk result (λ row. (d : Document) → IfSome (F.content component.now.file) (λ whole. IsRecordOfOne component.now.index.names d (bytes_of_record component.now.index.slots place.at whole)
+    ensures row { IfOk result (λ row. (d : Document) → IfSome (F.content component.now.file) (λ whole. IsRecordOfOne component.now.index.version component.now.index.names d (bytes_of_record component.now.index.slots place.at whole)
         → option_to_list (option_map row_of row) ≡ map row_text (row_reached (ask_of ask.now).equal_to key (reached (ask_of ask.now).path d)))) }
     ensures document { IfOk result (λ row. (d : Document) × IsReadOf (λ file. F.content file) component.now place d × (option_to_list (option_map row_of row) ≡ map row_text (row_reached (ask_of ask.now).equal_to key (reached (ask_of ask.now).path d)))) }
     ensures harmed { IfErr result (λ fault. OfDamage fault (λ file at bytes. IsHarmOf (λ file. F.content file) component.now file at bytes)) }
@@ -68,7 +68,7 @@ fn hold<F: Frozen>(
 
     ensures of { HoldsPart (F.content component.now.file) cursor.new }
     ensures has { OnOk result (HasRecord component.now.index place.at cursor.new) }
-    ensures found { OnOk result (IsRecordWithin (length component.now.index.names) (record_held component.now.index place.at cursor.new)) }
+    ensures found { OnOk result (IsRecordWithin component.now.index.version (length component.now.index.names) (record_held component.now.index place.at cursor.new)) }
     ensures read { OnOk result (IfSome (F.content component.now.file) (λ whole. record_held component.now.index place.at cursor.new ≡ bytes_of_record component.now.index.slots place.at whole)) }
     ensures harmed { IfErr result (λ fault. OfDamage fault (λ file at bytes. IsHarmOf (λ file. F.content file) component.now file at bytes)) }
     ensures held { HasRecord component.now.index place.at cursor.old → (cursor.new ≡ cursor.old) × (F.Watch.counts watch.new ≡ F.Watch.counts watch.old) }

@@ -18,15 +18,18 @@ use Rattle.tc_store.specs.Judging.{damage}
 use Rattle.tc_store.specs.NameOrder.{name_cmp}
 use Rattle.tc_store.proofs.GateLemmas.{settled_leaves}
 use Rattle.tc_store.proofs.NameLemmas.{same_name-is, same_name-refl}
+use Rattle.tc_component.specs.Reading.{version_of}
+use Rattle.tc_component.specs.Rows.{component_index}
+use Rattle.tc_component.specs.Spelling.{Index}
 use Rattle.tc_machine.specs.Components.{LeavesComponent, file_of}
-use Rattle.tc_machine.specs.Logs.{IsLog}
+use Rattle.tc_machine.specs.Logs.{IsLog, kept_write}
 use Rattle.tc_machine.specs.Pictures.{HasLogs, Opens}
 use Rattle.tc_machine.specs.Steps.{nothing_held}
 use Rattle.tc_recover.specs.declared.cause.FilesCause.{FilesCause}
 use Rattle.tc_recover.specs.declared.cause.FilesCause.TheVariants.{Disk as DiskFault, Damaged, Layout, Memory}
 use Rattle.tc_recover.specs.Causes.{IsNoRefusal}
 use Rattle.tc_recover.specs.Files.{picture_at}
-use Rattle.tc_recover.specs.Lawful.{DiskOpens, found_of}
+use Rattle.tc_recover.specs.Lawful.{DiskOpens, found_of, images_of, index_of_file}
 use Rattle.tc_recover.specs.Opening.{AnswersBy, DiskJudged, Found, OpeningJudged}
 use Rattle.tc_recover.specs.Refusals.{Refusal, breaks, clashes, strays}
 use Rattle.tc_recover.proofs.Members.{member_cases, member_first, member_further, no_member}
@@ -112,24 +115,30 @@ opens_same part p q cs logs same o = record {
 
 -- what is read of a lawful picture, and that one thing is judged of each
 abbrev pub IsRead : Type 0
-IsRead = (part : Partition) (picture : Picture) (cs : List Content) (logs : List (List Write)) → IsStrictlySortedBy name_cmp (map (λ (file : FileName × List ℕ). file.0) picture) → Opens part picture cs logs → OpeningJudged part picture (Ok (found_of cs logs))
+IsRead = (part : Partition) (picture : Picture) (cs : List Content) (logs : List (List Write)) → IsStrictlySortedBy name_cmp (map (λ (file : FileName × List ℕ). file.0) picture) → Opens part picture cs logs → OpeningJudged part picture (Ok (found_of (bytes_at picture) cs logs))
 
 abbrev pub IsOneWay : Type 0
 IsOneWay = (part : Partition) (picture : Picture) (a b : Result Found Refusal) → OpeningJudged part picture a → OpeningJudged part picture b → a ≡ b
+
+-- the same files have the same versions
+pub same_indexes : (p q : FileName → Image) (cs : List Content) → ((name : FileName) → p name ≡ q name) → map (index_of_file p) cs ≡ map (index_of_file q) cs
+same_indexes p q [] same = refl
+same_indexes p q (c ∷ cs) same = ap (λ (image : Image). component_index (version_of (unwrap_or image [])) c ∷ map (index_of_file p) cs) (same (file_of c)) ∙ ap (λ (is : List Index). index_of_file q c ∷ is) (same_indexes p q cs same)
 
 names_again : (disk : Disk) (names : List FileName) → map (λ (file : FileName × List ℕ). file.0) (picture_at disk names) ≡ names
 names_again disk [] = refl
 names_again disk (n ∷ ns) = ap (λ ms. n ∷ ms) (names_again disk ns)
 
 -- of a lawful disk what it opens as is read, and nothing else
-pub disk_read : IsRead → IsOneWay → (part : Partition) (disk : Disk) (cs : List Content) (logs : List (List Write)) (answer : Result Found Refusal) → IsAtRest disk → DiskOpens part disk cs logs → DiskJudged part disk answer → answer ≡ Ok (found_of cs logs)
+pub disk_read : IsRead → IsOneWay → (part : Partition) (disk : Disk) (cs : List Content) (logs : List (List Write)) (answer : Result Found Refusal) → IsAtRest disk → DiskOpens part disk cs logs → DiskJudged part disk answer → answer ≡ Ok (found_of (images_of disk) cs logs)
 disk_read reads one_way part disk cs logs answer rests opens judged =
     let names = judged.0 in
     let picture = picture_at disk names in
     let same : (name : FileName) → bytes_at opens.picture name ≡ bytes_at picture name = λ name. left_bytes disk rests opens.picture opens.left name ∙ sym (all_bytes disk rests names judged.1 name) in
     let opened = opens_same part opens.picture picture cs logs same opens.opens in
     let sorted = subst (IsStrictlySortedBy name_cmp) (sym (names_again disk names)) judged.2 in
-    one_way part picture answer (Ok (found_of cs logs)) judged.3 (reads part picture cs logs sorted opened)
+    one_way part picture answer (Ok (found_of (bytes_at picture) cs logs)) judged.3 (reads part picture cs logs sorted opened)
+    ∙ ap (λ (is : List Index). let f : Result Found Refusal = Ok (record { components = is; logs = map (map kept_write) logs }) in f) (same_indexes (bytes_at picture) (images_of disk) cs (all_bytes disk rests names judged.1))
 
 -- where one thing alone may be answered, nothing is refused, and what is answered is that
 pub only_passes : {X Y : Type 0} (view : X → Y) (result : Result X FilesCause) (P : Result Y Refusal → Type 0) (y : Y) → ((answer : Result Y Refusal) → P answer → answer ≡ Ok y) → AnswersBy view result P → IsNoRefusal result

@@ -20,6 +20,7 @@ use Rattle.tc_store.specs.Images.{Image}
 use Rattle.tc_store.specs.NameOrder.{name_cmp}
 use Rattle.tc_store.proofs.NameLemmas.{same_name-refl, same_name-is}
 use Rattle.tc_component.specs.Reading as component
+use Rattle.tc_component.specs.Reading.{version_of}
 use Rattle.tc_component.specs.Rows.{IsComponent, component_index, head_of}
 use Rattle.tc_component.specs.Spelling.{Index, name_of}
 use Rattle.tc_log.specs.declared.write.Write.{Write as LogWrite}
@@ -32,7 +33,7 @@ use Rattle.tc_machine.proofs.LogHeads.{log_is_open}
 use Rattle.tc_recover.specs.declared.interval.Interval.{Interval}
 use Rattle.tc_recover.specs.Loading.{component_judged, components_judged, own_judged, then_judged}
 use Rattle.tc_recover.specs.Loads.{is_above, logs_judged}
-use Rattle.tc_recover.specs.Lawful.{found_of}
+use Rattle.tc_recover.specs.Lawful.{found_of, index_of_file}
 use Rattle.tc_recover.specs.Opening.{OpeningJudged, open_in}
 use Rattle.tc_recover.specs.Refusals.{Refusal, file_refused, head_refused, heads_refused, stray}
 use Rattle.tc_recover.specs.Sorting.{Follow, GoTogether, intervals_of, logs_above}
@@ -172,7 +173,7 @@ interval_there (Log g ∷ names) from to member = elim (member_cases (Log g) nam
 component_open : (picture : Picture) (c : Content) (image : Image) → bytes_at picture (file_of c) ≡ image → LeavesComponent c image → Contains (open_in picture) (file_of c)
 component_open picture c None is there = absurd there
 component_open picture c (Some bytes) is there =
-    let opened : is_open_file bytes ≡ true = rw there.spelled refl in
+    let opened : is_open_file bytes ≡ true = ap is_open_file there.spelled in
     open_there picture (file_of c, bytes) (bytes_there picture (file_of c) bytes is) opened
 
 tiles_there : (picture : Picture) (cs : List Content) → All (λ c. LeavesComponent c (bytes_at picture (file_of c))) cs → (t : Interval) → Contains (map tile_of cs) t → Contains (intervals_of (open_in picture)) t
@@ -191,28 +192,29 @@ covered (c ∷ cs) i (inr further) = let rest = covered cs i further in (rest.0,
 
 -- the component of a content is judged to be that content's
 abbrev pub AreJudged : Type 0
-AreJudged = (c : Content) (bytes : List ℕ) → IsComponent c bytes → component.file_judged (name_of (head_of c)) bytes ≡ Ok (component_index c)
+AreJudged = (c : Content) (bytes : List ℕ) → IsComponent c bytes → component.file_judged (name_of (head_of c)) bytes ≡ Ok (component_index (version_of bytes) c)
 
-component_own : AreJudged → (part : Partition) (c : Content) (bytes : List ℕ) → c.part ≡ part → IsComponent c bytes → own_judged part (name_of (head_of c)) bytes ≡ Ok (component_index c)
+component_own : AreJudged → (part : Partition) (c : Content) (bytes : List ℕ) → c.part ≡ part → IsComponent c bytes → own_judged part (name_of (head_of c)) bytes ≡ Ok (component_index (version_of bytes) c)
 component_own judges part c bytes here is =
     let judged = judges c bytes is in
     let passes : stray part c.part.number c.part.count ≡ None = subst (λ (p : Partition). stray p c.part.number c.part.count ≡ None) here (no_stray c.part) in
     rw (judged, passes) refl
 
 -- what stands under the name of a content is read as it
-component_read : AreJudged → (part : Partition) (names : List Name) (c : Content) (image : Image) → c.part ≡ part → Extends c.names names → LeavesComponent c image → component_judged part names (file_of c) (unwrap_or image []) ≡ Ok (component_index c)
+component_read : AreJudged → (part : Partition) (names : List Name) (c : Content) (image : Image) → c.part ≡ part → Extends c.names names → LeavesComponent c image → component_judged part names (file_of c) (unwrap_or image []) ≡ Ok (component_index (version_of (unwrap_or image [])) c)
 component_read judges part names c None here extends there = absurd there
 component_read judges part names c (Some bytes) here extends there = rw (component_own judges part c bytes here there, begins_from c.names names extends) refl
 
 components_read : AreJudged → (part : Partition) (picture : Picture) (generation : ℕ) (pairs : Pairs) (names : List Name) (cs : List Content) (before : List Index) → GoOn part generation pairs names cs → All (λ c. LeavesComponent c (bytes_at picture (file_of c))) cs
-    → components_judged part picture (map tile_of cs) names before ≡ Ok (before ++ map component_index cs)
+    → components_judged part picture (map tile_of cs) names before ≡ Ok (before ++ map (index_of_file (bytes_at picture)) cs)
 components_read judges part picture generation pairs names [] before go there = ap Ok (sym (append-nil before))
 components_read judges part picture generation pairs names (c ∷ cs) before go there =
+    let own = index_of_file (bytes_at picture) c in
     let one = component_read judges part names c (bytes_at picture (file_of c)) go.0.here go.0.extends (there 0 c (omega arith)) in
-    let rest = components_read judges part picture c.to (after_writes pairs c.entries) c.names cs (before ++ component_index c ∷ []) go.1 (λ k d low. there (suc k) d (omega (arith, low))) in
-    let first : components_judged part picture (map tile_of (c ∷ cs)) names before ≡ components_judged part picture (map tile_of cs) c.names (before ++ component_index c ∷ []) =
+    let rest = components_read judges part picture c.to (after_writes pairs c.entries) c.names cs (before ++ own ∷ []) go.1 (λ k d low. there (suc k) d (omega (arith, low))) in
+    let first : components_judged part picture (map tile_of (c ∷ cs)) names before ≡ components_judged part picture (map tile_of cs) c.names (before ++ own ∷ []) =
     ap (λ r. then_judged r (λ d. components_judged part picture (map tile_of cs) d.names (before ++ d ∷ []))) one in
-    first ∙ (rest ∙ ap Ok (append_assoc before (component_index c ∷ []) (map component_index cs)))
+    first ∙ (rest ∙ ap Ok (append_assoc before (own ∷ []) (map (index_of_file (bytes_at picture)) cs)))
 
 -- ---- the logs, read
 
@@ -394,9 +396,9 @@ logs_read part last (file ∷ files) g logs before sorted above none has = read_
 
 -- ---- all of it
 
-pub lawful_read : AreJudged → (part : Partition) (picture : Picture) (cs : List Content) (logs : List (List Write)) → IsStrictlySortedBy name_cmp (names_at picture) → Opens part picture cs logs → OpeningJudged part picture (Ok (found_of cs logs))
+pub lawful_read : AreJudged → (part : Partition) (picture : Picture) (cs : List Content) (logs : List (List Write)) → IsStrictlySortedBy name_cmp (names_at picture) → Opens part picture cs logs → OpeningJudged part picture (Ok (found_of (bytes_at picture) cs logs))
 lawful_read judges part picture cs logs sorted o =
-    all_answers part picture tiles (map component_index cs) (map (map kept_write) logs) passed together (components_read judges part picture 0 [] [] cs [] o.list o.there) (ap (λ last. logs_judged last [] picture) ends ∙ read.judged)
+    all_answers part picture tiles (map (index_of_file (bytes_at picture)) cs) (map (map kept_write) logs) passed together (components_read judges part picture 0 [] [] cs [] o.list o.there) (ap (λ last. logs_judged last [] picture) ends ∙ read.judged)
   where
     tiles : List Interval
     tiles = map tile_of cs

@@ -15,7 +15,7 @@ use Rattle.tc_recover.specs.declared.cause.FilesCause.{FilesCause}
 use Rattle.tc_recover.specs.declared.taken.Taken.{Taken}
 use Rattle.tc_recover.specs.Causes.{IsNoRefusal}
 use Rattle.tc_recover.specs.Files.{picture_in, picture_at, names_in, takes_all, AreLawful, AreTold, AreNamed, TakesSome}
-use Rattle.tc_recover.specs.Lawful.{AreSpare, DiskOpens, KeepsFiles, ReadsAs, found_of}
+use Rattle.tc_recover.specs.Lawful.{AreSpare, DiskOpens, KeepsFiles, ReadsAs, found_of, images_of}
 use Rattle.tc_recover.specs.Opening.{AnswersBy, AreAllTaken, DiskJudged, Found, IsReadCause, IsReadOf, OpeningJudged, found_in}
 use Rattle.tc_recover.specs.Refusals.{Refusal}
 use Rattle.tc_recover.specs.Removing.{needless_names}
@@ -56,7 +56,7 @@ one_found x y same = cc
 pub passes_told : {T : Type 0} (view : T → Found) (part : Partition) (result : Result T FilesCause) (old : List Disk) → IsRead → IsOneWay → IfTold old IsAtRest → IfTold old (λ disk. AnswersBy view result (DiskJudged part disk))
     → IfTold old (λ disk. (cs : List Content) (logs : List (List Stored)) → DiskOpens part disk cs logs → IsNoRefusal result)
 passes_told view part result [] reads one_way rests judged = tt
-passes_told view part result (disk ∷ past) reads one_way rests judged = λ cs logs opens. only_passes view result (DiskJudged part disk) (found_of cs logs) (λ answer is. disk_read reads one_way part disk cs logs answer rests opens is) judged
+passes_told view part result (disk ∷ past) reads one_way rests judged = λ cs logs opens. only_passes view result (DiskJudged part disk) (found_of (images_of disk) cs logs) (λ answer is. disk_read reads one_way part disk cs logs answer rests opens is) judged
 
 pub moments_told : (part : Partition) (old new : List Disk) → EventsKeep → OpeningsKeep → IfTold old IsAtRest → TakesSome old new
     → IfTold old (λ disk. (cs : List Content) (logs : List (List Stored)) → DiskOpens part disk cs logs → EachSince (KeepsFiles part cs logs) old new)
@@ -73,7 +73,7 @@ module _ {T F W : Type 0} (content : F → Option (List ℕ)) (name : F → File
       → AnswersBy (λ x. found_in (list x) (writes x)) result (DiskJudged part disk) → DiskOpens part disk cs logs → IfOk result (λ x. ReadsAs content cs logs (list x) (writes x) (last x))
   opened_one disk past new cs logs (Err cause) rests taken is judged opens = tt
   opened_one disk past new cs logs (Ok x) rests taken is judged opens =
-      reads_as content name part disk past new cs logs files (left x) (list x) (writes x) (last x) rests opens taken is (one_found (found_in (list x) (writes x)) (found_of cs logs) (disk_read reads one_way part disk cs logs (Ok (found_in (list x) (writes x))) rests opens judged))
+      reads_as content name part disk past new cs logs files (left x) (list x) (writes x) (last x) rests opens taken is (one_found (found_in (list x) (writes x)) (found_of (images_of disk) cs logs) (disk_read reads one_way part disk cs logs (Ok (found_in (list x) (writes x))) rests opens judged))
 
   pub opened_told : (old new : List Disk) (result : Result T FilesCause) → IfTold old IsAtRest → AreAllTaken content name files old new → IfOk result (λ x. IsReadOf files (list x) (left x) (last x)) → IfTold old (λ disk. AnswersBy (λ x. found_in (list x) (writes x)) result (DiskJudged part disk))
       → IfTold old (λ disk. (cs : List Content) (logs : List (List Stored)) → DiskOpens part disk cs logs → IfOk result (λ x. ReadsAs content cs logs (list x) (writes x) (last x)))

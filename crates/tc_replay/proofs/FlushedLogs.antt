@@ -24,8 +24,10 @@ use Rattle.tc_memory.specs.Table as memory
 use Rattle.tc_component.specs.declared.head.Head.{Head}
 use Rattle.tc_component.specs.Loaded.{IsLoadedOf}
 use Rattle.tc_component.specs.Loading.{ComponentState}
-use Rattle.tc_component.specs.Rows.{IsComponent, IsShortWrite, component_bytes, component_index, head_of, part_of}
+use Rattle.tc_component.specs.Reading.{version_of}
+use Rattle.tc_component.specs.Rows.{IsComponent, IsIndexOf, IsShortWrite, component_bytes, head_of, part_of}
 use Rattle.tc_component.specs.Spelling.{Index, name_of}
+use Rattle.tc_component.proofs.Versions.{of_version}
 use Rattle.tc_lsm_model.specs.Contents.{Content, Partition}
 use Rattle.tc_lsm_model.specs.Flushes.{IsFlush}
 use Rattle.tc_lsm_model.specs.Lists.{IsList, last_after, last_of, live, names_of, schema_of}
@@ -51,11 +53,11 @@ use Rattle.tc_replay.proofs.ToldFlushes.{device_now, home_again, not_made, opene
 
 -- ---- loaded components
 
-pub indices : {F : Type 0} (content : F → Option (List ℕ)) (list : List (ComponentState F)) (cs : List Content) → AllZip (IsLoadedOf content) list cs → AllZip (λ m c. m.index ≡ component_index c) list cs
+pub indices : {F : Type 0} (content : F → Option (List ℕ)) (list : List (ComponentState F)) (cs : List Content) → AllZip (IsLoadedOf content) list cs → AllZip (λ m c. IsIndexOf m.index c) list cs
 indices content [] [] all = tt
 indices content [] (c ∷ cs) all = absurd all
 indices content (m ∷ list) [] all = absurd all
-indices content (m ∷ list) (c ∷ cs) all = (all.0.index, indices content list cs all.1)
+indices content (m ∷ list) (c ∷ cs) all = (of_version m.index (version_of all.0.bytes) c all.0.index, indices content list cs all.1)
 
 pub last_loaded : {F : Type 0} (content : F → Option (List ℕ)) (g : ℕ) (list : List (ComponentState F)) (cs : List Content) → AllZip (IsLoadedOf content) list cs → listed_after g list ≡ last_after g cs
 last_loaded content g [] [] all = refl
@@ -230,8 +232,8 @@ module _ {F : Type 0} (content : F → Option (List ℕ)) (head : Head) (old : L
   unmade_kept later fails cs (w ∷ more) is loaded same = begun_not head cs w more disks is (begins cs loaded) (ends cs (w ∷ more) loaded same) free later fails
 
   module _ (names : List Name) (schema : Counted) (kept : memory.Table) (bytes : Table → List ℕ) (fresh device : List DiskFile) (last : head.to < 2 ^ 63)
-      (same_names : (cs : List Content) → AllZip (λ (m : ComponentState F) c. m.index ≡ component_index c) old cs → names ≡ names_of cs)
-      (same_schema : (cs : List Content) → AllZip (λ (m : ComponentState F) c. m.index ≡ component_index c) old cs → schema ≡ schema_of cs)
+      (same_names : (cs : List Content) → AllZip (λ (m : ComponentState F) c. IsIndexOf m.index c) old cs → names ≡ names_of cs)
+      (same_schema : (cs : List Content) → AllZip (λ (m : ComponentState F) c. IsIndexOf m.index c) old cs → schema ≡ schema_of cs)
       (is_table : (part : Partition) (cs : List Content) (ws : List (List Write)) → IsList part cs → AllZip (IsLoadedOf content) old cs → logs ≡ map (λ log. map kept_write log) ws → All IsStorableWrite (all_writes ws) → IsTableOf (table_over (live cs) (all_writes ws)) kept)
       (is_fresh : fresh ≡ fresh_file_at (name_of head) disks)
       (flushed : (cs : List Content) (t : Table) (generations : ℕ) → IsBehind cs t generations head names schema kept → (c : Content) × IsFlush (part_of head) cs t generations c × All IsShortWrite c.entries × (component_bytes c ≡ bytes t))

@@ -13,6 +13,7 @@ use Rattle.tc_store.proofs.MomentLemmas.{EachSince-none, EachSince-one, EachSinc
 use Rattle.tc_store.proofs.NameLemmas.{put_there}
 use Rattle.tc_plain_model.specs.Writes.{Pairs}
 use Rattle.tc_component.specs.Rows.{IsComponent, IsShortWrite, component_bytes}
+use Rattle.tc_component.proofs.Versions.{written_component}
 use Rattle.tc_lsm_model.specs.Contents.{Content, IsContent, Partition}
 use Rattle.tc_machine.specs.Kept.{IsKept, IsMemoryKept}
 use Rattle.tc_machine.specs.Steps.{IsShutOrHas}
@@ -43,12 +44,7 @@ writing_now Whole P first device leaves more since = at since.added since.goes_o
 -- the whole component
 pub whole_file : (c : Content) → IsContent c → All IsShortWrite c.entries → (device : List DiskFile) (size : ℕ) → size < 2 ^ 63 → IfTold device (λ f. size ≡ length f.content) → IfTold device (λ f. f ≡ settled_file (component_bytes c)) → IfTold device (λ f. IsComponent c f.content)
 whole_file c content short [] size fits told is = tt
-whole_file c content short (f ∷ fs) size fits told is = record {
-  content = content;
-  records = short;
-  spelled = ap (λ (x : DiskFile). x.content) is;
-  short = omega (arith, fits, told);
-}
+whole_file c content short (f ∷ fs) size fits told is = written_component c f.content content short (ap (λ (x : DiskFile). x.content) is) (omega (arith, fits, told))
 
 module _ (part : Partition) (pairs : Pairs) (Whole : List ℕ → Type 0) (name : FileName) where
   abbrev L : Disk → Type 0

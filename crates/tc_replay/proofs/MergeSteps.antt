@@ -9,6 +9,7 @@ use Rattle.tc_store.specs.Moments.{IfTold, LeavesAt, LeavesOnly}
 use Rattle.tc_store.specs.StoreCalls.{FailsMaking, comes_home, fresh_file_at, frozen_entry, makes}
 use Rattle.tc_store.proofs.NameLemmas.{put_there}
 use Rattle.tc_component.specs.Rows.{IsComponent, IsShortWrite, component_bytes}
+use Rattle.tc_component.proofs.Versions.{written_component}
 use Rattle.tc_lsm_model.specs.Contents.{Content, Partition}
 use Rattle.tc_lsm_model.specs.Lists.{live}
 use Rattle.tc_lsm_model.specs.Merges.{IsMerge, Run, in_run, swapped}
@@ -121,7 +122,7 @@ module _ (part : Partition) (cs : List Content) (run : Run) (c : Content) (two :
         written None is_shut = tt
         written (Some b) (inl closed) = inl closed
         written (Some b) (inr (inl was)) = mays.fresh (Some b) (inr was)
-        written (Some b) (inr (inr whole)) = inr (record { content = (swapped_replaces part run cs c is.memory.list is_merge).content; records = short; spelled = whole.same; short = whole.short })
+        written (Some b) (inr (inr whole)) = inr (written_component c b (swapped_replaces part run cs c is.memory.list is_merge).content short whole.same whole.short)
 
     pub merge_now : (device : List DiskFile) → All IsShortWrite c.entries → Moments (fresh_file_at (file_of c) disks) device → IfTold disks (λ disk. IsWritingNow (IsComponent c) device)
     merge_now device short moments = now_on disks device short may moments

@@ -11,6 +11,7 @@ use Rattle.tc_store.specs.Moments.{IfTold, LeavesAt, LeavesOnly}
 use Rattle.tc_store.specs.StoreCalls.{fresh_file_at}
 use Rattle.tc_store.proofs.MomentLemmas.{told_map}
 use Rattle.tc_component.specs.Rows.{IsComponent, IsShortWrite, component_bytes}
+use Rattle.tc_component.proofs.Versions.{written_component}
 use Rattle.tc_flush.specs.Flushing.{flush_bytes}
 use Rattle.tc_flush.specs.Jobs.{JobState}
 use Rattle.tc_lsm_model.specs.Contents.{Content, IsContent, Partition}
@@ -37,7 +38,7 @@ short_file size (f ∷ past) bytes tells sized is short = omega (arith, sized, a
 
 -- a content whose component is no longer than a file may be has that
 pub has_component : (c : Content) → IsContent c → All IsShortWrite c.entries → length (component_bytes c) < 2 ^ 63 → IsComponent c (component_bytes c)
-has_component c is short fits = record { content = is; records = short; spelled = refl; short = fits }
+has_component c is short fits = written_component c (component_bytes c) is short refl fits
 
 -- ---- of a flush
 

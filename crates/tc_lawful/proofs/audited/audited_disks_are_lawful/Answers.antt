@@ -1,6 +1,7 @@
 use Rattle.std.proofs.Common.{◌<◌, ℕ, List, Option, Ok, length}
 use Rattle.tc_bytes.specs.Codec.{IsBytes}
 use Rattle.tc_store.specs.declared.file_name.FileName.{FileName}
+use Rattle.tc_store.specs.Disk.{bytes_at}
 use Rattle.tc_component.specs.Layout.{number_end}
 use Rattle.tc_recover.specs.Files.{picture_at, picture_in}
 use Rattle.tc_recover.specs.Lawful.{found_of}
@@ -25,6 +26,6 @@ returns g c = λ part disk past new files left list writes last cs logs rests ta
       λ opens.
           let opened = opens_at content name part disk past new files left list writes last cs logs rests taken read names judged.1 judged.2 opens in
           let law = c.lawful_files_are_read.ensures in
-          let found = same_answer (found_in list writes) (found_of cs logs) (law.one_way part picture (Ok (found_in list writes)) (Ok (found_of cs logs)) judged.3 (law.read part picture cs logs ascend opened)) in
+          let found = same_answer (found_in list writes) (found_of (bytes_at picture) cs logs) (law.one_way part picture (Ok (found_in list writes)) (Ok (found_of (bytes_at picture) cs logs)) judged.3 (law.read part picture cs logs ascend opened)) in
           opened_audited content name part disk past new files left list writes last cs logs rests taken read names judged.1 judged.2 opened found,
     )

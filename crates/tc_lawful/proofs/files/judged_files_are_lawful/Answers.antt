@@ -1,4 +1,5 @@
 use Rattle.std.proofs.Common.{Ok}
+use Rattle.tc_store.specs.Disk.{bytes_at}
 use Rattle.tc_recover.specs.Lawful.{found_of}
 use Rattle.tc_lawful.proofs.CountedTiles.{same_answer}
 use Rattle.tc_lawful.proofs.WholeFiles.{bytes_readable, whole_opens}
@@ -10,7 +11,7 @@ returns-clause-opens c = λ part picture found cs logs sorted readable judged. (
   λ opens.
       let law = c.lawful_files_are_read.ensures in
       record {
-        found_is = same_answer found (found_of cs logs) (law.one_way part picture (Ok found) (Ok (found_of cs logs)) judged (law.read part picture cs logs sorted opens));
+        found_is = same_answer found (found_of (bytes_at picture) cs logs) (law.one_way part picture (Ok found) (Ok (found_of (bytes_at picture) cs logs)) judged (law.read part picture cs logs sorted opens));
         list = opens.list;
         there = opens.there;
         writes = opens.writes;

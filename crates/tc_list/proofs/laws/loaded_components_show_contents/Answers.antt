@@ -1,4 +1,5 @@
 use Rattle.std.proofs.Common.{◌∙◌, sym}
+use Rattle.tc_component.specs.Reading.{version_of}
 use Rattle.tc_component.specs.Rows.{component_index}
 use Rattle.tc_store.proofs.Judged.{same_Ok}
 use Rattle.tc_list.proofs.LoadedContents.{all_show, holds_live}
@@ -9,7 +10,7 @@ returns-clause-loaded g c component content bytes tells is judged = record {
   bytes = bytes;
   tells = tells;
   is = is;
-  index = same_Ok component.index (component_index content) (sym judged ∙ c.components_are_contents.ensures.judged content bytes is);
+  index = same_Ok component.index (component_index (version_of bytes) content) (sym judged ∙ c.components_are_contents.ensures.judged content bytes is);
 }
 
 pub returns-clause-shown : goal.returns-clause-shown

@@ -1,6 +1,6 @@
-use Rattle.std.proofs.Common.{◌∙◌, Err, inl, inr, refl, sym, ap, subst}
+use Rattle.std.proofs.Common.{◌∙◌, Err, inr, sym, ap, subst}
 use Rattle.tc_model.specs.Document.{document_shape}
-use Rattle.tc_record.specs.Record.{IsNumberedRecordOf}
+use Rattle.tc_record.specs.Record.{IsNumberedRecordIn}
 use Rattle.tc_component.specs.Meaning.{IsRecordOfOne}
 use Rattle.tc_compact.specs.Meant.{IsRecordUnder}
 use Rattle.tc_part.proofs.Spelled.{one_under, if_some_then}
@@ -8,8 +8,9 @@ use Rattle.tc_part.proofs.records.shape_at.Goals as goal
 
 pub known-requires : goal.known-requires
 known-requires g c =
+    let version = c.args.component.now.index.version in
     let found = c.in_ok-bytes.ensures.found.1 in
-    inr (found.tree, (1, (inl refl, subst (IsNumberedRecordOf found.tree) (sym c.as_slice.ensures.same) found.is_record)))
+    inr (found.tree, (version, (found.told, subst (IsNumberedRecordIn version found.tree) (sym c.as_slice.ensures.same) found.is_record)))
 
 pub no_document-requires-clause-cause : goal.no_document-requires-clause-cause
 no_document-requires-clause-cause g c = λ κs within refused d under.
@@ -21,10 +22,11 @@ pub returns-in-Ok-clause-shape : goal.returns-in-Ok-clause-shape
 returns-in-Ok-clause-shape g c = λ d.
     let component = c.args.component.now in
     let bytes = c.as_slice.result.now in
+    let within = c.in_ok-bytes.ensures.found.1 in
     let found = c.in-Ok.ensures.found in
     let under = subst (IsRecordUnder component.index.names found.0) c.known.ensures.bytes (subst (λ names. IsRecordUnder names found.0 c.known.result.bytes) c.names.ensures found.1) in
     if_some_then (g.F.Frozen.content component.file) _ _
     (λ whole read one.
-    found.2 ∙ ap document_shape (one_under component.index.names d found.0 bytes c.known.result.named (λ x is. (c.known.ensures.document x is).0) (λ n is. (c.known.ensures.numbered 1 n (inl refl) is).1)
-    (subst (IsRecordOfOne component.index.names d) (sym (c.as_slice.ensures.same ∙ read)) one) under))
+    found.2 ∙ ap document_shape (one_under component.index.version component.index.names d found.0 bytes c.known.result.named (λ x is. (c.known.ensures.document x is).0) (λ n is. (c.known.ensures.numbered component.index.version n within.told is).1)
+    (subst (IsRecordOfOne component.index.version component.index.names d) (sym (c.as_slice.ensures.same ∙ read)) one) under))
     c.in_ok-bytes.ensures.read

@@ -1,7 +1,7 @@
-use Rattle.std.proofs.Common.{◌≡◌, ◌∙◌, Err, length, inl, inr, refl, sym, ap, subst}
+use Rattle.std.proofs.Common.{◌≡◌, ◌∙◌, Err, length, inr, sym, ap, subst}
 use Rattle.std.specs.Prelude.{IfSome}
 use Rattle.tc_request_model.specs.Rendered.{document_text}
-use Rattle.tc_record.specs.Record.{IsNumberedRecordOf}
+use Rattle.tc_record.specs.Record.{IsNumberedRecordIn}
 use Rattle.tc_component.specs.Fetching.{length_at, record_at}
 use Rattle.tc_component.specs.Meaning.{IsRecordOfOne}
 use Rattle.tc_compact.specs.Meant.{IsRecordUnder}
@@ -11,8 +11,9 @@ use Rattle.tc_part.proofs.records.text_at.Goals as goal
 
 pub known-requires : goal.known-requires
 known-requires g c =
+    let version = c.args.component.now.index.version in
     let found = c.in_ok-bytes.ensures.found.1 in
-    inr (found.tree, (1, (inl refl, subst (IsNumberedRecordOf found.tree) (sym c.as_slice.ensures.same) found.is_record)))
+    inr (found.tree, (version, (found.told, subst (IsNumberedRecordIn version found.tree) (sym c.as_slice.ensures.same) found.is_record)))
 
 pub no_document-requires-clause-cause : goal.no_document-requires-clause-cause
 no_document-requires-clause-cause g c = λ κs within refused d under.
@@ -24,14 +25,15 @@ pub returns-in-Ok-clause-text : goal.returns-in-Ok-clause-text
 returns-in-Ok-clause-text g c = λ d.
     let component = c.args.component.now in
     let bytes = c.as_slice.result.now in
+    let within = c.in_ok-bytes.ensures.found.1 in
     let found = c.in-Ok.ensures.document in
     let e = found.0 in
     let under = subst (IsRecordUnder component.index.names e) c.known.ensures.bytes (subst (λ names. IsRecordUnder names e c.known.result.bytes) c.names.ensures found.1) in
     if_some_then (g.F.Frozen.content component.file) _ _
     (λ whole read one.
     c.in-Ok.ensures.text e found.1
-    ∙ ap (document_text c.args.key) (one_under component.index.names d e bytes c.known.result.named (λ x is. (c.known.ensures.document x is).0) (λ n is. (c.known.ensures.numbered 1 n (inl refl) is).1)
-    (subst (IsRecordOfOne component.index.names d) (sym (c.as_slice.ensures.same ∙ read)) one) under))
+    ∙ ap (document_text c.args.key) (one_under component.index.version component.index.names d e bytes c.known.result.named (λ x is. (c.known.ensures.document x is).0) (λ n is. (c.known.ensures.numbered component.index.version n within.told is).1)
+    (subst (IsRecordOfOne component.index.version component.index.names d) (sym (c.as_slice.ensures.same ∙ read)) one) under))
     c.in_ok-bytes.ensures.read
 
 pub returns-in-Ok-clause-document : goal.returns-in-Ok-clause-document

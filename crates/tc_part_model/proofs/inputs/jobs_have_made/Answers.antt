@@ -1,10 +1,12 @@
 use Rattle.std.proofs.Common.{refl}
+use Rattle.tc_component.specs.Rows.{component_bytes}
+use Rattle.tc_component.proofs.Versions.{written_component}
 use Rattle.tc_lsm_model.proofs.MergeLaws.{swapped_replaces}
 use Rattle.tc_part_model.proofs.SealedInputs.{flush_goes_on}
 use Rattle.tc_part_model.proofs.inputs.jobs_have_made.Goals as goal
 
 pub returns-clause-made : goal.returns-clause-made
-returns-clause-made c = λ content disks device is short fits tells whole. record { whole = record { content = is; records = short; spelled = refl; short = fits }; tells = tells; content = whole }
+returns-clause-made c = λ content disks device is short fits tells whole. record { whole = written_component content (component_bytes content) is short refl fits; tells = tells; content = whole }
 
 pub returns-clause-flush : goal.returns-clause-flush
 returns-clause-flush c = λ t p table content is some makes. (flush_goes_on t p table content is some makes).content

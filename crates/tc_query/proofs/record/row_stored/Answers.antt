@@ -1,4 +1,4 @@
-use Rattle.std.proofs.Common.{◌≡◌, ◌∙◌, Err, length, map, inl, inr, refl, sym, ap, subst}
+use Rattle.std.proofs.Common.{◌≡◌, ◌∙◌, Err, length, map, inr, refl, sym, ap, subst}
 use Rattle.std.specs.Prelude.{IfErr, IfSome}
 use Rattle.std.proofs.lemmas.Option.{IfSome_then}
 use Rattle.tc_command.specs.Commands.{ask_of}
@@ -14,8 +14,9 @@ use Rattle.tc_query.proofs.record.row_stored.Goals as goal
 
 pub known-requires : goal.known-requires
 known-requires g c =
-    let found : IsRecordWithin (length c.args.component.now.index.names) c.record-bytes.result.now = subst (IsRecordWithin (length c.args.component.now.index.names)) (sym c.record-bytes.ensures.same) c.in_ok-hold.ensures.found in
-    inr (found.tree, (1, (inl refl, found.is_record)))
+    let index = c.args.component.now.index in
+    let found : IsRecordWithin index.version (length index.names) c.record-bytes.result.now = subst (IsRecordWithin index.version (length index.names)) (sym c.record-bytes.ensures.same) c.in_ok-hold.ensures.found in
+    inr (found.tree, (index.version, (found.told, found.is_record)))
 
 pub no_document-requires-clause-read : goal.no_document-requires-clause-read
 no_document-requires-clause-read g c κs within =
@@ -39,13 +40,14 @@ returns-in-Ok-clause-row g c = λ d.
     let bytes = c.record-bytes.result.now in
     let found = c.in-Ok.ensures.document in
     let e = found.0 in
+    let within = c.in_ok-hold.ensures.found in
     let under = subst (IsRecordUnder component.index.names e) c.known.ensures.bytes (subst (λ names. IsRecordUnder names e c.known.result.bytes) c.names.ensures found.1) in
     IfSome_then (g.F.Frozen.content component.file) c.in_ok-hold.ensures.read
     (λ whole read one.
     c.in-Ok.ensures.row e found.1
     ∙ ap (λ x. map row_text (row_of ask.equal_to c.args.key (reached ask.path x)))
-    (means_one component.index.names bytes c.known.result.named d e (λ x is. (c.known.ensures.document x is).0) (λ n is. (c.known.ensures.numbered 1 n (inl refl) is).1) under
-    (subst (IsRecordOfOne component.index.names d) (sym (c.record-bytes.ensures.same ∙ read)) one)))
+    (means_one component.index.version component.index.names bytes c.known.result.named d e (λ x is. (c.known.ensures.document x is).0) (λ n is. (c.known.ensures.numbered component.index.version n within.told is).1) under
+    (subst (IsRecordOfOne component.index.version component.index.names d) (sym (c.record-bytes.ensures.same ∙ read)) one)))
 
 pub returns-in-Ok-clause-document : goal.returns-in-Ok-clause-document
 returns-in-Ok-clause-document g c =

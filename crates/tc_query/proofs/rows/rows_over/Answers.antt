@@ -35,7 +35,10 @@ returns-in_err-row-clause-unharmed g c = λ cs all.
     let p = err_from_is_err_and r c.from_residual-in_err-row.ensures.1 in
     let laws = c.components_are_contents.ensures in
     subst (λ q. IfErr q IsUnharmed) (sym (p.1 ∙ ap Err p.2))
-    (unharmed g.F.Frozen.content (record { found = laws.found; read = λ d bytes at key doc is here. (laws.fetched d bytes at key doc is here, laws.spelled d bytes at key doc is here, laws.within d bytes at key doc is here) }) c.in_err-row.field-0.0 c.args.list.now cs all c.in_err-row.ensures.harmed)
+    (unharmed g.F.Frozen.content (record {
+      found = laws.found;
+      read = λ d bytes at key doc is here. record { there = laws.fetched d bytes at key doc is here; one = laws.spelled d bytes at key doc is here; within = laws.within d bytes at key doc is here };
+    }) c.in_err-row.field-0.0 c.args.list.now cs all c.in_err-row.ensures.harmed)
 
 pub returns-in_err-row-clause-reads : goal.returns-in_err-row-clause-reads
 returns-in_err-row-clause-reads g c =
