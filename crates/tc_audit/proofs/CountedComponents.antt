@@ -14,8 +14,9 @@ use Rattle.tc_schema_model.specs.Counted.{Counted, documents_of}
 use Rattle.tc_schema_model.specs.Stands.{StandsFor}
 use Rattle.tc_component.specs.Loaded.{IsLoadedOf}
 use Rattle.tc_component.specs.Loading.{ComponentState}
-use Rattle.tc_component.specs.Rows.{component_index, IsComponent}
+use Rattle.tc_component.specs.Rows.{component_index, IsComponent, IsIndexOf}
 use Rattle.tc_component.specs.Spelling.{Index, IsIndex}
+use Rattle.tc_component.proofs.Versions.{holds_version}
 use Rattle.tc_difference.specs.Differences.{IsFirstDifference}
 use Rattle.tc_difference.specs.Found.{found_meant}
 use Rattle.tc_list.specs.Intervals as intervals
@@ -49,11 +50,11 @@ many_either bound gained counted living by_gained by_count many = cases (cases_l
 
 module _ {F : Type 0} (told : F → Option (List ℕ)) (reads : ReadsMeant) (part : Partition) (older : List (ComponentState F)) (cs : List Content) (m : ComponentState F) (whole : List ℕ) (counted : Counted) (gained : ℕ) where
   module _ (right : AreRight told part older cs) (tells : Tells told m whole) (lawful : IsIndex m.index) (u : IsUpTo m.index whole (live cs) (length m.index.slots) counted gained) where
-    is_component : IsComponent (content_in m.index whole) whole × (component_index (content_in m.index whole) ≡ m.index)
+    is_component : IsComponent (content_in m.index whole) whole × IsIndexOf m.index (content_in m.index whole)
     is_component = made reads m.index whole tells.1 u.stored
 
     loaded : IsLoadedOf told m (content_in m.index whole)
-    loaded = record { bytes = whole; tells = tells.0; is = is_component.0; index = sym is_component.1 }
+    loaded = record { bytes = whole; tells = tells.0; is = is_component.0; index = is_component.1 ∙ ap (λ v. component_index v (content_in m.index whole)) (sym (holds_version whole m.index tells.1)) }
 
     all_taken : take (length m.index.slots) (content_in m.index whole).entries ≡ (content_in m.index whole).entries
     all_taken =

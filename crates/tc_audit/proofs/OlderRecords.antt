@@ -1,5 +1,5 @@
 -- The record of what was live of a key in components that are right.
-use Rattle.std.proofs.Common.{◌≡◌, ◌∙◌, ◌+◌, ◌==◌, ℕ, zero, suc, Bool, true, false, if◌then◌else◌, List, [], ◌∷◌, ◌++◌, Option, Some, slice_get, inl, refl, sym, ap, subst, arith}
+use Rattle.std.proofs.Common.{◌≡◌, ◌∙◌, ◌+◌, ◌==◌, ℕ, zero, suc, Bool, true, false, if◌then◌else◌, List, [], ◌∷◌, ◌++◌, Option, Some, slice_get, sym, ap, subst, arith}
 use Rattle.std.specs.List.{AllZip}
 use Rattle.std.proofs.lemmas.Option.{same_Some}
 use Rattle.tc_model.specs.Dictionary.{Extends, IsDictionary}
@@ -13,7 +13,7 @@ use Rattle.tc_schema_model.proofs.FitLaws.{document_fits}
 use Rattle.tc_lsm_model.specs.Contents.{Partition, Content}
 use Rattle.tc_lsm_model.specs.Lists.{live}
 use Rattle.tc_record.specs.Record.{record_of}
-use Rattle.tc_compact.specs.Compacted.{IsCompactedRecordOf}
+use Rattle.tc_compact.specs.Compacted.{IsCompactedIn}
 use Rattle.tc_component.specs.declared.found.Place.{Place}
 use Rattle.tc_component.specs.Fetching.{record_at}
 use Rattle.tc_component.specs.Loaded.{IsLoadedOf}
@@ -58,15 +58,15 @@ module _ {F : Type 0} (told : F → Option (List ℕ)) where
           let bytes_are : l.1.bytes ≡ h.bytes = same_Some _ _ (sym l.1.tells ∙ h.tells) in
           let all : AreStoredUpTo index h.bytes (place.at + 1) =
           subst (λ bytes. AreStoredUpTo index bytes (place.at + 1)) bytes_are (subst (λ (i : Index). AreStoredUpTo i l.1.bytes (place.at + 1)) (sym l.1.index) (stored l.0 l.1.bytes (place.at + 1) l.1.is)) in
-          let its : IsStoredIn index.names (record_at index.slots place.at h.bytes) = all place.at (slot h.place_is.0 h.place_is.1.0) (omega arith) h.place_is.1.1 h.place_is.1.2 in
+          let its : IsStoredIn index.version index.names (record_at index.slots place.at h.bytes) = all place.at (slot h.place_is.0 h.place_is.1.0) (omega arith) h.place_is.1.1 h.place_is.1.2 in
           let dictionary : IsDictionary index.names = subst (λ (i : Index). IsDictionary i.names) (sym l.1.index) l.1.is.content.dictionary in
-          let k = kept_in index.names (record_at index.slots place.at h.bytes) dictionary its in
-          let compact : IsCompactedRecordOf index.names its.document (record_at index.slots place.at h.bytes) = subst (IsCompactedRecordOf index.names its.document) (sym its.spelled) k.compact in
+          let k = kept_in index.version index.names (record_at index.slots place.at h.bytes) dictionary its in
+          let compact : IsCompactedIn index.version index.names its.document (record_at index.slots place.at h.bytes) = subst (IsCompactedIn index.version index.names its.document) (sym its.spelled) k.compact in
           record {
             document = h.document;
             whole = h.bytes;
             live_is = h.live_is;
-            there = record { tells = h.tells; stored = its; is = h.record_is.one its.document (record_of its.document) k.whole (1, (inl refl, compact)) };
+            there = record { tells = h.tells; stored = its; is = h.record_is.one its.document (record_of its.document) k.whole (index.version, (its.told, compact)) };
           }
 
 -- what is counted fits the document of a key

@@ -16,6 +16,7 @@ use Rattle.tc_schema_model.specs.Occurrences.{Path, count}
 use Rattle.tc_component.specs.Fetching.{record_at}
 use Rattle.tc_component.specs.Loaded.{IsLoadedOf}
 use Rattle.tc_component.specs.Loading.{ComponentState}
+use Rattle.tc_component.specs.Reading.{version_of}
 use Rattle.tc_component.specs.Rows.{component_index, IsComponent}
 use Rattle.tc_component.specs.Spelling.{Index, Holds}
 use Rattle.tc_list.specs.Intervals as intervals
@@ -28,10 +29,10 @@ use Rattle.tc_audit.specs.declared.verdict.Wrong.TheVariants.{Record, Documents,
 
 -- the laws of components that are used here
 abbrev pub IsStoredThroughout : Type 0
-IsStoredThroughout = (c : Content) (bytes : List ℕ) (end : ℕ) → IsComponent c bytes → AreStoredUpTo (component_index c) bytes end
+IsStoredThroughout = (c : Content) (bytes : List ℕ) (end : ℕ) → IsComponent c bytes → AreStoredUpTo (component_index (version_of bytes) c) bytes end
 
 abbrev pub HoldsIndex : Type 0
-HoldsIndex = (c : Content) (bytes : List ℕ) → IsComponent c bytes → Holds bytes (component_index c)
+HoldsIndex = (c : Content) (bytes : List ℕ) → IsComponent c bytes → Holds bytes (component_index (version_of bytes) c)
 
 -- a list with a content that goes on behind it
 pub list_with : (part : Partition) (cs : List Content) (c : Content) → IsList part cs → GoesOn part (contents.last_of cs) (live cs) (names_of cs) c → IsList part (cs ++ c ∷ [])
@@ -127,7 +128,7 @@ module _ {F : Type 0} (told : F → Option (List ℕ)) where
         let harm = wrong.1 in
         let all : AreStoredUpTo m.index l.bytes (harm.at + 1) = subst (λ (i : Index). AreStoredUpTo i l.bytes (harm.at + 1)) (sym l.index) (stored c l.bytes (harm.at + 1) l.is) in
         let here = all harm.at harm.slot (omega arith) harm.here harm.some in
-        harm.harmed (subst (IsStoredIn m.index.names) (ap (record_at m.index.slots harm.at) (sym (bytes_are m c l)) ∙ sym harm.bytes_are) here)
+        harm.harmed (subst (IsStoredIn m.index.version m.index.names) (ap (record_at m.index.slots harm.at) (sym (bytes_are m c l)) ∙ sym harm.bytes_are) here)
     not_wrong cs m c l next (Documents at) wrong =
         let many = wrong.1 in
         let same : many.content ≡ c = one_content apart m many.content c many.loaded l in

@@ -9,12 +9,12 @@ use Rattle.tc_model.specs.Dictionary.{Extends, IsDictionary}
 use Rattle.tc_model.specs.KnownNames.{HasEach}
 use Rattle.tc_model.specs.ShapeNames.{names_within}
 use Rattle.tc_names.specs.Longest.{longest_of}
-use Rattle.tc_record.specs.Record.{labels, texts, record_of, NumberedTree, IsNumberedForm, IsNumberedRecordIn, IsNumberedRecordOf, IsRecordOf}
+use Rattle.tc_record.specs.Record.{labels, texts, record_of, NumberedTree, IsNumberedForm, IsNumberedRecordIn, IsRecordOf}
 use Rattle.tc_record.specs.Preorder.{tokens_of}
 use Rattle.tc_record.specs.Borrowed.{Record, Spells, IsBelow, named_tokens, numbered_tokens}
 use Rattle.tc_record.specs.Walk.{Format}
 use Rattle.tc_record.proofs.Reading.{document_again, numbered_again}
-use Rattle.tc_compact.specs.Compacted.{compacted, IsCompactedIn, IsCompactedRecordOf}
+use Rattle.tc_compact.specs.Compacted.{compacted, IsCompactedIn}
 use Rattle.tc_compact.specs.Meant.{expanded, IsRecordUnder}
 use Rattle.tc_compact.proofs.Agreeing.{same_order}
 use Rattle.tc_compact.proofs.Compacts.{Tokens, two_forms, document_names, document_tokens}
@@ -31,16 +31,16 @@ use Rattle.tc_audit.proofs.NamesAgain.{tree_again}
 -- ---- what a stored record is
 
 -- its document is one that an entry may have
-pub kept_in : (names : List Name) (bytes : List ℕ) → IsDictionary names → (s : IsStoredIn names bytes) → IsKept names s.document
-kept_in names bytes dictionary s = kept names 0 s.document dictionary (record { key = omega arith; document = s.is_document; storable = s.storable; named = s.named }) s.short
+pub kept_in : (version : ℕ) (names : List Name) (bytes : List ℕ) → IsDictionary names → (s : IsStoredIn version names bytes) → IsKept version names s.document
+kept_in version names bytes dictionary s = kept version s.told names 0 s.document dictionary (record { key = omega arith; document = s.is_document; storable = s.storable; named = s.named }) s.short
 
-pub stored_under : (names : List Name) (bytes : List ℕ) → IsDictionary names → (s : IsStoredIn names bytes) → IsRecordUnder names s.document bytes
-stored_under names bytes dictionary s =
-    let k = kept_in names bytes dictionary s in
-    inr (record_of s.document, k.whole, (1, (inl refl, subst (IsCompactedRecordOf names s.document) (sym s.spelled) k.compact)))
+pub stored_under : (version : ℕ) (names : List Name) (bytes : List ℕ) → IsDictionary names → (s : IsStoredIn version names bytes) → IsRecordUnder names s.document bytes
+stored_under version names bytes dictionary s =
+    let k = kept_in version names bytes dictionary s in
+    inr (record_of s.document, k.whole, (version, (s.told, subst (IsCompactedIn version names s.document) (sym s.spelled) k.compact)))
 
-pub stored_numbered : (names : List Name) (bytes : List ℕ) → IsDictionary names → (s : IsStoredIn names bytes) → IsNumberedRecordOf (compacted names s.document) bytes
-stored_numbered names bytes dictionary s = subst (IsNumberedRecordOf (compacted names s.document)) (sym s.spelled) (kept_in names bytes dictionary s).compact.numbered
+pub stored_numbered : (version : ℕ) (names : List Name) (bytes : List ℕ) → IsDictionary names → (s : IsStoredIn version names bytes) → IsNumberedRecordIn version (compacted names s.document) bytes
+stored_numbered version names bytes dictionary s = subst (IsNumberedRecordIn version (compacted names s.document)) (sym s.spelled) (kept_in version names bytes dictionary s).compact.numbered
 
 -- the form of a record is that of each tree that its bytes spell
 tree_form : (r : Record) (form : ℕ) (n : NumberedTree) → Spells r → IsNumberedForm form → IsNumberedRecordIn form n r.bytes → r.form ≡ form
@@ -48,23 +48,20 @@ tree_form r form n (inl one) told is = absurd (two_forms form (named_tokens one.
 tree_form r form n (inr one) told is =
     ap (λ (p : Format × Tokens). p.0.form) (same_Some _ _ (sym (numbered_again r.form one.1.3 one.0 r.bytes one.1.1) ∙ numbered_again form told n r.bytes is))
 
-pub stored_form : (names : List Name) (r : Record) → IsDictionary names → Spells r → IsStoredIn names r.bytes → r.form ≡ 1
-stored_form names r dictionary spells s = tree_form r 1 (compacted names s.document) spells (inl refl) (stored_numbered names r.bytes dictionary s)
-
-stored_tokens : (names : List Name) (r : Record) → IsDictionary names → Spells r → (s : IsStoredIn names r.bytes) → r.tokens ≡ numbered_tokens (compacted names s.document)
-stored_tokens names r dictionary spells s = tree_tokens r 1 (compacted names s.document) spells (inl refl) (stored_numbered names r.bytes dictionary s)
+stored_tokens : (names : List Name) (r : Record) → IsDictionary names → Spells r → (s : IsStoredIn r.form names r.bytes) → r.tokens ≡ numbered_tokens (compacted names s.document)
+stored_tokens names r dictionary spells s = tree_tokens r r.form (compacted names s.document) spells s.told (stored_numbered r.form names r.bytes dictionary s)
 
 -- ---- the tests
 
 -- the numbers of a stored record are below the names, and its document's record is short
-pub stored_short : (names : List Name) (r : Record) → IsDictionary names → Spells r → (s : IsStoredIn names r.bytes) → AllByRecursion (IsBelow (length names)) (labels r.tokens) × (length (record_of (expanded names (compacted names s.document))) < 2 ^ 30)
+pub stored_short : (names : List Name) (r : Record) → IsDictionary names → Spells r → (s : IsStoredIn r.form names r.bytes) → AllByRecursion (IsBelow (length names)) (labels r.tokens) × (length (record_of (expanded names (compacted names s.document))) < 2 ^ 30)
 stored_short names r dictionary spells s =
-    let w : IsRecordWithin (length names) r.bytes = subst (IsRecordWithin (length names)) (sym s.spelled) (within_names names s.document (kept_in names r.bytes dictionary s)) in (
-      subst (λ ts. AllByRecursion (IsBelow (length names)) (labels ts)) (sym (tree_tokens r 1 w.tree spells (inl refl) w.is_record)) w.below,
+    let w : IsRecordWithin r.form (length names) r.bytes = subst (IsRecordWithin r.form (length names)) (sym s.spelled) (within_names r.form s.told names s.document (kept_in r.form names r.bytes dictionary s)) in (
+      subst (λ ts. AllByRecursion (IsBelow (length names)) (labels ts)) (sym (tree_tokens r r.form w.tree spells w.told w.is_record)) w.below,
       subst (λ d. length (record_of d) < 2 ^ 30) (sym (tree_again names s.document s.named)) s.short,
     )
 
-pub stored_lacks : (names : List Name) (r : Record) → IsDictionary names → Spells r → IsStoredIn names r.bytes → lacks_id names r.tokens ≡ true
+pub stored_lacks : (names : List Name) (r : Record) → IsDictionary names → Spells r → IsStoredIn r.form names r.bytes → lacks_id names r.tokens ≡ true
 stored_lacks names r dictionary spells s =
     ap (lacks_id names) (stored_tokens names r dictionary spells s) ∙ test_of_keyless names s.document s.storable.1 s.named
 
@@ -80,22 +77,24 @@ lacks_by_first names r d unnamed spells (inr (whole, is, under)) begins =
     let tokens_are : r.tokens ≡ numbered_tokens (compacted names d) = tree_tokens r under.0 (compacted names d) spells under.1.0 under.1.1.numbered in
     ap (lacks_id names) tokens_are ∙ test_of_keyless names d (keyless_behind names d is.is_object is.document known (begins (compacted names d) tokens_are)) known
 
-pub stored_by_tests : (names : List Name) (r : Record) (d : Document) → r.form ≡ 1 → r.named ≡ false → Spells r → IsRecordUnder names d r.bytes
-    → ((n : NumberedTree) → r.tokens ≡ numbered_tokens n → length (record_of (expanded names n)) < 2 ^ 30) → lacks_id names r.tokens ≡ true → IsStoredIn names r.bytes
-stored_by_tests names r d form unnamed spells (inl is) short lacks = absurd (both_ways r.named unnamed (document_tokens r d spells is).0)
-stored_by_tests names r d form unnamed spells (inr (whole, is, under)) short lacks =
+pub stored_by_tests : (names : List Name) (r : Record) (d : Document) → r.named ≡ false → Spells r → IsRecordUnder names d r.bytes
+    → ((n : NumberedTree) → r.tokens ≡ numbered_tokens n → length (record_of (expanded names n)) < 2 ^ 30) → lacks_id names r.tokens ≡ true → IsStoredIn r.form names r.bytes
+stored_by_tests names r d unnamed spells (inl is) short lacks = absurd (both_ways r.named unnamed (document_tokens r d spells is).0)
+stored_by_tests names r d unnamed spells (inr (whole, is, under)) short lacks =
     let n = compacted names d in
     let tokens = tree_tokens r under.0 n spells under.1.0 under.1.1.numbered in
-    let form1 : IsCompactedRecordOf names d r.bytes = subst (λ f. IsCompactedIn f names d r.bytes) (sym (tree_form r under.0 n spells under.1.0 under.1.1.numbered) ∙ form) under.1.1 in
-    let known = known_under names 1 d r.bytes form1 in
+    let form = sym (tree_form r under.0 n spells under.1.0 under.1.1.numbered) in
+    let own : IsCompactedIn r.form names d r.bytes = subst (λ f. IsCompactedIn f names d r.bytes) form under.1.1 in
+    let known = known_under names r.form d r.bytes own in
     let test : lacks_id names (numbered_tokens n) ≡ true = ap (lacks_id names) (sym tokens) ∙ lacks in
     record {
+      told = subst IsNumberedForm form under.1.0;
       document = d;
       is_document = is.document;
       storable = (is.shallow, keyless_by_test names d is.is_object known test);
       named = known;
       short = subst (λ e. length (record_of e) < 2 ^ 30) (tree_again names d known) (short n tokens);
-      spelled = form1.numbered.spelled;
+      spelled = own.numbered.spelled;
     }
 
 -- ---- what is tested
@@ -112,29 +111,30 @@ short_by_bound names r n spells tokens test = under (length (record_of (expanded
 abbrev pub TellsShort : List Name → Record → Bool → Type 0
 TellsShort names r short = (n : NumberedTree) → r.tokens ≡ numbered_tokens n → IsTrue short ↔ AllByRecursion (IsBelow (length names)) (labels r.tokens) × (length (record_of (expanded names n)) < 2 ^ 30)
 
-pub passes_short : (names : List Name) (r again : Record) (short : Bool) → IsDictionary names → Spells r → again ≡ r → TellsShort names again short → IsStoredIn names r.bytes → IsTrue short
+pub passes_short : (names : List Name) (r again : Record) (short : Bool) → IsDictionary names → Spells r → again ≡ r → TellsShort names again short → IsStoredIn r.form names r.bytes → IsTrue short
 passes_short names r again short dictionary spells same told s =
     (subst (λ t. TellsShort names t short) same told (compacted names s.document) (stored_tokens names r dictionary spells s)).1 (stored_short names r dictionary spells s)
 
 pub short_tested : (names : List Name) (r again : Record) (short : Bool) → again ≡ r → TellsShort names again short → IsTrue short → (n : NumberedTree) → r.tokens ≡ numbered_tokens n → length (record_of (expanded names n)) < 2 ^ 30
 short_tested names r again short same told test n is = ((subst (λ t. TellsShort names t short) same told n is).0 test).1
 
-pub passes_spelling : (names : List Name) (r again : Record) (spelled : Bool) → IsDictionary names → again ≡ r → (spelled ≡ false → (d : Document) → IsRecordUnder names d again.bytes → ⊥) → IsStoredIn names r.bytes → IsTrue spelled
+pub passes_spelling : (names : List Name) (r again : Record) (spelled : Bool) → IsDictionary names → again ≡ r → (spelled ≡ false → (d : Document) → IsRecordUnder names d again.bytes → ⊥) → IsStoredIn r.form names r.bytes → IsTrue spelled
 passes_spelling names r again true dictionary same none s = refl
-passes_spelling names r again false dictionary same none s = absurd (none refl s.document (subst (λ (t : Record). IsRecordUnder names s.document t.bytes) (sym same) (stored_under names r.bytes dictionary s)))
+passes_spelling names r again false dictionary same none s = absurd (none refl s.document (subst (λ (t : Record). IsRecordUnder names s.document t.bytes) (sym same) (stored_under r.form names r.bytes dictionary s)))
 
 pub spelled_again : (names : List Name) (r again : Record) → again ≡ r → (d : Document) × IsRecordUnder names d again.bytes → (d : Document) × IsRecordUnder names d r.bytes
 spelled_again names r again same found = subst (λ (t : Record). (d : Document) × IsRecordUnder names d t.bytes) same found
 
 -- a record that is held under names is tested by the same record once more, under the same names
-pub test_of_held : (names own : List Name) (r again : Record) (held : List ℕ) (spelled : Bool) → names ≡ own → again ≡ r → r.bytes ≡ held → IsTrue spelled ↔ IsStoredIn names again.bytes → IsTrue spelled ↔ IsStoredIn own held
-test_of_held names own r again held spelled names_are same bytes_are told =
-    subst (λ bytes. IsTrue spelled ↔ IsStoredIn own bytes) (ap (λ (t : Record). t.bytes) same ∙ bytes_are) (subst (λ ns. IsTrue spelled ↔ IsStoredIn ns again.bytes) names_are told)
+pub test_of_held : (version : ℕ) (names own : List Name) (r again : Record) (held : List ℕ) (spelled : Bool) → r.form ≡ version → names ≡ own → again ≡ r → r.bytes ≡ held → IsTrue spelled ↔ IsStoredIn again.form names again.bytes → IsTrue spelled ↔ IsStoredIn version own held
+test_of_held version names own r again held spelled form_is names_are same bytes_are told =
+    subst (λ bytes. IsTrue spelled ↔ IsStoredIn version own bytes) (ap (λ (t : Record). t.bytes) same ∙ bytes_are)
+    (subst (λ v. IsTrue spelled ↔ IsStoredIn v own again.bytes) (ap (λ (t : Record). t.form) same ∙ form_is) (subst (λ ns. IsTrue spelled ↔ IsStoredIn again.form ns again.bytes) names_are told))
 
 -- ---- what else it is
 
-pub stored_within : (names : List Name) (bytes : List ℕ) → IsDictionary names → IsStoredIn names bytes → IsRecordWithin (length names) bytes
-stored_within names bytes dictionary s = subst (IsRecordWithin (length names)) (sym s.spelled) (within_names names s.document (kept_in names bytes dictionary s))
+pub stored_within : (version : ℕ) (names : List Name) (bytes : List ℕ) → IsDictionary names → IsStoredIn version names bytes → IsRecordWithin version (length names) bytes
+stored_within version names bytes dictionary s = subst (IsRecordWithin version (length names)) (sym s.spelled) (within_names version s.told names s.document (kept_in version names bytes dictionary s))
 
 -- under more names it is a record of the same document, since numbers keep their names
 module _ (stays : (form : ℕ) (d : Document) (whole bytes : List ℕ) (names newer : List Name) → IsRecordOf d whole → IsCompactedIn form names d bytes → IsDictionary newer → Extends newer names → IsCompactedIn form newer d bytes) where
@@ -142,5 +142,5 @@ module _ (stays : (form : ℕ) (d : Document) (whole bytes : List ℕ) (names ne
   under_newer names newer d bytes dictionary extends (inl is) = inl is
   under_newer names newer d bytes dictionary extends (inr (whole, is, under)) = inr (whole, is, (under.0, (under.1.0, stays under.0 d whole bytes names newer is under.1.1 dictionary extends)))
 
-pub stored_at_under : (names : List Name) (bytes same : List ℕ) (d : Document) → IsDictionary names → bytes ≡ same → (s : IsStoredIn names bytes) → s.document ≡ d → IsRecordUnder names d same
-stored_at_under names bytes same d dictionary are s is = subst (IsRecordUnder names d) are (subst (λ e. IsRecordUnder names e bytes) is (stored_under names bytes dictionary s))
+pub stored_at_under : (version : ℕ) (names : List Name) (bytes same : List ℕ) (d : Document) → IsDictionary names → bytes ≡ same → (s : IsStoredIn version names bytes) → s.document ≡ d → IsRecordUnder names d same
+stored_at_under version names bytes same d dictionary are s is = subst (IsRecordUnder names d) are (subst (λ e. IsRecordUnder names e bytes) is (stored_under version names bytes dictionary s))

@@ -41,14 +41,14 @@ slot_entry c whole at s here =
     ∙ ap (λ bytes. Some (s.key, if s.length == 0 then None else document_in c.names bytes)) (sym (record_here c.slots at s whole here))
 
 -- one slot more whose record is a stored one, if it has one
-pub stored_more : (c : Index) (whole : List ℕ) (at : ℕ) (s : Slot) → slice_get c.slots at ≡ Some s → (0 < s.length → IsStoredIn c.names (record_at c.slots at whole)) → AreStoredUpTo c whole at → AreStoredUpTo c whole (at + 1)
+pub stored_more : (c : Index) (whole : List ℕ) (at : ℕ) (s : Slot) → slice_get c.slots at ≡ Some s → (0 < s.length → IsStoredIn c.version c.names (record_at c.slots at whole)) → AreStoredUpTo c whole at → AreStoredUpTo c whole (at + 1)
 stored_more c whole at s here stored before = λ n t below there some. by_test n t below there some (n == at) refl
   where
-    by_test : (n : ℕ) (t : Slot) → n < at + 1 → slice_get c.slots n ≡ Some t → 0 < t.length → (b : Bool) → (n == at) ≡ b → IsStoredIn c.names (record_at c.slots n whole)
+    by_test : (n : ℕ) (t : Slot) → n < at + 1 → slice_get c.slots n ≡ Some t → 0 < t.length → (b : Bool) → (n == at) ≡ b → IsStoredIn c.version c.names (record_at c.slots n whole)
     by_test n t below there some true is =
         let same : n ≡ at = eqb-true n at is in
         let slot_is : t ≡ s = same_Some t s (sym there ∙ ap (slice_get c.slots) same ∙ here) in
-        subst (λ k. IsStoredIn c.names (record_at c.slots k whole)) (sym same) (stored (subst (λ (u : Slot). 0 < u.length) slot_is some))
+        subst (λ k. IsStoredIn c.version c.names (record_at c.slots k whole)) (sym same) (stored (subst (λ (u : Slot). 0 < u.length) slot_is some))
     by_test n t below there some false is = let less : n < at = grind (arith, nat_tests) in before n t less there some
 
 -- what is told to be wrong with a record is wrong with the component
@@ -108,13 +108,13 @@ module _ (c : Index) (whole : List ℕ) (pairs : Pairs) (up : Ascends pairs) (la
       subst (IsUpTo c whole pairs (at + 1) after) same
       (up_to_next at s.key gained None before after after entry stored canonical (λ few. (less (omega (arith, few)), λ path t. omega arith)) u)
 
-  pub up_to_live : ReadsMeant → (at gained : ℕ) (s : Slot) (before between after : Counted) → slice_get c.slots at ≡ Some s → 0 < s.length → IsStoredIn c.names (record_at c.slots at whole) → IsCanonical (length c.names) after
+  pub up_to_live : ReadsMeant → (at gained : ℕ) (s : Slot) (before between after : Counted) → slice_get c.slots at ≡ Some s → 0 < s.length → IsStoredIn c.version c.names (record_at c.slots at whole) → IsCanonical (length c.names) after
       → (gained < 2 ^ 32 → IsLessBy (value_of s.key pairs) c.names before between × IsMoreBy (document_in c.names (record_at c.slots at whole)) c.names between after)
       → IsUpTo c whole pairs at before gained → IsUpTo c whole pairs (at + 1) after (gained + 1)
   up_to_live reads at gained s before between after here some stored canonical moves u =
       let test : (s.length == 0) ≡ false = grind (arith, nat_tests) in
       let d = stored.document in
-      let is : document_in c.names (record_at c.slots at whole) ≡ Some d = stored_document reads c.names (record_at c.slots at whole) lawful.names stored in
+      let is : document_in c.names (record_at c.slots at whole) ≡ Some d = stored_document reads c.version c.names (record_at c.slots at whole) lawful.names stored in
       let entry : slice_get (content_in c whole).entries at ≡ Some (s.key, Some d) =
       slot_entry c whole at s here ∙ ap (λ b. Some (s.key, if b then None else document_in c.names (record_at c.slots at whole))) test ∙ ap (λ v. Some (s.key, v)) is in
       up_to_next at s.key gained (Some d) before between after entry (stored_more c whole at s here (λ _. stored) u.stored) canonical

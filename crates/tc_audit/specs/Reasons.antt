@@ -35,7 +35,7 @@ pub record IsFirstHarm (c : Index) (whole : List ℕ) (place : ℕ) (bytes : Lis
   pub some : 0 < slot.length
   pub place_is : place ≡ record_place c.slots at
   pub bytes_are : bytes ≡ record_at c.slots at whole
-  pub harmed : IsStoredIn c.names bytes → ⊥
+  pub harmed : IsStoredIn c.version c.names bytes → ⊥
   pub first : AreStoredUpTo c whole at
 
 -- the component is loaded of a content, with which so much is live as is said

@@ -55,4 +55,4 @@ pub record IsHeld {F : Type 0} (told : F → Option (List ℕ)) (c : ComponentSt
 
 -- each of the first so many entries that has a record has a stored one
 abbrev pub AreStoredUpTo : Index → List ℕ → ℕ → Type 0
-AreStoredUpTo c bytes end = (at : ℕ) (s : Slot) → at < end → slice_get c.slots at ≡ Some s → 0 < s.length → IsStoredIn c.names (record_at c.slots at bytes)
+AreStoredUpTo c bytes end = (at : ℕ) (s : Slot) → at < end → slice_get c.slots at ≡ Some s → 0 < s.length → IsStoredIn c.version c.names (record_at c.slots at bytes)

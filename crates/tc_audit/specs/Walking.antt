@@ -52,7 +52,7 @@ pub record IsUpTo (c : Index) (whole : List ℕ) (pairs : Pairs) (at : ℕ) (sch
 
 -- the record of the entry at a position is none of a document as it is stored
 abbrev pub IsHarmAt : ℕ → Index → ℕ → List ℕ → Wrong → Type 0
-IsHarmAt component c at whole w = (w ≡ Record component (record_place c.slots at) (record_at c.slots at whole)) × (IsStoredIn c.names (record_at c.slots at whole) → ⊥)
+IsHarmAt component c at whole w = (w ≡ Record component (record_place c.slots at) (record_at c.slots at whole)) × (IsStoredIn c.version c.names (record_at c.slots at whole) → ⊥)
 
 -- what is found where all records are stored ones: too many documents, or else a schema that counts otherwise
 abbrev pub IsMiscount : ℕ → Index → Counted → ℕ → Wrong → Type 0
@@ -64,5 +64,5 @@ IsMiscount component c schema gained (Count at first) =
 -- a component's file tells its bytes, and the entry at a position has the stored record of a document there
 pub record IsStoredAt {F : Type 0} (told : F → Option (List ℕ)) (c : ComponentState F) (at : ℕ) (d : Document) (whole : List ℕ) : Type 0 where
   pub tells : told c.file ≡ Some whole
-  pub stored : IsStoredIn c.index.names (record_at c.index.slots at whole)
+  pub stored : IsStoredIn c.index.version c.index.names (record_at c.index.slots at whole)
   pub is : stored.document ≡ d

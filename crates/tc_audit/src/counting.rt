@@ -51,7 +51,7 @@ impl Recount {
 
 /// Counts the document of a stored record once more. Its names are all known. Errs only for want of memory.
 pub(crate) fn count_record(of: RecordRef<'_>, recount: &mut Recount) -> Result<(), Memory>
-    requires stored { IsStoredIn recount.old.names of.bytes }
+    requires stored { IsStoredIn of.form recount.old.names of.bytes }
     requires canonical { IsCanonical (length recount.old.names) recount.old.schema }
     requires room { (path : Path) → total_at recount.old.names recount.old.schema path + 2 ^ 30 < 2 ^ 64 }
     ensures names { OnOk result (recount.new.names ≡ recount.old.names) }

@@ -119,10 +119,10 @@ fn read_again<F: Frozen>(
     watch: &mut F::Watch,
 ) -> Result<Bytes, Stop>
     requires place { IsPlace component.now.index.slots place }
-    ensures found { IfOk result (λ bytes. IsRecordWithin (length component.now.index.names) bytes) }
+    ensures found { IfOk result (λ bytes. IsRecordWithin component.now.index.version (length component.now.index.names) bytes) }
     ensures read { IfOk result (λ bytes. (whole : List ℕ) → F.content component.now.file ≡ Some whole → bytes ≡ record_at component.now.index.slots place.at whole) }
     ensures place { IfWrong result (λ w. position_of w ≡ number) }
-    ensures harmed { IfWrong result (λ w. (whole : List ℕ) → F.content component.now.file ≡ Some whole → IsRecordWithin (length component.now.index.names) (record_at component.now.index.slots place.at whole) → ⊥) }
+    ensures harmed { IfWrong result (λ w. (whole : List ℕ) → F.content component.now.file ≡ Some whole → IsRecordWithin component.now.index.version (length component.now.index.names) (record_at component.now.index.slots place.at whole) → ⊥) }
     ensures watched { IsWatched (IsErrOf result Stop.Disk) (F.Watch.counts watch.old) (F.Watch.counts watch.new) }
 {
     match component.fetch(alloc, place, watch) {

@@ -14,25 +14,22 @@ ghost use Rattle.tc_audit.specs.Stored.{IsStoredIn};
 
 use tc_compact::{expanded_size, spells_document};
 use tc_names::Names;
-use tc_record::{Label, NUMBERED_FORM, Piece, RecordRef};
+use tc_record::{Label, Piece, RecordRef};
 
 /// A record that can be compacted has fewer bytes with names.
 const LONG: u32 = 0x4000_0000;
 
-/// Whether a record is of form 1 and spells a document under a dictionary as components keep it: an object without a member `id`,
+/// Whether a record spells a document under a dictionary as components of its form keep it: an object without a member `id`,
 /// whose record of form 0 has fewer than 1,073,741,824 bytes. Takes no memory.
 pub fn spells_stored(of: RecordRef<'_>, names: &Names) -> bool
     requires numbered { of.named ≡ false }
-    ensures { IsTrue result ↔ IsStoredIn names.now of.entry.bytes }
+    ensures { IsTrue result ↔ IsStoredIn of.entry.form names.now of.entry.bytes }
 {
     // that the names are a dictionary, and that the bytes spell a numbered tree
     let _known = names.len();
     let _bytes = of.bytes();
     // that there are fewer than 2^32 tokens
     let _count = of.token_count();
-    if of.form() != NUMBERED_FORM {
-        return false;
-    }
     if !is_short(of.again(), names) {
         return false;
     }

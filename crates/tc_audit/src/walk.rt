@@ -154,7 +154,7 @@ fn count_place<F: Frozen>(
     ensures names { OnOk result (recount.new.names ≡ component.now.index.names) }
     ensures gained { OnOk result (recount.new.gained ≡ recount.old.gained + 1) }
     ensures counting { OnOk result (IsCounting component.now.index.names recount.new.schema recount.new.gained) }
-    ensures stored { OnOk result ((whole : List ℕ) → F.content component.now.file ≡ Some whole → IsStoredIn component.now.index.names (record_at component.now.index.slots place.at whole)) }
+    ensures stored { OnOk result ((whole : List ℕ) → F.content component.now.file ≡ Some whole → IsStoredIn component.now.index.version component.now.index.names (record_at component.now.index.slots place.at whole)) }
     ensures counted { OnOk result ((whole : List ℕ) → F.content component.now.file ≡ Some whole → recount.old.gained < 2 ^ 32
         → IsMoreBy (document_in component.now.index.names (record_at component.now.index.slots place.at whole)) component.now.index.names recount.old.schema recount.new.schema) }
     ensures place { IfWrong result (λ w. position_of w ≡ number) }
@@ -174,7 +174,7 @@ fn count_place<F: Frozen>(
 
 /// Counts the document of a stored record, unless it is known that too many documents are live. Errs only for want of memory.
 fn count_few(of: RecordRef<'_>, recount: &mut Recount) -> Result<(), Memory>
-    requires stored { IsStoredIn recount.old.names of.bytes }
+    requires stored { IsStoredIn of.form recount.old.names of.bytes }
     requires counting { IsCounting recount.old.names recount.old.schema recount.old.gained }
     ensures names { OnOk result (recount.new.names ≡ recount.old.names) }
     ensures gained { recount.new.gained ≡ recount.old.gained }
@@ -199,7 +199,7 @@ fn hold<F: Frozen>(
     requires of { HoldsPart (F.content component.now.file) cursor.old }
     ensures of { HoldsPart (F.content component.now.file) cursor.new }
     ensures has { OnOk result (HasRecord component.now.index place.at cursor.new) }
-    ensures found { OnOk result (IsRecordWithin (length component.now.index.names) (record_held component.now.index place.at cursor.new)) }
+    ensures found { OnOk result (IsRecordWithin component.now.index.version (length component.now.index.names) (record_held component.now.index place.at cursor.new)) }
     ensures read { OnOk result ((whole : List ℕ) → F.content component.now.file ≡ Some whole → record_held component.now.index place.at cursor.new ≡ record_at component.now.index.slots place.at whole) }
     ensures place { IfWrong result (λ w. position_of w ≡ number) }
     ensures harmed { IfWrong result (λ w. (whole : List ℕ) → F.content component.now.file ≡ Some whole → IsHarmAt number component.now.index place.at whole w) }
@@ -223,7 +223,7 @@ fn unstored<F: Frozen>(
 ) -> Stop
     requires place { IsPlace component.now.index.slots place }
     requires read { (whole : List ℕ) → F.content component.now.file ≡ Some whole → bytes.now ≡ record_at component.now.index.slots place.at whole }
-    requires harmed { IsStoredIn component.now.index.names bytes.now → ⊥ }
+    requires harmed { IsStoredIn component.now.index.version component.now.index.names bytes.now → ⊥ }
     ensures no_disk { result ≡ Stop.Disk → ⊥ }
     ensures place { (w : Reason) → result ≡ Stop.Wrong w → position_of w ≡ number }
     ensures harmed { (w : Reason) → result ≡ Stop.Wrong w → (whole : List ℕ) → F.content component.now.file ≡ Some whole → IsHarmAt number component.now.index place.at whole w }

@@ -12,8 +12,9 @@ use Rattle.tc_store.specs.declared.file_name.FileName.{FileName}
 use Rattle.tc_store.specs.Counted.{Counts}
 use Rattle.tc_component.specs.Loaded.{IsLoadedOf}
 use Rattle.tc_component.specs.Loading.{ComponentState}
-use Rattle.tc_component.specs.Rows.{component_index}
+use Rattle.tc_component.specs.Rows.{IsIndexOf}
 use Rattle.tc_component.specs.Spelling.{name_of}
+use Rattle.tc_component.proofs.Versions.{of_version}
 use Rattle.tc_log.specs.declared.write.Write.{Write as LogWrite}
 use Rattle.tc_plain_model.specs.Writes.{Write}
 use Rattle.tc_lsm_model.specs.Contents.{Content, Partition}
@@ -46,11 +47,11 @@ last_mapped f names [] newest = refl
 last_mapped f names (m ∷ older) newest = last_mapped f (f m).index.names older newest
 
 -- what components have beside their records is what the contents have
-pub indexes : {F : Type 0} (content : F → Option (List ℕ)) (list : List (ComponentState F)) (cs : List Content) → AllZip (IsLoadedOf content) list cs → AllZip (λ (m : ComponentState F) c. m.index ≡ component_index c) list cs
+pub indexes : {F : Type 0} (content : F → Option (List ℕ)) (list : List (ComponentState F)) (cs : List Content) → AllZip (IsLoadedOf content) list cs → AllZip (λ (m : ComponentState F) c. IsIndexOf m.index c) list cs
 indexes content [] [] loaded = tt
 indexes content [] (c ∷ cs) loaded = absurd loaded
 indexes content (m ∷ list) [] loaded = absurd loaded
-indexes content (m ∷ list) (c ∷ cs) loaded = (loaded.0.index, indexes content list cs loaded.1)
+indexes content (m ∷ list) (c ∷ cs) loaded = (of_version m.index _ c loaded.0.index, indexes content list cs loaded.1)
 
 wrong_at : {F : Type 0} (content : F → Option (List ℕ)) (cs : List Content) (c : ComponentState F) (wrong : AuditWrong) → IsWrongBehind content cs c wrong → position_of wrong ≡ length cs
 wrong_at content cs c (Record at place bytes) is = is.0

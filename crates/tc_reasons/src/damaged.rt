@@ -16,7 +16,7 @@ struct Mark {
 
 const COMPONENT: Mark = Mark {
     family: "TCC",
-    newest: b'1',
+    newest: b'2',
 };
 
 const LOG: Mark = Mark {

@@ -13,9 +13,9 @@ add_known-requires-clause-countable c =
     let dictionary = c.len-known.ensures.dictionary in
     record {
       document = s.document;
-      is_record = stored_under names c.args.of.bytes dictionary s;
+      is_record = stored_under c.args.of.form names c.args.of.bytes dictionary s;
       named = s.named;
-      room = counters_room c.names_agree.ensures.values names c.args.recount.now.schema s.document (kept_in names c.args.of.bytes dictionary s).whole s.short c.requires.room;
+      room = counters_room c.names_agree.ensures.values names c.args.recount.now.schema s.document (kept_in c.args.of.form names c.args.of.bytes dictionary s).whole s.short c.requires.room;
     }
 
 pub returns-clause-counted : goal.returns-clause-counted
@@ -26,8 +26,8 @@ returns-clause-counted c =
     let dictionary = c.len-known.ensures.dictionary in
     on_ok_weaker c.add_known.result
     (λ counted.
-    subst (λ o. IsMoreBy o names before c.add_known.new.schema) (sym (stored_document c.document_meant.ensures.read names c.args.of.bytes dictionary s))
-    (more_by names before c.add_known.new.schema s.document (counted s.document (stored_under names c.args.of.bytes dictionary s))))
+    subst (λ o. IsMoreBy o names before c.add_known.new.schema) (sym (stored_document c.document_meant.ensures.read c.args.of.form names c.args.of.bytes dictionary s))
+    (more_by names before c.add_known.new.schema s.document (counted s.document (stored_under c.args.of.form names c.args.of.bytes dictionary s))))
     c.add_known.ensures.counted
 
 pub returns-clause-room : goal.returns-clause-room
@@ -37,6 +37,6 @@ returns-clause-room c =
     let s = c.requires.stored in
     let dictionary = c.len-known.ensures.dictionary in
     on_ok_weaker c.add_known.result
-    (λ counted. total_more c.names_agree.ensures.values names before c.add_known.new.schema s.document (kept_in names c.args.of.bytes dictionary s).whole s.short
-    (more_by names before c.add_known.new.schema s.document (counted s.document (stored_under names c.args.of.bytes dictionary s))))
+    (λ counted. total_more c.names_agree.ensures.values names before c.add_known.new.schema s.document (kept_in c.args.of.form names c.args.of.bytes dictionary s).whole s.short
+    (more_by names before c.add_known.new.schema s.document (counted s.document (stored_under c.args.of.form names c.args.of.bytes dictionary s))))
     c.add_known.ensures.counted

@@ -1,4 +1,5 @@
 use Rattle.std.proofs.Common.{length}
+use Rattle.tc_component.specs.Reading.{version_of}
 use Rattle.tc_component.specs.Rows.{component_index}
 use Rattle.tc_audit.proofs.ContentLaws.{made, stored_up_to}
 use Rattle.tc_audit.specs.Told.{content_in}
@@ -12,7 +13,7 @@ returns-clause-stored c = λ content bytes end is. stored_up_to content bytes en
 
 pub returns-clause-one : goal.returns-clause-one
 returns-clause-one c = λ content bytes is.
-    let index = component_index content in
+    let index = component_index (version_of bytes) content in
     let laws = c.components_are_contents.ensures in
     let again = made c.document_meant.ensures.read index bytes (laws.holds content bytes is) (stored_up_to content bytes (length index.slots) (laws.fetched content bytes) is) in
     laws.apart (content_in index bytes) content bytes again.0 is

@@ -56,7 +56,7 @@ returns-in-Some-clause-counted g c =
     let m = c.args.component.now in
     let e = c.entry-entry.ensures in
     let p = placed m.index.slots c.args.at c.entry-entry.result c.in-Some.place e c.in-Some.is in
-    let stored : IsStoredIn m.index.names (record_at m.index.slots c.args.at whole) = subst (λ at. IsStoredIn m.index.names (record_at m.index.slots at whole)) p.at_is (found.0 whole tells.0) in
+    let stored : IsStoredIn m.index.version m.index.names (record_at m.index.slots c.args.at whole) = subst (λ at. IsStoredIn m.index.version m.index.names (record_at m.index.slots at whole)) p.at_is (found.0 whole tells.0) in
     subst (IsUpTo m.index whole (live cs) (c.args.at + 1) c.count_place.new.recount.schema) (sym (found.1 ∙ ap (λ n. n + 1) c.in_ok-take_few.ensures.gained))
     (up_to_live m.index whole (live cs) (Ascends-live cs) c.file_len-lawful.ensures.lawful c.document_meant.ensures.read c.args.at c.args.recount.now.gained (slot c.entry-entry.result.key e.bytes) c.args.recount.now.schema c.take_few.new.recount.schema
     c.count_place.new.recount.schema e.here p.some stored counts.0.canonical

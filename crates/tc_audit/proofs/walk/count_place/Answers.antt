@@ -1,4 +1,4 @@
-use Rattle.std.proofs.Common.{◌≡◌, ◌∙◌, ◌+◌, false, length, inl, inr, refl, sym, ap, subst}
+use Rattle.std.proofs.Common.{◌≡◌, ◌∙◌, ◌+◌, false, length, inr, refl, sym, ap, subst}
 use Rattle.std.proofs.lemmas.Bool.{both_ways}
 use Rattle.tc_record.specs.Borrowed.{Record}
 use Rattle.tc_component.specs.Fetching.{IsRecordWithin}
@@ -13,13 +13,15 @@ use Rattle.tc_audit.proofs.walk.count_place.Goals as goal
 
 pub known-of-requires : goal.known-of-requires
 known-of-requires g c =
-    let found : IsRecordWithin (length c.args.component.now.index.names) c.record-bytes.result.now = subst (IsRecordWithin (length c.args.component.now.index.names)) (sym c.record-bytes.ensures.same) c.in_ok-hold.ensures.found in
-    inr (found.tree, (1, (inl refl, found.is_record)))
+    let index = c.args.component.now.index in
+    let found : IsRecordWithin index.version (length index.names) c.record-bytes.result.now = subst (IsRecordWithin index.version (length index.names)) (sym c.record-bytes.ensures.same) c.in_ok-hold.ensures.found in
+    inr (found.tree, (index.version, (found.told, found.is_record)))
 
 pub spells_stored-requires : goal.spells_stored-requires
 spells_stored-requires g c =
-    let found : IsRecordWithin (length c.args.component.now.index.names) c.record-bytes.result.now = subst (IsRecordWithin (length c.args.component.now.index.names)) (sym c.record-bytes.ensures.same) c.in_ok-hold.ensures.found in
-    let unnamed : c.again.result.named ≡ false = ap (λ (r : Record). r.named) c.again.ensures ∙ (c.known-of.ensures.numbered 1 found.tree (inl refl) found.is_record).1 in
+    let index = c.args.component.now.index in
+    let found : IsRecordWithin index.version (length index.names) c.record-bytes.result.now = subst (IsRecordWithin index.version (length index.names)) (sym c.record-bytes.ensures.same) c.in_ok-hold.ensures.found in
+    let unnamed : c.again.result.named ≡ false = ap (λ (r : Record). r.named) c.again.ensures ∙ (c.known-of.ensures.numbered index.version found.tree found.told found.is_record).1 in
     record { numbered = unnamed }
 
 -- ---- where it is no stored one
@@ -29,7 +31,10 @@ unstored-requires-clause-read g c κs within = λ whole tells. c.record-bytes.en
 
 pub unstored-requires-clause-harmed : goal.unstored-requires-clause-harmed
 unstored-requires-clause-harmed g c κs within = λ stored.
-    let told = test_of_held _ _ _ _ _ c.spells_stored.result c.names.ensures c.again.ensures c.known-of.ensures.bytes c.spells_stored.ensures in
+    let index = c.args.component.now.index in
+    let found : IsRecordWithin index.version (length index.names) c.record-bytes.result.now = subst (IsRecordWithin index.version (length index.names)) (sym c.record-bytes.ensures.same) c.in_ok-hold.ensures.found in
+    let form = (c.known-of.ensures.numbered index.version found.tree found.told found.is_record).0 in
+    let told = test_of_held _ _ _ c.known-of.result _ _ c.spells_stored.result form c.names.ensures c.again.ensures c.known-of.ensures.bytes c.spells_stored.ensures in
     both_ways c.spells_stored.result c.if-not-spells_stored.true (told.1 stored)
 
 pub returns-then-not-spells_stored-clause-place : goal.returns-then-not-spells_stored-clause-place
@@ -42,8 +47,8 @@ returns-then-not-spells_stored-clause-harmed g c = stop_told c.unstored.result _
 
 pub count_few-requires-clause-stored : goal.count_few-requires-clause-stored
 count_few-requires-clause-stored g c =
-    let told = test_of_held _ _ _ _ c.known-of.result.bytes c.spells_stored.result c.names.ensures c.again.ensures refl c.spells_stored.ensures in
-    subst (λ names. IsStoredIn names c.known-of.result.bytes) (sym c.requires.names) (told.0 c.if-not-spells_stored.false)
+    let told = test_of_held c.known-of.result.form _ _ c.known-of.result _ c.known-of.result.bytes c.spells_stored.result refl c.names.ensures c.again.ensures refl c.spells_stored.ensures in
+    subst (λ names. IsStoredIn c.known-of.result.form names c.known-of.result.bytes) (sym c.requires.names) (told.0 c.if-not-spells_stored.false)
 
 pub count_few-requires-clause-counting : goal.count_few-requires-clause-counting
 count_few-requires-clause-counting g c = subst (λ names. IsCounting names c.args.recount.now.schema c.args.recount.now.gained) (sym c.requires.names) c.requires.counting
@@ -58,8 +63,11 @@ returns-clause-counting g c =
 
 pub returns-clause-stored : goal.returns-clause-stored
 returns-clause-stored g c = λ whole tells.
-    let told = test_of_held _ _ _ _ _ c.spells_stored.result c.names.ensures c.again.ensures (c.known-of.ensures.bytes ∙ c.record-bytes.ensures.same) c.spells_stored.ensures in
-    subst (IsStoredIn c.args.component.now.index.names) (c.in_ok-hold.ensures.read whole tells) (told.0 c.if-not-spells_stored.false)
+    let index = c.args.component.now.index in
+    let found : IsRecordWithin index.version (length index.names) c.record-bytes.result.now = subst (IsRecordWithin index.version (length index.names)) (sym c.record-bytes.ensures.same) c.in_ok-hold.ensures.found in
+    let form = (c.known-of.ensures.numbered index.version found.tree found.told found.is_record).0 in
+    let told = test_of_held _ _ _ c.known-of.result _ _ c.spells_stored.result form c.names.ensures c.again.ensures (c.known-of.ensures.bytes ∙ c.record-bytes.ensures.same) c.spells_stored.ensures in
+    subst (IsStoredIn index.version index.names) (c.in_ok-hold.ensures.read whole tells) (told.0 c.if-not-spells_stored.false)
 
 pub returns-clause-counted : goal.returns-clause-counted
 returns-clause-counted g c = λ whole tells few.

@@ -13,18 +13,21 @@ returns-in-Ok-clause-read g c = λ whole tells.
     let m = c.args.component.now in
     subst (λ o. IfSome o (λ bytes. record_held m.index c.args.place.at c.read.new.self ≡ record_at m.index.slots c.args.place.at bytes)) tells c.in-Ok.ensures.read
 
--- damage is a record that is none of form 1 within the names, so that it is no stored one
+pub returns-in-Ok-clause-watched : goal.returns-in-Ok-clause-watched
+returns-in-Ok-clause-watched g c = record { faults = c.read.ensures.counted.faults; cause = λ failed. absurd (cc) }
+
+-- damage is a record that is none of the file's form within the names, so that it is no stored one
 pub returns-in-Err-clause-harmed : goal.returns-in-Err-clause-harmed
 returns-in-Err-clause-harmed g c =
     let m = c.args.component.now in
     let told = g.F.Frozen.content m.file in
     read_wrong c.args.number c.in-Err.fault c.of_read.result
-    (λ at kept. IfSome told (λ bytes. kept ≡ record_at m.index.slots c.args.place.at bytes) × ((at ≡ record_place m.index.slots c.args.place.at) × (length kept ≡ length_at m.index.slots c.args.place.at) × (IsRecordWithin (length m.index.names) kept → ⊥)))
+    (λ at kept. IfSome told (λ bytes. kept ≡ record_at m.index.slots c.args.place.at bytes) × ((at ≡ record_place m.index.slots c.args.place.at) × (length kept ≡ length_at m.index.slots c.args.place.at) × (IsRecordWithin m.index.version (length m.index.names) kept → ⊥)))
     _ c.of_read.ensures (both_damaged _ _ c.in-Err.fault c.in-Err.ensures.told c.in-Err.ensures.damaged)
     (λ place bytes both whole tells.
     let bytes_are : bytes ≡ record_at m.index.slots c.args.place.at whole = subst (λ o. IfSome o (λ all. bytes ≡ record_at m.index.slots c.args.place.at all)) tells both.0 in (
       ap (λ at. Record c.args.number at bytes) both.1.0 ∙ ap (Record c.args.number (record_place m.index.slots c.args.place.at)) bytes_are,
-      λ stored. both.1.2 (stored_within m.index.names bytes c.file_len-lawful.ensures.lawful.names (subst (IsStoredIn m.index.names) (sym bytes_are) stored)),
+      λ stored. both.1.2 (stored_within m.index.version m.index.names bytes c.file_len-lawful.ensures.lawful.names (subst (IsStoredIn m.index.version m.index.names) (sym bytes_are) stored)),
     ))
 
 pub returns-in-Err-clause-watched : goal.returns-in-Err-clause-watched

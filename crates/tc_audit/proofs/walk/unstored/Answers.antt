@@ -15,7 +15,7 @@ returns-clause-harmed g c = λ w stops whole tells.
     let read = c.requires.read whole tells in (
       damage_stop c.args.number c.damaged.result c.of_read.result _ _ c.of_read.ensures c.damaged.ensures.damage w stops
           ∙ ap (λ at. Record c.args.number at c.args.bytes.now) c.record_range-begin.ensures.begin ∙ ap (Record c.args.number (record_place m.index.slots c.args.place.at)) read,
-      λ stored. c.requires.harmed (subst (IsStoredIn m.index.names) (sym read) stored),
+      λ stored. c.requires.harmed (subst (IsStoredIn m.index.version m.index.names) (sym read) stored),
     )
 
 pub returns-clause-place : goal.returns-clause-place
