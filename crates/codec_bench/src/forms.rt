@@ -1,12 +1,12 @@
-//! Calls that turn the two forms of a record into one another.
+//! Calls that turn forms of a record into one another.
 
 use std::alloc::Global;
 use tc_bytes::{Bytes, Memory};
-use tc_compact::{compact, document_of, expand, expanded_size, names_agree, repack, shape_of};
+use tc_compact::{compact, document_of, expand, expanded_size, names_agree, shape_of};
 use tc_names::Names;
-use tc_record::{NUMBERED_FORM, PACKED_FORM, RecordFault, RecordRef, decode};
+use tc_record::{PACKED_FORM, RecordFault, RecordRef, decode};
 
-/// The record of form 1, or nothing where the bytes are no short record of form 0.
+/// The record of form 2, or nothing where the bytes are no short record of form 0.
 fn form_of_numbers(
     alloc: Global,
     bytes: &[u8],
@@ -25,7 +25,7 @@ fn form_of_numbers(
     Ok(Some(compact(alloc, record, names)?))
 }
 
-/// The lengths of the records of form 1, added up.
+/// The lengths of the records of form 2, added up.
 pub(crate) fn compacted(alloc: Global, bytes: &[u8], rounds: u32) -> Result<u64, Memory> {
     let mut names = Names::new(alloc);
     let mut sum = 0u64;
@@ -37,7 +37,7 @@ pub(crate) fn compacted(alloc: Global, bytes: &[u8], rounds: u32) -> Result<u64,
     Ok(sum)
 }
 
-/// The length of what the record of form 1 expands to, or 0 where that is not the record.
+/// The length of what the record of form 2 expands to, or 0 where that is not the record.
 pub(crate) fn expanded(alloc: Global, bytes: &[u8]) -> Result<u64, RecordFault> {
     let mut names = Names::new(alloc);
     let Some(numbered) = form_of_numbers(alloc, bytes, &mut names)? else {
@@ -51,19 +51,12 @@ pub(crate) fn expanded(alloc: Global, bytes: &[u8]) -> Result<u64, RecordFault> 
     }
 }
 
-/// Whether the record of form 2 of a record of form 1 is no longer, and expands to the record of form 0, as long as was told before.
-pub(crate) fn repacks_the_same(alloc: Global, bytes: &[u8]) -> Result<bool, RecordFault> {
+/// Whether the record of form 2 is one, is no longer than the record of form 0, and expands to it, as long as was told before.
+pub(crate) fn packs_the_same(alloc: Global, bytes: &[u8]) -> Result<bool, RecordFault> {
     let mut names = Names::new(alloc);
-    let Some(numbered) = form_of_numbers(alloc, bytes, &mut names)? else {
+    let Some(packed) = form_of_numbers(alloc, bytes, &mut names)? else {
         return Ok(false);
     };
-    let Some(record) = RecordRef::of(numbered.as_slice()) else {
-        return Ok(false);
-    };
-    if record.form() != NUMBERED_FORM {
-        return Ok(false);
-    }
-    let packed = repack(alloc, record)?;
     let Some(again) = RecordRef::of(packed.as_slice()) else {
         return Ok(false);
     };
@@ -75,11 +68,11 @@ pub(crate) fn repacks_the_same(alloc: Global, bytes: &[u8]) -> Result<bool, Reco
         None => false,
     };
     let named = expand(alloc, packed.as_slice(), &names)?;
-    let shorter = packed.as_slice().len() <= numbered.as_slice().len();
+    let shorter = packed.as_slice().len() <= bytes.len();
     Ok(expands && shorter && named.as_slice() == bytes)
 }
 
-/// Whether a record of form 1 has the document that it has when it is expanded, and the counts of the record of form 0.
+/// Whether a record of form 2 has the document that it has when it is expanded, and the counts of the record of form 0.
 pub(crate) fn means_the_same(alloc: Global, bytes: &[u8]) -> Result<bool, RecordFault> {
     let mut names = Names::new(alloc);
     let Some(numbered) = form_of_numbers(alloc, bytes, &mut names)? else {

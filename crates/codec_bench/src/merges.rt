@@ -8,7 +8,7 @@ use std::sync::Arc;
 use tc_component::{Component, Found, Head};
 use tc_memory::Sealed;
 use tc_merge::{MergeJob, MergeParts, can_merge};
-use tc_record::{NUMBERED_FORM, RecordRef};
+use tc_record::{PACKED_FORM, RecordRef};
 use tc_store::{Device, FileName, Frozen, Store};
 
 /// A component that jobs share.
@@ -63,7 +63,7 @@ impl Records {
         }
     }
 
-    /// How many of them are a record, of any form or of form 1.
+    /// How many of them are a record, of any form or of form 2.
     fn lawful(&self, asked: Asked) -> u64 {
         let mut rest = self.bytes.as_slice();
         let mut lawful = 0u64;
@@ -80,7 +80,7 @@ impl Records {
     }
 }
 
-/// What is asked of bytes: whether they are a record, or one of form 1, as a merge asks.
+/// What is asked of bytes: whether they are a record, or one of form 2, as a merge asks.
 #[derive(Clone, Copy)]
 pub(crate) enum Asked {
     Either,
@@ -91,7 +91,7 @@ impl Asked {
     fn is(self, bytes: &[u8]) -> bool {
         match self {
             Asked::Either => RecordRef::of(bytes).is_some(),
-            Asked::Numbered => RecordRef::numbered(bytes, NUMBERED_FORM).is_some(),
+            Asked::Numbered => RecordRef::numbered(bytes, PACKED_FORM).is_some(),
         }
     }
 }

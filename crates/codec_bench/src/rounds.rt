@@ -1,6 +1,6 @@
 //! Calls of the codec, each done so many times. A sum of what they answer keeps them from being left out.
 
-use crate::forms::{compacted, expanded, means_the_same, repacks_the_same, shapes_are_the_same};
+use crate::forms::{compacted, expanded, means_the_same, packs_the_same, shapes_are_the_same};
 use anyhow::{Result, bail};
 use std::alloc::{AllocError, Global};
 use tc_bytes::Bytes;
@@ -33,7 +33,7 @@ pub(crate) fn sum_of(
         "compact" => Ok(compacted(alloc, bytes, rounds)?),
         "expand" => Ok(expanded(alloc, bytes)?),
         "same" => Ok(u64::from(decode(alloc, bytes)?.same(doc))),
-        "repack" => agreed(call, repacks_the_same(alloc, bytes)?),
+        "pack" => agreed(call, packs_the_same(alloc, bytes)?),
         "document" => agreed(call, means_the_same(alloc, bytes)?),
         "shape" => agreed(call, shapes_are_the_same(alloc, bytes)?),
         other => bail!("no call {other}"),

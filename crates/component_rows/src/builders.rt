@@ -1,6 +1,7 @@
 //! Calls on a component that is written.
 
-ghost use Rattle.std.specs.Prelude.{◌≡◌, ◌<◌, ◌^◌, false, length, IfSome};
+ghost use Rattle.std.specs.Prelude.{◌≡◌, false, IfSome, IsTrue};
+ghost use Rattle.tc_component.specs.Building.{IsWrittenRecord};
 ghost use Rattle.tc_store.specs.Memory.Device.{device_size};
 
 use crate::arguments::{bytes, device_fault, numbers, word};
@@ -8,6 +9,7 @@ use crate::desk::{Desk, Hand, NAME};
 use std::alloc::Global;
 use tc_component::{Builder, Head};
 use tc_names::Names;
+use tc_record::{PACKED_FORM, RecordRef};
 use tc_schema::Schema;
 use tc_store::{Broken, MemDevice, MemStore, MemWatch, Store};
 
@@ -137,13 +139,18 @@ fn entry(alloc: Global, argument: &str) -> Option<(u64, Vec<u8>)> {
     Some((key, bytes(alloc, digits)?))
 }
 
-// A key of one byte, and a record of so many of this byte.
+// A key of one byte, and a record of one text: how many of this byte the text has, the bytes in front of it, and behind it
+// the column of one number, which is 0.
 fn filled(alloc: Global, argument: &str) -> Option<(u64, Vec<u8>)> {
-    let (key, length) = argument.split_once(' ')?;
+    let (key, behind) = argument.split_once(' ')?;
+    let (length, front) = behind.split_once(' ')?;
     let key = key.parse::<u8>().ok()?;
     let length = length.parse::<u32>().ok()?;
-    let bytes = vec![in alloc; key; length as usize].ok()?;
-    Some((u64::from(key), bytes))
+    let text = vec![in alloc; key; length as usize].ok()?;
+    let mut record = bytes(alloc, front)?;
+    record.extend_from_slice(&text).ok()?;
+    record.push(0).ok()?;
+    Some((u64::from(key), record))
 }
 
 fn push(
@@ -153,11 +160,25 @@ fn push(
     entry: Option<(u64, Vec<u8>)>,
 ) -> Option<String> {
     let (key, bytes) = entry?;
-    if bytes.len() > MOST {
+    let record = bytes.as_slice();
+    if record.len() > MOST {
         return None;
     }
-    let pushed = pushed(good, key, Some(&bytes), &mut desk.writer);
+    if !is_written(record) {
+        return None;
+    }
+    let pushed = pushed(good, key, Some(record), &mut desk.writer);
     going_on(alloc, desk, pushed)
+}
+
+// Whether bytes are a record as a builder takes them.
+fn is_written(bytes: &[u8]) -> bool
+    ensures { IsTrue result → IsWrittenRecord bytes.now }
+{
+    match RecordRef::numbered(bytes, PACKED_FORM) {
+        Some(_record) => true,
+        None => false,
+    }
 }
 
 fn gone(alloc: Global, desk: &mut Desk, good: GoodBuilder, argument: &str) -> Option<String> {
@@ -191,7 +212,7 @@ fn pushed(
     held: Option<&[u8]>,
     watch: &mut MemWatch,
 ) -> Result<GoodBuilder, Broken<MemDevice>>
-    requires { IfSome held (λ bytes. length bytes.now < 2 ^ 32) }
+    requires { IfSome held (λ bytes. IsWrittenRecord bytes.now) }
 {
     let mut builder = good.into_builder();
     match builder.push(key, held, watch) {

@@ -8,7 +8,7 @@ use crate::arguments::{bytes, numbers, word};
 use crate::builders::begin;
 use crate::desk::{Desk, Hand, NAME};
 use crate::nesting::nested;
-use crate::samples::{EMPTY, WORKED};
+use crate::samples::{EMPTY, PACKED, WORKED};
 use std::alloc::Global;
 use std::mem;
 use tc_bytes::Bytes;
@@ -64,6 +64,7 @@ fn failing(alloc: Global, argument: &str) -> Option<MemWatch> {
 fn sample(alloc: Global, argument: &str) -> Option<Vec<u8>> {
     match argument {
         "worked" => bytes(alloc, WORKED),
+        "packed" => bytes(alloc, PACKED),
         "empty" => bytes(alloc, EMPTY),
         _ => bytes(alloc, argument),
     }
