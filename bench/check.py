@@ -4,7 +4,7 @@
     bench/check.py [STORE] [VALUES]
 
 STORE is the program, or else that of crates/tuple_store/out. The store has one partition, with three components and a log; one
-of the components is of version 2, where the program reads such ones. Each byte of each file gets VALUES other values (3 if not
+of the components is written anew in version 1. Each byte of each file gets VALUES other values (3 if not
 said), one after the other. Of each changed store three are asked: `check`; the reader of clients/python, which judges the files
 by docs/formats, with the counters that plain recursion finds in the documents; and a run that is asked for all documents and the
 schema.
@@ -33,7 +33,7 @@ TOP = os.path.dirname(HERE)
 STORE = os.path.join(TOP, 'crates', 'tuple_store', 'out', 'tuple_store')
 sys.path.insert(0, os.path.join(TOP, 'clients', 'python'))
 
-from tests.support import counted, of_version_2  # noqa: E402
+from tests.support import counted, of_version_1  # noqa: E402
 from tuple_store_client.errors import Damaged, FilesDiffer, NewerFormat, PartitionsDiffer  # noqa: E402
 from tuple_store_client.partition import read_partition  # noqa: E402
 from tuple_store_client.schemas import KINDS, kinds_of  # noqa: E402
@@ -221,10 +221,7 @@ def main():
         assert status == 0, errors
         files = bytes_of(folder)
         assert sorted(files) == ['c-1-1', 'c-2-2', 'c-3-3', 'l-4'], sorted(files)
-        write(folder, {'c-1-1': of_version_2(files['c-1-1'])})
-        if '"right"' in asked(store, folder, ['check', *ONE])[1]:
-            write(folder, {**files, 'c-2-2': of_version_2(files['c-2-2'])})
-            files = bytes_of(folder)
+        files['c-2-2'] = of_version_1(files['c-2-2'])
         rows = itertools.chain(with_changes(store, folder, files, values, counts), with_faults(store, top, files, counts))
         for what, found in rows:
             tried += 1

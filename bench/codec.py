@@ -28,7 +28,7 @@ and the names below the table are copied. The writes and bytes are those of one 
 component whose documents most of its entries replace or take out.
 
 Components are merged over such files too: `judge` looks whether the bytes of each record of the merge are a record, as
-`check` does, `numbered` looks whether they are one of form 1, which is what a merge asks, `merge` makes the component, and
+`check` does, `numbered` looks whether they are one of form 2, which is what a merge asks, `merge` makes the component, and
 `copy` does to the files what a merge does, with nothing in between: it reads the windows and writes the pieces. So `merge`
 less `copy` is the merge's own work. Four components have a quarter of the documents each, every fourth key; the
 two of churn are those of its table and of what the table stands over. A store merges components of megabytes, which are

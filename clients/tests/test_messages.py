@@ -485,7 +485,8 @@ class DamageMessages(Messages):
         restore = "is not as it was written: restore data from a copy that is whole"
         rows = [("c-5-5", component(5, 5, mark=b"TCC0")), ("c-5-5", component(5, 5, mark=b"TCCa")),
                 ("c-5-5", component(5, 5, mark=b"TCL2")), ("l-5", log(5, mark=b"TCC2")), ("l-5", log(5, mark=b"tCL2")),
-                ("c-5-5", component(4, 5)), ("l-5", log(6)), ("c-5-5", component(5, 5)[:40]), ("l-5", b"\1T")]
+                ("c-5-5", component(4, 5)), ("l-5", log(6)), ("c-5-5", component(5, 5)[:40]), ("l-5", b"\1T"),
+                ("c-5-5", component(4, 5, mark=b"TCC2")), ("c-5-5", component(5, 5, mark=b"TCC2")[:40])]
         for name, content in rows:
             with self.subTest(name=name, content=content[:5]):
                 self.put(**{name: content})

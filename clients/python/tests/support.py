@@ -127,38 +127,37 @@ def log(generation: int, frames: Sequence[List[Tuple[int, Optional[bytes]]]], pa
     return spelling + b"\0"
 
 
-def of_version_2(content: bytes) -> bytes:
-    """A component file of version 1 as one of version 2: each record of form 1 as the same record of form 2."""
+def of_version_1(content: bytes) -> bytes:
+    """A component file of version 2 as one of version 1: each record of form 2 as the same record of form 1."""
     sizes = list(struct.unpack_from(">QQQQ", content, 29))
     directory, records, entries, at = 61 + sizes[0], b"", b"", 61
     for place in range(directory, directory + 12 * sizes[1], 12):
         key, length = struct.unpack_from(">QI", content, place)
-        record = packed(content[at : at + length]) if length else b""
+        record = in_bytes(content[at : at + length]) if length else b""
         records, entries, at = records + record, entries + struct.pack(">QI", key, len(record)), at + length
-    header = b"\1TCC2" + content[5:29] + struct.pack(">QQQQ", len(records), *sizes[1:])
+    header = b"\1TCC1" + content[5:29] + struct.pack(">QQQQ", len(records), *sizes[1:])
     return header + records + entries + content[directory + 12 * sizes[1] :]
 
 
-def packed(record: bytes) -> bytes:
-    """The form 2 of a record of form 1: its columns of numbers are written with as many bits as the greatest one needs."""
-    _, _, tags, fixed, texts, text_width, slots, slot_width = struct.unpack_from(">IBIIIBIB", record)
+def in_bytes(record: bytes) -> bytes:
+    """The form 1 of a record of form 2: its columns of numbers are written with as many bytes as the greatest one needs."""
+    _, _, tags, fixed, texts, text_bits, slots, slot_bits = struct.unpack_from(">IBIIIBIB", record)
     lengths_at = 23 + tags + fixed
-    texts_at, slots_at = lengths_at + texts * text_width, len(record) - slots * slot_width
-    length_bits, lengths = _bits(record[lengths_at:texts_at], text_width)
-    slot_bits, numbers = _bits(record[slots_at:], slot_width)
+    texts_at, slots_at = lengths_at + (texts * text_bits + 7) // 8, len(record) - (slots * slot_bits + 7) // 8
+    text_width, lengths = _bytes(record[lengths_at:texts_at], texts, text_bits)
+    slot_width, numbers = _bytes(record[slots_at:], slots, slot_bits)
     body = record[23:lengths_at] + lengths + record[texts_at:slots_at] + numbers
-    return struct.pack(">IBIIIBIB", 23 + len(body), 2, tags, fixed, texts, length_bits, slots, slot_bits) + body
+    return struct.pack(">IBIIIBIB", 23 + len(body), 1, tags, fixed, texts, text_width, slots, slot_width) + body
 
 
-def _bits(column: bytes, width: int) -> Tuple[int, bytes]:
-    """A column of bytes as one of bits: how many each number has, and the bytes."""
-    numbers = [int.from_bytes(column[at : at + width], "big") for at in range(0, len(column), width or 1)]
-    if not numbers:
+def _bytes(column: bytes, count: int, bits: int) -> Tuple[int, bytes]:
+    """A column of bits as one of bytes: how many each number has, and the bytes."""
+    if not count:
         return 0, b""
-    bits = max(len(f"{max(numbers):b}"), 1)
-    digits = "".join(f"{number:0{bits}b}" for number in numbers)
-    digits += "0" * (-len(digits) % 8)
-    return bits, bytes(int(digits[at : at + 8], 2) for at in range(0, len(digits), 8))
+    digits = "".join(f"{byte:08b}" for byte in column)
+    numbers = [int(digits[at : at + bits], 2) for at in range(0, count * bits, bits)]
+    width = next(it for it in (1, 2, 4) if max(numbers) < 256**it)
+    return width, b"".join(number.to_bytes(width, "big") for number in numbers)
 
 
 def counted(documents: Sequence[Dict[str, Any]]) -> Any:

@@ -12,7 +12,7 @@ from tuple_store_client import Delete, Refused, Store, Upsert
 from tuple_store_client.partition import partitions_of
 from tuple_store_client.stats import stats
 
-from .support import PROGRAM, StoreTest, counted, of_version_2
+from .support import PROGRAM, StoreTest, counted, of_version_1
 
 KEYS = 200
 SIGNS = 'ab"\\/\n\t\x00\x1f\x7fé漢\u2028😀'
@@ -100,7 +100,7 @@ class Dumps(StoreTest):
         self.compare("store", plain, 1)
 
     def test_records_of_each_version(self) -> None:
-        """Each of the components in turn, and then all, written as files of version 2, which the program does not write."""
+        """Each of the components in turn, and then all, written as files of version 1, which the program reads and does not write."""
         choice = random.Random(7)
         plain: Dict[int, Any] = {}
         for count in (300, 200, 20):
@@ -112,13 +112,13 @@ class Dumps(StoreTest):
             shutil.copytree("store", "copy")
             for path in chosen:
                 with open(path, "rb") as file:
-                    content = of_version_2(file.read())
+                    content = of_version_1(file.read())
                 self.write(path.replace("store", "copy", 1), content)
             ran = self.tuplectl("copy", "dump", "--rows")
             self.assertEqual((ran.status, ran.err), (0, ""))
             self.assertTrue(ran.out == expected, "the rows differ")
             formats = [it["format"] for partition in stats("copy") for it in partition["components"]]
-            self.assertEqual(formats.count("TCC2"), len(chosen))
+            self.assertEqual(formats.count("TCC1"), len(chosen))
             shutil.rmtree("copy")
 
     def test_nothing_is_written(self) -> None:
