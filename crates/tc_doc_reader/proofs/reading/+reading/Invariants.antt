@@ -1,0 +1,37 @@
+use Rattle.std.proofs.Common.{◌≡◌, ◌+◌, ◌*◌, ◌≤◌, ℕ, length, map}
+use Rattle.json.specs.Json.{items, members, value, parse_map}
+use Rattle.serde_json.specs.Read.{converted}
+use Rattle.tc_model.specs.Tree.{no_members, members_of}
+use Rattle.tc_model.specs.Document.{IsAscending}
+use Rattle.tc_value.specs.Meaning.{tree_of, member_of}
+use Rattle.tc_doc_reader.specs.Tokens.{items_in, members_in, spare_levels}
+use Rattle.tc_doc_reader.proofs.TokenLaws.{items_before}
+use Rattle.tc_doc_reader.proofs.reading.+reading.Given as goal
+
+abbrev pub decreases-read_items : goal.decreases-read_items
+decreases-read_items l = 2 * l.room + 1
+
+abbrev pub decreases-read_members : goal.decreases-read_members
+decreases-read_members l = 2 * l.room + 1
+
+abbrev pub decreases-read_next : goal.decreases-read_next
+decreases-read_next l = 2 * l.room
+
+abbrev pub invariant-read_items-items : goal.invariant-read_items-items
+invariant-read_items-items l =
+    (n : ℕ) × (length l.reader ≤ n)
+    × (converted items_in (items (value (l.room + spare_levels)) (length l.initial.reader) l.initial.reader) ≡ parse_map (items_before (map tree_of l.found.items)) (converted items_in (items (value (l.room + spare_levels)) n l.reader)))
+    × (length l.reader ≤ length l.initial.reader)
+
+abbrev pub decreases-read_items-items : goal.decreases-read_items-items
+decreases-read_items-items l = length l.reader
+
+abbrev pub invariant-read_members-members : goal.invariant-read_members-members
+invariant-read_members-members l =
+    (n : ℕ) × (length l.reader ≤ n)
+    × (converted (λ ms. members_in ms no_members) (members (value (l.room + spare_levels)) (length l.initial.reader) l.initial.reader) ≡ converted (λ ms. members_in ms (members_of (map member_of l.found.items))) (members (value (l.room + spare_levels)) n l.reader))
+    × (length l.reader ≤ length l.initial.reader)
+    × IsAscending (map member_of l.found.items)
+
+abbrev pub decreases-read_members-members : goal.decreases-read_members-members
+decreases-read_members-members l = length l.reader
