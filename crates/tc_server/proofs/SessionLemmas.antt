@@ -12,7 +12,7 @@ use Rattle.tc_model.specs.Limits.{max_line}
 use Rattle.tc_request_model.specs.Reply.{Reply, reply_line}
 use Rattle.tc_run_model.specs.World.{World, after_all}
 use Rattle.tc_run_model.specs.Known.{MayReply}
-use Rattle.tc_run_model.specs.Windows.{BeginsWith, Window, Windows, is_control, is_full, line_size, unless_empty, with_open, with_line, lines_in}
+use Rattle.tc_run_model.specs.Windows.{BeginsWith, Window, Windows, is_control, is_full, line_size, max_window, unless_empty, with_open, with_line, lines_in}
 use Rattle.tc_run_model.specs.Course.{requests_for, requests_in, behind, each_line, worlds_left}
 use Rattle.tc_run_model.proofs.WindowLaws.{lines_in-append, lines_in-unless_empty, closed-with_line}
 use Rattle.tc_run_model.proofs.ReplyLaws.{after_all-append, replied-none}
@@ -22,7 +22,7 @@ use Rattle.tc_keeper.specs.Holds.{AreWritten, HaveFailed, IsLeft, IsLeftAt, Writ
 use Rattle.tc_keeper.specs.Sight.{nothing, sees, sight_after, sight_behind, whole_of, Sight}
 use Rattle.tc_keeper.specs.Together.{requests_routed}
 use Rattle.tc_server.specs.Window.{request_refused, requests_of, IsSoundWindow}
-use Rattle.tc_server.specs.Stage.{AsksFor, IsAt, with_end, EndsAmong, StopsIn}
+use Rattle.tc_server.specs.Stage.{AsksFor, IsAt, IsReady, with_end, EndsAmong, StopsIn}
 use Rattle.tc_server.proofs.Mixing.{length-mixed}
 use Rattle.tc_server.proofs.SightLaws.{if_known, known_before, replied_after, replied_both}
 use Rattle.std.proofs.lemmas.Bool.Decides.{nat_tests}
@@ -52,6 +52,27 @@ each_line-append : (xs ys : List Reply) → each_line (xs ++ ys) ≡ each_line x
 each_line-append xs ys = flat_map-append reply_line xs ys
 
 -- ---- a line
+
+-- a session stands where it stood while it keeps its store and its window, whatever reads its lines
+pub stands_still : {K : Type 0} (holds : K → Sight → Type 0) (first : Sight) (base taken : Option (List ℕ)) (ws : Windows) (old new : Session K)
+    → new.keeper ≡ old.keeper → new.window ≡ old.window → IsAt holds first base ws old taken → IsAt holds first base ws new taken
+stands_still holds first base taken ws old new same_keeper same_window at = record {
+  replies = at.replies;
+  given = at.given;
+  written = at.written;
+  store = subst (λ k. holds k (sight_behind first ws.closed)) (sym same_keeper) at.store;
+  requests = ap requests_of same_window ∙ at.requests;
+  bytes = ap (λ w. w.bytes) same_window ∙ at.bytes;
+}
+
+pub stays_ready : {K : Type 0} (may_ask : K → Type 0) (old new : Session K) → new.keeper ≡ old.keeper → new.window ≡ old.window → IsReady may_ask old → IsReady may_ask new
+stays_ready may_ask old new same_keeper same_window ready = record {
+  works = subst may_ask (sym same_keeper) ready.works;
+  sound = subst IsSoundWindow (sym same_window) ready.sound;
+  room = subst (λ w. w.bytes < max_window) (sym same_window) ready.room;
+  lines = subst (λ w. length w.refusals.items < w.limit) (sym same_window) ready.lines;
+  limit = subst (λ w. w.limit ≤ 4096) (sym same_window) ready.limit;
+}
 
 -- a line that was pushed is held in the open window
 pub holds_line : {K : Type 0} (holds : K → Sight → Type 0) (first : Sight) (base taken : Option (List ℕ)) (ws : Windows) (line : List ℕ) (asked : Action) (size : ℕ) (old new : Session K)

@@ -10,7 +10,8 @@ ghost use Rattle.tc_server.specs.declared.answer.Action.TheVariants.{Refuse};
 
 use std::alloc::{AllocError, Global};
 use std::marker::Model;
-use tc_command::{Ask, Command, ParseFault, Refusal, parse};
+use tc_command::{Ask, Command, ParseFault, Refusal};
+use tc_command_reader::CommandReader;
 
 /// What is asked of the whole store.
 #[derive(Drop)]
@@ -52,12 +53,12 @@ impl Model for Asked {
 
 impl Asked {
     /// What a line asks for. Errs only for want of memory.
-    pub fn of(alloc: Global, line: &[u8]) -> Result<Asked, AllocError>
+    pub fn of(commands: &mut CommandReader, alloc: Global, line: &[u8]) -> Result<Asked, AllocError>
         ensures request { IfOk result (λ asked. request_asked asked ≡ request_of line.now) }
         ensures whole { IfOk result (λ asked. is_whole asked ≡ is_control (request_of line.now)) }
         ensures light { IfOk result (λ asked. IsLight (length line.now) (request_asked asked)) }
     {
-        match parse(alloc, line) {
+        match commands.parse(alloc, line) {
             Ok(command) => Ok(Asked {
                 action: action_of(command),
             }),

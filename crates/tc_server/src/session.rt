@@ -25,6 +25,7 @@ use std::sync::Wait;
 use std::thread::Threads;
 use tc_bytes::Bytes;
 use tc_command::{Refusal, Reply, put_line};
+use tc_command_reader::CommandReader;
 use tc_edge::{Sink, write_all};
 use tc_keeper::{Keeper, RunFault};
 use tc_running::Pace;
@@ -33,11 +34,12 @@ use tc_store::Store;
 /// Bytes of room for replies, up to which it is kept from window to window.
 const KEPT_ROOM: usize = 65_536;
 
-/// What keeps the documents, the window that is open, and room for the replies to a window, which is kept for the next one where it
-/// is not large.
+/// What keeps the documents, the window that is open, what reads lines, and room for the replies to a window, which is kept for the
+/// next one where it is not large.
 pub struct Session<K> {
     pub keeper: K,
     pub window: Window,
+    commands: CommandReader,
     replies: Vec<u8>,
 }
 
@@ -61,6 +63,7 @@ where
         Session {
             keeper,
             window: Window::new(alloc, window),
+            commands: CommandReader::new(alloc),
             replies: Vec::new(alloc),
         }
     }
@@ -72,6 +75,7 @@ where
         let Session {
             keeper,
             window: _window,
+            commands: _commands,
             replies: _replies,
         } = self;
         keeper
@@ -288,7 +292,7 @@ where
         ensures settings { settings_kept self.new.keeper ≡ settings_kept self.old.keeper }
         ensures cause { HasCauses (O.faults sink.old) (O.faults sink.new) (faults_kept (λ w. S.Watch.counts w) self.old.keeper) (faults_kept (λ w. S.Watch.counts w) self.new.keeper) (IsTrueHere S.history S.Device.history S.Frozen.content self.new.keeper) (fault_in result) }
     {
-        let asked = Asked::of(alloc, line)?;
+        let asked = Asked::of(&mut self.commands, alloc, line)?;
         self.take(rt, alloc, asked, line.len(), sink)
     }
 
