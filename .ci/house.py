@@ -22,7 +22,6 @@ MOST_CLAUSES, MOST_CHARACTERS = 16, 2_500
 # The public functions whose contracts are longer today. None is added, and a name leaves once its contract is short.
 LONG_CONTRACTS = {
     "tc_open": ("open_part",),
-    "tc_part": ("begin_flush", "begin_merge", "seal", "start"),
 }
 # A line of proofs/ is no longer than this. So many are longer today, and the number may only shrink.
 LONGEST_LINE, LONG_LINES = 300, 40

@@ -13,4 +13,5 @@ pub mod JobHeads
 pub mod JobEnds
 pub mod FlushEnds
 pub mod MergeEnds
+pub mod Begun
 pub mod Sweeps

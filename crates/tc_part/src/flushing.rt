@@ -1,11 +1,9 @@
 //! The sealed table is flushed by a job.
 
 ghost use Rattle.std.specs.Arc.{arc_value};
-ghost use Rattle.std.specs.Prelude.{◌≡◌, ◌+◌, ◌-◌, [], Some, None, false, true, is_some, IfOk, IfSome, IsErrOf, OnOk, OnErr};
+ghost use Rattle.std.specs.Prelude.{◌≡◌, ◌+◌, ◌-◌, [], Some, None, false, true, is_some, IfOk, IfSome, IsErrOf, OnErr};
 ghost use Rattle.tc_schema_model.specs.Counted.{nothing};
-ghost use Rattle.tc_store.specs.declared.file_name.FileName.TheVariants.{Component as component_name};
 ghost use Rattle.tc_store.specs.Counted.{IsCounted};
-ghost use Rattle.tc_store.specs.StoreCalls.{fresh_file_at, makes};
 ghost use Rattle.tc_component.specs.declared.head.Head.{Head as HeadRecord};
 ghost use Rattle.tc_list.specs.Intervals.{last_of};
 ghost use Rattle.tc_memory.specs.DocumentTables.{IsTableOf};
@@ -20,10 +18,11 @@ ghost use Rattle.tc_part_model.specs.Calls.{FlushesBehind};
 ghost use Rattle.tc_part_model.specs.Changes.{flushing_part};
 ghost use Rattle.tc_part_model.specs.Leaving.{StoreMomentsLeaveStore};
 ghost use Rattle.tc_part_model.specs.Meaning.{IsPart, HasFailedAs};
+ghost use Rattle.tc_part.specs.Begun.{BeginsFlush};
 ghost use Rattle.tc_part.specs.OwnFiles.{HasOwnFiles};
-ghost use Rattle.tc_part.specs.FilesOut.{LogIsOut, OnlyDevicesOut};
+ghost use Rattle.tc_part.specs.FilesOut.{OnlyDevicesOut};
 ghost use Rattle.tc_part_model.specs.PartState.{told, AreTold};
-ghost use Rattle.tc_part_model.specs.PartView.{PartView, store_of};
+ghost use Rattle.tc_part_model.specs.PartView.{PartView};
 ghost use Rattle.tc_part.specs.Faults.{IfDamaged};
 
 use crate::fault::PartFault;
@@ -44,36 +43,14 @@ impl<S: Store> Part<S> {
         requires none_out { self.old.flushing ≡ false }
         requires own { HasOwnFiles (told S.history S.Device.history S.Frozen.content self.old) }
 
-        // On Ok the part is the one whose flush is out, which stores what it stored.
-        ensures begun { OnOk result ((p : PartView) → IsPart (told S.history S.Device.history S.Frozen.content self.old) p
-            → IsPart (told S.history S.Device.history S.Frozen.content self.new) (flushing_part p) × (store_of (flushing_part p) ≡ store_of p)) }
-        ensures same { OnOk result (self.new ≡ record self.old { store = self.new.store; main = self.new.main; flusher = None; flushing = true }) }
-
-        // The job has the sealed table, what the newest component has beside its records, the header behind the list, the
-        // flusher's watch, and a device of that name, whose file was just made.
-        ensures table { IfOk result (λ job. Some job.kept ≡ self.old.sealed) }
-        ensures names { IfOk result (λ job. job.names ≡ newest_names [] self.old.list) }
-        ensures schema { IfOk result (λ job. job.schema ≡ newest_schema nothing self.old.list) }
-        ensures head { IfOk result (λ job. job.head ≡ record { number = self.old.number; count = self.old.count; from = self.old.generation - 1; to = self.old.generation - 1 }) }
-        ensures lawful { IfOk result (λ job. IsTable job.kept) }
-        ensures watch { IfOk result (λ job. Some job.watch ≡ self.old.flusher) }
-        ensures name { IfOk result (λ job. S.Device.name job.device ≡ component_name (self.old.generation - 1) (self.old.generation - 1)) }
-        ensures file { IfOk result (λ job. S.Device.history job.device ≡ fresh_file_at (component_name (self.old.generation - 1) (self.old.generation - 1)) (S.history self.old.store)) }
-        ensures made { OnOk result (S.history self.new.store ≡ makes (component_name (self.old.generation - 1) (self.old.generation - 1)) (S.history self.old.store)) }
-
-        // Each name that is there still is one of its own.
-        ensures own { OnOk result (HasOwnFiles (told S.history S.Device.history S.Frozen.content self.new)) }
+        // On Ok the part is the one whose flush is out, which stores what it stored, and the job is that flush.
+        ensures begins { IfOk result (λ job. BeginsFlush S.history S.Device.history S.Frozen.content S.Device.name job self.old self.new) }
 
         // A store that tells nothing goes on so, behind a fault too.
         ensures untold { S.history self.old.store ≡ [] → S.history self.new.store ≡ [] }
 
-        // No file is out but those of its devices, behind a fault too. That of the active log stays out.
+        // No file is out but those of its devices, behind a fault too.
         ensures devices { OnlyDevicesOut (told S.history S.Device.history S.Frozen.content self.old) → OnlyDevicesOut (told S.history S.Device.history S.Frozen.content self.new) }
-        ensures log_out { OnOk result (LogIsOut (told S.history S.Device.history S.Frozen.content self.old) → LogIsOut (told S.history S.Device.history S.Frozen.content self.new)) }
-
-        // Where the listed files are told, what it makes is what a flush of the part makes.
-        ensures behind { (p : PartView) → IsPart (told S.history S.Device.history S.Frozen.content self.old) p → AreTold (told S.history S.Device.history S.Frozen.content self.old).components
-            → IfOk result (λ job. FlushesBehind p job.head job.names job.schema job.kept) }
 
         // At each moment of the call a stop leaves what is stored, and so it does behind a fault.
         ensures moments { (p : PartView) → IsPart (told S.history S.Device.history S.Frozen.content self.old) p
@@ -84,7 +61,6 @@ impl<S: Store> Part<S> {
 
         ensures damaged { IfDamaged result (λ damage. AreFiles (file_names self.old.list) damage) }
         ensures uncounted { IfDamaged result (λ damage. IfSome self.old.sealed (λ kept. CountsOf (newest_names [] self.old.list) (newest_schema nothing self.old.list) kept) → ⊥) }
-        ensures can { IfOk result (λ job. CountsOf (newest_names [] self.old.list) (newest_schema nothing self.old.list) job.kept) }
         ensures undamaged { (p : PartView) → IsPart (told S.history S.Device.history S.Frozen.content self.old) p → AreTold (told S.history S.Device.history S.Frozen.content self.old).components
             → IfDamaged result (λ damage. ⊥) }
         ensures unspent { IsErrOf result PartFault.Spent → ⊥ }

@@ -1,13 +1,11 @@
 //! Neighbouring components are merged by a job.
 
 ghost use Rattle.std.specs.Arc.{arc_value};
-ghost use Rattle.std.specs.List.{AllZip};
-ghost use Rattle.std.specs.Prelude.{◌≡◌, ◌<◌, [], Some, None, false, true, is_some, length, map, IfErr, IfOk, IsErrOf, OnOk, OnErr};
+ghost use Rattle.std.specs.Prelude.{◌≡◌, ◌<◌, [], Some, None, false, true, is_some, map, IfErr, IfOk, IsErrOf, OnOk, OnErr};
 ghost use Rattle.tc_store.specs.Counted.{IsCounted};
 ghost use Rattle.tc_store.specs.Disk.{IsThere};
 ghost use Rattle.tc_store.specs.Moments.{IfTold};
 ghost use Rattle.tc_store.specs.StoreCalls.{FailsMaking, fresh_file_at, makes};
-ghost use Rattle.tc_component.specs.Loaded.{IsLoadedOf};
 ghost use Rattle.tc_component.specs.Spelling.{name_of};
 ghost use Rattle.tc_list.specs.Runs.{in_run, neighbours};
 ghost use Rattle.tc_lsm_model.specs.Contents.{Content};
@@ -16,13 +14,13 @@ ghost use Rattle.tc_merge.specs.Merging.{IsRun};
 ghost use Rattle.tc_part_model.specs.Changes.{merging_part};
 ghost use Rattle.tc_part_model.specs.Leaving.{StoreMomentsLeaveStore};
 ghost use Rattle.tc_part_model.specs.Meaning.{IsPart, HasFailedAs};
+ghost use Rattle.tc_part.specs.Begun.{BeginsMerge};
 ghost use Rattle.tc_part.specs.OwnFiles.{HasOwnFiles};
-ghost use Rattle.tc_part.specs.FilesOut.{LogIsOut, OnlyDevicesOut};
-ghost use Rattle.tc_part_model.specs.PartState.{told, AreTold};
-ghost use Rattle.tc_part_model.specs.PartView.{PartView, store_of};
+ghost use Rattle.tc_part.specs.FilesOut.{OnlyDevicesOut};
+ghost use Rattle.tc_part_model.specs.PartState.{told};
+ghost use Rattle.tc_part_model.specs.PartView.{PartView};
 ghost use Rattle.tc_part.specs.Faults.{IsUndamaged};
 ghost use Rattle.tc_part.specs.JobHeads.{merged_head as head_over};
-ghost use Rattle.tc_part.specs.MergeEnds.{run_out};
 ghost use Rattle.tc_part.specs.Ready.{LiesIn};
 
 use crate::fault::PartFault;
@@ -45,35 +43,14 @@ impl<S: Store> Part<S> {
         requires run { LiesIn self.old.list run }
         requires own { HasOwnFiles (told S.history S.Device.history S.Frozen.content self.old) }
 
-        // On Ok the part is the one whose merge is out, which stores what it stored.
-        ensures begun { OnOk result ((p : PartView) (c : Content) → IsPart (told S.history S.Device.history S.Frozen.content self.old) p → IsMerge (contents_in_run (neighbours run) p.list) c
-            → IsPart (told S.history S.Device.history S.Frozen.content self.new) (merging_part (neighbours run) c p) × (store_of (merging_part (neighbours run) c p) ≡ store_of p)) }
-        ensures same { OnOk result (self.new ≡ record self.old { store = self.new.store; main = self.new.main; merger = None; merging = Some (neighbours run) }) }
-
-        ensures out { OnOk result (run_out self.new ≡ run) }
-
-        // The job has the components of the run, the header over them, the merger's watch, and a device of that name, whose
-        // file was just made.
-        ensures components { IfOk result (λ job. job.run ≡ in_run run self.old.list) }
-        ensures head { IfOk result (λ job. job.head ≡ head_over self.old.number self.old.count run self.old.list) }
-        ensures watch { IfOk result (λ job. Some job.watch ≡ self.old.merger) }
-        ensures name { IfOk result (λ job. S.Device.name job.device ≡ name_of (head_over self.old.number self.old.count run self.old.list)) }
-        ensures file { IfOk result (λ job. S.Device.history job.device ≡ fresh_file_at (name_of (head_over self.old.number self.old.count run self.old.list)) (S.history self.old.store)) }
-        ensures made { OnOk result (S.history self.new.store ≡ makes (name_of (head_over self.old.number self.old.count run self.old.list)) (S.history self.old.store)) }
-
-        // Each name that is there still is one of its own.
-        ensures own { OnOk result (HasOwnFiles (told S.history S.Device.history S.Frozen.content self.new)) }
+        // On Ok the part is the one whose merge is out, which stores what it stored, and the job is that merge.
+        ensures begins { IfOk result (λ job. BeginsMerge S.history S.Device.history S.Frozen.content S.Device.name run job self.old self.new) }
 
         // A store that tells nothing goes on so, behind a fault too.
         ensures untold { S.history self.old.store ≡ [] → S.history self.new.store ≡ [] }
 
-        // No file is out but those of its devices, behind a fault too. That of the active log stays out.
+        // No file is out but those of its devices, behind a fault too.
         ensures devices { OnlyDevicesOut (told S.history S.Device.history S.Frozen.content self.old) → OnlyDevicesOut (told S.history S.Device.history S.Frozen.content self.new) }
-        ensures log_out { OnOk result (LogIsOut (told S.history S.Device.history S.Frozen.content self.old) → LogIsOut (told S.history S.Device.history S.Frozen.content self.new)) }
-
-        // Where the listed files are told, what it merges is the run of the part's contents.
-        ensures loaded { (p : PartView) → IsPart (told S.history S.Device.history S.Frozen.content self.old) p → AreTold (told S.history S.Device.history S.Frozen.content self.old).components
-            → IfOk result (λ job. AllZip (IsLoadedOf S.Frozen.content) job.run (contents_in_run (neighbours run) p.list)) }
 
         // At each moment of the call a stop leaves what is stored, and so it does behind a fault.
         ensures moments { (p : PartView) (c : Content) → IsPart (told S.history S.Device.history S.Frozen.content self.old) p → IsMerge (contents_in_run (neighbours run) p.list) c

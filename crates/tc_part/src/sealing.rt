@@ -3,16 +3,15 @@
 ghost use Rattle.std.specs.Prelude.{◌≡◌, ◌<◌, ◌+◌, ◌^◌, ◌↔◌, [], Some, None, false, true, is_some, OnOk, OnErr, IfErr, IsErrOf};
 ghost use Rattle.tc_store.specs.declared.file_name.FileName.TheVariants.{Log as log_name};
 ghost use Rattle.tc_store.specs.Counted.{IsCounted};
-ghost use Rattle.tc_store.specs.StoreCalls.{makes};
-ghost use Rattle.tc_log.specs.Layout.{empty_size};
 ghost use Rattle.tc_list.specs.Intervals.{last_of};
 ghost use Rattle.tc_part_model.specs.PartState.{told};
-ghost use Rattle.tc_part_model.specs.PartView.{PartView, store_of};
+ghost use Rattle.tc_part_model.specs.PartView.{PartView};
 ghost use Rattle.tc_part_model.specs.Meaning.{IsPart, HasFailedAs};
+ghost use Rattle.tc_log.specs.Layout.{empty_size};
+ghost use Rattle.tc_part.specs.Begun.{SealsTable};
 ghost use Rattle.tc_part.specs.OwnFiles.{HasOwnFiles};
-ghost use Rattle.tc_part.specs.FilesOut.{LogIsOut, OnlyDevicesOut, TellsLogs};
-ghost use Rattle.tc_part_model.specs.Changes.{sealed_part};
-ghost use Rattle.tc_part_model.specs.Leaving.{StoreMomentsLeaveStore, NextLogMoments};
+ghost use Rattle.tc_part.specs.FilesOut.{OnlyDevicesOut, TellsLogs};
+ghost use Rattle.tc_part_model.specs.Leaving.{StoreMomentsLeaveStore};
 ghost use Rattle.tc_part.specs.Faults.{IsUndamaged};
 
 use crate::fault::PartFault;
@@ -34,31 +33,20 @@ impl<S: Store> Part<S> {
         requires none_sealed { self.old.sealed ≡ None }
         requires own { HasOwnFiles (told S.history S.Device.history S.Frozen.content self.old) }
 
-        // On Ok the part is the one whose active table is sealed, which stores what it stored.
-        ensures sealed { OnOk result ((p : PartView) → IsPart (told S.history S.Device.history S.Frozen.content self.old) p
-            → IsPart (told S.history S.Device.history S.Frozen.content self.new) (sealed_part p) × (store_of (sealed_part p) ≡ store_of p)) }
-        ensures same { OnOk result (self.new ≡ record self.old { store = self.new.store; main = self.new.main; sealed = Some self.old.active; sealed_log = Some self.old.log; active = []; log = self.new.log; generation = self.old.generation + 1 }) }
-
-        // So it is over every store: the file of the next log was made, and that log has no frame.
-        ensures made { OnOk result (S.history self.new.store ≡ makes (log_name (self.old.generation + 1)) (S.history self.old.store)) }
+        // On Ok the part is the one whose active table is sealed, which stores what it stored, and the next log has no frame.
+        ensures seals { OnOk result (SealsTable S.history S.Device.history S.Frozen.content self.old self.new) }
         ensures empty { OnOk result (S.Device.size self.new.log.device ≡ empty_size) }
 
-        // Each name that is there still is one of its own.
-        ensures own { OnOk result (HasOwnFiles (told S.history S.Device.history S.Frozen.content self.new)) }
-
-        // A store that tells nothing goes on so, behind a fault too, and then the next log tells nothing.
+        // A store that tells nothing goes on so, behind a fault too.
         ensures untold { S.history self.old.store ≡ [] → S.history self.new.store ≡ [] }
-        ensures untold_log { OnOk result (S.history self.old.store ≡ [] → S.Device.history self.new.log.device ≡ []) }
 
-        // No file is out but those of its devices, and its logs go on to tell, behind a fault too. That of the next log is out.
+        // No file is out but those of its devices, and its logs go on to tell, behind a fault too.
         ensures devices { OnlyDevicesOut (told S.history S.Device.history S.Frozen.content self.old) → OnlyDevicesOut (told S.history S.Device.history S.Frozen.content self.new) }
-        ensures log_out { OnOk result (LogIsOut (told S.history S.Device.history S.Frozen.content self.new)) }
         ensures tells { TellsLogs (told S.history S.Device.history S.Frozen.content self.old) → TellsLogs (told S.history S.Device.history S.Frozen.content self.new) }
 
         // At each moment of the call a stop leaves what is stored, and so it does behind a fault.
         ensures moments { (p : PartView) → IsPart (told S.history S.Device.history S.Frozen.content self.old) p
             → StoreMomentsLeaveStore p p (told S.history S.Device.history S.Frozen.content self.old) (S.history self.new.store) }
-        ensures next_log { OnOk result ((p : PartView) → IsPart (told S.history S.Device.history S.Frozen.content self.old) p → NextLogMoments p (S.Device.history self.new.log.device)) }
         ensures failed { OnErr result ((p : PartView) → IsPart (told S.history S.Device.history S.Frozen.content self.old) p
             → HasFailedAs (told S.history S.Device.history S.Frozen.content self.new) p None) }
         ensures left { OnErr result (self.new ≡ record self.old { store = self.new.store; main = self.new.main; sealed = self.new.sealed; active = self.new.active; failed = true }) }

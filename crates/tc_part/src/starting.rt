@@ -1,25 +1,16 @@
 //! A partition begins with what was opened.
 
 ghost use Rattle.std.specs.Arc.{arc_value};
-ghost use Rattle.std.specs.Prelude.{◌≡◌, ◌<◌, ◌^◌, [], List, Some, None, false, map, All, IfOk, IfErr};
-ghost use Rattle.tc_store.specs.declared.file_name.FileName.{FileName};
+ghost use Rattle.std.specs.Prelude.{◌≡◌, ◌<◌, ◌^◌, [], Some, None, false, map, All, IfOk, IfErr};
 ghost use Rattle.tc_store.specs.declared.file_name.FileName.TheVariants.{Log as log_name};
-ghost use Rattle.tc_store.specs.Disk.{home as at_home, is_out, out};
-ghost use Rattle.tc_store.specs.Moments.{IfTold};
+ghost use Rattle.tc_store.specs.Disk.{home as at_home};
 ghost use Rattle.tc_store.specs.StoreCalls.{comes_home};
 ghost use Rattle.tc_log.specs.Layout.{empty_size};
 ghost use Rattle.tc_component.specs.Spelling.{IsIndex};
-ghost use Rattle.tc_lsm_model.specs.Contents.{Content};
-ghost use Rattle.tc_lsm_model.specs.Lists.{live as live_in};
-ghost use Rattle.tc_part_model.specs.Leaving.{FailedMomentsLeaveStore, KeepsStore};
-ghost use Rattle.tc_part_model.specs.Meaning.{IsPart};
 ghost use Rattle.tc_part_model.specs.Newest.{names_by, documents_by, next_by};
-ghost use Rattle.tc_part.specs.OwnFiles.{HasOnlyOwn, HasOwnFiles};
-ghost use Rattle.tc_part.specs.FilesOut.{LogIsOut, OnlyDevicesOut, OnlyOut};
-ghost use Rattle.tc_part_model.specs.PartState.{told, IsTold};
-ghost use Rattle.tc_part_model.specs.Starting.{IsOpened, started, started_part};
+ghost use Rattle.tc_part_model.specs.PartState.{told};
 ghost use Rattle.tc_jobs.specs.Lists.{IsListOf};
-ghost use Rattle.tc_part.specs.Openings.{told_opening, newest_in};
+ghost use Rattle.tc_part.specs.Openings.{told_opening, newest_in, KeepsOpening, StartsPart};
 ghost use Rattle.tc_part.specs.Ready.{AreNamed};
 
 use crate::limits::Limits;
@@ -61,26 +52,14 @@ impl<S: Store> Part<S> {
         requires named { AreNamed (λ f. S.Frozen.name f) opened.list }
 
         // It is the part that is opened, where what is handed in makes up one.
-        ensures started { (list : List Content) → IsOpened (told_opening S.history S.Device.history S.Frozen.content opened.number opened.count opened.kit.store opened.log.device opened.list) list
-            → IfOk result (λ part. IsPart (told S.history S.Device.history S.Frozen.content part) (started_part (record { number = opened.number; count = opened.count }) list)) }
+        ensures starts { IfOk result (λ part. StartsPart (S.Device.name opened.log.device) (told_opening S.history S.Device.history S.Frozen.content opened.number opened.count opened.kit.store opened.log.device opened.list) (told S.history S.Device.history S.Frozen.content part)) }
 
         // Over every store nothing is in its tables, nothing is staged, and the newest component tells names and documents.
         ensures begun { IfOk result (λ part. part ≡ record { number = opened.number; count = opened.count; limits = record { names = opened.limits.names; docs = opened.limits.docs }; memory = opened.limits.memory; store = opened.kit.store; main = opened.kit.main; flusher = Some opened.kit.flusher; merger = Some opened.kit.merger; reader = Some opened.kit.reader; list = opened.list; sealed = None; sealed_log = None; active = []; log = opened.log; generation = next_by (newest_in S.Frozen.content opened.list); staged = []; taken = names_by (newest_in S.Frozen.content opened.list); live = part.live; writes = 0; flushing = false; merging = None; failed = false }) }
         ensures counted { IfOk result (λ part. documents_by (newest_in S.Frozen.content opened.list) < 2 ^ 32 → part.live ≡ documents_by (newest_in S.Frozen.content opened.list)) }
 
-        // Its files are its own, where each name that is there is that of a log which is no newer, or lies within a listed component.
-        ensures own { IfOk result (λ part. IfTold (S.history opened.kit.store) (HasOnlyOwn (started (told_opening S.history S.Device.history S.Frozen.content opened.number opened.count opened.kit.store opened.log.device opened.list))) → HasOwnFiles (told S.history S.Device.history S.Frozen.content part)) }
-
-        // Where no file is out but that of the log, so it is of the part, and none is out once the log is home.
-        ensures devices { IfOk result (λ part. IfTold (S.history opened.kit.store) (OnlyOut (S.Device.name opened.log.device)) → OnlyDevicesOut (told S.history S.Device.history S.Frozen.content part)) }
-        ensures log_out { IfOk result (λ part. IfTold (S.history opened.kit.store) (λ disk. (disk (S.Device.name opened.log.device) ≡ out) × IsTold (S.Device.history opened.log.device)) → LogIsOut (told S.history S.Device.history S.Frozen.content part)) }
-        ensures brought_in { IfErr result (λ kit. IfTold (S.history opened.kit.store) (λ disk. IsTold (S.Device.history opened.log.device)) → IfTold (S.history opened.kit.store) (OnlyOut (S.Device.name opened.log.device)) → IfTold (S.history kit.store) (λ disk. (name : FileName) → is_out (disk name) ≡ false)) }
-
-        // Whatever a stop leaves of the store that is given back is what is live in the components.
-        ensures kept { (list : List Content) → IsOpened (told_opening S.history S.Device.history S.Frozen.content opened.number opened.count opened.kit.store opened.log.device opened.list) list
-            → IfErr result (λ kit. IfTold (S.history kit.store) (KeepsStore (record { number = opened.number; count = opened.count }) (live_in list) None)) }
-        ensures moments { (list : List Content) → IsOpened (told_opening S.history S.Device.history S.Frozen.content opened.number opened.count opened.kit.store opened.log.device opened.list) list
-            → IfErr result (λ kit. FailedMomentsLeaveStore (started_part (record { number = opened.number; count = opened.count }) list) None (started (told_opening S.history S.Device.history S.Frozen.content opened.number opened.count opened.kit.store opened.log.device opened.list)) (S.history kit.store)) }
+        // Else whatever a stop leaves of the store that is given back is what is live in the components.
+        ensures stays { IfErr result (λ kit. KeepsOpening (S.Device.name opened.log.device) (told_opening S.history S.Device.history S.Frozen.content opened.number opened.count opened.kit.store opened.log.device opened.list) (S.history kit.store)) }
         ensures given_back { IfErr result (λ kit. kit ≡ record opened.kit { store = kit.store }) }
         ensures home { IfErr result (λ kit. S.history kit.store ≡ comes_home (S.Device.name opened.log.device) (λ f. at_home f) (S.Device.history opened.log.device) (S.history opened.kit.store)) }
     {

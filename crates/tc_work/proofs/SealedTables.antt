@@ -1,5 +1,5 @@
 -- A part whose active table is sealed: its next log, and what stays.
-use Rattle.std.proofs.Common.{◌≡◌, ◌∙◌, ◌+◌, ℕ, List, [], ◌∷◌, true, false, Some, None, length, refl, sym, ap, subst, arith, length-append}
+use Rattle.std.proofs.Common.{◌≡◌, ◌∙◌, ◌+◌, ℕ, List, [], ◌∷◌, true, false, None, length, refl, sym, ap, subst, arith, length-append}
 use Rattle.std.specs.Prelude.{◌^◌, IfSome, IsErrOf, Result, Ok, Err}
 use Rattle.tc_list.specs.declared.policy.Policy.{Policy}
 use Rattle.tc_store.specs.Counted.{IsCounted}
@@ -11,12 +11,12 @@ use Rattle.tc_part_model.specs.Leaving.{NextLogMoments, StoreMomentsLeaveStore}
 use Rattle.tc_part_model.specs.Meaning.{HasFailedAs, IsPart}
 use Rattle.tc_part.specs.declared.fault.PartFault.{PartFault}
 use Rattle.tc_part.specs.declared.fault.PartFault.TheVariants as part
+use Rattle.tc_part.specs.Begun.{SealsTable}
 use Rattle.tc_part.specs.Faults.{IsUndamaged}
 use Rattle.tc_part.specs.FilesOut.{LogIsOut, OnlyDevicesOut, TellsLogs}
-use Rattle.tc_part.specs.OwnFiles.{HasOwnFiles}
 use Rattle.tc_part_model.specs.Changes.{sealed_part}
 use Rattle.tc_part_model.specs.PartState.{PartState, Told, AreTold, IsTold}
-use Rattle.tc_part_model.specs.PartView.{PartView, next_of, state_of, store_of}
+use Rattle.tc_part_model.specs.PartView.{PartView, next_of, state_of}
 use Rattle.tc_running.specs.Jobs.{JobsState}
 use Rattle.tc_store.specs.Moments.{IfTold}
 use Rattle.tc_work.specs.declared.fault.EngineFault.{EngineFault}
@@ -54,34 +54,28 @@ module _ {S D F W X : Type 0} (e : Eyes S D F W) (old new : PartState S D F W) (
 
   -- what the call of the part promises
   pub record HasSealed : Type 0 where
-    pub same : new ≡ record old { store = new.store; main = new.main; sealed = Some old.active; sealed_log = Some old.log; active = []; log = new.log; generation = old.generation + 1 }
-    pub sealed : (p : PartView) → IsPart t p → IsPart u (sealed_part p) × (store_of (sealed_part p) ≡ store_of p)
-    pub made : e.disks new.store ≡ makes (Log (old.generation + 1)) (e.disks old.store)
-    pub own : HasOwnFiles u
+    pub seals : SealsTable e.disks e.history e.content old new
     pub tells : TellsLogs t → TellsLogs u
     pub devices : OnlyDevicesOut t → OnlyDevicesOut u
-    pub log_out : LogIsOut u
-    pub untold_log : e.disks old.store ≡ [] → e.history new.log.device ≡ []
     pub moments : (p : PartView) → IsPart t p → StoreMomentsLeaveStore p p t (e.disks new.store)
-    pub next_log : (p : PartView) → IsPart t p → NextLogMoments p (e.history new.log.device)
 
   module _ (s : HasSealed) (sound : old.failed ≡ false) (none_out : old.flushing ≡ false) (none_sealed : old.sealed ≡ None) (ready : MaySettle t) (out : IsOutBy e (beside old jobs)) where
     untold : GoesOnUntold (e.disks old.store) (e.disks new.store)
-    untold none = s.made ∙ ap (makes (Log (old.generation + 1))) none
+    untold none = s.seals.made ∙ ap (makes (Log (old.generation + 1))) none
 
     none : jobs.flush ≡ None
     none = none_there jobs.flush (IsFlushOf e.disks e.history e.name_of old) old.flushing none_out out.flush
 
     components : u.components ≡ t.components
-    components = ap (λ (x : PartState S D F W). (told_by e (beside x jobs)).components) s.same
+    components = ap (λ (x : PartState S D F W). (told_by e (beside x jobs)).components) s.seals.same
 
     pub sealed_tells : TellsFiles t → TellsFiles u
-    sealed_tells tells = record { store = subst (λ ds. IsTold ds) (sym s.made) (makes_tells (Log (old.generation + 1)) t.disks tells.store); components = subst (λ cs. AreTold cs) (sym components) tells.components }
+    sealed_tells tells = record { store = subst (λ ds. IsTold ds) (sym s.seals.made) (makes_tells (Log (old.generation + 1)) t.disks tells.store); components = subst (λ cs. AreTold cs) (sym components) tells.components }
 
     pub sealed_keeps : (Failed First : Type 0) → IsCounted First (e.counts old.main) (e.counts new.main) → (Failed → First) → KeepsJobs e Failed (beside old jobs) (beside new jobs)
     sealed_keeps Failed First counted cause = record {
       jobs = record {
-        flush = subst (λ b. OutAs b jobs.flush (IsFlushOf e.disks e.history e.name_of new)) (sym (ap (λ (x : PartState S D F W). x.flushing) s.same ∙ none_out)) (subst (λ o. OutAs false o (IsFlushOf e.disks e.history e.name_of new)) (sym none) tt);
+        flush = subst (λ b. OutAs b jobs.flush (IsFlushOf e.disks e.history e.name_of new)) (sym (ap (λ (x : PartState S D F W). x.flushing) s.seals.same ∙ none_out)) (subst (λ o. OutAs false o (IsFlushOf e.disks e.history e.name_of new)) (sym none) tt);
         merge = merge_out_still e.disks e.history e.content e.name_of old new untold jobs.merge
             (subst (λ (x : PartState S D F W). x ≡ record old {
               store = x.store;
@@ -98,15 +92,15 @@ module _ {S D F W X : Type 0} (e : Eyes S D F W) (old new : PartState S D F W) (
               staged = x.staged;
               flushing = x.flushing;
               failed = x.failed;
-            }) (sym s.same) refl)
+            }) (sym s.seals.same) refl)
             out.merge;
       };
-      moved = subst (λ (x : PartState S D F W). HasOnlyMoved old x) (sym s.same) refl;
-      indexed = λ all. subst (λ (x : PartState S D F W). AreIndexed e.content x.list) (sym s.same) all;
+      moved = subst (λ (x : PartState S D F W). HasOnlyMoved old x) (sym s.seals.same) refl;
+      indexed = λ all. subst (λ (x : PartState S D F W). AreIndexed e.content x.list) (sym s.seals.same) all;
       untold = untold;
       tells = s.tells;
       devices = λ tells. s.devices;
-      watched = main_watched e.counts Failed First (watched_part old jobs) (watched_part new jobs) counted (ap (λ (x : PartState S D F W). flusher_of x.flusher jobs.flush) s.same) (ap (λ (x : PartState S D F W). merger_of x.merger jobs.merge) s.same) cause;
+      watched = main_watched e.counts Failed First (watched_part old jobs) (watched_part new jobs) counted (ap (λ (x : PartState S D F W). flusher_of x.flusher jobs.flush) s.seals.same) (ap (λ (x : PartState S D F W). merger_of x.merger jobs.merge) s.seals.same) cause;
     }
 
     -- the jobs go on to work: no flush is out
@@ -115,26 +109,26 @@ module _ {S D F W X : Type 0} (e : Eyes S D F W) (old new : PartState S D F W) (
 
     pub sealed_well : MovesWell e (beside old jobs) (beside new jobs)
     sealed_well = record {
-      sound = ap (λ (x : PartState S D F W). x.failed) s.same ∙ sound;
+      sound = ap (λ (x : PartState S D F W). x.failed) s.seals.same ∙ sound;
       stays = record {
-        stores = λ p is tells works. still (works_by e (beside new jobs)) t u p (sealed_part p) (s.sealed p is).0 refl (s.sealed p is).1 refl (ap (λ (x : PartState S D F W). x.taken) s.same) (sealed_tells tells) (sealed_works p works);
-        ready = record { own = s.own; components = components_still t u untold ready.components (λ told are_told. subst (λ cs. AreTold cs) (sym components) are_told) };
+        stores = λ p is tells works. still (works_by e (beside new jobs)) t u p (sealed_part p) (s.seals.sealed p is).0 refl (s.seals.sealed p is).1 refl (ap (λ (x : PartState S D F W). x.taken) s.seals.same) (sealed_tells tells) (sealed_works p works);
+        ready = record { own = s.seals.own; components = components_still t u untold ready.components (λ told are_told. subst (λ cs. AreTold cs) (sym components) are_told) };
         untold = untold;
       };
-      log_out = λ is. s.log_out;
+      log_out = λ is. s.seals.log_out;
     }
 
     pub sealed_lists : (policy : Policy) → IsPickedBy e policy (beside old jobs) → ListsPicked e policy (beside old jobs) (beside new jobs)
     sealed_lists policy picked = record {
-      listed = listed_same policy e.size old new (ap (λ (x : PartState S D F W). x.list) s.same) tables;
-      picked = subst (λ (x : PartState S D F W). IsPickedOut policy e.size x.list x.merging) (sym s.same) picked;
+      listed = listed_same policy e.size old new (ap (λ (x : PartState S D F W). x.list) s.seals.same) tables;
+      picked = subst (λ (x : PartState S D F W). IsPickedOut policy e.size x.list x.merging) (sym s.seals.same) picked;
     }
       where
         tables : waiting new.sealed + old.generation ≡ waiting old.sealed + new.generation
         tables =
             let was : waiting old.sealed ≡ 0 = ap (λ o. waiting o) none_sealed in
-            let is : waiting new.sealed ≡ 1 = ap (λ (x : PartState S D F W). waiting x.sealed) s.same in
-            let next : new.generation ≡ old.generation + 1 = ap (λ (x : PartState S D F W). x.generation) s.same in
+            let is : waiting new.sealed ≡ 1 = ap (λ (x : PartState S D F W). waiting x.sealed) s.seals.same in
+            let next : new.generation ≡ old.generation + 1 = ap (λ (x : PartState S D F W). x.generation) s.seals.same in
             omega (arith, was, is, next)
 
     pub sealed : IsCounted (IsErrOf below part.Disk) (e.counts old.main) (e.counts new.main) → MovesOver e (Ok tt) (beside old jobs) (beside new jobs)
@@ -143,8 +137,8 @@ module _ {S D F W X : Type 0} (e : Eyes S D F W) (old new : PartState S D F W) (
       well = sealed_well;
       failed = tt;
       moments = moments_before (works_by e (beside old jobs)) t (e.history new.log.device) (e.disks new.store) (λ p is tells works. store_moments t p p (e.disks new.store) refl refl (s.moments p is));
-      next_log = λ p is works next. subst (λ n. NextLogs p.part n (e.history new.log.device)) (sym (ap (λ (x : PartState S D F W). x.generation) s.same)) (next_logs_of t p (e.history new.log.device) is (s.next_log p is));
-      untold_log = λ none next. s.untold_log none;
+      next_log = λ p is works next. subst (λ n. NextLogs p.part n (e.history new.log.device)) (sym (ap (λ (x : PartState S D F W). x.generation) s.seals.same)) (next_logs_of t p (e.history new.log.device) is (s.seals.next_log p is));
+      untold_log = λ none next. s.seals.untold_log none;
       damaged = tt;
       undamaged = λ p is tells works. tt;
       spent = λ spent. absurd (cc);

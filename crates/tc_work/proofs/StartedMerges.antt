@@ -1,8 +1,6 @@
 -- A merge of a part that was begun, and is out: what stays.
 use Rattle.std.proofs.Common.{◌≡◌, ◌∙◌, ◌≤◌, ◌+◌, false, Some, None, length, map, is_some, refl, sym, ap, subst, inl}
 use Rattle.std.specs.Prelude.{Result, Ok, IsErrOf}
-use Rattle.std.specs.List.{AllZip}
-use Rattle.tc_component.specs.Loaded.{IsLoadedOf}
 use Rattle.tc_list.specs.Policies.{IsPicked}
 use Rattle.tc_list.specs.Runs.{in_run, neighbours}
 use Rattle.tc_list.specs.declared.policy.Policy.{Policy}
@@ -17,15 +15,15 @@ use Rattle.tc_merge.specs.Jobs as merge
 use Rattle.tc_merge.specs.Merging.{AreTold as AreRunTold}
 use Rattle.tc_part.specs.declared.fault.PartFault.{PartFault}
 use Rattle.tc_part.specs.declared.fault.PartFault.TheVariants as part
-use Rattle.tc_part.specs.FilesOut.{LogIsOut, OnlyDevicesOut}
+use Rattle.tc_part.specs.Begun.{BeginsMerge}
+use Rattle.tc_part.specs.FilesOut.{OnlyDevicesOut}
 use Rattle.tc_part.specs.MergeEnds.{merged_name, run_out}
-use Rattle.tc_part.specs.OwnFiles.{HasOwnFiles}
 use Rattle.tc_part.specs.Ready.{LiesIn}
 use Rattle.tc_part_model.specs.Changes.{merging_part}
 use Rattle.tc_part_model.specs.Leaving.{StoreMomentsLeaveStore}
 use Rattle.tc_part_model.specs.Meaning.{IsPart}
 use Rattle.tc_part_model.specs.PartState.{PartState, Told, AreTold, IsTold}
-use Rattle.tc_part_model.specs.PartView.{PartView, store_of}
+use Rattle.tc_part_model.specs.PartView.{PartView}
 use Rattle.tc_running.specs.Jobs.{JobsState}
 use Rattle.tc_store.specs.Counted.{IsCounted}
 use Rattle.tc_store.specs.declared.file_name.FileName.{FileName}
@@ -62,44 +60,34 @@ module _ {S D F W X : Type 0} (e : Eyes S D F W) (old new : PartState S D F W) (
 
   -- what the call of the part promises
   pub record HasBegun : Type 0 where
-    pub same : new ≡ record old { store = new.store; main = new.main; merger = None; merging = Some (neighbours run) }
-    pub out : run_out new ≡ run
-    pub begun : (p : PartView) (c : Content) → IsPart t p → IsMerge (contents_in_run (neighbours run) p.list) c → IsPart u (merging_part (neighbours run) c p) × (store_of (merging_part (neighbours run) c p) ≡ store_of p)
-    pub components : job.run ≡ in_run run old.list
-    pub name : e.name_of job.device ≡ its_name
-    pub file : e.history job.device ≡ fresh_file_at its_name (e.disks old.store)
-    pub made : e.disks new.store ≡ makes its_name (e.disks old.store)
-    pub own : HasOwnFiles u
-    pub loaded : (p : PartView) → IsPart t p → AreTold t.components → AllZip (IsLoadedOf e.content) job.run (contents_in_run (neighbours run) p.list)
+    pub begins : BeginsMerge e.disks e.history e.content e.name_of run job old new
     pub moments : (p : PartView) (c : Content) → IsPart t p → IsMerge (contents_in_run (neighbours run) p.list) c → StoreMomentsLeaveStore p (merging_part (neighbours run) c p) t (e.disks new.store)
     pub devices : OnlyDevicesOut t → OnlyDevicesOut u
-    pub log_out : LogIsOut t → LogIsOut u
-    pub watch : Some job.watch ≡ old.merger
 
   module _ (b : HasBegun) (sound : old.failed ≡ false) (none_out : old.merging ≡ None) (lies : LiesIn old.list run) (ready : MaySettle t) (out : IsOutBy e (beside old jobs)) where
     untold : GoesOnUntold (e.disks old.store) (e.disks new.store)
-    untold none = b.made ∙ ap (makes its_name) none
+    untold none = b.begins.made ∙ ap (makes its_name) none
 
     none : jobs.merge ≡ None
     none = none_there jobs.merge (IsMergeOf e.disks e.history e.content e.name_of old) (is_some old.merging) (ap is_some none_out) out.merge
 
     list : new.list ≡ old.list
-    list = ap (λ (s : PartState S D F W). s.list) b.same
+    list = ap (λ (s : PartState S D F W). s.list) b.begins.same
 
     named : merged_name (run_out new) new ≡ its_name
-    named = ap (λ r. merged_name r new) b.out ∙ ap (λ (s : PartState S D F W). merged_name run s) b.same
+    named = ap (λ r. merged_name r new) b.begins.out ∙ ap (λ (s : PartState S D F W). merged_name run s) b.begins.same
 
     is_out : IsOutBy e (beside new now)
     is_out = record {
       flush = flush_out_still e.disks e.history e.content e.name_of old new untold jobs.flush
-          (subst (λ (s : PartState S D F W). s ≡ record old { store = s.store; main = s.main; merger = s.merger; list = s.list; active = s.active; log = s.log; taken = s.taken; live = s.live; writes = s.writes; staged = s.staged; merging = s.merging; failed = s.failed }) (sym b.same) refl)
+          (subst (λ (s : PartState S D F W). s ≡ record old { store = s.store; main = s.main; merger = s.merger; list = s.list; active = s.active; log = s.log; taken = s.taken; live = s.live; writes = s.writes; staged = s.staged; merging = s.merging; failed = s.failed }) (sym b.begins.same) refl)
           out.flush;
-      merge = subst (λ m. OutAs (is_some m) (Some job) (IsMergeOf e.disks e.history e.content e.name_of new)) (sym (ap (λ (s : PartState S D F W). s.merging) b.same)) (record {
-        within = subst (λ r. LiesIn new.list r) (sym b.out) (subst (λ xs. LiesIn xs run) (sym list) lies);
-        run = b.components ∙ ap (in_run run) (sym list) ∙ ap (λ r. in_run r new.list) (sym b.out);
-        name = b.name ∙ sym named;
-        device = record { was = e.disks old.store; made = b.file ∙ ap (λ n. fresh_file_at n (e.disks old.store)) (sym named); told = made_there its_name (e.disks old.store) (e.disks new.store) b.made };
-        run_told = told_now (e.disks old.store) (λ d. AreRunTold e.content job.run) (λ told d. subst (AreRunTold e.content) (sym b.components) (run_told e.content run old.list (given told)));
+      merge = subst (λ m. OutAs (is_some m) (Some job) (IsMergeOf e.disks e.history e.content e.name_of new)) (sym (ap (λ (s : PartState S D F W). s.merging) b.begins.same)) (record {
+        within = subst (λ r. LiesIn new.list r) (sym b.begins.out) (subst (λ xs. LiesIn xs run) (sym list) lies);
+        run = b.begins.components ∙ ap (in_run run) (sym list) ∙ ap (λ r. in_run r new.list) (sym b.begins.out);
+        name = b.begins.name ∙ sym named;
+        device = record { was = e.disks old.store; made = b.begins.file ∙ ap (λ n. fresh_file_at n (e.disks old.store)) (sym named); told = made_there its_name (e.disks old.store) (e.disks new.store) b.begins.made };
+        run_told = told_now (e.disks old.store) (λ d. AreRunTold e.content job.run) (λ told d. subst (AreRunTold e.content) (sym b.begins.components) (run_told e.content run old.list (given told)));
       });
     }
       where
@@ -107,18 +95,18 @@ module _ {S D F W X : Type 0} (e : Eyes S D F W) (old new : PartState S D F W) (
         given told = where_told (e.disks old.store) (AreTold t.components) told ready.components
 
     components : u.components ≡ t.components
-    components = ap (λ (s : PartState S D F W). (told_by e (beside s jobs)).components) b.same
+    components = ap (λ (s : PartState S D F W). (told_by e (beside s jobs)).components) b.begins.same
 
     pub started_keeps : (Failed First : Type 0) → IsCounted First (e.counts old.main) (e.counts new.main) → (Failed → First) → KeepsJobs e Failed (beside old jobs) (beside new (record jobs { merge = Some job }))
     started_keeps Failed First counted cause = record {
       jobs = is_out;
-      moved = subst (λ (s : PartState S D F W). HasOnlyMoved old s) (sym b.same) refl;
-      indexed = λ all. subst (λ (s : PartState S D F W). AreIndexed e.content s.list) (sym b.same) all;
+      moved = subst (λ (s : PartState S D F W). HasOnlyMoved old s) (sym b.begins.same) refl;
+      indexed = λ all. subst (λ (s : PartState S D F W). AreIndexed e.content s.list) (sym b.begins.same) all;
       untold = untold;
-      tells = logs_tell_still its_name t u b.made (ap (λ (s : PartState S D F W). e.history s.log.device) b.same) (ap (λ (s : PartState S D F W). (told_by e (beside s jobs)).sealed_log) b.same);
+      tells = logs_tell_still its_name t u b.begins.made (ap (λ (s : PartState S D F W). e.history s.log.device) b.begins.same) (ap (λ (s : PartState S D F W). (told_by e (beside s jobs)).sealed_log) b.begins.same);
       devices = λ tells. b.devices;
       watched = main_watched e.counts Failed First (watched_part old jobs) (watched_part new now) counted
-          (ap (λ (s : PartState S D F W). flusher_of s.flusher jobs.flush) b.same) (b.watch ∙ ap (λ o. merger_of old.merger o) (sym none)) cause;
+          (ap (λ (s : PartState S D F W). flusher_of s.flusher jobs.flush) b.begins.same) (b.begins.watch ∙ ap (λ o. merger_of old.merger o) (sym none)) cause;
     }
 
     -- of a part whose files are told
@@ -130,10 +118,10 @@ module _ {S D F W X : Type 0} (e : Eyes S D F W) (old new : PartState S D F W) (
       target = some_merge p (neighbours run) within
 
       begun : IsPart u (merging_part (neighbours run) target.0 p)
-      begun = (b.begun p target.0 is target.1).0
+      begun = (b.begins.begun p target.0 is target.1).0
 
       device_named : its_name ≡ file_of target.0
-      device_named = merge_device t u p (neighbours run) target.0 its_name is begun within.0 within.1 target.1 none_out tells.store b.made
+      device_named = merge_device t u p (neighbours run) target.0 its_name is begun within.0 within.1 target.1 none_out tells.store b.begins.made
 
       pub merge_works : works_by e (beside old jobs) p → works_by e (beside new now) (merging_part (neighbours run) target.0 p)
       merge_works works = (
@@ -141,37 +129,37 @@ module _ {S D F W X : Type 0} (e : Eyes S D F W) (old new : PartState S D F W) (
         record {
           merging = record { run = neighbours run; target = target.0 };
           is_out = refl;
-          name = sym device_named ∙ sym b.name;
-          loaded = b.loaded p is tells.components;
+          name = sym device_named ∙ sym b.begins.name;
+          loaded = b.begins.loaded p is tells.components;
           is_merge = target.1;
           is_content = (swapped_replaces p.part (neighbours run) p.list target.0 is.memory.list target.1).content;
-          device = subst (λ fs. IfTold fs (LeavesAt (IsShutOrHas (IsComponent target.0)))) (sym (b.file ∙ ap (λ n. fresh_file_at n t.disks) device_named)) (fresh_merge_told t p (neighbours run) target.0 is within.0 within.1 target.1 none_out);
+          device = subst (λ fs. IfTold fs (LeavesAt (IsShutOrHas (IsComponent target.0)))) (sym (b.begins.file ∙ ap (λ n. fresh_file_at n t.disks) device_named)) (fresh_merge_told t p (neighbours run) target.0 is within.0 within.1 target.1 none_out);
         },
       )
 
     pub started_well : MovesWell e (beside old jobs) (beside new now)
     started_well = record {
-      sound = ap (λ (s : PartState S D F W). s.failed) b.same ∙ sound;
+      sound = ap (λ (s : PartState S D F W). s.failed) b.begins.same ∙ sound;
       stays = record {
         stores = λ p is tells works.
             let m = target p is tells in
-            let begun = b.begun p m.0 is m.1 in
+            let begun = b.begins.begun p m.0 is m.1 in
             job_stores (works_by e (beside new now)) t u p (merging_part (neighbours run) m.0 p) is tells.store (told_now t.disks (λ d. IsPart u (merging_part (neighbours run) m.0 p)) (λ told d. begun.0)) refl begun.1 refl (b.moments p m.0 is m.1)
-            (ap (λ (s : PartState S D F W). s.taken) b.same) (subst AreTold (sym components) tells.components) (merge_works p is tells works);
-        ready = record { own = b.own; components = components_still t u untold ready.components (λ told are_told. subst AreTold (sym components) are_told) };
+            (ap (λ (s : PartState S D F W). s.taken) b.begins.same) (subst AreTold (sym components) tells.components) (merge_works p is tells works);
+        ready = record { own = b.begins.own; components = components_still t u untold ready.components (λ told are_told. subst AreTold (sym components) are_told) };
         untold = untold;
       };
-      log_out = b.log_out;
+      log_out = b.begins.log_out;
     }
 
     pub started_moments : MomentsStay (works_by e (beside old jobs)) t (e.disks new.store)
-    started_moments = λ p is tells works. let m = target p is tells in store_moments t p (merging_part (neighbours run) m.0 p) (e.disks new.store) refl (b.begun p m.0 is m.1).1 (b.moments p m.0 is m.1)
+    started_moments = λ p is tells works. let m = target p is tells in store_moments t p (merging_part (neighbours run) m.0 p) (e.disks new.store) refl (b.begins.begun p m.0 is m.1).1 (b.moments p m.0 is m.1)
 
     pub started_lists : (policy : Policy) → IsPicked policy (map (λ c. e.size c.file) old.list) run → ListsPicked e policy (beside old jobs) (beside new (record jobs { merge = Some job }))
     started_lists policy picked = record {
-      listed = subst (λ (s : PartState S D F W). IsListedBy policy e.size old s) (sym b.same) (listed_same policy e.size old (record old { store = new.store; main = new.main; merger = None; merging = Some (neighbours run) }) refl refl);
-      picked = subst (λ xs. IsPickedOut policy e.size xs new.merging) (sym list) (subst (λ m. IsPickedOut policy e.size old.list m) (sym (ap (λ (s : PartState S D F W). s.merging) b.same))
-          (picked_of_all policy e.size old.list _ (subst (λ r. IsPicked policy (map (λ c. e.size c.file) old.list) r) (sym (sym (ap (λ (s : PartState S D F W). run_out s) b.same) ∙ b.out)) picked)));
+      listed = subst (λ (s : PartState S D F W). IsListedBy policy e.size old s) (sym b.begins.same) (listed_same policy e.size old (record old { store = new.store; main = new.main; merger = None; merging = Some (neighbours run) }) refl refl);
+      picked = subst (λ xs. IsPickedOut policy e.size xs new.merging) (sym list) (subst (λ m. IsPickedOut policy e.size old.list m) (sym (ap (λ (s : PartState S D F W). s.merging) b.begins.same))
+          (picked_of_all policy e.size old.list _ (subst (λ r. IsPicked policy (map (λ c. e.size c.file) old.list) r) (sym (sym (ap (λ (s : PartState S D F W). run_out s) b.begins.same) ∙ b.begins.out)) picked)));
     }
 
     pub started : IsCounted (IsErrOf below part.Disk) (e.counts old.main) (e.counts new.main) → Moves e (Ok tt) (beside old jobs) (beside new (record jobs { merge = Some job }))
@@ -180,8 +168,8 @@ module _ {S D F W X : Type 0} (e : Eyes S D F W) (old new : PartState S D F W) (
       well = started_well;
       failed = tt;
       moments = started_moments;
-      logs = (ap (λ (s : PartState S D F W). s.log) b.same, ap (λ (s : PartState S D F W). s.generation) b.same);
-      sealed_log = inl (ap (λ (s : PartState S D F W). s.sealed_log) b.same);
+      logs = (ap (λ (s : PartState S D F W). s.log) b.begins.same, ap (λ (s : PartState S D F W). s.generation) b.begins.same);
+      sealed_log = inl (ap (λ (s : PartState S D F W). s.sealed_log) b.begins.same);
       damaged = tt;
       undamaged = λ p is tells works. tt;
       unspent = λ spent. absurd (cc);

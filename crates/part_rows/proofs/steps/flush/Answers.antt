@@ -16,12 +16,12 @@ pub returns-in_err-job : goal.returns-in_err-job
 returns-in_err-job c = fails c.args.part.now c.begin_flush.new.self c.args.waiting c.args.waiting c.args.stands c.requires.desk (fails_by c.args.part.now c.begin_flush.new.self _ refl refl refl refl c.in_err-job.ensures.left)
 
 pub finish_flush-requires-clause-name : goal.finish_flush-requires-clause-name
-finish_flush-requires-clause-name c κs = c.run-out.ensures.name ∙ c.in_ok-job.ensures.name ∙ ap (λ (s : MemPart). Component (s.generation - 1) (s.generation - 1)) (sym c.in_ok-job.ensures.same)
+finish_flush-requires-clause-name c κs = c.run-out.ensures.name ∙ c.in_ok-job.ensures.begins.name ∙ ap (λ (s : MemPart). Component (s.generation - 1) (s.generation - 1)) (sym c.in_ok-job.ensures.begins.same)
 
 pub finish_flush-requires-clause-settled : goal.finish_flush-requires-clause-settled
 finish_flush-requires-clause-settled c κs = λ well.
     let m = c.requires.desk.means c.requires.standing c.requires.sound in
-    let behind = c.in_ok-job.ensures.behind m.0 m.1 (all_told c.args.part.now.list) in
+    let behind = c.in_ok-job.ensures.begins.behind m.0 m.1 (all_told c.args.part.now.list) in
     settled_told (device_files c.run-out.result.device) _ (c.run-out.ensures.whole well behind.sealed.table behind.behind.of)
 
 pub returns : goal.returns
@@ -32,12 +32,12 @@ returns c =
     let m = c.requires.desk.means c.requires.standing c.requires.sound in
     let job = c.in_ok-job.job in
     let device = c.run-out.result.device in
-    let same = c.in_ok-job.ensures.same in
+    let same = c.in_ok-job.ensures.begins.same in
     let sound : begun.failed ≡ false = ap (λ (s : MemPart). s.failed) same ∙ c.requires.sound in
-    let behind = c.in_ok-job.ensures.behind m.0 m.1 (all_told old.list) in
+    let behind = c.in_ok-job.ensures.begins.behind m.0 m.1 (all_told old.list) in
     let flushed = c.run-out.ensures.flushed m.0.list behind.sealed.table 1 behind.behind in
     let makes = c.sealed_tables_can_flush.ensures.makes m.0 job.head job.names job.schema job.kept flushed.0 behind flushed.1 in
-    let content = c.jobs_have_made.ensures.flush _ m.0 job.kept flushed.0 m.1 (sym c.in_ok-job.ensures.table) makes in
+    let content = c.jobs_have_made.ensures.flush _ m.0 job.kept flushed.0 m.1 (sym c.in_ok-job.ensures.begins.table) makes in
     at_desk c.finish_flush.result old new c.args.waiting c.args.waiting c.args.stands c.requires.desk
     (ends_well c.finish_flush.result c.run-out.result.outcome _ _ _ _ sound c.finish_flush.ensures.unmade (λ cause failed. ends_in_err _ _ (failed.unmade sound).0) c.finish_flush.ensures.listed (λ well lists.
     let settled = c.run-out.ensures.whole well behind.sealed.table behind.behind.of ∙ ap settled_file (sym flushed.3) in
@@ -49,7 +49,7 @@ returns c =
         merging = ap (λ (s : MemPart). s.merging) lists.same ∙ ap (λ (s : MemPart). s.merging) same;
         reader = ap (λ (s : MemPart). s.reader) lists.same ∙ ap (λ (s : MemPart). s.reader) same;
       };
-      means = λ standing. (_, (lists.flushed _ flushed.0 (c.in_ok-job.ensures.begun m.0 m.1).0 makes made).0);
+      means = λ standing. (_, (lists.flushed _ flushed.0 (c.in_ok-job.ensures.begins.begun m.0 m.1).0 makes made).0);
       waits = same_wait old new _ c.args.waiting lists.same (ap (λ (s : MemPart). s.staged) same) (c.requires.desk.staged c.requires.sound);
     }))
     (on_err c.finish_flush.result _ _ c.finish_flush.ensures.left (λ left. record {

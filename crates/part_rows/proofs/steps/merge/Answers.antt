@@ -19,11 +19,11 @@ pub returns-in_err-job : goal.returns-in_err-job
 returns-in_err-job c = fails c.args.part.now c.begin_merge.new.self c.args.waiting c.args.waiting c.args.stands c.requires.desk (fails_by c.args.part.now c.begin_merge.new.self _ refl refl refl refl c.in_err-job.ensures.left)
 
 pub finish_merge-requires-clause-out : goal.finish_merge-requires-clause-out
-finish_merge-requires-clause-out c κs = ap (λ (s : MemPart). is_some s.merging) c.in_ok-job.ensures.same
+finish_merge-requires-clause-out c κs = ap (λ (s : MemPart). is_some s.merging) c.in_ok-job.ensures.begins.same
 
 pub finish_merge-requires-clause-name : goal.finish_merge-requires-clause-name
 finish_merge-requires-clause-name c κs =
-    c.run-out.ensures.name ∙ c.in_ok-job.ensures.name ∙ sym (ap (λ (s : MemPart). merged_name c.args.run s) c.in_ok-job.ensures.same) ∙ sym (ap (λ (r : Run). merged_name r c.begin_merge.new.self) c.in_ok-job.ensures.out)
+    c.run-out.ensures.name ∙ c.in_ok-job.ensures.begins.name ∙ sym (ap (λ (s : MemPart). merged_name c.args.run s) c.in_ok-job.ensures.begins.same) ∙ sym (ap (λ (r : Run). merged_name r c.begin_merge.new.self) c.in_ok-job.ensures.begins.out)
 
 pub finish_merge-requires-clause-settled : goal.finish_merge-requires-clause-settled
 finish_merge-requires-clause-settled c κs = λ well. settled_told (device_files c.run-out.result.device) _ (c.run-out.ensures.whole well (files_told c.in_ok-job.job.run))
@@ -35,9 +35,9 @@ returns c =
     let new = c.finish_merge.new.self in
     let m = c.requires.desk.means c.requires.standing c.requires.sound in
     let device = c.run-out.result.device in
-    let same = c.in_ok-job.ensures.same in
+    let same = c.in_ok-job.ensures.begins.same in
     let sound : begun.failed ≡ false = ap (λ (s : MemPart). s.failed) same ∙ c.requires.sound in
-    let merged = c.run-out.ensures.merged _ (c.in_ok-job.ensures.loaded m.0 m.1 (all_told old.list)) in
+    let merged = c.run-out.ensures.merged _ (c.in_ok-job.ensures.begins.loaded m.0 m.1 (all_told old.list)) in
     let content = c.jobs_have_made.ensures.merge _ m.0 (neighbours c.args.run) merged.0 m.1 merged.1 in
     at_desk c.finish_merge.result old new c.args.waiting c.args.waiting c.args.stands c.requires.desk
     (ends_well c.finish_merge.result c.run-out.result.outcome _ _ _ _ sound c.finish_merge.ensures.unmade (λ cause failed. ends_in_err _ _ (failed.unmade sound).0) c.finish_merge.ensures.listed (λ well lists.
@@ -50,7 +50,7 @@ returns c =
         merging = ap (λ (s : MemPart). s.merging) lists.same ∙ sym c.requires.desk.no_merge;
         reader = ap (λ (s : MemPart). s.reader) lists.same ∙ ap (λ (s : MemPart). s.reader) same;
       };
-      means = λ standing. (_, (lists.merged _ _ (c.in_ok-job.ensures.begun m.0 merged.0 m.1 merged.1).0 refl made (all_told begun.list)).0);
+      means = λ standing. (_, (lists.merged _ _ (c.in_ok-job.ensures.begins.begun m.0 merged.0 m.1 merged.1).0 refl made (all_told begun.list)).0);
       waits = same_wait old new _ c.args.waiting lists.same (ap (λ (s : MemPart). s.staged) same) (c.requires.desk.staged c.requires.sound);
     }))
     (on_err c.finish_merge.result _ _ c.finish_merge.ensures.left (λ left. record {

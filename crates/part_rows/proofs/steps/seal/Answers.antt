@@ -1,5 +1,5 @@
 use Rattle.std.proofs.Common.{refl}
-use Rattle.part_rows.proofs.Parts.{at_desk, fails_by, none_is, on_err, on_ok_both, same_by, same_wait}
+use Rattle.part_rows.proofs.Parts.{at_desk, fails_by, none_is, on_err, on_ok, same_by, same_wait}
 use Rattle.part_rows.proofs.Writes.{nothing_waits}
 use Rattle.part_rows.proofs.steps.seal.Goals as goal
 
@@ -17,9 +17,9 @@ returns c =
     let old = c.args.part.now in
     let new = c.seal.new.self in
     at_desk c.seal.result old new c.args.waiting c.args.waiting c.args.stands c.requires.desk
-    (on_ok_both c.seal.result _ _ _ c.seal.ensures.same c.seal.ensures.sealed (λ same sealed. record {
-      jobs = same_by old new _ same refl refl refl;
-      means = λ standing. let m = c.requires.desk.means standing c.requires.sound in (_, (sealed m.0 m.1).0);
-      waits = same_wait old new _ c.args.waiting same refl (c.requires.desk.staged c.requires.sound);
+    (on_ok c.seal.result _ _ c.seal.ensures.seals (λ seals. record {
+      jobs = same_by old new _ seals.same refl refl refl;
+      means = λ standing. let m = c.requires.desk.means standing c.requires.sound in (_, (seals.sealed m.0 m.1).0);
+      waits = same_wait old new _ c.args.waiting seals.same refl (c.requires.desk.staged c.requires.sound);
     }))
     (on_err c.seal.result _ _ c.seal.ensures.left (λ is. fails_by old new _ refl refl refl refl is))

@@ -47,7 +47,7 @@ returns-in-Ok-start-clause-started g c = λ cs lawful of tidy.
     let last = c.last_generation-last.result in
     let bound = few_left c.args.list last c.requires.lawful c.last_generation-last.ensures c.if-last-eq-MAX_NUMBER.false in
     let is_head : IsHead (log_head part (last + 1)) = record { number = search rules; count = search rules; first = omega arith; last = bound } in
-    c.in-Ok-start.ensures.started cs
+    c.in-Ok-start.ensures.starts.started cs
     (opened_since g.S.Frozen.Frozen.content part c.args.list cs of (g.S.Store.history c.args.kit.store) tidy last c.last_generation-last.ensures is_head (g.S.Store.history c.in-Ok.field-0.kit.store) (g.S.Device.Device.history c.in-Ok.field-0.log.device) lawful bound
     c.in-Ok.ensures.made c.in-Ok.ensures.created)
 
@@ -64,7 +64,7 @@ returns-in-Ok-start-clause-own g c = λ own.
     let log = g.S.Device.Device.history c.in-Ok.field-0.log.device in
     let next = next_loaded content None 0 list refl in
     let made = makes_own content list part disks log (last + 1) (g.S.Store.history c.args.kit.store) (omega (arith, next, c.last_generation-last.ensures)) own in
-    c.in-Ok-start.ensures.own (subst (λ ds. IfTold ds (HasOnlyOwn (started (record { part = part; disks = disks; log = log; components = map (told_component content) list })))) (sym c.in-Ok.ensures.made) made)
+    c.in-Ok-start.ensures.starts.own (subst (λ ds. IfTold ds (HasOnlyOwn (started (record { part = part; disks = disks; log = log; components = map (told_component content) list })))) (sym c.in-Ok.ensures.made) made)
 
 pub returns-in-Ok-start-clause-moments : goal.returns-in-Ok-start-clause-moments
 returns-in-Ok-start-clause-moments g c = λ cs of tidy.
@@ -130,4 +130,4 @@ returns-in-Ok-start-clause-log_out g c =
     let name = log_name (c.last_generation-last.result + 1) in
     let disks = g.S.Store.history c.in-Ok.field-0.kit.store in
     let device = g.S.Device.Device.history c.in-Ok.field-0.log.device in
-    c.in-Ok-start.ensures.log_out (subst (λ n. IfTold disks (λ (disk : Disk). (disk n ≡ out) × IsTold device)) (sym c.in-Ok.ensures.name) (log_is_out name _ (g.S.Store.history c.args.kit.store) disks device c.in-Ok.ensures.made c.in-Ok.ensures.created))
+    c.in-Ok-start.ensures.starts.log_out (subst (λ n. IfTold disks (λ (disk : Disk). (disk n ≡ out) × IsTold device)) (sym c.in-Ok.ensures.name) (log_is_out name _ (g.S.Store.history c.args.kit.store) disks device c.in-Ok.ensures.made c.in-Ok.ensures.created))

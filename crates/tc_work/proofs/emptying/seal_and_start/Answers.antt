@@ -40,35 +40,33 @@ start_flush-requires-clause-may g c κs within =
     c.requires.may.jobs c.seal.ensures.counted)
   where
     has_sealed : HasSealed (eyes g.S.Store.history g.S.Device.Device.history g.S.Frozen.Frozen.content g.S.Device.Device.name g.S.Frozen.Frozen.size g.S.Watch.Watch.counts) c.args.part.now c.seal.new.self c.args.jobs.now c.seal.result
-    has_sealed =
-        let s = c.in_ok-seal.ensures in
-        record { same = s.same; sealed = s.sealed; made = s.made; own = s.own; tells = c.seal.ensures.tells; devices = c.seal.ensures.devices; log_out = s.log_out; untold_log = s.untold_log; moments = c.seal.ensures.moments; next_log = s.next_log }
+    has_sealed = record { seals = c.in_ok-seal.ensures.seals; tells = c.seal.ensures.tells; devices = c.seal.ensures.devices; moments = c.seal.ensures.moments }
 
 pub start_flush-requires-clause-sealed : goal.start_flush-requires-clause-sealed
-start_flush-requires-clause-sealed g c κs within = ap (λ (s : PartState _ _ _ _). is_some s.sealed) c.in_ok-seal.ensures.same
+start_flush-requires-clause-sealed g c κs within = ap (λ (s : PartState _ _ _ _). is_some s.sealed) c.in_ok-seal.ensures.seals.same
 
 pub start_flush-requires-clause-both : goal.start_flush-requires-clause-both
-start_flush-requires-clause-both g c κs within = ap (λ (s : PartState _ _ _ _). is_some s.sealed_log) c.in_ok-seal.ensures.same
+start_flush-requires-clause-both g c κs within = ap (λ (s : PartState _ _ _ _). is_some s.sealed_log) c.in_ok-seal.ensures.seals.same
 
 pub start_flush-requires-clause-none_out : goal.start_flush-requires-clause-none_out
-start_flush-requires-clause-none_out g c κs within = ap (λ (s : PartState _ _ _ _). s.flushing) c.in_ok-seal.ensures.same ∙ c.requires.none_out
+start_flush-requires-clause-none_out g c κs within = ap (λ (s : PartState _ _ _ _). s.flushing) c.in_ok-seal.ensures.seals.same ∙ c.requires.none_out
 
 pub returns-clause-sealed : goal.returns-clause-sealed
 returns-clause-sealed g c = ok_then c.start_flush.result _ _ (λ (begun : c.start_flush.new.part ≡ _). (
   ap (λ (s : PartState _ _ _ _). s.flushing) begun,
-  ap (λ (s : PartState _ _ _ _). is_some s.sealed) begun ∙ ap (λ (s : PartState _ _ _ _). is_some s.sealed) c.in_ok-seal.ensures.same,
-  ap (λ (s : PartState _ _ _ _). s.sealed_log) begun ∙ ap (λ (s : PartState _ _ _ _). s.sealed_log) c.in_ok-seal.ensures.same,
+  ap (λ (s : PartState _ _ _ _). is_some s.sealed) begun ∙ ap (λ (s : PartState _ _ _ _). is_some s.sealed) c.in_ok-seal.ensures.seals.same,
+  ap (λ (s : PartState _ _ _ _). s.sealed_log) begun ∙ ap (λ (s : PartState _ _ _ _). s.sealed_log) c.in_ok-seal.ensures.seals.same,
 )) c.start_flush.ensures.begun
 
 pub returns-clause-emptied : goal.returns-clause-emptied
 returns-clause-emptied g c = ok_then c.start_flush.result _ _ (λ (begun : c.start_flush.new.part ≡ _). (
-  ap (λ (s : PartState _ _ _ _). s.active) begun ∙ ap (λ (s : PartState _ _ _ _). s.active) c.in_ok-seal.ensures.same,
+  ap (λ (s : PartState _ _ _ _). s.active) begun ∙ ap (λ (s : PartState _ _ _ _). s.active) c.in_ok-seal.ensures.seals.same,
   ap (λ (s : PartState _ _ _ _). g.S.Device.Device.size s.log.device) begun ∙ c.in_ok-seal.ensures.empty,
-  ap (λ (s : PartState _ _ _ _). s.generation) begun ∙ ap (λ (s : PartState _ _ _ _). s.generation) c.in_ok-seal.ensures.same,
+  ap (λ (s : PartState _ _ _ _). s.generation) begun ∙ ap (λ (s : PartState _ _ _ _). s.generation) c.in_ok-seal.ensures.seals.same,
 )) c.start_flush.ensures.begun
 
 pub returns-clause-list : goal.returns-clause-list
-returns-clause-list g c = ok_then c.start_flush.result _ _ (λ (begun : c.start_flush.new.part ≡ _). ap (λ (s : PartState _ _ _ _). s.list) begun ∙ ap (λ (s : PartState _ _ _ _). s.list) c.in_ok-seal.ensures.same) c.start_flush.ensures.begun
+returns-clause-list g c = ok_then c.start_flush.result _ _ (λ (begun : c.start_flush.new.part ≡ _). ap (λ (s : PartState _ _ _ _). s.list) begun ∙ ap (λ (s : PartState _ _ _ _). s.list) c.in_ok-seal.ensures.seals.same) c.start_flush.ensures.begun
 
 pub returns-clause-moves : goal.returns-clause-moves
 returns-clause-moves g c =
@@ -77,12 +75,10 @@ returns-clause-moves g c =
     (sealed (eyes g.S.Store.history g.S.Device.Device.history g.S.Frozen.Frozen.content g.S.Device.Device.name g.S.Frozen.Frozen.size g.S.Watch.Watch.counts)
     c.args.part.now c.seal.new.self c.args.jobs.now c.seal.result has_sealed c.requires.may.sound c.requires.none_out c.requires.none_sealed c.requires.may.ready
     c.requires.may.jobs c.seal.ensures.counted)
-    (ap (λ (s : PartState _ _ _ _). s.sealed_log) c.in_ok-seal.ensures.same) (ap (λ (s : PartState _ _ _ _). s.generation) c.in_ok-seal.ensures.same) c.start_flush.ensures.moves
+    (ap (λ (s : PartState _ _ _ _). s.sealed_log) c.in_ok-seal.ensures.seals.same) (ap (λ (s : PartState _ _ _ _). s.generation) c.in_ok-seal.ensures.seals.same) c.start_flush.ensures.moves
   where
     has_sealed : HasSealed (eyes g.S.Store.history g.S.Device.Device.history g.S.Frozen.Frozen.content g.S.Device.Device.name g.S.Frozen.Frozen.size g.S.Watch.Watch.counts) c.args.part.now c.seal.new.self c.args.jobs.now c.seal.result
-    has_sealed =
-        let s = c.in_ok-seal.ensures in
-        record { same = s.same; sealed = s.sealed; made = s.made; own = s.own; tells = c.seal.ensures.tells; devices = c.seal.ensures.devices; log_out = s.log_out; untold_log = s.untold_log; moments = c.seal.ensures.moments; next_log = s.next_log }
+    has_sealed = record { seals = c.in_ok-seal.ensures.seals; tells = c.seal.ensures.tells; devices = c.seal.ensures.devices; moments = c.seal.ensures.moments }
 
 pub returns-clause-listed : goal.returns-clause-listed
 returns-clause-listed g c = ok_then c.start_flush.result _ _ (λ lists policy picked.
@@ -94,10 +90,8 @@ returns-clause-listed g c = ok_then c.start_flush.result _ _ (λ lists policy pi
     (lists policy one.picked)) c.start_flush.ensures.listed
   where
     has_sealed : HasSealed (eyes g.S.Store.history g.S.Device.Device.history g.S.Frozen.Frozen.content g.S.Device.Device.name g.S.Frozen.Frozen.size g.S.Watch.Watch.counts) c.args.part.now c.seal.new.self c.args.jobs.now c.seal.result
-    has_sealed =
-        let s = c.in_ok-seal.ensures in
-        record { same = s.same; sealed = s.sealed; made = s.made; own = s.own; tells = c.seal.ensures.tells; devices = c.seal.ensures.devices; log_out = s.log_out; untold_log = s.untold_log; moments = c.seal.ensures.moments; next_log = s.next_log }
+    has_sealed = record { seals = c.in_ok-seal.ensures.seals; tells = c.seal.ensures.tells; devices = c.seal.ensures.devices; moments = c.seal.ensures.moments }
 
 pub returns-clause-damaged : goal.returns-clause-damaged
 returns-clause-damaged g c =
-    subst (λ (xs : _). IfErr c.start_flush.result (λ fault. IfDamaged fault (AreFiles (file_names xs)))) (ap (λ (s : PartState _ _ _ _). s.list) c.in_ok-seal.ensures.same) c.start_flush.ensures.damaged
+    subst (λ (xs : _). IfErr c.start_flush.result (λ fault. IfDamaged fault (AreFiles (file_names xs)))) (ap (λ (s : PartState _ _ _ _). s.list) c.in_ok-seal.ensures.seals.same) c.start_flush.ensures.damaged

@@ -55,9 +55,7 @@ returns-clause-moves g c =
     c.requires.may.sound c.requires.none_out c.requires.both c.requires.may.ready c.requires.may.jobs c.begin_flush.ensures.counted)
   where
     begun : HasBegun (eyes g.S.Store.history g.S.Device.Device.history g.S.Frozen.Frozen.content g.S.Device.Device.name g.S.Frozen.Frozen.size g.S.Watch.Watch.counts) c.args.part.now c.begin_flush.new.self c.args.jobs.now c.in_ok-job.job c.begin_flush.result
-    begun =
-        let b = c.in_ok-job.ensures in
-        record { same = b.same; begun = b.begun; table = b.table; lawful = b.lawful; name = b.name; file = b.file; made = b.made; own = b.own; behind = b.behind; moments = c.begin_flush.ensures.moments; devices = c.begin_flush.ensures.devices; log_out = b.log_out; watch = b.watch }
+    begun = record { begins = c.in_ok-job.ensures.begins; moments = c.begin_flush.ensures.moments; devices = c.begin_flush.ensures.devices }
 
 pub returns-clause-listed : goal.returns-clause-listed
 returns-clause-listed g c =
@@ -69,6 +67,4 @@ returns-clause-listed g c =
     c.requires.may.sound c.requires.none_out c.requires.both c.requires.may.ready c.requires.may.jobs)
   where
     begun : HasBegun (eyes g.S.Store.history g.S.Device.Device.history g.S.Frozen.Frozen.content g.S.Device.Device.name g.S.Frozen.Frozen.size g.S.Watch.Watch.counts) c.args.part.now c.begin_flush.new.self c.args.jobs.now c.in_ok-job.job c.begin_flush.result
-    begun =
-        let b = c.in_ok-job.ensures in
-        record { same = b.same; begun = b.begun; table = b.table; lawful = b.lawful; name = b.name; file = b.file; made = b.made; own = b.own; behind = b.behind; moments = c.begin_flush.ensures.moments; devices = c.begin_flush.ensures.devices; log_out = b.log_out; watch = b.watch }
+    begun = record { begins = c.in_ok-job.ensures.begins; moments = c.begin_flush.ensures.moments; devices = c.begin_flush.ensures.devices }

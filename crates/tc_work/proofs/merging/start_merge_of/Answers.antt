@@ -57,9 +57,7 @@ returns-clause-moves g c =
     c.requires.may.sound c.requires.none_out c.requires.run c.requires.may.ready c.requires.may.jobs c.begin_merge.ensures.counted)
   where
     begun : HasBegun (eyes g.S.Store.history g.S.Device.Device.history g.S.Frozen.Frozen.content g.S.Device.Device.name g.S.Frozen.Frozen.size g.S.Watch.Watch.counts) c.args.part.now c.begin_merge.new.self c.args.jobs.now c.in_ok-job.job c.args.run c.begin_merge.result
-    begun =
-        let b = c.in_ok-job.ensures in
-        record { same = b.same; out = b.out; begun = b.begun; components = b.components; name = b.name; file = b.file; made = b.made; own = b.own; loaded = b.loaded; moments = c.begin_merge.ensures.moments; devices = c.begin_merge.ensures.devices; log_out = b.log_out; watch = b.watch }
+    begun = record { begins = c.in_ok-job.ensures.begins; moments = c.begin_merge.ensures.moments; devices = c.begin_merge.ensures.devices }
 
 pub returns-clause-listed : goal.returns-clause-listed
 returns-clause-listed g c =
@@ -70,6 +68,4 @@ returns-clause-listed g c =
     c.requires.may.sound c.requires.none_out c.requires.run c.requires.may.ready c.requires.may.jobs)
   where
     begun : HasBegun (eyes g.S.Store.history g.S.Device.Device.history g.S.Frozen.Frozen.content g.S.Device.Device.name g.S.Frozen.Frozen.size g.S.Watch.Watch.counts) c.args.part.now c.begin_merge.new.self c.args.jobs.now c.in_ok-job.job c.args.run c.begin_merge.result
-    begun =
-        let b = c.in_ok-job.ensures in
-        record { same = b.same; out = b.out; begun = b.begun; components = b.components; name = b.name; file = b.file; made = b.made; own = b.own; loaded = b.loaded; moments = c.begin_merge.ensures.moments; devices = c.begin_merge.ensures.devices; log_out = b.log_out; watch = b.watch }
+    begun = record { begins = c.in_ok-job.ensures.begins; moments = c.begin_merge.ensures.moments; devices = c.begin_merge.ensures.devices }

@@ -46,23 +46,38 @@ returns-in_err-device-clause-failed g c =
     rw (← c.self.view_is)
     (err_always c.from_residual-in_err-device.result _ (λ p is. c.failed_seals_are_kept.ensures.not_made_as _ _ p is none nothing refl refl refl c.in_err-device.ensures.failed))
 
-pub returns-in-Ok-clause-sealed : goal.returns-in-Ok-clause-sealed
-returns-in-Ok-clause-sealed g c =
+pub returns-in-Ok-clause-seals : goal.returns-in-Ok-clause-seals
+returns-in-Ok-clause-seals g c =
     let none = ap (λ s. s.sealed) c.self.view_is ∙ c.requires.none_sealed in
     let nothing = ap (λ s. s.staged) c.self.view_is ∙ c.requires.nothing_staged in
+    let sound : c.self.inside.failed ≡ false = ap (λ s. s.failed) c.self.view_is ∙ c.requires.sound in
+    let own = subst (λ s. HasOwnFiles (told g.S.Store.history g.S.Device.Device.history g.S.Frozen.Frozen.content s)) (sym c.self.view_is) c.requires.own in
+    let t = told g.S.Store.history g.S.Device.Device.history g.S.Frozen.Frozen.content (left_of c.self.view_is) in
     let head : LogHead = record { number = c.self.inside.number; count = c.self.inside.count; generation = c.self.inside.generation + 1 } in
     let lawful : IsHead head = record { number = omega (arith, c.self.ranges); count = omega (arith, c.self.ranges); first = omega arith; last = grind (arith, common_steps) } in
+    let name = Log (t.generation + 1) in
     let device = g.S.Device.Device.history c.in_ok-device.device in
     let log = g.S.Device.Device.history c.in-Ok.log.device in
-    let made : HasCreated head device log = record { creates = creates head device log c.in-Ok.ensures.moments (λ untold. c.in-Ok.ensures.created ∙ ap (created head) untold); content = c.in-Ok.ensures.content } in
+    let log_creates = creates head device log c.in-Ok.ensures.moments (λ untold. c.in-Ok.ensures.created ∙ ap (created head) untold) in
+    let made : HasCreated head device log = record { creates = log_creates; content = c.in-Ok.ensures.content } in
     let arc : arc_value c.in_ok-new.field-0 ≡ c.self.inside.active = search rules in
     let empty : c.replace-table.new.dest ≡ [] = search rules in
-    let sound : c.self.inside.failed ≡ false = ap (λ s. s.failed) c.self.view_is ∙ c.requires.sound in
-    rw (← c.self.view_is, c.put_behind.ensures) λ p is.
-    (c.seals_are_kept.ensures.sealed _ _ p device is none nothing c.in_ok-device.ensures.file lawful made (rw (c.in_ok-device.ensures.made, arc, empty, sound) refl), c.seals_are_kept.ensures.stored _ p is none nothing)
-
-pub returns-in-Ok-clause-made : goal.returns-in-Ok-clause-made
-returns-in-Ok-clause-made g c = rw (← c.self.view_is, c.put_behind.ensures, c.in_ok-device.ensures.made) refl
+    let behind = c.put_behind.ensures in
+    let disks = ap (λ (x : PartState _ _ _ _). g.S.Store.history x.store) behind ∙ c.in_ok-device.ensures.made in
+    rw (← c.self.view_is) record {
+      sealed = rw behind λ p is.
+          (c.seals_are_kept.ensures.sealed _ _ p device is none nothing c.in_ok-device.ensures.file lawful made (rw (c.in_ok-device.ensures.made, arc, empty, sound) refl), c.seals_are_kept.ensures.stored _ p is none nothing);
+      same = rw (behind, arc, empty, sound) refl;
+      made = disks;
+      own =
+          sealed_own t (told g.S.Store.history g.S.Device.Device.history g.S.Frozen.Frozen.content (left_of behind))
+          (no_flush_out arc_value c.self.inside.flusher c.self.inside.sealed (c.self.invariant.flush sound) none) disks
+          (ap (λ (x : PartState _ _ _ _). x.generation) behind) (ap (λ (x : PartState _ _ _ _). map (told_component g.S.Frozen.Frozen.content) x.list) behind)
+          (ap (λ (x : PartState _ _ _ _). x.flushing) behind) (ap (λ (x : PartState _ _ _ _). x.merging) behind) own;
+      untold_log = rw behind λ untold. c.in-Ok.ensures.created ∙ ap (created head) (c.in_ok-device.ensures.file ∙ ap (fresh_file_at name) untold);
+      log_out = rw (behind, c.in_ok-device.ensures.made) (next_log_out name log t.disks (created_tells name t.disks head device log c.in_ok-device.ensures.file log_creates));
+      next_log = rw behind λ p is. c.seals_leave_store.ensures.next_log _ p device log is none nothing c.in_ok-device.ensures.file lawful log_creates;
+    }
 
 pub returns-in-Ok-clause-empty : goal.returns-in-Ok-clause-empty
 returns-in-Ok-clause-empty g c = rw c.put_behind.ensures c.in-Ok.ensures.size
@@ -72,17 +87,6 @@ returns-in-Ok-clause-moments g c =
     let none = ap (λ s. s.sealed) c.self.view_is ∙ c.requires.none_sealed in
     let nothing = ap (λ s. s.staged) c.self.view_is ∙ c.requires.nothing_staged in
     rw (← c.self.view_is, c.put_behind.ensures, c.in_ok-device.ensures.made) λ p is. c.seals_leave_store.ensures.store _ p is none nothing
-
-pub returns-in-Ok-clause-next_log : goal.returns-in-Ok-clause-next_log
-returns-in-Ok-clause-next_log g c =
-    let none = ap (λ s. s.sealed) c.self.view_is ∙ c.requires.none_sealed in
-    let nothing = ap (λ s. s.staged) c.self.view_is ∙ c.requires.nothing_staged in
-    let head : LogHead = record { number = c.self.inside.number; count = c.self.inside.count; generation = c.self.inside.generation + 1 } in
-    let lawful : IsHead head = record { number = omega (arith, c.self.ranges); count = omega (arith, c.self.ranges); first = omega arith; last = grind (arith, common_steps) } in
-    let device = g.S.Device.Device.history c.in_ok-device.device in
-    let log = g.S.Device.Device.history c.in-Ok.log.device in
-    rw (← c.self.view_is, c.put_behind.ensures) λ p is.
-    c.seals_leave_store.ensures.next_log _ p device log is none nothing c.in_ok-device.ensures.file lawful (creates head device log c.in-Ok.ensures.moments (λ untold. c.in-Ok.ensures.created ∙ ap (created head) untold))
 
 pub returns-in-Err-clause-moments : goal.returns-in-Err-clause-moments
 returns-in-Err-clause-moments g c =
@@ -108,19 +112,6 @@ returns-in-Err-clause-failed g c =
     rw (← c.self.view_is) λ p is.
     c.failed_seals_are_kept.ensures.broken_as _ _ p device broken is none nothing c.in_ok-device.ensures.file lawful (creates head device broken c.in-Err.ensures.broken_moments c.in-Err.ensures.untold) refl refl refl
     (rw (c.abandon.ensures.home, named, c.in_ok-device.ensures.made) refl)
-
-pub returns-in-Ok-clause-own : goal.returns-in-Ok-clause-own
-returns-in-Ok-clause-own g c =
-    let none = ap (λ s. s.sealed) c.self.view_is ∙ c.requires.none_sealed in
-    let sound : c.self.inside.failed ≡ false = ap (λ s. s.failed) c.self.view_is ∙ c.requires.sound in
-    let own = subst (λ s. HasOwnFiles (told g.S.Store.history g.S.Device.Device.history g.S.Frozen.Frozen.content s)) (sym c.self.view_is) c.requires.own in
-    let behind = c.put_behind.ensures in
-    let disks = ap (λ (x : PartState _ _ _ _). g.S.Store.history x.store) behind ∙ c.in_ok-device.ensures.made in
-    sealed_own (told g.S.Store.history g.S.Device.Device.history g.S.Frozen.Frozen.content (left_of c.self.view_is))
-    (told g.S.Store.history g.S.Device.Device.history g.S.Frozen.Frozen.content (left_of behind))
-    (no_flush_out arc_value c.self.inside.flusher c.self.inside.sealed (c.self.invariant.flush sound) none) disks
-    (ap (λ (x : PartState _ _ _ _). x.generation) behind) (ap (λ (x : PartState _ _ _ _). map (told_component g.S.Frozen.Frozen.content) x.list) behind)
-    (ap (λ (x : PartState _ _ _ _). x.flushing) behind) (ap (λ (x : PartState _ _ _ _). x.merging) behind) own
 
 -- ---- what is out
 
@@ -195,16 +186,6 @@ returns-in-Err-clause-tells g c =
     let tells = created_tells name t.disks head device broken c.in_ok-device.ensures.file (creates head device broken c.in-Err.ensures.broken_moments c.in-Err.ensures.untold) in
     rw (← c.self.view_is, c.abandon.ensures.home, named, c.in_ok-device.ensures.made) (tells_on Nobody t _ (made_in name broken t.disks tells))
 
-pub returns-in-Ok-clause-log_out : goal.returns-in-Ok-clause-log_out
-returns-in-Ok-clause-log_out g c =
-    let t = told g.S.Store.history g.S.Device.Device.history g.S.Frozen.Frozen.content (left_of c.self.view_is) in
-    let head : LogHead = record { number = c.self.inside.number; count = c.self.inside.count; generation = c.self.inside.generation + 1 } in
-    let name = Log (t.generation + 1) in
-    let device = g.S.Device.Device.history c.in_ok-device.device in
-    let log = g.S.Device.Device.history c.in-Ok.log.device in
-    let new_tells = created_tells name t.disks head device log c.in_ok-device.ensures.file (creates head device log c.in-Ok.ensures.moments (λ untold. c.in-Ok.ensures.created ∙ ap (created head) untold)) in
-    rw (c.put_behind.ensures, c.in_ok-device.ensures.made) (next_log_out name log t.disks new_tells)
-
 -- ---- where nothing is told
 
 pub returns-then-self-eq-MAX_NUMBER-clause-untold : goal.returns-then-self-eq-MAX_NUMBER-clause-untold
@@ -225,9 +206,3 @@ returns-in-Err-clause-untold g c =
     let broken = g.S.Device.Device.history c.in-Err.broken.device in
     let named = c.in-Err.ensures.broken_name ∙ c.in_ok-device.ensures.name in
     rw (← c.self.view_is, c.abandon.ensures.home, named, c.in_ok-device.ensures.made) λ untold. ap (λ ds. comes_home name (λ f. home f) broken (makes name ds)) untold ∙ comes_untold name (λ f. home f) broken
-
-pub returns-in-Ok-clause-untold_log : goal.returns-in-Ok-clause-untold_log
-returns-in-Ok-clause-untold_log g c =
-    let name = Log (c.self.inside.generation + 1) in
-    let head : LogHead = record { number = c.self.inside.number; count = c.self.inside.count; generation = c.self.inside.generation + 1 } in
-    rw (← c.self.view_is, c.put_behind.ensures) λ none. c.in-Ok.ensures.created ∙ ap (created head) (c.in_ok-device.ensures.file ∙ ap (fresh_file_at name) none)
