@@ -18,3 +18,4 @@ mod FilesIn
 mod ToldOpenings
 mod RestedOpenings
 mod OpenedParts
+mod BegunParts

@@ -30,6 +30,7 @@ use Rattle.tc_plain_model.specs.Writes.{Pairs, Write}
 use Rattle.tc_recover.proofs.Members.{no_member}
 use Rattle.tc_replay.specs.Openings.{AreIn}
 use Rattle.tc_replay.proofs.CountedLogs.{loaded_are, loaded_tell}
+use Rattle.tc_open.specs.Answered.{HasOnlyThese}
 use Rattle.tc_open.specs.FirstLog.{EachHolds, Holds, MakesLog, held_under}
 use Rattle.tc_open.specs.Listed.{AreOpenedFrom}
 use Rattle.tc_open.specs.Openings.{IsOpenedAs, LeavesStored}
@@ -49,7 +50,7 @@ module _ {F : Type 0} (list : List (ComponentState F)) where
   ]) own
 
   -- once a log is made, it is the one file more
-  pub made_own : (generation : ℕ) (disks : List Disk) → IfTold disks (AreOwn list []) → IfTold (makes (Log generation) disks) (λ disk. (name : FileName) → IsThere (disk name) → Contains (file_names list) name ⊎ (name ≡ Log generation))
+  pub made_own : (generation : ℕ) (disks : List Disk) → IfTold disks (AreOwn list []) → IfTold (makes (Log generation) disks) (HasOnlyThese list (Log generation))
   made_own generation [] own = tt
   made_own generation (disk ∷ past) own = λ name there. at_name (Log generation) name out disk (λ e. IsThere e → Contains (file_names list) name ⊎ (name ≡ Log generation)) (λ same here. inr (sym same)) (λ apart here. before name (own.own name here)) there
     where

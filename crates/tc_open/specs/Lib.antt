@@ -5,3 +5,4 @@ pub mod Listed
 pub mod Openings
 pub mod Judged
 pub mod Steps
+pub mod Answered

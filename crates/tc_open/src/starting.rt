@@ -1,31 +1,29 @@
 //! An opening ends: the log behind the components is made, and the partition starts.
 
 ghost use Rattle.std.specs.List.{AllZip};
-ghost use Rattle.std.specs.Prelude.{◌≡◌, ◌<◌, ◌≤◌, ◌+◌, ◌^◌, ◌↔◌, List, Some, None, [], false, length, map, All, IfErr, IfOk};
+ghost use Rattle.std.specs.Prelude.{◌≡◌, ◌<◌, ◌+◌, ◌^◌, ◌↔◌, List, None, [], false, map, All, IfErr, IfOk};
 ghost use Rattle.std.specs.Result.{IsErrAnd};
 ghost use Rattle.tc_store.specs.declared.file_name.FileName.TheVariants.{Log as log_name};
 ghost use Rattle.tc_store.specs.Counted.{IsCounted};
-ghost use Rattle.tc_store.specs.Disk.{IsThere, home as at_home};
+ghost use Rattle.tc_store.specs.Disk.{IsThere};
 ghost use Rattle.tc_store.specs.Moments.{IfTold, LeavesAt};
-ghost use Rattle.tc_store.specs.StoreCalls.{FailsMaking, comes_home, fresh_file_at, makes};
+ghost use Rattle.tc_store.specs.StoreCalls.{fresh_file_at, makes};
 ghost use Rattle.tc_component.specs.Loading.{ComponentState};
 ghost use Rattle.tc_component.specs.Spelling.{IsIndex};
 ghost use Rattle.tc_list.specs.Intervals.{last_of};
-ghost use Rattle.tc_log.specs.declared.head.LogHead.{LogHead as Head};
 ghost use Rattle.tc_log.specs.Layout.{empty_size};
 ghost use Rattle.tc_lsm_model.specs.Contents.{Content};
 ghost use Rattle.tc_lsm_model.specs.Lists.{IsList, live as live_in};
-ghost use Rattle.tc_part_model.specs.Calls.{Creates, HasCreated};
+ghost use Rattle.tc_part_model.specs.Calls.{HasCreated};
 ghost use Rattle.tc_part_model.specs.Leaving.{KeepsStore};
 ghost use Rattle.tc_part_model.specs.Meaning.{IsOfContent, IsPart};
-ghost use Rattle.tc_part_model.specs.Newest.{names_by};
 ghost use Rattle.tc_part_model.specs.PartState.{told, told_component};
 ghost use Rattle.tc_part_model.specs.Starting.{first_log, started_part};
 ghost use Rattle.tc_jobs.specs.Lists.{IsListOf};
 ghost use Rattle.tc_part.specs.FilesOut.{LogIsOut};
-ghost use Rattle.tc_part.specs.Openings.{newest_in};
 ghost use Rattle.tc_part.specs.OwnFiles.{HasOwnFiles};
 ghost use Rattle.tc_part.specs.Ready.{AreNamed};
+ghost use Rattle.tc_open.specs.Answered.{begun_part};
 ghost use Rattle.tc_open.specs.FirstLog.{EachHolds, FailsCreating, MakesLog, held_under};
 ghost use Rattle.tc_open.specs.OpenCauses.{IsOfCall, IsOfNoFile};
 ghost use Rattle.tc_recover.specs.Refusals.{asked};
@@ -60,7 +58,7 @@ pub(crate) fn start_part<S: Store>(
         → IfOk result (λ p. IsPart (told S.history S.Device.history S.Frozen.content p) (started_part (asked part) cs)) }
 
     // Over every store nothing is in its tables, nothing is staged, and no job is out.
-    ensures begun { IfOk result (λ p. p ≡ record { number = part.number; count = part.count; limits = record { names = limits.names; docs = limits.docs }; memory = limits.memory; store = p.store; main = p.main; flusher = Some kit.flusher; merger = Some kit.merger; reader = Some kit.reader; list = list; sealed = None; sealed_log = None; active = []; log = p.log; generation = last_of list + 1; staged = []; taken = names_by (newest_in S.Frozen.content list); live = p.live; writes = 0; flushing = false; merging = None; failed = false }) }
+    ensures begun { IfOk result (λ p. p ≡ begun_part S.Frozen.content (asked part) limits kit list p) }
 
     // So it is over every store: the log was made behind the components, and each file that is there is its own, where all were
     // those of the components.

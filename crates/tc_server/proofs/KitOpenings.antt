@@ -11,6 +11,7 @@ use Rattle.tc_machine.specs.Pictures.{recovered}
 use Rattle.tc_merge.specs.Faults.{IsWatched}
 use Rattle.tc_open.specs.declared.fault.OpenCause.{OpenCause}
 use Rattle.tc_open.specs.declared.fault.OpenCause.TheVariants as opening
+use Rattle.tc_open.specs.Answered.{OfLawful}
 use Rattle.tc_open.specs.Judged.{ArePassed, AreSpent, CauseJudged, IsOpenCause, IsUntouched, Passes}
 use Rattle.tc_open.specs.OpenCauses as causes
 use Rattle.tc_open.specs.Openings.{IsOpenedAs}
@@ -100,10 +101,6 @@ disk_of p count (opening.Damaged damage) old new rose = tt
 disk_of p count (opening.Layout found found_of) old new rose = tt
 disk_of p count opening.Spent old new rose = tt
 disk_of p count opening.Memory old new rose = tt
-
--- what is said of lawful files
-abbrev pub OfLawful : Partition → List Disk → (List Content → List (List PlainWrite) → Type 0) → Type 0
-OfLawful here came P = IfTold came (λ disk. (cs : List Content) (logs : List (List PlainWrite)) → DiskOpens here disk cs logs → P cs logs)
 
 lawful_both : (here : Partition) (came : List Disk) (P Q : List Content → List (List PlainWrite) → Type 0) (R : List Content → List (List PlainWrite) → Type 0)
     → ((cs : List Content) (logs : List (List PlainWrite)) → P cs logs → Q cs logs → R cs logs) → OfLawful here came P → OfLawful here came Q → OfLawful here came R

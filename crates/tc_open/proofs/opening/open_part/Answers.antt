@@ -1,22 +1,16 @@
-use Rattle.std.proofs.Common.{◌+◌, ◌∙◌, ◌≡◌, ◌⊎◌, ap, inr, map, subst, sym}
-use Rattle.std.specs.Prelude.{Contains}
+use Rattle.std.proofs.Common.{◌+◌, ◌∙◌, ap, map}
 use Rattle.std.proofs.lemmas.Result.{IfErr-weaker, IfOk-weaker}
-use Rattle.tc_store.specs.declared.file_name.FileName.{FileName}
 use Rattle.tc_store.specs.declared.file_name.FileName.TheVariants.{Log as log_name}
-use Rattle.tc_store.specs.Disk.{Disk, IsThere}
-use Rattle.tc_store.specs.Moments.{IfTold}
-use Rattle.tc_jobs.specs.Lists.{file_names}
+use Rattle.tc_store.proofs.MomentLemmas.{told_map}
 use Rattle.tc_list.specs.Intervals.{last_of}
 use Rattle.tc_lsm_model.specs.Contents.{Partition}
-use Rattle.tc_part_model.specs.PartState.{AreTold, told, told_component}
+use Rattle.tc_part_model.specs.PartState.{told, told_component}
 use Rattle.tc_recover.specs.Loading.{interval_of}
-use Rattle.tc_store.proofs.MomentLemmas.{told_map}
-use Rattle.tc_store.specs.StoreCalls.{makes}
+use Rattle.tc_open.proofs.BegunParts.{begins, begun_over, gives_back}
 use Rattle.tc_open.proofs.FlushedOpenings.{no_file_sound}
 use Rattle.tc_open.proofs.Lawfully.{both_lawful}
-use Rattle.tc_open.proofs.OpenedParts.{made_own, no_log_there, opened_as, rest_are, rest_lawful, rest_tidy, start_kept, start_moments, starts_log}
+use Rattle.tc_open.proofs.OpenedParts.{no_log_there, opened_as, rest_are, rest_lawful, rest_tidy, start_kept, start_moments, starts_log}
 use Rattle.tc_open.proofs.RestedOpenings.{err_joined, err_tells, ok_joined, start_judged}
-use Rattle.tc_open.proofs.ToldOpenings.{told_still}
 use Rattle.tc_open.proofs.opening.open_part.Goals as goal
 
 pub start_part-requires-clause-free : goal.start_part-requires-clause-free
@@ -71,31 +65,10 @@ returns-in-Ok-clause-kept g c =
     IfErr-weaker c.start_part.result _ _ (λ fault is. start_kept content part cs logs list mid rests own old keeps (g.S.Store.history fault.kit.store) is.0 is.1.0 is.1.1)
     (err_joined c.start_part.result _ _ (c.start_part.ensures.left_moments rests.contents are tidy) (err_joined c.start_part.result _ _ c.start_part.ensures.home (c.start_part.ensures.kept rests.contents are tidy))))
 
-pub returns-in-Ok-clause-own : goal.returns-in-Ok-clause-own
-returns-in-Ok-clause-own g c =
-    let list = c.in-Ok.field-0.list in
-    let mid = g.S.Store.history c.in-Ok.field-0.kit.store in
-    IfOk-weaker c.start_part.result _ _ (λ p is.
-    let own = subst (λ ds. IfTold ds (λ (disk : Disk). (name : FileName) → IsThere (disk name) → Contains (file_names list) name ⊎ (name ≡ log_name (last_of list + 1)))) (sym is.1) (made_own list (last_of list + 1) mid c.in-Ok.ensures.own) in
-    subst (λ n. IfTold (g.S.Store.history p.store) (λ (disk : Disk). (name : FileName) → IsThere (disk name) → Contains (file_names p.list) name ⊎ (name ≡ log_name n))) (sym (ap (λ q. q.generation) is.0))
-    (subst (λ l. IfTold (g.S.Store.history p.store) (λ (disk : Disk). (name : FileName) → IsThere (disk name) → Contains (file_names l) name ⊎ (name ≡ log_name (last_of list + 1)))) (sym (ap (λ q. q.list) is.0)) own))
-    (ok_joined c.start_part.result _ _ c.start_part.ensures.begun c.start_part.ensures.made)
-
 pub returns-in-Ok-clause-undamaged : goal.returns-in-Ok-clause-undamaged
 returns-in-Ok-clause-undamaged g c =
     let part : Partition = record { number = c.args.number; count = c.args.count } in
     both_lawful part _ _ _ (g.S.Store.history c.args.kit.store) c.in-Ok.ensures.rests c.in-Ok.ensures.rests (λ cs logs rests same. IfErr-weaker c.start_part.result _ _ (λ fault is. no_file_sound fault.cause is) c.start_part.ensures.causes)
-
-pub returns-in-Ok-clause-components : goal.returns-in-Ok-clause-components
-returns-in-Ok-clause-components g c =
-    let content = g.S.Frozen.Frozen.content in
-    let list = c.in-Ok.field-0.list in
-    let mid = g.S.Store.history c.in-Ok.field-0.kit.store in
-    let log = log_name (last_of list + 1) in
-    IfOk-weaker c.start_part.result _ _ (λ p is.
-    subst (λ l. IfTold (g.S.Store.history p.store) (λ disk. AreTold (map (told_component content) l))) (sym (ap (λ q. q.list) is.0))
-    (subst (λ ds. IfTold ds (λ (disk : Disk). AreTold (map (told_component content) list))) (sym is.1) (told_still (AreTold (map (told_component content) list)) mid (makes log mid) (λ none. ap (makes log) none) c.in-Ok.ensures.components)))
-    (ok_joined c.start_part.result _ _ c.start_part.ensures.begun c.start_part.ensures.made)
 
 pub returns-in-Ok-clause-listed : goal.returns-in-Ok-clause-listed
 returns-in-Ok-clause-listed g c =
@@ -108,11 +81,44 @@ returns-in-Ok-clause-refused g c =
     told_map _ _ (g.S.Store.history c.args.kit.store) (λ disk passes. IfErr-weaker c.start_part.result _ _ (λ fault is. start_judged (λ file. g.S.Frozen.Frozen.content file) (λ file. g.S.Frozen.Frozen.name file) part list disk fault.cause passes is.0 is.1)
     (err_joined c.start_part.result _ _ c.start_part.ensures.causes (err_tells c.start_part.result _ _ c.start_part.ensures.spent.0))) c.in-Ok.ensures.judged
 
-pub returns-in-Ok-clause-untouched : goal.returns-in-Ok-clause-untouched
-returns-in-Ok-clause-untouched g c =
-    let passed = told_map _ _ (g.S.Store.history c.args.kit.store) (λ disk passes. (passes.0, passes.1, tt)) c.in-Ok.ensures.judged in
-    IfErr-weaker c.start_part.result _ _ (λ fault given. inr passed) c.start_part.ensures.given_back
+pub returns-in-Ok-clause-begun : goal.returns-in-Ok-clause-begun
+returns-in-Ok-clause-begun g c =
+    let part : Partition = record { number = c.args.number; count = c.args.count } in
+    let was = c.in-Ok.ensures in
+    let list = c.in-Ok.field-0.list in
+    IfOk-weaker c.start_part.result _ _ (λ p is. begun_over g.S.Store.history g.S.Watch.Watch.counts g.S.Frozen.Frozen.content part c.args.kit c.in-Ok.field-0.kit was.kit was.watched c.args.limits list p is) c.start_part.ensures.begun
 
-pub returns-in-Ok-clause-home : goal.returns-in-Ok-clause-home
-returns-in-Ok-clause-home g c =
-    IfErr-weaker c.start_part.result _ _ (λ fault home. home (told_map _ _ (g.S.Store.history c.in-Ok.field-0.kit.store) (λ disk own. own.is_in) c.in-Ok.ensures.own)) c.start_part.ensures.home
+pub returns-in-Ok-clause-begins : goal.returns-in-Ok-clause-begins
+returns-in-Ok-clause-begins g c =
+    let content = g.S.Frozen.Frozen.content in
+    let part : Partition = record { number = c.args.number; count = c.args.count } in
+    let rested = c.in-Ok.field-0.kit in
+    let list = c.in-Ok.field-0.list in
+    let was = c.in-Ok.ensures in
+    let start = c.start_part.ensures in
+    let r = c.start_part.result in
+    IfOk-weaker r _ _ (λ p is. begins g.S.Store.history g.S.Watch.Watch.counts content part c.args.kit rested was.kit was.watched g.S.Device.Device.history c.args.limits list p is.0 is.1.0 was.own was.components was.few (is.1.1.0 was.own) is.1.1.1.0 is.1.1.1.1)
+    (ok_joined r _ _ start.begun (ok_joined r _ _ start.made (ok_joined r _ _ start.own (ok_joined r _ _ start.log_out start.counted))))
+
+pub returns-in-Ok-clause-fails : goal.returns-in-Ok-clause-fails
+returns-in-Ok-clause-fails g c =
+    let content = g.S.Frozen.Frozen.content in
+    let part : Partition = record { number = c.args.number; count = c.args.count } in
+    let rested = c.in-Ok.field-0.kit in
+    let was = c.in-Ok.ensures in
+    let start = c.start_part.ensures in
+    let r = c.start_part.result in
+    let passed = told_map _ _ (g.S.Store.history c.args.kit.store) (λ disk passes. (passes.0, passes.1, tt)) was.judged in
+    let home = told_map _ _ (g.S.Store.history rested.store) (λ disk own. own.is_in) was.own in
+    IfErr-weaker r _ _ (λ fault is. gives_back g.S.Store.history g.S.Watch.Watch.counts content part c.args.kit rested was.kit was.watched g.S.Frozen.Frozen.size g.S.Frozen.Frozen.name fault.kit fault.cause passed is.0 (is.1.0 home) is.1.1.0 is.1.1.1)
+    (err_joined r _ _ start.causes (err_joined r _ _ start.home (err_joined r _ _ start.given_back start.left_counted)))
+
+pub returns-in-Err-clause-fails : goal.returns-in-Err-clause-fails
+returns-in-Err-clause-fails g c = record {
+  causes = c.in-Err.ensures.causes;
+  layout = c.in-Err.ensures.layout;
+  untouched = c.in-Err.ensures.untouched;
+  home = c.in-Err.ensures.home;
+  given_back = c.in-Err.ensures.given_back;
+  failed = c.in-Err.ensures.failed;
+}
