@@ -1,5 +1,5 @@
 -- Why an upsert is refused, by its new names and by the room that there is.
-use Rattle.std.proofs.Common.{◌≡◌, ◌∙◌, ◌+◌, ◌<◌, ℕ, Bool, true, false, List, ◌++◌, Some, None, length, length-append, refl, sym, ap, subst, arith, nat_lt, Option}
+use Rattle.std.proofs.Common.{◌≡◌, ◌∙◌, ◌+◌, ◌<◌, ℕ, Bool, true, false, List, [], ◌∷◌, ◌++◌, Some, None, length, length-append, append-nil, refl, sym, ap, arith, nat_lt, Option}
 use Rattle.std.specs.Prelude.{◌&&◌, not, nat_le, option_map, ◌^◌, if◌then◌else◌}
 use Rattle.std.proofs.lemmas.Bool.Decides.{nat_tests}
 use Rattle.tc_model.specs.Document.{Name, Document}
@@ -14,18 +14,21 @@ use Rattle.tc_part.specs.Stages.{refusal_by, refused_as}
 more : (a f : ℕ) → nat_lt a (a + f) ≡ nat_lt 0 f
 more a f = grind (arith, nat_tests)
 
-counted : (taken fresh : List Name) (d : Document) → taken ++ fresh ≡ names_with d taken → length (names_with d taken) ≡ length taken + length fresh
+-- how many names there are then, and which where none is new
+pub counted : (taken fresh : List Name) (d : Document) → taken ++ fresh ≡ names_with d taken → length (names_with d taken) ≡ length taken + length fresh
 counted taken fresh d is = sym (ap length is) ∙ length-append taken fresh
 
--- the test of the names
-lacks : (limits : Limits) (taken fresh : List Name) (d : Document) → taken ++ fresh ≡ names_with d taken
-    → (nat_lt 0 (length fresh) && nat_lt limits.names (length taken + length fresh)) ≡ lacks_names limits d taken
-lacks limits taken fresh d is = rw (counted taken fresh d is, more (length taken) (length fresh)) refl
+pub none_new : (taken fresh : List Name) (d : Document) → taken ++ fresh ≡ names_with d taken → length fresh ≡ 0 → names_with d taken ≡ taken
+none_new taken [] d is none = sym is ∙ append-nil taken
+none_new taken (name ∷ fresh) d is none = absurd (omega (arith, none))
 
-pub names_test : (limits : Limits) (taken fresh : List Name) (d : Document) (n : ℕ) (test : Bool) → taken ++ fresh ≡ names_with d taken → n ≡ length fresh → test ≡ (nat_lt 0 n && nat_lt limits.names (length taken + n))
+pub no_new : (n : ℕ) → nat_lt 0 n ≡ false → n ≡ 0
+no_new n is = grind (arith, nat_tests)
+
+-- the test of the names
+pub names_test : (limits : Limits) (taken : List Name) (d : Document) (n : ℕ) (test : Bool) → length (names_with d taken) ≡ length taken + n → test ≡ (nat_lt 0 n && nat_lt limits.names (length taken + n))
     → lacks_names limits d taken ≡ test
-names_test limits taken fresh d n test is len tested =
-    sym (lacks limits taken fresh d is) ∙ sym (subst (λ m. test ≡ (nat_lt 0 m && nat_lt limits.names (length taken + m))) len tested)
+names_test limits taken d n test is tested = rw (is, more (length taken) n) (sym tested)
 
 pub of_names : (limits : Limits) (taken : List Name) (d : Document) (was_live : Bool) (live : ℕ) → lacks_names limits d taken ≡ true → Some NamesFull ≡ option_map refused_as (refusal_by limits d taken was_live live)
 of_names limits taken d was_live live is = rw is refl
@@ -48,8 +51,5 @@ upsert_refused limits key d s here was_live live refused exact was room =
     ∙ ap (λ lacks. option_map refused_as (if lacks_names limits d s.taken then Some names_full else (if lacks then Some full else None))) (sym room)
 
 -- where the names are not refused, there is room for them
-fits : (a n l : ℕ) → (nat_lt a l && nat_lt n l) ≡ false → a < 2 ^ 32 → n < 2 ^ 32 → l < 2 ^ 32
-fits a n l is few most = grind (arith, nat_tests)
-
-pub names_fit : (limits : Limits) (taken : List Name) (d : Document) → lacks_names limits d taken ≡ false → length taken < 2 ^ 32 → limits.names < 2 ^ 32 → length (names_with d taken) < 2 ^ 32
-names_fit limits taken d is few most = fits (length taken) limits.names (length (names_with d taken)) is few most
+pub names_fit : (a n l : ℕ) → (nat_lt 0 n && nat_lt l (a + n)) ≡ false → a < 2 ^ 32 → l < 2 ^ 32 → a + n < 2 ^ 32
+names_fit a n l is few most = grind (arith, nat_tests)

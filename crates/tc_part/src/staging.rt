@@ -109,9 +109,10 @@ impl<S: Store> Part<S> {
         staged_is_kept();
         let below = self.below(key);
         let was_live = self.is_live(key, below);
-        match self.refusal(alloc, bytes.as_slice(), was_live)? {
+        let new_names = self.new_names(alloc, bytes.as_slice())?;
+        match self.refusal(new_names, was_live) {
             Some(refused) => Ok(refused),
-            None => self.upsert(alloc, key, bytes, below, was_live),
+            None => self.upsert(alloc, key, bytes, below, was_live, 0 < new_names),
         }
     }
 

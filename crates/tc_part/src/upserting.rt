@@ -36,29 +36,33 @@ use tc_store::Store;
 use tc_value::Shape;
 
 impl<S: Store> Part<S> {
-    /// Why an upsert is refused, if it is. Takes no memory where no name is new.
-    pub(crate) fn refusal(
-        &self,
-        alloc: Global,
-        bytes: &[u8],
-        was_live: bool,
-    ) -> Result<Option<Staged>, Memory>
+    /// How many names of a record's document are new. Takes no memory where none is.
+    pub(crate) fn new_names(&self, alloc: Global, bytes: &[u8]) -> Result<u32, Memory>
         requires { IsStoredRecord bytes.now }
-        ensures exact { IfOk result (λ refusal. (d : Document) → IsRecordOf d bytes.now → refusal ≡ option_map refused_as (refusal_by self.now.limits d self.now.taken was_live self.now.live)) }
-        ensures names { IfOk result (λ refusal. (d : Document) → IsRecordOf d bytes.now → refusal ≡ None → length (names_with d self.now.taken) < 2 ^ 32) }
-        ensures room { IfOk result (λ refusal. refusal ≡ None → was_live ≡ false → self.now.live + 1 < 2 ^ 32) }
+        ensures count { IfOk result (λ n. (d : Document) → IsRecordOf d bytes.now → length (names_with d self.now.taken) ≡ length self.now.taken + n) }
+        ensures none { IfOk result (λ n. n ≡ 0 → (d : Document) → IsRecordOf d bytes.now → names_with d self.now.taken ≡ self.now.taken) }
     {
         names_agree();
         one_document();
         let _taken = self.taken.len();
         let fresh = fresh_in(alloc, &RecordRef::known(bytes), &self.taken)?;
-        if self.lacks_names(fresh.len()) {
-            return Ok(Some(Staged::NamesFull));
+        Ok(fresh.len())
+    }
+
+    /// Why an upsert with so many new names is refused, if it is.
+    pub(crate) fn refusal(&self, new_names: u32, was_live: bool) -> Option<Staged>
+        ensures exact { (d : Document) → length (names_with d self.now.taken) ≡ length self.now.taken + new_names → result ≡ option_map refused_as (refusal_by self.now.limits d self.now.taken was_live self.now.live) }
+        ensures names { result ≡ None → length self.now.taken + new_names < 2 ^ 32 }
+        ensures room { result ≡ None → was_live ≡ false → self.now.live + 1 < 2 ^ 32 }
+    {
+        let _taken = self.taken.len();
+        if self.lacks_names(new_names) {
+            return Some(Staged::NamesFull);
         }
         if self.lacks_room(was_live) {
-            return Ok(Some(Staged::Full));
+            return Some(Staged::Full);
         }
-        Ok(None)
+        None
     }
 
     /// Whether there is no room for the document of a key that has one or not.
@@ -79,7 +83,8 @@ impl<S: Store> Part<S> {
         0 < fresh && most < names
     }
 
-    /// Stages the record of a key's document, where that is not refused, and the key has this below the active table.
+    /// Stages the record of a key's document, where that is not refused, and the key has this below the active table. Without
+    /// `has_new`, no name of the document is new.
     pub(crate) fn upsert(
         &mut self,
         alloc: Global,
@@ -87,12 +92,14 @@ impl<S: Store> Part<S> {
         bytes: Bytes,
         below: Below,
         was_live: bool,
+        has_new: bool,
     ) -> Result<Staged, PartFault>
         requires key { key < 2 ^ 63 }
         requires record { IsStoredRecord bytes }
         requires frame { AreForFrame (self.old.staged ++ an_upsert key bytes ∷ []) }
         requires below { IsBelow self.old.sealed self.old.list key below }
         requires names { (d : Document) → IsRecordOf d bytes → length (names_with d self.old.taken) < 2 ^ 32 }
+        requires known { has_new ≡ false → (d : Document) → IsRecordOf d bytes → names_with d self.old.taken ≡ self.old.taken }
         requires room { was_live ≡ false → self.old.live + 1 < 2 ^ 32 }
         ensures done { IfOk result (λ answer. answer ≡ Done was_live) }
         ensures staged { (p : PartView) (d : Document) → IsPart (told S.history S.Device.history S.Frozen.content self.old) p → IsStorableWrite (key, Some d) → bytes ≡ record_of d → was_live ≡ is_some (value_of key (stored_with p))
@@ -104,7 +111,7 @@ impl<S: Store> Part<S> {
     {
         staged_is_kept();
         let shape = self.shape_kept(alloc, key, below)?;
-        self.put_new(alloc, key, bytes, shape, was_live)?;
+        self.put_new(alloc, key, bytes, shape, was_live, has_new)?;
         Ok(Staged::Done { was_live })
     }
 
@@ -127,7 +134,8 @@ impl<S: Store> Part<S> {
         self.active.upsert(key, bytes, shape)
     }
 
-    /// Puts a record into the active table, takes its names, and counts its document, where the key had one or not.
+    /// Puts a record into the active table, takes its names where one is new, and counts its document, where the key had one
+    /// or not.
     fn put_new(
         &mut self,
         alloc: Global,
@@ -135,11 +143,13 @@ impl<S: Store> Part<S> {
         bytes: Bytes,
         shape: Option<Shape>,
         was_live: bool,
+        has_new: bool,
     ) -> Result<(), Memory>
         requires key { key < 2 ^ 63 }
         requires record { IsStoredRecord bytes }
         requires frame { AreForFrame (self.old.staged ++ an_upsert key bytes ∷ []) }
         requires names { (d : Document) → IsRecordOf d bytes → length (names_with d self.old.taken) < 2 ^ 32 }
+        requires known { has_new ≡ false → (d : Document) → IsRecordOf d bytes → names_with d self.old.taken ≡ self.old.taken }
         requires room { was_live ≡ false → self.old.live + 1 < 2 ^ 32 }
         ensures put { OnOk result (self.new ≡ record self.old { active = upserted key bytes (option_map shape_tree shape) self.old.active; staged = self.old.staged ++ an_upsert key bytes ∷ []; taken = self.new.taken; live = self.new.live }) }
         ensures taken { OnOk result ((d : Document) → IsRecordOf d bytes → self.new.taken ≡ names_with d self.old.taken) }
@@ -147,7 +157,9 @@ impl<S: Store> Part<S> {
         ensures same { self.new ≡ record self.old { active = self.new.active; staged = self.new.staged; taken = self.new.taken; live = self.new.live } }
     {
         names_agree();
-        take_names(&RecordRef::known(bytes.as_slice()), &mut self.taken)?;
+        if has_new {
+            take_names(&RecordRef::known(bytes.as_slice()), &mut self.taken)?;
+        }
         self.put(alloc, key, bytes, shape)?;
         if !was_live {
             self.live += 1;
