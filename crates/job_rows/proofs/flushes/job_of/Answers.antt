@@ -1,13 +1,7 @@
-use Rattle.std.proofs.Common.{◌≡◌, Ok, Err, Some, Result, sym, subst}
-use Rattle.std.specs.Prelude.{IfOk}
-use Rattle.std.specs.Result.{result_ok}
-use Rattle.std.proofs.lemmas.Option.{same_Some}
+use Rattle.std.proofs.Common.{sym, subst}
 use Rattle.tc_memory.specs.DocumentTables.{IsTableOf}
+use Rattle.job_rows.proofs.Answered.{at_ok}
 use Rattle.job_rows.proofs.flushes.job_of.Goals as goal
-
-at_ok : {A E : Type 0} (P : A → Type 0) (r : Result A E) (a : A) → Some a ≡ result_ok r → IfOk r P → P a
-at_ok P (Ok x) a is holds = subst P (same_Some x a (sym is)) holds
-at_ok P (Err e) a is holds = cc
 
 pub new-requires-2-clause-counted : goal.new-requires-2-clause-counted
 new-requires-2-clause-counted c κs t table =

@@ -1,9 +1,20 @@
-use Rattle.std.proofs.Common.{rules, ◌≡◌, ◌∙◌, ◌∷◌, [], ap}
+use Rattle.std.proofs.Common.{rules, ◌≡◌, ◌∙◌, ◌+◌, List, ◌∷◌, [], ap, sym}
+use Rattle.std.specs.Arc.{arc_value}
+use Rattle.tc_component.specs.Loading.{ComponentState}
 use Rattle.tc_component.specs.Spelling.{name_of}
+use Rattle.tc_list.specs.Intervals.{last_of}
 use Rattle.tc_store.specs.declared.file_name.FileName.TheVariants.{Component}
+use Rattle.tc_store.specs.declared.mem.frozen.MemFrozen.{MemFrozen}
 use Rattle.tc_store.specs.Memory.Frozen.{frozen_name}
-use Rattle.part_rows.proofs.LaidLists.{one_listed}
+use Rattle.part_rows.proofs.LaidLists.{first_is, one_listed}
 use Rattle.part_rows.proofs.laid.list_of.Goals as goal
+
+pub push-requires-after_bounds : goal.push-requires-after_bounds
+push-requires-after_bounds c κs =
+    let component = c.in_ok-component.component in
+    let name : Component 1 c.args.to ≡ name_of component.index.head = search rules in
+    let held : arc_value c.in_ok-ok.field-0 ≡ component = search rules in
+    ap (λ (x : ComponentState MemFrozen). x.index.head.from) held ∙ first_is component.index.head c.args.to name ∙ ap (λ (cs : List (ComponentState MemFrozen)). last_of cs + 1) (sym c.new-list.ensures)
 
 pub returns-clause-one : goal.returns-clause-one
 returns-clause-one c =
