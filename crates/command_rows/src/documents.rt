@@ -2,6 +2,7 @@
 
 use serde_json::Value;
 use std::alloc::Global;
+use tc_doc_reader::DocReader;
 use tc_json::{JsonFault, doc_of, is_whole, text_of, value_of};
 use tc_value::{Doc, Kind, MAX_DEPTH};
 
@@ -9,6 +10,7 @@ use tc_value::{Doc, Kind, MAX_DEPTH};
 pub(crate) fn answer_of(alloc: Global, call: &str, argument: &str) -> Option<String> {
     match call {
         "document" => reading(alloc, argument),
+        "read" => read(alloc, argument),
         "same" => same(alloc, argument),
         "tags" => tags(alloc),
         _ => answer_for(alloc, call, &document(alloc, argument)?),
@@ -47,6 +49,20 @@ fn written(alloc: Global, whole: bool, value: &Value, doc: &Doc) -> Option<Strin
     let same = value_of(alloc, doc).ok()? == *value;
     let text = text_of(alloc, doc).ok()?;
     format!(in alloc; "{whole} {same} {}\n", text.as_str()).ok()
+}
+
+// The document that is read without a JSON value, or that this is left to others.
+fn read(alloc: Global, text: &str) -> Option<String> {
+    let mut reader = DocReader::new(alloc);
+    match reader.read(alloc, text).ok()? {
+        Some(doc) => read_as(alloc, &doc),
+        None => String::from_str(alloc, "left\n").ok(),
+    }
+}
+
+fn read_as(alloc: Global, doc: &Doc) -> Option<String> {
+    let text = text_of(alloc, doc).ok()?;
+    format!(in alloc; "read {}\n", text.as_str()).ok()
 }
 
 // The depth, and whether the document nests within 0, 1, 2 and 31.

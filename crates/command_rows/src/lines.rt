@@ -3,13 +3,15 @@
 use crate::replies::line_of;
 use std::alloc::Global;
 use std::fmt::Write;
-use tc_command::{Ask, Command, Hop, ParseFault, Refusal, Reply, parse};
+use tc_command::{Ask, Command, Hop, ParseFault, Refusal, Reply};
+use tc_command_reader::CommandReader;
 use tc_json::text_of;
 use tc_value::Doc;
 
 /// What a line asks for: the command, or the number and the reply of the refusal.
 pub(crate) fn asked(alloc: Global, line: &[u8]) -> Option<String> {
-    match parse(alloc, line) {
+    let mut reader = CommandReader::new(alloc);
+    match reader.parse(alloc, line) {
         Ok(command) => shown(alloc, &command),
         Err(ParseFault::Refused(refusal)) => refused(alloc, refusal),
         Err(ParseFault::Memory) => None,
