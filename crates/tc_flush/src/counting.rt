@@ -14,10 +14,9 @@ ghost use Rattle.tc_flush.specs.Recounting.{FitsEach, all_removed, names_with, s
 use crate::learning::names_fit;
 use crate::tallying::count_entries;
 use std::alloc::Global;
-use tc_anti::subtract_if_fits;
 use tc_bytes::Memory;
 use tc_compact::names_agree;
-use tc_infer::fit_together;
+use tc_infer::{fit_together, subtract_if_fits};
 use tc_memory::{Entry, Held, Sealed, tables_keep_documents};
 use tc_names::Names;
 use tc_record::{RecordRef, one_document};

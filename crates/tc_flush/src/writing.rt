@@ -18,10 +18,9 @@ ghost use Rattle.tc_component.specs.Rows.{rows_of};
 
 use crate::entry::put_entry;
 use std::alloc::Global;
-use tc_anti::subtract;
 use tc_compact::names_agree;
 use tc_component::{Builder, Head};
-use tc_infer::Met;
+use tc_infer::{Met, subtract};
 use tc_lsm_model::flushes_learn_names;
 use tc_memory::{Sealed, tables_keep_documents};
 use tc_names::Names;

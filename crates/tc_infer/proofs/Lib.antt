@@ -5,3 +5,5 @@ mod GuessedFields
 mod LearnedSteps
 pub mod RecordShape
 mod TogetherLaws
+mod TakenFields
+mod LastObject

@@ -1,4 +1,4 @@
-//! Layer 2, schema: one document more in a schema that was inferred, and the names that are new in it.
+//! Layer 2, schema: one document more or one less in a schema that is inferred, and the names that are new in it.
 #![tactic(auto)]
 
 mod adding;
@@ -12,6 +12,10 @@ mod looking;
 mod met;
 mod numbering;
 mod recording;
+mod subtracting;
+mod taking;
+mod taking_known;
+mod taking_walk;
 mod tallying;
 mod together;
 mod tokens;
@@ -19,11 +23,11 @@ mod walking;
 
 pub use adding::add;
 pub use fresh::count_fresh;
-pub use guessing::{field_by_guess, number_of_label};
-pub use known::{add_known, in_document};
+pub use known::add_known;
 pub use learned::add_learning;
 pub use met::Met;
 pub use recording::add_record;
+pub use subtracting::{shapes_fit, subtract, subtract_if_fits};
+pub use taking_known::take_known;
 pub use tallying::tally;
 pub use together::fit_together;
-pub use tokens::kind_begun;

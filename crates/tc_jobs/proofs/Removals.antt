@@ -4,10 +4,9 @@ use Rattle.std.proofs.lemmas.List.{map-append}
 use Rattle.std.proofs.lemmas.List.Elements.{All-head, All-push, All-tail}
 use Rattle.std.specs.Prelude.{All}
 use Rattle.tc_store.specs.Disk.{Disk}
-use Rattle.tc_store.specs.StoreCalls.{removes}
+use Rattle.tc_store.specs.StoreCalls.{removes, RemovesSome}
 use Rattle.tc_store.specs.declared.file_name.FileName.{FileName}
 use Rattle.tc_component.specs.Loading.{ComponentState}
-use Rattle.tc_part_model.specs.Calls.{RemovesSome}
 
 -- the names of the files of shared components
 abbrev pub names_of : {A F : Type 0} → (A → ComponentState F) → (F → FileName) → List A → List FileName

@@ -6,11 +6,10 @@ ghost use Rattle.std.specs.Prelude.{◌≡◌, ◌⊎◌, ◌++◌, ◌∷◌, [
 ghost use Rattle.tc_store.specs.Counted.{IsCounted};
 ghost use Rattle.tc_store.specs.DiskFile.{IsSettled};
 ghost use Rattle.tc_store.specs.Moments.{IfTold};
-ghost use Rattle.tc_store.specs.StoreCalls.{comes_home, frozen_entry, removes};
+ghost use Rattle.tc_store.specs.StoreCalls.{comes_home, frozen_entry, removes, RemovesSome};
 ghost use Rattle.tc_jobs.specs.Faults.{IfDamaged};
 ghost use Rattle.tc_jobs.specs.Listing.{FailsRemoving};
 ghost use Rattle.tc_component.specs.Loading.{ComponentState};
-ghost use Rattle.tc_part_model.specs.Calls.{RemovesSome};
 
 use crate::fault::JobFault;
 use std::alloc::Global;

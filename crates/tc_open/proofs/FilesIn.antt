@@ -7,7 +7,7 @@ use Rattle.tc_store.specs.Disk.{content_of, Disk, Entry, home, is_out, is_still,
 use Rattle.tc_store.specs.DiskFile.{DiskFile, empty_file}
 use Rattle.tc_store.specs.Gate.{IsShutOr, IsShutOrWhole}
 use Rattle.tc_store.specs.Moments.{IfTold, LeavesAt}
-use Rattle.tc_store.specs.StoreCalls.{FailsMaking, comes_home, fresh_file_at, frozen_entry, makes, removes, takes}
+use Rattle.tc_store.specs.StoreCalls.{FailsMaking, comes_home, fresh_file_at, frozen_entry, makes, removes, takes, RemovesSome}
 use Rattle.tc_store.proofs.NameLemmas.{put_there}
 use Rattle.tc_component.specs.declared.head.Head.{Head}
 use Rattle.tc_component.specs.Spelling.{name_of}
@@ -15,7 +15,7 @@ use Rattle.tc_log.specs.declared.head.LogHead.{LogHead}
 use Rattle.tc_log.specs.Spelling.{log_at_rest}
 use Rattle.tc_machine.proofs.FilesLeft.{at_name}
 use Rattle.tc_machine.proofs.FilesMade.{made_at}
-use Rattle.tc_part_model.specs.Calls.{Creates, RemovesSome}
+use Rattle.tc_part_model.specs.Calls.{Creates}
 use Rattle.tc_part_model.specs.PartState.{IsTold}
 use Rattle.tc_part_model.proofs.DeviceFiles.{comes_untold}
 use Rattle.tc_recover.specs.Files.{takes_all}

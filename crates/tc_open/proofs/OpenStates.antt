@@ -7,7 +7,7 @@ use Rattle.tc_store.specs.declared.file_name.FileName.{FileName}
 use Rattle.tc_store.specs.declared.file_name.FileName.TheVariants.{Component, Log}
 use Rattle.tc_store.specs.Disk.{Disk, is_still}
 use Rattle.tc_store.specs.Moments.{EachSince, IfTold}
-use Rattle.tc_store.specs.StoreCalls.{removes}
+use Rattle.tc_store.specs.StoreCalls.{removes, RemovesSome}
 use Rattle.tc_store.proofs.MomentLemmas.{EachSince-trans}
 use Rattle.tc_store.proofs.StopLaws.{since_weaker}
 use Rattle.tc_plain_model.specs.Writes.{Pairs, Write, after_writes}
@@ -22,7 +22,6 @@ use Rattle.tc_machine.specs.Logs.{all_writes}
 use Rattle.tc_machine.specs.Pictures.{recovered}
 use Rattle.tc_machine.specs.Steps.{IsExpected}
 use Rattle.tc_machine.proofs.MemorySteps.{opened_logs}
-use Rattle.tc_part_model.specs.Calls.{RemovesSome}
 use Rattle.tc_part_model.specs.Leaving.{KeepsStore}
 use Rattle.tc_part_model.specs.PartState.{IsTold}
 use Rattle.tc_jobs.specs.Lists.{file_names}

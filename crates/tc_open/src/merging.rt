@@ -3,11 +3,11 @@
 ghost use Rattle.std.specs.Arc.{arc_value};
 ghost use Rattle.std.specs.Prelude.{◌≡◌, ◌<◌, ◌≤◌, [], List, length, map, IfErr, IfOk};
 ghost use Rattle.tc_store.specs.Moments.{IfTold};
+ghost use Rattle.tc_store.specs.StoreCalls.{RemovesSome};
 ghost use Rattle.tc_component.specs.Loading.{ComponentState};
 ghost use Rattle.tc_lsm_model.specs.Contents.{Content};
 ghost use Rattle.tc_machine.specs.Pictures.{recovered};
 ghost use Rattle.tc_merge.specs.Faults.{IsWatched};
-ghost use Rattle.tc_part_model.specs.Calls.{RemovesSome};
 ghost use Rattle.tc_part_model.specs.PartState.{AreTold, told_component};
 ghost use Rattle.tc_recover.specs.Loading.{interval_of};
 ghost use Rattle.tc_recover.specs.Refusals.{asked};

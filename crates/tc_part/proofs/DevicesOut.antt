@@ -7,11 +7,10 @@ use Rattle.tc_store.specs.declared.file_name.FileName.TheVariants.{Log}
 use Rattle.tc_store.specs.Disk.{Disk, Entry, content_of, home, is_out, is_still, none, out, put, removed_of, same_name}
 use Rattle.tc_store.specs.DiskFile.{DiskFile, empty_file}
 use Rattle.tc_store.specs.Moments.{IfTold}
-use Rattle.tc_store.specs.StoreCalls.{FailsMaking, comes_home, frozen_entry, makes, removes, returns_as}
+use Rattle.tc_store.specs.StoreCalls.{FailsMaking, comes_home, frozen_entry, makes, removes, returns_as, RemovesSome}
 use Rattle.tc_store.proofs.NameLemmas.{same_name-is, same_name-refl}
 use Rattle.tc_jobs.specs.Listing.{FailsRemoving}
 use Rattle.tc_jobs.specs.ReadBack.{ComesHome}
-use Rattle.tc_part_model.specs.Calls.{RemovesSome}
 use Rattle.tc_part_model.specs.PartState.{IsTold, Told}
 use Rattle.tc_part.specs.Closing.{brought_home}
 use Rattle.tc_part.specs.FilesOut.{IsJobOf, IsLogOf, IsOfMergeOut, OnlyDevicesOut, OnlyOut, TellsLogs}

@@ -6,10 +6,9 @@ use Rattle.tc_store.specs.declared.file_name.FileName.TheVariants.{Log}
 use Rattle.tc_store.specs.Disk.{Disk, Entry, content_of, is_out, is_still, none, out, put, same_name}
 use Rattle.tc_store.specs.DiskFile.{DiskFile}
 use Rattle.tc_store.specs.Moments.{IfTold}
-use Rattle.tc_store.specs.StoreCalls.{comes_home, frozen_entry, makes, removes}
+use Rattle.tc_store.specs.StoreCalls.{comes_home, frozen_entry, makes, removes, RemovesSome}
 use Rattle.tc_store.proofs.NameLemmas.{put_there, same_name-is}
 use Rattle.tc_log.specs.Appending.{appended}
-use Rattle.tc_part_model.specs.Calls.{RemovesSome}
 use Rattle.tc_part_model.specs.PartState.{IsTold, Told}
 use Rattle.tc_part.specs.FilesOut.{LogIsOut}
 

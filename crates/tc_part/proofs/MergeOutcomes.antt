@@ -7,7 +7,7 @@ use Rattle.tc_store.specs.declared.file_name.FileName.{FileName}
 use Rattle.tc_store.specs.Disk.{Disk, home}
 use Rattle.tc_store.specs.DiskFile.{DiskFile}
 use Rattle.tc_store.specs.Moments.{IfTold, LeavesAt}
-use Rattle.tc_store.specs.StoreCalls.{comes_home, content_now, frozen_entry}
+use Rattle.tc_store.specs.StoreCalls.{comes_home, content_now, frozen_entry, RemovesSome}
 use Rattle.tc_store.proofs.MomentLemmas.{told_map}
 use Rattle.tc_component.specs.Loading.{ComponentState}
 use Rattle.tc_component.specs.Rows.{IsComponent, component_bytes, component_index, head_of}
@@ -23,7 +23,7 @@ use Rattle.tc_machine.specs.Events.{with_merge}
 use Rattle.tc_machine.specs.State.{Merging}
 use Rattle.tc_machine.specs.Steps.{IsShutOrHas}
 use Rattle.tc_jobs.specs.ReadBack.{ComesHome}
-use Rattle.tc_part_model.specs.Calls.{HasMade, IsUnlisted, RemovesSome}
+use Rattle.tc_part_model.specs.Calls.{HasMade, IsUnlisted}
 use Rattle.tc_part_model.specs.Changes.{merged_part}
 use Rattle.tc_part_model.specs.Leaving.{FailedMomentsLeaveStore, StoreMomentsLeaveStore}
 use Rattle.tc_part_model.specs.Meaning.{HasFailedAs, IsOfContent, IsPart}

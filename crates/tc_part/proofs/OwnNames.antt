@@ -8,7 +8,7 @@ use Rattle.tc_store.specs.declared.file_name.FileName.TheVariants.{Component, Lo
 use Rattle.tc_store.specs.Disk.{Disk, Entry, IsThere, content_of, home, is_out, is_still, none, out, put, same_name, still}
 use Rattle.tc_store.specs.DiskFile.{DiskFile}
 use Rattle.tc_store.specs.Moments.{IfTold}
-use Rattle.tc_store.specs.StoreCalls.{comes_home, frozen_entry, makes, removes, returns_as}
+use Rattle.tc_store.specs.StoreCalls.{comes_home, frozen_entry, makes, removes, returns_as, RemovesSome}
 use Rattle.tc_store.proofs.NameLemmas.{same_name-is}
 use Rattle.tc_component.specs.Loading.{ComponentState}
 use Rattle.tc_lsm_model.specs.Merges.{Run as Neighbours}
@@ -16,7 +16,6 @@ use Rattle.tc_list.specs.declared.run.Run.{Run}
 use Rattle.tc_list.specs.Intervals.{first_of, last_of}
 use Rattle.tc_list.specs.Runs.{in_run, neighbours, swapped}
 use Rattle.tc_list.proofs.RunLaws.{in_run-map, run_length}
-use Rattle.tc_part_model.specs.Calls.{RemovesSome}
 use Rattle.tc_part.specs.OwnFiles.{AreOfFlush, AreOfMerge, BeginBy, EndFrom, FollowInOrder, HasOnlyOwn, HasOwnFiles, IsOwn, LieWithin}
 use Rattle.tc_part_model.specs.PartState.{Told, ToldComponent, told_component}
 use Rattle.tc_part.proofs.OwnIntervals.{begin_in, end_in, end_whole, ends_below, follow_behind, at_place, run_between, run_ends, run_long, run_not_within, seen, swapped_follow, swapped_within, within_at, within_ends, within_front}

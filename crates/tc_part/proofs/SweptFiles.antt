@@ -11,13 +11,14 @@ use Rattle.tc_store.specs.declared.file_name.FileName.TheVariants.{Component, Lo
 use Rattle.tc_store.specs.Disk.{Disk, same_name}
 use Rattle.tc_store.specs.DiskFile.{DiskFile}
 use Rattle.tc_store.proofs.NameLemmas.{same_name-refl}
+use Rattle.tc_store.specs.StoreCalls.{RemovesSome}
 use Rattle.tc_component.specs.Loading.{ComponentState}
 use Rattle.tc_component.specs.Spelling.{Index, name_of}
 use Rattle.tc_list.specs.declared.run.Run.{Run}
 use Rattle.tc_list.specs.Runs.{in_run}
 use Rattle.tc_lsm_model.specs.Contents.{Content}
 use Rattle.tc_machine.specs.Components.{file_of}
-use Rattle.tc_part_model.specs.Calls.{IsUnlisted, RemovesSome}
+use Rattle.tc_part_model.specs.Calls.{IsUnlisted}
 use Rattle.tc_part_model.specs.Meaning.{IsOfContent, IsPart}
 use Rattle.tc_part_model.specs.PartState.{PartState, Told, told, told_component}
 use Rattle.tc_part_model.specs.PartView.{PartView}

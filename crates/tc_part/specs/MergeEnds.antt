@@ -8,7 +8,7 @@ use Rattle.tc_store.specs.Counted.{Counts}
 use Rattle.tc_store.specs.Disk.{Disk, home as at_home}
 use Rattle.tc_store.specs.DiskFile.{DiskFile}
 use Rattle.tc_store.specs.Moments.{IfTold, LeavesAt}
-use Rattle.tc_store.specs.StoreCalls.{comes_home, frozen_entry}
+use Rattle.tc_store.specs.StoreCalls.{comes_home, frozen_entry, RemovesSome}
 use Rattle.tc_component.specs.Loading.{ComponentState}
 use Rattle.tc_component.specs.Rows.{IsComponent}
 use Rattle.tc_component.specs.Spelling.{name_of}
@@ -24,7 +24,7 @@ use Rattle.tc_machine.specs.Steps.{IsShutOrHas}
 use Rattle.tc_jobs.specs.Faults.{of_merge}
 use Rattle.tc_jobs.specs.Listing.{FitsFor, IsListed, IsReadBack, IsUnlisted, in_place}
 use Rattle.tc_jobs.specs.Lists.{FirstExtends}
-use Rattle.tc_part_model.specs.Calls.{HasMade, RemovesSome}
+use Rattle.tc_part_model.specs.Calls.{HasMade}
 use Rattle.tc_part_model.specs.Changes.{merged_part}
 use Rattle.tc_part_model.specs.Leaving.{FailedMomentsLeaveStore}
 use Rattle.tc_part_model.specs.Meaning.{HasFailedAs, IsPart}

@@ -4,9 +4,9 @@ use Rattle.std.specs.List.{list_any}
 use Rattle.tc_store.specs.declared.file_name.FileName.{FileName}
 use Rattle.tc_store.specs.declared.file_name.FileName.TheVariants.{Component, Log}
 use Rattle.tc_store.specs.Disk.{Disk, same_name}
+use Rattle.tc_store.specs.StoreCalls.{RemovesSome}
 use Rattle.tc_component.specs.Loading.{ComponentState}
 use Rattle.tc_component.specs.Spelling.{name_of}
-use Rattle.tc_part_model.specs.Calls.{RemovesSome}
 
 -- whether one of these components has this name
 abbrev pub has_name : {F : Type 0} → FileName → List (ComponentState F) → Bool

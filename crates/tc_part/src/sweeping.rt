@@ -3,9 +3,9 @@
 ghost use Rattle.std.specs.Arc.{arc_value};
 ghost use Rattle.std.specs.Prelude.{◌≡◌, [], None, false, true, map, IfErr, IsErrOf, OnOk, OnErr};
 ghost use Rattle.tc_store.specs.Counted.{IsCounted};
+ghost use Rattle.tc_store.specs.StoreCalls.{RemovesSome};
 ghost use Rattle.tc_component.specs.Loading.{ComponentState};
 ghost use Rattle.tc_jobs.specs.Faults.{IfDamaged as IfJobDamaged};
-ghost use Rattle.tc_part_model.specs.Calls.{RemovesSome};
 ghost use Rattle.tc_part_model.specs.Leaving.{StoreMomentsLeaveStore};
 ghost use Rattle.tc_part_model.specs.Meaning.{IsPart, HasFailedAs};
 ghost use Rattle.tc_part_model.specs.PartState.{told};

@@ -8,7 +8,7 @@ use Rattle.tc_store.specs.declared.file_name.FileName.TheVariants.{Component, Lo
 use Rattle.tc_store.specs.Disk.{Disk, Entry, content_of, home, is_out, is_still, none, out, put, still}
 use Rattle.tc_store.specs.DiskFile.{DiskFile}
 use Rattle.tc_store.specs.Moments.{EachSince, IfTold}
-use Rattle.tc_store.specs.StoreCalls.{removes}
+use Rattle.tc_store.specs.StoreCalls.{removes, RemovesSome}
 use Rattle.tc_store.proofs.MomentLemmas.{EachSince-none, EachSince-one, EachSince-trans, told_map}
 use Rattle.tc_plain_model.specs.Writes.{Write}
 use Rattle.tc_machine.specs.Events.{file_removed}
@@ -17,7 +17,7 @@ use Rattle.tc_machine.specs.State.{Flushing, Merging, flush_name}
 use Rattle.tc_machine.specs.Components.{file_of}
 use Rattle.tc_machine.proofs.Events.{event_keeps}
 use Rattle.tc_machine.proofs.FilesLeft.{at_name}
-use Rattle.tc_part_model.specs.Calls.{IsUnlisted, RemovesSome}
+use Rattle.tc_part_model.specs.Calls.{IsUnlisted}
 use Rattle.tc_part_model.specs.PartFiles.{AreJobsOut, AreKeptAt, IfFiles, IsDevice, IsSealedFile, active_name, device_at, files_at, sealed_name, seen_entry}
 use Rattle.tc_part_model.specs.PartView.{PartView, state_with}
 use Rattle.tc_part_model.proofs.DeviceFiles.{put_seen}

@@ -3,11 +3,12 @@ use Rattle.std.proofs.Common.{◌≡◌, ◌⊎◌, List, sym, ap, subst, inl, O
 use Rattle.std.specs.Prelude.{All, map}
 use Rattle.tc_store.specs.declared.file_name.FileName.{FileName}
 use Rattle.tc_store.specs.Disk.{Disk}
+use Rattle.tc_store.specs.StoreCalls.{RemovesSome}
 use Rattle.tc_plain_model.specs.Writes.{Write}
 use Rattle.tc_lsm_model.specs.Merges.{in_run}
 use Rattle.tc_machine.specs.Components.{file_of}
 use Rattle.tc_machine.specs.State.{Merging}
-use Rattle.tc_part_model.specs.Calls.{IsUnlisted, RemovesSome}
+use Rattle.tc_part_model.specs.Calls.{IsUnlisted}
 use Rattle.tc_part_model.specs.Changes.{merged_part}
 use Rattle.tc_part_model.specs.Leaving.{LeavesStoreAt, StoreMomentsLeaveStore}
 use Rattle.tc_part_model.specs.Meaning.{HasFailedAs, IsPart}

@@ -1,5 +1,5 @@
 -- What the calls of logs and stores promise that the calls of a part make: the premises of the laws of a part.
-use Rattle.std.specs.Prelude.{◌≡◌, ◌≢◌, ◌⊎◌, ℕ, List, [], ◌∷◌, ◌++◌, length, All, Some, IfSome}
+use Rattle.std.specs.Prelude.{◌≡◌, ◌≢◌, ℕ, List, [], ◌++◌, length, All, Some, IfSome}
 use Rattle.tc_model.specs.Document.{Name}
 use Rattle.tc_schema_model.specs.Counted.{Counted}
 use Rattle.tc_store.specs.declared.file_name.FileName.{FileName}
@@ -9,7 +9,6 @@ use Rattle.tc_store.specs.DiskFile.{DiskFile, IsSettled, settled_file}
 use Rattle.tc_store.specs.Gate.{IsShutOr, IsShutOrWhole}
 use Rattle.tc_store.specs.Images.{Image, IsImageOf}
 use Rattle.tc_store.specs.Moments.{IfTold, LeavesAt, LeavesOnly}
-use Rattle.tc_store.specs.StoreCalls.{removes}
 use Rattle.tc_log.specs.declared.head.LogHead.{LogHead}
 use Rattle.tc_log.specs.declared.write.Write.{Write}
 use Rattle.tc_log.specs.Appending.{MeansWithOrWithout}
@@ -70,12 +69,6 @@ pub record HasMade (c : Content) (disks : List Disk) (device : List DiskFile) : 
   pub whole : IsComponent c (component_bytes c)
   pub tells : IfTold disks (λ disk. IsTold device)
   pub content : IfTold device (λ f. f ≡ settled_file (component_bytes c))
-
--- Some files of these names are removed from a store, or none, or all: each at most once, in this order, whether the call that
--- removes it succeeds or not.
-abbrev pub RemovesSome : List FileName → List Disk → List Disk → Type 0
-RemovesSome [] old new = new ≡ old
-RemovesSome (name ∷ names) old new = RemovesSome names old new ⊎ RemovesSome names (removes name old) new
 
 -- the name is that of a component that is not listed
 abbrev pub IsUnlisted : List Content → FileName → Type 0

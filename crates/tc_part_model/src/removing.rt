@@ -3,11 +3,12 @@
 ghost use Rattle.std.specs.Prelude.{◌≡◌, ◌⊎◌, true, List, Option, Some, None, All, map};
 ghost use Rattle.tc_store.specs.Disk.{Disk};
 ghost use Rattle.tc_store.specs.declared.file_name.FileName.{FileName as Name};
+ghost use Rattle.tc_store.specs.StoreCalls.{RemovesSome};
 ghost use Rattle.tc_plain_model.specs.Writes.{Write};
 ghost use Rattle.tc_lsm_model.specs.Merges.{in_run};
 ghost use Rattle.tc_machine.specs.Components.{file_of};
 ghost use Rattle.tc_machine.specs.State.{Merging};
-ghost use Rattle.tc_part_model.specs.Calls.{IsUnlisted, RemovesSome};
+ghost use Rattle.tc_part_model.specs.Calls.{IsUnlisted};
 ghost use Rattle.tc_part_model.specs.Changes.{merged_part};
 ghost use Rattle.tc_part_model.specs.Leaving.{StoreMomentsLeaveStore};
 ghost use Rattle.tc_part_model.specs.Meaning.{IsPart, HasFailedAs};

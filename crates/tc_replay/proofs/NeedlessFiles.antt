@@ -6,7 +6,7 @@ use Rattle.std.proofs.lemmas.List.Elements.{All-head, All-tail, All-weaker}
 use Rattle.tc_store.specs.declared.file_name.FileName.{FileName}
 use Rattle.tc_store.specs.Disk.{Disk, Entry, content_of, home, is_still, none, out, still}
 use Rattle.tc_store.specs.Moments.{EachSince, IfTold}
-use Rattle.tc_store.specs.StoreCalls.{removes}
+use Rattle.tc_store.specs.StoreCalls.{removes, RemovesSome}
 use Rattle.tc_store.proofs.MomentLemmas.{EachSince-none, EachSince-one, EachSince-trans}
 use Rattle.tc_plain_model.specs.Writes.{Write}
 use Rattle.tc_lsm_model.specs.Contents.{Content, Partition}
@@ -15,7 +15,6 @@ use Rattle.tc_machine.specs.Kept.{IsKept}
 use Rattle.tc_machine.specs.Steps.{IsFlushed, IsSpare}
 use Rattle.tc_machine.proofs.Events.{event_keeps}
 use Rattle.tc_machine.proofs.FilesLeft.{at_name}
-use Rattle.tc_part_model.specs.Calls.{RemovesSome}
 use Rattle.tc_part_model.proofs.Removals.{without}
 use Rattle.tc_replay.specs.Openings.{AreIn, AreNeedless, IsOpening, LeavesLogged, opening_at, stored_by}
 use Rattle.tc_replay.proofs.OpeningPictures.{keeps_store, leaves_in, put_in_place}

@@ -3,10 +3,10 @@
 ghost use Rattle.std.specs.Prelude.{List};
 ghost use Rattle.tc_plain_model.specs.Writes.{Write};
 ghost use Rattle.tc_lsm_model.specs.Contents.{Content, Partition};
-ghost use Rattle.tc_part_model.specs.Calls.{RemovesSome};
 ghost use Rattle.tc_store.specs.Disk.{Disk};
 ghost use Rattle.tc_store.specs.Moments.{EachSince, IfTold};
 ghost use Rattle.tc_store.specs.declared.file_name.FileName.{FileName as Name};
+ghost use Rattle.tc_store.specs.StoreCalls.{RemovesSome};
 ghost use Rattle.tc_replay.specs.Openings.{AreNeedless, IsOpening, LeavesLogged};
 
 /// A law, and no work. Some or all files that nobody needs may be removed while a partition is being opened: components that

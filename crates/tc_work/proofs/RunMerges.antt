@@ -7,7 +7,7 @@ use Rattle.std.proofs.lemmas.List.Elements.{All-append, All-cons, All-drop, All-
 use Rattle.tc_store.specs.declared.file_name.FileName.{FileName}
 use Rattle.tc_store.specs.Disk.{Disk}
 use Rattle.tc_store.specs.DiskFile.{DiskFile}
-use Rattle.tc_store.specs.StoreCalls.{comes_home, frozen_entry}
+use Rattle.tc_store.specs.StoreCalls.{comes_home, frozen_entry, RemovesSome}
 use Rattle.tc_component.specs.Loading.{ComponentState}
 use Rattle.tc_list.specs.declared.run.Run.{Run}
 use Rattle.tc_list.specs.Runs.{in_run, neighbours, swapped}
@@ -16,7 +16,6 @@ use Rattle.tc_lsm_model.specs.Lists as contents
 use Rattle.tc_lsm_model.specs.Merges.{IsMerge, merged_entries, in_run as contents_in_run, Run as Neighbours}
 use Rattle.tc_merge.specs.Merging.{AreTold as AreRunTold}
 use Rattle.tc_part.specs.Ready.{LiesIn}
-use Rattle.tc_part_model.specs.Calls.{RemovesSome}
 use Rattle.tc_part_model.specs.Meaning.{IsOfContent, IsPart}
 use Rattle.tc_part_model.specs.PartState.{PartState, Told, ToldComponent, AreTold, told_component}
 use Rattle.tc_part_model.specs.PartView.{PartView}

@@ -4,7 +4,7 @@ use Rattle.std.specs.Arc.{arc_value}
 use Rattle.std.specs.List.{Contains}
 use Rattle.std.specs.Prelude.{All, map}
 use Rattle.std.specs.Vec.Iter.{into_iter_items}
-use Rattle.tc_part_model.specs.Calls.{RemovesSome}
+use Rattle.tc_store.specs.StoreCalls.{RemovesSome}
 use Rattle.tc_jobs.proofs.Removals.{kept_still, left_still, names_of, removes_left, removes_none}
 use Rattle.tc_jobs.proofs.removing.remove_unshared.Goals as goal
 

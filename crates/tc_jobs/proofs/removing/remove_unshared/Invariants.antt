@@ -4,7 +4,7 @@ use Rattle.std.specs.List.{Contains}
 use Rattle.std.specs.Prelude.{All, map}
 use Rattle.std.specs.Vec.Iter.{into_iter_items, into_iter_len}
 use Rattle.tc_store.specs.Disk.{Disk}
-use Rattle.tc_part_model.specs.Calls.{RemovesSome}
+use Rattle.tc_store.specs.StoreCalls.{RemovesSome}
 use Rattle.tc_jobs.proofs.Removals.{names_of}
 use Rattle.tc_jobs.proofs.removing.remove_unshared.Given as goal
 

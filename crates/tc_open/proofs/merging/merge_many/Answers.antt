@@ -7,7 +7,6 @@ use Rattle.tc_lsm_model.specs.Contents.{Content}
 use Rattle.tc_lsm_model.specs.Lists.{live}
 use Rattle.tc_lsm_model.specs.Merges.{IsMerge}
 use Rattle.tc_jobs.specs.Lists.{file_names}
-use Rattle.tc_part_model.specs.Calls.{RemovesSome}
 use Rattle.tc_recover.specs.Loading.{interval_of}
 use Rattle.tc_recover.specs.Refusals.{asked}
 use Rattle.tc_recover.specs.Removing.{removes_all}
@@ -16,6 +15,7 @@ use Rattle.tc_replay.specs.Openings.{IsKeptWriting}
 use Rattle.tc_open.specs.Listed.{most_listed}
 use Rattle.tc_open.specs.OpenCauses.{IfDamaged, of_job}
 use Rattle.tc_store.proofs.MomentLemmas.{told_map}
+use Rattle.tc_store.specs.StoreCalls.{RemovesSome}
 use Rattle.tc_open.proofs.FilesIn.{fault_in, given_up_in, removes_some_in}
 use Rattle.tc_open.proofs.FlushedAbove.{damage_weaker}
 use Rattle.tc_open.proofs.FlushedOpenings.{job_damage, same_keeps}

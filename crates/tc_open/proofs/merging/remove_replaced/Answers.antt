@@ -3,9 +3,8 @@ use Rattle.std.specs.Arc.{arc_value}
 use Rattle.std.proofs.lemmas.List.{nil_from_length}
 use Rattle.std.specs.Vec.Iter.{into_iter_items}
 use Rattle.tc_store.specs.declared.kit.Kit.{Kit}
-use Rattle.tc_store.specs.StoreCalls.{removes}
+use Rattle.tc_store.specs.StoreCalls.{removes, RemovesSome}
 use Rattle.tc_component.specs.Loading.{ComponentState}
-use Rattle.tc_part_model.specs.Calls.{RemovesSome}
 use Rattle.tc_recover.specs.Removing.{removes_all}
 use Rattle.tc_open.proofs.MergedOpenings.{store_disk}
 use Rattle.tc_open.proofs.OpenStates.{none_some}

@@ -2,9 +2,9 @@ use Rattle.std.proofs.Common.{◌≡◌, List, length, map}
 use Rattle.std.specs.Arc.{arc_value}
 use Rattle.std.specs.Vec.Iter.{into_iter_items, into_iter_len}
 use Rattle.tc_store.specs.Disk.{Disk}
+use Rattle.tc_store.specs.StoreCalls.{RemovesSome}
 use Rattle.tc_component.specs.Loading.{ComponentState}
 use Rattle.tc_merge.specs.Faults.{IsWatched}
-use Rattle.tc_part_model.specs.Calls.{RemovesSome}
 use Rattle.tc_recover.specs.Removing.{removes_all}
 use Rattle.tc_open.proofs.merging.remove_replaced.Given as goal
 

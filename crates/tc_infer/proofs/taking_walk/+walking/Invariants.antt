@@ -4,7 +4,7 @@ use Rattle.tc_schema_model.specs.Added.{items_removed, members_removed}
 use Rattle.tc_schema_model.specs.Fits.{are_items_fit, are_members_fit}
 use Rattle.tc_schema.specs.Places.{below_counted, fields_counted}
 use Rattle.tc_infer.specs.Levels.{innermost, outside, without_names, levels_under}
-use Rattle.tc_anti.proofs.walking.+walking.Given as goal
+use Rattle.tc_infer.proofs.taking_walk.+walking.Given as goal
 
 abbrev pub decreases-take_value : goal.decreases-take_value
 decreases-take_value l = 3 * length l.cursor.now + 2

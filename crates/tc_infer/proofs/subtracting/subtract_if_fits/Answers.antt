@@ -7,7 +7,7 @@ use Rattle.tc_schema_model.proofs.FieldLaws.{canonical_below}
 use Rattle.tc_schema_model.proofs.FitTests.{fits_tested, test_by_path, path_by_test}
 use Rattle.tc_value.specs.ShapeMeaning.{shape_tree}
 use Rattle.tc_schema.specs.Places.{place_counted, most_names}
-use Rattle.tc_anti.proofs.subtracting.subtract_if_fits.Goals as goal
+use Rattle.tc_infer.proofs.subtracting.subtract_if_fits.Goals as goal
 
 pub take_shape-requires : goal.take_shape-requires
 take_shape-requires c = record { canonical = rw (c.into_root-root.ensures.counted, c.replace.ensures.value) c.requires.canonical }

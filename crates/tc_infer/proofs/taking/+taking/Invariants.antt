@@ -6,7 +6,7 @@ use Rattle.tc_schema_model.specs.Fits.{are_items_fit, are_members_fit}
 use Rattle.tc_value.specs.ShapeMeaning.{shape_tree, shape_member}
 use Rattle.tc_model.specs.TreeSize.{tree_size, trees_size, labelled_size}
 use Rattle.tc_schema.specs.Places.{below_counted, fields_counted}
-use Rattle.tc_anti.proofs.taking.+taking.Given as goal
+use Rattle.tc_infer.proofs.taking.+taking.Given as goal
 
 abbrev pub decreases-take_shape : goal.decreases-take_shape
 decreases-take_shape l = 3 * tree_size (shape_tree l.shape.now)

@@ -15,9 +15,9 @@ use Rattle.tc_schema.specs.declared.place.Field.TheViews.{out-Node, roll-Node, o
 use Rattle.tc_schema.proofs.PlaceViews.{place_parts}
 use Rattle.tc_value.proofs.ShapeWalks.{items_from, members_from, item_size, member_size}
 use Rattle.tc_model.specs.Kinds.{objects}
-use Rattle.tc_anti.proofs.LastObject.{last_object}
-use Rattle.tc_anti.proofs.TakenFields.{found, stays, leaves}
-use Rattle.tc_anti.proofs.taking.+taking.Goals as goal
+use Rattle.tc_infer.proofs.LastObject.{last_object}
+use Rattle.tc_infer.proofs.TakenFields.{found, stays, leaves}
+use Rattle.tc_infer.proofs.taking.+taking.Goals as goal
 
 -- ---- items
 

@@ -12,8 +12,9 @@ ghost use Rattle.tc_value.specs.Kinds.{kind_meant};
 ghost use Rattle.tc_schema.specs.Places.{place_counted, below_counted, fields_counted};
 ghost use Rattle.tc_infer.specs.Levels.{begun, behind, innermost, outside, without_names, levels_under, name_under};
 
+use crate::guessing::{field_by_guess, number_of_label};
 use crate::taking::take_one;
-use tc_infer::{field_by_guess, kind_begun, number_of_label};
+use crate::tokens::kind_begun;
 use tc_names::Names;
 use tc_record::{Cursor, Label};
 use tc_schema::{Field, Node};

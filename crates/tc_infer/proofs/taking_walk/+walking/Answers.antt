@@ -17,9 +17,9 @@ use Rattle.tc_schema.proofs.PlaceViews.{place_parts}
 use Rattle.tc_infer.specs.Levels.{begun, behind, innermost, outside, without_names, levels_under, name_under}
 use Rattle.tc_infer.proofs.LevelSteps.{one_less, value_under}
 use Rattle.tc_model.specs.Kinds.{objects}
-use Rattle.tc_anti.proofs.LastObject.{last_object}
-use Rattle.tc_anti.proofs.TakenFields.{found, stays, leaves}
-use Rattle.tc_anti.proofs.walking.+walking.Goals as goal
+use Rattle.tc_infer.proofs.LastObject.{last_object}
+use Rattle.tc_infer.proofs.TakenFields.{found, stays, leaves}
+use Rattle.tc_infer.proofs.taking_walk.+walking.Goals as goal
 
 -- ---- items
 

@@ -13,7 +13,7 @@ use Rattle.tc_schema_model.proofs.FitLaws.{fits_by_place}
 use Rattle.tc_schema_model.proofs.RemovedLaws.{shows-removed, canonical-removed}
 use Rattle.tc_infer.specs.Levels.{shape_under}
 use Rattle.tc_infer.proofs.RecordShape.{meant_shape}
-use Rattle.tc_anti.proofs.known.take_known.Goals as goal
+use Rattle.tc_infer.proofs.taking_known.take_known.Goals as goal
 
 -- what is left of a shape that fits
 shown : (names : List Name) (s : ShapeTree) (d : Counted) → IsDistinct bytes_eq names → FitsByPath names d s → (path : Path) (t : Kind) → shows names (removed names s d) path t + occurrences s path t ≡ shows names d path t

@@ -9,7 +9,7 @@ use Rattle.tc_schema_model.proofs.FieldLaws.{canonical_below}
 use Rattle.tc_schema_model.proofs.FitTests.{fits_tested, test_by_path, path_by_test}
 use Rattle.tc_schema.specs.Places.{place_counted, most_names}
 use Rattle.tc_infer.specs.Levels.{shape_under}
-use Rattle.tc_anti.proofs.known.take_meant.Goals as goal
+use Rattle.tc_infer.proofs.taking_known.take_meant.Goals as goal
 
 pub take_value-requires : goal.take_value-requires
 take_value-requires c = record { canonical = rw (c.into_root-root.ensures.counted, c.replace.ensures.value) c.requires.canonical }

@@ -11,9 +11,9 @@ ghost use Rattle.tc_schema_model.specs.Fits.{FitsByPath};
 ghost use Rattle.tc_schema_model.specs.Occurrences.{Path, occurrences};
 ghost use Rattle.tc_infer.specs.Levels.{shape_under};
 
-use crate::walking::take_value;
+use crate::known::in_document;
+use crate::taking_walk::take_value;
 use std::mem;
-use tc_infer::in_document;
 use tc_names::Names;
 use tc_record::RecordRef;
 use tc_schema::Schema;

@@ -2,7 +2,7 @@ use Rattle.tc_schema_model.proofs.RemovedLaws.{shows-removed, canonical-removed}
 use Rattle.tc_value.specs.ShapeMeaning.{shape_tree}
 use Rattle.tc_schema_model.proofs.FitLaws.{fits_by_place, others_stand}
 use Rattle.tc_schema_model.proofs.Readable.{schema-removed}
-use Rattle.tc_anti.proofs.subtracting.subtract.Goals as goal
+use Rattle.tc_infer.proofs.subtracting.subtract.Goals as goal
 
 pub returns-clause-counted : goal.returns-clause-counted
 returns-clause-counted c = λ path t. rw (c.if-not-subtract_if_fits.ensures.removed) (shows-removed c.args.names.now (shape_tree c.args.shape.now) c.args.schema.now (fits_by_place c.args.names.now c.len-known.ensures.dictionary.distinct c.args.schema.now (shape_tree c.args.shape.now) c.requires.fits) c.requires.fits.canonical path t)

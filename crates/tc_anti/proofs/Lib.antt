@@ -1,2 +1,0 @@
-pub mod TakenFields
-mod LastObject
