@@ -8,7 +8,7 @@ ghost use Rattle.tc_component.specs.declared.slot.Slot.{Slot as OneSlot};
 ghost use Rattle.tc_component.specs.Columns.{IsFound, IsEntry};
 ghost use Rattle.tc_component.specs.Fetching.{IsPlace, record_place, length_at, record_at, IsRecordWithin};
 ghost use Rattle.tc_component.specs.Layout.{directory_place, names_place, schema_place, file_size};
-ghost use Rattle.tc_component.specs.Loading.{index_in, same_head, IsCountedTwice};
+ghost use Rattle.tc_component.specs.Loading.{index_in, same_head, IsAsJudged, IsCountedTwice};
 ghost use Rattle.tc_component.specs.Reading.{head_judged, file_judged};
 ghost use Rattle.tc_component.specs.Spans.{AreSpans};
 ghost use Rattle.tc_component.specs.Spelling.{sizes_in, name_of, IsHead, IsIndex};
@@ -40,7 +40,7 @@ impl<F: Frozen> Model for Component<F> {
     ghost use Rattle.std.specs.Prelude.{◌≡◌, ◌<◌};
     ghost use Rattle.tc_schema_model.specs.CountedCode.{coded_counted};
     ghost use Rattle.tc_component.specs.Layout.{file_size, number_end};
-    ghost use Rattle.tc_component.specs.Loading.{ComponentState, loaded_index};
+    ghost use Rattle.tc_component.specs.Loading.{ComponentState, loaded_index, IsAsJudged};
     ghost use Rattle.tc_component.specs.Spelling.{IsIndex, sizes_of};
 
     ghost Value = { ComponentState F };
@@ -49,7 +49,7 @@ impl<F: Frozen> Model for Component<F> {
 
     ghost view = { λ c. record { file = c.file; index = loaded_index c.loaded } };
 
-    ghost invariant = { λ c. IsIndex (loaded_index c.loaded) × (c.loaded.sizes ≡ sizes_of c.loaded.parts.directory c.loaded.parts.names c.loaded.parts.schema) × (file_size c.loaded.sizes ≡ F.size c.file) × (file_size c.loaded.sizes < number_end) };
+    ghost invariant = { λ c. IsIndex (loaded_index c.loaded) × (c.loaded.sizes ≡ sizes_of c.loaded.parts.directory c.loaded.parts.names c.loaded.parts.schema) × (file_size c.loaded.sizes ≡ F.size c.file) × (file_size c.loaded.sizes < number_end) × IsAsJudged F.content (record { file = c.file; index = loaded_index c.loaded }) };
 }
 
 impl<F: Frozen> Component<F> {
@@ -208,6 +208,9 @@ impl<F: Frozen> Component<F> {
         ensures length { result ≡ F.size self.now.file }
         ensures sized { result ≡ file_size (sizes_in self.now.index) }
         ensures lawful { IsIndex self.now.index }
+
+        // A frozen file does not change, so this holds as long as the component is there.
+        ensures judged { IsAsJudged F.content self.now }
     {
         self.file.len()
     }
