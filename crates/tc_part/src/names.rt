@@ -1,8 +1,8 @@
 //! The names of a document that are not taken yet.
 
 ghost use Rattle.std.specs.List.{AllByRecursion};
-ghost use Rattle.std.specs.Prelude.{◌≡◌, ◌<◌, ◌+◌, ◌^◌, ◌++◌, length, IfOk, OnOk};
-ghost use Rattle.tc_model.specs.Dictionary.{all_learned, learned};
+ghost use Rattle.std.specs.Prelude.{◌≡◌, ◌<◌, ◌+◌, ◌^◌, ◌++◌, length, IfOk, OnOk, IsTrue, Some};
+ghost use Rattle.tc_model.specs.Dictionary.{all_learned, learned, number_of};
 ghost use Rattle.tc_compact.specs.Slots.{names_in};
 
 use std::alloc::Global;
@@ -18,27 +18,82 @@ pub(crate) fn fresh_in(alloc: Global, of: &RecordRef<'_>, taken: &Names) -> Resu
     ensures { IfOk result (λ fresh. taken.now ++ fresh ≡ all_learned taken.now (names_in of.now.tokens)) }
 {
     let mut fresh = Names::new(alloc);
+    let mut guess = Guess::at_front();
     let mut cursor = of.cursor();
     while let Some(token) = cursor.next() {
         if let Label::Name(name) = token.label {
-            learn_unless_taken(name, taken, &mut fresh)?;
+            learn_unless_taken(name, taken, &mut guess, &mut fresh)?;
         }
     }
     Ok(fresh)
 }
 
 // Learns a name that is not taken.
-fn learn_unless_taken(name: &str, taken: &Names, fresh: &mut Names) -> Result<(), Memory>
+fn learn_unless_taken(
+    name: &str,
+    taken: &Names,
+    guess: &mut Guess,
+    fresh: &mut Names,
+) -> Result<(), Memory>
     requires room { length (learned (taken.now ++ fresh.old) name.now) < 2 ^ 32 + length taken.now }
     requires short { length name.now < 2 ^ 32 }
     ensures { OnOk result (taken.now ++ fresh.new ≡ learned (taken.now ++ fresh.old) name.now) }
 {
-    match taken.id_of(name) {
+    match guess.number_of(name, taken) {
         Some(_id) => Ok(()),
         None => {
             fresh.learn(name)?;
             Ok(())
         }
+    }
+}
+
+/// Guesses at the number of the next name. Names that were learned one after the other mostly stand so again, and objects
+/// of one kind, one behind the other, begin with the same name. A right guess is compared and not looked up.
+#[derive(Clone, Copy)]
+struct Guess {
+    next: u32,
+    // of the last name that had to be looked up
+    first: u32,
+}
+
+impl Guess {
+    // Before any name.
+    fn at_front() -> Guess {
+        Guess { next: 0, first: 0 }
+    }
+
+    // The number of a name, whatever the guess.
+    fn number_of(&mut self, name: &str, names: &Names) -> Option<u32>
+        ensures { result ≡ number_of names.now name.now }
+    {
+        if has_number(names, name, self.next) {
+            return self.found(self.next);
+        }
+        if !has_number(names, name, self.first) {
+            self.first = names.id_of(name)?;
+        }
+        self.found(self.first)
+    }
+
+    // The number of a name that was found, and the next name is expected behind it.
+    fn found(&mut self, number: u32) -> Option<u32>
+        ensures { result ≡ Some number }
+    {
+        self.next = number.wrapping_add(1);
+        Some(number)
+    }
+}
+
+// Whether a name has just this number.
+fn has_number(names: &Names, name: &str, number: u32) -> bool
+    ensures { IsTrue result → number_of names.now name.now ≡ Some number }
+{
+    // that the names are distinct
+    let _known = names.len();
+    match names.name_of(number) {
+        Some(known) => known == name,
+        None => false,
     }
 }
 
