@@ -5,6 +5,7 @@ ghost use Rattle.std.specs.Prelude.{◌≡◌, map, IfOk};
 
 use crate::limits::Limits;
 use crate::retired::Retired;
+use crate::starting::look_over;
 use std::alloc::Global;
 use std::marker::Model;
 use std::sync::Arc;
@@ -96,7 +97,8 @@ impl<S: Store> Model for Part<S> {
 }
 
 impl<S: Store> Part<S> {
-    ghost use Rattle.std.specs.Prelude.{◌≡◌, [], true, false, length, map, is_some, option_map, IfOk};
+    ghost use Rattle.std.specs.Prelude.{◌≡◌, [], true, false, length, map, is_some, option_map, All, IfOk};
+    ghost use Rattle.tc_component.specs.Loading.{IsAsJudged};
     ghost use Rattle.tc_merge.specs.Merging.{GrowNames};
     ghost use Rattle.tc_part.specs.Ready.{active_generation};
 
@@ -121,6 +123,13 @@ impl<S: Store> Part<S> {
     {
         // A look into the part, of which its invariant then tells.
         let _looked = self.failed;
+    }
+
+    /// A law, and no work but a look at each listed component: over every store each is what its file is judged to be.
+    pub fn components_are_judged(&self)
+        ensures { All (IsAsJudged S.Frozen.content) self.now.list }
+    {
+        look_over(self.list.as_slice());
     }
 
     /// Whether a call answered a fault.

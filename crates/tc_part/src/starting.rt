@@ -6,6 +6,7 @@ ghost use Rattle.tc_store.specs.declared.file_name.FileName.TheVariants.{Log as 
 ghost use Rattle.tc_store.specs.Disk.{home as at_home};
 ghost use Rattle.tc_store.specs.StoreCalls.{comes_home};
 ghost use Rattle.tc_log.specs.Layout.{empty_size};
+ghost use Rattle.tc_component.specs.Loading.{IsAsJudged};
 ghost use Rattle.tc_component.specs.Spelling.{IsIndex};
 ghost use Rattle.tc_part_model.specs.Newest.{names_by, documents_by, next_by};
 ghost use Rattle.tc_part_model.specs.PartState.{told};
@@ -72,9 +73,11 @@ impl<S: Store> Part<S> {
     }
 }
 
-/// Looks at each component, and does nothing else: no interval ends before it begins, which shows where one is looked at.
-fn look_over<F: Frozen>(components: &[Arc<Component<F>>])
-    ensures { All (λ c. IsIndex c.index) (map arc_value components.now) }
+/// Looks at each component, and does nothing else: no interval ends before it begins, and what was loaded is what the file is
+/// judged to be, which shows where one is looked at.
+pub(crate) fn look_over<F: Frozen>(components: &[Arc<Component<F>>])
+    ensures lawful { All (λ c. IsIndex c.index) (map arc_value components.now) }
+    ensures judged { All (IsAsJudged F.content) (map arc_value components.now) }
 {
     for component in components {
         let _lawful = component.file_len();

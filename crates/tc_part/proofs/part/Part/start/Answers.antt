@@ -28,7 +28,7 @@ returns-in-Ok-clause-starts g c =
     let content = g.S.Frozen.Frozen.content in
     let o = told_opening g.S.Store.history g.S.Device.Device.history content from.number from.count from.kit.store from.log.device from.list in
     let begun = c.begun_with.ensures.begun in
-    let lawful = subst (All (λ (x : ComponentState _). IsIndex x.index)) c.as_slice.ensures.all c.look_over.ensures in
+    let lawful = subst (All (λ (x : ComponentState _). IsIndex x.index)) c.as_slice.ensures.all c.look_over.ensures.lawful in
     let order = follow_in_order content 0 from.list c.as_slice.ensures.follow lawful in
     record {
       started = λ list opened.
