@@ -52,7 +52,6 @@ pub keeps_given_up : {S D F W : Type 0} (e : Eyes S D F W) (Failed : Type 0) (ol
 keeps_given_up {S = S} {D = D} {F = F} {W = W} e Failed old new keeps = record {
   jobs = out_given_up e new keeps.jobs;
   moved = ap (λ (s : PartState S D F W). record s { failed = true }) keeps.moved;
-  indexed = keeps.indexed;
   untold = keeps.untold;
   tells = keeps.tells;
   devices = keeps.devices;
@@ -76,7 +75,6 @@ module _ {S D F W : Type 0} (e : Eyes S D F W) (old mid new : Working S D F W) w
       record {
         jobs = two.jobs;
         moved = moved_then old.part up.part new.part one.moved two.moved;
-        indexed = λ all. two.indexed (one.indexed all);
         untold = λ none. two.untold (one.untold none);
         tells = λ tells. two.tells (one.tells tells);
         devices = λ tells only. two.devices (one.tells tells) (one.devices tells only);

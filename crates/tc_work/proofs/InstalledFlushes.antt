@@ -2,7 +2,6 @@
 use Rattle.std.proofs.Common.{◌≡◌, ◌∙◌, ◌+◌, ◌++◌, ℕ, true, false, List, [], ◌∷◌, Option, Some, None, map, is_some, refl, sym, ap, subst, arith, inl, inr}
 use Rattle.std.specs.Prelude.{◌⊎◌, IfErr, IfSome, IsErrOf, IsOk, IsSome, Result, Ok, Err}
 use Rattle.tc_flush.specs.Jobs as flush
-use Rattle.tc_component.specs.Loading.{ComponentState}
 use Rattle.tc_jobs.specs.Listing.{behind, FailsRemoving, FitsBehind}
 use Rattle.tc_jobs.specs.ReadBack.{ComesHome}
 use Rattle.tc_list.specs.declared.policy.Policy.{Policy}
@@ -37,7 +36,7 @@ use Rattle.tc_store.specs.Moments.{IfTold}
 use Rattle.tc_store.specs.StoreCalls.{comes_home, frozen_entry, removes}
 use Rattle.tc_work.specs.declared.fault.EngineFault.{EngineFault}
 use Rattle.tc_work.specs.declared.fault.EngineFault.TheVariants as engine
-use Rattle.tc_work.specs.Damage.{AreIndexed, IsPartDamage, WereListed}
+use Rattle.tc_work.specs.Damage.{IsPartDamage, WereListed}
 use Rattle.tc_work.specs.Failing.{HasFailedKeeping}
 use Rattle.tc_work.specs.Faults.{IfDamaged}
 use Rattle.tc_work.specs.JobsOut.{FlushesFor, IsFlushOf, IsMergeOf, IsPickedOut, MergesFor, OutAs, flusher_of, merger_of, watched_part}
@@ -48,7 +47,7 @@ use Rattle.tc_work.proofs.JobEnds.{by_outcome, job_stores, IsSized}
 use Rattle.tc_work.proofs.JobsGoOn.{device_tells, merge_goes_on, told_still}
 use Rattle.tc_work.proofs.KeptJobs.{merge_out_behind, merge_out_still}
 use Rattle.tc_work.proofs.OnResults.{on_err_only}
-use Rattle.tc_work.proofs.PartDamage.{indexed_behind, unfit_of}
+use Rattle.tc_work.proofs.PartDamage.{unfit_of}
 use Rattle.tc_work.proofs.PickedMerges.{flush_listed, picked_behind}
 use Rattle.tc_work.proofs.SealedFlushes.{flushed_keeps, uncovered_untold}
 use Rattle.tc_work.proofs.Settled.{components_still, content_told, told_behind, told_now, whole_keeps, GoesOnUntold}
@@ -133,7 +132,6 @@ module _ {S D F W : Type 0} (e : Eyes S D F W) (file_name : F → FileName) (siz
         merge = merge_out_behind e.disks e.history e.content e.name_of old new untold jobs.merge i.lists.listed.component (ap (λ (s : PartState S D F W). s.merging) i.lists.same) list handed.merge_named out.merge;
       };
       moved = subst (λ (s : PartState S D F W). HasOnlyMoved old s) (sym i.lists.same) refl;
-      indexed = λ all. subst (λ (xs : List (ComponentState F)). AreIndexed e.content xs) (sym list) (indexed_behind e.content file_name _ (flushed_name old) (e.history device) old.list i.lists.listed.component i.lists.listed.made all);
       untold = untold;
       tells = λ told. record {
         active = told_still (e.disks old.store) (e.disks new.store) (IsTold u.log) untold (subst (λ (s : PartState S D F W). IfTold (e.disks old.store) (λ disk. IsTold (e.history s.log.device))) (sym i.lists.same) told.active);
@@ -256,10 +254,6 @@ module _ {S D F W : Type 0} (e : Eyes S D F W) (file_name : F → FileName) (siz
     fallen_keeps Failed Ended watched cause = record {
       jobs = record { flush = subst (λ b. OutAs b None (IsFlushOf e.disks e.history e.name_of new)) (sym logs_same.4) tt; merge = merge_out };
       moved = logs_same.5;
-      indexed = λ all. elim f.left [
-        | inl unlisted ↦ subst (λ (s : PartState S D F W). AreIndexed e.content s.list) (sym unlisted.same) all
-        | inr covering ↦ subst (λ (xs : List (ComponentState F)). AreIndexed e.content xs) (sym covering.listed.listed) (indexed_behind e.content file_name _ (flushed_name old) (e.history device) old.list covering.listed.component covering.listed.made all)
-      ];
       untold = fallen_untold;
       tells = λ told. record {
         active = told_still (e.disks old.store) (e.disks new.store) (IsTold u.log) fallen_untold (subst (λ l. IfTold (e.disks old.store) (λ disk. IsTold (e.history l.device))) (sym logs_same.0) told.active);

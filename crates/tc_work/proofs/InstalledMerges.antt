@@ -37,7 +37,7 @@ use Rattle.tc_store.specs.Moments.{IfTold}
 use Rattle.tc_work.specs.declared.fault.EngineFault.{EngineFault}
 use Rattle.tc_work.specs.declared.fault.EngineFault.TheVariants as engine
 use Rattle.tc_work.specs.Failing.{HasFailedKeeping}
-use Rattle.tc_work.specs.Damage.{AreIndexed, IsPartDamage, WereListed}
+use Rattle.tc_work.specs.Damage.{IsPartDamage, WereListed}
 use Rattle.tc_work.specs.Faults.{IfDamaged}
 use Rattle.tc_work.specs.JobsOut.{FlushesFor, IsMergeOf, IsPickedFrom, IsPickedOut, MergesFor, OutAs, flusher_of, merger_of, watched_part}
 use Rattle.tc_work.specs.Moving.{Eyes, beside, told_by, works_by, FailsMoving, IsOutBy, IsPickedBy, KeepsJobs, ListsPicked, Moves, MovesWell}
@@ -48,7 +48,7 @@ use Rattle.tc_work.proofs.JobsGoOn.{device_tells, flush_goes_on, told_still}
 use Rattle.tc_work.proofs.KeptJobs.{flush_out_still}
 use Rattle.tc_work.proofs.MergeRuns.{RanMerge, ran_merge}
 use Rattle.tc_work.proofs.OnResults.{on_err_only}
-use Rattle.tc_work.proofs.PartDamage.{harm_of_run, indexed_swapped, unfit_of}
+use Rattle.tc_work.proofs.PartDamage.{harm_of_run, unfit_of}
 use Rattle.tc_work.proofs.PickedMerges.{merge_listed}
 use Rattle.tc_work.proofs.RunMerges.{length_swapped, removed_untold, told_swapped}
 use Rattle.tc_work.proofs.Settled.{components_still, content_told, whole_keeps, GoesOnUntold}
@@ -135,7 +135,6 @@ module _ {S D F W : Type 0} (e : Eyes S D F W) (file_name : F → FileName) (siz
         merge = subst (λ (s : PartState S D F W). OutAs (is_some s.merging) None (IsMergeOf e.disks e.history e.content e.name_of s)) (sym i.lists.same) tt;
       };
       moved = subst (λ (s : PartState S D F W). HasOnlyMoved old s) (sym i.lists.same) refl;
-      indexed = λ all. subst (λ (xs : List (ComponentState F)). AreIndexed e.content xs) (sym list) (indexed_swapped e.content file_name _ (merged_name (run_out old) old) (e.history device) old.list i.lists.listed.component i.lists.listed.made all (run_out old));
       untold = untold;
       tells = λ told. record {
         active = told_still (e.disks old.store) (e.disks new.store) (IsTold u.log) untold (subst (λ (s : PartState S D F W). IfTold (e.disks old.store) (λ disk. IsTold (e.history s.log.device))) (sym i.lists.same) told.active);
@@ -233,10 +232,6 @@ module _ {S D F W : Type 0} (e : Eyes S D F W) (file_name : F → FileName) (siz
         merge = subst (λ (s : PartState S D F W). OutAs (is_some s.merging) None (IsMergeOf e.disks e.history e.content e.name_of s)) (sym same) tt;
       };
       moved = subst (λ (s : PartState S D F W). HasOnlyMoved old s) (sym same) refl;
-      indexed = λ all. elim f.left [
-        | inl unlisted ↦ subst (λ (s : PartState S D F W). AreIndexed e.content s.list) (sym unlisted.same) all
-        | inr removing ↦ subst (λ (xs : List (ComponentState F)). AreIndexed e.content xs) (sym removing.listed.listed) (indexed_swapped e.content file_name _ (merged_name (run_out old) old) (e.history device) old.list removing.listed.component removing.listed.made all (run_out old))
-      ];
       untold = fallen_untold;
       tells = λ told. record {
         active = told_still (e.disks old.store) (e.disks new.store) (IsTold u.log) fallen_untold (subst (λ (s : PartState S D F W). IfTold (e.disks old.store) (λ disk. IsTold (e.history s.log.device))) (sym same) told.active);

@@ -19,7 +19,6 @@ use Rattle.tc_store.specs.declared.file_name.FileName.{FileName}
 use Rattle.tc_store.specs.Disk.{Disk}
 use Rattle.tc_store.specs.DiskFile.{DiskFile}
 use Rattle.tc_store.specs.StoreCalls.{fresh_file_at}
-use Rattle.tc_work.specs.Damage.{AreIndexed}
 use Rattle.tc_work.specs.JobsOut.{AreOut, IsFlushOf, IsMergeOf, OutAs, flusher_of, merger_of, watched_part}
 use Rattle.tc_work.specs.Moving.{Eyes, Working, beside, told_by, works_by, IsOutBy, IsPickedBy, KeepsJobs, ListsPicked, MovesWell}
 use Rattle.tc_work.specs.Settling.{HasOnlyMoved}
@@ -36,7 +35,6 @@ module _ {S D F W : Type 0} (e : Eyes S D F W) (old mid new : Working S D F W) w
   keeps_then First Second Failed one two cause = record {
     jobs = two.jobs;
     moved = moved_then old.part mid.part new.part one.moved two.moved;
-    indexed = λ all. two.indexed (one.indexed all);
     untold = λ none. two.untold (one.untold none);
     tells = λ tells. two.tells (one.tells tells);
     devices = λ tells only. two.devices (one.tells tells) (one.devices tells only);
@@ -172,7 +170,6 @@ pub keeps_same : {S D F W : Type 0} (e : Eyes S D F W) (w : Working S D F W) (Fa
 keeps_same e w Failed out never = record {
   jobs = out;
   moved = refl;
-  indexed = λ all. all;
   untold = λ none. none;
   tells = λ tells. tells;
   devices = λ tells only. only;
@@ -206,7 +203,6 @@ keeps_unless_failed {S = S} {D = D} {F = F} {W = W} e old new jobs Failed First 
         }) (sym same) refl) out.merge;
   };
   moved = subst (λ (s : PartState S D F W). HasOnlyMoved old s) (sym same) refl;
-  indexed = λ all. subst (λ (s : PartState S D F W). AreIndexed e.content s.list) (sym same) all;
   untold = untold;
   tells = λ told. record {
     active = told_still (e.disks old.store) (e.disks new.store) _ untold (subst (λ (s : PartState S D F W). IfTold (e.disks old.store) (λ disk. IsTold (e.history s.log.device))) (sym same) told.active);

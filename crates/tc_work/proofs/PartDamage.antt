@@ -1,18 +1,13 @@
--- Damage of a part, by what its calls and its jobs tell of it, and what is listed then.
-use Rattle.std.proofs.Common.{◌≡◌, ◌+◌, ◌-◌, ◌++◌, ℕ, zero, suc, Bool, true, false, List, [], ◌∷◌, Option, None, Some, take, drop, slice_get, refl, sym, ap, subst, arith, inl, inr}
-use Rattle.std.specs.Prelude.{◌⊎◌, IfSome, Result, Ok, Err, if◌then◌else◌}
-use Rattle.std.proofs.lemmas.List.Elements.{All-append, All-cons, All-drop, All-nil, All-take}
+-- Damage of a part, by what its calls and its jobs tell of it.
+use Rattle.std.proofs.Common.{◌≡◌, ◌+◌, ◌-◌, ℕ, zero, suc, true, List, [], ◌∷◌, Option, Some, take, drop, slice_get, refl, sym, subst, arith, inl, inr}
+use Rattle.std.specs.Prelude.{◌⊎◌, IfSome, Result, Ok, Err}
 use Rattle.tc_component.specs.declared.head.Head.{Head}
-use Rattle.tc_component.specs.Layout.{head_place}
 use Rattle.tc_component.specs.Loading.{ComponentState}
-use Rattle.tc_component.specs.Reading.{file_judged, front_of}
-use Rattle.tc_component.specs.Spelling.{name_of, Index}
 use Rattle.tc_flush.specs.Counting.{IsCounted}
 use Rattle.tc_jobs.specs.Faults.{AreFiles}
 use Rattle.tc_jobs.specs.Listing.{HasOtherNames, IsDamaged, IsReadBack, IsUnlisted}
 use Rattle.tc_jobs.specs.Lists.{file_names}
-use Rattle.tc_jobs.specs.ReadBack.{has_numbers, own_judged}
-use Rattle.tc_list.specs.Runs.{in_run, swapped}
+use Rattle.tc_list.specs.Runs.{in_run}
 use Rattle.tc_list.specs.declared.run.Run.{Run}
 use Rattle.tc_merge.specs.Faults as merge
 use Rattle.tc_merge.specs.Merging.{newest_names, newest_schema}
@@ -23,51 +18,10 @@ use Rattle.tc_part.specs.Faults.{IfDamaged as part_damaged}
 use Rattle.tc_part_model.specs.PartState.{PartState}
 use Rattle.tc_schema_model.specs.Counted.{nothing}
 use Rattle.tc_store.specs.DiskFile.{DiskFile}
-use Rattle.tc_store.specs.Judging.{damage, judged_then, Damage as Judged}
-use Rattle.tc_store.specs.StoreCalls.{content_now}
 use Rattle.tc_store.specs.declared.damage.Damage.{Damage}
 use Rattle.tc_store.specs.declared.damage.Damage.TheVariants.{Bytes, Files}
 use Rattle.tc_store.specs.declared.file_name.FileName.{FileName}
-use Rattle.tc_work.specs.Damage.{AreIndexed, IsOfDevice, IsPartDamage, IsUnfit}
-
--- ---- what is listed
-
--- what was judged, or else this
-abbrev index_or : Index → Result Index Judged → Index
-index_or c (Ok index) = index
-index_or c (Err d) = c
-
--- what is judged to be one's own file is what the file is judged to be
-file_is : (own : Head) (judged : Result Index Judged) (front : List ℕ) (index : Index) → judged_then judged (λ c. if has_numbers own c.head then Ok c else Err (damage head_place front)) ≡ Ok index → judged ≡ Ok index
-file_is own (Err d) front index is = absurd (cc)
-file_is own (Ok c) front index is = ap Ok (at (has_numbers own c.head) is)
-  where
-    at : (b : Bool) → (if b then Ok c else Err (damage head_place front)) ≡ Ok index → c ≡ index
-    at true same = ap (index_or c) same
-    at false same = absurd (cc)
-
-abbrev IsIndexed : {F : Type 0} → (F → Option (List ℕ)) → ComponentState F → Type 0
-IsIndexed content c = IfSome (content c.file) (λ whole. file_judged (name_of c.index.head) whole ≡ Ok c.index)
-
-read_back : {F : Type 0} (content : F → Option (List ℕ)) (name : F → FileName) (head : Head) (device_name : FileName) (device : List DiskFile) (c : ComponentState F) → IsReadBack content name head device_name device c → IsIndexed content c
-read_back content name head device_name device c made =
-    subst (λ (o : Option (List ℕ)). IfSome o (λ whole. file_judged (name_of c.index.head) whole ≡ Ok c.index)) (sym made.has_content)
-    (subst (λ (h : Head). IfSome (content_now device) (λ whole. file_judged (name_of h) whole ≡ Ok c.index)) (sym made.has_head) (at (content_now device) made.judged))
-  where
-    at : (o : Option (List ℕ)) → IfSome o (λ whole. own_judged head whole ≡ Ok c.index) → IfSome o (λ whole. file_judged (name_of head) whole ≡ Ok c.index)
-    at None is = tt
-    at (Some whole) is = file_is head (file_judged (name_of head) whole) (front_of whole) c.index is
-
-module _ {F : Type 0} (content : F → Option (List ℕ)) (name : F → FileName) (head : Head) (device_name : FileName) (device : List DiskFile) (list : List (ComponentState F)) (c : ComponentState F) (made : IsReadBack content name head device_name device c) (all : AreIndexed content list) where
-  -- with what a flush made behind the others
-  pub indexed_behind : AreIndexed content (list ++ c ∷ [])
-  indexed_behind = All-append (IsIndexed content) list (c ∷ []) all (All-cons (IsIndexed content) c [] (read_back content name head device_name device c made) (All-nil (IsIndexed content)))
-
-  -- with what a merge made in place of a run
-  pub indexed_swapped : (run : Run) → AreIndexed content (swapped run c list)
-  indexed_swapped run =
-      All-append (IsIndexed content) (take run.first list) (c ∷ drop (run.last + 1) list) (All-take (IsIndexed content) run.first list all)
-      (All-cons (IsIndexed content) c (drop (run.last + 1) list) (read_back content name head device_name device c made) (All-drop (IsIndexed content) (run.last + 1) list all))
+use Rattle.tc_work.specs.Damage.{IsOfDevice, IsPartDamage, IsUnfit}
 
 -- ---- a record of a listed component
 

@@ -20,7 +20,6 @@ use Rattle.tc_part_model.specs.PartView.{PartView, next_of, state_of}
 use Rattle.tc_running.specs.Jobs.{JobsState}
 use Rattle.tc_store.specs.Moments.{IfTold}
 use Rattle.tc_work.specs.declared.fault.EngineFault.{EngineFault}
-use Rattle.tc_work.specs.Damage.{AreIndexed}
 use Rattle.tc_work.specs.JobsOut.{FlushesFor, IsFlushOf, IsPickedOut, OutAs, flusher_of, merger_of, watched_part}
 use Rattle.tc_work.specs.Moving.{Eyes, beside, told_by, works_by, IsOutBy, IsPickedBy, KeepsJobs, ListsPicked, MovesOver, MovesWell}
 use Rattle.tc_work.specs.Settling.{HasOnlyMoved, MaySettle, NextLogs, TellsFiles, waiting}
@@ -96,7 +95,6 @@ module _ {S D F W X : Type 0} (e : Eyes S D F W) (old new : PartState S D F W) (
             out.merge;
       };
       moved = subst (λ (x : PartState S D F W). HasOnlyMoved old x) (sym s.seals.same) refl;
-      indexed = λ all. subst (λ (x : PartState S D F W). AreIndexed e.content x.list) (sym s.seals.same) all;
       untold = untold;
       tells = s.tells;
       devices = λ tells. s.devices;
@@ -174,7 +172,6 @@ module _ {S D F W X : Type 0} (e : Eyes S D F W) (old new : PartState S D F W) (
             out.merge;
       };
       moved = subst (λ (x : PartState S D F W). HasOnlyMoved old x) (sym left) refl;
-      indexed = λ all. subst (λ (x : PartState S D F W). AreIndexed e.content x.list) (sym left) all;
       untold = still_untold;
       tells = λ told. record {
         active = told_still (e.disks old.store) (e.disks new.store) _ still_untold (subst (λ (x : PartState S D F W). IfTold (e.disks old.store) (λ disk. IsTold (e.history x.log.device))) (sym left) told.active);

@@ -23,7 +23,6 @@ use Rattle.tc_store.specs.declared.file_name.FileName.TheVariants.{Component}
 use Rattle.tc_store.specs.Disk.{Disk}
 use Rattle.tc_store.specs.Moments.{IfTold, LeavesAt}
 use Rattle.tc_store.specs.StoreCalls.{makes}
-use Rattle.tc_work.specs.Damage.{AreIndexed}
 use Rattle.tc_work.specs.JobsOut.{IsFlushOf, IsPickedOut, OutAs, flusher_of, merger_of, watched_part}
 use Rattle.tc_work.specs.Moving.{Eyes, beside, told_by, works_by, IsOutBy, IsPickedBy, KeepsJobs, ListsPicked, Moves, MovesWell}
 use Rattle.tc_work.specs.Settling.{HasOnlyMoved, IsListedBy, MaySettle, MomentsStay, TellsFiles}
@@ -103,7 +102,6 @@ module _ {S D F W X : Type 0} (e : Eyes S D F W) (old new : PartState S D F W) (
     started_keeps Failed First counted cause = record {
       jobs = is_out;
       moved = subst (λ (s : PartState S D F W). HasOnlyMoved old s) (sym b.begins.same) refl;
-      indexed = λ all. subst (λ (s : PartState S D F W). AreIndexed e.content s.list) (sym b.begins.same) all;
       untold = untold;
       tells = logs_tell_still its_name t u b.begins.made (ap (λ (s : PartState S D F W). e.history s.log.device) b.begins.same) (ap (λ (s : PartState S D F W). (told_by e (beside s jobs)).sealed_log) b.begins.same);
       devices = λ tells. b.devices;

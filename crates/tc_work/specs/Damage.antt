@@ -1,8 +1,7 @@
 -- Damage that a part meets once it is open: which file has which bytes where, and what had to stand there.
-use Rattle.std.specs.Prelude.{◌≡◌, ◌⊎◌, ℕ, List, [], All, Option, Ok, IfSome}
+use Rattle.std.specs.Prelude.{◌≡◌, ◌⊎◌, ℕ, List, [], All, Option, IfSome}
 use Rattle.tc_component.specs.declared.head.Head.{Head}
-use Rattle.tc_component.specs.Loading.{ComponentState}
-use Rattle.tc_component.specs.Reading.{file_judged}
+use Rattle.tc_component.specs.Loading.{ComponentState, IsAsJudged}
 use Rattle.tc_component.specs.Spelling.{name_of}
 use Rattle.tc_flush.specs.Counting.{IsCounted}
 use Rattle.tc_flush.specs.Flushing.{flush_bytes}
@@ -23,10 +22,6 @@ use Rattle.tc_store.specs.DiskFile.{settled_file, DiskFile}
 use Rattle.tc_store.specs.Moments.{IfTold}
 use Rattle.tc_store.specs.declared.damage.Damage.{Damage}
 use Rattle.tc_work.specs.Settling.{HasOnlyMoved}
-
--- each is what its file is judged to be, where that tells its bytes
-abbrev pub AreIndexed : {F : Type 0} → (F → Option (List ℕ)) → List (ComponentState F) → Type 0
-AreIndexed content list = All (λ c. IfSome (content c.file) (λ whole. file_judged (name_of c.index.head) whole ≡ Ok c.index)) list
 
 -- ---- the sealed table
 
@@ -81,9 +76,10 @@ IsPartDamage content history part damage =
     ⊎ (IsUncounted part.list part.sealed damage
     ⊎ (IsOfFlush content history (flushed_head part.number part.count part.generation) part.list damage ⊎ IsOfMerge content history part.number part.count part.list damage))
 
--- A call met it: it is damage of the part as it stood then, of which nothing had changed but where documents are.
+-- A call met it: it is damage of the part as it stood then, of which nothing had changed but where documents are. Each listed
+-- component was what its file is judged to be.
 pub record HasMetDamage {S D F W : Type 0} (content : F → Option (List ℕ)) (history : D → List DiskFile) (old : PartState S D F W) (damage : Damage) : Type 0 where
   pub part : PartState S D F W
   pub moved : HasOnlyMoved old part
-  pub indexed : AreIndexed content old.list → AreIndexed content part.list
+  pub judged : All (IsAsJudged content) part.list
   pub is : IsPartDamage content history part damage

@@ -12,7 +12,7 @@ use Rattle.tc_store.specs.Disk.{Disk}
 use Rattle.tc_store.specs.DiskFile.{DiskFile}
 use Rattle.tc_work.specs.declared.fault.EngineFault.{EngineFault}
 use Rattle.tc_work.specs.declared.fault.EngineFault.TheVariants as engine
-use Rattle.tc_work.specs.Damage.{AreIndexed, IsPartDamage}
+use Rattle.tc_work.specs.Damage.{IsPartDamage}
 use Rattle.tc_work.specs.Failing.{FailsKeeping}
 use Rattle.tc_work.specs.Faults.{IfDamaged}
 use Rattle.tc_work.specs.JobsOut.{AreOut, IsPickedOut, WorkFor, watched_part}
@@ -61,13 +61,12 @@ IsPickedBy e policy w = IsPickedOut policy e.size w.part.list w.part.merging
 
 -- ---- what is kept
 
--- Whatever it answers, the jobs that are out are those of the part, and nothing changed but where documents are: what is listed is
--- still what its files are judged to be. A store that tells nothing goes on so, no file is out but those of devices, and no watch
--- counts fewer faults; a call that failed for one counted one more.
+-- Whatever it answers, the jobs that are out are those of the part, and nothing changed but where documents are. A store that tells
+-- nothing goes on so, no file is out but those of devices, and no watch counts fewer faults; a call that failed for one counted one
+-- more.
 pub record KeepsJobs {S D F W : Type 0} (e : Eyes S D F W) (Failed : Type 0) (old new : Working S D F W) : Type 0 where
   pub jobs : IsOutBy e new
   pub moved : HasOnlyMoved old.part new.part
-  pub indexed : AreIndexed e.content old.part.list → AreIndexed e.content new.part.list
   pub untold : e.disks old.part.store ≡ [] → e.disks new.part.store ≡ []
   pub tells : TellsLogs (told_by e old) → TellsLogs (told_by e new)
   pub devices : TellsLogs (told_by e old) → OnlyDevicesOut (told_by e old) → OnlyDevicesOut (told_by e new)

@@ -37,7 +37,8 @@ impl<S: Store, P: Pace> Model for Engine<S, P> {
 
 impl<S: Store, P: Pace> Engine<S, P> {
     ghost use Rattle.std.specs.Arc.{arc_value};
-    ghost use Rattle.std.specs.Prelude.{◌≡◌, [], None, Some, true, false, is_some, length, option_map};
+    ghost use Rattle.std.specs.Prelude.{◌≡◌, [], None, Some, true, false, is_some, length, option_map, All};
+    ghost use Rattle.tc_component.specs.Loading.{IsAsJudged};
     ghost use Rattle.tc_merge.specs.Merging.{GrowNames};
     ghost use Rattle.tc_running.specs.Jobs.{JobsState};
     ghost use Rattle.tc_work.specs.JobsOut.{AreOut};
@@ -57,6 +58,13 @@ impl<S: Store, P: Pace> Engine<S, P> {
             policy,
             progress: Progress::new(pace),
         }
+    }
+
+    /// A law, and no work but a look at each listed component: over every store each is what its file is judged to be.
+    pub fn components_are_judged(&self)
+        ensures { All (IsAsJudged S.Frozen.content) self.now.part.list }
+    {
+        self.part.components_are_judged();
     }
 
     /// Whether a call answered a fault.

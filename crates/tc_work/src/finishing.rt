@@ -113,6 +113,7 @@ where
     let mut part = part;
     let mut jobs = jobs;
     let outcome = end_jobs(rt, alloc, &mut part, &mut jobs, policy, pace);
+    part.components_are_judged();
     Finished {
         kit: part.close(),
         outcome,
