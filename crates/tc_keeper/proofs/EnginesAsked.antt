@@ -7,7 +7,7 @@ use Rattle.tc_keeper.specs.Places.{AtEach}
 use Rattle.tc_keeper.specs.Running.{HasOnlyRun}
 use Rattle.tc_keeper.specs.declared.engines_fault.EnginesFault.{EnginesFault}
 use Rattle.tc_keeper.specs.declared.engines_fault.EnginesFault.TheVariants as engines
-use Rattle.tc_keeper.specs.WithJobs.{told_of, WithJobs}
+use Rattle.tc_keeper.specs.WithJobs.{set_as, settings, told_of, WithJobs}
 use Rattle.tc_keeper.proofs.PlaceLaws.{at_each-so}
 use Rattle.tc_list.specs.declared.policy.Policy.{Policy}
 use Rattle.tc_log.specs.Layout.{empty_size}
@@ -57,24 +57,27 @@ map_same f n [] (y ∷ ys) each = absurd each
 map_same f n (x ∷ xs) [] each = absurd each
 map_same f n (x ∷ xs) (y ∷ ys) each = let here = each.0 in let more = map_same f (suc n) xs ys each.1 in rw (here, more) refl
 
-abbrev pub settings : {S D F W : Type 0} → WithJobs S D F W → ℕ × Policy
-settings e = (e.engine.part.memory, e.engine.policy)
+set_alike : (n n' c c' m m' : ℕ) (p p' : Policy) → n' ≡ n → c' ≡ c → m' ≡ m → p' ≡ p → set_as n' c' m' p' ≡ set_as n c m p
+set_alike n n' c c' m m' p p' number count memory policy = rw (number, count, memory, policy) refl
 
-same_pair : {A B : Type 0} (a a' : A) (b b' : B) → a' ≡ a → b' ≡ b → ◌≡◌ {A = A × B} (a', b') (a, b)
-same_pair a a' b b' one two = rw (one, two) refl
+same_settings : {S D F W : Type 0} (old new : WithJobs S D F W) → new.engine.part.number ≡ old.engine.part.number → new.engine.part.count ≡ old.engine.part.count → new.engine.part.memory ≡ old.engine.part.memory → new.engine.policy ≡ old.engine.policy
+    → settings new ≡ settings old
+same_settings old new number count memory policy =
+    set_alike old.engine.part.number new.engine.part.number old.engine.part.count new.engine.part.count old.engine.part.memory new.engine.part.memory old.engine.policy new.engine.policy number count memory policy
 
 pub ran_settings : {S D F W : Type 0} (es es' : List (WithJobs S D F W)) → AtEach (λ p old new. HasOnlyRun old.engine.part new.engine.part × (new.engine.policy ≡ old.engine.policy) × (new.jobs ≡ old.jobs)) 0 es es' → map settings es' ≡ map settings es
 ran_settings {S = S} {D = D} {F = F} {W = W} es es' same =
     map_same settings 0 es es' (at_each-so (λ p (old : WithJobs S D F W) (new : WithJobs S D F W). HasOnlyRun old.engine.part new.engine.part × (new.engine.policy ≡ old.engine.policy) × (new.jobs ≡ old.jobs)) (λ p old new. settings new ≡ settings old) 0 es es'
-    (λ p old new s. same_pair old.engine.part.memory new.engine.part.memory old.engine.policy new.engine.policy (ap (λ (q : PartState S D F W). q.memory) s.0) s.1) same)
+    (λ p old new s. same_settings old new (ap (λ (q : PartState S D F W). q.number) s.0) (ap (λ (q : PartState S D F W). q.count) s.0) (ap (λ (q : PartState S D F W). q.memory) s.0) s.1) same)
 
-same_settings : {S D F W : Type 0} (old new : WithJobs S D F W) → HasOnlyMoved old.engine.part new.engine.part → new.engine.policy ≡ old.engine.policy → settings new ≡ settings old
-same_settings {S = S} {D = D} {F = F} {W = W} old new moved policy = same_pair old.engine.part.memory new.engine.part.memory old.engine.policy new.engine.policy (ap (λ (q : PartState S D F W). q.memory) moved) policy
+moved_alike : {S D F W : Type 0} (old new : WithJobs S D F W) → HasOnlyMoved old.engine.part new.engine.part → new.engine.policy ≡ old.engine.policy → settings new ≡ settings old
+moved_alike {S = S} {D = D} {F = F} {W = W} old new moved policy =
+    same_settings old new (ap (λ (q : PartState S D F W). q.number) moved) (ap (λ (q : PartState S D F W). q.count) moved) (ap (λ (q : PartState S D F W). q.memory) moved) policy
 
 module _ {S D F W : Type 0} (eyes : Eyes S D F W) where
   pub moved_settings : (Done : WithJobs S D F W → WithJobs S D F W → Type 0) (es es' : List (WithJobs S D F W)) → ((old new : WithJobs S D F W) → Done old new → HasMoved eyes ⊥ old new) → AtEach (λ p old new. Done old new) 0 es es' → map settings es' ≡ map settings es
   moved_settings Done es es' moves each =
-      map_same settings 0 es es' (at_each-so (λ p old new. Done old new) (λ p old new. settings new ≡ settings old) 0 es es' (λ p old new d. let m = moves old new d in same_settings old new m.moved m.policy) each)
+      map_same settings 0 es es' (at_each-so (λ p old new. Done old new) (λ p old new. settings new ≡ settings old) 0 es es' (λ p old new d. let m = moves old new d in moved_alike old new m.moved m.policy) each)
 
   -- also where one failed
   pub stopped_settings : (Done : WithJobs S D F W → WithJobs S D F W → Type 0) (Stopped : EngineFault → WithJobs S D F W → WithJobs S D F W → Type 0) (Failed : EngineFault → Type 0) (fault : EnginesFault) (es es' : List (WithJobs S D F W))
@@ -83,7 +86,7 @@ module _ {S D F W : Type 0} (eyes : Eyes S D F W) where
   stopped_settings Done Stopped Failed engines.Memory es es' done stopped never stops = absurd (never refl)
   stopped_settings Done Stopped Failed (engines.Of p why) es es' done stopped never stops =
       map_same settings 0 es es' (at_each-so (StopsAt p Done (Stopped why)) (λ q old new. settings new ≡ settings old) 0 es es'
-      (λ q old new s. stops_so p q Done (Stopped why) (λ old new. settings new ≡ settings old) old new s (λ d. let m = done old new d in same_settings old new m.moved m.policy) (λ here f. let m = stopped why old new f in same_settings old new m.moved m.policy) refl)
+      (λ q old new s. stops_so p q Done (Stopped why) (λ old new. settings new ≡ settings old) old new s (λ d. let m = done old new d in moved_alike old new m.moved m.policy) (λ here f. let m = stopped why old new f in moved_alike old new m.moved m.policy) refl)
       stops.1)
 
 -- ---- flushed

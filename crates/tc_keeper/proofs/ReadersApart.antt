@@ -2,9 +2,8 @@
 use Rattle.std.proofs.Common.{◌≡◌, ◌∙◌, ◌<◌, ◌≤◌, ℕ, suc, List, [], ◌∷◌, All, map, refl, ap, sym, subst}
 use Rattle.std.specs.Prelude.{None, Option, Some}
 use Rattle.tc_keeper.specs.Places.{AtEach, IsAt, SomeFrom}
-use Rattle.tc_keeper.specs.WithJobs.{with_reader, WithJobs}
+use Rattle.tc_keeper.specs.WithJobs.{settings, with_reader, WithJobs}
 use Rattle.tc_keeper.proofs.PlaceLaws.{at_each-length, at_each-so}
-use Rattle.tc_list.specs.declared.policy.Policy.{Policy}
 use Rattle.tc_part_model.specs.PartState.{told}
 use Rattle.tc_shown.specs.declared.scan.Pass.{Pass}
 use Rattle.tc_store.specs.Disk.{Disk}
@@ -59,14 +58,11 @@ module _ {S D F W : Type 0} where
   pub rests_reread : (size : D → ℕ) (es es' : List (WithJobs S D F W)) → AtEach IsReread 0 es es' → All (IsSettled size) es → All (IsSettled size) es'
   rests_reread size es es' read all = carried_all IsReread (IsSettled size) (IsSettled size) 0 es es' (λ i old new is one. subst (IsSettled size) (sym is.1) (settled_so size is.0 old one)) read all
 
-  abbrev settings : WithJobs S D F W → ℕ × Policy
-  settings e = (e.engine.part.memory, e.engine.policy)
-
   same_settings : (n : ℕ) (es es' : List (WithJobs S D F W)) → AtEach IsReread n es es' → map settings es' ≡ map settings es
   same_settings n [] [] read = refl
   same_settings n [] (e' ∷ es') read = absurd read
   same_settings n (e ∷ es) [] read = absurd read
-  same_settings n (e ∷ es) (e' ∷ es') read = ap (λ s. s ∷ map settings es') (ap settings read.0.1) ∙ ap (λ ss. settings e ∷ ss) (same_settings (suc n) es es' read.1)
+  same_settings n (e ∷ es) (e' ∷ es') read = ap (λ s. s ∷ map settings es') (ap (λ (w : WithJobs S D F W). settings w) read.0.1) ∙ ap (λ ss. settings e ∷ ss) (same_settings (suc n) es es' read.1)
 
   pub settings_reread : (es es' : List (WithJobs S D F W)) → AtEach IsReread 0 es es' → map settings es' ≡ map settings es
   settings_reread es es' read = same_settings 0 es es' read

@@ -1,13 +1,12 @@
 -- What the calls of the engines of partitions ask for, and how they leave them.
 use Rattle.std.specs.Prelude.{◌≡◌, ◌-◌, ◌^◌, ◌<◌, ◌≤◌, ℕ, false, true, List, All, length, map, None, Option, option_map, slice_get}
 use Rattle.tc_keeper.specs.Standing.{KeepWorlds}
-use Rattle.tc_keeper.specs.WithJobs.{WithJobs}
+use Rattle.tc_keeper.specs.WithJobs.{settings, Settings, WithJobs}
 use Rattle.tc_store.specs.Counted.{Counts}
 use Rattle.tc_store.specs.Disk.{Disk}
 use Rattle.tc_store.specs.DiskFile.{DiskFile}
 use Rattle.tc_store.specs.KitFaults.{KitFaults}
 use Rattle.tc_store.specs.declared.damage.Damage.{Damage}
-use Rattle.tc_list.specs.declared.policy.Policy.{Policy}
 use Rattle.tc_log.specs.Layout.{empty_size}
 use Rattle.tc_part.specs.FilesOut.{LogIsOut}
 use Rattle.tc_part_model.specs.PartState.{PartState, Told, told}
@@ -68,9 +67,9 @@ KeepsAt e p only w v = KeepWorlds e only p.engines w v
 unfoldable pub Rests : {S W D F P : Type 0} → (D → ℕ) → Partitions S P W D F → Type 0
 Rests size p = All (IsSettled size) p.engines
 
--- of each when a table is sealed, and by which policy components are merged, which no call changes
-abbrev pub settings_of : {S W D F P : Type 0} → Partitions S P W D F → List (ℕ × Policy)
-settings_of p = map (λ e. (e.engine.part.memory, e.engine.policy)) p.engines
+-- of each what no call changes
+abbrev pub settings_of : {S W D F P : Type 0} → Partitions S P W D F → List Settings
+settings_of p = map settings p.engines
 
 -- what was counted, by the partition
 unfoldable pub faults_of : {S W D F P : Type 0} → (W → Counts) → Partitions S P W D F → DiskFaults

@@ -3,12 +3,13 @@
 use Rattle.std.specs.Prelude.{◌≡◌, ◌⊎◌, ◌<◌, ◌≤◌, ◌%◌, ℕ, true, false, List, [], All, length, map, None, Option, Some, is_some, option_map, slice_get}
 use mathlib.Core.List.{IsPrefix}
 use Rattle.tc_command.specs.Commands.{ask_of}
+use Rattle.tc_component.specs.Loading.{IsAsJudged}
 use Rattle.tc_keeper.specs.Places.{AtEach, EachFrom, IsAt, SomeFrom}
-use Rattle.tc_keeper.specs.Standing.{IsSeen, KeepWorlds}
-use Rattle.tc_keeper.specs.WithJobs.{WithJobs}
-use Rattle.tc_list.specs.declared.policy.Policy.{Policy}
+use Rattle.tc_keeper.specs.Standing.{partition_at, IsSeen, KeepWorlds}
+use Rattle.tc_keeper.specs.WithJobs.{settings, Settings, WithJobs}
+use Rattle.tc_lsm_model.specs.Contents.{Partition}
 use Rattle.tc_part.specs.Harms.{IsBytesHarm}
-use Rattle.tc_part_model.specs.PartState.{told}
+use Rattle.tc_part_model.specs.PartState.{told, PartState}
 use Rattle.tc_plain_model.specs.Writes.{after_writes}
 use Rattle.tc_query.specs.Faults.{IsHarmIn}
 use Rattle.tc_run_model.specs.World.{Part, Scan, World}
@@ -67,9 +68,9 @@ MayServe disks moments content k = AllMayAnswer disks moments content k.engines
 unfoldable pub AllRest : {S W D F : Type 0} → (D → ℕ) → KeeperState S D F W → Type 0
 AllRest size k = All (IsSettled size) k.engines
 
--- of each when a table is sealed, and by which policy components are merged, which no call changes
-abbrev pub settings_kept : {S W D F : Type 0} → KeeperState S D F W → List (ℕ × Policy)
-settings_kept k = map (λ e. (e.engine.part.memory, e.engine.policy)) k.engines
+-- of each what no call changes
+abbrev pub settings_kept : {S W D F : Type 0} → KeeperState S D F W → List Settings
+settings_kept k = map settings k.engines
 
 -- one of the engines has no generation left
 unfoldable pub HasSpent : {S W D F : Type 0} → (S → List Disk) → (D → List DiskFile) → (F → Option (List ℕ)) → KeeperState S D F W → Type 0
@@ -98,6 +99,17 @@ IsTrueHere disks moments content k = IsSaid (HasSpent disks moments content k) (
 -- once it has ended: this is damage of the one of this number, or was met by a scan of what was shown of it
 abbrev pub IsMetBehind : {S W D F P : Type 0} → (D → List DiskFile) → (F → Option (List ℕ)) → Partitions S P W D F → ℕ → Damage → Type 0
 IsMetBehind {W = W} {F = F} moments content p q damage = (q < length p.engines) × (IsMet moments content p q damage ⊎ ((s : ShownState F W) × IsShownDamage content s damage))
+
+-- A part of this partition has it. Each component that was listed is what its file is judged to be.
+pub record IsOfPart {S D F W : Type 0} (moments : D → List DiskFile) (content : F → Option (List ℕ)) (here : Partition) (damage : Damage) : Type 0 where
+  pub part : PartState S D F W
+  pub is_here : partition_at part.number part.count ≡ here
+  pub judged : All (IsAsJudged content) part.list
+  pub is : IsPartDamage content moments part damage
+
+-- A partition that is open has this damage, over stores and watches of these types, or a scan met it of what was shown.
+abbrev pub IsMetIn : {D F : Type 0} → Type 0 → Type 0 → (D → List DiskFile) → (F → Option (List ℕ)) → Partition → Damage → Type 0
+IsMetIn {D = D} {F = F} S W moments content here damage = IsOfPart {S = S} {D = D} {F = F} {W = W} moments content here damage ⊎ ((s : ShownState F W) × IsShownDamage content s damage)
 
 -- and what a fault says of the partitions that are left
 abbrev pub IsTrueBehind : {S W D F P : Type 0} → (S → List Disk) → (D → List DiskFile) → (F → Option (List ℕ)) → Partitions S P W D F → RunFault → Type 0

@@ -9,7 +9,7 @@ use Rattle.tc_part.specs.FilesOut.{LogIsOut, OnlyDevicesOut, TellsLogs}
 use Rattle.tc_part_model.specs.Meaning.{IsPart}
 use Rattle.tc_part_model.specs.PartView.{PartView, store_of}
 use Rattle.tc_store.specs.declared.file_name.FileName.TheVariants.{Component as component_name}
-use Rattle.tc_work.specs.Damage.{AreIndexed, IsPartDamage}
+use Rattle.tc_work.specs.Damage.{IsPartDamage}
 use Rattle.tc_work.specs.Failing.{HasFailedKeeping}
 use Rattle.tc_work.specs.Faults.{AreOfFiles, IfDamaged}
 use Rattle.tc_work.specs.JobsOut.{watched_part}
@@ -29,12 +29,11 @@ pub record HasStayed {S D F W : Type 0} (eyes : Eyes S D F W) (old new : WithJob
   pub log_out : LogIsOut (told_of eyes old) → LogIsOut (told_of eyes new)
   pub untold : eyes.disks old.engine.part.store ≡ [] → eyes.disks new.engine.part.store ≡ []
 
--- Whether it ended well or not, nothing changed but where the documents are, and which jobs are out: what is listed is still what its
--- files are judged to be. No file is out but those of its devices, at each moment a stop leaves what was stored, and a watch counted
--- a fault where the call failed for one. That of a job that is out counts as it went out with it.
+-- Whether it ended well or not, nothing changed but where the documents are, and which jobs are out. No file is out but those of its
+-- devices, at each moment a stop leaves what was stored, and a watch counted a fault where the call failed for one. That of a job
+-- that is out counts as it went out with it.
 pub record HasMoved {S D F W : Type 0} (eyes : Eyes S D F W) (Failed : Type 0) (old new : WithJobs S D F W) : Type 0 where
   pub moved : HasOnlyMoved old.engine.part new.engine.part
-  pub indexed : AreIndexed eyes.content old.engine.part.list → AreIndexed eyes.content new.engine.part.list
   pub policy : new.engine.policy ≡ old.engine.policy
   pub devices : TellsLogs (told_of eyes old) → OnlyDevicesOut (told_of eyes old) → OnlyDevicesOut (told_of eyes new)
   pub at_moments : MomentsStayOver (works_of eyes old) (told_of eyes old) (eyes.history new.engine.part.log.device) (eyes.disks new.engine.part.store)

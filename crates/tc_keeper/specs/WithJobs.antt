@@ -1,5 +1,7 @@
 -- An engine with the jobs of it that are out, as contracts see the two beside each other.
 use Rattle.std.specs.Prelude.{◌≡◌, ℕ, false, List, [], ◌∷◌, Option, None}
+use Rattle.tc_list.specs.declared.policy.Policy.{Policy}
+use Rattle.tc_lsm_model.specs.Contents.{Partition}
 use Rattle.tc_part_model.specs.PartState.{Told}
 use Rattle.tc_part_model.specs.PartView.{PartView}
 use Rattle.tc_running.specs.Jobs.{JobsState}
@@ -30,6 +32,18 @@ told_of eyes e = told_part eyes e.engine.part
 
 abbrev pub works_of : {S D F W : Type 0} → Eyes S D F W → WithJobs S D F W → PartView → Type 0
 works_of eyes e = works_by eyes (beside e.engine.part e.jobs)
+
+-- what no call changes of an engine: which partition it is, when a table is sealed, and by which policy components are merged
+pub record Settings : Type 0 where
+  pub here : Partition
+  pub memory : ℕ
+  pub policy : Policy
+
+abbrev pub set_as : ℕ → ℕ → ℕ → Policy → Settings
+set_as number count memory policy = record { here = record { number = number; count = count }; memory = memory; policy = policy }
+
+abbrev pub settings : {S D F W : Type 0} → WithJobs S D F W → Settings
+settings e = set_as e.engine.part.number e.engine.part.count e.engine.part.memory e.engine.policy
 
 -- These are exactly the jobs of the engine that are out, and if it has not failed it has its own files.
 pub record IsStaffed {S D F W : Type 0} (eyes : Eyes S D F W) (engine : EngineState S D F W) (jobs : JobsState F D W) : Type 0 where

@@ -25,7 +25,6 @@ returns-in-Ok-clause-flushed g c =
       };
       moved = record {
         moved = all.moves.keeps.moved;
-        indexed = all.moves.keeps.indexed;
         policy = all.policy;
         devices = all.moves.keeps.devices;
         at_moments = all.moves.moments;
@@ -55,7 +54,6 @@ returns-in-Err-clause-stopped g c =
       damaged_alone = left.damaged_alone;
       moved = record {
         moved = all.moves.keeps.moved;
-        indexed = all.moves.keeps.indexed;
         policy = all.policy;
         devices = all.moves.keeps.devices;
         at_moments = all.moves.moments;

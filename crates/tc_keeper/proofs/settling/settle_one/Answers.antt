@@ -15,7 +15,6 @@ returns-in-Ok-clause-settled g c =
       settled = record { emptied = done.emptied; stays = done.stays; short = done.short; none = done.none; outside = done.outside; listed = done.listed; few = done.few; flushing = done.flushing };
       moved = record {
         moved = all.moves.keeps.moved;
-        indexed = all.moves.keeps.indexed;
         policy = all.policy;
         devices = all.moves.keeps.devices;
         at_moments = all.moves.moments;
@@ -44,7 +43,6 @@ returns-in-Err-clause-stopped g c =
       };
       moved = record {
         moved = all.moves.keeps.moved;
-        indexed = all.moves.keeps.indexed;
         policy = all.policy;
         devices = all.moves.keeps.devices;
         at_moments = all.moves.moments;
