@@ -100,16 +100,17 @@ IsTrueHere disks moments content k = IsSaid (HasSpent disks moments content k) (
 abbrev pub IsMetBehind : {S W D F P : Type 0} → (D → List DiskFile) → (F → Option (List ℕ)) → Partitions S P W D F → ℕ → Damage → Type 0
 IsMetBehind {W = W} {F = F} moments content p q damage = (q < length p.engines) × (IsMet moments content p q damage ⊎ ((s : ShownState F W) × IsShownDamage content s damage))
 
--- A part of this partition has it. Each component that was listed is what its file is judged to be.
-pub record IsOfPart {S D F W : Type 0} (moments : D → List DiskFile) (content : F → Option (List ℕ)) (here : Partition) (damage : Damage) : Type 0 where
+-- A part of this partition has it, over a store and watches of these types. Each component that was listed is what its file is
+-- judged to be.
+pub record IsOfPart {D F : Type 0} (S W : Type 0) (moments : D → List DiskFile) (content : F → Option (List ℕ)) (here : Partition) (damage : Damage) : Type 0 where
   pub part : PartState S D F W
   pub is_here : partition_at part.number part.count ≡ here
   pub judged : All (IsAsJudged content) part.list
   pub is : IsPartDamage content moments part damage
 
--- A partition that is open has this damage, over stores and watches of these types, or a scan met it of what was shown.
+-- A partition that is open has it, or a scan met it of what was shown.
 abbrev pub IsMetIn : {D F : Type 0} → Type 0 → Type 0 → (D → List DiskFile) → (F → Option (List ℕ)) → Partition → Damage → Type 0
-IsMetIn {D = D} {F = F} S W moments content here damage = IsOfPart {S = S} {D = D} {F = F} {W = W} moments content here damage ⊎ ((s : ShownState F W) × IsShownDamage content s damage)
+IsMetIn {F = F} S W moments content here damage = IsOfPart S W moments content here damage ⊎ ((s : ShownState F W) × IsShownDamage content s damage)
 
 -- and what a fault says of the partitions that are left
 abbrev pub IsTrueBehind : {S W D F P : Type 0} → (S → List Disk) → (D → List DiskFile) → (F → Option (List ℕ)) → Partitions S P W D F → RunFault → Type 0

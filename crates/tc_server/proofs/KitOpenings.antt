@@ -36,7 +36,7 @@ use Rattle.tc_keeper.specs.Calls.{faults_at, MayBeAsked}
 use Rattle.tc_server.specs.Ending.{limits_of}
 use Rattle.tc_keeper.specs.Faults.{faults_in, faults_of_part, IfDisk, IsNoDamage, IsWrite, NoneFell, OneRose}
 use Rattle.tc_server.specs.OpeningFaults.{fault_of_opening, fault_of_shelf}
-use Rattle.tc_server.specs.KitCauses.{HasLayoutCause, IsJudged}
+use Rattle.tc_server.specs.KitCauses.{nothing_met, HasFilesCause, IsJudged}
 use Rattle.tc_server.specs.Kits.{IsClosed, IsGivenBack, IsNotGiven, IsOfOpening, IsOpened}
 use Rattle.tc_server.specs.OverFiles.{EndsOver, IsHere}
 use Rattle.tc_keeper.specs.declared.fault.RunFault.{RunFault}
@@ -65,7 +65,8 @@ undamaged_here p count (opening.Layout found found_of) here sound = absurd here
 undamaged_here p count opening.Spent here sound = (tt, tt)
 undamaged_here p count opening.Memory here sound = (tt, tt)
 
-refused_by : {F : Type 0} (content : F → Option (List ℕ)) (name : F → FileName) (p count : ℕ) (cause : OpenCause) (disk : Disk) → CauseJudged content name (partition_at p count) disk cause → IsJudged content name (partition_at p count) disk (Some (fault_of_opening p count cause))
+refused_by : {F : Type 0} (content : F → Option (List ℕ)) (name : F → FileName) (p count : ℕ) (cause : OpenCause) (disk : Disk) → CauseJudged content name (partition_at p count) disk cause
+    → IsJudged nothing_met content name (partition_at p count) disk (Some (fault_of_opening p count cause))
 refused_by content name p count opening.Disk disk judged = tt
 refused_by content name p count (opening.Damaged damage) disk judged = inl (refl, judged)
 refused_by content name p count (opening.Layout found found_of) disk judged = judged
@@ -79,12 +80,12 @@ spent_by content name p count (opening.Layout found found_of) disk same judged =
 spent_by content name p count opening.Spent disk same judged = judged
 spent_by content name p count opening.Memory disk same judged = absurd (cc)
 
-pub layout_of : {F : Type 0} (W : Type 0) (size : F → ℕ) (content : F → Option (List ℕ)) (name : F → FileName) (p count : ℕ) (cause : OpenCause) → IsOpenCause W size content name (partition_at p count) cause → HasLayoutCause W size name (fault_of_opening p count cause)
-layout_of W size content name p count opening.Disk is = tt
-layout_of W size content name p count (opening.Damaged damage) is = tt
-layout_of W size content name p count (opening.Layout found found_of) is = is
-layout_of W size content name p count opening.Spent is = tt
-layout_of W size content name p count opening.Memory is = tt
+pub opening_found : {F : Type 0} (W : Type 0) (size : F → ℕ) (content : F → Option (List ℕ)) (name : F → FileName) (p count : ℕ) (cause : OpenCause) → IsOpenCause W size content name (partition_at p count) cause → HasFilesCause nothing_met W size content name count (fault_of_opening p count cause)
+opening_found W size content name p count opening.Disk is = tt
+opening_found W size content name p count (opening.Damaged damage) is = inl is
+opening_found W size content name p count (opening.Layout found other) is = is
+opening_found W size content name p count opening.Spent is = tt
+opening_found W size content name p count opening.Memory is = tt
 
 -- what the first watch of a kit counted is what all four did
 watched_stay : {S W D F : Type 0} (counts : W → Counts) (kit back : Kit S W D F) (failed : Type 0) → back ≡ record kit { store = back.store; main = back.main } → IsWatched failed (counts kit.main) (counts back.main) → NoneFell (faults_in counts kit) (faults_in counts back)
@@ -120,7 +121,7 @@ given_back disks counts content name p count cause kit back here undamaged keeps
   sound = lawful_both (partition_at p count) (disks kit.store) (λ cs logs. causes.IfLayout cause ⊥) (λ cs logs. causes.IfDamaged cause (λ damage. ⊥))
       (λ cs logs. IsNoDamage None (fault_of_opening p count cause) × IsHere None (fault_of_opening p count cause))
       (λ cs logs. undamaged_here p count cause) here undamaged;
-  judged = told_map (λ disk. CauseJudged content name (partition_at p count) disk cause) (λ disk. IsJudged content name (partition_at p count) disk (Some (fault_of_opening p count cause))) (disks kit.store) (refused_by content name p count cause) judged;
+  judged = told_map (λ disk. CauseJudged content name (partition_at p count) disk cause) (λ disk. IsJudged nothing_met content name (partition_at p count) disk (Some (fault_of_opening p count cause))) (disks kit.store) (refused_by content name p count cause) judged;
   untouched = untouched;
   spent = λ is. told_map (λ disk. CauseJudged content name (partition_at p count) disk cause) (λ disk. Passes (partition_at p count) disk AreSpent) (disks kit.store) (λ disk. spent_by content name p count cause disk is) judged;
   none_fell = watched_stay counts kit back (cause ≡ opening.Disk) same watched;
@@ -135,7 +136,7 @@ pushed_back eyes name size options here came counted e outcome disks left i c = 
   of = tt;
   keeps = opened_keeps eyes size options here came counted e outcome disks left i c;
   sound = told_always (λ disk. (cs : List Content) (logs : List (List PlainWrite)) → DiskOpens here disk cs logs → IsNoDamage None Memory × IsHere None Memory) came (λ disk cs logs opens. (tt, tt));
-  judged = told_always (λ disk. IsJudged eyes.content name here disk (Some Memory)) came (λ disk. tt);
+  judged = told_always (λ disk. IsJudged nothing_met eyes.content name here disk (Some Memory)) came (λ disk. tt);
   untouched = inr i.passed;
   spent = λ never. absurd (cc);
   none_fell = none_fell_twice counted (faults_at eyes.counts e) left i.none_fell c.none_fell;
@@ -207,10 +208,11 @@ none_fell_opened counts kit part watched flusher merger reader = record {
 pub engine_opened : {S D F W : Type 0} (eyes : Eyes S D F W) (options : Options) (here : Partition) (came : List Disk) (kit : Kit S W D F) (part : PartState S D F W) (policy : Policy)
     → MayBeAsked (told_part eyes part) part → part.staged ≡ [] → part.limits ≡ limits_of options → part.memory ≡ options.memory → listed_least policy ≡ options.merge
     → IfTold came (λ disk. (cs : List Content) (logs : List (List PlainWrite)) → DiskOpens here disk cs logs → IsOpenedAs here cs logs (told_part eyes part)) → IfTold came (ArePassed here)
-    → IsWatched ⊥ (eyes.counts kit.main) (eyes.counts part.main) → part.flusher ≡ Some kit.flusher → part.merger ≡ Some kit.merger → part.reader ≡ Some kit.reader → part.sealed ≡ None → part.active ≡ []
+    → IsWatched ⊥ (eyes.counts kit.main) (eyes.counts part.main) → part.flusher ≡ Some kit.flusher → part.merger ≡ Some kit.merger → part.reader ≡ Some kit.reader → part.sealed ≡ None → part.active ≡ [] → partition_at part.number part.count ≡ here
     → IsOpened eyes options here came (faults_in eyes.counts kit) (engine_with (record { part = part; policy = policy }) no_jobs)
-engine_opened eyes options here came kit part policy ready unstaged limits memory merges opened passed watched flusher merger reader unsealed empty = record {
+engine_opened eyes options here came kit part policy ready unstaged limits memory merges opened passed watched flusher merger reader unsealed empty is_here = record {
   begun = record { ready = ready; unstaged = unstaged; limits = limits; memory = memory; merges = merges; alone = refl; unsealed = unsealed; empty = empty; reader = ap (λ o. is_some o) reader };
+  is_here = is_here;
   opened = opened;
   passed = passed;
   none_fell = none_fell_opened eyes.counts kit part watched flusher merger reader;
@@ -226,9 +228,9 @@ pub shelf_memory : (p : ℕ) (fault : ShelfFault) → fault_of_shelf p fault ≡
 shelf_memory p shelf.Fault is = absurd (cc)
 shelf_memory p shelf.Memory is = refl
 
-pub shelf_layout : {F : Type 0} (W : Type 0) (size : F → ℕ) (name : F → FileName) (p : ℕ) (fault : ShelfFault) → HasLayoutCause W size name (fault_of_shelf p fault)
-shelf_layout W size name p shelf.Fault = tt
-shelf_layout W size name p shelf.Memory = tt
+pub shelf_found : {F : Type 0} (W : Type 0) (size : F → ℕ) (content : F → Option (List ℕ)) (name : F → FileName) (count p : ℕ) (fault : ShelfFault) → HasFilesCause nothing_met W size content name count (fault_of_shelf p fault)
+shelf_found W size content name count p shelf.Fault = tt
+shelf_found W size content name count p shelf.Memory = tt
 
 -- a refusal that has its kit
 none_there : {K : Type 0} (o : Option K) → o ≡ None → IsSome o → ⊥

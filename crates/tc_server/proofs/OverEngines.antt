@@ -3,27 +3,30 @@ use Rattle.std.proofs.Common.{◌≡◌, ◌⊎◌, ◌∙◌, ◌≤◌, ◌<�
 use Rattle.std.specs.Prelude.{Option, Some, None, IfErr, IfSome, IsErrOf, option_map, slice_get, Result, Ok, Err, OnOk}
 use Rattle.std.proofs.lemmas.List.{length-map}
 use Rattle.std.proofs.lemmas.List.Elements.{All-cons, All-head, All-nil, All-tail, All-weaker}
-use Rattle.tc_keeper.specs.Places.{AtEach, SomeFrom}
+use Rattle.std.proofs.lemmas.Option.{slice_get-map}
+use Rattle.tc_keeper.specs.Places.{AtEach, EachFrom, SomeFrom}
 use Rattle.tc_keeper.specs.Standing.{partition_at, HoldsPart, IsSeen}
-use Rattle.tc_keeper.specs.WithJobs.{told_of, works_of, WithJobs}
+use Rattle.tc_keeper.specs.WithJobs.{settings, told_of, works_of, Settings, WithJobs}
 use Rattle.tc_keeper.proofs.PlaceLaws.{at_each-length}
 use Rattle.tc_list.specs.Policies.{listed_least}
-use Rattle.tc_list.specs.declared.policy.Policy.{Policy}
 use Rattle.tc_log.specs.Layout.{empty_size}
+use Rattle.tc_lsm_model.specs.Contents.{Partition}
+use Rattle.tc_part_model.specs.PartState.{PartState}
 use Rattle.tc_run_model.specs.World.{World}
 use Rattle.tc_store.specs.Counted.{Counts}
 use Rattle.tc_store.specs.Disk.{Disk}
-use Rattle.tc_store.specs.DiskFile.{DiskFile}
 use Rattle.tc_store.specs.KitFaults.{KitFaults}
 use Rattle.tc_store.specs.Moments.{IfTold}
+use Rattle.tc_store.specs.declared.damage.Damage.{Damage}
 use Rattle.tc_words.specs.declared.run.Options.{Options}
+use Rattle.tc_work.specs.Damage.{HasMetDamage, IsPartDamage}
 use Rattle.tc_work.specs.Faults.{IfDamaged as IfEngineDamaged}
 use Rattle.tc_work.specs.Moving.{Eyes}
 use Rattle.tc_work.specs.declared.fault.EngineFault.{EngineFault}
 use Rattle.tc_work.specs.declared.fault.EngineFault.TheVariants as engine
-use Rattle.tc_keeper.specs.Calls.{faults_at, faults_of, settings_of, HoldsAt, IsSpent, IsSpentAt, KeepsAt, MayAsk, MayBeAsked, Rests}
+use Rattle.tc_keeper.specs.Calls.{faults_at, faults_of, settings_of, HoldsAt, IsMet, IsSpent, IsSpentAt, KeepsAt, MayAsk, MayBeAsked, Rests}
 use Rattle.tc_keeper.specs.Faults.{fault_in, fault_of_engine, HaveRisen, HaveStayed, IfDamaged, IfDisk, IsNoDamage, IsOfJob, NoneFell, OneRose}
-use Rattle.tc_keeper.specs.Keeping.{AreUnwritten, IsMetBehind}
+use Rattle.tc_keeper.specs.Keeping.{AreUnwritten, IsMetBehind, IsMetIn}
 use Rattle.tc_server.specs.KitCauses.{HasLastGeneration}
 use Rattle.tc_server.specs.Kits.{least_fault, IsBegun, IsClosed}
 use Rattle.tc_keeper.specs.Partitions.{StandAt}
@@ -33,10 +36,12 @@ use Rattle.tc_keeper.specs.declared.fault.RunFault.TheVariants.{Usage, Read, Wri
 use Rattle.tc_keeper.specs.declared.partitions.Partitions.{Partitions}
 use Rattle.tc_keeper.proofs.Causes.{none_fell_twice, one_rose}
 use Rattle.tc_server.proofs.ClosingFaults.{all_well, ended_by, is_of_job, IsEndedBy}
-use Rattle.tc_keeper.proofs.EachLaws.{at_each-at, at_each-from, at_each-then, each-map, some-beside, there}
+use Rattle.tc_keeper.proofs.EachLaws.{at_each-at, at_each-from, at_each-then, each-at, each-map, some-beside, there}
 use Rattle.tc_keeper.proofs.EngineWorlds.{undamaged_at}
+use Rattle.tc_keeper.proofs.Turns.{is_at-get}
 use Rattle.tc_server.proofs.KitsLeft.{all_hold, held_kits, held_small, kept_kits, AreClosed, IsSet}
 use Rattle.tc_server.proofs.LeftFiles.{LeavesKits}
+use Rattle.tc_server.proofs.RunKits.{damaged_within}
 
 below : {X : Type 0} (xs : List X) (p : ℕ) (x : X) → slice_get xs p ≡ Some x → p < length xs
 below [] p x is = absurd (cc)
@@ -80,22 +85,26 @@ as_many_parts eyes count es (sees only w) all stands = sym (at_each-length (λ p
 -- ---- settings
 
 pub as_many_engines : {S W D F P : Type 0} (k k' : Partitions S P W D F) → settings_of k' ≡ settings_of k → length k'.engines ≡ length k.engines
-as_many_engines k k' same = sym (length-map k'.engines (λ e. (e.engine.part.memory, e.engine.policy))) ∙ ap length same ∙ length-map k.engines (λ e. (e.engine.part.memory, e.engine.policy))
+as_many_engines k k' same = sym (length-map k'.engines settings) ∙ ap length same ∙ length-map k.engines settings
 
-set_begun : {S D F W : Type 0} (eyes : Eyes S D F W) (options : Options) (es : List (WithJobs S D F W)) → All (IsBegun eyes options) es → All (λ (s : ℕ × Policy). (s.0 ≡ options.memory) × (listed_least s.1 ≡ options.merge)) (map (λ e. (e.engine.part.memory, e.engine.policy)) es)
-set_begun eyes options [] begun = All-nil (λ (s : ℕ × Policy). (s.0 ≡ options.memory) × (listed_least s.1 ≡ options.merge))
+-- as the options say
+abbrev SetBy : Options → Settings → Type 0
+SetBy options s = (s.memory ≡ options.memory) × (listed_least s.policy ≡ options.merge)
+
+set_begun : {S D F W : Type 0} (eyes : Eyes S D F W) (options : Options) (es : List (WithJobs S D F W)) → All (IsBegun eyes options) es → All (SetBy options) (map settings es)
+set_begun eyes options [] begun = All-nil (SetBy options)
 set_begun eyes options (e ∷ es) begun =
     let b = All-head (IsBegun eyes options) e es begun in
-    All-cons (λ (s : ℕ × Policy). (s.0 ≡ options.memory) × (listed_least s.1 ≡ options.merge)) (e.engine.part.memory, e.engine.policy) (map (λ e. (e.engine.part.memory, e.engine.policy)) es) (b.memory, b.merges) (set_begun eyes options es (All-tail (IsBegun eyes options) e es begun))
+    All-cons (SetBy options) (settings e) (map settings es) (b.memory, b.merges) (set_begun eyes options es (All-tail (IsBegun eyes options) e es begun))
 
 set_read : {S D F W : Type 0} (options : Options) (es : List (WithJobs S D F W))
-    → All (λ (s : ℕ × Policy). (s.0 ≡ options.memory) × (listed_least s.1 ≡ options.merge)) (map (λ e. (e.engine.part.memory, e.engine.policy)) es)
+    → All (SetBy options) (map settings es)
     → All (λ e. (e.engine.part.memory ≡ options.memory) × (listed_least e.engine.policy ≡ options.merge)) es
 set_read options [] sets = All-nil (λ e. (e.engine.part.memory ≡ options.memory) × (listed_least e.engine.policy ≡ options.merge))
 set_read options (e ∷ es) sets =
     All-cons (λ e. (e.engine.part.memory ≡ options.memory) × (listed_least e.engine.policy ≡ options.merge)) e es
-    (All-head (λ (s : ℕ × Policy). (s.0 ≡ options.memory) × (listed_least s.1 ≡ options.merge)) (e.engine.part.memory, e.engine.policy) (map (λ e. (e.engine.part.memory, e.engine.policy)) es) sets)
-    (set_read options es (All-tail (λ (s : ℕ × Policy). (s.0 ≡ options.memory) × (listed_least s.1 ≡ options.merge)) (e.engine.part.memory, e.engine.policy) (map (λ e. (e.engine.part.memory, e.engine.policy)) es) sets))
+    (All-head (SetBy options) (settings e) (map settings es) sets)
+    (set_read options es (All-tail (SetBy options) (settings e) (map settings es) sets))
 
 -- ---- what is left
 
@@ -117,8 +126,8 @@ module _ {S W D F P K : Type 0} (eyes : Eyes S D F W) (size : D → ℕ) (outcom
   }
     where
       sets : All (IsSet eyes size outcome left faults options) k'.engines
-      sets = set_read options k'.engines (subst (All (λ (s : ℕ × Policy). (s.0 ≡ options.memory) × (listed_least s.1 ≡ options.merge))) (sym settings)
-          (subst (λ (p : Partitions S P W D F). All (λ (s : ℕ × Policy). (s.0 ≡ options.memory) × (listed_least s.1 ≡ options.merge)) (settings_of p)) (sym is)
+      sets = set_read options k'.engines (subst (All (SetBy options)) (sym settings)
+          (subst (λ (p : Partitions S P W D F). All (SetBy options) (settings_of p)) (sym is)
           (set_begun eyes options es begun)))
 
   pub last_left : IsSpent eyes.disks eyes.history eyes.content k' → SomeFrom (λ p kit. IfTold (left kit) HasLastGeneration) 0 ks
@@ -231,20 +240,6 @@ module _ {S W D F K : Type 0} (counts : W → Counts) (faults : K → KitFaults)
   disk_over k k' ks (Some Memory) settings rose closed = tt
   disk_over k k' ks (Some (Layout p found found_of asked_of)) settings rose closed = tt
 
--- what was met was met in one of them
-pub damaged_over : {S W D F P : Type 0} (moments : D → List DiskFile) (content : F → Option (List ℕ)) (k k' : Partitions S P W D F) (fault : Option RunFault)
-    → settings_of k' ≡ settings_of k → IfSome fault (λ f. IfDamaged f (IsMetBehind moments content k'))
-    → IfSome fault (λ f. IfDamaged f (λ q damage. q < length k.engines))
-damaged_over moments content k k' None settings met = tt
-damaged_over moments content k k' (Some Usage) settings met = tt
-damaged_over moments content k k' (Some Read) settings met = tt
-damaged_over moments content k k' (Some (Write n)) settings met = tt
-damaged_over moments content k k' (Some Spent) settings met = tt
-damaged_over moments content k k' (Some (DiskFault p)) settings met = tt
-damaged_over moments content k k' (Some (Damaged p damage)) settings met = omega (arith, met.0, as_many_engines k k' settings)
-damaged_over moments content k k' (Some Memory) settings met = tt
-damaged_over moments content k k' (Some (Layout p found found_of asked_of)) settings met = tt
-
 -- ---- what counts of a fault with which an engine ended
 
 module _ {S W D F P K : Type 0} (eyes : Eyes S D F W) (size : D → ℕ) (outcome : K → Result (Unit {0}) EngineFault) (left : K → List Disk) (faults : K → KitFaults)
@@ -282,13 +277,58 @@ module _ {S W D F P K : Type 0} (eyes : Eyes S D F W) (size : D → ℕ) (outcom
       let same : 0 + b.place ≡ b.place = omega arith in
       subst (λ f. IfDisk f Rises) b.is (disk_by (0 + b.place) b.why (λ disk. rises_at stayed (0 + b.place) b.ended (subst (λ q. slice_get ks q ≡ Some b.ended) (sym same) b.at) (is_err_of (outcome b.ended) b.why engine.Disk b.by disk))))
 
-  damaged_by : (q : ℕ) (why : EngineFault) → q < length k.engines → IfDamaged (fault_of_engine q why) (λ q damage. q < length k.engines)
-  damaged_by q engine.Disk within = tt
-  damaged_by q (engine.Damaged damage) within = within
-  damaged_by q engine.Spent within = tt
-  damaged_by q engine.Memory within = tt
+-- ---- what is damaged
 
-  pub damaged_ended : IfSome (least_fault 0 (map outcome ks)) (λ f. IfDamaged f (λ q damage. q < length k.engines))
+-- which partition settings are of, if there are any
+abbrev here_in : Partition → Option Settings → Partition
+here_in other None = other
+here_in other (Some s) = s.here
+
+module _ {S W D F P K : Type 0} (eyes : Eyes S D F W) (size : D → ℕ) (outcome : K → Result (Unit {0}) EngineFault) (left : K → List Disk) (faults : K → KitFaults) (k k' : Partitions S P W D F) (ks : List K) (closed : AreClosed eyes size outcome left faults k'.engines ks)
+    (same : settings_of k' ≡ settings_of k) (count : ℕ) (all : length k.engines ≡ count) (here : EachFrom (λ p (e : WithJobs S D F W). (settings e).here ≡ partition_at p count) 0 k.engines) where
+  -- the partition of its place has it
+  abbrev Met : ℕ → Damage → Type 0
+  Met q damage = (q < count) × IsMetIn S W eyes.history eyes.content (partition_at q count) damage
+
+  -- an engine that is left is of the partition of its place
+  left_at : (q : ℕ) (e' : WithJobs S D F W) → slice_get k'.engines q ≡ Some e' → (settings e').here ≡ partition_at q count
+  left_at q e' is =
+      let e = there k.engines q (omega (arith, below k'.engines q e' is, as_many_engines k k' same)) in
+      let now : Some (settings e') ≡ Some (settings e.0) =
+      sym (ap (option_map settings) is) ∙ sym (slice_get-map settings k'.engines q) ∙ ap (λ (ss : List Settings). slice_get ss q) same ∙ slice_get-map settings k.engines q ∙ ap (option_map settings) e.1 in
+      ap (here_in (partition_at q count)) now ∙ each-at (λ p (e : WithJobs S D F W). (settings e).here ≡ partition_at p count) q k.engines e.0 here e.1
+
+  met_at : (q : ℕ) (damage : Damage) → IsMetBehind eyes.history eyes.content k' q damage → Met q damage
+  unfolding IsMet
+  met_at q damage met = (
+    omega (arith, met.0, as_many_engines k k' same, all),
+    elim met.1 [
+      | inl now ↦
+          let at = is_at-get (λ (e : WithJobs S D F W). IsPartDamage eyes.content eyes.history e.engine.part damage) q k'.engines now in
+          let end = (at_each-at (λ p e k. IsClosed eyes size e (outcome k) (left k) (faults k)) q k'.engines ks at.0 closed at.1).2 in
+          inl (record { part = at.0.engine.part; is_here = left_at q at.0 at.1; judged = end.judged; is = at.2 })
+      | inr shown ↦ inr shown
+    ],
+  )
+
+  pub damaged_over : (fault : Option RunFault) → IfSome fault (λ f. IfDamaged f (IsMetBehind eyes.history eyes.content k')) → IfSome fault (λ f. IfDamaged f Met)
+  damaged_over fault met = damaged_within (IsMetBehind eyes.history eyes.content k') Met fault met_at met
+
+  -- a job met it that was waited for
+  damaged_by : (q : ℕ) (why : EngineFault) (e : WithJobs S D F W) → q < count → slice_get k'.engines q ≡ Some e → IfEngineDamaged why (HasMetDamage eyes.content eyes.history e.engine.part) → IfDamaged (fault_of_engine q why) Met
+  damaged_by q engine.Disk e within at met = tt
+  damaged_by q (engine.Damaged damage) e within at met =
+      let was : partition_at met.part.number met.part.count ≡ partition_at e.engine.part.number e.engine.part.count = ap (λ (s : PartState S D F W). partition_at s.number s.count) met.moved in
+      (within, inl (record { part = met.part; is_here = was ∙ left_at q e at; judged = met.judged; is = met.is }))
+  damaged_by q engine.Spent e within at met = tt
+  damaged_by q engine.Memory e within at met = tt
+
+  pub damaged_ended : IfSome (least_fault 0 (map outcome ks)) (λ f. IfDamaged f Met)
   damaged_ended = if_some (least_fault 0 (map outcome ks)) (λ fault is.
       let b = ended_by outcome 0 ks fault is in
-      subst (λ f. IfDamaged f (λ q damage. q < length k.engines)) b.is (damaged_by (0 + b.place) b.why (omega (arith, as_many, below ks b.place b.ended b.at))))
+      let at = ended_at eyes size outcome left faults k' ks closed b.place b.ended b.at in
+      let place : 0 + b.place ≡ b.place = omega arith in
+      let many = at_each-length (λ p e k. IsClosed eyes size e (outcome k) (left k) (faults k)) 0 k'.engines ks closed in
+      subst (λ f. IfDamaged f Met) b.is (damaged_by (0 + b.place) b.why at.0 (omega (arith, many, below ks b.place b.ended b.at, as_many_engines k k' same, all))
+      (subst (λ q. slice_get k'.engines q ≡ Some at.0) (sym place) at.1)
+      (subst (λ r. IfErr r (λ fault. IfEngineDamaged fault (HasMetDamage eyes.content eyes.history at.0.engine.part))) b.by at.2.damaged)))

@@ -4,21 +4,22 @@ use Rattle.std.specs.Prelude.{Option, Some, None, IfSome, IsSomeAnd, option_map,
 use Rattle.std.proofs.lemmas.Option.{slice_get-map}
 use Rattle.std.proofs.lemmas.List.{length-map}
 use Rattle.tc_keeper.proofs.PlaceLaws.{at_each-length}
-use Rattle.tc_keeper.specs.Places.{AtEach, SomeFrom}
+use Rattle.tc_keeper.specs.Places.{AtEach, EachFrom, SomeFrom}
 use Rattle.tc_keeper.specs.Standing.{partition_at}
 use Rattle.tc_lsm_model.specs.Contents.{Partition}
 use Rattle.tc_open.specs.Judged.{ArePassed, AreSpent, IsUntouched, Passes}
-use Rattle.tc_keeper.specs.WithJobs.{WithJobs}
+use Rattle.tc_keeper.specs.WithJobs.{settings, WithJobs}
 use Rattle.tc_store.specs.Disk.{Disk}
 use Rattle.tc_store.specs.KitFaults.{KitFaults}
 use Rattle.tc_store.specs.Moments.{IfTold}
+use Rattle.tc_store.specs.declared.damage.Damage.{Damage}
 use Rattle.tc_store.specs.declared.file_name.FileName.{FileName}
 use Rattle.tc_store.proofs.MomentLemmas.{told_map}
 use Rattle.tc_work.specs.Moving.{Eyes}
 use Rattle.tc_words.specs.declared.run.Options.{Options}
 use Rattle.tc_keeper.specs.Calls.{faults_at}
 use Rattle.tc_keeper.specs.Faults.{IfDamaged, IfDisk, IsOfRun, NoneFell, OneRose}
-use Rattle.tc_server.specs.KitCauses.{AreAsked, AreGenerationsSpent, AreJudged, HasDiskCauseOver, HasLastGeneration, HasLayoutCause, IsJudged, NoneFellOf}
+use Rattle.tc_server.specs.KitCauses.{AreAsked, AreGenerationsSpent, AreJudged, HasDiskCauseOver, HasFilesCause, HasLastGeneration, IsJudged, NoneFellOf}
 use Rattle.tc_server.specs.Kits.{AreOpened, IsBegun, IsOpened}
 use Rattle.tc_keeper.specs.declared.fault.RunFault.{RunFault}
 use Rattle.tc_keeper.specs.declared.fault.RunFault.TheVariants.{Usage, Read, Write, Spent, Disk as DiskFault, Damaged, Memory, Layout}
@@ -36,27 +37,29 @@ asked_all count (Some (Damaged p damage)) some kind disk damaged = inr (damaged,
 asked_all count (Some Memory) some kind disk damaged = tt
 asked_all count (Some (Layout p found found_of asked_of)) some kind disk damaged = absurd kind
 
-judged_run : {F : Type 0} (content : F → Option (List ℕ)) (name : F → FileName) (here : Partition) (disk : Disk) (fault : Option RunFault) → suc here.number ≡ here.count → IfSome fault IsOfRun → ArePassed here disk → IsJudged content name here disk fault
-judged_run content name here disk None last kind passed = passed
-judged_run content name here disk (Some Usage) last kind passed = tt
-judged_run content name here disk (Some Read) last kind passed = passed
-judged_run content name here disk (Some (Write n)) last kind passed = passed
-judged_run content name here disk (Some Spent) last kind passed = passed
-judged_run content name here disk (Some (DiskFault p)) last kind passed = tt
-judged_run content name here disk (Some (Damaged p damage)) last kind passed = inr (last, passed)
-judged_run content name here disk (Some Memory) last kind passed = tt
-judged_run content name here disk (Some (Layout p found found_of asked_of)) last kind passed = absurd kind
+judged_run : {F : Type 0} (met : Partition → Damage → Type 0) (content : F → Option (List ℕ)) (name : F → FileName) (here : Partition) (disk : Disk) (fault : Option RunFault) → suc here.number ≡ here.count → IfSome fault IsOfRun
+    → IfSome fault (λ f. IfDamaged f (λ p damage. met (partition_at p here.count) damage)) → ArePassed here disk → IsJudged met content name here disk fault
+judged_run met content name here disk None last kind damaged passed = passed
+judged_run met content name here disk (Some Usage) last kind damaged passed = tt
+judged_run met content name here disk (Some Read) last kind damaged passed = passed
+judged_run met content name here disk (Some (Write n)) last kind damaged passed = passed
+judged_run met content name here disk (Some Spent) last kind damaged passed = passed
+judged_run met content name here disk (Some (DiskFault p)) last kind damaged passed = tt
+judged_run met content name here disk (Some (Damaged p damage)) last kind damaged passed = inr (damaged, last, passed)
+judged_run met content name here disk (Some Memory) last kind damaged passed = tt
+judged_run met content name here disk (Some (Layout p found found_of asked_of)) last kind damaged passed = absurd kind
 
-pub layout_run : {F : Type 0} (W : Type 0) (size : F → ℕ) (name : F → FileName) (fault : Option RunFault) → IfSome fault IsOfRun → IfSome fault (HasLayoutCause W size name)
-layout_run W size name None kind = tt
-layout_run W size name (Some Usage) kind = tt
-layout_run W size name (Some Read) kind = tt
-layout_run W size name (Some (Write n)) kind = tt
-layout_run W size name (Some Spent) kind = tt
-layout_run W size name (Some (DiskFault p)) kind = tt
-layout_run W size name (Some (Damaged p damage)) kind = tt
-layout_run W size name (Some Memory) kind = tt
-layout_run W size name (Some (Layout p found found_of asked_of)) kind = absurd kind
+pub found_run : {F : Type 0} (met : Partition → Damage → Type 0) (W : Type 0) (size : F → ℕ) (content : F → Option (List ℕ)) (name : F → FileName) (count : ℕ) (fault : Option RunFault) → IfSome fault IsOfRun
+    → IfSome fault (λ f. IfDamaged f (λ p damage. met (partition_at p count) damage)) → IfSome fault (HasFilesCause met W size content name count)
+found_run met W size content name count None kind damaged = tt
+found_run met W size content name count (Some Usage) kind damaged = tt
+found_run met W size content name count (Some Read) kind damaged = tt
+found_run met W size content name count (Some (Write n)) kind damaged = tt
+found_run met W size content name count (Some Spent) kind damaged = tt
+found_run met W size content name count (Some (DiskFault p)) kind damaged = tt
+found_run met W size content name count (Some (Damaged p damage)) kind damaged = inr damaged
+found_run met W size content name count (Some Memory) kind damaged = tt
+found_run met W size content name count (Some (Layout p found found_of asked_of)) kind damaged = absurd kind
 
 pub usage_run : (fault : Option RunFault) → IfSome fault IsOfRun → fault ≡ Some Usage → ⊥
 usage_run fault kind is = subst (λ f. IfSome f IsOfRun) is kind
@@ -72,9 +75,24 @@ disk_within P Q (Some (Damaged p damage)) so is = tt
 disk_within P Q (Some Memory) so is = tt
 disk_within P Q (Some (Layout p found found_of asked_of)) so is = tt
 
+pub damaged_within : (P Q : ℕ → Damage → Type 0) (fault : Option RunFault) → ((q : ℕ) (damage : Damage) → P q damage → Q q damage) → IfSome fault (λ f. IfDamaged f P) → IfSome fault (λ f. IfDamaged f Q)
+damaged_within P Q None so is = tt
+damaged_within P Q (Some Usage) so is = tt
+damaged_within P Q (Some Read) so is = tt
+damaged_within P Q (Some (Write n)) so is = tt
+damaged_within P Q (Some Spent) so is = tt
+damaged_within P Q (Some (DiskFault p)) so is = tt
+damaged_within P Q (Some (Damaged p damage)) so is = so p damage is
+damaged_within P Q (Some Memory) so is = tt
+damaged_within P Q (Some (Layout p found found_of asked_of)) so is = tt
+
 module _ {S D F W K : Type 0} (eyes : Eyes S D F W) (disks : K → List Disk) (faults : K → KitFaults) (options : Options) (files : ℕ → List Disk) (came : ℕ → KitFaults) (es : List (WithJobs S D F W)) (opened : AreOpened eyes options files came es) where
   pub all_begun : All (IsBegun eyes options) es
   all_begun = each-all (IsBegun eyes options) 0 es (each-so (λ p e. IsOpened eyes options (partition_at p options.partitions) (files p) (came p) e) (λ p e. IsBegun eyes options e) 0 es (λ p e i. i.begun) opened)
+
+  -- each is of the partition of its number
+  pub all_here : EachFrom (λ p (e : WithJobs S D F W). (settings e).here ≡ partition_at p options.partitions) 0 es
+  all_here = each-so (λ p e. IsOpened eyes options (partition_at p options.partitions) (files p) (came p) e) (λ p (e : WithJobs S D F W). (settings e).here ≡ partition_at p options.partitions) 0 es (λ p e i. i.is_here) opened
 
   pub none_fell_all : (ks : List K) → AtEach (λ p e k. NoneFell (faults_at eyes.counts e) (faults k)) 0 es ks → NoneFellOf came (map faults ks)
   none_fell_all ks fell =
@@ -105,12 +123,12 @@ module _ {S D F W K : Type 0} (eyes : Eyes S D F W) (disks : K → List Disk) (f
   passed_at : (p : ℕ) → p < length es → IfTold (files p) (ArePassed (partition_at p options.partitions))
   passed_at p below = let e = there es p below in (each-at (λ p e. IsOpened eyes options (partition_at p options.partitions) (files p) (came p) e) p es e.0 opened e.1).passed
 
-  pub judged_all : (name : F → FileName) (ks : List K) (fault : Option RunFault) → length es ≡ options.partitions → AtEach (λ p e k. NoneFell (faults_at eyes.counts e) (faults k)) 0 es ks → IfSome fault IsOfRun
-      → AreJudged eyes.content name options.partitions files fault (map disks ks)
-  judged_all name ks fault all fell kind = record {
+  pub judged_all : (met : Partition → Damage → Type 0) (name : F → FileName) (ks : List K) (fault : Option RunFault) → length es ≡ options.partitions → AtEach (λ p e k. NoneFell (faults_at eyes.counts e) (faults k)) 0 es ks → IfSome fault IsOfRun
+      → IfSome fault (λ f. IfDamaged f (λ p damage. met (partition_at p options.partitions) damage)) → AreJudged met eyes.content name options.partitions files fault (map disks ks)
+  judged_all met name ks fault all fell kind damaged = record {
     opened = λ p lower. passed_at p (omega (arith, lower, many));
-    last = λ p is. told_map (ArePassed (partition_at p options.partitions)) (λ disk. IsJudged eyes.content name (partition_at p options.partitions) disk fault) (files p)
-        (λ disk. judged_run eyes.content name (partition_at p options.partitions) disk fault (is ∙ many ∙ all) kind) (passed_at p (omega (arith, is, many)));
+    last = λ p is. told_map (ArePassed (partition_at p options.partitions)) (λ disk. IsJudged met eyes.content name (partition_at p options.partitions) disk fault) (files p)
+        (λ disk. judged_run met eyes.content name (partition_at p options.partitions) disk fault (is ∙ many ∙ all) kind damaged) (passed_at p (omega (arith, is, many)));
     untouched =
         each-map disks (λ p left. IsUntouched (partition_at p options.partitions) (files p) left) 0 ks
         (each-beside (λ p e. IsOpened eyes options (partition_at p options.partitions) (files p) (came p) e) (λ p e k. NoneFell (faults_at eyes.counts e) (faults k)) (λ p k. IsUntouched (partition_at p options.partitions) (files p) (disks k)) 0 es ks

@@ -8,12 +8,17 @@ use Rattle.tc_keeper.specs.Places.{AtEach, EachFrom, SomeFrom}
 use Rattle.tc_keeper.specs.Standing.{partition_at, IsSeen}
 use Rattle.tc_keeper.specs.WithJobs.{WithJobs}
 use Rattle.tc_keeper.proofs.PlaceLaws.{at_each-length, at_each-reads, at_each-so}
+use Rattle.tc_keeper.specs.Keeping.{IsMetIn}
+use Rattle.tc_lsm_model.specs.Contents.{Partition}
 use Rattle.tc_open.specs.Judged.{ArePassed, AreSpent, IsUntouched, Passes}
 use Rattle.tc_run_model.specs.Course.{unopened}
 use Rattle.tc_store.specs.Disk.{Disk}
+use Rattle.tc_store.specs.DiskFile.{DiskFile}
 use Rattle.tc_store.specs.KitFaults.{KitFaults}
 use Rattle.tc_store.specs.Moments.{IfTold}
+use Rattle.tc_store.specs.declared.damage.Damage.{Damage}
 use Rattle.tc_store.specs.declared.file_name.FileName.{FileName}
+use Rattle.tc_store.proofs.MomentLemmas.{told_map}
 use Rattle.tc_work.specs.Moving.{Eyes}
 use Rattle.tc_work.specs.declared.fault.EngineFault.{EngineFault}
 use Rattle.tc_words.specs.declared.asked.Invocation.{Invocation}
@@ -21,7 +26,7 @@ use Rattle.tc_words.specs.declared.run.Options.{Options}
 use Rattle.tc_keeper.specs.Calls.{faults_at}
 use Rattle.tc_server.specs.Ending.{limits_of}
 use Rattle.tc_keeper.specs.Faults.{IfDisk, IsNoDamage, IsWrite, NoneFell, OneRose}
-use Rattle.tc_server.specs.KitCauses.{AreAsked, AreGenerationsSpent, AreJudged, GivesKitsBack, HasCauseOver, HasDiskCauseOver, HasLastGeneration, HasLayoutCause, IsInputSpent, IsJudged, NoneFellOf}
+use Rattle.tc_server.specs.KitCauses.{nothing_met, AreAsked, AreGenerationsSpent, AreJudged, GivesKitsBack, HasCauseOver, HasDiskCauseOver, HasFilesCause, HasLastGeneration, IsInputSpent, IsJudged, NoneFellOf}
 use Rattle.tc_server.specs.Kits.{AreOpened, IsClosed, IsGivenBack, IsNotGiven, IsOfOpening, IsOpened}
 use Rattle.tc_server.specs.OverFiles.{partitions_asked, BeginsAs, EndsOver, IsHere, KeepsOpened}
 use Rattle.tc_keeper.specs.Sight.{nothing, sees, IfKnown, Sight}
@@ -77,7 +82,7 @@ pub record AreGivenBack {F : Type 0} (content : F → Option (List ℕ)) (name :
   pub keep : EachFrom (λ p. KeepsOpened (partition_at p options.partitions) (files p)) 0 kits
   pub none_fell : NoneFellOf came counted
   pub disk : IfDisk fault (HasDiskCauseOver before now came counted)
-  pub judged : AreJudged content name options.partitions files (Some fault) kits
+  pub judged : AreJudged nothing_met content name options.partitions files (Some fault) kits
   pub spent : fault ≡ Spent → AreGenerationsSpent options.partitions files kits
 
 -- an engine was closed, however it ended
@@ -146,9 +151,9 @@ module _ {S D F W K : Type 0} (eyes : Eyes S D F W) (name : F → FileName) (siz
       always : (first : Sight) → BeginsAs (limits_of options) options.partitions files first → IfKnown first (λ only w. IsNoDamage only fault × IsHere only fault)
       always first begins = if_known first (λ only. IsNoDamage only fault × IsHere only fault) (λ only w is. sound_not_given only (Rose before now) (length es) fault n)
 
-      judged_last : (given : List Disk) (here : _) → IfTold given (ArePassed here) → IfTold given (λ disk. IsJudged eyes.content name here disk (Some fault))
+      judged_last : (given : List Disk) (here : _) → IfTold given (ArePassed here) → IfTold given (λ disk. IsJudged nothing_met eyes.content name here disk (Some fault))
       judged_last [] here passed = tt
-      judged_last (disk ∷ past) here passed = elim n.is [ inl is ↦ subst (λ f. IsJudged eyes.content name here disk (Some f)) (sym is) tt | inr is ↦ subst (λ f. IsJudged eyes.content name here disk (Some f)) (sym is) tt ]
+      judged_last (disk ∷ past) here passed = elim n.is [ inl is ↦ subst (λ f. IsJudged nothing_met eyes.content name here disk (Some f)) (sym is) tt | inr is ↦ subst (λ f. IsJudged nothing_met eyes.content name here disk (Some f)) (sym is) tt ]
 
   -- it came back
   pub kit_back : (before now : ℕ) (es : List (WithJobs S D F W)) (ks : List K) (k : K) (fault : RunFault) → length es < options.partitions → AreOpened eyes options files came es → AtEach (λ p e k. IsEnded eyes size disks faults e k) 0 es ks
@@ -163,7 +168,7 @@ module _ {S D F W K : Type 0} (eyes : Eyes S D F W) (name : F → FileName) (siz
     disk = disk_back before now options.partitions (length es) came (map faults (ks ++ k ∷ [])) (faults k) fault last_counted b.of b.disk;
     judged = record {
       opened = λ p lower. passed_at es p opened (omega (arith, lower, many));
-      last = λ p is. let same_place : length es ≡ p = omega (arith, is, many) in subst (λ p. IfTold (files p) (λ disk. IsJudged eyes.content name (partition_at p options.partitions) disk (Some fault))) same_place b.judged;
+      last = λ p is. let same_place : length es ≡ p = omega (arith, is, many) in subst (λ p. IfTold (files p) (λ disk. IsJudged nothing_met eyes.content name (partition_at p options.partitions) disk (Some fault))) same_place b.judged;
       untouched = subst (EachFrom Stays 0) (sym (map-append disks ks (k ∷ []))) (each-append Stays 0 (map disks ks) (disks k ∷ []) (passed_closed es ks opened closed) (subst (λ n. EachFrom Stays n (disks k ∷ [])) at_disks (b.untouched, tt)));
     };
     spent = λ is. subst (SomeFrom Spends 0) (sym (map-append disks ks (k ∷ []))) (some-append Spends 0 (map disks ks) (disks k ∷ []) (subst (λ n. SomeFrom Spends n (disks k ∷ [])) at_disks (inl (inl (b.spent is)))));
@@ -211,6 +216,39 @@ module _ {S D F W K : Type 0} (eyes : Eyes S D F W) (name : F → FileName) (siz
       subst (λ xs. AreGivenBack eyes.content name options before now files came fault (map disks xs) (map faults xs)) (sym (append-nil ks)) (not_given_back before now es ks fault below opened closed (not_given refl))
   given_back_all before now es ks (Some k) fault below opened closed back not_given = kit_back before now es ks k fault below opened closed back
 
+-- ---- what is judged of a partition that was not opened is so whatever else a run meets
+
+judged_met : {F : Type 0} (met : Partition → Damage → Type 0) (content : F → Option (List ℕ)) (name : F → FileName) (here : Partition) (disk : Disk) (fault : RunFault) → IsJudged nothing_met content name here disk (Some fault) → IsJudged met content name here disk (Some fault)
+judged_met met content name here disk Usage is = tt
+judged_met met content name here disk Read is = is
+judged_met met content name here disk (Write n) is = is
+judged_met met content name here disk Spent is = is
+judged_met met content name here disk (DiskFault p) is = tt
+judged_met met content name here disk (Damaged p damage) (inl found) = inl found
+judged_met met content name here disk (Damaged p damage) (inr run) = absurd run.0
+judged_met met content name here disk Memory is = tt
+judged_met met content name here disk (Layout p found found_of asked_of) is = is
+
+pub all_judged_met : {F : Type 0} (met : Partition → Damage → Type 0) (content : F → Option (List ℕ)) (name : F → FileName) (count : ℕ) (files : ℕ → List Disk) (fault : RunFault) (kits : List (List Disk)) → AreJudged nothing_met content name count files (Some fault) kits
+    → AreJudged met content name count files (Some fault) kits
+all_judged_met met content name count files fault kits j = record {
+  opened = j.opened;
+  last = λ p is. told_map (λ disk. IsJudged nothing_met content name (partition_at p count) disk (Some fault)) (λ disk. IsJudged met content name (partition_at p count) disk (Some fault)) (files p)
+      (λ disk. judged_met met content name (partition_at p count) disk fault) (j.last p is);
+  untouched = j.untouched;
+}
+
+pub found_met : {F : Type 0} (met : Partition → Damage → Type 0) (W : Type 0) (size : F → ℕ) (content : F → Option (List ℕ)) (name : F → FileName) (count : ℕ) (fault : RunFault) → HasFilesCause nothing_met W size content name count fault → HasFilesCause met W size content name count fault
+found_met met W size content name count Usage is = tt
+found_met met W size content name count Read is = tt
+found_met met W size content name count (Write n) is = tt
+found_met met W size content name count Spent is = tt
+found_met met W size content name count (DiskFault p) is = tt
+found_met met W size content name count (Damaged p damage) (inl found) = inl found
+found_met met W size content name count (Damaged p damage) (inr run) = absurd run
+found_met met W size content name count Memory is = tt
+found_met met W size content name count (Layout p found found_of asked_of) is = is
+
 -- ---- how many kits there are, and what became of the shelf
 
 pub last_many : {E X : Type 0} (R : ℕ → E → X → Type 0) (es : List E) (ks : List X) (last : Option X) (all : List X) → all ≡ ks ++ option_to_list last → AtEach R 0 es ks → length all ≡ length es + length (option_to_list last)
@@ -253,8 +291,8 @@ unasked_back same rose es kits p fault last place many not_given unasked none =
 
 -- ---- where no kit was asked for
 
-judged_nothing : {F : Type 0} (content : F → Option (List ℕ)) (name : F → FileName) (count : ℕ) (files : ℕ → List Disk) (fault : Option RunFault) → AreJudged content name count files fault []
-judged_nothing content name count files fault = record {
+judged_nothing : {F : Type 0} (met : Partition → Damage → Type 0) (content : F → Option (List ℕ)) (name : F → FileName) (count : ℕ) (files : ℕ → List Disk) (fault : Option RunFault) → AreJudged met content name count files fault []
+judged_nothing met content name count files fault = record {
   opened = λ p lower. absurd (omega (arith, lower));
   last = λ p is. absurd (cc);
   untouched = tt;
@@ -276,15 +314,16 @@ nothing_back same count before files came fault counts kind = record {
   unasked = λ none. inl same;
 }
 
-pub no_cause : {K F : Type 0} (W : Type 0) (content : F → Option (List ℕ)) (name : F → FileName) (size : F → ℕ) (asked : Option Invocation) (left : Option (List ℕ)) (reads writes before : ℕ) (files : ℕ → List Disk) (came : ℕ → KitFaults) (fault : RunFault) (history : K → List Disk) (counts : K → KitFaults)
-    → (fault ≡ Usage) ⊎ (fault ≡ Memory) → (fault ≡ Usage → asked ≡ None) → HasCauseOver W content name size asked left left reads reads writes writes before before files came (Some fault) [] history counts
-no_cause W content name size asked left reads writes before files came fault history counts kind none = record {
+pub no_cause : {K D F : Type 0} (S W : Type 0) (moments : D → List DiskFile) (content : F → Option (List ℕ)) (name : F → FileName) (size : F → ℕ) (asked : Option Invocation) (left : Option (List ℕ)) (reads writes before : ℕ) (files : ℕ → List Disk) (came : ℕ → KitFaults) (fault : RunFault)
+    (history : K → List Disk) (counts : K → KitFaults) → (fault ≡ Usage) ⊎ (fault ≡ Memory) → (fault ≡ Usage → asked ≡ None)
+    → HasCauseOver S W moments content name size asked left left reads reads writes writes before before files came (Some fault) [] history counts
+no_cause S W moments content name size asked left reads writes before files came fault history counts kind none = record {
   usage = λ same. none (cc);
   read = of_words (λ f. Some f ≡ Some Read → Rose reads reads) fault kind (λ same. absurd (cc)) (λ same. absurd (cc));
   write = of_words (λ f. IsWrite f → Rose writes writes) fault kind (λ is. absurd is) (λ is. absurd is);
   disk = of_words (λ f. IfDisk f (HasDiskCauseOver before before came [])) fault kind tt tt;
-  judged = judged_nothing content name (partitions_asked asked) files (Some fault);
-  layout = of_words (HasLayoutCause W size name) fault kind tt tt;
+  judged = judged_nothing (IsMetIn S W moments content) content name (partitions_asked asked) files (Some fault);
+  found = of_words (HasFilesCause (IsMetIn S W moments content) W size content name (partitions_asked asked)) fault kind tt tt;
   spent = of_words (λ f. Some f ≡ Some Spent → IsInputSpent asked left left ⊎ AreGenerationsSpent (partitions_asked asked) files []) fault kind (λ same. absurd (cc)) (λ same. absurd (cc));
 }
 

@@ -5,20 +5,23 @@ use Rattle.std.specs.Io.KnownBytes.{Consumes}
 use Rattle.tc_bytes.specs.Counts.{Rose}
 use Rattle.tc_keeper.specs.Standing.{partition_at}
 use Rattle.tc_store.specs.Disk.{Disk, IsThere}
+use Rattle.tc_store.specs.DiskFile.{DiskFile}
 use Rattle.tc_store.specs.KitFaults.{KitFaults}
 use Rattle.tc_store.specs.Moments.{IfTold}
+use Rattle.tc_store.specs.declared.damage.Damage.{Damage}
 use Rattle.tc_store.specs.declared.file_name.FileName.{FileName}
 use Rattle.tc_store.specs.declared.file_name.FileName.TheVariants.{Component, Log}
 use Rattle.tc_lsm_model.specs.Contents.{Partition}
 use Rattle.tc_recover.specs.declared.cause.FilesCause.TheVariants as files
 use Rattle.tc_recover.specs.Opening.{DiskJudged}
 use Rattle.tc_recover.specs.Refusals.{strays}
-use Rattle.tc_open.specs.Judged.{ArePassed, AreSpent, CauseJudged, IsOfFiles, IsUntouched, Passes}
+use Rattle.tc_open.specs.Judged.{ArePassed, AreSpent, CauseJudged, IsOfFiles, IsOpenCause, IsUntouched, Passes}
 use Rattle.tc_open.specs.declared.fault.OpenCause.TheVariants as opening
 use Rattle.tc_run_model.specs.Course.{max_input}
 use Rattle.tc_server.specs.Ending.{IsRun}
 use Rattle.tc_server.specs.OverFiles.{partitions_asked}
 use Rattle.tc_keeper.specs.Faults.{IfDisk, IsWrite, NoneFell, OneRose}
+use Rattle.tc_keeper.specs.Keeping.{IsMetIn}
 use Rattle.tc_keeper.specs.Places.{EachFrom, SomeFrom}
 use Rattle.tc_keeper.specs.declared.fault.RunFault.{RunFault}
 use Rattle.tc_keeper.specs.declared.fault.RunFault.TheVariants.{Usage, Read, Write, Spent, Disk as DiskFault, Damaged, Memory, Layout}
@@ -42,31 +45,37 @@ AreAsked count (Some (Layout p found found_of asked_of)) kits = (suc p ≡ kits)
 
 -- ---- files
 
+-- no partition has damage that was met once all were open
+abbrev pub nothing_met : Partition → Damage → Type 0
+nothing_met here damage = ⊥
+
 -- What is judged of the files of the last kit as they were given. A run comes to its lines only over files that are not refused,
 -- and what is refused of them is what is judged, or what opening them found damaged. A run that met damage opened all partitions.
 -- Of a fault of the disk and of want of memory nothing is said here.
-abbrev pub IsJudged : {F : Type 0} → (F → Option (List ℕ)) → (F → FileName) → Partition → Disk → Option RunFault → Type 0
-IsJudged content name here disk None = ArePassed here disk
-IsJudged content name here disk (Some Usage) = Unit {0}
-IsJudged content name here disk (Some Read) = ArePassed here disk
-IsJudged content name here disk (Some (Write n)) = ArePassed here disk
-IsJudged content name here disk (Some Spent) = ArePassed here disk
-IsJudged content name here disk (Some (DiskFault p)) = Unit {0}
-IsJudged content name here disk (Some (Damaged p damage)) = ((p ≡ here.number) × CauseJudged content name here disk (opening.Damaged damage)) ⊎ ((suc here.number ≡ here.count) × ArePassed here disk)
-IsJudged content name here disk (Some Memory) = Unit {0}
-IsJudged content name here disk (Some (Layout p found found_of asked_of)) = DiskJudged here disk (Err (strays found found_of))
+abbrev pub IsJudged : {F : Type 0} → (Partition → Damage → Type 0) → (F → Option (List ℕ)) → (F → FileName) → Partition → Disk → Option RunFault → Type 0
+IsJudged met content name here disk None = ArePassed here disk
+IsJudged met content name here disk (Some Usage) = Unit {0}
+IsJudged met content name here disk (Some Read) = ArePassed here disk
+IsJudged met content name here disk (Some (Write n)) = ArePassed here disk
+IsJudged met content name here disk (Some Spent) = ArePassed here disk
+IsJudged met content name here disk (Some (DiskFault p)) = Unit {0}
+IsJudged met content name here disk (Some (Damaged p damage)) = ((p ≡ here.number) × CauseJudged content name here disk (opening.Damaged damage)) ⊎ (met (partition_at p here.count) damage × (suc here.number ≡ here.count) × ArePassed here disk)
+IsJudged met content name here disk (Some Memory) = Unit {0}
+IsJudged met content name here disk (Some (Layout p found found_of asked_of)) = DiskJudged here disk (Err (strays found found_of))
 
 -- Of the kits that are given back the last one is judged so; the others were opened, since a further one was asked for. Where the files of
 -- one are refused in reading, each keeps its bytes.
-pub record AreJudged {F : Type 0} (content : F → Option (List ℕ)) (name : F → FileName) (count : ℕ) (files : ℕ → List Disk) (fault : Option RunFault) (kits : List (List Disk)) : Type 0 where
+pub record AreJudged {F : Type 0} (met : Partition → Damage → Type 0) (content : F → Option (List ℕ)) (name : F → FileName) (count : ℕ) (files : ℕ → List Disk) (fault : Option RunFault) (kits : List (List Disk)) : Type 0 where
   pub opened : (p : ℕ) → suc p < length kits → IfTold (files p) (ArePassed (partition_at p count))
-  pub last : (p : ℕ) → suc p ≡ length kits → IfTold (files p) (λ disk. IsJudged content name (partition_at p count) disk fault)
+  pub last : (p : ℕ) → suc p ≡ length kits → IfTold (files p) (λ disk. IsJudged met content name (partition_at p count) disk fault)
   pub untouched : EachFrom (λ p left. IsUntouched (partition_at p count) (files p) left) 0 kits
 
--- other numbers of partitions are those that a file keeps, also over files that are not told
-abbrev pub HasLayoutCause : {F : Type 0} → Type 0 → (F → ℕ) → (F → FileName) → RunFault → Type 0
-HasLayoutCause W size name (Layout p found found_of asked_of) = IsOfFiles W size name (partition_at p asked_of) (files.Layout found found_of)
-HasLayoutCause W size name fault = Unit {0}
+-- Also over files that are not told: damage was found while its partition was opened, or is met there once all are open, and other
+-- numbers of partitions are those that a file keeps.
+abbrev pub HasFilesCause : {F : Type 0} → (Partition → Damage → Type 0) → Type 0 → (F → ℕ) → (F → Option (List ℕ)) → (F → FileName) → ℕ → RunFault → Type 0
+HasFilesCause met W size content name count (Damaged p damage) = IsOpenCause W size content name (partition_at p count) (opening.Damaged damage) ⊎ met (partition_at p count) damage
+HasFilesCause met W size content name count (Layout p found found_of asked_of) = IsOfFiles W size name (partition_at p asked_of) (files.Layout found found_of)
+HasFilesCause met W size content name count fault = Unit {0}
 
 -- ---- numbers that are spent
 
@@ -117,12 +126,13 @@ pub record GivesKitsBack {K : Type 0} (is_same : Type 0) (count before now : ℕ
   pub unasked : kits ≡ [] → is_same ⊎ Rose before now
 
 -- When a run for these words may end by a fault. What a source, a sink, a shelf or a disk is blamed for, it counted. What is refused
--- of files is what is judged of them as they came. Numbers are spent by the input, or by a file.
-pub record HasCauseOver {K F : Type 0} (W : Type 0) (content : F → Option (List ℕ)) (name : F → FileName) (size : F → ℕ) (asked : Option Invocation) (left left' : Option (List ℕ)) (reads reads' writes writes' before now : ℕ) (files : ℕ → List Disk) (came : ℕ → KitFaults) (fault : Option RunFault) (kits : List K) (history : K → List Disk) (counts : K → KitFaults) : Type 0 where
+-- of files is what is judged of them as they came, and damage that is met later is in the partition that is named. Numbers are spent
+-- by the input, or by a file.
+pub record HasCauseOver {K D F : Type 0} (S W : Type 0) (moments : D → List DiskFile) (content : F → Option (List ℕ)) (name : F → FileName) (size : F → ℕ) (asked : Option Invocation) (left left' : Option (List ℕ)) (reads reads' writes writes' before now : ℕ) (files : ℕ → List Disk) (came : ℕ → KitFaults) (fault : Option RunFault) (kits : List K) (history : K → List Disk) (counts : K → KitFaults) : Type 0 where
   pub usage : fault ≡ Some Usage → asked ≡ None
   pub read : fault ≡ Some Read → Rose reads reads'
   pub write : IfSome fault (λ f. IsWrite f → Rose writes writes')
   pub disk : IfSome fault (λ f. IfDisk f (HasDiskCauseOver before now came (map counts kits)))
-  pub judged : AreJudged content name (partitions_asked asked) files fault (map history kits)
-  pub layout : IfSome fault (HasLayoutCause W size name)
+  pub judged : AreJudged (IsMetIn S W moments content) content name (partitions_asked asked) files fault (map history kits)
+  pub found : IfSome fault (HasFilesCause (IsMetIn S W moments content) W size content name (partitions_asked asked))
   pub spent : fault ≡ Some Spent → IsInputSpent asked left left' ⊎ AreGenerationsSpent (partitions_asked asked) files (map history kits)

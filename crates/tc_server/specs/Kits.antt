@@ -1,8 +1,9 @@
 -- The kit of one partition among others: its engine once it is opened, what comes of a kit whose partition is not, and what an
 -- engine leaves when it is closed.
-use Rattle.std.specs.Prelude.{◌≡◌, ◌⊎◌, ℕ, suc, true, List, [], ◌∷◌, Option, Some, None, is_some, Result, Ok, Err, IfErr, IsErrOf, OnOk}
+use Rattle.std.specs.Prelude.{◌≡◌, ◌⊎◌, ℕ, suc, true, All, List, [], ◌∷◌, Option, Some, None, is_some, Result, Ok, Err, IfErr, IsErrOf, OnOk}
+use Rattle.tc_component.specs.Loading.{IsAsJudged}
 use Rattle.tc_keeper.specs.Standing.{partition_at}
-use Rattle.tc_keeper.specs.WithJobs.{no_jobs, told_of, works_of, WithJobs}
+use Rattle.tc_keeper.specs.WithJobs.{no_jobs, settings, told_of, works_of, WithJobs}
 use Rattle.tc_list.specs.Policies.{listed_least}
 use Rattle.tc_lsm_model.specs.Contents.{Content, Partition}
 use Rattle.tc_open.specs.Judged.{ArePassed, AreSpent, IsUntouched, Passes}
@@ -18,6 +19,7 @@ use Rattle.tc_store.specs.declared.file_name.FileName.{FileName}
 use Rattle.tc_store.specs.Disk.{Disk}
 use Rattle.tc_store.specs.KitFaults.{KitFaults}
 use Rattle.tc_store.specs.Moments.{IfTold}
+use Rattle.tc_work.specs.Damage.{HasMetDamage}
 use Rattle.tc_work.specs.Ending.{EndsSmall}
 use Rattle.tc_work.specs.Failing.{HasFailedKeeping}
 use Rattle.tc_work.specs.Faults.{IfDamaged as IfEngineDamaged}
@@ -29,7 +31,7 @@ use Rattle.tc_words.specs.declared.run.Options.{Options}
 use Rattle.tc_keeper.specs.Calls.{faults_at, IsSpentAt, MayBeAsked}
 use Rattle.tc_server.specs.Ending.{limits_of}
 use Rattle.tc_keeper.specs.Faults.{fault_of_engine, IfDisk, IsNoDamage, NoneFell, OneRose}
-use Rattle.tc_server.specs.KitCauses.{HasLastGeneration, IsJudged}
+use Rattle.tc_server.specs.KitCauses.{nothing_met, HasLastGeneration, IsJudged}
 use Rattle.tc_server.specs.OverFiles.{IsHere, KeepsOpened}
 use Rattle.tc_keeper.specs.Places.{EachFrom}
 use Rattle.tc_keeper.specs.declared.fault.RunFault.{RunFault}
@@ -50,9 +52,10 @@ pub record IsBegun {S D F W : Type 0} (eyes : Eyes S D F W) (options : Options) 
   pub empty : e.engine.part.active ≡ []
   pub reader : is_some e.engine.part.reader ≡ true
 
--- The engine of a partition whose kit came with these files and counts.
+-- The engine of this partition, whose kit came with these files and counts.
 pub record IsOpened {S D F W : Type 0} (eyes : Eyes S D F W) (options : Options) (here : Partition) (came : List Disk) (counted : KitFaults) (e : WithJobs S D F W) : Type 0 where
   pub begun : IsBegun eyes options e
+  pub is_here : (settings e).here ≡ here
   pub opened : IfTold came (λ disk. (cs : List Content) (logs : List (List PlainWrite)) → DiskOpens here disk cs logs → IsOpenedAs here cs logs (told_of eyes e))
   pub passed : IfTold came (ArePassed here)
   pub none_fell : NoneFell counted (faults_at eyes.counts e)
@@ -83,7 +86,7 @@ pub record IsGivenBack {F : Type 0} (content : F → Option (List ℕ)) (name : 
   pub of : IsOfOpening here fault
   pub keeps : KeepsOpened here came disks
   pub sound : IfLawful here came (IsNoDamage None fault × IsHere None fault)
-  pub judged : IfTold came (λ disk. IsJudged content name here disk (Some fault))
+  pub judged : IfTold came (λ disk. IsJudged nothing_met content name here disk (Some fault))
   pub untouched : IsUntouched here came disks
   pub spent : fault ≡ Spent → IfTold came (λ disk. Passes here disk AreSpent)
   pub none_fell : NoneFell counted counts
@@ -99,7 +102,8 @@ pub record IsNotGiven (rose : Type 0) (p : ℕ) (fault : RunFault) : Type 0 wher
 -- What is left of the files of an engine that was closed, once its jobs had ended, and what its watches counted. Of one that may be
 -- told to be a part no file is out, and each picture keeps what it stored, or of one that failed what it kept. Of one that ended
 -- well each picture opens as so few components that the policy picks none, and as its log. A fault with which it ended is one of a
--- job that it waited for: none is damage where its files are told.
+-- job that it waited for: damage was met in its part, and none is where its files are told. What it listed was what its files are
+-- judged to be.
 pub record IsClosed {S D F W : Type 0} (eyes : Eyes S D F W) (size : D → ℕ) (e : WithJobs S D F W) (outcome : Result (Unit {0}) EngineFault) (disks : List Disk) (counted : KitFaults) : Type 0 where
   pub keeps : (p : PartView) → IsPart (told_of eyes e) p → works_of eyes e p → IfTold disks (λ left. AreIn left × KeepsStore p.part (store_of p) None left)
   pub failed : OnlyDevicesOut (told_of eyes e) → (here : Partition) (pairs : Pairs) (frame : Option (List PlainWrite)) → HasFailedKeeping (works_of eyes e) (told_of eyes e) here pairs frame → IfTold disks (λ left. AreIn left × KeepsStore here pairs frame left)
@@ -107,6 +111,8 @@ pub record IsClosed {S D F W : Type 0} (eyes : Eyes S D F W) (size : D → ℕ) 
   pub last : IsSpentAt (told_of eyes e) e.engine.part → IfTold disks HasLastGeneration
   pub none_fell : NoneFell (faults_at eyes.counts e) counted
   pub disk : IsErrOf outcome engine.Disk → OneRose (faults_at eyes.counts e) counted
+  pub judged : All (IsAsJudged eyes.content) e.engine.part.list
+  pub damaged : IfErr outcome (λ fault. IfEngineDamaged fault (HasMetDamage eyes.content eyes.history e.engine.part))
   pub undamaged : (p : PartView) → IsPart (told_of eyes e) p → TellsFiles (told_of eyes e) → works_of eyes e p → IfErr outcome (λ fault. IfEngineDamaged fault (λ damage. ⊥))
   pub unspent : IsErrOf outcome engine.Spent → ⊥
 

@@ -99,5 +99,6 @@ where
     ensures { IsClosed (eyes S.history S.Device.history S.Frozen.content S.Device.name S.Frozen.size S.Watch.counts) (λ d. S.Device.size d) (record { engine = engine; jobs = jobs }) result.outcome (S.history result.kit.store) (faults_in (λ w. S.Watch.counts w) result.kit) }
 {
     parts_hold_devices();
+    engine.components_are_judged();
     engine.finish(rt, alloc, jobs)
 }

@@ -9,7 +9,7 @@ ghost use Rattle.tc_store.specs.Moments.{IfTold};
 ghost use Rattle.tc_work.specs.Moving.{eyes};
 ghost use Rattle.tc_keeper.specs.WithJobs.{WithJobs};
 ghost use Rattle.tc_keeper.specs.Faults.{faults_in};
-ghost use Rattle.tc_server.specs.KitCauses.{HasLayoutCause};
+ghost use Rattle.tc_server.specs.KitCauses.{nothing_met, HasFilesCause};
 ghost use Rattle.tc_server.specs.Kits.{AreOpened, IsGivenBack, IsNotGiven, IsOpened};
 
 use crate::closing::close;
@@ -56,7 +56,7 @@ where
     // The kit behind those of the engines came back, or was not given.
     ensures back { IfErr result (λ refused. IfSome refused.kit (λ kit. IsGivenBack H.Store.Frozen.content H.Store.Frozen.name (partition_at (length engines.new) options.now.partitions) (H.files shelf.old (length engines.new)) (H.kit_faults shelf.old (length engines.new)) refused.fault (H.Store.history kit.store) (faults_in (λ w. H.Store.Watch.counts w) kit))) }
     ensures not_given { IfErr result (λ refused. refused.kit ≡ None → IsNotGiven (Rose (H.faults shelf.old) (H.faults shelf.new)) (length engines.new) refused.fault) }
-    ensures layout { IfErr result (λ refused. HasLayoutCause H.Store.Watch (λ file. H.Store.Frozen.size file) (λ file. H.Store.Frozen.name file) refused.fault) }
+    ensures found { IfErr result (λ refused. HasFilesCause nothing_met H.Store.Watch (λ file. H.Store.Frozen.size file) H.Store.Frozen.content (λ file. H.Store.Frozen.name file) options.now.partitions refused.fault) }
 
     // No kit behind it was asked for, and that which was not given for want of memory is still there.
     ensures others { (other : ℕ) → length engines.new < other → (H.files shelf.new other ≡ H.files shelf.old other) × (H.kit_faults shelf.new other ≡ H.kit_faults shelf.old other) }
@@ -90,7 +90,7 @@ where
     ensures stays { OnErr result (engines.new ≡ engines.old) }
     ensures back { IfErr result (λ refused. IfSome refused.kit (λ kit. IsGivenBack H.Store.Frozen.content H.Store.Frozen.name (partition_at number options.now.partitions) (H.files shelf.old number) (H.kit_faults shelf.old number) refused.fault (H.Store.history kit.store) (faults_in (λ w. H.Store.Watch.counts w) kit))) }
     ensures not_given { IfErr result (λ refused. refused.kit ≡ None → IsNotGiven (Rose (H.faults shelf.old) (H.faults shelf.new)) number refused.fault) }
-    ensures layout { IfErr result (λ refused. HasLayoutCause H.Store.Watch (λ file. H.Store.Frozen.size file) (λ file. H.Store.Frozen.name file) refused.fault) }
+    ensures found { IfErr result (λ refused. HasFilesCause nothing_met H.Store.Watch (λ file. H.Store.Frozen.size file) H.Store.Frozen.content (λ file. H.Store.Frozen.name file) options.now.partitions refused.fault) }
     ensures others { (other : ℕ) → other ≢ number → (H.files shelf.new other ≡ H.files shelf.old other) × (H.kit_faults shelf.new other ≡ H.kit_faults shelf.old other) }
     ensures same { IfErr result (λ refused. refused.kit ≡ None → refused.fault ≡ RunFault.Memory → shelf.new ≡ shelf.old) }
     ensures faults { H.faults shelf.old ≤ H.faults shelf.new }
@@ -132,7 +132,7 @@ where
     ensures stays { OnErr result (engines.new ≡ engines.old) }
     ensures some { IfErr result (λ refused. IsSome refused.kit) }
     ensures back { IfErr result (λ refused. IfSome refused.kit (λ back. IsGivenBack S.Frozen.content S.Frozen.name (partition_at number options.now.partitions) (S.history kit.store) (faults_in (λ w. S.Watch.counts w) kit) refused.fault (S.history back.store) (faults_in (λ w. S.Watch.counts w) back))) }
-    ensures layout { IfErr result (λ refused. HasLayoutCause S.Watch (λ file. S.Frozen.size file) (λ file. S.Frozen.name file) refused.fault) }
+    ensures found { IfErr result (λ refused. HasFilesCause nothing_met S.Watch (λ file. S.Frozen.size file) S.Frozen.content (λ file. S.Frozen.name file) options.now.partitions refused.fault) }
 {
     let limits = Limits {
         names: options.names,

@@ -84,7 +84,7 @@ where
     ensures back { GivesKitsBack (shelf.new ≡ shelf.old) (partitions_asked (invocation_given (option_map (λ words. words.items) (result_ok words)))) (H.faults shelf.old) (H.faults shelf.new) (H.files shelf.old) (H.files shelf.new) (H.kit_faults shelf.old) (H.kit_faults shelf.new) result.fault result.kits.items (faults_in (λ w. H.Store.Watch.counts w)) }
 
     // When a fault may be answered.
-    ensures cause { HasCauseOver H.Store.Watch H.Store.Frozen.content H.Store.Frozen.name (λ file. H.Store.Frozen.size file) (invocation_given (option_map (λ words. words.items) (result_ok words))) (I.left source.old) (I.left source.new) (I.faults source.old) (I.faults source.new) (O.faults sink.old) (O.faults sink.new) (H.faults shelf.old) (H.faults shelf.new) (H.files shelf.old) (H.kit_faults shelf.old) result.fault result.kits.items (λ kit. H.Store.history kit.store) (faults_in (λ w. H.Store.Watch.counts w)) }
+    ensures cause { HasCauseOver H.Store H.Store.Watch H.Store.Device.history H.Store.Frozen.content H.Store.Frozen.name (λ file. H.Store.Frozen.size file) (invocation_given (option_map (λ words. words.items) (result_ok words))) (I.left source.old) (I.left source.new) (I.faults source.old) (I.faults source.new) (O.faults sink.old) (O.faults sink.new) (H.faults shelf.old) (H.faults shelf.new) (H.files shelf.old) (H.kit_faults shelf.old) result.fault result.kits.items (λ kit. H.Store.history kit.store) (faults_in (λ w. H.Store.Watch.counts w)) }
     ensures words { IfErr words (λ fault. result.fault ≡ Some (fault_of_words fault)) }
 {
     let served = served_for(rt, rt.alloc(), words, source, sink, shelf, pace);
@@ -114,7 +114,7 @@ where
     ensures prompt { (first : Sight) → BeginsFor (invocation_given (option_map (λ words. words.items) (result_ok words))) (H.files shelf.old) first
         → ServedPromptly first (invocation_given (option_map (λ words. words.items) (result_ok words))) (O.taken sink.old) (I.moments source.old) (I.moments source.new) }
     ensures back { GivesKitsBack (shelf.new ≡ shelf.old) (partitions_asked (invocation_given (option_map (λ words. words.items) (result_ok words)))) (H.faults shelf.old) (H.faults shelf.new) (H.files shelf.old) (H.files shelf.new) (H.kit_faults shelf.old) (H.kit_faults shelf.new) result.fault result.kits.items (faults_in (λ w. H.Store.Watch.counts w)) }
-    ensures cause { HasCauseOver H.Store.Watch H.Store.Frozen.content H.Store.Frozen.name (λ file. H.Store.Frozen.size file) (invocation_given (option_map (λ words. words.items) (result_ok words))) (I.left source.old) (I.left source.new) (I.faults source.old) (I.faults source.new) (O.faults sink.old) (O.faults sink.new) (H.faults shelf.old) (H.faults shelf.new) (H.files shelf.old) (H.kit_faults shelf.old) result.fault result.kits.items (λ kit. H.Store.history kit.store) (faults_in (λ w. H.Store.Watch.counts w)) }
+    ensures cause { HasCauseOver H.Store H.Store.Watch H.Store.Device.history H.Store.Frozen.content H.Store.Frozen.name (λ file. H.Store.Frozen.size file) (invocation_given (option_map (λ words. words.items) (result_ok words))) (I.left source.old) (I.left source.new) (I.faults source.old) (I.faults source.new) (O.faults sink.old) (O.faults sink.new) (H.faults shelf.old) (H.faults shelf.new) (H.files shelf.old) (H.kit_faults shelf.old) result.fault result.kits.items (λ kit. H.Store.history kit.store) (faults_in (λ w. H.Store.Watch.counts w)) }
     ensures words { IfErr words (λ fault. result.fault ≡ Some (fault_of_words fault)) }
 {
     match words {

@@ -2,7 +2,9 @@
 
 ghost use Rattle.std.specs.Prelude.{◌≡◌, ℕ, ◌<◌, ◌≤◌, ◌⊎◌, List, [], true, false, length, map, All, Ok, Option, Some, None, option_to_list, vec_capacity, vec_len, is_some, IfOk, IfErr, IfSome, IsErrOf, OnOk};
 ghost use Rattle.tc_bytes.specs.Counts.{Rose};
-ghost use Rattle.tc_keeper.specs.Places.{AtEach, SomeFrom};
+ghost use Rattle.tc_keeper.specs.Places.{AtEach, EachFrom, SomeFrom};
+ghost use Rattle.tc_keeper.specs.Standing.{partition_at};
+ghost use Rattle.tc_keeper.specs.WithJobs.{settings};
 ghost use Rattle.tc_log.specs.Layout.{empty_size};
 ghost use Rattle.tc_run_model.specs.Course.{each_line};
 ghost use Rattle.tc_store.specs.Disk.{Disk};
@@ -10,7 +12,7 @@ ghost use Rattle.tc_store.specs.Moments.{IfTold};
 ghost use Rattle.tc_server.specs.Ending.{AreFewCommands, AskedPromptly, IsRun, RanLeaving, ReadsPromptly, RunsOver, ServedPromptly};
 ghost use Rattle.tc_keeper.specs.Faults.{fault_in, faults_in, status_of, HasRunCauses, IfDamaged, IfDisk, IsOfRun, IsWrite, NoneFell, OneRose};
 ghost use Rattle.tc_server.specs.KitCauses.{GivesKitsBack, HasCauseOver, HasLastGeneration, IsInputSpent};
-ghost use Rattle.tc_keeper.specs.Keeping.{faults_kept, settings_kept, AllRest, AreUnwritten, FailsAt, HasSpent, IsTrueBehind, IsTrueHere, MayServe, ServesAt};
+ghost use Rattle.tc_keeper.specs.Keeping.{faults_kept, settings_kept, AllRest, AreUnwritten, FailsAt, HasSpent, IsMetIn, IsTrueBehind, IsTrueHere, MayServe, ServesAt};
 ghost use Rattle.tc_server.specs.Kits.{answer_behind, fault_behind, IsBegun};
 ghost use Rattle.tc_server.specs.OverFiles.{partitions_asked, AskedOver, BeginsFor, ServedOver};
 ghost use Rattle.tc_keeper.specs.Partitions.{StandAt};
@@ -74,7 +76,7 @@ where
     ensures back { GivesKitsBack (shelf.new ≡ shelf.old) (partitions_asked (invocation_of words.now)) (H.faults shelf.old) (H.faults shelf.new) (H.files shelf.old) (H.files shelf.new) (H.kit_faults shelf.old) (H.kit_faults shelf.new) result.fault result.kits.items (faults_in (λ w. H.Store.Watch.counts w)) }
 
     // When a fault may be answered.
-    ensures cause { HasCauseOver H.Store.Watch H.Store.Frozen.content H.Store.Frozen.name (λ file. H.Store.Frozen.size file) (invocation_of words.now) (I.left source.old) (I.left source.new) (I.faults source.old) (I.faults source.new) (O.faults sink.old) (O.faults sink.new) (H.faults shelf.old) (H.faults shelf.new) (H.files shelf.old) (H.kit_faults shelf.old) result.fault result.kits.items (λ kit. H.Store.history kit.store) (faults_in (λ w. H.Store.Watch.counts w)) }
+    ensures cause { HasCauseOver H.Store H.Store.Watch H.Store.Device.history H.Store.Frozen.content H.Store.Frozen.name (λ file. H.Store.Frozen.size file) (invocation_of words.now) (I.left source.old) (I.left source.new) (I.faults source.old) (I.faults source.new) (O.faults sink.old) (O.faults sink.new) (H.faults shelf.old) (H.faults shelf.new) (H.files shelf.old) (H.kit_faults shelf.old) result.fault result.kits.items (λ kit. H.Store.history kit.store) (faults_in (λ w. H.Store.Watch.counts w)) }
 {
     match asked_by(alloc, words) {
         Ok(asked) => serve_asked(rt, alloc, &asked, source, sink, shelf, pace),
@@ -110,7 +112,7 @@ where
     ensures prompt { (first : Sight) → BeginsFor (Some asked.now) (H.files shelf.old) first
         → AskedPromptly asked.now first (options_asked asked.now).window (O.taken sink.old) (I.moments source.old) (I.moments source.new) }
     ensures back { GivesKitsBack (shelf.new ≡ shelf.old) (options_asked asked.now).partitions (H.faults shelf.old) (H.faults shelf.new) (H.files shelf.old) (H.files shelf.new) (H.kit_faults shelf.old) (H.kit_faults shelf.new) result.fault result.kits.items (faults_in (λ w. H.Store.Watch.counts w)) }
-    ensures cause { HasCauseOver H.Store.Watch H.Store.Frozen.content H.Store.Frozen.name (λ file. H.Store.Frozen.size file) (Some asked.now) (I.left source.old) (I.left source.new) (I.faults source.old) (I.faults source.new) (O.faults sink.old) (O.faults sink.new) (H.faults shelf.old) (H.faults shelf.new) (H.files shelf.old) (H.kit_faults shelf.old) result.fault result.kits.items (λ kit. H.Store.history kit.store) (faults_in (λ w. H.Store.Watch.counts w)) }
+    ensures cause { HasCauseOver H.Store H.Store.Watch H.Store.Device.history H.Store.Frozen.content H.Store.Frozen.name (λ file. H.Store.Frozen.size file) (Some asked.now) (I.left source.old) (I.left source.new) (I.faults source.old) (I.faults source.new) (O.faults sink.old) (O.faults sink.new) (H.faults shelf.old) (H.faults shelf.new) (H.files shelf.old) (H.kit_faults shelf.old) result.fault result.kits.items (λ kit. H.Store.history kit.store) (faults_in (λ w. H.Store.Watch.counts w)) }
 {
     let options = options_asked(asked);
     // The room for the kits and the engines, and the share of the pace, are taken before the first kit is.
@@ -185,6 +187,7 @@ where
     requires all { length engines ≡ (options_asked asked.now).partitions }
     requires none { kits.items ≡ [] }
     requires room { (options_asked asked.now).partitions ≤ vec_capacity kits }
+    requires numbered { EachFrom (λ p e. (settings e).here ≡ partition_at p (options_asked asked.now).partitions) 0 engines }
     requires begun { All (IsBegun (eyes S.history S.Device.history S.Frozen.content S.Device.name S.Frozen.size S.Watch.counts) (options_asked asked.now)) engines }
     ensures ran { (first : Sight) (files : ℕ → List Disk) → IsFirst first → StandAt (eyes S.history S.Device.history S.Frozen.content S.Device.name S.Frozen.size S.Watch.counts) engines first
         → AskedOver asked.now result.1 first files (I.left source.old) (I.left source.new) (O.taken sink.old) (O.taken sink.new) (map (λ kit. S.history kit.store) result.0.items) }
@@ -197,7 +200,7 @@ where
     ensures write { IfSome result.1 (λ fault. IsWrite fault → Rose (O.faults sink.old) (O.faults sink.new)) }
     ensures counts { AtEach (λ p e kit. NoneFell (faults_at (λ w. S.Watch.counts w) e) (faults_in (λ w. S.Watch.counts w) kit)) 0 engines result.0.items }
     ensures disk { IfSome result.1 (λ fault. IfDisk fault (λ q. (q < (options_asked asked.now).partitions) × AtEach (λ p e kit. p ≡ q → OneRose (faults_at (λ w. S.Watch.counts w) e) (faults_in (λ w. S.Watch.counts w) kit)) 0 engines result.0.items)) }
-    ensures damaged { IfSome result.1 (λ fault. IfDamaged fault (λ q damage. q < (options_asked asked.now).partitions)) }
+    ensures damaged { IfSome result.1 (λ fault. IfDamaged fault (λ q damage. (q < (options_asked asked.now).partitions) × IsMetIn S S.Watch S.Device.history S.Frozen.content (partition_at q (options_asked asked.now).partitions) damage)) }
     ensures spent { result.1 ≡ Some RunFault.Spent → IsInputSpent (Some asked.now) (I.left source.old) (I.left source.new) ⊎ SomeFrom (λ p kit. IfTold (S.history kit.store) HasLastGeneration) 0 result.0.items }
 {
     let partitions = Partitions::of(engines);

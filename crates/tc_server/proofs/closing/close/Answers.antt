@@ -23,6 +23,8 @@ returns g c =
       last = λ spent. last_left disks part.generation spent.last (on_ok end.outcome tt (c.finish.ensures.ends.outcome spent.failed) c.finish.ensures.ends.log spent.log);
       none_fell = closed_stays g.S.Watch.Watch.counts end.kit (watched_part part c.args.jobs) _ c.finish.ensures.ends.watched c.finish.ensures.ends.reader;
       disk = closed_rose g.S.Watch.Watch.counts end.kit (watched_part part c.args.jobs) _ c.finish.ensures.ends.watched;
+      judged = c.components_are_judged.ensures;
+      damaged = c.finish.ensures.ends.damaged;
       undamaged = c.finish.ensures.ends.undamaged;
       unspent = c.finish.ensures.ends.unspent;
     }

@@ -69,10 +69,10 @@ returns-in_err-open_next-clause-not_given g c =
     let since : Rose (g.H.Shelf.faults l.shelf) (g.H.Shelf.faults c.open_next.new.shelf) → Rose (g.H.Shelf.faults c.args.shelf.now) (g.H.Shelf.faults c.open_next.new.shelf) = λ rose. omega (arith, rose, l.invariant.faults) in
     rw (p.1, p.2, many) (λ none. not_given_since _ _ l.number c.in_err-open_next.field-0.0.fault since (c.in_err-open_next.ensures.not_given none))
 
-pub returns-in_err-open_next-clause-layout : goal.returns-in_err-open_next-clause-layout
-returns-in_err-open_next-clause-layout g c =
+pub returns-in_err-open_next-clause-found : goal.returns-in_err-open_next-clause-found
+returns-in_err-open_next-clause-found g c =
     let p = err_from_is_err_and c.from_residual.result c.from_residual.ensures.1 in
-    rw (p.1, p.2) c.in_err-open_next.ensures.layout
+    rw (p.1, p.2) c.in_err-open_next.ensures.found
 
 pub returns-in_err-open_next-clause-others : goal.returns-in_err-open_next-clause-others
 returns-in_err-open_next-clause-others g c = λ other behind.

@@ -1,5 +1,5 @@
 use Rattle.std.proofs.Common.{◌∙◌, List, map, ap, inr, refl}
-use Rattle.tc_keeper.specs.WithJobs.{WithJobs}
+use Rattle.tc_keeper.specs.WithJobs.{settings, WithJobs}
 use Rattle.tc_keeper.specs.Calls.{HoldsAt, IsSpent, KeepsAt}
 use Rattle.tc_work.specs.Moving.{eyes}
 use Rattle.tc_words.specs.Options.{options_asked}
@@ -17,7 +17,7 @@ pub returns-in-Ok-clause-prompt : goal.returns-in-Ok-clause-prompt
 returns-in-Ok-clause-prompt g c = λ first begins stands. c.answer_with.ensures.prompt first (c.in-Ok.ensures.held first begins stands)
 
 pub returns-in-Ok-clause-settings : goal.returns-in-Ok-clause-settings
-returns-in-Ok-clause-settings g c = c.answer_with.ensures.settings ∙ ap (λ (es : List (WithJobs _ _ _ _)). map (λ e. (e.engine.part.memory, e.engine.policy)) es) c.in-Ok.ensures.opened.0
+returns-in-Ok-clause-settings g c = c.answer_with.ensures.settings ∙ ap (λ (es : List (WithJobs _ _ _ _)). map settings es) c.in-Ok.ensures.opened.0
 
 pub returns-in-Ok-clause-cause : goal.returns-in-Ok-clause-cause
 returns-in-Ok-clause-cause g c = begun_causes g.S.Watch.Watch.counts c.in-Ok.keeper c.args.partitions _ _ _ _ _ _ _ c.in-Ok.ensures.opened.0 c.in-Ok.ensures.opened.1 c.answer_with.ensures.cause

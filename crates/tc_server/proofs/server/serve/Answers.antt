@@ -46,6 +46,6 @@ returns-in-Err-clause-back g c =
 pub returns-in-Err-clause-cause : goal.returns-in-Err-clause-cause
 returns-in-Err-clause-cause g c =
     let none = ap (λ kits. kits.items) c.of.ensures.kits ∙ c.new.ensures.items in
-    rw (c.of.ensures.fault, none) (no_cause g.row.H-Store-Watch.Denot g.H.Store.Frozen.Frozen.content g.H.Store.Frozen.Frozen.name g.H.Store.Frozen.Frozen.size (invocation_of c.args.words.now) (g.I.Source.left c.args.source.now)
+    rw (c.of.ensures.fault, none) (no_cause g.row.H-Store.Denot g.row.H-Store-Watch.Denot g.H.Store.Device.Device.history g.H.Store.Frozen.Frozen.content g.H.Store.Frozen.Frozen.name g.H.Store.Frozen.Frozen.size (invocation_of c.args.words.now) (g.I.Source.left c.args.source.now)
     (g.I.Source.faults c.args.source.now) (g.O.Sink.faults c.args.sink.now) (g.H.Shelf.faults c.args.shelf.now) (g.H.Shelf.files c.args.shelf.now) (g.H.Shelf.kit_faults c.args.shelf.now) c.in-Err.fault _ _
     c.in-Err.ensures.kinds (λ same. c.in-Err.ensures.usage (ap Err same)))

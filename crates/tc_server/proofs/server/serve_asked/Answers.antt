@@ -5,15 +5,17 @@ use Rattle.tc_bytes.specs.Counts.{Rose}
 use Rattle.tc_keeper.specs.Places.{AtEach}
 use Rattle.tc_keeper.specs.Standing.{partition_at}
 use Rattle.tc_part_model.proofs.HeldKeys.{Ascends-stored}
+use Rattle.tc_store.specs.declared.damage.Damage.{Damage}
 use Rattle.tc_store.specs.declared.kit.Kit.{Kit}
 use Rattle.tc_work.specs.Moving.{eyes}
 use Rattle.tc_work.specs.declared.finishing.Finished.{Finished as finished}
 use Rattle.tc_words.specs.Options.{options_asked}
 use Rattle.tc_words.specs.declared.run.Options.{Options}
 use Rattle.tc_server.specs.Ending.{limits_of}
+use Rattle.tc_keeper.specs.Keeping.{IsMetIn}
 use Rattle.tc_keeper.specs.Faults.{faults_in, OneRose}
 use Rattle.tc_keeper.specs.Calls.{faults_at}
-use Rattle.tc_server.specs.KitCauses.{AreAsked}
+use Rattle.tc_server.specs.KitCauses.{nothing_met, AreAsked, HasFilesCause}
 use Rattle.tc_server.specs.Kits.{AreOpened, IsGivenBack}
 use Rattle.tc_keeper.specs.declared.fault.RunFault.TheVariants.{Memory}
 use Rattle.tc_keeper.proofs.BegunKeepers.{readers_home}
@@ -21,8 +23,8 @@ use Rattle.tc_server.proofs.KitOpenings.{ends_unopened, no_read, no_usage, no_wr
 use Rattle.tc_server.proofs.NotOpened.{asked_unopened, asked_without_room}
 use Rattle.tc_server.proofs.OpenedWorlds.{begins_first, stand_opened}
 use Rattle.tc_server.proofs.OverEngines.{unwritten_all}
-use Rattle.tc_server.proofs.RunKits.{all_begun, asked_all, disk_all, disk_within, judged_all, layout_run, none_fell_all, spent_all, usage_run}
-use Rattle.tc_server.proofs.Unopened.{given_back_all, if_read, kits_ended, last_many, next_back, no_cause, nothing_back, one_at_most, others_back, unasked_back, IsEnded}
+use Rattle.tc_server.proofs.RunKits.{all_begun, all_here, asked_all, damaged_within, disk_all, disk_within, found_run, judged_all, none_fell_all, spent_all, usage_run}
+use Rattle.tc_server.proofs.Unopened.{all_judged_met, found_met, given_back_all, if_read, kits_ended, last_many, next_back, no_cause, nothing_back, one_at_most, others_back, unasked_back, IsEnded}
 use Rattle.tc_server.proofs.server.serve_asked.Goals as goal
 
 pub returns-in-Err-clause-ran : goal.returns-in-Err-clause-ran
@@ -38,7 +40,7 @@ returns-in-Err-clause-back g c =
 pub returns-in-Err-clause-cause : goal.returns-in-Err-clause-cause
 returns-in-Err-clause-cause g c =
     let none = ap (λ kits. kits.items) c.of.ensures.kits ∙ c.new.ensures.items in
-    rw (c.of.ensures.fault, none) (no_cause g.row.H-Store-Watch.Denot g.H.Store.Frozen.Frozen.content g.H.Store.Frozen.Frozen.name g.H.Store.Frozen.Frozen.size (Some c.args.asked.now) (g.I.Source.left c.args.source.now)
+    rw (c.of.ensures.fault, none) (no_cause g.row.H-Store.Denot g.row.H-Store-Watch.Denot g.H.Store.Device.Device.history g.H.Store.Frozen.Frozen.content g.H.Store.Frozen.Frozen.name g.H.Store.Frozen.Frozen.size (Some c.args.asked.now) (g.I.Source.left c.args.source.now)
     (g.I.Source.faults c.args.source.now) (g.O.Sink.faults c.args.sink.now) (g.H.Shelf.faults c.args.shelf.now) (g.H.Shelf.files c.args.shelf.now) (g.H.Shelf.kit_faults c.args.shelf.now) Memory _ _
     (inr refl) (λ same. absurd (cc)))
 
@@ -55,7 +57,7 @@ returns-in-Err-with_capacity-clause-back g c =
 pub returns-in-Err-with_capacity-clause-cause : goal.returns-in-Err-with_capacity-clause-cause
 returns-in-Err-with_capacity-clause-cause g c =
     let none = ap (λ kits. kits.items) c.of-in-Err-with_capacity.ensures.kits ∙ c.in-Ok.ensures.items in
-    rw (c.of-in-Err-with_capacity.ensures.fault, none) (no_cause g.row.H-Store-Watch.Denot g.H.Store.Frozen.Frozen.content g.H.Store.Frozen.Frozen.name g.H.Store.Frozen.Frozen.size (Some c.args.asked.now) (g.I.Source.left c.args.source.now)
+    rw (c.of-in-Err-with_capacity.ensures.fault, none) (no_cause g.row.H-Store.Denot g.row.H-Store-Watch.Denot g.H.Store.Device.Device.history g.H.Store.Frozen.Frozen.content g.H.Store.Frozen.Frozen.name g.H.Store.Frozen.Frozen.size (Some c.args.asked.now) (g.I.Source.left c.args.source.now)
     (g.I.Source.faults c.args.source.now) (g.O.Sink.faults c.args.sink.now) (g.H.Shelf.faults c.args.shelf.now) (g.H.Shelf.files c.args.shelf.now) (g.H.Shelf.kit_faults c.args.shelf.now) Memory _ _
     (inr refl) (λ same. absurd (cc)))
 
@@ -65,6 +67,16 @@ serve_over-kits-requires-clause-all g c κs within = c.in-Ok-open_all.ensures.al
 pub serve_over-kits-requires-clause-begun : goal.serve_over-kits-requires-clause-begun
 serve_over-kits-requires-clause-begun g c κs within =
     all_begun (eyes g.H.Store.Store.history g.H.Store.Device.Device.history g.H.Store.Frozen.Frozen.content g.H.Store.Device.Device.name g.H.Store.Frozen.Frozen.size
+    g.H.Store.Watch.Watch.counts) (λ (kit : Kit g.row.H-Store.Denot g.row.H-Store-Watch.Denot g.row.H-Store-Device.Denot g.row.H-Store-Frozen.Denot).
+    g.H.Store.Store.history kit.store) (faults_in g.H.Store.Watch.Watch.counts) (options_asked c.args.asked.now) (g.H.Shelf.files c.args.shelf.now)
+    (g.H.Shelf.kit_faults c.args.shelf.now) c.open_all.new.engines
+    (subst (λ o. AreOpened (eyes g.H.Store.Store.history g.H.Store.Device.Device.history g.H.Store.Frozen.Frozen.content g.H.Store.Device.Device.name
+    g.H.Store.Frozen.Frozen.size g.H.Store.Watch.Watch.counts) o (g.H.Shelf.files c.args.shelf.now) (g.H.Shelf.kit_faults c.args.shelf.now) c.open_all.new.engines)
+    c.options_asked-options.ensures c.open_all.ensures.opened)
+
+pub serve_over-kits-requires-clause-numbered : goal.serve_over-kits-requires-clause-numbered
+serve_over-kits-requires-clause-numbered g c κs within =
+    all_here (eyes g.H.Store.Store.history g.H.Store.Device.Device.history g.H.Store.Frozen.Frozen.content g.H.Store.Device.Device.name g.H.Store.Frozen.Frozen.size
     g.H.Store.Watch.Watch.counts) (λ (kit : Kit g.row.H-Store.Denot g.row.H-Store-Watch.Denot g.row.H-Store-Device.Denot g.row.H-Store-Frozen.Denot).
     g.H.Store.Store.history kit.store) (faults_in g.H.Store.Watch.Watch.counts) (options_asked c.args.asked.now) (g.H.Shelf.files c.args.shelf.now)
     (g.H.Shelf.kit_faults c.args.shelf.now) c.open_all.new.engines
@@ -109,7 +121,8 @@ returns-in-Ok-open_all-clause-back g c =
       asked = rw (c.of-in-Ok-open_all.ensures.fault, kits, c.serve_over-kits.ensures.kits)
           (asked_all (options_asked c.args.asked.now).partitions c.serve_over-kits.result.1 c.requires.partitions.0 c.serve_over-kits.ensures.kind
           (disk_within _ (λ q. q < (options_asked c.args.asked.now).partitions) c.serve_over-kits.result.1 (λ q d. d.0) c.serve_over-kits.ensures.disk)
-          c.serve_over-kits.ensures.damaged);
+          (damaged_within (λ q damage. (q < (options_asked c.args.asked.now).partitions) × IsMetIn g.row.H-Store.Denot g.row.H-Store-Watch.Denot g.H.Store.Device.Device.history g.H.Store.Frozen.Frozen.content
+          (partition_at q (options_asked c.args.asked.now).partitions) damage) (λ q damage. q < (options_asked c.args.asked.now).partitions) c.serve_over-kits.result.1 (λ q damage here. here.0) c.serve_over-kits.ensures.damaged));
       none_fell = rw kits (
         c.open_all.ensures.faults,
         none_fell_all (eyes g.H.Store.Store.history g.H.Store.Device.Device.history g.H.Store.Frozen.Frozen.content
@@ -129,6 +142,8 @@ returns-in-Ok-open_all-clause-cause g c =
     g.H.Store.Frozen.Frozen.size g.H.Store.Watch.Watch.counts) o (g.H.Shelf.files c.args.shelf.now) (g.H.Shelf.kit_faults c.args.shelf.now) c.open_all.new.engines)
     c.options_asked-options.ensures c.open_all.ensures.opened in
     let all : length c.open_all.new.engines ≡ (options_asked c.args.asked.now).partitions = c.in-Ok-open_all.ensures.all ∙ ap (λ (o : Options). o.partitions) c.options_asked-options.ensures in
+    let Is : ℕ → Damage → Type 0 = λ q damage. IsMetIn g.row.H-Store.Denot g.row.H-Store-Watch.Denot g.H.Store.Device.Device.history g.H.Store.Frozen.Frozen.content (partition_at q (options_asked c.args.asked.now).partitions) damage in
+    let met = damaged_within (λ q damage. (q < (options_asked c.args.asked.now).partitions) × Is q damage) Is c.serve_over-kits.result.1 (λ q damage here. here.1) c.serve_over-kits.ensures.damaged in
     record {
       usage = rw c.of-in-Ok-open_all.ensures.fault (λ same. absurd (usage_run c.serve_over-kits.result.1 c.serve_over-kits.ensures.kind same));
       read = rw c.of-in-Ok-open_all.ensures.fault (if_read (Rose (g.I.Source.faults c.args.source.now) (g.I.Source.faults c.serve_over-kits.new.source)) c.serve_over-kits.result.1 c.serve_over-kits.ensures.read);
@@ -145,9 +160,11 @@ returns-in-Ok-open_all-clause-cause g c =
           g.H.Store.Device.Device.name g.H.Store.Frozen.Frozen.size g.H.Store.Watch.Watch.counts)
           (λ (kit : Kit g.row.H-Store.Denot g.row.H-Store-Watch.Denot g.row.H-Store-Device.Denot g.row.H-Store-Frozen.Denot). g.H.Store.Store.history kit.store)
           (faults_in g.H.Store.Watch.Watch.counts) (options_asked c.args.asked.now) (g.H.Shelf.files c.args.shelf.now) (g.H.Shelf.kit_faults c.args.shelf.now)
-          c.open_all.new.engines opened g.H.Store.Frozen.Frozen.name c.serve_over-kits.result.0.items c.serve_over-kits.result.1 all
-          c.serve_over-kits.ensures.counts c.serve_over-kits.ensures.kind);
-      layout = rw c.of-in-Ok-open_all.ensures.fault (layout_run g.row.H-Store-Watch.Denot g.H.Store.Frozen.Frozen.size g.H.Store.Frozen.Frozen.name c.serve_over-kits.result.1 c.serve_over-kits.ensures.kind);
+          c.open_all.new.engines opened (IsMetIn g.row.H-Store.Denot g.row.H-Store-Watch.Denot g.H.Store.Device.Device.history g.H.Store.Frozen.Frozen.content) g.H.Store.Frozen.Frozen.name
+          c.serve_over-kits.result.0.items c.serve_over-kits.result.1 all c.serve_over-kits.ensures.counts c.serve_over-kits.ensures.kind met);
+      found = rw c.of-in-Ok-open_all.ensures.fault (found_run (IsMetIn g.row.H-Store.Denot g.row.H-Store-Watch.Denot g.H.Store.Device.Device.history g.H.Store.Frozen.Frozen.content)
+          g.row.H-Store-Watch.Denot g.H.Store.Frozen.Frozen.size g.H.Store.Frozen.Frozen.content g.H.Store.Frozen.Frozen.name (options_asked c.args.asked.now).partitions c.serve_over-kits.result.1
+          c.serve_over-kits.ensures.kind met);
       spent = rw (c.of-in-Ok-open_all.ensures.fault, kits) (λ is. ⊎_elim (λ input. inl input)
           (λ last. inr (spent_all (eyes g.H.Store.Store.history g.H.Store.Device.Device.history g.H.Store.Frozen.Frozen.content g.H.Store.Device.Device.name
           g.H.Store.Frozen.Frozen.size g.H.Store.Watch.Watch.counts) (λ (kit : Kit _ _ _ _). g.H.Store.Store.history kit.store) (faults_in g.H.Store.Watch.Watch.counts)
@@ -260,8 +277,12 @@ returns-in-Err-open_all-clause-cause g c =
       read = rw c.of-in-Err-open_all.ensures.fault (no_read c.in-Err-open_all.field-0.fault ends);
       write = rw c.of-in-Err-open_all.ensures.fault (no_write c.in-Err-open_all.field-0.fault ends);
       disk = rw (c.of-in-Err-open_all.ensures.fault, kits) b.disk;
-      judged = rw (c.of-in-Err-open_all.ensures.fault, kits) b.judged;
-      layout = rw c.of-in-Err-open_all.ensures.fault c.in-Err-open_all.ensures.layout;
+      judged = rw (c.of-in-Err-open_all.ensures.fault, kits) (all_judged_met (IsMetIn g.row.H-Store.Denot g.row.H-Store-Watch.Denot g.H.Store.Device.Device.history g.H.Store.Frozen.Frozen.content)
+          g.H.Store.Frozen.Frozen.content g.H.Store.Frozen.Frozen.name (options_asked c.args.asked.now).partitions (g.H.Shelf.files c.args.shelf.now) c.in-Err-open_all.field-0.fault _ b.judged);
+      found = rw c.of-in-Err-open_all.ensures.fault (found_met (IsMetIn g.row.H-Store.Denot g.row.H-Store-Watch.Denot g.H.Store.Device.Device.history g.H.Store.Frozen.Frozen.content)
+          g.row.H-Store-Watch.Denot g.H.Store.Frozen.Frozen.size g.H.Store.Frozen.Frozen.content g.H.Store.Frozen.Frozen.name (options_asked c.args.asked.now).partitions c.in-Err-open_all.field-0.fault
+          (subst (λ (o : Options). HasFilesCause nothing_met g.row.H-Store-Watch.Denot g.H.Store.Frozen.Frozen.size g.H.Store.Frozen.Frozen.content g.H.Store.Frozen.Frozen.name o.partitions c.in-Err-open_all.field-0.fault) c.options_asked-options.ensures
+          c.in-Err-open_all.ensures.found));
       spent = rw (c.of-in-Err-open_all.ensures.fault, kits) (λ is. inr (b.spent (cc)));
     }
 
@@ -278,7 +299,7 @@ returns-in-Err-new-clause-back g c =
 pub returns-in-Err-new-clause-cause : goal.returns-in-Err-new-clause-cause
 returns-in-Err-new-clause-cause g c =
     let none = ap (λ kits. kits.items) c.of-in-Err-new.ensures.kits ∙ c.in-Ok.ensures.items in
-    rw (c.of-in-Err-new.ensures.fault, none) (no_cause g.row.H-Store-Watch.Denot g.H.Store.Frozen.Frozen.content g.H.Store.Frozen.Frozen.name g.H.Store.Frozen.Frozen.size (Some c.args.asked.now) (g.I.Source.left c.args.source.now)
+    rw (c.of-in-Err-new.ensures.fault, none) (no_cause g.row.H-Store.Denot g.row.H-Store-Watch.Denot g.H.Store.Device.Device.history g.H.Store.Frozen.Frozen.content g.H.Store.Frozen.Frozen.name g.H.Store.Frozen.Frozen.size (Some c.args.asked.now) (g.I.Source.left c.args.source.now)
     (g.I.Source.faults c.args.source.now) (g.O.Sink.faults c.args.sink.now) (g.H.Shelf.faults c.args.shelf.now) (g.H.Shelf.files c.args.shelf.now) (g.H.Shelf.kit_faults c.args.shelf.now) Memory _ _
     (inr refl) (λ same. absurd (cc)))
 

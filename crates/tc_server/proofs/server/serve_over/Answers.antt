@@ -2,15 +2,17 @@ use Rattle.std.proofs.Common.{◌≡◌, ◌<◌, ◌∙◌, ◌++◌, ℕ, true
 use Rattle.std.proofs.lemmas.List.{length-map}
 use Rattle.std.specs.Prelude.{IfSome, map}
 use Rattle.tc_bytes.specs.Counts.{Rose}
-use Rattle.tc_keeper.specs.Places.{AtEach}
+use Rattle.tc_keeper.specs.Places.{AtEach, EachFrom}
 use Rattle.tc_keeper.proofs.PlaceLaws.{at_each-length, at_each-reads, at_each-so}
-use Rattle.tc_keeper.specs.WithJobs.{WithJobs}
+use Rattle.tc_keeper.specs.Standing.{partition_at}
+use Rattle.tc_keeper.specs.WithJobs.{settings, WithJobs}
 use Rattle.tc_store.specs.Moments.{IfTold}
+use Rattle.tc_store.specs.declared.damage.Damage.{Damage}
 use Rattle.tc_work.specs.Moving.{eyes}
 use Rattle.tc_work.specs.declared.finishing.Finished.{Finished as finished}
 use Rattle.tc_keeper.specs.Calls.{faults_at, HoldsAt, IsSpent, KeepsAt, Rests}
 use Rattle.tc_keeper.specs.Faults.{fault_in, faults_in, IfDamaged, IfDisk, IsOfRun, IsWrite, NoneFell, OneRose}
-use Rattle.tc_keeper.specs.Keeping.{AreUnwritten}
+use Rattle.tc_keeper.specs.Keeping.{AreUnwritten, IsMetIn}
 use Rattle.tc_server.specs.KitCauses.{HasLastGeneration}
 use Rattle.tc_server.specs.Kits.{fault_behind, least_fault}
 use Rattle.tc_server.specs.OverFiles.{AskedOver}
@@ -220,12 +222,17 @@ returns-clause-damaged g c =
     let closed = subst (λ es. AreClosed (eyes g.S.Store.history g.S.Device.Device.history g.S.Frozen.Frozen.content g.S.Device.Device.name g.S.Frozen.Frozen.size
     g.S.Watch.Watch.counts) g.S.Device.Device.size (λ (f : finished _ _ _ _). f.outcome) (λ (f : finished _ _ _ _). g.S.Store.history f.kit.store)
     (λ (f : finished _ _ _ _). faults_in g.S.Watch.Watch.counts f.kit) es ended) same c.close_all-closed.ensures.3 in
-    rw (c.fault_of.ensures, c.close_all-closed.ensures.2, ← c.requires.all) (subst (λ (p : Partitions _ _ _ _ _). IfSome (fault_behind c.answer_over-partitions.result.1 (least_fault 0 (map (λ (f : finished _ _ _ _). f.outcome) ended))) (λ f. IfDamaged f (λ q damage. q < length p.engines))) begun
-    (behind_so (λ f. IfDamaged f (λ q damage. q < length k.engines)) c.answer_over-partitions.result.1 _
-    (damaged_over g.S.Device.Device.history g.S.Frozen.Frozen.content k k' (fault_in c.answer_over-partitions.result.1) c.answer_over-partitions.ensures.settings c.answer_over-partitions.ensures.cause.damaged)
-    (λ none. damaged_ended (eyes g.S.Store.history g.S.Device.Device.history g.S.Frozen.Frozen.content g.S.Device.Device.name g.S.Frozen.Frozen.size
-    g.S.Watch.Watch.counts) g.S.Device.Device.size (λ (f : finished _ _ _ _). f.outcome) (λ (f : finished _ _ _ _). g.S.Store.history f.kit.store)
-    (λ (f : finished _ _ _ _). faults_in g.S.Watch.Watch.counts f.kit) k k' ended closed c.answer_over-partitions.ensures.settings)))
+    let all : length k.engines ≡ (options_asked c.args.asked.now).partitions = ap (λ (p : Partitions _ _ _ _ _). length p.engines) begun ∙ c.requires.all in
+    let here = subst (λ (p : Partitions _ _ _ _ _). EachFrom (λ q e. (settings e).here ≡ partition_at q (options_asked c.args.asked.now).partitions) 0 p.engines) (sym begun) c.requires.numbered in
+    let Met : ℕ → Damage → Type 0 = λ q damage. (q < (options_asked c.args.asked.now).partitions)
+    × IsMetIn g.row.S.Denot g.row.S-Watch.Denot g.S.Device.Device.history g.S.Frozen.Frozen.content (partition_at q (options_asked c.args.asked.now).partitions) damage in
+    rw (c.fault_of.ensures, c.close_all-closed.ensures.2) (behind_so (λ f. IfDamaged f Met) c.answer_over-partitions.result.1 _
+    (damaged_over (eyes g.S.Store.history g.S.Device.Device.history g.S.Frozen.Frozen.content g.S.Device.Device.name g.S.Frozen.Frozen.size g.S.Watch.Watch.counts)
+    g.S.Device.Device.size (λ (f : finished _ _ _ _). f.outcome) (λ (f : finished _ _ _ _). g.S.Store.history f.kit.store) (λ (f : finished _ _ _ _). faults_in g.S.Watch.Watch.counts f.kit) k k' ended closed
+    c.answer_over-partitions.ensures.settings (options_asked c.args.asked.now).partitions all here (fault_in c.answer_over-partitions.result.1) c.answer_over-partitions.ensures.cause.damaged)
+    (λ none. damaged_ended (eyes g.S.Store.history g.S.Device.Device.history g.S.Frozen.Frozen.content g.S.Device.Device.name g.S.Frozen.Frozen.size g.S.Watch.Watch.counts)
+    g.S.Device.Device.size (λ (f : finished _ _ _ _). f.outcome) (λ (f : finished _ _ _ _). g.S.Store.history f.kit.store) (λ (f : finished _ _ _ _). faults_in g.S.Watch.Watch.counts f.kit) k k' ended closed
+    c.answer_over-partitions.ensures.settings (options_asked c.args.asked.now).partitions all here))
 
 pub returns-clause-spent : goal.returns-clause-spent
 returns-clause-spent g c =
