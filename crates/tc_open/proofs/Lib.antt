@@ -8,7 +8,7 @@ mod LogsCovered
 mod ListedIntervals
 mod ReadKits
 mod FlushedOpenings
-mod Lawfully
+pub mod Lawfully
 mod MergedOpenings
 mod CreatedLogs
 mod StartedLogs

@@ -450,13 +450,13 @@ load_caused tells size part all us ts tiles rest behind tile list left before no
 
 -- ---- what is answered
 
-abbrev pub same_indexes : List Index → List Index
-same_indexes cs = cs
+abbrev pub these_indexes : List Index → List Index
+these_indexes cs = cs
 
-pub answers_result : {T : Type 0} (view : T → List Index) (result : Result T FilesCause) (x e : FilesCause) (judged : Result (List Index) Refusal) → result ≡ Err x → x ≡ e → Answers {X = List Index} same_indexes (Err e) judged → Answers view result judged
+pub answers_result : {T : Type 0} (view : T → List Index) (result : Result T FilesCause) (x e : FilesCause) (judged : Result (List Index) Refusal) → result ≡ Err x → x ≡ e → Answers {X = List Index} these_indexes (Err e) judged → Answers view result judged
 answers_result {T = T} view result x e judged is same answers = subst (λ r. Answers view r judged) (sym (is ∙ ap Err same)) (as_well e answers)
   where
-    as_well : (c : FilesCause) → Answers {X = List Index} same_indexes (Err c) judged → Answers {X = T} view (Err c) judged
+    as_well : (c : FilesCause) → Answers {X = List Index} these_indexes (Err c) judged → Answers {X = T} view (Err c) judged
     as_well Disk a = tt
     as_well Memory a = tt
     as_well (Damaged (Bytes file place bytes)) a = a

@@ -11,6 +11,7 @@ use Rattle.tc_machine.specs.Pictures.{recovered}
 use Rattle.tc_merge.specs.Faults.{IsWatched}
 use Rattle.tc_open.specs.declared.fault.OpenCause.{OpenCause}
 use Rattle.tc_open.specs.declared.fault.OpenCause.TheVariants as opening
+use Rattle.tc_open.proofs.Lawfully.{both_lawful}
 use Rattle.tc_open.specs.Answered.{OfLawful}
 use Rattle.tc_open.specs.Judged.{ArePassed, AreSpent, CauseJudged, IsOpenCause, IsUntouched, Passes}
 use Rattle.tc_open.specs.OpenCauses as causes
@@ -103,11 +104,6 @@ disk_of p count (opening.Layout found found_of) old new rose = tt
 disk_of p count opening.Spent old new rose = tt
 disk_of p count opening.Memory old new rose = tt
 
-lawful_both : (here : Partition) (came : List Disk) (P Q : List Content → List (List PlainWrite) → Type 0) (R : List Content → List (List PlainWrite) → Type 0)
-    → ((cs : List Content) (logs : List (List PlainWrite)) → P cs logs → Q cs logs → R cs logs) → OfLawful here came P → OfLawful here came Q → OfLawful here came R
-lawful_both here [] P Q R both p q = tt
-lawful_both here (disk ∷ past) P Q R both p q = λ cs logs opens. both cs logs (p cs logs opens) (q cs logs opens)
-
 pub given_back : {S W D F : Type 0} (disks : S → List Disk) (counts : W → Counts) (content : F → Option (List ℕ)) (name : F → FileName) (p count : ℕ) (cause : OpenCause) (kit back : Kit S W D F)
     → OfLawful (partition_at p count) (disks kit.store) (λ cs logs. causes.IfLayout cause ⊥) → OfLawful (partition_at p count) (disks kit.store) (λ cs logs. causes.IfDamaged cause (λ damage. ⊥))
     → OfLawful (partition_at p count) (disks kit.store) (λ cs logs. step.Keeps (partition_at p count) (recovered cs logs).pairs (disks kit.store) (disks back.store))
@@ -118,9 +114,9 @@ given_back disks counts content name p count cause kit back here undamaged keeps
   of = is_of_opening p count cause;
   keeps = told_map (λ disk. (cs : List Content) (logs : List (List PlainWrite)) → DiskOpens (partition_at p count) disk cs logs → step.Keeps (partition_at p count) (recovered cs logs).pairs (disks kit.store) (disks back.store)) _ (disks kit.store)
       (λ disk all cs logs opens. (all cs logs opens).kept) keeps;
-  sound = lawful_both (partition_at p count) (disks kit.store) (λ cs logs. causes.IfLayout cause ⊥) (λ cs logs. causes.IfDamaged cause (λ damage. ⊥))
-      (λ cs logs. IsNoDamage None (fault_of_opening p count cause) × IsHere None (fault_of_opening p count cause))
-      (λ cs logs. undamaged_here p count cause) here undamaged;
+  sound = both_lawful (partition_at p count) (λ cs logs. causes.IfLayout cause ⊥) (λ cs logs. causes.IfDamaged cause (λ damage. ⊥))
+      (λ cs logs. IsNoDamage None (fault_of_opening p count cause) × IsHere None (fault_of_opening p count cause)) (disks kit.store) here undamaged
+      (λ cs logs. undamaged_here p count cause);
   judged = told_map (λ disk. CauseJudged content name (partition_at p count) disk cause) (λ disk. IsJudged nothing_met content name (partition_at p count) disk (Some (fault_of_opening p count cause))) (disks kit.store) (refused_by content name p count cause) judged;
   untouched = untouched;
   spent = λ is. told_map (λ disk. CauseJudged content name (partition_at p count) disk cause) (λ disk. Passes (partition_at p count) disk AreSpent) (disks kit.store) (λ disk. spent_by content name p count cause disk is) judged;

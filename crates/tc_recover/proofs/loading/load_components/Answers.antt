@@ -4,7 +4,7 @@ use Rattle.std.proofs.lemmas.List.{nil_from_length}
 use Rattle.std.proofs.lemmas.Result.{err_from_is_err_and}
 use Rattle.tc_recover.specs.Refusals.{asked}
 use Rattle.tc_recover.proofs.LogSteps.{counted_memory}
-use Rattle.tc_recover.proofs.LoadSteps.{IsNotNext, all_left, all_loaded, answers_result, begins_behind, caused_result, counted_result, load_caused, load_refused, one_left, one_loaded, same_indexes}
+use Rattle.tc_recover.proofs.LoadSteps.{IsNotNext, all_left, all_loaded, answers_result, begins_behind, caused_result, counted_result, load_caused, load_refused, one_left, one_loaded, these_indexes}
 use Rattle.tc_component.specs.Spelling.{Index}
 use Rattle.tc_recover.proofs.loading.load_components.Goals as goal
 
@@ -20,7 +20,7 @@ returns-in_err-component-clause-judged g c = λ told.
     let at = c.loop-file in
     let tile = c.in-Some-split_first in
     answers_result _ c.from_residual.result _ c.in_err-component.field-0.0 _ p.1 p.2
-    (load_refused (List Index) same_indexes _ (asked c.args.part) c.args.files.items _ _ c.args.tiles.now _ tile.behind.now tile.tile.now at.list _ _ _ c.in-Some.file c.in_err-component.field-0.0 c.requires.ascend at.invariant.tiles c.in-Some.ensures.steps.0 tile.ensures.cases.0
+    (load_refused (List Index) these_indexes _ (asked c.args.part) c.args.files.items _ _ c.args.tiles.now _ tile.behind.now tile.tile.now at.list _ _ _ c.in-Some.file c.in_err-component.field-0.0 c.requires.ascend at.invariant.tiles c.in-Some.ensures.steps.0 tile.ensures.cases.0
     (subst (λ is. is ≡ true) c.is_file_of.ensures c.if-is_file_of.true) c.in_err-component.ensures.judged told)
 
 pub returns-in_err-component-clause-causes : goal.returns-in_err-component-clause-causes
