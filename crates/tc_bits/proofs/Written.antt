@@ -2,11 +2,10 @@
 use Rattle.std.proofs.Common.{◌≡◌, ◌≤◌, ◌<◌, ℕ, suc, ◌+◌, ◌-◌, ◌*◌, ◌/◌, ◌%◌, ◌^◌, List, [], ◌∷◌, ◌++◌, length, refl, sym, ap, ◌∙◌, subst, arith, append_assoc, bit_and}
 use Rattle.std.specs.Int.{bytes_high_first}
 use Rattle.std.proofs.Math.Nat.{mod-eq_of_lt, pow-le-pow_right}
-use Rattle.std.proofs.lemmas.Nat.{pow_pos, pow-add, shl_whole, shr_split, mod_below, one_shl, and_mask}
+use Rattle.std.proofs.lemmas.Nat.{div_below, pow_pos, pow-add, shl_whole, shr_split, mod_below, one_shl, and_mask}
 use Rattle.tc_bits.specs.Bits.{joined, column_size, filling, column, written}
 use Rattle.tc_bits.proofs.ByteColumns.{high_first-append}
 use Rattle.tc_bits.proofs.Joined.{AreBelow, stacked, joined-below}
-use Rattle.tc_bits.proofs.Values.{byte_is}
 
 -- ---- as 64 bits are moved
 
@@ -17,28 +16,19 @@ lowest_bits bits n few = ap (λ m. bit_and n (m - 1)) (one_shl bits 64 few) ∙ 
 pub joined_below : (waiting bits w n : ℕ) → waiting < 2 ^ bits → n < 2 ^ w → waiting * 2 ^ w + n < 2 ^ (bits + w)
 joined_below waiting bits w n small fits = rw (pow-add 2 bits w) (stacked waiting n (2 ^ w) (2 ^ bits) small fits)
 
-pub joined_is : (waiting bits w n m : ℕ) → bits < 8 → waiting < 2 ^ bits → w ≤ 32 → m ≡ n → waiting * 2 ^ w % 2 ^ 64 + m ≡ waiting * 2 ^ w + n
+pub joined_is : (waiting bits w n m : ℕ) → bits < 32 → waiting < 2 ^ bits → w ≤ 32 → m ≡ n → waiting * 2 ^ w % 2 ^ 64 + m ≡ waiting * 2 ^ w + n
 joined_is waiting bits w n m few small most same = rw (same, shl_whole waiting bits w 64 small (omega (arith, few, most))) refl
 
-pub joined_fits : (waiting bits w n m : ℕ) → bits < 8 → waiting < 2 ^ bits → w ≤ 32 → n < 2 ^ w → m ≡ n → waiting * 2 ^ w % 2 ^ 64 + m < 2 ^ 64
+pub joined_fits : (waiting bits w n m : ℕ) → bits < 32 → waiting < 2 ^ bits → w ≤ 32 → n < 2 ^ w → m ≡ n → waiting * 2 ^ w % 2 ^ 64 + m < 2 ^ 64
 joined_fits waiting bits w n m few small most fits same =
     let below = joined_below waiting bits w n small fits in
     let within : bits + w ≤ 64 = omega (arith, few, most) in
     let more : 2 ^ (bits + w) ≤ 2 ^ 64 = pow-le-pow_right (omega arith) within in
     rw (joined_is waiting bits w n m few small most same) (omega (arith, below, more))
 
--- bits with zeros after them fill a byte
-pub filled_below : (waiting bits : ℕ) → bits < 8 → waiting < 2 ^ bits → waiting * 2 ^ (8 - bits) < 2 ^ 8
-filled_below waiting bits few small =
-    let all : bits + (8 - bits) ≡ 8 = omega (arith, few) in
-    let some = pow_pos (8 - bits) in
-    subst (λ k. waiting * 2 ^ (8 - bits) < 2 ^ k) all (subst (λ n. n < 2 ^ (bits + (8 - bits))) (nothing (waiting * 2 ^ (8 - bits))) (joined_below waiting bits (8 - bits) 0 small some))
-  where
-    nothing : (n : ℕ) → n + 0 ≡ n
-    nothing n = omega arith
-
-pub filled_is : (waiting bits : ℕ) → bits < 8 → waiting < 2 ^ bits → waiting * 2 ^ (8 - bits) % 2 ^ 64 ≡ waiting * 2 ^ (8 - bits)
-filled_is waiting bits few small = shl_whole waiting bits (8 - bits) 64 small (omega (arith, few))
+-- four bytes above some bits
+pub high_below : (number below : ℕ) → number < 2 ^ (32 + below) → number / 2 ^ below < 2 ^ 32
+high_below number below small = div_below number (2 ^ below) (2 ^ 32) (pow_pos below) (subst (λ p. number < p) (pow-add 2 32 below) small)
 
 -- ---- what is written
 
@@ -52,20 +42,18 @@ nothing_written w ns =
     plain : (p n : ℕ) → 0 * p + n ≡ n
     plain p n = omega arith
 
--- one number more: the bytes that it fills, and then what is written behind them
-pub number_written : (w number bits n : ℕ) (ns : List ℕ) → AreBelow w ns
+-- one number more: the bytes that are written, and then what is written behind them
+pub number_written : (w number bits n k r : ℕ) (ns : List ℕ) → AreBelow w ns → bits + w ≡ 8 * k + r
     → written (record { width = w; number = number; bits = bits }) (n ∷ ns)
-    ≡ bytes_high_first ((bits + w) / 8) ((number * 2 ^ w + n) / 2 ^ ((bits + w) % 8)) ++ written (record { width = w; number = (number * 2 ^ w + n) % 2 ^ ((bits + w) % 8); bits = (bits + w) % 8 }) ns
-number_written w number bits n ns each =
+    ≡ bytes_high_first k ((number * 2 ^ w + n) / 2 ^ r) ++ written (record { width = w; number = (number * 2 ^ w + n) % 2 ^ r; bits = r }) ns
+number_written w number bits n k r ns each parts =
     let x = number * 2 ^ w + n in
-    let k = (bits + w) / 8 in
-    let r = (bits + w) % 8 in
     let y = x / 2 ^ r in
     let z = x % 2 ^ r in
     let more = w * length ns in
     let size = (r + more + 7) / 8 in
     let fill = 8 * size - (r + more) in
-    let all : bits + w * length (n ∷ ns) ≡ 8 * k + (r + more) = total bits w (length ns) in
+    let all : bits + w * length (n ∷ ns) ≡ 8 * k + (r + more) = total bits w (length ns) k r parts in
     let whole : (bits + w * length (n ∷ ns) + 7) / 8 ≡ k + size = ap (λ b. (b + 7) / 8) all ∙ sized k (r + more) in
     let rest : 8 * (k + size) - (bits + w * length (n ∷ ns)) ≡ fill = ap (λ b. 8 * (k + size) - b) all ∙ left k size (r + more) in
     let room : r + more + fill ≡ 8 * size = rounded (r + more) in
@@ -82,8 +70,8 @@ number_written w number bits n ns each =
     ∙ ap (bytes_high_first (k + size)) high
     ∙ high_first-append k size y ((z * 2 ^ more + joined w ns) * 2 ^ fill) low
   where
-    total : (bits w l : ℕ) → bits + w * suc l ≡ 8 * ((bits + w) / 8) + ((bits + w) % 8 + w * l)
-    total bits w l = let split : bits + w ≡ 8 * ((bits + w) / 8) + (bits + w) % 8 = omega arith in let next : w * suc l ≡ w + w * l = omega arith in omega (arith, split, next)
+    total : (bits w l k r : ℕ) → bits + w ≡ 8 * k + r → bits + w * suc l ≡ 8 * k + (r + w * l)
+    total bits w l k r parts = let next : w * suc l ≡ w + w * l = omega arith in omega (arith, parts, next)
 
     sized : (k b : ℕ) → (8 * k + b + 7) / 8 ≡ k + (b + 7) / 8
     sized k b = omega arith
@@ -109,32 +97,29 @@ number_written w number bits n ns each =
         nothing : (n : ℕ) → n + 0 ≡ n
         nothing n = omega arith
 
--- what is written once the bytes that a number fills stand there
-pub pushed : (w number bits n : ℕ) (before bytes out ns : List ℕ) (left rest : ℕ) → left ≡ (number * 2 ^ w + n) % 2 ^ ((bits + w) % 8) → rest ≡ (bits + w) % 8 → bytes ≡ bytes_high_first ((bits + w) / 8) ((number * 2 ^ w + n) / 2 ^ ((bits + w) % 8)) → out ≡ before ++ bytes → AreBelow w ns
-    → out ++ written (record { width = w; number = left; bits = rest }) ns ≡ before ++ written (record { width = w; number = number; bits = bits }) (n ∷ ns)
-pushed w number bits n before bytes out ns left rest left_is rest_is bytes_is out_is each =
-    rw (left_is, rest_is, out_is, bytes_is)
-    (append_assoc before (bytes_high_first ((bits + w) / 8) ((number * 2 ^ w + n) / 2 ^ ((bits + w) % 8))) (written (record { width = w; number = (number * 2 ^ w + n) % 2 ^ ((bits + w) % 8); bits = (bits + w) % 8 }) ns)
-    ∙ ap (λ bs. before ++ bs) (sym (number_written w number bits n ns each)))
+-- what is written once four bytes stand there
+pub pushed_four : (w number bits n : ℕ) (before out ns : List ℕ) → 32 ≤ bits + w → out ≡ before ++ bytes_high_first 4 ((number * 2 ^ w + n) / 2 ^ (bits + w - 32)) → AreBelow w ns
+    → out ++ written (record { width = w; number = (number * 2 ^ w + n) % 2 ^ (bits + w - 32); bits = bits + w - 32 }) ns ≡ before ++ written (record { width = w; number = number; bits = bits }) (n ∷ ns)
+pushed_four w number bits n before out ns enough out_is each =
+    let r = bits + w - 32 in
+    let rest = written (record { width = w; number = (number * 2 ^ w + n) % 2 ^ r; bits = r }) ns in
+    ap (λ bs. bs ++ rest) out_is
+    ∙ append_assoc before (bytes_high_first 4 ((number * 2 ^ w + n) / 2 ^ r)) rest
+    ∙ ap (λ bs. before ++ bs) (sym (number_written w number bits n 4 r ns each (omega (arith, enough))))
+
+-- and where all bits go on to wait
+pub pushed_none : (w number bits n : ℕ) (ns : List ℕ) → number < 2 ^ bits → n < 2 ^ w → AreBelow w ns
+    → written (record { width = w; number = number * 2 ^ w + n; bits = bits + w }) ns ≡ written (record { width = w; number = number; bits = bits }) (n ∷ ns)
+pushed_none w number bits n ns small fits each =
+    ap (λ m. written (record { width = w; number = m; bits = bits + w }) ns) (sym (mod-eq_of_lt (joined_below number bits w n small fits)))
+    ∙ sym (number_written w number bits n 0 (bits + w) ns each (omega arith))
 
 -- and behind the last number
-pub ended : (w number bits : ℕ) → 0 < bits → bits < 8 → number < 2 ^ bits → written (record { width = w; number = number; bits = bits }) [] ≡ number * 2 ^ (8 - bits) ∷ []
-ended w number bits some few small =
+pub ended : (w number bits : ℕ) → written (record { width = w; number = number; bits = bits }) [] ≡ bytes_high_first ((bits + 7) / 8) (number * 2 ^ (8 * ((bits + 7) / 8) - bits))
+ended w number bits =
     let total : bits + w * 0 ≡ bits = omega arith in
-    let one : (bits + 7) / 8 ≡ 1 = omega (arith, some, few) in
-    let x = number * 2 ^ (8 - bits) in
     ap (λ b. bytes_high_first ((b + 7) / 8) ((number * 2 ^ (w * 0) + 0) * 2 ^ (8 * ((b + 7) / 8) - b))) total
-    ∙ ap (λ s. bytes_high_first s ((number * 2 ^ (w * 0) + 0) * 2 ^ (8 * s - bits))) one
-    ∙ ap (λ n. bytes_high_first 1 (n * 2 ^ (8 - bits))) (plain number w)
-    ∙ ap (λ b. b ∷ []) (byte_is 0 x ∙ lowest x ∙ mod-eq_of_lt (filled_below number bits few small))
+    ∙ ap (λ n. bytes_high_first ((bits + 7) / 8) (n * 2 ^ (8 * ((bits + 7) / 8) - bits))) (plain number w)
   where
     plain : (n w : ℕ) → n * 2 ^ (w * 0) + 0 ≡ n
     plain n w = let none : w * 0 ≡ 0 = omega arith in rw none (omega arith)
-
-    lowest : (x : ℕ) → x / 2 ^ (8 * 0) % 2 ^ 8 ≡ x % 2 ^ 8
-    lowest x = omega arith
-
-pub ended_empty : (w number bits : ℕ) → bits ≡ 0 → written (record { width = w; number = number; bits = bits }) [] ≡ []
-ended_empty w number bits nothing =
-    let none : bits + w * 0 ≡ 0 = omega (arith, nothing) in
-    ap (λ b. bytes_high_first ((b + 7) / 8) ((number * 2 ^ (w * 0) + 0) * 2 ^ (8 * ((b + 7) / 8) - b))) none

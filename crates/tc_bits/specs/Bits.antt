@@ -79,7 +79,7 @@ pub record IsColumn (w : ℕ) (ns : List ℕ) (bytes : List ℕ) : Type 0 where
 
 -- ---- writing
 
--- the bits that were written and do not fill a byte yet, as a number, and how many bits each number to come has
+-- the bits that wait to be written, as a number, and how many bits each number to come has
 pub record Waiting : Type 0 where
   pub width : ℕ
   pub number : ℕ

@@ -8,8 +8,8 @@ ghost use Rattle.tc_bits.specs.Bits.{column, written as bytes_written};
 use std::alloc::AllocError;
 use std::marker::Model;
 
-/// A column that is written at the end of bytes. Contracts see how many bits a number has, and the bits that wait until they
-/// fill a byte.
+/// A column that is written at the end of bytes, four of them at a time. Contracts see how many bits a number has, and the bits
+/// that wait until they fill so many.
 #[derive(Drop)]
 pub struct ColumnWriter {
     width: u8,
@@ -25,7 +25,7 @@ impl Model for ColumnWriter {
 
     ghost view = { λ w. record { width = w.width; number = w.waiting; bits = w.bits } };
 
-    ghost invariant = { λ w. (1 ≤ w.width) × (w.width ≤ 32) × (w.bits < 8) × (w.waiting < 2 ^ w.bits) };
+    ghost invariant = { λ w. (1 ≤ w.width) × (w.width ≤ 32) × (w.bits < 32) × (w.waiting < 2 ^ w.bits) };
 }
 
 impl ColumnWriter {
@@ -52,9 +52,14 @@ impl ColumnWriter {
     {
         let waiting = with_number(self.waiting, self.bits, self.width, number);
         let bits = self.bits + self.width;
-        put_whole(waiting, bits, out)?;
-        self.waiting = lowest(waiting, bits % 8);
-        self.bits = bits % 8;
+        if bits < 32 {
+            self.waiting = waiting;
+            self.bits = bits;
+            return Ok(());
+        }
+        put_four(waiting, bits - 32, out)?;
+        self.waiting = lowest(waiting, bits - 32);
+        self.bits = bits - 32;
         Ok(())
     }
 
@@ -62,18 +67,16 @@ impl ColumnWriter {
     pub fn end(self, out: &mut Vec<u8>) -> Result<(), AllocError>
         ensures { OnOk result (out.new.items ≡ out.old.items ++ bytes_written self []) }
     {
-        if self.bits == 0 {
-            return Ok(());
-        }
-        out.push(filled(self.waiting, self.bits))?;
+        let size = (self.bits + 7) / 8;
+        put_low(filled(self.waiting, 8 * size - self.bits), size, out)?;
         Ok(())
     }
 }
 
-/// Fewer than eight bits, as a number, with a number of so many bits after them.
+/// Fewer than 32 bits, as a number, with a number of so many bits after them.
 #[inline(always)]
 fn with_number(waiting: u64, bits: u8, width: u8, number: u32) -> u64
-    requires few { bits < 8 }
+    requires few { bits < 32 }
     requires small { waiting < 2 ^ bits }
     requires most { width ≤ 32 }
     requires fits { number < 2 ^ width }
@@ -85,29 +88,39 @@ fn with_number(waiting: u64, bits: u8, width: u8, number: u32) -> u64
 /// The lowest bits of a number.
 #[inline(always)]
 fn lowest(number: u64, bits: u8) -> u64
-    requires { bits < 8 }
+    requires { bits < 32 }
     ensures { result ≡ number % 2 ^ bits }
 {
     number & ((1u64 << bits) - 1)
 }
 
-/// Fewer than eight bits with zeros after them, as a byte.
-fn filled(waiting: u64, bits: u8) -> u8
-    requires few { bits < 8 }
-    requires small { waiting < 2 ^ bits }
-    ensures { result ≡ waiting * 2 ^ (8 - bits) }
+/// A number of 32 bits with zeros after it.
+fn filled(number: u64, zeros: u8) -> u64
+    requires few { zeros < 8 }
+    requires small { number < 2 ^ 32 }
+    ensures { result ≡ number * 2 ^ zeros }
 {
-    (waiting << (8 - bits)) as u8
+    number << zeros
 }
 
-/// Appends the bytes that so many bits of a number fill, the highest of them first. Errs only for want of memory.
+/// Appends the four bytes that stand above so many bits of a number. Errs only for want of memory.
 #[inline(always)]
-fn put_whole(number: u64, bits: u8, out: &mut Vec<u8>) -> Result<(), AllocError>
-    requires { bits < 64 }
-    ensures { OnOk result (out.new.items ≡ out.old.items ++ bytes_high_first (bits / 8) (number / 2 ^ (bits % 8))) }
+fn put_four(number: u64, below: u8, out: &mut Vec<u8>) -> Result<(), AllocError>
+    requires few { below < 32 }
+    requires small { number < 2 ^ (32 + below) }
+    ensures { OnOk result (out.new.items ≡ out.old.items ++ bytes_high_first 4 (number / 2 ^ below)) }
 {
-    let bytes = (number >> (bits % 8)).to_be_bytes();
-    let (_, whole) = bytes.split_at(8 - usize::from(bits / 8));
-    out.extend_from_slice(whole)?;
+    out.extend_from_slice(&((number >> below) as u32).to_be_bytes())?;
+    Ok(())
+}
+
+/// Appends so many of the lowest bytes of a number, the highest of them first. Errs only for want of memory.
+fn put_low(number: u64, count: u8, out: &mut Vec<u8>) -> Result<(), AllocError>
+    requires { count ≤ 8 }
+    ensures { OnOk result (out.new.items ≡ out.old.items ++ bytes_high_first count number) }
+{
+    let bytes = number.to_be_bytes();
+    let (_, low) = bytes.split_at(8 - usize::from(count));
+    out.extend_from_slice(low)?;
     Ok(())
 }
