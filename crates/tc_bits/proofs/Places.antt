@@ -2,7 +2,7 @@
 use Rattle.std.proofs.Common.{◌≡◌, ◌≤◌, ◌<◌, ℕ, ◌+◌, ◌-◌, ◌*◌, ◌/◌, ◌%◌, ◌^◌, List, ◌++◌, length, take, drop, sym, ap, ◌∙◌, subst, arith, length-append}
 use Rattle.std.proofs.Math.Nat.{mod-eq_of_lt}
 use Rattle.std.proofs.lemmas.List.{take-append-drop, length-take-le, length-drop}
-use Rattle.tc_bits.specs.Bits.{value, field_of, with_field, bits_after, bits_at, with_bits, IsAligned}
+use Rattle.tc_bits.specs.Bits.{value, field_of, with_field, bits_after, bits_at, with_bits, IsAligned, IsWindow}
 use Rattle.tc_bits.proofs.Fields.{field-after, field-before, with_field-after, with_field-before, with_field-fits}
 use Rattle.tc_bits.proofs.Values.{AreBytes, AreBytes-take, AreBytes-drop, value-append, value-below}
 
@@ -115,19 +115,25 @@ with_bits-fits w place v bytes each fits room =
     mod-eq_of_lt
     (subst (λ k. with_bits w place v bytes < 2 ^ k) whole (with_field-fits (bits_after w place bytes) w place v (value bytes) fits (subst (λ k. value bytes < 2 ^ k) (sym whole) (value-below bytes each))))
 
--- eight bytes of which the last one has the last of the bits
-pub bits_before : (w end : ℕ) (bytes : List ℕ) → AreBytes bytes → w ≤ 32 → 64 ≤ end → end ≤ 8 * length bytes
-    → field_of (8 * ((end + 7) / 8) - end) w (value (take 8 (drop ((end + 7) / 8 - 8) bytes))) ≡ bits_at w (end - w) bytes
-bits_before w end bytes each most long room =
-    let after_it = (end + 7) / 8 in
-    let start = after_it - 8 in
-    let place = end - w - 8 * start in
-    let front : length (take start bytes) ≡ start = length-take-le start bytes (omega (arith, room, long)) in
+-- all bits in the last eight of so many bytes
+pub bits_in_look : (end : ℕ) (bytes : List ℕ) → AreBytes bytes → 8 ≤ end → end ≤ length bytes → IsWindow end (value (take 8 (drop (end - 8) bytes))) bytes
+bits_in_look end bytes each long room w place near before =
+    let start = end - 8 in
+    let p = place - 8 * start in
+    let front : length (take start bytes) ≡ start = length-take-le start bytes (omega (arith, room)) in
     let back : length (drop start bytes) ≡ length bytes - start = length-drop start bytes in
-    let above : 8 * after_it - end ≡ 64 - place - w = omega (arith, most, long) in
-    let at : 8 * length (take start bytes) + place ≡ end - w = rw front (omega (arith, most, long)) in
+    let above : 8 * end - (place + w) ≡ 64 - p - w = omega (arith, long, near, before) in
+    let at : 8 * length (take start bytes) + p ≡ place = rw front (omega (arith, long, near)) in
     ap (λ k. field_of k w (value (take 8 (drop start bytes)))) above
-    ∙ bits_in_window w place (drop start bytes) (AreBytes-drop start bytes each) (rw back (omega (arith, room, long))) (omega (arith, most, long))
-    ∙ sym (bits_after_bytes w place (take start bytes) (drop start bytes) (rw back (omega (arith, room, most, long))))
-    ∙ ap (bits_at w (8 * length (take start bytes) + place)) (take-append-drop start bytes)
+    ∙ bits_in_window w p (drop start bytes) (AreBytes-drop start bytes each) (rw back (omega (arith, room, long))) (omega (arith, long, before))
+    ∙ sym (bits_after_bytes w p (take start bytes) (drop start bytes) (rw back (omega (arith, room, long, near, before))))
+    ∙ ap (bits_at w (8 * length (take start bytes) + p)) (take-append-drop start bytes)
     ∙ ap (λ k. bits_at w k bytes) at
+
+-- as those that end in the last of these bytes
+pub bits_before : (w end : ℕ) (bytes : List ℕ) (number : ℕ) → w ≤ 32 → 64 ≤ end → IsWindow ((end + 7) / 8) number bytes → field_of (8 * ((end + 7) / 8) - end) w number ≡ bits_at w (end - w) bytes
+bits_before w end bytes number most long seen =
+    let whole = (end + 7) / 8 in
+    let above : 8 * whole - end ≡ 8 * whole - (end - w + w) = omega (arith, most, long) in
+    ap (λ k. field_of k w number) above
+    ∙ seen w (end - w) (omega (arith, most, long)) (omega (arith, most, long))

@@ -50,6 +50,10 @@ bits_after w place bytes = 8 * length bytes - (place + w)
 abbrev pub bits_at : ℕ → ℕ → List ℕ → ℕ
 bits_at w place bytes = field_of (bits_after w place bytes) w (value bytes)
 
+-- a number from which all bits are read that stand in the last eight of so many bytes
+abbrev pub IsWindow : ℕ → ℕ → List ℕ → Type 0
+IsWindow end number bytes = (w place : ℕ) → 8 * end ≤ place + 64 → place + w ≤ 8 * end → field_of (8 * end - (place + w)) w number ≡ bits_at w place bytes
+
 -- bits that fill whole bytes begin with one
 abbrev pub IsAligned : ℕ → ℕ → Type 0
 IsAligned w place = w % 8 ≡ 0 → place % 8 ≡ 0

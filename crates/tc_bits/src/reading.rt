@@ -1,7 +1,7 @@
 //! Bits read as a number.
 
 ghost use Rattle.std.specs.Prelude.{◌==◌, ◌≡◌, ◌≤◌, ◌<◌, ◌+◌, ◌*◌, ◌^◌, ◌%◌, ◌-◌, length, take};
-ghost use Rattle.tc_bits.specs.Bits.{bits_at, field_of as field, value, IsAligned};
+ghost use Rattle.tc_bits.specs.Bits.{bits_at, field_of as field, value, IsAligned, IsWindow};
 
 /// So many bits after so many others, as a number.
 #[inline(always)]
@@ -98,13 +98,28 @@ fn number_before(bytes: &[u8], width: u8, end: u64) -> u32
     ensures { result ≡ bits_at width (end - width) bytes.now }
 {
     let whole = ((end + 7) / 8) as usize;
-    let (_, rest) = bytes.split_at(whole - 8);
-    field_of(window_of(rest), (8 * whole as u64 - end) as u8, width)
+    field_of(
+        window_before(bytes, whole),
+        (8 * whole as u64 - end) as u8,
+        width,
+    )
+}
+
+/// The number that the last eight of so many bytes are: from it, bits of these are read by `field_of`, so that numbers which stand
+/// together share one look.
+#[inline(always)]
+pub fn window_before(bytes: &[u8], end: usize) -> u64
+    requires long { 8 ≤ end }
+    requires room { end ≤ length bytes.now }
+    ensures { IsWindow end result bytes.now }
+{
+    let (_, rest) = bytes.split_at(end - 8);
+    window_of(rest)
 }
 
 /// So many bits of a number, above so many others.
 #[inline(always)]
-fn field_of(number: u64, above: u8, width: u8) -> u32
+pub fn field_of(number: u64, above: u8, width: u8) -> u32
     requires least { 1 ≤ width }
     requires most { width ≤ 32 }
     requires room { above + width ≤ 64 }

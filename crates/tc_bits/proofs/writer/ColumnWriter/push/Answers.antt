@@ -1,4 +1,4 @@
-use Rattle.std.proofs.Common.{◌≡◌, ◌∙◌, ◌<◌, ◌+◌, ◌-◌, ◌*◌, ◌/◌, ◌%◌, ◌^◌, ◌∷◌, ◌++◌, sym, ap, subst, arith}
+use Rattle.std.proofs.Common.{◌≡◌, ◌∙◌, ◌<◌, ◌+◌, ◌-◌, ◌/◌, ◌%◌, ◌^◌, ◌∷◌, ◌++◌, sym, ap, subst, arith}
 use Rattle.std.specs.Int.{bytes_high_first}
 use Rattle.tc_bits.specs.Bits.{Waiting, written}
 use Rattle.tc_bits.proofs.Joined.{AreBelow}
