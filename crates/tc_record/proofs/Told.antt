@@ -114,7 +114,7 @@ greatest_below limit (k ∷ ks) all = under (length ks) (greatest (k ∷ ks)) (b
     below k [] all = omega (arith, all.0)
     below k (m ∷ ks) all = omega (arith, all.0, below m ks all.1)
 
--- the labels of a record of form 0, and of form 1
+-- the labels of a record with names, and of one with numbers
 labels_named : (d : Document) → labels (named_tokens d) ≡ map name (labels (tokens_of d))
 labels_named d = ap labels (preorder-relabel name d None) ∙ labels-retoken name (tokens_of d)
 
@@ -130,7 +130,7 @@ names_below limit r (inl (d, (named, is, tokens, form))) told = subst (AllByRecu
     each (n ∷ ns) = (tt, each ns)
 names_below limit r (inr (n, (named, is, tokens, form))) told = absurd (both_ways r.named named told)
 
--- what was scanned of the slots of a record of form 1 tells whether its numbers are below a limit
+-- what was scanned of the slots of a record with numbers tells whether its numbers are below a limit
 pub numbers_told : (limit count : ℕ) (r : Record) (b : Bool) → Spells r → r.named ≡ false → count ≡ length (labels r.tokens) → b ≡ cut.are_below limit count (greatest (slots r.tokens))
     → IsTrue b ↔ AllByRecursion (IsBelow limit) (labels r.tokens)
 numbers_told limit count r b (inl (d, (named, is, tokens, form))) told many scan = absurd (both_ways r.named told named)

@@ -10,7 +10,7 @@ use Rattle.tc_model.specs.Limits.{max_depth}
 use Rattle.tc_record.specs.Preorder.{Piece, scalar, array_opened, object_opened, closed, Token, token}
 use Rattle.tc_record.specs.Record.{close_tag}
 
--- what a member is labelled by: its name in form 0, the number of its name in form 1
+-- what a member is labelled by: its name in form 0, the number of its name in the others
 pub data Key : Type 0 where
   name : Name → Key
   number : ℕ → Key

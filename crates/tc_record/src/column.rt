@@ -3,12 +3,13 @@
 ghost use Rattle.std.specs.Prelude.{◌≡◌, ◌∷◌, [], IfSome, IfNone};
 
 use crate::numbers::Numbers;
+use crate::scan::Scan;
 use std::marker::Model;
 
 /// The numbers of a column, read one by one. Contracts see those that are left.
 #[derive(Drop)]
 pub struct Column<'a> {
-    left: Numbers<'a>,
+    scan: Scan<'a>,
 }
 
 impl<'a> Model for Column<'a> {
@@ -17,7 +18,7 @@ impl<'a> Model for Column<'a> {
 
     ghost Value = { List ℕ };
 
-    ghost view = { λ c. numbers_of c.left };
+    ghost view = { λ c. numbers_of c.scan.left };
 }
 
 impl<'a> Column<'a> {
@@ -26,7 +27,9 @@ impl<'a> Column<'a> {
     pub(crate) fn of(left: Numbers<'a>) -> Column<'a>
         ensures { result ≡ numbers_of left.entry }
     {
-        Column { left }
+        Column {
+            scan: Scan::of(left),
+        }
     }
 
     /// The next number, or `None` at the end. Takes no memory.
@@ -35,6 +38,6 @@ impl<'a> Column<'a> {
         ensures some { IfSome result (λ number. self.old ≡ number ∷ self.new) }
         ensures end { IfNone result (self.old ≡ []) }
     {
-        self.left.next()
+        self.scan.next()
     }
 }

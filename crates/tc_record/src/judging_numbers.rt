@@ -1,4 +1,4 @@
-//! Whether columns spell the tokens of a record of form 1. Members of its objects carry numbers, which may come in any
+//! Whether columns spell the tokens of a record of form 1 or 2. Members of its objects carry numbers, which may come in any
 //! order, so that of what is open it is enough to know which are arrays.
 
 ghost use Rattle.std.specs.Prelude.{◌≡◌, ◌∷◌, [], None, false, is_some, if◌then◌else◌};

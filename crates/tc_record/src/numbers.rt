@@ -1,6 +1,6 @@
 //! The numbers of a column, read one by one.
 
-ghost use Rattle.std.specs.Prelude.{◌≡◌, ◌≤◌, ◌<◌, ◌+◌, ◌*◌, ◌^◌, ◌==◌, length, option_map};
+ghost use Rattle.std.specs.Prelude.{◌≡◌, ◌≤◌, ◌<◌, ◌+◌, ◌-◌, ◌*◌, ◌^◌, ◌==◌, length, option_map};
 ghost use Rattle.tc_bits.specs.Bits.{IsAligned};
 ghost use Rattle.tc_record.specs.Walk.{number_next};
 ghost use Rattle.tc_record.specs.NumbersLeft.{elements_from, HasWidth};
@@ -33,9 +33,25 @@ impl<'a> Numbers<'a> {
             return None;
         }
         let number = number_from(self.bytes, self.width, self.place);
-        self.left -= 1;
-        self.place += u64::from(self.width);
+        *self = self.behind_one();
         Some(number)
+    }
+
+    /// The numbers behind the first one.
+    #[inline(always)]
+    pub(crate) fn behind_one(&self) -> Numbers<'a>
+        requires { 0 < self.now.left }
+        ensures bytes { result.bytes ≡ self.now.bytes }
+        ensures width { result.width ≡ self.now.width }
+        ensures place { result.place ≡ self.now.place + self.now.width }
+        ensures left { result.left ≡ self.now.left - 1 }
+    {
+        Numbers {
+            bytes: self.bytes,
+            width: self.width,
+            place: self.place + u64::from(self.width),
+            left: self.left - 1,
+        }
     }
 
     /// Whether none is left.

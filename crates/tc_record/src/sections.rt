@@ -12,6 +12,7 @@ use crate::column_sizes::least_width;
 use crate::header::{Header, PACKED_FORM, form_told, header_in};
 use crate::numbers::Numbers;
 use crate::reader::{Columns, Format};
+use crate::scan::Scan;
 use std::str;
 use tc_bits::{Columns as BitColumns, size_of_column};
 use tc_bytes::slice_at;
@@ -200,10 +201,10 @@ fn scanned(numbers: Numbers<'_>) -> (u32, u32)
     ensures most { result.0 ≡ greatest (numbers_of numbers.entry) }
     ensures all { result.1 ≡ capped_sum (numbers_of numbers.entry) }
 {
-    let mut left = numbers;
+    let mut scan = Scan::of(numbers);
     let mut greatest = 0;
     let mut total = 0u32;
-    while let Some(number) = left.next() {
+    while let Some(number) = scan.next() {
         greatest = larger(greatest, number);
         total = total.saturating_add(number);
     }

@@ -7,7 +7,7 @@ pub struct Token<'a> {
     pub value: Piece<'a>,
 }
 
-/// What a value is labelled by: nothing outside of objects, in form 0 a name, in form 1 the number of a name.
+/// What a value is labelled by: nothing outside of objects, in form 0 a name, in the others the number of one.
 #[derive(Clone, Copy, Debug)]
 pub enum Label<'a> {
     Bare,

@@ -7,5 +7,5 @@ use Rattle.tc_record.proofs.sections.scanned.Goals as goal
 pub returns-clause-all : goal.returns-clause-all
 returns-clause-all c =
     let l = c.loop-number in
-    let none : number_next (numbers_of l.left) ≡ None = sym c.in_default.ensures in
-    sym (sum_end l.total (numbers_of l.left) l.invariant.small none) ∙ l.invariant.all
+    let none : number_next (numbers_of l.scan.left) ≡ None = sym c.in_default.ensures in
+    sym (sum_end l.total (numbers_of l.scan.left) l.invariant.small none) ∙ l.invariant.all
