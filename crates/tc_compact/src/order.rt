@@ -7,6 +7,7 @@ ghost use Rattle.tc_value.specs.ShapeMeaning.{shape_member};
 ghost use Rattle.tc_record.specs.Walk.{is_above as stands_above};
 ghost use Rattle.tc_compact.specs.Meant.{ascend_behind};
 
+use tc_record::precedes;
 use tc_value::{Member, Members, ShapeMember, ShapeMembers};
 
 /// The members of an object's shape, or `None` where their names do not ascend.
@@ -64,11 +65,12 @@ fn shapes_ascend(members: &[ShapeMember]) -> bool
 }
 
 /// Whether a name stands above the one before it, if there is one.
+#[inline(always)]
 pub(crate) fn is_above(last: Option<&str>, name: &str) -> bool
     ensures { result ≡ stands_above (option_map (λ n. n.now) last.entry) name.now }
 {
     match last {
         None => true,
-        Some(before) => before < name,
+        Some(before) => precedes(before, name),
     }
 }
