@@ -3,7 +3,7 @@ mod Closing
 mod FileRows
 pub mod Heads
 mod Directories
-mod ColumnLaws
+mod Marks
 mod Sections
 mod Fronts
 pub mod Files

@@ -1,48 +1,38 @@
 -- Entries that are looked up one behind the other, each with where its record lies.
-use Rattle.std.proofs.Common.{◌≡◌, ◌<◌, ◌≤◌, ◌+◌, ◌-◌, ◌^◌, ◌⊎◌, ◌∙◌, ℕ, zero, suc, List, [], ◌∷◌, ◌++◌, Some, length, min, take, get_or, slice_get, set, sym, ap, subst, arith, inl, inr}
-use Rattle.std.proofs.Math.Nat.{min-le_right}
-use Rattle.std.proofs.lemmas.List.{take_more_set, length-take-le, length-map}
+use Rattle.std.proofs.Common.{◌≡◌, ◌<◌, ◌+◌, ◌-◌, ◌⊎◌, ◌∙◌, ℕ, zero, suc, List, [], ◌∷◌, ◌++◌, Some, length, take, slice_get, set, sym, ap, subst, arith, inl, inr}
+use Rattle.std.specs.List.{AllByRecursion}
+use Rattle.std.proofs.lemmas.List.{take_more_set, length-take-le}
+use Rattle.std.proofs.lemmas.Option.{same_Some, slice_get_within}
 use Rattle.tc_component.specs.declared.found.Span.{Span}
 use Rattle.tc_component.specs.declared.slot.Slot.{Slot}
-use Rattle.tc_component.specs.Columns.{AreColumns}
 use Rattle.tc_component.specs.Layout.{number_end, records_place}
 use Rattle.tc_component.specs.Spans.{IsSpan, AreSpans}
-use Rattle.tc_component.specs.Spelling.{lengths_of}
-use Rattle.tc_component.proofs.Lookups.{ends_length, end_at, there, within_all}
+use Rattle.tc_component.specs.Spelling.{lengths_of, IsSlot}
+use Rattle.tc_component.proofs.Lookups.{there, within_all}
 
 abbrev span : ℕ → ℕ → ℕ → Span
 span key begin count = record { key = key; begin = begin; count = count }
 
--- what the columns tell of the entry at a position, where the records before it have so many bytes
-pub record Told (slots : List Slot) (keys ends : List ℕ) (i start : ℕ) : Type 0 where
-  pub within : i < length ends
-  pub order : start ≤ get_or ends i 0
-  pub fits : get_or ends i 0 - start < 2 ^ 32
-  pub short : start < number_end
-  pub next : get_or ends i 0 ≡ lengths_of (take (suc i) slots)
-  pub is : IsSpan slots i (span (get_or keys i 0) (records_place + start) (get_or ends i 0 - start))
+-- what the slot at a position tells, where the records before it have so many bytes
+pub record Told (slots : List Slot) (i start : ℕ) (s : Slot) : Type 0 where
+  pub next : start + s.length ≡ lengths_of (take (suc i) slots)
+  pub short : start + s.length < number_end
+  pub is : IsSpan slots i (span s.key (records_place + start) s.length)
 
-pub told : (slots : List Slot) (keys ends : List ℕ) (room at step start : ℕ) → AreColumns keys ends slots → step < min room (length keys - at) → start ≡ lengths_of (take (at + step) slots)
-    → Told slots keys ends (at + step) start
-told slots keys ends room at step start are more begun =
-    let i = at + step in
-    let within : i < length slots = omega (arith, more, min-le_right room (length keys - at), ap length are.keys_are, length-map slots (λ (s : Slot). s.key)) in
-    let t = there slots i are.each within in
-    let end : get_or ends i 0 ≡ 0 + lengths_of (take (suc i) slots) = ap (λ (l : List ℕ). get_or l i 0) are.ends_are ∙ end_at 0 slots i within in
-    let key : get_or keys i 0 ≡ t.slot.key = ap (λ (l : List ℕ). get_or l i 0) are.keys_are ∙ t.key in
-    let bytes : get_or ends i 0 - start ≡ t.slot.length = omega (arith, end, begun, t.length) in
-    let all : lengths_of (take i slots) + t.slot.length ≤ lengths_of slots = within_all slots i t.slot t.here in
+pub told : (slots : List Slot) (i start : ℕ) (s : Slot) → AllByRecursion IsSlot slots → lengths_of slots < number_end → slice_get slots i ≡ Some s → start ≡ lengths_of (take i slots) → Told slots i start s
+told slots i start s each short here begun =
+    let t = there slots i each (slice_get_within slots i s here) in
+    let same : t.slot ≡ s = same_Some t.slot s (sym t.here ∙ here) in
+    let bytes : t.slot.length ≡ s.length = ap (λ (u : Slot). u.length) same in
+    let all = within_all slots i s here in
     record {
-      within = omega (arith, within, ap length are.ends_are, ends_length 0 slots);
-      order = omega (arith, end, begun, t.length);
-      fits = omega (arith, bytes, t.is.fits);
-      short = omega (arith, begun, all, are.short);
-      next = omega (arith, end);
+      next = omega (arith, begun, t.length, bytes);
+      short = omega (arith, begun, all, short);
       is = record {
-        here = rw (key, bytes) t.here;
-        key = omega (arith, key, t.is.key);
+        here = here;
+        key = omega (arith, t.is.key, ap (λ (u : Slot). u.key) same);
         begin = ap (λ n. records_place + n) begun;
-        within = omega (arith, begun, bytes, all);
+        within = omega (arith, begun, all);
       };
     }
 

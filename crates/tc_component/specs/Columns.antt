@@ -1,31 +1,46 @@
--- A directory as two columns, and what is found in it.
-use Rattle.std.specs.Prelude.{◌≡◌, ◌≢◌, ◌<◌, ◌+◌, ◌-◌, ℕ, List, [], ◌∷◌, map, slice_get, Some, None}
+-- A directory in memory, as the bytes that spell it and a column of marks, and what is found in it.
+use Rattle.std.specs.Prelude.{◌≡◌, ◌≢◌, ◌<◌, ◌≤◌, ◌+◌, ◌*◌, ℕ, zero, suc, List, [], ◌∷◌, length, take, drop, get_or, slice_get, Some, None}
+use Rattle.std.specs.Int.{w32, w64, from_be_bytes}
 use Rattle.std.specs.List.{AllByRecursion}
 use Rattle.tc_component.specs.declared.found.DirEntry.{DirEntry}
 use Rattle.tc_component.specs.declared.found.Found.{Found}
 use Rattle.tc_component.specs.declared.found.Found.TheVariants.{Absent, Gone, At}
+use Rattle.tc_component.specs.declared.head.Sizes.{Sizes}
 use Rattle.tc_component.specs.declared.slot.Slot.{Slot}
-use Rattle.tc_component.specs.Layout.{number_end}
+use Rattle.tc_component.specs.Found.{DirectoryFound}
+use Rattle.tc_component.specs.Layout.{number_end, slot_size, mark_step}
+use Rattle.tc_component.specs.Reading.{directory_read}
 use Rattle.tc_component.specs.Spelling.{slot, lengths_of, IsSlot, Ascend}
 
--- the slots of these keys, whose records end at these places behind one
-abbrev pub slots_from : ℕ → List ℕ → List ℕ → List Slot
-slots_from start [] ends = []
-slots_from start (key ∷ keys) [] = []
-slots_from start (key ∷ keys) (end ∷ ends) = slot key (end - start) ∷ slots_from end keys ends
+-- the slot that the first bytes are
+abbrev pub front_slot : List ℕ → Slot
+front_slot bytes = slot (from_be_bytes w64 bytes) (from_be_bytes w32 (drop 8 bytes))
 
--- where the records of these slots end behind a place
-abbrev pub ends_from : ℕ → List Slot → List ℕ
-ends_from start [] = []
-ends_from start (s ∷ slots) = (start + s.length) ∷ ends_from (start + s.length) slots
+-- so many slots, one behind the other
+abbrev pub slots_in : ℕ → List ℕ → List Slot
+slots_in zero bytes = []
+slots_in (suc n) bytes = front_slot bytes ∷ slots_in n (drop slot_size bytes)
 
--- the columns of a directory that a component may have
-pub record AreColumns (keys ends : List ℕ) (slots : List Slot) : Type 0 where
-  pub keys_are : keys ≡ map (λ s. s.key) slots
-  pub ends_are : ends ≡ ends_from 0 slots
+-- before the first slot, and before each that so many more precede, a mark tells how many bytes the records before it have
+pub record AreMarks (marks : List ℕ) (slots : List Slot) : Type 0 where
+  pub more : length slots < length marks * mark_step
+  pub most : length marks * mark_step ≤ length slots + mark_step
+  pub each : (i : ℕ) → i * mark_step ≤ length slots → get_or marks i 0 ≡ lengths_of (take (i * mark_step) slots)
+
+-- all of the bytes are a directory of these sizes, and these are its marks
+pub record IsMarked (sizes : Sizes) (bytes marks : List ℕ) : Type 0 where
+  pub slots : List Slot
+  pub read : directory_read sizes.entries sizes.records [] bytes ≡ Some slots
+  pub found : DirectoryFound sizes.entries sizes.records bytes slots
+  pub marks_are : AreMarks marks slots
+
+-- so many slots of a directory that a component may have, in so many bytes, and the marks
+pub record AreHeld (count : ℕ) (bytes marks : List ℕ) (slots : List Slot) : Type 0 where
+  pub sized : length bytes ≡ count * slot_size
   pub each : AllByRecursion IsSlot slots
   pub ascend : Ascend slots
   pub short : lengths_of slots < number_end
+  pub marks_are : AreMarks marks slots
 
 -- what is found of a key: no slot has it, or one without a record, or the one at a place
 abbrev pub IsFound : List Slot → ℕ → Found → Type 0

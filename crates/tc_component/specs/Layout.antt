@@ -42,3 +42,7 @@ file_size sizes = schema_place sizes + sizes.schema
 -- a cursor reads so many bytes at once, or one record where that is longer
 abbrev pub window_size : ℕ
 window_size = 65536
+
+-- in memory, so many entries of a directory stand between two marks
+abbrev pub mark_step : ℕ
+mark_step = 16

@@ -45,7 +45,7 @@ pub(crate) fn loaded_of<F: Frozen>(
     let (head, sizes) = named_head_in(alloc, name, size, &front)?;
     let version = version_in(&front);
     let rest = rest_in(alloc, file, sizes, watch)?;
-    let parts = parts_in(alloc, version, head, sizes, &rest)?;
+    let parts = parts_in(alloc, version, head, sizes, rest)?;
     Ok(Loaded {
         version,
         head,

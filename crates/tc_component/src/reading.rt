@@ -1,17 +1,19 @@
 //! What the bytes of a component are judged to be.
 
-ghost use Rattle.std.specs.Prelude.{◌≡◌, ◌≤◌, ◌<◌, ◌+◌, ◌-◌, ◌*◌, min, ◌&&◌, ◌==◌, [], length, IfOk, IfSome, IsErrOf};
+ghost use Rattle.std.specs.Prelude.{◌≡◌, ◌≤◌, ◌<◌, ◌+◌, ◌-◌, ◌*◌, min, ◌&&◌, ◌==◌, Err, [], length, IfOk, IfSome, IsErrOf};
 ghost use Rattle.std.specs.Result.{IsOk};
+ghost use Rattle.tc_bytes.specs.Codec.{IsBytes};
 ghost use Rattle.tc_store.specs.Counted.{IsCountedOnce};
-ghost use Rattle.tc_store.specs.Judging.{Judges, IsNoDisk, IsNoDamage, or_damage, damage as a_damage};
+ghost use Rattle.tc_store.specs.Judging.{Judges, IfDamaged, IsNoDisk, IsNoDamage, or_damage, damage as a_damage};
 ghost use Rattle.tc_names.specs.Section.{read_section};
 ghost use Rattle.tc_schema.specs.Reading.{read_schema};
+ghost use Rattle.tc_component.specs.Columns.{IsMarked};
 ghost use Rattle.tc_component.specs.Found.{FrontFound, RestFound};
 ghost use Rattle.tc_component.specs.Layout.{head_place, head_size, slot_size, number_end, file_size, directory_place};
 ghost use Rattle.tc_component.specs.Loading.{parts_of, same_pair};
 ghost use Rattle.tc_component.specs.Reading.{version_told, is_named, directory_read, front_of, front_judged, rest_judged};
 
-use crate::directory::{Directory, directory_in};
+use crate::directory::{Directory, marks_in};
 use crate::head::{Head, Sizes, head_in, is_named_by, len_of_file};
 use crate::layout::{HEAD_LEN, HEAD_PLACE, RECORDS_PLACE, SLOT_LEN};
 use std::alloc::Global;
@@ -73,52 +75,60 @@ pub(crate) fn parts_in(
     version: u8,
     head: Head,
     sizes: Sizes,
-    rest: &[u8],
+    rest: Vec<u8>,
 ) -> Result<Parts, ReadFault>
     requires short { file_size sizes < number_end }
-    requires sized { length rest.now ≡ sizes.entries * slot_size + sizes.names + sizes.schema }
-    ensures judged { Judges (parts_of version head) result (rest_judged version (head, sizes) rest.now) }
-    ensures found { IfOk result (λ parts. RestFound version (head, sizes) rest.now (parts_of version head parts)) }
+    requires sized { length rest.items ≡ sizes.entries * slot_size + sizes.names + sizes.schema }
+    ensures judged { Judges (parts_of version head) result (rest_judged version (head, sizes) rest.items) }
+    ensures found { IfOk result (λ parts. RestFound version (head, sizes) rest.items (parts_of version head parts)) }
     ensures no_disk { IsNoDisk result }
 {
+    are_bytes(&rest);
     match judged_parts_in(alloc, version, head, sizes, rest) {
         Ok(parts) => Ok(parts),
         Err(fault) => Err(fault),
     }
 }
 
+/// A law, and no work: what a slice of bytes has are bytes.
+#[inline(always)]
+fn are_bytes(bytes: &[u8])
+    ensures { IsBytes bytes.now }
+{}
+
 fn judged_parts_in(
     alloc: Global,
     version: u8,
     head: Head,
     sizes: Sizes,
-    rest: &[u8],
+    rest: Vec<u8>,
 ) -> Result<Parts, ReadFault>
     requires short { file_size sizes < number_end }
-    requires sized { length rest.now ≡ sizes.entries * slot_size + sizes.names + sizes.schema }
-    ensures judged { Judges (parts_of version head) result (rest_judged version (head, sizes) rest.now) }
+    requires sized { length rest.items ≡ sizes.entries * slot_size + sizes.names + sizes.schema }
+    ensures judged { Judges (parts_of version head) result (rest_judged version (head, sizes) rest.items) }
     ensures no_disk { IsNoDisk result }
 {
-    let (own, behind) = rest.split_at(sizes.entries as usize * SLOT_LEN);
+    let (own, behind) = rest.as_slice().split_at(sizes.entries as usize * SLOT_LEN);
     let (named, counted) = behind.split_at(sizes.names as usize);
     let names_at = RECORDS_PLACE + sizes.records + sizes.entries * SLOT_LEN as u64;
-    let directory = judged_directory_in(alloc, sizes, own)?;
+    let marks = judged_marks_in(alloc, sizes, own)?;
     let names = judged_names_in(alloc, names_at, named)?;
     let schema = judged_schema_in(alloc, names_at + sizes.names, names.len(), counted)?;
     Ok(Parts {
-        directory,
+        directory: Directory::of(sizes, rest, marks),
         names,
         schema,
     })
 }
 
-fn judged_directory_in(alloc: Global, sizes: Sizes, own: &[u8]) -> Result<Directory, ReadFault>
+fn judged_marks_in(alloc: Global, sizes: Sizes, own: &[u8]) -> Result<Vec<u64>, ReadFault>
     requires { directory_place sizes < number_end }
-    ensures judged { Judges (λ directory. directory) result (or_damage (directory_read sizes.entries sizes.records [] own.now) (a_damage (directory_place sizes) own.now)) }
+    ensures marked { IfOk result (λ marks. IsMarked sizes own.now marks.items) }
+    ensures damaged { IfDamaged result (λ place bytes. or_damage (directory_read sizes.entries sizes.records [] own.now) (a_damage (directory_place sizes) own.now) ≡ Err (a_damage place bytes)) }
     ensures no_disk { IsNoDisk result }
 {
-    match directory_in(alloc, sizes.entries, sizes.records, own)? {
-        Some(directory) => Ok(directory),
+    match marks_in(alloc, sizes, own)? {
+        Some(marks) => Ok(marks),
         None => Err(damaged(alloc, (RECORDS_PLACE + sizes.records) as usize, own)),
     }
 }

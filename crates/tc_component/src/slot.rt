@@ -1,9 +1,10 @@
 //! The slots of a directory.
 
-ghost use Rattle.std.specs.Prelude.{◌≡◌, ◌<◌, ◌++◌, option_map, IfSome, OnOk};
+ghost use Rattle.std.specs.Prelude.{◌≡◌, ◌<◌, ◌≤◌, ◌++◌, length, option_map, IfSome, OnOk};
 ghost use Rattle.std.specs.Int.{w32, w64};
 ghost use Rattle.tc_bytes.specs.Reading.{number_at, passing_at};
-ghost use Rattle.tc_component.specs.Layout.{number_end};
+ghost use Rattle.tc_component.specs.Columns.{front_slot};
+ghost use Rattle.tc_component.specs.Layout.{number_end, slot_size};
 ghost use Rattle.tc_component.specs.Reading.{is_key, is_length, slot_at};
 ghost use Rattle.tc_component.specs.Spelling.{slot_bytes};
 
@@ -26,6 +27,21 @@ pub(crate) fn put_slot(slot: Slot, directory: &mut Vec<u8>) -> Result<(), Memory
 {
     put_u64(directory, slot.key)?;
     put_u32(directory, slot.length)
+}
+
+/// The slot that the first bytes are, whatever it says.
+// A walk over a directory takes a few instructions an entry.
+#[inline(always)]
+pub(crate) fn front_of_slots(bytes: &[u8]) -> Slot
+    requires { slot_size ≤ length bytes.now }
+    ensures { result ≡ front_slot bytes.now }
+{
+    Slot {
+        key: u64::from_be_bytes([
+            bytes[0], bytes[1], bytes[2], bytes[3], bytes[4], bytes[5], bytes[6], bytes[7],
+        ]),
+        length: u32::from_be_bytes([bytes[8], bytes[9], bytes[10], bytes[11]]),
+    }
 }
 
 /// A slot from the front of the bytes.

@@ -49,7 +49,7 @@ returns-in_err-parts-clause-judged g c =
     let first = subst (λ n. front_judged c.args.name n front ≡ Ok (c.in_ok-head.head, c.in_ok-head.sizes)) c.len-size.ensures.exact
     (subst (λ bytes. front_judged c.args.name c.len-size.result bytes ≡ Ok (c.in_ok-head.head, c.in_ok-head.sizes)) c.deref.ensures.value c.in_ok-head.ensures.judged) in
     let judged = subst (λ v. Judges (parts_of version c.in_ok-head.head) (Err c.in_err-parts.field-0.0) (rest_judged v h rest)) told
-    (subst (λ q. Judges (parts_of version c.in_ok-head.head) q (rest_judged version h rest)) c.in_err-parts.was (subst (λ bytes. Judges (parts_of version c.in_ok-head.head) c.parts_in.result (rest_judged version h bytes)) c.deref-3.ensures.value c.parts_in.ensures.judged)) in
+    (subst (λ q. Judges (parts_of version c.in_ok-head.head) q (rest_judged version h rest)) c.in_err-parts.was c.parts_in.ensures.judged) in
     let r = c.from_residual-in_err-parts.result in
     let p = err_from_is_err_and r c.from_residual-in_err-parts.ensures.1 in
     subst (λ s. IfSome content (λ bytes. Judges loaded_index s (file_judged c.args.name bytes))) (sym (p.1 ∙ ap Err p.2))
@@ -70,7 +70,7 @@ returns-in_err-parts-clause-damaged g c =
     let front_is = subst (λ n. FrontFound (version_told front) c.args.name n front h) c.len-size.ensures.exact (subst (λ bytes. FrontFound (version_told bytes) c.args.name c.len-size.result bytes h) c.deref.ensures.value
     (c.in_ok-head.ensures.found (subst (λ bytes. length bytes ≤ 60) (sym c.deref.ensures.value) (omega (arith, c.in_ok-front.ensures.length))))) in
     let judged = subst (λ v. Judges (parts_of version c.in_ok-head.head) (Err c.in_err-parts.field-0.0) (rest_judged v h rest)) told
-    (subst (λ q. Judges (parts_of version c.in_ok-head.head) q (rest_judged version h rest)) c.in_err-parts.was (subst (λ bytes. Judges (parts_of version c.in_ok-head.head) c.parts_in.result (rest_judged version h bytes)) c.deref-3.ensures.value c.parts_in.ensures.judged)) in
+    (subst (λ q. Judges (parts_of version c.in_ok-head.head) q (rest_judged version h rest)) c.in_err-parts.was c.parts_in.ensures.judged) in
     let r = c.from_residual-in_err-parts.result in
     let p = err_from_is_err_and r c.from_residual-in_err-parts.ensures.1 in
     damaged_out r c.in_err-parts.field-0.0 _ p (rest_damaged Loaded (parts_of version c.in_ok-head.head) c.args.name size front h rest c.in_err-parts.field-0.0 front_is first c.in_ok-rest.ensures.length judged)
@@ -88,7 +88,7 @@ returns-clause-judged g c =
     let first = subst (λ n. front_judged c.args.name n front ≡ Ok (c.in_ok-head.head, c.in_ok-head.sizes)) c.len-size.ensures.exact
     (subst (λ bytes. front_judged c.args.name c.len-size.result bytes ≡ Ok (c.in_ok-head.head, c.in_ok-head.sizes)) c.deref.ensures.value c.in_ok-head.ensures.judged) in
     let judged = subst (λ v. rest_judged v h rest ≡ Ok (parts_of version c.in_ok-head.head c.in_ok-parts.parts)) told
-    (subst (λ bytes. rest_judged version h bytes ≡ Ok (parts_of version c.in_ok-head.head c.in_ok-parts.parts)) c.deref-3.ensures.value c.in_ok-parts.ensures.judged) in
+    c.in_ok-parts.ensures.judged in
     all_answers c.args.name size front h rest (parts_of version c.in_ok-head.head c.in_ok-parts.parts) content (laws.told_size c.args.file.now) c.in_ok-front.ensures.read first c.in_ok-rest.ensures.read judged
 
 pub returns-clause-lawful : goal.returns-clause-lawful
@@ -106,7 +106,7 @@ returns-clause-lawful g c =
     let front_is = subst (λ n. FrontFound (version_told front) c.args.name n front h) c.len-size.ensures.exact (subst (λ bytes. FrontFound (version_told bytes) c.args.name c.len-size.result bytes h) c.deref.ensures.value
     (c.in_ok-head.ensures.found (subst (λ bytes. length bytes ≤ 60) (sym c.deref.ensures.value) (omega (arith, c.in_ok-front.ensures.length))))) in
     let rest_is = subst (λ v. RestFound v h rest (parts_of version c.in_ok-head.head c.in_ok-parts.parts)) told
-    (subst (λ bytes. RestFound version h bytes (parts_of version c.in_ok-head.head c.in_ok-parts.parts)) c.deref-3.ensures.value c.in_ok-parts.ensures.found) in
+    c.in_ok-parts.ensures.found in
     loaded_lawful (version_told front) c.args.name size front h rest (parts_of version c.in_ok-head.head c.in_ok-parts.parts) front_is rest_is
 
 pub returns-clause-sizes : goal.returns-clause-sizes
@@ -124,7 +124,7 @@ returns-clause-sizes g c =
     let front_is = subst (λ n. FrontFound (version_told front) c.args.name n front h) c.len-size.ensures.exact (subst (λ bytes. FrontFound (version_told bytes) c.args.name c.len-size.result bytes h) c.deref.ensures.value
     (c.in_ok-head.ensures.found (subst (λ bytes. length bytes ≤ 60) (sym c.deref.ensures.value) (omega (arith, c.in_ok-front.ensures.length))))) in
     let rest_is = subst (λ v. RestFound v h rest (parts_of version c.in_ok-head.head c.in_ok-parts.parts)) told
-    (subst (λ bytes. RestFound version h bytes (parts_of version c.in_ok-head.head c.in_ok-parts.parts)) c.deref-3.ensures.value c.in_ok-parts.ensures.found) in
+    c.in_ok-parts.ensures.found in
     let long : length rest ≡ h.1.entries * 12 + h.1.names + h.1.schema = omega (arith, front_is.sized, c.in_ok-rest.ensures.length) in
     loaded_sizes (version_told front) h rest (parts_of version c.in_ok-head.head c.in_ok-parts.parts) rest_is long
 

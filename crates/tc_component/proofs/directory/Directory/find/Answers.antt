@@ -1,35 +1,58 @@
-use Rattle.std.proofs.Common.{◌≡◌, ◌∙◌, ◌<◌, ◌≤◌, ℕ, Some, length, map, get_or, slice_get, sym, subst, arith}
-use Rattle.std.specs.Ordering.{nat_cmp}
-use Rattle.std.specs.List.Sorted.{IsBinarySearchResult}
-use Rattle.std.specs.Result.{MatchResult}
+use Rattle.std.proofs.Common.{◌≡◌, ◌∙◌, ◌<◌, ◌≤◌, ◌+◌, ◌-◌, ◌/◌, length, map, sym, ap, subst, arith}
 use Rattle.std.proofs.lemmas.List.{length-map}
-use Rattle.std.proofs.lemmas.List.Sorted.{searched}
 use Rattle.std.proofs.lemmas.Map.Keys.{non_decreasing_from_sorted}
 use Rattle.tc_component.specs.declared.slot.Slot.{Slot}
-use Rattle.tc_component.specs.Columns.{slots_from, IsFound}
-use Rattle.tc_component.proofs.Lookups.{there, none_there, outside}
+use Rattle.tc_component.specs.Spelling.{Ascend}
+use Rattle.tc_component.proofs.Lookups.{key_there, none_there}
+use Rattle.tc_component.proofs.Marks.{slots_length}
 use Rattle.tc_component.proofs.directory.Directory.find.Goals as goal
 
-pub returns-in-Ok : goal.returns-in-Ok
-returns-in-Ok c =
-    let slots = slots_from 0 c.self.inside.keys.items c.self.inside.ends.items in
-    let keys = map (λ (s : Slot). s.key) slots in
-    let facts = searched keys c.args.key c.binary_search.result (subst (λ xs. IsBinarySearchResult (λ y. nat_cmp y c.args.key) xs c.binary_search.result) (c.deref.ensures.value ∙ c.self.invariant.keys_are) c.binary_search.ensures.position)
-    (λ i j before within. non_decreasing_from_sorted keys c.self.invariant.ascend i j 0 before within) in
-    let found = subst (λ r. MatchResult r (λ i. (i < length keys) × (get_or keys i 0 ≡ c.args.key)) (λ i. (i ≤ length keys) × ((k : ℕ) → k < i → get_or keys k 0 < c.args.key) × ((k : ℕ) → i ≤ k → k < length keys → c.args.key < get_or keys k 0))) c.in-Ok.is facts in
-    let t = there slots c.in-Ok.at c.self.invariant.each (omega (arith, found.0, length-map slots (λ (s : Slot). s.key))) in
-    subst (λ key. IsFound c.args.self.now key c.found_at.result) (sym t.key ∙ found.1) (c.found_at.ensures t.slot (subst (λ l. slice_get l c.in-Ok.at ≡ Some t.slot) c.self.view_is t.here))
+pub loop-low-init : goal.loop-low-init
+loop-low-init c =
+    let count : c.self.inside.count ≡ length c.args.self.now = sym (slots_length c.self.inside.count c.self.inside.bytes.items) ∙ ap length c.self.view_is in
+    record {
+      order = omega arith;
+      within = omega (arith, count);
+      less = λ k before. absurd (omega (arith, before));
+      greater = λ k behind within. absurd (omega (arith, behind, within, count));
+    }
 
-pub returns-in-Err : goal.returns-in-Err
-returns-in-Err c =
-    let slots = slots_from 0 c.self.inside.keys.items c.self.inside.ends.items in
+pub loop-low-preserved-then-here-key : goal.loop-low-preserved-then-here-key
+loop-low-preserved-then-here-key c =
+    let l = c.loop-low in
+    let slots = c.args.self.now in
     let keys = map (λ (s : Slot). s.key) slots in
-    let facts = searched keys c.args.key c.binary_search.result (subst (λ xs. IsBinarySearchResult (λ y. nat_cmp y c.args.key) xs c.binary_search.result) (c.deref.ensures.value ∙ c.self.invariant.keys_are) c.binary_search.ensures.position)
-    (λ i j before within. non_decreasing_from_sorted keys c.self.invariant.ascend i j 0 before within) in
-    let found = subst (λ r. MatchResult r (λ i. (i < length keys) × (get_or keys i 0 ≡ c.args.key)) (λ i. (i ≤ length keys) × ((k : ℕ) → k < i → get_or keys k 0 < c.args.key) × ((k : ℕ) → i ≤ k → k < length keys → c.args.key < get_or keys k 0))) c.in-Err.is facts in
-    rw (← c.self.view_is) (none_there slots c.args.key c.in-Err.field-0 found.1 found.2)
+    let middle = l.low + (l.high - l.low) / 2 in
+    let here = key_there slots middle c.slot-here.result c.slot-here.ensures in
+    let more : l.low < l.high = let test = c.loop-low-test.true in omega arith in
+    let less : c.slot-here.result.key < c.args.key = let test = c.if-here-key.true in omega arith in
+    let sorted = subst Ascend c.self.view_is c.self.invariant.ascend in
+    record {
+      order = omega (arith, more);
+      within = l.invariant.within;
+      less = λ k before. omega (arith, less, here.1, non_decreasing_from_sorted keys sorted k middle 0 (omega (arith, before)) (omega (arith, here.0, length-map slots (λ (s : Slot). s.key))));
+      greater = l.invariant.greater;
+    }
 
-pub returns-then-is_outside : goal.returns-then-is_outside
-returns-then-is_outside c =
-    let slots = slots_from 0 c.self.inside.keys.items c.self.inside.ends.items in
-    rw (← c.self.view_is) (outside slots c.as_slice.result.now c.args.key (c.as_slice.ensures.value ∙ c.self.invariant.keys_are) c.self.invariant.ascend (sym c.is_outside.ensures ∙ c.if-is_outside.true))
+pub loop-low-preserved : goal.loop-low-preserved
+loop-low-preserved c =
+    let l = c.loop-low in
+    let slots = c.args.self.now in
+    let keys = map (λ (s : Slot). s.key) slots in
+    let middle = l.low + (l.high - l.low) / 2 in
+    let here = key_there slots middle c.slot-here.result c.slot-here.ensures in
+    let more : l.low < l.high = let test = c.loop-low-test.true in omega arith in
+    let greater : c.args.key < c.slot-here.result.key = let not_less = c.if-here-key.false in let other = c.if-here-key-2.false in omega arith in
+    let sorted = subst Ascend c.self.view_is c.self.invariant.ascend in
+    record {
+      order = omega (arith, more);
+      within = omega (arith, here.0);
+      less = l.invariant.less;
+      greater = λ k behind within. omega (arith, greater, here.1, non_decreasing_from_sorted keys sorted middle k 0 behind (omega (arith, within, length-map slots (λ (s : Slot). s.key))));
+    }
+
+pub returns : goal.returns
+returns c =
+    let l = c.loop-low in
+    let done : l.high ≤ l.low = let test = c.loop-low-test.false in omega arith in
+    none_there c.args.self.now c.args.key l.low l.invariant.less (λ k behind within. l.invariant.greater k (omega (arith, done, behind)) within)
