@@ -19,7 +19,7 @@ pub(crate) fn values_len(form: u8, from: &RecordRef<'_>) -> usize
     from.tags().len() + from.fixed().len() + from.texts().len() + lengths
 }
 
-/// All of a record that stands before its slots. Errs only for want of memory.
+/// All of a record that stands before its slots, in memory of its own. Errs only for want of memory.
 pub(crate) fn begin(
     alloc: Global,
     len: u32,
@@ -30,12 +30,26 @@ pub(crate) fn begin(
     ensures { IfOk result (λ out. out.items ≡ front (spelling_of form) form len (parts_of from.now.tokens) (length (labels from.now.tokens)) slot_width) }
 {
     let mut out = Vec::with_capacity(alloc, len as usize)?;
-    put_u32(&mut out, len)?;
-    out.push(form)?;
-    put_counts(form, from, &mut out)?;
-    out.push(slot_width)?;
-    put_values(form, from, &mut out)?;
+    put_front(len, form, from, slot_width, &mut out)?;
     Ok(out)
+}
+
+/// Appends all of a record that stands before its slots. Errs only for want of memory.
+pub(crate) fn put_front(
+    len: u32,
+    form: u8,
+    from: &RecordRef<'_>,
+    slot_width: u8,
+    out: &mut Vec<u8>,
+) -> Result<(), Memory>
+    ensures { OnOk result (out.new.items ≡ out.old.items ++ front (spelling_of form) form len (parts_of from.now.tokens) (length (labels from.now.tokens)) slot_width) }
+{
+    put_u32(out, len)?;
+    out.push(form)?;
+    put_counts(form, from, out)?;
+    out.push(slot_width)?;
+    put_values(form, from, out)?;
+    Ok(())
 }
 
 /// Appends the counts of a header. Errs only for want of memory.

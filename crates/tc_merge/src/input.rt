@@ -49,7 +49,8 @@ pub(crate) struct Input<F: Frozen> {
     held: usize,
     step: usize,
     cursor: RecordCursor,
-    alloc: Global,
+    /// Room for a record that is rewritten.
+    packed: Vec<u8>,
 }
 
 impl<F: Frozen> Model for Input<F> {
@@ -91,7 +92,7 @@ impl<F: Frozen> Input<F> {
             held,
             step: 0,
             cursor: RecordCursor::new(alloc),
-            alloc,
+            packed: Vec::new(alloc),
         }
     }
 
@@ -215,15 +216,15 @@ fn put_live<S: Store>(
     }
     let version = input.component.version();
     let bytes = input.cursor.part(begin, count);
-    put_record(input.alloc, version, key, bytes, builder, watch)
+    put_record(version, key, bytes, &mut input.packed, builder, watch)
 }
 
 /// Pushes a record of a file of a version: one of version 1 with the numbers of its columns in bits, and another as it is.
 fn put_record<D: Device>(
-    alloc: Global,
     version: u8,
     key: u64,
     bytes: &[u8],
+    packed: &mut Vec<u8>,
     builder: &mut Builder<D>,
     watch: &mut D::Watch,
 ) -> Result<(), MergeFault>
@@ -243,8 +244,8 @@ fn put_record<D: Device>(
     if version != NUMBERED_FORM {
         return push(key, Some(bytes), builder, watch);
     }
-    match repack(alloc, RecordRef::known(bytes)) {
-        Ok(packed) => push(key, Some(packed.as_slice()), builder, watch),
+    match repack(RecordRef::known(bytes), packed) {
+        Ok(()) => push(key, Some(packed.as_slice()), builder, watch),
         Err(_) => Err(MergeFault::Memory),
     }
 }

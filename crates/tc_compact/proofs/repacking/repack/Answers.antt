@@ -1,4 +1,4 @@
-use Rattle.std.proofs.Common.{◌≡◌, ◌∙◌, ◌++◌, [], length, sym, ap, arith, append-nil}
+use Rattle.std.proofs.Common.{◌≡◌, ◌∙◌, ℕ, List, ◌++◌, [], length, sym, ap, arith, append-nil}
 use Rattle.tc_record.specs.Record.{greatest, in_bits, column_in}
 use Rattle.tc_record.proofs.NumberColumns.{width_told}
 use Rattle.tc_compact.specs.Slots.{numbers_in}
@@ -28,13 +28,16 @@ returns c =
     let spells = c.bytes-bytes.ensures.spells in
     let tree = form1_tree r spells c.requires in
     let ns = numbers_in r.tokens in
-    let begun = c.in_ok-out.out.items in
+    let begun = c.put_front.new.out.items in
     let many : length ns ≡ c.member_count-members.result = sym tree.members ∙ sym c.member_count-members.ensures in
     let most : greatest ns ≡ c.greatest_slot-greatest.result = ap greatest tree.numbers ∙ sym (c.greatest_slot-greatest.ensures tree.tree tree.tokens) in
     let slots = c.column_bytes-slots.ensures.len ns many most in
     let least = width_told in_bits ns c.member_count-members.result c.greatest_slot-greatest.result _ many most c.least_width-width.ensures in
     let column_is : c.slots.result ≡ ns = c.slots.ensures tree.tree tree.tokens ∙ sym tree.numbers in
     let written : c.put_column.new.out.items ≡ whole in_bits 2 p ns [] =
-    written_whole in_bits 2 p ns [] begun _ _ _ _ (omega (arith, slots, c.values_len.ensures.len, whole_sum in_bits 2 p ns [])) tree.members least c.in_ok-out.ensures
+    written_whole in_bits 2 p ns [] begun _ _ _ _ (omega (arith, slots, c.values_len.ensures.len, whole_sum in_bits 2 p ns [])) tree.members least (alone c.in_ok-put_front.ensures c.clear.ensures.items)
     (c.in_ok-put_column.ensures ∙ ap (λ ks. begun ++ column_in in_bits ks) column_is ∙ ap (λ bs. begun ++ bs) (sym (append-nil (column_in in_bits ns)))) in
-    is_repacked r _ spells c.requires (c.of.ensures.same ∙ written)
+    is_repacked r _ spells c.requires written
+  where
+    alone : {before front out : List ℕ} → out ≡ before ++ front → before ≡ [] → out ≡ front
+    alone {before} {front} {out} all none = all ∙ ap (λ bs. bs ++ front) none

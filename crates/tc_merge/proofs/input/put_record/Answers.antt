@@ -30,20 +30,20 @@ repack-requires g c = let is = c.requires.record.1 in (c.known.ensures.numbered 
 pub push-requires-in-Ok-clause-written : goal.push-requires-in-Ok-clause-written
 push-requires-in-Ok-clause-written g c κs within =
     let is = c.requires.record.1 in
-    let made = subst (λ bs. IsRepackedOf bs c.in-Ok.packed) c.known.ensures.bytes c.in-Ok.ensures in
-    subst IsWrittenRecord (sym c.as_slice.ensures.same) (is.tree, made.is_packed is.tree (subst (λ v. IsNumberedRecordIn v is.tree c.args.bytes.now) c.if-version-ne-NUMBERED_FORM.false is.is_record))
+    let made = subst (λ bs. IsRepackedOf bs c.repack.new.out.items) c.known.ensures.bytes c.in-Ok.ensures in
+    subst IsWrittenRecord (sym c.as_slice.ensures.value) (is.tree, made.is_packed is.tree (subst (λ v. IsNumberedRecordIn v is.tree c.args.bytes.now) c.if-version-ne-NUMBERED_FORM.false is.is_record))
 
 pub returns-in-Ok-clause-pushed : goal.returns-in-Ok-clause-pushed
 returns-in-Ok-clause-pushed g c =
     let new = c.push-in-Ok.new.builder in
     let h = g.D.Device.history in
-    let made = subst (λ bs. IsRepackedOf bs c.in-Ok.packed) c.known.ensures.bytes c.in-Ok.ensures in
+    let made = subst (λ bs. IsRepackedOf bs c.repack.new.out.items) c.known.ensures.bytes c.in-Ok.ensures in
     on_ok_weaker c.push-in-Ok.result
     (λ pushed rows has. subst (λ bs. HasRows (h new.device) new (rows ++ (c.args.key, Some bs) ∷ []))
-    (c.as_slice.ensures.same ∙ first_rewritten c.args.version c.args.bytes.now c.in-Ok.packed c.if-version-ne-NUMBERED_FORM.false made) (pushed rows has))
+    (c.as_slice.ensures.value ∙ first_rewritten c.args.version c.args.bytes.now c.repack.new.out.items c.if-version-ne-NUMBERED_FORM.false made) (pushed rows has))
     c.push-in-Ok.ensures.pushed
 
 pub returns-in-Ok-clause-judged : goal.returns-in-Ok-clause-judged
 returns-in-Ok-clause-judged g c =
-    let made = subst (λ bs. IsRepackedOf bs c.in-Ok.packed) c.known.ensures.bytes c.in-Ok.ensures in
-    on_ok_weaker c.push-in-Ok.result (λ pushed limit is. first_within c.args.version limit c.args.bytes.now c.in-Ok.packed c.if-version-ne-NUMBERED_FORM.false made is) c.push-in-Ok.ensures.pushed
+    let made = subst (λ bs. IsRepackedOf bs c.repack.new.out.items) c.known.ensures.bytes c.in-Ok.ensures in
+    on_ok_weaker c.push-in-Ok.result (λ pushed limit is. first_within c.args.version limit c.args.bytes.now c.repack.new.out.items c.if-version-ne-NUMBERED_FORM.false made is) c.push-in-Ok.ensures.pushed

@@ -1,4 +1,4 @@
-use Rattle.std.proofs.Common.{◌↔◌, map, drop, subst, arith}
+use Rattle.std.proofs.Common.{◌↔◌, map, subst, arith}
 use Rattle.std.specs.Arc.{arc_value}
 use Rattle.std.proofs.lemmas.List.{drop_all}
 use Rattle.tc_merge.specs.Merging.{Tile}
