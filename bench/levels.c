@@ -3,8 +3,8 @@
 //
 //     levels FOLDER LINES WINDOW
 //
-// An upsert puts the document's text as it stands in the line, which nobody parses; so many lines are a batch, which is synced.
-// The lines are read before the clock starts, and it stops once the threads that compact rest.
+// An upsert puts the document's text as it stands in the line, which nobody parses but with -DPARSE (lines.h); so many lines are a
+// batch, which is synced. The lines are read before the clock starts, and it stops once the threads that compact rest.
 #ifdef ROCKSDB
 #include <rocksdb/c.h>
 #define ITS(name) rocksdb_##name
@@ -25,8 +25,6 @@ typedef struct {
     ITS(readoptions_t) *reading;
     size_t waiting;
 } Opened;
-
-static volatile char touched;
 
 static void check(const char *error) {
     if (error) {
@@ -62,7 +60,7 @@ static void get(const Opened *it, const char *key) {
     char *value = ITS(get)(it->store, it->reading, key, sizeof(uint64_t), &length, &error);
     check(error);
     if (value)
-        touched = value[length - 1];
+        give(0, value, length);
     ITS(free)(value);
 }
 
@@ -71,8 +69,10 @@ static void walk(const Opened *it) {
     size_t length;
     ITS(iterator_t) *at = ITS(create_iterator)(it->store, it->reading);
     for (ITS(iter_seek_to_first)(at); ITS(iter_valid)(at); ITS(iter_next)(at)) {
+        uint64_t key;
+        memcpy(&key, ITS(iter_key)(at, &length), sizeof key);
         const char *value = ITS(iter_value)(at, &length);
-        touched = value[length - 1];
+        give(be64toh(key), value, length);
     }
     ITS(iter_get_error)(at, &error);
     check(error);
@@ -110,10 +110,13 @@ int main(int words, char **word) {
     size_t count = 0, window = atoll(word[3]);
     Line *lines = lines_in(word[2], &count);
     Opened it = opened(word[1]);
+    replies_beside(word[2]);
     settle();
     double before = seconds();
     for (size_t at = 0; at < count; at++) {
+        begin(&lines[at]);
         answer(&it, &lines[at]);
+        end();
         if (at % window == window - 1 || at == count - 1)
             commit(&it);
     }

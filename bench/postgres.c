@@ -18,6 +18,9 @@ static const char *const STATEMENTS[KINDS] = {
 
 static const char *const NAMES[KINDS] = {"upsert", "delete", "get", "walk", "flush"};
 
+// A query with a value: the server compares.
+static const char *const COMPARED = "select id, doc #> $1 from docs where doc #> $1 = $2::jsonb";
+
 static void check(PGconn *server, int good) {
     if (!good) {
         fprintf(stderr, "postgres: %s\n", PQerrorMessage(server));
@@ -25,16 +28,17 @@ static void check(PGconn *server, int good) {
     }
 }
 
-static void prepare(PGconn *server) {
-    PQclear(PQexec(server, "set client_min_messages = error"));
-    PGresult *made = PQexec(server, "create table if not exists docs (id bigint primary key, doc jsonb)");
+static void done(PGconn *server, PGresult *made) {
     check(server, PQresultStatus(made) == PGRES_COMMAND_OK);
     PQclear(made);
-    for (int kind = 0; kind < KINDS; kind++) {
-        made = PQprepare(server, NAMES[kind], STATEMENTS[kind], 0, NULL);
-        check(server, PQresultStatus(made) == PGRES_COMMAND_OK);
-        PQclear(made);
-    }
+}
+
+static void prepare(PGconn *server) {
+    done(server, PQexec(server, "set client_min_messages = error"));
+    done(server, PQexec(server, "create table if not exists docs (id bigint primary key, doc jsonb)"));
+    for (int kind = 0; kind < KINDS; kind++)
+        done(server, PQprepare(server, NAMES[kind], STATEMENTS[kind], 0, NULL));
+    done(server, PQprepare(server, "compared", COMPARED, 0, NULL));
     check(server, PQenterPipelineMode(server));
 }
 
@@ -49,10 +53,10 @@ static void make_arrays(Line *lines, size_t count) {
 
 static void ask(PGconn *server, const Line *line) {
     uint64_t key = ascending(line);
-    const char *values[] = {(char *)&key, line->text};
-    int lengths[] = {sizeof key, line->length}, binary[] = {1, 0};
-    int keyed = line->kind <= GET, texts = line->text != NULL;
-    check(server, PQsendQueryPrepared(server, NAMES[line->kind], keyed + texts, values + !keyed, lengths + !keyed, binary + !keyed, 0));
+    const char *values[] = {(char *)&key, line->text, line->value}, *name = line->value ? "compared" : NAMES[line->kind];
+    int lengths[] = {sizeof key, line->length, 0}, binary[] = {1, 0, 0};
+    int keyed = line->kind <= GET, texts = (line->text != NULL) + (line->value != NULL);
+    check(server, PQsendQueryPrepared(server, name, keyed + texts, values + !keyed, lengths + !keyed, binary + !keyed, 0));
 }
 
 static void take(PGconn *server) {

@@ -3,8 +3,8 @@
 
     bench/run.py [--program FILE] [--before FILE] [--documents N] [--large N] [--rounds N] [PART ..]
 
-Parts: loads, gets, queries, opening, calls, growth, others, partitions, pauses, scans, audits, and lines, all but the last six by default. The program is
-crates/tuple_store/out/tuple_store, which `rt run` in crates/tuple_store builds, or FILE. N documents are 40,000, and a
+Parts: loads, gets, queries, opening, calls, growth, others, parsed, partitions, pauses, scans, audits, and lines, all but the last seven
+by default. The program is crates/tuple_store/out/tuple_store, which `rt run` in crates/tuple_store builds, or FILE. N documents are 40,000, and a
 tenth of that of readings; the large store has 1,000,000. Runs take turns, so that other load meets all of them; a time is
 the least of the rounds, 3 by default, and a ratio the median of those of the rounds, each of two runs one after the other.
 
@@ -22,6 +22,9 @@ parses the JSON that it stores, as the store does. Both keep a log that is synce
     others   loads, gets, and walks over all documents, with --memory 16777216, by turns with each other store that is there, by processor
              time alone: SQLite's bound values, LevelDB, RocksDB, WiredTiger and a PostgreSQL server of its own (stores.py); on Debian
              apt-get install gcc libsqlite3-dev libleveldb-dev librocksdb-dev libwiredtiger-dev libpq-dev postgresql
+    parsed   the same loads and gets, and queries with a value, beside programs that store and parse: each parses its lines, and the
+             documents that a query asks, by cJSON, and writes replies; PostgreSQL's server does so itself, and so does SQLite's
+             command line; apt-get install libcjson-dev sqlite3 too
     partitions
              loads into 1, 2, 4 and 8 partitions, in windows of 64 and of 4,096 lines, over files in memory (/dev/shm), by
              the processor and by the clock; it wants a machine that does nothing else
@@ -408,11 +411,12 @@ def others(bench):
     print("| | documents | this store |" + "".join(f" {it.name} | times |" for it in here))
     print("|---|--:|--:|" + "--:|--:|" * len(here))
     for name, lines in data_sets(bench.words.documents):
-        beside_others(bench, name, lines, none, [Ours(bench), *here])
+        beside_others(bench, name, lines, none, [Ours(bench), *here], ([], WALKED[name]))
 
 
-def beside_others(bench, name, lines, none, every):
-    """The rows of a data set. Few documents are asked for more often, so that there are about as many gets as lines were loaded."""
+def beside_others(bench, name, lines, none, every, paths):
+    """The rows of a data set, with walks by these paths. Few documents are asked for more often, so that there are about as many gets
+    as lines were loaded. Answers the keys, and how often each was asked for."""
     source, count = bench.write("lines", lines())
     keys = feeds.living(lines())
     often = max(1, count // len(keys))
@@ -422,10 +426,31 @@ def beside_others(bench, name, lines, none, every):
         it.flush(flush)
     asked, count = bench.write("asked", feeds.gets_of(often * keys))
     row(bench, f"get of {name}", count, every, lambda it: it.ask(asked) - it.ask(none))
-    for path in ([], WALKED[name]):
+    for path in paths:
         times = WALKS * often
         asked, _ = bench.write("asked", feeds.queries(times, path))
         row(bench, f"walk over {name}, `{json.dumps(path)}`", times * len(keys), every, lambda it: it.ask(asked, 1) - it.ask(none, 1))
+    return keys, often
+
+
+# A path of each data set, a value that it reaches in some documents, and how often a query of it is asked.
+VALUED = {"messages": (["user", "name"], "user 3"), "churn": (["a"], 7), "readings": (["sensor"], "s7"), "profiles": (["level"], 7)}
+ASKED_TIMES = 5
+
+
+def parsed(bench):
+    """Loads, gets and queries with a value, beside stores whose programs parse what they are given."""
+    none, _ = bench.write("none")
+    here = [it for it in (*stores.others(bench.folder, none, *stores.PARSING), sqlite.Text(bench.folder, stores.WINDOW)) if it.here]
+    print("| | documents | this store |" + "".join(f" {it.name} | times |" for it in here))
+    print("|---|--:|--:|" + "--:|--:|" * len(here))
+    for name, lines in data_sets(bench.words.documents):
+        every = [Ours(bench), *here]
+        keys, _ = beside_others(bench, name, lines, none, every, ())
+        path, equal_to = VALUED[name]
+        source, _ = bench.write("asked", feeds.queries(ASKED_TIMES, path, equal_to))
+        shown = f"query of {name}, `{json.dumps(path)}`, `{json.dumps(equal_to)}`"
+        row(bench, shown, ASKED_TIMES * len(keys), every, lambda it: it.ask(source, 1) - it.ask(none, 1))
 
 
 def row(bench, name, count, every, seconds):
@@ -644,7 +669,7 @@ def main():
     parser.add_argument("--rounds", type=int, default=3)
     parser.add_argument("parts", nargs="*", metavar="PART")
     words = parser.parse_args()
-    known = {"loads": loads, "gets": gets, "queries": queries, "growth": growth, "opening": opening, "calls": calls, "others": others, "partitions": partitions, "pauses": pauses, "scans": scans, "audits": audits, "lines": lines}
+    known = {"loads": loads, "gets": gets, "queries": queries, "growth": growth, "opening": opening, "calls": calls, "others": others, "parsed": parsed, "partitions": partitions, "pauses": pauses, "scans": scans, "audits": audits, "lines": lines}
     for part in words.parts:
         if part not in known:
             parser.error(f"there is no part {part}")

@@ -2,8 +2,8 @@
 //
 //     sqlite DATABASE LINES WINDOW
 //
-// An upsert is `insert or replace` of the document's text as it stands in the line, which nobody parses; so many lines are
-// a transaction. The lines are read before the clock starts.
+// An upsert is `insert or replace` of the document's text as it stands in the line, which nobody parses but with -DPARSE (lines.h); so
+// many lines are a transaction. The lines are read before the clock starts.
 #include <sqlite3.h>
 
 #include "lines.h"
@@ -11,8 +11,8 @@
 static const char *const STATEMENTS[FLUSH] = {
     "insert or replace into docs values (?1, ?2)",
     "delete from docs where id = ?1",
-    "select doc from docs where id = ?1",
-    "select doc from docs",
+    "select doc, id from docs where id = ?1",
+    "select doc, id from docs",
 };
 
 static void check(int status) {
@@ -22,6 +22,11 @@ static void check(int status) {
     }
 }
 
+static void give_column(sqlite3_stmt *statement) {
+    const char *text = (const char *)sqlite3_column_text(statement, 0);
+    give(sqlite3_column_int64(statement, 1), text, sqlite3_column_bytes(statement, 0));
+}
+
 static void run(sqlite3_stmt *statement, const Line *line) {
     int status;
     if (line->kind <= GET)
@@ -29,7 +34,7 @@ static void run(sqlite3_stmt *statement, const Line *line) {
     if (line->kind == UPSERT)
         check(sqlite3_bind_text(statement, 2, line->text, line->length, SQLITE_STATIC));
     while ((status = sqlite3_step(statement)) == SQLITE_ROW)
-        sqlite3_column_text(statement, 0);
+        give_column(statement);
     check(status);
     check(sqlite3_reset(statement));
 }
@@ -46,12 +51,15 @@ int main(int words, char **word) {
                                  "create table if not exists docs (id integer primary key, doc text)", 0, 0, 0));
     for (int kind = 0; kind < FLUSH; kind++)
         check(sqlite3_prepare_v2(database, STATEMENTS[kind], -1, &statements[kind], 0));
+    replies_beside(word[2]);
     double before = seconds();
     for (size_t at = 0; at < count; at++) {
         if (at % window == 0)
             check(sqlite3_exec(database, "begin", 0, 0, 0));
+        begin(&lines[at]);
         if (lines[at].kind != FLUSH)
             run(statements[lines[at].kind], &lines[at]);
+        end();
         if (at % window == window - 1 || at == count - 1)
             check(sqlite3_exec(database, "commit", 0, 0, 0));
     }

@@ -1,6 +1,9 @@
 """SQLite's command line beside the store: the same lines, with its log and synced, so many of them a transaction."""
 
+import json
+import os
 import resource
+import shutil
 import subprocess
 
 from stores import removed
@@ -51,8 +54,8 @@ def literal(value):
     return "'" + value.replace("'", "''") + "'" if isinstance(value, str) else str(value)
 
 
-def write_queries(path, count, hops, equal_to=None):
-    """A script that asks so many times what a query of the store asks: what a path reaches, by key."""
+def query(hops, equal_to=None):
+    """The SQL of what a query of the store asks: what a path reaches, by key."""
     if None in hops:
         at = hops.index(None)
         reached = f"json_extract(each.value, '{extraction(hops[at + 1:])}')" if hops[at + 1:] else "each.value"
@@ -62,8 +65,13 @@ def write_queries(path, count, hops, equal_to=None):
         reached = f"json_extract(doc, '{extraction(hops)}')"
         asked = f"select id, {reached} from docs where {reached} "
         asked += "is not null" if equal_to is None else f"= {literal(equal_to)}"
+    return f"{asked} order by docs.id;\n"
+
+
+def write_queries(path, count, hops, equal_to=None):
+    """A script that asks that so many times."""
     with open(path, "w", encoding="utf-8") as script:
-        script.write(f"{asked} order by docs.id;\n" * count)
+        script.write(query(hops, equal_to) * count)
 
 
 def write_index(path, hops):
@@ -85,3 +93,34 @@ def asked(database, script, replies):
         subprocess.run(["sqlite3", "-batch", database], stdin=source, stdout=sink, check=True)
     after = resource.getrusage(resource.RUSAGE_CHILDREN)
     return after.ru_utime + after.ru_stime - before.ru_utime - before.ru_stime
+
+
+class Text:
+    """SQLite's command line, asked as the other stores are: it parses the JSON that it keeps as text. Its whole process is counted."""
+
+    name = "SQLite, text"
+
+    def __init__(self, folder, window):
+        self.here, self.window = shutil.which("sqlite3") is not None, window
+        self.database, self.script, self.replies = (os.path.join(folder, it) for it in ("text-store", "text-script", "text-replies"))
+
+    def load(self, source):
+        with open(source, encoding="utf-8") as lines:
+            write_script(lines, self.script, self.window)
+        return told(self.database, self.script, self.replies)
+
+    def flush(self, source):
+        """Its log goes into its database at the end of each process."""
+
+    def ask(self, source, window=None):
+        with open(source, encoding="utf-8") as lines, open(self.script, "w", encoding="utf-8") as script:
+            script.writelines(map(question, lines))
+        return asked(self.database, self.script, self.replies)
+
+
+def question(line):
+    """The SQL of a line that asks for a document, or for those that have a value at a path."""
+    command = json.loads(line)
+    if command["op"] == "get":
+        return f"select doc from docs where id = {command['id']};\n"
+    return query(command["path"], command.get("eq"))

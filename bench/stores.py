@@ -133,14 +133,18 @@ class Postgres:
             return ""
 
 
-def sqlite(folder):
-    return Called("SQLite", folder, "sqlite.c", "-lsqlite3")
+def sqlite(folder, *words):
+    return Called("SQLite", folder, "sqlite.c", "-lsqlite3", *words)
 
 
-def others(folder, none):
+# Words for the compiler, with which a program parses what it is given, and answers as this store does.
+PARSING = ("-DPARSE", "-lcjson")
+
+
+def others(folder, none, *words):
     """Each of them, whether it is here or not."""
-    yield sqlite(folder)
-    yield Called("LevelDB", folder, "levels.c", "-lleveldb")
-    yield Called("RocksDB", folder, "levels.c", "-DROCKSDB", "-lrocksdb")
-    yield Called("WiredTiger", folder, "wiredtiger.c", "-lwiredtiger")
+    yield sqlite(folder, *words)
+    yield Called("LevelDB", folder, "levels.c", "-lleveldb", *words)
+    yield Called("RocksDB", folder, "levels.c", "-DROCKSDB", "-lrocksdb", *words)
+    yield Called("WiredTiger", folder, "wiredtiger.c", "-lwiredtiger", *words)
     yield Postgres(folder, none)

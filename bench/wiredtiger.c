@@ -3,14 +3,12 @@
 //
 //     wiredtiger FOLDER LINES WINDOW
 //
-// An upsert inserts the document's text as it stands in the line, which nobody parses, into a table of bytes under bytes; so many
-// lines are a transaction, and its log is synced. The lines are read before the clock starts.
+// An upsert inserts the document's text as it stands in the line, which nobody parses but with -DPARSE (lines.h), into a table of bytes
+// under bytes; so many lines are a transaction, and its log is synced. The lines are read before the clock starts.
 #include <sys/stat.h>
 #include <wiredtiger.h>
 
 #include "lines.h"
-
-static volatile char touched;
 
 static void check(int status) {
     if (status != 0) {
@@ -25,10 +23,13 @@ static int found(int status) {
     return status == 0;
 }
 
-static void touch(WT_CURSOR *cursor) {
-    WT_ITEM value;
+static void give_value(WT_CURSOR *cursor) {
+    WT_ITEM at, value;
+    uint64_t key;
+    check(cursor->get_key(cursor, &at));
     check(cursor->get_value(cursor, &value));
-    touched = ((const char *)value.data)[value.size - 1];
+    memcpy(&key, at.data, sizeof key);
+    give(be64toh(key), value.data, value.size);
 }
 
 static void answer(WT_CURSOR *cursor, const Line *line) {
@@ -46,11 +47,11 @@ static void answer(WT_CURSOR *cursor, const Line *line) {
         break;
     case GET:
         if (found(cursor->search(cursor)))
-            touch(cursor);
+            give_value(cursor);
         break;
     case WALK:
         while (found(cursor->next(cursor)))
-            touch(cursor);
+            give_value(cursor);
     }
     check(cursor->reset(cursor));
 }
@@ -68,12 +69,15 @@ int main(int words, char **word) {
     check(connection->open_session(connection, NULL, NULL, &session));
     check(session->create(session, "table:docs", "key_format=u,value_format=u"));
     check(session->open_cursor(session, "table:docs", NULL, NULL, &cursor));
+    replies_beside(word[2]);
     settle();
     double before = seconds();
     for (size_t at = 0; at < count; at++) {
         if (at % window == 0)
             check(session->begin_transaction(session, NULL));
+        begin(&lines[at]);
         answer(cursor, &lines[at]);
+        end();
         if (at % window == window - 1 || at == count - 1)
             check(session->commit_transaction(session, NULL));
     }
