@@ -1,13 +1,14 @@
 /* A library for LD_PRELOAD: one call fails, or does less than it was asked to.
  *
- * FAILING_CALLS is `files`, for the calls of the system on files, or `memory`, for those that allocate. FAILING_AT is the number of the
- * call, from 1 on, in the order in which all threads make them; FAILING_WITH the number of its error, or 0 for a read or a write of half the
- * bytes. With FAILING_COUNT, a path, the number of calls that were made is written there at the end.
+ * FAILING_CALLS is `files`, for the calls of the system on files, `memory`, for those that allocate, `streams`, for reads of the standard
+ * input and writes of the standard output, or `threads`, for those that start a thread. FAILING_AT is the number of the call, from 1 on, in
+ * the order in which all threads make them; FAILING_WITH the number of its error, or 0 for a read or a write of half the bytes. With FAILING_COUNT, a path, the number of calls that were made is written there at the end.
  */
 #define _GNU_SOURCE
 #include <dlfcn.h>
 #include <errno.h>
 #include <fcntl.h>
+#include <pthread.h>
 #include <stdarg.h>
 #include <stdatomic.h>
 #include <stdio.h>
@@ -18,7 +19,9 @@
 #include <sys/syscall.h>
 #include <unistd.h>
 
-enum { NONE, FILES, MEMORY };
+enum { NONE, FILES, MEMORY, STREAMS, THREADS, KINDS };
+
+static const char *const NAMES[KINDS] = {"", "files", "memory", "streams", "threads"};
 
 static atomic_long made;
 static long failing_at = -1;
@@ -28,7 +31,7 @@ __attribute__((constructor)) static void begin(void) {
     const char *calls = getenv("FAILING_CALLS"), *at = getenv("FAILING_AT"), *with = getenv("FAILING_WITH");
     failing_at = at ? atol(at) : -1;
     failing_with = with ? atoi(with) : 0;
-    counted = calls && !strcmp(calls, "files") ? FILES : calls && !strcmp(calls, "memory") ? MEMORY : NONE;
+    for (counted = KINDS - 1; counted && (!calls || strcmp(calls, NAMES[counted])); counted--) {}
 }
 
 static void end(void) {
@@ -101,6 +104,16 @@ static int is_it(int kind) {
         return next(fd, bytes, count, at); \
     }
 
+#define OF_STREAM(name, stream, buffer) \
+    ssize_t name(int fd, buffer bytes, size_t count) { \
+        NEXT(ssize_t, #name, int, buffer, size_t); \
+        if (fd == stream && is_it(STREAMS)) { \
+            if (failing_with) return -1; \
+            count = count > 1 ? count / 2 : count; \
+        } \
+        return next(fd, bytes, count); \
+    }
+
 OPEN(open)
 OPEN(open64)
 OPENAT(openat)
@@ -109,6 +122,8 @@ WITH_BYTES(pread, void *)
 WITH_BYTES(pread64, void *)
 WITH_BYTES(pwrite, const void *)
 WITH_BYTES(pwrite64, const void *)
+OF_STREAM(read, STDIN_FILENO, void *)
+OF_STREAM(write, STDOUT_FILENO, const void *)
 WITHOUT_BYTES(fsync, (int fd), int, (fd))
 WITHOUT_BYTES(fdatasync, (int fd), int, (fd))
 WITHOUT_BYTES(flock, (int fd, int how), TWO(int, int), (fd, how))
@@ -119,6 +134,11 @@ WITHOUT_BYTES(statx, (int at, const char *path, int flags, unsigned mask, struct
 ssize_t getdents64(int fd, void *into, size_t room) {
     NEXT(ssize_t, "getdents64", int, void *, size_t);
     return is_it(FILES) && failing_with ? -1 : next(fd, into, room);
+}
+
+int pthread_create(pthread_t *thread, const pthread_attr_t *told, void *(*begin)(void *), void *with) {
+    NEXT(int, "pthread_create", pthread_t *, const pthread_attr_t *, void *(*)(void *), void *);
+    return is_it(THREADS) ? failing_with : next(thread, told, begin, with);
 }
 
 extern void *__libc_malloc(size_t size);

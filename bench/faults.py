@@ -1,5 +1,5 @@
 #!/usr/bin/env python3
-"""Has each call of a run on files, or each allocation, fail in turn, and looks that nothing that was acknowledged is lost.
+"""Has each call of a run of one kind fail in turn, and looks that nothing that was acknowledged is lost.
 
     bench/faults.py [STORE] [ROUNDS] [SEED] [CALLS] [PARTITIONS] [MOST]
 
@@ -12,8 +12,10 @@ fails, over the same files; of more than MOST calls (1,500 if not said) so many 
 - CALLS is `files`, if not said: each call of the system on files fails with EIO, ENOSPC, EACCES and EINTR, and reads and writes do half of
   what they were asked to. A call that was interrupted, or did half, is made again, so such a run has to end well.
 - CALLS is `memory`: each allocation is refused.
+- CALLS is `streams`: each read of the standard input and each write of the standard output fails, likewise.
+- CALLS is `threads`: each thread is refused. Such a run has to end well.
 
-However a run ends, what it wrote has to be the replies of its first windows, and its status 0, 5 for files, or 7 for memory. Then the program is
+However a run ends, what it wrote has to be the replies of its first windows, and its status 0, 5 for files, 7 for memory, or 3 or 4 for streams. Then the program is
 started over what was left, and reads every key and the schema: each partition has to have what the windows that were answered leave there, or
 these and the next one as a whole. A library for LD_PRELOAD makes the calls fail (bench/failing.c, built with cc).
 """
@@ -32,9 +34,11 @@ import powercut
 from powercut import KEYS, Line, plain, schema_of
 
 HERE = os.path.dirname(os.path.abspath(__file__))
-# the errors of a call on files; 0 stands for a read or a write of half the bytes
-ERRORS = {'files': [errno.EIO, errno.ENOSPC, errno.EACCES, errno.EINTR, 0], 'memory': [errno.ENOMEM]}
-STATUS = {'files': 5, 'memory': 7}
+# the errors of a call of each kind; 0 stands for a read or a write of half the bytes
+ERRORS = {'files': [errno.EIO, errno.ENOSPC, errno.EACCES, errno.EINTR, 0], 'memory': [errno.ENOMEM],
+          'streams': [errno.EIO, errno.EINTR, 0], 'threads': [errno.EAGAIN]}
+# how a run may end, beside 0
+STATUS = {'files': (5,), 'memory': (7,), 'streams': (3, 4), 'threads': ()}
 # lines that read, and how often each of them comes among the lines
 READS = {'get': 0.1, 'query': 0.03, 'scan': 0.03, 'collect': 0.04, 'schema': 0.01}
 # components of which an opening makes one
@@ -190,7 +194,7 @@ def run(store, folder, feed, library, words):
 
 def wrong_with(store, folder, feed, status, output, calls, error):
     """What is wrong with a run that ended so, or None."""
-    if status not in (0, STATUS[calls]) or status and error in (0, errno.EINTR):
+    if status not in (0, *STATUS[calls]) or status and error in (0, errno.EINTR):
         return 'status %d' % status
     if output and not output.endswith('\n'):
         return 'half a line was written'
