@@ -142,6 +142,14 @@ class DamageInARun(Damage):
         said = self.break_record(1)
         self.check_met(said, 1, [get(0), get(1), get(2), get(4), upsert(6), get(3), get(2), get(4)], 4)
 
+    def test_a_write_over_it(self):
+        for write in (upsert(3, b=2), {"op": "delete", "id": 3}):
+            with self.subTest(write=write):
+                self.make_store()
+                said = self.break_record(1)
+                self.check_met(said, 1, [get(2), write, get(2)], 1)
+                shutil.rmtree(self.folder / "data")
+
     def test_a_query(self):
         for partitions, partition in (1, 0), (2, 0), (2, 1), (16, 13):
             with self.subTest(partitions=partitions, partition=partition):
