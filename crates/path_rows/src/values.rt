@@ -15,8 +15,14 @@ use tc_path::{ValueRef, first, select};
 use tc_record::RecordRef;
 use tc_value::Doc;
 
-/// What the calls answer for a document and a query, over the record with names and over the one with numbers.
-pub(crate) fn answer_of(alloc: Global, document: &str, query: &str) -> Option<String> {
+/// What the calls answer for a document and a query, over the record with names and over the one with numbers, and over
+/// another record of the document, if there is one.
+pub(crate) fn answer_of(
+    alloc: Global,
+    document: &str,
+    query: &str,
+    spelled: Option<Vec<u8>>,
+) -> Option<String> {
     let ask = ask_in(alloc, query)?;
     let equal_to = ask.eq?;
     let mut names = Names::new(alloc);
@@ -24,7 +30,11 @@ pub(crate) fn answer_of(alloc: Global, document: &str, query: &str) -> Option<St
     let by_names = reached(alloc, whole.as_slice(), &names, &ask.path, &equal_to)?;
     let compacted = numbered(alloc, whole.as_slice(), &mut names)?;
     let by_numbers = reached(alloc, compacted.as_slice(), &names, &ask.path, &equal_to)?;
-    if by_names == by_numbers {
+    let as_spelled = match spelled {
+        Some(record) => reached(alloc, record.as_slice(), &names, &ask.path, &equal_to)?,
+        None => String::from_str(alloc, by_names.as_str()).ok()?,
+    };
+    if by_names == by_numbers && by_names == as_spelled {
         Some(by_names)
     } else {
         String::from_str(alloc, "the forms differ").ok()
