@@ -1,7 +1,7 @@
 -- Where a name fits among members that ascend, and what a member put there makes of them.
 use Rattle.std.proofs.Common.{◌≡◌, ◌∙◌, ◌<◌, ◌+◌, ◌++◌, ℕ, zero, suc, refl, sym, ap, ap₂, subst, List, [], ◌∷◌, length, map, take, drop, get_or, Less, Greater, arith}
 use Rattle.std.proofs.lemmas.Cmp.{nat_list_cmp_total}
-use Rattle.std.proofs.lemmas.List.{length-map, get_or-map, map-append, take-map, drop-map, drop_all}
+use Rattle.std.proofs.lemmas.List.{length-map, get_or-map, map-append, take-map, drop-map}
 use Rattle.std.specs.List.{insert, AllByRecursion}
 use Rattle.std.specs.List.Sorted.{IsStrictlySortedBy}
 use Rattle.std.specs.Ordering.{match_ordering, ordering_reverse}
@@ -58,9 +58,6 @@ pub above_more : (ms : List Member) (n : ℕ) (d : Member) (k : Name) → IsAsce
 above_more ms n d k sorted inside e =
     let greater : name_cmp k (get_or ms n d).name ≡ Less = nat_list_cmp_total.antisymm k (get_or ms n d).name ∙ ap ordering_reverse e in
     above_from (map member_of ms) n (member_of d) k sorted (omega (arith, length-map ms member_of, inside)) (ap (λ x. name_cmp k x.0) (there ms n d inside) ∙ greater)
-
-pub above_none : (ms : List Member) (k : Name) → AreAbove k (drop (length ms) (map member_of ms))
-above_none ms k = subst (AreAbove k) (sym (drop_all (length ms) (map member_of ms) (omega (arith, length-map ms member_of)))) tt
 
 -- ---- a member put in
 

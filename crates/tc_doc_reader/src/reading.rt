@@ -10,7 +10,7 @@ ghost use Rattle.tc_value.specs.Meaning.{tree_of};
 ghost use Rattle.tc_doc_reader.specs.Tokens.{items_in, members_in, spare_levels, document_next};
 
 use crate::integers::integer_of;
-use crate::members::put_member;
+use crate::members::{Gaps, put_member};
 use json::{Reader, Scratch, Token};
 use std::alloc::{AllocError, Global};
 use tc_value::{Doc, Items, MAX_DEPTH, Member, Members, Text};
@@ -22,6 +22,7 @@ const LINE_DEPTH: u32 = MAX_DEPTH + 1;
 #[derive(Drop)]
 pub struct DocReader {
     scratch: Scratch,
+    gaps: Gaps,
 }
 
 impl DocReader {
@@ -29,6 +30,7 @@ impl DocReader {
     pub fn new(alloc: Global) -> DocReader {
         DocReader {
             scratch: Scratch::new(alloc),
+            gaps: Gaps::new(),
         }
     }
 
@@ -41,7 +43,7 @@ impl DocReader {
         let Ok(mut reader) = Reader::new(text, &mut self.scratch) else {
             return Err(AllocError);
         };
-        let found = read_next(alloc, &mut reader, LINE_DEPTH)?;
+        let found = read_next(alloc, &mut reader, &mut self.gaps, LINE_DEPTH)?;
         match reader.next() {
             Some(_) => Ok(None),
             None => Ok(found),
@@ -51,7 +53,12 @@ impl DocReader {
 
 // The document at the front of what is left, where it nests no deeper than `room`.
 #[cycle(reading)]
-fn read_next(alloc: Global, reader: &mut Reader<'_>, room: u32) -> Result<Option<Doc>, AllocError>
+fn read_next(
+    alloc: Global,
+    reader: &mut Reader<'_>,
+    gaps: &mut Gaps,
+    room: u32,
+) -> Result<Option<Doc>, AllocError>
     ensures meant { IfOk result (λ found. IfSome found
         (λ doc. document_next room reader.old ≡ Some (tree_of doc, reader.new))) }
     ensures shorter { IfOk result (λ found. IsSome found → length reader.new < length reader.old) }
@@ -72,7 +79,7 @@ fn read_next(alloc: Global, reader: &mut Reader<'_>, room: u32) -> Result<Option
             if room == 0 {
                 return Ok(None);
             }
-            match read_items(alloc, reader, room - 1)? {
+            match read_items(alloc, reader, gaps, room - 1)? {
                 Some(items) => Ok(Some(Doc::Array(items))),
                 None => Ok(None),
             }
@@ -81,7 +88,7 @@ fn read_next(alloc: Global, reader: &mut Reader<'_>, room: u32) -> Result<Option
             if room == 0 {
                 return Ok(None);
             }
-            match read_members(alloc, reader, room - 1)? {
+            match read_members(alloc, reader, gaps, room - 1)? {
                 Some(members) => Ok(Some(Doc::Object(members))),
                 None => Ok(None),
             }
@@ -102,6 +109,7 @@ fn int_of(number: Option<i64>) -> Option<Doc>
 fn read_items(
     alloc: Global,
     reader: &mut Reader<'_>,
+    gaps: &mut Gaps,
     room: u32,
 ) -> Result<Option<Items>, AllocError>
     ensures meant { IfOk result (λ found. IfSome found (λ xs.
@@ -111,7 +119,7 @@ fn read_items(
 {
     let mut found = Vec::new(alloc);
     'items: while !reader.take_end_array() {
-        match read_next(alloc, reader, room)? {
+        match read_next(alloc, reader, gaps, room)? {
             Some(item) => found.push(item)?,
             None => return Ok(None),
         }
@@ -125,6 +133,7 @@ fn read_items(
 fn read_members(
     alloc: Global,
     reader: &mut Reader<'_>,
+    gaps: &mut Gaps,
     room: u32,
 ) -> Result<Option<Members>, AllocError>
     ensures meant { IfOk result (λ found. IfSome found (λ xs.
@@ -138,8 +147,8 @@ fn read_members(
         match reader.next_key() {
             Ok(Some(name)) => {
                 let name = Text::of(String::from_str(alloc, name)?);
-                match read_next(alloc, reader, room)? {
-                    Some(value) => if !put_member(&mut found, Member { name, value })? {
+                match read_next(alloc, reader, gaps, room)? {
+                    Some(value) => if !put_member(&mut found, Member { name, value }, gaps)? {
                         return Ok(None);
                     },
                     None => return Ok(None),
