@@ -1,9 +1,10 @@
 //! The document that a JSON text means, read token by token without a JSON value in between.
 
-ghost use Rattle.std.specs.Prelude.{◌≡◌, ◌+◌, ◌<◌, length, Some, IfOk, IfSome, IsSome, option_map, option_and_then};
+ghost use Rattle.std.specs.Prelude.{◌≡◌, ◌+◌, ◌<◌, ◌≤◌, length, Some, IfOk, IfSome, IsSome, option_map, option_and_then};
 ghost use Rattle.json.specs.Json.{items, members, value};
 ghost use Rattle.serde_json.specs.Read.{read, converted};
-ghost use Rattle.tc_model.specs.Tree.{leaf, no_members, items_of, members_of};
+ghost use Rattle.tc_model.specs.Limits.{max_depth};
+ghost use Rattle.tc_model.specs.Tree.{leaf, no_members, items_of, members_of, depth, items_depth, members_depth};
 ghost use Rattle.tc_model.specs.Document.{integer};
 ghost use Rattle.tc_model.specs.Json.{document_of};
 ghost use Rattle.tc_value.specs.Meaning.{tree_of};
@@ -34,11 +35,12 @@ impl DocReader {
         }
     }
 
-    /// The document that a text means, in memory of its own. `None` says nothing of the text. Errs only for want
-    /// of memory.
+    /// The document that a text means, in memory of its own, where it nests no deeper than one more than a document may.
+    /// `None` says nothing of the text. Errs only for want of memory.
     pub fn read(&mut self, alloc: Global, text: &str) -> Result<Option<Doc>, AllocError>
         ensures meant { IfOk result (λ found. IfSome found
             (λ doc. option_and_then document_of (read text.now) ≡ Some (tree_of doc))) }
+        ensures shallow { IfOk result (λ found. IfSome found (λ doc. depth (tree_of doc) ≤ max_depth + 1)) }
     {
         let Ok(mut reader) = Reader::new(text, &mut self.scratch) else {
             return Err(AllocError);
@@ -61,6 +63,7 @@ fn read_next(
 ) -> Result<Option<Doc>, AllocError>
     ensures meant { IfOk result (λ found. IfSome found
         (λ doc. document_next room reader.old ≡ Some (tree_of doc, reader.new))) }
+    ensures shallow { IfOk result (λ found. IfSome found (λ doc. depth (tree_of doc) ≤ room)) }
     ensures shorter { IfOk result (λ found. IsSome found → length reader.new < length reader.old) }
 {
     let Some(token) = reader.next() else {
@@ -98,7 +101,8 @@ fn read_next(
 
 // An integer as a document.
 fn int_of(number: Option<i64>) -> Option<Doc>
-    ensures { IfSome result (λ doc. option_map (λ z. leaf (integer z)) number ≡ Some (tree_of doc)) }
+    ensures told { IfSome result (λ doc. option_map (λ z. leaf (integer z)) number ≡ Some (tree_of doc)) }
+    ensures flat { IfSome result (λ doc. depth (tree_of doc) ≡ 0) }
 {
     let number = number?;
     Some(Doc::Int(number))
@@ -115,6 +119,7 @@ fn read_items(
     ensures meant { IfOk result (λ found. IfSome found (λ xs.
         converted items_in (items (value (room + spare_levels)) (length reader.old) reader.old)
         ≡ Some (items_of xs, reader.new))) }
+    ensures shallow { IfOk result (λ found. IfSome found (λ xs. items_depth (items_of xs) ≤ room)) }
     ensures shorter { IfOk result (λ found. IsSome found → length reader.new < length reader.old) }
 {
     let mut found = Vec::new(alloc);
@@ -140,6 +145,7 @@ fn read_members(
         converted (λ ms. members_in ms no_members)
         (members (value (room + spare_levels)) (length reader.old) reader.old)
         ≡ Some (members_of xs, reader.new))) }
+    ensures shallow { IfOk result (λ found. IfSome found (λ xs. members_depth (members_of xs) ≤ room)) }
     ensures shorter { IfOk result (λ found. IsSome found → length reader.new < length reader.old) }
 {
     let mut found = Vec::new(alloc);

@@ -1,7 +1,7 @@
 use Rattle.std.proofs.Common.{◌≡◌, ◌+◌, ◌*◌, ◌≤◌, ℕ, length, map}
 use Rattle.json.specs.Json.{items, members, value, parse_map}
 use Rattle.serde_json.specs.Read.{converted}
-use Rattle.tc_model.specs.Tree.{no_members, members_of}
+use Rattle.tc_model.specs.Tree.{no_members, items_of, members_of, items_depth, members_depth}
 use Rattle.tc_model.specs.Document.{IsAscending}
 use Rattle.tc_value.specs.Meaning.{tree_of, member_of}
 use Rattle.tc_doc_reader.specs.Tokens.{items_in, members_in, spare_levels}
@@ -22,6 +22,7 @@ invariant-read_items-items l =
     (n : ℕ) × (length l.reader ≤ n)
     × (converted items_in (items (value (l.room + spare_levels)) (length l.initial.reader) l.initial.reader) ≡ parse_map (items_before (map tree_of l.found.items)) (converted items_in (items (value (l.room + spare_levels)) n l.reader)))
     × (length l.reader ≤ length l.initial.reader)
+    × (items_depth (items_of (map tree_of l.found.items)) ≤ l.room)
 
 abbrev pub decreases-read_items-items : goal.decreases-read_items-items
 decreases-read_items-items l = length l.reader
@@ -32,6 +33,7 @@ invariant-read_members-members l =
     × (converted (λ ms. members_in ms no_members) (members (value (l.room + spare_levels)) (length l.initial.reader) l.initial.reader) ≡ converted (λ ms. members_in ms (members_of (map member_of l.found.items))) (members (value (l.room + spare_levels)) n l.reader))
     × (length l.reader ≤ length l.initial.reader)
     × IsAscending (map member_of l.found.items)
+    × (members_depth (members_of (map member_of l.found.items)) ≤ l.room)
 
 abbrev pub decreases-read_members-members : goal.decreases-read_members-members
 decreases-read_members-members l = length l.reader
