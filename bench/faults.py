@@ -3,11 +3,11 @@
 
     bench/faults.py [STORE] [ROUNDS] [SEED] [CALLS] [PARTITIONS] [MOST]
 
-STORE is the program, or else that of crates/tuple_store/out, and its store has one partition if not said. In each of ROUNDS rounds (4 if not
-said) a run gets upserts, deletes, flushes, gets, queries, scans, collects and schemas over a folder, with small memory tables, so that it
-flushes and merges; every second round begins with files that an earlier run left, so that it opens them too, and every fourth with more
-components than an opening leaves, so that it merges them. The run is made once to count its calls, and then once for each call that
-fails, over the same files; of more than MOST calls (1,500 if not said) so many are drawn:
+STORE is the program, or else that of crates/tuple_store/out, and its store has one partition if not said. In each of ROUNDS rounds (4 if
+not said) a run gets lines of each command over a folder, with small memory tables, so that it flushes and merges; every second round
+begins with files that an earlier run left, so that it opens them too, and every fourth with more components than an opening leaves, so
+that it merges them. The run is made once to count its calls, and then once for each call that fails, over the same files; of more than
+MOST calls (1,500 if not said) so many are drawn:
 
 - CALLS is `files`, if not said: each call of the system on files fails with EIO, ENOSPC, EACCES and EINTR, and reads and writes do half of
   what they were asked to. A call that was interrupted, or did half, is made again, so such a run has to end well.
@@ -15,9 +15,10 @@ fails, over the same files; of more than MOST calls (1,500 if not said) so many 
 - CALLS is `streams`: each read of the standard input and each write of the standard output fails, likewise.
 - CALLS is `threads`: each thread is refused. Such a run has to end well.
 
-However a run ends, what it wrote has to be the replies of its first windows, and its status 0, 5 for files, 7 for memory, or 3 or 4 for streams. Then the program is
-started over what was left, and reads every key and the schema: each partition has to have what the windows that were answered leave there, or
-these and the next one as a whole. A library for LD_PRELOAD makes the calls fail (bench/failing.c, built with cc).
+However a run ends, what it wrote has to be the replies of its first windows, and its status 0, 5 for files, 7 for memory, or 3 or 4 for
+streams. Then the program is started over what was left, and reads every key and the schema: each partition has to have what the windows
+that were answered leave there, or these and the next one as a whole. A library for LD_PRELOAD makes the calls fail (bench/failing.c,
+built with cc).
 """
 import collections
 import errno

@@ -133,7 +133,7 @@ def beside(ours, theirs, count):
     if not theirs:
         return "- | -"
     times = statistics.median(one / other for one, other in zip(ours, theirs))
-    return f"{micros(min(theirs), count):.2f} | {times:.1f}"
+    return f"{micros(min(theirs), count):.2f} | {times:.{2 if times < 2 else 1}f}"
 
 
 def loads(bench):
@@ -494,8 +494,8 @@ def partitions(bench):
     print("|---|--:|--:|--:|--:|--:|--:|")
     folder = "/dev/shm" if os.path.isdir("/dev/shm") else bench.folder
     with tempfile.TemporaryDirectory(dir=folder) as stores:
-        for name, made, part in (("messages", feeds.message, 1), ("profiles", feeds.profile, 4)):
-            source, count = bench.write("lines", feeds.upserts(10 * bench.words.documents // part, "ascending", made))
+        for name, lines in data_sets(2 * bench.words.documents):
+            source, count = bench.write("lines", lines())
             for window in (64, 4096):
                 load_parts(bench, name, source, count, window, stores)
 

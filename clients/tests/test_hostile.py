@@ -109,7 +109,7 @@ class OneFile(Damage):
 
     def test_a_component_that_was_changed(self):
         layout = (8, ["partition 0: found 1 of 1, asked 0 of 1", "data/p0/c-1-1 is damaged: no store has a partition 1 of 1"])
-        # A partition, a generation, a length; the width of the numbers of names, such a number; a key, a name, a counter; the gate.
+        # A partition, a generation, a length; a boolean, the number of its name; a key, a name, a counter; the gate.
         rows = [(8, 1, layout), (20, 2, 1), (36, 0x1d, 1), (87, 2, RECORD), (88, 1, RECORD), (89, 0x80, 89), (109, 0xff, 101),
                 (135, 0, 110), (0, 2, self.NONE)]
         for version, content in COMPONENTS.items():
