@@ -1,13 +1,13 @@
 //! The document of an upsert, among the members of its line.
 
-ghost use Rattle.std.specs.Prelude.{◌≡◌, ◌≤◌, ◌∷◌, [], IfSome, IsTrue, codes, map};
+ghost use Rattle.std.specs.Prelude.{◌≡◌, ◌≤◌, ◌+◌, ◌∷◌, [], IfSome, IsTrue, codes, map};
 ghost use Rattle.tc_model.specs.Document.{text};
 ghost use Rattle.tc_model.specs.Limits.{max_depth};
-ghost use Rattle.tc_model.specs.Tree.{leaf, object, members_of, depth};
+ghost use Rattle.tc_model.specs.Tree.{leaf, object, members_of, depth, members_depth};
 ghost use Rattle.tc_value.specs.Meaning.{tree_of, member_of};
 ghost use Rattle.tc_command_reader.specs.UpsertLine.{upsert_line};
 
-use tc_value::{Doc, MAX_DEPTH, Member};
+use tc_value::{Doc, Member};
 
 /// Whether the line may be an upsert, by its first bytes. No answer is wrong: what is read is looked at again.
 pub(crate) fn may_upsert(line: &[u8]) -> bool {
@@ -16,8 +16,9 @@ pub(crate) fn may_upsert(line: &[u8]) -> bool {
         || line.starts_with(b"{\"doc\":")
 }
 
-/// The document of an upsert, where it nests within the depth and this is the document of its line.
+/// The document of an upsert, where this is the document of its line.
 pub(crate) fn upserted_in(whole: Doc) -> Option<Doc>
+    requires { depth (tree_of whole) ≤ max_depth + 1 }
     ensures line { IfSome result (λ doc. tree_of whole ≡ upsert_line (tree_of doc)) }
     ensures shallow { IfSome result (λ doc. depth (tree_of doc) ≤ max_depth) }
 {
@@ -28,11 +29,12 @@ pub(crate) fn upserted_in(whole: Doc) -> Option<Doc>
 }
 
 fn upserted_among(members: Vec<Member>) -> Option<Doc>
+    requires { members_depth (members_of (map member_of members.items)) ≤ max_depth }
     ensures line { IfSome result (λ doc. object (members_of (map member_of members.items)) ≡ upsert_line (tree_of doc)) }
     ensures shallow { IfSome result (λ doc. depth (tree_of doc) ≤ max_depth) }
 {
     let (first, second) = two(members)?;
-    if is_upsert(&first, &second) && first.value.nests_within(MAX_DEPTH) {
+    if is_upsert(&first, &second) {
         Some(first.value)
     } else {
         None
