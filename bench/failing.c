@@ -2,7 +2,8 @@
  *
  * FAILING_CALLS is `files`, for the calls of the system on files, `memory`, for those that allocate, `streams`, for reads of the standard
  * input and writes of the standard output, or `threads`, for those that start a thread. FAILING_AT is the number of the call, from 1 on, in
- * the order in which all threads make them; FAILING_WITH the number of its error, or 0 for a read or a write of half the bytes. With FAILING_COUNT, a path, the number of calls that were made is written there at the end.
+ * the order in which all threads make them; FAILING_WITH the number of its error, or 0 for a read or a write of half the bytes. With
+ * FAILING_ON the calls behind it fail like it. With FAILING_COUNT, a path, the number of calls that were made is written there at the end.
  */
 #define _GNU_SOURCE
 #include <dlfcn.h>
@@ -25,12 +26,13 @@ static const char *const NAMES[KINDS] = {"", "files", "memory", "streams", "thre
 
 static atomic_long made;
 static long failing_at = -1;
-static int failing_with, counted = NONE;
+static int failing_with, failing_on, counted = NONE;
 
 __attribute__((constructor)) static void begin(void) {
     const char *calls = getenv("FAILING_CALLS"), *at = getenv("FAILING_AT"), *with = getenv("FAILING_WITH");
     failing_at = at ? atol(at) : -1;
     failing_with = with ? atoi(with) : 0;
+    failing_on = getenv("FAILING_ON") != NULL;
     for (counted = KINDS - 1; counted && (!calls || strcmp(calls, NAMES[counted])); counted--) {}
 }
 
@@ -54,12 +56,15 @@ __attribute__((destructor)) static void return_from_main(void) {
     end();
 }
 
-/* Whether this call, of one of the two kinds, is the one; then errno says why it fails. */
+/* Whether this call, of one of the kinds, fails; then errno says why. */
 static int is_it(int kind) {
-    if (kind != counted || atomic_fetch_add(&made, 1) + 1 != failing_at)
+    if (kind != counted)
         return 0;
-    errno = failing_with;
-    return 1;
+    long number = atomic_fetch_add(&made, 1) + 1;
+    int fails = number == failing_at || (failing_on && failing_at > 0 && number > failing_at);
+    if (fails)
+        errno = failing_with;
+    return fails;
 }
 
 #define NEXT(type, name, ...) \

@@ -10,10 +10,11 @@ that it merges them. The run is made once to count its calls, and then once for 
 MOST calls (1,500 if not said) so many are drawn:
 
 - CALLS is `files`, if not said: each call of the system on files fails with EIO, ENOSPC, EACCES and EINTR, and reads and writes do half of
-  what they were asked to. A call that was interrupted, or did half, is made again, so such a run has to end well.
-- CALLS is `memory`: each allocation is refused.
+  what they were asked to. A call that was interrupted, or did half, is made again, so such a run has to end well. From each call on all
+  fail with ENOSPC, or do half.
+- CALLS is `memory`: each allocation is refused, alone or with all behind it.
 - CALLS is `streams`: each read of the standard input and each write of the standard output fails, likewise.
-- CALLS is `threads`: each thread is refused. Such a run has to end well.
+- CALLS is `threads`: each thread is refused, alone or with all behind it. Such a run has to end well.
 
 However a run ends, what it wrote has to be the replies of its first windows, and its status 0, 5 for files, 7 for memory, or 3 or 4 for
 streams. Then the program is started over what was left, and reads every key and the schema: each partition has to have what the windows
@@ -35,9 +36,10 @@ import powercut
 from powercut import KEYS, Line, plain, schema_of
 
 HERE = os.path.dirname(os.path.abspath(__file__))
-# the errors of a call of each kind; 0 stands for a read or a write of half the bytes
-ERRORS = {'files': [errno.EIO, errno.ENOSPC, errno.EACCES, errno.EINTR, 0], 'memory': [errno.ENOMEM],
-          'streams': [errno.EIO, errno.EINTR, 0], 'threads': [errno.EAGAIN]}
+# the errors of a call of each kind, alone, and of all from it on; 0 stands for a read or a write of half the bytes
+ALONE = {'files': [errno.EIO, errno.ENOSPC, errno.EACCES, errno.EINTR, 0], 'memory': [errno.ENOMEM],
+         'streams': [errno.EIO, errno.EINTR, 0], 'threads': [errno.EAGAIN]}
+ON = {'files': [errno.ENOSPC, 0], 'memory': [errno.ENOMEM], 'streams': [0], 'threads': [errno.EAGAIN]}
 # how a run may end, beside 0
 STATUS = {'files': (5,), 'memory': (7,), 'streams': (3, 4), 'threads': ()}
 # lines that read, and how often each of them comes among the lines
@@ -242,15 +244,16 @@ def tried(store, base, library, feed, calls, choice, most, seen):
     seen['calls'] += made
     places = range(1, made + 1)
     for at in places if made <= most else sorted(choice.sample(places, most)):
-        for error in ERRORS[calls]:
+        for error, on in [(it, {}) for it in ALONE[calls]] + [(it, {'FAILING_ON': '1'}) for it in ON[calls]]:
             again()
             status, output = run(store, folder, feed, library,
-                                 {'FAILING_CALLS': calls, 'FAILING_AT': str(at), 'FAILING_WITH': str(error)})
+                                 {'FAILING_CALLS': calls, 'FAILING_AT': str(at), 'FAILING_WITH': str(error), **on})
             seen['runs'] += 1
             seen['runs with status %d' % status] += 1
             wrong = wrong_with(store, folder, feed, status, output, calls, error)
             if wrong:
-                return 'call %d with %s: %s; see %s' % (at, errno.errorcode.get(error, 'half the bytes'), wrong, base)
+                which = 'call %d%s with %s' % (at, ' and all behind it' if on else '', errno.errorcode.get(error, 'half the bytes'))
+                return '%s: %s; see %s' % (which, wrong, base)
     return None
 
 
