@@ -4,8 +4,9 @@
     bench/replies.py BEFORE AFTER [DOCUMENTS] [SEED]
 
 Each round gives both programs the same lines, over a new folder each, and then opens both folders again and reads all that is
-there. The lines upsert DOCUMENTS documents in all (20,000 if not said): those of bench/feeds.py, and hostile ones, whose texts,
-names, numbers and nesting are at every limit and in every spelling, right or wrong. Among them are deletes, flushes, schemas,
+there. The lines upsert DOCUMENTS documents in all (20,000 if not said): those of bench/feeds.py; hostile ones, whose texts,
+names, numbers and nesting are at every limit and in every spelling, right or wrong; and some of which each is the one before with
+one thing changed, so that what is guessed from the last one is right, or wrong by little. Among them are deletes, flushes, schemas,
 gets, and queries and scans by all the paths of the documents, with and without a value. Lines are also cut, doubled, changed at a
 byte, and made as long as a line may be. Partitions, windows, the words for the memory and for merges change from round to round.
 
@@ -137,6 +138,66 @@ class Hostile:
         return changed(self.choice, line) if self.choice.random() < self.bad else line
 
 
+# Names of which many have their first bytes in common, or are the front of another one, or stand beside the key.
+ALIKE = [front + back for front in (b'', b'a', b'abcdefg', b'abcdefgh', b'abcdefghi', b'abcdefghabcdefg', b'abcdefghabcdefgh', b'i', b'id')
+         for back in (b'', b'a', b'b', b'\x7f', 'é'.encode(), b'\\u0001', b'ab', b'zzzzzzzz')]
+
+
+class Alike:
+    """Documents of which each is the one before with one thing changed: a member more or less, twice, elsewhere, or of another name or value."""
+
+    def __init__(self, choice):
+        self.choice, self.members, self.place = choice, [], 0
+        for _ in range(choice.choice([0, 1, 4, 12, 40])):
+            self.add(self.members, 2)
+
+    def value(self, levels):
+        if levels and self.choice.random() < 0.3:
+            members = []
+            for _ in range(self.choice.choice([0, 1, 5])):
+                self.add(members, levels - 1)
+            return members
+        return self.choice.choice([b'null', b'1', b'"x"', b'[{"abcdefgh":1},{"abcdefgh":2,"abcdefghi":3}]'])
+
+    def add(self, members, levels):
+        """A name that is not there yet goes anywhere."""
+        some = [name for name in ALIKE if name != b'id' and name not in [it[0] for it in members]]
+        if some:
+            members.insert(self.choice.randrange(len(members) + 1), [self.choice.choice(some), self.value(levels)])
+
+    def change(self, members, levels):
+        inner = [it[1] for it in members if isinstance(it[1], list)]
+        if inner and self.choice.random() < 0.4:
+            return self.change(self.choice.choice(inner), levels - 1)
+        kind, member = self.choice.randrange(5), self.choice.choice(members) if members else None
+        if kind == 0 or not members:
+            self.add(members, levels)
+        elif kind == 1:
+            members.remove(member)
+        elif kind == 2:
+            members.remove(member)
+            members.insert(self.choice.randrange(len(members) + 1), member)
+        elif kind == 3:
+            member[1] = self.value(levels)
+        else:
+            members.remove(member)
+            self.add(members, levels)
+
+    def spelled(self, members):
+        return b'{' + b','.join(b'"' + name + b'":' + (self.spelled(it) if isinstance(it, list) else it) for name, it in members) + b'}'
+
+    def line(self, key):
+        if self.choice.random() < 0.7:
+            self.change(self.members, 2)
+        if self.choice.random() < 0.1:
+            self.place = self.choice.randrange(len(self.members) + 1)
+        members = [*self.members]
+        if members and self.choice.random() < 0.1:
+            members.insert(self.choice.randrange(len(members) + 1), self.choice.choice(members))
+        members.insert(self.place, [b'id', str(key).encode()])
+        return b'{"op":"upsert","doc":' + self.spelled(members) + b'}'
+
+
 def changed(choice, line):
     """The line with a byte taken out, put in, doubled or changed, or cut off."""
     at = choice.randrange(len(line))
@@ -204,20 +265,22 @@ def queries(choice, known, count):
             yield b'{"op":"collect"}'
 
 
-KINDS = [feeds.message, feeds.profile, feeds.changing, feeds.readings, None, None, None]
+# A feed, or whatever has lines of its own.
+KINDS = [feeds.message, feeds.profile, feeds.changing, feeds.readings, Hostile, Hostile, Hostile, Alike, Alike]
 
 
 def lines_of(choice, count, kind):
     """The lines of a round: so many upserts of one kind, and what is asked between them. Tells the keys too."""
-    hostile, known, lines = Hostile(choice, choice.choice([0, 0.02, 0.2])), [], []
+    known, lines = [], []
+    own = Alike(choice) if kind is Alike else Hostile(choice, choice.choice([0, 0.02, 0.2]))
     keys = [choice.choice([choice.randrange(count), choice.randrange(2 ** 63), 0, 2 ** 63 - 1, 2 ** 63]) for _ in range(count // 8)]
     keys += range(count)
     for k in range(1, count + 1):
         key = choice.choice(keys)
-        if kind:
+        if not isinstance(kind, type):
             line = f'{{"op":"upsert","doc":{kind(choice.randrange(1_000_000), key)}}}'.encode()
         else:
-            line = long_line(choice, key) if choice.random() < 0.002 else hostile.line(key)
+            line = long_line(choice, key) if kind is Hostile and choice.random() < 0.002 else own.line(key)
         lines.append(line)
         document = read(line) if len(line) < 100_000 else None
         if document is not None:
