@@ -1,6 +1,10 @@
 -- A log is laid behind no component, or behind one.
-use Rattle.std.proofs.Common.{◌≡◌, ◌∙◌, ◌<◌, ◌+◌, ◌^◌, ◌++◌, ℕ, List, [], ◌∷◌, ap, sym, subst, arith, false}
+use Rattle.std.proofs.Common.{◌≡◌, ◌∙◌, ◌<◌, ◌+◌, ◌^◌, ◌++◌, ℕ, List, [], ◌∷◌, Ok, Err, Some, Result, ap, sym, subst, arith, false}
+use Rattle.std.specs.Prelude.{IfOk}
+use Rattle.std.specs.Result.{result_ok}
 use Rattle.std.proofs.lemmas.List.Elements.{All-cons, All-nil}
+use Rattle.std.proofs.lemmas.Option.{same_Some}
+use Rattle.tc_store.specs.declared.damage.ReadFault.{ReadFault}
 use Rattle.tc_store.specs.declared.file_name.FileName.TheVariants.{Component, Log}
 use Rattle.tc_store.specs.declared.mem.device.MemDevice.{MemDevice}
 use Rattle.tc_store.specs.declared.mem.frozen.MemFrozen.{MemFrozen}
@@ -24,6 +28,11 @@ behind_none log list none sound empty name = subst (λ (l : List (ComponentState
   listed = record { each = All-nil _; names = tt };
   named = All-nil _;
 })
+
+-- what a load says of what it read, where `ok` and `?` took that out
+pub loaded : {A : Type 0} (P : A → Type 0) (read : Result A ReadFault) (a : A) → Some a ≡ result_ok read → IfOk read P → P a
+loaded P (Ok x) a is holds = subst P (same_Some x a (sym is)) holds
+loaded P (Err e) a is holds = cc
 
 pub first_is : (h : Head) (to : ℕ) → Component 1 to ≡ name_of h → h.from ≡ 1
 first_is h to is = cc
