@@ -14,7 +14,7 @@ use tc_bits::{field_of, window_before};
 pub(crate) struct Scan<'a> {
     pub(crate) left: Numbers<'a>,
     pub(crate) window: u64,
-    pub(crate) ahead: u8,
+    pub(crate) ahead: u64,
     ghost near: { ahead ≤ 64 },
     ghost whole: { (left.place + ahead) % 8 ≡ 0 },
     ghost within: { left.place + ahead ≤ 8 * length left.bytes.now },
@@ -32,7 +32,7 @@ impl<'a> Scan<'a> {
         Scan {
             left,
             window: window_before(left.bytes, end),
-            ahead: (8 * end as u64 - left.place) as u8,
+            ahead: 8 * end as u64 - left.place,
         }
     }
 
@@ -45,8 +45,8 @@ impl<'a> Scan<'a> {
             return None;
         }
         let ready = self.ready();
-        let above = ready.ahead - ready.left.width;
-        let number = field_of(ready.window, above, ready.left.width);
+        let above = ready.ahead - ready.left.width as u64;
+        let number = field_of(ready.window, above as u8, ready.left.width);
         *self = Scan {
             left: ready.left.behind_one(),
             window: ready.window,
@@ -61,7 +61,7 @@ impl<'a> Scan<'a> {
         ensures same { result.left ≡ self.now.left }
         ensures enough { 0 < self.now.left.left → self.now.left.width ≤ result.ahead }
     {
-        if self.ahead < self.left.width {
+        if self.ahead < self.left.width as u64 {
             Scan::of(self.left)
         } else {
             *self
