@@ -1,6 +1,7 @@
 pub mod Faults
 pub mod Ready
 pub mod OwnFiles
+pub mod OwnComponents
 pub mod FilesOut
 pub mod Below
 pub mod Harms

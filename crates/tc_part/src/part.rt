@@ -97,9 +97,9 @@ impl<S: Store> Model for Part<S> {
 }
 
 impl<S: Store> Part<S> {
-    ghost use Rattle.std.specs.Prelude.{◌≡◌, [], true, false, length, map, is_some, option_map, All, IfOk};
-    ghost use Rattle.tc_component.specs.Loading.{IsAsJudged};
+    ghost use Rattle.std.specs.Prelude.{◌≡◌, [], true, false, length, map, is_some, option_map, IfOk};
     ghost use Rattle.tc_merge.specs.Merging.{GrowNames};
+    ghost use Rattle.tc_part.specs.OwnComponents.{AreOwnComponents};
     ghost use Rattle.tc_part.specs.Ready.{active_generation};
 
     /// Which partition it is.
@@ -125,9 +125,10 @@ impl<S: Store> Part<S> {
         let _looked = self.failed;
     }
 
-    /// A law, and no work but a look at each listed component: over every store each is what its file is judged to be.
-    pub fn components_are_judged(&self)
-        ensures { All (IsAsJudged S.Frozen.content) self.now.list }
+    /// A law, and no work but a look at each listed component: over every store each is one of this partition, and what its file is
+    /// judged to be.
+    pub fn components_are_own(&self)
+        ensures { AreOwnComponents S.Frozen.content self.now.number self.now.count self.now.list }
     {
         look_over(self.list.as_slice());
     }

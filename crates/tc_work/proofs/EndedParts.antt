@@ -1,10 +1,9 @@
 -- A part that is closed once its jobs have ended: what is left of it.
 use Rattle.std.proofs.Common.{◌≡◌, ◌∙◌, ◌<◌, ◌-◌, ℕ, Bool, true, false, List, [], ◌∷◌, Option, Some, None, length, is_some, refl, sym, ap, subst, arith, inl, inr}
-use Rattle.std.specs.Prelude.{◌⊎◌, All, Result, Ok, Err, OnErr, OnOk, if◌then◌else◌, option_map}
+use Rattle.std.specs.Prelude.{◌⊎◌, Result, Ok, Err, OnErr, OnOk, if◌then◌else◌, option_map}
 use Rattle.std.proofs.lemmas.Bool.{true≢false}
 use Rattle.std.proofs.lemmas.List.{length-map}
 use Rattle.std.proofs.lemmas.Slice.Zip.{AllZip-long}
-use Rattle.tc_component.specs.Loading.{IsAsJudged}
 use Rattle.tc_flush.proofs.Outcomes.{if_err, ok_both, ok_then}
 use Rattle.tc_list.specs.Policies.{listed_least}
 use Rattle.tc_list.specs.declared.policy.Policy.{Policy}
@@ -14,6 +13,7 @@ use Rattle.tc_machine.specs.State.{logs}
 use Rattle.tc_plain_model.specs.Writes.{Pairs, Write}
 use Rattle.tc_part.specs.Closing.{HasLogsOf, brought_home, logs_length}
 use Rattle.tc_part.specs.FilesOut.{LogIsOut, OnlyDevicesOut, TellsLogs}
+use Rattle.tc_part.specs.OwnComponents.{AreOwnComponents}
 use Rattle.tc_part_model.specs.Leaving.{FailedMomentsLeaveStore, KeepsStore, OpensAs}
 use Rattle.tc_part_model.specs.Meaning.{HasFailedAs, IsOfContent, IsPart}
 use Rattle.tc_part_model.specs.PartState.{PartState, Told, AreTold, IsTold, told_component}
@@ -170,7 +170,7 @@ module _ {S D F W : Type 0} (e : Eyes S D F W) (size_of : D → ℕ) (new : Work
         (was_sealed : old.part.flushing ≡ is_some old.part.sealed)
         (nothing : old.jobs.flush ≡ None → old.jobs.merge ≡ None → PicksNone policy old.part.list → OnOk r (new.part ≡ old.part))
         (none_left : (new.jobs.flush ≡ None) × (new.jobs.merge ≡ None)) (reader_same : new.part.reader ≡ old.part.reader)
-        (sized : IfTold u.log (λ f. size_of new.part.log.device ≡ length f.content)) (stays : IfTold u.log (λ f. IsImageOf f f.content)) (judged : All (IsAsJudged e.content) new.part.list) where
+        (sized : IfTold u.log (λ f. size_of new.part.log.device ≡ length f.content)) (stays : IfTold u.log (λ f. IsImageOf f f.content)) (own : AreOwnComponents e.content new.part.number new.part.count new.part.list) where
       abbrev before : Told
       before = told_by e old
 
@@ -207,7 +207,7 @@ module _ {S D F W : Type 0} (e : Eyes S D F W) (size_of : D → ℕ) (new : Work
         damaged = if_err r (λ fault. IfDamaged fault (IsPartDamage e.content e.history new.part))
             (λ fault. IfDamaged fault (HasMetDamage e.content e.history old.part))
             (λ fault told. fault_damage_so fault (IsPartDamage e.content e.history new.part) (HasMetDamage e.content e.history old.part)
-            (λ damage is. record { part = new.part; moved = m.keeps.moved; judged = judged; is = is }) told) m.damaged;
+            (λ damage is. record { part = new.part; moved = m.keeps.moved; own = own; is = is }) told) m.damaged;
         undamaged = m.undamaged;
         unspent = m.unspent;
         idle = λ n. ok_then r _ _ (λ as_was. (k.main ∙ ap (λ (s : PartState S D F W). s.main) as_was, k.flusher ∙ ap (λ (s : PartState S D F W). s.flusher) as_was, k.merger ∙ ap (λ (s : PartState S D F W). s.merger) as_was)) (nothing n.flush n.merge (n.none may.sound));

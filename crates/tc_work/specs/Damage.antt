@@ -1,7 +1,7 @@
 -- Damage that a part meets once it is open: which file has which bytes where, and what had to stand there.
-use Rattle.std.specs.Prelude.{◌≡◌, ◌⊎◌, ℕ, List, [], All, Option, IfSome}
+use Rattle.std.specs.Prelude.{◌≡◌, ◌⊎◌, ℕ, List, [], Option, IfSome}
 use Rattle.tc_component.specs.declared.head.Head.{Head}
-use Rattle.tc_component.specs.Loading.{ComponentState, IsAsJudged}
+use Rattle.tc_component.specs.Loading.{ComponentState}
 use Rattle.tc_component.specs.Spelling.{name_of}
 use Rattle.tc_flush.specs.Counting.{IsCounted}
 use Rattle.tc_flush.specs.Flushing.{flush_bytes}
@@ -16,6 +16,7 @@ use Rattle.tc_merge.specs.Merging.{merge_bytes, newest_names, newest_schema, Are
 use Rattle.tc_model.specs.Document.{Name}
 use Rattle.tc_part.specs.Harms.{IsBytesHarm, IsHarmIn}
 use Rattle.tc_part.specs.JobHeads.{flushed_head, merged_head}
+use Rattle.tc_part.specs.OwnComponents.{AreOwnComponents}
 use Rattle.tc_part_model.specs.PartState.{PartState}
 use Rattle.tc_schema_model.specs.Counted.{nothing, Counted}
 use Rattle.tc_store.specs.DiskFile.{settled_file, DiskFile}
@@ -76,10 +77,10 @@ IsPartDamage content history part damage =
     ⊎ (IsUncounted part.list part.sealed damage
     ⊎ (IsOfFlush content history (flushed_head part.number part.count part.generation) part.list damage ⊎ IsOfMerge content history part.number part.count part.list damage))
 
--- A call met it: it is damage of the part as it stood then, of which nothing had changed but where documents are. Each listed
--- component was what its file is judged to be.
+-- A call met it: it is damage of the part as it stood then, of which nothing had changed but where documents are. What it listed
+-- was its own.
 pub record HasMetDamage {S D F W : Type 0} (content : F → Option (List ℕ)) (history : D → List DiskFile) (old : PartState S D F W) (damage : Damage) : Type 0 where
   pub part : PartState S D F W
   pub moved : HasOnlyMoved old part
-  pub judged : All (IsAsJudged content) part.list
+  pub own : AreOwnComponents content part.number part.count part.list
   pub is : IsPartDamage content history part damage

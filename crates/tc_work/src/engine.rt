@@ -37,9 +37,9 @@ impl<S: Store, P: Pace> Model for Engine<S, P> {
 
 impl<S: Store, P: Pace> Engine<S, P> {
     ghost use Rattle.std.specs.Arc.{arc_value};
-    ghost use Rattle.std.specs.Prelude.{◌≡◌, [], None, Some, true, false, is_some, length, option_map, All};
-    ghost use Rattle.tc_component.specs.Loading.{IsAsJudged};
+    ghost use Rattle.std.specs.Prelude.{◌≡◌, [], None, Some, true, false, is_some, length, option_map};
     ghost use Rattle.tc_merge.specs.Merging.{GrowNames};
+    ghost use Rattle.tc_part.specs.OwnComponents.{AreOwnComponents};
     ghost use Rattle.tc_running.specs.Jobs.{JobsState};
     ghost use Rattle.tc_work.specs.JobsOut.{AreOut};
 
@@ -60,11 +60,12 @@ impl<S: Store, P: Pace> Engine<S, P> {
         }
     }
 
-    /// A law, and no work but a look at each listed component: over every store each is what its file is judged to be.
-    pub fn components_are_judged(&self)
-        ensures { All (IsAsJudged S.Frozen.content) self.now.part.list }
+    /// A law, and no work but a look at each listed component: over every store each is one of its partition, and what its file is
+    /// judged to be.
+    pub fn components_are_own(&self)
+        ensures { AreOwnComponents S.Frozen.content self.now.part.number self.now.part.count self.now.part.list }
     {
-        self.part.components_are_judged();
+        self.part.components_are_own();
     }
 
     /// Whether a call answered a fault.

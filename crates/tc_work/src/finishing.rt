@@ -113,7 +113,7 @@ where
     let mut part = part;
     let mut jobs = jobs;
     let outcome = end_jobs(rt, alloc, &mut part, &mut jobs, policy, pace);
-    part.components_are_judged();
+    part.components_are_own();
     Finished {
         kit: part.close(),
         outcome,

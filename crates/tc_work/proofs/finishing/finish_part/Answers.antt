@@ -31,5 +31,5 @@ returns g c =
     record {
       ends = sound_finishes e g.S.Device.Device.size new c.close.result.store c.close.result.main c.close.result.flusher c.close.result.merger c.close.result.reader k (beside c.args.part c.args.jobs) c.args.policy c.end_jobs-outcome.result c.requires.may ended.moves ended.left ended.none
           (ok_then c.end_jobs-outcome.result _ _ (λ none. none c.requires.flushing) ended.none_sealed) c.requires.flushing
-          (λ flush merge picks. ok_then c.end_jobs-outcome.result _ _ (λ as_was. as_was.0) (ended.nothing flush merge picks)) ended.none_left (ap (λ (s : PartState _ _ _ _). s.reader) ended.moves.keeps.moved) (laws.told_size device) (laws.content_may_stay device) c.components_are_judged.ensures;
+          (λ flush merge picks. ok_then c.end_jobs-outcome.result _ _ (λ as_was. as_was.0) (ended.nothing flush merge picks)) ended.none_left (ap (λ (s : PartState _ _ _ _). s.reader) ended.moves.keeps.moved) (laws.told_size device) (laws.content_may_stay device) c.components_are_own.ensures;
     }
