@@ -9,7 +9,7 @@ use tc_list::ComponentList;
 use tc_memory::Sealed;
 use tc_running::{Pace, Running};
 use tc_store::Store;
-use tc_work::Engine;
+use tc_work::{Engine, Seen};
 
 /// The engines of the partitions of a store, in ascending number, and the jobs of each that are out. Contracts see a list of
 /// engines, each with its jobs. The jobs stay on the thread that made them, and apart from the engines, which go to others.
@@ -24,8 +24,8 @@ impl<S: Store, P: Pace> Model for Engines<S, P> {
     ghost use Rattle.std.specs.Prelude.{List, map};
     ghost use Rattle.tc_memory.specs.Table.{coded_table};
     ghost use Rattle.tc_schema_model.specs.CountedCode.{coded_counted};
-    ghost use Rattle.tc_work.specs.Moving.{eyes};
     ghost use Rattle.tc_keeper.specs.WithJobs.{with_jobs, AreStaffed, WithJobs};
+    ghost use Rattle.tc_work.specs.Moving.{eyes};
 
     ghost Value = { List (WithJobs S S.Device S.Frozen S.Watch) };
 
@@ -43,7 +43,6 @@ impl<S: Store, P: Pace> Engines<S, P> {
     ghost use Rattle.tc_part_model.specs.PartState.{told};
     ghost use Rattle.tc_run_model.specs.World.{World};
     ghost use Rattle.tc_work.specs.JobsOut.{AreOut};
-    ghost use Rattle.tc_work.specs.Moving.{eyes};
     ghost use Rattle.tc_work.specs.Settling.{MaySettle};
     ghost use Rattle.tc_keeper.specs.Places.{AtEach, IsAt};
     ghost use Rattle.tc_keeper.specs.Standing.{HoldWorld, KeepWorlds};
@@ -137,8 +136,8 @@ impl<S: Store, P: Pace> Engines<S, P> {
         requires home { IsAt at self.old (λ e. is_some e.engine.part.reader ≡ true) }
         ensures lent { IsAt at self.old (λ e. Some result ≡ e.engine.part.reader) }
         ensures out { AtEach (ReadsBy at None) 0 self.old self.new }
-        ensures held { (only : Option ℕ) (w : World) → HoldWorld (eyes S.history S.Device.history S.Frozen.content S.Device.name S.Frozen.size S.Watch.counts) only self.old w → HoldWorld (eyes S.history S.Device.history S.Frozen.content S.Device.name S.Frozen.size S.Watch.counts) only self.new w }
-        ensures kept { (only : Option ℕ) (w v : World) → KeepWorlds (eyes S.history S.Device.history S.Frozen.content S.Device.name S.Frozen.size S.Watch.counts) only self.old w v → KeepWorlds (eyes S.history S.Device.history S.Frozen.content S.Device.name S.Frozen.size S.Watch.counts) only self.new w v }
+        ensures held { (only : Option ℕ) (w : World) → HoldWorld ⟦<S as Seen>⟧.eyes only self.old w → HoldWorld ⟦<S as Seen>⟧.eyes only self.new w }
+        ensures kept { (only : Option ℕ) (w v : World) → KeepWorlds ⟦<S as Seen>⟧.eyes only self.old w v → KeepWorlds ⟦<S as Seen>⟧.eyes only self.new w v }
     {
         self.seats[at].engine.lend_watch()
     }
@@ -147,8 +146,8 @@ impl<S: Store, P: Pace> Engines<S, P> {
     pub fn take_watch(&mut self, at: usize, watch: S::Watch)
         requires out { IsAt at self.old (λ e. e.engine.part.reader ≡ None) }
         ensures home { AtEach (ReadsBy at (Some watch)) 0 self.old self.new }
-        ensures held { (only : Option ℕ) (w : World) → HoldWorld (eyes S.history S.Device.history S.Frozen.content S.Device.name S.Frozen.size S.Watch.counts) only self.old w → HoldWorld (eyes S.history S.Device.history S.Frozen.content S.Device.name S.Frozen.size S.Watch.counts) only self.new w }
-        ensures kept { (only : Option ℕ) (w v : World) → KeepWorlds (eyes S.history S.Device.history S.Frozen.content S.Device.name S.Frozen.size S.Watch.counts) only self.old w v → KeepWorlds (eyes S.history S.Device.history S.Frozen.content S.Device.name S.Frozen.size S.Watch.counts) only self.new w v }
+        ensures held { (only : Option ℕ) (w : World) → HoldWorld ⟦<S as Seen>⟧.eyes only self.old w → HoldWorld ⟦<S as Seen>⟧.eyes only self.new w }
+        ensures kept { (only : Option ℕ) (w v : World) → KeepWorlds ⟦<S as Seen>⟧.eyes only self.old w v → KeepWorlds ⟦<S as Seen>⟧.eyes only self.new w v }
     {
         self.seats[at].engine.take_watch(watch)
     }

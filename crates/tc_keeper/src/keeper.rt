@@ -19,6 +19,7 @@ use tc_running::{Beginning, Pace, Point};
 use tc_shown::{RunningScan, Scan, ScanFault, ScanOut, Scanned, Shown, parts_are_shown};
 use tc_store::Store;
 use tc_view::{Content, Step, View, histories_hold_writes};
+use tc_work::Seen;
 
 /// The partitions of a store that is open, what is shown of each beside its engine, and the scan that is out, if one is. What an
 /// engine did is shown behind it, before a reply says so. After a call that errs no more is asked of it but its end. It is not `Drop`,
@@ -67,7 +68,6 @@ impl<S: Store, P: Pace> Keeper<S, P> {
     ghost use Rattle.tc_run_model.specs.Known.{MayRender, MayReply};
     ghost use Rattle.tc_run_model.specs.World.{World, after_all};
     ghost use Rattle.tc_store.specs.declared.damage.Damage.{Damage};
-    ghost use Rattle.tc_work.specs.Moving.{eyes};
     ghost use Rattle.tc_keeper.specs.Calls.{faults_of, settings_of, HoldsAt, IsSpent, KeepsAt, MayAsk, Rests};
     ghost use Rattle.tc_keeper.specs.Faults.{fault_in, HasDiskCause, IsNoDamage, IsOfJob, IsOfStore};
     ghost use Rattle.tc_keeper.specs.Keeping.{faults_kept, settings_kept, AllRest, AreUnwritten, FailsAt, HasMet, HasSpent, IsMetBehind, IsTrueHere, MayServe, ServesAt};
@@ -84,7 +84,7 @@ impl<S: Store, P: Pace> Keeper<S, P> {
         requires works { MayAsk S.history S.Device.history S.Frozen.content partitions }
         requires begun { AreUnwritten partitions.engines }
         ensures opened { IfOk result (λ k. (k.engines ≡ partitions.engines) × (k.scan ≡ None)) }
-        ensures held { IfOk result (λ k. (known : Sight) → IsFirst known → HoldsAt (eyes S.history S.Device.history S.Frozen.content S.Device.name S.Frozen.size S.Watch.counts) partitions known → ServesAt (eyes S.history S.Device.history S.Frozen.content S.Device.name S.Frozen.size S.Watch.counts) k known) }
+        ensures held { IfOk result (λ k. (known : Sight) → IsFirst known → HoldsAt ⟦<S as Seen>⟧.eyes partitions known → ServesAt ⟦<S as Seen>⟧.eyes k known) }
         ensures back { IfErr result (λ back. back ≡ partitions) }
     {
         parts_are_shown::<S::Frozen>();
@@ -117,10 +117,10 @@ impl<S: Store, P: Pace> Keeper<S, P> {
         requires works { MayServe S.history S.Device.history S.Frozen.content self.old }
         requires together { AreTogether commands.items }
         ensures works { OnOk result (MayServe S.history S.Device.history S.Frozen.content self.new) }
-        ensures replies { (known : Sight) → ServesAt (eyes S.history S.Device.history S.Frozen.content S.Device.name S.Frozen.size S.Watch.counts) self.old known → IfOk result (λ replies. MayRender (requests_routed commands.items) (whole_of known) (values_in (rendered_in replies))) }
-        ensures held { (known : Sight) → ServesAt (eyes S.history S.Device.history S.Frozen.content S.Device.name S.Frozen.size S.Watch.counts) self.old known → OnOk result (ServesAt (eyes S.history S.Device.history S.Frozen.content S.Device.name S.Frozen.size S.Watch.counts) self.new (sight_after (requests_routed commands.items) known)) }
-        ensures failed { (only : Option ℕ) (w : World) → ServesAt (eyes S.history S.Device.history S.Frozen.content S.Device.name S.Frozen.size S.Watch.counts) self.old (sees only w) → OnErr result (FailsAt (eyes S.history S.Device.history S.Frozen.content S.Device.name S.Frozen.size S.Watch.counts) self.new only w (after_all (requests_routed commands.items) w)) }
-        ensures undamaged { (only : Option ℕ) (w : World) → ServesAt (eyes S.history S.Device.history S.Frozen.content S.Device.name S.Frozen.size S.Watch.counts) self.old (sees only w) → IfErr result (IsNoDamage only) }
+        ensures replies { (known : Sight) → ServesAt ⟦<S as Seen>⟧.eyes self.old known → IfOk result (λ replies. MayRender (requests_routed commands.items) (whole_of known) (values_in (rendered_in replies))) }
+        ensures held { (known : Sight) → ServesAt ⟦<S as Seen>⟧.eyes self.old known → OnOk result (ServesAt ⟦<S as Seen>⟧.eyes self.new (sight_after (requests_routed commands.items) known)) }
+        ensures failed { (only : Option ℕ) (w : World) → ServesAt ⟦<S as Seen>⟧.eyes self.old (sees only w) → OnErr result (FailsAt ⟦<S as Seen>⟧.eyes self.new only w (after_all (requests_routed commands.items) w)) }
+        ensures undamaged { (only : Option ℕ) (w : World) → ServesAt ⟦<S as Seen>⟧.eyes self.old (sees only w) → IfErr result (IsNoDamage only) }
         ensures kinds { IfErr result IsOfStore }
         ensures settings { settings_kept self.new ≡ settings_kept self.old }
         ensures cause { HasDiskCause (faults_kept (λ w. S.Watch.counts w) self.old) (faults_kept (λ w. S.Watch.counts w) self.new) (IsTrueHere S.history S.Device.history S.Frozen.content self.new) (fault_in result) }
@@ -143,9 +143,9 @@ impl<S: Store, P: Pace> Keeper<S, P> {
         requires works { MayServe S.history S.Device.history S.Frozen.content self.old }
         ensures works { OnOk result (MayServe S.history S.Device.history S.Frozen.content self.new) }
         ensures rests { OnOk result (AllRest (λ d. S.Device.size d) self.new) }
-        ensures held { (known : Sight) → ServesAt (eyes S.history S.Device.history S.Frozen.content S.Device.name S.Frozen.size S.Watch.counts) self.old known → OnOk result (ServesAt (eyes S.history S.Device.history S.Frozen.content S.Device.name S.Frozen.size S.Watch.counts) self.new known) }
-        ensures failed { (only : Option ℕ) (w : World) → ServesAt (eyes S.history S.Device.history S.Frozen.content S.Device.name S.Frozen.size S.Watch.counts) self.old (sees only w) → OnErr result (FailsAt (eyes S.history S.Device.history S.Frozen.content S.Device.name S.Frozen.size S.Watch.counts) self.new only w (w)) }
-        ensures undamaged { (only : Option ℕ) (w : World) → ServesAt (eyes S.history S.Device.history S.Frozen.content S.Device.name S.Frozen.size S.Watch.counts) self.old (sees only w) → IfErr result (IsNoDamage only) }
+        ensures held { (known : Sight) → ServesAt ⟦<S as Seen>⟧.eyes self.old known → OnOk result (ServesAt ⟦<S as Seen>⟧.eyes self.new known) }
+        ensures failed { (only : Option ℕ) (w : World) → ServesAt ⟦<S as Seen>⟧.eyes self.old (sees only w) → OnErr result (FailsAt ⟦<S as Seen>⟧.eyes self.new only w (w)) }
+        ensures undamaged { (only : Option ℕ) (w : World) → ServesAt ⟦<S as Seen>⟧.eyes self.old (sees only w) → IfErr result (IsNoDamage only) }
         ensures kinds { IfErr result IsOfStore }
         ensures settings { settings_kept self.new ≡ settings_kept self.old }
         ensures cause { HasDiskCause (faults_kept (λ w. S.Watch.counts w) self.old) (faults_kept (λ w. S.Watch.counts w) self.new) (IsTrueHere S.history S.Device.history S.Frozen.content self.new) (fault_in result) }
@@ -166,9 +166,9 @@ impl<S: Store, P: Pace> Keeper<S, P> {
         P: 'static,
         requires works { MayServe S.history S.Device.history S.Frozen.content self.old }
         ensures works { OnOk result (MayServe S.history S.Device.history S.Frozen.content self.new) }
-        ensures held { (known : Sight) → ServesAt (eyes S.history S.Device.history S.Frozen.content S.Device.name S.Frozen.size S.Watch.counts) self.old known → OnOk result (ServesAt (eyes S.history S.Device.history S.Frozen.content S.Device.name S.Frozen.size S.Watch.counts) self.new (sight_after (flush ∷ []) known)) }
-        ensures failed { (only : Option ℕ) (w : World) → ServesAt (eyes S.history S.Device.history S.Frozen.content S.Device.name S.Frozen.size S.Watch.counts) self.old (sees only w) → OnErr result (FailsAt (eyes S.history S.Device.history S.Frozen.content S.Device.name S.Frozen.size S.Watch.counts) self.new only w (w)) }
-        ensures undamaged { (only : Option ℕ) (w : World) → ServesAt (eyes S.history S.Device.history S.Frozen.content S.Device.name S.Frozen.size S.Watch.counts) self.old (sees only w) → IfErr result (IsNoDamage only) }
+        ensures held { (known : Sight) → ServesAt ⟦<S as Seen>⟧.eyes self.old known → OnOk result (ServesAt ⟦<S as Seen>⟧.eyes self.new (sight_after (flush ∷ []) known)) }
+        ensures failed { (only : Option ℕ) (w : World) → ServesAt ⟦<S as Seen>⟧.eyes self.old (sees only w) → OnErr result (FailsAt ⟦<S as Seen>⟧.eyes self.new only w (w)) }
+        ensures undamaged { (only : Option ℕ) (w : World) → ServesAt ⟦<S as Seen>⟧.eyes self.old (sees only w) → IfErr result (IsNoDamage only) }
         ensures kinds { IfErr result IsOfStore }
         ensures settings { settings_kept self.new ≡ settings_kept self.old }
         ensures cause { HasDiskCause (faults_kept (λ w. S.Watch.counts w) self.old) (faults_kept (λ w. S.Watch.counts w) self.new) (IsTrueHere S.history S.Device.history S.Frozen.content self.new) (fault_in result) }
@@ -189,10 +189,10 @@ impl<S: Store, P: Pace> Keeper<S, P> {
         P: 'static,
         requires works { MayServe S.history S.Device.history S.Frozen.content self.old }
         ensures works { OnOk result (MayServe S.history S.Device.history S.Frozen.content self.new) }
-        ensures shown { (known : Sight) → ServesAt (eyes S.history S.Device.history S.Frozen.content S.Device.name S.Frozen.size S.Watch.counts) self.old known → IfOk result (λ shown. MayReply (schema ∷ []) (whole_of known) (schemas (map view shown) ∷ [])) }
-        ensures held { (known : Sight) → ServesAt (eyes S.history S.Device.history S.Frozen.content S.Device.name S.Frozen.size S.Watch.counts) self.old known → OnOk result (ServesAt (eyes S.history S.Device.history S.Frozen.content S.Device.name S.Frozen.size S.Watch.counts) self.new (sight_after (schema ∷ []) known)) }
-        ensures failed { (only : Option ℕ) (w : World) → ServesAt (eyes S.history S.Device.history S.Frozen.content S.Device.name S.Frozen.size S.Watch.counts) self.old (sees only w) → OnErr result (FailsAt (eyes S.history S.Device.history S.Frozen.content S.Device.name S.Frozen.size S.Watch.counts) self.new only w (w)) }
-        ensures undamaged { (only : Option ℕ) (w : World) → ServesAt (eyes S.history S.Device.history S.Frozen.content S.Device.name S.Frozen.size S.Watch.counts) self.old (sees only w) → IfErr result (IsNoDamage only) }
+        ensures shown { (known : Sight) → ServesAt ⟦<S as Seen>⟧.eyes self.old known → IfOk result (λ shown. MayReply (schema ∷ []) (whole_of known) (schemas (map view shown) ∷ [])) }
+        ensures held { (known : Sight) → ServesAt ⟦<S as Seen>⟧.eyes self.old known → OnOk result (ServesAt ⟦<S as Seen>⟧.eyes self.new (sight_after (schema ∷ []) known)) }
+        ensures failed { (only : Option ℕ) (w : World) → ServesAt ⟦<S as Seen>⟧.eyes self.old (sees only w) → OnErr result (FailsAt ⟦<S as Seen>⟧.eyes self.new only w (w)) }
+        ensures undamaged { (only : Option ℕ) (w : World) → ServesAt ⟦<S as Seen>⟧.eyes self.old (sees only w) → IfErr result (IsNoDamage only) }
         ensures kinds { IfErr result IsOfStore }
         ensures settings { settings_kept self.new ≡ settings_kept self.old }
         ensures cause { HasDiskCause (faults_kept (λ w. S.Watch.counts w) self.old) (faults_kept (λ w. S.Watch.counts w) self.new) (IsTrueHere S.history S.Device.history S.Frozen.content self.new) (fault_in result) }
@@ -218,10 +218,10 @@ impl<S: Store, P: Pace> Keeper<S, P> {
         P: 'static,
         requires works { MayServe S.history S.Device.history S.Frozen.content self.old }
         ensures works { OnOk result (MayServe S.history S.Device.history S.Frozen.content self.new) }
-        ensures reply { (known : Sight) → ServesAt (eyes S.history S.Device.history S.Frozen.content S.Device.name S.Frozen.size S.Watch.counts) self.old known → IfOk result (λ reply. MayRender (scan (ask_of ask) ∷ []) (whole_of known) (rendered_of reply ∷ [])) }
-        ensures held { (known : Sight) → ServesAt (eyes S.history S.Device.history S.Frozen.content S.Device.name S.Frozen.size S.Watch.counts) self.old known → OnOk result (ServesAt (eyes S.history S.Device.history S.Frozen.content S.Device.name S.Frozen.size S.Watch.counts) self.new (sight_after (scan (ask_of ask) ∷ []) known)) }
-        ensures failed { (only : Option ℕ) (w : World) → ServesAt (eyes S.history S.Device.history S.Frozen.content S.Device.name S.Frozen.size S.Watch.counts) self.old (sees only w) → OnErr result (FailsAt (eyes S.history S.Device.history S.Frozen.content S.Device.name S.Frozen.size S.Watch.counts) self.new only w (w)) }
-        ensures undamaged { (only : Option ℕ) (w : World) → ServesAt (eyes S.history S.Device.history S.Frozen.content S.Device.name S.Frozen.size S.Watch.counts) self.old (sees only w) → IfErr result (IsNoDamage only) }
+        ensures reply { (known : Sight) → ServesAt ⟦<S as Seen>⟧.eyes self.old known → IfOk result (λ reply. MayRender (scan (ask_of ask) ∷ []) (whole_of known) (rendered_of reply ∷ [])) }
+        ensures held { (known : Sight) → ServesAt ⟦<S as Seen>⟧.eyes self.old known → OnOk result (ServesAt ⟦<S as Seen>⟧.eyes self.new (sight_after (scan (ask_of ask) ∷ []) known)) }
+        ensures failed { (only : Option ℕ) (w : World) → ServesAt ⟦<S as Seen>⟧.eyes self.old (sees only w) → OnErr result (FailsAt ⟦<S as Seen>⟧.eyes self.new only w (w)) }
+        ensures undamaged { (only : Option ℕ) (w : World) → ServesAt ⟦<S as Seen>⟧.eyes self.old (sees only w) → IfErr result (IsNoDamage only) }
         ensures kinds { IfErr result IsOfStore }
         ensures settings { settings_kept self.new ≡ settings_kept self.old }
         ensures cause { HasDiskCause (faults_kept (λ w. S.Watch.counts w) self.old) (faults_kept (λ w. S.Watch.counts w) self.new) (IsTrueHere S.history S.Device.history S.Frozen.content self.new) (fault_in result) }
@@ -249,10 +249,10 @@ impl<S: Store, P: Pace> Keeper<S, P> {
         P: 'static,
         requires works { MayServe S.history S.Device.history S.Frozen.content self.old }
         ensures works { OnOk result (MayServe S.history S.Device.history S.Frozen.content self.new) }
-        ensures reply { (known : Sight) → ServesAt (eyes S.history S.Device.history S.Frozen.content S.Device.name S.Frozen.size S.Watch.counts) self.old known → IfOk result (λ reply. MayRender (collect ∷ []) (whole_of known) (rendered_of reply ∷ [])) }
-        ensures held { (known : Sight) → ServesAt (eyes S.history S.Device.history S.Frozen.content S.Device.name S.Frozen.size S.Watch.counts) self.old known → OnOk result (ServesAt (eyes S.history S.Device.history S.Frozen.content S.Device.name S.Frozen.size S.Watch.counts) self.new (sight_after (collect ∷ []) known)) }
-        ensures failed { (only : Option ℕ) (w : World) → ServesAt (eyes S.history S.Device.history S.Frozen.content S.Device.name S.Frozen.size S.Watch.counts) self.old (sees only w) → OnErr result (FailsAt (eyes S.history S.Device.history S.Frozen.content S.Device.name S.Frozen.size S.Watch.counts) self.new only w (w)) }
-        ensures undamaged { (only : Option ℕ) (w : World) → ServesAt (eyes S.history S.Device.history S.Frozen.content S.Device.name S.Frozen.size S.Watch.counts) self.old (sees only w) → IfErr result (IsNoDamage only) }
+        ensures reply { (known : Sight) → ServesAt ⟦<S as Seen>⟧.eyes self.old known → IfOk result (λ reply. MayRender (collect ∷ []) (whole_of known) (rendered_of reply ∷ [])) }
+        ensures held { (known : Sight) → ServesAt ⟦<S as Seen>⟧.eyes self.old known → OnOk result (ServesAt ⟦<S as Seen>⟧.eyes self.new (sight_after (collect ∷ []) known)) }
+        ensures failed { (only : Option ℕ) (w : World) → ServesAt ⟦<S as Seen>⟧.eyes self.old (sees only w) → OnErr result (FailsAt ⟦<S as Seen>⟧.eyes self.new only w (w)) }
+        ensures undamaged { (only : Option ℕ) (w : World) → ServesAt ⟦<S as Seen>⟧.eyes self.old (sees only w) → IfErr result (IsNoDamage only) }
         ensures kinds { IfErr result IsOfStore }
         ensures settings { settings_kept self.new ≡ settings_kept self.old }
         ensures cause { HasDiskCause (faults_kept (λ w. S.Watch.counts w) self.old) (faults_kept (λ w. S.Watch.counts w) self.new) (IsTrueHere S.history S.Device.history S.Frozen.content self.new) (fault_in result) }
@@ -278,14 +278,14 @@ impl<S: Store, P: Pace> Keeper<S, P> {
         S::Frozen: 'static,
         S::Watch: 'static,
         P: 'static,
-        ensures held { (known : Sight) → ServesAt (eyes S.history S.Device.history S.Frozen.content S.Device.name S.Frozen.size S.Watch.counts) self known → HoldsAt (eyes S.history S.Device.history S.Frozen.content S.Device.name S.Frozen.size S.Watch.counts) result.0 known }
-        ensures failed { (only : Option ℕ) (w v : World) → FailsAt (eyes S.history S.Device.history S.Frozen.content S.Device.name S.Frozen.size S.Watch.counts) self only w v → KeepsAt (eyes S.history S.Device.history S.Frozen.content S.Device.name S.Frozen.size S.Watch.counts) result.0 only w v }
+        ensures held { (known : Sight) → ServesAt ⟦<S as Seen>⟧.eyes self known → HoldsAt ⟦<S as Seen>⟧.eyes result.0 known }
+        ensures failed { (only : Option ℕ) (w v : World) → FailsAt ⟦<S as Seen>⟧.eyes self only w v → KeepsAt ⟦<S as Seen>⟧.eyes result.0 only w v }
         ensures rests { AllRest (λ d. S.Device.size d) self → Rests (λ d. S.Device.size d) result.0 }
         ensures spent { HasSpent S.history S.Device.history S.Frozen.content self → IsSpent S.history S.Device.history S.Frozen.content result.0 }
         ensures met { (q : ℕ) (damage : Damage) → HasMet S.Device.history S.Frozen.content self q damage → IsMetBehind S.Device.history S.Frozen.content result.0 q damage }
         ensures settings { settings_of result.0 ≡ settings_kept self }
         ensures readers { All (λ e. is_some e.engine.part.reader ≡ true) result.0.engines }
-        ensures undamaged { (only : Option ℕ) (w : World) → ServesAt (eyes S.history S.Device.history S.Frozen.content S.Device.name S.Frozen.size S.Watch.counts) self (sees only w) → IfSome result.1 (IsNoDamage only) }
+        ensures undamaged { (only : Option ℕ) (w : World) → ServesAt ⟦<S as Seen>⟧.eyes self (sees only w) → IfSome result.1 (IsNoDamage only) }
         ensures kind { IfSome result.1 IsOfJob }
         ensures cause { HasDiskCause (faults_kept (λ w. S.Watch.counts w) self) (faults_of (λ w. S.Watch.counts w) result.0) (IsTrueHere S.history S.Device.history S.Frozen.content self) result.1 }
     {

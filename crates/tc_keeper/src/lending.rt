@@ -8,7 +8,6 @@ ghost use Rattle.tc_keeper.specs.WithJobs.{with_reader};
 ghost use Rattle.tc_run_model.specs.World.{World};
 ghost use Rattle.tc_shown.specs.Shown.{Reads};
 ghost use Rattle.tc_view.specs.Places.{kept_by};
-ghost use Rattle.tc_work.specs.Moving.{eyes};
 
 use crate::engines::Engines;
 use std::alloc::Global;
@@ -17,6 +16,7 @@ use tc_running::Pace;
 use tc_shown::{Pass, Shown};
 use tc_store::{Frozen, Store};
 use tc_view::Lens;
+use tc_work::Seen;
 
 /// A lens on what each partition shows. Errs only for want of memory.
 pub(crate) fn lend_lenses<F: Frozen>(
@@ -47,7 +47,7 @@ pub(crate) fn lend_watches<S: Store, P: Pace>(
     ensures lenses { map (λ pass. pass.lens) result.items ≡ lenses.items }
     ensures watches { AtEach (λ p e pass. Some pass.watch ≡ e.engine.part.reader) 0 engines.old result.items }
     ensures out { AtEach (λ p old new. new ≡ with_reader None old) 0 engines.old engines.new }
-    ensures held { (only : Option ℕ) (w : World) → HoldWorld (eyes S.history S.Device.history S.Frozen.content S.Device.name S.Frozen.size S.Watch.counts) only engines.old w → HoldWorld (eyes S.history S.Device.history S.Frozen.content S.Device.name S.Frozen.size S.Watch.counts) only engines.new w }
+    ensures held { (only : Option ℕ) (w : World) → HoldWorld ⟦<S as Seen>⟧.eyes only engines.old w → HoldWorld ⟦<S as Seen>⟧.eyes only engines.new w }
 {
     for lens in lenses {
         let watch = engines.lend_watch(passes.len());
@@ -68,8 +68,8 @@ pub(crate) fn take_back<S: Store, P: Pace>(
     requires lenses { AtEach (λ p s pass. s.failed ≡ false → Reads s.book pass.lens) 0 shown.now passes.items }
     ensures covers { IsTrue result → AtEach (λ p s pass. (s.failed ≡ false) × IsPrefix (kept_by pass.lens).history s.history) 0 shown.now passes.items }
     ensures home { AtEach (λ p old new. IsAt p passes.items (λ pass. new ≡ with_reader (Some pass.watch) old)) 0 engines.old engines.new }
-    ensures held { (only : Option ℕ) (w : World) → HoldWorld (eyes S.history S.Device.history S.Frozen.content S.Device.name S.Frozen.size S.Watch.counts) only engines.old w → HoldWorld (eyes S.history S.Device.history S.Frozen.content S.Device.name S.Frozen.size S.Watch.counts) only engines.new w }
-    ensures kept { (only : Option ℕ) (w v : World) → KeepWorlds (eyes S.history S.Device.history S.Frozen.content S.Device.name S.Frozen.size S.Watch.counts) only engines.old w v → KeepWorlds (eyes S.history S.Device.history S.Frozen.content S.Device.name S.Frozen.size S.Watch.counts) only engines.new w v }
+    ensures held { (only : Option ℕ) (w : World) → HoldWorld ⟦<S as Seen>⟧.eyes only engines.old w → HoldWorld ⟦<S as Seen>⟧.eyes only engines.new w }
+    ensures kept { (only : Option ℕ) (w v : World) → KeepWorlds ⟦<S as Seen>⟧.eyes only engines.old w v → KeepWorlds ⟦<S as Seen>⟧.eyes only engines.new w v }
 {
     let mut at = 0;
     let mut covered = true;

@@ -13,7 +13,6 @@ ghost use Rattle.tc_plain_model.specs.Store.{documents};
 ghost use Rattle.tc_run_model.specs.World.{World};
 ghost use Rattle.tc_schema_model.specs.SchemaText.{schema_text};
 ghost use Rattle.tc_keeper.specs.Partitions.{fault_of_engines, window_fault_at, window_fault_of};
-ghost use Rattle.tc_work.specs.Moving.{eyes};
 
 use crate::engines::Engines;
 use crate::engines_fault::EnginesFault;
@@ -27,7 +26,7 @@ use tc_record::record_within_weight;
 use tc_route::{Replies, Routed};
 use tc_running::Pace;
 use tc_store::Store;
-use tc_work::EngineFault;
+use tc_work::{EngineFault, Seen};
 
 /// The partitions of a store that is open, in ascending number. After a call that errs no more is asked of them.
 #[derive(Drop)]
@@ -74,12 +73,12 @@ impl<S: Store, P: Pace> Partitions<S, P> {
         requires works { MayAsk S.history S.Device.history S.Frozen.content self.old }
         requires together { AreTogether commands.items }
         ensures works { OnOk result (MayAsk S.history S.Device.history S.Frozen.content self.new) }
-        ensures replies { (known : Sight) → HoldsAt (eyes S.history S.Device.history S.Frozen.content S.Device.name S.Frozen.size S.Watch.counts) self.old known → IfOk result (λ replies. MayRender (requests_routed commands.items) (whole_of known) (values_in (rendered_in replies))) }
-        ensures held { (known : Sight) → HoldsAt (eyes S.history S.Device.history S.Frozen.content S.Device.name S.Frozen.size S.Watch.counts) self.old known → OnOk result (HoldsAt (eyes S.history S.Device.history S.Frozen.content S.Device.name S.Frozen.size S.Watch.counts) self.new (sight_after (requests_routed commands.items) known)) }
-        ensures failed { (only : Option ℕ) (w : World) → HoldsAt (eyes S.history S.Device.history S.Frozen.content S.Device.name S.Frozen.size S.Watch.counts) self.old (sees only w) → OnErr result (KeepsAt (eyes S.history S.Device.history S.Frozen.content S.Device.name S.Frozen.size S.Watch.counts) self.new only w (after_all (requests_routed commands.items) w)) }
-        ensures undamaged { (only : Option ℕ) (w : World) → HoldsAt (eyes S.history S.Device.history S.Frozen.content S.Device.name S.Frozen.size S.Watch.counts) self.old (sees only w) → IfErr result (IsNoDamage only) }
+        ensures replies { (known : Sight) → HoldsAt ⟦<S as Seen>⟧.eyes self.old known → IfOk result (λ replies. MayRender (requests_routed commands.items) (whole_of known) (values_in (rendered_in replies))) }
+        ensures held { (known : Sight) → HoldsAt ⟦<S as Seen>⟧.eyes self.old known → OnOk result (HoldsAt ⟦<S as Seen>⟧.eyes self.new (sight_after (requests_routed commands.items) known)) }
+        ensures failed { (only : Option ℕ) (w : World) → HoldsAt ⟦<S as Seen>⟧.eyes self.old (sees only w) → OnErr result (KeepsAt ⟦<S as Seen>⟧.eyes self.new only w (after_all (requests_routed commands.items) w)) }
+        ensures undamaged { (only : Option ℕ) (w : World) → HoldsAt ⟦<S as Seen>⟧.eyes self.old (sees only w) → IfErr result (IsNoDamage only) }
         ensures kinds { IfErr result IsOfStore }
-        ensures frames { OnOk result (AtEach (λ p run frame. HasFramed (eyes S.history S.Device.history S.Frozen.content S.Device.name S.Frozen.size S.Watch.counts) (share (length self.old.engines) p (map routed_of commands.items)) run.0.engine run.1.engine frame.items) 0 (zip self.old.engines self.new.engines) frames.new.items) }
+        ensures frames { OnOk result (AtEach (λ p run frame. HasFramed ⟦<S as Seen>⟧.eyes (share (length self.old.engines) p (map routed_of commands.items)) run.0.engine run.1.engine frame.items) 0 (zip self.old.engines self.new.engines) frames.new.items) }
         ensures readers { AtEach (λ p old new. new.engine.part.reader ≡ old.engine.part.reader) 0 self.old.engines self.new.engines }
         ensures settings { settings_of self.new ≡ settings_of self.old }
         ensures cause { HasDiskCause (faults_of (λ w. S.Watch.counts w) self.old) (faults_of (λ w. S.Watch.counts w) self.new) (IsTrueOf S.history S.Device.history S.Frozen.content self.new) (fault_in result) }
@@ -103,9 +102,9 @@ impl<S: Store, P: Pace> Partitions<S, P> {
         requires works { MayAsk S.history S.Device.history S.Frozen.content self.old }
         ensures works { OnOk result (MayAsk S.history S.Device.history S.Frozen.content self.new) }
         ensures rests { OnOk result (Rests (λ d. S.Device.size d) self.new) }
-        ensures held { (known : Sight) → HoldsAt (eyes S.history S.Device.history S.Frozen.content S.Device.name S.Frozen.size S.Watch.counts) self.old known → OnOk result (HoldsAt (eyes S.history S.Device.history S.Frozen.content S.Device.name S.Frozen.size S.Watch.counts) self.new known) }
-        ensures failed { (only : Option ℕ) (w : World) → HoldsAt (eyes S.history S.Device.history S.Frozen.content S.Device.name S.Frozen.size S.Watch.counts) self.old (sees only w) → OnErr result (KeepsAt (eyes S.history S.Device.history S.Frozen.content S.Device.name S.Frozen.size S.Watch.counts) self.new only w w) }
-        ensures undamaged { (only : Option ℕ) (w : World) → HoldsAt (eyes S.history S.Device.history S.Frozen.content S.Device.name S.Frozen.size S.Watch.counts) self.old (sees only w) → IfErr result (IsNoDamage only) }
+        ensures held { (known : Sight) → HoldsAt ⟦<S as Seen>⟧.eyes self.old known → OnOk result (HoldsAt ⟦<S as Seen>⟧.eyes self.new known) }
+        ensures failed { (only : Option ℕ) (w : World) → HoldsAt ⟦<S as Seen>⟧.eyes self.old (sees only w) → OnErr result (KeepsAt ⟦<S as Seen>⟧.eyes self.new only w w) }
+        ensures undamaged { (only : Option ℕ) (w : World) → HoldsAt ⟦<S as Seen>⟧.eyes self.old (sees only w) → IfErr result (IsNoDamage only) }
         ensures kinds { IfErr result IsOfStore }
         ensures readers { AtEach (λ p old new. new.engine.part.reader ≡ old.engine.part.reader) 0 self.old.engines self.new.engines }
         ensures settings { settings_of self.new ≡ settings_of self.old }
@@ -130,9 +129,9 @@ impl<S: Store, P: Pace> Partitions<S, P> {
         ensures works { OnOk result (MayAsk S.history S.Device.history S.Frozen.content self.new) }
         ensures emptied { OnOk result (All (λ e. S.Device.size e.engine.part.log.device ≤ empty_size) self.new.engines) }
         ensures none_sealed { OnOk result (All (λ e. e.engine.part.sealed ≡ None) self.new.engines) }
-        ensures held { (known : Sight) → HoldsAt (eyes S.history S.Device.history S.Frozen.content S.Device.name S.Frozen.size S.Watch.counts) self.old known → OnOk result (HoldsAt (eyes S.history S.Device.history S.Frozen.content S.Device.name S.Frozen.size S.Watch.counts) self.new (sight_after (flush ∷ []) known)) }
-        ensures failed { (only : Option ℕ) (w : World) → HoldsAt (eyes S.history S.Device.history S.Frozen.content S.Device.name S.Frozen.size S.Watch.counts) self.old (sees only w) → OnErr result (KeepsAt (eyes S.history S.Device.history S.Frozen.content S.Device.name S.Frozen.size S.Watch.counts) self.new only w w) }
-        ensures undamaged { (only : Option ℕ) (w : World) → HoldsAt (eyes S.history S.Device.history S.Frozen.content S.Device.name S.Frozen.size S.Watch.counts) self.old (sees only w) → IfErr result (IsNoDamage only) }
+        ensures held { (known : Sight) → HoldsAt ⟦<S as Seen>⟧.eyes self.old known → OnOk result (HoldsAt ⟦<S as Seen>⟧.eyes self.new (sight_after (flush ∷ []) known)) }
+        ensures failed { (only : Option ℕ) (w : World) → HoldsAt ⟦<S as Seen>⟧.eyes self.old (sees only w) → OnErr result (KeepsAt ⟦<S as Seen>⟧.eyes self.new only w w) }
+        ensures undamaged { (only : Option ℕ) (w : World) → HoldsAt ⟦<S as Seen>⟧.eyes self.old (sees only w) → IfErr result (IsNoDamage only) }
         ensures kinds { IfErr result IsOfStore }
         ensures readers { AtEach (λ p old new. new.engine.part.reader ≡ old.engine.part.reader) 0 self.old.engines self.new.engines }
         ensures settings { settings_of self.new ≡ settings_of self.old }
@@ -155,10 +154,10 @@ impl<S: Store, P: Pace> Partitions<S, P> {
         P: 'static,
         requires works { MayAsk S.history S.Device.history S.Frozen.content self.old }
         ensures works { OnOk result (MayAsk S.history S.Device.history S.Frozen.content self.new) }
-        ensures shown { (known : Sight) → HoldsAt (eyes S.history S.Device.history S.Frozen.content S.Device.name S.Frozen.size S.Watch.counts) self.old known → IfOk result (λ shown. MayReply (schema ∷ []) (whole_of known) (schemas (map view shown) ∷ [])) }
-        ensures held { (known : Sight) → HoldsAt (eyes S.history S.Device.history S.Frozen.content S.Device.name S.Frozen.size S.Watch.counts) self.old known → OnOk result (HoldsAt (eyes S.history S.Device.history S.Frozen.content S.Device.name S.Frozen.size S.Watch.counts) self.new (sight_after (schema ∷ []) known)) }
-        ensures failed { (only : Option ℕ) (w : World) → HoldsAt (eyes S.history S.Device.history S.Frozen.content S.Device.name S.Frozen.size S.Watch.counts) self.old (sees only w) → OnErr result (KeepsAt (eyes S.history S.Device.history S.Frozen.content S.Device.name S.Frozen.size S.Watch.counts) self.new only w w) }
-        ensures undamaged { (only : Option ℕ) (w : World) → HoldsAt (eyes S.history S.Device.history S.Frozen.content S.Device.name S.Frozen.size S.Watch.counts) self.old (sees only w) → IfErr result (IsNoDamage only) }
+        ensures shown { (known : Sight) → HoldsAt ⟦<S as Seen>⟧.eyes self.old known → IfOk result (λ shown. MayReply (schema ∷ []) (whole_of known) (schemas (map view shown) ∷ [])) }
+        ensures held { (known : Sight) → HoldsAt ⟦<S as Seen>⟧.eyes self.old known → OnOk result (HoldsAt ⟦<S as Seen>⟧.eyes self.new (sight_after (schema ∷ []) known)) }
+        ensures failed { (only : Option ℕ) (w : World) → HoldsAt ⟦<S as Seen>⟧.eyes self.old (sees only w) → OnErr result (KeepsAt ⟦<S as Seen>⟧.eyes self.new only w w) }
+        ensures undamaged { (only : Option ℕ) (w : World) → HoldsAt ⟦<S as Seen>⟧.eyes self.old (sees only w) → IfErr result (IsNoDamage only) }
         ensures kinds { IfErr result IsOfStore }
         ensures readers { AtEach (λ p old new. new.engine.part.reader ≡ old.engine.part.reader) 0 self.old.engines self.new.engines }
         ensures settings { settings_of self.new ≡ settings_of self.old }
@@ -176,7 +175,7 @@ fn schemas_of<S: Store, P: Pace>(
     alloc: Global,
     engines: &Engines<S, P>,
 ) -> Result<Schemas, RunFault>
-    ensures shown { (w : World) → HoldWorld (eyes S.history S.Device.history S.Frozen.content S.Device.name S.Frozen.size S.Watch.counts) None engines.now w → All (λ e. e.engine.part.sealed ≡ None) engines.now → All (λ e. S.Device.size e.engine.part.log.device ≤ empty_size) engines.now
+    ensures shown { (w : World) → HoldWorld ⟦<S as Seen>⟧.eyes None engines.now w → All (λ e. e.engine.part.sealed ≡ None) engines.now → All (λ e. S.Device.size e.engine.part.log.device ≤ empty_size) engines.now
         → IfOk result (λ shown. map view shown ≡ map (λ part. schema_text (documents part.now)) w.parts) }
     ensures memory { IfErr result (λ fault. fault ≡ RunFault.Memory) }
 {

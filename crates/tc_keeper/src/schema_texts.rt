@@ -7,7 +7,6 @@ ghost use Rattle.tc_part_model.specs.PartState.{told};
 ghost use Rattle.tc_plain_model.specs.Store.{documents};
 ghost use Rattle.tc_run_model.specs.World.{World};
 ghost use Rattle.tc_schema_model.specs.SchemaText.{schema_text};
-ghost use Rattle.tc_work.specs.Moving.{eyes};
 ghost use Rattle.tc_keeper.specs.Places.{AtEach};
 ghost use Rattle.tc_keeper.specs.SchemaTexts.{IsSchemaText};
 ghost use Rattle.tc_keeper.specs.Standing.{HoldWorld};
@@ -19,12 +18,13 @@ use std::alloc::Global;
 use tc_bytes::Memory;
 use tc_running::Pace;
 use tc_store::Store;
+use tc_work::Seen;
 
 impl<S: Store, P: Pace> Engines<S, P> {
     /// The text of the schema of each partition, in ascending number, as `Engine::schema` gives it. Errs only for want of memory.
     pub fn schemas(&self, alloc: Global) -> Result<Vec<Value>, Memory>
         // At a world, and where no table is sealed and no log has a frame, they are those of what its parts store.
-        ensures shown { (w : World) → HoldWorld (eyes S.history S.Device.history S.Frozen.content S.Device.name S.Frozen.size S.Watch.counts) None self.now w → All (λ e. e.engine.part.sealed ≡ None) self.now → All (λ e. S.Device.size e.engine.part.log.device ≤ empty_size) self.now → IfOk result (λ texts. map view texts.items ≡ map (λ part. schema_text (documents part.now)) w.parts) }
+        ensures shown { (w : World) → HoldWorld ⟦<S as Seen>⟧.eyes None self.now w → All (λ e. e.engine.part.sealed ≡ None) self.now → All (λ e. S.Device.size e.engine.part.log.device ≤ empty_size) self.now → IfOk result (λ texts. map view texts.items ≡ map (λ part. schema_text (documents part.now)) w.parts) }
 
         // Over every store there is one of each engine.
         ensures each { IfOk result (λ texts. AtEach (λ p e text. IsSchemaText (λ part. told S.history S.Device.history S.Frozen.content part) (λ f. S.Frozen.content f) (λ d. S.Device.size d) e.engine text) 0 self.now (map view texts.items)) }

@@ -3,7 +3,6 @@
 ghost use Rattle.std.specs.Prelude.{◌≡◌, false, map, OnOk};
 ghost use Rattle.tc_route.specs.Meaning.{routed_of};
 ghost use Rattle.tc_work.specs.Asked.{IsWindow};
-ghost use Rattle.tc_work.specs.Moving.{eyes};
 ghost use Rattle.tc_work.specs.Committed.{HasFramed};
 ghost use Rattle.tc_keeper.specs.Running.{HasRun};
 
@@ -13,7 +12,7 @@ use tc_log::Write;
 use tc_route::{Replies, Routed};
 use tc_running::Pace;
 use tc_store::Store;
-use tc_work::{Engine, EngineFault};
+use tc_work::{Engine, EngineFault, Seen};
 
 /// An engine, and its answer to its commands of a window with the frame that it wrote, until these are taken.
 #[derive(Drop)]
@@ -47,8 +46,8 @@ impl<S: Store, P: Pace> Seat<S, P> {
     pub(crate) fn run(&mut self, alloc: Global, list: &[Routed])
         requires sound { self.old.engine.part.failed ≡ false }
         requires window { IsWindow list.now }
-        ensures ran { HasRun (eyes S.history S.Device.history S.Frozen.content S.Device.name S.Frozen.size S.Watch.counts) (map routed_of list.now) self.old.engine self.new.engine self.new.answer }
-        ensures framed { OnOk self.new.answer (HasFramed (eyes S.history S.Device.history S.Frozen.content S.Device.name S.Frozen.size S.Watch.counts) (map routed_of list.now) self.old.engine self.new.engine self.new.frame.items) }
+        ensures ran { HasRun ⟦<S as Seen>⟧.eyes (map routed_of list.now) self.old.engine self.new.engine self.new.answer }
+        ensures framed { OnOk self.new.answer (HasFramed ⟦<S as Seen>⟧.eyes (map routed_of list.now) self.old.engine self.new.engine self.new.frame.items) }
     {
         self.answer = self.engine.window(alloc, list, &mut self.frame);
     }

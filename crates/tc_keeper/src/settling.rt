@@ -2,7 +2,6 @@
 
 ghost use Rattle.std.specs.Prelude.{◌≡◌, ◌≤◌, ◌<◌, ℕ, false, length, map, All, IfErr, IsErrOf, OnErr, OnOk, Option};
 ghost use Rattle.tc_run_model.specs.World.{World};
-ghost use Rattle.tc_work.specs.Moving.{eyes};
 ghost use Rattle.tc_keeper.specs.EngineFaults.{IfOf};
 ghost use Rattle.tc_keeper.specs.Moving.{FailsSettling, Settles, StopsAt};
 ghost use Rattle.tc_keeper.specs.Places.{AtEach};
@@ -17,7 +16,7 @@ use std::thread::Threads;
 use tc_part::parts_hold_devices;
 use tc_running::{Pace, Running};
 use tc_store::Store;
-use tc_work::EngineFault;
+use tc_work::{EngineFault, Seen};
 
 impl<S: Store, P: Pace> Engines<S, P> {
     /// Settles the engines one after the other, in ascending number, each as `Engine::settle` does. The first fault ends the
@@ -34,13 +33,13 @@ impl<S: Store, P: Pace> Engines<S, P> {
 
         // The engines stand at the same world, and behind a fault each by itself holds its part of it, or has failed and keeps it. So
         // it is of one engine by itself.
-        ensures held { (only : Option ℕ) (w : World) → HoldWorld (eyes S.history S.Device.history S.Frozen.content S.Device.name S.Frozen.size S.Watch.counts) only self.old w → OnOk result (HoldWorld (eyes S.history S.Device.history S.Frozen.content S.Device.name S.Frozen.size S.Watch.counts) only self.new w) }
-        ensures kept { (only : Option ℕ) (w : World) → HoldWorld (eyes S.history S.Device.history S.Frozen.content S.Device.name S.Frozen.size S.Watch.counts) only self.old w → OnErr result (KeepWorlds (eyes S.history S.Device.history S.Frozen.content S.Device.name S.Frozen.size S.Watch.counts) only self.new w w) }
+        ensures held { (only : Option ℕ) (w : World) → HoldWorld ⟦<S as Seen>⟧.eyes only self.old w → OnOk result (HoldWorld ⟦<S as Seen>⟧.eyes only self.new w) }
+        ensures kept { (only : Option ℕ) (w : World) → HoldWorld ⟦<S as Seen>⟧.eyes only self.old w → OnErr result (KeepWorlds ⟦<S as Seen>⟧.eyes only self.new w w) }
 
         // Over every store each engine is as `Engine::settle` leaves it. The fault is that of the engine whose call failed: those
         // of lower partitions are settled, and those of greater ones stay as they are.
-        ensures settled { OnOk result (AtEach (λ p old new. Settles (eyes S.history S.Device.history S.Frozen.content S.Device.name S.Frozen.size S.Watch.counts) (λ d. S.Device.size d) old new) 0 self.old self.new) }
-        ensures stopped { IfErr result (λ fault. IfOf fault (λ p why. (p < length self.old) × AtEach (StopsAt p (Settles (eyes S.history S.Device.history S.Frozen.content S.Device.name S.Frozen.size S.Watch.counts) (λ d. S.Device.size d)) (FailsSettling (eyes S.history S.Device.history S.Frozen.content S.Device.name S.Frozen.size S.Watch.counts) why)) 0 self.old self.new)) }
+        ensures settled { OnOk result (AtEach (λ p old new. Settles ⟦<S as Seen>⟧.eyes (λ d. S.Device.size d) old new) 0 self.old self.new) }
+        ensures stopped { IfErr result (λ fault. IfOf fault (λ p why. (p < length self.old) × AtEach (StopsAt p (Settles ⟦<S as Seen>⟧.eyes (λ d. S.Device.size d)) (FailsSettling ⟦<S as Seen>⟧.eyes why)) 0 self.old self.new)) }
         ensures of_engine { IsErrOf result EnginesFault.Memory → ⊥ }
     {
         parts_hold_devices();
@@ -61,11 +60,11 @@ where
     S::Watch: 'static,
     requires few { length seats.old ≤ 16 }
     requires sound { All (λ e. e.part.failed ≡ false) (map (λ s. s.engine) seats.old) }
-    requires staffed { AreStaffed (eyes S.history S.Device.history S.Frozen.content S.Device.name S.Frozen.size S.Watch.counts) (map (λ s. s.engine) seats.old) running.old }
+    requires staffed { AreStaffed ⟦<S as Seen>⟧.eyes (map (λ s. s.engine) seats.old) running.old }
     ensures many { length seats.new ≡ length seats.old }
-    ensures staffed { AreStaffed (eyes S.history S.Device.history S.Frozen.content S.Device.name S.Frozen.size S.Watch.counts) (map (λ s. s.engine) seats.new) running.new }
-    ensures settled { OnOk result (AtEach (λ p old new. Settles (eyes S.history S.Device.history S.Frozen.content S.Device.name S.Frozen.size S.Watch.counts) (λ d. S.Device.size d) old new) 0 (with_jobs (map (λ s. s.engine) seats.old) running.old) (with_jobs (map (λ s. s.engine) seats.new) running.new)) }
-    ensures stopped { IfErr result (λ fault. IfOf fault (λ p why. (p < length seats.old) × AtEach (StopsAt p (Settles (eyes S.history S.Device.history S.Frozen.content S.Device.name S.Frozen.size S.Watch.counts) (λ d. S.Device.size d)) (FailsSettling (eyes S.history S.Device.history S.Frozen.content S.Device.name S.Frozen.size S.Watch.counts) why)) 0 (with_jobs (map (λ s. s.engine) seats.old) running.old) (with_jobs (map (λ s. s.engine) seats.new) running.new))) }
+    ensures staffed { AreStaffed ⟦<S as Seen>⟧.eyes (map (λ s. s.engine) seats.new) running.new }
+    ensures settled { OnOk result (AtEach (λ p old new. Settles ⟦<S as Seen>⟧.eyes (λ d. S.Device.size d) old new) 0 (with_jobs (map (λ s. s.engine) seats.old) running.old) (with_jobs (map (λ s. s.engine) seats.new) running.new)) }
+    ensures stopped { IfErr result (λ fault. IfOf fault (λ p why. (p < length seats.old) × AtEach (StopsAt p (Settles ⟦<S as Seen>⟧.eyes (λ d. S.Device.size d)) (FailsSettling ⟦<S as Seen>⟧.eyes why)) 0 (with_jobs (map (λ s. s.engine) seats.old) running.old) (with_jobs (map (λ s. s.engine) seats.new) running.new))) }
     ensures of_engine { IsErrOf result EnginesFault.Memory → ⊥ }
 {
     for at in 0..seats.len() {
@@ -94,10 +93,10 @@ where
     S::Frozen: 'static,
     S::Watch: 'static,
     requires sound { seat.old.engine.part.failed ≡ false }
-    requires staffed { IsStaffed (eyes S.history S.Device.history S.Frozen.content S.Device.name S.Frozen.size S.Watch.counts) seat.old.engine running.old }
-    ensures staffed { IsStaffed (eyes S.history S.Device.history S.Frozen.content S.Device.name S.Frozen.size S.Watch.counts) seat.new.engine running.new }
-    ensures settled { OnOk result (Settles (eyes S.history S.Device.history S.Frozen.content S.Device.name S.Frozen.size S.Watch.counts) (λ d. S.Device.size d) (engine_with seat.old.engine running.old) (engine_with seat.new.engine running.new)) }
-    ensures stopped { IfErr result (λ why. FailsSettling (eyes S.history S.Device.history S.Frozen.content S.Device.name S.Frozen.size S.Watch.counts) why (engine_with seat.old.engine running.old) (engine_with seat.new.engine running.new)) }
+    requires staffed { IsStaffed ⟦<S as Seen>⟧.eyes seat.old.engine running.old }
+    ensures staffed { IsStaffed ⟦<S as Seen>⟧.eyes seat.new.engine running.new }
+    ensures settled { OnOk result (Settles ⟦<S as Seen>⟧.eyes (λ d. S.Device.size d) (engine_with seat.old.engine running.old) (engine_with seat.new.engine running.new)) }
+    ensures stopped { IfErr result (λ why. FailsSettling ⟦<S as Seen>⟧.eyes why (engine_with seat.old.engine running.old) (engine_with seat.new.engine running.new)) }
 {
     match seat.engine.settle(rt, alloc, running) {
         Ok(()) => Ok(()),

@@ -29,6 +29,7 @@ use tc_route::{
 };
 use tc_running::Pace;
 use tc_store::Store;
+use tc_work::Seen;
 
 impl<S: Store, P: Pace> Engines<S, P> {
     /// Answers the commands of a window, all engines at once: each commits what its own commands write as one frame. It hands out
@@ -50,28 +51,28 @@ impl<S: Store, P: Pace> Engines<S, P> {
 
         // From a world at which the engines stand, the replies are the world's, and the engines stand at what it leaves. So does one
         // engine by itself.
-        ensures replies { (w : World) → HoldWorld (eyes S.history S.Device.history S.Frozen.content S.Device.name S.Frozen.size S.Watch.counts) None self.old w → IfOk result (λ replies. rendered_in replies ≡ window_rendered (map routed_of commands.items) w) }
-        ensures held { (only : Option ℕ) (w : World) → HoldWorld (eyes S.history S.Device.history S.Frozen.content S.Device.name S.Frozen.size S.Watch.counts) only self.old w → OnOk result (HoldWorld (eyes S.history S.Device.history S.Frozen.content S.Device.name S.Frozen.size S.Watch.counts) only self.new (after_all (requests_in commands.items) w)) }
+        ensures replies { (w : World) → HoldWorld ⟦<S as Seen>⟧.eyes None self.old w → IfOk result (λ replies. rendered_in replies ≡ window_rendered (map routed_of commands.items) w) }
+        ensures held { (only : Option ℕ) (w : World) → HoldWorld ⟦<S as Seen>⟧.eyes only self.old w → OnOk result (HoldWorld ⟦<S as Seen>⟧.eyes only self.new (after_all (requests_in commands.items) w)) }
 
         // Behind a fault each engine by itself is as before its share or behind it, or has failed and its files keep one of these.
-        ensures kept { (only : Option ℕ) (w : World) → HoldWorld (eyes S.history S.Device.history S.Frozen.content S.Device.name S.Frozen.size S.Watch.counts) only self.old w → OnErr result (KeepWorlds (eyes S.history S.Device.history S.Frozen.content S.Device.name S.Frozen.size S.Watch.counts) only self.new w (after_all (requests_in commands.items) w)) }
+        ensures kept { (only : Option ℕ) (w : World) → HoldWorld ⟦<S as Seen>⟧.eyes only self.old w → OnErr result (KeepWorlds ⟦<S as Seen>⟧.eyes only self.new w (after_all (requests_in commands.items) w)) }
 
         // Over every store there is a frame of each partition, with the writes of its share.
-        ensures frames { OnOk result (AreFramed (eyes S.history S.Device.history S.Frozen.content S.Device.name S.Frozen.size S.Watch.counts) (map routed_of commands.items) self.old self.new (λ frame. frame.items) frames.new.items) }
+        ensures frames { OnOk result (AreFramed ⟦<S as Seen>⟧.eyes (map routed_of commands.items) self.old self.new (λ frame. frame.items) frames.new.items) }
 
         // Over every store each reply is at the place of its command, and of its kind.
         ensures places { IfOk result (λ replies. keys_of (rendered_in replies) ≡ keys_of (map routed_of commands.items)) }
         ensures kinds { IfOk result (λ replies. AreRenderedOfKinds (requests_in commands.items) (values_in (rendered_in replies))) }
 
         // Over every store only what a window writes has changed, behind a fault too, and after Ok each engine may run on.
-        ensures ran { HaveRun (eyes S.history S.Device.history S.Frozen.content S.Device.name S.Frozen.size S.Watch.counts) (map routed_of commands.items) self.old self.new }
-        ensures well { OnOk result (MayRunOn (eyes S.history S.Device.history S.Frozen.content S.Device.name S.Frozen.size S.Watch.counts) (map routed_of commands.items) self.old self.new) }
+        ensures ran { HaveRun ⟦<S as Seen>⟧.eyes (map routed_of commands.items) self.old self.new }
+        ensures well { OnOk result (MayRunOn ⟦<S as Seen>⟧.eyes (map routed_of commands.items) self.old self.new) }
 
         // The fault is that of an engine which failed, and no engine of a lower partition did. Want of memory is told only where none
         // failed.
-        ensures first { IfErr result (FailsFirst (eyes S.history S.Device.history S.Frozen.content S.Device.name S.Frozen.size S.Watch.counts) (map routed_of commands.items) self.old self.new) }
+        ensures first { IfErr result (FailsFirst ⟦<S as Seen>⟧.eyes (map routed_of commands.items) self.old self.new) }
         ensures memory { IsErrOf result EnginesFault.Memory → All (λ e. e.engine.part.failed ≡ false) self.new }
-        ensures counted { AreCountedWithin (eyes S.history S.Device.history S.Frozen.content S.Device.name S.Frozen.size S.Watch.counts) (map routed_of commands.items) self.old self.new result }
+        ensures counted { AreCountedWithin ⟦<S as Seen>⟧.eyes (map routed_of commands.items) self.old self.new result }
     {
         replies_are_gathered();
         kinds_are_gathered();
@@ -114,8 +115,8 @@ fn run_lists<S: Store, P: Pace, R: Threads + Sync>(
     requires window { All (λ list. IsWindow list.items) lists.now }
     requires empty { (frames.old.items ≡ []) × (vec_len frames.old ≡ 0) }
     requires room { length seats.old ≤ vec_capacity frames.old }
-    ensures ran { AtEach (λ p old new. HasRun (eyes S.history S.Device.history S.Frozen.content S.Device.name S.Frozen.size S.Watch.counts) (requests_at p lists.now) old.engine new.engine new.answer) 0 seats.old seats.new }
-    ensures framed { AtEach (λ p run frame. OnOk run.1.answer (HasFramed (eyes S.history S.Device.history S.Frozen.content S.Device.name S.Frozen.size S.Watch.counts) (requests_at p lists.now) run.0.engine run.1.engine frame.items)) 0 (zip seats.old seats.new) frames.new.items }
+    ensures ran { AtEach (λ p old new. HasRun ⟦<S as Seen>⟧.eyes (requests_at p lists.now) old.engine new.engine new.answer) 0 seats.old seats.new }
+    ensures framed { AtEach (λ p run frame. OnOk run.1.answer (HasFramed ⟦<S as Seen>⟧.eyes (requests_at p lists.now) run.0.engine run.1.engine frame.items)) 0 (zip seats.old seats.new) frames.new.items }
 {
     run_each(rt, alloc, lists, seats);
     take_frames(alloc, seats, frames);
@@ -131,8 +132,8 @@ fn run_each<S: Store, P: Pace, R: Threads + Sync>(
     requires as_many { length lists.now ≡ length seats.old }
     requires sound { All (λ s. s.engine.part.failed ≡ false) seats.old }
     requires window { All (λ list. IsWindow list.items) lists.now }
-    ensures ran { AtEach (λ p old new. HasRun (eyes S.history S.Device.history S.Frozen.content S.Device.name S.Frozen.size S.Watch.counts) (requests_at p lists.now) old.engine new.engine new.answer) 0 seats.old seats.new }
-    ensures framed { AtEach (λ p old new. OnOk new.answer (HasFramed (eyes S.history S.Device.history S.Frozen.content S.Device.name S.Frozen.size S.Watch.counts) (requests_at p lists.now) old.engine new.engine new.frame.items)) 0 seats.old seats.new }
+    ensures ran { AtEach (λ p old new. HasRun ⟦<S as Seen>⟧.eyes (requests_at p lists.now) old.engine new.engine new.answer) 0 seats.old seats.new }
+    ensures framed { AtEach (λ p old new. OnOk new.answer (HasFramed ⟦<S as Seen>⟧.eyes (requests_at p lists.now) old.engine new.engine new.frame.items)) 0 seats.old seats.new }
 {
     thread::for_each_mut(
         rt,

@@ -6,7 +6,6 @@ ghost use Rattle.tc_part_model.specs.PartState.{told};
 ghost use Rattle.tc_keeper.specs.Faults.{faults_in};
 ghost use Rattle.tc_server.specs.Kits.{fault_before, least_fault, IsClosed};
 ghost use Rattle.tc_work.specs.JobsOut.{AreOut};
-ghost use Rattle.tc_work.specs.Moving.{eyes};
 ghost use Rattle.tc_work.specs.Settling.{MaySettle};
 ghost use Rattle.tc_work.specs.declared.finishing.Finished.{Finished as finished};
 
@@ -16,7 +15,7 @@ use tc_keeper::{Engines, RunFault, of_engine};
 use tc_part::parts_hold_devices;
 use tc_running::{Pace, Running};
 use tc_store::{Kit, Store};
-use tc_work::{Engine, EngineFault, Finished};
+use tc_work::{Engine, EngineFault, Finished, Seen};
 
 /// Kits that are given back, and the fault with which the engine of the least partition ended, if any did.
 #[derive(Drop)]
@@ -40,7 +39,7 @@ where
     requires readers { All (λ e. is_some e.engine.part.reader ≡ true) engines }
     requires room { length engines + vec_len kits ≤ vec_capacity kits }
     ensures { (ended : List (finished S S.Watch S.Device S.Frozen)) × (result.kits.items ≡ map (λ f. f.kit) ended ++ kits.items) × (result.fault ≡ least_fault 0 (map (λ f. f.outcome) ended))
-        × AtEach (λ p e f. IsClosed (eyes S.history S.Device.history S.Frozen.content S.Device.name S.Frozen.size S.Watch.counts) (λ d. S.Device.size d) e f.outcome (S.history f.kit.store) (faults_in (λ w. S.Watch.counts w) f.kit)) 0 engines ended }
+        × AtEach (λ p e f. IsClosed ⟦<S as Seen>⟧.eyes (λ d. S.Device.size d) e f.outcome (S.history f.kit.store) (faults_in (λ w. S.Watch.counts w) f.kit)) 0 engines ended }
 {
     let mut engines = engines;
     let mut kits = kits;
@@ -96,7 +95,7 @@ where
     requires ready { engine.part.failed ≡ false → MaySettle (told S.history S.Device.history S.Frozen.content engine.part) }
     requires reader { is_some engine.part.reader ≡ true }
     requires jobs { AreOut S.history S.Device.history S.Frozen.content S.Device.name engine.part jobs }
-    ensures { IsClosed (eyes S.history S.Device.history S.Frozen.content S.Device.name S.Frozen.size S.Watch.counts) (λ d. S.Device.size d) (record { engine = engine; jobs = jobs }) result.outcome (S.history result.kit.store) (faults_in (λ w. S.Watch.counts w) result.kit) }
+    ensures { IsClosed ⟦<S as Seen>⟧.eyes (λ d. S.Device.size d) (record { engine = engine; jobs = jobs }) result.outcome (S.history result.kit.store) (faults_in (λ w. S.Watch.counts w) result.kit) }
 {
     parts_hold_devices();
     engine.components_are_judged();

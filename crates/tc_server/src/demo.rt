@@ -13,7 +13,6 @@ ghost use Rattle.tc_keeper.specs.Faults.{fault_in, HasCauses, HasDiskCause, IsOf
 ghost use Rattle.tc_keeper.specs.Sight.{Sight};
 ghost use Rattle.tc_server.specs.Stage.{IsReady};
 ghost use Rattle.tc_server.specs.Window.{requests_of};
-ghost use Rattle.tc_work.specs.Moving.{eyes};
 
 use crate::session::Session;
 use std::alloc::Global;
@@ -25,6 +24,7 @@ use tc_gen::{Feed, Tally};
 use tc_keeper::{Keeper, RunFault};
 use tc_running::Pace;
 use tc_store::Store;
+use tc_work::Seen;
 
 /// Answers a demonstration of so many commands, in the windows of the session, and writes its two lines.
 pub fn answer_demo<R: Threads + Wait + Sync, O: Sink, S: Store + 'static, P: Pace + 'static>(
@@ -44,8 +44,8 @@ where
     requires bytes { session.old.window.bytes ≡ 0 }
 
     // What was written, and what is left of the store, from whatever world it stood at.
-    ensures ran { (first : Sight) → ServesAt (eyes S.history S.Device.history S.Frozen.content S.Device.name S.Frozen.size S.Watch.counts) session.old.keeper first
-        → DemoLeaving (ServesAt (eyes S.history S.Device.history S.Frozen.content S.Device.name S.Frozen.size S.Watch.counts)) (FailsAt (eyes S.history S.Device.history S.Frozen.content S.Device.name S.Frozen.size S.Watch.counts)) (HasSpent S.history S.Device.history S.Frozen.content) commands (fault_in result) first session.old.window.limit
+    ensures ran { (first : Sight) → ServesAt ⟦<S as Seen>⟧.eyes session.old.keeper first
+        → DemoLeaving (ServesAt ⟦<S as Seen>⟧.eyes) (FailsAt ⟦<S as Seen>⟧.eyes) (HasSpent S.history S.Device.history S.Frozen.content) commands (fault_in result) first session.old.window.limit
         (O.taken sink.old) (O.taken sink.new) session.new.keeper }
     ensures rests { OnOk result (AllRest (λ d. S.Device.size d) session.new.keeper) }
     ensures settings { settings_kept session.new.keeper ≡ settings_kept session.old.keeper }
@@ -88,10 +88,10 @@ where
     requires ready { IsReady (MayServe S.history S.Device.history S.Frozen.content) session.old }
     requires requests { requests_of session.old.window ≡ [] }
     requires bytes { session.old.window.bytes ≡ 0 }
-    ensures heard { IfOk result (λ tally. (first : Sight) → ServesAt (eyes S.history S.Device.history S.Frozen.content S.Device.name S.Frozen.size S.Watch.counts) session.old.keeper first
-        → HasHeardAll (ServesAt (eyes S.history S.Device.history S.Frozen.content S.Device.name S.Frozen.size S.Watch.counts)) first (generated commands) session.new.keeper tally) }
-    ensures fault { IfErr result (λ fault. (first : Sight) → ServesAt (eyes S.history S.Device.history S.Frozen.content S.Device.name S.Frozen.size S.Watch.counts) session.old.keeper first
-        → HasGivenUp (ServesAt (eyes S.history S.Device.history S.Frozen.content S.Device.name S.Frozen.size S.Watch.counts)) (FailsAt (eyes S.history S.Device.history S.Frozen.content S.Device.name S.Frozen.size S.Watch.counts)) first fault (ended (windows_of session.old.window.limit (generated commands))) session.new.keeper) }
+    ensures heard { IfOk result (λ tally. (first : Sight) → ServesAt ⟦<S as Seen>⟧.eyes session.old.keeper first
+        → HasHeardAll (ServesAt ⟦<S as Seen>⟧.eyes) first (generated commands) session.new.keeper tally) }
+    ensures fault { IfErr result (λ fault. (first : Sight) → ServesAt ⟦<S as Seen>⟧.eyes session.old.keeper first
+        → HasGivenUp (ServesAt ⟦<S as Seen>⟧.eyes) (FailsAt ⟦<S as Seen>⟧.eyes) first fault (ended (windows_of session.old.window.limit (generated commands))) session.new.keeper) }
     ensures rests { OnOk result (AllRest (λ d. S.Device.size d) session.new.keeper) }
     ensures kinds { IfErr result IsOfStore }
     ensures settings { settings_kept session.new.keeper ≡ settings_kept session.old.keeper }
@@ -126,10 +126,10 @@ where
     S::Watch: 'static,
     requires ready { IsReady (MayServe S.history S.Device.history S.Frozen.content) session.old }
     requires size { length line ≤ max_line }
-    ensures heard { OnOk result (HearsLine (ServesAt (eyes S.history S.Device.history S.Frozen.content S.Device.name S.Frozen.size S.Watch.counts)) line session.old tally.old session.new tally.new) }
+    ensures heard { OnOk result (HearsLine (ServesAt ⟦<S as Seen>⟧.eyes) line session.old tally.old session.new tally.new) }
     ensures ready { OnOk result (IsReady (MayServe S.history S.Device.history S.Frozen.content) session.new) }
     ensures limit { OnOk result (session.new.window.limit ≡ session.old.window.limit) }
-    ensures fault { IfErr result (λ fault. GivesUpAtLine (ServesAt (eyes S.history S.Device.history S.Frozen.content S.Device.name S.Frozen.size S.Watch.counts)) (FailsAt (eyes S.history S.Device.history S.Frozen.content S.Device.name S.Frozen.size S.Watch.counts)) fault line session.old tally.old session.new) }
+    ensures fault { IfErr result (λ fault. GivesUpAtLine (ServesAt ⟦<S as Seen>⟧.eyes) (FailsAt ⟦<S as Seen>⟧.eyes) fault line session.old tally.old session.new) }
     ensures kinds { IfErr result IsOfStore }
     ensures settings { settings_kept session.new.keeper ≡ settings_kept session.old.keeper }
     ensures cause { HasDiskCause (faults_kept (λ w. S.Watch.counts w) session.old.keeper) (faults_kept (λ w. S.Watch.counts w) session.new.keeper) (IsTrueHere S.history S.Device.history S.Frozen.content session.new.keeper) (fault_in result) }
@@ -153,9 +153,9 @@ where
     S::Frozen: 'static,
     S::Watch: 'static,
     requires ready { IsReady (MayServe S.history S.Device.history S.Frozen.content) session.old }
-    ensures heard { OnOk result (HearsEnd (ServesAt (eyes S.history S.Device.history S.Frozen.content S.Device.name S.Frozen.size S.Watch.counts)) session.old tally.old session.new tally.new) }
+    ensures heard { OnOk result (HearsEnd (ServesAt ⟦<S as Seen>⟧.eyes) session.old tally.old session.new tally.new) }
     ensures rests { OnOk result (AllRest (λ d. S.Device.size d) session.new.keeper) }
-    ensures fault { IfErr result (λ fault. GivesUpAtEnd (ServesAt (eyes S.history S.Device.history S.Frozen.content S.Device.name S.Frozen.size S.Watch.counts)) (FailsAt (eyes S.history S.Device.history S.Frozen.content S.Device.name S.Frozen.size S.Watch.counts)) fault session.old tally.old session.new) }
+    ensures fault { IfErr result (λ fault. GivesUpAtEnd (ServesAt ⟦<S as Seen>⟧.eyes) (FailsAt ⟦<S as Seen>⟧.eyes) fault session.old tally.old session.new) }
     ensures kinds { IfErr result IsOfStore }
     ensures settings { settings_kept session.new.keeper ≡ settings_kept session.old.keeper }
     ensures cause { HasDiskCause (faults_kept (λ w. S.Watch.counts w) session.old.keeper) (faults_kept (λ w. S.Watch.counts w) session.new.keeper) (IsTrueHere S.history S.Device.history S.Frozen.content session.new.keeper) (fault_in result) }

@@ -6,7 +6,6 @@ ghost use Rattle.tc_keeper.specs.Standing.{partition_at};
 ghost use Rattle.tc_list.specs.Policies.{listed_least};
 ghost use Rattle.tc_store.specs.Disk.{IsAtRest};
 ghost use Rattle.tc_store.specs.Moments.{IfTold};
-ghost use Rattle.tc_work.specs.Moving.{eyes};
 ghost use Rattle.tc_keeper.specs.WithJobs.{WithJobs};
 ghost use Rattle.tc_keeper.specs.Faults.{faults_in};
 ghost use Rattle.tc_server.specs.KitCauses.{nothing_met, HasFilesCause};
@@ -24,7 +23,7 @@ use tc_part::Limits;
 use tc_running::{Pace, Running};
 use tc_store::{Kit, Shelf, Store};
 use tc_words::Options;
-use tc_work::Engine;
+use tc_work::{Engine, Seen};
 
 /// Why not all partitions were opened, with the kit of the one that was not, where that was given.
 #[derive(Drop)]
@@ -49,7 +48,7 @@ where
     <H::Store as Store>::Frozen: 'static,
     <H::Store as Store>::Watch: 'static,
     requires none { engines.old ≡ [] }
-    ensures opened { AreOpened (eyes H.Store.history H.Store.Device.history H.Store.Frozen.content H.Store.Device.name H.Store.Frozen.size H.Store.Watch.counts) options.now (H.files shelf.old) (H.kit_faults shelf.old) engines.new }
+    ensures opened { AreOpened ⟦<H::Store as Seen>⟧.eyes options.now (H.files shelf.old) (H.kit_faults shelf.old) engines.new }
     ensures all { OnOk result (length engines.new ≡ options.now.partitions) }
     ensures some { OnErr result (length engines.new < options.now.partitions) }
 
@@ -86,7 +85,7 @@ where
     <H::Store as Store>::Device: 'static,
     <H::Store as Store>::Frozen: 'static,
     <H::Store as Store>::Watch: 'static,
-    ensures opened { OnOk result ((e : WithJobs H.Store H.Store.Device H.Store.Frozen H.Store.Watch) × (engines.new ≡ engines.old ++ e ∷ []) × IsOpened (eyes H.Store.history H.Store.Device.history H.Store.Frozen.content H.Store.Device.name H.Store.Frozen.size H.Store.Watch.counts) options.now (partition_at number options.now.partitions) (H.files shelf.old number) (H.kit_faults shelf.old number) e) }
+    ensures opened { OnOk result ((e : WithJobs H.Store H.Store.Device H.Store.Frozen H.Store.Watch) × (engines.new ≡ engines.old ++ e ∷ []) × IsOpened ⟦<H::Store as Seen>⟧.eyes options.now (partition_at number options.now.partitions) (H.files shelf.old number) (H.kit_faults shelf.old number) e) }
     ensures stays { OnErr result (engines.new ≡ engines.old) }
     ensures back { IfErr result (λ refused. IfSome refused.kit (λ kit. IsGivenBack H.Store.Frozen.content H.Store.Frozen.name (partition_at number options.now.partitions) (H.files shelf.old number) (H.kit_faults shelf.old number) refused.fault (H.Store.history kit.store) (faults_in (λ w. H.Store.Watch.counts w) kit))) }
     ensures not_given { IfErr result (λ refused. refused.kit ≡ None → IsNotGiven (Rose (H.faults shelf.old) (H.faults shelf.new)) number refused.fault) }
@@ -128,7 +127,7 @@ where
     S::Frozen: 'static,
     S::Watch: 'static,
     requires at_rest { IfTold (S.history kit.store) IsAtRest }
-    ensures opened { OnOk result ((e : WithJobs S S.Device S.Frozen S.Watch) × (engines.new ≡ engines.old ++ e ∷ []) × IsOpened (eyes S.history S.Device.history S.Frozen.content S.Device.name S.Frozen.size S.Watch.counts) options.now (partition_at number options.now.partitions) (S.history kit.store) (faults_in (λ w. S.Watch.counts w) kit) e) }
+    ensures opened { OnOk result ((e : WithJobs S S.Device S.Frozen S.Watch) × (engines.new ≡ engines.old ++ e ∷ []) × IsOpened ⟦<S as Seen>⟧.eyes options.now (partition_at number options.now.partitions) (S.history kit.store) (faults_in (λ w. S.Watch.counts w) kit) e) }
     ensures stays { OnErr result (engines.new ≡ engines.old) }
     ensures some { IfErr result (λ refused. IsSome refused.kit) }
     ensures back { IfErr result (λ refused. IfSome refused.kit (λ back. IsGivenBack S.Frozen.content S.Frozen.name (partition_at number options.now.partitions) (S.history kit.store) (faults_in (λ w. S.Watch.counts w) kit) refused.fault (S.history back.store) (faults_in (λ w. S.Watch.counts w) back))) }

@@ -22,7 +22,6 @@ ghost use Rattle.tc_keeper.specs.Sight.{IsFirst, Sight};
 ghost use Rattle.tc_server.specs.Stage.{IsReady};
 ghost use Rattle.tc_server.specs.Window.{requests_of};
 ghost use Rattle.tc_words.specs.Options.{invocation_of, options_asked};
-ghost use Rattle.tc_work.specs.Moving.{eyes};
 
 use crate::closing::close_all;
 use crate::demo::answer_demo;
@@ -40,6 +39,7 @@ use tc_running::Pace;
 use tc_store::{Kit, Shelf, Store};
 use tc_value::Text;
 use tc_words::{Invocation, Options, WordsFault, invocation};
+use tc_work::Seen;
 
 /// Answers the lines of the source, or those of a demonstration, for the words of the command line, which stand behind the
 /// folder, over the partitions that the shelf keeps. Their kits are asked for, and the partitions opened, one after the other
@@ -188,11 +188,11 @@ where
     requires none { kits.items ≡ [] }
     requires room { (options_asked asked.now).partitions ≤ vec_capacity kits }
     requires numbered { EachFrom (λ p e. (settings e).here ≡ partition_at p (options_asked asked.now).partitions) 0 engines }
-    requires begun { All (IsBegun (eyes S.history S.Device.history S.Frozen.content S.Device.name S.Frozen.size S.Watch.counts) (options_asked asked.now)) engines }
-    ensures ran { (first : Sight) (files : ℕ → List Disk) → IsFirst first → StandAt (eyes S.history S.Device.history S.Frozen.content S.Device.name S.Frozen.size S.Watch.counts) engines first
+    requires begun { All (IsBegun ⟦<S as Seen>⟧.eyes (options_asked asked.now)) engines }
+    ensures ran { (first : Sight) (files : ℕ → List Disk) → IsFirst first → StandAt ⟦<S as Seen>⟧.eyes engines first
         → AskedOver asked.now result.1 first files (I.left source.old) (I.left source.new) (O.taken sink.old) (O.taken sink.new) (map (λ kit. S.history kit.store) result.0.items) }
     ensures unread { IsRun (Some asked.now) ⊎ (source.new ≡ source.old) }
-    ensures prompt { (first : Sight) → IsFirst first → StandAt (eyes S.history S.Device.history S.Frozen.content S.Device.name S.Frozen.size S.Watch.counts) engines first
+    ensures prompt { (first : Sight) → IsFirst first → StandAt ⟦<S as Seen>⟧.eyes engines first
         → AskedPromptly asked.now first (options_asked asked.now).window (O.taken sink.old) (I.moments source.old) (I.moments source.new) }
     ensures kits { length result.0.items ≡ (options_asked asked.now).partitions }
     ensures kind { IfSome result.1 IsOfRun }
@@ -235,10 +235,10 @@ where
     requires some { 0 < (options_asked asked.now).window }
     requires limit { (options_asked asked.now).window ≤ 4096 }
     requires few { AreFewCommands asked.now }
-    ensures ran { (first : Sight) → IsFirst first → HoldsAt (eyes S.history S.Device.history S.Frozen.content S.Device.name S.Frozen.size S.Watch.counts) partitions first → RunsOver asked.now (I.left source.old) (I.left source.new)
-        (λ shown unread unread'. RanLeaving shown (HoldsAt (eyes S.history S.Device.history S.Frozen.content S.Device.name S.Frozen.size S.Watch.counts)) (KeepsAt (eyes S.history S.Device.history S.Frozen.content S.Device.name S.Frozen.size S.Watch.counts)) (IsSpent S.history S.Device.history S.Frozen.content) (fault_in result.1) first (options_asked asked.now).window unread unread' (O.taken sink.old) (O.taken sink.new) result.0) }
+    ensures ran { (first : Sight) → IsFirst first → HoldsAt ⟦<S as Seen>⟧.eyes partitions first → RunsOver asked.now (I.left source.old) (I.left source.new)
+        (λ shown unread unread'. RanLeaving shown (HoldsAt ⟦<S as Seen>⟧.eyes) (KeepsAt ⟦<S as Seen>⟧.eyes) (IsSpent S.history S.Device.history S.Frozen.content) (fault_in result.1) first (options_asked asked.now).window unread unread' (O.taken sink.old) (O.taken sink.new) result.0) }
     ensures unread { IsRun (Some asked.now) ⊎ (source.new ≡ source.old) }
-    ensures prompt { (first : Sight) → IsFirst first → HoldsAt (eyes S.history S.Device.history S.Frozen.content S.Device.name S.Frozen.size S.Watch.counts) partitions first → AskedPromptly asked.now first (options_asked asked.now).window (O.taken sink.old)
+    ensures prompt { (first : Sight) → IsFirst first → HoldsAt ⟦<S as Seen>⟧.eyes partitions first → AskedPromptly asked.now first (options_asked asked.now).window (O.taken sink.old)
         (I.moments source.old) (I.moments source.new) }
     ensures rests { OnOk result.1 (Rests (λ d. S.Device.size d) result.0) }
     ensures readers { All (λ e. is_some e.engine.part.reader ≡ true) result.0.engines }
@@ -275,10 +275,10 @@ where
     requires some { 0 < (options_asked asked.now).window }
     requires limit { (options_asked asked.now).window ≤ 4096 }
     requires few { AreFewCommands asked.now }
-    ensures ran { (first : Sight) → ServesAt (eyes S.history S.Device.history S.Frozen.content S.Device.name S.Frozen.size S.Watch.counts) keeper first → RunsOver asked.now (I.left source.old) (I.left source.new)
-        (λ shown unread unread'. RanLeaving shown (HoldsAt (eyes S.history S.Device.history S.Frozen.content S.Device.name S.Frozen.size S.Watch.counts)) (KeepsAt (eyes S.history S.Device.history S.Frozen.content S.Device.name S.Frozen.size S.Watch.counts)) (IsSpent S.history S.Device.history S.Frozen.content) (fault_in result.1) first (options_asked asked.now).window unread unread' (O.taken sink.old) (O.taken sink.new) result.0) }
+    ensures ran { (first : Sight) → ServesAt ⟦<S as Seen>⟧.eyes keeper first → RunsOver asked.now (I.left source.old) (I.left source.new)
+        (λ shown unread unread'. RanLeaving shown (HoldsAt ⟦<S as Seen>⟧.eyes) (KeepsAt ⟦<S as Seen>⟧.eyes) (IsSpent S.history S.Device.history S.Frozen.content) (fault_in result.1) first (options_asked asked.now).window unread unread' (O.taken sink.old) (O.taken sink.new) result.0) }
     ensures unread { IsRun (Some asked.now) ⊎ (source.new ≡ source.old) }
-    ensures prompt { (first : Sight) → ServesAt (eyes S.history S.Device.history S.Frozen.content S.Device.name S.Frozen.size S.Watch.counts) keeper first → AskedPromptly asked.now first (options_asked asked.now).window (O.taken sink.old)
+    ensures prompt { (first : Sight) → ServesAt ⟦<S as Seen>⟧.eyes keeper first → AskedPromptly asked.now first (options_asked asked.now).window (O.taken sink.old)
         (I.moments source.old) (I.moments source.new) }
     ensures rests { OnOk result.1 (Rests (λ d. S.Device.size d) result.0) }
     ensures readers { All (λ e. is_some e.engine.part.reader ≡ true) result.0.engines }
@@ -362,10 +362,10 @@ where
     requires ready { IsReady (MayServe S.history S.Device.history S.Frozen.content) session.old }
     requires requests { requests_of session.old.window ≡ [] }
     requires bytes { session.old.window.bytes ≡ 0 }
-    ensures ran { (first : Sight) → ServesAt (eyes S.history S.Device.history S.Frozen.content S.Device.name S.Frozen.size S.Watch.counts) session.old.keeper first → RunsOver asked.now (I.left source.old) (I.left source.new)
-        (λ shown unread unread'. RanLeaving shown (ServesAt (eyes S.history S.Device.history S.Frozen.content S.Device.name S.Frozen.size S.Watch.counts)) (FailsAt (eyes S.history S.Device.history S.Frozen.content S.Device.name S.Frozen.size S.Watch.counts)) (HasSpent S.history S.Device.history S.Frozen.content) (fault_in result) first session.old.window.limit unread unread' (O.taken sink.old) (O.taken sink.new) session.new.keeper) }
+    ensures ran { (first : Sight) → ServesAt ⟦<S as Seen>⟧.eyes session.old.keeper first → RunsOver asked.now (I.left source.old) (I.left source.new)
+        (λ shown unread unread'. RanLeaving shown (ServesAt ⟦<S as Seen>⟧.eyes) (FailsAt ⟦<S as Seen>⟧.eyes) (HasSpent S.history S.Device.history S.Frozen.content) (fault_in result) first session.old.window.limit unread unread' (O.taken sink.old) (O.taken sink.new) session.new.keeper) }
     ensures unread { IsRun (Some asked.now) ⊎ (source.new ≡ source.old) }
-    ensures prompt { (first : Sight) → ServesAt (eyes S.history S.Device.history S.Frozen.content S.Device.name S.Frozen.size S.Watch.counts) session.old.keeper first → AskedPromptly asked.now first session.old.window.limit (O.taken sink.old)
+    ensures prompt { (first : Sight) → ServesAt ⟦<S as Seen>⟧.eyes session.old.keeper first → AskedPromptly asked.now first session.old.window.limit (O.taken sink.old)
         (I.moments source.old) (I.moments source.new) }
     ensures rests { OnOk result (AllRest (λ d. S.Device.size d) session.new.keeper) }
     ensures settings { settings_kept session.new.keeper ≡ settings_kept session.old.keeper }
@@ -401,9 +401,9 @@ where
     requires bytes { session.old.window.bytes ≡ 0 }
 
     // What was read and written, and what is left of the store, from whatever world it stood at.
-    ensures ran { (first : Sight) → ServesAt (eyes S.history S.Device.history S.Frozen.content S.Device.name S.Frozen.size S.Watch.counts) session.old.keeper first → RanLeaving each_line (ServesAt (eyes S.history S.Device.history S.Frozen.content S.Device.name S.Frozen.size S.Watch.counts)) (FailsAt (eyes S.history S.Device.history S.Frozen.content S.Device.name S.Frozen.size S.Watch.counts)) (HasSpent S.history S.Device.history S.Frozen.content) (fault_in result) first session.old.window.limit
+    ensures ran { (first : Sight) → ServesAt ⟦<S as Seen>⟧.eyes session.old.keeper first → RanLeaving each_line (ServesAt ⟦<S as Seen>⟧.eyes) (FailsAt ⟦<S as Seen>⟧.eyes) (HasSpent S.history S.Device.history S.Frozen.content) (fault_in result) first session.old.window.limit
         (I.left source.old) (I.left source.new) (O.taken sink.old) (O.taken sink.new) session.new.keeper }
-    ensures prompt { (first : Sight) → ServesAt (eyes S.history S.Device.history S.Frozen.content S.Device.name S.Frozen.size S.Watch.counts) session.old.keeper first → ReadsPromptly first session.old.window.limit (O.taken sink.old)
+    ensures prompt { (first : Sight) → ServesAt ⟦<S as Seen>⟧.eyes session.old.keeper first → ReadsPromptly first session.old.window.limit (O.taken sink.old)
         (I.moments source.old) (I.moments source.new) }
     ensures rests { OnOk result (AllRest (λ d. S.Device.size d) session.new.keeper) }
     ensures settings { settings_kept session.new.keeper ≡ settings_kept session.old.keeper }
@@ -449,15 +449,15 @@ where
     ensures window { OnOk result (session.new.window.limit ≡ session.old.window.limit) }
 
     // Behind the lines that came before, one more came, or the input is answered, or the run has failed.
-    ensures more { IfOk result (λ more. Goes (ServesAt (eyes S.history S.Device.history S.Frozen.content S.Device.name S.Frozen.size S.Watch.counts)) (FailsAt (eyes S.history S.Device.history S.Frozen.content S.Device.name S.Frozen.size S.Watch.counts)) (HasSpent S.history S.Device.history S.Frozen.content) more
+    ensures more { IfOk result (λ more. Goes (ServesAt ⟦<S as Seen>⟧.eyes) (FailsAt ⟦<S as Seen>⟧.eyes) (HasSpent S.history S.Device.history S.Frozen.content) more
         lines.old session.old (I.left source.old) (O.taken sink.old) (I.moments source.old)
         lines.new session.new (I.left source.new) (O.taken sink.new) (I.moments source.new)) }
-    ensures fault { IfErr result (λ fault. Ends (ServesAt (eyes S.history S.Device.history S.Frozen.content S.Device.name S.Frozen.size S.Watch.counts)) (FailsAt (eyes S.history S.Device.history S.Frozen.content S.Device.name S.Frozen.size S.Watch.counts)) (HasSpent S.history S.Device.history S.Frozen.content) fault lines.old session.old
+    ensures fault { IfErr result (λ fault. Ends (ServesAt ⟦<S as Seen>⟧.eyes) (FailsAt ⟦<S as Seen>⟧.eyes) (HasSpent S.history S.Device.history S.Frozen.content) fault lines.old session.old
         (I.left source.old) (I.left source.new) (O.taken sink.old) (O.taken sink.new)
         (I.moments source.old) session.new) }
 
     // Each read for the line was asked for when all windows before it were answered, and no more.
-    ensures prompt { AsksPromptly (ServesAt (eyes S.history S.Device.history S.Frozen.content S.Device.name S.Frozen.size S.Watch.counts)) lines.old session.old (I.left source.old) (O.taken sink.old)
+    ensures prompt { AsksPromptly (ServesAt ⟦<S as Seen>⟧.eyes) lines.old session.old (I.left source.old) (O.taken sink.old)
         (I.moments source.old) (I.moments source.new) }
 
     ensures settings { settings_kept session.new.keeper ≡ settings_kept session.old.keeper }

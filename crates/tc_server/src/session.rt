@@ -15,7 +15,6 @@ ghost use Rattle.tc_keeper.specs.Keeping.{faults_kept, settings_kept, FailsAt, M
 ghost use Rattle.tc_keeper.specs.Sight.{sees, sight_after, whole_of, Sight};
 ghost use Rattle.tc_server.specs.Stage.{AsksFor, FailsAtLine, IsReady, TakesLine};
 ghost use Rattle.tc_server.specs.Window.{requests_of, IsSoundWindow};
-ghost use Rattle.tc_work.specs.Moving.{eyes};
 ghost use Rattle.tc_server.specs.declared.answer.Action.TheVariants.{Whole as whole};
 
 use crate::answer::{Action, Asked, Control};
@@ -30,6 +29,7 @@ use tc_edge::{Sink, write_all};
 use tc_keeper::{Keeper, RunFault};
 use tc_running::Pace;
 use tc_store::Store;
+use tc_work::Seen;
 
 /// Bytes of room for replies, up to which it is kept from window to window.
 const KEPT_ROOM: usize = 65_536;
@@ -87,9 +87,9 @@ where
         ensures ready { OnOk result (IsReady (MayServe S.history S.Device.history S.Frozen.content) self.new) }
         ensures rests { OnOk result (AllRest (λ d. S.Device.size d) self.new.keeper) }
         ensures window { self.new.window ≡ self.old.window }
-        ensures held { (known : Sight) → ServesAt (eyes S.history S.Device.history S.Frozen.content S.Device.name S.Frozen.size S.Watch.counts) self.old.keeper known → OnOk result (ServesAt (eyes S.history S.Device.history S.Frozen.content S.Device.name S.Frozen.size S.Watch.counts) self.new.keeper known) }
-        ensures failed { (only : Option ℕ) (w : World) → ServesAt (eyes S.history S.Device.history S.Frozen.content S.Device.name S.Frozen.size S.Watch.counts) self.old.keeper (sees only w) → OnErr result (FailsAt (eyes S.history S.Device.history S.Frozen.content S.Device.name S.Frozen.size S.Watch.counts) self.new.keeper only w w) }
-        ensures undamaged { (only : Option ℕ) (w : World) → ServesAt (eyes S.history S.Device.history S.Frozen.content S.Device.name S.Frozen.size S.Watch.counts) self.old.keeper (sees only w) → IfErr result (IsNoDamage only) }
+        ensures held { (known : Sight) → ServesAt ⟦<S as Seen>⟧.eyes self.old.keeper known → OnOk result (ServesAt ⟦<S as Seen>⟧.eyes self.new.keeper known) }
+        ensures failed { (only : Option ℕ) (w : World) → ServesAt ⟦<S as Seen>⟧.eyes self.old.keeper (sees only w) → OnErr result (FailsAt ⟦<S as Seen>⟧.eyes self.new.keeper only w w) }
+        ensures undamaged { (only : Option ℕ) (w : World) → ServesAt ⟦<S as Seen>⟧.eyes self.old.keeper (sees only w) → IfErr result (IsNoDamage only) }
         ensures kinds { IfErr result IsOfStore }
         ensures settings { settings_kept self.new.keeper ≡ settings_kept self.old.keeper }
         ensures cause { HasDiskCause (faults_kept (λ w. S.Watch.counts w) self.old.keeper) (faults_kept (λ w. S.Watch.counts w) self.new.keeper) (IsTrueHere S.history S.Device.history S.Frozen.content self.new.keeper) (fault_in result) }
@@ -110,15 +110,15 @@ where
         requires works { MayServe S.history S.Device.history S.Frozen.content self.old.keeper }
         ensures works { OnOk result (MayServe S.history S.Device.history S.Frozen.content self.new.keeper) }
         ensures rests { OnOk result (AllRest (λ d. S.Device.size d) self.new.keeper) }
-        ensures written { OnOk result ((known : Sight) → ServesAt (eyes S.history S.Device.history S.Frozen.content S.Device.name S.Frozen.size S.Watch.counts) self.old.keeper known
-            → AreWritten (ServesAt (eyes S.history S.Device.history S.Frozen.content S.Device.name S.Frozen.size S.Watch.counts)) known (requests_of self.old.window) (O.taken sink.old) (O.taken sink.new) self.new.keeper) }
+        ensures written { OnOk result ((known : Sight) → ServesAt ⟦<S as Seen>⟧.eyes self.old.keeper known
+            → AreWritten (ServesAt ⟦<S as Seen>⟧.eyes) known (requests_of self.old.window) (O.taken sink.old) (O.taken sink.new) self.new.keeper) }
         ensures requests { OnOk result (requests_of self.new.window ≡ []) }
         ensures lines { OnOk result (length self.new.window.refusals.items ≡ 0) }
         ensures sound { OnOk result (IsSoundWindow self.new.window) }
         ensures bytes { OnOk result (self.new.window.bytes ≡ 0) }
         ensures limit { OnOk result (self.new.window.limit ≡ self.old.window.limit) }
-        ensures fault { IfErr result (λ fault. (known : Sight) → ServesAt (eyes S.history S.Device.history S.Frozen.content S.Device.name S.Frozen.size S.Watch.counts) self.old.keeper known
-            → HaveFailed (ServesAt (eyes S.history S.Device.history S.Frozen.content S.Device.name S.Frozen.size S.Watch.counts)) (FailsAt (eyes S.history S.Device.history S.Frozen.content S.Device.name S.Frozen.size S.Watch.counts)) fault known (requests_of self.old.window) (O.taken sink.old) (O.taken sink.new) self.new.keeper) }
+        ensures fault { IfErr result (λ fault. (known : Sight) → ServesAt ⟦<S as Seen>⟧.eyes self.old.keeper known
+            → HaveFailed (ServesAt ⟦<S as Seen>⟧.eyes) (FailsAt ⟦<S as Seen>⟧.eyes) fault known (requests_of self.old.window) (O.taken sink.old) (O.taken sink.new) self.new.keeper) }
         ensures settings { settings_kept self.new.keeper ≡ settings_kept self.old.keeper }
         ensures cause { HasCauses (O.faults sink.old) (O.faults sink.new) (faults_kept (λ w. S.Watch.counts w) self.old.keeper) (faults_kept (λ w. S.Watch.counts w) self.new.keeper) (IsTrueHere S.history S.Device.history S.Frozen.content self.new.keeper) (fault_in result) }
     {
@@ -138,10 +138,10 @@ where
         ensures works { OnOk result (MayServe S.history S.Device.history S.Frozen.content self.new.keeper) }
         ensures rests { OnOk result (AllRest (λ d. S.Device.size d) self.new.keeper) }
         ensures window { self.new.window ≡ self.old.window }
-        ensures written { OnOk result ((known : Sight) (rs : List Request) → AreAnswered (ServesAt (eyes S.history S.Device.history S.Frozen.content S.Device.name S.Frozen.size S.Watch.counts)) known rs self.old.replies.items self.old.keeper
-            → AreWritten (ServesAt (eyes S.history S.Device.history S.Frozen.content S.Device.name S.Frozen.size S.Watch.counts)) known rs (O.taken sink.old) (O.taken sink.new) self.new.keeper) }
-        ensures fault { IfErr result (λ fault. (known : Sight) (rs : List Request) → AreAnswered (ServesAt (eyes S.history S.Device.history S.Frozen.content S.Device.name S.Frozen.size S.Watch.counts)) known rs self.old.replies.items self.old.keeper
-            → HaveFailed (ServesAt (eyes S.history S.Device.history S.Frozen.content S.Device.name S.Frozen.size S.Watch.counts)) (FailsAt (eyes S.history S.Device.history S.Frozen.content S.Device.name S.Frozen.size S.Watch.counts)) fault known rs (O.taken sink.old) (O.taken sink.new) self.new.keeper) }
+        ensures written { OnOk result ((known : Sight) (rs : List Request) → AreAnswered (ServesAt ⟦<S as Seen>⟧.eyes) known rs self.old.replies.items self.old.keeper
+            → AreWritten (ServesAt ⟦<S as Seen>⟧.eyes) known rs (O.taken sink.old) (O.taken sink.new) self.new.keeper) }
+        ensures fault { IfErr result (λ fault. (known : Sight) (rs : List Request) → AreAnswered (ServesAt ⟦<S as Seen>⟧.eyes) known rs self.old.replies.items self.old.keeper
+            → HaveFailed (ServesAt ⟦<S as Seen>⟧.eyes) (FailsAt ⟦<S as Seen>⟧.eyes) fault known rs (O.taken sink.old) (O.taken sink.new) self.new.keeper) }
         ensures settings { settings_kept self.new.keeper ≡ settings_kept self.old.keeper }
         ensures cause { HasCauses (O.faults sink.old) (O.faults sink.new) (faults_kept (λ w. S.Watch.counts w) self.old.keeper) (faults_kept (λ w. S.Watch.counts w) self.new.keeper) (IsTrueHere S.history S.Device.history S.Frozen.content self.new.keeper) (fault_in result) }
     {
@@ -166,11 +166,11 @@ where
         requires plain { is_whole action ≡ false }
         requires light { IsLight size (request_asked action) }
         ensures ok { OnOk result ((line : List ℕ) → AsksFor line action size
-            → TakesLine (ServesAt (eyes S.history S.Device.history S.Frozen.content S.Device.name S.Frozen.size S.Watch.counts)) line self.old (O.taken sink.old) self.new (O.taken sink.new)) }
+            → TakesLine (ServesAt ⟦<S as Seen>⟧.eyes) line self.old (O.taken sink.old) self.new (O.taken sink.new)) }
         ensures ready { OnOk result (IsReady (MayServe S.history S.Device.history S.Frozen.content) self.new) }
         ensures limit { OnOk result (self.new.window.limit ≡ self.old.window.limit) }
         ensures fault { IfErr result (λ fault. (line : List ℕ) → AsksFor line action size
-            → FailsAtLine (ServesAt (eyes S.history S.Device.history S.Frozen.content S.Device.name S.Frozen.size S.Watch.counts)) (FailsAt (eyes S.history S.Device.history S.Frozen.content S.Device.name S.Frozen.size S.Watch.counts)) fault line self.old (O.taken sink.old) self.new (O.taken sink.new)) }
+            → FailsAtLine (ServesAt ⟦<S as Seen>⟧.eyes) (FailsAt ⟦<S as Seen>⟧.eyes) fault line self.old (O.taken sink.old) self.new (O.taken sink.new)) }
         ensures settings { settings_kept self.new.keeper ≡ settings_kept self.old.keeper }
         ensures cause { HasCauses (O.faults sink.old) (O.faults sink.new) (faults_kept (λ w. S.Watch.counts w) self.old.keeper) (faults_kept (λ w. S.Watch.counts w) self.new.keeper) (IsTrueHere S.history S.Device.history S.Frozen.content self.new.keeper) (fault_in result) }
     {
@@ -193,11 +193,11 @@ where
     ) -> Result<(), RunFault>
         requires ready { IsReady (MayServe S.history S.Device.history S.Frozen.content) self.old }
         ensures ok { OnOk result ((line : List ℕ) → AsksFor line (whole control) size
-            → TakesLine (ServesAt (eyes S.history S.Device.history S.Frozen.content S.Device.name S.Frozen.size S.Watch.counts)) line self.old (O.taken sink.old) self.new (O.taken sink.new)) }
+            → TakesLine (ServesAt ⟦<S as Seen>⟧.eyes) line self.old (O.taken sink.old) self.new (O.taken sink.new)) }
         ensures ready { OnOk result (IsReady (MayServe S.history S.Device.history S.Frozen.content) self.new) }
         ensures limit { OnOk result (self.new.window.limit ≡ self.old.window.limit) }
         ensures fault { IfErr result (λ fault. (line : List ℕ) → AsksFor line (whole control) size
-            → FailsAtLine (ServesAt (eyes S.history S.Device.history S.Frozen.content S.Device.name S.Frozen.size S.Watch.counts)) (FailsAt (eyes S.history S.Device.history S.Frozen.content S.Device.name S.Frozen.size S.Watch.counts)) fault line self.old (O.taken sink.old) self.new (O.taken sink.new)) }
+            → FailsAtLine (ServesAt ⟦<S as Seen>⟧.eyes) (FailsAt ⟦<S as Seen>⟧.eyes) fault line self.old (O.taken sink.old) self.new (O.taken sink.new)) }
         ensures settings { settings_kept self.new.keeper ≡ settings_kept self.old.keeper }
         ensures cause { HasCauses (O.faults sink.old) (O.faults sink.new) (faults_kept (λ w. S.Watch.counts w) self.old.keeper) (faults_kept (λ w. S.Watch.counts w) self.new.keeper) (IsTrueHere S.history S.Device.history S.Frozen.content self.new.keeper) (fault_in result) }
     {
@@ -217,10 +217,10 @@ where
         ensures works { OnOk result (MayServe S.history S.Device.history S.Frozen.content self.new.keeper) }
         ensures rests { OnOk result (AllRest (λ d. S.Device.size d) self.new.keeper) }
         ensures window { self.new.window ≡ self.old.window }
-        ensures written { OnOk result ((known : Sight) → ServesAt (eyes S.history S.Device.history S.Frozen.content S.Device.name S.Frozen.size S.Watch.counts) self.old.keeper known
-            → AreWritten (ServesAt (eyes S.history S.Device.history S.Frozen.content S.Device.name S.Frozen.size S.Watch.counts)) known (request_whole control ∷ []) (O.taken sink.old) (O.taken sink.new) self.new.keeper) }
-        ensures fault { IfErr result (λ fault. (known : Sight) → ServesAt (eyes S.history S.Device.history S.Frozen.content S.Device.name S.Frozen.size S.Watch.counts) self.old.keeper known
-            → HaveFailed (ServesAt (eyes S.history S.Device.history S.Frozen.content S.Device.name S.Frozen.size S.Watch.counts)) (FailsAt (eyes S.history S.Device.history S.Frozen.content S.Device.name S.Frozen.size S.Watch.counts)) fault known (request_whole control ∷ []) (O.taken sink.old) (O.taken sink.new) self.new.keeper) }
+        ensures written { OnOk result ((known : Sight) → ServesAt ⟦<S as Seen>⟧.eyes self.old.keeper known
+            → AreWritten (ServesAt ⟦<S as Seen>⟧.eyes) known (request_whole control ∷ []) (O.taken sink.old) (O.taken sink.new) self.new.keeper) }
+        ensures fault { IfErr result (λ fault. (known : Sight) → ServesAt ⟦<S as Seen>⟧.eyes self.old.keeper known
+            → HaveFailed (ServesAt ⟦<S as Seen>⟧.eyes) (FailsAt ⟦<S as Seen>⟧.eyes) fault known (request_whole control ∷ []) (O.taken sink.old) (O.taken sink.new) self.new.keeper) }
         ensures settings { settings_kept self.new.keeper ≡ settings_kept self.old.keeper }
         ensures cause { HasCauses (O.faults sink.old) (O.faults sink.new) (faults_kept (λ w. S.Watch.counts w) self.old.keeper) (faults_kept (λ w. S.Watch.counts w) self.new.keeper) (IsTrueHere S.history S.Device.history S.Frozen.content self.new.keeper) (fault_in result) }
     {
@@ -241,11 +241,11 @@ where
         requires size { size ≤ max_line }
         requires light { IsLight size (request_asked asked) }
         ensures ok { OnOk result ((line : List ℕ) → AsksFor line asked size
-            → TakesLine (ServesAt (eyes S.history S.Device.history S.Frozen.content S.Device.name S.Frozen.size S.Watch.counts)) line self.old (O.taken sink.old) self.new (O.taken sink.new)) }
+            → TakesLine (ServesAt ⟦<S as Seen>⟧.eyes) line self.old (O.taken sink.old) self.new (O.taken sink.new)) }
         ensures ready { OnOk result (IsReady (MayServe S.history S.Device.history S.Frozen.content) self.new) }
         ensures limit { OnOk result (self.new.window.limit ≡ self.old.window.limit) }
         ensures fault { IfErr result (λ fault. (line : List ℕ) → AsksFor line asked size
-            → FailsAtLine (ServesAt (eyes S.history S.Device.history S.Frozen.content S.Device.name S.Frozen.size S.Watch.counts)) (FailsAt (eyes S.history S.Device.history S.Frozen.content S.Device.name S.Frozen.size S.Watch.counts)) fault line self.old (O.taken sink.old) self.new (O.taken sink.new)) }
+            → FailsAtLine (ServesAt ⟦<S as Seen>⟧.eyes) (FailsAt ⟦<S as Seen>⟧.eyes) fault line self.old (O.taken sink.old) self.new (O.taken sink.new)) }
         ensures settings { settings_kept self.new.keeper ≡ settings_kept self.old.keeper }
         ensures cause { HasCauses (O.faults sink.old) (O.faults sink.new) (faults_kept (λ w. S.Watch.counts w) self.old.keeper) (faults_kept (λ w. S.Watch.counts w) self.new.keeper) (IsTrueHere S.history S.Device.history S.Frozen.content self.new.keeper) (fault_in result) }
     {
@@ -265,10 +265,10 @@ where
     ) -> Result<(), RunFault>
         requires ready { IsReady (MayServe S.history S.Device.history S.Frozen.content) self.old }
         requires size { length line ≤ max_line }
-        ensures ok { OnOk result (TakesLine (ServesAt (eyes S.history S.Device.history S.Frozen.content S.Device.name S.Frozen.size S.Watch.counts)) line self.old (O.taken sink.old) self.new (O.taken sink.new)) }
+        ensures ok { OnOk result (TakesLine (ServesAt ⟦<S as Seen>⟧.eyes) line self.old (O.taken sink.old) self.new (O.taken sink.new)) }
         ensures ready { OnOk result (IsReady (MayServe S.history S.Device.history S.Frozen.content) self.new) }
         ensures limit { OnOk result (self.new.window.limit ≡ self.old.window.limit) }
-        ensures fault { IfErr result (λ fault. FailsAtLine (ServesAt (eyes S.history S.Device.history S.Frozen.content S.Device.name S.Frozen.size S.Watch.counts)) (FailsAt (eyes S.history S.Device.history S.Frozen.content S.Device.name S.Frozen.size S.Watch.counts)) fault line self.old (O.taken sink.old) self.new (O.taken sink.new)) }
+        ensures fault { IfErr result (λ fault. FailsAtLine (ServesAt ⟦<S as Seen>⟧.eyes) (FailsAt ⟦<S as Seen>⟧.eyes) fault line self.old (O.taken sink.old) self.new (O.taken sink.new)) }
         ensures settings { settings_kept self.new.keeper ≡ settings_kept self.old.keeper }
         ensures cause { HasCauses (O.faults sink.old) (O.faults sink.new) (faults_kept (λ w. S.Watch.counts w) self.old.keeper) (faults_kept (λ w. S.Watch.counts w) self.new.keeper) (IsTrueHere S.history S.Device.history S.Frozen.content self.new.keeper) (fault_in result) }
     {
@@ -285,10 +285,10 @@ where
     ) -> Result<(), RunFault>
         requires ready { IsReady (MayServe S.history S.Device.history S.Frozen.content) self.old }
         requires size { length line.now ≤ max_line }
-        ensures ok { OnOk result (TakesLine (ServesAt (eyes S.history S.Device.history S.Frozen.content S.Device.name S.Frozen.size S.Watch.counts)) line.now self.old (O.taken sink.old) self.new (O.taken sink.new)) }
+        ensures ok { OnOk result (TakesLine (ServesAt ⟦<S as Seen>⟧.eyes) line.now self.old (O.taken sink.old) self.new (O.taken sink.new)) }
         ensures ready { OnOk result (IsReady (MayServe S.history S.Device.history S.Frozen.content) self.new) }
         ensures limit { OnOk result (self.new.window.limit ≡ self.old.window.limit) }
-        ensures fault { IfErr result (λ fault. FailsAtLine (ServesAt (eyes S.history S.Device.history S.Frozen.content S.Device.name S.Frozen.size S.Watch.counts)) (FailsAt (eyes S.history S.Device.history S.Frozen.content S.Device.name S.Frozen.size S.Watch.counts)) fault line.now self.old (O.taken sink.old) self.new (O.taken sink.new)) }
+        ensures fault { IfErr result (λ fault. FailsAtLine (ServesAt ⟦<S as Seen>⟧.eyes) (FailsAt ⟦<S as Seen>⟧.eyes) fault line.now self.old (O.taken sink.old) self.new (O.taken sink.new)) }
         ensures settings { settings_kept self.new.keeper ≡ settings_kept self.old.keeper }
         ensures cause { HasCauses (O.faults sink.old) (O.faults sink.new) (faults_kept (λ w. S.Watch.counts w) self.old.keeper) (faults_kept (λ w. S.Watch.counts w) self.new.keeper) (IsTrueHere S.history S.Device.history S.Frozen.content self.new.keeper) (fault_in result) }
     {
@@ -305,11 +305,11 @@ where
     ) -> Result<(), RunFault>
         requires ready { IsReady (MayServe S.history S.Device.history S.Frozen.content) self.old }
         ensures ok { OnOk result ((line : List ℕ) → max_line < length line
-            → TakesLine (ServesAt (eyes S.history S.Device.history S.Frozen.content S.Device.name S.Frozen.size S.Watch.counts)) line self.old (O.taken sink.old) self.new (O.taken sink.new)) }
+            → TakesLine (ServesAt ⟦<S as Seen>⟧.eyes) line self.old (O.taken sink.old) self.new (O.taken sink.new)) }
         ensures ready { OnOk result (IsReady (MayServe S.history S.Device.history S.Frozen.content) self.new) }
         ensures limit { OnOk result (self.new.window.limit ≡ self.old.window.limit) }
         ensures fault { IfErr result (λ fault. (line : List ℕ) → max_line < length line
-            → FailsAtLine (ServesAt (eyes S.history S.Device.history S.Frozen.content S.Device.name S.Frozen.size S.Watch.counts)) (FailsAt (eyes S.history S.Device.history S.Frozen.content S.Device.name S.Frozen.size S.Watch.counts)) fault line self.old (O.taken sink.old) self.new (O.taken sink.new)) }
+            → FailsAtLine (ServesAt ⟦<S as Seen>⟧.eyes) (FailsAt ⟦<S as Seen>⟧.eyes) fault line self.old (O.taken sink.old) self.new (O.taken sink.new)) }
         ensures settings { settings_kept self.new.keeper ≡ settings_kept self.old.keeper }
         ensures cause { HasCauses (O.faults sink.old) (O.faults sink.new) (faults_kept (λ w. S.Watch.counts w) self.old.keeper) (faults_kept (λ w. S.Watch.counts w) self.new.keeper) (IsTrueHere S.history S.Device.history S.Frozen.content self.new.keeper) (fault_in result) }
     {
@@ -331,9 +331,9 @@ where
     S::Watch: 'static,
     requires works { MayServe S.history S.Device.history S.Frozen.content keeper.old }
     ensures works { OnOk result (MayServe S.history S.Device.history S.Frozen.content keeper.new) }
-    ensures answered { (known : Sight) → ServesAt (eyes S.history S.Device.history S.Frozen.content S.Device.name S.Frozen.size S.Watch.counts) keeper.old known → OnOk result (AreAnswered (ServesAt (eyes S.history S.Device.history S.Frozen.content S.Device.name S.Frozen.size S.Watch.counts)) known (request_whole control ∷ []) replies.new.items keeper.new) }
-    ensures left { (known : Sight) → ServesAt (eyes S.history S.Device.history S.Frozen.content S.Device.name S.Frozen.size S.Watch.counts) keeper.old known → OnErr result (IsLeft (ServesAt (eyes S.history S.Device.history S.Frozen.content S.Device.name S.Frozen.size S.Watch.counts)) (FailsAt (eyes S.history S.Device.history S.Frozen.content S.Device.name S.Frozen.size S.Watch.counts)) keeper.new known (worlds_at gave_up (request_whole control ∷ []))) }
-    ensures undamaged { (only : Option ℕ) (w : World) → ServesAt (eyes S.history S.Device.history S.Frozen.content S.Device.name S.Frozen.size S.Watch.counts) keeper.old (sees only w) → IfErr result (IsNoDamage only) }
+    ensures answered { (known : Sight) → ServesAt ⟦<S as Seen>⟧.eyes keeper.old known → OnOk result (AreAnswered (ServesAt ⟦<S as Seen>⟧.eyes) known (request_whole control ∷ []) replies.new.items keeper.new) }
+    ensures left { (known : Sight) → ServesAt ⟦<S as Seen>⟧.eyes keeper.old known → OnErr result (IsLeft (ServesAt ⟦<S as Seen>⟧.eyes) (FailsAt ⟦<S as Seen>⟧.eyes) keeper.new known (worlds_at gave_up (request_whole control ∷ []))) }
+    ensures undamaged { (only : Option ℕ) (w : World) → ServesAt ⟦<S as Seen>⟧.eyes keeper.old (sees only w) → IfErr result (IsNoDamage only) }
     ensures kinds { IfErr result IsOfStore }
     ensures settings { settings_kept keeper.new ≡ settings_kept keeper.old }
     ensures cause { HasDiskCause (faults_kept (λ w. S.Watch.counts w) keeper.old) (faults_kept (λ w. S.Watch.counts w) keeper.new) (IsTrueHere S.history S.Device.history S.Frozen.content keeper.new) (fault_in result) }
@@ -357,10 +357,10 @@ where
     S::Watch: 'static,
     requires works { MayServe S.history S.Device.history S.Frozen.content keeper.old }
     ensures works { OnOk result (MayServe S.history S.Device.history S.Frozen.content keeper.new) }
-    ensures reply { (known : Sight) → ServesAt (eyes S.history S.Device.history S.Frozen.content S.Device.name S.Frozen.size S.Watch.counts) keeper.old known → IfOk result (λ reply. MayRender (request_whole control ∷ []) (whole_of known) (rendered_of reply ∷ [])) }
-    ensures held { (known : Sight) → ServesAt (eyes S.history S.Device.history S.Frozen.content S.Device.name S.Frozen.size S.Watch.counts) keeper.old known → OnOk result (ServesAt (eyes S.history S.Device.history S.Frozen.content S.Device.name S.Frozen.size S.Watch.counts) keeper.new (sight_after (request_whole control ∷ []) known)) }
-    ensures failed { (only : Option ℕ) (w : World) → ServesAt (eyes S.history S.Device.history S.Frozen.content S.Device.name S.Frozen.size S.Watch.counts) keeper.old (sees only w) → OnErr result (FailsAt (eyes S.history S.Device.history S.Frozen.content S.Device.name S.Frozen.size S.Watch.counts) keeper.new only w w) }
-    ensures undamaged { (only : Option ℕ) (w : World) → ServesAt (eyes S.history S.Device.history S.Frozen.content S.Device.name S.Frozen.size S.Watch.counts) keeper.old (sees only w) → IfErr result (IsNoDamage only) }
+    ensures reply { (known : Sight) → ServesAt ⟦<S as Seen>⟧.eyes keeper.old known → IfOk result (λ reply. MayRender (request_whole control ∷ []) (whole_of known) (rendered_of reply ∷ [])) }
+    ensures held { (known : Sight) → ServesAt ⟦<S as Seen>⟧.eyes keeper.old known → OnOk result (ServesAt ⟦<S as Seen>⟧.eyes keeper.new (sight_after (request_whole control ∷ []) known)) }
+    ensures failed { (only : Option ℕ) (w : World) → ServesAt ⟦<S as Seen>⟧.eyes keeper.old (sees only w) → OnErr result (FailsAt ⟦<S as Seen>⟧.eyes keeper.new only w w) }
+    ensures undamaged { (only : Option ℕ) (w : World) → ServesAt ⟦<S as Seen>⟧.eyes keeper.old (sees only w) → IfErr result (IsNoDamage only) }
     ensures kinds { IfErr result IsOfStore }
     ensures settings { settings_kept keeper.new ≡ settings_kept keeper.old }
     ensures cause { HasDiskCause (faults_kept (λ w. S.Watch.counts w) keeper.old) (faults_kept (λ w. S.Watch.counts w) keeper.new) (IsTrueHere S.history S.Device.history S.Frozen.content keeper.new) (fault_in result) }

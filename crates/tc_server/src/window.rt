@@ -12,7 +12,6 @@ ghost use Rattle.tc_server.specs.Asked.{is_whole, request_asked, IsRunForPart};
 ghost use Rattle.tc_keeper.specs.Faults.{fault_in, gave_up, HasDiskCause, IsNoDamage, IsOfStore};
 ghost use Rattle.tc_keeper.specs.Holds.{worlds_at, AreAnswered, IsLeft};
 ghost use Rattle.tc_keeper.specs.Keeping.{faults_kept, settings_kept, FailsAt, MayServe, ServesAt, IsTrueHere};
-ghost use Rattle.tc_work.specs.Moving.{eyes};
 ghost use Rattle.tc_keeper.specs.Sight.{sees, Sight};
 ghost use Rattle.tc_server.specs.Window.{each_rendered, mixed, rendered_refused, request_refused, requests_of, IsSoundWindow};
 
@@ -26,6 +25,7 @@ use tc_keeper::{Keeper, RunFault};
 use tc_route::{Placed, Routed};
 use tc_running::Pace;
 use tc_store::Store;
+use tc_work::Seen;
 
 /// Bytes of lines that close a window, at least.
 pub const MAX_WINDOW: usize = 4_194_304;
@@ -138,14 +138,14 @@ impl Window {
         requires bytes { self.old.bytes ≤ max_window + max_line }
         requires works { MayServe S.history S.Device.history S.Frozen.content keeper.old }
         ensures works { OnOk result (MayServe S.history S.Device.history S.Frozen.content keeper.new) }
-        ensures answered { (known : Sight) → ServesAt (eyes S.history S.Device.history S.Frozen.content S.Device.name S.Frozen.size S.Watch.counts) keeper.old known → OnOk result (AreAnswered (ServesAt (eyes S.history S.Device.history S.Frozen.content S.Device.name S.Frozen.size S.Watch.counts)) known (requests_of self.old) replies.new.items keeper.new) }
+        ensures answered { (known : Sight) → ServesAt ⟦<S as Seen>⟧.eyes keeper.old known → OnOk result (AreAnswered (ServesAt ⟦<S as Seen>⟧.eyes) known (requests_of self.old) replies.new.items keeper.new) }
         ensures requests { OnOk result (requests_of self.new ≡ []) }
         ensures lines { OnOk result (length self.new.refusals.items ≡ 0) }
         ensures sound { OnOk result (IsSoundWindow self.new) }
         ensures bytes { OnOk result (self.new.bytes ≡ 0) }
         ensures limit { OnOk result (self.new.limit ≡ self.old.limit) }
-        ensures left { (known : Sight) → ServesAt (eyes S.history S.Device.history S.Frozen.content S.Device.name S.Frozen.size S.Watch.counts) keeper.old known → OnErr result (IsLeft (ServesAt (eyes S.history S.Device.history S.Frozen.content S.Device.name S.Frozen.size S.Watch.counts)) (FailsAt (eyes S.history S.Device.history S.Frozen.content S.Device.name S.Frozen.size S.Watch.counts)) keeper.new known (worlds_at gave_up (requests_of self.old))) }
-        ensures undamaged { (only : Option ℕ) (w : World) → ServesAt (eyes S.history S.Device.history S.Frozen.content S.Device.name S.Frozen.size S.Watch.counts) keeper.old (sees only w) → IfErr result (IsNoDamage only) }
+        ensures left { (known : Sight) → ServesAt ⟦<S as Seen>⟧.eyes keeper.old known → OnErr result (IsLeft (ServesAt ⟦<S as Seen>⟧.eyes) (FailsAt ⟦<S as Seen>⟧.eyes) keeper.new known (worlds_at gave_up (requests_of self.old))) }
+        ensures undamaged { (only : Option ℕ) (w : World) → ServesAt ⟦<S as Seen>⟧.eyes keeper.old (sees only w) → IfErr result (IsNoDamage only) }
         ensures kinds { IfErr result IsOfStore }
         ensures settings { settings_kept keeper.new ≡ settings_kept keeper.old }
         ensures cause { HasDiskCause (faults_kept (λ w. S.Watch.counts w) keeper.old) (faults_kept (λ w. S.Watch.counts w) keeper.new) (IsTrueHere S.history S.Device.history S.Frozen.content keeper.new) (fault_in result) }

@@ -13,7 +13,7 @@ ghost use Rattle.tc_part_model.specs.PartView.{PartView};
 ghost use Rattle.tc_store.specs.declared.file_name.FileName.TheVariants.{Component as component_name};
 ghost use Rattle.tc_work.specs.Faults.{AreOfFiles, IfDamaged};
 ghost use Rattle.tc_work.specs.JobsOut.{AreOut, WorkFor};
-ghost use Rattle.tc_work.specs.Moving.{beside, eyes, IsPickedBy, ListsPicked, MayMove, Moves, MovesOver};
+ghost use Rattle.tc_work.specs.Moving.{beside, IsPickedBy, ListsPicked, MayMove, Moves, MovesOver};
 ghost use Rattle.tc_work.specs.Settling.{IsListedBy, MaySettle, TellsFiles};
 
 use crate::engine::Engine;
@@ -21,6 +21,7 @@ use crate::fault::EngineFault;
 use crate::flushing::{install_flush, start_flush};
 use crate::merging::start_merge;
 use crate::room::{MOST_LISTED, make_room};
+use crate::seen::Seen;
 use std::alloc::Global;
 use std::sync::Arc;
 use std::thread::Threads;
@@ -53,7 +54,7 @@ impl<S: Store, P: Pace> Engine<S, P> {
 
         // Whatever it answers, at each moment a stop leaves what was stored, the jobs are those of the engine that are out, and nothing
         // changed but where documents are. After Ok the engine stores what it stored. Damage is that of the part as it is left.
-        ensures moves { MovesOver (eyes S.history S.Device.history S.Frozen.content S.Device.name S.Frozen.size S.Watch.counts) result (beside self.old.part jobs.old) (beside self.new.part jobs.new) }
+        ensures moves { MovesOver ⟦<S as Seen>⟧.eyes result (beside self.old.part jobs.old) (beside self.new.part jobs.new) }
         ensures left { OnErr result (self.new.part.failed ≡ true) }
 
         // Where the log has no frame and no table is sealed, all stays. Else what both tables hold is in components, no table is left,
@@ -101,17 +102,17 @@ where
     S::Device: 'static,
     S::Frozen: 'static,
     S::Watch: 'static,
-    requires may { MayMove (eyes S.history S.Device.history S.Frozen.content S.Device.name S.Frozen.size S.Watch.counts) (beside part.old jobs.old) }
+    requires may { MayMove ⟦<S as Seen>⟧.eyes (beside part.old jobs.old) }
     requires nothing_staged { part.old.staged ≡ [] }
     requires flushing { part.old.flushing ≡ is_some part.old.sealed }
-    requires picked { IsPickedBy (eyes S.history S.Device.history S.Frozen.content S.Device.name S.Frozen.size S.Watch.counts) policy (beside part.old jobs.old) }
+    requires picked { IsPickedBy ⟦<S as Seen>⟧.eyes policy (beside part.old jobs.old) }
     ensures ended { OnOk result ((part.new.sealed ≡ None) × (part.new.flushing ≡ false) × (S.Device.size part.new.log.device ≤ empty_size)) }
     ensures nothing { S.Device.size part.old.log.device ≤ empty_size → part.old.sealed ≡ None → (result ≡ Ok tt) × (part.new ≡ part.old) × (jobs.new ≡ jobs.old) }
     ensures written { OnOk result (empty_size < S.Device.size part.old.log.device → (part.new.active ≡ []) × (part.new.sealed_log ≡ None) × (part.new.generation ≡ part.old.generation + 1)) }
     ensures unwritten { OnOk result (S.Device.size part.old.log.device ≤ empty_size → (part.new.active ≡ part.old.active) × (part.new.log ≡ part.old.log) × (part.new.generation ≡ part.old.generation)) }
     ensures flushed { OnOk result (empty_size < S.Device.size part.old.log.device → part.old.sealed ≡ None → length part.old.list < 8 → (c : ComponentState S.Frozen) × (part.new.list ≡ part.old.list ++ c ∷ [])) }
-    ensures moves { MovesOver (eyes S.history S.Device.history S.Frozen.content S.Device.name S.Frozen.size S.Watch.counts) result (beside part.old jobs.old) (beside part.new jobs.new) }
-    ensures listed { OnOk result (ListsPicked (eyes S.history S.Device.history S.Frozen.content S.Device.name S.Frozen.size S.Watch.counts) policy (beside part.old jobs.old) (beside part.new jobs.new)) }
+    ensures moves { MovesOver ⟦<S as Seen>⟧.eyes result (beside part.old jobs.old) (beside part.new jobs.new) }
+    ensures listed { OnOk result (ListsPicked ⟦<S as Seen>⟧.eyes policy (beside part.old jobs.old) (beside part.new jobs.new)) }
 
     // Where nothing is merged damage is that the listed components do not go together with the table, or with the one that the flush
     // made, or is in the file of that.
@@ -137,16 +138,16 @@ where
     S::Device: 'static,
     S::Frozen: 'static,
     S::Watch: 'static,
-    requires may { MayMove (eyes S.history S.Device.history S.Frozen.content S.Device.name S.Frozen.size S.Watch.counts) (beside part.old jobs.old) }
+    requires may { MayMove ⟦<S as Seen>⟧.eyes (beside part.old jobs.old) }
     requires nothing_staged { part.old.staged ≡ [] }
     requires none_sealed { part.old.sealed ≡ None }
     requires none_out { part.old.flushing ≡ false }
-    requires picked { IsPickedBy (eyes S.history S.Device.history S.Frozen.content S.Device.name S.Frozen.size S.Watch.counts) policy (beside part.old jobs.old) }
+    requires picked { IsPickedBy ⟦<S as Seen>⟧.eyes policy (beside part.old jobs.old) }
     ensures ended { OnOk result ((part.new.sealed ≡ None) × (part.new.sealed_log ≡ None) × (part.new.flushing ≡ false)) }
     ensures emptied { OnOk result ((part.new.active ≡ []) × (S.Device.size part.new.log.device ≡ empty_size) × (part.new.generation ≡ part.old.generation + 1)) }
     ensures flushed { OnOk result (length part.old.list < 8 → (c : ComponentState S.Frozen) × (part.new.list ≡ part.old.list ++ c ∷ [])) }
-    ensures moves { MovesOver (eyes S.history S.Device.history S.Frozen.content S.Device.name S.Frozen.size S.Watch.counts) result (beside part.old jobs.old) (beside part.new jobs.new) }
-    ensures listed { OnOk result (ListsPicked (eyes S.history S.Device.history S.Frozen.content S.Device.name S.Frozen.size S.Watch.counts) policy (beside part.old jobs.old) (beside part.new jobs.new)) }
+    ensures moves { MovesOver ⟦<S as Seen>⟧.eyes result (beside part.old jobs.old) (beside part.new jobs.new) }
+    ensures listed { OnOk result (ListsPicked ⟦<S as Seen>⟧.eyes policy (beside part.old jobs.old) (beside part.new jobs.new)) }
 
     // Where nothing is merged damage is that the listed components do not go together with the table, or with the one that the flush
     // made, or is in the file of that.
@@ -170,15 +171,15 @@ where
     S::Device: 'static,
     S::Frozen: 'static,
     S::Watch: 'static,
-    requires may { MayMove (eyes S.history S.Device.history S.Frozen.content S.Device.name S.Frozen.size S.Watch.counts) (beside part.old jobs.old) }
-    requires picked { IsPickedBy (eyes S.history S.Device.history S.Frozen.content S.Device.name S.Frozen.size S.Watch.counts) policy (beside part.old jobs.old) }
+    requires may { MayMove ⟦<S as Seen>⟧.eyes (beside part.old jobs.old) }
+    requires picked { IsPickedBy ⟦<S as Seen>⟧.eyes policy (beside part.old jobs.old) }
     ensures ended { OnOk result (part.old.flushing ≡ true → (part.new.sealed ≡ None) × (part.new.sealed_log ≡ None)) }
     ensures none_out { OnOk result (part.new.flushing ≡ false) }
     ensures installed { OnOk result (part.new ≡ record part.old { store = part.new.store; main = part.new.main; flusher = part.new.flusher; merger = part.new.merger; list = part.new.list; sealed = part.new.sealed; sealed_log = part.new.sealed_log; flushing = part.new.flushing; merging = part.new.merging }) }
     ensures nothing { part.old.flushing ≡ false → (result ≡ Ok tt) × (part.new ≡ part.old) × (jobs.new ≡ jobs.old) }
     ensures behind { OnOk result (part.old.flushing ≡ true → length part.old.list < 8 → (c : ComponentState S.Frozen) × (part.new.list ≡ part.old.list ++ c ∷ [])) }
-    ensures moves { Moves (eyes S.history S.Device.history S.Frozen.content S.Device.name S.Frozen.size S.Watch.counts) result (beside part.old jobs.old) (beside part.new jobs.new) }
-    ensures listed { OnOk result (ListsPicked (eyes S.history S.Device.history S.Frozen.content S.Device.name S.Frozen.size S.Watch.counts) policy (beside part.old jobs.old) (beside part.new jobs.new)) }
+    ensures moves { Moves ⟦<S as Seen>⟧.eyes result (beside part.old jobs.old) (beside part.new jobs.new) }
+    ensures listed { OnOk result (ListsPicked ⟦<S as Seen>⟧.eyes policy (beside part.old jobs.old) (beside part.new jobs.new)) }
 
     // Where nothing is merged damage is that the listed components do not go together with the one that the flush made, or is in the
     // file of that.
@@ -204,15 +205,15 @@ where
     S::Device: 'static,
     S::Frozen: 'static,
     S::Watch: 'static,
-    requires may { MayMove (eyes S.history S.Device.history S.Frozen.content S.Device.name S.Frozen.size S.Watch.counts) (beside part.old jobs.old) }
+    requires may { MayMove ⟦<S as Seen>⟧.eyes (beside part.old jobs.old) }
     requires nothing_staged { part.old.staged ≡ [] }
     requires none_sealed { part.old.sealed ≡ None }
     requires none_out { part.old.flushing ≡ false }
     ensures sealed { OnOk result ((part.new.flushing ≡ true) × (is_some part.new.sealed ≡ true) × (part.new.sealed_log ≡ Some part.old.log)) }
     ensures emptied { OnOk result ((part.new.active ≡ []) × (S.Device.size part.new.log.device ≡ empty_size) × (part.new.generation ≡ part.old.generation + 1)) }
     ensures list { OnOk result (part.new.list ≡ part.old.list) }
-    ensures moves { MovesOver (eyes S.history S.Device.history S.Frozen.content S.Device.name S.Frozen.size S.Watch.counts) result (beside part.old jobs.old) (beside part.new jobs.new) }
-    ensures listed { OnOk result ((policy : Policy) → IsPickedBy (eyes S.history S.Device.history S.Frozen.content S.Device.name S.Frozen.size S.Watch.counts) policy (beside part.old jobs.old) → ListsPicked (eyes S.history S.Device.history S.Frozen.content S.Device.name S.Frozen.size S.Watch.counts) policy (beside part.old jobs.old) (beside part.new jobs.new)) }
+    ensures moves { MovesOver ⟦<S as Seen>⟧.eyes result (beside part.old jobs.old) (beside part.new jobs.new) }
+    ensures listed { OnOk result ((policy : Policy) → IsPickedBy ⟦<S as Seen>⟧.eyes policy (beside part.old jobs.old) → ListsPicked ⟦<S as Seen>⟧.eyes policy (beside part.old jobs.old) (beside part.new jobs.new)) }
 
     // Damage is that the listed components do not go together with the table.
     ensures damaged { IfErr result (λ fault. IfDamaged fault (AreFiles (file_names part.old.list))) }

@@ -10,7 +10,7 @@ ghost use Rattle.tc_part_model.specs.PartView.{PartView};
 ghost use Rattle.tc_plain_model.specs.Writes.{Write as PlainWrite};
 ghost use Rattle.tc_work.specs.Ending.{Finishes, GivesBack};
 ghost use Rattle.tc_work.specs.JobsOut.{AreOut, WorkFor};
-ghost use Rattle.tc_work.specs.Moving.{beside, eyes, told_by, works_by, IsOutBy, IsPickedBy, KeepsJobs, MayMove, Moves};
+ghost use Rattle.tc_work.specs.Moving.{beside, told_by, works_by, IsOutBy, IsPickedBy, KeepsJobs, MayMove, Moves};
 ghost use Rattle.tc_work.specs.Settling.{MaySettle, PicksNone, TellsFiles};
 
 use crate::engine::Engine;
@@ -18,6 +18,7 @@ use crate::fault::EngineFault;
 use crate::flushing::install_flush;
 use crate::merging::install_merge;
 use crate::room::make_room;
+use crate::seen::Seen;
 use std::alloc::Global;
 use std::sync::Arc;
 use std::thread::Threads;
@@ -51,7 +52,7 @@ impl<S: Store, P: Pace> Engine<S, P> {
         // Where no file is out but those of the part's devices, none is out any more. Whatever a stop leaves from then on, and at each
         // moment of the call, is what was stored, of an engine that failed what it kept. One that has not failed opens as so few
         // components that the policy picks none, and as one log.
-        ensures ends { Finishes (eyes S.history S.Device.history S.Frozen.content S.Device.name S.Frozen.size S.Watch.counts) (λ d. S.Device.size d) self.policy (beside self.part jobs) result.outcome result.kit.store result.kit.main result.kit.flusher result.kit.merger result.kit.reader }
+        ensures ends { Finishes ⟦<S as Seen>⟧.eyes (λ d. S.Device.size d) self.policy (beside self.part jobs) result.outcome result.kit.store result.kit.main result.kit.flusher result.kit.merger result.kit.reader }
 
         // Where the log has no frame it has no write.
         ensures unwritten { (p : PartView) → IsPart (told S.history S.Device.history S.Frozen.content self.part) p → TellsFiles (told S.history S.Device.history S.Frozen.content self.part) → WorkFor S.Frozen.content S.Device.history S.Device.name jobs p → S.Device.size self.part.log.device ≤ empty_size → p.active.writes ≡ [] }
@@ -80,9 +81,9 @@ fn close_failed<S: Store, R: Threads>(
     part: Part<S>,
     jobs: Running<S>,
 ) -> Kit<S>
-    requires jobs { IsOutBy (eyes S.history S.Device.history S.Frozen.content S.Device.name S.Frozen.size S.Watch.counts) (beside part jobs) }
+    requires jobs { IsOutBy ⟦<S as Seen>⟧.eyes (beside part jobs) }
     requires reader { is_some part.reader ≡ true }
-    ensures ends { (policy : Policy) → Finishes (eyes S.history S.Device.history S.Frozen.content S.Device.name S.Frozen.size S.Watch.counts) (λ d. S.Device.size d) policy (beside (record part { failed = true }) jobs) (Ok tt) result.store result.main result.flusher result.merger result.reader }
+    ensures ends { (policy : Policy) → Finishes ⟦<S as Seen>⟧.eyes (λ d. S.Device.size d) policy (beside (record part { failed = true }) jobs) (Ok tt) result.store result.main result.flusher result.merger result.reader }
 {
     let mut part = part;
     let mut jobs = jobs;
@@ -104,11 +105,11 @@ where
     S::Device: 'static,
     S::Frozen: 'static,
     S::Watch: 'static,
-    requires may { MayMove (eyes S.history S.Device.history S.Frozen.content S.Device.name S.Frozen.size S.Watch.counts) (beside part jobs) }
+    requires may { MayMove ⟦<S as Seen>⟧.eyes (beside part jobs) }
     requires flushing { part.flushing ≡ is_some part.sealed }
-    requires picked { IsPickedBy (eyes S.history S.Device.history S.Frozen.content S.Device.name S.Frozen.size S.Watch.counts) policy (beside part jobs) }
+    requires picked { IsPickedBy ⟦<S as Seen>⟧.eyes policy (beside part jobs) }
     requires reader { is_some part.reader ≡ true }
-    ensures ends { Finishes (eyes S.history S.Device.history S.Frozen.content S.Device.name S.Frozen.size S.Watch.counts) (λ d. S.Device.size d) policy (beside part jobs) result.outcome result.kit.store result.kit.main result.kit.flusher result.kit.merger result.kit.reader }
+    ensures ends { Finishes ⟦<S as Seen>⟧.eyes (λ d. S.Device.size d) policy (beside part jobs) result.outcome result.kit.store result.kit.main result.kit.flusher result.kit.merger result.kit.reader }
 {
     let mut part = part;
     let mut jobs = jobs;
@@ -133,8 +134,8 @@ where
     S::Device: 'static,
     S::Frozen: 'static,
     S::Watch: 'static,
-    requires may { MayMove (eyes S.history S.Device.history S.Frozen.content S.Device.name S.Frozen.size S.Watch.counts) (beside part.old jobs.old) }
-    requires picked { IsPickedBy (eyes S.history S.Device.history S.Frozen.content S.Device.name S.Frozen.size S.Watch.counts) policy (beside part.old jobs.old) }
+    requires may { MayMove ⟦<S as Seen>⟧.eyes (beside part.old jobs.old) }
+    requires picked { IsPickedBy ⟦<S as Seen>⟧.eyes policy (beside part.old jobs.old) }
     ensures none_out { (part.new.flushing ≡ false) × (part.new.merging ≡ None) }
     ensures none_left { (jobs.new.flush ≡ None) × (jobs.new.merge ≡ None) }
     ensures left { OnErr result (part.new.failed ≡ true) }
@@ -142,7 +143,7 @@ where
     ensures none_sealed { OnOk result (part.old.flushing ≡ is_some part.old.sealed → part.new.sealed ≡ None) }
     ensures none { OnOk result (PicksNone policy part.new.list) }
     ensures nothing { jobs.old.flush ≡ None → jobs.old.merge ≡ None → PicksNone policy part.old.list → OnOk result ((part.new ≡ part.old) × (jobs.new ≡ jobs.old)) }
-    ensures moves { Moves (eyes S.history S.Device.history S.Frozen.content S.Device.name S.Frozen.size S.Watch.counts) result (beside part.old jobs.old) (beside part.new jobs.new) }
+    ensures moves { Moves ⟦<S as Seen>⟧.eyes result (beside part.old jobs.old) (beside part.new jobs.new) }
 {
     match install_both(rt, alloc, part, jobs, policy, pace) {
         Ok(()) => Ok(()),
@@ -167,13 +168,13 @@ where
     S::Device: 'static,
     S::Frozen: 'static,
     S::Watch: 'static,
-    requires may { MayMove (eyes S.history S.Device.history S.Frozen.content S.Device.name S.Frozen.size S.Watch.counts) (beside part.old jobs.old) }
-    requires picked { IsPickedBy (eyes S.history S.Device.history S.Frozen.content S.Device.name S.Frozen.size S.Watch.counts) policy (beside part.old jobs.old) }
+    requires may { MayMove ⟦<S as Seen>⟧.eyes (beside part.old jobs.old) }
+    requires picked { IsPickedBy ⟦<S as Seen>⟧.eyes policy (beside part.old jobs.old) }
     ensures ended { OnOk result (part.new ≡ record part.old { store = part.new.store; main = part.new.main; flusher = part.new.flusher; merger = part.new.merger; list = part.new.list; sealed = part.new.sealed; sealed_log = part.new.sealed_log; flushing = false; merging = None }) }
     ensures none_sealed { OnOk result (part.old.flushing ≡ is_some part.old.sealed → part.new.sealed ≡ None) }
     ensures none { OnOk result (PicksNone policy part.new.list) }
     ensures nothing { jobs.old.flush ≡ None → jobs.old.merge ≡ None → PicksNone policy part.old.list → OnOk result ((part.new ≡ part.old) × (jobs.new ≡ jobs.old)) }
-    ensures moves { Moves (eyes S.history S.Device.history S.Frozen.content S.Device.name S.Frozen.size S.Watch.counts) result (beside part.old jobs.old) (beside part.new jobs.new) }
+    ensures moves { Moves ⟦<S as Seen>⟧.eyes result (beside part.old jobs.old) (beside part.new jobs.new) }
 {
     install_merge(rt, alloc, part, jobs)?;
     install_flush(rt, alloc, part, jobs)?;
@@ -183,15 +184,15 @@ where
 /// Brings home what is left of the jobs that are out, and takes their watches back, of a part that has failed.
 fn give_back<S: Store, R: Threads>(rt: &R, alloc: Global, part: &mut Part<S>, jobs: &mut Running<S>)
     requires failed { part.old.failed ≡ true }
-    requires jobs { IsOutBy (eyes S.history S.Device.history S.Frozen.content S.Device.name S.Frozen.size S.Watch.counts) (beside part.old jobs.old) }
+    requires jobs { IsOutBy ⟦<S as Seen>⟧.eyes (beside part.old jobs.old) }
     ensures none_left { (jobs.new.flush ≡ None) × (jobs.new.merge ≡ None) }
     ensures nothing { jobs.old.flush ≡ None → jobs.old.merge ≡ None → (part.new ≡ part.old) × (jobs.new ≡ jobs.old) }
     ensures given { part.new ≡ record part.old { store = part.new.store; flusher = part.new.flusher; merger = part.new.merger; flushing = false; merging = None } }
-    ensures log_out { LogIsOut (told_by (eyes S.history S.Device.history S.Frozen.content S.Device.name S.Frozen.size S.Watch.counts) (beside part.old jobs.old)) → LogIsOut (told_by (eyes S.history S.Device.history S.Frozen.content S.Device.name S.Frozen.size S.Watch.counts) (beside part.new jobs.new)) }
-    ensures keeps { KeepsJobs (eyes S.history S.Device.history S.Frozen.content S.Device.name S.Frozen.size S.Watch.counts) ⊥ (beside part.old jobs.old) (beside part.new jobs.new) }
+    ensures log_out { LogIsOut (told_by ⟦<S as Seen>⟧.eyes (beside part.old jobs.old)) → LogIsOut (told_by ⟦<S as Seen>⟧.eyes (beside part.new jobs.new)) }
+    ensures keeps { KeepsJobs ⟦<S as Seen>⟧.eyes ⊥ (beside part.old jobs.old) (beside part.new jobs.new) }
 
     // It keeps what it kept, at each moment too.
-    ensures stays { (p : PartView) (frame : Option (List PlainWrite)) → GivesBack (works_by (eyes S.history S.Device.history S.Frozen.content S.Device.name S.Frozen.size S.Watch.counts) (beside part.old jobs.old)) (works_by (eyes S.history S.Device.history S.Frozen.content S.Device.name S.Frozen.size S.Watch.counts) (beside part.new jobs.new)) p frame (told_by (eyes S.history S.Device.history S.Frozen.content S.Device.name S.Frozen.size S.Watch.counts) (beside part.old jobs.old)) (told_by (eyes S.history S.Device.history S.Frozen.content S.Device.name S.Frozen.size S.Watch.counts) (beside part.new jobs.new)) }
+    ensures stays { (p : PartView) (frame : Option (List PlainWrite)) → GivesBack (works_by ⟦<S as Seen>⟧.eyes (beside part.old jobs.old)) (works_by ⟦<S as Seen>⟧.eyes (beside part.new jobs.new)) p frame (told_by ⟦<S as Seen>⟧.eyes (beside part.old jobs.old)) (told_by ⟦<S as Seen>⟧.eyes (beside part.new jobs.new)) }
 {
     give_back_merge(rt, alloc, part, jobs);
     give_back_flush(rt, alloc, part, jobs);
@@ -205,15 +206,15 @@ fn give_back_merge<S: Store, R: Threads>(
     jobs: &mut Running<S>,
 )
     requires failed { part.old.failed ≡ true }
-    requires jobs { IsOutBy (eyes S.history S.Device.history S.Frozen.content S.Device.name S.Frozen.size S.Watch.counts) (beside part.old jobs.old) }
+    requires jobs { IsOutBy ⟦<S as Seen>⟧.eyes (beside part.old jobs.old) }
     ensures none_left { (jobs.new.flush ≡ jobs.old.flush) × (jobs.new.merge ≡ None) }
     ensures nothing { jobs.old.merge ≡ None → (part.new ≡ part.old) × (jobs.new ≡ jobs.old) }
     ensures given { part.new ≡ record part.old { store = part.new.store; merger = part.new.merger; merging = None } }
-    ensures log_out { LogIsOut (told_by (eyes S.history S.Device.history S.Frozen.content S.Device.name S.Frozen.size S.Watch.counts) (beside part.old jobs.old)) → LogIsOut (told_by (eyes S.history S.Device.history S.Frozen.content S.Device.name S.Frozen.size S.Watch.counts) (beside part.new jobs.new)) }
-    ensures keeps { KeepsJobs (eyes S.history S.Device.history S.Frozen.content S.Device.name S.Frozen.size S.Watch.counts) ⊥ (beside part.old jobs.old) (beside part.new jobs.new) }
+    ensures log_out { LogIsOut (told_by ⟦<S as Seen>⟧.eyes (beside part.old jobs.old)) → LogIsOut (told_by ⟦<S as Seen>⟧.eyes (beside part.new jobs.new)) }
+    ensures keeps { KeepsJobs ⟦<S as Seen>⟧.eyes ⊥ (beside part.old jobs.old) (beside part.new jobs.new) }
 
     // It keeps what it kept, at each moment too.
-    ensures stays { (p : PartView) (frame : Option (List PlainWrite)) → GivesBack (works_by (eyes S.history S.Device.history S.Frozen.content S.Device.name S.Frozen.size S.Watch.counts) (beside part.old jobs.old)) (works_by (eyes S.history S.Device.history S.Frozen.content S.Device.name S.Frozen.size S.Watch.counts) (beside part.new jobs.new)) p frame (told_by (eyes S.history S.Device.history S.Frozen.content S.Device.name S.Frozen.size S.Watch.counts) (beside part.old jobs.old)) (told_by (eyes S.history S.Device.history S.Frozen.content S.Device.name S.Frozen.size S.Watch.counts) (beside part.new jobs.new)) }
+    ensures stays { (p : PartView) (frame : Option (List PlainWrite)) → GivesBack (works_by ⟦<S as Seen>⟧.eyes (beside part.old jobs.old)) (works_by ⟦<S as Seen>⟧.eyes (beside part.new jobs.new)) p frame (told_by ⟦<S as Seen>⟧.eyes (beside part.old jobs.old)) (told_by ⟦<S as Seen>⟧.eyes (beside part.new jobs.new)) }
 {
     match jobs.join_merge(rt) {
         Some(out) => {
@@ -231,15 +232,15 @@ fn give_back_flush<S: Store, R: Threads>(
     jobs: &mut Running<S>,
 )
     requires failed { part.old.failed ≡ true }
-    requires jobs { IsOutBy (eyes S.history S.Device.history S.Frozen.content S.Device.name S.Frozen.size S.Watch.counts) (beside part.old jobs.old) }
+    requires jobs { IsOutBy ⟦<S as Seen>⟧.eyes (beside part.old jobs.old) }
     ensures none_left { (jobs.new.flush ≡ None) × (jobs.new.merge ≡ jobs.old.merge) }
     ensures nothing { jobs.old.flush ≡ None → (part.new ≡ part.old) × (jobs.new ≡ jobs.old) }
     ensures given { part.new ≡ record part.old { store = part.new.store; flusher = part.new.flusher; flushing = false } }
-    ensures log_out { LogIsOut (told_by (eyes S.history S.Device.history S.Frozen.content S.Device.name S.Frozen.size S.Watch.counts) (beside part.old jobs.old)) → LogIsOut (told_by (eyes S.history S.Device.history S.Frozen.content S.Device.name S.Frozen.size S.Watch.counts) (beside part.new jobs.new)) }
-    ensures keeps { KeepsJobs (eyes S.history S.Device.history S.Frozen.content S.Device.name S.Frozen.size S.Watch.counts) ⊥ (beside part.old jobs.old) (beside part.new jobs.new) }
+    ensures log_out { LogIsOut (told_by ⟦<S as Seen>⟧.eyes (beside part.old jobs.old)) → LogIsOut (told_by ⟦<S as Seen>⟧.eyes (beside part.new jobs.new)) }
+    ensures keeps { KeepsJobs ⟦<S as Seen>⟧.eyes ⊥ (beside part.old jobs.old) (beside part.new jobs.new) }
 
     // It keeps what it kept, at each moment too.
-    ensures stays { (p : PartView) (frame : Option (List PlainWrite)) → GivesBack (works_by (eyes S.history S.Device.history S.Frozen.content S.Device.name S.Frozen.size S.Watch.counts) (beside part.old jobs.old)) (works_by (eyes S.history S.Device.history S.Frozen.content S.Device.name S.Frozen.size S.Watch.counts) (beside part.new jobs.new)) p frame (told_by (eyes S.history S.Device.history S.Frozen.content S.Device.name S.Frozen.size S.Watch.counts) (beside part.old jobs.old)) (told_by (eyes S.history S.Device.history S.Frozen.content S.Device.name S.Frozen.size S.Watch.counts) (beside part.new jobs.new)) }
+    ensures stays { (p : PartView) (frame : Option (List PlainWrite)) → GivesBack (works_by ⟦<S as Seen>⟧.eyes (beside part.old jobs.old)) (works_by ⟦<S as Seen>⟧.eyes (beside part.new jobs.new)) p frame (told_by ⟦<S as Seen>⟧.eyes (beside part.old jobs.old)) (told_by ⟦<S as Seen>⟧.eyes (beside part.new jobs.new)) }
 {
     tables_keep_documents();
     match jobs.join_flush(rt) {

@@ -7,9 +7,10 @@ ghost use Rattle.tc_jobs.specs.Lists.{file_names};
 ghost use Rattle.tc_list.specs.declared.policy.Policy.{Policy};
 ghost use Rattle.tc_part.specs.FlushEnds.{flushed_name};
 ghost use Rattle.tc_work.specs.Faults.{AreOfFiles, IfDamaged};
-ghost use Rattle.tc_work.specs.Moving.{beside, eyes, IsPickedBy, ListsPicked, MayMove, Moves};
+ghost use Rattle.tc_work.specs.Moving.{beside, IsPickedBy, ListsPicked, MayMove, Moves};
 
 use crate::fault::EngineFault;
+use crate::seen::Seen;
 use std::alloc::Global;
 use std::sync::Arc;
 use std::thread::Threads;
@@ -31,13 +32,13 @@ where
     S::Device: 'static,
     S::Frozen: 'static,
     S::Watch: 'static,
-    requires may { MayMove (eyes S.history S.Device.history S.Frozen.content S.Device.name S.Frozen.size S.Watch.counts) (beside part.old jobs.old) }
+    requires may { MayMove ⟦<S as Seen>⟧.eyes (beside part.old jobs.old) }
     requires sealed { is_some part.old.sealed ≡ true }
     requires both { is_some part.old.sealed_log ≡ true }
     requires none_out { part.old.flushing ≡ false }
     ensures begun { OnOk result (part.new ≡ record part.old { store = part.new.store; main = part.new.main; flusher = None; flushing = true }) }
-    ensures moves { Moves (eyes S.history S.Device.history S.Frozen.content S.Device.name S.Frozen.size S.Watch.counts) result (beside part.old jobs.old) (beside part.new jobs.new) }
-    ensures listed { OnOk result ((policy : Policy) → IsPickedBy (eyes S.history S.Device.history S.Frozen.content S.Device.name S.Frozen.size S.Watch.counts) policy (beside part.old jobs.old) → ListsPicked (eyes S.history S.Device.history S.Frozen.content S.Device.name S.Frozen.size S.Watch.counts) policy (beside part.old jobs.old) (beside part.new jobs.new)) }
+    ensures moves { Moves ⟦<S as Seen>⟧.eyes result (beside part.old jobs.old) (beside part.new jobs.new) }
+    ensures listed { OnOk result ((policy : Policy) → IsPickedBy ⟦<S as Seen>⟧.eyes policy (beside part.old jobs.old) → ListsPicked ⟦<S as Seen>⟧.eyes policy (beside part.old jobs.old) (beside part.new jobs.new)) }
 
     // Damage is that the listed components do not go together with the table.
     ensures damaged { IfErr result (λ fault. IfDamaged fault (AreFiles (file_names part.old.list))) }
@@ -58,13 +59,13 @@ pub(crate) fn install_flush<S: Store, R: Threads>(
     part: &mut Part<S>,
     jobs: &mut Running<S>,
 ) -> Result<(), EngineFault>
-    requires may { MayMove (eyes S.history S.Device.history S.Frozen.content S.Device.name S.Frozen.size S.Watch.counts) (beside part.old jobs.old) }
+    requires may { MayMove ⟦<S as Seen>⟧.eyes (beside part.old jobs.old) }
     ensures nothing { jobs.old.flush ≡ None → OnOk result ((part.new ≡ part.old) × (jobs.new ≡ jobs.old)) }
     ensures installed { OnOk result (part.new ≡ record part.old { store = part.new.store; main = part.new.main; flusher = part.new.flusher; list = part.new.list; sealed = part.new.sealed; sealed_log = part.new.sealed_log; flushing = false }) }
     ensures none_sealed { OnOk result (part.old.flushing ≡ true → (part.new.sealed ≡ None) × (part.new.sealed_log ≡ None)) }
     ensures behind { OnOk result (part.old.flushing ≡ true → (c : ComponentState S.Frozen) × (part.new.list ≡ part.old.list ++ c ∷ [])) }
-    ensures moves { Moves (eyes S.history S.Device.history S.Frozen.content S.Device.name S.Frozen.size S.Watch.counts) result (beside part.old jobs.old) (beside part.new jobs.new) }
-    ensures listed { OnOk result ((policy : Policy) → IsPickedBy (eyes S.history S.Device.history S.Frozen.content S.Device.name S.Frozen.size S.Watch.counts) policy (beside part.old jobs.old) → ListsPicked (eyes S.history S.Device.history S.Frozen.content S.Device.name S.Frozen.size S.Watch.counts) policy (beside part.old jobs.old) (beside part.new jobs.new)) }
+    ensures moves { Moves ⟦<S as Seen>⟧.eyes result (beside part.old jobs.old) (beside part.new jobs.new) }
+    ensures listed { OnOk result ((policy : Policy) → IsPickedBy ⟦<S as Seen>⟧.eyes policy (beside part.old jobs.old) → ListsPicked ⟦<S as Seen>⟧.eyes policy (beside part.old jobs.old) (beside part.new jobs.new)) }
 
     // Damage is that the listed components do not go together with the one that the flush made, or is in the file of that.
     ensures damaged { IfErr result (λ fault. IfDamaged fault (AreOfFiles (file_names part.old.list) (flushed_name part.old))) }

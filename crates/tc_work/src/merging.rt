@@ -6,10 +6,11 @@ ghost use Rattle.tc_list.specs.declared.policy.Policy.{Policy};
 ghost use Rattle.tc_list.specs.Runs.{neighbours};
 ghost use Rattle.tc_part.specs.Ready.{LiesIn};
 ghost use Rattle.tc_work.specs.Faults.{IfDamaged};
-ghost use Rattle.tc_work.specs.Moving.{beside, eyes, IsPickedBy, ListsPicked, MayMove, Moves};
+ghost use Rattle.tc_work.specs.Moving.{beside, IsPickedBy, ListsPicked, MayMove, Moves};
 ghost use Rattle.tc_work.specs.Settling.{PicksNone};
 
 use crate::fault::EngineFault;
+use crate::seen::Seen;
 use std::alloc::Global;
 use std::sync::Arc;
 use std::thread::Threads;
@@ -33,15 +34,15 @@ where
     S::Device: 'static,
     S::Frozen: 'static,
     S::Watch: 'static,
-    requires may { MayMove (eyes S.history S.Device.history S.Frozen.content S.Device.name S.Frozen.size S.Watch.counts) (beside part.old jobs.old) }
-    requires picked { IsPickedBy (eyes S.history S.Device.history S.Frozen.content S.Device.name S.Frozen.size S.Watch.counts) policy (beside part.old jobs.old) }
+    requires may { MayMove ⟦<S as Seen>⟧.eyes (beside part.old jobs.old) }
+    requires picked { IsPickedBy ⟦<S as Seen>⟧.eyes policy (beside part.old jobs.old) }
     ensures none { OnOk result (part.new.merging ≡ None → PicksNone policy part.new.list) }
     ensures nothing { PicksNone policy part.old.list → OnOk result ((part.new ≡ part.old) × (jobs.new ≡ jobs.old)) }
     ensures begun { OnOk result (part.new ≡ record part.old { store = part.new.store; main = part.new.main; merger = part.new.merger; merging = part.new.merging }) }
     ensures flush { jobs.new.flush ≡ jobs.old.flush }
     ensures undamaged { IfErr result (λ fault. IfDamaged fault (λ damage. ⊥)) }
-    ensures moves { Moves (eyes S.history S.Device.history S.Frozen.content S.Device.name S.Frozen.size S.Watch.counts) result (beside part.old jobs.old) (beside part.new jobs.new) }
-    ensures listed { OnOk result (ListsPicked (eyes S.history S.Device.history S.Frozen.content S.Device.name S.Frozen.size S.Watch.counts) policy (beside part.old jobs.old) (beside part.new jobs.new)) }
+    ensures moves { Moves ⟦<S as Seen>⟧.eyes result (beside part.old jobs.old) (beside part.new jobs.new) }
+    ensures listed { OnOk result (ListsPicked ⟦<S as Seen>⟧.eyes policy (beside part.old jobs.old) (beside part.new jobs.new)) }
 {
     failed_parts_keep_files();
     if jobs.is_merging() {
@@ -66,14 +67,14 @@ where
     S::Device: 'static,
     S::Frozen: 'static,
     S::Watch: 'static,
-    requires may { MayMove (eyes S.history S.Device.history S.Frozen.content S.Device.name S.Frozen.size S.Watch.counts) (beside part.old jobs.old) }
+    requires may { MayMove ⟦<S as Seen>⟧.eyes (beside part.old jobs.old) }
     requires none_out { part.old.merging ≡ None }
     requires run { LiesIn part.old.list run }
     ensures begun { OnOk result (part.new ≡ record part.old { store = part.new.store; main = part.new.main; merger = None; merging = Some (neighbours run) }) }
     ensures flush { jobs.new.flush ≡ jobs.old.flush }
     ensures undamaged { IfErr result (λ fault. IfDamaged fault (λ damage. ⊥)) }
-    ensures moves { Moves (eyes S.history S.Device.history S.Frozen.content S.Device.name S.Frozen.size S.Watch.counts) result (beside part.old jobs.old) (beside part.new jobs.new) }
-    ensures listed { OnOk result ((policy : Policy) → IsPicked policy (map (λ c. S.Frozen.size c.file) part.old.list) run → ListsPicked (eyes S.history S.Device.history S.Frozen.content S.Device.name S.Frozen.size S.Watch.counts) policy (beside part.old jobs.old) (beside part.new jobs.new)) }
+    ensures moves { Moves ⟦<S as Seen>⟧.eyes result (beside part.old jobs.old) (beside part.new jobs.new) }
+    ensures listed { OnOk result ((policy : Policy) → IsPicked policy (map (λ c. S.Frozen.size c.file) part.old.list) run → ListsPicked ⟦<S as Seen>⟧.eyes policy (beside part.old jobs.old) (beside part.new jobs.new)) }
 {
     failed_parts_keep_files();
     let partition = part.number();
@@ -90,13 +91,13 @@ pub(crate) fn install_merge<S: Store, R: Threads>(
     part: &mut Part<S>,
     jobs: &mut Running<S>,
 ) -> Result<(), EngineFault>
-    requires may { MayMove (eyes S.history S.Device.history S.Frozen.content S.Device.name S.Frozen.size S.Watch.counts) (beside part.old jobs.old) }
+    requires may { MayMove ⟦<S as Seen>⟧.eyes (beside part.old jobs.old) }
     ensures nothing { jobs.old.merge ≡ None → OnOk result ((part.new ≡ part.old) × (jobs.new ≡ jobs.old)) }
     ensures installed { OnOk result (part.new ≡ record part.old { store = part.new.store; main = part.new.main; merger = part.new.merger; list = part.new.list; merging = None }) }
     ensures fewer { OnOk result (is_some part.old.merging ≡ true → length part.new.list < length part.old.list) }
     ensures flush { jobs.new.flush ≡ jobs.old.flush }
-    ensures moves { Moves (eyes S.history S.Device.history S.Frozen.content S.Device.name S.Frozen.size S.Watch.counts) result (beside part.old jobs.old) (beside part.new jobs.new) }
-    ensures listed { OnOk result ((policy : Policy) → IsPickedBy (eyes S.history S.Device.history S.Frozen.content S.Device.name S.Frozen.size S.Watch.counts) policy (beside part.old jobs.old) → ListsPicked (eyes S.history S.Device.history S.Frozen.content S.Device.name S.Frozen.size S.Watch.counts) policy (beside part.old jobs.old) (beside part.new jobs.new)) }
+    ensures moves { Moves ⟦<S as Seen>⟧.eyes result (beside part.old jobs.old) (beside part.new jobs.new) }
+    ensures listed { OnOk result ((policy : Policy) → IsPickedBy ⟦<S as Seen>⟧.eyes policy (beside part.old jobs.old) → ListsPicked ⟦<S as Seen>⟧.eyes policy (beside part.old jobs.old) (beside part.new jobs.new)) }
 {
     components_are_contents();
     match jobs.join_merge(rt) {

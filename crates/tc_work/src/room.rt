@@ -1,11 +1,12 @@
 //! Components are merged until few are listed, so that one more has room.
 
 ghost use Rattle.std.specs.Prelude.{◌≡◌, ◌≤◌, ◌⊎◌, length, None, Ok, OnOk};
-ghost use Rattle.tc_work.specs.Moving.{beside, eyes, IsPickedBy, ListsPicked, MayMove, Moves};
+ghost use Rattle.tc_work.specs.Moving.{beside, IsPickedBy, ListsPicked, MayMove, Moves};
 ghost use Rattle.tc_work.specs.Settling.{PicksNone};
 
 use crate::fault::EngineFault;
 use crate::merging::{install_merge, start_merge};
+use crate::seen::Seen;
 use std::alloc::Global;
 use std::sync::Arc;
 use std::thread::Threads;
@@ -31,16 +32,16 @@ where
     S::Device: 'static,
     S::Frozen: 'static,
     S::Watch: 'static,
-    requires may { MayMove (eyes S.history S.Device.history S.Frozen.content S.Device.name S.Frozen.size S.Watch.counts) (beside part.old jobs.old) }
-    requires picked { IsPickedBy (eyes S.history S.Device.history S.Frozen.content S.Device.name S.Frozen.size S.Watch.counts) policy (beside part.old jobs.old) }
+    requires may { MayMove ⟦<S as Seen>⟧.eyes (beside part.old jobs.old) }
+    requires picked { IsPickedBy ⟦<S as Seen>⟧.eyes policy (beside part.old jobs.old) }
     ensures few { OnOk result ((length part.new.list ≤ most) ⊎ PicksNone policy part.new.list) }
     ensures enough { length part.old.list ≤ most → (result ≡ Ok tt) × (part.new ≡ part.old) × (jobs.new ≡ jobs.old) }
     ensures nothing { PicksNone policy part.old.list → jobs.old.merge ≡ None → OnOk result ((part.new ≡ part.old) × (jobs.new ≡ jobs.old)) }
     ensures joined { OnOk result (part.old.merging ≡ None → part.new.merging ≡ None) }
     ensures merged { OnOk result (part.new ≡ record part.old { store = part.new.store; main = part.new.main; merger = part.new.merger; list = part.new.list; merging = part.new.merging }) }
     ensures flush { jobs.new.flush ≡ jobs.old.flush }
-    ensures moves { Moves (eyes S.history S.Device.history S.Frozen.content S.Device.name S.Frozen.size S.Watch.counts) result (beside part.old jobs.old) (beside part.new jobs.new) }
-    ensures listed { OnOk result (ListsPicked (eyes S.history S.Device.history S.Frozen.content S.Device.name S.Frozen.size S.Watch.counts) policy (beside part.old jobs.old) (beside part.new jobs.new)) }
+    ensures moves { Moves ⟦<S as Seen>⟧.eyes result (beside part.old jobs.old) (beside part.new jobs.new) }
+    ensures listed { OnOk result (ListsPicked ⟦<S as Seen>⟧.eyes policy (beside part.old jobs.old) (beside part.new jobs.new)) }
 {
     while part.listed() > most {
         start_merge(rt, alloc, part, jobs, policy, pace)?;
@@ -65,14 +66,14 @@ where
     S::Device: 'static,
     S::Frozen: 'static,
     S::Watch: 'static,
-    requires may { MayMove (eyes S.history S.Device.history S.Frozen.content S.Device.name S.Frozen.size S.Watch.counts) (beside part.old jobs.old) }
-    requires picked { IsPickedBy (eyes S.history S.Device.history S.Frozen.content S.Device.name S.Frozen.size S.Watch.counts) policy (beside part.old jobs.old) }
+    requires may { MayMove ⟦<S as Seen>⟧.eyes (beside part.old jobs.old) }
+    requires picked { IsPickedBy ⟦<S as Seen>⟧.eyes policy (beside part.old jobs.old) }
     ensures none { OnOk result (part.new.merging ≡ None → PicksNone policy part.new.list) }
     ensures few { OnOk result ((length part.new.list ≤ 8) ⊎ PicksNone policy part.new.list) }
     ensures merged { OnOk result (part.new ≡ record part.old { store = part.new.store; main = part.new.main; merger = part.new.merger; list = part.new.list; merging = part.new.merging }) }
     ensures flush { jobs.new.flush ≡ jobs.old.flush }
-    ensures moves { Moves (eyes S.history S.Device.history S.Frozen.content S.Device.name S.Frozen.size S.Watch.counts) result (beside part.old jobs.old) (beside part.new jobs.new) }
-    ensures listed { OnOk result (ListsPicked (eyes S.history S.Device.history S.Frozen.content S.Device.name S.Frozen.size S.Watch.counts) policy (beside part.old jobs.old) (beside part.new jobs.new)) }
+    ensures moves { Moves ⟦<S as Seen>⟧.eyes result (beside part.old jobs.old) (beside part.new jobs.new) }
+    ensures listed { OnOk result (ListsPicked ⟦<S as Seen>⟧.eyes policy (beside part.old jobs.old) (beside part.new jobs.new)) }
 {
     // Only an opening lists more.
     make_room(rt, alloc, part, jobs, policy, pace, MOST_LISTED)?;

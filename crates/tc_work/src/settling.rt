@@ -6,13 +6,14 @@ ghost use Rattle.tc_list.specs.Intervals.{last_of};
 ghost use Rattle.tc_list.specs.Policies.{listed_least};
 ghost use Rattle.tc_part_model.specs.PartState.{told};
 ghost use Rattle.tc_work.specs.JobsOut.{AreOut};
-ghost use Rattle.tc_work.specs.Moving.{beside, eyes, IsPickedBy, ListsPicked, MayMove, MovesOver};
+ghost use Rattle.tc_work.specs.Moving.{beside, IsPickedBy, ListsPicked, MayMove, MovesOver};
 ghost use Rattle.tc_work.specs.Settling.{IsDue, IsListedBy, MaySettle, PicksNone};
 
 use crate::emptying::{EMPTY_LOG, end_flush, seal_and_start};
 use crate::engine::Engine;
 use crate::fault::EngineFault;
 use crate::room::merge_on;
+use crate::seen::Seen;
 use crate::sweeping::sweep;
 use std::alloc::Global;
 use std::sync::Arc;
@@ -45,7 +46,7 @@ impl<S: Store, P: Pace> Engine<S, P> {
 
         // Whatever it answers, at each moment a stop leaves what was stored, the jobs are those of the engine that are out, and nothing
         // changed but where documents are. After Ok the engine stores what it stored. Damage is that of the part as it is left.
-        ensures moves { MovesOver (eyes S.history S.Device.history S.Frozen.content S.Device.name S.Frozen.size S.Watch.counts) result (beside self.old.part jobs.old) (beside self.new.part jobs.new) }
+        ensures moves { MovesOver ⟦<S as Seen>⟧.eyes result (beside self.old.part jobs.old) (beside self.new.part jobs.new) }
         ensures left { OnErr result (self.new.part.failed ≡ true) }
 
         // Where that was due, the table is sealed, and the next log has no frame; else tables and log are as they were. The log is short
@@ -92,18 +93,18 @@ where
     S::Device: 'static,
     S::Frozen: 'static,
     S::Watch: 'static,
-    requires may { MayMove (eyes S.history S.Device.history S.Frozen.content S.Device.name S.Frozen.size S.Watch.counts) (beside part.old jobs.old) }
+    requires may { MayMove ⟦<S as Seen>⟧.eyes (beside part.old jobs.old) }
     requires nothing_staged { part.old.staged ≡ [] }
     requires flushing { part.old.flushing ≡ is_some part.old.sealed }
-    requires picked { IsPickedBy (eyes S.history S.Device.history S.Frozen.content S.Device.name S.Frozen.size S.Watch.counts) policy (beside part.old jobs.old) }
+    requires picked { IsPickedBy ⟦<S as Seen>⟧.eyes policy (beside part.old jobs.old) }
     ensures emptied { OnOk result (IsDue (λ d. S.Device.size d) part.old → (part.new.active ≡ []) × (S.Device.size part.new.log.device ≡ empty_size) × (part.new.generation ≡ part.old.generation + 1)) }
     ensures undue { OnOk result ((IsDue (λ d. S.Device.size d) part.old → ⊥) → (part.new.active ≡ part.old.active) × (part.new.log ≡ part.old.log) × (part.new.generation ≡ part.old.generation) × (part.new.sealed ≡ part.old.sealed) × (jobs.new.flush ≡ jobs.old.flush)) }
     ensures short { OnOk result (empty_size < part.old.memory → S.Device.size part.new.log.device < part.old.memory) }
     ensures none { OnOk result (part.new.merging ≡ None → PicksNone policy part.new.list) }
     ensures few { OnOk result ((length part.new.list ≤ 8) ⊎ PicksNone policy part.new.list) }
     ensures flushing { OnOk result (part.new.flushing ≡ is_some part.new.sealed) }
-    ensures moves { MovesOver (eyes S.history S.Device.history S.Frozen.content S.Device.name S.Frozen.size S.Watch.counts) result (beside part.old jobs.old) (beside part.new jobs.new) }
-    ensures listed { OnOk result (ListsPicked (eyes S.history S.Device.history S.Frozen.content S.Device.name S.Frozen.size S.Watch.counts) policy (beside part.old jobs.old) (beside part.new jobs.new)) }
+    ensures moves { MovesOver ⟦<S as Seen>⟧.eyes result (beside part.old jobs.old) (beside part.new jobs.new) }
+    ensures listed { OnOk result (ListsPicked ⟦<S as Seen>⟧.eyes policy (beside part.old jobs.old) (beside part.new jobs.new)) }
 {
     sweep(alloc, part)?;
     go_on(rt, alloc, part, jobs, policy, pace)
@@ -122,18 +123,18 @@ where
     S::Device: 'static,
     S::Frozen: 'static,
     S::Watch: 'static,
-    requires may { MayMove (eyes S.history S.Device.history S.Frozen.content S.Device.name S.Frozen.size S.Watch.counts) (beside part.old jobs.old) }
+    requires may { MayMove ⟦<S as Seen>⟧.eyes (beside part.old jobs.old) }
     requires nothing_staged { part.old.staged ≡ [] }
     requires flushing { part.old.flushing ≡ is_some part.old.sealed }
-    requires picked { IsPickedBy (eyes S.history S.Device.history S.Frozen.content S.Device.name S.Frozen.size S.Watch.counts) policy (beside part.old jobs.old) }
+    requires picked { IsPickedBy ⟦<S as Seen>⟧.eyes policy (beside part.old jobs.old) }
     ensures emptied { OnOk result (IsDue (λ d. S.Device.size d) part.old → (part.new.active ≡ []) × (S.Device.size part.new.log.device ≡ empty_size) × (part.new.generation ≡ part.old.generation + 1)) }
     ensures undue { OnOk result ((IsDue (λ d. S.Device.size d) part.old → ⊥) → (part.new.active ≡ part.old.active) × (part.new.log ≡ part.old.log) × (part.new.generation ≡ part.old.generation) × (part.new.sealed ≡ part.old.sealed) × (jobs.new.flush ≡ jobs.old.flush)) }
     ensures short { OnOk result (empty_size < part.old.memory → S.Device.size part.new.log.device < part.old.memory) }
     ensures none { OnOk result (part.new.merging ≡ None → PicksNone policy part.new.list) }
     ensures few { OnOk result ((length part.new.list ≤ 8) ⊎ PicksNone policy part.new.list) }
     ensures flushing { OnOk result (part.new.flushing ≡ is_some part.new.sealed) }
-    ensures moves { MovesOver (eyes S.history S.Device.history S.Frozen.content S.Device.name S.Frozen.size S.Watch.counts) result (beside part.old jobs.old) (beside part.new jobs.new) }
-    ensures listed { OnOk result (ListsPicked (eyes S.history S.Device.history S.Frozen.content S.Device.name S.Frozen.size S.Watch.counts) policy (beside part.old jobs.old) (beside part.new jobs.new)) }
+    ensures moves { MovesOver ⟦<S as Seen>⟧.eyes result (beside part.old jobs.old) (beside part.new jobs.new) }
+    ensures listed { OnOk result (ListsPicked ⟦<S as Seen>⟧.eyes policy (beside part.old jobs.old) (beside part.new jobs.new)) }
 {
     if is_due(part) {
         empty_and_merge(rt, alloc, part, jobs, policy, pace)
@@ -155,16 +156,16 @@ where
     S::Device: 'static,
     S::Frozen: 'static,
     S::Watch: 'static,
-    requires may { MayMove (eyes S.history S.Device.history S.Frozen.content S.Device.name S.Frozen.size S.Watch.counts) (beside part.old jobs.old) }
+    requires may { MayMove ⟦<S as Seen>⟧.eyes (beside part.old jobs.old) }
     requires nothing_staged { part.old.staged ≡ [] }
     requires flushing { part.old.flushing ≡ is_some part.old.sealed }
-    requires picked { IsPickedBy (eyes S.history S.Device.history S.Frozen.content S.Device.name S.Frozen.size S.Watch.counts) policy (beside part.old jobs.old) }
+    requires picked { IsPickedBy ⟦<S as Seen>⟧.eyes policy (beside part.old jobs.old) }
     ensures emptied { OnOk result ((part.new.active ≡ []) × (S.Device.size part.new.log.device ≡ empty_size) × (part.new.generation ≡ part.old.generation + 1)) }
     ensures none { OnOk result (part.new.merging ≡ None → PicksNone policy part.new.list) }
     ensures few { OnOk result ((length part.new.list ≤ 8) ⊎ PicksNone policy part.new.list) }
     ensures flushing { OnOk result ((part.new.flushing ≡ true) × (is_some part.new.sealed ≡ true)) }
-    ensures moves { MovesOver (eyes S.history S.Device.history S.Frozen.content S.Device.name S.Frozen.size S.Watch.counts) result (beside part.old jobs.old) (beside part.new jobs.new) }
-    ensures listed { OnOk result (ListsPicked (eyes S.history S.Device.history S.Frozen.content S.Device.name S.Frozen.size S.Watch.counts) policy (beside part.old jobs.old) (beside part.new jobs.new)) }
+    ensures moves { MovesOver ⟦<S as Seen>⟧.eyes result (beside part.old jobs.old) (beside part.new jobs.new) }
+    ensures listed { OnOk result (ListsPicked ⟦<S as Seen>⟧.eyes policy (beside part.old jobs.old) (beside part.new jobs.new)) }
 {
     end_flush(rt, alloc, part, jobs, policy, pace)?;
     seal_and_start(rt, alloc, part, jobs, pace)?;

@@ -3,9 +3,10 @@
 ghost use Rattle.std.specs.Prelude.{◌≡◌, false, OnOk};
 ghost use Rattle.tc_list.specs.declared.policy.Policy.{Policy};
 ghost use Rattle.tc_running.specs.Jobs.{JobsState};
-ghost use Rattle.tc_work.specs.Moving.{beside, eyes, IsPickedBy, ListsPicked, MayMove, Moves};
+ghost use Rattle.tc_work.specs.Moving.{beside, IsPickedBy, ListsPicked, MayMove, Moves};
 
 use crate::fault::EngineFault;
+use crate::seen::Seen;
 use std::alloc::Global;
 use tc_part::Part;
 use tc_store::Store;
@@ -14,8 +15,8 @@ use tc_store::Store;
 pub(crate) fn sweep<S: Store>(alloc: Global, part: &mut Part<S>) -> Result<(), EngineFault>
     requires sound { part.old.failed ≡ false }
     ensures same { part.new ≡ record part.old { store = part.new.store; main = part.new.main; failed = part.new.failed } }
-    ensures moves { (jobs : JobsState S.Frozen S.Device S.Watch) → MayMove (eyes S.history S.Device.history S.Frozen.content S.Device.name S.Frozen.size S.Watch.counts) (beside part.old jobs) → Moves (eyes S.history S.Device.history S.Frozen.content S.Device.name S.Frozen.size S.Watch.counts) result (beside part.old jobs) (beside part.new jobs) }
-    ensures listed { OnOk result ((policy : Policy) (jobs : JobsState S.Frozen S.Device S.Watch) → IsPickedBy (eyes S.history S.Device.history S.Frozen.content S.Device.name S.Frozen.size S.Watch.counts) policy (beside part.old jobs) → ListsPicked (eyes S.history S.Device.history S.Frozen.content S.Device.name S.Frozen.size S.Watch.counts) policy (beside part.old jobs) (beside part.new jobs)) }
+    ensures moves { (jobs : JobsState S.Frozen S.Device S.Watch) → MayMove ⟦<S as Seen>⟧.eyes (beside part.old jobs) → Moves ⟦<S as Seen>⟧.eyes result (beside part.old jobs) (beside part.new jobs) }
+    ensures listed { OnOk result ((policy : Policy) (jobs : JobsState S.Frozen S.Device S.Watch) → IsPickedBy ⟦<S as Seen>⟧.eyes policy (beside part.old jobs) → ListsPicked ⟦<S as Seen>⟧.eyes policy (beside part.old jobs) (beside part.new jobs)) }
 {
     Ok(part.sweep(alloc)?)
 }

@@ -17,7 +17,6 @@ ghost use Rattle.tc_part.specs.Harms.{IsHarmIn};
 ghost use Rattle.tc_route.specs.Answers.{answered};
 ghost use Rattle.tc_route.specs.Meaning.{rendered_in, routed_of};
 ghost use Rattle.tc_work.specs.Committed.{AnswersPlainly, Commits, FailsWindow, HasFramed, HasOnlyCommitted, HasSpentWrites, KeepsOut, LeavesAtMoments, MeetsNoDamage};
-ghost use Rattle.tc_work.specs.Moving.{eyes};
 ghost use Rattle.tc_work.specs.Asked.{most_writes, requests_in, IsWindow};
 ghost use Rattle.tc_running.specs.Jobs.{JobsState};
 ghost use Rattle.tc_work.specs.Failing.{HasFailedWith};
@@ -29,6 +28,7 @@ ghost use Rattle.tc_work.specs.Windowed.{staged_as, IsWindowed};
 use crate::engine::Engine;
 use crate::fault::EngineFault;
 use crate::progress::Progress;
+use crate::seen::Seen;
 use crate::staging::answer_all;
 use std::alloc::Global;
 use tc_component::components_are_contents;
@@ -55,28 +55,28 @@ impl<S: Store, P: Pace> Engine<S, P> {
 
         // Where the files are told, the replies are those of the plain store, and over every store each is at the place of its command,
         // and of its kind.
-        ensures replies { AnswersPlainly (eyes S.history S.Device.history S.Frozen.content S.Device.name S.Frozen.size S.Watch.counts) (map routed_of list.now) self.old.part result }
+        ensures replies { AnswersPlainly ⟦<S as Seen>⟧.eyes (map routed_of list.now) self.old.part result }
         ensures places { IfOk result (λ replies. map (λ a. a.at) replies ≡ map (λ r. r.at) list.now) }
         ensures kinds { IfOk result (λ replies. AreRenderedOfKinds (requests_in list.now) (values_in (rendered_in replies))) }
 
         // On Ok the writes of the window are committed, and the frame has them, each as a log holds it. It is empty where none was made.
         ensures same { OnOk result (HasOnlyCommitted self.old.part self.new.part) }
-        ensures commits { OnOk result (Commits (eyes S.history S.Device.history S.Frozen.content S.Device.name S.Frozen.size S.Watch.counts) (requests_in list.now) self.old.part self.new.part) }
-        ensures framed { OnOk result (HasFramed (eyes S.history S.Device.history S.Frozen.content S.Device.name S.Frozen.size S.Watch.counts) (map routed_of list.now) self.old self.new frame.new.items) }
+        ensures commits { OnOk result (Commits ⟦<S as Seen>⟧.eyes (requests_in list.now) self.old.part self.new.part) }
+        ensures framed { OnOk result (HasFramed ⟦<S as Seen>⟧.eyes (map routed_of list.now) self.old self.new frame.new.items) }
         ensures no_frame { OnErr result (frame.new ≡ frame.old) }
 
         // The jobs and the files that are out stay, behind a fault too.
-        ensures kept { KeepsOut (eyes S.history S.Device.history S.Frozen.content S.Device.name S.Frozen.size S.Watch.counts) self.old self.new }
+        ensures kept { KeepsOut ⟦<S as Seen>⟧.eyes self.old self.new }
 
         // At each moment of the call a stop leaves what is stored, without the writes of the window or with all of them, and so it
         // does behind a fault.
-        ensures moments { LeavesAtMoments (eyes S.history S.Device.history S.Frozen.content S.Device.name S.Frozen.size S.Watch.counts) (requests_in list.now) self.old.part self.new.part }
-        ensures fails { OnErr result (FailsWindow (eyes S.history S.Device.history S.Frozen.content S.Device.name S.Frozen.size S.Watch.counts) (requests_in list.now) self.old.part self.new.part) }
+        ensures moments { LeavesAtMoments ⟦<S as Seen>⟧.eyes (requests_in list.now) self.old.part self.new.part }
+        ensures fails { OnErr result (FailsWindow ⟦<S as Seen>⟧.eyes (requests_in list.now) self.old.part self.new.part) }
 
         // Damage is that of a record of a listed component. Where the files of these are told there is none.
         ensures harmed { IfErr result (λ fault. IfDamage fault (λ file at bytes. IsHarmIn (λ file. S.Frozen.content file) self.old.part.list file at bytes)) }
-        ensures undamaged { MeetsNoDamage (eyes S.history S.Device.history S.Frozen.content S.Device.name S.Frozen.size S.Watch.counts) self.old.part result }
-        ensures spent { IsErrOf result EngineFault.Spent → HasSpentWrites (eyes S.history S.Device.history S.Frozen.content S.Device.name S.Frozen.size S.Watch.counts) (requests_in list.now) self.old.part self.new.part }
+        ensures undamaged { MeetsNoDamage ⟦<S as Seen>⟧.eyes self.old.part result }
+        ensures spent { IsErrOf result EngineFault.Spent → HasSpentWrites ⟦<S as Seen>⟧.eyes (requests_in list.now) self.old.part self.new.part }
         ensures counted { IsCountedWithin (most_reads (live_in self.old.part) (requests_in list.now)) (IsErrOf result EngineFault.Disk) (S.Watch.counts self.old.part.main) (S.Watch.counts self.new.part.main) }
     {
         components_are_contents();
