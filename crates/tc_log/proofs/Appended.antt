@@ -180,6 +180,18 @@ own_means : (f : DiskFile) (rest : IsAtRest f) → Means f.content rest.head (wr
 own_means f rest =
     subst (λ (bs : List ℕ). Means bs rest.head (writes_of rest.frames)) (sym (ap (λ (g : DiskFile). g.content) rest.file)) (means_with rest.head rest.frames (0 ∷ []) rest.head_is rest.each (λ e. absurd (omega (arith, e))))
 
+-- what it was at first is one of the moments of an append, so that there is one
+pub tells_on : (old new : List DiskFile) (more : List Write) → IfTold old IsAtRest
+    → ((head : LogHead) (writes : List Write) → IfTold old (λ f. Means f.content head writes) → LeavesOnly (MeansWithOrWithout head writes more) old new) → new ≡ [] → old ≡ []
+tells_on [] new more rest leaves none = refl
+tells_on (f ∷ past) new more rest leaves none =
+    let since = leaves rest.head (writes_of rest.frames) (own_means f rest) in
+    absurd (some_moment since.added (sym since.goes_on ∙ none))
+  where
+    some_moment : (added : List DiskFile) → added ++ f ∷ past ≡ [] → ⊥
+    some_moment [] same = cc
+    some_moment (g ∷ added) same = cc
+
 pub told_rest : (moments : List DiskFile) (size : ℕ) (bytes : List ℕ) (more : List Write) → IfTold moments IsAtRest → IfTold moments (λ f. size ≡ length f.content) → IsFrameKept more bytes
     → IfTold (appended (size - 1) bytes moments) IsAtRest
 told_rest [] size bytes more rest sized kept = tt

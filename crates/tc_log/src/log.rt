@@ -122,6 +122,9 @@ impl<D: Device> Log<D> {
         ensures after { (head : Head) (writes : List OneWrite) → IfTold (D.history self.old.device) (λ f. Means f.content head writes)
             → IfTold (D.history self.new.device) (LeavesAt (MeansWithOrWithout head writes frame)) }
 
+        // A device that tells goes on to tell, behind an `Err` too.
+        ensures tells { D.history self.new.device ≡ [] → D.history self.old.device ≡ [] }
+
         ensures counted { IsCounted (IsErrOf result DeviceFault.Fault) (D.Watch.counts watch.old) (D.Watch.counts watch.new) }
     {
         self.failed = true;

@@ -1,7 +1,7 @@
 use Rattle.std.proofs.Common.{◌∙◌, sym, ap, subst, arith}
 use Rattle.tc_store.specs.Moments.{IfTold}
 use Rattle.tc_log.specs.Appending.{IsAtRest}
-use Rattle.tc_log.proofs.Appended.{told_appends, told_after, told_rest, told_durable}
+use Rattle.tc_log.proofs.Appended.{tells_on, told_appends, told_after, told_rest, told_durable}
 use Rattle.tc_log.proofs.log.Log.append.Goals as goal
 
 pub returns-in_err-write_frame-clause-moments : goal.returns-in_err-write_frame-clause-moments
@@ -49,3 +49,15 @@ returns-clause-after g c =
     let rest = (c.self.invariant (ap (λ s. s.failed) c.self.view_is ∙ c.requires)).1 in
     λ head writes means.
     told_after (g.D.Device.history c.args.self.now.device) (g.D.Device.history c.write_frame.new.device) head writes c.args.frame (rw (← c.self.view_is) rest) means (returns-clause-moments g c head writes means)
+
+-- ---- whether it tells
+
+pub returns-in_err-write_frame-clause-tells : goal.returns-in_err-write_frame-clause-tells
+returns-in_err-write_frame-clause-tells g c =
+    let rest = (c.self.invariant (ap (λ s. s.failed) c.self.view_is ∙ c.requires)).1 in
+    tells_on (g.D.Device.history c.args.self.now.device) (g.D.Device.history c.write_frame.new.device) c.args.frame (rw (← c.self.view_is) rest) (returns-in_err-write_frame-clause-moments g c)
+
+pub returns-clause-tells : goal.returns-clause-tells
+returns-clause-tells g c =
+    let rest = (c.self.invariant (ap (λ s. s.failed) c.self.view_is ∙ c.requires)).1 in
+    tells_on (g.D.Device.history c.args.self.now.device) (g.D.Device.history c.write_frame.new.device) c.args.frame (rw (← c.self.view_is) rest) (returns-clause-moments g c)
