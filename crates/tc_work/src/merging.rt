@@ -1,7 +1,7 @@
 //! Runs of components are merged on a thread.
 
-ghost use Rattle.std.specs.Prelude.{◌≡◌, ◌<◌, ◌↔◌, None, Some, true, is_some, length, map, IfErr, IfOk, IfSome, OnOk};
-ghost use Rattle.tc_list.specs.Policies.{IsPicked};
+ghost use Rattle.std.specs.Prelude.{◌≡◌, ◌<◌, ◌↔◌, ◌⊎◌, None, Some, true, is_some, length, map, IfErr, IfOk, IfSome, IsTrue, OnOk};
+ghost use Rattle.tc_list.specs.Policies.{listed_least, IsPicked};
 ghost use Rattle.tc_list.specs.declared.policy.Policy.{Policy};
 ghost use Rattle.tc_list.specs.Runs.{neighbours};
 ghost use Rattle.tc_part.specs.Ready.{LiesIn};
@@ -117,6 +117,20 @@ fn picked<S: Store>(
     ensures none { IfOk result (λ run. run ≡ None ↔ PicksNone policy part.now.list) }
     ensures no_memory { IfErr result (λ fault. fault ≡ EngineFault.Memory) }
 {
+    if are_few(policy, part.listed()) {
+        return Ok(None);
+    }
     let sizes = part.sizes(alloc)?;
     Ok(policy.pick(sizes.as_slice()))
+}
+
+/// Whether the policy picks none of so few components, whatever their sizes: between two windows it mostly does, and then nobody
+/// has to ask for these.
+fn are_few(policy: Policy, listed: usize) -> bool
+    ensures { IsTrue result ↔ (listed < listed_least policy ⊎ listed < 2) }
+{
+    let least = match policy {
+        Policy::Constant { k } | Policy::Sized { k, .. } => k,
+    };
+    listed < least || listed < 2
 }
