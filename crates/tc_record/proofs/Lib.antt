@@ -22,6 +22,7 @@ pub mod Spellings
 pub mod ColumnSizes
 pub mod NumberColumns
 pub mod Placed
+mod Scans
 pub mod Tails
 pub mod Cutting
 pub mod Reading

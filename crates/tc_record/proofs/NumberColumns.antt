@@ -1,5 +1,5 @@
 -- The laws of columns of numbers: what is read is spelled so, and what is spelled is read, whatever follows.
-use Rattle.std.proofs.Common.{◌≡◌, ◌∙◌, ◌<◌, ◌+◌, ◌-◌, ◌^◌, ◌==◌, ◌&&◌, ℕ, suc, min, nat_le, true, false, if◌then◌else◌, List, [], ◌∷◌, ◌++◌, Option, None, Some, length, map, refl, sym, ap, subst, arith, length-append}
+use Rattle.std.proofs.Common.{◌≡◌, ◌∙◌, ◌<◌, ◌+◌, ◌^◌, ◌==◌, ◌&&◌, ℕ, suc, nat_le, true, false, if◌then◌else◌, List, [], ◌∷◌, ◌++◌, Option, None, Some, length, map, refl, sym, ap, subst, arith, length-append}
 use Rattle.std.specs.List.{sum}
 use Rattle.std.proofs.lemmas.Bool.{and_parts, eqb-true}
 use Rattle.std.proofs.lemmas.Bool.Decides.{nat_tests}
@@ -16,7 +16,6 @@ use Rattle.tc_bytes.proofs.Codecs.{then_parts}
 use Rattle.tc_bytes.proofs.Fields.{IsBytes-front, bytes_codec, bytes_again}
 use Rattle.tc_record.specs.Record.{greatest, Spelling, width_in, joined}
 use Rattle.tc_record.specs.Sections.{least_width, numbers_spelled, numbers_at, capped_sum}
-use Rattle.tc_record.specs.Walk.{number_next}
 use Rattle.tc_record.proofs.Labels.{if_parts}
 use Rattle.tc_record.proofs.Spellings.{IsSpelling, column_spelled, wider}
 
@@ -140,12 +139,3 @@ sum_of_lengths xs short = omega (arith, all xs, short)
     all : (xs : List (List ℕ)) → sum (map length xs) ≡ length (joined xs)
     all [] = refl
     all (x ∷ xs) = sum_by-cons (λ n. n) (length x) (map length xs) ∙ ap (λ n. length x + n) (all xs) ∙ sym (length-append x (joined xs))
-
--- ---- the end of a scan
-
-pub number_none : (ns : List ℕ) → number_next ns ≡ None → ns ≡ []
-number_none [] none = refl
-number_none (n ∷ ns) none = cc
-
-pub sum_end : (t : ℕ) (ns : List ℕ) → t < 2 ^ 32 → number_next ns ≡ None → min (t + sum ns) (2 ^ 32 - 1) ≡ t
-sum_end t ns small none = rw (number_none ns none) (omega (arith, small))

@@ -1,5 +1,5 @@
 -- The laws of numbers that are read from a place in bytes on.
-use Rattle.std.proofs.Common.{◌≡◌, ◌∙◌, ◌≤◌, ◌<◌, ◌+◌, ◌-◌, ◌*◌, ℕ, zero, suc, true, List, ◌∷◌, ◌++◌, None, Some, length, map, refl, sym, ap, arith, length-append}
+use Rattle.std.proofs.Common.{◌≡◌, ◌∙◌, ◌≤◌, ◌+◌, ◌-◌, ◌*◌, ℕ, zero, suc, true, List, ◌∷◌, ◌++◌, None, Some, length, map, refl, sym, ap, arith, length-append}
 use Rattle.std.specs.List.{range_with_len}
 use Rattle.tc_bits.specs.Bits.{column_size, bits_at, elements, is_column}
 use Rattle.tc_bits.proofs.Codec.{size_room}
@@ -12,21 +12,12 @@ use Rattle.tc_bytes.proofs.Fields.{bytes_codec}
 use Rattle.tc_record.specs.NumbersLeft.{elements_from}
 use Rattle.tc_record.specs.Record.{greatest, Spelling, width_in}
 use Rattle.tc_record.specs.Sections.{IsTail, least_width, numbers_at}
-use Rattle.tc_record.specs.Walk.{number_next}
 use Rattle.tc_record.proofs.NumberColumns.{as_bytes, numbers_there, numbers_wide, width_told}
 
 -- so many are left
 pub length-elements_from : (w place left : ℕ) (bytes : List ℕ) → length (elements_from w place left bytes) ≡ left
 length-elements_from w place zero bytes = refl
 length-elements_from w place (suc n) bytes = ap suc (length-elements_from w (place + w) n bytes)
-
--- the next one, and what is left behind it
-pub next_is : (w place left : ℕ) (bytes : List ℕ) → 0 < left → number_next (elements_from w place left bytes) ≡ Some (bits_at w place bytes, elements_from w (place + w) (left - 1) bytes)
-next_is w place zero bytes some = absurd (omega (arith, some))
-next_is w place (suc n) bytes some = ap (λ k. Some (bits_at w place bytes, elements_from w (place + w) k bytes)) (back n)
-  where
-    back : (n : ℕ) → n ≡ suc n - 1
-    back n = omega arith
 
 room_left : (w p n k : ℕ) → p + w * suc n ≤ k → (p + w ≤ k) × (p + w + w * n ≤ k)
 room_left w p n k room = let spread : w * suc n ≡ w + w * n = omega arith in (omega (arith, room, spread), omega (arith, room, spread))

@@ -3,13 +3,12 @@
 ghost use Rattle.std.specs.Prelude.{◌≡◌, ◌∷◌, [], IfSome, IfNone};
 
 use crate::numbers::Numbers;
-use crate::scan::Scan;
 use std::marker::Model;
 
 /// The numbers of a column, read one by one. Contracts see those that are left.
 #[derive(Drop)]
 pub struct Column<'a> {
-    scan: Scan<'a>,
+    left: Numbers<'a>,
 }
 
 impl<'a> Model for Column<'a> {
@@ -18,7 +17,7 @@ impl<'a> Model for Column<'a> {
 
     ghost Value = { List ℕ };
 
-    ghost view = { λ c. numbers_of c.scan.left };
+    ghost view = { λ c. numbers_of c.left };
 }
 
 impl<'a> Column<'a> {
@@ -27,9 +26,7 @@ impl<'a> Column<'a> {
     pub(crate) fn of(left: Numbers<'a>) -> Column<'a>
         ensures { result ≡ numbers_of left.entry }
     {
-        Column {
-            scan: Scan::of(left),
-        }
+        Column { left }
     }
 
     /// The next number, or `None` at the end. Takes no memory.
@@ -38,6 +35,6 @@ impl<'a> Column<'a> {
         ensures some { IfSome result (λ number. self.old ≡ number ∷ self.new) }
         ensures end { IfNone result (self.old ≡ []) }
     {
-        self.scan.next()
+        self.left.next()
     }
 }

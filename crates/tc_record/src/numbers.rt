@@ -33,25 +33,34 @@ impl<'a> Numbers<'a> {
             return None;
         }
         let number = number_from(self.bytes, self.width, self.place);
-        *self = self.behind_one();
+        self.left -= 1;
+        self.place += u64::from(self.width);
         Some(number)
     }
 
-    /// The numbers behind the first one.
+    /// The numbers before the last one.
     #[inline(always)]
-    pub(crate) fn behind_one(&self) -> Numbers<'a>
+    pub(crate) fn without_last(&self) -> Numbers<'a>
         requires { 0 < self.now.left }
         ensures bytes { result.bytes ≡ self.now.bytes }
         ensures width { result.width ≡ self.now.width }
-        ensures place { result.place ≡ self.now.place + self.now.width }
+        ensures place { result.place ≡ self.now.place }
         ensures left { result.left ≡ self.now.left - 1 }
     {
         Numbers {
             bytes: self.bytes,
             width: self.width,
-            place: self.place + u64::from(self.width),
+            place: self.place,
             left: self.left - 1,
         }
+    }
+
+    /// Behind how many bits of the record the last one ends.
+    #[inline(always)]
+    pub(crate) fn end(&self) -> u64
+        ensures { result ≡ self.now.place + self.now.width * self.now.left }
+    {
+        self.place + u64::from(self.width) * u64::from(self.left)
     }
 
     /// Whether none is left.

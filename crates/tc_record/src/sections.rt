@@ -204,7 +204,7 @@ fn scanned(numbers: Numbers<'_>) -> (u32, u32)
     let mut scan = Scan::of(numbers);
     let mut greatest = 0;
     let mut total = 0u32;
-    while let Some(number) = scan.next() {
+    while let Some(number) = scan.next_back() {
         greatest = larger(greatest, number);
         total = total.saturating_add(number);
     }
