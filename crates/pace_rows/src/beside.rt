@@ -33,7 +33,7 @@ fn waits<R: AllocGlobal + Threads + Wait + Sync>(rt: &R, job: Point, upserts: u3
     )
 }
 
-/// Whether the engines of two partitions answer a window at once.
+/// Whether the engines of two partitions answer a window at once that has a query.
 pub(crate) fn of_engines<R: AllocGlobal + Threads + Wait + Sync>(rt: &R) -> Option<bool> {
     let first = |partition| Point::Replied {
         partition,
@@ -41,8 +41,8 @@ pub(crate) fn of_engines<R: AllocGlobal + Threads + Wait + Sync>(rt: &R) -> Opti
     };
     meet(
         rt,
-        "run --partitions 2 --window 2",
-        "{\"op\":\"upsert\",\"doc\":{\"id\":2}}\n{\"op\":\"upsert\",\"doc\":{\"id\":1}}\n",
+        "run --partitions 2 --window 1",
+        "{\"op\":\"query\",\"path\":[]}\n",
         first(0),
         first(1),
     )

@@ -22,6 +22,7 @@ use std::alloc::Global;
 use std::thread;
 use std::thread::Threads;
 use tc_bytes::Memory;
+use tc_command::Command;
 use tc_log::Write;
 use tc_part::parts_hold_devices;
 use tc_route::{
@@ -31,9 +32,13 @@ use tc_running::Pace;
 use tc_store::Store;
 use tc_work::Seen;
 
+/// So many commands of a partition are worth a thread. To start one, and to wait for it, takes as long as some fifty small writes.
+const MANY_COMMANDS: usize = 128;
+
 impl<S: Store, P: Pace> Engines<S, P> {
-    /// Answers the commands of a window, all engines at once: each commits what its own commands write as one frame. It hands out
-    /// the frames, one a partition, in ascending number. One reply a command, in the order of these. A window for one partition is answered on this thread, and else each but one has a thread
+    /// Answers the commands of a window: each engine commits what its own commands write as one frame. It hands out the frames,
+    /// one a partition, in ascending number. One reply a command, in the order of these. A window that asks little is answered on
+    /// this thread. Where two partitions or more have a query, or many commands, the engines work at once, each but one on a thread
     /// of its own. Where several engines fail, the fault is that of the least partition. After a fault no more windows are asked
     /// for; engines of other partitions may have committed theirs.
     pub fn window<R: Threads + Sync>(
@@ -147,12 +152,24 @@ fn run_each<S: Store, P: Pace, R: Threads + Sync>(
     );
 }
 
-/// In how many threads lists are run: in one where at most one has a command, and else each in its own.
+/// In how many threads lists are run: in one unless two are long, and else each in its own.
 fn threads_for(lists: &[Vec<Routed>]) -> usize
     ensures { 0 < result }
 {
-    let busy = lists.iter().filter(|list| !list.is_empty()).count();
-    if busy < 2 { 1 } else { lists.len().max(1) }
+    let long = lists.iter().filter(|list| is_long(list)).count();
+    if long < 2 { 1 } else { lists.len().max(1) }
+}
+
+/// Whether a list is worth a thread: it has many commands, or a query, which may read all that a partition stores.
+fn is_long(list: &[Routed]) -> bool {
+    list.len() >= MANY_COMMANDS || list.iter().any(|routed| is_query(&routed.command))
+}
+
+fn is_query(command: &Command) -> bool {
+    match command {
+        Command::Query(_) => true,
+        _other => false,
+    }
 }
 
 /// Takes the answers of all into this empty list, which has room for them, or answers the first fault.
