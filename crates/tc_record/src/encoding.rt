@@ -27,6 +27,7 @@ pub fn encode(alloc: Global, doc: &Doc) -> Result<Bytes, AllocError>
     requires short { length (record_of (tree_of doc.now)) < 2 ^ 32 }
     ensures spelled { IfOk result (λ bytes. bytes ≡ record_of (tree_of doc.now)) }
     ensures is_record { IfOk result (λ bytes. IsDocument (tree_of doc.now) → depth (tree_of doc.now) ≤ max_depth → IsRecordOf (tree_of doc.now) bytes) }
+    ensures lawful { IsDocument (tree_of doc.now) }
 {
     let measure = measure_document(doc);
     let len = len_of_record(measure);

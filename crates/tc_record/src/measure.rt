@@ -2,7 +2,7 @@
 
 ghost use Rattle.std.specs.Prelude.{◌≡◌, map, Some, None};
 ghost use Rattle.tc_model.specs.Tree.{items_of, members_of};
-ghost use Rattle.tc_model.specs.Document.{null, boolean, integer, text};
+ghost use Rattle.tc_model.specs.Document.{null, boolean, integer, text, AreItemsOf, AreMembersOf, IsDocument, IsScalar};
 ghost use Rattle.tc_record.specs.Preorder.{scalar, array_opened, object_opened, closed, preorder, items_preorder, members_preorder};
 ghost use Rattle.tc_value.specs.Meaning.{tree_of, member_of};
 ghost use Rattle.tc_record.specs.Measured.{sum_within, with_element, with_label, with_piece, measured, nothing_measured};
@@ -26,9 +26,10 @@ pub(crate) struct Measure {
     pub(crate) names: ColumnSum,
 }
 
-/// The columns of a whole document.
+/// The columns of a whole document. The walk shows that the document is lawful.
 pub(crate) fn measure_document(doc: &Doc) -> Measure
-    ensures { result ≡ measured nothing_measured (preorder None (tree_of doc.now)) }
+    ensures measured { result ≡ measured nothing_measured (preorder None (tree_of doc.now)) }
+    ensures lawful { IsDocument (tree_of doc.now) }
 {
     let none = ColumnSum {
         count: 0,
@@ -83,12 +84,16 @@ fn with_name(so_far: Measure, len: usize) -> Measure
 
 #[cycle(measure)]
 fn with_value(doc: &Doc, so_far: Measure) -> Measure
-    ensures { result ≡ measured so_far (preorder None (tree_of doc.now)) }
+    ensures measured { result ≡ measured so_far (preorder None (tree_of doc.now)) }
+    ensures lawful { IsDocument (tree_of doc.now) }
 {
     match doc {
         Doc::Null => with_tag(so_far, 0),
         Doc::Bool(_) => with_tag(so_far, 1),
-        Doc::Int(_) => with_tag(so_far, 8),
+        Doc::Int(value) => {
+            let _value = *value;
+            with_tag(so_far, 8)
+        }
         Doc::Text(text) => with_text(so_far, text.as_str().len()),
         Doc::Array(items) => with_tag(with_items(items.as_slice(), with_tag(so_far, 0)), 0),
         Doc::Object(members) => {
@@ -99,7 +104,8 @@ fn with_value(doc: &Doc, so_far: Measure) -> Measure
 
 #[cycle(measure)]
 fn with_items(items: &[Doc], so_far: Measure) -> Measure
-    ensures { result ≡ measured so_far (items_preorder (items_of (map tree_of items.now))) }
+    ensures measured { result ≡ measured so_far (items_preorder (items_of (map tree_of items.now))) }
+    ensures lawful { AreItemsOf IsScalar (items_of (map tree_of items.now)) }
 {
     let mut measure = so_far;
     for item in items {
@@ -110,7 +116,8 @@ fn with_items(items: &[Doc], so_far: Measure) -> Measure
 
 #[cycle(measure)]
 fn with_members(members: &[Member], so_far: Measure) -> Measure
-    ensures { result ≡ measured so_far (members_preorder (members_of (map member_of members.now))) }
+    ensures measured { result ≡ measured so_far (members_preorder (members_of (map member_of members.now))) }
+    ensures lawful { AreMembersOf IsScalar (members_of (map member_of members.now)) }
 {
     let mut measure = so_far;
     for member in members {

@@ -10,10 +10,10 @@ pub returns-in-Object-clause-some : goal.returns-in-Object-clause-some
 returns-in-Object-clause-some c =
     let d = tree_of c.args.doc.now in
     let object : IsObject d = rw c.in-Object.is tt in
-    (sized c.len_of_record.result (length (record_of d)) c.within_u32.result object (c.len_of_record.ensures ∙ ap record_len c.measure_document.ensures ∙ measured_len d) c.within_u32.ensures).0
+    (sized c.len_of_record.result (length (record_of d)) c.within_u32.result object (c.len_of_record.ensures ∙ ap record_len c.measure_document.ensures.measured ∙ measured_len d) c.within_u32.ensures).0
 
 pub returns-in-Object-clause-none : goal.returns-in-Object-clause-none
 returns-in-Object-clause-none c =
     let d = tree_of c.args.doc.now in
     let object : IsObject d = rw c.in-Object.is tt in
-    (sized c.len_of_record.result (length (record_of d)) c.within_u32.result object (c.len_of_record.ensures ∙ ap record_len c.measure_document.ensures ∙ measured_len d) c.within_u32.ensures).1
+    (sized c.len_of_record.result (length (record_of d)) c.within_u32.result object (c.len_of_record.ensures ∙ ap record_len c.measure_document.ensures.measured ∙ measured_len d) c.within_u32.ensures).1
