@@ -125,7 +125,8 @@ impl RecordCursor {
     }
 
     /// Holds so many bytes of the records from a place on, by no read where they are held, and by one where they are not.
-    fn hold<F: Frozen>(
+    /// What they are is not looked at.
+    pub fn hold<F: Frozen>(
         &mut self,
         component: &Component<F>,
         begin: u64,
