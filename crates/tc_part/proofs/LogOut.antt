@@ -10,7 +10,7 @@ use Rattle.tc_store.specs.StoreCalls.{comes_home, frozen_entry, makes, removes, 
 use Rattle.tc_store.proofs.NameLemmas.{put_there, same_name-is}
 use Rattle.tc_log.specs.Appending.{appended}
 use Rattle.tc_part_model.specs.PartState.{IsTold, Told}
-use Rattle.tc_part.specs.FilesOut.{LogIsOut}
+use Rattle.tc_part.specs.FilesOut.{LogIsOut, TellsLogs}
 
 -- ---- from one moment of a store to a later one
 
@@ -100,3 +100,15 @@ log_grows t log goes is = at t.disks is
 pub appended_tells : (gate : ℕ) (bytes : List ℕ) (old new : List DiskFile) → new ≡ appended gate bytes old → IsTold old → IsTold new
 appended_tells gate bytes [] new is tells = absurd tells
 appended_tells gate bytes (f ∷ past) new is tells = subst (λ (fs : List DiskFile). IsTold fs) (sym is) tt
+
+-- the devices of both logs tell still, where that of the active log does
+pub logs_grow : (t : Told) (log : List DiskFile) → (log ≡ [] → t.log ≡ []) → TellsLogs t → TellsLogs (record t { log = log })
+logs_grow t log so tells = record { active = at t.disks tells.active; sealed = tells.sealed }
+  where
+    on : (old : List DiskFile) (new : List DiskFile) → (new ≡ [] → old ≡ []) → IsTold old → IsTold new
+    on old [] from told = subst (λ (fs : List DiskFile). IsTold fs) (from refl) told
+    on old (f ∷ past) from told = tt
+
+    at : (disks : List Disk) → IfTold disks (λ disk. IsTold t.log) → IfTold disks (λ disk. IsTold log)
+    at [] told = tt
+    at (disk ∷ past) told = on t.log log so told

@@ -47,6 +47,12 @@ OnlyOut one disk = (name : FileName) → is_out (disk name) ≡ true → name �
 abbrev pub TellsLogs : Told → Type 0
 TellsLogs t = LogsTell t.disks t.log t.sealed_log
 
+-- Where the store tells its files, none is out but those of the part's devices, and the devices of its logs tell, so that each can
+-- come home.
+pub record HoldsDevices (t : Told) : Type 0 where
+  pub tells : TellsLogs t
+  pub only : OnlyDevicesOut t
+
 -- Where the store tells its files, that of the active log is out, and its device tells it.
 abbrev pub LogIsOut : Told → Type 0
 LogIsOut t = IfTold t.disks (λ disk. (disk (Log t.generation) ≡ out) × IsTold t.log)

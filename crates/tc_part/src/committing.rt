@@ -8,7 +8,7 @@ ghost use Rattle.tc_plain_model.specs.Writes.{after_writes};
 ghost use Rattle.tc_part_model.specs.PartState.{told};
 ghost use Rattle.tc_part_model.specs.PartView.{PartView, store_of};
 ghost use Rattle.tc_part_model.specs.Meaning.{IsPart, HasFailedAs};
-ghost use Rattle.tc_part.specs.FilesOut.{LogIsOut};
+ghost use Rattle.tc_part.specs.FilesOut.{LogIsOut, TellsLogs};
 ghost use Rattle.tc_part.specs.OwnFiles.{HasOwnFiles};
 ghost use Rattle.tc_part_model.specs.Changes.{committed_part};
 ghost use Rattle.tc_part_model.specs.Leaving.{LogMomentsLeaveStore};
@@ -37,10 +37,12 @@ impl<S: Store> Part<S> {
         ensures same { OnOk result (self.new ≡ record self.old { main = self.new.main; log = self.new.log; staged = self.new.staged; writes = self.old.writes + length self.old.staged }) }
         ensures cleared { OnOk result (self.new.staged ≡ []) }
         ensures nothing { self.old.staged ≡ [] → IsOk result × (self.new ≡ self.old) }
-        ensures frame { IfOk result (λ frame. frame.items ≡ self.old.staged) }
-        ensures stored { IfOk result (λ frame. All IsWrite frame.items) }
+        ensures frame { IfOk result (λ frame. (frame.items ≡ self.old.staged) × All IsWrite frame.items) }
         ensures log_out { OnOk result (LogIsOut (told S.history S.Device.history S.Frozen.content self.old) → LogIsOut (told S.history S.Device.history S.Frozen.content self.new)) }
         ensures own { OnOk result (HasOwnFiles (told S.history S.Device.history S.Frozen.content self.old) → HasOwnFiles (told S.history S.Device.history S.Frozen.content self.new)) }
+
+        // The devices of the logs go on to tell, behind a fault too.
+        ensures tells { TellsLogs (told S.history S.Device.history S.Frozen.content self.old) → TellsLogs (told S.history S.Device.history S.Frozen.content self.new) }
 
         // At each moment of the call a stop leaves what is stored, without the frame or with it, and so it does behind a fault.
         ensures moments { (p : PartView) → IsPart (told S.history S.Device.history S.Frozen.content self.old) p

@@ -11,7 +11,7 @@ use Rattle.tc_part_model.specs.PartState.{IsTold, told}
 use Rattle.tc_part_model.specs.Meaning.{IsPart}
 use Rattle.tc_part.proofs.Outcomes.{err_always}
 use Rattle.tc_part.proofs.Standing.{left_of}
-use Rattle.tc_part.proofs.LogOut.{appended_tells, log_grows}
+use Rattle.tc_part.proofs.LogOut.{appended_tells, log_grows, logs_grow}
 use Rattle.tc_part.proofs.part.Part.commit.Goals as goal
 
 pub returns-then-is_empty-clause-committed : goal.returns-then-is_empty-clause-committed
@@ -96,6 +96,24 @@ returns-clause-log_out g c =
     (g.S.Device.Device.history c.reserve.new.self.device) log c.in_ok-append.ensures.appended
     (subst (λ (l : LogState _). IsTold (g.S.Device.Device.history l.device)) (sym c.reserve.ensures.same) tells)))
 
-pub returns-clause-stored : goal.returns-clause-stored
-returns-clause-stored g c =
-    subst (All IsWrite) (sym (ap (λ v. v.items) c.replace-written.ensures.value)) (All-from_recursion IsWrite c.self.inside.staged.items c.self.invariant.frame.each)
+pub returns-clause-frame : goal.returns-clause-frame
+returns-clause-frame g c = (
+  ap (λ v. v.items) c.replace-written.ensures.value ∙ ap (λ s. s.staged) c.self.view_is,
+  subst (All IsWrite) (sym (ap (λ v. v.items) c.replace-written.ensures.value)) (All-from_recursion IsWrite c.self.inside.staged.items c.self.invariant.frame.each),
+)
+
+-- ---- whether the logs tell
+
+pub returns-in_err-append-clause-tells : goal.returns-in_err-append-clause-tells
+returns-in_err-append-clause-tells g c =
+    let t = told g.S.Store.history g.S.Device.Device.history g.S.Frozen.Frozen.content (left_of c.self.view_is) in
+    let log = g.S.Device.Device.history c.append.new.self.device in
+    rw (← c.self.view_is)
+    (logs_grow t log (λ none. ap (λ (l : LogState _). g.S.Device.Device.history l.device) (sym c.reserve.ensures.same) ∙ c.append.ensures.tells none))
+
+pub returns-clause-tells : goal.returns-clause-tells
+returns-clause-tells g c =
+    let t = told g.S.Store.history g.S.Device.Device.history g.S.Frozen.Frozen.content (left_of c.self.view_is) in
+    let log = g.S.Device.Device.history c.append.new.self.device in
+    rw (← c.self.view_is)
+    (logs_grow t log (λ none. ap (λ (l : LogState _). g.S.Device.Device.history l.device) (sym c.reserve.ensures.same) ∙ c.append.ensures.tells none))
