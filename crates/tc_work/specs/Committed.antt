@@ -5,7 +5,7 @@ use Rattle.tc_log.specs.declared.write.Write.{Write}
 use Rattle.tc_machine.specs.Logs.{kept_write}
 use Rattle.tc_machine.specs.Writes.{IsStorableWrite}
 use Rattle.tc_model.specs.Keyed.{Keyed, on_value, values_in}
-use Rattle.tc_part.specs.FilesOut.{LogIsOut, OnlyDevicesOut}
+use Rattle.tc_part.specs.FilesOut.{LogIsOut, OnlyDevicesOut, TellsLogs}
 use Rattle.tc_part_model.specs.Leaving.{LogMomentsLeaveStore}
 use Rattle.tc_part_model.specs.Meaning.{IsPart, plain_of}
 use Rattle.tc_part_model.specs.PartState.{AreTold, PartState}
@@ -65,11 +65,12 @@ pub record HasFramed {S D F W : Type 0} (eyes : Eyes S D F W) (rs : Keyed Reques
   pub stored : All IsWrite frame
   pub count : new.part.writes ≡ old.part.writes + length frame
 
--- The jobs that are out stay those of the engine, and no file is out but those of the part's devices.
+-- The jobs that are out stay those of the engine, no file is out but those of the part's devices, and those of its logs go on to tell.
 pub record KeepsOut {S D F W : Type 0} (eyes : Eyes S D F W) (old new : EngineState S D F W) : Type 0 where
   pub policy : new.policy ≡ old.policy
   pub jobs : (jobs : JobsState F D W) → IsOutBy eyes (beside old.part jobs) → IsOutBy eyes (beside new.part jobs)
   pub devices : OnlyDevicesOut (told_part eyes old.part) → OnlyDevicesOut (told_part eyes new.part)
+  pub tells : TellsLogs (told_part eyes old.part) → TellsLogs (told_part eyes new.part)
 
 -- The part failed, and keeps what was stored, without the writes of the window or with all of them.
 pub record FailsWindow {S D F W : Type 0} (eyes : Eyes S D F W) (rs : List Request) (old new : PartState S D F W) : Type 0 where

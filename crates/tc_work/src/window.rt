@@ -8,7 +8,7 @@ ghost use Rattle.tc_log.specs.Writes.{IsWrite};
 ghost use Rattle.tc_machine.specs.Logs.{kept_write};
 ghost use Rattle.tc_machine.specs.Writes.{IsStorableWrite};
 ghost use Rattle.tc_request_model.specs.Part.{part_writes_all};
-ghost use Rattle.tc_part.specs.FilesOut.{LogIsOut};
+ghost use Rattle.tc_part.specs.FilesOut.{LogIsOut, TellsLogs};
 ghost use Rattle.tc_part_model.specs.Leaving.{LogMomentsLeaveStore};
 ghost use Rattle.tc_part_model.specs.Meaning.{IsPart, plain_of};
 ghost use Rattle.tc_part_model.specs.PartState.{told, AreTold};
@@ -114,6 +114,7 @@ fn run<S: Store, P: Pace>(
     ensures unwritten { OnOk result ((p : PartView) → IsPart (told S.history S.Device.history S.Frozen.content part.old) p → part_writes_all part.old.limits (requests_in list.now) (plain_of (told S.history S.Device.history S.Frozen.content part.old) p) ≡ [] → part.new.log ≡ part.old.log) }
     ensures looked_up { OnOk result (most_writes (requests_in list.now) ≡ 0 → part.new.log ≡ part.old.log) }
     ensures log_out { OnOk result (LogIsOut (told S.history S.Device.history S.Frozen.content part.old) → LogIsOut (told S.history S.Device.history S.Frozen.content part.new)) }
+    ensures tells { TellsLogs (told S.history S.Device.history S.Frozen.content part.old) → TellsLogs (told S.history S.Device.history S.Frozen.content part.new) }
     ensures moments { (p : PartView) → IsPart (told S.history S.Device.history S.Frozen.content part.old) p → LogMomentsLeaveStore (staged_as (part_writes_all part.old.limits (requests_in list.now) (plain_of (told S.history S.Device.history S.Frozen.content part.old) p)) p) (told S.history S.Device.history S.Frozen.content part.old) (S.Device.history part.new.log.device) }
     ensures failed { OnErr result ((p : PartView) (jobs : JobsState S.Frozen S.Device S.Watch) → IsPart (told S.history S.Device.history S.Frozen.content part.old) p → WorkFor S.Frozen.content S.Device.history S.Device.name jobs p → HasFailedWith (WorkFor S.Frozen.content S.Device.history S.Device.name jobs) (part_writes_all part.old.limits (requests_in list.now) (plain_of (told S.history S.Device.history S.Frozen.content part.old) p)) (record (told S.history S.Device.history S.Frozen.content part.new) { failed = true }) p) }
     ensures left { OnErr result (part.new ≡ record part.old { main = part.new.main; active = part.new.active; staged = part.new.staged; taken = part.new.taken; live = part.new.live; log = part.new.log; failed = part.new.failed }) }

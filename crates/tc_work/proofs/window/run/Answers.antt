@@ -1,6 +1,6 @@
 use Rattle.std.proofs.Common.{◌∙◌, ◌+◌, List, ap, subst, sym, refl, length, true, Some, arith}
 use Rattle.tc_log.specs.declared.write.Write.{Write}
-use Rattle.tc_part.specs.FilesOut.{LogIsOut}
+use Rattle.tc_part.specs.FilesOut.{LogIsOut, TellsLogs}
 use Rattle.tc_part_model.specs.Leaving.{LogMomentsLeaveStore}
 use Rattle.tc_part_model.specs.Meaning.{plain_of, HasFailedAs}
 use Rattle.tc_part_model.specs.PartState.{PartState, Told, told}
@@ -168,7 +168,7 @@ returns-clause-frame g c = λ p is.
     let old = told g.S.Store.history g.S.Device.Device.history g.S.Frozen.Frozen.content c.args.part.now in
     let mid = told g.S.Store.history g.S.Device.Device.history g.S.Frozen.Frozen.content c.answer_all.new.part in
     let ws = part_writes_all c.args.part.now.limits (requests_in c.args.list.now) (plain_of old p) in
-    c.in_ok-frame.ensures.frame ∙ writes_staged mid p ws (none_staged_in old p is c.requires.nothing_staged) (c.in_ok-replies.ensures.staged p is).part
+    c.in_ok-frame.ensures.frame.0 ∙ writes_staged mid p ws (none_staged_in old p is c.requires.nothing_staged) (c.in_ok-replies.ensures.staged p is).part
 
 pub returns-clause-storable : goal.returns-clause-storable
 returns-clause-storable g c = λ p is.
@@ -181,4 +181,18 @@ pub returns-clause-frame_counted : goal.returns-clause-frame_counted
 returns-clause-frame_counted g c =
     ap (λ (s : PartState _ _ _ _). s.writes) c.in_ok-frame.ensures.same
     ∙ ap (λ n. n + length c.answer_all.new.part.staged) (ap (λ (s : PartState _ _ _ _). s.writes) c.answer_all.ensures.same)
-    ∙ ap (λ (ws : List Write). c.args.part.now.writes + length ws) (sym c.in_ok-frame.ensures.frame)
+    ∙ ap (λ (ws : List Write). c.args.part.now.writes + length ws) (sym c.in_ok-frame.ensures.frame.0)
+
+pub returns-clause-frame_stored : goal.returns-clause-frame_stored
+returns-clause-frame_stored g c = c.in_ok-frame.ensures.frame.1
+
+-- ---- whether the logs tell
+
+pub returns-in_err-replies-clause-tells : goal.returns-in_err-replies-clause-tells
+returns-in_err-replies-clause-tells g c = λ tells. subst (λ (s : PartState _ _ _ _). TellsLogs (told g.S.Store.history g.S.Device.Device.history g.S.Frozen.Frozen.content s)) (sym c.answer_all.ensures.same) tells
+
+pub returns-in_err-frame-clause-tells : goal.returns-in_err-frame-clause-tells
+returns-in_err-frame-clause-tells g c = λ tells. c.commit.ensures.tells (subst (λ (s : PartState _ _ _ _). TellsLogs (told g.S.Store.history g.S.Device.Device.history g.S.Frozen.Frozen.content s)) (sym c.answer_all.ensures.same) tells)
+
+pub returns-clause-tells : goal.returns-clause-tells
+returns-clause-tells g c = λ tells. c.commit.ensures.tells (subst (λ (s : PartState _ _ _ _). TellsLogs (told g.S.Store.history g.S.Device.Device.history g.S.Frozen.Frozen.content s)) (sym c.answer_all.ensures.same) tells)

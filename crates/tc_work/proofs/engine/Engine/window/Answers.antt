@@ -29,7 +29,7 @@ use Rattle.tc_work.proofs.OpenEngines.{inside_is, closed_sound}
 use Rattle.tc_work.specs.Settling.{MaySettle, TellsFiles}
 use Rattle.tc_part_model.proofs.LoadedComponents.{all_loaded}
 use Rattle.tc_work.proofs.UnharmedRecords.{not_harmed_in, unharmed}
-use Rattle.tc_part.specs.FilesOut.{LogIsOut, OnlyDevicesOut}
+use Rattle.tc_part.specs.FilesOut.{LogIsOut, OnlyDevicesOut, TellsLogs}
 use Rattle.tc_work.proofs.engine.Engine.window.Goals as goal
 
 pub run-requires-clause-sound : goal.run-requires-clause-sound
@@ -263,6 +263,9 @@ returns-clause-kept g c =
                 }) (sym same) refl) out.merge;
           };
       devices = λ only. subst (λ (s : PartState _ _ _ _). OnlyDevicesOut (told g.S.Store.history g.S.Device.Device.history g.S.Frozen.Frozen.content s)) (sym (returns-clause-same g c)) only;
+      tells = subst (λ (s : PartState _ _ _ _). TellsLogs (told g.S.Store.history g.S.Device.Device.history g.S.Frozen.Frozen.content s)
+          → TellsLogs (told g.S.Store.history g.S.Device.Device.history g.S.Frozen.Frozen.content c.run.new.part))
+          (inside_is c.self.inside.part c.self.inside.failed c.args.self.now.part (ap (λ (e : EngineState _ _ _ _). e.part) c.self.view_is) c.requires.sound c.self.invariant) c.run.ensures.tells;
     }
 
 pub returns-in_err-replies-clause-kept : goal.returns-in_err-replies-clause-kept
@@ -326,4 +329,7 @@ returns-in_err-replies-clause-kept g c =
           (subst (λ (s : PartState _ _ _ _). OnlyDevicesOut (told g.S.Store.history g.S.Device.Device.history g.S.Frozen.Frozen.content s))
           (sym (inside_is c.self.inside.part c.self.inside.failed c.args.self.now.part (ap (λ (e : EngineState _ _ _ _). e.part) c.self.view_is) c.requires.sound
           c.self.invariant)) only);
+      tells = subst (λ (s : PartState _ _ _ _). TellsLogs (told g.S.Store.history g.S.Device.Device.history g.S.Frozen.Frozen.content s)
+          → TellsLogs (told g.S.Store.history g.S.Device.Device.history g.S.Frozen.Frozen.content c.run.new.part))
+          (inside_is c.self.inside.part c.self.inside.failed c.args.self.now.part (ap (λ (e : EngineState _ _ _ _). e.part) c.self.view_is) c.requires.sound c.self.invariant) c.run.ensures.tells;
     }
