@@ -83,8 +83,6 @@ fn upsert<S: Store>(
     ensures counted { IsCountedWithin (reads_for (live_in part.old) (upsert key (tree_of doc.now))) (IsErrOf result EngineFault.Disk) (S.Watch.counts part.old.main) (S.Watch.counts part.new.main) }
 {
     staged_is_kept();
-    // The walk shows that the names of the document ascend at each level.
-    let _depth = doc.depth();
     let bytes = encode(alloc, doc)?;
     let staged = part.stage(alloc, Write::Upsert { key, bytes })?;
     Ok(upserted(key, staged))

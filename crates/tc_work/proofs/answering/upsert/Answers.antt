@@ -21,12 +21,12 @@ pub encode-requires-clause-short : goal.encode-requires-clause-short
 encode-requires-clause-short g c = short_record c.args.key (tree_of c.args.doc.now) c.requires.asked
 
 pub stage-requires-clause-lawful : goal.stage-requires-clause-lawful
-stage-requires-clause-lawful g c κs within = (upsert_for c.args.key (tree_of c.args.doc.now) c.in_ok-bytes.bytes c.requires.asked c.depth-depth.ensures.lawful c.in_ok-bytes.ensures.spelled).lawful
+stage-requires-clause-lawful g c κs within = (upsert_for c.args.key (tree_of c.args.doc.now) c.in_ok-bytes.bytes c.requires.asked c.encode.ensures.lawful c.in_ok-bytes.ensures.spelled).lawful
 
 pub stage-requires-clause-frame : goal.stage-requires-clause-frame
 stage-requires-clause-frame g c κs within =
     goes_in (upsert c.args.key (tree_of c.args.doc.now)) (Upsert c.args.key c.in_ok-bytes.bytes) c.args.part.now.staged
-    (upsert_for c.args.key (tree_of c.args.doc.now) c.in_ok-bytes.bytes c.requires.asked c.depth-depth.ensures.lawful c.in_ok-bytes.ensures.spelled) c.requires.frame
+    (upsert_for c.args.key (tree_of c.args.doc.now) c.in_ok-bytes.bytes c.requires.asked c.encode.ensures.lawful c.in_ok-bytes.ensures.spelled) c.requires.frame
 
 pub returns-in_err-bytes-clause-unspent : goal.returns-in_err-bytes-clause-unspent
 returns-in_err-bytes-clause-unspent g c = no_memory c.from_residual.result _ c.from_residual.ensures.1 (λ same. absurd (cc))
@@ -53,9 +53,9 @@ returns-clause-staged g c = λ p is.
     let limits = c.args.part.now.limits in
     let bytes = c.in_ok-bytes.bytes in
     let was = is_some (value_of key (stored_with p)) in
-    let storable = storable_upsert key d c.requires.asked c.depth-depth.ensures.lawful in
+    let storable = storable_upsert key d c.requires.asked c.encode.ensures.lawful in
     let kept = ap (Upsert key) c.in_ok-bytes.ensures.spelled in
-    let of = record_upserted key d bytes c.requires.asked c.depth-depth.ensures.lawful c.in_ok-bytes.ensures.spelled in
+    let of = record_upserted key d bytes c.requires.asked c.encode.ensures.lawful c.in_ok-bytes.ensures.spelled in
     upsert_staged limits key d was old new p (c.staged_is_kept.ensures.plain old new p) (c.in_ok-staged.ensures.staged p (key, Some d) is storable kept)
     (upsert_taken limits key (plain_of old p) was bytes d c.args.part.now c.stage.new.self of
     (subst (λ answer. HasStaged answer (Upsert key bytes) c.args.part.now c.stage.new.self) (c.in_ok-staged.ensures.answered p (key, Some d) is storable kept) c.in_ok-staged.ensures.same))
@@ -66,7 +66,7 @@ returns-clause-reply g c = λ p is are_told.
     let d = tree_of c.args.doc.now in
     let key = c.args.key in
     let limits = c.args.part.now.limits in
-    let storable = storable_upsert key d c.requires.asked c.depth-depth.ensures.lawful in
+    let storable = storable_upsert key d c.requires.asked c.encode.ensures.lawful in
     let kept = ap (Upsert key) c.in_ok-bytes.ensures.spelled in
     c.upserted.ensures ∙ ap (λ staged. rendered (reply_to_upsert key staged)) (c.in_ok-staged.ensures.answered p (key, Some d) is storable kept)
     ∙ ap rendered (upsert_replied limits key d (plain_of old p) (is_some (value_of key (stored_with p))))
@@ -74,7 +74,7 @@ returns-clause-reply g c = λ p is are_told.
 pub returns-clause-grown : goal.returns-clause-grown
 returns-clause-grown g c =
     grown (upsert c.args.key (tree_of c.args.doc.now)) (Upsert c.args.key c.in_ok-bytes.bytes) c.args.part.now.staged c.stage.new.self.staged
-    (upsert_for c.args.key (tree_of c.args.doc.now) c.in_ok-bytes.bytes c.requires.asked c.depth-depth.ensures.lawful c.in_ok-bytes.ensures.spelled) c.requires.frame.each
+    (upsert_for c.args.key (tree_of c.args.doc.now) c.in_ok-bytes.bytes c.requires.asked c.encode.ensures.lawful c.in_ok-bytes.ensures.spelled) c.requires.frame.each
     (staged_or_not c.in_ok-staged.staged (Upsert c.args.key c.in_ok-bytes.bytes) c.args.part.now c.stage.new.self c.in_ok-staged.ensures.same)
 
 pub returns-clause-same : goal.returns-clause-same
