@@ -53,7 +53,9 @@ fn passes_all(outline: Outline<'_>, names: &Names) -> bool
 }
 
 /// Whether the names ascend in each object of the value whose first tag was taken. If they do, the outline stands behind it.
+// built into the loops over items and members: most values are scalars, for which a call costs more than what is done
 #[cycle(spelling)]
+#[inline(always)]
 fn passes_value(outline: &mut Outline<'_>, tag: u8, names: &Names) -> bool
     ensures passes { (t : NumberedTree) (more : List (TreeToken ℕ Scalar)) → tag ≡ piece_tag (first_piece t) → IsOutlineOf (behind_first t more) outline.old → result ≡ is_ordered names.now t }
     ensures behind { (t : NumberedTree) (more : List (TreeToken ℕ Scalar)) → tag ≡ piece_tag (first_piece t) → IsOutlineOf (behind_first t more) outline.old → IsTrue result → IsOutlineOf more outline.new }
