@@ -1,22 +1,27 @@
 -- What is answered over every store, once the files were brought to rest and the partition was started over them, or was not.
-use Rattle.std.proofs.Common.{◌≡◌, ◌∙◌, ◌≤◌, ◌+◌, ℕ, List, [], Option, length, map, sym, ap, subst, inr, arith}
+use Rattle.std.proofs.Common.{◌≡◌, ◌∙◌, ◌≤◌, ◌+◌, ℕ, true, List, [], ◌∷◌, Option, length, map, option_map, sym, ap, subst, inl, inr, arith}
 use Rattle.tc_store.specs.declared.file_name.FileName.{FileName}
 use Rattle.tc_store.specs.declared.file_name.FileName.TheVariants.{Log}
 use Rattle.tc_store.specs.declared.kit.Kit.{Kit}
 use Rattle.tc_store.specs.Counted.{Counts, IsCounted}
-use Rattle.tc_store.specs.Disk.{Disk}
+use Rattle.std.specs.Prelude.{IfSome}
+use Rattle.std.proofs.lemmas.Bool.{true≢false}
+use Rattle.tc_store.specs.Disk.{Disk, is_out, out}
 use Rattle.tc_store.specs.DiskFile.{DiskFile}
 use Rattle.tc_store.specs.Moments.{IfTold}
 use Rattle.tc_store.specs.StoreCalls.{makes}
+use Rattle.tc_store.proofs.MomentLemmas.{told_map}
 use Rattle.tc_bytes.specs.Counts.{Rose}
 use Rattle.tc_component.specs.Loading.{ComponentState}
 use Rattle.tc_list.specs.Intervals.{last_of}
+use Rattle.tc_log.specs.Appending.{LogState}
 use Rattle.tc_lsm_model.specs.Contents.{Partition}
+use Rattle.tc_machine.proofs.FilesLeft.{at_name}
 use Rattle.tc_merge.specs.Faults.{IsWatched}
 use Rattle.tc_part.specs.declared.limits.Limits.{Limits}
-use Rattle.tc_part.specs.FilesOut.{LogIsOut}
+use Rattle.tc_part.specs.FilesOut.{HoldsDevices, LogIsOut, OnlyOut}
 use Rattle.tc_part.specs.OwnFiles.{HasOwnFiles}
-use Rattle.tc_part_model.specs.PartState.{AreTold, PartState, told, told_component}
+use Rattle.tc_part_model.specs.PartState.{AreTold, IsTold, PartState, told, told_component}
 use Rattle.tc_replay.specs.Openings.{AreIn}
 use Rattle.tc_open.specs.declared.fault.OpenCause.{OpenCause}
 use Rattle.tc_open.specs.declared.fault.OpenCause.TheVariants.{Disk as DiskFault, Damaged, Layout, Spent, Memory}
@@ -50,6 +55,12 @@ no_layout P (Layout found found_of) is = absurd is
 no_layout P Spent is = tt
 no_layout P Memory is = tt
 
+-- where no file was out, only that is which was made
+only_made : {F : Type 0} (list : List (ComponentState F)) (log : FileName) (disks : List Disk) → IfTold disks (AreOwn list []) → IfTold (makes log disks) (OnlyOut log)
+only_made list log [] own = tt
+only_made list log (disk ∷ past) own = λ name there.
+    at_name log name out disk (λ e. is_out e ≡ true → name ≡ log) (λ same there. sym same) (λ apart there. absurd (true≢false (sym there ∙ own.is_in name))) there
+
 -- The kit came with the one store and first watch, and has another store and first watch once the files are at rest.
 module _ {S D F W : Type 0} (history : S → List Disk) (counts : W → Counts) (content : F → Option (List ℕ)) (part : Partition) (kit rested : Kit S W D F) (same : rested ≡ record kit { store = rested.store; main = rested.main }) (watched : IsWatched ⊥ (counts kit.main) (counts rested.main)) where
   pub begun_over : (limits : Limits) (list : List (ComponentState F)) (p : PartState S D F W) → p ≡ begun_part content part limits rested list p → p ≡ begun_part content part limits kit p.list p
@@ -75,6 +86,20 @@ module _ {S D F W : Type 0} (history : S → List Disk) (counts : W → Counts) 
         (subst (λ (ds : List Disk). IfTold ds (λ disk. AreTold (map (told_component content) list))) (sym made)
         (told_still (AreTold (map (told_component content) list)) (history rested.store) (makes log (history rested.store)) (λ none. ap (makes log) none) are))
 
+    -- the log alone is out, and its device tells
+    devices : LogIsOut (told history moments content p) → HoldsDevices (told history moments content p)
+    devices log_out =
+        let t = told history moments content p in
+        let Out : Disk → Type 0 = λ disk. (disk (Log p.generation) ≡ out) × IsTold t.log in
+        record {
+          tells = record {
+            active = told_map Out (λ disk. IsTold t.log) t.disks (λ disk is. is.1) log_out;
+            sealed = subst (λ (o : Option (LogState D)). IfTold t.disks (λ disk. IfSome (option_map (λ l. moments l.device) o) (λ ms. IsTold ms))) (sym (ap (λ (q : PartState S D F W). q.sealed_log) begun)) (told_map Out (λ disk. Unit {0}) t.disks (λ disk is. tt) log_out);
+          };
+          only = told_map (OnlyOut log) _ t.disks (λ disk only name there. inl (inl (only name there ∙ ap (λ (n : ℕ). Log n) (sym (ap (λ (q : PartState S D F W). q.generation) begun)))))
+              (subst (λ (ds : List Disk). IfTold ds (OnlyOut log)) (sym made) (only_made list log (history rested.store) are_own));
+        }
+
     pub begins : IfTold (history rested.store) (λ disk. AreTold (map (told_component content) list)) → length list ≤ most_listed → HasOwnFiles (told history moments content p) → LogIsOut (told history moments content p)
         → IsCounted ⊥ (counts rested.main) (counts p.main) → Begins history moments content counts kit p
     begins are_told few own log_out counted = record {
@@ -83,6 +108,7 @@ module _ {S D F W : Type 0} (history : S → List Disk) (counts : W → Counts) 
       own = own_files;
       has_own = own;
       log_out = log_out;
+      devices = devices log_out;
       watched = counted_behind ⊥ (counts kit.main) (counts rested.main) (counts p.main) watched counted;
     }
 

@@ -13,7 +13,7 @@ use Rattle.tc_list.specs.Intervals.{last_of}
 use Rattle.tc_lsm_model.specs.Contents.{Content, Partition}
 use Rattle.tc_merge.specs.Faults.{IsWatched}
 use Rattle.tc_part.specs.declared.limits.Limits.{Limits}
-use Rattle.tc_part.specs.FilesOut.{LogIsOut}
+use Rattle.tc_part.specs.FilesOut.{HoldsDevices, LogIsOut}
 use Rattle.tc_part.specs.Openings.{newest_in}
 use Rattle.tc_part.specs.OwnFiles.{HasOwnFiles}
 use Rattle.tc_part_model.specs.Newest.{names_by}
@@ -65,13 +65,14 @@ abbrev pub HasOnlyThese : {F : Type 0} → List (ComponentState F) → FileName 
 HasOnlyThese list log disk = (name : FileName) → IsThere (disk name) → Contains (file_names list) name ⊎ (name ≡ log)
 
 -- So are the files of a part that begins: it lists few components, which tell where its store does. It has the files of these and that
--- of its log, and no others, and that log is out as its device. No call failed.
+-- of its log, and no others, and that log alone is out, as its device. No call failed.
 pub record Begins {S D F W : Type 0} (history : S → List Disk) (moments : D → List DiskFile) (content : F → Option (List ℕ)) (counts : W → Counts) (kit : Kit S W D F) (p : PartState S D F W) : Type 0 where
   pub components : IfTold (history p.store) (λ disk. AreTold (told history moments content p).components)
   pub few : length p.list ≤ most_listed
   pub own : IfTold (history p.store) (HasOnlyThese p.list (Log p.generation))
   pub has_own : HasOwnFiles (told history moments content p)
   pub log_out : LogIsOut (told history moments content p)
+  pub devices : HoldsDevices (told history moments content p)
   pub watched : IsWatched ⊥ (counts kit.main) (counts p.main)
 
 -- So a kit is given back, for this cause: the same but for its store and first watch, with no file out. A refusal in reading leaves
