@@ -4,6 +4,7 @@ use Rattle.std.specs.Map.{keys_of}
 use Rattle.std.specs.Prelude.{Result, Ok, Err, IfOk, OnErr, OnOk}
 use Rattle.std.proofs.lemmas.Bool.{true≢false}
 use Rattle.tc_log.specs.declared.write.Write.{Write}
+use Rattle.tc_part.specs.FilesOut.{HoldsDevices}
 use Rattle.tc_part_model.specs.PartState.{PartState}
 use Rattle.tc_route.specs.Meaning.{placed_of, rendered_in, routed_of}
 use Rattle.tc_route.specs.declared.placed.Placed.{Placed}
@@ -50,8 +51,8 @@ only_run (Err e) old new same left =
     ∙ ap (λ (b : Bool). record old { main = new.main; active = new.active; staged = new.staged; log = new.log; taken = new.taken; live = new.live; failed = b }) (sym failed)
     ∙ ap (λ (n : ℕ). record old { main = new.main; active = new.active; staged = new.staged; log = new.log; taken = new.taken; live = new.live; writes = n; failed = new.failed }) (sym writes)
 
--- the jobs that are out stay those of the engine, and it has its own files still, unless it failed
+-- the jobs that are out stay those of the engine, it holds its devices, and it has its own files still, unless it failed
 pub run_staffed : {S D F W T E : Type 0} (answer : Result T E) (eyes : Eyes S D F W) (old new : EngineState S D F W) (jobs : JobsState F D W) → old.part.failed ≡ false → (IsOutBy eyes (beside old.part jobs) → IsOutBy eyes (beside new.part jobs))
-    → OnOk answer (MaySettle (told_part eyes old.part) → MaySettle (told_part eyes new.part)) → OnErr answer (new.part.failed ≡ true) → IsStaffed eyes old jobs → IsStaffed eyes new jobs
-run_staffed (Ok x) eyes old new jobs sound out ready failed staffed = record { out = out staffed.out; ready = λ is. ready (staffed.ready sound) }
-run_staffed (Err e) eyes old new jobs sound out ready failed staffed = record { out = out staffed.out; ready = λ is. absurd (true≢false (sym failed ∙ is)) }
+    → OnOk answer (MaySettle (told_part eyes old.part) → MaySettle (told_part eyes new.part)) → OnErr answer (new.part.failed ≡ true) → (HoldsDevices (told_part eyes old.part) → HoldsDevices (told_part eyes new.part)) → IsStaffed eyes old jobs → IsStaffed eyes new jobs
+run_staffed (Ok x) eyes old new jobs sound out ready failed holds staffed = record { out = out staffed.out; ready = λ is. ready (staffed.ready sound); devices = holds staffed.devices }
+run_staffed (Err e) eyes old new jobs sound out ready failed holds staffed = record { out = out staffed.out; ready = λ is. absurd (true≢false (sym failed ∙ is)); devices = holds staffed.devices }

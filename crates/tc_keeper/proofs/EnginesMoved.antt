@@ -8,13 +8,13 @@ use Rattle.tc_store.specs.Moments.{IfTold}
 use Rattle.tc_log.specs.Layout.{empty_size}
 use Rattle.tc_lsm_model.specs.Contents.{Partition}
 use Rattle.tc_plain_model.specs.Room.{Limits}
-use Rattle.tc_part.specs.FilesOut.{OnlyDevicesOut, TellsLogs}
+use Rattle.tc_part.specs.FilesOut.{HoldsDevices, OnlyDevicesOut, TellsLogs}
 use Rattle.tc_part_model.specs.Meaning.{IsPart}
 use Rattle.tc_part_model.specs.PartState.{IsTold, Told}
 use Rattle.tc_part_model.specs.PartView.{PartView, store_of}
 use Rattle.tc_run_model.specs.World.{Part, World}
 use Rattle.tc_work.specs.Failing.{HasFailedKeeping}
-use Rattle.tc_work.specs.Moving.{told_by, works_by, Eyes, FailsMoving, Working}
+use Rattle.tc_work.specs.Moving.{told_by, works_by, Eyes, FailsMoving, KeepsJobs, Working}
 use Rattle.tc_work.specs.Settling.{StoresStill, TellsFiles}
 use Rattle.tc_keeper.specs.Moving.{StopsAt}
 use Rattle.tc_keeper.specs.Places.{AtEach}
@@ -29,6 +29,10 @@ use Rattle.tc_keeper.proofs.PlaceLaws.{at_each-join, at_each-same, at_each-turne
 pub failed_kept : {S D F W : Type 0} (eyes : Eyes S D F W) (old new : Working S D F W) → new.part.failed ≡ true → FailsMoving eyes old new
     → (p : PartView) → IsPart (told_by eyes old) p → TellsFiles (told_by eyes old) → works_by eyes old p → HasFailedKeeping (works_by eyes new) (told_by eyes new) p.part (store_of p) None
 failed_kept eyes old new left fails p is tells works = subst (λ b. HasFailedKeeping (works_by eyes new) (record (told_by eyes new) { failed = b }) p.part (store_of p) None) (sym left) (fails p is tells works)
+
+-- whatever it answered, its engine holds its devices still
+pub holds_still : {S D F W : Type 0} (eyes : Eyes S D F W) (Failed : Type 0) (old new : Working S D F W) → KeepsJobs eyes Failed old new → HoldsDevices (told_by eyes old) → HoldsDevices (told_by eyes new)
+holds_still eyes Failed old new keeps holds = record { tells = keeps.tells holds.tells; only = keeps.devices holds.tells holds.only }
 
 -- ---- a log without a frame
 

@@ -3,6 +3,7 @@ use Rattle.std.proofs.Common.{◌≡◌, ◌∙◌, ◌<◌, ◌+◌, ℕ, zero,
 use Rattle.std.specs.Prelude.{slice_index_or, zip}
 use Rattle.tc_run_model.specs.World.{Part, World}
 use Rattle.tc_running.specs.Jobs.{JobsState}
+use Rattle.tc_part.specs.FilesOut.{HoldsDevices}
 use Rattle.tc_work.specs.EngineState.{EngineState}
 use Rattle.tc_work.specs.Moving.{beside, told_part, Eyes, IsOutBy}
 use Rattle.tc_work.specs.Settling.{MaySettle}
@@ -96,4 +97,8 @@ module _ {S D F W : Type 0} (reader : Option W) where
   lent_staffed eyes f at xs jobs x y is lent out all = put_staffed eyes f 0 at xs jobs x y is still all
     where
       still : (js : JobsState F D W) → IsStaffed eyes (f x) js → IsStaffed eyes (f y) js
-      still js staffed = record { out = out js staffed.out; ready = subst (λ (e : EngineState S D F W). e.part.failed ≡ false → MaySettle (told_part eyes e.part)) (sym lent) staffed.ready }
+      still js staffed = record {
+        out = out js staffed.out;
+        ready = subst (λ (e : EngineState S D F W). e.part.failed ≡ false → MaySettle (told_part eyes e.part)) (sym lent) staffed.ready;
+        devices = subst (λ (e : EngineState S D F W). HoldsDevices (told_part eyes e.part)) (sym lent) staffed.devices;
+      }

@@ -2,6 +2,7 @@
 use Rattle.std.specs.Prelude.{◌≡◌, ℕ, false, List, [], ◌∷◌, Option, None}
 use Rattle.tc_list.specs.declared.policy.Policy.{Policy}
 use Rattle.tc_lsm_model.specs.Contents.{Partition}
+use Rattle.tc_part.specs.FilesOut.{HoldsDevices}
 use Rattle.tc_part_model.specs.PartState.{Told}
 use Rattle.tc_part_model.specs.PartView.{PartView}
 use Rattle.tc_running.specs.Jobs.{JobsState}
@@ -45,10 +46,12 @@ set_as number count memory policy = record { here = record { number = number; co
 abbrev pub settings : {S D F W : Type 0} → WithJobs S D F W → Settings
 settings e = set_as e.engine.part.number e.engine.part.count e.engine.part.memory e.engine.policy
 
--- These are exactly the jobs of the engine that are out, and if it has not failed it has its own files.
+-- These are exactly the jobs of the engine that are out, and if it has not failed it has its own files. Whatever they are, none is out
+-- but those of its devices.
 pub record IsStaffed {S D F W : Type 0} (eyes : Eyes S D F W) (engine : EngineState S D F W) (jobs : JobsState F D W) : Type 0 where
   pub out : IsOutBy eyes (beside engine.part jobs)
   pub ready : engine.part.failed ≡ false → MaySettle (told_part eyes engine.part)
+  pub devices : HoldsDevices (told_part eyes engine.part)
 
 -- there are as many of both, and at each place are the jobs of the engine
 abbrev pub AreStaffed : {S D F W : Type 0} → Eyes S D F W → List (EngineState S D F W) → List (JobsState F D W) → Type 0

@@ -40,6 +40,7 @@ impl<S: Store, P: Pace> Engines<S, P> {
     ghost use Rattle.std.specs.Arc.{arc_value};
     ghost use Rattle.std.specs.Prelude.{◌≡◌, ◌<◌, ℕ, [], ◌∷◌, ◌++◌, true, false, Option, None, Some, is_some, option_map, IfErr, IfOk, IfSome, OnErr, OnOk, length};
     ghost use Rattle.tc_merge.specs.Merging.{GrowNames};
+    ghost use Rattle.tc_part.specs.FilesOut.{HoldsDevices};
     ghost use Rattle.tc_part_model.specs.PartState.{told};
     ghost use Rattle.tc_run_model.specs.World.{World};
     ghost use Rattle.tc_work.specs.JobsOut.{AreOut};
@@ -59,10 +60,11 @@ impl<S: Store, P: Pace> Engines<S, P> {
     }
 
     /// Adds the engine of the next partition, of which no job is out. Gives it back for want of memory alone, which is not wanting
-    /// where there is room.
+    /// where there is room. Each engine that was opened holds its devices, and goes on to, whatever is done.
     pub fn push(&mut self, alloc: Global, engine: Engine<S, P>) -> Result<(), Engine<S, P>>
         requires no_jobs { AreOut S.history S.Device.history S.Frozen.content S.Device.name engine.part no_jobs }
         requires ready { engine.part.failed ≡ false → MaySettle (told S.history S.Device.history S.Frozen.content engine.part) }
+        requires devices { HoldsDevices (told S.history S.Device.history S.Frozen.content engine.part) }
         ensures pushed { OnOk result (self.new ≡ self.old ++ engine_with engine no_jobs ∷ []) }
         ensures same { OnErr result (self.new ≡ self.old) }
         ensures back { IfErr result (λ back. back ≡ engine) }
@@ -86,6 +88,7 @@ impl<S: Store, P: Pace> Engines<S, P> {
         ensures none { result ≡ None → (self.old ≡ []) × (self.new ≡ []) }
         ensures jobs { IfSome result (λ pair. AreOut S.history S.Device.history S.Frozen.content S.Device.name pair.0.part pair.1) }
         ensures ready { IfSome result (λ pair. pair.0.part.failed ≡ false → MaySettle (told S.history S.Device.history S.Frozen.content pair.0.part)) }
+        ensures devices { IfSome result (λ pair. HoldsDevices (told S.history S.Device.history S.Frozen.content pair.0.part)) }
     {
         match self.seats.pop() {
             Some(seat) => match self.running.pop() {

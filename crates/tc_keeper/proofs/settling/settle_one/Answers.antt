@@ -1,11 +1,17 @@
 use Rattle.std.proofs.Common.{◌∙◌, Err, ap, sym}
 use Rattle.std.proofs.lemmas.Bool.{true≢false}
 use Rattle.tc_work.specs.Moving.{beside, eyes}
-use Rattle.tc_keeper.proofs.EnginesMoved.{failed_kept}
+use Rattle.tc_keeper.proofs.EnginesMoved.{failed_kept, holds_still}
 use Rattle.tc_keeper.proofs.settling.settle_one.Goals as goal
 
 pub returns-in-Ok-clause-staffed : goal.returns-in-Ok-clause-staffed
-returns-in-Ok-clause-staffed g c = record { out = c.settle.ensures.moves.keeps.jobs; ready = λ is. c.in-Ok.ensures.moves.well.stays.ready }
+returns-in-Ok-clause-staffed g c = record {
+  out = c.settle.ensures.moves.keeps.jobs;
+  ready = λ is. c.in-Ok.ensures.moves.well.stays.ready;
+  devices = holds_still
+      (eyes g.S.Store.history g.S.Device.Device.history g.S.Frozen.Frozen.content g.S.Device.Device.name g.S.Frozen.Frozen.size g.S.Watch.Watch.counts) _
+      (beside c.args.seat.now.engine.part c.args.running.now) (beside c.settle.new.self.part c.settle.new.jobs) c.settle.ensures.moves.keeps c.requires.staffed.devices;
+}
 
 pub returns-in-Ok-clause-settled : goal.returns-in-Ok-clause-settled
 returns-in-Ok-clause-settled g c =
@@ -24,7 +30,13 @@ returns-in-Ok-clause-settled g c =
     }
 
 pub returns-in-Err-clause-staffed : goal.returns-in-Err-clause-staffed
-returns-in-Err-clause-staffed g c = record { out = c.settle.ensures.moves.keeps.jobs; ready = λ is. absurd (true≢false (sym c.in-Err.ensures.left ∙ is)) }
+returns-in-Err-clause-staffed g c = record {
+  out = c.settle.ensures.moves.keeps.jobs;
+  ready = λ is. absurd (true≢false (sym c.in-Err.ensures.left ∙ is));
+  devices = holds_still
+      (eyes g.S.Store.history g.S.Device.Device.history g.S.Frozen.Frozen.content g.S.Device.Device.name g.S.Frozen.Frozen.size g.S.Watch.Watch.counts) _
+      (beside c.args.seat.now.engine.part c.args.running.now) (beside c.settle.new.self.part c.settle.new.jobs) c.settle.ensures.moves.keeps c.requires.staffed.devices;
+}
 
 pub returns-in-Err-clause-stopped : goal.returns-in-Err-clause-stopped
 returns-in-Err-clause-stopped g c =

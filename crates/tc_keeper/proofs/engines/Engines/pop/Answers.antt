@@ -64,3 +64,6 @@ returns-in-Some-pop-clause-jobs g c = (taken_staffed g c).out
 
 pub returns-in-Some-pop-clause-ready : goal.returns-in-Some-pop-clause-ready
 returns-in-Some-pop-clause-ready g c = (taken_staffed g c).ready
+
+pub returns-in-Some-pop-clause-devices : goal.returns-in-Some-pop-clause-devices
+returns-in-Some-pop-clause-devices g c = (taken_staffed g c).devices

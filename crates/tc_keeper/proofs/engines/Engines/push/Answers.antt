@@ -37,4 +37,4 @@ invariant_of-self g c =
     c.self.inside.seats.items ++ c.args.engine ∷ [])) (sym (running_now g c))
     (staffed-append (eyes g.S.Store.history g.S.Device.Device.history g.S.Frozen.Frozen.content g.S.Device.Device.name g.S.Frozen.Frozen.size g.S.Watch.Watch.counts)
     (map (λ (s : Seat g.row.S.Denot g.row.P.Denot g.row.S-Watch.Denot g.row.S-Device.Denot g.row.S-Frozen.Denot). s.engine) c.self.inside.seats.items)
-    c.self.inside.running.items c.args.engine no_jobs c.self.invariant (record { out = c.requires.no_jobs; ready = c.requires.ready })))
+    c.self.inside.running.items c.args.engine no_jobs c.self.invariant (record { out = c.requires.no_jobs; ready = c.requires.ready; devices = c.requires.devices })))

@@ -17,7 +17,8 @@ returns-clause-ran g c =
       policy = ran.kept.policy;
       staffed = λ jobs. run_staffed c.window.result (eyes g.S.Store.history g.S.Device.Device.history g.S.Frozen.Frozen.content g.S.Device.Device.name
           g.S.Frozen.Frozen.size g.S.Watch.Watch.counts) c.args.self.now.engine c.window.new.self jobs c.requires.sound (ran.kept.jobs jobs) (on_ok_weaker c.window.result (λ (k : Commits _ _ _ _). k.ready) ran.commits)
-          (left_failed c.window.result c.args.self.now.engine.part c.window.new.self.part (on_err_weaker c.window.result (λ (k : FailsWindow _ _ _ _). k.left) ran.fails));
+          (left_failed c.window.result c.args.self.now.engine.part c.window.new.self.part (on_err_weaker c.window.result (λ (k : FailsWindow _ _ _ _). k.left) ran.fails))
+          (λ holds. record { tells = ran.kept.tells holds.tells; only = ran.kept.devices holds.only });
       ready = on_ok_weaker c.window.result (λ (k : Commits _ _ _ _). k.ready) ran.commits;
       tells = on_ok_weaker c.window.result (λ (k : Commits _ _ _ _). k.tells) ran.commits;
       devices = ran.kept.devices;
