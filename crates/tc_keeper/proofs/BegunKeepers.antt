@@ -13,7 +13,7 @@ use Rattle.tc_store.specs.DiskFile.{DiskFile}
 use Rattle.tc_keeper.specs.Calls.{faults_at, faults_of, AllMayAnswer, MayAsk}
 use Rattle.tc_keeper.specs.Faults.{DiskFaults, HasRunCauses}
 use Rattle.tc_keeper.specs.Keeping.{counted_out, faults_kept, watch_out, AreLensesOut, AreReadersOut, AreUnwritten, IsManned, KeeperState, MayServe}
-use Rattle.tc_keeper.specs.Showing.{IsShownFirst}
+use Rattle.tc_keeper.specs.Showing.{IsShownFirst, ShowsOwnOf}
 use Rattle.tc_keeper.specs.declared.fault.RunFault.{RunFault}
 use Rattle.tc_keeper.specs.declared.fault.RunFault.TheVariants.{Memory}
 use Rattle.tc_keeper.specs.declared.partitions.Partitions.{Partitions}
@@ -52,9 +52,10 @@ pub readers_home : {S D F W : Type 0} (es : List (WithJobs S D F W)) → AreUnwr
 readers_home es unwritten = All-weaker (λ e. (e.engine.part.sealed ≡ None) × (e.engine.part.active ≡ []) × (is_some e.engine.part.reader ≡ true)) (λ e. is_some e.engine.part.reader ≡ true) (λ e u. u.2) es unwritten
 
 -- as many are shown as there are engines, and nothing is out
-pub manned_first : {S D F W : Type 0} (k : KeeperState S D F W) → k.scan ≡ None → AtEach (λ p e s. IsShownFirst e s) 0 k.engines k.shown → AreUnwritten k.engines → IsManned k
-manned_first {S} {D} {F} {W} k none shown unwritten = record {
+pub manned_first : {S D F W : Type 0} (content : F → Option (List ℕ)) (k : KeeperState S D F W) → k.scan ≡ None → AtEach (λ p e s. IsShownFirst e s) 0 k.engines k.shown → AtEach (ShowsOwnOf content) 0 k.engines k.shown → AreUnwritten k.engines → IsManned content k
+manned_first {S} {D} {F} {W} content k none shown own unwritten = record {
   as_many = sym (at_each-length (λ p (e : WithJobs S D F W) (s : ShownState F W). IsShownFirst e s) 0 k.engines k.shown shown);
   readers = subst (λ (o : Option (Begun F W)). AreReadersOut o k.engines) (sym none) (readers_home k.engines unwritten);
   lenses = subst (λ (o : Option (Begun F W)). AreLensesOut o k.shown) (sym none) tt;
+  own = own;
 }

@@ -6,7 +6,7 @@ use Rattle.std.specs.declared.alloc.Global.{Global}
 use Rattle.std.specs.declared.vec.Vec.{Vec}
 use Rattle.tc_keeper.specs.Places.{AtEach, IsAt}
 use Rattle.tc_keeper.specs.Standing.{partition_at, HoldsOwn, HoldWorld, IsSeen, KeepsPart, KeepWorlds}
-use Rattle.tc_keeper.specs.WithJobs.{told_of, with_reader, works_of, WithJobs}
+use Rattle.tc_keeper.specs.WithJobs.{settings, told_of, with_reader, works_of, WithJobs}
 use Rattle.tc_keeper.proofs.PlaceLaws.{at_each-join, at_each-length, at_each-same, at_each-so}
 use Rattle.tc_log.specs.Writes.{IsWrite}
 use Rattle.tc_log.specs.declared.write.Write as log
@@ -22,9 +22,11 @@ use Rattle.tc_view.specs.declared.lens.Lens.{Lens}
 use Rattle.tc_view.specs.Places.{kept_by}
 use Rattle.tc_work.specs.Moving.{Eyes}
 use Rattle.tc_keeper.specs.Keeping.{AreLensesOut, AreReadersOut, IsManned, KeeperState}
-use Rattle.tc_keeper.specs.Showing.{IsReadAsBefore}
+use Rattle.tc_keeper.specs.Showing.{IsReadAsBefore, ShowsOwnOf}
 use Rattle.tc_keeper.proofs.EachLaws.{carried_all, right_all}
 use Rattle.tc_keeper.proofs.KeeperCounts.{SameReaders}
+use Rattle.tc_keeper.proofs.OwnShown.{own_settled}
+use Rattle.tc_keeper.proofs.ReadersApart.{reread_back, reread_lent, settings_reread}
 use Rattle.tc_keeper.proofs.ShownWorlds.{zip_length, Framed}
 
 -- ---- one after the other
@@ -85,11 +87,13 @@ module _ {S D F W : Type 0} where
       (away.0 ∙ at_each-length (λ p old new. new.engine.part.reader ≡ old.engine.part.reader) 0 es es' same, carried_all (λ p old new. new.engine.part.reader ≡ old.engine.part.reader) IsAway IsAway 0 es es' (λ i old new same none. same ∙ none) same away.1)
 
   -- a call of the engines, and showing what they did
-  pub manned_beside : (k k' : KeeperState S D F W) → k'.scan ≡ k.scan → SameReaders k.engines k'.engines → AtEach (λ p old new. IsReadAsBefore old new) 0 k.shown k'.shown → IsManned k → IsManned k'
-  manned_beside k k' scan readers read m = record {
+  pub manned_beside : {content : F → Option (List ℕ)} (k k' : KeeperState S D F W) → k'.scan ≡ k.scan → SameReaders k.engines k'.engines → map settings k'.engines ≡ map settings k.engines → AtEach (λ p old new. IsReadAsBefore old new) 0 k.shown k'.shown
+      → (AtEach (ShowsOwnOf content) 0 k'.engines k.shown → AtEach (ShowsOwnOf content) 0 k'.engines k'.shown) → IsManned content k → IsManned content k'
+  manned_beside {content = content} k k' scan readers same read own m = record {
     as_many = sym (at_each-length (λ p old new. IsReadAsBefore old new) 0 k.shown k'.shown read) ∙ m.as_many ∙ at_each-length (λ p old new. new.engine.part.reader ≡ old.engine.part.reader) 0 k.engines k'.engines readers;
     readers = subst (λ o. AreReadersOut o k'.engines) (sym scan) (readers_beside k.scan k.engines k'.engines readers m.readers);
     lenses = subst (λ o. AreLensesOut o k'.shown) (sym scan) (lenses_beside k.scan k.shown k'.shown read m.lenses);
+    own = own (own_settled content 0 k.engines k'.engines k.shown same m.own);
   }
 
   -- ---- frames
@@ -103,17 +107,17 @@ module _ {S D F W : Type 0} where
   pub frames_stored : (eyes : Eyes S D F W) (count : ℕ) (window : Keyed Request) (runs : List (WithJobs S D F W × WithJobs S D F W)) (frames : List (Vec log.Write Global)) → AtEach (Framed eyes count window) 0 runs frames → All (λ (frame : Vec log.Write Global). All IsWrite frame.items) frames
   frames_stored eyes count window runs frames framed = right_all (Framed eyes count window) (λ (frame : Vec log.Write Global). All IsWrite frame.items) 0 runs frames (λ i run frame f. f.stored) framed
 
-  pub shown_many : (k : KeeperState S D F W) (es' : List (WithJobs S D F W)) → SameReaders k.engines es' → IsManned k → length k.shown ≡ length es'
+  pub shown_many : {content : F → Option (List ℕ)} (k : KeeperState S D F W) (es' : List (WithJobs S D F W)) → SameReaders k.engines es' → IsManned content k → length k.shown ≡ length es'
   shown_many k es' readers m = m.as_many ∙ at_each-length (λ p old new. new.engine.part.reader ≡ old.engine.part.reader) 0 k.engines es' readers
 
   -- ---- a scan is started
 
-  pub readers_in : (k : KeeperState S D F W) → k.scan ≡ None → IsManned k → All (λ e. is_some e.engine.part.reader ≡ true) k.engines
+  pub readers_in : {content : F → Option (List ℕ)} (k : KeeperState S D F W) → k.scan ≡ None → IsManned content k → All (λ e. is_some e.engine.part.reader ≡ true) k.engines
   readers_in k none m = subst (λ o. AreReadersOut {S = S} {D = D} {F = F} {W = W} o k.engines) none m.readers
 
-  pub manned_lent : (k k' : KeeperState S D F W) (begun : Begun F W) → k'.scan ≡ Some begun → k'.shown ≡ k.shown → AtEach (λ p old new. new ≡ with_reader None old) 0 k.engines k'.engines
-      → AtEach (λ p s pass. Reads s.book pass.lens × ((kept_by pass.lens).history ≡ s.history)) 0 k.shown begun.passes.items → IsManned k → IsManned k'
-  manned_lent k k' begun some shown out lent m =
+  pub manned_lent : {content : F → Option (List ℕ)} (k k' : KeeperState S D F W) (begun : Begun F W) → k'.scan ≡ Some begun → k'.shown ≡ k.shown → AtEach (λ p old new. new ≡ with_reader None old) 0 k.engines k'.engines
+      → AtEach (λ p s pass. Reads s.book pass.lens × ((kept_by pass.lens).history ≡ s.history)) 0 k.shown begun.passes.items → IsManned content k → IsManned content k'
+  manned_lent {content = content} k k' begun some shown out lent m =
       let many = at_each-length (λ p old new. new ≡ with_reader None old) 0 k.engines k'.engines out in record {
         as_many = ap length shown ∙ m.as_many ∙ many;
         readers = subst (λ o. AreReadersOut o k'.engines) (sym some) (
@@ -123,20 +127,22 @@ module _ {S D F W : Type 0} where
         lenses = subst (λ o. AreLensesOut o k'.shown) (sym some)
             (subst (λ (ss : List (ShownState F W)). AtEach (λ p s pass. s.failed ≡ false → Reads s.book pass.lens) 0 ss begun.passes.items) (sym shown)
             (at_each-so (λ p s pass. Reads s.book pass.lens × ((kept_by pass.lens).history ≡ s.history)) (λ p s pass. s.failed ≡ false → Reads s.book pass.lens) 0 k.shown begun.passes.items (λ i s pass l works. l.0) lent));
+        own = subst (AtEach (ShowsOwnOf content) 0 k'.engines) (sym shown) (own_settled content 0 k.engines k'.engines k.shown (settings_reread k.engines k'.engines (reread_lent k.engines k'.engines out)) m.own);
       }
 
   -- ---- a scan comes back
 
-  pub readers_away : (k : KeeperState S D F W) (begun : Begun F W) → k.scan ≡ Some begun → IsManned k → (length begun.passes.items ≡ length k.engines) × All (λ e. e.engine.part.reader ≡ None) k.engines
+  pub readers_away : {content : F → Option (List ℕ)} (k : KeeperState S D F W) (begun : Begun F W) → k.scan ≡ Some begun → IsManned content k → (length begun.passes.items ≡ length k.engines) × All (λ e. e.engine.part.reader ≡ None) k.engines
   readers_away k begun some m = subst (λ o. AreReadersOut {S = S} {D = D} {F = F} {W = W} o k.engines) some m.readers
 
-  pub lenses_away : (k : KeeperState S D F W) (begun : Begun F W) → k.scan ≡ Some begun → IsManned k → AtEach (λ p s pass. s.failed ≡ false → Reads s.book pass.lens) 0 k.shown begun.passes.items
+  pub lenses_away : {content : F → Option (List ℕ)} (k : KeeperState S D F W) (begun : Begun F W) → k.scan ≡ Some begun → IsManned content k → AtEach (λ p s pass. s.failed ≡ false → Reads s.book pass.lens) 0 k.shown begun.passes.items
   lenses_away k begun some m = subst (λ o. AreLensesOut {F = F} {W = W} o k.shown) some m.lenses
 
-  pub back_many : (counts : W → Counts) (k : KeeperState S D F W) (begun : Begun F W) (passes : List (Pass F W)) → k.scan ≡ Some begun → AllZip (GoesOn counts) begun.passes.items passes → IsManned k → length passes ≡ length k.engines
+  pub back_many : {content : F → Option (List ℕ)} (counts : W → Counts) (k : KeeperState S D F W) (begun : Begun F W) (passes : List (Pass F W)) → k.scan ≡ Some begun → AllZip (GoesOn counts) begun.passes.items passes → IsManned content k → length passes ≡ length k.engines
   back_many counts k begun passes some went m = both_many counts begun.passes.items passes went ∙ (readers_away k begun some m).0
 
-  pub lenses_back : (counts : W → Counts) (k : KeeperState S D F W) (begun : Begun F W) (passes : List (Pass F W)) → k.scan ≡ Some begun → AllZip (GoesOn counts) begun.passes.items passes → IsManned k → AtEach (λ p s pass. s.failed ≡ false → Reads s.book pass.lens) 0 k.shown passes
+  pub lenses_back : {content : F → Option (List ℕ)} (counts : W → Counts) (k : KeeperState S D F W) (begun : Begun F W) (passes : List (Pass F W)) → k.scan ≡ Some begun → AllZip (GoesOn counts) begun.passes.items passes
+      → IsManned content k → AtEach (λ p s pass. s.failed ≡ false → Reads s.book pass.lens) 0 k.shown passes
   lenses_back counts k begun passes some went m = back_read counts 0 k.shown begun.passes.items passes went (lenses_away k begun some m)
 
   home_all : (p : ℕ) (passes : List (Pass F W)) (es es' : List (WithJobs S D F W)) → AtEach (λ p old new. IsAt p passes (λ pass. new ≡ with_reader (Some pass.watch) old)) p es es' → All (λ e. is_some e.engine.part.reader ≡ true) es'
@@ -150,11 +156,12 @@ module _ {S D F W : Type 0} where
   pub back_home : (passes : List (Pass F W)) (es es' : List (WithJobs S D F W)) → AtEach (λ p old new. IsAt p passes (λ pass. new ≡ with_reader (Some pass.watch) old)) 0 es es' → All (λ e. is_some e.engine.part.reader ≡ true) es'
   back_home passes es es' came = home_all 0 passes es es' came
 
-  pub manned_back : (k k' : KeeperState S D F W) (passes : List (Pass F W)) → k'.scan ≡ None → k'.shown ≡ k.shown → AtEach (λ p old new. IsAt p passes (λ pass. new ≡ with_reader (Some pass.watch) old)) 0 k.engines k'.engines → IsManned k → IsManned k'
-  manned_back k k' passes none shown came m = record {
+  pub manned_back : {content : F → Option (List ℕ)} (k k' : KeeperState S D F W) (passes : List (Pass F W)) → k'.scan ≡ None → k'.shown ≡ k.shown → AtEach (λ p old new. IsAt p passes (λ pass. new ≡ with_reader (Some pass.watch) old)) 0 k.engines k'.engines → IsManned content k → IsManned content k'
+  manned_back {content = content} k k' passes none shown came m = record {
     as_many = ap length shown ∙ m.as_many ∙ at_each-length (λ p old new. IsAt p passes (λ (pass : Pass F W). new ≡ with_reader (Some pass.watch) old)) 0 k.engines k'.engines came;
     readers = subst (λ o. AreReadersOut {S = S} {D = D} {F = F} {W = W} o k'.engines) (sym none) (back_home passes k.engines k'.engines came);
     lenses = subst (λ o. AreLensesOut {F = F} {W = W} o k'.shown) (sym none) tt;
+    own = subst (AtEach (ShowsOwnOf content) 0 k'.engines) (sym shown) (own_settled content 0 k.engines k'.engines k.shown (settings_reread k.engines k'.engines (reread_back passes k.engines k'.engines came)) m.own);
   }
 
 -- ---- what is held behind requests is kept of those before and behind them

@@ -8,23 +8,23 @@ use Rattle.tc_bytes.specs.Counts.{Rose}
 use Rattle.tc_keeper.specs.Places.{AtEach, IsAt}
 use Rattle.tc_keeper.specs.WithJobs.{with_reader, WithJobs}
 use Rattle.tc_keeper.proofs.PlaceLaws.{at_each-length}
-use Rattle.tc_query.specs.Faults.{IsHarmIn}
 use Rattle.tc_shown.specs.Scans.{GoesOn, IfDamaged as IfScanDamaged, IfDisk as IfScanDisk, IsFaultOf}
 use Rattle.tc_shown.specs.declared.fault.ScanFault.{ScanFault}
 use Rattle.tc_shown.specs.declared.fault.ScanFault.TheVariants as scan
 use Rattle.tc_shown.specs.declared.scan.Pass.{Pass}
 use Rattle.tc_shown.specs.declared.scan.Scan.{Scan as Begun}
-use Rattle.tc_shown.specs.Shown.{ShownState}
+use Rattle.tc_shown.specs.Shown.{Reads, ShownState}
 use Rattle.tc_store.specs.Counted.{Counts}
 use Rattle.tc_store.specs.declared.damage.Damage.{Damage}
 use Rattle.tc_store.specs.declared.damage.Damage.TheVariants.{Bytes}
-use Rattle.tc_store.specs.declared.file_name.FileName.{FileName}
 use Rattle.tc_store.specs.KitFaults.{KitFaults}
 use Rattle.tc_keeper.specs.Calls.{faults_at}
 use Rattle.tc_keeper.specs.Faults.{DiskFaults, HasDiskCause, HaveRisen, HaveStayed, IfDamaged, IfDisk, NoneFell, OneRose}
 use Rattle.tc_view.specs.Places.{kept_by}
 use Rattle.tc_keeper.specs.Keeping.{counted_out, faults_kept, watch_out, AreReadersOut, IsShownAt, KeeperState}
 use Rattle.tc_keeper.specs.Partitions.{fault_of_scan}
+use Rattle.tc_keeper.specs.Showing.{ShowsOwnOf}
+use Rattle.tc_keeper.proofs.OwnShown.{harm_at}
 use Rattle.tc_keeper.proofs.ShownWorlds.{zip_length}
 use Rattle.tc_keeper.proofs.Turns.{at_zip}
 use Rattle.tc_keeper.specs.declared.fault.RunFault.{RunFault}
@@ -222,16 +222,9 @@ module _ {S D F W : Type 0} (counts : W → Counts) where
 
 -- ---- what a scan met
 
--- what a lens keeps that is shown is damage of what is shown
-harm_at : {F W : Type 0} (content : F → Option (List ℕ)) (shown : List (ShownState F W)) (passes : List (Pass F W)) (n p : ℕ) (file : FileName) (place : ℕ) (bytes : List ℕ) → p < length passes → AtEach (λ q s pass. (s.failed ≡ false) × IsPrefix (kept_by pass.lens).history s.history) n shown passes
-    → HoldsAt (λ (pass : Pass F W). IsHarmIn content (kept_by pass.lens).list file place bytes) passes p → IsShownAt content shown p (Bytes file place bytes)
-harm_at content shown [] n p file place bytes below covers harm = absurd (omega (arith, below))
-harm_at content [] (pass ∷ passes) n p file place bytes below covers harm = absurd covers
-harm_at content (s ∷ shown) (pass ∷ passes) n zero file place bytes below covers harm = record { lens = pass.lens; sound = covers.0.0; kept = covers.0.1; harm = harm pass }
-harm_at content (s ∷ shown) (pass ∷ passes) n (suc p) file place bytes below covers harm = harm_at content shown passes (suc n) p file place bytes (omega (arith, below)) covers.1 harm
-
-pub scan_met : {F W : Type 0} (content : F → Option (List ℕ)) (counts : W → Counts) (shown : List (ShownState F W)) (old passes : List (Pass F W)) (fault : ScanFault) → AtEach (λ q s pass. (s.failed ≡ false) × IsPrefix (kept_by pass.lens).history s.history) 0 shown passes
-    → IsFaultOf content counts old passes fault → IfScanDamaged fault (λ p file place bytes. IsShownAt content shown p (Bytes file place bytes))
-scan_met content counts shown old passes (scan.Disk p) covers is = tt
-scan_met content counts shown old passes (scan.Damaged p file place bytes) covers is = harm_at content shown passes 0 p file place bytes is.damaged_within covers is.harmed
-scan_met content counts shown old passes scan.Memory covers is = tt
+pub scan_met : {S D F W : Type 0} (content : F → Option (List ℕ)) (counts : W → Counts) (es : List (WithJobs S D F W)) (shown : List (ShownState F W)) (old passes : List (Pass F W)) (fault : ScanFault) → AtEach (ShowsOwnOf content) 0 es shown
+    → AtEach (λ q s pass. s.failed ≡ false → Reads s.book pass.lens) 0 shown passes → AtEach (λ q s pass. (s.failed ≡ false) × IsPrefix (kept_by pass.lens).history s.history) 0 shown passes
+    → IsFaultOf content counts old passes fault → IfScanDamaged fault (λ p file place bytes. IsShownAt content es shown p (Bytes file place bytes))
+scan_met content counts es shown old passes (scan.Disk p) own reads covers is = tt
+scan_met content counts es shown old passes (scan.Damaged p file place bytes) own reads covers is = harm_at content es shown passes 0 p file place bytes is.damaged_within own reads covers is.harmed
+scan_met content counts es shown old passes scan.Memory own reads covers is = tt

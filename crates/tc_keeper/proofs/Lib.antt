@@ -34,6 +34,7 @@ pub mod ScanReplies
 pub mod Turns
 pub mod ShownWorlds
 pub mod FirstShown
+mod OwnShown
 pub mod ShowLoops
 pub mod LendLoops
 pub mod KeeperWorlds

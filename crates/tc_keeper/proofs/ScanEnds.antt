@@ -27,6 +27,7 @@ use Rattle.tc_keeper.specs.Calls.{faults_at}
 use Rattle.tc_keeper.specs.Faults.{fault_in, HasDiskCause, IsNoDamage, IsOfJob, IsOfStore}
 use Rattle.tc_keeper.specs.Keeping.{faults_kept, IsOutFor, IsShownAt, KeeperState, ServesAt, ShowWorld}
 use Rattle.tc_keeper.specs.Partitions.{collected_as, fault_of_scan}
+use Rattle.tc_keeper.specs.Showing.{ShowsOwnOf}
 use Rattle.tc_keeper.specs.declared.fault.RunFault.{RunFault}
 use Rattle.tc_keeper.specs.declared.fault.RunFault.TheVariants.{Damaged}
 use Rattle.tc_keeper.specs.Sight.{sees, whole_of, Sight}
@@ -97,14 +98,16 @@ module _ {S D F W : Type 0} (eyes : Eyes S D F W) (views : LawOfViews W eyes.con
 -- ---- what counts
 
 module _ {S D F W : Type 0} (counts : W → Counts) (content : F → Option (List ℕ)) (k : KeeperState S D F W) (es' : List (WithJobs S D F W)) (begun : Begun F W) (passes : List (Pass F W)) (some : k.scan ≡ Some begun)
-    (came : AtEach (λ p old new. IsAt p passes (λ pass. new ≡ with_reader (Some pass.watch) old)) 0 k.engines es') (many : length passes ≡ length k.engines) (why : RunFault → Type 0) (met : (p : ℕ) (damage : Damage) → IsShownAt content k.shown p damage → why (Damaged p damage)) where
+    (came : AtEach (λ p old new. IsAt p passes (λ pass. new ≡ with_reader (Some pass.watch) old)) 0 k.engines es') (many : length passes ≡ length k.engines)
+    (own : AtEach (ShowsOwnOf content) 0 k.engines k.shown) (reads : AtEach (λ p s pass. s.failed ≡ false → Reads s.book pass.lens) 0 k.shown passes)
+    (why : RunFault → Type 0) (met : (p : ℕ) (damage : Damage) → IsShownAt content k.engines k.shown p damage → why (Damaged p damage)) where
   pub collect_cause : (covered : Bool) (outcome : Result Scanned ScanFault) → HasScanned content counts (ask_of begun.ask) begun.passes.items passes outcome → (IsTrue covered → AtEach (λ p s pass. (s.failed ≡ false) × IsPrefix (kept_by pass.lens).history s.history) 0 k.shown passes)
       → HasDiskCause (faults_kept counts k) (λ q. option_map (λ e. faults_at counts e) (slice_get es' q)) why (fault_in (collected_as covered outcome))
   collect_cause false outcome ran covers = call_without_memory (faults_kept counts k) (λ q. option_map (λ e. faults_at counts e) (slice_get es' q)) why why (caused_back counts k es' begun passes why some ran.back came many)
   collect_cause true (Ok s) ran covers = caused_back counts k es' begun passes why some ran.back came many
-  collect_cause true (Err fault) ran covers = caused_by_scan counts k es' begun passes why some ran.back came many content fault ran.fault (told fault (scan_met content counts k.shown begun.passes.items passes fault (covers refl) ran.fault))
+  collect_cause true (Err fault) ran covers = caused_by_scan counts k es' begun passes why some ran.back came many content fault ran.fault (told fault (scan_met content counts k.engines k.shown begun.passes.items passes fault own reads (covers refl) ran.fault))
     where
-      told : (f : ScanFault) → IfScanDamaged f (λ p file place bytes. IsShownAt content k.shown p (Bytes file place bytes)) → IfScanDamaged f (λ p file place bytes. why (Damaged p (Bytes file place bytes)))
+      told : (f : ScanFault) → IfScanDamaged f (λ p file place bytes. IsShownAt content k.engines k.shown p (Bytes file place bytes)) → IfScanDamaged f (λ p file place bytes. why (Damaged p (Bytes file place bytes)))
       told (scan.Disk p) is = tt
       told (scan.Damaged p file place bytes) is = met p (Bytes file place bytes) is
       told scan.Memory is = tt

@@ -11,11 +11,13 @@ use Rattle.tc_log.specs.declared.write.Write as log
 use Rattle.tc_memory.specs.Table.{Table}
 use Rattle.tc_merge.specs.Merging.{GrowNames}
 use Rattle.tc_model.specs.Document.{Name}
+use Rattle.tc_part.specs.OwnComponents.{AreOwnComponents}
 use Rattle.tc_shown.specs.Shown.{wrote, IsPlaced, ShownState}
 use Rattle.tc_view.specs.Holding.{Extend}
-use Rattle.tc_keeper.specs.Showing.{IsPlacedOver, IsReadAsBefore}
+use Rattle.tc_keeper.specs.Showing.{IsPlacedOver, IsReadAsBefore, StaysOwn}
+use Rattle.tc_keeper.proofs.OwnShown.{placed_own, wrote_own, StaysOf}
 use Rattle.tc_keeper.proofs.ShownWorlds.{Wrote}
-use Rattle.tc_keeper.proofs.Turns.{get-is_at, is_at-get}
+use Rattle.tc_keeper.proofs.Turns.{get-is_at, is_at-get, is_at-so, is_at-there}
 
 -- ---- lenses go on to read it
 
@@ -40,11 +42,24 @@ placed_so e old new (inl stays) = same_read old new (ap (λ (s : ShownState _ _)
 placed_so e old new (inr (empty, inl more)) = same_read old new (ap (λ (s : ShownState _ _). s.failed) more) (ap (λ (s : ShownState _ _). s.book) more)
 placed_so e old new (inr (empty, inr there)) = same_read old new (ap (λ (s : ShownState _ _). s.failed) there.0) (ap (λ (s : ShownState _ _). s.book) there.0)
 
-abbrev pub PlacedBy : {S D F W : Type 0} → List (WithJobs S D F W) → ℕ → ShownState F W → ShownState F W → Type 0
-PlacedBy es p old new = IsAt p es (λ e. IsPlacedOver e old new)
+-- and if the components that are listed are the engine's own, those that are shown stay so
+abbrev pub IsPlacedOwn : {S D F W : Type 0} → (F → Option (List ℕ)) → WithJobs S D F W → ShownState F W → ShownState F W → Type 0
+IsPlacedOwn content e old new = IsPlacedOver e old new × StaysOwn content e.engine.part.number e.engine.part.count old new
 
-pub placed_read : {S D F W : Type 0} (es : List (WithJobs S D F W)) (p : ℕ) (old new : ShownState F W) → PlacedBy es p old new → IsReadAsBefore old new
-placed_read es p old new at = let one = is_at-get (λ e. IsPlacedOver e old new) p es at in placed_so one.0 old new one.2
+abbrev pub PlacedBy : {S D F W : Type 0} → (F → Option (List ℕ)) → List (WithJobs S D F W) → ℕ → ShownState F W → ShownState F W → Type 0
+PlacedBy content es p old new = IsAt p es (λ e. IsPlacedOwn content e old new)
+
+pub placed_over : {S D F W : Type 0} (content : F → Option (List ℕ)) (es : List (WithJobs S D F W)) (p : ℕ) (old new : ShownState F W) → PlacedBy content es p old new → IsAt p es (λ e. IsPlacedOver e old new)
+placed_over content es p old new at = is_at-so (λ e. IsPlacedOwn content e old new) (λ e. IsPlacedOver e old new) p es (λ e both. both.0) at
+
+pub placed_read : {S D F W : Type 0} (content : F → Option (List ℕ)) (es : List (WithJobs S D F W)) (p : ℕ) (old new : ShownState F W) → PlacedBy content es p old new → IsReadAsBefore old new
+placed_read content es p old new at = let one = is_at-get (λ e. IsPlacedOwn content e old new) p es at in placed_so one.0 old new one.2.0
+
+pub placed_stays : {S D F W : Type 0} (content : F → Option (List ℕ)) (es : List (WithJobs S D F W)) (p : ℕ) (old new : ShownState F W) → PlacedBy content es p old new → StaysOf content es p old new
+placed_stays content es p old new at = λ e is. (is_at-there (λ e. IsPlacedOwn content e old new) p es e at is).1
+
+pub wrote_stays : {F W : Type 0} (content : F → Option (List ℕ)) (frames : List (Vec log.Write Global)) (p : ℕ) (old new : ShownState F W) → Wrote frames p old new → (number count : ℕ) → StaysOwn content number count old new
+wrote_stays content frames p old new at number count = let one = is_at-get (λ frame. new ≡ record old { history = old.history ++ wrote frame.items }) p frames at in wrote_own content number count old new one.0.items one.2
 
 -- ---- its turn
 
@@ -55,18 +70,20 @@ no_length : {X : Type 0} (xs : List X) → length xs ≡ 0 → xs ≡ []
 no_length [] none = refl
 no_length (x ∷ xs) none = absurd (omega (arith, none))
 
-pub placed_there : {S D F W : Type 0} (es : List (WithJobs S D F W)) (p n : ℕ) (list : List (ComponentState F)) (sealed : Option Table) (old new : ShownState F W)
+pub placed_there : {S D F W : Type 0} (content : F → Option (List ℕ)) (es : List (WithJobs S D F W)) (p n : ℕ) (list : List (ComponentState F)) (sealed : Option Table) (old new : ShownState F W)
     → n ≡ 0 → IsAt p es (λ e. n ≡ length e.engine.part.active) → IsAt p es (λ e. list ≡ e.engine.part.list) → IsAt p es (λ e. sealed ≡ e.engine.part.sealed)
-    → IsPlaced list sealed old new → PlacedBy es p old new
-placed_there [] p n list sealed old new none count is_list is_sealed placed = absurd count
-placed_there (e ∷ es) zero n list sealed old new none count is_list is_sealed placed =
-    inr (no_length e.engine.part.active (sym count ∙ none), subst (λ (o : Option Table). IsPlaced e.engine.part.list o old new) is_sealed (subst (λ (l : List (ComponentState _)). IsPlaced l sealed old new) is_list placed))
-placed_there (e ∷ es) (suc p) n list sealed old new none count is_list is_sealed placed = placed_there es p n list sealed old new none count is_list is_sealed placed
+    → IsAt p es (λ e. AreOwnComponents content e.engine.part.number e.engine.part.count e.engine.part.list) → IsPlaced list sealed old new → PlacedBy content es p old new
+placed_there content [] p n list sealed old new none count is_list is_sealed own placed = absurd count
+placed_there content (e ∷ es) zero n list sealed old new none count is_list is_sealed own placed =
+    let over : IsPlacedOver e old new =
+    inr (no_length e.engine.part.active (sym count ∙ none), subst (λ (o : Option Table). IsPlaced e.engine.part.list o old new) is_sealed (subst (λ (l : List (ComponentState _)). IsPlaced l sealed old new) is_list placed)) in
+    (over, placed_own content e old new own over)
+placed_there content (e ∷ es) (suc p) n list sealed old new none count is_list is_sealed own placed = placed_there content es p n list sealed old new none count is_list is_sealed own placed
 
-pub stays_there : {S D F W : Type 0} (es : List (WithJobs S D F W)) (p : ℕ) (s : ShownState F W) → p < length es → PlacedBy es p s s
-stays_there [] p s below = absurd (omega (arith, below))
-stays_there (e ∷ es) zero s below = inl refl
-stays_there (e ∷ es) (suc p) s below = stays_there es p s (omega (arith, below))
+pub stays_there : {S D F W : Type 0} (content : F → Option (List ℕ)) (es : List (WithJobs S D F W)) (p : ℕ) (s : ShownState F W) → p < length es → PlacedBy content es p s s
+stays_there content [] p s below = absurd (omega (arith, below))
+stays_there content (e ∷ es) zero s below = (inl refl, λ own. own)
+stays_there content (e ∷ es) (suc p) s below = stays_there content es p s (omega (arith, below))
 
 -- ---- components that can be shown
 

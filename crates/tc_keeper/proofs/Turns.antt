@@ -17,6 +17,11 @@ is_at-get P (suc p) (x ∷ xs) at = is_at-get P p xs at
 pub is_at-there : {X : Type 0} (P : X → Type 0) (p : ℕ) (xs : List X) (x : X) → IsAt p xs P → slice_get xs p ≡ Some x → P x
 is_at-there P p xs x at is = let one = is_at-get P p xs at in let same : one.0 ≡ x = let first = one.1 in cc in subst P same one.2
 
+pub is_at-so : {X : Type 0} (P Q : X → Type 0) (p : ℕ) (xs : List X) → ((x : X) → P x → Q x) → IsAt p xs P → IsAt p xs Q
+is_at-so P Q p [] so at = at
+is_at-so P Q zero (x ∷ xs) so at = so x at
+is_at-so P Q (suc p) (x ∷ xs) so at = is_at-so P Q p xs so at
+
 pub get-is_at : {X : Type 0} (P : X → Type 0) (p : ℕ) (xs : List X) (x : X) → p < length xs → x ≡ slice_index_or xs p x → P x → IsAt p xs P
 get-is_at P p [] x below is holds = absurd (omega (arith, below))
 get-is_at P zero (y ∷ xs) x below is holds = subst P is holds

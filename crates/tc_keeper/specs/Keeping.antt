@@ -3,12 +3,13 @@
 use Rattle.std.specs.Prelude.{◌≡◌, ◌⊎◌, ◌<◌, ◌≤◌, ◌%◌, ℕ, true, false, List, [], All, length, map, None, Option, Some, is_some, option_map, slice_get}
 use mathlib.Core.List.{IsPrefix}
 use Rattle.tc_command.specs.Commands.{ask_of}
-use Rattle.tc_component.specs.Loading.{IsAsJudged}
 use Rattle.tc_keeper.specs.Places.{AtEach, EachFrom, IsAt, SomeFrom}
+use Rattle.tc_keeper.specs.Showing.{ShowsOwnOf}
 use Rattle.tc_keeper.specs.Standing.{partition_at, IsSeen, KeepWorlds}
 use Rattle.tc_keeper.specs.WithJobs.{settings, Settings, WithJobs}
 use Rattle.tc_lsm_model.specs.Contents.{Partition}
 use Rattle.tc_part.specs.Harms.{IsBytesHarm}
+use Rattle.tc_part.specs.OwnComponents.{AreOwnComponents}
 use Rattle.tc_part_model.specs.PartState.{told, PartState}
 use Rattle.tc_plain_model.specs.Writes.{after_writes}
 use Rattle.tc_query.specs.Faults.{IsHarmIn}
@@ -51,10 +52,12 @@ abbrev pub AreLensesOut : {F W : Type 0} → Option (Begun F W) → List (ShownS
 AreLensesOut None shown = Unit {0}
 AreLensesOut (Some out) shown = AtEach (λ p s pass. s.failed ≡ false → Reads s.book pass.lens) 0 shown out.passes.items
 
-pub record IsManned {S D F W : Type 0} (k : KeeperState S D F W) : Type 0 where
+-- What is shown of each partition has its own components alone.
+pub record IsManned {S D F W : Type 0} (content : F → Option (List ℕ)) (k : KeeperState S D F W) : Type 0 where
   pub as_many : length k.shown ≡ length k.engines
   pub readers : AreReadersOut k.scan k.engines
   pub lenses : AreLensesOut k.scan k.shown
+  pub own : AtEach (ShowsOwnOf content) 0 k.engines k.shown
 
 -- nothing is in their tables, and the reader's watch of each is at home
 abbrev pub AreUnwritten : {S D F W : Type 0} → List (WithJobs S D F W) → Type 0
@@ -78,19 +81,29 @@ HasSpent disks moments content k = SomeFrom (λ q e. IsSpentAt (told disks momen
 
 -- ---- what is damaged
 
--- A lens of what is shown of a partition keeps a component in whose place of a record something else stands.
-pub record IsShownDamage {F W : Type 0} (content : F → Option (List ℕ)) (s : ShownState F W) (damage : Damage) : Type 0 where
+-- A lens of what is shown of this partition keeps components of its own, and in one of them something else stands in the place of a
+-- record.
+pub record IsShownDamage {F W : Type 0} (content : F → Option (List ℕ)) (number count : ℕ) (s : ShownState F W) (damage : Damage) : Type 0 where
   pub lens : Lens F W
   pub sound : s.failed ≡ false
   pub kept : IsPrefix (kept_by lens).history s.history
+  pub own : AreOwnComponents content number count (kept_by lens).list
   pub harm : IsBytesHarm damage (IsHarmIn content (kept_by lens).list)
 
-abbrev pub IsShownAt : {F W : Type 0} → (F → Option (List ℕ)) → List (ShownState F W) → ℕ → Damage → Type 0
-IsShownAt content shown q damage = IsAt q shown (λ s. IsShownDamage content s damage)
+-- so of what is shown of the partition of this place
+abbrev pub IsShownAt : {S D F W : Type 0} → (F → Option (List ℕ)) → List (WithJobs S D F W) → List (ShownState F W) → ℕ → Damage → Type 0
+IsShownAt content engines shown q damage = IsAt q engines (λ e. IsAt q shown (λ s. IsShownDamage content e.engine.part.number e.engine.part.count s damage))
+
+-- and of what was shown of this partition once
+abbrev pub WasShown : {F : Type 0} → Type 0 → (F → Option (List ℕ)) → ℕ → ℕ → Damage → Type 0
+WasShown {F = F} W content number count damage = (s : ShownState F W) × IsShownDamage content number count s damage
+
+abbrev pub WasShownAt : {S D F W : Type 0} → (F → Option (List ℕ)) → List (WithJobs S D F W) → ℕ → Damage → Type 0
+WasShownAt {W = W} content engines q damage = IsAt q engines (λ e. WasShown W content e.engine.part.number e.engine.part.count damage)
 
 -- this is damage of the engine of this number as it is left, or was met by a scan of what is shown of it
 unfoldable pub HasMet : {S W D F : Type 0} → (D → List DiskFile) → (F → Option (List ℕ)) → KeeperState S D F W → ℕ → Damage → Type 0
-HasMet moments content k q damage = IsAt q k.engines (λ e. IsPartDamage content moments e.engine.part damage) ⊎ IsShownAt content k.shown q damage
+HasMet moments content k q damage = IsAt q k.engines (λ e. IsPartDamage content moments e.engine.part damage) ⊎ IsShownAt content k.engines k.shown q damage
 
 -- what a fault says of it
 abbrev pub IsTrueHere : {S W D F : Type 0} → (S → List Disk) → (D → List DiskFile) → (F → Option (List ℕ)) → KeeperState S D F W → RunFault → Type 0
@@ -98,19 +111,18 @@ IsTrueHere disks moments content k = IsSaid (HasSpent disks moments content k) (
 
 -- once it has ended: this is damage of the one of this number, or was met by a scan of what was shown of it
 abbrev pub IsMetBehind : {S W D F P : Type 0} → (D → List DiskFile) → (F → Option (List ℕ)) → Partitions S P W D F → ℕ → Damage → Type 0
-IsMetBehind {W = W} {F = F} moments content p q damage = (q < length p.engines) × (IsMet moments content p q damage ⊎ ((s : ShownState F W) × IsShownDamage content s damage))
+IsMetBehind moments content p q damage = (q < length p.engines) × (IsMet moments content p q damage ⊎ WasShownAt content p.engines q damage)
 
--- A part of this partition has it, over a store and watches of these types. Each component that was listed is what its file is
--- judged to be.
+-- A part of this partition has it, over a store and watches of these types. The components that it listed are its own.
 pub record IsOfPart {D F : Type 0} (S W : Type 0) (moments : D → List DiskFile) (content : F → Option (List ℕ)) (here : Partition) (damage : Damage) : Type 0 where
   pub part : PartState S D F W
   pub is_here : partition_at part.number part.count ≡ here
-  pub judged : All (IsAsJudged content) part.list
+  pub own : AreOwnComponents content part.number part.count part.list
   pub is : IsPartDamage content moments part damage
 
--- A partition that is open has it, or a scan met it of what was shown.
+-- This partition has it while it is open, or a scan met it of what was shown of this partition.
 abbrev pub IsMetIn : {D F : Type 0} → Type 0 → Type 0 → (D → List DiskFile) → (F → Option (List ℕ)) → Partition → Damage → Type 0
-IsMetIn {F = F} S W moments content here damage = IsOfPart S W moments content here damage ⊎ ((s : ShownState F W) × IsShownDamage content s damage)
+IsMetIn S W moments content here damage = IsOfPart S W moments content here damage ⊎ WasShown W content here.number here.count damage
 
 -- and what a fault says of the partitions that are left
 abbrev pub IsTrueBehind : {S W D F P : Type 0} → (S → List Disk) → (D → List DiskFile) → (F → Option (List ℕ)) → Partitions S P W D F → RunFault → Type 0

@@ -41,6 +41,7 @@ impl<S: Store, P: Pace> Engines<S, P> {
     ghost use Rattle.std.specs.Prelude.{◌≡◌, ◌<◌, ℕ, [], ◌∷◌, ◌++◌, true, false, Option, None, Some, is_some, option_map, IfErr, IfOk, IfSome, OnErr, OnOk, length};
     ghost use Rattle.tc_merge.specs.Merging.{GrowNames};
     ghost use Rattle.tc_part.specs.FilesOut.{HoldsDevices};
+    ghost use Rattle.tc_part.specs.OwnComponents.{AreOwnComponents};
     ghost use Rattle.tc_part_model.specs.PartState.{told};
     ghost use Rattle.tc_run_model.specs.World.{World};
     ghost use Rattle.tc_work.specs.JobsOut.{AreOut};
@@ -104,6 +105,15 @@ impl<S: Store, P: Pace> Engines<S, P> {
         ensures { result ≡ length self.now }
     {
         self.seats.len()
+    }
+
+    /// A law, and no work but a look at each component that is listed in the partition of this number: over every store each is one
+    /// of this partition, and what its file is judged to be.
+    pub fn components_are_own(&self, at: usize)
+        requires there { at < length self.now }
+        ensures { IsAt at self.now (λ e. AreOwnComponents S.Frozen.content e.engine.part.number e.engine.part.count e.engine.part.list) }
+    {
+        self.seats[at].engine.components_are_own();
     }
 
     /// How many keys the active table of the partition of this number has an entry of.

@@ -52,7 +52,7 @@ where
 
     ghost view = { λ k. record { engines = k.partitions.engines; shown = k.shown.items; scan = k.scan } };
 
-    ghost invariant = { λ k. IsManned (record { engines = k.partitions.engines; shown = k.shown.items; scan = k.scan }) };
+    ghost invariant = { λ k. IsManned S.Frozen.content (record { engines = k.partitions.engines; shown = k.shown.items; scan = k.scan }) };
 }
 
 #[tactic(auto, unfolding(crate::specs::Keeping::MayServe, crate::specs::Keeping::ServesAt, crate::specs::Keeping::FailsAt, crate::specs::Keeping::AllRest, crate::specs::Keeping::faults_kept, crate::specs::Keeping::HasSpent, crate::specs::Keeping::HasMet))]

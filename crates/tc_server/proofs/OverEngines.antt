@@ -26,7 +26,7 @@ use Rattle.tc_work.specs.declared.fault.EngineFault.{EngineFault}
 use Rattle.tc_work.specs.declared.fault.EngineFault.TheVariants as engine
 use Rattle.tc_keeper.specs.Calls.{faults_at, faults_of, settings_of, HoldsAt, IsMet, IsSpent, IsSpentAt, KeepsAt, MayAsk, MayBeAsked, Rests}
 use Rattle.tc_keeper.specs.Faults.{fault_in, fault_of_engine, HaveRisen, HaveStayed, IfDamaged, IfDisk, IsNoDamage, IsOfJob, NoneFell, OneRose}
-use Rattle.tc_keeper.specs.Keeping.{AreUnwritten, IsMetBehind, IsMetIn}
+use Rattle.tc_keeper.specs.Keeping.{AreUnwritten, IsMetBehind, IsMetIn, WasShown}
 use Rattle.tc_server.specs.KitCauses.{HasLastGeneration}
 use Rattle.tc_server.specs.Kits.{least_fault, IsBegun, IsClosed}
 use Rattle.tc_keeper.specs.Partitions.{StandAt}
@@ -306,8 +306,10 @@ module _ {S W D F P K : Type 0} (eyes : Eyes S D F W) (size : D → ℕ) (outcom
       | inl now ↦
           let at = is_at-get (λ (e : WithJobs S D F W). IsPartDamage eyes.content eyes.history e.engine.part damage) q k'.engines now in
           let end = (at_each-at (λ p e k. IsClosed eyes size e (outcome k) (left k) (faults k)) q k'.engines ks at.0 closed at.1).2 in
-          inl (record { part = at.0.engine.part; is_here = left_at q at.0 at.1; judged = end.judged; is = at.2 })
-      | inr shown ↦ inr shown
+          inl (record { part = at.0.engine.part; is_here = left_at q at.0 at.1; own = end.own; is = at.2 })
+      | inr shown ↦
+          let at = is_at-get (λ (e : WithJobs S D F W). WasShown W eyes.content e.engine.part.number e.engine.part.count damage) q k'.engines shown in
+          inr (subst (λ (here : Partition). WasShown W eyes.content here.number here.count damage) (left_at q at.0 at.1) at.2)
     ],
   )
 
@@ -319,7 +321,7 @@ module _ {S W D F P K : Type 0} (eyes : Eyes S D F W) (size : D → ℕ) (outcom
   damaged_by q engine.Disk e within at met = tt
   damaged_by q (engine.Damaged damage) e within at met =
       let was : partition_at met.part.number met.part.count ≡ partition_at e.engine.part.number e.engine.part.count = ap (λ (s : PartState S D F W). partition_at s.number s.count) met.moved in
-      (within, inl (record { part = met.part; is_here = was ∙ left_at q e at; judged = met.judged; is = met.is }))
+      (within, inl (record { part = met.part; is_here = was ∙ left_at q e at; own = met.own; is = met.is }))
   damaged_by q engine.Spent e within at met = tt
   damaged_by q engine.Memory e within at met = tt
 

@@ -1,7 +1,6 @@
 -- The kit of one partition among others: its engine once it is opened, what comes of a kit whose partition is not, and what an
 -- engine leaves when it is closed.
-use Rattle.std.specs.Prelude.{◌≡◌, ◌⊎◌, ℕ, suc, true, All, List, [], ◌∷◌, Option, Some, None, is_some, Result, Ok, Err, IfErr, IsErrOf, OnOk}
-use Rattle.tc_component.specs.Loading.{IsAsJudged}
+use Rattle.std.specs.Prelude.{◌≡◌, ◌⊎◌, ℕ, suc, true, List, [], ◌∷◌, Option, Some, None, is_some, Result, Ok, Err, IfErr, IsErrOf, OnOk}
 use Rattle.tc_keeper.specs.Standing.{partition_at}
 use Rattle.tc_keeper.specs.WithJobs.{no_jobs, settings, told_of, works_of, WithJobs}
 use Rattle.tc_list.specs.Policies.{listed_least}
@@ -9,6 +8,7 @@ use Rattle.tc_lsm_model.specs.Contents.{Content, Partition}
 use Rattle.tc_open.specs.Judged.{ArePassed, AreSpent, IsUntouched, Passes}
 use Rattle.tc_open.specs.Openings.{IsOpenedAs}
 use Rattle.tc_part.specs.FilesOut.{OnlyDevicesOut}
+use Rattle.tc_part.specs.OwnComponents.{AreOwnComponents}
 use Rattle.tc_part_model.specs.Leaving.{KeepsStore}
 use Rattle.tc_part_model.specs.Meaning.{IsPart}
 use Rattle.tc_part_model.specs.PartView.{PartView, store_of}
@@ -102,8 +102,7 @@ pub record IsNotGiven (rose : Type 0) (p : ℕ) (fault : RunFault) : Type 0 wher
 -- What is left of the files of an engine that was closed, once its jobs had ended, and what its watches counted. Of one that may be
 -- told to be a part no file is out, and each picture keeps what it stored, or of one that failed what it kept. Of one that ended
 -- well each picture opens as so few components that the policy picks none, and as its log. A fault with which it ended is one of a
--- job that it waited for: damage was met in its part, and none is where its files are told. What it listed was what its files are
--- judged to be.
+-- job that it waited for: damage was met in its part, and none is where its files are told. What it listed was its own.
 pub record IsClosed {S D F W : Type 0} (eyes : Eyes S D F W) (size : D → ℕ) (e : WithJobs S D F W) (outcome : Result (Unit {0}) EngineFault) (disks : List Disk) (counted : KitFaults) : Type 0 where
   pub keeps : (p : PartView) → IsPart (told_of eyes e) p → works_of eyes e p → IfTold disks (λ left. AreIn left × KeepsStore p.part (store_of p) None left)
   pub failed : OnlyDevicesOut (told_of eyes e) → (here : Partition) (pairs : Pairs) (frame : Option (List PlainWrite)) → HasFailedKeeping (works_of eyes e) (told_of eyes e) here pairs frame → IfTold disks (λ left. AreIn left × KeepsStore here pairs frame left)
@@ -111,7 +110,7 @@ pub record IsClosed {S D F W : Type 0} (eyes : Eyes S D F W) (size : D → ℕ) 
   pub last : IsSpentAt (told_of eyes e) e.engine.part → IfTold disks HasLastGeneration
   pub none_fell : NoneFell (faults_at eyes.counts e) counted
   pub disk : IsErrOf outcome engine.Disk → OneRose (faults_at eyes.counts e) counted
-  pub judged : All (IsAsJudged eyes.content) e.engine.part.list
+  pub own : AreOwnComponents eyes.content e.engine.part.number e.engine.part.count e.engine.part.list
   pub damaged : IfErr outcome (λ fault. IfEngineDamaged fault (HasMetDamage eyes.content eyes.history e.engine.part))
   pub undamaged : (p : PartView) → IsPart (told_of eyes e) p → TellsFiles (told_of eyes e) → works_of eyes e p → IfErr outcome (λ fault. IfEngineDamaged fault (λ damage. ⊥))
   pub unspent : IsErrOf outcome engine.Spent → ⊥

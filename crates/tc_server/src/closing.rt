@@ -98,6 +98,6 @@ where
     ensures { IsClosed ⟦<S as Seen>⟧.eyes (λ d. S.Device.size d) (record { engine = engine; jobs = jobs }) result.outcome (S.history result.kit.store) (faults_in (λ w. S.Watch.counts w) result.kit) }
 {
     parts_hold_devices();
-    engine.components_are_judged();
+    engine.components_are_own();
     engine.finish(rt, alloc, jobs)
 }

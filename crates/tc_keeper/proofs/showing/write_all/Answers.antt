@@ -1,12 +1,13 @@
-use Rattle.std.proofs.Common.{◌≡◌, ◌∙◌, ◌<◌, ◌≤◌, length, arith, refl, sym, subst}
+use Rattle.std.proofs.Common.{◌≡◌, ◌∙◌, ◌<◌, ◌≤◌, ℕ, length, arith, refl, sym, subst}
 use Rattle.std.specs.Prelude.{slice_index_or}
 use Rattle.std.specs.declared.alloc.Global.{Global}
 use Rattle.std.specs.declared.vec.Vec.{Vec}
 use Rattle.tc_log.specs.declared.write.Write.{Write}
 use Rattle.std.proofs.lemmas.List.{length-set}
-use Rattle.tc_keeper.specs.Showing.{IsReadAsBefore}
+use Rattle.tc_keeper.specs.Showing.{IsReadAsBefore, StaysOwn}
 use Rattle.tc_keeper.proofs.ShownWorlds.{Wrote}
-use Rattle.tc_keeper.proofs.ShowLoops.{failed_read, stays_read, wrote_read, wrote_there}
+use Rattle.tc_keeper.proofs.OwnShown.{failed_own}
+use Rattle.tc_keeper.proofs.ShowLoops.{failed_read, stays_read, wrote_read, wrote_stays, wrote_there}
 use Rattle.tc_keeper.proofs.Turns.{turns_all, turns_end, turns_more, turns_none, turns_some, set_other}
 use Rattle.tc_keeper.proofs.showing.write_all.Goals as goal
 
@@ -27,6 +28,22 @@ pub returns-clause-books : goal.returns-clause-books
 returns-clause-books g c =
     let l = c.loop-at in
     turns_some (Wrote c.args.frames.now.items) (λ p old new. IsReadAsBefore old new) c.args.shown.now.items l.shown.items l.at (λ q o n is. wrote_read c.args.frames.now.items q o n is) (λ q o. stays_read o) l.invariant.turns
+
+pub returns-clause-own : goal.returns-clause-own
+returns-clause-own g c =
+    let l = c.loop-at in
+    let content = g.F.Frozen.content in
+    turns_some (Wrote c.args.frames.now.items) (λ p old new. (number count : ℕ) → StaysOwn content number count old new) c.args.shown.now.items l.shown.items l.at
+    (λ q o n is. wrote_stays content c.args.frames.now.items q o n is) (λ q o number count own. own) l.invariant.turns
+
+pub returns-in_err-write-clause-own : goal.returns-in_err-write-clause-own
+returns-in_err-write-clause-own g c =
+    let l = c.loop-at in
+    let content = g.F.Frozen.content in
+    let below : l.at < length l.shown.items = let test = c.loop-at-test.true in let end = c.len-at-end.ensures in omega (arith, test, end, l.invariant.turns.many, c.args.shown.now.ok.0) in
+    turns_end (Wrote c.args.frames.now.items) (λ p old new. (number count : ℕ) → StaysOwn content number count old new) c.args.shown.now.items l.shown.items l.at c.index_mut-in-loop-at.result.now
+    c.write.new.self (λ q o n is. wrote_stays content c.args.frames.now.items q o n is) (λ q o number count own. own) l.invariant.turns below c.index_mut-in-loop-at.ensures.value
+    (λ number count. failed_own content number count c.index_mut-in-loop-at.result.now c.write.new.self c.in_err-write.ensures.failed)
 
 pub returns-in_err-write-clause-books : goal.returns-in_err-write-clause-books
 returns-in_err-write-clause-books g c =

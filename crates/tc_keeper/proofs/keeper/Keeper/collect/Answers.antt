@@ -16,6 +16,7 @@ use Rattle.tc_keeper.proofs.Causes.{nothing_counted}
 use Rattle.tc_keeper.proofs.EngineWorlds.{err_always, held_keeps, ok_always}
 use Rattle.tc_keeper.proofs.KeeperCalls.{back_many, lenses_away, lenses_back, manned_back, readers_away}
 use Rattle.tc_keeper.proofs.KeeperWorlds.{replies_none, serves_collected, serves_none}
+use Rattle.tc_keeper.proofs.MetDamage.{shown_still}
 use Rattle.tc_keeper.proofs.ReadersApart.{reread_back, settings_reread, works_reread}
 use Rattle.tc_keeper.proofs.ScanEnds.{collect_cause, collect_kind, collect_reply, collect_sound}
 use Rattle.tc_keeper.proofs.keeper.Keeper.collect.Goals as goal
@@ -23,7 +24,7 @@ use Rattle.tc_keeper.proofs.keeper.Keeper.collect.Goals as goal
 pub invariant_of-self : goal.invariant_of-self
 invariant_of-self g c =
     let none = sym c.take.ensures.value ∙ c.in-None.is in
-    subst (λ o. IsManned (record { engines = c.self.inside.partitions.engines; shown = c.self.inside.shown.items; scan = o })) (none ∙ sym c.take.ensures.after) c.self.invariant
+    subst (λ o. IsManned g.S.Frozen.Frozen.content (record { engines = c.self.inside.partitions.engines; shown = c.self.inside.shown.items; scan = o })) (none ∙ sym c.take.ensures.after) c.self.invariant
 
 pub returns-in-None-clause-works : goal.returns-in-None-clause-works
 unfolding MayServe ServesAt FailsAt AllRest faults_kept HasSpent MayAsk HoldsAt KeepsAt Rests faults_of IsSpent HasMet IsMet
@@ -193,9 +194,13 @@ returns-in-Some-clause-cause g c =
     (record { engines = c.self.inside.partitions.engines; shown = c.self.inside.shown.items; scan = c.self.inside.scan }) c.take_back-covered.new.engines
     c.in-Some.scan c.join-passes.result.passes.items some c.take_back-covered.ensures.home
     (back_many g.S.Watch.Watch.counts (record { engines = c.self.inside.partitions.engines; shown = c.self.inside.shown.items; scan = c.self.inside.scan })
+    c.in-Some.scan c.join-passes.result.passes.items some c.join-passes.ensures.back c.self.invariant) c.self.invariant.own
+    (lenses_back g.S.Watch.Watch.counts (record { engines = c.self.inside.partitions.engines; shown = c.self.inside.shown.items; scan = c.self.inside.scan })
     c.in-Some.scan c.join-passes.result.passes.items some c.join-passes.ensures.back c.self.invariant)
     (IsTrueHere g.S.Store.history g.S.Device.Device.history g.S.Frozen.Frozen.content
-    (record { engines = c.take_back-covered.new.engines; shown = c.self.inside.shown.items; scan = c.take.new.self })) (λ p damage met. inr met)
+    (record { engines = c.take_back-covered.new.engines; shown = c.self.inside.shown.items; scan = c.take.new.self }))
+    (λ p damage met. inr (shown_still g.S.Frozen.Frozen.content damage c.self.inside.shown.items c.self.inside.partitions.engines c.take_back-covered.new.engines p
+    (reread_back c.join-passes.result.passes.items c.self.inside.partitions.engines c.take_back-covered.new.engines c.take_back-covered.ensures.home) met))
     c.take_back-covered.result c.join-passes.result.outcome c.join-passes.ensures
     (λ all. subst (λ shown. AtEach (λ p (s : ShownState g.row.S-Frozen.Denot g.row.S-Watch.Denot) (pass : Pass g.row.S-Frozen.Denot g.row.S-Watch.Denot).
     (s.failed ≡ false) × IsPrefix (kept_by pass.lens).history s.history) 0 shown c.join-passes.result.passes.items) c.deref.ensures.value

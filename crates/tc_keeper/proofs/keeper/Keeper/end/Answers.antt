@@ -43,7 +43,7 @@ returns-in-None-clause-spent g c =
 pub returns-in-None-clause-met : goal.returns-in-None-clause-met
 unfolding HasMet IsMet
 returns-in-None-clause-met g c = λ q damage met. met_here g.S.Device.Device.history g.S.Frozen.Frozen.content damage c.self.inside.shown.items
-    c.self.inside.partitions.engines q c.self.invariant.as_many (subst
+    c.self.inside.partitions.engines q (subst
     (λ (k : KeeperState _ _ _ _). HasMet g.S.Device.Device.history g.S.Frozen.Frozen.content k q damage) (sym c.self.view_is) met)
 
 pub returns-in-None-clause-settings : goal.returns-in-None-clause-settings
@@ -114,7 +114,7 @@ returns-clause-spent g c =
 pub returns-clause-met : goal.returns-clause-met
 unfolding HasMet IsMet
 returns-clause-met g c = λ q damage met. met_behind g.S.Device.Device.history g.S.Frozen.Frozen.content damage c.self.inside.shown.items
-    c.self.inside.partitions.engines c.take_back-covered.new.engines q c.self.invariant.as_many
+    c.self.inside.partitions.engines c.take_back-covered.new.engines q
     (reread_back c.join-passes.result.passes.items c.self.inside.partitions.engines c.take_back-covered.new.engines c.take_back-covered.ensures.home)
     (subst (λ (k : KeeperState _ _ _ _). HasMet g.S.Device.Device.history g.S.Frozen.Frozen.content k q damage) (sym c.self.view_is) met)
 
@@ -160,6 +160,8 @@ returns-clause-cause g c =
     (record { engines = c.self.inside.partitions.engines; shown = c.self.inside.shown.items; scan = c.self.inside.scan }) c.take_back-covered.new.engines
     c.in-Some.scan c.join-passes.result.passes.items some c.take_back-covered.ensures.home
     (back_many g.S.Watch.Watch.counts (record { engines = c.self.inside.partitions.engines; shown = c.self.inside.shown.items; scan = c.self.inside.scan })
+    c.in-Some.scan c.join-passes.result.passes.items some c.join-passes.ensures.back c.self.invariant) c.self.invariant.own
+    (lenses_back g.S.Watch.Watch.counts (record { engines = c.self.inside.partitions.engines; shown = c.self.inside.shown.items; scan = c.self.inside.scan })
     c.in-Some.scan c.join-passes.result.passes.items some c.join-passes.ensures.back c.self.invariant)
     (IsTrueHere g.S.Store.history g.S.Device.Device.history g.S.Frozen.Frozen.content
     (record { engines = c.self.inside.partitions.engines; shown = c.self.inside.shown.items; scan = c.self.inside.scan })) (λ p damage met. inr met)

@@ -9,7 +9,7 @@ use Rattle.tc_keeper.proofs.keeper.Keeper.open.Goals as goal
 
 pub invariant_of-result : goal.invariant_of-result
 invariant_of-result g c =
-    manned_first (record { engines = c.args.partitions.engines; shown = c.show_all.new.shown.items; scan = None }) refl c.in-Ok-show_all.ensures.shown c.requires.begun
+    manned_first g.S.Frozen.Frozen.content (record { engines = c.args.partitions.engines; shown = c.show_all.new.shown.items; scan = None }) refl c.in-Ok-show_all.ensures.shown c.in-Ok-show_all.ensures.own c.requires.begun
 
 pub returns-in-Ok-show_all-clause-held : goal.returns-in-Ok-show_all-clause-held
 unfolding MayServe ServesAt FailsAt AllRest faults_kept HasSpent MayAsk HoldsAt KeepsAt Rests faults_of IsSpent HasMet IsMet

@@ -80,7 +80,7 @@ returns-in_err-passes-clause-cause g c =
 
 pub invariant_of-self : goal.invariant_of-self
 invariant_of-self g c =
-    subst (λ ss. IsManned (record { engines = c.self.inside.partitions.engines; shown = ss; scan = c.self.inside.scan })) (sym c.lend_lenses.ensures.same) c.self.invariant
+    subst (λ ss. IsManned g.S.Frozen.Frozen.content (record { engines = c.self.inside.partitions.engines; shown = ss; scan = c.self.inside.scan })) (sym c.lend_lenses.ensures.same) c.self.invariant
 
 pub returns-in_err-lenses-clause-failed : goal.returns-in_err-lenses-clause-failed
 unfolding MayServe ServesAt FailsAt AllRest faults_kept HasSpent MayAsk HoldsAt KeepsAt Rests faults_of IsSpent HasMet IsMet

@@ -122,22 +122,22 @@ pub invariant_of-self : goal.invariant_of-self
 unfolding MayServe ServesAt FailsAt AllRest faults_kept HasSpent MayAsk HoldsAt KeepsAt Rests faults_of IsSpent HasMet IsMet
 invariant_of-self g c =
     manned_beside (record { engines = c.self.inside.partitions.engines; shown = c.self.inside.shown.items; scan = c.self.inside.scan })
-    (record { engines = c.settle.new.self.engines; shown = c.self.inside.shown.items; scan = c.self.inside.scan }) refl c.settle.ensures.readers
-    (read_as_before c.self.inside.shown.items) c.self.invariant
+    (record { engines = c.settle.new.self.engines; shown = c.self.inside.shown.items; scan = c.self.inside.scan }) refl c.settle.ensures.readers c.settle.ensures.settings
+    (read_as_before c.self.inside.shown.items) (λ own. own) c.self.invariant
 
 pub invariant_of-self-in_err-place_all : goal.invariant_of-self-in_err-place_all
 unfolding MayServe ServesAt FailsAt AllRest faults_kept HasSpent MayAsk HoldsAt KeepsAt Rests faults_of IsSpent HasMet IsMet
 invariant_of-self-in_err-place_all g c =
     manned_beside (record { engines = c.self.inside.partitions.engines; shown = c.self.inside.shown.items; scan = c.self.inside.scan })
-    (record { engines = c.settle.new.self.engines; shown = c.place_all.new.shown.items; scan = c.self.inside.scan }) refl c.settle.ensures.readers
-    c.place_all.ensures.books c.self.invariant
+    (record { engines = c.settle.new.self.engines; shown = c.place_all.new.shown.items; scan = c.self.inside.scan }) refl c.settle.ensures.readers c.settle.ensures.settings
+    c.place_all.ensures.books c.place_all.ensures.own c.self.invariant
 
 pub invariant_of-self-2 : goal.invariant_of-self-2
 unfolding MayServe ServesAt FailsAt AllRest faults_kept HasSpent MayAsk HoldsAt KeepsAt Rests faults_of IsSpent HasMet IsMet
 invariant_of-self-2 g c =
     manned_beside (record { engines = c.self.inside.partitions.engines; shown = c.self.inside.shown.items; scan = c.self.inside.scan })
-    (record { engines = c.settle.new.self.engines; shown = c.place_all.new.shown.items; scan = c.self.inside.scan }) refl c.settle.ensures.readers
-    c.place_all.ensures.books c.self.invariant
+    (record { engines = c.settle.new.self.engines; shown = c.place_all.new.shown.items; scan = c.self.inside.scan }) refl c.settle.ensures.readers c.settle.ensures.settings
+    c.place_all.ensures.books c.place_all.ensures.own c.self.invariant
 
 pub returns-clause-works : goal.returns-clause-works
 unfolding MayServe ServesAt FailsAt AllRest faults_kept HasSpent MayAsk HoldsAt KeepsAt Rests faults_of IsSpent HasMet IsMet

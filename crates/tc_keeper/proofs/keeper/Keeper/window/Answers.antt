@@ -11,6 +11,7 @@ use Rattle.tc_keeper.specs.Sight.{sees}
 use Rattle.tc_keeper.proofs.Causes.{call_without_memory}
 use Rattle.tc_keeper.proofs.KeeperCalls.{behind_keeps, frames_many, frames_stored, manned_beside, read_as_before, shown_many}
 use Rattle.tc_keeper.proofs.KeeperCounts.{caused_beside}
+use Rattle.tc_keeper.proofs.OwnShown.{own_written}
 use Rattle.tc_keeper.proofs.KeeperWorlds.{serves_window}
 use Rattle.tc_keeper.proofs.WorldCounts.{many_after}
 use Rattle.std.specs.Prelude.{map, zip}
@@ -142,22 +143,22 @@ pub invariant_of-self : goal.invariant_of-self
 unfolding MayServe ServesAt FailsAt AllRest faults_kept HasSpent MayAsk HoldsAt KeepsAt Rests faults_of IsSpent HasMet IsMet
 invariant_of-self g c =
     manned_beside (record { engines = c.self.inside.partitions.engines; shown = c.self.inside.shown.items; scan = c.self.inside.scan })
-    (record { engines = c.window.new.self.engines; shown = c.self.inside.shown.items; scan = c.self.inside.scan }) refl c.window.ensures.readers
-    (read_as_before c.self.inside.shown.items) c.self.invariant
+    (record { engines = c.window.new.self.engines; shown = c.self.inside.shown.items; scan = c.self.inside.scan }) refl c.window.ensures.readers c.window.ensures.settings
+    (read_as_before c.self.inside.shown.items) (λ own. own) c.self.invariant
 
 pub invariant_of-self-in_err-write_all : goal.invariant_of-self-in_err-write_all
 unfolding MayServe ServesAt FailsAt AllRest faults_kept HasSpent MayAsk HoldsAt KeepsAt Rests faults_of IsSpent HasMet IsMet
 invariant_of-self-in_err-write_all g c =
     manned_beside (record { engines = c.self.inside.partitions.engines; shown = c.self.inside.shown.items; scan = c.self.inside.scan })
-    (record { engines = c.window.new.self.engines; shown = c.write_all.new.shown.items; scan = c.self.inside.scan }) refl c.window.ensures.readers
-    c.write_all.ensures.books c.self.invariant
+    (record { engines = c.window.new.self.engines; shown = c.write_all.new.shown.items; scan = c.self.inside.scan }) refl c.window.ensures.readers c.window.ensures.settings
+    c.write_all.ensures.books (own_written g.S.Frozen.Frozen.content c.window.new.self.engines c.self.inside.shown.items c.write_all.new.shown.items c.write_all.ensures.own) c.self.invariant
 
 pub invariant_of-self-2 : goal.invariant_of-self-2
 unfolding MayServe ServesAt FailsAt AllRest faults_kept HasSpent MayAsk HoldsAt KeepsAt Rests faults_of IsSpent HasMet IsMet
 invariant_of-self-2 g c =
     manned_beside (record { engines = c.self.inside.partitions.engines; shown = c.self.inside.shown.items; scan = c.self.inside.scan })
-    (record { engines = c.window.new.self.engines; shown = c.write_all.new.shown.items; scan = c.self.inside.scan }) refl c.window.ensures.readers
-    c.write_all.ensures.books c.self.invariant
+    (record { engines = c.window.new.self.engines; shown = c.write_all.new.shown.items; scan = c.self.inside.scan }) refl c.window.ensures.readers c.window.ensures.settings
+    c.write_all.ensures.books (own_written g.S.Frozen.Frozen.content c.window.new.self.engines c.self.inside.shown.items c.write_all.new.shown.items c.write_all.ensures.own) c.self.invariant
 
 pub returns-clause-works : goal.returns-clause-works
 unfolding MayServe ServesAt FailsAt AllRest faults_kept HasSpent MayAsk HoldsAt KeepsAt Rests faults_of IsSpent HasMet IsMet
