@@ -9,6 +9,7 @@ use Rattle.tc_lsm_model.specs.Contents.{Partition}
 use Rattle.tc_machine.specs.Pictures.{Recovers}
 use Rattle.tc_machine.specs.Sound.{IsWithOrWithout}
 use Rattle.tc_machine.specs.Steps.{nothing_held}
+use Rattle.tc_part_model.specs.Leaving.{KeepsStore}
 use Rattle.tc_part_model.specs.PartView.{store_of}
 use Rattle.tc_plain_model.specs.Store.{Store, empty}
 use Rattle.tc_plain_model.specs.Writes.{Pairs}
@@ -21,6 +22,7 @@ use Rattle.tc_store.specs.Pictures.{LeavesPictures}
 use Rattle.tc_work.specs.Moving.{Eyes}
 use Rattle.tc_work.specs.declared.fault.EngineFault.{EngineFault}
 use Rattle.tc_server.specs.Kits.{IsClosed}
+use Rattle.tc_server.proofs.ClosedKits.{told_both}
 
 -- no file is out, and each picture holds what is said
 abbrev pub Leaves : Partition → (Pairs → Type 0) → List Disk → Type 0
@@ -45,14 +47,15 @@ module _ {S D F W : Type 0} (eyes : Eyes S D F W) (size : D → ℕ) where
       → Leaves here (λ pairs. pairs ≡ part.now.pairs) disks
   held_left here w part e outcome disks counted closed h =
       leaves_so here (IsWithOrWithout (store_of h.view) None) (λ pairs. pairs ≡ part.now.pairs) disks (λ pairs is. is ∙ committed (told_of eyes e) e.engine.part.limits here w part h)
-      (subst (λ at. Leaves at (IsWithOrWithout (store_of h.view) None) disks) h.of_number (closed.keeps h.view h.is h.jobs))
+      (subst (λ at. Leaves at (IsWithOrWithout (store_of h.view) None) disks) h.of_number (told_both AreIn (KeepsStore h.view.part (store_of h.view) None) disks closed.home (closed.keeps h.view h.is h.jobs)))
 
   -- of one that failed
   pub failed_left : (here : Partition) (before after : Part) (e : WithJobs S D F W) (outcome : Result (Unit {0}) EngineFault) (disks : List Disk) (counted : KitFaults) → IsClosed eyes size e outcome disks counted → FailsPart (works_of eyes e) (told_of eyes e) here before after
       → Leaves here (λ pairs. (pairs ≡ before.now.pairs) ⊎ (pairs ≡ after.now.pairs)) disks
   failed_left here before after e outcome disks counted closed f = elim f.kept [
-    | inl k ↦ leaves_so here (IsWithOrWithout before.now.pairs None) Either disks (λ pairs is. inl is) (closed.failed f.devices here before.now.pairs None k)
-    | inr (frame, k, same) ↦ leaves_so here (IsWithOrWithout before.now.pairs (Some frame)) Either disks (λ pairs is. elim is [ inl without ↦ inl without | inr with ↦ inr (with ∙ same) ]) (closed.failed f.devices here before.now.pairs (Some frame) k)
+    | inl k ↦ leaves_so here (IsWithOrWithout before.now.pairs None) Either disks (λ pairs is. inl is) (told_both AreIn (KeepsStore here before.now.pairs None) disks closed.home (closed.failed here before.now.pairs None k))
+    | inr (frame, k, same) ↦ leaves_so here (IsWithOrWithout before.now.pairs (Some frame)) Either disks (λ pairs is. elim is [ inl without ↦ inl without | inr with ↦ inr (with ∙ same) ])
+        (told_both AreIn (KeepsStore here before.now.pairs (Some frame)) disks closed.home (closed.failed here before.now.pairs (Some frame) k))
   ]
     where
       Either : Pairs → Type 0

@@ -20,6 +20,7 @@ use Rattle.tc_open.specs.Steps as step
 use Rattle.tc_part_model.specs.PartState.{PartState}
 use Rattle.tc_plain_model.specs.Writes.{Write as PlainWrite}
 use Rattle.tc_recover.specs.Lawful.{DiskOpens}
+use Rattle.tc_replay.specs.Openings.{AreIn}
 use Rattle.tc_run_model.specs.Course.{input_failed, output_failed, unopened}
 use Rattle.tc_store.specs.Counted.{Counts}
 use Rattle.tc_store.specs.Disk.{Disk}
@@ -108,10 +109,11 @@ pub given_back : {S W D F : Type 0} (disks : S → List Disk) (counts : W → Co
     → OfLawful (partition_at p count) (disks kit.store) (λ cs logs. causes.IfLayout cause ⊥) → OfLawful (partition_at p count) (disks kit.store) (λ cs logs. causes.IfDamaged cause (λ damage. ⊥))
     → OfLawful (partition_at p count) (disks kit.store) (λ cs logs. step.Keeps (partition_at p count) (recovered cs logs).pairs (disks kit.store) (disks back.store))
     → IfTold (disks kit.store) (λ disk. CauseJudged content name (partition_at p count) disk cause) → IsUntouched (partition_at p count) (disks kit.store) (disks back.store)
-    → back ≡ record kit { store = back.store; main = back.main } → IsWatched (cause ≡ opening.Disk) (counts kit.main) (counts back.main)
+    → IfTold (disks back.store) AreIn → back ≡ record kit { store = back.store; main = back.main } → IsWatched (cause ≡ opening.Disk) (counts kit.main) (counts back.main)
     → IsGivenBack content name (partition_at p count) (disks kit.store) (faults_in counts kit) (fault_of_opening p count cause) (disks back.store) (faults_in counts back)
-given_back disks counts content name p count cause kit back here undamaged keeps judged untouched same watched = record {
+given_back disks counts content name p count cause kit back here undamaged keeps judged untouched home same watched = record {
   of = is_of_opening p count cause;
+  home = home;
   keeps = told_map (λ disk. (cs : List Content) (logs : List (List PlainWrite)) → DiskOpens (partition_at p count) disk cs logs → step.Keeps (partition_at p count) (recovered cs logs).pairs (disks kit.store) (disks back.store)) _ (disks kit.store)
       (λ disk all cs logs opens. (all cs logs opens).kept) keeps;
   sound = both_lawful (partition_at p count) (λ cs logs. causes.IfLayout cause ⊥) (λ cs logs. causes.IfDamaged cause (λ damage. ⊥))
@@ -130,6 +132,7 @@ pub pushed_back : {S D F W : Type 0} (eyes : Eyes S D F W) (name : F → FileNam
     → IsOpened eyes options here came counted e → IsClosed eyes size e outcome disks left → IsGivenBack eyes.content name here came counted Memory disks left
 pushed_back eyes name size options here came counted e outcome disks left i c = record {
   of = tt;
+  home = c.home;
   keeps = opened_keeps eyes size options here came counted e outcome disks left i c;
   sound = told_always (λ disk. (cs : List Content) (logs : List (List PlainWrite)) → DiskOpens here disk cs logs → IsNoDamage None Memory × IsHere None Memory) came (λ disk cs logs opens. (tt, tt));
   judged = told_always (λ disk. IsJudged nothing_met eyes.content name here disk (Some Memory)) came (λ disk. tt);

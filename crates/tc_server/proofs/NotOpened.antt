@@ -38,6 +38,7 @@ use Rattle.tc_keeper.specs.Sight.{nothing, sees, whole_of, IfKnown, Sight}
 use Rattle.tc_keeper.specs.declared.fault.RunFault.{RunFault}
 use Rattle.tc_keeper.specs.declared.fault.RunFault.TheVariants.{Usage, Memory}
 use Rattle.tc_server.proofs.ClosedFiles.{stored_in}
+use Rattle.tc_server.proofs.ClosedKits.{told_both}
 use Rattle.tc_server.proofs.AskedRuns.{runs_unread, OverOf}
 use Rattle.tc_server.proofs.ClosedFiles.{leaves_so}
 use Rattle.tc_keeper.proofs.EachLaws.{each-at, each-below, each-so, there}
@@ -95,7 +96,8 @@ opened_keeps eyes size options here [] counted e outcome disks left i c = tt
 opened_keeps eyes size options here (disk ∷ past) counted e outcome disks left i c = λ cs logs opens.
     let is : IsOpenedAs here cs logs (told_of eyes e) = i.opened cs logs opens in
     let holds : store_of (started_part here is.list) ≡ (recovered cs logs).pairs = ap (λ (s : Store). s.pairs) is.plain in
-    subst (λ pairs. IfTold disks (λ left. AreIn left × KeepsStore here pairs None left)) holds (c.keeps (started_part here is.list) is.is (works_alone eyes options e (started_part here is.list) i.begun.alone))
+    subst (λ pairs. IfTold disks (λ left. AreIn left × KeepsStore here pairs None left)) holds
+    (told_both AreIn (KeepsStore here (store_of (started_part here is.list)) None) disks c.home (c.keeps (started_part here is.list) is.is (works_alone eyes options e (started_part here is.list) i.begun.alone)))
 
 -- ---- the run
 

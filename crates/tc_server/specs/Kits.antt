@@ -7,7 +7,6 @@ use Rattle.tc_list.specs.Policies.{listed_least}
 use Rattle.tc_lsm_model.specs.Contents.{Content, Partition}
 use Rattle.tc_open.specs.Judged.{ArePassed, AreSpent, IsUntouched, Passes}
 use Rattle.tc_open.specs.Openings.{IsOpenedAs}
-use Rattle.tc_part.specs.FilesOut.{OnlyDevicesOut}
 use Rattle.tc_part.specs.OwnComponents.{AreOwnComponents}
 use Rattle.tc_part_model.specs.Leaving.{KeepsStore}
 use Rattle.tc_part_model.specs.Meaning.{IsPart}
@@ -81,9 +80,11 @@ IsOfOpening here (Layout p found found_of asked_of) = (p ≡ here.number) × (as
 abbrev pub IfLawful : Partition → List Disk → Type 0 → Type 0
 IfLawful here came P = IfTold came (λ disk. (cs : List Content) (logs : List (List PlainWrite)) → DiskOpens here disk cs logs → P)
 
--- A kit that came with these files and counts is given back with those, since its partition was not opened, by this fault.
+-- A kit that came with these files and counts is given back with those, since its partition was not opened, by this fault. No file
+-- is out.
 pub record IsGivenBack {F : Type 0} (content : F → Option (List ℕ)) (name : F → FileName) (here : Partition) (came : List Disk) (counted : KitFaults) (fault : RunFault) (disks : List Disk) (counts : KitFaults) : Type 0 where
   pub of : IsOfOpening here fault
+  pub home : IfTold disks AreIn
   pub keeps : KeepsOpened here came disks
   pub sound : IfLawful here came (IsNoDamage None fault × IsHere None fault)
   pub judged : IfTold came (λ disk. IsJudged nothing_met content name here disk (Some fault))
@@ -99,13 +100,14 @@ pub record IsNotGiven (rose : Type 0) (p : ℕ) (fault : RunFault) : Type 0 wher
 
 -- ---- a partition that is closed
 
--- What is left of the files of an engine that was closed, once its jobs had ended, and what its watches counted. Of one that may be
--- told to be a part no file is out, and each picture keeps what it stored, or of one that failed what it kept. Of one that ended
+-- What is left of the files of an engine that was closed, once its jobs had ended, and what its watches counted. No file is out. Of
+-- one that may be told to be a part each picture keeps what it stored, or of one that failed what it kept. Of one that ended
 -- well each picture opens as so few components that the policy picks none, and as its log. A fault with which it ended is one of a
 -- job that it waited for: damage was met in its part, and none is where its files are told. What it listed was its own.
 pub record IsClosed {S D F W : Type 0} (eyes : Eyes S D F W) (size : D → ℕ) (e : WithJobs S D F W) (outcome : Result (Unit {0}) EngineFault) (disks : List Disk) (counted : KitFaults) : Type 0 where
-  pub keeps : (p : PartView) → IsPart (told_of eyes e) p → works_of eyes e p → IfTold disks (λ left. AreIn left × KeepsStore p.part (store_of p) None left)
-  pub failed : OnlyDevicesOut (told_of eyes e) → (here : Partition) (pairs : Pairs) (frame : Option (List PlainWrite)) → HasFailedKeeping (works_of eyes e) (told_of eyes e) here pairs frame → IfTold disks (λ left. AreIn left × KeepsStore here pairs frame left)
+  pub home : IfTold disks AreIn
+  pub keeps : (p : PartView) → IsPart (told_of eyes e) p → works_of eyes e p → IfTold disks (KeepsStore p.part (store_of p) None)
+  pub failed : (here : Partition) (pairs : Pairs) (frame : Option (List PlainWrite)) → HasFailedKeeping (works_of eyes e) (told_of eyes e) here pairs frame → IfTold disks (KeepsStore here pairs frame)
   pub opens : (p : PartView) → IsPart (told_of eyes e) p → works_of eyes e p → OnOk outcome (EndsSmall p.part e.engine.policy (size e.engine.part.log.device) disks)
   pub last : IsSpentAt (told_of eyes e) e.engine.part → IfTold disks HasLastGeneration
   pub none_fell : NoneFell (faults_at eyes.counts e) counted

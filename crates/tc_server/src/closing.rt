@@ -2,6 +2,7 @@
 
 ghost use Rattle.std.specs.Prelude.{◌≡◌, ◌≤◌, ◌+◌, ◌++◌, ◌∷◌, true, false, is_some, All, List, length, map, vec_capacity, vec_len};
 ghost use Rattle.tc_keeper.specs.Places.{AtEach};
+ghost use Rattle.tc_part.specs.FilesOut.{HoldsDevices};
 ghost use Rattle.tc_part_model.specs.PartState.{told};
 ghost use Rattle.tc_keeper.specs.Faults.{faults_in};
 ghost use Rattle.tc_server.specs.Kits.{fault_before, least_fault, IsClosed};
@@ -12,7 +13,6 @@ ghost use Rattle.tc_work.specs.declared.finishing.Finished.{Finished as finished
 use std::alloc::Global;
 use std::thread::Threads;
 use tc_keeper::{Engines, RunFault, of_engine};
-use tc_part::parts_hold_devices;
 use tc_running::{Pace, Running};
 use tc_store::{Kit, Store};
 use tc_work::{Engine, EngineFault, Finished, Seen};
@@ -95,9 +95,9 @@ where
     requires ready { engine.part.failed ≡ false → MaySettle (told S.history S.Device.history S.Frozen.content engine.part) }
     requires reader { is_some engine.part.reader ≡ true }
     requires jobs { AreOut S.history S.Device.history S.Frozen.content S.Device.name engine.part jobs }
+    requires devices { HoldsDevices (told S.history S.Device.history S.Frozen.content engine.part) }
     ensures { IsClosed ⟦<S as Seen>⟧.eyes (λ d. S.Device.size d) (record { engine = engine; jobs = jobs }) result.outcome (S.history result.kit.store) (faults_in (λ w. S.Watch.counts w) result.kit) }
 {
-    parts_hold_devices();
     engine.components_are_own();
     engine.finish(rt, alloc, jobs)
 }

@@ -1,12 +1,14 @@
 //! All that a program does between its words and its exit.
 
-ghost use Rattle.std.specs.Prelude.{◌≡◌, ◌<◌, ◌⊎◌, map, Option, Some, option_map, IfErr};
+ghost use Rattle.std.specs.Prelude.{◌≡◌, ◌<◌, ◌⊎◌, map, All, Option, Some, option_map, IfErr};
 ghost use Rattle.std.specs.Result.{result_ok};
 ghost use Rattle.tc_server.specs.Ending.{IsRun, ServedPromptly};
 ghost use Rattle.tc_keeper.specs.Faults.{faults_in, status_of};
 ghost use Rattle.tc_server.specs.KitCauses.{GivesKitsBack, HasCauseOver};
 ghost use Rattle.tc_server.specs.OverFiles.{partitions_asked, BeginsFor, ServedOver};
 ghost use Rattle.tc_keeper.specs.Sight.{Sight};
+ghost use Rattle.tc_replay.specs.Openings.{AreIn};
+ghost use Rattle.tc_store.specs.Moments.{IfTold};
 ghost use Rattle.tc_server.specs.Program.{fault_of_words, invocation_given};
 
 use crate::outcome::Served;
@@ -83,6 +85,9 @@ where
     // asked for but the next one, where the shelf failed.
     ensures back { GivesKitsBack (shelf.new ≡ shelf.old) (partitions_asked (invocation_given (option_map (λ words. words.items) (result_ok words)))) (H.faults shelf.old) (H.faults shelf.new) (H.files shelf.old) (H.files shelf.new) (H.kit_faults shelf.old) (H.kit_faults shelf.new) result.fault result.kits.items (faults_in (λ w. H.Store.Watch.counts w)) }
 
+    // However the run ended, and whatever the files are: no file of a kit that is given back is out.
+    ensures home { All (λ kit. IfTold (H.Store.history kit.store) AreIn) result.kits.items }
+
     // When a fault may be answered.
     ensures cause { HasCauseOver H.Store H.Store.Watch H.Store.Device.history H.Store.Frozen.content H.Store.Frozen.name (λ file. H.Store.Frozen.size file) (invocation_given (option_map (λ words. words.items) (result_ok words))) (I.left source.old) (I.left source.new) (I.faults source.old) (I.faults source.new) (O.faults sink.old) (O.faults sink.new) (H.faults shelf.old) (H.faults shelf.new) (H.files shelf.old) (H.kit_faults shelf.old) result.fault result.kits.items (λ kit. H.Store.history kit.store) (faults_in (λ w. H.Store.Watch.counts w)) }
     ensures words { IfErr words (λ fault. result.fault ≡ Some (fault_of_words fault)) }
@@ -114,6 +119,7 @@ where
     ensures prompt { (first : Sight) → BeginsFor (invocation_given (option_map (λ words. words.items) (result_ok words))) (H.files shelf.old) first
         → ServedPromptly first (invocation_given (option_map (λ words. words.items) (result_ok words))) (O.taken sink.old) (I.moments source.old) (I.moments source.new) }
     ensures back { GivesKitsBack (shelf.new ≡ shelf.old) (partitions_asked (invocation_given (option_map (λ words. words.items) (result_ok words)))) (H.faults shelf.old) (H.faults shelf.new) (H.files shelf.old) (H.files shelf.new) (H.kit_faults shelf.old) (H.kit_faults shelf.new) result.fault result.kits.items (faults_in (λ w. H.Store.Watch.counts w)) }
+    ensures home { All (λ kit. IfTold (H.Store.history kit.store) AreIn) result.kits.items }
     ensures cause { HasCauseOver H.Store H.Store.Watch H.Store.Device.history H.Store.Frozen.content H.Store.Frozen.name (λ file. H.Store.Frozen.size file) (invocation_given (option_map (λ words. words.items) (result_ok words))) (I.left source.old) (I.left source.new) (I.faults source.old) (I.faults source.new) (O.faults sink.old) (O.faults sink.new) (H.faults shelf.old) (H.faults shelf.new) (H.files shelf.old) (H.kit_faults shelf.old) result.fault result.kits.items (λ kit. H.Store.history kit.store) (faults_in (λ w. H.Store.Watch.counts w)) }
     ensures words { IfErr words (λ fault. result.fault ≡ Some (fault_of_words fault)) }
 {

@@ -6,6 +6,7 @@ ghost use Rattle.tc_keeper.specs.Places.{AtEach, EachFrom, SomeFrom};
 ghost use Rattle.tc_keeper.specs.Standing.{partition_at};
 ghost use Rattle.tc_keeper.specs.WithJobs.{settings};
 ghost use Rattle.tc_log.specs.Layout.{empty_size};
+ghost use Rattle.tc_replay.specs.Openings.{AreIn};
 ghost use Rattle.tc_run_model.specs.Course.{each_line};
 ghost use Rattle.tc_store.specs.Disk.{Disk};
 ghost use Rattle.tc_store.specs.Moments.{IfTold};
@@ -75,6 +76,9 @@ where
     // asked for but the next one, where the shelf failed.
     ensures back { GivesKitsBack (shelf.new ≡ shelf.old) (partitions_asked (invocation_of words.now)) (H.faults shelf.old) (H.faults shelf.new) (H.files shelf.old) (H.files shelf.new) (H.kit_faults shelf.old) (H.kit_faults shelf.new) result.fault result.kits.items (faults_in (λ w. H.Store.Watch.counts w)) }
 
+    // However the run ended, and whatever the files are: no file of a kit that is given back is out.
+    ensures home { All (λ kit. IfTold (H.Store.history kit.store) AreIn) result.kits.items }
+
     // When a fault may be answered.
     ensures cause { HasCauseOver H.Store H.Store.Watch H.Store.Device.history H.Store.Frozen.content H.Store.Frozen.name (λ file. H.Store.Frozen.size file) (invocation_of words.now) (I.left source.old) (I.left source.new) (I.faults source.old) (I.faults source.new) (O.faults sink.old) (O.faults sink.new) (H.faults shelf.old) (H.faults shelf.new) (H.files shelf.old) (H.kit_faults shelf.old) result.fault result.kits.items (λ kit. H.Store.history kit.store) (faults_in (λ w. H.Store.Watch.counts w)) }
 {
@@ -112,6 +116,7 @@ where
     ensures prompt { (first : Sight) → BeginsFor (Some asked.now) (H.files shelf.old) first
         → AskedPromptly asked.now first (options_asked asked.now).window (O.taken sink.old) (I.moments source.old) (I.moments source.new) }
     ensures back { GivesKitsBack (shelf.new ≡ shelf.old) (options_asked asked.now).partitions (H.faults shelf.old) (H.faults shelf.new) (H.files shelf.old) (H.files shelf.new) (H.kit_faults shelf.old) (H.kit_faults shelf.new) result.fault result.kits.items (faults_in (λ w. H.Store.Watch.counts w)) }
+    ensures home { All (λ kit. IfTold (H.Store.history kit.store) AreIn) result.kits.items }
     ensures cause { HasCauseOver H.Store H.Store.Watch H.Store.Device.history H.Store.Frozen.content H.Store.Frozen.name (λ file. H.Store.Frozen.size file) (Some asked.now) (I.left source.old) (I.left source.new) (I.faults source.old) (I.faults source.new) (O.faults sink.old) (O.faults sink.new) (H.faults shelf.old) (H.faults shelf.new) (H.files shelf.old) (H.kit_faults shelf.old) result.fault result.kits.items (λ kit. H.Store.history kit.store) (faults_in (λ w. H.Store.Watch.counts w)) }
 {
     let options = options_asked(asked);
@@ -195,6 +200,7 @@ where
     ensures prompt { (first : Sight) → IsFirst first → StandAt ⟦<S as Seen>⟧.eyes engines first
         → AskedPromptly asked.now first (options_asked asked.now).window (O.taken sink.old) (I.moments source.old) (I.moments source.new) }
     ensures kits { length result.0.items ≡ (options_asked asked.now).partitions }
+    ensures home { All (λ kit. IfTold (S.history kit.store) AreIn) result.0.items }
     ensures kind { IfSome result.1 IsOfRun }
     ensures read { IfSome result.1 (λ fault. fault ≡ RunFault.Read → Rose (I.faults source.old) (I.faults source.new)) }
     ensures write { IfSome result.1 (λ fault. IsWrite fault → Rose (O.faults sink.old) (O.faults sink.new)) }

@@ -1,6 +1,7 @@
 use Rattle.std.proofs.Common.{◌∙◌, ap, sym, subst}
 use Rattle.tc_keeper.specs.Standing.{partition_at}
 use Rattle.tc_keeper.specs.WithJobs.{engine_with, no_jobs}
+use Rattle.tc_part.specs.FilesOut.{HoldsDevices}
 use Rattle.tc_part_model.specs.PartState.{told}
 use Rattle.tc_work.specs.EngineState.{EngineState}
 use Rattle.tc_work.specs.Moving.{eyes}
@@ -13,7 +14,7 @@ use Rattle.tc_server.proofs.opening.open_kit.Goals as goal
 pub returns-in-Err-clause-back : goal.returns-in-Err-clause-back
 returns-in-Err-clause-back g c =
     rw c.of_opening.ensures (given_back g.S.Store.history g.S.Watch.Watch.counts g.S.Frozen.Frozen.content g.S.Frozen.Frozen.name c.args.number c.args.options.now.partitions c.in-Err.field-0.cause c.args.kit c.in-Err.field-0.kit
-    c.in-Err.ensures.lawful c.in-Err.ensures.undamaged c.in-Err.ensures.kept c.in-Err.ensures.refused c.in-Err.ensures.fails.untouched c.in-Err.ensures.fails.given_back c.in-Err.ensures.fails.failed)
+    c.in-Err.ensures.lawful c.in-Err.ensures.undamaged c.in-Err.ensures.kept c.in-Err.ensures.refused c.in-Err.ensures.fails.untouched c.in-Err.ensures.fails.home c.in-Err.ensures.fails.given_back c.in-Err.ensures.fails.failed)
 
 pub returns-in-Err-clause-found : goal.returns-in-Err-clause-found
 returns-in-Err-clause-found g c =
@@ -57,3 +58,7 @@ returns-in-Err-push-clause-back g c =
 pub push-requires-clause-ready : goal.push-requires-clause-ready
 push-requires-clause-ready g c κs within = λ sound.
     subst (λ (engine : EngineState _ _ _ _). MaySettle (told g.S.Store.history g.S.Device.Device.history g.S.Frozen.Frozen.content engine.part)) (sym c.new.ensures.made) (record { own = c.in-Ok.ensures.begins.has_own; components = c.in-Ok.ensures.begins.components })
+
+pub push-requires-clause-devices : goal.push-requires-clause-devices
+push-requires-clause-devices g c κs within =
+    subst (λ (engine : EngineState _ _ _ _). HoldsDevices (told g.S.Store.history g.S.Device.Device.history g.S.Frozen.Frozen.content engine.part)) (sym c.new.ensures.made) c.in-Ok.ensures.begins.devices

@@ -1,5 +1,9 @@
 use Rattle.std.proofs.Common.{◌∙◌, ap, arith, refl}
 use Rattle.std.specs.Prelude.{Err}
+use Rattle.std.proofs.lemmas.List.Elements.{All-nil}
+use Rattle.tc_replay.specs.Openings.{AreIn}
+use Rattle.tc_store.specs.Moments.{IfTold}
+use Rattle.tc_store.specs.declared.kit.Kit.{Kit}
 use Rattle.tc_words.proofs.OptionRanges.{asked_in_range}
 use Rattle.tc_words.specs.Options.{invocation_of}
 use Rattle.tc_server.proofs.AskedRuns.{few_commands}
@@ -49,3 +53,8 @@ returns-in-Err-clause-cause g c =
     rw (c.of.ensures.fault, none) (no_cause g.row.H-Store.Denot g.row.H-Store-Watch.Denot g.H.Store.Device.Device.history g.H.Store.Frozen.Frozen.content g.H.Store.Frozen.Frozen.name g.H.Store.Frozen.Frozen.size (invocation_of c.args.words.now) (g.I.Source.left c.args.source.now)
     (g.I.Source.faults c.args.source.now) (g.O.Sink.faults c.args.sink.now) (g.H.Shelf.faults c.args.shelf.now) (g.H.Shelf.files c.args.shelf.now) (g.H.Shelf.kit_faults c.args.shelf.now) c.in-Err.fault _ _
     c.in-Err.ensures.kinds (λ same. c.in-Err.ensures.usage (ap Err same)))
+
+pub returns-in-Err-clause-home : goal.returns-in-Err-clause-home
+returns-in-Err-clause-home g c =
+    let none = ap (λ kits. kits.items) c.of.ensures.kits ∙ c.new.ensures.items in
+    rw none (All-nil (λ (kit : Kit _ _ _ _). IfTold (g.H.Store.Store.history kit.store) AreIn))

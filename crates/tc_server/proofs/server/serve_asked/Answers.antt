@@ -1,10 +1,14 @@
 use Rattle.std.proofs.Common.{ℕ, ◌≡◌, ◌<◌, ◌∙◌, ◌++◌, length, arith, refl, ap, sym, subst, inl, inr, ⊎_elim}
 use Rattle.std.specs.Prelude.{Some, IfSome, map, option_to_list}
 use Rattle.std.proofs.lemmas.List.{length-map}
+use Rattle.std.proofs.lemmas.List.Elements.{All-nil}
+use Rattle.std.proofs.lemmas.Option.{IfSome_then}
 use Rattle.tc_bytes.specs.Counts.{Rose}
 use Rattle.tc_keeper.specs.Places.{AtEach}
 use Rattle.tc_keeper.specs.Standing.{partition_at}
 use Rattle.tc_part_model.proofs.HeldKeys.{Ascends-stored}
+use Rattle.tc_replay.specs.Openings.{AreIn}
+use Rattle.tc_store.specs.Moments.{IfTold}
 use Rattle.tc_store.specs.declared.damage.Damage.{Damage}
 use Rattle.tc_store.specs.declared.kit.Kit.{Kit}
 use Rattle.tc_work.specs.Moving.{eyes}
@@ -16,9 +20,10 @@ use Rattle.tc_keeper.specs.Keeping.{IsMetIn}
 use Rattle.tc_keeper.specs.Faults.{faults_in, OneRose}
 use Rattle.tc_keeper.specs.Calls.{faults_at}
 use Rattle.tc_server.specs.KitCauses.{nothing_met, AreAsked, HasFilesCause}
-use Rattle.tc_server.specs.Kits.{AreOpened, IsGivenBack}
+use Rattle.tc_server.specs.Kits.{AreOpened, IsClosed, IsGivenBack}
 use Rattle.tc_keeper.specs.declared.fault.RunFault.TheVariants.{Memory}
 use Rattle.tc_keeper.proofs.BegunKeepers.{readers_home}
+use Rattle.tc_server.proofs.ClosedKits.{kits_all, kits_closed}
 use Rattle.tc_server.proofs.KitOpenings.{ends_unopened, no_read, no_usage, no_write}
 use Rattle.tc_server.proofs.NotOpened.{asked_unopened, asked_without_room}
 use Rattle.tc_server.proofs.OpenedWorlds.{begins_first, stand_opened}
@@ -329,3 +334,38 @@ close_all-closed-requires-clause-readers g c κs within =
     g.H.Store.Device.Device.name g.H.Store.Frozen.Frozen.size g.H.Store.Watch.Watch.counts) o (g.H.Shelf.files c.args.shelf.now)
     (g.H.Shelf.kit_faults c.args.shelf.now) c.open_all.new.engines) c.options_asked-options.ensures c.open_all.ensures.opened) in
     readers_home c.open_all.new.engines (unwritten_all (eyes g.H.Store.Store.history g.H.Store.Device.Device.history g.H.Store.Frozen.Frozen.content g.H.Store.Device.Device.name g.H.Store.Frozen.Frozen.size g.H.Store.Watch.Watch.counts) (options_asked c.args.asked.now) c.open_all.new.engines begun)
+
+-- ---- no file is out
+
+pub returns-in-Err-clause-home : goal.returns-in-Err-clause-home
+returns-in-Err-clause-home g c =
+    let none = ap (λ kits. kits.items) c.of.ensures.kits ∙ c.new.ensures.items in
+    rw none (All-nil (λ (kit : Kit _ _ _ _). IfTold (g.H.Store.Store.history kit.store) AreIn))
+
+pub returns-in-Err-with_capacity-clause-home : goal.returns-in-Err-with_capacity-clause-home
+returns-in-Err-with_capacity-clause-home g c =
+    let none = ap (λ kits. kits.items) c.of-in-Err-with_capacity.ensures.kits ∙ c.in-Ok.ensures.items in
+    rw none (All-nil (λ (kit : Kit _ _ _ _). IfTold (g.H.Store.Store.history kit.store) AreIn))
+
+pub returns-in-Err-new-clause-home : goal.returns-in-Err-new-clause-home
+returns-in-Err-new-clause-home g c =
+    let none = ap (λ kits. kits.items) c.of-in-Err-new.ensures.kits ∙ c.in-Ok.ensures.items in
+    rw none (All-nil (λ (kit : Kit _ _ _ _). IfTold (g.H.Store.Store.history kit.store) AreIn))
+
+pub returns-in-Ok-open_all-clause-home : goal.returns-in-Ok-open_all-clause-home
+returns-in-Ok-open_all-clause-home g c = rw (ap (λ kits. kits.items) c.of-in-Ok-open_all.ensures.kits) c.serve_over-kits.ensures.home
+
+pub returns-in-Err-open_all-clause-home : goal.returns-in-Err-open_all-clause-home
+returns-in-Err-open_all-clause-home g c =
+    let ended = c.close_all-closed.ensures.0 in
+    let ks = map (λ (f : finished _ _ _ _). f.kit) ended in
+    let last = c.in-Err-open_all.field-0.kit in
+    let same = c.close_all-closed.ensures.1 ∙ ap (λ more. ks ++ more) c.with_kit.ensures.items in
+    let kits = ap (λ kits. kits.items) c.of-in-Err-open_all.ensures.kits ∙ same in
+    let Home : Kit _ _ _ _ → Type 0 = λ kit. IfTold (g.H.Store.Store.history kit.store) AreIn in
+    rw kits (kits_all Home ks last
+    (kits_closed (λ p e (f : finished _ _ _ _). IsClosed (eyes g.H.Store.Store.history g.H.Store.Device.Device.history g.H.Store.Frozen.Frozen.content
+    g.H.Store.Device.Device.name g.H.Store.Frozen.Frozen.size g.H.Store.Watch.Watch.counts) g.H.Store.Device.Device.size e f.outcome
+    (g.H.Store.Store.history f.kit.store) (faults_in g.H.Store.Watch.Watch.counts f.kit)) Home (λ (f : finished _ _ _ _). f.kit) c.open_all.new.engines ended
+    (λ p e f is. is.home) c.close_all-closed.ensures.3)
+    (IfSome_then last c.in-Err-open_all.ensures.back (λ kit back. back.home)))

@@ -6,19 +6,22 @@ use Rattle.tc_keeper.specs.Places.{AtEach, EachFrom}
 use Rattle.tc_keeper.proofs.PlaceLaws.{at_each-length, at_each-reads, at_each-so}
 use Rattle.tc_keeper.specs.Standing.{partition_at}
 use Rattle.tc_keeper.specs.WithJobs.{settings, WithJobs}
+use Rattle.tc_replay.specs.Openings.{AreIn}
 use Rattle.tc_store.specs.Moments.{IfTold}
 use Rattle.tc_store.specs.declared.damage.Damage.{Damage}
+use Rattle.tc_store.specs.declared.kit.Kit.{Kit}
 use Rattle.tc_work.specs.Moving.{eyes}
 use Rattle.tc_work.specs.declared.finishing.Finished.{Finished as finished}
 use Rattle.tc_keeper.specs.Calls.{faults_at, HoldsAt, IsSpent, KeepsAt, Rests}
 use Rattle.tc_keeper.specs.Faults.{fault_in, faults_in, IfDamaged, IfDisk, IsOfRun, IsWrite, NoneFell, OneRose}
 use Rattle.tc_keeper.specs.Keeping.{AreUnwritten, IsMetIn}
 use Rattle.tc_server.specs.KitCauses.{HasLastGeneration}
-use Rattle.tc_server.specs.Kits.{fault_behind, least_fault}
+use Rattle.tc_server.specs.Kits.{fault_behind, least_fault, IsClosed}
 use Rattle.tc_server.specs.OverFiles.{AskedOver}
 use Rattle.tc_keeper.specs.declared.fault.RunFault.TheVariants.{Read}
 use Rattle.tc_keeper.specs.declared.partitions.Partitions.{Partitions}
 use Rattle.tc_words.specs.Options.{options_asked}
+use Rattle.tc_server.proofs.ClosedKits.{kits_closed}
 use Rattle.tc_server.proofs.ClosingFaults.{behind_so, closed_over, ended_so, job_of_run, never_read, never_write, spent_behind}
 use Rattle.tc_keeper.proofs.EachLaws.{some-map}
 use Rattle.tc_server.proofs.KitsLeft.{AreClosed, ended_stores}
@@ -117,6 +120,14 @@ returns-clause-kits g c =
     g.S.Watch.Watch.counts) g.S.Device.Device.size (λ (f : finished _ _ _ _). f.outcome) (λ (f : finished _ _ _ _). g.S.Store.history f.kit.store)
     (λ (f : finished _ _ _ _). faults_in g.S.Watch.Watch.counts f.kit) es ended) same c.close_all-closed.ensures.3 in
     rw items (length-map ended (λ (f : finished _ _ _ _). f.kit) ∙ sym (at_each-length (λ p e f. _) 0 k'.engines ended closed) ∙ as_many_engines k k' c.answer_over-partitions.ensures.settings ∙ ap (λ (p : Partitions _ _ _ _ _). length p.engines) begun ∙ c.requires.all)
+
+pub returns-clause-home : goal.returns-clause-home
+returns-clause-home g c =
+    let ended = c.close_all-closed.ensures.0 in
+    let items = c.close_all-closed.ensures.1 ∙ ap (λ more. map (λ (f : finished _ _ _ _). f.kit) ended ++ more) c.requires.none ∙ append-nil (map (λ (f : finished _ _ _ _). f.kit) ended) in
+    rw items (kits_closed (λ p e (f : finished _ _ _ _). IsClosed (eyes g.S.Store.history g.S.Device.Device.history g.S.Frozen.Frozen.content g.S.Device.Device.name g.S.Frozen.Frozen.size
+    g.S.Watch.Watch.counts) g.S.Device.Device.size e f.outcome (g.S.Store.history f.kit.store) (faults_in g.S.Watch.Watch.counts f.kit))
+    (λ (kit : Kit _ _ _ _). IfTold (g.S.Store.history kit.store) AreIn) (λ (f : finished _ _ _ _). f.kit) c.into_engines.result ended (λ p e f is. is.home) c.close_all-closed.ensures.3)
 
 pub returns-clause-kind : goal.returns-clause-kind
 returns-clause-kind g c =
