@@ -4,7 +4,6 @@ use Rattle.std.specs.Prelude.{Option, Some, None, IfSome, IsSome, IfErr, Result,
 use Rattle.tc_bytes.specs.Counts.{Rose}
 use Rattle.tc_keeper.specs.Standing.{partition_at, IsSeen}
 use Rattle.tc_keeper.specs.WithJobs.{engine_with, no_jobs, WithJobs}
-use Rattle.tc_list.specs.Policies.{listed_least}
 use Rattle.tc_list.specs.declared.policy.Policy.{Policy}
 use Rattle.tc_lsm_model.specs.Contents.{Content, Partition}
 use Rattle.tc_machine.specs.Pictures.{recovered}
@@ -35,7 +34,7 @@ use Rattle.tc_work.specs.Moving.{told_part, Eyes}
 use Rattle.tc_work.specs.declared.fault.EngineFault.{EngineFault}
 use Rattle.tc_words.specs.declared.run.Options.{Options}
 use Rattle.tc_keeper.specs.Calls.{faults_at, MayBeAsked}
-use Rattle.tc_server.specs.Ending.{limits_of}
+use Rattle.tc_server.specs.Ending.{limits_of, policy_asked}
 use Rattle.tc_keeper.specs.Faults.{faults_in, faults_of_part, IfDisk, IsNoDamage, IsWrite, NoneFell, OneRose}
 use Rattle.tc_server.specs.OpeningFaults.{fault_of_opening, fault_of_shelf}
 use Rattle.tc_server.specs.KitCauses.{nothing_met, HasFilesCause, IsJudged}
@@ -205,12 +204,12 @@ none_fell_opened counts kit part watched flusher merger reader = record {
 }
 
 pub engine_opened : {S D F W : Type 0} (eyes : Eyes S D F W) (options : Options) (here : Partition) (came : List Disk) (kit : Kit S W D F) (part : PartState S D F W) (policy : Policy)
-    → MayBeAsked (told_part eyes part) part → part.staged ≡ [] → part.limits ≡ limits_of options → part.memory ≡ options.memory → listed_least policy ≡ options.merge
+    → MayBeAsked (told_part eyes part) part → part.staged ≡ [] → part.limits ≡ limits_of options → part.memory ≡ options.memory → policy ≡ policy_asked options
     → IfTold came (λ disk. (cs : List Content) (logs : List (List PlainWrite)) → DiskOpens here disk cs logs → IsOpenedAs here cs logs (told_part eyes part)) → IfTold came (ArePassed here)
     → IsWatched ⊥ (eyes.counts kit.main) (eyes.counts part.main) → part.flusher ≡ Some kit.flusher → part.merger ≡ Some kit.merger → part.reader ≡ Some kit.reader → part.sealed ≡ None → part.active ≡ [] → partition_at part.number part.count ≡ here
     → IsOpened eyes options here came (faults_in eyes.counts kit) (engine_with (record { part = part; policy = policy }) no_jobs)
-engine_opened eyes options here came kit part policy ready unstaged limits memory merges opened passed watched flusher merger reader unsealed empty is_here = record {
-  begun = record { ready = ready; unstaged = unstaged; limits = limits; memory = memory; merges = merges; alone = refl; unsealed = unsealed; empty = empty; reader = ap (λ o. is_some o) reader };
+engine_opened eyes options here came kit part policy ready unstaged limits memory asked opened passed watched flusher merger reader unsealed empty is_here = record {
+  begun = record { ready = ready; unstaged = unstaged; limits = limits; memory = memory; policy = asked; alone = refl; unsealed = unsealed; empty = empty; reader = ap (λ o. is_some o) reader };
   is_here = is_here;
   opened = opened;
   passed = passed;

@@ -1,6 +1,6 @@
 -- A session over engines: where it begins, what counts over it, and what is left when the engines are closed.
 use Rattle.std.proofs.Common.{◌≡◌, ◌⊎◌, ◌∙◌, ◌≤◌, ◌<◌, ◌+◌, ℕ, zero, suc, true, List, [], ◌∷◌, All, map, is_some, length, arith, refl, ap, sym, subst, inl, inr}
-use Rattle.std.specs.Prelude.{Option, Some, None, IfErr, IfSome, IsErrOf, option_map, slice_get, Result, Ok, Err, OnOk}
+use Rattle.std.specs.Prelude.{Option, Some, None, IfErr, IfSome, IsErrOf, option_map, slice_get, Result, Ok, Err, OnOk, if◌then◌else◌, nat_eq, false}
 use Rattle.std.proofs.lemmas.List.{length-map}
 use Rattle.std.proofs.lemmas.List.Elements.{All-cons, All-head, All-nil, All-tail, All-weaker}
 use Rattle.std.proofs.lemmas.Option.{slice_get-map}
@@ -9,6 +9,7 @@ use Rattle.tc_keeper.specs.Standing.{partition_at, HoldsPart, IsSeen}
 use Rattle.tc_keeper.specs.WithJobs.{settings, told_of, works_of, Settings, WithJobs}
 use Rattle.tc_keeper.proofs.PlaceLaws.{at_each-length}
 use Rattle.tc_list.specs.Policies.{listed_least}
+use Rattle.tc_list.specs.declared.policy.Policy.TheVariants.{Constant, Sized}
 use Rattle.tc_log.specs.Layout.{empty_size}
 use Rattle.tc_lsm_model.specs.Contents.{Partition}
 use Rattle.tc_part_model.specs.PartState.{PartState}
@@ -27,6 +28,7 @@ use Rattle.tc_work.specs.declared.fault.EngineFault.TheVariants as engine
 use Rattle.tc_keeper.specs.Calls.{faults_at, faults_of, settings_of, HoldsAt, IsMet, IsSpent, IsSpentAt, KeepsAt, MayAsk, MayBeAsked, Rests}
 use Rattle.tc_keeper.specs.Faults.{fault_in, fault_of_engine, HaveRisen, HaveStayed, IfDamaged, IfDisk, IsNoDamage, IsOfJob, NoneFell, OneRose}
 use Rattle.tc_keeper.specs.Keeping.{AreUnwritten, IsMetBehind, IsMetIn, WasShown}
+use Rattle.tc_server.specs.Ending.{policy_asked}
 use Rattle.tc_server.specs.KitCauses.{HasLastGeneration}
 use Rattle.tc_server.specs.Kits.{least_fault, IsBegun, IsClosed}
 use Rattle.tc_keeper.specs.Partitions.{StandAt}
@@ -91,11 +93,18 @@ as_many_engines k k' same = sym (length-map k'.engines settings) ∙ ap length s
 abbrev SetBy : Options → Settings → Type 0
 SetBy options s = (s.memory ≡ options.memory) × (listed_least s.policy ≡ options.merge)
 
+least_asked : (options : Options) → listed_least (policy_asked options) ≡ options.merge
+least_asked options =
+    elim (nat_eq options.limit 0) as (λ b. listed_least (if b then Constant options.merge else Sized options.merge options.limit) ≡ options.merge) [
+      | true ↦ refl
+      | false ↦ refl
+    ]
+
 set_begun : {S D F W : Type 0} (eyes : Eyes S D F W) (options : Options) (es : List (WithJobs S D F W)) → All (IsBegun eyes options) es → All (SetBy options) (map settings es)
 set_begun eyes options [] begun = All-nil (SetBy options)
 set_begun eyes options (e ∷ es) begun =
     let b = All-head (IsBegun eyes options) e es begun in
-    All-cons (SetBy options) (settings e) (map settings es) (b.memory, b.merges) (set_begun eyes options es (All-tail (IsBegun eyes options) e es begun))
+    All-cons (SetBy options) (settings e) (map settings es) (b.memory, ap listed_least b.policy ∙ least_asked options) (set_begun eyes options es (All-tail (IsBegun eyes options) e es begun))
 
 set_read : {S D F W : Type 0} (options : Options) (es : List (WithJobs S D F W))
     → All (SetBy options) (map settings es)

@@ -1,8 +1,10 @@
 -- What a run read and wrote, by the way in which it ended.
-use Rattle.std.specs.Prelude.{◌≡◌, ◌≤◌, ℕ, List, Option, Some, None, IfSome}
+use Rattle.std.specs.Prelude.{◌≡◌, ◌≤◌, ℕ, List, Option, Some, None, IfSome, if◌then◌else◌, nat_eq}
 use Rattle.tc_edge.specs.Moments.{Moment, IsPrompt}
 use Rattle.tc_gen.specs.Generated.{input_of}
 use Rattle.tc_gen.specs.TwoLines.{two_lines}
+use Rattle.tc_list.specs.declared.policy.Policy.{Policy}
+use Rattle.tc_list.specs.declared.policy.Policy.TheVariants.{Constant, Sized}
 use Rattle.tc_plain_model.specs.Room.{Limits}
 use Rattle.tc_run_model.specs.World.{World}
 use Rattle.tc_run_model.specs.Course.{Ending, Shown, behind, each_line, IsDue, Ran, worlds_left}
@@ -34,6 +36,10 @@ pub record RanLeaving {K : Type 0} (shown : Shown) (holds : K → Sight → Type
 -- the limits that options set
 abbrev pub limits_of : Options → Limits
 limits_of options = record { names = options.names; docs = options.docs }
+
+-- the policy that options ask for; no bytes stand for a merge of all
+abbrev pub policy_asked : Options → Policy
+policy_asked options = if nat_eq options.limit 0 then Constant options.merge else Sized options.merge options.limit
 
 -- Each read from those told at first on to those told now was asked for when the sink, which had taken `base`, had
 -- accepted the replies to the windows that had closed among the bytes given before it, and no more.

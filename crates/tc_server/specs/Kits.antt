@@ -3,7 +3,6 @@
 use Rattle.std.specs.Prelude.{◌≡◌, ◌⊎◌, ℕ, suc, true, List, [], ◌∷◌, Option, Some, None, is_some, Result, Ok, Err, IfErr, IsErrOf, OnOk}
 use Rattle.tc_keeper.specs.Standing.{partition_at}
 use Rattle.tc_keeper.specs.WithJobs.{no_jobs, settings, told_of, works_of, WithJobs}
-use Rattle.tc_list.specs.Policies.{listed_least}
 use Rattle.tc_lsm_model.specs.Contents.{Content, Partition}
 use Rattle.tc_open.specs.Judged.{ArePassed, AreSpent, IsUntouched, Passes}
 use Rattle.tc_open.specs.Openings.{IsOpenedAs}
@@ -28,7 +27,7 @@ use Rattle.tc_work.specs.declared.fault.EngineFault.{EngineFault}
 use Rattle.tc_work.specs.declared.fault.EngineFault.TheVariants as engine
 use Rattle.tc_words.specs.declared.run.Options.{Options}
 use Rattle.tc_keeper.specs.Calls.{faults_at, IsSpentAt, MayBeAsked}
-use Rattle.tc_server.specs.Ending.{limits_of}
+use Rattle.tc_server.specs.Ending.{limits_of, policy_asked}
 use Rattle.tc_keeper.specs.Faults.{fault_of_engine, IfDisk, IsNoDamage, NoneFell, OneRose}
 use Rattle.tc_server.specs.KitCauses.{nothing_met, HasLastGeneration, IsJudged}
 use Rattle.tc_server.specs.OverFiles.{IsHere, KeepsOpened}
@@ -45,7 +44,7 @@ pub record IsBegun {S D F W : Type 0} (eyes : Eyes S D F W) (options : Options) 
   pub unstaged : (told_of eyes e).staged ≡ []
   pub limits : e.engine.part.limits ≡ limits_of options
   pub memory : e.engine.part.memory ≡ options.memory
-  pub merges : listed_least e.engine.policy ≡ options.merge
+  pub policy : e.engine.policy ≡ policy_asked options
   pub alone : e.jobs ≡ no_jobs
   pub unsealed : e.engine.part.sealed ≡ None
   pub empty : e.engine.part.active ≡ []

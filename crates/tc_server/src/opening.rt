@@ -3,11 +3,11 @@
 ghost use Rattle.std.specs.Prelude.{◌≡◌, ◌≢◌, ◌≤◌, ◌<◌, ◌∷◌, ◌++◌, ℕ, [], length, None, IfErr, IfSome, IsSome, OnErr, OnOk};
 ghost use Rattle.tc_bytes.specs.Counts.{Rose};
 ghost use Rattle.tc_keeper.specs.Standing.{partition_at};
-ghost use Rattle.tc_list.specs.Policies.{listed_least};
 ghost use Rattle.tc_store.specs.Disk.{IsAtRest};
 ghost use Rattle.tc_store.specs.Moments.{IfTold};
 ghost use Rattle.tc_keeper.specs.WithJobs.{WithJobs};
 ghost use Rattle.tc_keeper.specs.Faults.{faults_in};
+ghost use Rattle.tc_server.specs.Ending.{policy_asked};
 ghost use Rattle.tc_server.specs.KitCauses.{nothing_met, HasFilesCause};
 ghost use Rattle.tc_server.specs.Kits.{AreOpened, IsGivenBack, IsNotGiven, IsOpened};
 
@@ -158,7 +158,7 @@ where
 
 // How components are merged.
 fn policy_of(options: &Options) -> Policy
-    ensures { listed_least result ≡ options.now.merge }
+    ensures { result ≡ policy_asked options.now }
 {
     let k = options.merge as usize;
     if options.limit == 0 {
