@@ -39,6 +39,10 @@ def get(key):
     return {"op": "get", "id": key}
 
 
+def delete(key):
+    return {"op": "delete", "id": key}
+
+
 def lines(commands):
     return b"".join(json.dumps(it).encode() + b"\n" for it in commands)
 
@@ -65,6 +69,13 @@ class Damage(Messages):
     def told(self, partition, name, place):
         return [f"damaged file {name} in partition {partition} at byte {place}",
                 f"data/p{partition}/{name} is not as it was written: restore data from a copy that is whole"]
+
+    def lower_counter(self, partition, name):
+        """The component says of one document alone that it has an `a`. Each has one, and that counter is what its file ends with."""
+        self.change(partition, name, -1, 1)
+
+    def misfit(self, partition, *names):
+        return [f"files of partition {partition} do not fit together", f"data/p{partition} has {' '.join(names)}"]
 
     def components(self, partition):
         return {it.name: it.read_bytes() for it in (self.folder / f"data/p{partition}").glob("c-*")}
@@ -143,7 +154,7 @@ class DamageInARun(Damage):
         self.check_met(said, 1, [get(0), get(1), get(2), get(4), upsert(6), get(3), get(2), get(4)], 4)
 
     def test_a_write_over_it(self):
-        for write in (upsert(3, b=2), {"op": "delete", "id": 3}):
+        for write in (upsert(3, b=2), delete(3)):
             with self.subTest(write=write):
                 self.make_store()
                 said = self.break_record(1)
@@ -188,6 +199,12 @@ class DamageInARun(Damage):
         self.assertGreaterEqual(ended.stdout.count(b"\n"), 3)
         self.assertEqual({name: self.components(1).get(name) for name in before}, before)
 
+    def test_a_flush_of_more_than_is_counted(self):
+        # The start leaves four components in each partition, the last of which has no document of its own.
+        self.make_store()
+        self.lower_counter(1, "c-3-3")
+        self.check_met(self.misfit(1, "c-1-1", "c-2-2", "c-3-3", "c-4-4"), 1, [delete(1), delete(3), delete(5), FLUSH], 3)
+
     def test_the_least_partition_is_told(self):
         self.make_store(3)
         self.break_record(2, "c-1-1")
@@ -217,6 +234,12 @@ class DamageInAnOpening(Damage):
         self.make_store(behind=True)
         self.change(1, "l-4", FRAME + 5, 1)
         self.check_opening(self.told(1, "l-4", FRAME), 1)
+
+    def test_the_flush_of_more_than_is_counted(self):
+        self.make_store()
+        self.check(0, [], "data", "run", *self.words, "--merge", "8", lines=lines([delete(1), delete(3), delete(5)]))
+        self.lower_counter(1, "c-4-4")
+        self.check_opening(self.misfit(1, "c-1-1", "c-2-2", "c-3-3", "c-4-4", "l-5"), 1)
 
     def test_the_merge_of_an_opening(self):
         # Nine components are more than an opening leaves. Each is the first one, of another generation.

@@ -1,15 +1,16 @@
 //! Layer 6, programs: fails each call on files of a run in turn, stops the store behind it, opens it again, and compares
 //! what is read with a plain store. A row of standard input is a word and its argument. `words` are those of the command
 //! line, without the folder, and begin a script; `put`, with a key and the members of a document, `take`, with a key, and
-//! `flush` are its lines; `partition` says of which one, 0 or 1, a call fails. `stops`, with whose calls fail (`main`,
-//! `flusher` or `merger`) and a number, runs the script once for each of these calls and each choice of a stop below the
-//! number. `twice` has the opening behind that fail too, at each of its calls in turn, and stops it there. Both say how
-//! many calls failed, how many stops there were, or how many openings had too few calls, behind how many stops something
-//! else was read than the windows that were answered leave, or these and the next one, of each partition by itself, and
-//! which of these were seen. A row that begins with `#` is a note, and is printed as it is; `no answer` stands for a row
-//! out of form.
+//! `flush` are its lines, and `feed` adds so many messages; `partition` says of which one, 0 or 1, a call fails. `stops`,
+//! with whose calls fail (`main`, `flusher` or `merger`) and a number, runs the script once for each of these calls and
+//! each choice of a stop below the number. `twice` has the opening behind that fail too, at each of its calls in turn, and
+//! stops it there. Both say how many calls failed, how many stops there were, or how many openings had too few calls,
+//! behind how many stops something else was read than the windows that were answered leave, or these and the next one, of
+//! each partition by itself, and which of these were seen. A row that begins with `#` is a note, and is printed as it is;
+//! `no answer` stands for a row out of form.
 #![tactic(auto)]
 
+mod feed;
 mod files;
 mod running;
 mod script;

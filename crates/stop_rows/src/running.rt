@@ -4,7 +4,7 @@ ghost use Rattle.std.specs.Prelude.{IfSome};
 ghost use Rattle.stop_rows.specs.Rests.{AreAtRest};
 
 use crate::files::{Failing, Files, Who};
-use crate::script::{Counts, KEYS, Script};
+use crate::script::{Counts, Script};
 use std::alloc::Global;
 use std::fmt::Write;
 use std::sync::Wait;
@@ -51,7 +51,8 @@ fn run<R: Threads + Wait + Sync>(
     })
 }
 
-/// A script that is ready to run, what its run writes where nothing fails, and what is read behind each number of its lines.
+/// A script that is ready to run, what its run writes where nothing fails, and what is read behind each number of its lines, which
+/// is nothing where no window ends.
 #[derive(Drop)]
 pub(crate) struct Trial<'a, R> {
     rt: &'a R,
@@ -93,14 +94,19 @@ impl<'a, R: Threads + Wait + Sync> Trial<'a, R> {
             window: script.window()?,
             words: script.words(alloc).ok()?,
             input: script.input(alloc)?,
-            gets: gets(alloc)?,
+            gets: gets(alloc, script.keys())?,
             whole: Vec::new(alloc),
             reads: Vec::new(alloc),
         };
         let ran = trial.run(alloc, trial.input.as_str(), trial.no_files(alloc), None)?;
         trial.whole = ran.written;
+        let mut end = 0usize;
         for count in 0..script.len().saturating_add(1) {
-            let reads = trial.reads_behind(alloc, [count, count])?;
+            let mut reads = Vec::new(alloc);
+            if count == end {
+                reads = trial.reads_behind(alloc, [count, count])?;
+                end = script.window_end(end, trial.window);
+            }
             trial.reads.push(reads).ok()?;
         }
         Some(trial)
@@ -227,9 +233,9 @@ impl<'a, R: Threads + Wait + Sync> Trial<'a, R> {
 }
 
 // A get of each key, and the schema.
-fn gets(alloc: Global) -> Option<String> {
+fn gets(alloc: Global, keys: u64) -> Option<String> {
     let mut gets = String::new(alloc);
-    for key in 0..KEYS {
+    for key in 0..keys {
         write!(gets, "{{\"op\":\"get\",\"id\":{key}}}\n").ok()?;
     }
     gets.push_str("{\"op\":\"schema\"}\n").ok()?;

@@ -1,11 +1,12 @@
 //! The lines of a run, and what a plain store has behind them.
 
+use crate::feed::message;
 use std::alloc::{AllocError, Global};
 use std::fmt::Write;
 use tc_value::Text;
 
-/// The keys of scripts are below this.
-pub(crate) const KEYS: u64 = 4;
+// The keys below this are read of each script, whether or not a line has them.
+const FEWEST_KEYS: u64 = 4;
 
 /// So many lines, of each partition: of the even keys, and of the odd ones where there are two.
 pub(crate) type Counts = [usize; 2];
@@ -13,17 +14,18 @@ pub(crate) type Counts = [usize; 2];
 /// A line of a script.
 #[derive(Drop)]
 enum Step {
-    /// A document, by its key and the text of its members, whose names stand before `id`.
-    Put { key: u64, members: String },
+    /// A document, by its key and its text, whose members stand in the order in which a store gives them back.
+    Put { key: u64, document: String },
     Take { key: u64 },
     Flush,
 }
 
-/// The words of the command line, of which partition a call fails, and lines.
+/// The words of the command line, of which partition a call fails, below what all keys are, and lines.
 #[derive(Drop)]
 pub(crate) struct Script {
     words: String,
     failing: u32,
+    keys: u64,
     steps: Vec<Step>,
 }
 
@@ -32,33 +34,55 @@ impl Script {
         Script {
             words: String::new(alloc),
             failing: 0,
+            keys: FEWEST_KEYS,
             steps: Vec::new(alloc),
         }
     }
 
-    /// Begins a script with its words, or adds a line.
+    /// Begins a script with its words, or adds a line or several.
     pub(crate) fn prepare(&mut self, alloc: Global, call: &str, argument: &str) -> Option<()> {
         match call {
             "words" => {
                 self.words = String::from_str(alloc, argument).ok()?;
                 self.failing = 0;
+                self.keys = FEWEST_KEYS;
                 self.steps.clear();
             }
             "partition" => self.failing = argument.parse::<u32>().ok()?,
             "put" => {
                 let (key, members) = argument.split_once(' ').unwrap_or((argument, ""));
                 let key = key.parse::<u64>().ok()?;
-                let members = String::from_str(alloc, members).ok()?;
-                self.steps.push(Step::Put { key, members }).ok()?;
+                self.put(key, document(alloc, key, members)?)?;
             }
             "take" => {
                 let key = argument.parse::<u64>().ok()?;
+                self.keys = self.keys.max(key.saturating_add(1));
                 self.steps.push(Step::Take { key }).ok()?;
             }
+            "feed" => self.feed(alloc, argument.parse::<u64>().ok()?)?,
             "flush" => self.steps.push(Step::Flush).ok()?,
             _ => return None,
         }
         Some(())
+    }
+
+    fn put(&mut self, key: u64, document: String) -> Option<()> {
+        self.keys = self.keys.max(key.saturating_add(1));
+        self.steps.push(Step::Put { key, document }).ok()
+    }
+
+    // Adds so many messages, each at its number.
+    fn feed(&mut self, alloc: Global, messages: u64) -> Option<()> {
+        for before in 0..messages {
+            let number = before.saturating_add(1);
+            self.put(number, message(alloc, number)?)?;
+        }
+        Some(())
+    }
+
+    /// All keys of its lines are below this.
+    pub(crate) fn keys(&self) -> u64 {
+        self.keys
     }
 
     /// Of which partition a call fails.
@@ -116,9 +140,9 @@ impl Script {
     /// Upserts of the documents that a plain store has behind so many lines.
     pub(crate) fn rebuilt(&self, alloc: Global, counts: Counts) -> Option<String> {
         let mut input = String::new(alloc);
-        for key in 0..KEYS {
-            if let Some(members) = self.left(self.count_of(counts, key), key) {
-                push_put(&mut input, key, members)?;
+        for key in 0..self.keys {
+            if let Some(document) = self.left(self.count_of(counts, key), key) {
+                push_put(&mut input, document)?;
             }
         }
         Some(input)
@@ -127,12 +151,8 @@ impl Script {
     /// What a plain store answers behind so many lines to gets of all keys.
     pub(crate) fn answers(&self, alloc: Global, counts: Counts) -> Option<String> {
         let mut answers = String::new(alloc);
-        for key in 0..KEYS {
-            push_answer(
-                &mut answers,
-                key,
-                self.left(self.count_of(counts, key), key),
-            )?;
+        for key in 0..self.keys {
+            push_answer(&mut answers, self.left(self.count_of(counts, key), key))?;
         }
         Some(answers)
     }
@@ -147,7 +167,7 @@ impl Script {
         }
     }
 
-    // The members of the document that a key has behind so many lines: the plain store.
+    // The document that a key has behind so many lines: the plain store.
     fn left(&self, count: usize, key: u64) -> Option<&str> {
         let mut left = None;
         for step in self.steps.iter().take(count) {
@@ -166,8 +186,8 @@ fn after<'a>(step: &'a Step, key: u64, before: Option<&'a str>) -> Option<&'a st
     match step {
         Step::Put {
             key: other,
-            members,
-        } if *other == key => Some(members.as_str()),
+            document,
+        } if *other == key => Some(document.as_str()),
         Step::Take { key: other } if *other == key => None,
         _other => before,
     }
@@ -175,32 +195,24 @@ fn after<'a>(step: &'a Step, key: u64, before: Option<&'a str>) -> Option<&'a st
 
 fn push_step(input: &mut String, step: &Step) -> Option<()> {
     match step {
-        Step::Put { key, members } => push_put(input, *key, members.as_str()),
+        Step::Put { document, .. } => push_put(input, document.as_str()),
         Step::Take { key } => write!(input, "{{\"op\":\"delete\",\"id\":{key}}}\n").ok(),
         Step::Flush => input.push_str("{\"op\":\"flush\"}\n").ok(),
     }
 }
 
-fn push_put(input: &mut String, key: u64, members: &str) -> Option<()> {
-    let comma = comma_behind(members);
-    write!(
-        input,
-        "{{\"op\":\"upsert\",\"doc\":{{{members}{comma}\"id\":{key}}}}}\n"
-    )
-    .ok()
+// A document by the text of its members, whose names stand before `id`.
+fn document(alloc: Global, key: u64, members: &str) -> Option<String> {
+    let comma = if members.is_empty() { "" } else { "," };
+    format!(in alloc; "{{{members}{comma}\"id\":{key}}}").ok()
 }
 
-// The answer to a get of a key that has these members.
-fn push_answer(answers: &mut String, key: u64, members: Option<&str>) -> Option<()> {
-    match members {
-        Some(members) => {
-            let comma = comma_behind(members);
-            write!(answers, "{{\"doc\":{{{members}{comma}\"id\":{key}}}}}\n").ok()
-        }
-        None => answers.push_str("{\"doc\":null}\n").ok(),
-    }
+fn push_put(input: &mut String, document: &str) -> Option<()> {
+    write!(input, "{{\"op\":\"upsert\",\"doc\":{document}}}\n").ok()
 }
 
-fn comma_behind(members: &str) -> &'static str {
-    if members.is_empty() { "" } else { "," }
+// The answer to a get of a key that has this document.
+fn push_answer(answers: &mut String, document: Option<&str>) -> Option<()> {
+    let document = document.unwrap_or("null");
+    write!(answers, "{{\"doc\":{document}}}\n").ok()
 }
