@@ -8,6 +8,7 @@ pub mod Harms
 pub mod Reads
 pub mod Texts
 pub mod Stages
+pub mod Handed
 pub mod Closing
 pub mod Openings
 pub mod JobHeads

@@ -15,6 +15,7 @@ ghost use Rattle.tc_part_model.specs.PartView.{PartView, below_of};
 ghost use Rattle.tc_part_model.specs.Meaning.{IsPart};
 ghost use Rattle.tc_part_model.specs.Staging.{HandsShape};
 ghost use Rattle.tc_part.specs.Below.{IsBelow, is_there as there, is_live as live_with, held_at, sealed_held};
+ghost use Rattle.tc_part.specs.Handed.{IsShapeBelow, IsHanded};
 ghost use Rattle.tc_part.specs.Harms.{IsHarmIn, IsOfRead};
 ghost use Rattle.tc_part.specs.Reads.{IsCountedLookup};
 
@@ -89,6 +90,7 @@ impl<S: Store> Part<S> {
         requires { IsBelow self.old.sealed self.old.list key below }
         ensures handed { IfOk result (λ shape. (p : PartView) → IsPart (told S.history S.Device.history S.Frozen.content self.old) p
             → HandsShape (told S.history S.Device.history S.Frozen.content self.old) p key (option_map shape_tree shape)) }
+        ensures read { IfOk result (λ shape. IsHanded (λ file. S.Frozen.content file) self.old.active self.old.sealed self.old.list key (option_map shape_tree shape)) }
         ensures same { self.new ≡ record self.old { main = self.new.main } }
         ensures harmed { IfErr result (λ fault. IsOfRead fault (λ file at bytes. IsHarmIn (λ file. S.Frozen.content file) self.old.list file at bytes)) }
         ensures counted { IsCountedLookup (IsErrOf result PartFault.Disk) (HaveNone self.old.list key) (S.Watch.counts self.old.main) (S.Watch.counts self.new.main) }
@@ -110,6 +112,7 @@ impl<S: Store> Part<S> {
         ensures there { IfOk result (λ shape. is_some shape ≡ there below) }
         ensures shape { (p : PartView) → IsPart (told S.history S.Device.history S.Frozen.content self.old) p → AreTold (told S.history S.Device.history S.Frozen.content self.old).components
             → IfOk result (λ shape. option_map shape_tree shape ≡ shape_in (below_of p) key) }
+        ensures read { IfOk result (λ shape. IsShapeBelow (λ file. S.Frozen.content file) self.old.sealed self.old.list key (option_map shape_tree shape)) }
         ensures same { self.new ≡ record self.old { main = self.new.main } }
         ensures harmed { IfErr result (λ fault. IsOfRead fault (λ file at bytes. IsHarmIn (λ file. S.Frozen.content file) self.old.list file at bytes)) }
         ensures counted { IsCountedLookup (IsErrOf result PartFault.Disk) (HaveNone self.old.list key) (S.Watch.counts self.old.main) (S.Watch.counts self.new.main) }

@@ -12,6 +12,7 @@ ghost use Rattle.tc_part_model.specs.PartView.{PartView, stored_with};
 ghost use Rattle.tc_part_model.specs.Meaning.{IsPart};
 ghost use Rattle.tc_part.specs.declared.staging.Staged.TheVariants.{Done};
 ghost use Rattle.tc_part.specs.Below.{IsBelow};
+ghost use Rattle.tc_part.specs.Handed.{HandsIn};
 ghost use Rattle.tc_part.specs.Harms.{IsHarmIn, IsOfRead};
 ghost use Rattle.tc_part.specs.Reads.{IsCountedLookup};
 ghost use Rattle.tc_part.specs.Stages.{HasDeleted};
@@ -42,6 +43,7 @@ impl<S: Store> Part<S> {
         ensures staged { (p : PartView) → IsPart (told S.history S.Device.history S.Frozen.content self.old) p → is_some (value_of key (stored_with p)) ≡ true
             → OnOk result (IsPart (told S.history S.Device.history S.Frozen.content self.new) (with_staged (key, None) p)) }
         ensures same { OnOk result (HasDeleted key self.old self.new) }
+        ensures handed { OnOk result (HandsIn (λ file. S.Frozen.content file) key (deleted key) self.old self.new.active) }
         ensures left { self.new ≡ record self.old { main = self.new.main; active = self.new.active; staged = self.new.staged; live = self.new.live } }
         ensures harmed { IfErr result (λ fault. IsOfRead fault (λ file at bytes. IsHarmIn (λ file. S.Frozen.content file) self.old.list file at bytes)) }
         ensures counted { IsCountedLookup (IsErrOf result PartFault.Disk) (HaveNone self.old.list key) (S.Watch.counts self.old.main) (S.Watch.counts self.new.main) }

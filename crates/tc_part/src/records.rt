@@ -42,6 +42,7 @@ pub fn shape_at<F: Frozen>(
 ) -> Result<Shape, PartFault>
     requires { IsPlace component.now.index.slots place }
     ensures shape { IfOk result (λ shape. (d : Document) → IfSome (F.content component.now.file) (λ whole. IsRecordOfOne component.now.index.version component.now.index.names d (bytes_of_record component.now.index.slots place.at whole) → shape_tree shape ≡ document_shape d)) }
+    ensures read { IfOk result (λ shape. (d : Document) × (shape_tree shape ≡ document_shape d) × IsReadOf (λ file. F.content file) component.now place d) }
     ensures harmed { IfErr result (λ fault. IsOfRead fault (λ file at bytes. IsHarmOf (λ file. F.content file) component.now file at bytes)) }
     ensures counted { IsCountedOnce (IsErrOf result PartFault.Disk) (IsOk result) (F.Watch.counts watch.old) (F.Watch.counts watch.new) }
 {

@@ -13,6 +13,7 @@ ghost use Rattle.tc_part_model.specs.PartState.{told, AreForFrame};
 ghost use Rattle.tc_part_model.specs.PartView.{PartView, stored_with};
 ghost use Rattle.tc_part_model.specs.Meaning.{IsPart, HasFailedAs, plain_of};
 ghost use Rattle.tc_part.specs.Below.{ShowsLive};
+ghost use Rattle.tc_part.specs.Handed.{KeepsShape};
 ghost use Rattle.tc_part.specs.Harms.{IsHarmIn, IsOfRead};
 ghost use Rattle.tc_part.specs.Reads.{IsCountedLookup};
 ghost use Rattle.tc_part.specs.Stages.{answer_to, refusal_for, stages, HasStaged, IsAnswerTo};
@@ -52,6 +53,9 @@ impl<S: Store> Part<S> {
         // show of the key.
         ensures by_key { IfOk result (λ answer. (was_live : Bool) × ShowsLive self.old.sealed self.old.list self.old.active (key_of write) was_live × IsAnswerTo self.old.limits self.old.taken self.old.live write was_live answer) }
         ensures same { IfOk result (λ answer. HasStaged answer write self.old self.new) }
+        // The shape that the table keeps of what is below is that of a document in the sealed table, or of one whose record was
+        // read, whatever the files tell.
+        ensures handed { IfOk result (λ answer. KeepsShape (λ file. S.Frozen.content file) answer write self.old self.new.active) }
 
         // A part that fails keeps what it stored.
         ensures failed { OnErr result ((p : PartView) → IsPart (told S.history S.Device.history S.Frozen.content self.old) p
@@ -81,6 +85,7 @@ impl<S: Store> Part<S> {
             → OnOk result (IsPart (told S.history S.Device.history S.Frozen.content self.new) (stages (refusal_for self.old.limits w (plain_of (told S.history S.Device.history S.Frozen.content self.old) p)) w (is_some (value_of w.0 (stored_with p))) p)) }
         ensures by_key { IfOk result (λ answer. (was_live : Bool) × ShowsLive self.old.sealed self.old.list self.old.active (key_of write) was_live × IsAnswerTo self.old.limits self.old.taken self.old.live (write) was_live answer) }
         ensures same { IfOk result (λ answer. HasStaged answer (write) self.old self.new) }
+        ensures handed { IfOk result (λ answer. KeepsShape (λ file. S.Frozen.content file) answer write self.old self.new.active) }
         ensures left { self.new ≡ record self.old { main = self.new.main; active = self.new.active; staged = self.new.staged; taken = self.new.taken; live = self.new.live } }
         ensures harmed { IfErr result (λ fault. IsOfRead fault (λ file at bytes. IsHarmIn (λ file. S.Frozen.content file) self.old.list file at bytes)) }
         ensures counted { IsCountedLookup (IsErrOf result PartFault.Disk) (HaveNone self.old.list (key_of write)) (S.Watch.counts self.old.main) (S.Watch.counts self.new.main) }
@@ -102,6 +107,7 @@ impl<S: Store> Part<S> {
             → OnOk result (IsPart (told S.history S.Device.history S.Frozen.content self.new) (stages (refusal_for self.old.limits w (plain_of (told S.history S.Device.history S.Frozen.content self.old) p)) w (is_some (value_of w.0 (stored_with p))) p)) }
         ensures by_key { IfOk result (λ answer. (was_live : Bool) × ShowsLive self.old.sealed self.old.list self.old.active (key) was_live × IsAnswerTo self.old.limits self.old.taken self.old.live (an_upsert key bytes) was_live answer) }
         ensures same { IfOk result (λ answer. HasStaged answer (an_upsert key bytes) self.old self.new) }
+        ensures handed { IfOk result (λ answer. KeepsShape (λ file. S.Frozen.content file) answer (an_upsert key bytes) self.old self.new.active) }
         ensures left { self.new ≡ record self.old { main = self.new.main; active = self.new.active; staged = self.new.staged; taken = self.new.taken; live = self.new.live } }
         ensures harmed { IfErr result (λ fault. IsOfRead fault (λ file at bytes. IsHarmIn (λ file. S.Frozen.content file) self.old.list file at bytes)) }
         ensures counted { IsCountedLookup (IsErrOf result PartFault.Disk) (HaveNone self.old.list (key)) (S.Watch.counts self.old.main) (S.Watch.counts self.new.main) }
@@ -126,6 +132,7 @@ impl<S: Store> Part<S> {
             → OnOk result (IsPart (told S.history S.Device.history S.Frozen.content self.new) (stages (refusal_for self.old.limits w (plain_of (told S.history S.Device.history S.Frozen.content self.old) p)) w (is_some (value_of w.0 (stored_with p))) p)) }
         ensures by_key { IfOk result (λ answer. (was_live : Bool) × ShowsLive self.old.sealed self.old.list self.old.active (key) was_live × IsAnswerTo self.old.limits self.old.taken self.old.live (a_delete key) was_live answer) }
         ensures same { IfOk result (λ answer. HasStaged answer (a_delete key) self.old self.new) }
+        ensures handed { IfOk result (λ answer. KeepsShape (λ file. S.Frozen.content file) answer (a_delete key) self.old self.new.active) }
         ensures left { self.new ≡ record self.old { main = self.new.main; active = self.new.active; staged = self.new.staged; taken = self.new.taken; live = self.new.live } }
         ensures harmed { IfErr result (λ fault. IsOfRead fault (λ file at bytes. IsHarmIn (λ file. S.Frozen.content file) self.old.list file at bytes)) }
         ensures counted { IsCountedLookup (IsErrOf result PartFault.Disk) (HaveNone self.old.list (key)) (S.Watch.counts self.old.main) (S.Watch.counts self.new.main) }

@@ -17,6 +17,7 @@ ghost use Rattle.tc_part_model.specs.PartView.{PartView, stored_with};
 ghost use Rattle.tc_part_model.specs.Meaning.{IsPart};
 ghost use Rattle.tc_part.specs.declared.staging.Staged.TheVariants.{Done};
 ghost use Rattle.tc_part.specs.Below.{IsBelow};
+ghost use Rattle.tc_part.specs.Handed.{HandsIn};
 ghost use Rattle.tc_part.specs.Harms.{IsHarmIn, IsOfRead};
 ghost use Rattle.tc_part.specs.Reads.{IsCountedLookup};
 ghost use Rattle.tc_part.specs.Stages.{refusal_by, refused_as, HasUpserted};
@@ -105,6 +106,7 @@ impl<S: Store> Part<S> {
         ensures staged { (p : PartView) (d : Document) → IsPart (told S.history S.Device.history S.Frozen.content self.old) p → IsStorableWrite (key, Some d) → bytes ≡ record_of d → was_live ≡ is_some (value_of key (stored_with p))
             → OnOk result (IsPart (told S.history S.Device.history S.Frozen.content self.new) (with_staged (key, Some d) p)) }
         ensures same { OnOk result (HasUpserted key bytes was_live self.old self.new) }
+        ensures handed { OnOk result (HandsIn (λ file. S.Frozen.content file) key (upserted key bytes) self.old self.new.active) }
         ensures left { self.new ≡ record self.old { main = self.new.main; active = self.new.active; staged = self.new.staged; taken = self.new.taken; live = self.new.live } }
         ensures harmed { IfErr result (λ fault. IsOfRead fault (λ file at bytes. IsHarmIn (λ file. S.Frozen.content file) self.old.list file at bytes)) }
         ensures counted { IsCountedLookup (IsErrOf result PartFault.Disk) (HaveNone self.old.list key) (S.Watch.counts self.old.main) (S.Watch.counts self.new.main) }

@@ -1,8 +1,11 @@
-use Rattle.std.proofs.Common.{◌∙◌, Err, inr, sym, ap, subst}
+use Rattle.std.proofs.Common.{◌≡◌, ◌∙◌, Err, length, inr, sym, ap, subst}
+use Rattle.std.specs.Prelude.{IfSome}
 use Rattle.tc_model.specs.Document.{document_shape}
 use Rattle.tc_record.specs.Record.{IsNumberedRecordIn}
+use Rattle.tc_component.specs.Fetching.{length_at, record_at}
 use Rattle.tc_component.specs.Meaning.{IsRecordOfOne}
 use Rattle.tc_compact.specs.Meant.{IsRecordUnder}
+use Rattle.tc_query.specs.Shown.{IsReadOf}
 use Rattle.tc_part.proofs.Spelled.{one_under, if_some_then}
 use Rattle.tc_part.proofs.records.shape_at.Goals as goal
 
@@ -30,3 +33,18 @@ returns-in-Ok-clause-shape g c = λ d.
     found.2 ∙ ap document_shape (one_under component.index.version component.index.names d found.0 bytes c.known.result.named (λ x is. (c.known.ensures.document x is).0) (λ n is. (c.known.ensures.numbered component.index.version n within.told is).1)
     (subst (IsRecordOfOne component.index.version component.index.names d) (sym (c.as_slice.ensures.same ∙ read)) one) under))
     c.in_ok-bytes.ensures.read
+
+pub returns-in-Ok-clause-read : goal.returns-in-Ok-clause-read
+returns-in-Ok-clause-read g c =
+    let component = c.args.component.now in
+    let slots = component.index.slots in
+    let found = c.in-Ok.ensures.found in
+    let d = found.0 in
+    let same = sym c.as_slice.ensures.same in
+    let is : IsReadOf (λ file. g.F.Frozen.content file) component c.args.place d = record {
+      bytes = c.as_slice.result.now;
+      long = subst (λ bytes. length bytes ≡ length_at slots c.args.place.at) same c.in_ok-bytes.ensures.found.0;
+      spells = subst (IsRecordUnder component.index.names d) c.known.ensures.bytes (subst (λ names. IsRecordUnder names d c.known.result.bytes) c.names.ensures found.1);
+      stands = subst (λ bytes. IfSome (g.F.Frozen.content component.file) (λ whole. bytes ≡ record_at slots c.args.place.at whole)) same c.in_ok-bytes.ensures.read;
+    } in
+    (d, found.2, is)

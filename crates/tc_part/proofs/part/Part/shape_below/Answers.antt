@@ -12,6 +12,7 @@ use Rattle.tc_part.proofs.Spelled.{of_read_then}
 use Rattle.tc_part.proofs.ListedContents.{all_show, all_loaded}
 use Rattle.tc_part.proofs.ListedDocuments.{found_place, live_document, looked_up}
 use Rattle.tc_part.proofs.BelowKeys.{listed, in_sealed, not_sealed, record_sealed, below_there, no_shape, a_shape}
+use Rattle.tc_part.proofs.Handing.{absent_below, sealed_below, listed_below}
 use Rattle.tc_part.proofs.part.Part.shape_below.Goals as goal
 use Rattle.tc_part.proofs.part.Part.shape_below.Goals.{in-Ok-shape_at, in-Err-shape_at}
 
@@ -86,3 +87,33 @@ returns-after-shape_at-clause-counted g c =
       | in-Err-shape_at w ↦ fails_alike c.match-shape_at.result c.shape_at.result w.in-Err-shape_at.fault Disk w.result-is w.in-Err-shape_at.is
     ] in
     rw (← c.self.view_is) (looked_up list key n place _ _ _ _ _ found.1 fails c.shape_at.ensures.counted)
+
+-- ---- what was read
+
+pub returns-in-Absent-clause-read : goal.returns-in-Absent-clause-read
+returns-in-Absent-clause-read g c =
+    let state = c.args.self.now in
+    absent_below _ state.sealed state.list c.args.key (subst (IsBelow _ state.list c.args.key) c.in-Absent.is c.requires)
+
+pub returns-in-Ok-clause-read : goal.returns-in-Ok-clause-read
+returns-in-Ok-clause-read g c =
+    let state = c.args.self.now in
+    let held = in_sealed state.sealed state.list c.args.key (subst (IsBelow _ state.list c.args.key) c.in-Sealed.is c.requires) in
+    sealed_below _ state.sealed state.list c.args.key held.0 _ held.1 (c.shape_sealed.ensures.lawful held.0 held.1) (λ d of. c.in-Ok.ensures.shape d held.0 held.1 of)
+
+pub returns-after-shape_at-clause-read : goal.returns-after-shape_at-clause-read
+returns-after-shape_at-clause-read g c =
+    let list = c.self.inside.list in
+    let key = c.args.key in
+    let n = c.in-Listed.component in
+    let place = c.in-Listed.place in
+    let below = subst (λ s. IsBelow s.sealed s.list key c.args.below) (sym c.self.view_is) c.requires in
+    let found = listed _ list key n place (subst (IsBelow _ list key) c.in-Listed.is below) in
+    rw (← c.self.view_is)
+    (elim c.match-shape_at.branch [
+      | in-Ok-shape_at w ↦
+          let read = w.in-Ok-shape_at.ensures.read in
+          rw w.result-is
+          (listed_below _ _ list key read.0 _ found.0 (record { at = n; place = place; newest = found.1.newest; component = c.component_at-component.result.now; here = c.component_at-component.ensures; read = read.2 }) read.1)
+      | in-Err-shape_at w ↦ rw w.result-is tt
+    ])
