@@ -16,22 +16,22 @@ use Rattle.tc_plain_model.proofs.WriteLookups.{last_write, value_of-after_writes
 use Rattle.tc_schema_model.specs.Counted.{Counted, IsCanonical}
 use Rattle.tc_schema_model.specs.Stands.{StandsFor}
 use Rattle.tc_schema_model.proofs.Replaced.{count_taken_out, count_replaced}
-use Rattle.tc_audit.specs.Walking.{documents_among, IsLessBy, IsMoreBy}
+use Rattle.tc_audit.specs.Walking.{documents_among, IsChangedBy}
 
 -- ---- one write
 
 -- without what a key had, and with what is written
-pub stands_after : (names : List Name) (before between after : Counted) (ps : Pairs) (key : ℕ) (v : Option Document) → Ascends ps → StandsFor names before (values_in ps) → IsCanonical (length names) after
-    → IsLessBy (value_of key ps) names before between → IsMoreBy v names between after → StandsFor names after (values_in (after_write ps (key, v)))
-stands_after names before between after ps key None up stands canonical less more = record {
+pub stands_after : (names : List Name) (before after : Counted) (ps : Pairs) (key : ℕ) (v : Option Document) → Ascends ps → StandsFor names before (values_in ps) → IsCanonical (length names) after
+    → IsChangedBy (value_of key ps) v names before after → StandsFor names after (values_in (after_write ps (key, v)))
+stands_after names before after ps key None up stands canonical changed = record {
   canonical = canonical;
   distinct = stands.distinct;
-  counts = λ path t. omega (arith, count_taken_out key ps path t, stands.counts path t, less path t, more path t);
+  counts = λ path t. omega (arith, count_taken_out key ps path t, stands.counts path t, changed path t);
 }
-stands_after names before between after ps key (Some d) up stands canonical less more = record {
+stands_after names before after ps key (Some d) up stands canonical changed = record {
   canonical = canonical;
   distinct = stands.distinct;
-  counts = λ path t. omega (arith, count_taken_out key ps path t, count_replaced key d ps up path t, stands.counts path t, less path t, more path t);
+  counts = λ path t. omega (arith, count_taken_out key ps path t, count_replaced key d ps up path t, stands.counts path t, changed path t);
 }
 
 -- ---- the writes before one

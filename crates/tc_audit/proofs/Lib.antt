@@ -2,6 +2,10 @@ mod NamesAgain
 mod LackedLabels
 mod FirstMember
 mod StoredLaws
+mod SameOutlines
+mod AlikeBytes
+mod AlikeShapes
+mod HeldParts
 mod ContentLaws
 mod CountedSteps
 mod ManyLive

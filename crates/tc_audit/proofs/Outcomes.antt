@@ -89,18 +89,6 @@ pub ok_both : {X E : Type 0} (r : Result X E) (P Q : Type 0) → OnOk r P → On
 ok_both (Ok x) P Q one other = (one, other)
 ok_both (Err e) P Q one other = tt
 
-pub wrong_always : {X : Type 0} (r : Result X Stop) (Q : Type 0) → Q → IfWrong r (λ w. Q)
-wrong_always (Ok x) Q is = tt
-wrong_always (Err (Wrong w)) Q is = is
-wrong_always (Err Disk) Q is = tt
-wrong_always (Err Memory) Q is = tt
-
-pub both_wrong : {X : Type 0} (r : Result X Stop) (P Q : Reason → Type 0) → IfWrong r P → IfWrong r Q → IfWrong r (λ w. P w × Q w)
-both_wrong (Ok x) P Q one other = tt
-both_wrong (Err (Wrong w)) P Q one other = (one, other)
-both_wrong (Err Disk) P Q one other = tt
-both_wrong (Err Memory) P Q one other = tt
-
 -- what a `?` hands out
 pub wrong_out : {Z : Type 0} (r : Result Z Stop) (stop : Stop) (P : Reason → Type 0) → (y : Stop) × (r ≡ Err y) × (y ≡ stop) → IfWrong {X = Z} (Err stop) P → IfWrong r P
 wrong_out {Z = Z} r stop P (y, err, same) is = subst (λ q. IfWrong q P) (sym err) (subst (λ s. IfWrong {X = Z} (Err s) P) (sym same) is)

@@ -69,13 +69,6 @@ pairs_counted names d ps stands = total-stands names d (documents_in ps) stands 
 pub counting_less : (names : List Name) (before after : Counted) (gained : ℕ) → IsCounting names before gained → IsCanonical (length names) after → ((path : Path) → total_at names after path ≤ total_at names before path) → IsCounting names after gained
 counting_less names before after gained counting canonical less = record { canonical = canonical; room = λ few path. omega (arith, counting.room few path, less path) }
 
-pub counting_more : (names : List Name) (before after : Counted) (gained : ℕ) → gained < 2 ^ 32 → IsCounting names before gained → IsCanonical (length names) after → ((path : Path) → total_at names after path ≤ total_at names before path + 2 ^ 30)
-    → IsCounting names after (gained + 1)
-counting_more names before after gained some counting canonical more = record { canonical = canonical; room = λ few path. omega (arith, counting.room (omega (arith, some)) path, more path) }
-
-pub counting_room : (names : List Name) (before : Counted) (gained : ℕ) → gained < 2 ^ 32 → IsCounting names before gained → (path : Path) → total_at names before path + 2 ^ 30 < 2 ^ 64
-counting_room names before gained some counting path = omega (arith, some, counting.room (omega (arith, some)) path)
-
 -- what a test of a bound leaves
 pub below : (gained bound : ℕ) (full : Bool) → full ≡ false → (bound ≤ gained → full ≡ true) → gained < bound
 below gained bound full not_full tests = cases (cases_lt gained bound)

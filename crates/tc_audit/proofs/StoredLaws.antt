@@ -43,7 +43,7 @@ pub stored_numbered : (version : ℕ) (names : List Name) (bytes : List ℕ) →
 stored_numbered version names bytes dictionary s = subst (IsNumberedRecordIn version (compacted names s.document)) (sym s.spelled) (kept_in version names bytes dictionary s).compact.numbered
 
 -- the form of a record is that of each tree that its bytes spell
-tree_form : (r : Record) (form : ℕ) (n : NumberedTree) → Spells r → IsNumberedForm form → IsNumberedRecordIn form n r.bytes → r.form ≡ form
+pub tree_form : (r : Record) (form : ℕ) (n : NumberedTree) → Spells r → IsNumberedForm form → IsNumberedRecordIn form n r.bytes → r.form ≡ form
 tree_form r form n (inl one) told is = absurd (two_forms form (named_tokens one.0) (numbered_tokens n) (sym (document_again one.0 r.bytes one.1.1) ∙ numbered_again form told n r.bytes is))
 tree_form r form n (inr one) told is =
     ap (λ (p : Format × Tokens). p.0.form) (same_Some _ _ (sym (numbered_again r.form one.1.3 one.0 r.bytes one.1.1) ∙ numbered_again form told n r.bytes is))
@@ -66,7 +66,7 @@ stored_lacks names r dictionary spells s =
     ap (lacks_id names) (stored_tokens names r dictionary spells s) ∙ test_of_keyless names s.document s.storable.1 s.named
 
 -- the dictionary has the names of a document whose numbers a record carries
-known_under : (names : List Name) (form : ℕ) (d : Document) (bytes : List ℕ) → IsCompactedIn form names d bytes → HasEach names (names_within (document_shape d))
+pub known_under : (names : List Name) (form : ℕ) (d : Document) (bytes : List ℕ) → IsCompactedIn form names d bytes → HasEach names (names_within (document_shape d))
 known_under names form d bytes compact = subst (HasEach names) (sym (document_names d) ∙ same_order d) compact.known
 
 -- an object whose first member is called by a name behind `id` has no member `id`
@@ -124,12 +124,6 @@ passes_spelling names r again false dictionary same none s = absurd (none refl s
 
 pub spelled_again : (names : List Name) (r again : Record) → again ≡ r → (d : Document) × IsRecordUnder names d again.bytes → (d : Document) × IsRecordUnder names d r.bytes
 spelled_again names r again same found = subst (λ (t : Record). (d : Document) × IsRecordUnder names d t.bytes) same found
-
--- a record that is held under names is tested by the same record once more, under the same names
-pub test_of_held : (version : ℕ) (names own : List Name) (r again : Record) (held : List ℕ) (spelled : Bool) → r.form ≡ version → names ≡ own → again ≡ r → r.bytes ≡ held → IsTrue spelled ↔ IsStoredIn again.form names again.bytes → IsTrue spelled ↔ IsStoredIn version own held
-test_of_held version names own r again held spelled form_is names_are same bytes_are told =
-    subst (λ bytes. IsTrue spelled ↔ IsStoredIn version own bytes) (ap (λ (t : Record). t.bytes) same ∙ bytes_are)
-    (subst (λ v. IsTrue spelled ↔ IsStoredIn v own again.bytes) (ap (λ (t : Record). t.form) same ∙ form_is) (subst (λ ns. IsTrue spelled ↔ IsStoredIn again.form ns again.bytes) names_are told))
 
 -- ---- what else it is
 

@@ -9,7 +9,8 @@ use Rattle.tc_model.specs.Document.{Name, Document}
 use Rattle.tc_model.specs.Keyed.{Ascends, value_of, values_in}
 use Rattle.tc_plain_model.specs.Writes.{Pairs, after_writes}
 use Rattle.tc_plain_model.proofs.WriteLookups.{Ascends-after_writes}
-use Rattle.tc_lsm_model.specs.Contents.{Content}
+use Rattle.tc_lsm_model.specs.Contents.{Partition, Content}
+use Rattle.tc_lsm_model.specs.Lists.{live}
 use Rattle.tc_schema_model.specs.Counted.{Counted, IsCanonical}
 use Rattle.tc_schema_model.specs.Stands.{StandsFor}
 use Rattle.tc_component.specs.declared.slot.Slot.{Slot}
@@ -19,10 +20,10 @@ use Rattle.tc_component.specs.Columns.{IsEntry}
 use Rattle.tc_component.specs.Fetching.{IsPlace, record_at}
 use Rattle.tc_component.specs.Loading.{ComponentState}
 use Rattle.tc_component.specs.Spelling.{Index, IsIndex, lengths_of, slot}
-use Rattle.tc_audit.specs.Reasons.{IsWrongBehind}
+use Rattle.tc_audit.specs.Reasons.{AreRight, IsWrongBehind}
 use Rattle.tc_audit.specs.Stored.{IsStoredIn}
 use Rattle.tc_audit.specs.Told.{document_in, entry_in, entries_in, content_in, bytes_told, AreStoredUpTo}
-use Rattle.tc_audit.specs.Walking.{IsHarmAt, IsLessBy, IsMoreBy, IsUpTo, Tells}
+use Rattle.tc_audit.specs.Walking.{IsChangedBy, IsHarmAt, IsLessBy, IsNeverTold, IsUpTo, Tells}
 use Rattle.tc_audit.specs.declared.verdict.Wrong.{Wrong}
 use Rattle.tc_audit.proofs.ContentLaws.{ReadsMeant, drop_first, keys_in, record_here, stored_document}
 use Rattle.tc_audit.proofs.CountedSteps.{stands_after, untouched, after_one_more, one_more_among}
@@ -80,22 +81,21 @@ module _ (c : Index) (whole : List ℕ) (pairs : Pairs) (up : Ascends pairs) (la
   pub ascending : Ascends (content_in c whole).entries
   ascending = subst (IsStrictlySortedBy nat_cmp) (sym (keys_in c.names c.slots (drop 61 whole))) lawful.ascend
 
-  up_to_next : (at key gained : ℕ) (v : Option Document) (before between after : Counted) → slice_get (content_in c whole).entries at ≡ Some (key, v) → AreStoredUpTo c whole (at + 1) → IsCanonical (length c.names) after
-      → (gained + length (option_to_list v) ≤ 2 ^ 32 → IsLessBy (value_of key pairs) c.names before between × IsMoreBy v c.names between after) → IsUpTo c whole pairs at before gained
+  up_to_next : (at key gained : ℕ) (v : Option Document) (before after : Counted) → slice_get (content_in c whole).entries at ≡ Some (key, v) → AreStoredUpTo c whole (at + 1) → IsCanonical (length c.names) after
+      → (gained + length (option_to_list v) ≤ 2 ^ 32 → IsChangedBy (value_of key pairs) v c.names before after) → IsUpTo c whole pairs at before gained
       → IsUpTo c whole pairs (at + 1) after (gained + length (option_to_list v))
-  up_to_next at key gained v before between after here stored canonical moves u = record {
+  up_to_next at key gained v before after here stored canonical moves u = record {
     stored = stored;
     gained_is = ap (λ n. n + length (option_to_list v)) u.gained_is ∙ sym (one_more_among (content_in c whole).entries at (key, v) here);
     stands = λ few.
-        let steps = moves few in
         let ps = after_writes pairs (take at (content_in c whole).entries) in
-        let less : IsLessBy (value_of key ps) c.names before between = subst (λ o. IsLessBy o c.names before between) (sym (untouched pairs (content_in c whole).entries at key v up ascending here)) steps.0 in
+        let changed : IsChangedBy (value_of key ps) v c.names before after = subst (λ o. IsChangedBy o v c.names before after) (sym (untouched pairs (content_in c whole).entries at key v up ascending here)) (moves few) in
         subst (λ qs. StandsFor c.names after (values_in qs)) (sym (after_one_more pairs (content_in c whole).entries at (key, v) here))
-        (stands_after c.names before between after ps key v (Ascends-after_writes pairs (take at (content_in c whole).entries) up) (u.stands (omega (arith, few))) canonical less steps.1);
+        (stands_after c.names before after ps key v (Ascends-after_writes pairs (take at (content_in c whole).entries) up) (u.stands (omega (arith, few))) canonical changed);
   }
 
   -- what was live of a key before its entry
-  pub live_before : (at : ℕ) (s : Slot) → slice_get c.slots at ≡ Some s → value_of s.key (after_writes pairs (take at (content_in c whole).entries)) ≡ value_of s.key pairs
+  live_before : (at : ℕ) (s : Slot) → slice_get c.slots at ≡ Some s → value_of s.key (after_writes pairs (take at (content_in c whole).entries)) ≡ value_of s.key pairs
   live_before at s here = untouched pairs (content_in c whole).entries at s.key _ up ascending (slot_entry c whole at s here)
 
   pub up_to_gone : (at gained : ℕ) (s : Slot) (before after : Counted) → slice_get c.slots at ≡ Some s → s.length ≡ 0 → IsCanonical (length c.names) after → (gained ≤ 2 ^ 32 → IsLessBy (value_of s.key pairs) c.names before after)
@@ -106,19 +106,25 @@ module _ (c : Index) (whole : List ℕ) (pairs : Pairs) (up : Ascends pairs) (la
       let stored : AreStoredUpTo c whole (at + 1) = stored_more c whole at s here (λ some. absurd (omega (arith, none, some))) u.stored in
       let same : gained + 0 ≡ gained = omega arith in
       subst (IsUpTo c whole pairs (at + 1) after) same
-      (up_to_next at s.key gained None before after after entry stored canonical (λ few. (less (omega (arith, few)), λ path t. omega arith)) u)
+      (up_to_next at s.key gained None before after entry stored canonical (λ few path t. let one = less (omega (arith, few)) path t in omega (arith, one)) u)
 
-  pub up_to_live : ReadsMeant → (at gained : ℕ) (s : Slot) (before between after : Counted) → slice_get c.slots at ≡ Some s → 0 < s.length → IsStoredIn c.version c.names (record_at c.slots at whole) → IsCanonical (length c.names) after
-      → (gained < 2 ^ 32 → IsLessBy (value_of s.key pairs) c.names before between × IsMoreBy (document_in c.names (record_at c.slots at whole)) c.names between after)
+  pub up_to_live : ReadsMeant → (at gained : ℕ) (s : Slot) (before after : Counted) → slice_get c.slots at ≡ Some s → 0 < s.length → IsStoredIn c.version c.names (record_at c.slots at whole) → IsCanonical (length c.names) after
+      → (gained < 2 ^ 32 → IsChangedBy (value_of s.key pairs) (document_in c.names (record_at c.slots at whole)) c.names before after)
       → IsUpTo c whole pairs at before gained → IsUpTo c whole pairs (at + 1) after (gained + 1)
-  up_to_live reads at gained s before between after here some stored canonical moves u =
+  up_to_live reads at gained s before after here some stored canonical moves u =
       let test : (s.length == 0) ≡ false = grind (arith, nat_tests) in
       let d = stored.document in
       let is : document_in c.names (record_at c.slots at whole) ≡ Some d = stored_document reads c.version c.names (record_at c.slots at whole) lawful.names stored in
       let entry : slice_get (content_in c whole).entries at ≡ Some (s.key, Some d) =
       slot_entry c whole at s here ∙ ap (λ b. Some (s.key, if b then None else document_in c.names (record_at c.slots at whole))) test ∙ ap (λ v. Some (s.key, v)) is in
-      up_to_next at s.key gained (Some d) before between after entry (stored_more c whole at s here (λ _. stored) u.stored) canonical
-      (λ few. let steps = moves (omega (arith, few)) in (steps.0, subst (λ v. IsMoreBy v c.names between after) is steps.1)) u
+      up_to_next at s.key gained (Some d) before after entry (stored_more c whole at s here (λ _. stored) u.stored) canonical
+      (λ few. subst (λ v. IsChangedBy (value_of s.key pairs) v c.names before after) is (moves (omega (arith, few)))) u
+
+  -- what is told of a key's record only where what is counted does not stand for what is live before the entry
+  pub never_there : {F : Type 0} (told : F → Option (List ℕ)) (part : Partition) (older : List (ComponentState F)) (cs : List Content) (at gained : ℕ) (s : Slot) (schema : Counted) → pairs ≡ live cs → AreRight told part older cs → slice_get c.slots at ≡ Some s
+      → IsUpTo c whole pairs at schema gained → IsNeverTold told older s.key c.names schema gained → ⊥
+  never_there told part older cs at gained s schema same right here u none =
+      none.never part cs (after_writes pairs (take at (content_in c whole).entries)) right (live_before at s here ∙ ap (value_of s.key) same) (u.stands none.few)
 
 -- ---- the place of an entry
 

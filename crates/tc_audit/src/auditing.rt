@@ -38,7 +38,8 @@ const HIGH: u64 = 0x8000_0000_0000_0000;
 /// they are the components of contents that make a list. Else it tells the first component that breaks it: its first record
 /// that spells no document as it is stored, or else that 4,294,967,296 documents or more are live with it, or else the
 /// first place where its schema shows another number. Each record is read once, and once more where a newer component has
-/// an entry of its key. `Disk` comes only where a read failed.
+/// an entry of its key; where the newer document is of another shape, or none, it is then also taken off what is counted.
+/// `Disk` comes only where a read failed.
 pub fn audit<F: Frozen>(
     alloc: Global,
     list: &ComponentList<F>,

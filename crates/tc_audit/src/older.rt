@@ -66,7 +66,7 @@ pub(crate) fn take_off<F: Frozen>(
 }
 
 /// The component at a position of the list.
-fn component_at<F: Frozen>(list: &ComponentList<F>, at: usize) -> &Component<F>
+pub(crate) fn component_at<F: Frozen>(list: &ComponentList<F>, at: usize) -> &Component<F>
     requires { at < length list.now }
     ensures { slice_get list.now at ≡ Some result.now }
 {

@@ -1,11 +1,9 @@
 //! The entries of a component, read and counted in ascending key.
 
-ghost use Rattle.std.specs.Prelude.{◌≡◌, ◌↔◌, ◌≤◌, ◌<◌, ◌+◌, ◌^◌, ℕ, List, Some, OnOk, IsErrOf, IsTrue, length};
+ghost use Rattle.std.specs.Prelude.{◌≡◌, ◌↔◌, ◌⊎◌, ◌≤◌, ◌<◌, ◌+◌, ◌^◌, ℕ, List, Some, OnOk, IsErrOf, IsTrue, length};
 ghost use Rattle.tc_lsm_model.specs.Contents.{Partition, Content};
 ghost use Rattle.tc_lsm_model.specs.Lists.{live};
-ghost use Rattle.tc_model.specs.Keyed.{value_of, values_in};
-ghost use Rattle.tc_plain_model.specs.Writes.{Pairs};
-ghost use Rattle.tc_schema_model.specs.Stands.{StandsFor};
+ghost use Rattle.tc_model.specs.Keyed.{value_of};
 ghost use Rattle.tc_component.specs.Cursors.{HoldsPart, HasRecord, record_held};
 ghost use Rattle.tc_component.specs.Fetching.{IsPlace, IsRecordWithin, record_at};
 ghost use Rattle.tc_audit.specs.declared.verdict.Wrong.{Wrong as Reason};
@@ -13,14 +11,14 @@ ghost use Rattle.tc_audit.specs.Reasons.{AreRight, IsWrongBehind, IsWatched};
 ghost use Rattle.tc_audit.specs.Stops.{IfWrong, position_of};
 ghost use Rattle.tc_audit.specs.Stored.{IsStoredIn};
 ghost use Rattle.tc_audit.specs.Told.{document_in};
-ghost use Rattle.tc_audit.specs.Walking.{AreInFront, IsCounting, IsHarmAt, IsLessBy, IsMoreBy, IsUpTo, Tells};
+ghost use Rattle.tc_audit.specs.Walking.{AreInFront, HoldParts, IsChangedBy, IsCounting, IsHarmAt, IsLessBy, IsNeverTold, IsUpTo, Tells};
 
+use crate::before::{cursors_over, is_shaped_as_before};
 use crate::counting::{Recount, count_record};
 use crate::older::take_off;
 use crate::stop::{Stop, of_read};
 use crate::stored::spells_stored;
 use std::alloc::Global;
-use tc_bytes::Memory;
 use tc_compact::document_meant;
 use tc_component::{Component, Place, RecordCursor};
 use tc_list::ComponentList;
@@ -30,8 +28,8 @@ use tc_store::{Frozen, damaged};
 /// Documents are fewer than this.
 const MOST: u64 = 0x1_0000_0000;
 
-/// Reads all entries of a component in ascending key, judges each record, takes off what was live of the key before, and
-/// counts the document. Once 4,294,967,296 entries have a document, which then are live, the records are judged alone.
+/// Reads all entries of a component in ascending key, judges each record, and counts its document in place of what was live of
+/// the key before. Once 4,294,967,296 entries have a document, which then are live, the records are judged alone.
 pub(crate) fn count_entries<F: Frozen>(
     alloc: Global,
     older: &ComponentList<F>,
@@ -52,8 +50,18 @@ pub(crate) fn count_entries<F: Frozen>(
     ensures watched { IsWatched (IsErrOf result Stop.Disk) (F.Watch.counts watch.old) (F.Watch.counts watch.new) }
 {
     let mut cursor = RecordCursor::new(alloc);
+    let mut cursors = cursors_over(alloc, older)?;
     for at in 0..component.len() {
-        count_entry(alloc, older, component, at, &mut cursor, recount, watch)?;
+        count_entry(
+            alloc,
+            older,
+            component,
+            at,
+            &mut cursor,
+            &mut cursors,
+            recount,
+            watch,
+        )?;
     }
     Ok(())
 }
@@ -65,6 +73,7 @@ fn count_entry<F: Frozen>(
     component: &Component<F>,
     at: usize,
     cursor: &mut RecordCursor,
+    cursors: &mut [RecordCursor],
     recount: &mut Recount,
     watch: &mut F::Watch,
 ) -> Result<(), Stop>
@@ -74,7 +83,9 @@ fn count_entry<F: Frozen>(
     requires few { recount.old.gained ≤ at }
     requires counting { IsCounting component.now.index.names recount.old.schema recount.old.gained }
     requires of { HoldsPart (F.content component.now.file) cursor.old }
+    requires each { HoldParts F.content older.now cursors.old }
     ensures of { HoldsPart (F.content component.now.file) cursor.new }
+    ensures each { HoldParts F.content older.now cursors.new }
     ensures names { OnOk result (recount.new.names ≡ component.now.index.names) }
     ensures few { OnOk result (recount.new.gained ≤ at + 1) }
     ensures counting { OnOk result (IsCounting component.now.index.names recount.new.schema recount.new.gained) }
@@ -89,10 +100,11 @@ fn count_entry<F: Frozen>(
     // that keys ascend, and that the names are a dictionary
     let _lawful = component.file_len();
     let entry = component.entry(at);
-    take_few(alloc, older, entry.key, recount, watch)?;
     match entry.place {
-        Some(place) => count_place(alloc, older.len(), component, place, cursor, recount, watch),
-        None => Ok(()),
+        Some(place) => count_place(
+            alloc, older, component, entry.key, place, cursor, cursors, recount, watch,
+        ),
+        None => take_few(alloc, older, entry.key, recount, watch),
     }
 }
 
@@ -111,8 +123,7 @@ fn take_few<F: Frozen>(
     ensures counting { OnOk result (IsCounting recount.old.names recount.new.schema recount.old.gained) }
     ensures taken { OnOk result ((part : Partition) (cs : List Content) → AreRight F.content part older.now cs → recount.old.gained ≤ 2 ^ 32 → IsLessBy (value_of key (live cs)) recount.old.names recount.old.schema recount.new.schema) }
     ensures place { IfWrong result (λ w. position_of w < length older.now) }
-    ensures harmless { IfWrong result (λ w. (part : Partition) (cs : List Content) (ps : Pairs) → AreRight F.content part older.now cs → value_of key ps ≡ value_of key (live cs) → StandsFor recount.old.names recount.old.schema (values_in ps) → ⊥) }
-    ensures few { IfWrong result (λ w. recount.old.gained ≤ 2 ^ 32) }
+    ensures never { IfWrong result (λ w. IsNeverTold F.content older.now key recount.old.names recount.old.schema recount.old.gained) }
     ensures watched { IsWatched (IsErrOf result Stop.Disk) (F.Watch.counts watch.old) (F.Watch.counts watch.new) }
 {
     if is_over(recount.gained) {
@@ -135,56 +146,84 @@ pub(crate) fn is_full(gained: u64) -> bool
     gained >= MOST
 }
 
-/// The record of the entry at a place, judged and counted.
+/// The record of the entry of a key at a place, judged and counted.
 fn count_place<F: Frozen>(
     alloc: Global,
-    number: usize,
+    older: &ComponentList<F>,
     component: &Component<F>,
+    key: u64,
     place: Place,
     cursor: &mut RecordCursor,
+    cursors: &mut [RecordCursor],
     recount: &mut Recount,
     watch: &mut F::Watch,
 ) -> Result<(), Stop>
     requires place { IsPlace component.now.index.slots place }
     requires names { recount.old.names ≡ component.now.index.names }
+    requires newer { AreInFront older.now component.now.index.names }
     requires few { recount.old.gained + 1 < 2 ^ 64 }
     requires counting { IsCounting component.now.index.names recount.old.schema recount.old.gained }
     requires of { HoldsPart (F.content component.now.file) cursor.old }
+    requires each { HoldParts F.content older.now cursors.old }
     ensures of { HoldsPart (F.content component.now.file) cursor.new }
+    ensures each { HoldParts F.content older.now cursors.new }
     ensures names { OnOk result (recount.new.names ≡ component.now.index.names) }
     ensures gained { OnOk result (recount.new.gained ≡ recount.old.gained + 1) }
     ensures counting { OnOk result (IsCounting component.now.index.names recount.new.schema recount.new.gained) }
     ensures stored { OnOk result ((whole : List ℕ) → F.content component.now.file ≡ Some whole → IsStoredIn component.now.index.version component.now.index.names (record_at component.now.index.slots place.at whole)) }
-    ensures counted { OnOk result ((whole : List ℕ) → F.content component.now.file ≡ Some whole → recount.old.gained < 2 ^ 32
-        → IsMoreBy (document_in component.now.index.names (record_at component.now.index.slots place.at whole)) component.now.index.names recount.old.schema recount.new.schema) }
-    ensures place { IfWrong result (λ w. position_of w ≡ number) }
-    ensures harmed { IfWrong result (λ w. (whole : List ℕ) → F.content component.now.file ≡ Some whole → IsHarmAt number component.now.index place.at whole w) }
+    ensures counted { OnOk result ((whole : List ℕ) (part : Partition) (cs : List Content) → F.content component.now.file ≡ Some whole → AreRight F.content part older.now cs → recount.old.gained < 2 ^ 32
+        → IsChangedBy (value_of key (live cs)) (document_in component.now.index.names (record_at component.now.index.slots place.at whole)) component.now.index.names recount.old.schema recount.new.schema) }
+    ensures place { IfWrong result (λ w. position_of w ≤ length older.now) }
+    ensures wrong { IfWrong result (λ w. ((whole : List ℕ) → F.content component.now.file ≡ Some whole → IsHarmAt (length older.now) component.now.index place.at whole w)
+        ⊎ IsNeverTold F.content older.now key component.now.index.names recount.old.schema recount.old.gained) }
     ensures watched { IsWatched (IsErrOf result Stop.Disk) (F.Watch.counts watch.old) (F.Watch.counts watch.new) }
 {
+    let number = older.len();
     hold(number, component, place, cursor, watch)?;
     let bytes = cursor.record(component, place);
     let of = RecordRef::known(bytes);
     if !spells_stored(of.again(), component.names()) {
         return Err(unstored(alloc, number, component, place, bytes));
     }
-    count_few(of, recount)?;
+    replace_few(alloc, older, key, of, cursors, recount, watch)?;
     recount.gained += 1;
     Ok(())
 }
 
-/// Counts the document of a stored record, unless it is known that too many documents are live. Errs only for want of memory.
-fn count_few(of: RecordRef<'_>, recount: &mut Recount) -> Result<(), Memory>
+/// Counts the document of a stored record in place of what was live of its key, unless it is known that too many documents are
+/// live. Where both have one shape there is nothing to count.
+fn replace_few<F: Frozen>(
+    alloc: Global,
+    older: &ComponentList<F>,
+    key: u64,
+    of: RecordRef<'_>,
+    cursors: &mut [RecordCursor],
+    recount: &mut Recount,
+    watch: &mut F::Watch,
+) -> Result<(), Stop>
     requires stored { IsStoredIn of.form recount.old.names of.bytes }
+    requires newer { AreInFront older.now recount.old.names }
     requires counting { IsCounting recount.old.names recount.old.schema recount.old.gained }
+    requires each { HoldParts F.content older.now cursors.old }
+    ensures each { HoldParts F.content older.now cursors.new }
     ensures names { OnOk result (recount.new.names ≡ recount.old.names) }
     ensures gained { recount.new.gained ≡ recount.old.gained }
     ensures counting { OnOk result (IsCounting recount.old.names recount.new.schema (recount.old.gained + 1)) }
-    ensures counted { OnOk result (recount.old.gained < 2 ^ 32 → IsMoreBy (document_in recount.old.names of.entry.bytes) recount.old.names recount.old.schema recount.new.schema) }
+    ensures counted { OnOk result ((part : Partition) (cs : List Content) → AreRight F.content part older.now cs → recount.old.gained < 2 ^ 32
+        → IsChangedBy (value_of key (live cs)) (document_in recount.old.names of.entry.bytes) recount.old.names recount.old.schema recount.new.schema) }
+    ensures place { IfWrong result (λ w. position_of w < length older.now) }
+    ensures never { IfWrong result (λ w. IsNeverTold F.content older.now key recount.old.names recount.old.schema recount.old.gained) }
+    ensures watched { IsWatched (IsErrOf result Stop.Disk) (F.Watch.counts watch.old) (F.Watch.counts watch.new) }
 {
     if is_full(recount.gained) {
         return Ok(());
     }
-    count_record(of, recount)
+    if is_shaped_as_before(older, key, &of, &recount.names, cursors, watch)? {
+        return Ok(());
+    }
+    take_off(alloc, older, key, recount, watch)?;
+    count_record(of, recount)?;
+    Ok(())
 }
 
 /// Holds the record at a place of the component at a position, by at most one read.

@@ -1,13 +1,17 @@
-use Rattle.std.proofs.Common.{rules, ◌≡◌, Err, length, sym, subst, arith}
+use Rattle.std.proofs.Common.{rules, ◌≡◌, ◌∙◌, Err, List, length, sym, ap, subst, arith}
+use Rattle.std.proofs.lemmas.List.{take_at}
 use Rattle.std.proofs.lemmas.Result.{err_from_is_err_and}
+use Rattle.std.proofs.lemmas.Slice.Zip.{AllZip-long}
 use Rattle.tc_lsm_model.specs.Lists.{live}
-use Rattle.tc_audit.specs.Walking.{IsCounting, IsUpTo}
+use Rattle.tc_component.specs.Cursors.{CursorState}
+use Rattle.tc_audit.specs.Walking.{HoldParts, IsCounting, IsUpTo}
 use Rattle.tc_audit.proofs.Outcomes.{watched_behind, watched_out, wrong_out, wrong_then}
 use Rattle.tc_audit.proofs.walk.count_entries.Goals as goal
 
 pub loop-at-init : goal.loop-at-init
 loop-at-init g c = record {
   of = search rules;
+  each = c.in_ok-cursors.ensures;
   names = c.requires.names;
   few = omega (arith, c.requires.none);
   counting = subst (IsCounting c.args.component.now.index.names c.args.recount.now.schema) (sym c.requires.none) c.requires.counting;
@@ -20,20 +24,23 @@ count_entry-requires-clause-at g c κs within = let more = c.loop-at-test.true i
 
 pub returns-in_err-count_entry-clause-wrong : goal.returns-in_err-count_entry-clause-wrong
 returns-in_err-count_entry-clause-wrong g c =
-    wrong_out c.from_residual.result c.in_err-count_entry.field-0.0 _ (err_from_is_err_and c.from_residual.result c.from_residual.ensures.1)
+    wrong_out c.from_residual-in_err-count_entry.result c.in_err-count_entry.field-0.0 _ (err_from_is_err_and c.from_residual-in_err-count_entry.result c.from_residual-in_err-count_entry.ensures.1)
     (wrong_then {X = Unit {0}} (Err c.in_err-count_entry.field-0.0) _ _ (λ w wrong part cs whole right tells u. wrong part cs whole right tells (c.loop-at.invariant.counted part cs whole right tells u)) c.in_err-count_entry.ensures.wrong)
 
 pub returns-in_err-count_entry-clause-watched : goal.returns-in_err-count_entry-clause-watched
 returns-in_err-count_entry-clause-watched g c =
-    watched_out c.from_residual.result c.in_err-count_entry.field-0.0 _ _ (err_from_is_err_and c.from_residual.result c.from_residual.ensures.1)
+    watched_out c.from_residual-in_err-count_entry.result c.in_err-count_entry.field-0.0 _ _ (err_from_is_err_and c.from_residual-in_err-count_entry.result c.from_residual-in_err-count_entry.ensures.1)
     (watched_behind _ _ _ _ c.loop-at.invariant.faults c.in_err-count_entry.ensures.watched)
 
 pub loop-at-preserved : goal.loop-at-preserved
 loop-at-preserved g c =
     let l = c.loop-at in
     let one = c.in_ok-count_entry.ensures in
+    let told = g.F.Frozen.content in
+    let same = AllZip-long _ c.args.older.now c.count_entry.new.cursors one.each ∙ sym (AllZip-long _ c.args.older.now l.cursors.items l.invariant.each) ∙ sym (sym c.deref_mut.ensures.len ∙ ap (λ (ks : List CursorState). length ks) c.deref_mut.ensures.value) in
     record {
       of = one.of;
+      each = subst (HoldParts told c.args.older.now) (sym (take_at c.count_entry.new.cursors _ _ same)) one.each;
       names = one.names;
       few = one.few;
       counting = one.counting;
@@ -52,4 +59,4 @@ returns-clause-watched g c = record { faults = c.loop-at.invariant.faults; cause
 
 pub returns-in_err-count_entry-clause-place : goal.returns-in_err-count_entry-clause-place
 returns-in_err-count_entry-clause-place g c =
-    wrong_out c.from_residual.result c.in_err-count_entry.field-0.0 _ (err_from_is_err_and c.from_residual.result c.from_residual.ensures.1) c.in_err-count_entry.ensures.place
+    wrong_out c.from_residual-in_err-count_entry.result c.in_err-count_entry.field-0.0 _ (err_from_is_err_and c.from_residual-in_err-count_entry.result c.from_residual-in_err-count_entry.ensures.1) c.in_err-count_entry.ensures.place

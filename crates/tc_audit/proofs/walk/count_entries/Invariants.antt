@@ -3,7 +3,7 @@ use Rattle.tc_lsm_model.specs.Contents.{Partition, Content}
 use Rattle.tc_lsm_model.specs.Lists.{live}
 use Rattle.tc_component.specs.Cursors.{HoldsPart}
 use Rattle.tc_audit.specs.Reasons.{AreRight}
-use Rattle.tc_audit.specs.Walking.{IsCounting, IsUpTo, Tells}
+use Rattle.tc_audit.specs.Walking.{HoldParts, IsCounting, IsUpTo, Tells}
 use Rattle.tc_audit.proofs.walk.count_entries.Given as goal
 
 abbrev pub invariant-loop-at : goal.invariant-loop-at
@@ -12,6 +12,7 @@ invariant-loop-at g l =
     let counts = g.F.Watch.Watch.counts in
     record {
       of : HoldsPart (g.F.Frozen.content l.component.file) l.cursor;
+      each : HoldParts g.F.Frozen.content l.older l.cursors.items;
       names : l.recount.names ≡ c.names;
       few : l.recount.gained ≤ l.at;
       counting : IsCounting c.names l.recount.schema l.recount.gained;

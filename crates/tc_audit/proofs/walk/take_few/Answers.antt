@@ -1,6 +1,6 @@
 use Rattle.std.proofs.Common.{◌^◌, arith}
 use Rattle.std.proofs.lemmas.Result.{on_ok_weaker}
-use Rattle.tc_audit.proofs.Outcomes.{ok_and, wrong_always}
+use Rattle.tc_audit.proofs.Outcomes.{ok_and, wrong_then}
 use Rattle.tc_audit.proofs.Rooms.{counting_less, not_over}
 use Rattle.tc_audit.proofs.walk.take_few.Goals as goal
 
@@ -18,5 +18,6 @@ returns-clause-counting g c =
 pub returns-clause-taken : goal.returns-clause-taken
 returns-clause-taken g c = on_ok_weaker c.take_off.result (λ taken part cs right few. taken part cs right) c.take_off.ensures.taken
 
-pub returns-clause-few : goal.returns-clause-few
-returns-clause-few g c = wrong_always c.take_off.result _ (not_over c.args.recount.now.gained (2 ^ 32) c.is_over.result c.if-is_over.false c.is_over.ensures.1)
+pub returns-clause-never : goal.returns-clause-never
+returns-clause-never g c =
+    wrong_then c.take_off.result _ _ (λ w harmless. record { few = not_over c.args.recount.now.gained (2 ^ 32) c.is_over.result c.if-is_over.false c.is_over.ensures.1; never = harmless }) c.take_off.ensures.harmless

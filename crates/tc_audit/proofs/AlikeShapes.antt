@@ -1,0 +1,48 @@
+-- Documents whose records are alike have one shape.
+use Rattle.std.proofs.Common.{◌≡◌, ◌∙◌, ℕ, List, refl, sym, ap, subst}
+use Rattle.tc_model.specs.Tree.{leaf, array, object, Items, no_items, item, Members, no_members, member, relabel, items_relabel, members_relabel}
+use Rattle.tc_model.specs.Document.{Name, Document, Scalar, document_shape, scalar_kind}
+use Rattle.tc_model.specs.Dictionary.{Extends, IsDictionary}
+use Rattle.tc_model.specs.KnownNames.{HasEach}
+use Rattle.tc_model.specs.ShapeNames.{names_within}
+use Rattle.tc_record.specs.Preorder.{tokens_of}
+use Rattle.tc_record.specs.Record.{NumberedTree, record_of, IsNumberedForm, IsNumberedRecordIn, IsRecordOf}
+use Rattle.tc_compact.specs.Compacted.{compacted, IsCompactedIn}
+use Rattle.tc_compact.specs.Meant.{name_at, expanded}
+use Rattle.tc_audit.specs.Alike.{AreAlike}
+use Rattle.tc_audit.specs.Stored.{IsStoredIn}
+use Rattle.tc_audit.proofs.NamesAgain.{tree_again}
+use Rattle.tc_audit.proofs.StoredLaws.{kept_in, known_under, stored_numbered}
+use Rattle.tc_audit.proofs.SameOutlines.{outline, same_outline}
+
+-- ---- the shape
+
+module _ (names : List Name) where
+  mutual
+    shape_named : (n : NumberedTree) → document_shape (expanded names n) ≡ relabel (name_at names) (λ k. k) (outline n)
+    shape_named (leaf s) = refl
+    shape_named (array xs) = ap array (items_named xs)
+    shape_named (object ms) = ap object (members_named ms)
+
+    items_named : (xs : Items ℕ Scalar) → items_relabel (λ n. n) scalar_kind (items_relabel (name_at names) (λ s. s) xs) ≡ items_relabel (name_at names) (λ k. k) (items_relabel (λ k. k) scalar_kind xs)
+    items_named no_items = refl
+    items_named (item t ts) = rw (shape_named t, items_named ts) refl
+
+    members_named : (ms : Members ℕ Scalar) → members_relabel (λ n. n) scalar_kind (members_relabel (name_at names) (λ s. s) ms) ≡ members_relabel (name_at names) (λ k. k) (members_relabel (λ k. k) scalar_kind ms)
+    members_named no_members = refl
+    members_named (member k t ms) = rw (shape_named t, members_named ms) refl
+
+  pub alike_shape : (d e : Document) → HasEach names (names_within (document_shape d)) → HasEach names (names_within (document_shape e)) → AreAlike (tokens_of (compacted names d)) (tokens_of (compacted names e)) → document_shape d ≡ document_shape e
+  alike_shape d e known others alike =
+      ap document_shape (sym (tree_again names d known)) ∙ shape_named (compacted names d) ∙ ap (relabel (name_at names) (λ k. k)) (same_outline (compacted names d) (compacted names e) alike)
+      ∙ sym (shape_named (compacted names e)) ∙ ap document_shape (tree_again names e others)
+
+-- the record of a document and a newer one under newer names
+module _ (stays : (form : ℕ) (d : Document) (whole bytes : List ℕ) (names newer : List Name) → IsRecordOf d whole → IsCompactedIn form names d bytes → IsDictionary newer → Extends newer names → IsCompactedIn form newer d bytes) where
+  pub same_shape : (names newer : List Name) → IsDictionary names → IsDictionary newer → Extends newer names → (version own : ℕ) (old new : List ℕ) (s : IsStoredIn version names old) (t : IsStoredIn own newer new)
+      → ((own form : ℕ) (n m : NumberedTree) → IsNumberedForm own → IsNumberedRecordIn own n new → IsNumberedRecordIn form m old → AreAlike (tokens_of n) (tokens_of m)) → document_shape s.document ≡ document_shape t.document
+  same_shape names newer dictionary later extends version own old new s t alike =
+      let k = kept_in version names old dictionary s in
+      let under : IsCompactedIn version newer s.document old = stays version s.document (record_of s.document) old names newer k.whole (subst (IsCompactedIn version names s.document) (sym s.spelled) k.compact) later extends in
+      let are = alike own version (compacted newer t.document) (compacted newer s.document) t.told (stored_numbered own newer new later t) under.numbered in
+      sym (alike_shape newer t.document s.document t.named (known_under newer version s.document old under) are)
