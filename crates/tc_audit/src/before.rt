@@ -1,6 +1,6 @@
 //! The record of what was live of a key before, beside the one that takes its place.
 
-ghost use Rattle.std.specs.Prelude.{◌≡◌, ℕ, List, IfOk, IsErrOf, IsTrue, Some, option_map};
+ghost use Rattle.std.specs.Prelude.{◌≡◌, ℕ, List, IfOk, IsErrOf, IsTrue, None, Some, option_map};
 ghost use Rattle.tc_model.specs.Document.{document_shape};
 ghost use Rattle.tc_model.specs.Keyed.{value_of};
 ghost use Rattle.tc_lsm_model.specs.Contents.{Partition, Content};
@@ -43,22 +43,33 @@ pub(crate) fn cursors_over<F: Frozen>(
     Ok(cursors)
 }
 
-/// Whether what was live of a key in the components that are older has the shape of the document of a stored record, as its
-/// own record tells. That one is read through its component's cursor, and is not judged again. Where the answer is no, the
-/// shapes may still be the same.
-pub(crate) fn is_shaped_as_before<F: Frozen>(
+/// What was live of a key, beside a newer document.
+#[derive(Clone, Copy, PartialEq, Eq)]
+pub(crate) enum Before {
+    /// There was nothing.
+    Nothing,
+    /// There was a document of the same shape.
+    OfOneShape,
+    /// There was a document, perhaps of another shape.
+    Another,
+}
+
+/// What was live of a key in the components that are older, beside the document of a stored record. Its own record is read
+/// through its component's cursor, and is not judged again.
+pub(crate) fn before_of<F: Frozen>(
     older: &ComponentList<F>,
     key: u64,
     of: &RecordRef<'_>,
     names: &Names,
     cursors: &mut [RecordCursor],
     watch: &mut F::Watch,
-) -> Result<bool, Stop>
+) -> Result<Before, Stop>
     requires stored { IsStoredIn of.now.form names.now of.now.bytes }
     requires newer { AreInFront older.now names.now }
     requires each { HoldParts F.content older.now cursors.old }
     ensures each { HoldParts F.content older.now cursors.new }
-    ensures same { IfOk result (λ same. IsTrue same → (part : Partition) (cs : List Content) → AreRight F.content part older.now cs
+    ensures nothing { IfOk result (λ before. before ≡ Before.Nothing → (part : Partition) (cs : List Content) → AreRight F.content part older.now cs → value_of key (live cs) ≡ None) }
+    ensures same { IfOk result (λ before. before ≡ Before.OfOneShape → (part : Partition) (cs : List Content) → AreRight F.content part older.now cs
         → option_map document_shape (value_of key (live cs)) ≡ option_map document_shape (document_in names.now of.now.bytes)) }
     ensures right { IfWrong result (λ w. ⊥) }
     ensures watched { IsWatched (IsErrOf result Stop.Disk) (F.Watch.counts watch.old) (F.Watch.counts watch.new) }
@@ -70,7 +81,7 @@ pub(crate) fn is_shaped_as_before<F: Frozen>(
     // that the names are a dictionary
     let _known = names.len();
     match older.find(key) {
-        Whereabouts::Absent => Ok(false),
+        Whereabouts::Absent => Ok(Before::Nothing),
         Whereabouts::At {
             component: at,
             place,
@@ -78,31 +89,38 @@ pub(crate) fn is_shaped_as_before<F: Frozen>(
             let component = component_at(older, at);
             // that its names are a dictionary
             let _lawful = component.file_len();
-            is_alike_at(component, at, place, of, &mut cursors[at], watch)
+            before_at(component, at, place, of, &mut cursors[at], watch)
         }
     }
 }
 
-/// Whether the record at a place of the component at a position is alike. It is held by at most one read.
-fn is_alike_at<F: Frozen>(
+/// The same of the record at a place of the component at a position. It is held by at most one read.
+fn before_at<F: Frozen>(
     component: &Component<F>,
     number: usize,
     place: Place,
     of: &RecordRef<'_>,
     cursor: &mut RecordCursor,
     watch: &mut F::Watch,
-) -> Result<bool, Stop>
+) -> Result<Before, Stop>
     requires place { IsPlace component.now.index.slots place }
     requires of { HoldsPart (F.content component.now.file) cursor.old }
     ensures of { HoldsPart (F.content component.now.file) cursor.new }
-    ensures alike { IfOk result (λ alike. IsTrue alike → (whole : List ℕ) (own form : ℕ) (n m : NumberedTree) → F.content component.now.file ≡ Some whole → IsNumberedForm own
+    ensures some { IfOk result (λ before. before ≡ Before.Nothing → ⊥) }
+    ensures alike { IfOk result (λ before. before ≡ Before.OfOneShape → (whole : List ℕ) (own form : ℕ) (n m : NumberedTree) → F.content component.now.file ≡ Some whole → IsNumberedForm own
         → IsNumberedRecordIn own n of.now.bytes → IsNumberedRecordIn form m (record_at component.now.index.slots place.at whole) → AreAlike (tokens_of n) (tokens_of m)) }
     ensures right { IfWrong result (λ w. ⊥) }
     ensures watched { IsWatched (IsErrOf result Stop.Disk) (F.Watch.counts watch.old) (F.Watch.counts watch.new) }
 {
     let (begin, count) = component.record_range(place);
     match cursor.hold(component, begin, count, watch) {
-        Ok(()) => Ok(is_alike(of, cursor.part(begin, count))),
+        Ok(()) => {
+            if is_alike(of, cursor.part(begin, count)) {
+                Ok(Before::OfOneShape)
+            } else {
+                Ok(Before::Another)
+            }
+        }
         Err(fault) => Err(of_read(number, fault)),
     }
 }

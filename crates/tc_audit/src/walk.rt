@@ -13,7 +13,7 @@ ghost use Rattle.tc_audit.specs.Stored.{IsStoredIn};
 ghost use Rattle.tc_audit.specs.Told.{document_in};
 ghost use Rattle.tc_audit.specs.Walking.{AreInFront, HoldParts, IsChangedBy, IsCounting, IsHarmAt, IsLessBy, IsNeverTold, IsUpTo, Tells};
 
-use crate::before::{cursors_over, is_shaped_as_before};
+use crate::before::{Before, before_of, cursors_over};
 use crate::counting::{Recount, count_record};
 use crate::older::take_off;
 use crate::stop::{Stop, of_read};
@@ -218,10 +218,11 @@ fn replace_few<F: Frozen>(
     if is_full(recount.gained) {
         return Ok(());
     }
-    if is_shaped_as_before(older, key, &of, &recount.names, cursors, watch)? {
-        return Ok(());
+    match before_of(older, key, &of, &recount.names, cursors, watch)? {
+        Before::OfOneShape => return Ok(()),
+        Before::Another => take_off(alloc, older, key, recount, watch)?,
+        Before::Nothing => {}
     }
-    take_off(alloc, older, key, recount, watch)?;
     count_record(of, recount)?;
     Ok(())
 }

@@ -8,7 +8,7 @@ use Rattle.tc_audit.proofs.AlikeShapes.{same_shape}
 use Rattle.tc_audit.proofs.ContentLaws.{stored_document}
 use Rattle.tc_audit.proofs.HeldParts.{part_at, part_within, set_part}
 use Rattle.tc_audit.proofs.OlderRecords.{front_at, stored_live}
-use Rattle.tc_audit.proofs.before.is_shaped_as_before.Goals as goal
+use Rattle.tc_audit.proofs.before.before_of.Goals as goal
 
 pub offset_bounds-cursors-at : goal.offset_bounds-cursors-at
 offset_bounds-cursors-at g c =
@@ -18,20 +18,20 @@ offset_bounds-cursors-at g c =
 pub bounds-cursors-at : goal.bounds-cursors-at
 bounds-cursors-at g c = part_within g.F.Frozen.content c.args.older.now c.args.cursors.now c.in-At.at c.component_at-component.result.now c.requires.each c.component_at-component.ensures
 
-pub is_alike_at-requires-clause-place : goal.is_alike_at-requires-clause-place
-is_alike_at-requires-clause-place g c = λ κs lives.
+pub before_at-requires-clause-place : goal.before_at-requires-clause-place
+before_at-requires-clause-place g c = λ κs lives.
     let newest = c.in-At.ensures.newest in
     subst (λ (m : ComponentState _). IsPlace m.index.slots c.in-At.place) (same_Some newest.component c.component_at-component.result.now (sym newest.here ∙ c.component_at-component.ensures)) (c.args.key, newest.has)
 
-pub is_alike_at-requires-clause-of : goal.is_alike_at-requires-clause-of
-is_alike_at-requires-clause-of g c = λ κs lives.
+pub before_at-requires-clause-of : goal.before_at-requires-clause-of
+before_at-requires-clause-of g c = λ κs lives.
     let told = g.F.Frozen.content in
     let within = part_within told c.args.older.now c.args.cursors.now c.in-At.at c.component_at-component.result.now c.requires.each c.component_at-component.ensures in
     part_at told c.args.older.now c.args.cursors.now c.in-At.at c.component_at-component.result.now _ c.requires.each c.component_at-component.ensures (slice_get-get_or c.args.cursors.now c.in-At.at _ within)
 
 pub returns-in-At-clause-each : goal.returns-in-At-clause-each
 returns-in-At-clause-each g c =
-    set_part g.F.Frozen.content c.args.older.now c.args.cursors.now c.in-At.at c.component_at-component.result.now c.is_alike_at.new.cursor c.requires.each c.component_at-component.ensures c.is_alike_at.ensures.of
+    set_part g.F.Frozen.content c.args.older.now c.args.cursors.now c.in-At.at c.component_at-component.result.now c.before_at.new.cursor c.requires.each c.component_at-component.ensures c.before_at.ensures.of
 
 pub returns-in-At-clause-same : goal.returns-in-At-clause-same
 returns-in-At-clause-same g c =
@@ -40,12 +40,12 @@ returns-in-At-clause-same g c =
     let r = c.args.of.now in
     let m = c.component_at-component.result.now in
     let here = c.component_at-component.ensures in
-    IfOk-weaker c.is_alike_at.result _ _
-    (λ alike told same part cs right.
+    IfOk-weaker c.before_at.result _ _
+    (λ before told same part cs right.
     let holds = c.loaded_components_show_contents.ensures.fetched part older cs c.args.key c.in-At.at c.in-At.place right.listed right.loaded c.in-At.ensures.newest in
     let l = stored_live g.F.Frozen.content c.stored_records_make_contents.ensures.stored part older cs c.args.key c.in-At.at m c.in-At.place right holds here in
     let shape = same_shape c.round_trip.ensures.stays m.index.names names c.file_len-lawful.ensures.lawful.names c.len-known.ensures.dictionary (front_at names older c.in-At.at m c.requires.newer here) m.index.version r.form _ r.bytes l.there.stored c.requires.stored
     (λ own form n o. told same l.whole own form n o l.there.tells) in
     ap (option_map document_shape) l.live_is ∙ ap (λ d. Some (document_shape d)) (sym l.there.is) ∙ ap Some shape
     ∙ sym (ap (option_map document_shape) (stored_document c.document_meant.ensures.read r.form names r.bytes c.len-known.ensures.dictionary c.requires.stored)))
-    c.is_alike_at.ensures.alike
+    c.before_at.ensures.alike
