@@ -13,8 +13,7 @@ use Rattle.tc_request_model.specs.Part.{part_left_all, part_writes_all}
 use Rattle.tc_plain_model.specs.Store.{Store}
 use Rattle.tc_plain_model.specs.Writes.{Write, after_writes}
 use Rattle.tc_request_model.proofs.RequestWrites.{part_left_all-writes}
-use Rattle.tc_part.specs.FilesOut.{OnlyDevicesOut}
-use Rattle.tc_part_model.specs.Meaning.{IsPart, plain_of}
+use Rattle.tc_part_model.specs.Meaning.{plain_of}
 use Rattle.tc_part_model.specs.PartState.{PartState, Told}
 use Rattle.tc_part_model.specs.PartView.{PartView, store_of}
 use Rattle.tc_route.specs.declared.placed.Placed.{Placed}
@@ -60,11 +59,9 @@ pub keeping : {Works WorksNow : PartView → Type 0} (t : Told) (limits : Limits
 keeping t limits here w old h u frame k = record { view = k.view; here = k.here ∙ h.of_number; holds = k.holds ∙ committed t limits here w old h; files = k.files; logs = k.logs; jobs = k.jobs }
 
 pub part_fails : {Works WorksNow : PartView → Type 0} (t u : Told) (limits : Limits) (here : Partition) (rs : List Request) (w v : World) (old new : Part)
-    (h : HoldsPart Works t limits here w old) → IsLeft w.limits v.flushed rs old new → ((t : Told) (p : PartView) → IsPart t p → OnlyDevicesOut t)
-    → (OnlyDevicesOut t → OnlyDevicesOut u)
+    (h : HoldsPart Works t limits here w old) → IsLeft w.limits v.flushed rs old new
     → HasFailedWith WorksNow (part_writes_all limits rs (plain_of t h.view)) u h.view → FailsPart WorksNow u here old new
-part_fails t u limits here rs w v old new h left law devices failed = record {
-  devices = devices (law t h.view h.is);
+part_fails t u limits here rs w v old new h left failed = record {
   kept = elim failed [ inl k ↦ inl (keeping t limits here w old h u None k) | inr k ↦ inr (ws, keeping t limits here w old h u (Some ws) k, writes) ];
 }
   where
@@ -84,8 +81,8 @@ engine_held eyes here rs w v same before e f x old new h ran still left =
     (ap (λ (s : PartState _ _ _ _). s.limits) ran.same) (λ none. ap (λ l. eyes.history l.device) (ran.unwritten h.view h.is none))
     (subst (λ jobs. WorkFor eyes.content eyes.history eyes.name_of jobs h.view) (sym still) h.jobs)
 
-pub engine_failed : {S D F W : Type 0} (eyes : Eyes S D F W) (here : Partition) (rs : Keyed Request) (w v : World) → ((t : Told) (p : PartView) → IsPart t p → OnlyDevicesOut t) → (e f : WithJobs S D F W) (why : EngineFault) (old new : Part)
+pub engine_failed : {S D F W : Type 0} (eyes : Eyes S D F W) (here : Partition) (rs : Keyed Request) (w v : World) → (e f : WithJobs S D F W) (why : EngineFault) (old new : Part)
     → HoldsPart (works_of eyes e) (told_of eyes e) e.engine.part.limits here w old → HasRun eyes rs e.engine f.engine (Err why) → f.jobs ≡ e.jobs → IsLeft w.limits v.flushed (values_in rs) old new → FailsPart (works_of eyes f) (told_of eyes f) here old new
-engine_failed eyes here rs w v law e f why old new h ran still left =
-    part_fails (told_of eyes e) (told_of eyes f) e.engine.part.limits here (values_in rs) w v old new h left law ran.devices
+engine_failed eyes here rs w v e f why old new h ran still left =
+    part_fails (told_of eyes e) (told_of eyes f) e.engine.part.limits here (values_in rs) w v old new h left
     (subst (λ jobs. HasFailedWith (WorkFor eyes.content eyes.history eyes.name_of jobs) (part_writes_all e.engine.part.limits (values_in rs) (plain_of (told_of eyes e) h.view)) (told_of eyes f) h.view) (sym still) (ran.failed h.view e.jobs h.is h.jobs))

@@ -8,7 +8,7 @@ use Rattle.tc_store.specs.Moments.{IfTold}
 use Rattle.tc_log.specs.Layout.{empty_size}
 use Rattle.tc_lsm_model.specs.Contents.{Partition}
 use Rattle.tc_plain_model.specs.Room.{Limits}
-use Rattle.tc_part.specs.FilesOut.{HoldsDevices, OnlyDevicesOut, TellsLogs}
+use Rattle.tc_part.specs.FilesOut.{HoldsDevices}
 use Rattle.tc_part_model.specs.Meaning.{IsPart}
 use Rattle.tc_part_model.specs.PartState.{IsTold, Told}
 use Rattle.tc_part_model.specs.PartView.{PartView, store_of}
@@ -75,9 +75,9 @@ part_moved t u limits most here w v part h still staged same under flushed = rec
   flushed = flushed;
 }
 
-pub part_fails_moving : {Works WorksNow : PartView → Type 0} (t u : Told) (limits : Limits) (here : Partition) (w : World) (part : Part) (h : HoldsPart Works t limits here w part) → ((t : Told) (p : PartView) → IsPart t p → OnlyDevicesOut t) → (TellsLogs t → OnlyDevicesOut t → OnlyDevicesOut u)
+pub part_fails_moving : {Works WorksNow : PartView → Type 0} (t u : Told) (limits : Limits) (here : Partition) (w : World) (part : Part) (h : HoldsPart Works t limits here w part)
     → ((p : PartView) → IsPart t p → TellsFiles t → Works p → HasFailedKeeping WorksNow u p.part (store_of p) None) → FailsPart WorksNow u here part part
-part_fails_moving t u limits here w part h law devices failed = record { devices = devices h.is.tells (law t h.view h.is); kept = inl (keeping t limits here w part h u None (failed h.view h.is h.tells h.jobs)) }
+part_fails_moving t u limits here w part h failed = record { kept = inl (keeping t limits here w part h u None (failed h.view h.is h.tells h.jobs)) }
 
 -- ---- all engines
 

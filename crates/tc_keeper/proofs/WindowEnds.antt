@@ -8,9 +8,6 @@ use Rattle.std.specs.declared.vec.Vec.{Vec}
 use Rattle.tc_model.specs.Keyed.{Keyed, Ascends, values_in, on_value}
 use Rattle.tc_request_model.specs.Request.{Request}
 use Rattle.tc_part.specs.FilesOut.{LogIsOut, OnlyDevicesOut}
-use Rattle.tc_part_model.specs.Meaning.{IsPart}
-use Rattle.tc_part_model.specs.PartState.{Told}
-use Rattle.tc_part_model.specs.PartView.{PartView}
 use Rattle.tc_route.specs.Answers.{window_answered, AreGathered, AreKindsGathered, IsForParts}
 use Rattle.tc_route.specs.Gathered.{gathered_rendered, AreRenderedGathered}
 use Rattle.tc_request_model.specs.Rendered.{rendered}
@@ -236,9 +233,9 @@ module _ {S D F W : Type 0} (eyes : Eyes S D F W) (window : Keyed Request) (es f
   ended_held xs given for_parts only w h =
       subst (λ gs. HoldWorld eyes only gs (after_all (values_in window) w)) (sym end.engines) (world_held eyes only window w es end.runs xs h end.ran (end.said ∙ given) for_parts)
 
-  pub ended_kept : ((t : Told) (p : PartView) → IsPart t p → OnlyDevicesOut t) → All (λ r. IsForParts r.1) window → (only : Option ℕ) (w : World) → HoldWorld eyes only es w → KeepWorlds eyes only fs w (after_all (values_in window) w)
-  ended_kept law for_parts only w h =
-      subst (λ gs. KeepWorlds eyes only gs w (after_all (values_in window) w)) (sym end.engines) (worlds_kept eyes only window w es end.runs law h end.ran for_parts)
+  pub ended_kept : All (λ r. IsForParts r.1) window → (only : Option ℕ) (w : World) → HoldWorld eyes only es w → KeepWorlds eyes only fs w (after_all (values_in window) w)
+  ended_kept for_parts only w h =
+      subst (λ gs. KeepWorlds eyes only gs w (after_all (values_in window) w)) (sym end.engines) (worlds_kept eyes only window w es end.runs h end.ran for_parts)
 
   pub ended_replied : (xs : List (List Placed)) → answers ≡ map Ok xs → AreGathered → AreRenderedGathered → 0 < length es → Ascends window → All (λ r. IsForParts r.1) window → (w : World) → HoldWorld eyes None es w
       → gathered_rendered (map rendered_in xs) ≡ map (on_value rendered) (window_answered window w)

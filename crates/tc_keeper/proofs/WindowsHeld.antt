@@ -4,10 +4,6 @@ use Rattle.std.specs.List.{AllByRecursion}
 use Rattle.std.specs.Prelude.{All, None, Option, Result, Ok, Err}
 use Rattle.tc_model.specs.Keyed.{Keyed, Ascends, values_in, on_value}
 use Rattle.tc_request_model.specs.Request.{Request}
-use Rattle.tc_part.specs.FilesOut.{OnlyDevicesOut}
-use Rattle.tc_part_model.specs.Meaning.{IsPart}
-use Rattle.tc_part_model.specs.PartState.{Told}
-use Rattle.tc_part_model.specs.PartView.{PartView}
 use Rattle.tc_route.specs.Answers.{answered, shares_answered, stores_of, window_answered, AreGathered, IsForParts, KeepOwn}
 use Rattle.tc_route.specs.Gathered.{gathered, gathered_rendered, AreRenderedGathered}
 use Rattle.tc_request_model.specs.Rendered.{rendered}
@@ -107,23 +103,23 @@ world_held eyes only window w es rs parts h ran answers for_parts = record {
 
 -- ---- some failed
 
-kept_one : {S D F W : Type 0} (eyes : Eyes S D F W) (only : Option ℕ) (count : ℕ) (window : Keyed Request) (w v : World) → ((t : Told) (p : PartView) → IsPart t p → OnlyDevicesOut t) → AreLeft count window w v
+kept_one : {S D F W : Type 0} (eyes : Eyes S D F W) (only : Option ℕ) (count : ℕ) (window : Keyed Request) (w v : World) → AreLeft count window w v
     → (p : ℕ) (old : Part) (f : WithJobs S D F W) (answer : Result (List Placed) EngineFault) (new : Part) → RanFrom eyes only count window w p old (f, answer) → IsLeft w.limits v.flushed (values_in (share count p window)) old new
     → KeepsOwn eyes only (length w.parts) w v p f old new
-kept_one eyes only count window w v law left p old f (Ok x) new from is_left = λ seen.
+kept_one eyes only count window w v left p old f (Ok x) new from is_left = λ seen.
     inr (inl (engine_held eyes (partition_at p (length w.parts)) (share count p window) w v left.limits left.flushed from.engine f x old new (from.holds seen) from.ran.0 from.ran.1 is_left))
-kept_one eyes only count window w v law left p old f (Err why) new from is_left = λ seen.
-    inr (inr (engine_failed eyes (partition_at p (length w.parts)) (share count p window) w v law from.engine f why old new (from.holds seen) from.ran.0 from.ran.1 is_left))
+kept_one eyes only count window w v left p old f (Err why) new from is_left = λ seen.
+    inr (inr (engine_failed eyes (partition_at p (length w.parts)) (share count p window) w v from.engine f why old new (from.holds seen) from.ran.0 from.ran.1 is_left))
 
-pub worlds_kept : {S D F W : Type 0} (eyes : Eyes S D F W) (only : Option ℕ) (window : Keyed Request) (w : World) (es : List (WithJobs S D F W)) (rs : List (Ran S D F W)) → ((t : Told) (p : PartView) → IsPart t p → OnlyDevicesOut t)
+pub worlds_kept : {S D F W : Type 0} (eyes : Eyes S D F W) (only : Option ℕ) (window : Keyed Request) (w : World) (es : List (WithJobs S D F W)) (rs : List (Ran S D F W))
     → HoldWorld eyes only es w → EachRan eyes window es rs → All (λ r. IsForParts r.1) window
     → KeepWorlds eyes only (map (λ r. r.0) rs) w (after_all (values_in window) w)
-worlds_kept eyes only window w es rs law h ran for_parts =
+worlds_kept eyes only window w es rs h ran for_parts =
     at_each-zip
     (λ p part e. (answer : Result (List Placed) EngineFault) × RanFrom eyes only (length es) window w p part (e, answer))
     (λ p old new. IsLeft w.limits v.flushed (values_in (share (length es) p window)) old new)
     (λ p e parts. KeepsOwn eyes only (length w.parts) w v p e parts.0 parts.1) 0 w.parts (map (λ r. r.0) rs) v.parts
-    (λ p old e new from is_left. kept_one eyes only (length es) window w v law left p old e from.0 new from.1 is_left)
+    (λ p old e new from is_left. kept_one eyes only (length es) window w v left p old e from.0 new from.1 is_left)
     (at_each-reads (λ r. r.0) (λ p part e. (answer : Result (List Placed) EngineFault) × RanFrom eyes only (length es) window w p part (e, answer)) 0 w.parts rs
     (at_each-so (RanFrom eyes only (length es) window w) (λ p part r. (answer : Result (List Placed) EngineFault) × RanFrom eyes only (length es) window w p part (r.0, answer)) 0 w.parts rs
     (λ p part r from. (r.1, record { engine = from.engine; holds = from.holds; ran = from.ran })) (ran_from eyes only window w es rs h ran)))

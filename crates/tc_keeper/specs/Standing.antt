@@ -6,7 +6,6 @@ use Rattle.tc_log.specs.Layout.{empty_size}
 use Rattle.tc_lsm_model.specs.Contents.{Partition}
 use Rattle.tc_plain_model.specs.Room.{Limits}
 use Rattle.tc_plain_model.specs.Writes.{Write, after_writes}
-use Rattle.tc_part.specs.FilesOut.{OnlyDevicesOut}
 use Rattle.tc_part_model.specs.Meaning.{IsPart, plain_of}
 use Rattle.tc_part_model.specs.PartState.{Told}
 use Rattle.tc_part_model.specs.PartView.{PartView}
@@ -38,9 +37,8 @@ pub record HoldsPart (Works : PartView → Type 0) (t : Told) (limits : Limits) 
   pub flushed : w.flushed ≡ true → IfTold t.log (λ f. length f.content ≤ empty_size)
 
 -- It has failed, and its files keep what the one part stores, or that or what the other one does, which is that behind a frame.
--- No file is out but those of its devices, and the jobs that are out work for what is kept.
+-- The jobs that are out work for what is kept.
 pub record FailsPart (Works : PartView → Type 0) (t : Told) (here : Partition) (before after : Part) : Type 0 where
-  pub devices : OnlyDevicesOut t
   pub kept : HasFailedKeeping Works t here before.now.pairs None
       ⊎ ((frame : List Write) × HasFailedKeeping Works t here before.now.pairs (Some frame) × (after_writes before.now.pairs frame ≡ after.now.pairs))
 

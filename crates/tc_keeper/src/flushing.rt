@@ -14,7 +14,6 @@ use crate::engines_fault::EnginesFault;
 use crate::seat::Seat;
 use std::alloc::Global;
 use std::thread::Threads;
-use tc_part::parts_hold_devices;
 use tc_running::{Pace, Running};
 use tc_store::Store;
 use tc_work::{EngineFault, Seen};
@@ -43,7 +42,6 @@ impl<S: Store, P: Pace> Engines<S, P> {
         ensures stopped { IfErr result (λ fault. IfOf fault (λ p why. (p < length self.old) × AtEach (StopsAt p (Flushes ⟦<S as Seen>⟧.eyes (λ d. S.Device.size d)) (FailsFlushing ⟦<S as Seen>⟧.eyes why)) 0 self.old self.new)) }
         ensures of_engine { IsErrOf result EnginesFault.Memory → ⊥ }
     {
-        parts_hold_devices();
         flush_each(rt, alloc, &mut self.seats, &mut self.running)
     }
 }

@@ -21,7 +21,6 @@ use std::alloc::Global;
 use std::thread::Threads;
 use tc_command::Schemas;
 use tc_log::Write;
-use tc_part::parts_hold_devices;
 use tc_record::record_within_weight;
 use tc_route::{Replies, Routed};
 use tc_running::Pace;
@@ -84,7 +83,6 @@ impl<S: Store, P: Pace> Partitions<S, P> {
         ensures cause { HasDiskCause (faults_of (λ w. S.Watch.counts w) self.old) (faults_of (λ w. S.Watch.counts w) self.new) (IsTrueOf S.history S.Device.history S.Frozen.content self.new) (fault_in result) }
     {
         record_within_weight();
-        parts_hold_devices();
         match self.engines.window(rt, alloc, commands, frames) {
             Ok(replies) => Ok(replies),
             Err(fault) => Err(of_window(fault)),
@@ -110,7 +108,6 @@ impl<S: Store, P: Pace> Partitions<S, P> {
         ensures settings { settings_of self.new ≡ settings_of self.old }
         ensures cause { HasDiskCause (faults_of (λ w. S.Watch.counts w) self.old) (faults_of (λ w. S.Watch.counts w) self.new) (IsTrueOf S.history S.Device.history S.Frozen.content self.new) (fault_in result) }
     {
-        parts_hold_devices();
         match self.engines.settle(rt, alloc) {
             Ok(()) => Ok(()),
             Err(fault) => Err(of_engines(fault)),
@@ -137,7 +134,6 @@ impl<S: Store, P: Pace> Partitions<S, P> {
         ensures settings { settings_of self.new ≡ settings_of self.old }
         ensures cause { HasDiskCause (faults_of (λ w. S.Watch.counts w) self.old) (faults_of (λ w. S.Watch.counts w) self.new) (IsTrueOf S.history S.Device.history S.Frozen.content self.new) (fault_in result) }
     {
-        parts_hold_devices();
         match self.engines.force_flush(rt, alloc) {
             Ok(()) => Ok(()),
             Err(fault) => Err(of_engines(fault)),

@@ -24,7 +24,6 @@ use std::thread::Threads;
 use tc_bytes::Memory;
 use tc_command::Command;
 use tc_log::Write;
-use tc_part::parts_hold_devices;
 use tc_route::{
     Replies, Routed, gather, kinds_are_gathered, rendered_are_gathered, replies_are_gathered, split,
 };
@@ -82,7 +81,6 @@ impl<S: Store, P: Pace> Engines<S, P> {
         replies_are_gathered();
         kinds_are_gathered();
         rendered_are_gathered();
-        parts_hold_devices();
         let lists = split(alloc, commands, self.seats.len() as u32)?;
         let room = make_room(alloc, self.seats.len(), frames)?;
         run_lists(rt, alloc, &lists, &mut self.seats, frames);

@@ -124,7 +124,7 @@ returns-clause-kept g c = λ only w h.
     (with_items c.self.inside.seats c.settle_each.new.seats).items) (with_items c.self.inside.running c.settle_each.new.running).items))
     c.settle_each.ensures.of_engine
     (λ p why stops. worlds_settled (eyes g.S.Store.history g.S.Device.Device.history g.S.Frozen.Frozen.content g.S.Device.Device.name g.S.Frozen.Frozen.size
-    g.S.Watch.Watch.counts) g.S.Device.Device.size laws.told_size c.parts_hold_devices.ensures.devices only p why w c.args.self.now
+    g.S.Watch.Watch.counts) g.S.Device.Device.size laws.told_size only p why w c.args.self.now
     (with_jobs (map (λ (s : Seat g.row.S.Denot g.row.P.Denot g.row.S-Watch.Denot g.row.S-Device.Denot g.row.S-Frozen.Denot). s.engine)
     (with_items c.self.inside.seats c.settle_each.new.seats).items) (with_items c.self.inside.running c.settle_each.new.running).items) h stops.1)
     (returns-clause-stopped g c)

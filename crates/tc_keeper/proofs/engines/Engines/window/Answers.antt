@@ -150,7 +150,7 @@ returns-in_err-parts-clause-kept g c = λ only w h. on_err c.from_residual-in_er
     (map (λ (s : Seat g.row.S.Denot g.row.P.Denot g.row.S-Watch.Denot g.row.S-Device.Denot g.row.S-Frozen.Denot). s.engine)
     (with_items (with_items c.self.inside.seats c.run_lists.new.seats) c.take_answers.new.seats).items) c.self.inside.running.items)
     (map (λ (s : Seat g.row.S.Denot g.row.P.Denot g.row.S-Watch.Denot g.row.S-Device.Denot g.row.S-Frozen.Denot). s.answer) c.deref_mut-2.result.now)
-    (failed_ended g c) c.parts_hold_devices.ensures.devices (window_for_parts c.args.commands.items c.requires.window) only w h)
+    (failed_ended g c) (window_for_parts c.args.commands.items c.requires.window) only w h)
 
 pub returns-in_err-parts-clause-ran : goal.returns-in_err-parts-clause-ran
 returns-in_err-parts-clause-ran g c = ended_ran (eyes g.S.Store.history g.S.Device.Device.history g.S.Frozen.Frozen.content g.S.Device.Device.name
@@ -227,7 +227,7 @@ returns-in_err-replies-clause-kept g c = λ only w h. on_err c.from_residual-in_
     (map (λ (s : Seat g.row.S.Denot g.row.P.Denot g.row.S-Watch.Denot g.row.S-Device.Denot g.row.S-Frozen.Denot). s.engine)
     (with_items (with_items c.self.inside.seats c.run_lists.new.seats) c.take_answers.new.seats).items) c.self.inside.running.items)
     (map (λ (s : Seat g.row.S.Denot g.row.P.Denot g.row.S-Watch.Denot g.row.S-Device.Denot g.row.S-Frozen.Denot). s.answer) c.deref_mut-2.result.now) (lost_ended g c)
-    c.parts_hold_devices.ensures.devices (window_for_parts c.args.commands.items c.requires.window) only w h)
+    (window_for_parts c.args.commands.items c.requires.window) only w h)
 
 pub returns-in_err-replies-clause-ran : goal.returns-in_err-replies-clause-ran
 returns-in_err-replies-clause-ran g c = ended_ran (eyes g.S.Store.history g.S.Device.Device.history g.S.Frozen.Frozen.content g.S.Device.Device.name
