@@ -45,8 +45,7 @@ pub(crate) fn differing<R: AllocGlobal + Threads + Wait + Sync>(rt: &R, paces: u
             seed,
             came: AtomicU64::new(0),
         };
-        // Windows that are large enough for a thread a partition.
-        let words = "run --partitions 4 --memory 4096 --window 1024 --merge 3";
+        let words = "run --partitions 4 --memory 4096 --window 64 --merge 3";
         if replies(rt, words, input, pace)?.as_slice() != plain.as_slice() {
             other = other.saturating_add(1);
         }

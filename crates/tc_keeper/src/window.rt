@@ -36,10 +36,10 @@ const MANY_COMMANDS: usize = 128;
 
 impl<S: Store, P: Pace> Engines<S, P> {
     /// Answers the commands of a window: each engine commits what its own commands write as one frame. It hands out the frames,
-    /// one a partition, in ascending number. One reply a command, in the order of these. A window that asks little is answered on
-    /// this thread. Where two partitions or more have a query, or many commands, the engines work at once, each but one on a thread
-    /// of its own. Where several engines fail, the fault is that of the least partition. After a fault no more windows are asked
-    /// for; engines of other partitions may have committed theirs.
+    /// one a partition, in ascending number. One reply a command, in the order of these. A window for one partition is answered on
+    /// this thread, and so is one for two, unless both have a query or many commands. Else the engines work at once, each but one on
+    /// a thread of its own. Where several engines fail, the fault is that of the least partition. After a fault no more windows are
+    /// asked for; engines of other partitions may have committed theirs.
     pub fn window<R: Threads + Sync>(
         &mut self,
         rt: &R,
@@ -150,12 +150,15 @@ fn run_each<S: Store, P: Pace, R: Threads + Sync>(
     );
 }
 
-/// In how many threads lists are run: in one unless two are long, and else each in its own.
+/// In how many threads lists are run: in one where at most one has a command, or two have that are not both long, and else each
+/// in its own. Two logs that are synced one after the other cost less than a thread a window. Of more that would take too long.
 fn threads_for(lists: &[Vec<Routed>]) -> usize
     ensures { 0 < result }
 {
+    let busy = lists.iter().filter(|list| !list.is_empty()).count();
     let long = lists.iter().filter(|list| is_long(list)).count();
-    if long < 2 { 1 } else { lists.len().max(1) }
+    let one = busy < 2 || busy == 2 && long < 2;
+    if one { 1 } else { lists.len().max(1) }
 }
 
 /// Whether a list is worth a thread: it has many commands, or a query, which may read all that a partition stores.
