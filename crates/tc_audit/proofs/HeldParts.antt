@@ -1,9 +1,12 @@
 -- The cursors of a list of components.
-use Rattle.std.proofs.Common.{◌≡◌, ◌<◌, ℕ, zero, suc, List, [], ◌∷◌, Option, None, Some, length, set, slice_get, replicate, refl, sym, subst, arith}
+use Rattle.std.proofs.Common.{◌≡◌, ◌∙◌, ◌<◌, ℕ, zero, suc, List, [], ◌∷◌, Option, None, Some, length, set, slice_get, replicate, refl, sym, subst, arith}
 use Rattle.std.proofs.lemmas.Option.{same_Some, slice_get_within}
 use Rattle.std.proofs.lemmas.Slice.Zip.{AllZip-long}
-use Rattle.tc_component.specs.Cursors.{CursorState, holds_nothing, HoldsPart}
+use Rattle.tc_component.specs.declared.slot.Slot.{Slot}
+use Rattle.tc_component.specs.Cursors.{CursorState, holds_nothing, HoldsPart, HasBytes, part_held}
+use Rattle.tc_component.specs.Fetching.{length_at, record_at, record_place}
 use Rattle.tc_component.specs.Loading.{ComponentState}
+use Rattle.tc_component.proofs.Windows.{part_told}
 use Rattle.tc_audit.specs.Walking.{HoldParts}
 
 module _ {F : Type 0} (told : F → Option (List ℕ)) where
@@ -32,3 +35,9 @@ module _ {F : Type 0} (told : F → Option (List ℕ)) where
   set_part (x ∷ cs) [] at c k hold here holds = absurd hold
   set_part (x ∷ cs) (j ∷ ks) zero c k hold here holds = (subst (λ (y : ComponentState F). HoldsPart (told y.file) k) (sym (same_Some x c here)) holds, hold.1)
   set_part (x ∷ cs) (j ∷ ks) (suc at) c k hold here holds = (hold.0, set_part cs ks at c k hold.1 here holds)
+
+-- the bytes of a record that are held are those of the file
+pub held_is : (content : Option (List ℕ)) (k : CursorState) (slots : List Slot) (at begin count : ℕ) (whole : List ℕ) → content ≡ Some whole → HoldsPart content k → HasBytes begin count k → begin ≡ record_place slots at → count ≡ length_at slots at
+    → part_held begin count k ≡ record_at slots at whole
+held_is content k slots at begin count whole tells holds has begins long =
+    part_told whole k begin count (subst (λ o. HoldsPart o k) tells holds) has ∙ rw (begins, long) refl

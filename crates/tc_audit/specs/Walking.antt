@@ -66,8 +66,8 @@ HoldParts told components cursors = AllZip (λ c k. HoldsPart (told c.file) k) c
 abbrev pub IsHarmAt : ℕ → Index → ℕ → List ℕ → Wrong → Type 0
 IsHarmAt component c at whole w = (w ≡ Record component (record_place c.slots at) (record_at c.slots at whole)) × (IsStoredIn c.version c.names (record_at c.slots at whole) → ⊥)
 
--- Where components that are right are behind it, what is counted does not stand for pairs that have the value of a key as they do:
--- so what is told then of the key's record is never told of files that stay as they are.
+-- Over older components that are right, what is counted does not stand for pairs that have the value of a key as these have it. So
+-- what a stop tells here of the key's older record is never told of files that stay as they are.
 pub record IsNeverTold {F : Type 0} (told : F → Option (List ℕ)) (older : List (ComponentState F)) (key : ℕ) (names : List Name) (schema : Counted) (gained : ℕ) : Type 0 where
   pub few : gained ≤ 2 ^ 32
   pub never : (part : Partition) (cs : List Content) (ps : Pairs) → AreRight told part older cs → value_of key ps ≡ value_of key (live cs) → StandsFor names schema (values_in ps) → ⊥

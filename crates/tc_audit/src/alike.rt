@@ -9,20 +9,20 @@ ghost use Rattle.tc_audit.specs.Alike.{AreAlike};
 use tc_bits::size_of_column;
 use tc_record::{HEADER_SIZE, PACKED_FORM, RecordRef};
 
-/// Where the form stands in a header, and behind it how many tags there are.
+/// Where the form stands in a header. The count of tags follows.
 const FORM_AT: usize = 4;
 
-/// Where they end.
+/// Where the count of tags ends.
 const FORM_END: usize = 9;
 
-/// Where it stands how many numbers there are, and behind it their width. Tags follow.
+/// Where the count of numbers stands. Their width follows, and then the tags.
 const NUMBERS_AT: usize = 18;
 
-/// Where the width stands.
+/// Where the width of numbers stands.
 const WIDTH_AT: usize = 22;
 
-/// Whether other bytes have the form, the tags and the numbers of a record, each where a record like it has them. Of a record
-/// without names the numbers come last. Takes no memory, and looks at no value.
+/// Whether other bytes have the form, the tags and the numbers of a record without names, each where it stands in one. The
+/// numbers come last. Takes no memory, and looks at no value.
 pub(crate) fn is_alike(of: &RecordRef<'_>, other: &[u8]) -> bool
     ensures { IsTrue result → (own form : ℕ) (n m : NumberedTree) → IsNumberedForm own → IsNumberedRecordIn own n of.now.bytes → IsNumberedRecordIn form m other.now → AreAlike (tokens_of n) (tokens_of m) }
 {

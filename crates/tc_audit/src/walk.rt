@@ -1,11 +1,13 @@
 //! The entries of a component, read and counted in ascending key.
 
-ghost use Rattle.std.specs.Prelude.{◌≡◌, ◌↔◌, ◌⊎◌, ◌≤◌, ◌<◌, ◌+◌, ◌^◌, ℕ, List, Some, OnOk, IsErrOf, IsTrue, length};
+ghost use Rattle.std.specs.Prelude.{◌≡◌, ◌↔◌, ◌⊎◌, ◌≤◌, ◌<◌, ◌+◌, ◌^◌, ℕ, List, Some, OnOk, IfSome, IfNone, IsErrOf, IsTrue, length};
 ghost use Rattle.tc_lsm_model.specs.Contents.{Partition, Content};
 ghost use Rattle.tc_lsm_model.specs.Lists.{live};
 ghost use Rattle.tc_model.specs.Keyed.{value_of};
-ghost use Rattle.tc_component.specs.Cursors.{HoldsPart, HasRecord, record_held};
-ghost use Rattle.tc_component.specs.Fetching.{IsPlace, IsRecordWithin, record_at};
+ghost use Rattle.tc_component.specs.Cursors.{HoldsPart, HasBytes};
+ghost use Rattle.tc_component.specs.Fetching.{IsPlace, record_at};
+ghost use Rattle.tc_component.specs.Layout.{directory_place};
+ghost use Rattle.tc_component.specs.Spelling.{sizes_in};
 ghost use Rattle.tc_audit.specs.declared.verdict.Wrong.{Wrong as Reason};
 ghost use Rattle.tc_audit.specs.Reasons.{AreRight, IsWrongBehind, IsWatched};
 ghost use Rattle.tc_audit.specs.Stops.{IfWrong, position_of};
@@ -179,13 +181,13 @@ fn count_place<F: Frozen>(
     ensures watched { IsWatched (IsErrOf result Stop.Disk) (F.Watch.counts watch.old) (F.Watch.counts watch.new) }
 {
     let number = older.len();
-    hold(number, component, place, cursor, watch)?;
-    let bytes = cursor.record(component, place);
-    let of = RecordRef::known(bytes);
-    if !spells_stored(of.again(), component.names()) {
-        return Err(unstored(alloc, number, component, place, bytes));
+    let (begin, count) = component.record_range(place);
+    hold(number, component, begin, count, cursor, watch)?;
+    let bytes = cursor.part(begin, count);
+    match stored_in(bytes, component) {
+        Some(of) => replace_few(alloc, older, key, of, cursors, recount, watch)?,
+        None => return Err(unstored(alloc, number, component, place, bytes)),
     }
-    replace_few(alloc, older, key, of, cursors, recount, watch)?;
     recount.gained += 1;
     Ok(())
 }
@@ -227,30 +229,42 @@ fn replace_few<F: Frozen>(
     Ok(())
 }
 
-/// Holds the record at a place of the component at a position, by at most one read.
+/// Holds so many bytes of the records of the component at a position, by at most one read.
 fn hold<F: Frozen>(
     number: usize,
     component: &Component<F>,
-    place: Place,
+    begin: u64,
+    count: u32,
     cursor: &mut RecordCursor,
     watch: &mut F::Watch,
 ) -> Result<(), Stop>
-    requires place { IsPlace component.now.index.slots place }
+    requires within { begin + count ≤ directory_place (sizes_in component.now.index) }
     requires of { HoldsPart (F.content component.now.file) cursor.old }
     ensures of { HoldsPart (F.content component.now.file) cursor.new }
-    ensures has { OnOk result (HasRecord component.now.index place.at cursor.new) }
-    ensures found { OnOk result (IsRecordWithin component.now.index.version (length component.now.index.names) (record_held component.now.index place.at cursor.new)) }
-    ensures read { OnOk result ((whole : List ℕ) → F.content component.now.file ≡ Some whole → record_held component.now.index place.at cursor.new ≡ record_at component.now.index.slots place.at whole) }
-    ensures place { IfWrong result (λ w. position_of w ≡ number) }
-    ensures harmed { IfWrong result (λ w. (whole : List ℕ) → F.content component.now.file ≡ Some whole → IsHarmAt number component.now.index place.at whole w) }
+    ensures has { OnOk result (HasBytes begin count cursor.new) }
+    ensures right { IfWrong result (λ w. ⊥) }
     ensures watched { IsWatched (IsErrOf result Stop.Disk) (F.Watch.counts watch.old) (F.Watch.counts watch.new) }
 {
-    // that the names are a dictionary
-    let _lawful = component.file_len();
-    match cursor.read(component, place, watch) {
+    match cursor.hold(component, begin, count, watch) {
         Ok(()) => Ok(()),
         Err(fault) => Err(of_read(number, fault)),
     }
+}
+
+/// The record that bytes of a component are, if it spells a document as it is stored there. Takes no memory.
+fn stored_in<'a, F: Frozen>(bytes: &'a [u8], component: &Component<F>) -> Option<RecordRef<'a>>
+    ensures bytes { IfSome result (λ of. of.bytes ≡ bytes.now) }
+    ensures form { IfSome result (λ of. of.form ≡ component.now.index.version) }
+    ensures stored { IfSome result (λ of. IsStoredIn of.form component.now.index.names of.bytes) }
+    ensures none { IfNone result (IsStoredIn component.now.index.version component.now.index.names bytes.now → ⊥) }
+{
+    // that the names are a dictionary
+    let _lawful = component.file_len();
+    let of = RecordRef::numbered(bytes, component.version())?;
+    if !spells_stored(of.again(), component.names()) {
+        return None;
+    }
+    Some(of)
 }
 
 /// That the record at a place of the component at a position is no stored one, or want of memory.
