@@ -10,8 +10,9 @@ ghost use Rattle.tc_model.specs.Json.{document_of};
 ghost use Rattle.tc_value.specs.Meaning.{tree_of};
 ghost use Rattle.tc_doc_reader.specs.Tokens.{items_in, members_in, spare_levels, document_next};
 
+use crate::guesses::Guesses;
 use crate::integers::integer_of;
-use crate::members::{Gaps, put_member};
+use crate::members::put_member;
 use json::{Reader, Scratch, Token};
 use std::alloc::{AllocError, Global};
 use tc_value::{Doc, Items, MAX_DEPTH, Member, Members, Text};
@@ -23,7 +24,7 @@ const LINE_DEPTH: u32 = MAX_DEPTH + 1;
 #[derive(Drop)]
 pub struct DocReader {
     scratch: Scratch,
-    gaps: Gaps,
+    guesses: Guesses,
 }
 
 impl DocReader {
@@ -31,7 +32,7 @@ impl DocReader {
     pub fn new(alloc: Global) -> DocReader {
         DocReader {
             scratch: Scratch::new(alloc),
-            gaps: Gaps::new(),
+            guesses: Guesses::new(),
         }
     }
 
@@ -45,7 +46,7 @@ impl DocReader {
         let Ok(mut reader) = Reader::new(text, &mut self.scratch) else {
             return Err(AllocError);
         };
-        let found = read_next(alloc, &mut reader, &mut self.gaps, LINE_DEPTH)?;
+        let found = read_next(alloc, &mut reader, &mut self.guesses, LINE_DEPTH)?;
         match reader.next() {
             Some(_) => Ok(None),
             None => Ok(found),
@@ -58,7 +59,7 @@ impl DocReader {
 fn read_next(
     alloc: Global,
     reader: &mut Reader<'_>,
-    gaps: &mut Gaps,
+    guesses: &mut Guesses,
     room: u32,
 ) -> Result<Option<Doc>, AllocError>
     ensures meant { IfOk result (λ found. IfSome found
@@ -82,7 +83,7 @@ fn read_next(
             if room == 0 {
                 return Ok(None);
             }
-            match read_items(alloc, reader, gaps, room - 1)? {
+            match read_items(alloc, reader, guesses, room - 1)? {
                 Some(items) => Ok(Some(Doc::Array(items))),
                 None => Ok(None),
             }
@@ -91,7 +92,7 @@ fn read_next(
             if room == 0 {
                 return Ok(None);
             }
-            match read_members(alloc, reader, gaps, room - 1)? {
+            match read_members(alloc, reader, guesses, room - 1)? {
                 Some(members) => Ok(Some(Doc::Object(members))),
                 None => Ok(None),
             }
@@ -113,7 +114,7 @@ fn int_of(number: Option<i64>) -> Option<Doc>
 fn read_items(
     alloc: Global,
     reader: &mut Reader<'_>,
-    gaps: &mut Gaps,
+    guesses: &mut Guesses,
     room: u32,
 ) -> Result<Option<Items>, AllocError>
     ensures meant { IfOk result (λ found. IfSome found (λ xs.
@@ -122,13 +123,14 @@ fn read_items(
     ensures shallow { IfOk result (λ found. IfSome found (λ xs. items_depth (items_of xs) ≤ room)) }
     ensures shorter { IfOk result (λ found. IsSome found → length reader.new < length reader.old) }
 {
-    let mut found = Vec::new(alloc);
+    let mut found = Vec::with_capacity(alloc, guesses.items.room(room))?;
     'items: while !reader.take_end_array() {
-        match read_next(alloc, reader, gaps, room)? {
+        match read_next(alloc, reader, guesses, room)? {
             Some(item) => found.push(item)?,
             None => return Ok(None),
         }
     }
+    guesses.items.keep(room, found.len());
     Ok(Some(Items::of(found)))
 }
 
@@ -138,7 +140,7 @@ fn read_items(
 fn read_members(
     alloc: Global,
     reader: &mut Reader<'_>,
-    gaps: &mut Gaps,
+    guesses: &mut Guesses,
     room: u32,
 ) -> Result<Option<Members>, AllocError>
     ensures meant { IfOk result (λ found. IfSome found (λ xs.
@@ -148,19 +150,26 @@ fn read_members(
     ensures shallow { IfOk result (λ found. IfSome found (λ xs. members_depth (members_of xs) ≤ room)) }
     ensures shorter { IfOk result (λ found. IsSome found → length reader.new < length reader.old) }
 {
-    let mut found = Vec::new(alloc);
+    let mut found = Vec::with_capacity(alloc, guesses.members.room(room))?;
     'members: while true {
         match reader.next_key() {
             Ok(Some(name)) => {
                 let name = Text::of(String::from_str(alloc, name)?);
-                match read_next(alloc, reader, gaps, room)? {
-                    Some(value) => if !put_member(&mut found, Member { name, value }, gaps)? {
+                match read_next(alloc, reader, guesses, room)? {
+                    Some(value) => if !put_member(
+                        &mut found,
+                        Member { name, value },
+                        &mut guesses.gaps,
+                    )? {
                         return Ok(None);
                     },
                     None => return Ok(None),
                 }
             }
-            Ok(None) => return Ok(Some(Members::of(found))),
+            Ok(None) => {
+                guesses.members.keep(room, found.len());
+                return Ok(Some(Members::of(found)));
+            }
             Err(_) => return Ok(None),
         }
     }

@@ -20,9 +20,9 @@ read_items-items-init t c =
     let all = converted items_in (items (value (c.args.room + spare_levels)) (length c.args.reader.now) c.args.reader.now) in (
       length c.args.reader.now,
       omega arith,
-      none_before all ∙ ap (λ ds. parse_map (items_before (map tree_of ds)) all) (sym c.new-found.ensures.items),
+      none_before all ∙ ap (λ ds. parse_map (items_before (map tree_of ds)) all) (sym c.in_ok-found.ensures.items),
       omega arith,
-      subst (λ ds. items_depth (items_of (map tree_of ds)) ≤ c.args.room) (sym c.new-found.ensures.items) (omega arith),
+      subst (λ ds. items_depth (items_of (map tree_of ds)) ≤ c.args.room) (sym c.in_ok-found.ensures.items) (omega arith),
     )
 
 pub read_items-items-preserved : goal.read_items-items-preserved
@@ -63,10 +63,10 @@ read_members-members-init t c =
     let all = members (value (c.args.room + spare_levels)) (length c.args.reader.now) c.args.reader.now in (
       length c.args.reader.now,
       omega arith,
-      ap (λ es. converted (λ ms. members_in ms (members_of (map member_of es))) all) (sym c.new-found.ensures.items),
+      ap (λ es. converted (λ ms. members_in ms (members_of (map member_of es))) all) (sym c.in_ok-found.ensures.items),
       omega arith,
-      subst (λ es. IsAscending (map member_of es)) (sym c.new-found.ensures.items) tt,
-      subst (λ es. members_depth (members_of (map member_of es)) ≤ c.args.room) (sym c.new-found.ensures.items) (omega arith),
+      subst (λ es. IsAscending (map member_of es)) (sym c.in_ok-found.ensures.items) tt,
+      subst (λ es. members_depth (members_of (map member_of es)) ≤ c.args.room) (sym c.in_ok-found.ensures.items) (omega arith),
     )
 
 pub read_members-members-preserved : goal.read_members-members-preserved
