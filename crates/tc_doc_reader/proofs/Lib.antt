@@ -1,3 +1,4 @@
 mod Fitting
 mod TokenLaws
 mod Depths
+mod PlainNumbers
