@@ -1,4 +1,5 @@
-mod Fitting
 mod TokenLaws
 mod Depths
+mod Ascending
+mod Orders
 mod PlainNumbers

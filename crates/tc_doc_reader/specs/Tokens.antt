@@ -1,5 +1,5 @@
 -- Which document the tokens of a JSON text mean.
-use Rattle.std.specs.Prelude.{ℕ, ◌+◌, List, Option, Some, option_map, option_and_then}
+use Rattle.std.specs.Prelude.{ℕ, ◌+◌, List, [], ◌∷◌, Option, Some, option_map, option_and_then}
 use Rattle.std.specs.Ordering.{match_ordering}
 use Rattle.json.specs.Token.{Token}
 use Rattle.json.specs.Json as json
@@ -22,6 +22,11 @@ with_member k t no_members = member k t no_members
 with_member k t (member l u ms) = match_ordering (name_cmp k l) (member k t (member l u ms)) (member l t ms) (member l u (with_member k t ms))
 
 -- the members found so far, with these put among them one after another
+abbrev pub with_members : List (Name × Document) → Members Name Scalar → Members Name Scalar
+with_members [] found = found
+with_members (m ∷ ms) found = with_members ms (with_member m.0 m.1 found)
+
+-- the same of the members of a JSON object
 abbrev pub members_in : json.Members → Members Name Scalar → Option (Members Name Scalar)
 members_in json.no_members found = Some found
 members_in (json.member k j ms) found = option_and_then (λ t. members_in ms (with_member k t found)) (document_in j)

@@ -1,6 +1,6 @@
 //! What is guessed of a document from those before it.
 
-use crate::members::Gaps;
+use crate::members::Orders;
 
 // The depths that a list in a line can have: that of the line's own object, and those of a document.
 const DEPTHS: usize = 33;
@@ -14,7 +14,7 @@ const MAX_ROOM: usize = 128;
 /// Guesses from the documents before.
 #[derive(Drop)]
 pub(crate) struct Guesses {
-    pub(crate) gaps: Gaps,
+    pub(crate) orders: Orders,
     pub(crate) items: Lengths,
     pub(crate) members: Lengths,
 }
@@ -23,7 +23,7 @@ impl Guesses {
     /// Before any document.
     pub(crate) fn new() -> Guesses {
         Guesses {
-            gaps: Gaps::new(),
+            orders: Orders::new(),
             items: Lengths::new(),
             members: Lengths::new(),
         }

@@ -1,173 +1,166 @@
-//! The members of an object, put one after another into the byte order of their names.
+//! The members of an object, put into the byte order of their names.
 
-ghost use Rattle.std.specs.Prelude.{◌≡◌, ◌≤◌, length, map, take, drop, IfOk, OnOk, IfSome, IsTrue};
-ghost use Rattle.std.specs.List.{insert};
-ghost use Rattle.tc_model.specs.Tree.{members_of};
-ghost use Rattle.tc_model.specs.Document.{IsAscending};
-ghost use Rattle.tc_value.specs.Meaning.{tree_of, member_of};
-ghost use Rattle.tc_doc_reader.specs.Tokens.{with_member};
-ghost use Rattle.tc_doc_reader.specs.Places.{AreBelow, AreAbove, FitsAt};
+ghost use Rattle.std.specs.Prelude.{◌≡◌, ◌<◌, length, map, IfSome, IsTrue};
+ghost use Rattle.std.specs.List.Sorted.{IsPermutation};
+ghost use Rattle.tc_model.specs.Tree.{members_of, no_members};
+ghost use Rattle.std.specs.declared.cmp.Ordering.TheVariants.{Less};
+ghost use Rattle.tc_model.specs.Document.{name_cmp, IsAscending};
+ghost use Rattle.tc_value.specs.Meaning.{member_of};
+ghost use Rattle.tc_doc_reader.specs.Tokens.{with_members};
 
-use std::alloc::AllocError;
 use std::cmp::Ordering;
 use tc_value::Member;
 
-// How many members are put into order; more have to stand in order.
-const MAX_UNORDERED: usize = 1024;
+// Objects of fewer members have their order kept.
+const KEPT: usize = 64;
 
-// How many members of an object are put by a guess.
-const GUESSED: usize = 64;
+// How many orders are kept.
+const ROWS: usize = 64;
 
-/// Where members were put last, by how many their object had then. Objects of one kind, one behind the other, mostly have
-/// their members in the same order, so that each goes where the one before it in its turn went.
+/// By which exchanges the members of objects came into order last, in a row by the depth of the object and the number of its
+/// members. Objects of one kind, one behind the other, mostly have their members in the same order, so that the same
+/// exchanges put the next one into order, and a comparison a member tells that they did.
 #[derive(Drop)]
-pub(crate) struct Gaps {
-    gaps: [usize; GUESSED],
+pub(crate) struct Orders {
+    exchanges: [u8; 4096],
 }
 
-impl Gaps {
+impl Orders {
     /// Before any object.
-    pub(crate) fn new() -> Gaps {
-        Gaps { gaps: [0; GUESSED] }
+    pub(crate) fn new() -> Orders {
+        Orders {
+            exchanges: [0; 4096],
+        }
     }
 
-    // Where a name goes among members, whatever the guess, or `None` where one has this name, and among more than 1,024
-    // whose names do not ascend.
-    fn gap_of(&mut self, found: &[Member], name: &str) -> Option<usize>
-        requires ascending { IsAscending (map member_of found.now) }
-        ensures within { IfSome result (λ gap. gap ≤ length found.now) }
-        ensures fits { IfSome result (λ gap. FitsAt name.now gap (map member_of found.now)) }
+    // Exchanges members as those of the last object of the row.
+    fn repeat(&self, found: &mut Vec<Member>, row: usize)
+        requires { row < 64 }
+        ensures { IsPermutation found.old.items found.new.items }
     {
-        let guess = self.guess(found.len());
-        if fits_at(found, name, guess) {
-            return Some(guess);
+        let mut at = 0;
+        'members: while at < found.len() {
+            self.exchange(found, row, at);
+            at += 1;
         }
-        let gap = searched_gap(found, name)?;
-        self.keep(found.len(), gap);
-        Some(gap)
     }
 
-    // Where the next of so many members may go.
-    fn guess(&self, count: usize) -> usize
-        ensures { result ≤ count }
+    // Takes back what `repeat` did.
+    fn take_back(&self, found: &mut Vec<Member>, row: usize)
+        requires { row < 64 }
+        ensures { IsPermutation found.old.items found.new.items }
     {
-        if count < GUESSED {
-            count.min(self.gaps[count])
-        } else {
-            count
+        let mut at = found.len();
+        'members: while at > 0 {
+            at -= 1;
+            self.exchange(found, row, at);
         }
     }
 
-    fn keep(&mut self, count: usize, gap: usize) {
-        if count < GUESSED {
-            self.gaps[count] = gap;
+    // Exchanges the member at a place with the one behind it that went there last.
+    fn exchange(&self, found: &mut Vec<Member>, row: usize, at: usize)
+        requires row { row < 64 }
+        requires inside { at < length found.now.items }
+        ensures { IsPermutation found.old.items found.new.items }
+    {
+        let count = found.len();
+        if count >= KEPT {
+            return;
+        }
+        let from = self.exchanges[row * KEPT + at] as usize;
+        if at < from && from < count {
+            found.swap(at, from);
+        }
+    }
+
+    // Sorts members. Where they are few it keeps by which exchanges.
+    fn sort(&mut self, found: &mut Vec<Member>, row: usize)
+        requires { row < 64 }
+        ensures { IsPermutation found.old.items found.new.items }
+    {
+        let count = found.len();
+        if count >= KEPT {
+            found.sort_unstable_by(|a, b| a.name.as_str().cmp(b.name.as_str()));
+            return;
+        }
+        let mut at = 0;
+        'members: while at < count {
+            let from = least_from(found, at);
+            found.swap(at, from);
+            self.exchanges[row * KEPT + at] = from as u8;
+            at += 1;
         }
     }
 }
 
-/// Puts a member in its place, and answers whether it did: it does not where one has its name, nor among more than 1,024
-/// whose names do not ascend.
-pub(crate) fn put_member(
-    found: &mut Vec<Member>,
-    member: Member,
-    gaps: &mut Gaps,
-) -> Result<bool, AllocError>
-    requires ascending { IsAscending (map member_of found.now.items) }
-    ensures ascending { IfOk result (λ put. IsTrue put → IsAscending (map member_of found.new.items)) }
-    ensures put { IfOk result (λ put. IsTrue put → members_of (map member_of found.new.items)
-        ≡ with_member member.name (tree_of member.value) (members_of (map member_of found.old.items))) }
+// The row of objects of so many members, by how many levels there may be below them.
+fn row_of(count: usize, levels: u32) -> usize
+    ensures { result < 64 }
 {
-    match gaps.gap_of(found, member.name.as_str()) {
-        Some(gap) => {
-            put_at(found, gap, member)?;
-            Ok(true)
+    (count % ROWS + levels as usize % ROWS * 8) % ROWS
+}
+
+/// The members in the byte order of their names, or `None` where two have one name.
+pub(crate) fn in_order(
+    mut found: Vec<Member>,
+    orders: &mut Orders,
+    levels: u32,
+) -> Option<Vec<Member>>
+    ensures ascending { IfSome result (λ all. IsAscending (map member_of all.items)) }
+    ensures put { IfSome result (λ all. members_of (map member_of all.items)
+        ≡ with_members (map member_of found.items) no_members) }
+{
+    let row = row_of(found.len(), levels);
+    orders.repeat(&mut found, row);
+    if ascend(&found) {
+        return Some(found);
+    }
+    orders.take_back(&mut found, row);
+    orders.sort(&mut found, row);
+    if ascend(&found) { Some(found) } else { None }
+}
+
+// Whether the names ascend.
+fn ascend(found: &[Member]) -> bool
+    ensures { IsTrue result → IsAscending (map member_of found.now) }
+{
+    let mut at = found.len();
+    'names: while at > 1 {
+        at -= 1;
+        if !is_less(found[at - 1].name.as_str(), found[at].name.as_str()) {
+            return false;
         }
-        None => Ok(false),
     }
+    true
 }
 
-// Puts a member behind so many. Most go behind all.
-fn put_at(found: &mut Vec<Member>, gap: usize, member: Member) -> Result<(), AllocError>
-    requires within { gap ≤ length found.now.items }
-    ensures { OnOk result (found.new.items ≡ insert found.old.items gap member) }
+// Whether a name is less than another. Mostly the first bytes tell it.
+fn is_less(name: &str, other: &str) -> bool
+    ensures { IsTrue result → name_cmp name.now other.now ≡ Less }
 {
-    if gap == found.len() {
-        found.push(member)?;
-    } else {
-        found.insert(gap, member)?;
-    }
-    Ok(())
-}
-
-// One comparison tells it where the names ascend.
-fn searched_gap(found: &[Member], name: &str) -> Option<usize>
-    requires ascending { IsAscending (map member_of found.now) }
-    ensures within { IfSome result (λ gap. gap ≤ length found.now) }
-    ensures fits { IfSome result (λ gap. FitsAt name.now gap (map member_of found.now)) }
-{
-    if fits_at(found, name, found.len()) {
-        return Some(found.len());
-    }
-    if found.len() > MAX_UNORDERED {
-        return None;
-    }
-    gap_for(found, name)
-}
-
-// Whether a name goes between so many members and the others.
-fn fits_at(found: &[Member], name: &str, gap: usize) -> bool
-    requires ascending { IsAscending (map member_of found.now) }
-    requires within { gap ≤ length found.now }
-    ensures { IsTrue result → FitsAt name.now gap (map member_of found.now) }
-{
-    is_behind(found, name, gap) && is_before(found, name, gap)
-}
-
-// Whether a name is greater than those of so many members.
-fn is_behind(found: &[Member], name: &str, gap: usize) -> bool
-    requires ascending { IsAscending (map member_of found.now) }
-    requires within { gap ≤ length found.now }
-    ensures { IsTrue result → AreBelow name.now (take gap (map member_of found.now)) }
-{
-    if gap == 0 {
+    let (first, second) = (name.as_bytes(), other.as_bytes());
+    if !first.is_empty() && !second.is_empty() && first[0] < second[0] {
         return true;
     }
-    match found[gap - 1].name.as_str().cmp(name) {
+    match name.cmp(other) {
         Ordering::Less => true,
         Ordering::Equal | Ordering::Greater => false,
     }
 }
 
-// Whether a name is smaller than those of the members behind so many.
-fn is_before(found: &[Member], name: &str, gap: usize) -> bool
-    requires ascending { IsAscending (map member_of found.now) }
-    requires within { gap ≤ length found.now }
-    ensures { IsTrue result → AreAbove name.now (drop gap (map member_of found.now)) }
+// Which member from a place on has the least name.
+fn least_from(found: &[Member], from: usize) -> usize
+    requires { from < length found.now }
+    ensures { result < length found.now }
 {
-    if gap == found.len() {
-        return true;
-    }
-    match found[gap].name.as_str().cmp(name) {
-        Ordering::Greater => true,
-        Ordering::Equal | Ordering::Less => false,
-    }
-}
-
-// How many members have a smaller name, or `None` where one has this name.
-fn gap_for(found: &[Member], name: &str) -> Option<usize>
-    requires ascending { IsAscending (map member_of found.now) }
-    ensures within { IfSome result (λ gap. gap ≤ length found.now) }
-    ensures fits { IfSome result (λ gap. FitsAt name.now gap (map member_of found.now)) }
-{
-    let mut low = 0;
-    let mut high = found.len();
-    while low < high {
-        let middle = low + (high - low) / 2;
-        match found[middle].name.as_str().cmp(name) {
-            Ordering::Less => low = middle + 1,
-            Ordering::Greater => high = middle,
-            Ordering::Equal => return None,
+    let mut least = from;
+    let mut at = from;
+    'names: while at < found.len() {
+        match found[at].name.as_str().cmp(found[least].name.as_str()) {
+            Ordering::Less => least = at,
+            Ordering::Equal | Ordering::Greater => {}
         }
+        at += 1;
     }
-    Some(low)
+    least
 }

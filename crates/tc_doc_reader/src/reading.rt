@@ -12,7 +12,7 @@ ghost use Rattle.tc_doc_reader.specs.Tokens.{items_in, members_in, spare_levels,
 
 use crate::guesses::Guesses;
 use crate::integers::integer_of;
-use crate::members::put_member;
+use crate::members::in_order;
 use json::{Reader, Scratch, Token};
 use std::alloc::{AllocError, Global};
 use tc_value::{Doc, Items, MAX_DEPTH, Member, Members, Text};
@@ -156,19 +156,16 @@ fn read_members(
             Ok(Some(name)) => {
                 let name = Text::of(String::from_str(alloc, name)?);
                 match read_next(alloc, reader, guesses, room)? {
-                    Some(value) => if !put_member(
-                        &mut found,
-                        Member { name, value },
-                        &mut guesses.gaps,
-                    )? {
-                        return Ok(None);
-                    },
+                    Some(value) => found.push(Member { name, value })?,
                     None => return Ok(None),
                 }
             }
             Ok(None) => {
                 guesses.members.keep(room, found.len());
-                return Ok(Some(Members::of(found)));
+                return match in_order(found, &mut guesses.orders, room) {
+                    Some(all) => Ok(Some(Members::of(all))),
+                    None => Ok(None),
+                };
             }
             Err(_) => return Ok(None),
         }

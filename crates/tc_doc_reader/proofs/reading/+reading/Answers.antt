@@ -1,17 +1,17 @@
 use Rattle.std.proofs.Common.{◌≡◌, ◌∙◌, ◌+◌, ◌-◌, ◌<◌, ◌≤◌, ◌++◌, [], ◌∷◌, length, map, Some, None, IfSome, option_map, sym, ap, subst, arith, rules}
 use Rattle.std.proofs.lemmas.List.{map-append}
-use Rattle.std.specs.List.Sorted.{IsStrictlySortedBy}
 use Rattle.json.specs.Token.{Token}
 use Rattle.json.specs.Json.{parse_map, after_end_array, read_key, items, members, value}
 use Rattle.json.specs.Reads.{token_of}
 use Rattle.json.proofs.Grammar.{value_is, value-begin_array, value-begin_object, read_key-shorter}
 use Rattle.serde_json.specs.Read.{converted}
 use Rattle.tc_model.specs.Tree.{leaf, items_of, members_of, no_members, depth, items_depth, members_depth}
-use Rattle.tc_model.specs.Document.{text, IsAscending}
+use Rattle.tc_model.specs.Document.{text}
 use Rattle.tc_value.specs.Meaning.{tree_of, member_of}
 use Rattle.tc_value.specs.declared.document.Doc.{Doc}
-use Rattle.tc_doc_reader.specs.Tokens.{document_in, items_in, members_in, with_member, spare_levels, document_next}
+use Rattle.tc_doc_reader.specs.Tokens.{document_in, items_in, members_in, with_member, with_members, spare_levels, document_next}
 use Rattle.tc_doc_reader.proofs.Depths.{one_more_item_deep, one_more_member_deep}
+use Rattle.tc_doc_reader.proofs.Orders.{one_more_member}
 use Rattle.tc_doc_reader.proofs.TokenLaws.{item_next, items_over, member_next, members_over, items_before, items_before-no_items, one_more_item, none_before, number_told, array_next, object_next}
 use Rattle.tc_doc_reader.proofs.reading.+reading.Goals as goal
 
@@ -58,15 +58,13 @@ read_items-returns-clause-meant t c =
     l.invariant.2 ∙ ap (parse_map (items_before found)) (items_over p n l.reader r l.invariant.1 (grind arith)) ∙ ap (λ ds. Some (ds, r)) (items_before-no_items found ∙ ap items_of (sym c.of.ensures))
 
 pub read_members-members-init : goal.read_members-members-init
-unfolding IsStrictlySortedBy
 read_members-members-init t c =
     let all = members (value (c.args.room + spare_levels)) (length c.args.reader.now) c.args.reader.now in (
       length c.args.reader.now,
       omega arith,
-      ap (λ es. converted (λ ms. members_in ms (members_of (map member_of es))) all) (sym c.in_ok-found.ensures.items),
+      ap (λ es. converted (λ ms. members_in ms (with_members (map member_of es) no_members)) all) (sym c.in_ok-found.ensures.items),
       omega arith,
-      subst (λ es. IsAscending (map member_of es)) (sym c.in_ok-found.ensures.items) tt,
-      subst (λ es. members_depth (members_of (map member_of es)) ≤ c.args.room) (sym c.in_ok-found.ensures.items) (omega arith),
+      subst (λ es. members_depth (with_members (map member_of es) no_members) ≤ c.args.room) (sym c.in_ok-found.ensures.items) (omega arith),
     )
 
 pub read_members-members-preserved : goal.read_members-members-preserved
@@ -74,7 +72,7 @@ read_members-members-preserved t c =
     let p = value (c.args.room + spare_levels) in
     let l = c.members in
     let n = l.invariant.0 in
-    let old = members_of (map member_of l.found.items) in
+    let old = with_members (map member_of l.found.items) no_members in
     let k = c.in-Ok-Some.name.now in
     let s = c.next_key.new.self in
     let named : read_key l.reader ≡ Some (Some k, s) = grind arith in
@@ -87,23 +85,24 @@ read_members-members-preserved t c =
     let less = read_key-shorter l.reader (Some k) s named in
     let lesser : length r < length s = grind arith in
     let copied : c.of-name.result ≡ k = search rules in
-    let put : members_of (map member_of c.put_member.new.found.items) ≡ with_member c.of-name.result (tree_of v) old = search rules in (
+    let put : with_members (map member_of c.push.new.self.items) no_members ≡ with_member c.of-name.result (tree_of v) old =
+    ap (λ es. with_members (map member_of es) no_members) c.in_ok-push-in-Some.ensures.items ∙ ap (λ es. with_members es no_members) (map-append member_of l.found.items _) ∙ one_more_member (map member_of l.found.items) (c.of-name.result, tree_of v) no_members in (
       n - 1,
       omega (arith, l.invariant.1),
       l.invariant.2 ∙ member_next p old n k l.reader s r (tree_of v) (omega (arith, l.invariant.1)) named meant
           ∙ ap (λ found. converted (λ ms. members_in ms found) (members p (n - 1) r)) (sym (put ∙ ap (λ name. with_member name (tree_of v) old) copied)),
       omega (arith, l.invariant.3),
-      search rules,
-      subst (λ ms. members_depth ms ≤ c.args.room) (sym put) (one_more_member_deep c.of-name.result (tree_of v) old c.args.room l.invariant.5 shallow),
+      subst (λ ms. members_depth ms ≤ c.args.room) (sym put) (one_more_member_deep c.of-name.result (tree_of v) old c.args.room l.invariant.4 shallow),
     )
 
-pub read_members-returns-in-Ok-None-clause-meant : goal.read_members-returns-in-Ok-None-clause-meant
-read_members-returns-in-Ok-None-clause-meant t c =
+pub read_members-returns-in-Some-in_order-clause-meant : goal.read_members-returns-in-Some-in_order-clause-meant
+read_members-returns-in-Some-in_order-clause-meant t c =
     let p = value (c.args.room + spare_levels) in
     let l = c.members in
     let n = l.invariant.0 in
-    let old = members_of (map member_of l.found.items) in
-    l.invariant.2 ∙ members_over p old n l.reader c.next_key.new.self l.invariant.1 (grind arith) ∙ ap (λ ms. Some (members_of ms, c.next_key.new.self)) (sym c.of.ensures)
+    let old = with_members (map member_of l.found.items) no_members in
+    let all : members_of c.of.result ≡ old = ap members_of c.of.ensures ∙ c.in-Some-in_order.ensures.put in
+    l.invariant.2 ∙ members_over p old n l.reader c.next_key.new.self l.invariant.1 (grind arith) ∙ ap (λ ms. Some (ms, c.next_key.new.self)) (sym all)
 
 pub read_next-returns-in_ok-from_str-in-String-clause-meant : goal.read_next-returns-in_ok-from_str-in-String-clause-meant
 read_next-returns-in_ok-from_str-in-String-clause-meant t c =
@@ -159,10 +158,6 @@ read_next-returns-in-Some-3-clause-meant t c =
 pub read_items-returns-clause-shallow : goal.read_items-returns-clause-shallow
 read_items-returns-clause-shallow t c =
     subst (λ xs. items_depth (items_of xs) ≤ c.args.room) (sym c.of.ensures) c.items.invariant.4
-
-pub read_members-returns-in-Ok-None-clause-shallow : goal.read_members-returns-in-Ok-None-clause-shallow
-read_members-returns-in-Ok-None-clause-shallow t c =
-    subst (λ ms. members_depth (members_of ms) ≤ c.args.room) (sym c.of.ensures) c.members.invariant.5
 
 pub read_next-returns-in-Some-2-clause-shallow : goal.read_next-returns-in-Some-2-clause-shallow
 read_next-returns-in-Some-2-clause-shallow t c =

@@ -1,10 +1,9 @@
 use Rattle.std.proofs.Common.{◌≡◌, ◌+◌, ◌*◌, ◌≤◌, ℕ, length, map}
 use Rattle.json.specs.Json.{items, members, value, parse_map}
 use Rattle.serde_json.specs.Read.{converted}
-use Rattle.tc_model.specs.Tree.{no_members, items_of, members_of, items_depth, members_depth}
-use Rattle.tc_model.specs.Document.{IsAscending}
+use Rattle.tc_model.specs.Tree.{no_members, items_of, items_depth, members_depth}
 use Rattle.tc_value.specs.Meaning.{tree_of, member_of}
-use Rattle.tc_doc_reader.specs.Tokens.{items_in, members_in, spare_levels}
+use Rattle.tc_doc_reader.specs.Tokens.{items_in, with_members, members_in, spare_levels}
 use Rattle.tc_doc_reader.proofs.TokenLaws.{items_before}
 use Rattle.tc_doc_reader.proofs.reading.+reading.Given as goal
 
@@ -30,10 +29,9 @@ decreases-read_items-items l = length l.reader
 abbrev pub invariant-read_members-members : goal.invariant-read_members-members
 invariant-read_members-members l =
     (n : ℕ) × (length l.reader ≤ n)
-    × (converted (λ ms. members_in ms no_members) (members (value (l.room + spare_levels)) (length l.initial.reader) l.initial.reader) ≡ converted (λ ms. members_in ms (members_of (map member_of l.found.items))) (members (value (l.room + spare_levels)) n l.reader))
+    × (converted (λ ms. members_in ms no_members) (members (value (l.room + spare_levels)) (length l.initial.reader) l.initial.reader) ≡ converted (λ ms. members_in ms (with_members (map member_of l.found.items) no_members)) (members (value (l.room + spare_levels)) n l.reader))
     × (length l.reader ≤ length l.initial.reader)
-    × IsAscending (map member_of l.found.items)
-    × (members_depth (members_of (map member_of l.found.items)) ≤ l.room)
+    × (members_depth (with_members (map member_of l.found.items) no_members) ≤ l.room)
 
 abbrev pub decreases-read_members-members : goal.decreases-read_members-members
 decreases-read_members-members l = length l.reader

@@ -1,0 +1,9 @@
+use Rattle.std.proofs.Common.{◌-◌, length}
+use Rattle.std.specs.List.Sorted.{IsPermutation}
+use Rattle.tc_doc_reader.proofs.members.Orders.repeat.Given as goal
+
+abbrev pub invariant-members : goal.invariant-members
+invariant-members l = IsPermutation l.initial.found.items l.found.items
+
+abbrev pub decreases-members : goal.decreases-members
+decreases-members l = length l.found.items - l.at
