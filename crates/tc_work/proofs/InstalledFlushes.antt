@@ -1,6 +1,7 @@
 -- A flush that was out is handed back to its part: what stays.
 use Rattle.std.proofs.Common.{◌≡◌, ◌∙◌, ◌+◌, ◌++◌, ℕ, true, false, List, [], ◌∷◌, Option, Some, None, map, is_some, refl, sym, ap, subst, arith, inl, inr}
 use Rattle.std.specs.Prelude.{◌⊎◌, IfErr, IfSome, IsErrOf, IsOk, IsSome, Result, Ok, Err}
+use Rattle.tc_flush.specs.Flushing.{flush_bytes}
 use Rattle.tc_flush.specs.Jobs as flush
 use Rattle.tc_jobs.specs.Listing.{behind, FailsRemoving, FitsBehind}
 use Rattle.tc_jobs.specs.ReadBack.{ComesHome}
@@ -31,7 +32,7 @@ use Rattle.tc_store.specs.declared.fault.DeviceFault.{DeviceFault}
 use Rattle.tc_store.specs.declared.fault.DeviceFault.TheVariants as device_fault
 use Rattle.tc_store.specs.declared.file_name.FileName.{FileName}
 use Rattle.tc_store.specs.Disk.{Disk, home}
-use Rattle.tc_store.specs.DiskFile.{DiskFile}
+use Rattle.tc_store.specs.DiskFile.{settled_file, DiskFile}
 use Rattle.tc_store.specs.Moments.{IfTold}
 use Rattle.tc_store.specs.StoreCalls.{comes_home, frozen_entry, removes}
 use Rattle.tc_work.specs.declared.fault.EngineFault.{EngineFault}
@@ -129,7 +130,8 @@ module _ {S D F W : Type 0} (e : Eyes S D F W) (file_name : F → FileName) (siz
     installed_keeps Failed Ended watched never = record {
       jobs = record {
         flush = subst (λ (s : PartState S D F W). OutAs s.flushing None (IsFlushOf e.disks e.history e.name_of s)) (sym i.lists.same) tt;
-        merge = merge_out_behind e.disks e.history e.content e.name_of old new untold jobs.merge i.lists.listed.component (ap (λ (s : PartState S D F W). s.merging) i.lists.same) list handed.merge_named out.merge;
+        merge = merge_out_behind e.disks e.history e.content e.name_of old new untold jobs.merge i.lists.listed.component (ap (λ (s : PartState S D F W). s.merging) i.lists.same) list
+            (ap (λ (s : PartState S D F W). s.number) i.lists.same, ap (λ (s : PartState S D F W). s.count) i.lists.same) handed.merge_named out.merge;
       };
       moved = subst (λ (s : PartState S D F W). HasOnlyMoved old s) (sym i.lists.same) refl;
       untold = untold;
@@ -247,7 +249,8 @@ module _ {S D F W : Type 0} (e : Eyes S D F W) (file_name : F → FileName) (siz
             failed = s.failed;
           }) (sym unlisted.same) refl)
           out.merge
-      | inr covering ↦ merge_out_behind e.disks e.history e.content e.name_of old new fallen_untold jobs.merge covering.listed.component (ap (λ (s : PartState S D F W). s.merging) covering.same) covering.listed.listed handed.merge_named out.merge
+      | inr covering ↦ merge_out_behind e.disks e.history e.content e.name_of old new fallen_untold jobs.merge covering.listed.component (ap (λ (s : PartState S D F W). s.merging) covering.same) covering.listed.listed
+          (ap (λ (s : PartState S D F W). s.number) covering.same, ap (λ (s : PartState S D F W). s.count) covering.same) handed.merge_named out.merge
     ]
 
     pub fallen_keeps : (Failed Ended : Type 0) → IsWatched Ended (e.counts old.main) (e.counts new.main) → (Failed → Ended ⊎ IsErrOf outcome device_fault.Fault) → KeepsJobs e Failed (beside old jobs) (beside new (record jobs { flush = None }))
@@ -320,15 +323,22 @@ module _ {S D F W : Type 0} (e : Eyes S D F W) (file_name : F → FileName) (siz
       | inr covering ↦ subst (λ (s : PartState S D F W). s ≡ record old { store = s.store; main = s.main; flusher = Some watch; flushing = false; list = s.list; sealed = s.sealed; sealed_log = s.sealed_log; failed = s.failed }) (sym covering.same) refl
     ]
 
+    -- the table is sealed still, or none is
+    of_sealed : IfSome new.sealed (IsTableOf table)
+    of_sealed = elim f.left [
+      | inl unlisted ↦ subst (λ o. IfSome o (IsTableOf table)) (back.of.table ∙ ap (λ (s : PartState S D F W). s.sealed) (sym unlisted.same)) of
+      | inr covering ↦ subst (λ (s : PartState S D F W). IfSome s.sealed (IsTableOf table)) (sym covering.same) tt
+    ]
+
     -- what the flush wrote was read back
     pub fallen_damage : IsOk outcome → (damage : Damage) → IsFlushDamage e.content file_name (size_of device) (e.history device) old damage → IsPartDamage e.content e.history new damage
     fallen_damage ended damage is = subst (λ (s : PartState S D F W). IsPartDamage e.content e.history s damage) (sym there) (inr (inr (inl (record {
       device = device;
-      made = job.head;
       names = job.names;
       schema = job.schema;
       table = table;
-      written = back.ran.whole ended table of;
+      of = of_sealed;
+      written = subst (λ head. IfTold (e.history device) (λ f. f ≡ settled_file (flush_bytes head job.names job.schema table))) back.of.head (back.ran.whole ended table of);
       among = old.list;
       listed = were_listed;
       unfit = unfit_of e.content file_name (FitsBehind old.list) (flushed_head old.number old.count old.generation) (flushed_name old) (size_of device) (e.history device) damage is;

@@ -4,7 +4,7 @@ use Rattle.std.specs.Prelude.{◌⊎◌, IfErr, IfSome, IsErrOf, IsOk, IsSome, R
 use Rattle.tc_component.specs.Loading.{ComponentState}
 use Rattle.tc_flush.specs.Jobs as flush
 use Rattle.tc_jobs.specs.Listing.{in_place, FitsFor}
-use Rattle.tc_list.specs.Runs.{swapped}
+use Rattle.tc_list.specs.Runs.{in_run, swapped}
 use Rattle.tc_list.specs.declared.policy.Policy.{Policy}
 use Rattle.tc_lsm_model.specs.Lists.{IsList}
 use Rattle.tc_lsm_model.specs.Merges.{IsMerge, in_run as contents_in_run}
@@ -272,10 +272,10 @@ module _ {S D F W : Type 0} (e : Eyes S D F W) (file_name : F → FileName) (siz
     pub fallen_damage : IsOk outcome → (damage : Damage) → IsMergeDamage e.content file_name (size_of device) (e.history device) (run_out old) old damage → IsPartDamage e.content e.history new damage
     fallen_damage ended damage is = subst (λ (s : PartState S D F W). IsPartDamage e.content e.history s damage) (sym same) (inr (inr (inr (record {
       device = device;
-      made = job.head;
       run = run_out old;
       among = old.list;
-      written = subst (λ run. AreRunTold e.content run → IfTold (e.history device) (λ f. f ≡ settled_file (merge_bytes e.content job.head run))) back.of.run (back.ran.whole ended);
+      written = subst (λ head. AreRunTold e.content (in_run (run_out old) old.list) → IfTold (e.history device) (λ f. f ≡ settled_file (merge_bytes e.content head (in_run (run_out old) old.list)))) back.of.head
+          (subst (λ run. AreRunTold e.content run → IfTold (e.history device) (λ f. f ≡ settled_file (merge_bytes e.content job.head run))) back.of.run (back.ran.whole ended));
       listed = were_listed;
       unfit = unfit_of e.content file_name (FitsFor (run_out old) old.list) (merged_head old.number old.count (run_out old) old.list) (merged_name (run_out old) old) (size_of device) (e.history device) damage is;
     }))))

@@ -2,8 +2,10 @@
 use Rattle.std.proofs.Common.{◌≡◌, ◌∙◌, ◌+◌, ◌-◌, ◌++◌, ◌∷◌, [], ℕ, Bool, true, false, List, Option, Some, None, take, drop, is_some, refl, sym, ap, subst, arith}
 use Rattle.std.specs.Prelude.{IfSome, option_map}
 use Rattle.std.proofs.lemmas.List.{drop-append-le, length-append, length-drop, take-append-le}
+use Rattle.tc_component.specs.declared.head.Head.{Head}
 use Rattle.tc_component.specs.Loading.{ComponentState}
 use Rattle.tc_flush.specs.Jobs as flush
+use Rattle.tc_list.specs.Intervals.{first_of, last_of}
 use Rattle.tc_list.specs.Runs.{in_run}
 use Rattle.tc_list.specs.declared.policy.Policy.{Policy}
 use Rattle.tc_list.specs.declared.run.Run.{Run}
@@ -71,7 +73,7 @@ module _ {S D F W : Type 0} (disks : S → List Disk) (history : D → List Disk
       at false None is = tt
       at false (Some job) is = is
       at true None is = is
-      at true (Some job) is = record { table = is.table; log = is.log; lawful = is.lawful; name = is.name; device = made_still _ (disks old.store) (disks new.store) (history job.device) untold is.device }
+      at true (Some job) is = record { table = is.table; log = is.log; lawful = is.lawful; head = is.head; name = is.name; device = made_still _ (disks old.store) (disks new.store) (history job.device) untold is.device }
 
   -- while the list stays, and the run
   pub merge_out_still : (o : Option (merge.JobState F D W))
@@ -116,12 +118,13 @@ module _ {S D F W : Type 0} (disks : S → List Disk) (history : D → List Disk
       at false None is = tt
       at false (Some job) is = is
       at true None is = is
-      at true (Some job) is = record { within = is.within; run = is.run; name = is.name; device = made_still _ (disks old.store) (disks new.store) (history job.device) untold is.device; run_told = is.run_told }
+      at true (Some job) is = record { within = is.within; run = is.run; head = is.head; name = is.name; device = made_still _ (disks old.store) (disks new.store) (history job.device) untold is.device; run_told = is.run_told }
 
   -- while a component is listed behind the others
-  pub merge_out_behind : (o : Option (merge.JobState F D W)) (c : ComponentState F) → new.merging ≡ old.merging → new.list ≡ old.list ++ c ∷ [] → (is_some old.merging ≡ true → merged_name (run_out new) new ≡ merged_name (run_out old) old)
+  pub merge_out_behind : (o : Option (merge.JobState F D W)) (c : ComponentState F) → new.merging ≡ old.merging → new.list ≡ old.list ++ c ∷ [] → (new.number ≡ old.number) × (new.count ≡ old.count)
+      → (is_some old.merging ≡ true → merged_name (run_out new) new ≡ merged_name (run_out old) old)
       → OutAs (is_some old.merging) o (IsMergeOf disks history content name_of old) → OutAs (is_some new.merging) o (IsMergeOf disks history content name_of new)
-  merge_out_behind o c merging list named is = subst (λ m. OutAs (is_some m) o (IsMergeOf disks history content name_of new)) (sym merging) (at (is_some old.merging) refl o is)
+  merge_out_behind o c merging list partition named is = subst (λ m. OutAs (is_some m) o (IsMergeOf disks history content name_of new)) (sym merging) (at (is_some old.merging) refl o is)
     where
       run : run_out new ≡ run_out old
       run = ap (λ m. run_out (record old { merging = m })) merging
@@ -131,13 +134,20 @@ module _ {S D F W : Type 0} (disks : S → List Disk) (history : D → List Disk
           ap (take (r.last + 1 - r.first)) (drop-append-le r.first xs (x ∷ []) (omega (arith, within.0, within.1)))
           ∙ take-append-le (r.last + 1 - r.first) (drop r.first xs) (x ∷ []) (omega (arith, within.0, within.1, length-drop r.first xs))
 
+      still : LiesIn old.list (run_out old) → in_run (run_out old) old.list ≡ in_run (run_out new) new.list
+      still within = sym (in_run_behind (run_out old) old.list c within) ∙ ap (λ r. in_run r (old.list ++ c ∷ [])) (sym run) ∙ ap (in_run (run_out new)) (sym list)
+
+      over : ℕ → ℕ → List (ComponentState F) → Head
+      over number count xs = record { number = number; count = count; from = first_of xs; to = last_of xs }
+
       at : (b : Bool) → is_some old.merging ≡ b → (o : Option (merge.JobState F D W)) → OutAs b o (IsMergeOf disks history content name_of old) → OutAs b o (IsMergeOf disks history content name_of new)
       at false out None is = tt
       at false out (Some job) is = is
       at true out None is = is
       at true out (Some job) is = record {
         within = subst (λ xs. LiesIn xs (run_out new)) (sym list) (subst (λ r. LiesIn (old.list ++ c ∷ []) r) (sym run) (is.within.0, omega (arith, is.within.1, length-append old.list (c ∷ []))));
-        run = is.run ∙ sym (in_run_behind (run_out old) old.list c is.within) ∙ ap (λ r. in_run r (old.list ++ c ∷ [])) (sym run) ∙ ap (in_run (run_out new)) (sym list);
+        run = is.run ∙ still is.within;
+        head = is.head ∙ ap (over old.number old.count) (still is.within) ∙ ap (λ n. over n old.count (in_run (run_out new) new.list)) (sym partition.0) ∙ ap (λ n. over new.number n (in_run (run_out new) new.list)) (sym partition.1);
         name = is.name ∙ sym (named out);
         device = record { was = is.device.was; made = is.device.made ∙ ap (λ name. fresh_file_at name is.device.was) (sym (named out)); told = (made_still (merged_name (run_out old) old) (disks old.store) (disks new.store) (history job.device) untold is.device).told };
         run_told = is.run_told;
@@ -155,13 +165,13 @@ out_as_read {S = S} {D = D} {F = F} {W = W} disks history content name_of old re
     flushing false None is = tt
     flushing false (Some job) is = is
     flushing true None is = is
-    flushing true (Some job) is = record { table = is.table; log = is.log; lawful = is.lawful; name = is.name; device = is.device }
+    flushing true (Some job) is = record { table = is.table; log = is.log; lawful = is.lawful; head = is.head; name = is.name; device = is.device }
 
     merging : (b : Bool) (o : Option (merge.JobState F D W)) → OutAs b o (IsMergeOf disks history content name_of old) → OutAs b o (IsMergeOf disks history content name_of new)
     merging false None is = tt
     merging false (Some job) is = is
     merging true None is = is
-    merging true (Some job) is = record { within = is.within; run = is.run; name = is.name; device = is.device; run_told = is.run_told }
+    merging true (Some job) is = record { within = is.within; run = is.run; head = is.head; name = is.name; device = is.device; run_told = is.run_told }
 
 -- ---- one call
 

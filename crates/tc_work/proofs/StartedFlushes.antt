@@ -74,7 +74,7 @@ module _ {S D F W X : Type 0} (e : Eyes S D F W) (old new : PartState S D F W) (
     is_out : IsOutBy e (beside new now)
     is_out = record {
       flush = subst (λ (s : PartState S D F W). OutAs s.flushing (Some job) (IsFlushOf e.disks e.history e.name_of s)) (sym b.begins.same)
-          (record { table = b.begins.table; log = both; lawful = b.begins.lawful; name = b.begins.name; device = record { was = e.disks old.store; made = b.begins.file; told = made_there its_name (e.disks old.store) (e.disks new.store) b.begins.made } });
+          (record { table = b.begins.table; log = both; lawful = b.begins.lawful; head = b.begins.head; name = b.begins.name; device = record { was = e.disks old.store; made = b.begins.file; told = made_there its_name (e.disks old.store) (e.disks new.store) b.begins.made } });
       merge = merge_out_still e.disks e.history e.content e.name_of old new untold jobs.merge
           (subst (λ (s : PartState S D F W). s ≡ record old {
             store = s.store;

@@ -17,6 +17,7 @@ use Rattle.tc_part.specs.declared.fault.PartFault.{PartFault}
 use Rattle.tc_part.specs.declared.fault.PartFault.TheVariants as part
 use Rattle.tc_part.specs.Begun.{BeginsMerge}
 use Rattle.tc_part.specs.FilesOut.{OnlyDevicesOut}
+use Rattle.tc_part.specs.JobHeads.{merged_head}
 use Rattle.tc_part.specs.MergeEnds.{merged_name, run_out}
 use Rattle.tc_part.specs.Ready.{LiesIn}
 use Rattle.tc_part_model.specs.Changes.{merging_part}
@@ -84,6 +85,7 @@ module _ {S D F W X : Type 0} (e : Eyes S D F W) (old new : PartState S D F W) (
       merge = subst (λ m. OutAs (is_some m) (Some job) (IsMergeOf e.disks e.history e.content e.name_of new)) (sym (ap (λ (s : PartState S D F W). s.merging) b.begins.same)) (record {
         within = subst (λ r. LiesIn new.list r) (sym b.begins.out) (subst (λ xs. LiesIn xs run) (sym list) lies);
         run = b.begins.components ∙ ap (in_run run) (sym list) ∙ ap (λ r. in_run r new.list) (sym b.begins.out);
+        head = b.begins.head ∙ ap (λ (s : PartState S D F W). merged_head s.number s.count run s.list) (sym b.begins.same) ∙ ap (λ r. merged_head new.number new.count r new.list) (sym b.begins.out);
         name = b.begins.name ∙ sym named;
         device = record { was = e.disks old.store; made = b.begins.file ∙ ap (λ n. fresh_file_at n (e.disks old.store)) (sym named); told = made_there its_name (e.disks old.store) (e.disks new.store) b.begins.made };
         run_told = told_now (e.disks old.store) (λ d. AreRunTold e.content job.run) (λ told d. subst (AreRunTold e.content) (sym b.begins.components) (run_told e.content run old.list (given told)));

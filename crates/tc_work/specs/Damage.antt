@@ -11,6 +11,7 @@ use Rattle.tc_jobs.specs.Lists.{file_names}
 use Rattle.tc_list.specs.Runs.{in_run}
 use Rattle.tc_list.specs.declared.run.Run.{Run}
 use Rattle.tc_lsm_model.specs.Tables.{Table}
+use Rattle.tc_memory.specs.DocumentTables.{IsTableOf}
 use Rattle.tc_memory.specs.Table as memory
 use Rattle.tc_merge.specs.Merging.{merge_bytes, newest_names, newest_schema, AreTold}
 use Rattle.tc_model.specs.Document.{Name}
@@ -45,25 +46,25 @@ IsUnfit content Fits head device = AreBytes (λ file place bytes. (file ≡ name
 abbrev pub WereListed : {F : Type 0} → List (ComponentState F) → (ComponentState F → List (ComponentState F)) → List (ComponentState F) → Type 0
 WereListed {F = F} among put list = (list ≡ among) ⊎ ((c : ComponentState F) × (list ≡ put c))
 
--- A flush wrote all that it makes of a table, and that is not the component of this header, behind those that were listed.
-pub record IsOfFlush {D F : Type 0} (content : F → Option (List ℕ)) (history : D → List DiskFile) (head : Head) (list : List (ComponentState F)) (damage : Damage) : Type 0 where
+-- A flush wrote all that it makes of a table under this header, and that is not its component, behind those that were listed. It is
+-- the sealed table, while one is sealed.
+pub record IsOfFlush {D F : Type 0} (content : F → Option (List ℕ)) (history : D → List DiskFile) (head : Head) (list : List (ComponentState F)) (sealed : Option memory.Table) (damage : Damage) : Type 0 where
   pub device : D
-  pub made : Head
   pub names : List Name
   pub schema : Counted
   pub table : Table
-  pub written : IfTold (history device) (λ f. f ≡ settled_file (flush_bytes made names schema table))
+  pub of : IfSome sealed (IsTableOf table)
+  pub written : IfTold (history device) (λ f. f ≡ settled_file (flush_bytes head names schema table))
   pub among : List (ComponentState F)
   pub listed : WereListed among (behind among) list
   pub unfit : IsUnfit content (FitsBehind among) head (history device) damage
 
--- So did a merge of a run that was listed.
+-- So did a merge of a run that was listed, under its header.
 pub record IsOfMerge {D F : Type 0} (content : F → Option (List ℕ)) (history : D → List DiskFile) (number count : ℕ) (list : List (ComponentState F)) (damage : Damage) : Type 0 where
   pub device : D
-  pub made : Head
   pub run : Run
   pub among : List (ComponentState F)
-  pub written : AreTold content (in_run run among) → IfTold (history device) (λ f. f ≡ settled_file (merge_bytes content made (in_run run among)))
+  pub written : AreTold content (in_run run among) → IfTold (history device) (λ f. f ≡ settled_file (merge_bytes content (merged_head number count run among) (in_run run among)))
   pub listed : WereListed among (in_place run among) list
   pub unfit : IsUnfit content (FitsFor run among) (merged_head number count run among) (history device) damage
 
@@ -75,7 +76,7 @@ abbrev pub IsPartDamage : {S D F W : Type 0} → (F → Option (List ℕ)) → (
 IsPartDamage content history part damage =
     IsBytesHarm damage (IsHarmIn content part.list)
     ⊎ (IsUncounted part.list part.sealed damage
-    ⊎ (IsOfFlush content history (flushed_head part.number part.count part.generation) part.list damage ⊎ IsOfMerge content history part.number part.count part.list damage))
+    ⊎ (IsOfFlush content history (flushed_head part.number part.count part.generation) part.list part.sealed damage ⊎ IsOfMerge content history part.number part.count part.list damage))
 
 -- A call met it: it is damage of the part as it stood then, of which nothing had changed but where documents are. What it listed
 -- was its own.

@@ -24,6 +24,7 @@ use Rattle.tc_memory.specs.Table.{IsTable}
 use Rattle.tc_merge.specs.Jobs as merge
 use Rattle.tc_merge.specs.Merging.{AreTold}
 use Rattle.tc_part.specs.FlushEnds.{flushed_name}
+use Rattle.tc_part.specs.JobHeads.{flushed_head, merged_head}
 use Rattle.tc_part.specs.MergeEnds.{merged_name, positions, run_out}
 use Rattle.tc_part.specs.Ready.{LiesIn}
 use Rattle.tc_part_model.specs.PartState.{PartState, IsTold}
@@ -45,18 +46,21 @@ pub record IsMadeIn (name : FileName) (disks : List Disk) (device : List DiskFil
   pub made : device ≡ fresh_file_at name was
   pub told : IfTold disks (λ disk. IsTold was)
 
--- a flush of the sealed table, whose log is sealed with it, under the name of what that makes
+-- a flush of the sealed table, whose log is sealed with it, under the header and the name of what that makes
 pub record IsFlushOf {S D F W : Type 0} (disks : S → List Disk) (history : D → List DiskFile) (name_of : D → FileName) (part : PartState S D F W) (job : flush.JobState D W) : Type 0 where
   pub table : Some job.kept ≡ part.sealed
   pub log : is_some part.sealed_log ≡ true
   pub lawful : IsTable job.kept
+  pub head : job.head ≡ flushed_head part.number part.count part.generation
   pub name : name_of job.device ≡ flushed_name part
   pub device : IsMadeIn (flushed_name part) (disks part.store) (history job.device)
 
--- A merge of the run that is out, under the name of what that makes. The files of the run are told where its device was.
+-- A merge of the run that is out, under the header and the name of what that makes. The files of the run are told where its device
+-- was.
 pub record IsMergeOf {S D F W : Type 0} (disks : S → List Disk) (history : D → List DiskFile) (content : F → Option (List ℕ)) (name_of : D → FileName) (part : PartState S D F W) (job : merge.JobState F D W) : Type 0 where
   pub within : LiesIn part.list (run_out part)
   pub run : job.run ≡ in_run (run_out part) part.list
+  pub head : job.head ≡ merged_head part.number part.count (run_out part) part.list
   pub name : name_of job.device ≡ merged_name (run_out part) part
   pub device : IsMadeIn (merged_name (run_out part) part) (disks part.store) (history job.device)
   pub run_told : IfTold device.was (λ disk. AreTold content job.run)
