@@ -27,10 +27,10 @@ use Rattle.tc_part_model.specs.Starting.{IsOpened, IsOpenedAt, first_log}
 use Rattle.tc_part_model.proofs.DeviceFiles.{comes_untold}
 use Rattle.tc_part_model.proofs.StartedParts.{opening_ends}
 use Rattle.tc_part_model.proofs.ToldFiles.{wasted}
-use Rattle.tc_open.specs.FirstLog.{EachHolds, FailsCreating, Holds, MakesLog, held_under}
+use Rattle.tc_open.specs.FirstLog.{EachStarts, FailsCreating, IsStarting, MakesLog, held_under}
 use Rattle.tc_open.specs.Resting.{IsTidy}
 use Rattle.tc_replay.proofs.ToldMoments.{told_on}
-use Rattle.tc_open.proofs.FirstLogs.{created_leaves, empty_leaves, home_holds, may_start, only_out, out_holds, rest_holds, whole_kept, with_log}
+use Rattle.tc_open.proofs.FirstLogs.{created_leaves, empty_leaves, home_starts, may_start, only_put, out_starts, rest_starts, whole_kept, with_log}
 
 module _ (part : Partition) (cs : List Content) where
   abbrev Tidy : Disk → Type 0
@@ -40,24 +40,24 @@ module _ (part : Partition) (cs : List Content) where
   Leaves x = LeavesAt (MakesLog part cs) x
 
   abbrev At : Disk → Type 0
-  At disk = Holds part (live cs) (held_under (first_log cs) (MakesLog part cs)) disk
+  At disk = IsStarting part cs (live cs) disk
 
   abbrev Each : List Disk → List Disk → Type 0
-  Each old new = EachHolds part (live cs) (held_under (first_log cs) (MakesLog part cs)) old new
+  Each old new = EachStarts part cs old new
 
   pub none_made : (disks : List Disk) → Each disks disks
   none_made disks = EachSince-none At disks disks refl
 
   pub made_moments : (disks : List Disk) → IfTold disks Tidy → Each disks (makes (first_log cs) disks)
   made_moments [] tidy = EachSince-none At [] [] refl
-  made_moments (disk ∷ past) tidy = EachSince-one At (put (first_log cs) out) (disk ∷ past) (out_holds part cs disk tidy)
+  made_moments (disk ∷ past) tidy = EachSince-one At (put (first_log cs) out) (disk ∷ past) (out_starts part cs disk tidy)
 
   unmade_moments : (disks new : List Disk) → IfTold disks Tidy → FailsMaking (first_log cs) disks new → Each disks new
   unmade_moments disks new tidy (inl same) = EachSince-none At disks new same
   unmade_moments [] new tidy (inr is) = EachSince-none At [] new is
   unmade_moments (disk ∷ past) new tidy (inr is) =
       subst (λ ds. Each (disk ∷ past) ds) (sym is)
-      (EachSince-one At (wasted (first_log cs)) (disk ∷ past) (home_holds part cs disk tidy (empty_file (removed_of (disk (first_log cs)))) (empty_leaves part cs disk tidy)))
+      (EachSince-one At (wasted (first_log cs)) (disk ∷ past) (home_starts part cs disk tidy (empty_file (removed_of (disk (first_log cs)))) (empty_leaves part cs disk tidy)))
 
   module _ (is_head : IsHead (log_head part (last_of cs + 1))) where
     abbrev head_log : List DiskFile → List DiskFile → Type 0
@@ -92,12 +92,12 @@ module _ (part : Partition) (cs : List Content) where
         ∙ ap (λ d. d ∷ put (first_log cs) out disk ∷ disk ∷ past) (put_twice (first_log cs) out (home x) disk)
 
     back_moments : (disk : Disk) (past : List Disk) (broken : List DiskFile) → IsTidy part cs [] disk → IfTold broken Leaves → Each (disk ∷ past) (comes_home (first_log cs) (λ x. home x) broken (put (first_log cs) out disk ∷ disk ∷ past))
-    back_moments disk past [] tidy now = EachSince-one At (put (first_log cs) out) (disk ∷ past) (out_holds part cs disk tidy)
+    back_moments disk past [] tidy now = EachSince-one At (put (first_log cs) out) (disk ∷ past) (out_starts part cs disk tidy)
     back_moments disk past (x ∷ more) tidy now =
         subst (λ ds. Each (disk ∷ past) ds) (sym (returned disk past x))
         (EachSince-trans At (disk ∷ past) (put (first_log cs) out disk ∷ disk ∷ past) (put (first_log cs) (home x) disk ∷ put (first_log cs) out disk ∷ disk ∷ past)
-        (EachSince-one At (put (first_log cs) out) (disk ∷ past) (out_holds part cs disk tidy))
-        (EachSince-one At (λ d. put (first_log cs) (home x) disk) (put (first_log cs) out disk ∷ disk ∷ past) (home_holds part cs disk tidy x now)))
+        (EachSince-one At (put (first_log cs) out) (disk ∷ past) (out_starts part cs disk tidy))
+        (EachSince-one At (λ d. put (first_log cs) (home x) disk) (put (first_log cs) out disk ∷ disk ∷ past) (home_starts part cs disk tidy x now)))
 
     broken_moments : (disks : List Disk) (broken : List DiskFile) → IfTold disks Tidy → head_log (fresh_file_at (first_log cs) disks) broken → Each disks (comes_home (first_log cs) (λ x. home x) broken (makes (first_log cs) disks))
     broken_moments [] broken tidy creates = EachSince-none At [] (comes_home (first_log cs) (λ x. home x) broken []) (comes_untold (first_log cs) (λ x. home x) broken)
@@ -114,7 +114,7 @@ module _ (part : Partition) (cs : List Content) where
     opened_at : (disk : Disk) (x : DiskFile) → IsTidy part cs [] disk → last_of cs + 1 < 2 ^ 63 → x ≡ settled_file (log_at_rest (log_head part (last_of cs + 1)) []) → IsOpenedAt part cs (put (first_log cs) out disk) x
     opened_at disk x tidy bound is =
         opening_ends part (with_log part cs disk tidy x) (put (first_log cs) out disk) x (whole_kept part cs disk tidy x bound is_head is) (may_start part cs disk tidy x bound is_head is) refl refl
-        (sym (put_twice (first_log cs) out (home x) disk)) (put_there (first_log cs) out disk) (only_out part cs disk tidy)
+        (sym (put_twice (first_log cs) out (home x) disk)) (put_there (first_log cs) out disk) (only_put part cs disk tidy out)
 
     opened_files : (disks : List Disk) (log : List DiskFile) → IfTold disks Tidy → last_of cs + 1 < 2 ^ 63 → IfTold log (λ f. f ≡ settled_file (log_at_rest (log_head part (last_of cs + 1)) []))
         → IfTold (makes (first_log cs) disks) (λ disk. IfTold log (λ f. IsOpenedAt part cs disk f))
@@ -132,15 +132,15 @@ module _ (part : Partition) (cs : List Content) where
     }
 
 -- once nothing is out any more, each picture holds what is live
-pub failed_keeps : (part : Partition) (cs : List Content) (disks new : List Disk) → IfTold disks (IsTidy part cs []) → EachHolds part (live cs) (held_under (first_log cs) (MakesLog part cs)) disks new → IfTold new (KeepsStore part (live cs) None)
-failed_keeps part cs disks new tidy since = told_map At (KeepsStore part (live cs) None) new (λ disk holds picture left. holds picture (picture_weaker nothing_held held disk picture (λ n image none. absurd none) left)) (now_since At disks new (now disks tidy) since)
+pub failed_keeps : (part : Partition) (cs : List Content) (disks new : List Disk) → IfTold disks (IsTidy part cs []) → EachStarts part cs disks new → IfTold new (KeepsStore part (live cs) None)
+failed_keeps part cs disks new tidy since = told_map At (KeepsStore part (live cs) None) new (λ disk starts picture left. starts.leaves picture (picture_weaker nothing_held held disk picture (λ n image none. absurd none) left)) (now_since At disks new (now disks tidy) since)
   where
     held : HeldOut
     held = held_under (first_log cs) (MakesLog part cs)
 
     At : Disk → Type 0
-    At disk = Holds part (live cs) held disk
+    At disk = IsStarting part cs (live cs) disk
 
     now : (ds : List Disk) → IfTold ds (IsTidy part cs []) → IfTold ds At
     now [] tidy = tt
-    now (disk ∷ past) tidy = rest_holds part cs disk tidy
+    now (disk ∷ past) tidy = rest_starts part cs disk tidy

@@ -28,7 +28,7 @@ use Rattle.tc_machine.proofs.FreeNames.{none_there}
 use Rattle.tc_machine.proofs.LogHeads.{new_log}
 use Rattle.tc_machine.proofs.Moments.{put_twice}
 use Rattle.tc_replay.specs.Openings.{opening_at}
-use Rattle.tc_open.specs.FirstLog.{Holds, MakesLog, held_under}
+use Rattle.tc_open.specs.FirstLog.{IsStarting, MakesLog, held_under}
 use Rattle.tc_open.specs.Resting.{IsStillOrGone, IsTidy}
 use Rattle.tc_open.proofs.KeptStores.{held_home, home_out, kept_holds, none_out}
 
@@ -114,17 +114,30 @@ module _ (part : Partition) (cs : List Content) (disk : Disk) (r : IsTidy part c
       subst (λ n. IsKept part (record (opening_at cs [] (put (Log n) (home x) disk)) { making = true })) next
       (subst (λ files. IsKept part (record (opening_at cs [] files) { making = true })) (put_twice (Log m) (made (disk (Log m))) (home x) disk) called)
 
+  -- no other file is out
+  pub only_put : (e : Entry) (n : FileName) → is_out (put name e disk n) ≡ true → n ≡ name
+  only_put e n is = at_name name n e disk (λ x. is_out x ≡ true → n ≡ name) (λ same held. sym same) (λ apart held. absurd (not_out (disk n) (r.still n) held)) is
+
   -- while it is out, and once it is at home
-  pub out_holds : Holds part (live cs) (held_under name (MakesLog part cs)) (put name out disk)
-  out_holds picture left =
-      let h = held_home (IsLog part (last_of cs + 1) []) name disk picture r.still left in
-      kept_holds part (with_log h.file) (log_kept h.file h.leaves) refl picture h.left
+  pub out_starts : IsStarting part cs (live cs) (put name out disk)
+  out_starts = record {
+    alone = only_put out;
+    leaves = λ picture left.
+        let h = held_home (IsLog part (last_of cs + 1) []) name disk picture r.still left in
+        kept_holds part (with_log h.file) (log_kept h.file h.leaves) refl picture h.left;
+  }
 
-  pub home_holds : (x : DiskFile) → LeavesAt (MakesLog part cs) x → Holds part (live cs) (held_under name (MakesLog part cs)) (put name (home x) disk)
-  home_holds x leaves picture left = kept_holds part (with_log x) (log_kept x leaves) refl picture (home_out (held_under name (MakesLog part cs)) name x disk picture r.still left)
+  pub home_starts : (x : DiskFile) → LeavesAt (MakesLog part cs) x → IsStarting part cs (live cs) (put name (home x) disk)
+  home_starts x leaves = record {
+    alone = only_put (home x);
+    leaves = λ picture left. kept_holds part (with_log x) (log_kept x leaves) refl picture (home_out (held_under name (MakesLog part cs)) name x disk picture r.still left);
+  }
 
-  pub rest_holds : Holds part (live cs) (held_under name (MakesLog part cs)) disk
-  rest_holds picture left = kept_holds part s r.kept refl picture (none_out (held_under name (MakesLog part cs)) disk picture r.still left)
+  pub rest_starts : IsStarting part cs (live cs) disk
+  rest_starts = record {
+    alone = λ n is. absurd (not_out (disk n) (r.still n) is);
+    leaves = λ picture left. kept_holds part s r.kept refl picture (none_out (held_under name (MakesLog part cs)) disk picture r.still left);
+  }
 
   -- ---- the opening ends
 
@@ -153,6 +166,3 @@ module _ (part : Partition) (cs : List Content) (disk : Disk) (r : IsTidy part c
         expected (Component from to) is_expected = is_expected
         expected (Log h) (inl before) = inl before
         expected (Log h) (inr at) = absurd (false≢true at.1)
-
-  pub only_out : (n : FileName) → is_out (put name out disk n) ≡ true → n ≡ name
-  only_out n is = at_name name n out disk (λ e. is_out e ≡ true → n ≡ name) (λ same held. sym same) (λ apart held. absurd (not_out (disk n) (r.still n) held)) is

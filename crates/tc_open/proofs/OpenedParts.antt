@@ -23,7 +23,7 @@ use Rattle.tc_part_model.specs.Leaving.{KeepsStore}
 use Rattle.tc_part_model.specs.Meaning.{IsOfContent, IsPart}
 use Rattle.tc_part_model.specs.Newest.{names_by, newest_index}
 use Rattle.tc_part_model.specs.PartState.{AreTold, IsTold, Told, told_component}
-use Rattle.tc_part_model.specs.Starting.{first_log, started_part}
+use Rattle.tc_part_model.specs.Starting.{started_part}
 use Rattle.tc_part_model.proofs.NewestComponents.{names_are, next_is}
 use Rattle.tc_plain_model.specs.Store.{Store}
 use Rattle.tc_plain_model.specs.Writes.{Pairs, Write}
@@ -31,7 +31,7 @@ use Rattle.tc_recover.proofs.Members.{no_member}
 use Rattle.tc_replay.specs.Openings.{AreIn}
 use Rattle.tc_replay.proofs.CountedLogs.{loaded_are, loaded_tell}
 use Rattle.tc_open.specs.Answered.{HasOnlyThese}
-use Rattle.tc_open.specs.FirstLog.{EachHolds, Holds, MakesLog, held_under}
+use Rattle.tc_open.specs.FirstLog.{EachStarts, IsStarting, MakesLog}
 use Rattle.tc_open.specs.Listed.{AreOpenedFrom}
 use Rattle.tc_open.specs.Openings.{IsOpenedAs, LeavesStored}
 use Rattle.tc_open.specs.Resting.{AreOwn, IsTidy}
@@ -97,11 +97,11 @@ module _ {F : Type 0} (content : F → Option (List ℕ)) where
     -- ---- moments
 
     abbrev Starts : List Disk → Type 0
-    Starts new = EachHolds part (live rests.contents) (held_under (first_log rests.contents) (MakesLog part rests.contents)) disks new
+    Starts new = EachStarts part rests.contents disks new
 
     starts_store : (new : List Disk) → Starts new → EachSince (LeavesStored part (recovered cs logs).pairs) disks new
-    starts_store new since = since_weaker (Holds part (live rests.contents) (held_under (first_log rests.contents) (MakesLog part rests.contents))) (LeavesStored part (recovered cs logs).pairs) disks new
-        (λ disk leaves. inr (inr (inl (record { list = rests.contents; holds = same_pairs; leaves = subst (λ pairs. Holds part pairs (held_under (first_log rests.contents) (MakesLog part rests.contents)) disk) same_pairs leaves })))) since
+    starts_store new since = since_weaker (IsStarting part rests.contents (live rests.contents)) (LeavesStored part (recovered cs logs).pairs) disks new
+        (λ disk leaves. inr (inr (inl (record { list = rests.contents; holds = same_pairs; leaves = subst (λ pairs. IsStarting part rests.contents pairs disk) same_pairs leaves })))) since
 
     pub starts_log : (generation : ℕ) (log : List DiskFile) → generation ≡ listed.last_of list + 1 → IfTold disks (λ disk. All (LeavesAt (MakesLog part rests.contents)) log) → All (LeavesAt (IsShutOrHas (IsLog part generation []))) log
     starts_log generation log is leaves =

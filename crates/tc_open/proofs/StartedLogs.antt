@@ -13,15 +13,15 @@ use Rattle.tc_component.specs.Spelling.{Index, IsIndex}
 use Rattle.tc_list.specs.Intervals as listed
 use Rattle.tc_log.specs.Spelling.{IsHead}
 use Rattle.tc_lsm_model.specs.Contents.{Content, Partition}
-use Rattle.tc_lsm_model.specs.Lists.{IsList, last_of, live}
+use Rattle.tc_lsm_model.specs.Lists.{IsList, last_of}
 use Rattle.tc_machine.specs.Logs.{log_head}
 use Rattle.tc_part_model.specs.Calls.{HasCreated}
 use Rattle.tc_part_model.specs.Meaning.{IsOfContent}
 use Rattle.tc_part_model.specs.Newest.{newest_index, next_by}
 use Rattle.tc_part_model.specs.PartState.{told_component}
-use Rattle.tc_part_model.specs.Starting.{IsOpened, first_log}
+use Rattle.tc_part_model.specs.Starting.{IsOpened}
 use Rattle.tc_part_model.proofs.NewestComponents.{next_is}
-use Rattle.tc_open.specs.FirstLog.{EachHolds, FailsCreating, MakesLog, held_under}
+use Rattle.tc_open.specs.FirstLog.{EachStarts, FailsCreating, MakesLog}
 use Rattle.tc_open.specs.Resting.{IsTidy}
 use Rattle.tc_open.proofs.FirstLogMoments.{failed_moments, log_moments, made_moments, opening_is}
 
@@ -46,7 +46,7 @@ module _ {F : Type 0} (content : F → Option (List ℕ)) (part : Partition) (li
   same = ap (λ n. n + 1) last_is ∙ sym (next_loaded content None 0 list refl) ∙ next_is None 0 (map (told_component content) list) cs refl of
 
   abbrev Each : List Disk → Type 0
-  Each new = EachHolds part (live cs) (held_under (first_log cs) (MakesLog part cs)) disks new
+  Each new = EachStarts part cs disks new
 
   pub made_since : (new : List Disk) → new ≡ makes (Log (last + 1)) disks → Each new
   made_since new is = subst Each (sym (is ∙ ap (λ n. makes (Log n) disks) same)) (made_moments part cs disks tidy)

@@ -10,9 +10,9 @@ use Rattle.tc_machine.specs.Pictures.{recovered}
 use Rattle.tc_part_model.specs.Leaving.{KeepsStore}
 use Rattle.tc_part_model.specs.Meaning.{IsPart, plain_of}
 use Rattle.tc_part_model.specs.PartState.{AreTold, IsTold, Told}
-use Rattle.tc_part_model.specs.Starting.{first_log, started_part}
+use Rattle.tc_part_model.specs.Starting.{started_part}
 use Rattle.tc_replay.specs.Openings.{AreIn, LeavesLogged, LeavesWriting, stored_by}
-use Rattle.tc_open.specs.FirstLog.{Holds, MakesLog, held_under}
+use Rattle.tc_open.specs.FirstLog.{IsStarting}
 use Rattle.tc_open.specs.Listed.{AreOpenedFrom}
 
 -- It is a part whose tables are empty, over components that were read, flushed of logs or merged, and which hold what was stored,
@@ -42,11 +42,11 @@ pub record LeavesMerging (part : Partition) (pairs : Pairs) (disk : Disk) : Type
   pub holds : live list ≡ pairs
   pub leaves : LeavesWriting part (live list) (IsComponent target) disk
 
--- these components hold them, and a stop leaves them, whatever was done by then to the log behind these
+-- these components hold them, and a stop leaves them, whatever was done by then to the log behind these; no other file is out
 pub record LeavesStarting (part : Partition) (pairs : Pairs) (disk : Disk) : Type 0 where
   pub list : List Content
   pub holds : live list ≡ pairs
-  pub leaves : Holds part pairs (held_under (first_log list) (MakesLog part list)) disk
+  pub leaves : IsStarting part list pairs disk
 
 -- A stop at this moment leaves these documents; where it is said of no device, no file is out.
 abbrev pub LeavesStored : Partition → Pairs → Disk → Type 0

@@ -18,13 +18,13 @@ ghost use Rattle.tc_part_model.specs.Calls.{HasCreated};
 ghost use Rattle.tc_part_model.specs.Leaving.{KeepsStore};
 ghost use Rattle.tc_part_model.specs.Meaning.{IsOfContent, IsPart};
 ghost use Rattle.tc_part_model.specs.PartState.{told, told_component};
-ghost use Rattle.tc_part_model.specs.Starting.{first_log, started_part};
+ghost use Rattle.tc_part_model.specs.Starting.{started_part};
 ghost use Rattle.tc_jobs.specs.Lists.{IsListOf};
 ghost use Rattle.tc_part.specs.FilesOut.{LogIsOut};
 ghost use Rattle.tc_part.specs.OwnFiles.{HasOwnFiles};
 ghost use Rattle.tc_part.specs.Ready.{AreNamed};
 ghost use Rattle.tc_open.specs.Answered.{begun_part};
-ghost use Rattle.tc_open.specs.FirstLog.{EachHolds, FailsCreating, MakesLog, held_under};
+ghost use Rattle.tc_open.specs.FirstLog.{EachStarts, FailsCreating, MakesLog};
 ghost use Rattle.tc_open.specs.OpenCauses.{IsOfCall, IsOfNoFile};
 ghost use Rattle.tc_recover.specs.Refusals.{asked};
 ghost use Rattle.tc_replay.specs.Openings.{AreIn};
@@ -67,13 +67,13 @@ pub(crate) fn start_part<S: Store>(
 
     ensures log_out { IfOk result (λ p. LogIsOut (told S.history S.Device.history S.Frozen.content p)) }
 
-    // At each moment of the store and of the log a stop leaves what is live in the components.
+    // At each moment of the store and of the log a stop leaves what is live in the components, and no file is out but the log.
     ensures moments { (cs : List Content) → AllZip IsOfContent (map (told_component S.Frozen.content) list) cs → IfTold (S.history kit.store) (IsTidy (asked part) cs [])
-        → IfOk result (λ p. EachHolds (asked part) (live_in cs) (held_under (first_log cs) (MakesLog (asked part) cs)) (S.history kit.store) (S.history p.store)) }
+        → IfOk result (λ p. EachStarts (asked part) cs (S.history kit.store) (S.history p.store)) }
     ensures log_moments { (cs : List Content) → AllZip IsOfContent (map (told_component S.Frozen.content) list) cs → IfTold (S.history kit.store) (IsTidy (asked part) cs [])
         → IfOk result (λ p. IfTold (S.history kit.store) (λ disk. All (LeavesAt (MakesLog (asked part) cs)) (S.Device.history p.log.device))) }
     ensures left_moments { (cs : List Content) → AllZip IsOfContent (map (told_component S.Frozen.content) list) cs → IfTold (S.history kit.store) (IsTidy (asked part) cs [])
-        → IfErr result (λ fault. EachHolds (asked part) (live_in cs) (held_under (first_log cs) (MakesLog (asked part) cs)) (S.history kit.store) (S.history fault.kit.store)) }
+        → IfErr result (λ fault. EachStarts (asked part) cs (S.history kit.store) (S.history fault.kit.store)) }
     ensures kept { (cs : List Content) → AllZip IsOfContent (map (told_component S.Frozen.content) list) cs → IfTold (S.history kit.store) (IsTidy (asked part) cs [])
         → IfErr result (λ fault. IfTold (S.history fault.kit.store) (KeepsStore (asked part) (live_in cs) None)) }
 
