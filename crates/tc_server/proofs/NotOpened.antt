@@ -31,7 +31,6 @@ use Rattle.tc_words.specs.declared.run.Options.{Options}
 use Rattle.tc_server.specs.Ending.{limits_of}
 use Rattle.tc_keeper.specs.Faults.{IsNoDamage}
 use Rattle.tc_server.specs.Kits.{IfLawful, IsClosed, IsOpened}
-use Rattle.tc_keeper.specs.OwnKeys.{AreOwn}
 use Rattle.tc_server.specs.OverFiles.{AskedOver, BeginsAs, BeginsFor, EndsOver, IsHere, IsStoredInOne, KeepsOpened, LeaveOneOf, LeavesOneOf, LeaveSmall, OpenAs, OpensAs, RanOver, ServedOver}
 use Rattle.tc_keeper.specs.Places.{EachFrom}
 use Rattle.tc_keeper.specs.Sight.{nothing, sees, whole_of, IfKnown, Sight}
@@ -86,8 +85,8 @@ exits_kept limits count files only w kits o few keeps =
     one : (p : ℕ) (disks : List Disk) → (p < 0 + length kits) × KeepsOpened (partition_at p count) (files p) disks → IsSeen only p → LeavesOneOf count (w ∷ []) p disks
     one p disks (below, keeps) is =
         let here = there o.stores p (omega (arith, below, few, o.counted)) in
-        let opens = each-at (λ p stored. IsSeen only p → OpensAs (partition_at p count) (files p) stored × AreOwn count p stored.pairs) p o.stores here.0 o.each here.1 is in
-        kept_left count p w here.0 (files p) disks opens.0 (subst (λ v. store_at p v ≡ here.0) (sym o.world) (first_stored limits o.stores p here.0 here.1)) keeps
+        let opens = each-at (λ p stored. IsSeen only p → OpensAs (partition_at p count) (files p) stored) p o.stores here.0 o.each here.1 is in
+        kept_left count p w here.0 (files p) disks opens (subst (λ v. store_at p v ≡ here.0) (sym o.world) (first_stored limits o.stores p here.0 here.1)) keeps
 
 -- an engine that was just opened keeps what its files held
 pub opened_keeps : {S D F W : Type 0} (eyes : Eyes S D F W) (size : D → ℕ) (options : Options) (here : Partition) (came : List Disk) (counted : KitFaults) (e : WithJobs S D F W) (outcome : Result (Unit {0}) EngineFault) (disks : List Disk) (left : KitFaults)
@@ -111,7 +110,7 @@ pub lawful_first : (limits : Limits) (count p : ℕ) (files : ℕ → List Disk)
 lawful_first limits count p files nothing P below begins holds = tt
 lawful_first limits count p files (sees only w) P below o holds = λ seen.
     let here = there o.stores p (omega (arith, below, o.counted)) in
-    at (files p) here.0 (each-at (λ p stored. IsSeen only p → OpensAs (partition_at p count) (files p) stored × AreOwn count p stored.pairs) p o.stores here.0 o.each here.1 seen).0 holds
+    at (files p) here.0 (each-at (λ p stored. IsSeen only p → OpensAs (partition_at p count) (files p) stored) p o.stores here.0 o.each here.1 seen) holds
   where
     at : (came : List Disk) (stored : Store) → OpensAs (partition_at p count) came stored → IfLawful (partition_at p count) came P → P
     at [] stored opens holds = absurd opens

@@ -50,24 +50,24 @@ module _ {S D F W : Type 0} (eyes : Eyes S D F W) (options : Options) where
       }
 
   parts_held : (only : Option ℕ) (files : ℕ → List Disk) (came : ℕ → KitFaults) (count : ℕ) (v : World) → v.limits ≡ limits_of options → v.flushed ≡ false → (p : ℕ) (es : List (WithJobs S D F W)) (stores : List Store) → length es ≡ length stores
-      → EachFrom (λ p e. IsOpened eyes options (partition_at p count) (files p) (came p) e) p es → EachFrom (λ p stored. IsSeen only p → OpensAs (partition_at p count) (files p) stored × AreOwn count p stored.pairs) p stores
+      → EachFrom (λ p e. IsOpened eyes options (partition_at p count) (files p) (came p) e) p es → EachFrom (λ p stored. IsSeen only p → OpensAs (partition_at p count) (files p) stored) p stores
       → AtEach (λ p e part. IsSeen only p → HoldsPart (works_of eyes e) (told_of eyes e) e.engine.part.limits (partition_at p count) v part) p es (map part_of stores)
   parts_held only files came count v limits fresh p [] [] same opened opens = tt
   parts_held only files came count v limits fresh p [] (s ∷ stores) same opened opens = absurd (cc)
   parts_held only files came count v limits fresh p (e ∷ es) [] same opened opens = absurd (cc)
   parts_held only files came count v limits fresh p (e ∷ es) (s ∷ stores) same opened opens =
-      (λ is. part_held (partition_at p count) (files p) (came p) e s v opened.0 (opens.0 is).0 limits fresh, parts_held only files came count v limits fresh (suc p) es stores (cc) opened.1 opens.1)
+      (λ is. part_held (partition_at p count) (files p) (came p) e s v opened.0 (opens.0 is) limits fresh, parts_held only files came count v limits fresh (suc p) es stores (cc) opened.1 opens.1)
 
   -- ---- keys of their own
 
-  own_keys : (ascends : (q : PartView) → Ascends (stored_with q)) (count : ℕ) (files : ℕ → List Disk) (v : World) (p : ℕ) (es : List (WithJobs S D F W)) (stores : List Store)
-      → AtEach (λ p e part. IsSeen None p → HoldsPart (works_of eyes e) (told_of eyes e) e.engine.part.limits (partition_at p count) v part) p es (map part_of stores) → EachFrom (λ p stored. IsSeen None p → OpensAs (partition_at p count) (files p) stored × AreOwn count p stored.pairs) p stores
+  own_keys : (ascends : (q : PartView) → Ascends (stored_with q)) (count : ℕ) (v : World) (p : ℕ) (es : List (WithJobs S D F W)) (stores : List Store)
+      → AtEach (λ p e part. IsSeen None p → HoldsPart (works_of eyes e) (told_of eyes e) e.engine.part.limits (partition_at p count) v part) p es (map part_of stores) → EachFrom (λ p stored. AreOwn count p stored.pairs) p stores
       → KeepOwn count p (map (λ part. part.now) (map part_of stores))
-  own_keys ascends count files v p [] [] held opens = tt
-  own_keys ascends count files v p (e ∷ es) [] held opens = tt
-  own_keys ascends count files v p [] (s ∷ stores) held opens = absurd held
-  own_keys ascends count files v p (e ∷ es) (s ∷ stores) held opens =
-      (subst (λ (t : Store). Ascends t.pairs) (held.0 tt).stores (ascends (held.0 tt).view), (opens.0 tt).1, own_keys ascends count files v (suc p) es stores held.1 opens.1)
+  own_keys ascends count v p [] [] held own = tt
+  own_keys ascends count v p (e ∷ es) [] held own = tt
+  own_keys ascends count v p [] (s ∷ stores) held own = absurd held
+  own_keys ascends count v p (e ∷ es) (s ∷ stores) held own =
+      (subst (λ (t : Store). Ascends t.pairs) (held.0 tt).stores (ascends (held.0 tt).view), own.0, own_keys ascends count v (suc p) es stores held.1 own.1)
 
   length_parts : (stores : List Store) → length (map part_of stores) ≡ length stores
   length_parts [] = refl
@@ -91,9 +91,9 @@ module _ {S D F W : Type 0} (eyes : Eyes S D F W) (options : Options) where
 
       own : only ≡ None → KeepOwn (length v.parts) 0 (map (λ part. part.now) v.parts)
       own is = subst (λ n. KeepOwn n 0 (map (λ part. part.now) v.parts)) (sym count)
-          (own_keys ascends options.partitions files v 0 es o.stores
+          (own_keys ascends options.partitions v 0 es o.stores
           (subst (λ one. AtEach (λ p e part. IsSeen one p → HoldsPart (works_of eyes e) (told_of eyes e) e.engine.part.limits (partition_at p options.partitions) v part) 0 es (map part_of o.stores)) is held)
-          (subst (λ one. EachFrom (λ p stored. IsSeen one p → OpensAs (partition_at p options.partitions) (files p) stored × AreOwn options.partitions p stored.pairs) 0 o.stores) is o.each))
+          (o.own is))
 
   pub stand_opened : (ascends : (q : PartView) → Ascends (stored_with q)) (files : ℕ → List Disk) (came : ℕ → KitFaults) (es : List (WithJobs S D F W)) (first : Sight) → length es ≡ options.partitions
       → AreOpened eyes options files came es → BeginsAs (limits_of options) options.partitions files first → StandAt eyes es first

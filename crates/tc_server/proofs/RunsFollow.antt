@@ -38,13 +38,13 @@ seen_or_not (Some q) p = same_or_not p q
 -- ---- keys of their own
 
 -- what a partition stores in a world has its own keys alone
-stored_own : (count p : ℕ) (only : Option ℕ) (v : World) → length v.parts ≡ count → HaveOwn only v → IsSeen only p → AreOwn count p (store_at p v).pairs
-stored_own count p only v many own is = at (slice_get v.parts p) refl
+stored_own : (count p : ℕ) (v : World) → length v.parts ≡ count → HaveOwn None v → AreOwn count p (store_at p v).pairs
+stored_own count p v many own = at (slice_get v.parts p) refl
   where
     at : (o : Option Part) → slice_get v.parts p ≡ o → AreOwn count p (store_at p v).pairs
     at (Some part) there =
         subst (λ (s : Store). AreOwn count p s.pairs) (sym (stored_there v p part there))
-        (subst (λ n. AreOwn n p part.now.pairs) many (each-at (λ p part. IsSeen only p → AreOwn (length v.parts) p part.now.pairs) p v.parts part own there is))
+        (subst (λ n. AreOwn n p part.now.pairs) many (each-at (λ p part. IsSeen None p → AreOwn (length v.parts) p part.now.pairs) p v.parts part own there tt))
     at None there =
         let none : store_at p v ≡ empty = ap (λ o. unwrap_or o empty) (slice_get-map (λ part. part.now) v.parts p ∙ ap stored_in there) in
         subst (λ (s : Store). AreOwn count p s.pairs) (sym none) (All-nil (λ e. _))
@@ -59,29 +59,27 @@ own_in_one count p (v ∷ vs) pairs own (inr more) = own_in_one count p vs pairs
 -- what is found in a picture of what it left
 pub record IsFound (count p : ℕ) (worlds : List World) (came : List Disk) (stored : Store) : Type 0 where
   pub opens : OpensAs (partition_at p count) came stored
-  pub own : AreOwn count p stored.pairs
   pub in_one : IsStoredInOne p worlds stored.pairs
 
-found_in : (count p : ℕ) (worlds : List World) (left came : List Disk) → ((v : World) → IsOneOf v worlds → AreOwn count p (store_at p v).pairs) → LeavesOneOf count worlds p left → IsFoundOf left came → (stored : Store) × IsFound count p worlds came stored
-found_in count p worlds [] came own leaves found = absurd found
-found_in count p worlds (disk ∷ past) [] own leaves found = absurd found
-found_in count p worlds (disk ∷ past) (next ∷ before) own leaves found =
+found_in : (count p : ℕ) (worlds : List World) (left came : List Disk) → LeavesOneOf count worlds p left → IsFoundOf left came → (stored : Store) × IsFound count p worlds came stored
+found_in count p worlds [] came leaves found = absurd found
+found_in count p worlds (disk ∷ past) [] leaves found = absurd found
+found_in count p worlds (disk ∷ past) (next ∷ before) leaves found =
     let r = leaves.1 found.0 found.1 in (
       recovered r.lawful.contents r.lawful.logs,
       record {
         opens = record { contents = r.lawful.contents; logs = r.lawful.logs; opens = record { picture = found.0; left = found.2; opens = r.lawful.opens }; is = refl };
-        own = own_in_one count p worlds (recovered r.lawful.contents r.lawful.logs).pairs own r.holds;
         in_one = r.holds;
       },
     )
 
 -- ---- all partitions
 
-module _ (count : ℕ) (worlds : List World) (came : ℕ → List Disk) (only : Option ℕ) (own : (p : ℕ) → IsSeen only p → (v : World) → IsOneOf v worlds → AreOwn count p (store_at p v).pairs) where
+module _ (count : ℕ) (worlds : List World) (came : ℕ → List Disk) (only : Option ℕ) (own : only ≡ None → (p : ℕ) (v : World) → IsOneOf v worlds → AreOwn count p (store_at p v).pairs) where
   -- one that is not looked at may store anything
   one_found : (p : ℕ) (left : List Disk) → (IsSeen only p → LeavesOneOf count worlds p left) → (IsSeen only p → IsFoundOf left (came p)) → (stored : Store) × (IsSeen only p → IsFound count p worlds (came p) stored)
   one_found p left leaves found = elim (seen_or_not only p) [
-    | inl is ↦ let here = found_in count p worlds left (came p) (own p is) (leaves is) (found is) in (here.0, λ again. here.1)
+    | inl is ↦ let here = found_in count p worlds left (came p) (leaves is) (found is) in (here.0, λ again. here.1)
     | inr other ↦ (empty, λ is. absurd (other is))
   ]
 
@@ -107,8 +105,10 @@ module _ (count : ℕ) (worlds : List World) (came : ℕ → List Disk) (only : 
         begins = record {
           stores = f.stores;
           counted = f.counted ∙ many;
-          each = each-so (λ p stored. IsSeen only p → IsFound count p worlds (came p) stored) (λ p stored. IsSeen only p → OpensAs (partition_at p count) (came p) stored × AreOwn count p stored.pairs) 0 f.stores
-              (λ p stored here is. ((here is).opens, (here is).own)) f.each;
+          each = each-so (λ p stored. IsSeen only p → IsFound count p worlds (came p) stored) (λ p stored. IsSeen only p → OpensAs (partition_at p count) (came p) stored) 0 f.stores
+              (λ p stored here is. (here is).opens) f.each;
+          own = λ all. each-so (λ p stored. IsSeen only p → IsFound count p worlds (came p) stored) (λ p stored. AreOwn count p stored.pairs) 0 f.stores
+              (λ p stored here. own_in_one count p worlds stored.pairs (own all p) (here (subst (λ one. IsSeen one p) (sym all) tt)).in_one) f.each;
           world = refl;
         };
         stored = each-map part_of (λ p part. IsSeen only p → IsStoredInOne p worlds part.now.pairs) 0 f.stores
@@ -117,12 +117,12 @@ module _ (count : ℕ) (worlds : List World) (came : ℕ → List Disk) (only : 
 
 -- ---- behind a run
 
--- a world over files has keys of its own alone
-opened_own : (limits : Limits) (count : ℕ) (files : ℕ → List Disk) (only : Option ℕ) (w : World) → OpenAs limits count files only w → HaveOwn only w
-opened_own limits count files only w o = subst (HaveOwn only) (sym o.world)
-    (each-map part_of (λ p part. IsSeen only p → AreOwn (length (map part_of o.stores)) p part.now.pairs) 0 o.stores
-    (each-so (λ p stored. IsSeen only p → OpensAs (partition_at p count) (files p) stored × AreOwn count p stored.pairs) (λ p stored. IsSeen only p → AreOwn (length (map part_of o.stores)) p stored.pairs) 0 o.stores
-    (λ p stored opens is. subst (λ n. AreOwn n p stored.pairs) (sym (length-map o.stores part_of ∙ o.counted)) (opens is).1) o.each))
+-- where all are known, partitions of a world over files have keys of their own alone
+opened_own : (limits : Limits) (count : ℕ) (files : ℕ → List Disk) (only : Option ℕ) (w : World) → OpenAs limits count files only w → only ≡ None → HaveOwn None w
+opened_own limits count files only w o all = subst (HaveOwn None) (sym o.world)
+    (each-map part_of (λ p part. IsSeen None p → AreOwn (length (map part_of o.stores)) p part.now.pairs) 0 o.stores
+    (each-so (λ p stored. AreOwn count p stored.pairs) (λ p stored. IsSeen None p → AreOwn (length (map part_of o.stores)) p stored.pairs) 0 o.stores
+    (λ p stored own seen. subst (λ n. AreOwn n p stored.pairs) (sym (length-map o.stores part_of ∙ o.counted)) own) (o.own all)))
 
 opened_many : (limits : Limits) (count : ℕ) (files : ℕ → List Disk) (only : Option ℕ) (w : World) → OpenAs limits count files only w → length w.parts ≡ count
 opened_many limits count files only w o = ap (λ (v : World). length v.parts) o.world ∙ length-map o.stores part_of ∙ o.counted
@@ -131,5 +131,5 @@ pub may_follow : (limits next : Limits) (count : ℕ) (files came : ℕ → List
     → OpenAs limits count files only w → length kits ≡ count → LeaveOneOf only count (worlds_left ending w answered last) kits → AreFoundOf only kits came → MayFollow next count came only (worlds_left ending w answered last)
 may_follow limits next count files came only w ending answered last kits opens many leave found =
     follow count (worlds_left ending w answered last) came only
-    (λ p is v one. stored_own count p only v (many_left count w ending answered last (opened_many limits count files only w opens) v one) (own_left only w ending answered last (opened_own limits count files only w opens) v one) is)
+    (λ all p v one. stored_own count p v (many_left count w ending answered last (opened_many limits count files only w opens) v one) (own_left None w ending answered last (opened_own limits count files only w opens all) v one))
     next kits many leave found

@@ -42,12 +42,13 @@ abbrev pub OpensAs : Partition → List Disk → Store → Type 0
 OpensAs here [] stored = ⊥
 OpensAs here (disk ∷ past) stored = OpensWith here disk stored
 
--- A world over the files of so many partitions: each stores what its files open as, and has keys of its own alone, or the one of this
--- number does, whatever is in the files of others.
+-- A world over the files of so many partitions: each stores what its files open as, or the one of this number does, whatever is in
+-- the files of others. Where all are known they have keys of their own alone; what one keeps by itself asks nothing of its keys.
 pub record OpenAs (limits : Limits) (count : ℕ) (files : ℕ → List Disk) (only : Option ℕ) (w : World) : Type 0 where
   pub stores : List Store
   pub counted : length stores ≡ count
-  pub each : EachFrom (λ p stored. IsSeen only p → OpensAs (partition_at p count) (files p) stored × AreOwn count p stored.pairs) 0 stores
+  pub each : EachFrom (λ p stored. IsSeen only p → OpensAs (partition_at p count) (files p) stored) 0 stores
+  pub own : only ≡ None → EachFrom (λ p stored. AreOwn count p stored.pairs) 0 stores
   pub world : w ≡ first_world limits stores
 
 -- What is known where a run begins over these files. Nothing is known where they are not told, and nothing is said of a partition of
