@@ -16,5 +16,4 @@ mod walk;
 pub use auditing::audit;
 pub use fault::AuditFault;
 pub use law::stored_records_make_contents;
-pub use stored::spells_stored;
 pub use verdict::{Verdict, Wrong};

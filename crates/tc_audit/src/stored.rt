@@ -2,6 +2,7 @@
 
 ghost use Rattle.std.specs.Prelude.{◌≡◌, ◌↔◌, ◌<◌, ◌+◌, ◌*◌, ◌^◌, IsTrue, Some, codes, length, nat_lt, false};
 ghost use Rattle.std.specs.List.{AllByRecursion};
+ghost use Rattle.tc_model.specs.Dictionary.{number_of};
 ghost use Rattle.tc_record.specs.Borrowed.{IsBelow, numbered_tokens};
 ghost use Rattle.tc_record.specs.Preorder.{tokens_of};
 ghost use Rattle.tc_record.specs.Record.{labels, NumberedTree, record_of};
@@ -20,9 +21,11 @@ use tc_record::{Label, Piece, RecordRef};
 const LONG: u32 = 0x4000_0000;
 
 /// Whether a record spells a document under a dictionary as components of its form keep it: an object without a member `id`,
-/// whose record of form 0 has fewer than 1,073,741,824 bytes. Takes no memory.
-pub fn spells_stored(of: RecordRef<'_>, names: &Names) -> bool
+/// whose record of form 0 has fewer than 1,073,741,824 bytes. The number of the name `id` is handed in, if it has one: it is the
+/// same for all records of a component. Takes no memory.
+pub(crate) fn spells_stored(of: RecordRef<'_>, names: &Names, id: Option<u32>) -> bool
     requires numbered { of.named ≡ false }
+    requires id { id ≡ number_of names.now (codes "id") }
     ensures { IsTrue result ↔ IsStoredIn of.entry.form names.now of.entry.bytes }
 {
     // that the names are a dictionary, and that the bytes spell a numbered tree
@@ -39,7 +42,7 @@ pub fn spells_stored(of: RecordRef<'_>, names: &Names) -> bool
     if begins_behind_id(&of, names) {
         return true;
     }
-    has_no_id(&of, names)
+    has_no_id(&of, names, id)
 }
 
 /// Whether each number has a name, and the record with names is short enough to be compacted. The members are walked only
@@ -96,12 +99,13 @@ fn is_behind_id(number: u32, names: &Names) -> bool
     }
 }
 
-/// Whether no member of the outermost object is called `id`. Members are walked only where some name is.
-fn has_no_id(of: &RecordRef<'_>, names: &Names) -> bool
-    requires { length of.now.tokens < 2 ^ 32 }
+/// Whether no member of the outermost object is called `id`, which has this number. Members are walked only where it has one.
+fn has_no_id(of: &RecordRef<'_>, names: &Names, id: Option<u32>) -> bool
+    requires few { length of.now.tokens < 2 ^ 32 }
+    requires id { id ≡ number_of names.now (codes "id") }
     ensures { result ≡ lacks_id names.now of.now.tokens }
 {
-    match names.id_of("id") {
+    match id {
         Some(id) => has_no_number(of, id),
         None => true,
     }

@@ -1,8 +1,9 @@
 //! The entries of a component, read and counted in ascending key.
 
-ghost use Rattle.std.specs.Prelude.{◌≡◌, ◌↔◌, ◌⊎◌, ◌≤◌, ◌<◌, ◌+◌, ◌^◌, ℕ, List, Some, OnOk, IfSome, IfNone, IsErrOf, IsTrue, length};
+ghost use Rattle.std.specs.Prelude.{◌≡◌, ◌↔◌, ◌⊎◌, ◌≤◌, ◌<◌, ◌+◌, ◌^◌, ℕ, List, Some, OnOk, IfSome, IfNone, IsErrOf, IsTrue, codes, length};
 ghost use Rattle.tc_lsm_model.specs.Contents.{Partition, Content};
 ghost use Rattle.tc_lsm_model.specs.Lists.{live};
+ghost use Rattle.tc_model.specs.Dictionary.{number_of};
 ghost use Rattle.tc_model.specs.Keyed.{value_of};
 ghost use Rattle.tc_component.specs.Cursors.{HoldsPart, HasBytes};
 ghost use Rattle.tc_component.specs.Fetching.{IsPlace, record_at};
@@ -53,11 +54,13 @@ pub(crate) fn count_entries<F: Frozen>(
 {
     let mut cursor = RecordCursor::new(alloc);
     let mut cursors = cursors_over(alloc, older)?;
+    let id = component.names().id_of("id");
     for at in 0..component.len() {
         count_entry(
             alloc,
             older,
             component,
+            id,
             at,
             &mut cursor,
             &mut cursors,
@@ -73,12 +76,14 @@ fn count_entry<F: Frozen>(
     alloc: Global,
     older: &ComponentList<F>,
     component: &Component<F>,
+    id: Option<u32>,
     at: usize,
     cursor: &mut RecordCursor,
     cursors: &mut [RecordCursor],
     recount: &mut Recount,
     watch: &mut F::Watch,
 ) -> Result<(), Stop>
+    requires id { id ≡ number_of component.now.index.names (codes "id") }
     requires at { at < length component.now.index.slots }
     requires names { recount.old.names ≡ component.now.index.names }
     requires newer { AreInFront older.now component.now.index.names }
@@ -104,7 +109,7 @@ fn count_entry<F: Frozen>(
     let entry = component.entry(at);
     match entry.place {
         Some(place) => count_place(
-            alloc, older, component, entry.key, place, cursor, cursors, recount, watch,
+            alloc, older, component, id, entry.key, place, cursor, cursors, recount, watch,
         ),
         None => take_few(alloc, older, entry.key, recount, watch),
     }
@@ -153,6 +158,7 @@ fn count_place<F: Frozen>(
     alloc: Global,
     older: &ComponentList<F>,
     component: &Component<F>,
+    id: Option<u32>,
     key: u64,
     place: Place,
     cursor: &mut RecordCursor,
@@ -160,6 +166,7 @@ fn count_place<F: Frozen>(
     recount: &mut Recount,
     watch: &mut F::Watch,
 ) -> Result<(), Stop>
+    requires id { id ≡ number_of component.now.index.names (codes "id") }
     requires place { IsPlace component.now.index.slots place }
     requires names { recount.old.names ≡ component.now.index.names }
     requires newer { AreInFront older.now component.now.index.names }
@@ -184,7 +191,7 @@ fn count_place<F: Frozen>(
     let (begin, count) = component.record_range(place);
     hold(number, component, begin, count, cursor, watch)?;
     let bytes = cursor.part(begin, count);
-    match stored_in(bytes, component) {
+    match stored_in(bytes, component, id) {
         Some(of) => replace_few(alloc, older, key, of, cursors, recount, watch)?,
         None => return Err(unstored(alloc, number, component, place, bytes)),
     }
@@ -252,7 +259,12 @@ fn hold<F: Frozen>(
 }
 
 /// The record that bytes of a component are, if it spells a document as it is stored there. Takes no memory.
-fn stored_in<'a, F: Frozen>(bytes: &'a [u8], component: &Component<F>) -> Option<RecordRef<'a>>
+fn stored_in<'a, F: Frozen>(
+    bytes: &'a [u8],
+    component: &Component<F>,
+    id: Option<u32>,
+) -> Option<RecordRef<'a>>
+    requires { id ≡ number_of component.now.index.names (codes "id") }
     ensures bytes { IfSome result (λ of. of.bytes ≡ bytes.now) }
     ensures form { IfSome result (λ of. of.form ≡ component.now.index.version) }
     ensures stored { IfSome result (λ of. IsStoredIn of.form component.now.index.names of.bytes) }
@@ -261,7 +273,7 @@ fn stored_in<'a, F: Frozen>(bytes: &'a [u8], component: &Component<F>) -> Option
     // that the names are a dictionary
     let _lawful = component.file_len();
     let of = RecordRef::numbered(bytes, component.version())?;
-    if !spells_stored(of.again(), component.names()) {
+    if !spells_stored(of.again(), component.names(), id) {
         return None;
     }
     Some(of)
