@@ -1,5 +1,5 @@
 -- What is said of calls that stop where something is wrong.
-use Rattle.std.specs.Prelude.{◌≡◌, ℕ, Result, Ok, Err}
+use Rattle.std.specs.Prelude.{◌≡◌, ℕ, Result, Err}
 use Rattle.tc_store.specs.declared.damage.ReadFault.{ReadFault}
 use Rattle.tc_store.specs.declared.damage.ReadFault.TheVariants as read
 use Rattle.tc_audit.specs.declared.verdict.Wrong.{Wrong as Reason}
@@ -11,10 +11,8 @@ use Rattle.tc_audit.specs.declared.stop.Stop.TheVariants.{Wrong, Disk, Memory}
 
 -- of what is found to be wrong this holds
 abbrev pub IfWrong : {X : Type 0} → Result X Stop → (Reason → Type 0) → Type 0
-IfWrong (Ok x) P = Unit {0}
 IfWrong (Err (Wrong w)) P = P w
-IfWrong (Err Disk) P = Unit {0}
-IfWrong (Err Memory) P = Unit {0}
+IfWrong _ _ = Unit {0}
 
 -- the position of the component that is wrong
 abbrev pub position_of : Reason → ℕ

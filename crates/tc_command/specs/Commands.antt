@@ -49,10 +49,8 @@ IsLawful (Upsert key doc) = (key ≤ max_key) × IsStorable (tree_of doc)
 IsLawful (Delete key) = key ≤ max_key
 IsLawful (Get key) = key ≤ max_key
 IsLawful (Query ask) = IsLawfulAsk ask
-IsLawful Flush = Unit {0}
-IsLawful Schema = Unit {0}
 IsLawful (Scan ask) = IsLawfulAsk ask
-IsLawful Collect = Unit {0}
+IsLawful _ = Unit {0}
 
 -- a refusal that the line alone decides
 abbrev pub IsOfLine : ParseFault → Type 0

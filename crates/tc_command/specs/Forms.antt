@@ -23,11 +23,6 @@ form_meant Collect = request.collect_form
 
 -- the path, where there is one, has whole numbers alone
 abbrev pub HasWholePath : request.Form → Type 0
-HasWholePath (request.upsert_form doc) = Unit {0}
-HasWholePath (request.delete_form id) = Unit {0}
-HasWholePath (request.get_form id) = Unit {0}
 HasWholePath (request.query_form path eq) = IsTrue (is_whole (json.array path))
-HasWholePath request.flush_form = Unit {0}
-HasWholePath request.schema_form = Unit {0}
 HasWholePath (request.scan_form path eq) = IsTrue (is_whole (json.array path))
-HasWholePath request.collect_form = Unit {0}
+HasWholePath _ = Unit {0}

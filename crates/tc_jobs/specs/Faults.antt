@@ -1,5 +1,5 @@
 -- Why a call failed, by what a call below it answered, and what damage it tells.
-use Rattle.std.specs.Prelude.{◌≡◌, ℕ, List, Result, Ok, Err}
+use Rattle.std.specs.Prelude.{◌≡◌, ℕ, List, Result, Err}
 use Rattle.tc_merge.specs.declared.fault.MergeFault.{MergeFault}
 use Rattle.tc_merge.specs.declared.fault.MergeFault.TheVariants as merge
 use Rattle.tc_store.specs.declared.damage.Damage.{Damage}
@@ -39,17 +39,14 @@ of_file file read.Memory = Memory
 
 -- of damage this holds
 abbrev pub IfDamaged : {X : Type 0} → Result X JobFault → (Damage → Type 0) → Type 0
-IfDamaged (Ok x) P = Unit {0}
-IfDamaged (Err Disk) P = Unit {0}
 IfDamaged (Err (Damaged damage)) P = P damage
-IfDamaged (Err Memory) P = Unit {0}
+IfDamaged _ _ = Unit {0}
 
 -- of damaged bytes this holds, by the file and their place
 abbrev pub IfHarmed : JobFault → (FileName → ℕ → List ℕ → Type 0) → Type 0
-IfHarmed Disk P = Unit {0}
 IfHarmed (Damaged (Bytes file place bytes)) P = P file place bytes
 IfHarmed (Damaged (Files names)) P = ⊥
-IfHarmed Memory P = Unit {0}
+IfHarmed _ _ = Unit {0}
 
 -- bytes are damaged, of which this holds by the file and their place
 abbrev pub AreBytes : (FileName → ℕ → List ℕ → Type 0) → Damage → Type 0

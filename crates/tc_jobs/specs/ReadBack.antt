@@ -11,7 +11,7 @@ use Rattle.tc_component.specs.Layout.{head_place, head_size, file_size}
 use Rattle.tc_component.specs.Reading.{file_judged, front_of}
 use Rattle.tc_component.specs.Spelling.{Index, IsIndex, name_of, sizes_in}
 use Rattle.tc_jobs.specs.declared.fault.JobFault.{JobFault}
-use Rattle.tc_jobs.specs.declared.fault.JobFault.TheVariants.{Disk as DiskFault, Damaged, Memory}
+use Rattle.tc_jobs.specs.declared.fault.JobFault.TheVariants.{Damaged}
 
 -- ---- judging
 
@@ -26,10 +26,9 @@ own_judged own bytes = judged_then (file_judged (name_of own) bytes) λ c. if ha
 -- what is answered, seen by view, is what is judged of the file of this name
 abbrev pub JudgesFile : {X Y : Type 0} → FileName → (X → Y) → Result X JobFault → Result Y Damage → Type 0
 JudgesFile name view (Ok x) judged = judged ≡ Ok (view x)
-JudgesFile name view (Err DiskFault) judged = Unit {0}
 JudgesFile name view (Err (Damaged (Bytes file place bytes))) judged = (file ≡ name) × (judged ≡ Err (damage place bytes))
 JudgesFile name view (Err (Damaged (Files names))) judged = ⊥
-JudgesFile name view (Err Memory) judged = Unit {0}
+JudgesFile _ _ _ _ = Unit {0}
 
 -- ---- of a file that does not tell its content
 

@@ -89,58 +89,32 @@ IsWrite (Layout p found found_of asked_of) = ⊥
 
 -- if it is one of the disk, this holds of its partition
 abbrev pub IfDisk : RunFault → (ℕ → Type 0) → Type 0
-IfDisk Usage P = Unit {0}
-IfDisk Read P = Unit {0}
-IfDisk (Write n) P = Unit {0}
-IfDisk Spent P = Unit {0}
 IfDisk (Disk p) P = P p
-IfDisk (Damaged p damage) P = Unit {0}
-IfDisk Memory P = Unit {0}
-IfDisk (Layout p found found_of asked_of) P = Unit {0}
+IfDisk _ _ = Unit {0}
 
 -- if it is damage, this holds of it by the partition
 abbrev pub IfDamaged : RunFault → (ℕ → Damage → Type 0) → Type 0
-IfDamaged Usage P = Unit {0}
-IfDamaged Read P = Unit {0}
-IfDamaged (Write n) P = Unit {0}
-IfDamaged Spent P = Unit {0}
-IfDamaged (Disk p) P = Unit {0}
 IfDamaged (Damaged p damage) P = P p damage
-IfDamaged Memory P = Unit {0}
-IfDamaged (Layout p found found_of asked_of) P = Unit {0}
+IfDamaged _ _ = Unit {0}
 
 -- it is no damage of a partition that is looked at
 abbrev pub IsNoDamage : Option ℕ → RunFault → Type 0
-IsNoDamage only Usage = Unit {0}
-IsNoDamage only Read = Unit {0}
-IsNoDamage only (Write n) = Unit {0}
-IsNoDamage only Spent = Unit {0}
-IsNoDamage only (Disk p) = Unit {0}
 IsNoDamage only (Damaged p damage) = IsSeen only p → ⊥
-IsNoDamage only Memory = Unit {0}
-IsNoDamage only (Layout p found found_of asked_of) = Unit {0}
+IsNoDamage _ _ = Unit {0}
 
 -- What it says of what keeps the documents: that a generation is spent, or what is damaged.
 abbrev pub IsSaid : Type 0 → (ℕ → Damage → Type 0) → RunFault → Type 0
-IsSaid spent met Usage = Unit {0}
-IsSaid spent met Read = Unit {0}
-IsSaid spent met (Write n) = Unit {0}
 IsSaid spent met Spent = spent
-IsSaid spent met (Disk p) = Unit {0}
 IsSaid spent met (Damaged p damage) = met p damage
-IsSaid spent met Memory = Unit {0}
-IsSaid spent met (Layout p found found_of asked_of) = Unit {0}
+IsSaid _ _ _ = Unit {0}
 
 -- it is one of a store that is open
 abbrev pub IsOfStore : RunFault → Type 0
 IsOfStore Usage = ⊥
 IsOfStore Read = ⊥
 IsOfStore (Write n) = ⊥
-IsOfStore Spent = Unit {0}
-IsOfStore (Disk p) = Unit {0}
-IsOfStore (Damaged p damage) = Unit {0}
-IsOfStore Memory = Unit {0}
 IsOfStore (Layout p found found_of asked_of) = ⊥
+IsOfStore _ = Unit {0}
 
 -- it is one of a job, or of a scan, that was waited for
 abbrev pub IsOfJob : RunFault → Type 0
@@ -148,32 +122,21 @@ IsOfJob Usage = ⊥
 IsOfJob Read = ⊥
 IsOfJob (Write n) = ⊥
 IsOfJob Spent = ⊥
-IsOfJob (Disk p) = Unit {0}
-IsOfJob (Damaged p damage) = Unit {0}
-IsOfJob Memory = Unit {0}
 IsOfJob (Layout p found found_of asked_of) = ⊥
+IsOfJob _ = Unit {0}
 
 -- it is one of a window, and not of the words, of the source, or of opening
 abbrev pub IsOfWindow : RunFault → Type 0
 IsOfWindow Usage = ⊥
 IsOfWindow Read = ⊥
-IsOfWindow (Write n) = Unit {0}
-IsOfWindow Spent = Unit {0}
-IsOfWindow (Disk p) = Unit {0}
-IsOfWindow (Damaged p damage) = Unit {0}
-IsOfWindow Memory = Unit {0}
 IsOfWindow (Layout p found found_of asked_of) = ⊥
+IsOfWindow _ = Unit {0}
 
 -- it is one of a run over an opened store
 abbrev pub IsOfRun : RunFault → Type 0
 IsOfRun Usage = ⊥
-IsOfRun Read = Unit {0}
-IsOfRun (Write n) = Unit {0}
-IsOfRun Spent = Unit {0}
-IsOfRun (Disk p) = Unit {0}
-IsOfRun (Damaged p damage) = Unit {0}
-IsOfRun Memory = Unit {0}
 IsOfRun (Layout p found found_of asked_of) = ⊥
+IsOfRun _ = Unit {0}
 
 -- ---- counts of faults
 

@@ -9,13 +9,12 @@ use Rattle.tc_component.specs.Loading.{ComponentState}
 use Rattle.tc_component.specs.Spelling.{Row, name_of, written_version}
 use Rattle.tc_merge.specs.Merging.{rows_told}
 use Rattle.tc_merge.specs.declared.fault.MergeFault.{MergeFault}
-use Rattle.tc_merge.specs.declared.fault.MergeFault.TheVariants.{Disk, Damaged, Memory}
+use Rattle.tc_merge.specs.declared.fault.MergeFault.TheVariants.{Damaged}
 
 -- of damage this holds, by the file, the place and the bytes there
 abbrev pub IfHarmed : MergeFault → (FileName → ℕ → List ℕ → Type 0) → Type 0
-IfHarmed Disk P = Unit {0}
 IfHarmed (Damaged file place bytes) P = P file place bytes
-IfHarmed Memory P = Unit {0}
+IfHarmed _ _ = Unit {0}
 
 -- nothing was found damaged
 abbrev pub IsHarmless : MergeFault → Type 0

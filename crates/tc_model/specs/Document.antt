@@ -77,10 +77,9 @@ abbrev mutual
 
 -- an integer has 64 bits, and a text is UTF-8
 abbrev pub IsScalar : Scalar → Type 0
-IsScalar null = Unit {0}
-IsScalar (boolean b) = Unit {0}
 IsScalar (integer z) = FitsSigned w64 z
 IsScalar (text s) = IsUtf8 s
+IsScalar _ = Unit {0}
 
 -- a tree that is a document
 abbrev pub IsDocument : Document → Type 0

@@ -22,7 +22,7 @@ use Rattle.tc_replay.specs.FlushedLogs.{IsReplayDamage}
 use Rattle.tc_replay.specs.Merges.{IsMergeDamage, head_over}
 use Rattle.tc_open.specs.Listed.{AreFlushed, end_by, most_listed}
 use Rattle.tc_open.specs.declared.fault.OpenCause.{OpenCause}
-use Rattle.tc_open.specs.declared.fault.OpenCause.TheVariants.{Disk as DiskFault, Damaged, Layout, Spent, Memory}
+use Rattle.tc_open.specs.declared.fault.OpenCause.TheVariants.{Damaged, Layout, Spent}
 
 -- ---- over every store
 
@@ -57,11 +57,9 @@ IsOfFound content name part Are found damage = IsOfLogs content name part Are fo
 
 -- Damage is of some files, or was found while the logs were flushed or the components merged; other numbers are of some files.
 abbrev pub IsOpenCause : {F : Type 0} → Type 0 → (F → ℕ) → (F → Option (List ℕ)) → (F → FileName) → Partition → OpenCause → Type 0
-IsOpenCause W size content name part DiskFault = Unit {0}
 IsOpenCause W size content name part (Damaged damage) = IsOfFiles W size name part (files.Damaged damage) ⊎ ((found : Found) × IsOfFound content name part (λ list. Unit {0}) found damage)
 IsOpenCause W size content name part (Layout found found_of) = IsOfFiles W size name part (files.Layout found found_of)
-IsOpenCause W size content name part Spent = Unit {0}
-IsOpenCause W size content name part Memory = Unit {0}
+IsOpenCause _ _ _ _ _ _ = Unit {0}
 
 -- no generation is left behind those of these components and logs
 abbrev pub AreSpent : Found → Type 0
@@ -94,8 +92,7 @@ AreOfDisk content disk list = All (λ c. content c.file ≡ content_of (disk (na
 -- merged, and that no generation is left, come where they are not refused. Of a fault of the disk and of want of memory nothing
 -- is said here.
 abbrev pub CauseJudged : {F : Type 0} → (F → Option (List ℕ)) → (F → FileName) → Partition → Disk → OpenCause → Type 0
-CauseJudged content name part disk DiskFault = Unit {0}
 CauseJudged content name part disk (Damaged damage) = DiskJudged part disk (Err (refusal_of damage)) ⊎ Passes part disk (λ found. IsOfFound content name part (AreOfDisk content disk) found damage)
 CauseJudged content name part disk (Layout found found_of) = DiskJudged part disk (Err (strays found found_of))
 CauseJudged content name part disk Spent = Passes part disk AreSpent
-CauseJudged content name part disk Memory = Unit {0}
+CauseJudged _ _ _ _ _ = Unit {0}

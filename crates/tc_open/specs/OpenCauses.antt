@@ -32,40 +32,29 @@ of_job job.Memory = Memory
 
 -- of a call that reads no file: it is the disk, or memory, or that no generation is left
 abbrev pub IsOfNoFile : OpenCause → Type 0
-IsOfNoFile Disk = Unit {0}
 IsOfNoFile (Damaged damage) = ⊥
 IsOfNoFile (Layout found found_of) = ⊥
-IsOfNoFile Spent = Unit {0}
-IsOfNoFile Memory = Unit {0}
+IsOfNoFile _ = Unit {0}
 
 -- of a call of the store or of a device
 abbrev pub IsOfCall : OpenCause → Type 0
-IsOfCall Disk = Unit {0}
 IsOfCall (Damaged damage) = ⊥
 IsOfCall (Layout found found_of) = ⊥
 IsOfCall Spent = ⊥
-IsOfCall Memory = Unit {0}
+IsOfCall _ = Unit {0}
 
 -- of a partition of other numbers this holds
 abbrev pub IfLayout : OpenCause → Type 0 → Type 0
-IfLayout Disk P = Unit {0}
-IfLayout (Damaged damage) P = Unit {0}
 IfLayout (Layout found found_of) P = P
-IfLayout Spent P = Unit {0}
-IfLayout Memory P = Unit {0}
+IfLayout _ _ = Unit {0}
 
 -- of damage this holds
 abbrev pub IfDamaged : OpenCause → (Damage → Type 0) → Type 0
-IfDamaged Disk P = Unit {0}
 IfDamaged (Damaged damage) P = P damage
-IfDamaged (Layout found found_of) P = Unit {0}
-IfDamaged Spent P = Unit {0}
-IfDamaged Memory P = Unit {0}
+IfDamaged _ _ = Unit {0}
 
 -- of a job: the disk, memory, or damage
 abbrev pub IsOfJob : OpenCause → Type 0
-IsOfJob Disk = Unit {0}
-IsOfJob (Damaged damage) = Unit {0}
 IsOfJob (Layout found found_of) = ⊥
 IsOfJob Spent = ⊥
-IsOfJob Memory = Unit {0}
+IsOfJob _ = Unit {0}

@@ -1,7 +1,7 @@
 -- The store of a partition between two steps of its opening: which files it has, and what the machine keeps of them.
 use Rattle.std.specs.Prelude.{◌≡◌, ◌⊎◌, Contains, List, false}
 use Rattle.tc_store.specs.declared.file_name.FileName.{FileName}
-use Rattle.tc_store.specs.Disk.{Disk, Entry, none, home, still, out, is_out, IsThere}
+use Rattle.tc_store.specs.Disk.{Disk, Entry, home, still, out, is_out, IsThere}
 use Rattle.tc_component.specs.Loading.{ComponentState}
 use Rattle.tc_plain_model.specs.Writes.{Write}
 use Rattle.tc_lsm_model.specs.Contents.{Partition, Content}
@@ -12,17 +12,14 @@ use Rattle.tc_replay.specs.Openings.{opening_at}
 
 -- a file that never changes, or none
 abbrev pub IsStillOrGone : Entry → Type 0
-IsStillOrGone (none before) = Unit {0}
 IsStillOrGone (home f) = ⊥
-IsStillOrGone (still bytes) = Unit {0}
 IsStillOrGone out = ⊥
+IsStillOrGone _ = Unit {0}
 
 -- a file that is not at home to be written
 abbrev pub IsTaken : Entry → Type 0
-IsTaken (none before) = Unit {0}
 IsTaken (home f) = ⊥
-IsTaken (still bytes) = Unit {0}
-IsTaken out = Unit {0}
+IsTaken _ = Unit {0}
 
 -- ---- over every store that tells its files
 

@@ -1,5 +1,5 @@
 -- Why a call of a part failed, by what a call below it answered, and what damage it tells.
-use Rattle.std.specs.Prelude.{Result, Ok, Err}
+use Rattle.std.specs.Prelude.{Result, Err}
 use Rattle.tc_jobs.specs.declared.fault.JobFault.{JobFault}
 use Rattle.tc_jobs.specs.declared.fault.JobFault.TheVariants as job
 use Rattle.tc_query.specs.declared.fault.QueryFault.{QueryFault}
@@ -33,15 +33,10 @@ of_query query.Memory = part.Memory
 
 -- of damage this holds
 abbrev pub IfDamaged : {X : Type 0} → Result X PartFault → (Damage → Type 0) → Type 0
-IfDamaged (Ok x) P = Unit {0}
-IfDamaged (Err part.Disk) P = Unit {0}
 IfDamaged (Err (part.Damaged damage)) P = P damage
-IfDamaged (Err part.Spent) P = Unit {0}
-IfDamaged (Err part.Memory) P = Unit {0}
+IfDamaged _ _ = Unit {0}
 
 -- that of a call that reads no file, so that it finds none damaged
 abbrev pub IsUndamaged : PartFault → Type 0
-IsUndamaged part.Disk = Unit {0}
 IsUndamaged (part.Damaged damage) = ⊥
-IsUndamaged part.Spent = Unit {0}
-IsUndamaged part.Memory = Unit {0}
+IsUndamaged _ = Unit {0}

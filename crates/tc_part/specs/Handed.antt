@@ -1,5 +1,5 @@
 -- The shape that a write hands to the active table, over every store.
-use Rattle.std.specs.Prelude.{◌≡◌, ℕ, true, false, List, Option, Some, None, option_map}
+use Rattle.std.specs.Prelude.{◌≡◌, ℕ, true, List, Option, Some, None, option_map}
 use Rattle.tc_model.specs.Document.{Document, ShapeTree, document_shape}
 use Rattle.tc_log.specs.declared.write.Write as log
 use Rattle.tc_log.specs.declared.write.Write.TheVariants.{Upsert, Delete}
@@ -8,7 +8,7 @@ use Rattle.tc_component.specs.Loading.{ComponentState}
 use Rattle.tc_query.specs.Shown.{MayHave}
 use Rattle.tc_part_model.specs.PartState.{PartState}
 use Rattle.tc_part.specs.declared.staging.Staged.{Staged}
-use Rattle.tc_part.specs.declared.staging.Staged.TheVariants.{Done, NamesFull, Full}
+use Rattle.tc_part.specs.declared.staging.Staged.TheVariants.{Done}
 use Rattle.tc_part.specs.Below.{held_at, sealed_held}
 
 -- The shape of the document that a key has by its newest entry below the active table, or none where it has none there. A
@@ -32,6 +32,4 @@ HandsIn told key call old active = (shape : Option ShapeTree) × IsHanded told o
 abbrev pub KeepsShape : {S D F W : Type 0} → (F → Option (List ℕ)) → Staged → log.Write → PartState S D F W → Table → Type 0
 KeepsShape told (Done was_live) (Upsert key bytes) old active = HandsIn told key (upserted key bytes) old active
 KeepsShape told (Done true) (Delete key) old active = HandsIn told key (deleted key) old active
-KeepsShape told (Done false) (Delete key) old active = Unit {0}
-KeepsShape told NamesFull write old active = Unit {0}
-KeepsShape told Full write old active = Unit {0}
+KeepsShape _ _ _ _ _ = Unit {0}

@@ -10,7 +10,7 @@ use Rattle.tc_component.specs.Fetching.{IsPlace, record_place, length_at, record
 use Rattle.tc_component.specs.Loading.{ComponentState}
 use Rattle.tc_component.specs.Spelling.{name_of}
 use Rattle.tc_part.specs.declared.fault.PartFault.{PartFault}
-use Rattle.tc_part.specs.declared.fault.PartFault.TheVariants.{Disk, Damaged, Spent, Memory}
+use Rattle.tc_part.specs.declared.fault.PartFault.TheVariants.{Damaged, Spent}
 
 abbrev pub IsBytesHarm : Damage → (FileName → ℕ → List ℕ → Type 0) → Type 0
 IsBytesHarm (Bytes file place bytes) P = P file place bytes
@@ -19,10 +19,9 @@ IsBytesHarm (Files names) P = ⊥
 -- A fault of a call that reads: for want of memory, of a disk, or damage, of which this holds by the file, the place and the
 -- bytes there.
 abbrev pub IsOfRead : PartFault → (FileName → ℕ → List ℕ → Type 0) → Type 0
-IsOfRead Disk P = Unit {0}
 IsOfRead (Damaged damage) P = IsBytesHarm damage P
 IsOfRead Spent P = ⊥
-IsOfRead Memory P = Unit {0}
+IsOfRead _ _ = Unit {0}
 
 -- the bytes are those of the entry's record in the file, if it tells
 abbrev pub AreOfFile : {F : Type 0} → (F → Option (List ℕ)) → ComponentState F → ℕ → List ℕ → Type 0

@@ -8,15 +8,14 @@ use Rattle.tc_component.specs.Loading.{ComponentState}
 use Rattle.tc_component.specs.Spelling.{name_of}
 use Rattle.tc_model.specs.Document.{Name, Document}
 use Rattle.tc_query.specs.declared.fault.QueryFault.{QueryFault}
-use Rattle.tc_query.specs.declared.fault.QueryFault.TheVariants.{Disk, Damaged, Memory}
+use Rattle.tc_query.specs.declared.fault.QueryFault.TheVariants.{Damaged}
 use Rattle.tc_store.specs.Counted.{Counts}
 use Rattle.tc_store.specs.declared.file_name.FileName.{FileName}
 
 -- of damage this holds, by the file, the place and the bytes there
 abbrev pub OfDamage : QueryFault → (FileName → ℕ → List ℕ → Type 0) → Type 0
-OfDamage Disk P = Unit {0}
 OfDamage (Damaged file place bytes) P = P file place bytes
-OfDamage Memory P = Unit {0}
+OfDamage _ _ = Unit {0}
 
 -- nothing was found damaged
 abbrev pub IsUnharmed : QueryFault → Type 0

@@ -32,9 +32,8 @@ with_piece closed c = c
 -- a piece that may stand in a record, but a close
 abbrev pub FitsPiece : Piece Scalar → Type 0
 FitsPiece (scalar s) = IsScalar s
-FitsPiece array_opened = Unit {0}
-FitsPiece object_opened = Unit {0}
 FitsPiece closed = ⊥
+FitsPiece _ = Unit {0}
 
 bool_again : (b : Bool) → bool_of (if b then 1 else 0) ≡ Some b
 bool_again true = refl

@@ -40,10 +40,9 @@ takes_keep Q keeps (name ∷ names) disk past holds =
 
 -- nothing is pending on a file, and it is not out
 abbrev pub IsCalm : Entry → Type 0
-IsCalm (none before) = Unit {0}
 IsCalm (home f) = IsSettled f
-IsCalm (still bytes) = Unit {0}
 IsCalm out = ⊥
+IsCalm _ = Unit {0}
 
 calm_taken : (e : Entry) → IsCalm e → IsCalm (taken e)
 calm_taken (none before) calm = tt

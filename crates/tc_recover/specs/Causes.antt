@@ -1,5 +1,5 @@
 -- The causes that faults of the calls below are.
-use Rattle.std.specs.Prelude.{◌≡◌, Result, Ok, Err}
+use Rattle.std.specs.Prelude.{◌≡◌, Result, Err}
 use Rattle.tc_store.specs.declared.file_name.FileName.{FileName}
 use Rattle.tc_store.specs.declared.fault.StoreFault.{StoreFault}
 use Rattle.tc_store.specs.declared.fault.StoreFault.TheVariants.{Fault, Memory as no_room}
@@ -32,8 +32,6 @@ IsOfRead name no_memory cause = cause ≡ Memory
 
 -- nothing that a file holds is at fault
 abbrev pub IsNoRefusal : {X : Type 0} → Result X FilesCause → Type 0
-IsNoRefusal (Ok x) = Unit {0}
-IsNoRefusal (Err Disk) = Unit {0}
 IsNoRefusal (Err (Damaged damage)) = ⊥
 IsNoRefusal (Err (Layout found found_of)) = ⊥
-IsNoRefusal (Err Memory) = Unit {0}
+IsNoRefusal _ = Unit {0}

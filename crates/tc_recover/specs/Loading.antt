@@ -14,7 +14,7 @@ use Rattle.tc_component.specs.Loading.{ComponentState}
 use Rattle.tc_component.specs.Reading.{file_judged}
 use Rattle.tc_component.specs.Spelling.{Index, IsIndex, name_of, sizes_in}
 use Rattle.tc_recover.specs.declared.cause.FilesCause.{FilesCause}
-use Rattle.tc_recover.specs.declared.cause.FilesCause.TheVariants.{Disk, Damaged, Layout, Memory}
+use Rattle.tc_recover.specs.declared.cause.FilesCause.TheVariants.{Damaged, Layout}
 use Rattle.tc_recover.specs.declared.interval.Interval.{Interval}
 use Rattle.tc_recover.specs.declared.taken.Taken.{Taken}
 use Rattle.tc_recover.specs.Loads.{file_then}
@@ -98,11 +98,10 @@ pub record HasOtherNames {F W : Type 0} (size : F → ℕ) (t : Taken F W) (plac
 
 -- of a file that is loaded
 abbrev pub IsLoadDamage : {F W : Type 0} → (F → ℕ) → Partition → Taken F W → FilesCause → Type 0
-IsLoadDamage size part t Disk = Unit {0}
 IsLoadDamage size part t (Damaged (Bytes name place bytes)) = (t.name ≡ name) × (IsHarm size t place bytes ⊎ HasOtherNames size t place bytes)
 IsLoadDamage size part t (Damaged (Files names)) = ⊥
 IsLoadDamage size part t (Layout found found_of) = stray part found found_of ≡ Some (strays found found_of)
-IsLoadDamage size part t Memory = Unit {0}
+IsLoadDamage _ _ _ _ = Unit {0}
 
 -- of the file of one of the tiles
 pub record IsTileDamage {F W : Type 0} (size : F → ℕ) (part : Partition) (tiles : List Interval) (files : List (Taken F W)) (cause : FilesCause) : Type 0 where
@@ -114,7 +113,6 @@ pub record IsTileDamage {F W : Type 0} (size : F → ℕ) (part : Partition) (ti
   pub harm : IsLoadDamage size part file cause
 
 abbrev pub IsLoadCause : {F W : Type 0} → (F → ℕ) → Partition → List Interval → List (Taken F W) → FilesCause → Type 0
-IsLoadCause size part tiles files Disk = Unit {0}
 IsLoadCause size part tiles files (Damaged damage) = IsTileDamage size part tiles files (Damaged damage)
 IsLoadCause size part tiles files (Layout found found_of) = IsTileDamage size part tiles files (Layout found found_of)
-IsLoadCause size part tiles files Memory = Unit {0}
+IsLoadCause _ _ _ _ _ = Unit {0}

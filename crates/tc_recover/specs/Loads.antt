@@ -9,7 +9,7 @@ use Rattle.tc_store.specs.Judging as judging
 use Rattle.tc_log.specs.declared.write.Write.{Write}
 use Rattle.tc_log.specs.Reading.{log_judged}
 use Rattle.tc_recover.specs.declared.cause.FilesCause.{FilesCause}
-use Rattle.tc_recover.specs.declared.cause.FilesCause.TheVariants.{Disk, Damaged, Layout, Memory}
+use Rattle.tc_recover.specs.declared.cause.FilesCause.TheVariants.{Damaged, Layout}
 use Rattle.tc_recover.specs.declared.taken.Taken.{Taken}
 use Rattle.tc_recover.specs.Refusals.{Refusal, breaks, strays, clashes}
 
@@ -36,11 +36,10 @@ logs_judged last before (file ∷ files) =
 -- What is answered, seen by view, is what is judged. Of a fault of the disk and of want of memory nothing is said here.
 abbrev pub Answers : {X Y : Type 0} → (X → Y) → Result X FilesCause → Result Y Refusal → Type 0
 Answers view (Ok x) judged = judged ≡ Ok (view x)
-Answers view (Err Disk) judged = Unit {0}
 Answers view (Err (Damaged (Bytes file place bytes))) judged = judged ≡ Err (breaks file (judging.damage place bytes))
 Answers view (Err (Damaged (Files names))) judged = judged ≡ Err (clashes names)
 Answers view (Err (Layout found found_of)) judged = judged ≡ Err (strays found found_of)
-Answers view (Err Memory) judged = Unit {0}
+Answers _ _ _ = Unit {0}
 
 -- the writes of a log
 abbrev pub same_writes : List Write → List Write
@@ -50,15 +49,13 @@ same_writes writes = writes
 
 -- bytes that break the rules of a log: those at the place in some whole of its length
 abbrev pub IsLogDamage : {F W : Type 0} → (F → ℕ) → Taken F W → FilesCause → Type 0
-IsLogDamage size t Disk = Unit {0}
 IsLogDamage size t (Damaged (Bytes name place bytes)) = (t.name ≡ name) × ((whole : List ℕ) × (length whole ≡ size t.file) × (log_judged whole ≡ Err (judging.damage place bytes)))
 IsLogDamage size t (Damaged (Files names)) = ⊥
 IsLogDamage size t (Layout found found_of) = ⊥
-IsLogDamage size t Memory = Unit {0}
+IsLogDamage _ _ _ = Unit {0}
 
 -- of one of the open logs above a generation
 abbrev pub IsLogCause : {F W : Type 0} → (F → ℕ) → ℕ → List (Taken F W) → FilesCause → Type 0
-IsLogCause size last files Disk = Unit {0}
 IsLogCause {F = F} {W = W} size last files (Damaged damage) = (t : Taken F W) × Contains files t × (is_log last t ≡ true) × IsLogDamage size t (Damaged damage)
 IsLogCause size last files (Layout found found_of) = ⊥
-IsLogCause size last files Memory = Unit {0}
+IsLogCause _ _ _ _ = Unit {0}

@@ -13,7 +13,7 @@ use Rattle.tc_lsm_model.specs.Contents.{Partition}
 use Rattle.tc_component.specs.Loading.{ComponentState, index_in}
 use Rattle.tc_component.specs.Spelling.{Index}
 use Rattle.tc_recover.specs.declared.cause.FilesCause.{FilesCause}
-use Rattle.tc_recover.specs.declared.cause.FilesCause.TheVariants.{Disk as DiskFault, Damaged, Layout, Memory}
+use Rattle.tc_recover.specs.declared.cause.FilesCause.TheVariants.{Damaged, Layout}
 use Rattle.tc_recover.specs.declared.interval.Interval.{Interval}
 use Rattle.tc_recover.specs.declared.taken.Taken.{Taken}
 use Rattle.tc_list.specs.Intervals.{last_of}
@@ -62,11 +62,10 @@ DiskJudged part disk answer =
 -- What is answered, seen by view, is judged so. Of a fault of the disk and of want of memory nothing is said here.
 abbrev pub AnswersBy : {X Y : Type 0} → (X → Y) → Result X FilesCause → (Result Y Refusal → Type 0) → Type 0
 AnswersBy view (Ok x) P = P (Ok (view x))
-AnswersBy view (Err DiskFault) P = Unit {0}
 AnswersBy view (Err (Damaged (Bytes file place bytes))) P = P (Err (breaks file (damage place bytes)))
 AnswersBy view (Err (Damaged (Files names))) P = P (Err (clashes names))
 AnswersBy view (Err (Layout found found_of)) P = P (Err (strays found found_of))
-AnswersBy view (Err Memory) P = Unit {0}
+AnswersBy _ _ _ = Unit {0}
 
 -- what is read of these components, with the writes of logs
 abbrev pub found_in : {F : Type 0} → List (ComponentState F) → List (List Write) → Found

@@ -13,7 +13,7 @@ use Rattle.tc_log.specs.Reading as log
 use Rattle.tc_recover.specs.declared.cause.FilesCause.{FilesCause}
 use Rattle.tc_recover.specs.declared.taken.Taken.{Taken}
 use Rattle.tc_recover.specs.declared.heads.Partition.{Partition as Asked}
-use Rattle.tc_recover.specs.declared.cause.FilesCause.TheVariants.{Disk, Damaged, Layout, Memory}
+use Rattle.tc_recover.specs.declared.cause.FilesCause.TheVariants.{Damaged, Layout}
 
 pub data Refusal : Type 0 where
   -- bytes of a file that break the rules, at their place
@@ -56,11 +56,10 @@ heads_refused part (file ∷ files) = option_or (file_refused part file) (heads_
 -- nothing is said here.
 abbrev pub Refuses : {X : Type 0} → Result X FilesCause → Option Refusal → Type 0
 Refuses (Ok x) refused = refused ≡ None
-Refuses (Err Disk) refused = Unit {0}
 Refuses (Err (Damaged (Bytes file place bytes))) refused = refused ≡ Some (breaks file (judging.damage place bytes))
 Refuses (Err (Damaged (Files names))) refused = refused ≡ Some (clashes names)
 Refuses (Err (Layout found found_of)) refused = refused ≡ Some (strays found found_of)
-Refuses (Err Memory) refused = Unit {0}
+Refuses _ _ = Unit {0}
 
 -- ---- causes, also of files that tell nothing
 
@@ -76,8 +75,7 @@ pub record BreaksHead {F W : Type 0} (size : F → ℕ) (part : Partition) (file
 
 -- bytes of one of these files, or numbers that are others
 abbrev pub IsHeadCause : {F W : Type 0} → (F → ℕ) → Partition → List (Taken F W) → FilesCause → Type 0
-IsHeadCause size part files Disk = Unit {0}
 IsHeadCause size part files (Damaged (Bytes name place bytes)) = BreaksHead size part files name place bytes
 IsHeadCause size part files (Damaged (Files names)) = ⊥
 IsHeadCause size part files (Layout found found_of) = stray part found found_of ≡ Some (strays found found_of)
-IsHeadCause size part files Memory = Unit {0}
+IsHeadCause _ _ _ _ = Unit {0}

@@ -2,7 +2,7 @@
 use Rattle.std.specs.Prelude.{◌≡◌, ℕ, suc, ◌<◌, ◌%◌, length, map, List, [], ◌∷◌}
 use Rattle.std.specs.List.{All}
 use Rattle.tc_model.specs.Keyed.{Keyed, Ascends}
-use Rattle.tc_request_model.specs.Request.{Request, upsert, delete, get, query, flush, schema, scan, collect, refused}
+use Rattle.tc_request_model.specs.Request.{Request, flush, schema, scan, collect, refused}
 use Rattle.tc_request_model.specs.Reply.{Reply}
 use Rattle.tc_plain_model.specs.Store.{Store}
 use Rattle.tc_plain_model.specs.Room.{Limits}
@@ -31,15 +31,12 @@ window_answered (r ∷ rs) w = (r.0, reply_to r.1 w) ∷ window_answered rs (aft
 
 -- a request for partitions, and not for the whole store
 abbrev pub IsForParts : Request → Type 0
-IsForParts (upsert n d) = Unit {0}
-IsForParts (delete n) = Unit {0}
-IsForParts (get n) = Unit {0}
-IsForParts (query ask) = Unit {0}
 IsForParts flush = ⊥
 IsForParts schema = ⊥
 IsForParts (scan ask) = ⊥
 IsForParts collect = ⊥
 IsForParts (refused r) = ⊥
+IsForParts _ = Unit {0}
 
 -- partitions, of so many, from the one of a number on store their own keys alone, in ascending order
 abbrev pub KeepOwn : ℕ → ℕ → List Store → Type 0

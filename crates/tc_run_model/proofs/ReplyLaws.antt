@@ -50,15 +50,8 @@ replied-none None a replies given = given
 
 -- a request to which the world has one reply
 abbrev pub IsNoCollect : Request → Type 0
-IsNoCollect (upsert n d) = Unit {0}
-IsNoCollect (delete n) = Unit {0}
-IsNoCollect (get n) = Unit {0}
-IsNoCollect (query ask) = Unit {0}
-IsNoCollect flush = Unit {0}
-IsNoCollect schema = Unit {0}
-IsNoCollect (scan ask) = Unit {0}
 IsNoCollect collect = ⊥
-IsNoCollect (refused r) = Unit {0}
+IsNoCollect _ = Unit {0}
 
 pub IsReply-reply_to : (r : Request) (w : World) → IsNoCollect r → IsReply r w (reply_to r w)
 IsReply-reply_to (upsert n d) w one = refl

@@ -26,10 +26,9 @@ record MadeFields (limit low : ℕ) (fs : FieldNodes) : Type 0 where
 
 -- what a node holds, and what each of several holds
 abbrev MadeInside : ℕ → SchemaNode → Type 0
-MadeInside limit (scalar_node k n) = Unit {0}
 MadeInside limit (array_node n i) = MadeItem limit i
 MadeInside limit (object_node n fs) = MadeFields limit 0 fs
-MadeInside limit (union_node n ks) = Unit {0}
+MadeInside _ _ = Unit {0}
 
 abbrev AreMade : ℕ → KindNodes → Type 0
 AreMade limit no_kind_nodes = Unit {0}

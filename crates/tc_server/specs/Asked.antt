@@ -31,8 +31,7 @@ is_whole (Refuse refusal) = false
 -- a command that is run is for a partition
 abbrev pub IsRunForPart : Action → Type 0
 IsRunForPart (Run command) = IsForPart (request_of_command command)
-IsRunForPart (Whole control) = Unit {0}
-IsRunForPart (Refuse refusal) = Unit {0}
+IsRunForPart _ = Unit {0}
 
 -- and its document is no heavier than a line
 pub record IsSoundAction (action : Action) : Type 0 where

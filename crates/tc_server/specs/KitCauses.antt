@@ -54,14 +54,12 @@ nothing_met here damage = ⊥
 -- Of a fault of the disk and of want of memory nothing is said here.
 abbrev pub IsJudged : {F : Type 0} → (Partition → Damage → Type 0) → (F → Option (List ℕ)) → (F → FileName) → Partition → Disk → Option RunFault → Type 0
 IsJudged met content name here disk None = ArePassed here disk
-IsJudged met content name here disk (Some Usage) = Unit {0}
 IsJudged met content name here disk (Some Read) = ArePassed here disk
 IsJudged met content name here disk (Some (Write n)) = ArePassed here disk
 IsJudged met content name here disk (Some Spent) = ArePassed here disk
-IsJudged met content name here disk (Some (DiskFault p)) = Unit {0}
 IsJudged met content name here disk (Some (Damaged p damage)) = ((p ≡ here.number) × CauseJudged content name here disk (opening.Damaged damage)) ⊎ (met (partition_at p here.count) damage × (suc here.number ≡ here.count) × ArePassed here disk)
-IsJudged met content name here disk (Some Memory) = Unit {0}
 IsJudged met content name here disk (Some (Layout p found found_of asked_of)) = DiskJudged here disk (Err (strays found found_of))
+IsJudged _ _ _ _ _ _ = Unit {0}
 
 -- Of the kits that are given back the last one is judged so; the others were opened, since a further one was asked for. Where the files of
 -- one are refused in reading, each keeps its bytes.

@@ -69,11 +69,10 @@ abbrev pub IsOfOpening : Partition → RunFault → Type 0
 IsOfOpening here Usage = ⊥
 IsOfOpening here Read = ⊥
 IsOfOpening here (Write n) = ⊥
-IsOfOpening here Spent = Unit {0}
 IsOfOpening here (DiskFault p) = p ≡ here.number
 IsOfOpening here (Damaged p damage) = p ≡ here.number
-IsOfOpening here Memory = Unit {0}
 IsOfOpening here (Layout p found found_of asked_of) = (p ≡ here.number) × (asked_of ≡ here.count)
+IsOfOpening _ _ = Unit {0}
 
 -- where files are lawful, this holds
 abbrev pub IfLawful : Partition → List Disk → Type 0 → Type 0

@@ -82,14 +82,8 @@ EndsOver (Some (Layout p found found_of asked_of)) ending = ending ≡ unopened
 
 -- it is not that of a file of another partition, in one that is looked at
 abbrev pub IsHere : Option ℕ → RunFault → Type 0
-IsHere only Usage = Unit {0}
-IsHere only Read = Unit {0}
-IsHere only (Write n) = Unit {0}
-IsHere only Spent = Unit {0}
-IsHere only (DiskFault p) = Unit {0}
-IsHere only (Damaged p damage) = Unit {0}
-IsHere only Memory = Unit {0}
 IsHere only (Layout p found found_of asked_of) = IsSeen only p → ⊥
+IsHere _ _ = Unit {0}
 
 -- ---- what is left of the files
 

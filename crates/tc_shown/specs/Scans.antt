@@ -34,14 +34,12 @@ use Rattle.tc_shown.specs.declared.scan.Scanned.{Scanned}
 -- of a read that failed this holds, by the partition
 abbrev pub IfDisk : ScanFault → (ℕ → Type 0) → Type 0
 IfDisk (Disk p) P = P p
-IfDisk (Damaged p file place bytes) P = Unit {0}
-IfDisk Memory P = Unit {0}
+IfDisk _ _ = Unit {0}
 
 -- of damage this holds, by the partition, the file, the place and the bytes there
 abbrev pub IfDamaged : ScanFault → (ℕ → FileName → ℕ → List ℕ → Type 0) → Type 0
-IfDamaged (Disk p) P = Unit {0}
 IfDamaged (Damaged p file place bytes) P = P p file place bytes
-IfDamaged Memory P = Unit {0}
+IfDamaged _ _ = Unit {0}
 
 abbrev pub of_query : ℕ → QueryFault → ScanFault
 of_query p query.Disk = Disk p

@@ -28,29 +28,22 @@ judged_then (Err d) f = Err d
 abbrev pub Judges : {X Y : Type 0} → (X → Y) → Result X ReadFault → Result Y Damage → Type 0
 Judges view (Ok x) judged = judged ≡ Ok (view x)
 Judges view (Err (Damaged place bytes)) judged = judged ≡ Err (damage place bytes)
-Judges view (Err Disk) judged = Unit {0}
-Judges view (Err Memory) judged = Unit {0}
+Judges _ _ _ = Unit {0}
 
 -- of damage this holds, by its place and the bytes there
 abbrev pub IfDamaged : {X : Type 0} → Result X ReadFault → (ℕ → List ℕ → Type 0) → Type 0
-IfDamaged (Ok x) P = Unit {0}
 IfDamaged (Err (Damaged place bytes)) P = P place bytes
-IfDamaged (Err Disk) P = Unit {0}
-IfDamaged (Err Memory) P = Unit {0}
+IfDamaged _ _ = Unit {0}
 
 -- the disk is not at fault
 abbrev pub IsNoDisk : {X : Type 0} → Result X ReadFault → Type 0
-IsNoDisk (Ok x) = Unit {0}
-IsNoDisk (Err (Damaged place bytes)) = Unit {0}
 IsNoDisk (Err Disk) = ⊥
-IsNoDisk (Err Memory) = Unit {0}
+IsNoDisk _ = Unit {0}
 
 -- the bytes are not at fault
 abbrev pub IsNoDamage : {X : Type 0} → Result X ReadFault → Type 0
-IsNoDamage (Ok x) = Unit {0}
 IsNoDamage (Err (Damaged place bytes)) = ⊥
-IsNoDamage (Err Disk) = Unit {0}
-IsNoDamage (Err Memory) = Unit {0}
+IsNoDamage _ = Unit {0}
 
 -- this damage, or want of memory
 abbrev pub IsDamageOr : ℕ → List ℕ → ReadFault → Type 0

@@ -17,17 +17,13 @@ of_part part.Memory = engine.Memory
 
 -- if it is damage, this holds of it by the file, the place and the bytes there
 abbrev pub IfDamage : EngineFault → (FileName → ℕ → List ℕ → Type 0) → Type 0
-IfDamage engine.Disk P = Unit {0}
 IfDamage (engine.Damaged damage) P = IsBytesHarm damage P
-IfDamage engine.Spent P = Unit {0}
-IfDamage engine.Memory P = Unit {0}
+IfDamage _ _ = Unit {0}
 
 -- of damage this holds
 abbrev pub IfDamaged : EngineFault → (Damage → Type 0) → Type 0
-IfDamaged engine.Disk P = Unit {0}
 IfDamaged (engine.Damaged damage) P = P damage
-IfDamaged engine.Spent P = Unit {0}
-IfDamaged engine.Memory P = Unit {0}
+IfDamaged _ _ = Unit {0}
 
 -- these files do not go together, or this one is damaged
 abbrev pub AreOfFiles : List FileName → FileName → Damage → Type 0
